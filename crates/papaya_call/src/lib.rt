@@ -1,0 +1,11 @@
+//! The calls of the map, as machines that ask for one atomic step at a time and are answered.
+//!
+//! A machine is plain data. It knows no word and no memory: a backend answers what it asks. So the
+//! same machines run for one caller, for any schedule of callers, and on threads.
+#![tactic(auto)]
+
+pub mod ask;
+pub mod call;
+pub mod machine;
+pub mod search;
+pub mod write;
