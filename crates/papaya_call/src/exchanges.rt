@@ -1,15 +1,15 @@
 //! The law of exchanges: what any list of allowed exchanges keeps. The functions do nothing; their contracts are what the layers above use.
 
 ghost use Rattle.papaya_call.specs.Law.Allows.{AllAllowed, Allows, MayAbort, MayClaim, MayFinish, MayPlace};
-ghost use Rattle.papaya_call.specs.Law.Copier.{IsPutting};
+ghost use Rattle.papaya_call.specs.Law.Copying.{IsPutting, IsTaker, IsTarget};
 ghost use Rattle.papaya_call.specs.Law.Example.{by_two, two_tables, of_one, three_tables};
 ghost use Rattle.papaya_call.specs.Law.Exchange.{Empty, Marked, Exchange, Setting, State, after, run, start};
 ghost use Rattle.papaya_call.specs.Law.Grows.{Agrees, AllSized, Comes, Entry, IsLawfulPlan, Plan, brings, exchanges, planned, setting_in};
-ghost use Rattle.papaya_call.specs.Law.Keeping.{IsKeeping, shut};
-ghost use Rattle.papaya_call.specs.Law.Kept.{IsOn};
+ghost use Rattle.papaya_call.specs.Law.Invariant.{IsKeeping, shut};
+ghost use Rattle.papaya_call.specs.Law.Class.{IsOn};
 ghost use Rattle.papaya_call.specs.Law.Later.{IsLasting, IsLater};
 ghost use Rattle.papaya_call.specs.Law.Meaning.{AllLegal, IsAtMoment, IsLawful, IsLegal, IsMeaning, map_after, map_left, map_of};
-ghost use Rattle.papaya_call.specs.Law.View.{Free, Gone, Grave, Here, HasWord, IsPassed, IsReached, IsTaker, IsTarget, Leaving, active, beyond, held, look, own};
+ghost use Rattle.papaya_call.specs.Law.View.{Free, Gone, Grave, Here, HasWord, IsPassed, IsReached, Leaving, active, beyond, held, look, own};
 ghost use Rattle.std.specs.Prelude.{◌≡◌, ◌⊎◌, ℕ, zero, suc, ◌<◌, ◌++◌, Bool, true, false, List, [], ◌∷◌, Option, None, Some};
 
 /// The law: after each list of allowed exchanges the tables mean one map, which its claims, replacements and burials alone change, each taking out just the pair that was there.

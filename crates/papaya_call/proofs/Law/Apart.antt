@@ -5,13 +5,13 @@ use Rattle.papaya_call.specs.Law.Exchange.{Empty, Marked, Copied, Setting, State
 use Rattle.papaya_call.specs.Law.View.{Foreign, Free, Leaving, Gone, view, look, held}
 use Rattle.papaya_call.specs.Law.Allows.{MayClaim, MayPlace}
 use Rattle.papaya_call.specs.Law.Meaning.{IsLawful}
-use Rattle.papaya_call.specs.Law.Keeping.{pair_of, IsGood, IsGoodRoot}
-use Rattle.papaya_call.specs.Law.Kept.{IsOn}
+use Rattle.papaya_call.specs.Law.Invariant.{pair_of, IsIncrementalState, IsBlockingState}
+use Rattle.papaya_call.specs.Law.Class.{IsOn}
 use Rattle.papaya_call.proofs.Law.Class.{passed_not_held, free_not_own}
-use Rattle.papaya_call.proofs.Law.Steps.{not_gone}
+use Rattle.papaya_call.proofs.Law.Incremental.ClassSteps.{not_gone}
 use Rattle.papaya_call.proofs.Law.Base.{own_place, filled_on}
-use Rattle.papaya_call.proofs.Law.Good.{reached_front, taker_full}
-use Rattle.papaya_call.proofs.Law.GoodBlocking.{is_root, was_root_of, reached_was, taker_aborted}
+use Rattle.papaya_call.proofs.Law.Incremental.States.{reached_front, taker_full}
+use Rattle.papaya_call.proofs.Law.Blocking.States.{is_root, was_root_of, reached_was, taker_aborted}
 
 module _ {K P : Type 0} (g : Setting K P) (law : IsLawful g) (s : State P) (m : K → Option P) (t x : ℕ) (p : P) (claim : MayClaim g s t x p) (copy : MayPlace g s t x p) where
   -- the table that the copy leaves
@@ -27,8 +27,8 @@ module _ {K P : Type 0} (g : Setting K P) (law : IsLawful g) (s : State P) (m : 
   free = ap (λ y. view g (g.key p) (s.slot t y)) copy.place.is ∙ ap (view g (g.key p)) copy.empty
 
   -- without blocking: where a copy may be placed, the marked table before it stops each search
-  pub apart : g.blocking ≡ false → IsGood g s m → ⊥
-  apart inc good =
+  pub apart_incremental : g.blocking ≡ false → IsIncrementalState g s m → ⊥
+  apart_incremental inc good =
       let on : IsOn s.first s.next from = ⊎_elim (λ e. filled_on g s good.sound from copy.source.slot p (Marked p) e refl) (λ e. filled_on g s good.sound from copy.source.slot p (Copied p) e refl) copy.source.stood in
       let c = taker_full g law inc s m good (g.key p) from t on copy.source.taker in
       let o = own_place g s good.sound law (g.key p) from copy.source.slot p (law.itself (g.key p)) here in
@@ -44,8 +44,8 @@ module _ {K P : Type 0} (g : Setting K P) (law : IsLawful g) (s : State P) (m : 
       copy.source.stood
 
   -- with blocking: what left a root came to the next one, so a copy has no place there
-  pub apart_root : g.blocking ≡ true → IsGoodRoot g s m → ⊥
-  apart_root blocks good =
+  pub apart_blocking : g.blocking ≡ true → IsBlockingState g s m → ⊥
+  apart_blocking blocks good =
       let was = reached_was g s blocks (g.key p) t claim.reached in
       let root : t ≡ s.root = is_root g s m good t x Empty was claim.empty refl (subst (λ y. y < g.size t) claim.place.is (law.within (g.key p) t claim.place.at claim.place.within)) in
       let marked : s.slot from copy.source.slot ≡ Marked p = ⊎_elim (λ e. e) (λ e. absurd (good.copied from copy.source.slot p e)) copy.source.stood in

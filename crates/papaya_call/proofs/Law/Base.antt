@@ -4,8 +4,8 @@ use Rattle.std.proofs.lemmas.Bool.{cases_Bool, cond-true, cond-false}
 use Rattle.papaya_call.specs.Law.Exchange.{Word, Setting, State, Open, Link, Advance, Promote, start, after, at_put, slot_put, walk}
 use Rattle.papaya_call.specs.Law.View.{View, view, look, IsNextPlace}
 use Rattle.papaya_call.specs.Law.Meaning.{IsLawful}
-use Rattle.papaya_call.specs.Law.Kept.{IsOn}
-use Rattle.papaya_call.specs.Law.Keeping.{pair_of, shut, IsPlaceOf, IsSound}
+use Rattle.papaya_call.specs.Law.Class.{IsOn}
+use Rattle.papaya_call.specs.Law.Invariant.{pair_of, shut, IsPlaceOf, IsSound}
 use Rattle.papaya_call.proofs.Law.Class.{IsTurn}
 use Rattle.papaya_call.proofs.Law.Chain.{next_zero, link_rises, link_on, link_older}
 use Rattle.papaya_call.proofs.Law.Slots.{slot_cases, slot_turn, look_same}

@@ -1,9 +1,11 @@
 -- What is kept and seen under one setting is kept and seen under each that agrees with it on the tables of the chain.
 use Rattle.std.proofs.Common.{◌≡◌, ◌⊎◌, inl, inr, ⊎_elim, ℕ, ◌<◌, Bool, cond, Option, None, Some, refl, sym, ap, ◌∙◌, subst}
 use Rattle.papaya_call.specs.Law.Exchange.{Word, Empty, Closed, Live, Marked, Copied, Buried, Setting, State}
-use Rattle.papaya_call.specs.Law.View.{View, Foreign, Here, Leaving, Gone, Grave, own, view, look, IsPassed, IsFull, HasWord, IsSettled}
-use Rattle.papaya_call.specs.Law.Kept.{IsOn, IsBase, AllFull, IsCopy, IsGoneTo, IsTied, IsKept, IsRootCopy, IsRootTied, IsRootKept}
-use Rattle.papaya_call.specs.Law.Keeping.{pair_of, IsSound, IsGood, IsGoodRoot, IsKeeping}
+use Rattle.papaya_call.specs.Law.View.{View, Foreign, Here, Leaving, Gone, Grave, own, view, look, IsPassed, IsFull, HasWord}
+use Rattle.papaya_call.specs.Law.Copying.{IsSettled}
+use Rattle.papaya_call.specs.Law.Class.{IsOn, IsBase, AllFull, IsCopy, IsGoneTo, IsTied, IsIncrementalClass}
+use Rattle.papaya_call.specs.Law.ClassBlocking.{IsRootCopy, IsRootTied, IsBlockingClass}
+use Rattle.papaya_call.specs.Law.Invariant.{pair_of, IsSound, IsIncrementalState, IsBlockingState, IsKeeping}
 use Rattle.papaya_call.specs.Law.Grows.{Agrees}
 use Rattle.papaya_call.proofs.Law.Views.{held-active, active-own}
 use Rattle.papaya_call.proofs.Law.Class.{held_of}
@@ -50,8 +52,8 @@ module _ {P : Type 0} (On : ℕ → Type 0) (n n' : ℕ → ℕ) (V : ℕ → �
     }
 
     -- without blocking
-    kept_agrees : (m : Option P) → IsKept On n S V m → IsKept On n' S' V m
-    kept_agrees m k = record {
+    incremental_class_agrees : (m : Option P) → IsIncrementalClass On n S V m → IsIncrementalClass On n' S' V m
+    incremental_class_agrees m k = record {
       base = base_agrees k.base;
       order = λ t u j on lt l h. ⊎_elim (λ p. inl (passed_agrees t on p)) (λ (c : IsCopy On n V t u (V u j)). inr (copy t u j on c)) (k.order t u j on lt (back u j (k.base.on u j h) l) h);
       gone = λ t i p lt e. let on = k.base.on t i (ap own e) in gone_to t (k.gone t i p (back t i on lt) e);
@@ -72,8 +74,8 @@ module _ {P : Type 0} (On : ℕ → Type 0) (n n' : ℕ → ℕ) (V : ℕ → �
         tied (Some p) o = record { table = o.table; at = o.at; on = o.on; within = to o.table o.at o.on o.within; has = o.has; front = λ l on lt. passed_agrees l on (o.front l on lt) }
 
     -- with blocking
-    root_kept_agrees : (was aborted : ℕ → Bool) (r : ℕ) (m : Option P) → IsRootKept On was aborted r n S V m → IsRootKept On was aborted r n' S' V m
-    root_kept_agrees was aborted r m k = record {
+    blocking_class_agrees : (was aborted : ℕ → Bool) (r : ℕ) (m : Option P) → IsBlockingClass On was aborted r n S V m → IsBlockingClass On was aborted r n' S' V m
+    blocking_class_agrees was aborted r m k = record {
       base = base_agrees k.base;
       ahead = λ u j lt l h. copy u j (k.ahead u j lt (back u j (k.base.on u j h) l) h);
       handed = λ t u i p w on lo hi between free lt e. has_agrees u on (k.handed t u i p w on lo hi between free (back t i (k.base.on t i (ap own e)) lt) e);
@@ -173,19 +175,19 @@ module _ {K P : Type 0} (g g' : Setting K P) (s : State P) (sound : IsSound g s)
   one_slot k t i j e = sym (look_at k t i) ∙ (ap (λ x. view g' k (s.slot t x)) e ∙ look_at k t j)
 
   -- without blocking
-  good_carries : (m : K → Option P) → IsGood g s m → IsGood g' s m
-  good_carries m good = record {
+  incremental_carries : (m : K → Option P) → IsIncrementalState g s m → IsIncrementalState g' s m
+  incremental_carries m good = record {
     sound = sound_carries;
     settled = λ t x on lt h. good.settled t x on lt (subst (λ y. x < y) (agrees.size t on) h);
     done = λ t x on lt h. good.done t x on lt (subst (λ y. x < y) (agrees.size t on) h);
     class = λ k.
-        subst (λ W. IsKept (IsOn s.first s.next) g'.places (g'.place k) W (m k)) (sym (look_agrees k))
-        (kept_agrees (IsOn s.first s.next) g.places g'.places (look g s k) agrees.places (g.place k) (g'.place k) (agrees.place k) (one_slot k) (m k) (good.class k));
+        subst (λ W. IsIncrementalClass (IsOn s.first s.next) g'.places (g'.place k) W (m k)) (sym (look_agrees k))
+        (incremental_class_agrees (IsOn s.first s.next) g.places g'.places (look g s k) agrees.places (g.place k) (g'.place k) (agrees.place k) (one_slot k) (m k) (good.class k));
   }
 
   -- with blocking
-  good_root_carries : (m : K → Option P) → IsGoodRoot g s m → IsGoodRoot g' s m
-  good_root_carries m good = record {
+  blocking_carries : (m : K → Option P) → IsBlockingState g s m → IsBlockingState g' s m
+  blocking_carries m good = record {
     sound = sound_carries;
     alive = good.alive;
     frozen = λ t x was lt h. good.frozen t x was lt (subst (λ y. x < y) (agrees.size t (good.was t was).0) h);
@@ -199,8 +201,8 @@ module _ {K P : Type 0} (g g' : Setting K P) (s : State P) (sound : IsSound g s)
         let on = good.done_on t some in
         record { between = v.between; settled = λ x h i. settled_carries t on (s.slot s.root x) (v.settled x h (subst (λ y. x < y) (agrees.size s.root (root_on t on)) i)) };
     class = λ k.
-        subst (λ W. IsRootKept (IsOn s.first s.next) s.was_root s.aborted s.root g'.places (g'.place k) W (m k)) (sym (look_agrees k))
-        (root_kept_agrees (IsOn s.first s.next) g.places g'.places (look g s k) agrees.places (g.place k) (g'.place k) (agrees.place k) (one_slot k) s.was_root s.aborted s.root (m k) (good.class k));
+        subst (λ W. IsBlockingClass (IsOn s.first s.next) s.was_root s.aborted s.root g'.places (g'.place k) W (m k)) (sym (look_agrees k))
+        (blocking_class_agrees (IsOn s.first s.next) g.places g'.places (look g s k) agrees.places (g.place k) (g'.place k) (agrees.place k) (one_slot k) s.was_root s.aborted s.root (m k) (good.class k));
   }
     where
       root_on : (t : ℕ) → IsOn s.first s.next t → IsOn s.first s.next s.root
@@ -208,5 +210,5 @@ module _ {K P : Type 0} (g g' : Setting K P) (s : State P) (sound : IsSound g s)
 
 -- The law of tables that come later: what is kept doesn't ask what they are.
 pub keeping_carries : {K P : Type 0} (g g' : Setting K P) (s : State P) (m : K → Option P) → Agrees (IsOn s.first s.next) g g' → IsKeeping g s m → IsKeeping g' s m
-keeping_carries g g' s m agrees (inl h) = inl (agrees.blocking ∙ h.0, good_carries g g' s h.1.sound agrees m h.1)
-keeping_carries g g' s m agrees (inr h) = inr (agrees.blocking ∙ h.0, good_root_carries g g' s h.1.sound agrees m h.1)
+keeping_carries g g' s m agrees (inl h) = inl (agrees.blocking ∙ h.0, incremental_carries g g' s h.1.sound agrees m h.1)
+keeping_carries g g' s m agrees (inr h) = inr (agrees.blocking ∙ h.0, blocking_carries g g' s h.1.sound agrees m h.1)

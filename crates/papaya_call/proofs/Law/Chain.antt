@@ -2,7 +2,7 @@
 use Rattle.std.proofs.Common.{◌≡◌, inl, inr, ⊎_elim, ℕ, zero, suc, ◌+◌, ◌-◌, ◌<◌, ◌≤◌, true, false, refl, sym, ap, ◌∙◌, subst, arith, ◌==◌, eqb-true}
 use Rattle.std.proofs.lemmas.Bool.{cases_order, cases_lt, cases_Bool, cond-true, cond-false}
 use Rattle.papaya_call.specs.Law.Exchange.{walk, at_put}
-use Rattle.papaya_call.specs.Law.Kept.{Rises, IsOn}
+use Rattle.papaya_call.specs.Law.Class.{Rises, IsOn}
 
 module _ (next : ℕ → ℕ) (rises : Rises next) where
   -- 0 has no link

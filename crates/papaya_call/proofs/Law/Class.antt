@@ -3,7 +3,7 @@
 use Rattle.std.proofs.Common.{◌≡◌, ◌⊎◌, inl, inr, ⊎_elim, ℕ, ◌<◌, Bool, true, Option, None, Some, refl, sym, ap, ◌∙◌, subst}
 use Rattle.std.proofs.lemmas.Bool.{cases_order}
 use Rattle.papaya_call.specs.Law.View.{View, Free, Here, Leaving, Gone, own, active, held, beyond, foreign, IsPassed, IsFull}
-use Rattle.papaya_call.specs.Law.Kept.{IsFilled, IsBase, AllFull, IsFront, IsCopy, IsGoneTo, IsOwner, IsTied, IsKept}
+use Rattle.papaya_call.specs.Law.Class.{IsFilled, IsBase, AllFull, IsFront, IsCopy, IsGoneTo, IsOwner, IsTied, IsIncrementalClass}
 use Rattle.papaya_call.proofs.Law.Views.{unfinished, held-active, active-own, beyond_not_active, foreign_not_own, foreign-beyond, beyond_not_unfinished}
 
 module _ {P : Type 0} where
@@ -50,12 +50,12 @@ module _ {P : Type 0} where
         (cases_order t u)
 
   -- nothing of the key stands behind a table that a search doesn't pass, but a copy of what leaves it
-  pub passed_or_copy : (On : ℕ → Type 0) (n : ℕ → ℕ) (S : ℕ → ℕ → ℕ) (V : ℕ → ℕ → View P) (m : Option P) (k : IsKept On n S V m) → (t u j : ℕ) (p : P) → On t → t < u → j < n u → V u j ≡ Leaving p → IsPassed n V t
+  pub passed_or_copy : (On : ℕ → Type 0) (n : ℕ → ℕ) (S : ℕ → ℕ → ℕ) (V : ℕ → ℕ → View P) (m : Option P) (k : IsIncrementalClass On n S V m) → (t u j : ℕ) (p : P) → On t → t < u → j < n u → V u j ≡ Leaving p → IsPassed n V t
   passed_or_copy On n S V m k t u j p a lt lu e =
       elim (k.order t u j a lt lu (ap own e)) [ inl h ↦ h | inr c ↦ absurd (let q = c.copy in cc (q, e)) ]
 
   -- what a search finds is the map's
-  pub found_is : (On : ℕ → Type 0) (n : ℕ → ℕ) (S : ℕ → ℕ → ℕ) (V : ℕ → ℕ → View P) (m : Option P) (k : IsKept On n S V m) (t j : ℕ) (p : P)
+  pub found_is : (On : ℕ → Type 0) (n : ℕ → ℕ) (S : ℕ → ℕ → ℕ) (V : ℕ → ℕ → View P) (m : Option P) (k : IsIncrementalClass On n S V m) (t j : ℕ) (p : P)
       → On t → IsFront On n V t → j < n t → (V t j ≡ Here p) ⊎ (V t j ≡ Leaving p) → m ≡ Some p
   found_is On n S V None k t j p a f lt h = absurd (k.tied t j lt (held_of (V t j) p h))
   found_is On n S V (Some q) k t j p a f lt h =
@@ -72,7 +72,7 @@ module _ {P : Type 0} where
       h
 
   -- where a search that comes to t can't find the pair in it or before it, and nothing but copies can stand behind it, the map has none
-  pub none_is : (On : ℕ → Type 0) (n : ℕ → ℕ) (S : ℕ → ℕ → ℕ) (V : ℕ → ℕ → View P) (m : Option P) (k : IsKept On n S V m) (t : ℕ)
+  pub none_is : (On : ℕ → Type 0) (n : ℕ → ℕ) (S : ℕ → ℕ → ℕ) (V : ℕ → ℕ → View P) (m : Option P) (k : IsIncrementalClass On n S V m) (t : ℕ)
       → IsFront On n V t → ((i : ℕ) → i < n t → held (V t i) ≡ true → ⊥) → ((u j : ℕ) → On u → t < u → j < n u → held (V u j) ≡ true → IsFront On n V u → ⊥) → m ≡ None
   none_is On n S V None k t f here later = refl
   none_is On n S V (Some q) k t f here later =
@@ -86,7 +86,7 @@ module _ {P : Type 0} where
       (cases_order t o.table))
 
   -- at an Empty place that a search comes to, the map has no pair
-  pub empty_is : (On : ℕ → Type 0) (n : ℕ → ℕ) (S : ℕ → ℕ → ℕ) (V : ℕ → ℕ → View P) (m : Option P) (k : IsKept On n S V m) (t j : ℕ)
+  pub empty_is : (On : ℕ → Type 0) (n : ℕ → ℕ) (S : ℕ → ℕ → ℕ) (V : ℕ → ℕ → View P) (m : Option P) (k : IsIncrementalClass On n S V m) (t j : ℕ)
       → On t → IsFront On n V t → j < n t → ((i : ℕ) → i < j → beyond (V t i) ≡ true) → V t j ≡ Free → m ≡ None
   empty_is On n S V m k t j a f lt before free =
       none_is On n S V m k t f
@@ -98,7 +98,7 @@ module _ {P : Type 0} where
       free_not_passed (inr all) = let h : beyond (V t j) ≡ true = all j lt in cc (h, free)
 
   -- behind the last table there's nothing
-  pub over_is : (On : ℕ → Type 0) (n : ℕ → ℕ) (S : ℕ → ℕ → ℕ) (V : ℕ → ℕ → View P) (m : Option P) (k : IsKept On n S V m) (t : ℕ)
+  pub over_is : (On : ℕ → Type 0) (n : ℕ → ℕ) (S : ℕ → ℕ → ℕ) (V : ℕ → ℕ → View P) (m : Option P) (k : IsIncrementalClass On n S V m) (t : ℕ)
       → IsFront On n V t → IsPassed n V t → ((u : ℕ) → On u → t < u → ⊥) → m ≡ None
   over_is On n S V m k t f p last =
       none_is On n S V m k t f (λ i l h. passed_not_held On n S V k.base t i p l h) (λ u j b l lu h g. last u b l)
@@ -206,7 +206,7 @@ module _ {P : Type 0} where
       pub base_after : IsBase On n S V'
       base_after = record { same_slot = turn_same_slot; on = turn_on; filled = turn_filled; one = turn_one }
 
-    module _ (m : Option P) (k : IsKept On n S V m) (safe : IsSafe On n S V t x a b) where
+    module _ (m : Option P) (k : IsIncrementalClass On n S V m) (safe : IsSafe On n S V t x a b) where
       -- a copy stays one, or what it was copied from is Copied
       copy_on : (u w j : ℕ) → (c : IsCopy On n V u w (V w j)) → V' w j ≡ V w j → IsPassed n V' u ⊎ IsCopy On n V' u w (V' w j)
       copy_on u w j c e =
@@ -248,7 +248,7 @@ module _ {P : Type 0} where
           (turn.each u i)
 
       -- all is kept, once the map is tied anew
-      pub kept_after : (m' : Option P) → IsTied On n V' m' → IsKept On n S V' m'
+      pub kept_after : (m' : Option P) → IsTied On n V' m' → IsIncrementalClass On n S V' m'
       kept_after m' tied = record { base = base_after k.base safe.base; order = turn_order; gone = turn_gone; tied = tied }
 
   -- the chain grows: what both modes keep
@@ -257,7 +257,7 @@ module _ {P : Type 0} where
 
   -- the chain grows at its end
   pub longer_kept : (On On' : ℕ → Type 0) (n : ℕ → ℕ) (S : ℕ → ℕ → ℕ) (V : ℕ → ℕ → View P) (m : Option P) → ((t : ℕ) → On t → On' t) → ((l u : ℕ) → On' l → On u → l < u → On l)
-      → IsKept On n S V m → IsKept On' n S V m
+      → IsIncrementalClass On n S V m → IsIncrementalClass On' n S V m
   longer_kept On On' n S V m more older k = record {
     base = longer_base On On' n S V more k.base;
     order = λ t u j on lt l h. ⊎_elim (λ p. inl p) (λ (c : IsCopy On n V t u (V u j)). inr (copy u (k.base.on u j h) c)) (k.order t u j (older t u on (k.base.on u j h) lt) lt l h);

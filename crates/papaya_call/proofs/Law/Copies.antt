@@ -2,8 +2,8 @@
 use Rattle.std.proofs.Common.{◌≡◌, ◌⊎◌, inl, inr, ⊎_elim, ℕ, suc, ◌<◌, ◌≤◌, true, false, refl, sym, ap, ◌∙◌, subst, arith}
 use Rattle.std.proofs.lemmas.Bool.{cases_lt}
 use Rattle.papaya_call.specs.Law.Exchange.{Empty, Marked, Setting, State, walk}
-use Rattle.papaya_call.specs.Law.View.{View, Free, Foreign, Here, Leaving, Gone, Grave, look, own, foreign, IsFull, HasWord, IsTaker, IsTarget, IsCopied}
-use Rattle.papaya_call.specs.Law.Copier.{IsPutting}
+use Rattle.papaya_call.specs.Law.View.{View, Free, Foreign, Here, Leaving, Gone, Grave, look, own, foreign, IsFull, HasWord}
+use Rattle.papaya_call.specs.Law.Copying.{IsTaker, IsTarget, IsCopied, IsPutting}
 use Rattle.papaya_call.specs.Law.Allows.{MayPlace, MayFinish, MayAbort}
 
 module _ {K P : Type 0} (g : Setting K P) (s : State P) where

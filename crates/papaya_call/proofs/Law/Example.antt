@@ -1,7 +1,8 @@
 -- Two lists of exchanges that are allowed, one in each mode, together of every kind: the conditions can be met.
 use Rattle.std.proofs.Common.{◌≡◌, inl, inr, ℕ, zero, suc, ◌<◌, true, [], ◌∷◌, refl, arith}
 use Rattle.papaya_call.specs.Law.Exchange.{State, Open, Claim, Replace, Link, Mark, Close, Place, Finish, Abort, start, after, run, walk}
-use Rattle.papaya_call.specs.Law.View.{look, beyond, foreign, IsSettled}
+use Rattle.papaya_call.specs.Law.View.{look, beyond, foreign}
+use Rattle.papaya_call.specs.Law.Copying.{IsSettled}
 use Rattle.papaya_call.specs.Law.Allows.{AllAllowed}
 use Rattle.papaya_call.specs.Law.Example.{by_two, two_tables, of_one, three_tables}
 

@@ -1,11 +1,12 @@
 -- What a caller saw, an exchange or a list of them that is allowed under one setting, is so under each that agrees with it on the tables of the chain.
 use Rattle.std.proofs.Common.{◌≡◌, inl, inr, ⊎_elim, ℕ, suc, ◌<◌, ◌≤◌, Bool, true, cond, Option, None, Some, List, [], ◌∷◌, refl, sym, ap, ◌∙◌, subst, arith}
 use Rattle.papaya_call.specs.Law.Exchange.{Word, Empty, Closed, Live, Buried, Marked, Copied, Setting, Exchange, Open, Claim, Replace, Bury, Link, Mark, Close, Place, Finish, Advance, Promote, Abort, State, after, run, walk}
-use Rattle.papaya_call.specs.Law.View.{View, beyond, foreign, look, IsSettled, IsNextPlace, IsReached, IsTaker, IsTarget, IsCopied}
+use Rattle.papaya_call.specs.Law.View.{View, beyond, foreign, look, IsNextPlace, IsReached}
+use Rattle.papaya_call.specs.Law.Copying.{IsSettled, IsTaker, IsTarget, IsCopied}
 use Rattle.papaya_call.specs.Law.Allows.{Allows, AllAllowed}
 use Rattle.papaya_call.specs.Law.Meaning.{IsLawful, map_after, map_of}
-use Rattle.papaya_call.specs.Law.Kept.{IsOn}
-use Rattle.papaya_call.specs.Law.Keeping.{IsSound, IsKeeping}
+use Rattle.papaya_call.specs.Law.Class.{IsOn}
+use Rattle.papaya_call.specs.Law.Invariant.{IsSound, IsKeeping}
 use Rattle.papaya_call.specs.Law.Later.{Becomes, IsLater}
 use Rattle.papaya_call.specs.Law.Grows.{Agrees}
 use Rattle.papaya_call.proofs.Law.Chain.{pos_before, walk_on}

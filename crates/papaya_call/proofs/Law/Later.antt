@@ -2,7 +2,8 @@
 use Rattle.std.proofs.Common.{◌≡◌, ◌⊎◌, inl, inr, ⊎_elim, ℕ, zero, suc, ◌<◌, ◌≤◌, Bool, true, false, cond, ◌==◌, List, [], ◌∷◌, refl, sym, ap, ◌∙◌, subst, arith, eqb-true}
 use Rattle.std.proofs.lemmas.Bool.{cases_lt, cases_Bool, cond-true, cond-false}
 use Rattle.papaya_call.specs.Law.Exchange.{Word, Empty, Closed, Live, Marked, Copied, Buried, Setting, State, Exchange, Open, Claim, Replace, Bury, Link, Mark, Close, Place, Finish, Advance, Promote, Abort, slot_put, at_put, after, run, walk}
-use Rattle.papaya_call.specs.Law.View.{View, Free, Foreign, Here, Leaving, Gone, Grave, view, look, own, beyond, foreign, IsPassed, IsFull, HasWord, IsReached, IsTaker, IsTarget, IsSettled}
+use Rattle.papaya_call.specs.Law.View.{View, Free, Foreign, Here, Leaving, Gone, Grave, view, look, own, beyond, foreign, IsPassed, IsFull, HasWord, IsReached}
+use Rattle.papaya_call.specs.Law.Copying.{IsTaker, IsTarget, IsSettled}
 use Rattle.papaya_call.specs.Law.Allows.{Allows, AllAllowed}
 use Rattle.papaya_call.specs.Law.Meaning.{IsLawful}
 use Rattle.papaya_call.specs.Law.Later.{Becomes, IsLater, IsLasting}

@@ -4,7 +4,7 @@ use Rattle.std.proofs.lemmas.Bool.{cases_Bool, cond-true, cond-false, or_cases, 
 use Rattle.papaya_call.specs.Law.Exchange.{Exchange, Open, Claim, Replace, Bury, Link, Mark, Close, Place, Finish, Advance, Promote, Abort, State, start, after, run, walk}
 use Rattle.papaya_call.specs.Law.Allows.{Allows, AllAllowed}
 use Rattle.papaya_call.specs.Law.Meaning.{IsLawful}
-use Rattle.papaya_call.specs.Law.Kept.{IsOn}
+use Rattle.papaya_call.specs.Law.Class.{IsOn}
 use Rattle.papaya_call.specs.Law.Grows.{Agrees, Plan, IsLawfulPlan, planned, Comes, Entry, exchanges, brings, is_brought, size_in, places_in, setting_in, AllSized}
 use Rattle.papaya_call.proofs.Law.Moments.{allowed_append}
 use Rattle.papaya_call.proofs.Law.OneMap.{start_keeps}

@@ -5,10 +5,10 @@ use Rattle.papaya_call.specs.Law.View.{view, look}
 use Rattle.papaya_call.specs.Law.Allows.{Allows, AllAllowed, MayPromote}
 use Rattle.papaya_call.specs.Law.Meaning.{map_after, map_of, IsLawful}
 use Rattle.papaya_call.specs.Law.Later.{Becomes}
-use Rattle.papaya_call.specs.Law.Keeping.{plain, IsGoodRoot}
+use Rattle.papaya_call.specs.Law.Invariant.{plain, IsBlockingState}
 use Rattle.papaya_call.proofs.Law.Later.{later_run}
-use Rattle.papaya_call.proofs.Law.GoodBlocking.{target_aborted, settled_not_plain}
-use Rattle.papaya_call.proofs.Law.Blocking.{step_good_root, all_good_root}
+use Rattle.papaya_call.proofs.Law.Blocking.States.{target_aborted, settled_not_plain}
+use Rattle.papaya_call.proofs.Law.Blocking.Steps.{step_blocking, run_blocking}
 
 -- two lists after each other
 pub run-append : {P : Type 0} → (es fs : List (Exchange P)) (s : State P) → run (es ++ fs) s ≡ run fs (run es s)
@@ -46,7 +46,7 @@ module _ {K P : Type 0} (g : Setting K P) where
 
   module _ (law : IsLawful g) (blocks : g.blocking ≡ true) where
     -- where the root changes, its words stand for good
-    promoted : (s : State P) (m : K → Option P) → IsGoodRoot g s m → (t n : ℕ) → MayPromote g s t n → (x : ℕ) → x < g.size t → plain (s.slot t x) ≡ false
+    promoted : (s : State P) (m : K → Option P) → IsBlockingState g s m → (t n : ℕ) → MayPromote g s t n → (x : ℕ) → x < g.size t → plain (s.slot t x) ≡ false
     promoted s m good t n may x lt =
         let was : s.was_root t ≡ true = subst (λ y. s.was_root y ≡ true) may.root (good.root_was (subst (λ y. 0 < y) (sym may.root) may.made)) in
         let target = target_aborted g s good.sound t n (good.was t was).0 may.target in
@@ -80,10 +80,10 @@ module _ {K P : Type 0} (g : Setting K P) where
     keeps_root s t is some (Abort n) may = inl is
 
     -- a root of the past was seen so at a moment when it was the root
-    pub root_moment : (fs : List (Exchange P)) (s : State P) (m : K → Option P) → IsGoodRoot g s m → AllAllowed g s fs → (t : ℕ) → s.root ≡ t → 0 < t → IsRootMoment s t fs
+    pub root_moment : (fs : List (Exchange P)) (s : State P) (m : K → Option P) → IsBlockingState g s m → AllAllowed g s fs → (t : ℕ) → s.root ≡ t → 0 < t → IsRootMoment s t fs
     root_moment [] s m good may t is some = record { so_far = []; rest = []; is = refl; root = is; sees = λ k j lt. refl }
     root_moment (e ∷ fs) s m good may t is some =
-        first (root_moment fs (after s e) (map_after g m e) (step_good_root g law blocks s m good e may.0).1 may.1 t) (keeps_root s t is some e may.0)
+        first (root_moment fs (after s e) (map_after g m e) (step_blocking g law blocks s m good e may.0).1 may.1 t) (keeps_root s t is some e may.0)
       where
         first : ((after s e).root ≡ t → 0 < t → IsRootMoment (after s e) t fs) → ((after s e).root ≡ t) ⊎ ((n : ℕ) × MayPromote g s t n) → IsRootMoment s t (e ∷ fs)
         first ih (inl same) = let r = ih same some in record { so_far = e ∷ r.so_far; rest = r.rest; is = ap (λ l. e ∷ l) r.is; root = r.root; sees = r.sees }
@@ -94,5 +94,5 @@ module _ {K P : Type 0} (g : Setting K P) where
           root = is;
           sees = λ k j lt.
               let x : ℕ = g.place k t j in
-              ap (view g k) (stands (s.slot t x) ((run (e ∷ fs) s).slot t x) (promoted s m good t n p x (law.within k t j lt)) ((all_good_root g law blocks (e ∷ fs) s m good may).copied t x) ((later_run g law (e ∷ fs) s may).words t x));
+              ap (view g k) (stands (s.slot t x) ((run (e ∷ fs) s).slot t x) (promoted s m good t n p x (law.within k t j lt)) ((run_blocking g law blocks (e ∷ fs) s m good may).copied t x) ((later_run g law (e ∷ fs) s may).words t x));
         }

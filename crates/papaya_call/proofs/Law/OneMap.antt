@@ -5,26 +5,26 @@ use Rattle.papaya_call.specs.Law.Exchange.{Setting, State, Exchange, after, run,
 use Rattle.papaya_call.specs.Law.View.{Free, Here, Leaving, beyond, look, IsPassed, IsReached}
 use Rattle.papaya_call.specs.Law.Allows.{AllAllowed, Allows, MayClaim, MayPlace}
 use Rattle.papaya_call.specs.Law.Meaning.{AllLegal, IsAtMoment, IsLegal, IsLawful, IsMeaning, map_after, map_left, map_of}
-use Rattle.papaya_call.specs.Law.Keeping.{IsGood, IsGoodRoot, IsSound, IsKeeping}
+use Rattle.papaya_call.specs.Law.Invariant.{IsIncrementalState, IsBlockingState, IsSound, IsKeeping}
 use Rattle.papaya_call.specs.Law.Later.{IsLater, IsLasting}
-use Rattle.papaya_call.proofs.Law.Incremental.{step_good, meaning}
-use Rattle.papaya_call.proofs.Law.TableSteps.{start_good}
-use Rattle.papaya_call.proofs.Law.Blocking.{step_good_root, meaning_root}
-use Rattle.papaya_call.proofs.Law.TableStepsBlocking.{start_good_root}
+use Rattle.papaya_call.proofs.Law.Incremental.Steps.{step_incremental, meaning_incremental}
+use Rattle.papaya_call.proofs.Law.Incremental.TableSteps.{start_incremental}
+use Rattle.papaya_call.proofs.Law.Blocking.Steps.{step_blocking, meaning_blocking}
+use Rattle.papaya_call.proofs.Law.Blocking.TableSteps.{start_blocking}
 use Rattle.papaya_call.proofs.Law.Later.{later_run, lasts}
 use Rattle.papaya_call.proofs.Law.Chain.{next_zero}
 use Rattle.papaya_call.proofs.Law.Moments.{run-append, allowed_first, allowed_rest}
 use Rattle.papaya_call.proofs.Law.Readers.{slow_found, slow_empty, slow_over}
-use Rattle.papaya_call.proofs.Law.Apart.{apart, apart_root}
+use Rattle.papaya_call.proofs.Law.Apart.{apart_incremental, apart_blocking}
 
 module _ {K P : Type 0} (g : Setting K P) (s : State P) (m : K → Option P) (keeps : IsKeeping g s m) where
   -- what is kept in a known mode
-  pub good_incremental : g.blocking ≡ false → IsGood g s m
-  good_incremental inc = ⊎_elim (λ h. h.1) (λ h. absurd (let b = h.0 in cc (b, inc))) keeps
+  pub incremental_state : g.blocking ≡ false → IsIncrementalState g s m
+  incremental_state inc = ⊎_elim (λ h. h.1) (λ h. absurd (let b = h.0 in cc (b, inc))) keeps
 
   -- with blocking
-  pub good_root : g.blocking ≡ true → IsGoodRoot g s m
-  good_root blocks = ⊎_elim (λ h. absurd (let b = h.0 in cc (b, blocks))) (λ h. h.1) keeps
+  pub blocking_state : g.blocking ≡ true → IsBlockingState g s m
+  blocking_state blocks = ⊎_elim (λ h. absurd (let b = h.0 in cc (b, blocks))) (λ h. h.1) keeps
 
   -- and in both, of the words themselves
   pub keeping_sound : IsSound g s
@@ -37,22 +37,22 @@ module _ {K P : Type 0} (g : Setting K P) (s : State P) (m : K → Option P) (ke
 module _ {K P : Type 0} (g : Setting K P) (law : IsLawful g) where
   -- before the first exchange the map is empty
   pub start_keeps : IsKeeping g start (λ k. None)
-  start_keeps = ⊎_elim (λ b. inr (b, start_good_root g)) (λ b. inl (b, start_good g b)) (cases_Bool g.blocking)
+  start_keeps = ⊎_elim (λ b. inr (b, start_blocking g)) (λ b. inl (b, start_incremental g b)) (cases_Bool g.blocking)
 
   -- the law of one step
   pub step_keeps : (s : State P) (m : K → Option P) → IsKeeping g s m → (e : Exchange P) → Allows g s e → IsLegal g m e × IsKeeping g (after s e) (map_after g m e)
-  step_keeps s m (inl h) e may = let r = step_good g law h.0 s m h.1 e may in (r.0, inl (h.0, r.1))
-  step_keeps s m (inr h) e may = let r = step_good_root g law h.0 s m h.1 e may in (r.0, inr (h.0, r.1))
+  step_keeps s m (inl h) e may = let r = step_incremental g law h.0 s m h.1 e may in (r.0, inl (h.0, r.1))
+  step_keeps s m (inr h) e may = let r = step_blocking g law h.0 s m h.1 e may in (r.0, inr (h.0, r.1))
 
   -- what is kept is what the words mean
   pub means : (s : State P) (m : K → Option P) → IsKeeping g s m → (k : K) → IsMeaning g s k (m k)
-  means s m (inl h) k = meaning g law h.0 s m h.1 k
-  means s m (inr h) k = meaning_root g law h.0 s m h.1 k
+  means s m (inl h) k = meaning_incremental g law h.0 s m h.1 k
+  means s m (inr h) k = meaning_blocking g law h.0 s m h.1 k
 
   -- an exchange that fills an Empty slot is a claim or a copy
   pub never_both : (s : State P) (m : K → Option P) → IsKeeping g s m → (t x : ℕ) (p : P) → MayClaim g s t x p → MayPlace g s t x p → ⊥
-  never_both s m (inl h) t x p claim copy = apart g law s m t x p claim copy h.0 h.1
-  never_both s m (inr h) t x p claim copy = apart_root g law s m t x p claim copy h.0 h.1
+  never_both s m (inl h) t x p claim copy = apart_incremental g law s m t x p claim copy h.0 h.1
+  never_both s m (inr h) t x p claim copy = apart_blocking g law s m t x p claim copy h.0 h.1
 
   -- the law of a list, from a state that keeps a map
   pub run_keeps : (es : List (Exchange P)) (s : State P) (m : K → Option P) → IsKeeping g s m → AllAllowed g s es → IsKeeping g (run es s) (map_of g m es)
@@ -98,8 +98,8 @@ module _ {K P : Type 0} (g : Setting K P) (law : IsLawful g) where
     -- a reader that took t for the root after es, and now finds a word in it
     module _ (blocks : g.blocking ≡ true) (t : ℕ) (root : (run es start).root ≡ t) (some : 0 < t) (k : K) where
       -- what was kept after es
-      good : IsGoodRoot g (run es start) (map_left g es)
-      good = good_root g (run es start) (map_left g es) (keeping es (allowed_first g es fs start may)) blocks
+      good : IsBlockingState g (run es start) (map_left g es)
+      good = blocking_state g (run es start) (map_left g es) (keeping es (allowed_first g es fs start may)) blocks
 
       -- the state after both lists
       now : run fs (run es start) ≡ run (es ++ fs) start

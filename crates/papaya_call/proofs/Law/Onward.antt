@@ -4,7 +4,7 @@ use Rattle.std.proofs.lemmas.Bool.{cases_lt}
 use Rattle.papaya_call.specs.Law.Exchange.{Setting, State, walk}
 use Rattle.papaya_call.specs.Law.View.{Leaving, Gone, look, IsPassed, IsReached}
 use Rattle.papaya_call.specs.Law.Meaning.{IsLawful}
-use Rattle.papaya_call.specs.Law.Keeping.{shut, IsKeeping}
+use Rattle.papaya_call.specs.Law.Invariant.{shut, IsKeeping}
 use Rattle.papaya_call.proofs.Law.Slots.{view_leaving, view_gone}
 use Rattle.papaya_call.proofs.Law.OneMap.{keeping_sound, means}
 

@@ -4,22 +4,22 @@ use Rattle.papaya_call.specs.Law.Exchange.{Setting, State, Exchange, run}
 use Rattle.papaya_call.specs.Law.View.{Free, Here, Leaving, beyond, look, IsPassed, IsReached}
 use Rattle.papaya_call.specs.Law.Allows.{AllAllowed}
 use Rattle.papaya_call.specs.Law.Meaning.{map_of, IsLawful, IsMeaning, IsAtMoment}
-use Rattle.papaya_call.specs.Law.Keeping.{IsGoodRoot}
-use Rattle.papaya_call.proofs.Law.Blocking.{all_good_root, meaning_root}
+use Rattle.papaya_call.specs.Law.Invariant.{IsBlockingState}
+use Rattle.papaya_call.proofs.Law.Blocking.Steps.{run_blocking, meaning_blocking}
 use Rattle.papaya_call.proofs.Law.Moments.{IsRootMoment, root_moment, allowed_first}
 
-module _ {K P : Type 0} (g : Setting K P) (law : IsLawful g) (blocks : g.blocking ≡ true) (s : State P) (m : K → Option P) (good : IsGoodRoot g s m) (t : ℕ) (root : s.root ≡ t) (some : 0 < t) (fs : List (Exchange P)) (may : AllAllowed g s fs) (k : K) where
+module _ {K P : Type 0} (g : Setting K P) (law : IsLawful g) (blocks : g.blocking ≡ true) (s : State P) (m : K → Option P) (good : IsBlockingState g s m) (t : ℕ) (root : s.root ≡ t) (some : 0 < t) (fs : List (Exchange P)) (may : AllAllowed g s fs) (k : K) where
   -- a moment when t was the root and was seen so
   pub moment : IsRootMoment g s t fs
   moment = root_moment g law blocks fs s m good may t root some
 
   -- what was kept then
-  then_good : IsGoodRoot g (run moment.so_far s) (map_of g m moment.so_far)
-  then_good = all_good_root g law blocks moment.so_far s m good (allowed_first g moment.so_far moment.rest s (subst (AllAllowed g s) (sym moment.is) may))
+  then_good : IsBlockingState g (run moment.so_far s) (map_of g m moment.so_far)
+  then_good = run_blocking g law blocks moment.so_far s m good (allowed_first g moment.so_far moment.rest s (subst (AllAllowed g s) (sym moment.is) may))
 
   -- what the words meant then
   then_means : IsMeaning g (run moment.so_far s) k (map_of g m moment.so_far k)
-  then_means = meaning_root g law blocks (run moment.so_far s) (map_of g m moment.so_far) then_good k
+  then_means = meaning_blocking g law blocks (run moment.so_far s) (map_of g m moment.so_far) then_good k
 
   -- t was reached then
   then_reached : IsReached g (run moment.so_far s) k t

@@ -5,7 +5,7 @@ use Rattle.papaya_call.specs.Law.Exchange.{Setting, State, Exchange, Open, Claim
 use Rattle.papaya_call.specs.Law.View.{View, Free, Foreign, Here, Leaving, Gone, Grave, look, beyond, IsPassed, IsReached}
 use Rattle.papaya_call.specs.Law.Allows.{AllAllowed}
 use Rattle.papaya_call.specs.Law.Meaning.{IsLawful, IsMeaning, map_left}
-use Rattle.papaya_call.specs.Law.Kept.{Rises}
+use Rattle.papaya_call.specs.Law.Class.{Rises}
 use Rattle.papaya_call.proofs.Law.Onward.{next_reached}
 use Rattle.papaya_call.proofs.Law.OneMap.{sound, means_map, root_is_reached}
 

@@ -5,22 +5,23 @@ use Rattle.papaya_call.specs.Law.Exchange.{Word, Empty, Closed, Live, Marked, Co
 use Rattle.papaya_call.specs.Law.View.{View, Free, Foreign, Here, Leaving, Gone, Grave, view, look, own, active, held, IsReached}
 use Rattle.papaya_call.specs.Law.Allows.{AllAllowed}
 use Rattle.papaya_call.specs.Law.Meaning.{map_of, IsAtMoment, IsLawful}
-use Rattle.papaya_call.specs.Law.Kept.{IsOwner, IsTied, IsRootOwner, IsRootTied, IsOn}
-use Rattle.papaya_call.specs.Law.Keeping.{IsGood, IsGoodRoot, IsKeeping}
+use Rattle.papaya_call.specs.Law.Class.{IsOwner, IsTied, IsOn}
+use Rattle.papaya_call.specs.Law.ClassBlocking.{IsRootOwner, IsRootTied}
+use Rattle.papaya_call.specs.Law.Invariant.{IsIncrementalState, IsBlockingState, IsKeeping}
 use Rattle.papaya_call.specs.Law.Later.{Becomes}
 use Rattle.papaya_call.proofs.Law.Views.{held-active, active-own}
 use Rattle.papaya_call.proofs.Law.Class.{held_of, passed_not_held}
 use Rattle.papaya_call.proofs.Law.Chain.{has_next, next_zero}
 use Rattle.papaya_call.proofs.Law.Slots.{view_gone, view_grave}
-use Rattle.papaya_call.proofs.Law.Good.{reached_front}
-use Rattle.papaya_call.proofs.Law.Incremental.{all_good, meaning}
+use Rattle.papaya_call.proofs.Law.Incremental.States.{reached_front}
+use Rattle.papaya_call.proofs.Law.Incremental.Steps.{run_incremental, meaning_incremental}
 use Rattle.papaya_call.proofs.Law.Later.{own_sees, sees_later, later_run, lasts}
 use Rattle.papaya_call.proofs.Law.Moments.{run-append, allowed_first, allowed_rest}
 use Rattle.papaya_call.proofs.Law.Turns.{buried, copied, IsTurnOf, none_since, turn_of, by_finish}
 
 module _ {K P : Type 0} (g : Setting K P) (law : IsLawful g) where
   -- a root without a next table holds each pair of the map
-  root_holds_incremental : g.blocking ≡ false → (s : State P) (m : K → Option P) → IsGood g s m → s.next s.root ≡ 0 → (k : K) (p : P) → m k ≡ Some p → (j : ℕ) × (j < g.places s.root) × (held (look g s k s.root j) ≡ true)
+  root_holds_incremental : g.blocking ≡ false → (s : State P) (m : K → Option P) → IsIncrementalState g s m → s.next s.root ≡ 0 → (k : K) (p : P) → m k ≡ Some p → (j : ℕ) × (j < g.places s.root) × (held (look g s k s.root j) ≡ true)
   root_holds_incremental inc s m good last k p e =
       let o : IsOwner (IsOn s.first s.next) g.places (look g s k) p = subst (IsTied (IsOn s.first s.next) g.places (look g s k)) e (good.class k).tied in
       let there : held (look g s k o.table o.at) ≡ true = held_of (look g s k o.table o.at) p o.has in
@@ -33,7 +34,7 @@ module _ {K P : Type 0} (g : Setting K P) (law : IsLawful g) where
       (o.at, subst (λ t. o.at < g.places t) is o.within, subst (λ t. held (look g s k t o.at) ≡ true) is there)
     where
       none : (o : IsOwner (IsOn s.first s.next) g.places (look g s k) p) → s.root ≡ 0 → ⊥
-      none o z = let v : m k ≡ None = (meaning g law inc s m good k).no_root z in cc (v, e)
+      none o z = let v : m k ≡ None = (meaning_incremental g law inc s m good k).no_root z in cc (v, e)
 
       before : (o : IsOwner (IsOn s.first s.next) g.places (look g s k) p) → o.table < s.root → held (look g s k o.table o.at) ≡ true → ⊥
       before o c h =
@@ -42,7 +43,7 @@ module _ {K P : Type 0} (g : Setting K P) (law : IsLawful g) where
           passed_not_held (IsOn s.first s.next) g.places (g.place k) (look g s k) (good.class k).base o.table o.at ((reached_front g law inc s m good k s.root r).1 o.table o.on c) o.within h
 
   -- the same with blocking, of any root
-  root_holds_blocking : (s : State P) (m : K → Option P) → IsGoodRoot g s m → (k : K) (p : P) → m k ≡ Some p → (j : ℕ) × (j < g.places s.root) × (held (look g s k s.root j) ≡ true)
+  root_holds_blocking : (s : State P) (m : K → Option P) → IsBlockingState g s m → (k : K) (p : P) → m k ≡ Some p → (j : ℕ) × (j < g.places s.root) × (held (look g s k s.root j) ≡ true)
   root_holds_blocking s m good k p e =
       let o : IsRootOwner g.places (look g s k) s.root p = subst (IsRootTied g.places (look g s k) s.root) e (good.class k).tied in
       (o.at, o.within, held_of (look g s k s.root o.at) p o.has)
@@ -97,7 +98,7 @@ module _ {K P : Type 0} (g : Setting K P) (law : IsLawful g) where
       by_view (Grave p) e o = inr (buried_since m k t j p fs s may (λ q. cc (q, h)) e)
 
   -- a Copied word where it wasn't: its pair was the map's at a moment since
-  pub copied_since : g.blocking ≡ false → (s : State P) (m : K → Option P) → IsGood g s m → (k : K) (t j : ℕ) (p : P) (fs : List (Exchange P)) → AllAllowed g s fs → IsReached g s k t → j < g.places t
+  pub copied_since : g.blocking ≡ false → (s : State P) (m : K → Option P) → IsIncrementalState g s m → (k : K) (t j : ℕ) (p : P) (fs : List (Exchange P)) → AllAllowed g s fs → IsReached g s k t → j < g.places t
       → (look g s k t j ≡ Gone p → ⊥) → look g (run fs s) k t j ≡ Gone p → IsAtMoment g m fs k (Some p)
   copied_since inc s m good k t j p fs may reached lt old now =
       let x : ℕ = g.place k t j in
@@ -112,7 +113,7 @@ module _ {K P : Type 0} (g : Setting K P) (law : IsLawful g) where
       let r = turn_of g copied t x fs s may not_yet (ap copied w.0) in
       let b = by_finish g (run r.so_far s) t x r.by r.may r.old r.new in
       let may-first : AllAllowed g s r.so_far = allowed_first g r.so_far (r.by ∷ r.rest) s (subst (AllAllowed g s) (sym r.is) may) in
-      let good' = all_good g law inc r.so_far s m good may-first in
+      let good' = run_incremental g law inc r.so_far s m good may-first in
       let pair : b.0 ≡ p = same_pair r b.0 b.1 b.2 w.0 in
       let marked : (run r.so_far s).slot t x ≡ Marked p = subst (λ q. (run r.so_far s).slot t x ≡ Marked q) pair b.1 in
       let leaving : look g (run r.so_far s) k t j ≡ Leaving p = subst (λ y. view g k y ≡ Leaving p) (sym marked) (cond-true (g.same k (g.key p)) (Leaving p) Foreign w.1) in
@@ -121,7 +122,7 @@ module _ {K P : Type 0} (g : Setting K P) (law : IsLawful g) where
         so_far = r.so_far;
         rest = r.by ∷ r.rest;
         is = r.is;
-        value_is = (meaning g law inc (run r.so_far s) (map_of g m r.so_far) good' k).found t j p reached' (λ c. absurd (cc (inc, c))) lt (inr leaving);
+        value_is = (meaning_incremental g law inc (run r.so_far s) (map_of g m r.so_far) good' k).found t j p reached' (λ c. absurd (cc (inc, c))) lt (inr leaving);
       }
     where
       same_pair : (r : IsTurnOf g copied s t (g.place k t j) fs) → (q : P) → (run r.so_far s).slot t (g.place k t j) ≡ Marked q → r.by ≡ Finish t (g.place k t j) q → (run fs s).slot t (g.place k t j) ≡ Copied p → q ≡ p

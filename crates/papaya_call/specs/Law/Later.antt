@@ -1,7 +1,8 @@
 -- What no allowed exchange undoes, so that what a caller saw at an earlier moment still serves.
 use Rattle.std.specs.Prelude.{◌≡◌, ◌⊎◌, ℕ, ◌<◌, ◌≤◌, true}
 use Rattle.papaya_call.specs.Law.Exchange.{Word, Empty, Closed, Live, Marked, Copied, Buried, Setting, State}
-use Rattle.papaya_call.specs.Law.View.{look, beyond, foreign, IsPassed, IsFull, HasWord, IsNextPlace, IsReached, IsTaker, IsTarget, IsCopied, IsSettled}
+use Rattle.papaya_call.specs.Law.View.{look, beyond, foreign, IsPassed, IsFull, HasWord, IsNextPlace, IsReached}
+use Rattle.papaya_call.specs.Law.Copying.{IsTaker, IsTarget, IsCopied, IsSettled}
 
 -- what a word may become: a pair gives way to one of an equal key alone
 abbrev pub Becomes : {K P : Type 0} → Setting K P → Word P → Word P → Type 0

@@ -1,7 +1,7 @@
 use Rattle.papaya_call.proofs.exchanges.tables_come_later.Goals as goal
 use Rattle.std.proofs.Common.{None}
 use Rattle.papaya_call.specs.Law.Exchange.{start}
-use Rattle.papaya_call.specs.Law.Kept.{IsOn}
+use Rattle.papaya_call.specs.Law.Class.{IsOn}
 use Rattle.papaya_call.proofs.Law.Carries.{keeping_carries}
 use Rattle.papaya_call.proofs.Law.Grows.{allows_carries, reached_carries, all_carries, later_carries, map_of_carries}
 use Rattle.papaya_call.proofs.Law.OneMap.{keeping_sound, start_keeps}

@@ -1,5 +1,5 @@
 use Rattle.papaya_call.proofs.exchanges.tables_of_a_log.Goals as goal
-use Rattle.papaya_call.specs.Law.Kept.{IsOn}
+use Rattle.papaya_call.specs.Law.Class.{IsOn}
 use Rattle.papaya_call.proofs.Law.Logs.{on_comes, comes_after, planned_agrees, lawful_in, log_grows}
 
 pub returns-clause-comes : goal.returns-clause-comes

@@ -2,9 +2,11 @@
 use Rattle.std.proofs.Common.{◌≡◌, ◌⊎◌, ⊎_elim, ℕ, ◌<◌, ◌≤◌, true, false, Option, Some, refl, sym, ap, ◌∙◌, subst, arith}
 use Rattle.std.proofs.lemmas.Bool.{cases_lt, cases_Bool, cond-true, cond-false}
 use Rattle.papaya_call.specs.Law.Exchange.{Word, Empty, Closed, Live, Marked, Copied, Buried, Setting, State, slot_put, walk}
-use Rattle.papaya_call.specs.Law.View.{View, Free, Foreign, Here, view, look, own, foreign, IsFull, HasWord, IsReached, IsTaker, IsTarget, IsSettled}
-use Rattle.papaya_call.specs.Law.Kept.{AllAborted, IsRootKept, IsOn}
-use Rattle.papaya_call.specs.Law.Keeping.{pair_of, shut, IsPlaceOf, IsSound, plain, IsGoodRoot}
+use Rattle.papaya_call.specs.Law.View.{View, Free, Foreign, Here, view, look, own, foreign, IsFull, HasWord, IsReached}
+use Rattle.papaya_call.specs.Law.Copying.{IsTaker, IsTarget, IsSettled}
+use Rattle.papaya_call.specs.Law.Class.{IsOn}
+use Rattle.papaya_call.specs.Law.ClassBlocking.{AllAborted, IsBlockingClass}
+use Rattle.papaya_call.specs.Law.Invariant.{pair_of, shut, IsPlaceOf, IsSound, plain, IsBlockingState}
 use Rattle.papaya_call.proofs.Law.Class.{IsTurn}
 use Rattle.papaya_call.proofs.Law.Chain.{walk_between}
 use Rattle.papaya_call.proofs.Law.Slots.{slot_cases}
@@ -69,7 +71,7 @@ module _ {K P : Type 0} (g : Setting K P) (s : State P) where
   settled_not_plain u (Copied p) h = refl
   settled_not_plain u (Buried p) h = refl
 
-  module _ (m : K → Option P) (good : IsGoodRoot g s m) where
+  module _ (m : K → Option P) (good : IsBlockingState g s m) where
     -- where a word is Empty or Live in a table that was the root, that table is the root
     pub is_root : (t x : ℕ) (w : Word P) → s.was_root t ≡ true → s.slot t x ≡ w → plain w ≡ true → x < g.size t → t ≡ s.root
     is_root t x w was old p lt =
@@ -91,10 +93,10 @@ module _ {K P : Type 0} (g : Setting K P) (s : State P) where
     root_alive t on le = good.alive s.root (good.root_was (let p = on.0 in omega arith))
 
     -- a slot's word changes, and the classes are as they have to be
-    pub slot_good_root : (t x : ℕ) (w w' : Word P) → s.slot t x ≡ w → plain w ≡ true → (plain w' ≡ true) ⊎ (s.was_root t ≡ true) → ((p : P) → w' ≡ Copied p → ⊥) → IsOn s.first s.next t
+    pub slot_blocking : (t x : ℕ) (w w' : Word P) → s.slot t x ≡ w → plain w ≡ true → (plain w' ≡ true) ⊎ (s.was_root t ≡ true) → ((p : P) → w' ≡ Copied p → ⊥) → IsOn s.first s.next t
         → ((p : P) → pair_of w' ≡ Some p → IsPlaceOf g t x p) → (shut w' ≡ true → 0 < s.next t) → ((k : K) → IsMild g s t x w' k) → (m' : K → Option P)
-        → ((k : K) → IsRootKept (IsOn s.first s.next) s.was_root s.aborted s.root g.places (g.place k) (look g (slot_put s t x w') k) (m' k)) → IsGoodRoot g (slot_put s t x w') m'
-    slot_good_root t x w w' old p new never on place next mild m' class = record {
+        → ((k : K) → IsBlockingClass (IsOn s.first s.next) s.was_root s.aborted s.root g.places (g.place k) (look g (slot_put s t x w') k) (m' k)) → IsBlockingState g (slot_put s t x w') m'
+    slot_blocking t x w w' old p new never on place next mild m' class = record {
       sound = slot_sound g s good.sound t x w' on place next;
       alive = good.alive;
       frozen = λ u y was lt h. let f = good.frozen u y was lt h in ap plain (same u y f) ∙ f;

@@ -3,16 +3,17 @@
 use Rattle.std.proofs.Common.{◌≡◌, ◌⊎◌, inl, inr, ⊎_elim, ℕ, ◌<◌, ◌≤◌, Bool, true, false, Option, None, Some, refl, sym, ap, ◌∙◌, subst, arith}
 use Rattle.std.proofs.lemmas.Bool.{cases_lt}
 use Rattle.papaya_call.specs.Law.View.{View, Free, Foreign, Here, Leaving, Grave, own, active, held, beyond, foreign, HasWord}
-use Rattle.papaya_call.specs.Law.Kept.{IsFilled, AllAborted, IsRootCopy, IsRootOwner, IsRootTied, IsRootKept}
+use Rattle.papaya_call.specs.Law.Class.{IsFilled}
+use Rattle.papaya_call.specs.Law.ClassBlocking.{AllAborted, IsRootCopy, IsRootOwner, IsRootTied, IsBlockingClass}
 use Rattle.papaya_call.proofs.Law.Views.{held-active, active-own}
 use Rattle.papaya_call.proofs.Law.Class.{IsTurn, held_of, same_active, free_not_active, free_not_own, own_on, base_after, longer_base}
-use Rattle.papaya_call.proofs.Law.Steps.{turned, unturned}
+use Rattle.papaya_call.proofs.Law.Incremental.ClassSteps.{turned, unturned}
 use mathlib.Core.Path.{fun_ext}
 
 module _ {P : Type 0} where
   module _ (On : ℕ → Type 0) (Was ab : ℕ → Bool) (r : ℕ) (n : ℕ → ℕ) (S : ℕ → ℕ → ℕ) (V : ℕ → ℕ → View P) where
     -- what a search finds in the root is the map's
-    pub root_found : (m : Option P) → IsRootKept On Was ab r n S V m → (j : ℕ) (p : P) → j < n r → (V r j ≡ Here p) ⊎ (V r j ≡ Leaving p) → m ≡ Some p
+    pub root_found : (m : Option P) → IsBlockingClass On Was ab r n S V m → (j : ℕ) (p : P) → j < n r → (V r j ≡ Here p) ⊎ (V r j ≡ Leaving p) → m ≡ Some p
     root_found None k j p lt h = absurd (k.tied j lt (held_of (V r j) p h))
     root_found (Some q) k j p lt h =
         let o : IsRootOwner n V r q = k.tied in
@@ -23,15 +24,15 @@ module _ {P : Type 0} where
         h
 
     -- where the root holds no pair of the key, the map has none
-    pub root_none : (m : Option P) → IsRootKept On Was ab r n S V m → ((j : ℕ) → j < n r → held (V r j) ≡ true → ⊥) → m ≡ None
+    pub root_none : (m : Option P) → IsBlockingClass On Was ab r n S V m → ((j : ℕ) → j < n r → held (V r j) ≡ true → ⊥) → m ≡ None
     root_none None k none = refl
     root_none (Some q) k none = let o : IsRootOwner n V r q = k.tied in absurd (none o.at o.within (held_of (V r o.at) q o.has))
 
     -- at an Empty place that a search comes to, the map has none
-    pub root_empty : (m : Option P) → IsRootKept On Was ab r n S V m → (j : ℕ) → j < n r → ((i : ℕ) → i < j → beyond (V r i) ≡ true) → V r j ≡ Free → m ≡ None
+    pub root_empty : (m : Option P) → IsBlockingClass On Was ab r n S V m → (j : ℕ) → j < n r → ((i : ℕ) → i < j → beyond (V r i) ≡ true) → V r j ≡ Free → m ≡ None
     root_empty m k j lt before free = root_none m k (λ i l h. free_not_active On n S V k.base r j i free before l (held-active (V r i) h))
 
-    module _ (V' : ℕ → ℕ → View P) (t x : ℕ) (m : Option P) (k : IsRootKept On Was ab r n S V m) where
+    module _ (V' : ℕ → ℕ → View P) (t x : ℕ) (m : Option P) (k : IsBlockingClass On Was ab r n S V m) where
       -- a turn by which nothing leaves or comes behind the root
       plain_ahead : (a b : View P) → IsTurn S V V' t x a b → ((p : P) → a ≡ Leaving p → ⊥) → (own b ≡ true → r < t → ⊥) → (u j : ℕ) → r < u → j < n u → own (V' u j) ≡ true → IsRootCopy On ab n V' r u (V' u j)
       plain_ahead a b turn never here u j lt l h =
@@ -63,8 +64,8 @@ module _ {P : Type 0} where
           record { at = o.at; within = o.within; has = ⊎_elim (λ q. inl (e ∙ q)) (λ q. inr (e ∙ q)) o.has }
 
       -- another key's pair is put at an Empty place of it, or the place is closed
-      pub fill_root : IsTurn S V V' t x Free Foreign → IsRootKept On Was ab r n S V' m
-      fill_root turn = record {
+      pub fill_kept_blocking : IsTurn S V V' t x Free Foreign → IsBlockingClass On Was ab r n S V' m
+      fill_kept_blocking turn = record {
         base = base_after On n S V V' t x Free Foreign turn k.base (record { fills = λ e. cc; on = λ e. absurd cc; filled = λ e. absurd cc; lone = λ e. absurd cc });
         ahead = plain_ahead Free Foreign turn (λ p e. cc) (λ e. absurd cc);
         handed = plain_handed Free Foreign turn (λ e. absurd cc) (λ p e. absurd cc);
@@ -77,8 +78,8 @@ module _ {P : Type 0} where
         within-r = subst (λ y. at < n y) root within
 
         -- a claim
-        pub claim_root : (p : P) → IsTurn S V V' t x Free (Here p) → ((i : ℕ) → i < at → beyond (V t i) ≡ true) → (m ≡ None) × IsRootKept On Was ab r n S V' (Some p)
-        claim_root p turn before =
+        pub claim_kept_blocking : (p : P) → IsTurn S V V' t x Free (Here p) → ((i : ℕ) → i < at → beyond (V t i) ≡ true) → (m ≡ None) × IsBlockingClass On Was ab r n S V' (Some p)
+        claim_kept_blocking p turn before =
             let old : V t at ≡ Free = (turned S V V' t x Free (Here p) turn at is).0 in
             let new : V' t at ≡ Here p = (turned S V V' t x Free (Here p) turn at is).1 in
             let lone : (j : ℕ) → j < n t → active (V t j) ≡ true → ⊥ = λ j lt h. free_not_active On n S V k.base t at j old before lt h in
@@ -93,8 +94,8 @@ module _ {P : Type 0} where
             )
 
         -- a replacement
-        pub replace_root : (p q : P) → IsTurn S V V' t x (Here p) (Here q) → (m ≡ Some p) × IsRootKept On Was ab r n S V' (Some q)
-        replace_root p q turn =
+        pub replace_kept_blocking : (p q : P) → IsTurn S V V' t x (Here p) (Here q) → (m ≡ Some p) × IsBlockingClass On Was ab r n S V' (Some q)
+        replace_kept_blocking p q turn =
             let old : V t at ≡ Here p = (turned S V V' t x (Here p) (Here q) turn at is).0 in
             let new : V' t at ≡ Here q = (turned S V V' t x (Here p) (Here q) turn at is).1 in (
               root_found m k at p within-r (inl (subst (λ y. V y at ≡ Here p) root old)),
@@ -107,8 +108,8 @@ module _ {P : Type 0} where
             )
 
         -- a mark
-        pub mark_root : (p : P) → IsTurn S V V' t x (Here p) (Leaving p) → IsRootKept On Was ab r n S V' m
-        mark_root p turn =
+        pub mark_kept_blocking : (p : P) → IsTurn S V V' t x (Here p) (Leaving p) → IsBlockingClass On Was ab r n S V' m
+        mark_kept_blocking p turn =
             let old : V t at ≡ Here p = (turned S V V' t x (Here p) (Leaving p) turn at is).0 in
             let new : V' t at ≡ Leaving p = (turned S V V' t x (Here p) (Leaving p) turn at is).1 in
             let it : m ≡ Some p = root_found m k at p within-r (inl (subst (λ y. V y at ≡ Here p) root old)) in
@@ -121,8 +122,8 @@ module _ {P : Type 0} where
             }
 
         -- a burial
-        pub bury_root : (p : P) → IsTurn S V V' t x (Here p) (Grave p) → (m ≡ Some p) × IsRootKept On Was ab r n S V' None
-        bury_root p turn =
+        pub bury_kept_blocking : (p : P) → IsTurn S V V' t x (Here p) (Grave p) → (m ≡ Some p) × IsBlockingClass On Was ab r n S V' None
+        bury_kept_blocking p turn =
             let old : V t at ≡ Here p = (turned S V V' t x (Here p) (Grave p) turn at is).0 in
             let old-r : V r at ≡ Here p = subst (λ y. V y at ≡ Here p) root old in
             let is-r : S r at ≡ x = subst (λ y. S y at ≡ x) root is in (
@@ -139,9 +140,9 @@ module _ {P : Type 0} where
             )
 
       -- a copy of p is placed in t, of a word that leaves table u; the tables between are aborted
-      pub place_root : (on : On t) (at : ℕ) (within : at < n t) (is : S t at ≡ x) (before : (i : ℕ) → i < at → foreign (V t i) ≡ true)
-          → (u i : ℕ) (p : P) → Was u ≡ true → u ≤ r → u < t → i < n u → V u i ≡ Leaving p → AllAborted On ab u t → On r → ab r ≡ false → IsTurn S V V' t x Free (Here p) → IsRootKept On Was ab r n S V' m
-      place_root on at within is before u i p was low later within-u leaving all on-r root turn =
+      pub place_kept_blocking : (on : On t) (at : ℕ) (within : at < n t) (is : S t at ≡ x) (before : (i : ℕ) → i < at → foreign (V t i) ≡ true)
+          → (u i : ℕ) (p : P) → Was u ≡ true → u ≤ r → u < t → i < n u → V u i ≡ Leaving p → AllAborted On ab u t → On r → ab r ≡ false → IsTurn S V V' t x Free (Here p) → IsBlockingClass On Was ab r n S V' m
+      place_kept_blocking on at within is before u i p was low later within-u leaving all on-r root turn =
           let old : V t at ≡ Free = (turned S V V' t x Free (Here p) turn at is).0 in
           let fil : IsFilled n S V t x = record { at = at; within = within; is = is; before = λ l lt e. let h = before l lt in cc (h, e) } in
           let lone : (j : ℕ) → j < n t → active (V t j) ≡ true → ⊥ = λ j lt h. free_not_own On n S V k.base t at j old before lt (active-own (V t j) h) in
@@ -175,12 +176,12 @@ module _ {P : Type 0} where
           source_is_root lt = ⊎_elim (λ (c : u < r). absurd (let h = all r on-r c lt in cc (h, root))) (λ (c : r ≤ u). omega arith) (cases_lt u r)
 
   -- the root is promoted: r' is not aborted, all between r and it is, and what the root holds stands in it
-  pub promote_root : (On : ℕ → Type 0) (Was Was' ab : ℕ → Bool) (r r' : ℕ) (n : ℕ → ℕ) (S : ℕ → ℕ → ℕ) (V : ℕ → ℕ → View P) (m : Option P) → IsRootKept On Was ab r n S V m
+  pub promote_kept_blocking : (On : ℕ → Type 0) (Was Was' ab : ℕ → Bool) (r r' : ℕ) (n : ℕ → ℕ) (S : ℕ → ℕ → ℕ) (V : ℕ → ℕ → View P) (m : Option P) → IsBlockingClass On Was ab r n S V m
       → On r → ab r ≡ false → On r' → ab r' ≡ false → r < r' → AllAborted On ab r r'
       → ((t : ℕ) → Was t ≡ true → t ≤ r) → ((t : ℕ) → Was' t ≡ true → (t ≡ r') ⊎ (Was t ≡ true))
       → ((i : ℕ) (p : P) → i < n r → V r i ≡ Here p → ⊥) → ((i : ℕ) (p : P) → i < n r → V r i ≡ Leaving p → HasWord n V r')
-      → IsRootKept On Was' ab r' n S V m
-  promote_root On Was Was' ab r r' n S V m k on live on' live' up all low more none copied = record {
+      → IsBlockingClass On Was' ab r' n S V m
+  promote_kept_blocking On Was Was' ab r r' n S V m k on live on' live' up all low more none copied = record {
     base = k.base;
     ahead = λ u j lt l h. absurd (let c = k.ahead u j (omega arith) l h in let a = c.between r' on' up lt in cc (a, live'));
     handed = λ t u i p was onu lo hi between free lt e. ⊎_elim
@@ -223,9 +224,9 @@ module _ {P : Type 0} where
           record { at = w.0; within = w.1; has = inl (cc (s, f, g, leaving)) }
 
   -- a table behind the root is aborted
-  pub abort_root : (On : ℕ → Type 0) (Was ab ab' : ℕ → Bool) (r : ℕ) (n : ℕ → ℕ) (S : ℕ → ℕ → ℕ) (V : ℕ → ℕ → View P) (m : Option P) → IsRootKept On Was ab r n S V m
-      → ((l : ℕ) → ab l ≡ true → ab' l ≡ true) → ((l : ℕ) → l ≤ r → ab' l ≡ ab l) → IsRootKept On Was ab' r n S V m
-  abort_root On Was ab ab' r n S V m k more same = record {
+  pub abort_kept_blocking : (On : ℕ → Type 0) (Was ab ab' : ℕ → Bool) (r : ℕ) (n : ℕ → ℕ) (S : ℕ → ℕ → ℕ) (V : ℕ → ℕ → View P) (m : Option P) → IsBlockingClass On Was ab r n S V m
+      → ((l : ℕ) → ab l ≡ true → ab' l ≡ true) → ((l : ℕ) → l ≤ r → ab' l ≡ ab l) → IsBlockingClass On Was ab' r n S V m
+  abort_kept_blocking On Was ab ab' r n S V m k more same = record {
     base = k.base;
     ahead = λ u j lt l h. let c = k.ahead u j lt l h in record { at = c.at; pair = c.pair; within = c.within; leaving = c.leaving; copy = c.copy; between = λ w on lo hi. more w (c.between w on lo hi) };
     handed = λ t u i p was on lo hi between free lt e. k.handed t u i p was on lo hi (λ w onw low high. sym (same w (omega arith)) ∙ between w onw low high) (sym (same u hi) ∙ free) lt e;
@@ -233,9 +234,9 @@ module _ {P : Type 0} where
   }
 
   -- the chain grows at its end
-  pub longer_root : (On On' : ℕ → Type 0) (Was ab : ℕ → Bool) (r : ℕ) (n : ℕ → ℕ) (S : ℕ → ℕ → ℕ) (V : ℕ → ℕ → View P) (m : Option P) → ((t : ℕ) → On t → On' t) → ((l u : ℕ) → On' l → On u → l < u → On l) → On r
-      → IsRootKept On Was ab r n S V m → IsRootKept On' Was ab r n S V m
-  longer_root On On' Was ab r n S V m more older on-r k = record {
+  pub longer_kept_blocking : (On On' : ℕ → Type 0) (Was ab : ℕ → Bool) (r : ℕ) (n : ℕ → ℕ) (S : ℕ → ℕ → ℕ) (V : ℕ → ℕ → View P) (m : Option P) → ((t : ℕ) → On t → On' t) → ((l u : ℕ) → On' l → On u → l < u → On l) → On r
+      → IsBlockingClass On Was ab r n S V m → IsBlockingClass On' Was ab r n S V m
+  longer_kept_blocking On On' Was ab r n S V m more older on-r k = record {
     base = longer_base On On' n S V more k.base;
     ahead = λ u j lt l h. let c = k.ahead u j lt l h in record { at = c.at; pair = c.pair; within = c.within; leaving = c.leaving; copy = c.copy; between = λ w on lo hi. c.between w (older w u on (k.base.on u j h) hi) lo hi };
     handed = λ t u i p was on lo hi between free lt e. k.handed t u i p was (⊎_elim (λ (c : u < r). older u r on on-r c) (λ (c : r ≤ u). let q : r ≡ u = omega arith in subst On q on-r) (cases_lt u r)) lo hi (λ w onw. between w (more w onw)) free lt e;
@@ -243,6 +244,6 @@ module _ {P : Type 0} where
   }
 
   -- another key's word turned into another
-  pub same_root : (On : ℕ → Type 0) (Was ab : ℕ → Bool) (r : ℕ) (n : ℕ → ℕ) (S : ℕ → ℕ → ℕ) (V V' : ℕ → ℕ → View P) (t x : ℕ) (m : Option P) → IsRootKept On Was ab r n S V m → IsTurn S V V' t x Foreign Foreign → IsRootKept On Was ab r n S V' m
-  same_root On Was ab r n S V V' t x m k turn =
-      subst (λ W. IsRootKept On Was ab r n S W m) (fun_ext (λ u. fun_ext (λ j. ⊎_elim (λ h. sym h.0) (λ h. h.2 ∙ sym h.3) (turn.each u j)))) k
+  pub same_kept_blocking : (On : ℕ → Type 0) (Was ab : ℕ → Bool) (r : ℕ) (n : ℕ → ℕ) (S : ℕ → ℕ → ℕ) (V V' : ℕ → ℕ → View P) (t x : ℕ) (m : Option P) → IsBlockingClass On Was ab r n S V m → IsTurn S V V' t x Foreign Foreign → IsBlockingClass On Was ab r n S V' m
+  same_kept_blocking On Was ab r n S V V' t x m k turn =
+      subst (λ W. IsBlockingClass On Was ab r n S W m) (fun_ext (λ u. fun_ext (λ j. ⊎_elim (λ h. sym h.0) (λ h. h.2 ∙ sym h.3) (turn.each u j)))) k

@@ -1,8 +1,10 @@
 -- What every allowed exchange keeps of all words and all keys, in each mode.
 use Rattle.std.specs.Prelude.{◌≡◌, ◌⊎◌, ℕ, ◌<◌, ◌≤◌, Bool, true, false, Option, None, Some}
 use Rattle.papaya_call.specs.Law.Exchange.{Word, Empty, Closed, Live, Marked, Copied, Buried, Setting, State}
-use Rattle.papaya_call.specs.Law.View.{look, IsFull, IsSettled}
-use Rattle.papaya_call.specs.Law.Kept.{Rises, IsOn, IsKept, AllAborted, IsRootKept}
+use Rattle.papaya_call.specs.Law.View.{look, IsFull}
+use Rattle.papaya_call.specs.Law.Copying.{IsSettled}
+use Rattle.papaya_call.specs.Law.Class.{Rises, IsOn, IsIncrementalClass}
+use Rattle.papaya_call.specs.Law.ClassBlocking.{AllAborted, IsBlockingClass}
 
 -- the pair that a word names
 abbrev pub pair_of : {P : Type 0} → Word P → Option P
@@ -46,7 +48,7 @@ pub record IsPlaceOf {K P : Type 0} (g : Setting K P) (t x : ℕ) (p : P) : Type
   pub within : at < g.places t
   pub is : g.place (g.key p) t at ≡ x
 
--- in both modes
+-- What is kept of the words in both modes.
 pub record IsSound {K P : Type 0} (g : Setting K P) (s : State P) : Type 0 where
   pub rises : Rises s.next
   -- the root is on the chain, or there is none
@@ -61,14 +63,14 @@ pub record IsSound {K P : Type 0} (g : Setting K P) (s : State P) : Type 0 where
   -- a table that a copier was at has a next one
   pub further : (t x : ℕ) → shut (s.slot t x) ≡ true → 0 < s.next t
 
--- without blocking
-pub record IsGood {K P : Type 0} (g : Setting K P) (s : State P) (m : K → Option P) : Type 0 where
+-- What is kept without blocking, m being the map.
+pub record IsIncrementalState {K P : Type 0} (g : Setting K P) (s : State P) (m : K → Option P) : Type 0 where
   pub sound : IsSound g s
   pub open sound use *
   -- tables before the root are finished, and so are the slots below `done` of the next table
   pub settled : (t x : ℕ) → IsOn s.first s.next t → t < s.root → x < g.size t → finished (s.slot t x) ≡ true
   pub done : (t x : ℕ) → IsOn s.first s.next t → x < s.done (s.next t) → x < g.size t → finished (s.slot t x) ≡ true
-  pub class : (k : K) → IsKept (IsOn s.first s.next) g.places (g.place k) (look g s k) (m k)
+  pub class : (k : K) → IsIncrementalClass (IsOn s.first s.next) g.places (g.place k) (look g s k) (m k)
 
 -- table t was given up: a pair of the root doesn't fit
 pub record IsGivenUp {K P : Type 0} (g : Setting K P) (s : State P) (t : ℕ) : Type 0 where
@@ -84,8 +86,8 @@ pub record IsDoneTo {K P : Type 0} (g : Setting K P) (s : State P) (t : ℕ) : T
   pub between : AllAborted (IsOn s.first s.next) s.aborted s.root t
   pub settled : (x : ℕ) → x < s.done t → x < g.size s.root → IsSettled g s t (s.slot s.root x)
 
--- with blocking
-pub record IsGoodRoot {K P : Type 0} (g : Setting K P) (s : State P) (m : K → Option P) : Type 0 where
+-- What is kept with blocking, m being the map.
+pub record IsBlockingState {K P : Type 0} (g : Setting K P) (s : State P) (m : K → Option P) : Type 0 where
   pub sound : IsSound g s
   pub open sound use *
   -- no table that was the root is aborted, and those before the root don't change
@@ -96,8 +98,8 @@ pub record IsGoodRoot {K P : Type 0} (g : Setting K P) (s : State P) (m : K → 
   pub copied : (t x : ℕ) (p : P) → s.slot t x ≡ Copied p → ⊥
   pub given_up : (t : ℕ) → s.aborted t ≡ true → s.root < t → IsGivenUp g s t
   pub done_to : (t : ℕ) → s.root < t → 0 < s.done t → IsDoneTo g s t
-  pub class : (k : K) → IsRootKept (IsOn s.first s.next) s.was_root s.aborted s.root g.places (g.place k) (look g s k) (m k)
+  pub class : (k : K) → IsBlockingClass (IsOn s.first s.next) s.was_root s.aborted s.root g.places (g.place k) (look g s k) (m k)
 
 -- The state keeps the map m, in the mode that the setting has. This is what a backend's invariant says.
 abbrev pub IsKeeping : {K P : Type 0} → Setting K P → State P → (K → Option P) → Type 0
-IsKeeping g s m = ((g.blocking ≡ false) × IsGood g s m) ⊎ ((g.blocking ≡ true) × IsGoodRoot g s m)
+IsKeeping g s m = ((g.blocking ≡ false) × IsIncrementalState g s m) ⊎ ((g.blocking ≡ true) × IsBlockingState g s m)

@@ -2,18 +2,19 @@
 use Rattle.std.proofs.Common.{◌≡◌, ⊎_elim, ℕ, suc, ◌<◌, ◌≤◌, true, false, ◌==◌, Option, None, refl, sym, ap, ◌∙◌, subst, arith, eqb-true}
 use Rattle.std.proofs.lemmas.Bool.{cases_order, cases_lt, cases_Bool, cond-true, cond-false}
 use Rattle.papaya_call.specs.Law.Exchange.{Word, Empty, Closed, Live, Marked, Copied, Buried, Setting, State, Open, Link, Advance, Promote, start, after, at_put, walk}
-use Rattle.papaya_call.specs.Law.View.{look, IsTarget, IsSettled}
+use Rattle.papaya_call.specs.Law.View.{look}
+use Rattle.papaya_call.specs.Law.Copying.{IsTarget, IsSettled}
 use Rattle.papaya_call.specs.Law.Allows.{MayAdvance, MayPromote}
-use Rattle.papaya_call.specs.Law.Kept.{IsOn}
-use Rattle.papaya_call.specs.Law.Keeping.{finished, IsGood}
+use Rattle.papaya_call.specs.Law.Class.{IsOn}
+use Rattle.papaya_call.specs.Law.Invariant.{finished, IsIncrementalState}
 use Rattle.papaya_call.proofs.Law.Class.{longer_kept}
 use Rattle.papaya_call.proofs.Law.Chain.{next_on, none_between, has_next, same_before, walk_le}
 use Rattle.papaya_call.proofs.Law.Base.{start_sound, open_sound, link_sound, advance_sound, promote_sound, link_more, link_old, no_root}
 
 module _ {K P : Type 0} (g : Setting K P) (inc : g.blocking ≡ false) where
   -- before the first exchange
-  pub start_good : IsGood g start (λ k. None)
-  start_good = record {
+  pub start_incremental : IsIncrementalState g start (λ k. None)
+  start_incremental = record {
     sound = start_sound g;
     settled = λ t x on lt h. absurd (omega arith);
     done = λ t x on lt h. absurd (omega arith);
@@ -25,10 +26,10 @@ module _ {K P : Type 0} (g : Setting K P) (inc : g.blocking ≡ false) where
     };
   }
 
-  module _ (s : State P) (m : K → Option P) (good : IsGood g s m) where
+  module _ (s : State P) (m : K → Option P) (good : IsIncrementalState g s m) where
     -- the first root is set
-    pub open_good : (t : ℕ) → s.root ≡ 0 → 0 < t → IsGood g (after s (Open t)) m
-    open_good t e some = record {
+    pub open_incremental : (t : ℕ) → s.root ≡ 0 → 0 < t → IsIncrementalState g (after s (Open t)) m
+    open_incremental t e some = record {
       sound = open_sound g s good.sound t e some;
       settled = λ u x on lt h. absurd (early u on lt);
       done = λ u x on lt h. absurd (no_root g s good.sound e (s.next u) (good.done_on (s.next u) (omega arith)));
@@ -39,8 +40,8 @@ module _ {K P : Type 0} (g : Setting K P) (inc : g.blocking ≡ false) where
         early u (h, (k, w)) lt = let q : walk s.next 0 t ≤ walk s.next k t = walk_le s.next good.rises 0 k t (omega arith) (subst (λ y. 0 < y) (sym w) h) in omega arith
 
     -- a link is made
-    pub link_good : (t n : ℕ) → s.next t ≡ 0 → 0 < t → t < n → IsGood g (after s (Link t n)) m
-    link_good t n none some up = record {
+    pub link_incremental : (t n : ℕ) → s.next t ≡ 0 → 0 < t → t < n → IsIncrementalState g (after s (Link t n)) m
+    link_incremental t n none some up = record {
       sound = link_sound g s good.sound t n none some up;
       settled = λ u x on lt h. good.settled u x (⊎_elim (λ r. absurd (omega (arith, r.0))) (λ onr. older u s.root on onr lt) good.root) lt h;
       done = λ u x on lt h. ⊎_elim
@@ -79,8 +80,8 @@ module _ {K P : Type 0} (g : Setting K P) (inc : g.blocking ≡ false) where
     finished_on t x h = good.slots_on t x (λ e. let f = ap finished e in cc (f, h))
 
     -- `done` rises
-    pub advance_good : (n a b : ℕ) → MayAdvance g s n a b → IsGood g (after s (Advance n a b)) m
-    advance_good n a b may = record {
+    pub advance_incremental : (n a b : ℕ) → MayAdvance g s n a b → IsIncrementalState g (after s (Advance n a b)) m
+    advance_incremental n a b may = record {
       sound = advance_sound g s good.sound n a b on-n;
       settled = good.settled;
       done = λ u x on lt h. ⊎_elim
@@ -107,8 +108,8 @@ module _ {K P : Type 0} (g : Setting K P) (inc : g.blocking ≡ false) where
         on-n = subst (IsOn s.first s.next) is (next_on s.next good.rises s.first may.from from-on (subst (λ y. 0 < y) (sym is) may.target.made))
 
     -- the root is promoted
-    pub promote_good : (t n : ℕ) → MayPromote g s t n → IsGood g (after s (Promote t n)) m
-    promote_good t n may = record {
+    pub promote_incremental : (t n : ℕ) → MayPromote g s t n → IsIncrementalState g (after s (Promote t n)) m
+    promote_incremental t n may = record {
       sound = promote_sound g s good.sound t n on-n (let r = may.root in let w = up in omega arith);
       settled = λ u x on lt h. ⊎_elim
           (λ (e : u ≡ t). good.done u x on (subst (λ y. x < y) (ap s.done (sym is ∙ ap s.next (sym e))) (let w : g.size t ≤ s.done n = may.whole in let h' : x < g.size t = subst (λ y. x < g.size y) e h in omega arith)) h)

@@ -2,7 +2,7 @@
 use Rattle.std.proofs.Common.{◌≡◌, ◌⊎◌, inl, inr, ⊎_elim, ℕ, ◌<◌, true, Option, None, Some, refl, sym, ap, ◌∙◌, subst}
 use Rattle.std.proofs.lemmas.Bool.{cases_order}
 use Rattle.papaya_call.specs.Law.View.{View, Free, Foreign, Here, Leaving, Gone, Grave, own, active, held, beyond, foreign, IsPassed}
-use Rattle.papaya_call.specs.Law.Kept.{AllFull, IsFront, IsCopy, IsGoneTo, IsOwner, IsTied, IsFilled, IsKept}
+use Rattle.papaya_call.specs.Law.Class.{AllFull, IsFront, IsCopy, IsGoneTo, IsOwner, IsTied, IsFilled, IsIncrementalClass}
 use Rattle.papaya_call.proofs.Law.Views.{unfinished, held-active, active-own, foreign-beyond, foreign_not_own}
 use Rattle.papaya_call.proofs.Law.Class.{IsTurn, IsSafe, same_active, passed_not_held, free_not_active, free_not_own, passed_or_copy, found_is, empty_is, front_on, passed_on, kept_after}
 
@@ -29,14 +29,14 @@ module _ {P : Type 0} where
         front = front_on On n S V V' t x a b turn unf o.table o.front;
       }
 
-  module _ (On : ℕ → Type 0) (n : ℕ → ℕ) (S : ℕ → ℕ → ℕ) (V V' : ℕ → ℕ → View P) (t x : ℕ) (m : Option P) (k : IsKept On n S V m) where
+  module _ (On : ℕ → Type 0) (n : ℕ → ℕ) (S : ℕ → ℕ → ℕ) (V V' : ℕ → ℕ → View P) (t x : ℕ) (m : Option P) (k : IsIncrementalClass On n S V m) where
     -- another key's pair is put at an Empty place, or the place is closed
     fill_tied : IsTurn S V V' t x Free Foreign → (m' : Option P) → IsTied On n V m' → IsTied On n V' m'
     fill_tied turn None h = λ u j lt e. ⊎_elim (λ r. h u j lt (ap held (sym r.0) ∙ e)) (λ r. let q = r.3 in cc (q, e)) (turn.each u j)
     fill_tied turn (Some p) o = owner_on On n S V V' t x Free Foreign turn refl p o (λ e. ⊎_elim (λ q. cc (q, e)) (λ q. cc (q, e)) o.has)
 
     -- so all is kept
-    pub fill_kept : IsTurn S V V' t x Free Foreign → IsKept On n S V' m
+    pub fill_kept : IsTurn S V V' t x Free Foreign → IsIncrementalClass On n S V' m
     fill_kept turn =
         let safe : IsSafe On n S V t x Free Foreign = record {
           base = record { fills = λ e. cc; on = λ e. absurd cc; filled = λ e. absurd cc; lone = λ e. absurd cc };
@@ -50,7 +50,7 @@ module _ {P : Type 0} where
 
     module _ (on : On t) (front : IsFront On n V t) (at : ℕ) (within : at < n t) (is : S t at ≡ x) where
       -- a claim
-      pub claim_kept : (p : P) → IsTurn S V V' t x Free (Here p) → ((i : ℕ) → i < at → beyond (V t i) ≡ true) → (m ≡ None) × IsKept On n S V' (Some p)
+      pub claim_kept : (p : P) → IsTurn S V V' t x Free (Here p) → ((i : ℕ) → i < at → beyond (V t i) ≡ true) → (m ≡ None) × IsIncrementalClass On n S V' (Some p)
       claim_kept p turn before =
           let old : V t at ≡ Free = (turned S V V' t x Free (Here p) turn at is).0 in
           let new : V' t at ≡ Here p = (turned S V V' t x Free (Here p) turn at is).1 in
@@ -69,7 +69,7 @@ module _ {P : Type 0} where
           )
 
       -- a replacement
-      pub replace_kept : (p q : P) → IsTurn S V V' t x (Here p) (Here q) → (m ≡ Some p) × IsKept On n S V' (Some q)
+      pub replace_kept : (p q : P) → IsTurn S V V' t x (Here p) (Here q) → (m ≡ Some p) × IsIncrementalClass On n S V' (Some q)
       replace_kept p q turn =
           let old : V t at ≡ Here p = (turned S V V' t x (Here p) (Here q) turn at is).0 in
           let new : V' t at ≡ Here q = (turned S V V' t x (Here p) (Here q) turn at is).1 in
@@ -86,7 +86,7 @@ module _ {P : Type 0} where
           )
 
       -- a mark
-      pub mark_kept : (p : P) → IsTurn S V V' t x (Here p) (Leaving p) → IsKept On n S V' m
+      pub mark_kept : (p : P) → IsTurn S V V' t x (Here p) (Leaving p) → IsIncrementalClass On n S V' m
       mark_kept p turn =
           let old : V t at ≡ Here p = (turned S V V' t x (Here p) (Leaving p) turn at is).0 in
           let new : V' t at ≡ Leaving p = (turned S V V' t x (Here p) (Leaving p) turn at is).1 in
@@ -103,7 +103,7 @@ module _ {P : Type 0} where
           kept_after On n S V V' t x (Here p) (Leaving p) turn m k safe m (subst (IsTied On n V') (sym it) own')
 
       -- a burial
-      pub bury_kept : (p : P) → IsTurn S V V' t x (Here p) (Grave p) → (m ≡ Some p) × IsKept On n S V' None
+      pub bury_kept : (p : P) → IsTurn S V V' t x (Here p) (Grave p) → (m ≡ Some p) × IsIncrementalClass On n S V' None
       bury_kept p turn =
           let old : V t at ≡ Here p = (turned S V V' t x (Here p) (Grave p) turn at is).0 in
           let new : V' t at ≡ Grave p = (turned S V V' t x (Here p) (Grave p) turn at is).1 in
@@ -155,7 +155,7 @@ module _ {P : Type 0} where
       not_gone free e = let g = k.gone u i p within-u e in no_copy free g.table g.at g.on g.later g.within g.word g.full
 
       -- a copy is placed
-      pub place_kept : IsTurn S V V' t x Free (Here p) → (V u i ≡ Leaving p) ⊎ (V u i ≡ Gone p) → IsKept On n S V' m
+      pub place_kept : IsTurn S V V' t x Free (Here p) → (V u i ≡ Leaving p) ⊎ (V u i ≡ Gone p) → IsIncrementalClass On n S V' m
       place_kept turn stood =
           let old : V t at ≡ Free = (turned S V V' t x Free (Here p) turn at is).0 in
           let leaving : V u i ≡ Leaving p = ⊎_elim (λ e. e) (λ e. absurd (not_gone old e)) stood in
@@ -183,7 +183,7 @@ module _ {P : Type 0} where
           tied leaving (Some q) o = owner_on On n S V V' t x Free (Here p) turn refl q o (λ e. ⊎_elim (λ r. cc (r, e)) (λ r. cc (r, e)) o.has)
 
     -- the marked word of p in t is finished, and a word of the key stands where its copy goes
-    pub finish_kept : (at : ℕ) (p : P) → On t → at < n t → S t at ≡ x → IsTurn S V V' t x (Leaving p) (Gone p) → IsGoneTo On n V t → IsKept On n S V' m
+    pub finish_kept : (at : ℕ) (p : P) → On t → at < n t → S t at ≡ x → IsTurn S V V' t x (Leaving p) (Gone p) → IsGoneTo On n V t → IsIncrementalClass On n S V' m
     finish_kept at p on within is turn to =
         let old : V t at ≡ Leaving p = (turned S V V' t x (Leaving p) (Gone p) turn at is).0 in
         let new : V' t at ≡ Gone p = (turned S V V' t x (Leaving p) (Gone p) turn at is).1 in

@@ -5,18 +5,18 @@ use Rattle.papaya_call.specs.Law.Exchange.{Word, Empty, Closed, Live, Marked, Co
 use Rattle.papaya_call.specs.Law.View.{View, Free, Foreign, Here, Leaving, Gone, Grave, view, look, foreign, IsReached, IsNextPlace, HasWord}
 use Rattle.papaya_call.specs.Law.Allows.{MayReplace, MayBury, MayMark, MayClose, MayPlace, MayFinish}
 use Rattle.papaya_call.specs.Law.Meaning.{IsLawful}
-use Rattle.papaya_call.specs.Law.Kept.{AllFull, IsGoneTo, IsKept, IsOn}
-use Rattle.papaya_call.specs.Law.Keeping.{pair_of, shut, IsPlaceOf, IsGood}
-use Rattle.papaya_call.proofs.Law.Steps.{fill_kept, replace_kept, mark_kept, bury_kept, place_kept, finish_kept}
+use Rattle.papaya_call.specs.Law.Class.{AllFull, IsGoneTo, IsIncrementalClass, IsOn}
+use Rattle.papaya_call.specs.Law.Invariant.{pair_of, shut, IsPlaceOf, IsIncrementalState}
+use Rattle.papaya_call.proofs.Law.Incremental.ClassSteps.{fill_kept, replace_kept, mark_kept, bury_kept, place_kept, finish_kept}
 use Rattle.papaya_call.proofs.Law.Slots.{look_same, same_right}
 use Rattle.papaya_call.proofs.Law.Base.{own_place, place_same, place_of, kept_place, filled_on, turn_own}
-use Rattle.papaya_call.proofs.Law.Good.{same_kept, reached_front, front_same, taker_full, slot_good}
+use Rattle.papaya_call.proofs.Law.Incremental.States.{same_kept, reached_front, front_same, taker_full, slot_incremental}
 
 -- one class is kept
 abbrev pub Kept : {K P : Type 0} → Setting K P → State P → K → Option P → Type 0
-Kept g s k v = IsKept (IsOn s.first s.next) g.places (g.place k) (look g s k) v
+Kept g s k v = IsIncrementalClass (IsOn s.first s.next) g.places (g.place k) (look g s k) v
 
-module _ {K P : Type 0} (g : Setting K P) (law : IsLawful g) (inc : g.blocking ≡ false) (s : State P) (m : K → Option P) (good : IsGood g s m) where
+module _ {K P : Type 0} (g : Setting K P) (law : IsLawful g) (inc : g.blocking ≡ false) (s : State P) (m : K → Option P) (good : IsIncrementalState g s m) where
   -- the class that holds pair p, and the others
   by_class : (s' : State P) (p : P) (k : K) (v : Option P) → (g.same k (g.key p) ≡ true → Kept g s' k v) → (g.same k (g.key p) ≡ false → Kept g s' k (m k)) → Kept g s' k (cond (g.same k (g.key p)) v (m k))
   by_class s' p k v yes' no' =
@@ -44,10 +44,10 @@ module _ {K P : Type 0} (g : Setting K P) (law : IsLawful g) (inc : g.blocking �
   sees k p v b e = ap (λ c. cond c v Foreign) e
 
   -- a replacement
-  pub replace_good : (t x : ℕ) (p q : P) → MayReplace g s t x p q → (m (g.key p) ≡ Some p) × IsGood g (slot_put s t x (Live q)) (λ k. cond (g.same k (g.key p)) (Some q) (m k))
-  replace_good t x p q may = (
+  pub replace_incremental : (t x : ℕ) (p q : P) → MayReplace g s t x p q → (m (g.key p) ≡ Some p) × IsIncrementalState g (slot_put s t x (Live q)) (λ k. cond (g.same k (g.key p)) (Some q) (m k))
+  replace_incremental t x p q may = (
     (of_class (g.key p) (law.itself (g.key p))).0,
-    slot_good g law inc s m good t x (Live p) (Live q) may.live refl (reached_front g law inc s m good (g.key p) t may.reached).0 new (λ e. absurd cc)
+    slot_incremental g law inc s m good t x (Live p) (Live q) may.live refl (reached_front g law inc s m good (g.key p) t may.reached).0 new (λ e. absurd cc)
         (λ k. cond (g.same k (g.key p)) (Some q) (m k))
         (λ k. by_class (slot_put s t x (Live q)) p k (Some q) (λ e. (of_class k e).1) (λ e. other_kept t x (Live p) (Live q) k may.live (sees k p (Here p) false e) (sees k q (Here q) false (sym (same_right g law k (g.key p) (g.key q) may.same) ∙ e)))),
   )
@@ -66,10 +66,10 @@ module _ {K P : Type 0} (g : Setting K P) (law : IsLawful g) (inc : g.blocking �
           subst (IsPlaceOf g t x) same (record { at = o.0; within = o.1; is = o.2 })
 
   -- a burial
-  pub bury_good : (t x : ℕ) (p : P) → MayBury g s t x p → (m (g.key p) ≡ Some p) × IsGood g (slot_put s t x (Buried p)) (λ k. cond (g.same k (g.key p)) None (m k))
-  bury_good t x p may = (
+  pub bury_incremental : (t x : ℕ) (p : P) → MayBury g s t x p → (m (g.key p) ≡ Some p) × IsIncrementalState g (slot_put s t x (Buried p)) (λ k. cond (g.same k (g.key p)) None (m k))
+  bury_incremental t x p may = (
     (of_class (g.key p) (law.itself (g.key p))).0,
-    slot_good g law inc s m good t x (Live p) (Buried p) may.live refl (reached_front g law inc s m good (g.key p) t may.reached).0 (kept_place g s good.sound t x p (Live p) (Buried p) may.live refl refl) (λ e. absurd cc)
+    slot_incremental g law inc s m good t x (Live p) (Buried p) may.live refl (reached_front g law inc s m good (g.key p) t may.reached).0 (kept_place g s good.sound t x p (Live p) (Buried p) may.live refl refl) (λ e. absurd cc)
         (λ k. cond (g.same k (g.key p)) None (m k))
         (λ k. by_class (slot_put s t x (Buried p)) p k None (λ e. (of_class k e).1) (λ e. other_kept t x (Live p) (Buried p) k may.live (sees k p (Here p) false e) (sees k p (Grave p) false e))),
   )
@@ -86,9 +86,9 @@ module _ {K P : Type 0} (g : Setting K P) (law : IsLawful g) (inc : g.blocking �
   root_reached k t was = record { from = t; links = 0; was = was; is = refl; made = (good.was t was).0.0; mode = inl refl; passed = λ i lt. absurd (omega arith) }
 
   -- a mark
-  pub mark_good : (t x : ℕ) (p : P) → MayMark g s t x p → IsGood g (slot_put s t x (Marked p)) m
-  mark_good t x p may =
-      slot_good g law inc s m good t x (Live p) (Marked p) may.live refl (good.was t may.was).0 (kept_place g s good.sound t x p (Live p) (Marked p) may.live refl refl) (λ e. may.further) m
+  pub mark_incremental : (t x : ℕ) (p : P) → MayMark g s t x p → IsIncrementalState g (slot_put s t x (Marked p)) m
+  mark_incremental t x p may =
+      slot_incremental g law inc s m good t x (Live p) (Marked p) may.live refl (good.was t may.was).0 (kept_place g s good.sound t x p (Live p) (Marked p) may.live refl refl) (λ e. may.further) m
       (λ k. same_class (slot_put s t x (Marked p)) p k (of_class k) (λ e. other_kept t x (Live p) (Marked p) k may.live (sees k p (Here p) false e) (sees k p (Leaving p) false e)))
     where
       of_class : (k : K) → g.same k (g.key p) ≡ true → Kept g (slot_put s t x (Marked p)) k (m k)
@@ -99,14 +99,14 @@ module _ {K P : Type 0} (g : Setting K P) (law : IsLawful g) (inc : g.blocking �
           (turn_own g s k t x (Live p) (Marked p) (Here p) (Leaving p) may.live (sees k p (Here p) true e) (sees k p (Leaving p) true e))
 
   -- a closing
-  pub close_good : (t x : ℕ) → MayClose g s t x → IsGood g (slot_put s t x Closed) m
-  close_good t x may =
-      slot_good g law inc s m good t x Empty Closed may.empty refl (good.was t may.was).0 (λ r e. absurd cc) (λ e. may.further) m (λ k. fills_kept t x Closed k may.empty refl)
+  pub close_incremental : (t x : ℕ) → MayClose g s t x → IsIncrementalState g (slot_put s t x Closed) m
+  close_incremental t x may =
+      slot_incremental g law inc s m good t x Empty Closed may.empty refl (good.was t may.was).0 (λ r e. absurd cc) (λ e. may.further) m (λ k. fills_kept t x Closed k may.empty refl)
 
   -- a copy is placed
-  pub place_good : (t x : ℕ) (p : P) → MayPlace g s t x p → IsGood g (slot_put s t x (Live p)) m
-  place_good t x p may =
-      slot_good g law inc s m good t x Empty (Live p) may.empty refl (taker_full g law inc s m good (g.key p) may.source.from t from-on may.source.taker).0
+  pub place_incremental : (t x : ℕ) (p : P) → MayPlace g s t x p → IsIncrementalState g (slot_put s t x (Live p)) m
+  place_incremental t x p may =
+      slot_incremental g law inc s m good t x Empty (Live p) may.empty refl (taker_full g law inc s m good (g.key p) may.source.from t from-on may.source.taker).0
       (place_of g s foreign t x p may.place) (λ e. absurd cc) m
       (λ k. same_class (slot_put s t x (Live p)) p k (of_class k) (λ e. fills_kept t x (Live p) k may.empty (sees k p (Here p) false e)))
     where
@@ -135,9 +135,9 @@ module _ {K P : Type 0} (g : Setting K P) (law : IsLawful g) (inc : g.blocking �
           stood
 
   -- a mark is finished
-  pub finish_good : (t x : ℕ) (p : P) → MayFinish g s t x p → IsGood g (slot_put s t x (Copied p)) m
-  finish_good t x p may =
-      slot_good g law inc s m good t x (Marked p) (Copied p) may.marked refl on (kept_place g s good.sound t x p (Marked p) (Copied p) may.marked refl refl) (λ e. good.further t x (ap shut may.marked)) m
+  pub finish_incremental : (t x : ℕ) (p : P) → MayFinish g s t x p → IsIncrementalState g (slot_put s t x (Copied p)) m
+  finish_incremental t x p may =
+      slot_incremental g law inc s m good t x (Marked p) (Copied p) may.marked refl on (kept_place g s good.sound t x p (Marked p) (Copied p) may.marked refl refl) (λ e. good.further t x (ap shut may.marked)) m
       (λ k. same_class (slot_put s t x (Copied p)) p k (of_class k) (λ e. other_kept t x (Marked p) (Copied p) k may.marked (sees k p (Leaving p) false e) (sees k p (Gone p) false e)))
     where
       on : IsOn s.first s.next t

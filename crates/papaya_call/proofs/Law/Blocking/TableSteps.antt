@@ -2,18 +2,20 @@
 use Rattle.std.proofs.Common.{◌≡◌, ◌⊎◌, inl, inr, ⊎_elim, ℕ, ◌<◌, ◌≤◌, Bool, true, false, ◌==◌, Option, None, Some, refl, sym, ap, ◌∙◌, subst, arith, eqb-true}
 use Rattle.std.proofs.lemmas.Bool.{cases_lt, cases_Bool, cond-true, cond-false}
 use Rattle.papaya_call.specs.Law.Exchange.{Marked, Setting, State, Open, Link, Advance, Promote, Abort, start, after, at_put}
-use Rattle.papaya_call.specs.Law.View.{View, Foreign, Here, Leaving, view, look, own, HasWord, IsTarget, IsSettled}
+use Rattle.papaya_call.specs.Law.View.{View, Foreign, Here, Leaving, view, look, own, HasWord}
+use Rattle.papaya_call.specs.Law.Copying.{IsTarget, IsSettled}
 use Rattle.papaya_call.specs.Law.Allows.{MayAdvance, MayPromote, MayAbort}
 use Rattle.papaya_call.specs.Law.Meaning.{IsLawful}
-use Rattle.papaya_call.specs.Law.Kept.{AllAborted, IsRootKept, IsRootTied, IsOn}
-use Rattle.papaya_call.specs.Law.Keeping.{pair_of, plain, IsGivenUp, IsGoodRoot}
+use Rattle.papaya_call.specs.Law.Class.{IsOn}
+use Rattle.papaya_call.specs.Law.ClassBlocking.{AllAborted, IsBlockingClass, IsRootTied}
+use Rattle.papaya_call.specs.Law.Invariant.{pair_of, plain, IsGivenUp, IsBlockingState}
 use Rattle.papaya_call.proofs.Law.Views.{held-active, active-own, foreign_not_own}
 use Rattle.papaya_call.proofs.Law.Class.{longer_base, held_of}
-use Rattle.papaya_call.proofs.Law.ClassBlocking.{promote_root, abort_root, longer_root}
+use Rattle.papaya_call.proofs.Law.Blocking.ClassSteps.{promote_kept_blocking, abort_kept_blocking, longer_kept_blocking}
 use Rattle.papaya_call.proofs.Law.Later.{put_on}
 use Rattle.papaya_call.proofs.Law.Slots.{look_same, view_leaving, view_here}
 use Rattle.papaya_call.proofs.Law.Base.{start_sound, open_sound, link_sound, advance_sound, promote_sound, link_more, link_old, no_root, own_place}
-use Rattle.papaya_call.proofs.Law.GoodBlocking.{was_root_of, root_on, root_alive, taker_aborted, target_aborted, settled_not_plain}
+use Rattle.papaya_call.proofs.Law.Blocking.States.{was_root_of, root_on, root_alive, taker_aborted, target_aborted, settled_not_plain}
 
 -- what isn't true with n wasn't without
 put_false : (f : ℕ → Bool) (n u : ℕ) → at_put f n true u ≡ false → f u ≡ false
@@ -34,8 +36,8 @@ none_tied n V r r' none (Some p) o = absurd (none r o.at (active-own (V r o.at) 
 
 module _ {K P : Type 0} (g : Setting K P) where
   -- before the first exchange
-  pub start_good_root : IsGoodRoot g start (λ k. None)
-  start_good_root = record {
+  pub start_blocking : IsBlockingState g start (λ k. None)
+  start_blocking = record {
     sound = start_sound g;
     alive = λ t e. absurd cc;
     frozen = λ t x e. absurd cc;
@@ -51,13 +53,13 @@ module _ {K P : Type 0} (g : Setting K P) where
     };
   }
 
-  module _ (s : State P) (m : K → Option P) (good : IsGoodRoot g s m) where
+  module _ (s : State P) (m : K → Option P) (good : IsBlockingState g s m) where
     -- where there is no root, no word is of a key
     pub none_own : s.root ≡ 0 → (k : K) (u j : ℕ) → own (look g s k u j) ≡ true → ⊥
     none_own e k u j h = no_root g s good.sound e u ((good.class k).base.on u j h)
 
     -- where there is no root all classes are kept
-    rootless : (On' : ℕ → Type 0) (Was' ab' : ℕ → Bool) (r' : ℕ) → s.root ≡ 0 → (k : K) → IsRootKept On' Was' ab' r' g.places (g.place k) (look g s k) (m k)
+    rootless : (On' : ℕ → Type 0) (Was' ab' : ℕ → Bool) (r' : ℕ) → s.root ≡ 0 → (k : K) → IsBlockingClass On' Was' ab' r' g.places (g.place k) (look g s k) (m k)
     rootless On' Was' ab' r' e k = record {
       base = longer_base (IsOn s.first s.next) On' g.places (g.place k) (look g s k) (λ u on. absurd (no_root g s good.sound e u on)) (good.class k).base;
       ahead = λ u j lt l h. absurd (none_own e k u j h);
@@ -66,8 +68,8 @@ module _ {K P : Type 0} (g : Setting K P) where
     }
 
     -- the first root is set
-    pub open_good_root : (t : ℕ) → s.root ≡ 0 → 0 < t → IsGoodRoot g (after s (Open t)) m
-    open_good_root t e some = record {
+    pub open_blocking : (t : ℕ) → s.root ≡ 0 → 0 < t → IsBlockingState g (after s (Open t)) m
+    open_blocking t e some = record {
       sound = open_sound g s good.sound t e some;
       alive = λ u h. ⊎_elim
           (λ (a : s.aborted u ≡ true). absurd (no_root g s good.sound e u (good.given_up u a (up u h)).on))
@@ -85,8 +87,8 @@ module _ {K P : Type 0} (g : Setting K P) where
         up u h = ⊎_elim (λ (q : u ≡ t). omega arith) (λ w. absurd (no_root g s good.sound e u (good.was u w).0)) (put_cases s.was_root t u h)
 
     -- a link is made
-    pub link_good_root : (t n : ℕ) → s.next t ≡ 0 → 0 < t → t < n → IsGoodRoot g (after s (Link t n)) m
-    link_good_root t n none some up = record {
+    pub link_blocking : (t n : ℕ) → s.next t ≡ 0 → 0 < t → t < n → IsBlockingState g (after s (Link t n)) m
+    link_blocking t n none some up = record {
       sound = link_sound g s good.sound t n none some up;
       alive = good.alive;
       frozen = good.frozen;
@@ -96,7 +98,7 @@ module _ {K P : Type 0} (g : Setting K P) where
       done_to = λ u lt h. let v = good.done_to u lt h in record { between = between u (good.done_on u h) v.between; settled = v.settled };
       class = λ k. ⊎_elim
           (λ r. rootless (IsOn s.first (at_put s.next t n)) s.was_root s.aborted s.root r.0 k)
-          (λ on. longer_root (IsOn s.first s.next) (IsOn s.first (at_put s.next t n)) s.was_root s.aborted s.root g.places (g.place k) (look g s k) (m k) more older on (good.class k))
+          (λ on. longer_kept_blocking (IsOn s.first s.next) (IsOn s.first (at_put s.next t n)) s.was_root s.aborted s.root g.places (g.place k) (look g s k) (m k) more older on (good.class k))
           good.root;
     }
       where
@@ -119,8 +121,8 @@ module _ {K P : Type 0} (g : Setting K P) where
         (cases_lt from s.root)
 
     -- `done` rises
-    pub advance_good_root : (n a b : ℕ) → MayAdvance g s n a b → IsGoodRoot g (after s (Advance n a b)) m
-    advance_good_root n a b may = record {
+    pub advance_blocking : (n a b : ℕ) → MayAdvance g s n a b → IsBlockingState g (after s (Advance n a b)) m
+    advance_blocking n a b may = record {
       sound = advance_sound g s good.sound n a b target.0;
       alive = good.alive;
       frozen = good.frozen;
@@ -158,8 +160,8 @@ module _ {K P : Type 0} (g : Setting K P) where
 
     module _ (law : IsLawful g) where
       -- the root is promoted
-      pub promote_good_root : (t n : ℕ) → MayPromote g s t n → IsGoodRoot g (after s (Promote t n)) m
-      promote_good_root t n may = record {
+      pub promote_blocking : (t n : ℕ) → MayPromote g s t n → IsBlockingState g (after s (Promote t n)) m
+      promote_blocking t n may = record {
         sound = promote_sound g s good.sound t n target.0 (omega (arith, target.1));
         alive = λ u h. ⊎_elim (λ (e : u ≡ n). subst (λ y. s.aborted y ≡ false) (sym e) live) (λ w. good.alive u w) (put_cases s.was_root n u h);
         frozen = λ u x h lt i. ⊎_elim
@@ -178,7 +180,7 @@ module _ {K P : Type 0} (g : Setting K P) where
         given_up = λ u a lt. let up : s.root < u = omega (arith, target.1) in absurd (let v = (good.given_up u a up).between n target.0 target.1 lt in cc (v, live));
         done_to = λ u lt h. let up : s.root < u = omega (arith, target.1) in absurd (let v = (good.done_to u up h).between n target.0 target.1 lt in cc (v, live));
         class = λ k.
-            promote_root (IsOn s.first s.next) s.was_root (at_put s.was_root n true) s.aborted s.root n g.places (g.place k) (look g s k) (m k) (good.class k)
+            promote_kept_blocking (IsOn s.first s.next) s.was_root (at_put s.was_root n true) s.aborted s.root n g.places (g.place k) (look g s k) (m k) (good.class k)
             on-root (good.alive s.root was) target.0 live target.1 target.2 (λ u w. (good.was u w).1) (put_cases s.was_root n) (none k) (copies k);
       }
         where
@@ -221,8 +223,8 @@ module _ {K P : Type 0} (g : Setting K P) where
                   foreign_not_own (look g s (g.key v.pair) n h.0) (v.full h.0 h.1) h.2
 
       -- a table is aborted
-      pub abort_good_root : (n : ℕ) → MayAbort g s n → IsGoodRoot g (after s (Abort n)) m
-      abort_good_root n may = record {
+      pub abort_blocking : (n : ℕ) → MayAbort g s n → IsBlockingState g (after s (Abort n)) m
+      abort_blocking n may = record {
         sound = record { rises = good.rises; root = good.root; was = good.was; root_was = good.root_was; done_on = good.done_on; slots_on = good.slots_on; placed = good.placed; further = good.further };
         alive = λ u w. put_same s.aborted n true u (λ (e : u ≡ n). let l = (good.was u w).1 in omega (arith, behind)) ∙ good.alive u w;
         frozen = good.frozen;
@@ -240,7 +242,7 @@ module _ {K P : Type 0} (g : Setting K P) where
             (λ b. let v = good.given_up u b lt in record { on = v.on; between = λ l on lo hi. put_on s.aborted n l (v.between l on lo hi); slot = v.slot; pair = v.pair; marked = v.marked; full = v.full })
             (put_cases s.aborted n u a);
         done_to = λ u lt h. let v = good.done_to u lt h in record { between = λ l on lo hi. put_on s.aborted n l (v.between l on lo hi); settled = v.settled };
-        class = λ k. abort_root (IsOn s.first s.next) s.was_root s.aborted (at_put s.aborted n true) s.root g.places (g.place k) (look g s k) (m k) (good.class k) (put_on s.aborted n) (λ l le. put_same s.aborted n true l (λ e. omega (arith, behind)));
+        class = λ k. abort_kept_blocking (IsOn s.first s.next) s.was_root s.aborted (at_put s.aborted n true) s.root g.places (g.place k) (look g s k) (m k) (good.class k) (put_on s.aborted n) (λ l le. put_same s.aborted n true l (λ e. omega (arith, behind)));
       }
         where
           p : P

@@ -2,22 +2,23 @@
 use Rattle.std.proofs.Common.{◌≡◌, ◌⊎◌, inl, inr, ⊎_elim, ℕ, zero, suc, ◌<◌, ◌≤◌, true, false, cond, Option, None, Some, refl, sym, ap, ◌∙◌, subst, arith}
 use Rattle.std.proofs.lemmas.Bool.{cases_lt, cases_Bool, cond-true, cond-false}
 use Rattle.papaya_call.specs.Law.Exchange.{Word, Empty, Closed, Live, Marked, Copied, Buried, Setting, State, slot_put, walk}
-use Rattle.papaya_call.specs.Law.View.{View, Free, Foreign, Here, Gone, Grave, view, look, beyond, IsPassed, IsFull, IsReached, IsTaker, IsNextPlace}
+use Rattle.papaya_call.specs.Law.View.{View, Free, Foreign, Here, Gone, Grave, view, look, beyond, IsPassed, IsFull, IsReached, IsNextPlace}
+use Rattle.papaya_call.specs.Law.Copying.{IsTaker}
 use Rattle.papaya_call.specs.Law.Allows.{MayClaim}
 use Rattle.papaya_call.specs.Law.Meaning.{IsLawful}
-use Rattle.papaya_call.specs.Law.Kept.{AllFull, IsFront, IsKept, IsOn}
-use Rattle.papaya_call.specs.Law.Keeping.{pair_of, shut, IsPlaceOf, finished, IsGood}
+use Rattle.papaya_call.specs.Law.Class.{AllFull, IsFront, IsIncrementalClass, IsOn}
+use Rattle.papaya_call.specs.Law.Invariant.{pair_of, shut, IsPlaceOf, finished, IsIncrementalState}
 use Rattle.papaya_call.proofs.Law.Class.{IsTurn}
-use Rattle.papaya_call.proofs.Law.Steps.{fill_kept, claim_kept}
+use Rattle.papaya_call.proofs.Law.Incremental.ClassSteps.{fill_kept, claim_kept}
 use Rattle.papaya_call.proofs.Law.Chain.{walk_on, on_walk, walk_between}
 use Rattle.papaya_call.proofs.Law.Slots.{slot_cases, look_same}
 use Rattle.papaya_call.proofs.Law.Base.{place_same, place_of, slot_sound, turn_own}
 use mathlib.Core.Path.{fun_ext}
 
 -- another key's word turned into another
-pub same_kept : {P : Type 0} → (On : ℕ → Type 0) (n : ℕ → ℕ) (S : ℕ → ℕ → ℕ) (V V' : ℕ → ℕ → View P) (t x : ℕ) (m : Option P) → IsKept On n S V m → IsTurn S V V' t x Foreign Foreign → IsKept On n S V' m
+pub same_kept : {P : Type 0} → (On : ℕ → Type 0) (n : ℕ → ℕ) (S : ℕ → ℕ → ℕ) (V V' : ℕ → ℕ → View P) (t x : ℕ) (m : Option P) → IsIncrementalClass On n S V m → IsTurn S V V' t x Foreign Foreign → IsIncrementalClass On n S V' m
 same_kept On n S V V' t x m k turn =
-    subst (λ W. IsKept On n S W m) (fun_ext (λ u. fun_ext (λ j. ⊎_elim (λ r. sym r.0) (λ r. r.2 ∙ sym r.3) (turn.each u j)))) k
+    subst (λ W. IsIncrementalClass On n S W m) (fun_ext (λ u. fun_ext (λ j. ⊎_elim (λ r. sym r.0) (λ r. r.2 ∙ sym r.3) (turn.each u j)))) k
 
 module _ {K P : Type 0} (g : Setting K P) (law : IsLawful g) (inc : g.blocking ≡ false) where
   -- a finished table is passed by each key: one of its words is there to say so, or none is
@@ -44,7 +45,7 @@ module _ {K P : Type 0} (g : Setting K P) (law : IsLawful g) (inc : g.blocking �
           (at_word (s.slot t (g.place k t n)) (h n (omega arith))))
           (scan n (λ j lt. h j (omega arith)))
 
-  module _ (s : State P) (m : K → Option P) (good : IsGood g s m) where
+  module _ (s : State P) (m : K → Option P) (good : IsIncrementalState g s m) where
     -- a table that is reached is in the chain, and a search goes past all before it
     pub reached_front : (k : K) (t : ℕ) → IsReached g s k t → IsOn s.first s.next t × IsFront (IsOn s.first s.next) g.places (look g s k) t
     reached_front k t r =
@@ -73,9 +74,9 @@ module _ {K P : Type 0} (g : Setting K P) (law : IsLawful g) (inc : g.blocking �
         (f.0, subst (λ V. IsFront (IsOn s.first s.next) g.places V t) (sym (look_same g law s k l h)) f.1)
 
     -- a slot's word changes, and the classes are as they have to be
-    pub slot_good : (t x : ℕ) (w w' : Word P) → s.slot t x ≡ w → finished w ≡ false → IsOn s.first s.next t → ((p : P) → pair_of w' ≡ Some p → IsPlaceOf g t x p) → (shut w' ≡ true → 0 < s.next t) → (m' : K → Option P)
-        → ((k : K) → IsKept (IsOn s.first s.next) g.places (g.place k) (look g (slot_put s t x w') k) (m' k)) → IsGood g (slot_put s t x w') m'
-    slot_good t x w w' old open' on new next m' class = record {
+    pub slot_incremental : (t x : ℕ) (w w' : Word P) → s.slot t x ≡ w → finished w ≡ false → IsOn s.first s.next t → ((p : P) → pair_of w' ≡ Some p → IsPlaceOf g t x p) → (shut w' ≡ true → 0 < s.next t) → (m' : K → Option P)
+        → ((k : K) → IsIncrementalClass (IsOn s.first s.next) g.places (g.place k) (look g (slot_put s t x w') k) (m' k)) → IsIncrementalState g (slot_put s t x w') m'
+    slot_incremental t x w w' old open' on new next m' class = record {
       sound = slot_sound g s good.sound t x w' on new next;
       settled = λ u y on lt h. stays u y (good.settled u y on lt h);
       done = λ u y on lt h. stays u y (good.done u y on lt h);
@@ -86,20 +87,20 @@ module _ {K P : Type 0} (g : Setting K P) (law : IsLawful g) (inc : g.blocking �
         stays u y h = ⊎_elim (λ r. ap finished r.0 ∙ h) (λ r. let e : s.slot u y ≡ w = cc (r.0, r.1, old) in absurd (let e' = ap finished e in cc (e', h, open'))) (slot_cases s t x w' u y)
 
     -- a claim
-    pub claim_good : (t x : ℕ) (p : P) → MayClaim g s t x p → (m (g.key p) ≡ None) × IsGood g (slot_put s t x (Live p)) (λ k. cond (g.same k (g.key p)) (Some p) (m k))
-    claim_good t x p may = (
+    pub claim_incremental : (t x : ℕ) (p : P) → MayClaim g s t x p → (m (g.key p) ≡ None) × IsIncrementalState g (slot_put s t x (Live p)) (λ k. cond (g.same k (g.key p)) (Some p) (m k))
+    claim_incremental t x p may = (
       (of_class (g.key p) (law.itself (g.key p))).0,
-      slot_good t x Empty (Live p) may.empty refl (reached_front (g.key p) t may.reached).0
+      slot_incremental t x Empty (Live p) may.empty refl (reached_front (g.key p) t may.reached).0
           (place_of g s beyond t x p may.place)
           (λ e. absurd cc)
           (λ k. cond (g.same k (g.key p)) (Some p) (m k))
           (λ k. ⊎_elim
-          (λ (e : g.same k (g.key p) ≡ true). subst (IsKept (IsOn s.first s.next) g.places (g.place k) (look g (slot_put s t x (Live p)) k)) (sym (cond-true (g.same k (g.key p)) (Some p) (m k) e)) (of_class k e).1)
-          (λ (e : g.same k (g.key p) ≡ false). subst (IsKept (IsOn s.first s.next) g.places (g.place k) (look g (slot_put s t x (Live p)) k)) (sym (cond-false (g.same k (g.key p)) (Some p) (m k) e)) (other k e))
+          (λ (e : g.same k (g.key p) ≡ true). subst (IsIncrementalClass (IsOn s.first s.next) g.places (g.place k) (look g (slot_put s t x (Live p)) k)) (sym (cond-true (g.same k (g.key p)) (Some p) (m k) e)) (of_class k e).1)
+          (λ (e : g.same k (g.key p) ≡ false). subst (IsIncrementalClass (IsOn s.first s.next) g.places (g.place k) (look g (slot_put s t x (Live p)) k)) (sym (cond-false (g.same k (g.key p)) (Some p) (m k) e)) (other k e))
           (cases_Bool (g.same k (g.key p)))),
     )
       where
-        of_class : (k : K) → g.same k (g.key p) ≡ true → (m k ≡ None) × IsKept (IsOn s.first s.next) g.places (g.place k) (look g (slot_put s t x (Live p)) k) (Some p)
+        of_class : (k : K) → g.same k (g.key p) ≡ true → (m k ≡ None) × IsIncrementalClass (IsOn s.first s.next) g.places (g.place k) (look g (slot_put s t x (Live p)) k) (Some p)
         of_class k e =
             let f = front_same k (g.key p) t e may.reached in
             let r : IsNextPlace g s k beyond t x = place_same g s law beyond k (g.key p) t x e may.place in
@@ -107,7 +108,7 @@ module _ {K P : Type 0} (g : Setting K P) (law : IsLawful g) (inc : g.blocking �
             (turn_own g s k t x Empty (Live p) Free (Here p) may.empty refl (cond-true (g.same k (g.key p)) (Here p) Foreign e))
             r.before
 
-        other : (k : K) → g.same k (g.key p) ≡ false → IsKept (IsOn s.first s.next) g.places (g.place k) (look g (slot_put s t x (Live p)) k) (m k)
+        other : (k : K) → g.same k (g.key p) ≡ false → IsIncrementalClass (IsOn s.first s.next) g.places (g.place k) (look g (slot_put s t x (Live p)) k) (m k)
         other k e =
             fill_kept (IsOn s.first s.next) g.places (g.place k) (look g s k) (look g (slot_put s t x (Live p)) k) t x (m k) (good.class k)
             (turn_own g s k t x Empty (Live p) Free Foreign may.empty refl (cond-false (g.same k (g.key p)) (Here p) Foreign e))
