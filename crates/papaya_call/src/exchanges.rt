@@ -1,16 +1,18 @@
 //! The law of exchanges: what any list of allowed exchanges keeps. The functions do nothing; their contracts are what the layers above use.
 
 ghost use Rattle.papaya_call.specs.Law.Allows.{AllAllowed, Allows, MayAbort, MayClaim, MayFinish, MayPlace};
+ghost use Rattle.papaya_call.specs.Law.Code.{AreAlike, ChangesSlot, Coding, IsLawfulCoding, byte_of_pair, code, kind};
 ghost use Rattle.papaya_call.specs.Law.Copying.{IsPutting, IsTaker, IsTarget};
 ghost use Rattle.papaya_call.specs.Law.Example.{by_two, two_tables, of_one, three_tables};
-ghost use Rattle.papaya_call.specs.Law.Exchange.{Empty, Marked, Exchange, Setting, State, after, run, start};
+ghost use Rattle.papaya_call.specs.Law.Exchange.{Empty, Marked, Exchange, Setting, State, Word, after, run, start};
 ghost use Rattle.papaya_call.specs.Law.Grows.{Agrees, AllSized, Comes, Entry, IsLawfulPlan, Plan, brings, exchanges, planned, setting_in};
-ghost use Rattle.papaya_call.specs.Law.Invariant.{IsKeeping, shut};
+ghost use Rattle.papaya_call.specs.Law.Invariant.{IsKeeping, named, shut};
 ghost use Rattle.papaya_call.specs.Law.Class.{IsOn};
 ghost use Rattle.papaya_call.specs.Law.Later.{IsLasting, IsLater};
 ghost use Rattle.papaya_call.specs.Law.Meaning.{AllLegal, IsAtMoment, IsLawful, IsLegal, IsMeaning, map_after, map_left, map_of};
 ghost use Rattle.papaya_call.specs.Law.View.{Free, Gone, Grave, Here, HasWord, IsPassed, IsReached, Leaving, active, beyond, held, look, own};
-ghost use Rattle.std.specs.Prelude.{◌≡◌, ◌⊎◌, ℕ, zero, suc, ◌<◌, ◌++◌, Bool, true, false, List, [], ◌∷◌, Option, None, Some};
+ghost use Rattle.papaya_words.specs.Word.{IsSlotStep, byte_of, kind_of, pair_of};
+ghost use Rattle.std.specs.Prelude.{◌≡◌, ◌⊎◌, ℕ, zero, suc, ◌<◌, ◌^◌, ◌++◌, Bool, true, false, List, [], ◌∷◌, Option, None, Some};
 
 /// The law: after each list of allowed exchanges the tables mean one map, which its claims, replacements and burials alone change, each taking out just the pair that was there.
 pub fn one_map<K, P>()
@@ -92,6 +94,17 @@ pub fn copiers<K, P>()
     ensures abort { (g : Setting K P) (s : State P) (t x : ℕ) (p : P) (n : ℕ) → IsPutting g s t x p n (g.places n) → g.blocking ≡ true → s.aborted n ≡ false → MayAbort g s n }
     ensures on { (g : Setting K P) (s : State P) (t x : ℕ) (p : P) (n : ℕ) → IsPutting g s t x p n (g.places n) → g.blocking ≡ false → 0 < s.next n → IsPutting g s t x p (s.next n) 0 }
     ensures finish { (g : Setting K P) (s : State P) (t x : ℕ) (p : P) (n j : ℕ) → IsPutting g s t x p n j → HasWord g.places (look g s (g.key p)) n → g.blocking ≡ false → s.slot t x ≡ Marked p → MayFinish g s t x p }
+{}
+
+/// What the numbers that stand in memory say of the words, and that each exchange of a slot is a legal step of them. A number names no pair by itself: two words with one number are only alike.
+pub fn codes<K, P>()
+    ensures kind { (g : Setting K P) (c : Coding K P) (w : Word P) → kind_of (code g c w) ≡ kind w }
+    ensures empty { (g : Setting K P) (c : Coding K P) (w : Word P) → code g c w ≡ 0 → w ≡ Empty }
+    ensures pair { (g : Setting K P) (c : Coding K P) → IsLawfulCoding g c → (w : Word P) (p : P) → named w ≡ Some p → (pair_of (code g c w) ≡ c.number p) × (byte_of (code g c w) ≡ byte_of_pair g c p) }
+    ensures fits { (g : Setting K P) (c : Coding K P) → IsLawfulCoding g c → (w : Word P) → ((p : P) → named w ≡ Some p → c.number p < 2 ^ 54) → code g c w < 2 ^ 64 }
+    ensures alike { (g : Setting K P) (c : Coding K P) → IsLawfulCoding g c → (v w : Word P) → code g c v ≡ code g c w → AreAlike g c v w }
+    ensures step { (g : Setting K P) (c : Coding K P) → IsLawfulCoding g c → (s : State P) (e : Exchange P) → Allows g s e → (t x : ℕ) → ChangesSlot e t x → IsSlotStep (code g c (s.slot t x)) (code g c ((after s e).slot t x)) }
+    ensures stays { (s : State P) (e : Exchange P) (t x : ℕ) → (ChangesSlot e t x → ⊥) → (after s e).slot t x ≡ s.slot t x }
 {}
 
 /// The conditions can be met: two lists, one in each mode, together of every kind.

@@ -5,7 +5,7 @@ use Rattle.papaya_call.specs.Law.Exchange.{Empty, Marked, Copied, Setting, State
 use Rattle.papaya_call.specs.Law.View.{Foreign, Free, Leaving, Gone, view, look, held}
 use Rattle.papaya_call.specs.Law.Allows.{MayClaim, MayPlace}
 use Rattle.papaya_call.specs.Law.Meaning.{IsLawful}
-use Rattle.papaya_call.specs.Law.Invariant.{pair_of, IsIncrementalState, IsBlockingState}
+use Rattle.papaya_call.specs.Law.Invariant.{named, IsIncrementalState, IsBlockingState}
 use Rattle.papaya_call.specs.Law.Class.{IsOn}
 use Rattle.papaya_call.proofs.Law.Class.{passed_not_held, free_not_own}
 use Rattle.papaya_call.proofs.Law.Incremental.ClassSteps.{not_gone}
@@ -19,8 +19,8 @@ module _ {K P : Type 0} (g : Setting K P) (law : IsLawful g) (s : State P) (m : 
   from = copy.source.from
 
   -- its word names p
-  here : pair_of (s.slot from copy.source.slot) ≡ Some p
-  here = ⊎_elim (λ e. ap pair_of e) (λ e. ap pair_of e) copy.source.stood
+  here : named (s.slot from copy.source.slot) ≡ Some p
+  here = ⊎_elim (λ e. ap named e) (λ e. ap named e) copy.source.stood
 
   -- the key sees the slot Empty
   free : look g s (g.key p) t copy.place.at ≡ Free

@@ -5,7 +5,7 @@ use Rattle.papaya_call.specs.Law.Exchange.{Word, Setting, State, Open, Link, Adv
 use Rattle.papaya_call.specs.Law.View.{View, view, look, IsNextPlace}
 use Rattle.papaya_call.specs.Law.Meaning.{IsLawful}
 use Rattle.papaya_call.specs.Law.Class.{IsOn}
-use Rattle.papaya_call.specs.Law.Invariant.{pair_of, shut, IsPlaceOf, IsSound}
+use Rattle.papaya_call.specs.Law.Invariant.{named, shut, IsPlaceOf, IsSound}
 use Rattle.papaya_call.proofs.Law.Class.{IsTurn}
 use Rattle.papaya_call.proofs.Law.Chain.{next_zero, link_rises, link_on, link_older}
 use Rattle.papaya_call.proofs.Law.Slots.{slot_cases, slot_turn, look_same}
@@ -35,17 +35,17 @@ module _ {K P : Type 0} (g : Setting K P) (s : State P) where
 
   module _ (sound : IsSound g s) where
     -- a pair of the class stands at a place of the key
-    pub own_place : (law : IsLawful g) (k : K) (t x : ℕ) (p : P) → g.same k (g.key p) ≡ true → pair_of (s.slot t x) ≡ Some p → (j : ℕ) × (j < g.places t) × (g.place k t j ≡ x)
+    pub own_place : (law : IsLawful g) (k : K) (t x : ℕ) (p : P) → g.same k (g.key p) ≡ true → named (s.slot t x) ≡ Some p → (j : ℕ) × (j < g.places t) × (g.place k t j ≡ x)
     own_place law k t x p h e =
         let r = sound.placed t x p e in (r.at, r.within, law.places_same k (g.key p) h t r.at ∙ r.is)
 
     -- the pair stays in its slot
-    pub kept_place : (t x : ℕ) (p : P) (w w' : Word P) → s.slot t x ≡ w → pair_of w ≡ Some p → pair_of w' ≡ Some p → (r : P) → pair_of w' ≡ Some r → IsPlaceOf g t x r
-    kept_place t x p w w' old e f r h = let same : p ≡ r = cc in subst (IsPlaceOf g t x) same (sound.placed t x p (ap pair_of old ∙ e))
+    pub kept_place : (t x : ℕ) (p : P) (w w' : Word P) → s.slot t x ≡ w → named w ≡ Some p → named w' ≡ Some p → (r : P) → named w' ≡ Some r → IsPlaceOf g t x r
+    kept_place t x p w w' old e f r h = let same : p ≡ r = cc in subst (IsPlaceOf g t x) same (sound.placed t x p (ap named old ∙ e))
 
     -- the table of a filled word is in the chain
-    pub filled_on : (t x : ℕ) (p : P) (w : Word P) → s.slot t x ≡ w → pair_of w ≡ Some p → IsOn s.first s.next t
-    filled_on t x p w old e = sound.slots_on t x (λ f. let q : pair_of (s.slot t x) ≡ Some p = ap pair_of old ∙ e in let r = ap pair_of f in cc (q, r))
+    pub filled_on : (t x : ℕ) (p : P) (w : Word P) → s.slot t x ≡ w → named w ≡ Some p → IsOn s.first s.next t
+    filled_on t x p w old e = sound.slots_on t x (λ f. let q : named (s.slot t x) ≡ Some p = ap named old ∙ e in let r = ap named f in cc (q, r))
 
     -- where there is no root, there is no chain
     pub no_root : s.root ≡ 0 → (u : ℕ) → IsOn s.first s.next u → ⊥
@@ -56,7 +56,7 @@ module _ {K P : Type 0} (g : Setting K P) (s : State P) where
         zeros (suc k) = ap s.next (zeros k) ∙ next_zero s.next sound.rises
 
     -- a slot's word changes
-    pub slot_sound : (t x : ℕ) (w' : Word P) → IsOn s.first s.next t → ((p : P) → pair_of w' ≡ Some p → IsPlaceOf g t x p) → (shut w' ≡ true → 0 < s.next t) → IsSound g (slot_put s t x w')
+    pub slot_sound : (t x : ℕ) (w' : Word P) → IsOn s.first s.next t → ((p : P) → named w' ≡ Some p → IsPlaceOf g t x p) → (shut w' ≡ true → 0 < s.next t) → IsSound g (slot_put s t x w')
     slot_sound t x w' on new next = record {
       further = λ u y h. ⊎_elim (λ r. sound.further u y (ap shut (sym r.0) ∙ h)) (λ r. subst (λ a. 0 < s.next a) (sym r.0) (next (ap shut (sym r.2) ∙ h))) (slot_cases s t x w' u y);
       rises = sound.rises;
@@ -65,7 +65,7 @@ module _ {K P : Type 0} (g : Setting K P) (s : State P) where
       root_was = sound.root_was;
       done_on = sound.done_on;
       slots_on = λ u y h. ⊎_elim (λ r. sound.slots_on u y (λ e. h (r.0 ∙ e))) (λ r. subst (IsOn s.first s.next) (sym r.0) on) (slot_cases s t x w' u y);
-      placed = λ u y p e. ⊎_elim (λ r. sound.placed u y p (ap pair_of (sym r.0) ∙ e)) (λ r. subst (λ a. IsPlaceOf g a y p) (sym r.0) (subst (λ a. IsPlaceOf g t a p) (sym r.1) (new p (ap pair_of (sym r.2) ∙ e)))) (slot_cases s t x w' u y);
+      placed = λ u y p e. ⊎_elim (λ r. sound.placed u y p (ap named (sym r.0) ∙ e)) (λ r. subst (λ a. IsPlaceOf g a y p) (sym r.0) (subst (λ a. IsPlaceOf g t a p) (sym r.1) (new p (ap named (sym r.2) ∙ e)))) (slot_cases s t x w' u y);
     }
 
     -- the first root is set

@@ -5,7 +5,7 @@ use Rattle.papaya_call.specs.Law.View.{View, Foreign, Here, Leaving, Gone, Grave
 use Rattle.papaya_call.specs.Law.Copying.{IsSettled}
 use Rattle.papaya_call.specs.Law.Class.{IsOn, IsBase, AllFull, IsCopy, IsGoneTo, IsTied, IsIncrementalClass}
 use Rattle.papaya_call.specs.Law.ClassBlocking.{IsRootCopy, IsRootTied, IsBlockingClass}
-use Rattle.papaya_call.specs.Law.Invariant.{pair_of, IsSound, IsIncrementalState, IsBlockingState, IsKeeping}
+use Rattle.papaya_call.specs.Law.Invariant.{named, IsSound, IsIncrementalState, IsBlockingState, IsKeeping}
 use Rattle.papaya_call.specs.Law.Grows.{Agrees}
 use Rattle.papaya_call.proofs.Law.Views.{held-active, active-own}
 use Rattle.papaya_call.proofs.Law.Class.{held_of}
@@ -166,7 +166,7 @@ module _ {K P : Type 0} (g g' : Setting K P) (s : State P) (sound : IsSound g s)
     further = sound.further;
     placed = λ t x p e.
         let r = sound.placed t x p e in
-        let on = sound.slots_on t x (λ q. let f = ap pair_of q in cc (f, e)) in
+        let on = sound.slots_on t x (λ q. let f = ap named q in cc (f, e)) in
         record { at = r.at; within = subst (λ y. r.at < y) (sym (agrees.places t on)) r.within; is = ap (λ k. g'.place k t r.at) (agrees.key p) ∙ (agrees.place (g.key p) t r.at on ∙ r.is) };
   }
 

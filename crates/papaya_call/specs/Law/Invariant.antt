@@ -7,13 +7,13 @@ use Rattle.papaya_call.specs.Law.Class.{Rises, IsOn, IsIncrementalClass}
 use Rattle.papaya_call.specs.Law.ClassBlocking.{AllAborted, IsBlockingClass}
 
 -- the pair that a word names
-abbrev pub pair_of : {P : Type 0} → Word P → Option P
-pair_of Empty = None
-pair_of Closed = None
-pair_of (Live p) = Some p
-pair_of (Marked p) = Some p
-pair_of (Copied p) = Some p
-pair_of (Buried p) = Some p
+abbrev pub named : {P : Type 0} → Word P → Option P
+named Empty = None
+named Closed = None
+named (Live p) = Some p
+named (Marked p) = Some p
+named (Copied p) = Some p
+named (Buried p) = Some p
 
 -- a copier was at the word
 abbrev pub shut : {P : Type 0} → Word P → Bool
@@ -59,7 +59,7 @@ pub record IsSound {K P : Type 0} (g : Setting K P) (s : State P) : Type 0 where
   pub done_on : (t : ℕ) → 0 < s.done t → IsOn s.first s.next t
   pub slots_on : (t x : ℕ) → (s.slot t x ≡ Empty → ⊥) → IsOn s.first s.next t
   -- a pair stands at a place of its key
-  pub placed : (t x : ℕ) (p : P) → pair_of (s.slot t x) ≡ Some p → IsPlaceOf g t x p
+  pub placed : (t x : ℕ) (p : P) → named (s.slot t x) ≡ Some p → IsPlaceOf g t x p
   -- a table that a copier was at has a next one
   pub further : (t x : ℕ) → shut (s.slot t x) ≡ true → 0 < s.next t
 

@@ -7,7 +7,7 @@ use Rattle.papaya_call.specs.Law.Allows.{MayClaim, MayReplace, MayBury, MayMark,
 use Rattle.papaya_call.specs.Law.Meaning.{IsLawful}
 use Rattle.papaya_call.specs.Law.Class.{IsOn}
 use Rattle.papaya_call.specs.Law.ClassBlocking.{AllAborted, IsBlockingClass}
-use Rattle.papaya_call.specs.Law.Invariant.{pair_of, IsPlaceOf, IsBlockingState}
+use Rattle.papaya_call.specs.Law.Invariant.{named, IsPlaceOf, IsBlockingState}
 use Rattle.papaya_call.proofs.Law.Blocking.ClassSteps.{fill_kept_blocking, claim_kept_blocking, replace_kept_blocking, mark_kept_blocking, bury_kept_blocking, place_kept_blocking, same_kept_blocking}
 use Rattle.papaya_call.proofs.Law.Slots.{same_right}
 use Rattle.papaya_call.proofs.Law.Base.{own_place, place_same, place_of, kept_place, turn_own}
@@ -65,7 +65,7 @@ module _ {K P : Type 0} (g : Setting K P) (law : IsLawful g) (blocks : g.blockin
   module _ (t x : ℕ) (p : P) (live : s.slot t x ≡ Live p) (was : s.was_root t ≡ true) where
     -- so the table is the root
     live_root : t ≡ s.root
-    live_root = let o = own_place g s good.sound law (g.key p) t x p (law.itself (g.key p)) (ap pair_of live) in is_root g s m good t x (Live p) was live refl (subst (λ y. y < g.size t) o.2 (law.within (g.key p) t o.0 o.1))
+    live_root = let o = own_place g s good.sound law (g.key p) t x p (law.itself (g.key p)) (ap named live) in is_root g s m good t x (Live p) was live refl (subst (λ y. y < g.size t) o.2 (law.within (g.key p) t o.0 o.1))
 
   -- a replacement
   pub replace_blocking : (t x : ℕ) (p q : P) → MayReplace g s t x p q → (m (g.key p) ≡ Some p) × IsBlockingState g (slot_put s t x (Live q)) (λ k. cond (g.same k (g.key p)) (Some q) (m k))
@@ -85,14 +85,14 @@ module _ {K P : Type 0} (g : Setting K P) (law : IsLawful g) (blocks : g.blockin
 
       of_class : (k : K) → g.same k (g.key p) ≡ true → (m k ≡ Some p) × KeptRoot g (slot_put s t x (Live q)) k (Some q)
       of_class k e =
-          let r = own_place g s good.sound law k t x p e (ap pair_of may.live) in
+          let r = own_place g s good.sound law k t x p e (ap named may.live) in
           replace_kept_blocking (IsOn s.first s.next) s.was_root s.aborted s.root g.places (g.place k) (look g s k) (look g (slot_put s t x (Live q)) k) t x (m k) (good.class k) (good.was t was).0 (live_root t x p may.live was) r.0 r.1 r.2 p q
           (turn_own g s k t x (Live p) (Live q) (Here p) (Here q) may.live (sees k p (Here p) true e) (sees k q (Here q) true (to_q k true e)))
 
-      new : (r : P) → pair_of (Live q) ≡ Some r → IsPlaceOf g t x r
+      new : (r : P) → named (Live q) ≡ Some r → IsPlaceOf g t x r
       new r e =
           let same : q ≡ r = cc in
-          let o = own_place g s good.sound law (g.key q) t x p (law.back (g.key p) (g.key q) may.same) (ap pair_of may.live) in
+          let o = own_place g s good.sound law (g.key q) t x p (law.back (g.key p) (g.key q) may.same) (ap named may.live) in
           subst (IsPlaceOf g t x) same (record { at = o.0; within = o.1; is = o.2 })
 
   -- a burial
@@ -110,7 +110,7 @@ module _ {K P : Type 0} (g : Setting K P) (law : IsLawful g) (blocks : g.blockin
 
       of_class : (k : K) → g.same k (g.key p) ≡ true → (m k ≡ Some p) × KeptRoot g (slot_put s t x (Buried p)) k None
       of_class k e =
-          let r = own_place g s good.sound law k t x p e (ap pair_of may.live) in
+          let r = own_place g s good.sound law k t x p e (ap named may.live) in
           bury_kept_blocking (IsOn s.first s.next) s.was_root s.aborted s.root g.places (g.place k) (look g s k) (look g (slot_put s t x (Buried p)) k) t x (m k) (good.class k) (good.was t was).0 (live_root t x p may.live was) r.0 r.1 r.2 p
           (turn_own g s k t x (Live p) (Buried p) (Here p) (Grave p) may.live (sees k p (Here p) true e) (sees k p (Grave p) true e))
 
@@ -123,7 +123,7 @@ module _ {K P : Type 0} (g : Setting K P) (law : IsLawful g) (blocks : g.blockin
     where
       of_class : (k : K) → g.same k (g.key p) ≡ true → KeptRoot g (slot_put s t x (Marked p)) k (m k)
       of_class k e =
-          let r = own_place g s good.sound law k t x p e (ap pair_of may.live) in
+          let r = own_place g s good.sound law k t x p e (ap named may.live) in
           mark_kept_blocking (IsOn s.first s.next) s.was_root s.aborted s.root g.places (g.place k) (look g s k) (look g (slot_put s t x (Marked p)) k) t x (m k) (good.class k) (good.was t may.was).0 (live_root t x p may.live may.was) r.0 r.1 r.2 p
           (turn_own g s k t x (Live p) (Marked p) (Here p) (Leaving p) may.live (sees k p (Here p) true e) (sees k p (Leaving p) true e))
 
@@ -154,7 +154,7 @@ module _ {K P : Type 0} (g : Setting K P) (law : IsLawful g) (blocks : g.blockin
       of_class : (k : K) → g.same k (g.key p) ≡ true → KeptRoot g (slot_put s t x (Live p)) k (m k)
       of_class k e =
           let r : IsNextPlace g s k foreign t x = place_same g s law foreign k (g.key p) t x e may.place in
-          let o = own_place g s good.sound law k from may.source.slot p e (ap pair_of marked) in
+          let o = own_place g s good.sound law k from may.source.slot p e (ap named marked) in
           let leaving : look g s k from o.0 ≡ Leaving p = ap (λ y. view g k (s.slot from y)) o.2 ∙ (ap (view g k) marked ∙ sees k p (Leaving p) true e) in
           place_kept_blocking (IsOn s.first s.next) s.was_root s.aborted s.root g.places (g.place k) (look g s k) (look g (slot_put s t x (Live p)) k) t x (m k) (good.class k)
           taker.0 r.at r.within r.is r.before from o.0 p was (good.was from was).1 taker.1 o.1 leaving taker.2

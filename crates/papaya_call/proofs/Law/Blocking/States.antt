@@ -6,7 +6,7 @@ use Rattle.papaya_call.specs.Law.View.{View, Free, Foreign, Here, view, look, ow
 use Rattle.papaya_call.specs.Law.Copying.{IsTaker, IsTarget, IsSettled}
 use Rattle.papaya_call.specs.Law.Class.{IsOn}
 use Rattle.papaya_call.specs.Law.ClassBlocking.{AllAborted, IsBlockingClass}
-use Rattle.papaya_call.specs.Law.Invariant.{pair_of, shut, IsPlaceOf, IsSound, plain, IsBlockingState}
+use Rattle.papaya_call.specs.Law.Invariant.{named, shut, IsPlaceOf, IsSound, plain, IsBlockingState}
 use Rattle.papaya_call.proofs.Law.Class.{IsTurn}
 use Rattle.papaya_call.proofs.Law.Chain.{walk_between}
 use Rattle.papaya_call.proofs.Law.Slots.{slot_cases}
@@ -94,7 +94,7 @@ module _ {K P : Type 0} (g : Setting K P) (s : State P) where
 
     -- a slot's word changes, and the classes are as they have to be
     pub slot_blocking : (t x : ℕ) (w w' : Word P) → s.slot t x ≡ w → plain w ≡ true → (plain w' ≡ true) ⊎ (s.was_root t ≡ true) → ((p : P) → w' ≡ Copied p → ⊥) → IsOn s.first s.next t
-        → ((p : P) → pair_of w' ≡ Some p → IsPlaceOf g t x p) → (shut w' ≡ true → 0 < s.next t) → ((k : K) → IsMild g s t x w' k) → (m' : K → Option P)
+        → ((p : P) → named w' ≡ Some p → IsPlaceOf g t x p) → (shut w' ≡ true → 0 < s.next t) → ((k : K) → IsMild g s t x w' k) → (m' : K → Option P)
         → ((k : K) → IsBlockingClass (IsOn s.first s.next) s.was_root s.aborted s.root g.places (g.place k) (look g (slot_put s t x w') k) (m' k)) → IsBlockingState g (slot_put s t x w') m'
     slot_blocking t x w w' old p new never on place next mild m' class = record {
       sound = slot_sound g s good.sound t x w' on place next;

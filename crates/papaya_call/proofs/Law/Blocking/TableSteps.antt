@@ -8,7 +8,7 @@ use Rattle.papaya_call.specs.Law.Allows.{MayAdvance, MayPromote, MayAbort}
 use Rattle.papaya_call.specs.Law.Meaning.{IsLawful}
 use Rattle.papaya_call.specs.Law.Class.{IsOn}
 use Rattle.papaya_call.specs.Law.ClassBlocking.{AllAborted, IsBlockingClass, IsRootTied}
-use Rattle.papaya_call.specs.Law.Invariant.{pair_of, plain, IsGivenUp, IsBlockingState}
+use Rattle.papaya_call.specs.Law.Invariant.{named, plain, IsGivenUp, IsBlockingState}
 use Rattle.papaya_call.proofs.Law.Views.{held-active, active-own, foreign_not_own}
 use Rattle.papaya_call.proofs.Law.Class.{longer_base, held_of}
 use Rattle.papaya_call.proofs.Law.Blocking.ClassSteps.{promote_kept_blocking, abort_kept_blocking, longer_kept_blocking}
@@ -216,7 +216,7 @@ module _ {K P : Type 0} (g : Setting K P) where
               lost : s.aborted n ≡ true → ⊥
               lost a =
                   let v = good.given_up n a target.1 in
-                  let o = good.placed s.root v.slot v.pair (ap pair_of v.marked) in
+                  let o = good.placed s.root v.slot v.pair (ap named v.marked) in
                   let i : v.slot < g.size s.root = subst (λ y. y < g.size s.root) o.is (law.within (g.key v.pair) s.root o.at o.within) in
                   let q : IsSettled g s n (Marked v.pair) = subst (IsSettled g s n) v.marked (settled v.slot i) in
                   let h = q.1 in
@@ -265,7 +265,7 @@ module _ {K P : Type 0} (g : Setting K P) where
               ⊎_elim
               (λ c. c)
               (λ (c : n ≤ s.root).
-              let o = own_place g s good.sound law (g.key p) from may.source.slot p (law.itself (g.key p)) (ap pair_of marked) in
+              let o = own_place g s good.sound law (g.key p) from may.source.slot p (law.itself (g.key p)) (ap named marked) in
               let leaving : look g s (g.key p) from o.0 ≡ Leaving p = ap (λ y. view g (g.key p) (s.slot from y)) o.2 ∙ (ap (view g (g.key p)) marked ∙ cond-true (g.same (g.key p) (g.key p)) (Leaving p) Foreign (law.itself (g.key p))) in
               let w = (good.class (g.key p)).handed from n o.0 p was taker.0 taker.1 c taker.2 may.before o.1 leaving in
               absurd (foreign_not_own (look g s (g.key p) n w.0) (may.full w.0 w.1) w.2))

@@ -1,4 +1,4 @@
--- Each kind of exchange of a slot keeps what is to be kept, without blocking. Claim stands in `Good`.
+-- Each kind of exchange of a slot keeps what is to be kept, without blocking. Claim stands in `States`.
 use Rattle.std.proofs.Common.{◌≡◌, ◌⊎◌, inl, inr, ⊎_elim, ℕ, Bool, true, false, cond, Option, None, Some, refl, sym, ap, ◌∙◌, subst, arith}
 use Rattle.std.proofs.lemmas.Bool.{cases_Bool, cond-true, cond-false}
 use Rattle.papaya_call.specs.Law.Exchange.{Word, Empty, Closed, Live, Marked, Copied, Buried, Setting, State, slot_put}
@@ -6,7 +6,7 @@ use Rattle.papaya_call.specs.Law.View.{View, Free, Foreign, Here, Leaving, Gone,
 use Rattle.papaya_call.specs.Law.Allows.{MayReplace, MayBury, MayMark, MayClose, MayPlace, MayFinish}
 use Rattle.papaya_call.specs.Law.Meaning.{IsLawful}
 use Rattle.papaya_call.specs.Law.Class.{AllFull, IsGoneTo, IsIncrementalClass, IsOn}
-use Rattle.papaya_call.specs.Law.Invariant.{pair_of, shut, IsPlaceOf, IsIncrementalState}
+use Rattle.papaya_call.specs.Law.Invariant.{named, shut, IsPlaceOf, IsIncrementalState}
 use Rattle.papaya_call.proofs.Law.Incremental.ClassSteps.{fill_kept, replace_kept, mark_kept, bury_kept, place_kept, finish_kept}
 use Rattle.papaya_call.proofs.Law.Slots.{look_same, same_right}
 use Rattle.papaya_call.proofs.Law.Base.{own_place, place_same, place_of, kept_place, filled_on, turn_own}
@@ -55,14 +55,14 @@ module _ {K P : Type 0} (g : Setting K P) (law : IsLawful g) (inc : g.blocking �
       of_class : (k : K) → g.same k (g.key p) ≡ true → (m k ≡ Some p) × Kept g (slot_put s t x (Live q)) k (Some q)
       of_class k e =
           let f = front_same g law inc s m good k (g.key p) t e may.reached in
-          let r = own_place g s good.sound law k t x p e (ap pair_of may.live) in
+          let r = own_place g s good.sound law k t x p e (ap named may.live) in
           replace_kept (IsOn s.first s.next) g.places (g.place k) (look g s k) (look g (slot_put s t x (Live q)) k) t x (m k) (good.class k) f.0 f.1 r.0 r.1 r.2 p q
           (turn_own g s k t x (Live p) (Live q) (Here p) (Here q) may.live (sees k p (Here p) true e) (sees k q (Here q) true (sym (same_right g law k (g.key p) (g.key q) may.same) ∙ e)))
 
-      new : (r : P) → pair_of (Live q) ≡ Some r → IsPlaceOf g t x r
+      new : (r : P) → named (Live q) ≡ Some r → IsPlaceOf g t x r
       new r e =
           let same : q ≡ r = cc in
-          let o = own_place g s good.sound law (g.key q) t x p (law.back (g.key p) (g.key q) may.same) (ap pair_of may.live) in
+          let o = own_place g s good.sound law (g.key q) t x p (law.back (g.key p) (g.key q) may.same) (ap named may.live) in
           subst (IsPlaceOf g t x) same (record { at = o.0; within = o.1; is = o.2 })
 
   -- a burial
@@ -77,7 +77,7 @@ module _ {K P : Type 0} (g : Setting K P) (law : IsLawful g) (inc : g.blocking �
       of_class : (k : K) → g.same k (g.key p) ≡ true → (m k ≡ Some p) × Kept g (slot_put s t x (Buried p)) k None
       of_class k e =
           let f = front_same g law inc s m good k (g.key p) t e may.reached in
-          let r = own_place g s good.sound law k t x p e (ap pair_of may.live) in
+          let r = own_place g s good.sound law k t x p e (ap named may.live) in
           bury_kept (IsOn s.first s.next) g.places (g.place k) (look g s k) (look g (slot_put s t x (Buried p)) k) t x (m k) (good.class k) f.0 f.1 r.0 r.1 r.2 p
           (turn_own g s k t x (Live p) (Buried p) (Here p) (Grave p) may.live (sees k p (Here p) true e) (sees k p (Grave p) true e))
 
@@ -94,7 +94,7 @@ module _ {K P : Type 0} (g : Setting K P) (law : IsLawful g) (inc : g.blocking �
       of_class : (k : K) → g.same k (g.key p) ≡ true → Kept g (slot_put s t x (Marked p)) k (m k)
       of_class k e =
           let f = reached_front g law inc s m good k t (root_reached k t may.was) in
-          let r = own_place g s good.sound law k t x p e (ap pair_of may.live) in
+          let r = own_place g s good.sound law k t x p e (ap named may.live) in
           mark_kept (IsOn s.first s.next) g.places (g.place k) (look g s k) (look g (slot_put s t x (Marked p)) k) t x (m k) (good.class k) f.0 f.1 r.0 r.1 r.2 p
           (turn_own g s k t x (Live p) (Marked p) (Here p) (Leaving p) may.live (sees k p (Here p) true e) (sees k p (Leaving p) true e))
 
@@ -122,7 +122,7 @@ module _ {K P : Type 0} (g : Setting K P) (law : IsLawful g) (inc : g.blocking �
           let c = taker_full g law inc s m good (g.key p) may.source.from t from-on may.source.taker in
           let full : AllFull (IsOn s.first s.next) g.places (look g s k) may.source.from t = subst (λ V. AllFull (IsOn s.first s.next) g.places V may.source.from t) (sym (look_same g law s k (g.key p) e)) c.2 in
           let r : IsNextPlace g s k foreign t x = place_same g s law foreign k (g.key p) t x e may.place in
-          let here : pair_of (s.slot may.source.from may.source.slot) ≡ Some p = ⊎_elim (λ a. ap pair_of a) (λ a. ap pair_of a) may.source.stood in
+          let here : named (s.slot may.source.from may.source.slot) ≡ Some p = ⊎_elim (λ a. ap named a) (λ a. ap named a) may.source.stood in
           let o = own_place g s good.sound law k may.source.from may.source.slot p e here in
           let stood : (look g s k may.source.from o.0 ≡ Leaving p) ⊎ (look g s k may.source.from o.0 ≡ Gone p) =
           ⊎_elim
@@ -150,7 +150,7 @@ module _ {K P : Type 0} (g : Setting K P) (law : IsLawful g) (inc : g.blocking �
           let full : AllFull (IsOn s.first s.next) g.places (look g s k) t may.to = subst (λ V. AllFull (IsOn s.first s.next) g.places V t may.to) same c.2 in
           let has : HasWord g.places (look g s k) may.to = subst (λ V. HasWord g.places V may.to) same may.has in
           let to : IsGoneTo (IsOn s.first s.next) g.places (look g s k) t = record { table = may.to; at = has.0; on = c.0; later = c.1; within = has.1; word = has.2; full = full } in
-          let r = own_place g s good.sound law k t x p e (ap pair_of may.marked) in
+          let r = own_place g s good.sound law k t x p e (ap named may.marked) in
           finish_kept (IsOn s.first s.next) g.places (g.place k) (look g s k) (look g (slot_put s t x (Copied p)) k) t x (m k) (good.class k) r.0 p on r.1 r.2
           (turn_own g s k t x (Marked p) (Copied p) (Leaving p) (Gone p) may.marked (sees k p (Leaving p) true e) (sees k p (Gone p) true e))
           to

@@ -7,7 +7,7 @@ use Rattle.papaya_call.specs.Law.Copying.{IsTaker}
 use Rattle.papaya_call.specs.Law.Allows.{MayClaim}
 use Rattle.papaya_call.specs.Law.Meaning.{IsLawful}
 use Rattle.papaya_call.specs.Law.Class.{AllFull, IsFront, IsIncrementalClass, IsOn}
-use Rattle.papaya_call.specs.Law.Invariant.{pair_of, shut, IsPlaceOf, finished, IsIncrementalState}
+use Rattle.papaya_call.specs.Law.Invariant.{named, shut, IsPlaceOf, finished, IsIncrementalState}
 use Rattle.papaya_call.proofs.Law.Class.{IsTurn}
 use Rattle.papaya_call.proofs.Law.Incremental.ClassSteps.{fill_kept, claim_kept}
 use Rattle.papaya_call.proofs.Law.Chain.{walk_on, on_walk, walk_between}
@@ -74,7 +74,7 @@ module _ {K P : Type 0} (g : Setting K P) (law : IsLawful g) (inc : g.blocking �
         (f.0, subst (λ V. IsFront (IsOn s.first s.next) g.places V t) (sym (look_same g law s k l h)) f.1)
 
     -- a slot's word changes, and the classes are as they have to be
-    pub slot_incremental : (t x : ℕ) (w w' : Word P) → s.slot t x ≡ w → finished w ≡ false → IsOn s.first s.next t → ((p : P) → pair_of w' ≡ Some p → IsPlaceOf g t x p) → (shut w' ≡ true → 0 < s.next t) → (m' : K → Option P)
+    pub slot_incremental : (t x : ℕ) (w w' : Word P) → s.slot t x ≡ w → finished w ≡ false → IsOn s.first s.next t → ((p : P) → named w' ≡ Some p → IsPlaceOf g t x p) → (shut w' ≡ true → 0 < s.next t) → (m' : K → Option P)
         → ((k : K) → IsIncrementalClass (IsOn s.first s.next) g.places (g.place k) (look g (slot_put s t x w') k) (m' k)) → IsIncrementalState g (slot_put s t x w') m'
     slot_incremental t x w w' old open' on new next m' class = record {
       sound = slot_sound g s good.sound t x w' on new next;
