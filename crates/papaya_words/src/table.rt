@@ -1,10 +1,13 @@
-//! One table of slots.
-ghost use Rattle.std.specs.Prelude.{◌≡◌, ◌<◌, IfOk, IfErr, length, slice_get, Some, slice_set};
+//! One table of slots, and how long tables are.
+ghost use Rattle.std.specs.Prelude.{◌≡◌, ◌-◌, ◌^◌, ◌<◌, ◌≤◌, ◌⊎◌, true, false, max, MatchResult, IfOk, IfErr, length, slice_get, Some, slice_set};
+ghost use Rattle.papaya_words.specs.Probe.{IsLimit};
+ghost use Rattle.papaya_words.specs.Table.{length_after};
 
 use std::alloc::Global;
 use std::marker::Model;
 
-use crate::probe::Refused;
+use crate::limits::{LEAST_TABLE_LEN, MAX_TABLE_LEN};
+use crate::probe::{limit, Refused};
 
 /// A table: its slots, how far a search goes, and the number of the next table.
 #[derive(Drop)]
@@ -113,5 +116,51 @@ impl Table {
         ensures { self.new ≡ record self.old { slots = slice_set self.old.slots i word } }
     {
         self.slots[i] = word;
+    }
+}
+
+/// How many slots a table has that is asked for at this length.
+pub fn table_len(asked: usize) -> usize
+    ensures { result ≡ max asked 8 }
+{
+    asked.max(LEAST_TABLE_LEN)
+}
+
+/// The length at which the table after one of `len` slots is asked for, where the
+/// map counts `count` pairs and `initial` is its initial capacity. `did_not_fit`
+/// says that a pair found no place, or that the table before was aborted: then it
+/// doubles whatever the count, which may lag behind callers that were stopped.
+///
+/// `Refused::Capacity` where it would pass [`MAX_TABLE_LEN`].
+pub fn next_len(len: usize, count: usize, initial: usize, did_not_fit: bool) -> Result<usize, Refused>
+    ensures { let wanted = length_after len count initial did_not_fit in MatchResult result (λ next. (next ≡ wanted) × (wanted ≤ 2 ^ 32)) (λ refused. (refused ≡ Refused.Capacity) × (2 ^ 32 < wanted)) }
+{
+    let next = if did_not_fit || count >= len / 2 {
+        len.saturating_mul(2)
+    } else if count <= len / 8 {
+        initial.max(len / 2)
+    } else {
+        len
+    };
+    if next > MAX_TABLE_LEN {
+        return Err(Refused::Capacity);
+    }
+    Ok(next)
+}
+
+/// The limit of a table of `len` slots that is made as the next of one of
+/// `before` slots. A first table has [`limit`].
+///
+/// Where pairs have just found no place, or the table grows no longer, every slot
+/// is probed.
+pub fn next_limit(len: usize, before: usize, did_not_fit: bool) -> usize
+    requires { 1 ≤ len }
+    ensures whole { (did_not_fit ≡ true) ⊎ (len ≤ before) → result ≡ len - 1 }
+    ensures grown { did_not_fit ≡ false → before < len → IsLimit len result }
+{
+    if did_not_fit || len <= before {
+        len - 1
+    } else {
+        limit(len)
     }
 }

@@ -1,0 +1,94 @@
+//! The count of a map, in shards, so that callers seldom meet at one word.
+ghost use Rattle.std.specs.Prelude.{◌≡◌, ℕ, ◌-◌, ◌<◌, ◌≤◌, length, slice_set, slice_index_or, pos, bit_and, MatchResult, IfErr, IfOk};
+ghost use Rattle.std.specs.Int.{w64, int_wrapping_add, IsPowerOfTwo, IsNextPowerOfTwo};
+ghost use Rattle.papaya_words.specs.Counter.{count_of};
+
+use std::alloc::Global;
+use std::marker::Model;
+
+use crate::limits::MAX_SHARDS;
+use crate::probe::Refused;
+
+/// A signed number in shards. Contracts see how many shards there are, and their
+/// sum, wrapped to 64 bits: while the true sum fits, it is that sum.
+///
+/// 0.2.5 keeps each shard on a cache line of its own and takes their number from
+/// the machine's processors.
+#[derive(Drop)]
+pub struct Counter {
+    shards: Vec<i64>,
+}
+
+impl Model for Counter {
+    ghost use Rattle.std.specs.Prelude.{length};
+    ghost use Rattle.std.specs.Int.{IsPowerOfTwo};
+    ghost use Rattle.papaya_words.specs.Counter.{Count, sum_of};
+
+    ghost Value = { Count };
+
+    ghost view = { λ c. record { shards = length c.shards.items; sum = sum_of c.shards.items } };
+
+    ghost invariant = { λ c. IsPowerOfTwo (length c.shards.items) };
+}
+
+impl Counter {
+    /// A count of 0 over at least so many shards: rounded up to a power of two.
+    ///
+    /// `Refused::Capacity` for more than [`MAX_SHARDS`], `Refused::Memory` where
+    /// the growth was refused.
+    pub fn new(alloc: Global, shards: usize) -> Result<Counter, Refused>
+        ensures many { 65536 < shards → IfErr result (λ refused. refused ≡ Refused.Capacity) }
+        ensures few { shards ≤ 65536 → IfErr result (λ refused. refused ≡ Refused.Memory) }
+        ensures made { IfOk result (λ c. (shards ≤ 65536) × IsNextPowerOfTwo shards c.shards × (c.sum ≡ pos 0)) }
+    {
+        if shards > MAX_SHARDS {
+            return Err(Refused::Capacity);
+        }
+        match vec![in alloc; 0; shards.next_power_of_two()] {
+            Ok(shards) => Ok(Counter { shards }),
+            Err(_) => Err(Refused::Memory),
+        }
+    }
+
+    /// How many shards there are: a power of two.
+    pub fn shards(&self) -> usize
+        ensures count { result ≡ self.now.shards }
+        ensures power { IsPowerOfTwo result }
+    {
+        self.shards.len()
+    }
+
+    /// The shard that a guard of this number adds to.
+    pub fn get(&self, guard_number: u64) -> usize
+        ensures place { result ≡ bit_and guard_number (self.now.shards - 1) }
+        ensures bound { result < self.now.shards }
+    {
+        (guard_number & (self.shards.len() as u64 - 1)) as usize
+    }
+
+    /// Adds to one shard.
+    pub fn add(&mut self, place: usize, by: i64)
+        requires { place < self.old.shards }
+        ensures { self.new ≡ record self.old { sum = int_wrapping_add w64 self.old.sum by } }
+    {
+        add_at(&mut self.shards, place, by);
+    }
+
+    /// The sum of all shards; a negative one counts as 0.
+    pub fn sum(&self) -> usize
+        ensures { result ≡ count_of self.now.sum }
+    {
+        let mut sum: i64 = 0;
+        for shard in &self.shards {
+            sum = sum.wrapping_add(*shard);
+        }
+        if sum < 0 { 0 } else { sum as usize }
+    }
+}
+
+fn add_at(shards: &mut Vec<i64>, place: usize, by: i64)
+    requires { place < length shards.old.items }
+    ensures { shards.new.items ≡ slice_set shards.old.items place (int_wrapping_add w64 (slice_index_or shards.old.items place (pos 0)) by) }
+{
+    shards[place] = shards[place].wrapping_add(by);
+}
