@@ -70,17 +70,17 @@ apart hash k i d positive within same =
     let product : d * (2 * i + d + 1) ≡ 2 ^ suc k * q = omega (arith, difference i d) in
     let double : 2 ^ suc k ≡ 2 * 2 ^ k = pow-succ' 2 k in
     elim (parity d) [
-        inl even ↦
-            let other : 2 * i + d + 1 ≡ 2 * (i + d / 2) + 1 = omega arith in
-            let turned : (2 * (i + d / 2) + 1) * d ≡ 2 ^ suc k * q = ap (λ z. z * d) (sym other) ∙ mul_comm (2 * i + d + 1) d ∙ product in
-            let found : (r : ℕ) × (d ≡ 2 ^ suc k * r) = odd-factor (suc k) (i + d / 2) d q turned in
-            let great : 2 ^ suc k ≤ d = least-multiple (2 ^ suc k) found.0 d found.1 positive in
-            omega arith
+      | inl even ↦
+          let other : 2 * i + d + 1 ≡ 2 * (i + d / 2) + 1 = omega arith in
+          let turned : (2 * (i + d / 2) + 1) * d ≡ 2 ^ suc k * q = ap (λ z. z * d) (sym other) ∙ mul_comm (2 * i + d + 1) d ∙ product in
+          let found : (r : ℕ) × (d ≡ 2 ^ suc k * r) = odd-factor (suc k) (i + d / 2) d q turned in
+          let great : 2 ^ suc k ≤ d = least-multiple (2 ^ suc k) found.0 d found.1 positive in
+          omega arith
       | inr odd ↦
-            let turned : (2 * (d / 2) + 1) * (2 * i + d + 1) ≡ 2 ^ suc k * q = ap (λ z. z * (2 * i + d + 1)) (sym odd) ∙ product in
-            let found : (r : ℕ) × (2 * i + d + 1 ≡ 2 ^ suc k * r) = odd-factor (suc k) (d / 2) (2 * i + d + 1) q turned in
-            let great : 2 ^ suc k ≤ 2 * i + d + 1 = least-multiple (2 ^ suc k) found.0 (2 * i + d + 1) found.1 (omega arith) in
-            omega arith
+          let turned : (2 * (d / 2) + 1) * (2 * i + d + 1) ≡ 2 ^ suc k * q = ap (λ z. z * (2 * i + d + 1)) (sym odd) ∙ product in
+          let found : (r : ℕ) × (2 * i + d + 1 ≡ 2 ^ suc k * r) = odd-factor (suc k) (d / 2) (2 * i + d + 1) q turned in
+          let great : 2 ^ suc k ≤ 2 * i + d + 1 = least-multiple (2 ^ suc k) found.0 (2 * i + d + 1) found.1 (omega arith) in
+          omega arith
     ]
 
 -- an earlier and a later place among the first so many differ
@@ -88,14 +88,14 @@ apart_in : (hash slots i j : ℕ) → IsPowerOfTwo slots → i < j → j < slots
 apart_in hash slots i j (k, e) less within same =
     let sum : j ≡ i + (j - i) = omega arith in
     let here : place hash (2 ^ k) i ≡ place hash (2 ^ k) (i + (j - i)) =
-        ap (λ s. place hash s i) (sym e) ∙ same ∙ ap (λ s. place hash s j) e ∙ ap (λ n. place hash (2 ^ k) n) sum in
+    ap (λ s. place hash s i) (sym e) ∙ same ∙ ap (λ s. place hash s j) e ∙ ap (λ n. place hash (2 ^ k) n) sum in
     apart hash k i (j - i) (omega arith) (omega arith) here
 
 -- the first so many places in a table of so many slots are distinct
 pub places_distinct : (hash slots i j : ℕ) → IsPowerOfTwo slots → i < slots → j < slots → place hash slots i ≡ place hash slots j → i ≡ j
 places_distinct hash slots i j power hi hj same =
     elim (cases_order i j) [
-        inl e ↦ e
+      | inl e ↦ e
       | inr (inl less) ↦ absurd (apart_in hash slots i j power less hj same)
       | inr (inr more) ↦ absurd (apart_in hash slots j i power more hi (sym same))
     ]

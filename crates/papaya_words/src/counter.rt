@@ -1,13 +1,12 @@
 //! The count of a map, in shards, so that callers seldom meet at one word.
-ghost use Rattle.std.specs.Prelude.{◌≡◌, ℕ, ◌-◌, ◌<◌, ◌≤◌, length, slice_set, slice_index_or, pos, bit_and, MatchResult, IfErr, IfOk};
-ghost use Rattle.std.specs.Int.{w64, int_wrapping_add, IsPowerOfTwo, IsNextPowerOfTwo};
+ghost use Rattle.std.specs.Prelude.{◌≡◌, ℕ, ◌-◌, ◌<◌, ◌≤◌, length, slice_set, slice_index_or, pos, ◌+ℤ◌, bit_and, Err, IfErr, IfOk};
+ghost use Rattle.std.specs.Int.{w64, int_wrap, IsPowerOfTwo, IsNextPowerOfTwo};
 ghost use Rattle.papaya_words.specs.Counter.{count_of};
-
-use std::alloc::Global;
-use std::marker::Model;
 
 use crate::limits::MAX_SHARDS;
 use crate::probe::Refused;
+use std::alloc::Global;
+use std::marker::Model;
 
 /// A signed number in shards. Contracts see how many shards there are, and their
 /// sum, wrapped to 64 bits: while the true sum fits, it is that sum.
@@ -37,9 +36,10 @@ impl Counter {
     /// `Refused::Capacity` for more than [`MAX_SHARDS`], `Refused::Memory` where
     /// the growth was refused.
     pub fn new(alloc: Global, shards: usize) -> Result<Counter, Refused>
-        ensures many { 65536 < shards → IfErr result (λ refused. refused ≡ Refused.Capacity) }
+        ensures many { 65536 < shards → result ≡ Err Refused.Capacity }
         ensures few { shards ≤ 65536 → IfErr result (λ refused. refused ≡ Refused.Memory) }
-        ensures made { IfOk result (λ c. (shards ≤ 65536) × IsNextPowerOfTwo shards c.shards × (c.sum ≡ pos 0)) }
+        ensures shards { IfOk result (λ counter. IsNextPowerOfTwo shards counter.shards) }
+        ensures sum { IfOk result (λ counter. counter.sum ≡ pos 0) }
     {
         if shards > MAX_SHARDS {
             return Err(Refused::Capacity);
@@ -69,7 +69,7 @@ impl Counter {
     /// Adds to one shard.
     pub fn add(&mut self, place: usize, by: i64)
         requires { place < self.old.shards }
-        ensures { self.new ≡ record self.old { sum = int_wrapping_add w64 self.old.sum by } }
+        ensures { self.new ≡ record self.old { sum = int_wrap w64 (self.old.sum +ℤ by) } }
     {
         add_at(&mut self.shards, place, by);
     }
@@ -88,7 +88,7 @@ impl Counter {
 
 fn add_at(shards: &mut Vec<i64>, place: usize, by: i64)
     requires { place < length shards.old.items }
-    ensures { shards.new.items ≡ slice_set shards.old.items place (int_wrapping_add w64 (slice_index_or shards.old.items place (pos 0)) by) }
+    ensures { shards.new.items ≡ slice_set shards.old.items place (int_wrap w64 (slice_index_or shards.old.items place (pos 0) +ℤ by)) }
 {
     shards[place] = shards[place].wrapping_add(by);
 }

@@ -3,11 +3,10 @@ ghost use Rattle.std.specs.Prelude.{◌≡◌, ◌-◌, ◌^◌, ◌<◌, ◌≤
 ghost use Rattle.papaya_words.specs.Probe.{IsLimit};
 ghost use Rattle.papaya_words.specs.Table.{length_after};
 
+use crate::limits::{LEAST_TABLE_LEN, MAX_TABLE_LEN};
+use crate::probe::{Refused, limit};
 use std::alloc::Global;
 use std::marker::Model;
-
-use crate::limits::{LEAST_TABLE_LEN, MAX_TABLE_LEN};
-use crate::probe::{limit, Refused};
 
 /// A table: its slots, how far a search goes, and the number of the next table.
 #[derive(Drop)]
@@ -132,7 +131,12 @@ pub fn table_len(asked: usize) -> usize
 /// doubles whatever the count, which may lag behind callers that were stopped.
 ///
 /// `Refused::Capacity` where it would pass [`MAX_TABLE_LEN`].
-pub fn next_len(len: usize, count: usize, initial: usize, did_not_fit: bool) -> Result<usize, Refused>
+pub fn next_len(
+    len: usize,
+    count: usize,
+    initial: usize,
+    did_not_fit: bool,
+) -> Result<usize, Refused>
     ensures { let wanted = length_after len count initial did_not_fit in MatchResult result (λ next. (next ≡ wanted) × (wanted ≤ 2 ^ 32)) (λ refused. (refused ≡ Refused.Capacity) × (2 ^ 32 < wanted)) }
 {
     let next = if did_not_fit || count >= len / 2 {

@@ -128,8 +128,7 @@ pub fn words_read_back()
     ensures byte { (code byte pair : ℕ) → code < 8 → byte < 128 → byte_of (filled_word code byte pair) ≡ byte }
     ensures pair { (code byte pair : ℕ) → code < 8 → byte < 128 → pair_of (filled_word code byte pair) ≡ pair }
     ensures whole { (word : ℕ) → filled_word (word % 8) (byte_of word) (pair_of word) ≡ word }
-{
-}
+{}
 
 /// The hash from which the places of a search are counted.
 pub fn h1(hash: u64) -> usize
