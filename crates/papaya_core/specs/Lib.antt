@@ -1,1 +1,4 @@
 pub mod Callers
+pub mod Performs
+pub mod Store
+pub mod Tables

@@ -1,16 +1,13 @@
 -- One ask of one caller's machine is answered.
-use Rattle.std.specs.Prelude.{◌≡◌, ℕ, ◌+◌, ◌-◌, ◌^◌, ◌<◌, ◌≤◌, ◌==◌, Bool, true, false, if◌then◌else◌, List, [], ◌∷◌, ◌++◌, length, Option, Some, None, slice_get, MatchBool, ◌⊎◌, ◌+ℤ◌, bit_and}
+use Rattle.std.specs.Prelude.{◌≡◌, ℕ, ◌+◌, ◌<◌, ◌≤◌, ◌==◌, Bool, false, List, [], ◌∷◌, ◌++◌, length, Option, Some, None, slice_get, MatchBool, ◌⊎◌, ◌+ℤ◌}
 use Rattle.std.specs.Int.{w64, int_wrap}
 use Rattle.papaya_words.specs.Table.{TableWords, new_table}
 use Rattle.papaya_words.specs.declared.limits.TheConstants.{MAX_TABLES, MAX_LOG_LEN}
-use Rattle.papaya_words.specs.declared.probe.Refused.{Refused}
 use Rattle.papaya_words.specs.declared.probe.Refused.TheVariants.{Memory, Capacity}
-use Rattle.papaya_call.specs.declared.ask.At.{At}
 use Rattle.papaya_call.specs.declared.ask.Ask.{Ask}
 use Rattle.papaya_call.specs.declared.ask.Ask.TheVariants.{Load, Exchange, SameKey, SizeOf, MakeKey, MakePair, MakeTable, AddToShard, Done as Ask_done}
 use Rattle.papaya_call.specs.declared.ask.Answer.{Answer}
 use Rattle.papaya_call.specs.declared.ask.Answer.TheVariants.{Word as Word_read, Exchanged, Found as Found_instead, Yes, Size, Made as Made_number, Ok as Ok_done, Refused as Was_refused}
-use Rattle.papaya_core.specs.declared.pairs.Pair.{Pair}
 use Rattle.papaya_core.specs.declared.pairs.KeyOf.{KeyOf}
 use Rattle.papaya_core.specs.declared.pairs.KeyOf.TheVariants.{Own, Logged}
 use Rattle.papaya_core.specs.declared.pairs.Running.{Running}
@@ -39,6 +36,17 @@ abbrev pub size_of : Option TableWords → Answer
 size_of None = Ok_done
 size_of (Some t) = Size (length t.slots) t.limit
 
+-- nothing is made for want of memory, or where as many are made as there may be
+abbrev pub Refuses : (most count : ℕ) → Answer → Type 0
+Refuses most count answer = (answer ≡ Was_refused Memory) ⊎ ((answer ≡ Was_refused Capacity) × (most ≤ count))
+
+-- what is to be made was made before: a key in the log has its number, and of a pair nothing is left to make
+abbrev pub HasKey : {K V : Type 0} → Answer → Running K V → Type 0
+HasKey answer r = (n : ℕ) × (r.key ≡ Logged n) × (answer ≡ Made_number n)
+
+abbrev pub HasNoPair : {K V : Type 0} → Answer → Running K V → Type 0
+HasNoPair answer r = (answer ≡ Ok_done) × (((k : _) × (r.key ≡ Own k)) ⊎ (r.value ≡ None))
+
 module _ {K V S : Type 0} where
   -- nothing but the machine's state changes
   abbrev pub Stays : StoreState K V S → Running K V → StoreState K V S → Running K V → Type 0
@@ -50,10 +58,6 @@ module _ {K V S : Type 0} where
       MatchBool (found == old)
       ((answer ≡ Exchanged) × (s' ≡ record s { words = after }))
       ((answer ≡ Found_instead found) × (s' ≡ s))
-
-  -- nothing is made for want of memory, or where as many are made as there may be
-  abbrev pub Refuses : (most count : ℕ) → Answer → Type 0
-  Refuses most count answer = (answer ≡ Was_refused Memory) ⊎ ((answer ≡ Was_refused Capacity) × (most ≤ count))
 
   -- the key goes to the end of the key log
   abbrev pub LogsKey : Answer → StoreState K V S → Running K V → StoreState K V S → Running K V → Type 0
@@ -73,13 +77,6 @@ module _ {K V S : Type 0} where
       let n = length s.words.tables + 1 in
       (answer ≡ Made_number n) × (length s.words.tables < MAX_TABLES)
       × (s' ≡ record s { words = record s.words { tables = s.words.tables ++ new_table n slots limit ∷ [] } })
-
-  -- what is to be made was made before: a key in the log has its number, and of a pair nothing is left to make
-  abbrev pub HasKey : Answer → Running K V → Type 0
-  HasKey answer r = (n : ℕ) × (r.key ≡ Logged n) × (answer ≡ Made_number n)
-
-  abbrev pub HasNoPair : Answer → Running K V → Type 0
-  HasNoPair answer r = (answer ≡ Ok_done) × (((k : K) × (r.key ≡ Own k)) ⊎ (r.value ≡ None))
 
   -- a growth is refused where the step has no memory
   abbrev pub MakesOr : Bool → Answer → StoreState K V S → Running K V → StoreState K V S → Running K V → Type 0 → Type 0
@@ -102,3 +99,15 @@ module _ {K V S : Type 0} where
       (((Refuses MAX_TABLES (length s.words.tables) answer × (s' ≡ s)) ⊎ MakesTable answer slots limit s s') × (r' ≡ r))
   Performs eq refuse (AddToShard by) s r answer s' r' = (answer ≡ Ok_done) × (s' ≡ record s { count = record s.count { sum = int_wrap w64 (s.count.sum +ℤ by) } }) × (r' ≡ r)
   Performs eq refuse (Ask_done reply) s r answer s' r' = (answer ≡ Ok_done) × Stays s r s' r'
+
+-- an ask for something to be made
+abbrev pub IsMake : Ask → Type 0
+IsMake (Load at) = ⊥
+IsMake (Exchange at old new) = ⊥
+IsMake (SameKey n) = ⊥
+IsMake (SizeOf n) = ⊥
+IsMake MakeKey = Unit {0}
+IsMake MakePair = Unit {0}
+IsMake (MakeTable slots limit) = Unit {0}
+IsMake (AddToShard by) = ⊥
+IsMake (Ask_done reply) = ⊥

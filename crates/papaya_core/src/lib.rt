@@ -3,4 +3,5 @@
 
 pub mod callers;
 pub mod pairs;
+pub mod store;
 pub mod trace;

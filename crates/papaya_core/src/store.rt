@@ -1,9 +1,10 @@
 //! What the machines of all callers ask about: the words of the tables, the logs of keys and pairs, and the count.
-ghost use Rattle.std.specs.Prelude.{◌≡◌, ◌≢◌, ◌+◌, ◌-◌, ◌<◌, ◌^◌, ◌⊎◌, ◌→◌, [], length, Some, None, pos, MatchOption, IfOk, IfErr, slice_get};
+ghost use Rattle.std.specs.Prelude.{◌≡◌, ◌≢◌, ◌+◌, ◌-◌, ◌<◌, ◌^◌, ◌⊎◌, [], ◌∷◌, ◌++◌, ◌+ℤ◌, length, vec_len, vec_capacity, Some, None, pos, MatchOption, IfOk, IfErr, slice_get};
+ghost use Rattle.std.specs.Int.{w64, int_wrap};
 ghost use Rattle.papaya_words.specs.Table.{new_table};
-ghost use Rattle.papaya_core.specs.Tables.{table_of, word_at, put, put_in};
+ghost use Rattle.papaya_core.specs.Tables.{table_of, word_at, put, put_in, written};
 ghost use Rattle.papaya_core.specs.Store.{Stored, pair_of, hash_of};
-ghost use Rattle.papaya_core.specs.Performs.{Performs, Stays, Refuses, LogsKey, LogsPair, MakesTable, HasKey, HasNoPair, key_at, same};
+ghost use Rattle.papaya_core.specs.Performs.{Performs, IsMake, Stays, Refuses, LogsKey, LogsPair, MakesTable, HasKey, HasNoPair, key_at, same};
 
 use std::alloc::Global;
 use std::hash::{BuildHasher, Hash, Hasher};
@@ -42,6 +43,14 @@ fn write_in(table: &mut Table, at: At, word: u64)
             }
         }
     }
+}
+
+/// Adds an item, for which there is room.
+fn push_within<T: Drop>(items: &mut Vec<T>, item: T)
+    requires { vec_len items.old < vec_capacity items.old }
+    ensures { items.new.items ≡ items.old.items ++ item ∷ [] }
+{
+    let _ = items.push(item);
 }
 
 /// The words, the logs and the count.
@@ -172,20 +181,120 @@ impl<K: Hash + Eq + Drop, V: Drop, S: BuildHasher> Store<K, V, S> {
         ensures machine { running.new.machine ≡ running.old.machine }
         ensures makes { (Refuses MAX_LOG_LEN (length self.old.keys) result × Stays self.old running.old self.new running.new) ⊎ (HasKey result running.old × Stays self.old running.old self.new running.new) ⊎ LogsKey result self.old running.old self.new running.new }
     {
-        let n = self.keys.len();
         if let KeyOf::Logged(logged) = running.key {
             return Answer::Made(logged as u64);
         }
+        let n = self.keys.len();
         if n >= MAX_LOG_LEN {
             return Answer::Refused(Refused::Capacity);
         }
         if self.keys.reserve(1).is_err() {
             return Answer::Refused(Refused::Memory);
         }
-        match mem::replace(&mut running.key, KeyOf::Logged(n)) {
-            KeyOf::Own(key) => push_within(&mut self.keys, key),
-            KeyOf::Logged(_) => {}
+        if let KeyOf::Own(key) = mem::replace(&mut running.key, KeyOf::Logged(n)) {
+            push_within(&mut self.keys, key);
         }
         Answer::Made(n as u64)
+    }
+
+    /// Logs a pair of the call's key, which is logged, and its value.
+    fn make_pair(&mut self, running: &mut Running<K, V>) -> Answer
+        ensures machine { running.new.machine ≡ running.old.machine }
+        ensures makes { (Refuses MAX_LOG_LEN (length self.old.pairs) result × Stays self.old running.old self.new running.new) ⊎ (HasNoPair result running.old × Stays self.old running.old self.new running.new) ⊎ LogsPair result self.old running.old self.new running.new }
+    {
+        let key = match running.key {
+            KeyOf::Own(_) => return Answer::Ok,
+            KeyOf::Logged(key) => key,
+        };
+        let n = self.pairs.len();
+        if n >= MAX_LOG_LEN {
+            return Answer::Refused(Refused::Capacity);
+        }
+        if self.pairs.reserve(1).is_err() {
+            return Answer::Refused(Refused::Memory);
+        }
+        match running.value.take() {
+            None => Answer::Ok,
+            Some(value) => {
+                push_within(&mut self.pairs, Pair { key, value });
+                Answer::Made(n as u64)
+            }
+        }
+    }
+
+    /// Makes a table of empty slots.
+    fn make_table(&mut self, alloc: Global, len: usize, limit: usize) -> Answer
+        ensures { (Refuses MAX_TABLES (length self.old.words.tables) result × (self.new ≡ self.old)) ⊎ MakesTable result len limit self.old self.new }
+    {
+        let n = self.tables.len() as u64;
+        if n >= MAX_TABLES {
+            return Answer::Refused(Refused::Capacity);
+        }
+        match Table::new(alloc, n + 1, len, limit) {
+            Err(refused) => Answer::Refused(refused),
+            Ok(table) => match self.tables.push(table) {
+                Ok(()) => Answer::Made(n + 1),
+                Err(_) => Answer::Refused(Refused::Memory),
+            },
+        }
+    }
+
+    /// What is made without memory.
+    fn make(&mut self, alloc: Global, running: &mut Running<K, V>, ask: Ask, refuse: bool) -> Answer
+        requires { IsMake ask }
+        ensures machine { running.new.machine ≡ running.old.machine }
+        ensures performs { Performs K.eq refuse ask self.old running.old result self.new running.new }
+    {
+        if refuse {
+            return Answer::Refused(Refused::Memory);
+        }
+        match ask {
+            Ask::MakeKey => self.make_key(running),
+            Ask::MakePair => self.make_pair(running),
+            Ask::MakeTable { len, limit } => self.make_table(alloc, len, limit),
+            _ => unreachable!(),
+        }
+    }
+
+    /// Answers one ask of this caller's machine.
+    pub fn perform(
+        &mut self,
+        alloc: Global,
+        caller: usize,
+        running: &mut Running<K, V>,
+        ask: Ask,
+        refuse: bool,
+    ) -> Answer
+        ensures machine { running.new.machine ≡ running.old.machine }
+        ensures performs { Performs K.eq refuse ask self.old running.old result self.new running.new }
+    {
+        match ask {
+            Ask::Load(at) => Answer::Word(self.word(at)),
+            Ask::Exchange(at, old, new) => {
+                let found = self.word(at);
+                if found == old {
+                    self.put(at, new);
+                    Answer::Exchanged
+                } else {
+                    Answer::Found(found)
+                }
+            }
+            Ask::SameKey(n) => Answer::Yes(self.same_key(n, &running.key)),
+            Ask::SizeOf(n) => match self.table(n) {
+                Some(table) => Answer::Size {
+                    len: table.len(),
+                    limit: table.limit(),
+                },
+                None => Answer::Ok,
+            },
+            Ask::MakeKey | Ask::MakePair | Ask::MakeTable { .. } => {
+                self.make(alloc, running, ask, refuse)
+            }
+            Ask::AddToShard(by) => {
+                self.add_to_shard(caller, by);
+                Answer::Ok
+            }
+            Ask::Done(_) => Answer::Ok,
+        }
     }
 }

@@ -1,7 +1,7 @@
-use Rattle.std.proofs.Common.{◌≡◌, ℕ, ◌<◌, ◌≤◌, ◌∷◌, ◌++◌, [], List, length, vec_len, Some, None, Option, slice_get, is_some, refl, sym, ap, subst, ◌∙◌, arith}
+use Rattle.std.proofs.Common.{List, Some, sym, ap, subst, ◌∙◌}
 use Rattle.papaya_core.specs.declared.callers.Seat.{Seat}
-use Rattle.papaya_core.specs.Callers.{running, with_call, with_seat, IsSeated, IsSeatAt}
-use Rattle.papaya_core.proofs.CallersLemmas.{item_there, running-at, running-none, running-within, seated-within, seat-seated, with_seat-end, with_seat-there, with_call-at, with_call-seated, end-seated}
+use Rattle.papaya_core.specs.Callers.{with_call, IsSeated, IsSeatAt}
+use Rattle.papaya_core.proofs.CallersLemmas.{item_there, seated-within, with_call-at}
 use Rattle.papaya_core.proofs.callers.Callers.put.Goals as goal
 
 pub put_call-requires : goal.put_call-requires
