@@ -1,1 +1,2 @@
 pub mod CallersLemmas
+pub mod StoreLemmas

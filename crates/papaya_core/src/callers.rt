@@ -71,7 +71,7 @@ fn put_call<K: Drop, V: Drop>(seats: &mut Vec<Seat<K, V>>, place: usize, running
     seats[place].call = Some(running);
 }
 
-impl<K: Drop, V: Drop> Callers<K, V> {
+impl<K, V> Callers<K, V> {
     /// No callers.
     pub fn new(alloc: Global) -> Callers<K, V>
         ensures { result ≡ [] }
@@ -91,18 +91,6 @@ impl<K: Drop, V: Drop> Callers<K, V> {
         }
     }
 
-    /// Makes a seat for this caller, where it has none.
-    pub fn seat(&mut self, caller: usize) -> Result<(), Refused>
-        ensures ok { OnOk result ((self.new ≡ with_seat self.old caller) × IsSeated self.new caller) }
-        ensures err { IfErr result (λ e. (e ≡ Refused.Memory) × (self.new ≡ self.old)) }
-    {
-        if place_of(&self.seats, caller) < self.seats.len() {
-            return Ok(());
-        }
-        add_seat(&mut self.seats, caller)?;
-        Ok(())
-    }
-
     /// Takes the call of a caller that is in one.
     pub fn take(&mut self, caller: usize) -> Running<K, V>
         requires { IsSome (running self.old caller) }
@@ -115,6 +103,20 @@ impl<K: Drop, V: Drop> Callers<K, V> {
             Some(running) => running,
             None => unreachable!(),
         }
+    }
+}
+
+impl<K: Drop, V: Drop> Callers<K, V> {
+    /// Makes a seat for this caller, where it has none.
+    pub fn seat(&mut self, caller: usize) -> Result<(), Refused>
+        ensures ok { OnOk result ((self.new ≡ with_seat self.old caller) × IsSeated self.new caller) }
+        ensures err { IfErr result (λ e. (e ≡ Refused.Memory) × (self.new ≡ self.old)) }
+    {
+        if place_of(&self.seats, caller) < self.seats.len() {
+            return Ok(());
+        }
+        add_seat(&mut self.seats, caller)?;
+        Ok(())
     }
 
     /// Gives a caller that has a seat this call.
