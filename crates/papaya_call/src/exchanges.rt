@@ -2,6 +2,7 @@
 
 ghost use Rattle.papaya_call.specs.Law.Allows.{AllAllowed, Allows, MayAbort, MayClaim, MayFinish, MayPlace};
 ghost use Rattle.papaya_call.specs.Law.Code.{AreAlike, ChangesSlot, Coding, IsLawfulCoding, byte_of_pair, code, kind};
+ghost use Rattle.papaya_call.specs.Law.Content.{AreApart, IsCountAfter, content, lookup, pairs_in};
 ghost use Rattle.papaya_call.specs.Law.Copying.{IsPutting, IsTaker, IsTarget};
 ghost use Rattle.papaya_call.specs.Law.Example.{by_two, two_tables, of_one, three_tables};
 ghost use Rattle.papaya_call.specs.Law.Exchange.{Empty, Marked, Exchange, Setting, State, Word, after, run, start};
@@ -12,7 +13,7 @@ ghost use Rattle.papaya_call.specs.Law.Later.{IsLasting, IsLater};
 ghost use Rattle.papaya_call.specs.Law.Meaning.{AllLegal, IsAtMoment, IsLawful, IsLegal, IsMeaning, map_after, map_left, map_of};
 ghost use Rattle.papaya_call.specs.Law.View.{Free, Gone, Grave, Here, HasWord, IsPassed, IsReached, Leaving, active, beyond, held, look, own};
 ghost use Rattle.papaya_words.specs.Word.{IsSlotStep, byte_of, kind_of, pair_of};
-ghost use Rattle.std.specs.Prelude.{◌≡◌, ◌⊎◌, ℕ, zero, suc, ◌<◌, ◌^◌, ◌++◌, Bool, true, false, List, [], ◌∷◌, Option, None, Some};
+ghost use Rattle.std.specs.Prelude.{◌≡◌, ◌⊎◌, ℕ, zero, suc, ◌<◌, ◌^◌, ◌++◌, Bool, true, false, List, [], ◌∷◌, length, Option, None, Some};
 
 /// The law: after each list of allowed exchanges the tables mean one map, which its claims, replacements and burials alone change, each taking out just the pair that was there.
 pub fn one_map<K, P>()
@@ -105,6 +106,21 @@ pub fn codes<K, P>()
     ensures alike { (g : Setting K P) (c : Coding K P) → IsLawfulCoding g c → (v w : Word P) → code g c v ≡ code g c w → AreAlike g c v w }
     ensures step { (g : Setting K P) (c : Coding K P) → IsLawfulCoding g c → (s : State P) (e : Exchange P) → Allows g s e → (t x : ℕ) → ChangesSlot e t x → IsSlotStep (code g c (s.slot t x)) (code g c ((after s e).slot t x)) }
     ensures stays { (s : State P) (e : Exchange P) (t x : ℕ) → (ChangesSlot e t x → ⊥) → (after s e).slot t x ≡ s.slot t x }
+{}
+
+/// The root's table as a list of pairs. With blocking, or while the root has no next table, it is the map; and while there is one table, each exchange adds, takes out or leaves as many pairs as its kind says.
+pub fn content_of_a_table<K, P>()
+    ensures holds { (g : Setting K P) → IsLawful g → (s : State P) (m : K → Option P) → IsKeeping g s m → (g.blocking ≡ false → s.next s.root ≡ 0) → (k : K) → lookup g.same g.key (content g s) k ≡ m k }
+    ensures apart { (g : Setting K P) → IsLawful g → (s : State P) (m : K → Option P) → IsKeeping g s m → (t n : ℕ) → AreApart g.same g.key (pairs_in (s.slot t) n) }
+    ensures nothing { (g : Setting K P) → IsLawful g → (s : State P) (m : K → Option P) → IsKeeping g s m → s.root ≡ 0 → (content g s ≡ []) × ((k : K) → m k ≡ None) }
+    ensures count { (g : Setting K P) → IsLawful g → (s : State P) (m : K → Option P) → IsKeeping g s m → ((t : ℕ) → s.next t ≡ 0) → (e : Exchange P) → Allows g s e → IsCountAfter e (length (content g s)) (length (content g (after s e))) }
+{}
+
+/// The map as a list in which no key stands twice, whatever tables there are: one stays to be had after each exchange, all of them are of one length, and that length follows the claims and burials.
+pub fn finite_maps<K, P>()
+    ensures list { (g : Setting K P) → IsLawful g → (s : State P) (m : K → Option P) → IsKeeping g s m → (e : Exchange P) → Allows g s e → (a : List P) → AreApart g.same g.key a → ((k : K) → lookup g.same g.key a k ≡ m k) → (b : List P) × AreApart g.same g.key b × ((k : K) → lookup g.same g.key b k ≡ map_after g m e k) }
+    ensures length { (g : Setting K P) → IsLawful g → (a b : List P) → AreApart g.same g.key a → AreApart g.same g.key b → ((k : K) → lookup g.same g.key a k ≡ lookup g.same g.key b k) → length a ≡ length b }
+    ensures count { (g : Setting K P) → IsLawful g → (m : K → Option P) (e : Exchange P) → IsLegal g m e → (a b : List P) → AreApart g.same g.key a → AreApart g.same g.key b → ((k : K) → lookup g.same g.key a k ≡ m k) → ((k : K) → lookup g.same g.key b k ≡ map_after g m e k) → IsCountAfter e (length a) (length b) }
 {}
 
 /// The conditions can be met: two lists, one in each mode, together of every kind.
