@@ -1,6 +1,6 @@
 -- Each exchange of a slot is a legal step of the numbers that stand for its words.
-use Rattle.std.proofs.Common.{◌≡◌, inl, inr, ⊎_elim, ℕ, Option, None, Some, refl, sym, ap, ◌∙◌, subst}
-use Rattle.papaya_words.specs.Word.{IsSlotStep, MayBecome, NamesSamePair, byte_of, kind_of, top_byte}
+use Rattle.std.proofs.Common.{◌≡◌, ℕ, Some, refl, sym, ap, ◌∙◌, subst}
+use Rattle.papaya_words.specs.Word.{IsSlotStep, MayBecome, NamesSamePair, kind_of, top_byte}
 use Rattle.papaya_call.specs.Law.Exchange.{Word, Empty, Closed, Live, Marked, Copied, Buried, Setting, State, Exchange, Open, Claim, Replace, Bury, Link, Mark, Close, Place, Finish, Advance, Promote, Abort, after, slot_put}
 use Rattle.papaya_call.specs.Law.Allows.{Allows}
 use Rattle.papaya_call.specs.Law.Invariant.{named}

@@ -1,6 +1,6 @@
 -- How many pairs one table has after each exchange, while no table has a next one.
-use Rattle.std.proofs.Common.{◌≡◌, inl, inr, ⊎_elim, ℕ, zero, suc, ◌+◌, ◌<◌, ◌≤◌, Option, Some, length, refl, sym, ap, ◌∙◌, subst, arith}
-use Rattle.papaya_call.specs.Law.Exchange.{Word, Empty, Closed, Live, Marked, Copied, Buried, Setting, State, Exchange, Open, Claim, Replace, Bury, Link, Mark, Close, Place, Finish, Advance, Promote, Abort, after, slot_put, walk}
+use Rattle.std.proofs.Common.{◌≡◌, ⊎_elim, ℕ, zero, suc, ◌+◌, ◌<◌, Option, Some, length, refl, sym, ap, ◌∙◌, subst, arith}
+use Rattle.papaya_call.specs.Law.Exchange.{Word, Live, Buried, Setting, State, Exchange, Open, Claim, Replace, Bury, Link, Mark, Close, Place, Finish, Advance, Promote, Abort, after, slot_put, walk}
 use Rattle.papaya_call.specs.Law.View.{IsReached}
 use Rattle.papaya_call.specs.Law.Allows.{Allows}
 use Rattle.papaya_call.specs.Law.Meaning.{IsLawful}
