@@ -123,8 +123,8 @@ pub fn finite_maps<K, P>()
     ensures count { (g : Setting K P) → IsLawful g → (m : K → Option P) (e : Exchange P) → IsLegal g m e → (a b : List P) → AreApart g.same g.key a → AreApart g.same g.key b → ((k : K) → lookup g.same g.key a k ≡ m k) → ((k : K) → lookup g.same g.key b k ≡ map_after g m e k) → IsCountAfter e (length a) (length b) }
 {}
 
-/// The conditions can be met: two lists, one in each mode, together of every kind.
+/// The conditions can be met: two lists in lawful settings, one in each mode, together of every kind.
 pub fn examples()
-    ensures incremental { AllAllowed by_two start two_tables }
-    ensures blocking { AllAllowed of_one start three_tables }
+    ensures incremental { IsLawful by_two × AllAllowed by_two start two_tables }
+    ensures blocking { IsLawful of_one × AllAllowed of_one start three_tables }
 {}
