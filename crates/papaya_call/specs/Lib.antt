@@ -1,1 +1,4 @@
 pub mod Law
+pub mod Machine
+pub mod Search
+pub mod Write

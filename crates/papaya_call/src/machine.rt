@@ -1,0 +1,341 @@
+//! The machine of a call: what it asks, and what it does with each answer.
+ghost use Rattle.std.specs.Prelude.{◌≡◌, ◌<◌, ◌≤◌, ◌^◌};
+ghost use Rattle.papaya_call.specs.Search.{IsSize, IsSeen, IsWithin};
+ghost use Rattle.papaya_call.specs.Machine.{IsChunked, IsFit, IsFitAsk, IsStanding, IsStandingState, IsLookup, IsWriter, started, ask_of, kind_of_ask, after, at_root, goes, found, passes, leaves, written, at_word, at_exchanged, at_found, at_yes, at_size, state_made, at_ok, at_refused};
+
+use papaya_words::probe::{Refused, ResizeMode};
+use papaya_words::word::{Kind, Word};
+
+use crate::ask::{Answer, Ask, At, StepKind};
+use crate::call::{Reply, Task};
+use crate::search::{Place, Search, Seen};
+use crate::write::{Made, Write};
+
+/// Where a call stands, between two answers.
+#[derive(Clone, Copy, Debug, PartialEq, Eq)]
+pub enum State {
+    /// It loads the root.
+    AtRoot,
+    /// There is no root, so it makes the first table.
+    Making,
+    /// It puts this table, which it made, in as the root.
+    Opening(u64),
+    /// It searches a table.
+    Searching(Search),
+    /// It writes its pair.
+    Writing(Write),
+    /// Its pair of this number was claimed, and is to be counted.
+    Counting(u64),
+    /// It loads the number of the table after this one.
+    Leaving(u64),
+    /// It has replied.
+    Ended(Reply),
+}
+
+/// A call under way.
+#[derive(Clone, Copy, Debug, PartialEq, Eq)]
+pub struct Machine {
+    pub task: Task,
+    pub hash: u64,
+    pub mode: ResizeMode,
+    /// No table is made shorter.
+    pub initial: usize,
+    pub made: Made,
+    pub state: State,
+}
+
+impl Machine {
+    /// A call that begins. The hash is that of its key. `initial` is the initial capacity of its
+    /// map: no table is shorter.
+    #[inline]
+    pub fn new(task: Task, hash: u64, mode: ResizeMode, initial: usize) -> Machine
+        requires { IsChunked mode }
+        ensures value { result ≡ started task hash mode initial }
+        ensures standing { IsStanding result }
+    {
+        Machine {
+            task,
+            hash,
+            mode,
+            initial,
+            made: Made::Nothing,
+            state: State::AtRoot,
+        }
+    }
+
+    /// What the machine asks next.
+    #[inline]
+    pub fn ask(&self) -> Ask
+        requires { IsStanding self.now }
+        ensures value { result ≡ ask_of self.now }
+        ensures size { IsFitAsk result }
+        ensures lookup { self.now.task ≡ Task.Get → IsLookup result }
+    {
+        match self.state {
+            State::AtRoot => Ask::Load(At::Root),
+            State::Making => Ask::MakeTable { len: 32, limit: 25 },
+            State::Opening(table) => Ask::Exchange(At::Root, 0, table),
+            State::Searching(search) => search.ask(),
+            State::Writing(write) => write.ask(self.made, self.hash),
+            State::Counting(_) => Ask::AddToShard(1),
+            State::Leaving(table) => Ask::Load(At::Next(table)),
+            State::Ended(reply) => Ask::Done(reply),
+        }
+    }
+
+    /// The kind of the exchange that the machine asks for, if it asks for one.
+    #[inline]
+    pub fn kind(&self) -> Option<StepKind>
+        ensures { result ≡ kind_of_ask self.now }
+    {
+        match self.state {
+            State::Opening(_) => Some(StepKind::Open),
+            State::Writing(write) => match self.made {
+                Made::Pair(_) => Some(write.kind()),
+                _ => None,
+            },
+            _ => None,
+        }
+    }
+
+    /// Goes on after an answer. One that was not asked for leads nowhere.
+    #[inline]
+    pub fn answer(&mut self, answer: Answer)
+        requires standing { IsStanding self.old }
+        requires fit { IsFit answer }
+        ensures after { self.new ≡ after self.old answer }
+        ensures standing { IsStanding self.new }
+    {
+        match answer {
+            Answer::Word(word) => self.state = self.at_word(word),
+            Answer::Exchanged => self.state = self.at_exchanged(),
+            Answer::Found(word) => self.state = self.at_found(word),
+            Answer::Yes(yes) => self.state = self.at_yes(yes),
+            Answer::Size { len, limit } => self.state = self.at_size(len, limit),
+            Answer::Made(number) => self.at_made(number),
+            Answer::Ok => self.state = self.at_ok(),
+            Answer::Refused(refused) => self.state = self.at_refused(refused),
+        }
+    }
+}
+
+impl Machine {
+    #[inline]
+    fn at_word(&self, word: u64) -> State
+        requires { IsStanding self.now }
+        ensures value { result ≡ at_word self.now word self.now.state }
+        ensures standing { IsStandingState self.now.task result }
+    {
+        match self.state {
+            State::AtRoot => self.at_root(word),
+            State::Searching(search) => self.goes(search.at_word(self.hash, word)),
+            State::Leaving(_) => self.leaves(word),
+            state => state,
+        }
+    }
+
+    #[inline]
+    fn at_exchanged(&self) -> State
+        requires { IsStanding self.now }
+        ensures value { result ≡ at_exchanged self.now.made self.now.state }
+        ensures standing { IsStandingState self.now.task result }
+    {
+        match self.state {
+            State::Opening(table) => State::Searching(Search::Sizing(table)),
+            State::Writing(write) => match self.made {
+                Made::Pair(pair) => self.written(write, pair),
+                _ => State::Writing(write),
+            },
+            state => state,
+        }
+    }
+
+    /// The pair of this number was written.
+    #[inline]
+    fn written(&self, write: Write, pair: u64) -> State
+        requires { IsWriter self.now.task }
+        ensures value { result ≡ written write pair }
+        ensures standing { IsStandingState self.now.task result }
+    {
+        if write.old == 0 {
+            State::Counting(pair)
+        } else {
+            State::Ended(Reply::Replaced {
+                old: Word(write.old).pair(),
+                new: pair,
+            })
+        }
+    }
+
+    #[inline]
+    fn at_found(&self, word: u64) -> State
+        requires { IsStanding self.now }
+        ensures value { result ≡ at_found self.now word self.now.state }
+        ensures standing { IsStandingState self.now.task result }
+    {
+        match self.state {
+            State::Opening(_) => State::Searching(Search::Sizing(word)),
+            State::Writing(write) => self.goes(write.place.look(self.hash, word)),
+            state => state,
+        }
+    }
+
+    #[inline]
+    fn at_yes(&self, yes: bool) -> State
+        requires { IsStanding self.now }
+        ensures value { result ≡ at_yes self.now yes self.now.state }
+        ensures standing { IsStandingState self.now.task result }
+    {
+        match self.state {
+            State::Searching(search) => self.goes(search.at_yes(yes)),
+            state => state,
+        }
+    }
+
+    #[inline]
+    fn at_size(&self, len: usize, limit: usize) -> State
+        requires standing { IsStanding self.now }
+        requires size { IsSize len limit }
+        ensures value { result ≡ at_size self.now.hash len limit self.now.state }
+        ensures standing { IsStandingState self.now.task result }
+    {
+        match self.state {
+            State::Searching(search) => State::Searching(search.at_size(self.hash, len, limit)),
+            state => state,
+        }
+    }
+
+    #[inline]
+    fn at_made(&mut self, number: u64)
+        requires standing { IsStanding self.old }
+        requires number { number < 2 ^ 48 }
+        ensures after { self.new ≡ state_made self.old number }
+        ensures standing { IsStanding self.new }
+    {
+        match self.state {
+            State::Making => self.state = State::Opening(number),
+            State::Writing(_) => match self.made {
+                Made::Nothing => self.made = Made::Key,
+                Made::Key => self.made = Made::Pair(number),
+                Made::Pair(_) => {}
+            },
+            _ => {}
+        }
+    }
+
+    #[inline]
+    fn at_ok(&self) -> State
+        requires { IsStanding self.now }
+        ensures value { result ≡ at_ok self.now.state }
+        ensures standing { IsStandingState self.now.task result }
+    {
+        match self.state {
+            State::Counting(pair) => State::Ended(Reply::Inserted(pair)),
+            state => state,
+        }
+    }
+
+    /// Only what was to be made can be refused, and no change was made before it.
+    #[inline]
+    fn at_refused(&self, refused: Refused) -> State
+        requires { IsStanding self.now }
+        ensures value { result ≡ at_refused self.now.made refused self.now.state }
+        ensures standing { IsStandingState self.now.task result }
+    {
+        match self.state {
+            State::Making => State::Ended(Reply::Refused(refused)),
+            State::Writing(write) => match self.made {
+                Made::Pair(_) => State::Writing(write),
+                _ => State::Ended(Reply::Refused(refused)),
+            },
+            state => state,
+        }
+    }
+
+    /// The root is this table, or there is none.
+    #[inline]
+    fn at_root(&self, word: u64) -> State
+        ensures value { result ≡ at_root self.now.task word }
+        ensures standing { IsStandingState self.now.task result }
+    {
+        if word != 0 {
+            return State::Searching(Search::Sizing(word));
+        }
+        match self.task {
+            Task::Get => State::Ended(Reply::Absent),
+            Task::Insert { .. } => State::Making,
+        }
+    }
+
+    /// What the search saw leads here.
+    #[inline]
+    fn goes(&self, seen: Seen) -> State
+        requires { IsSeen seen }
+        ensures value { result ≡ goes self.now seen }
+        ensures standing { IsStandingState self.now.task result }
+    {
+        match seen {
+            Seen::On(search) => State::Searching(search),
+            Seen::Empty(place) => match self.task {
+                Task::Get => State::Ended(Reply::Absent),
+                Task::Insert { .. } => State::Writing(Write { place, old: 0 }),
+            },
+            Seen::Here(place, word) => self.found(place, word),
+            Seen::Over(table) => match self.task {
+                Task::Get => self.passes(table),
+                Task::Insert { .. } => State::Leaving(table),
+            },
+        }
+    }
+
+    /// A word at this place names a pair with a matching key. One that is marked can't be changed here.
+    #[inline]
+    fn found(&self, place: Place, word: u64) -> State
+        requires { IsWithin place }
+        ensures value { result ≡ found self.now.task place word }
+        ensures standing { IsStandingState self.now.task result }
+    {
+        match self.task {
+            Task::Get => State::Ended(Reply::Found(Word(word).pair())),
+            Task::Insert { replace } => {
+                if !replace {
+                    State::Ended(Reply::Occupied(Word(word).pair()))
+                } else if Word(word).kind() == Kind::Live {
+                    State::Writing(Write { place, old: word })
+                } else {
+                    State::Leaving(place.table)
+                }
+            }
+        }
+    }
+
+    /// A lookup goes past a table. In `Blocking` what it looks for never is in a later one.
+    #[inline]
+    fn passes(&self, table: u64) -> State
+        ensures value { result ≡ passes self.now.mode table }
+        ensures standing { IsStandingState self.now.task result }
+    {
+        match self.mode {
+            ResizeMode::Incremental(_) => State::Leaving(table),
+            ResizeMode::Blocking => State::Ended(Reply::Absent),
+        }
+    }
+
+    /// The next table has this number, or there is none. Insertions don't go on to a next table yet.
+    #[inline]
+    fn leaves(&self, word: u64) -> State
+        ensures value { result ≡ leaves self.now.task word }
+        ensures standing { IsStandingState self.now.task result }
+    {
+        match self.task {
+            Task::Get => {
+                if word == 0 {
+                    State::Ended(Reply::Absent)
+                } else {
+                    State::Searching(Search::Sizing(word))
+                }
+            }
+            Task::Insert { .. } => State::Ended(Reply::Refused(Refused::Capacity)),
+        }
+    }
+}

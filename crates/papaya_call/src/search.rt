@@ -1,0 +1,158 @@
+//! The search of one table for a key.
+ghost use Rattle.std.specs.Prelude.{◌≡◌, ◌<◌, ◌^◌};
+ghost use Rattle.papaya_call.specs.Search.{IsSize, IsWithin, IsSearching, IsSeen, first_place, go_on, look, ask_of, at_size, at_word, at_yes};
+
+use papaya_words::probe::Probe;
+use papaya_words::word::{Kind, Word, h1, h2};
+
+use crate::ask::{Ask, At};
+
+/// A place of a key in a table.
+#[derive(Clone, Copy, Debug, PartialEq, Eq)]
+pub struct Place {
+    /// The table's number.
+    pub table: u64,
+    /// How many slots the table has.
+    pub len: usize,
+    /// How many places after the first a search looks at.
+    pub limit: usize,
+    pub probe: Probe,
+}
+
+/// A search of one table, between two answers.
+#[derive(Clone, Copy, Debug, PartialEq, Eq)]
+pub enum Search {
+    /// It asks for the size of this table.
+    Sizing(u64),
+    /// It loads the word at this place.
+    Looking(Place),
+    /// It compares the key of the pair that the word at this place names.
+    Comparing(Place, u64),
+}
+
+/// Where an answer led a search.
+#[derive(Clone, Copy, Debug, PartialEq, Eq)]
+pub enum Seen {
+    /// The search goes on.
+    On(Search),
+    /// Nothing was ever at this place, so the key is not here.
+    Empty(Place),
+    /// The word at this place names a pair with a matching key.
+    Here(Place, u64),
+    /// The key is not in this table, but may be in the next.
+    Over(u64),
+}
+
+impl Place {
+    /// The first place of a key with this hash.
+    #[inline]
+    pub fn first(hash: u64, table: u64, len: usize, limit: usize) -> Place
+        requires { IsSize len limit }
+        ensures value { result ≡ first_place hash table len limit }
+        ensures within { IsWithin result }
+    {
+        Place {
+            table,
+            len,
+            limit,
+            probe: Probe::start(h1(hash), len - 1),
+        }
+    }
+
+    /// The key is not at this place.
+    #[inline]
+    fn go_on(mut self) -> Seen
+        requires { IsWithin self }
+        ensures value { result ≡ go_on self }
+        ensures seen { IsSeen result }
+    {
+        if self.probe.len < self.limit {
+            self.probe.next(self.len - 1);
+            Seen::On(Search::Looking(self))
+        } else {
+            Seen::Over(self.table)
+        }
+    }
+
+    /// This word stands at the place. Its key is compared only where the hash byte agrees.
+    #[inline]
+    pub fn look(self, hash: u64, word: u64) -> Seen
+        requires { IsWithin self }
+        ensures value { result ≡ look self hash word }
+        ensures seen { IsSeen result }
+    {
+        match Word(word).kind() {
+            Kind::Empty => Seen::Empty(self),
+            Kind::Live | Kind::Marked | Kind::Copied => {
+                if Word(word).hash_byte() == h2(hash) {
+                    Seen::On(Search::Comparing(self, word))
+                } else {
+                    self.go_on()
+                }
+            }
+            Kind::Buried | Kind::Closed => self.go_on(),
+        }
+    }
+}
+
+impl Search {
+    /// What the search asks next.
+    #[inline]
+    pub fn ask(self) -> Ask
+        ensures { result ≡ ask_of self }
+    {
+        match self {
+            Search::Sizing(table) => Ask::SizeOf(table),
+            Search::Looking(place) => Ask::Load(At::Slot(place.table, place.probe.i)),
+            Search::Comparing(_, word) => Ask::SameKey(Word(word).pair()),
+        }
+    }
+
+    /// The table has this size.
+    #[inline]
+    pub fn at_size(self, hash: u64, len: usize, limit: usize) -> Search
+        requires searching { IsSearching self }
+        requires size { IsSize len limit }
+        ensures value { result ≡ at_size self hash len limit }
+        ensures searching { IsSearching result }
+    {
+        match self {
+            Search::Sizing(table) => Search::Looking(Place::first(hash, table, len, limit)),
+            search => search,
+        }
+    }
+
+    /// This word was loaded.
+    #[inline]
+    pub fn at_word(self, hash: u64, word: u64) -> Seen
+        requires { IsSearching self }
+        ensures value { result ≡ at_word self hash word }
+        ensures seen { IsSeen result }
+    {
+        match self {
+            Search::Looking(place) => place.look(hash, word),
+            search => Seen::On(search),
+        }
+    }
+
+    /// The keys match, or they do not. A pair that was copied has to be looked for further on.
+    #[inline]
+    pub fn at_yes(self, yes: bool) -> Seen
+        requires { IsSearching self }
+        ensures value { result ≡ at_yes self yes }
+        ensures seen { IsSeen result }
+    {
+        match self {
+            Search::Comparing(place, word) => {
+                if !yes {
+                    place.go_on()
+                } else if Word(word).kind() == Kind::Copied {
+                    Seen::Over(place.table)
+                } else {
+                    Seen::Here(place, word)
+                }
+            }
+            search => Seen::On(search),
+        }
+    }
+}

@@ -1,0 +1,58 @@
+//! The write of an insertion at one place.
+ghost use Rattle.std.specs.Prelude.{◌≡◌};
+ghost use Rattle.papaya_call.specs.Write.{IsMade, write_ask, write_kind};
+
+use papaya_words::word::{Word, h2};
+
+use crate::ask::{Ask, At, StepKind};
+use crate::search::Place;
+
+/// What a call has made so far. A key and a pair are made once a call, before the first word that
+/// names the pair, and serve each exchange that it tries.
+#[derive(Clone, Copy, Debug, PartialEq, Eq)]
+pub enum Made {
+    Nothing,
+    /// The key is logged.
+    Key,
+    /// The pair of this number is logged.
+    Pair(u64),
+}
+
+/// A pair is to stand at this place, in place of the word that was found there.
+#[derive(Clone, Copy, Debug, PartialEq, Eq)]
+pub struct Write {
+    pub place: Place,
+    /// 0, or a word that names a pair with a matching key.
+    pub old: u64,
+}
+
+impl Write {
+    /// What is asked next: a key, then a pair, then the exchange.
+    #[inline]
+    pub fn ask(self, made: Made, hash: u64) -> Ask
+        requires { IsMade made }
+        ensures { result ≡ write_ask self made hash }
+    {
+        match made {
+            Made::Nothing => Ask::MakeKey,
+            Made::Key => Ask::MakePair,
+            Made::Pair(pair) => Ask::Exchange(
+                At::Slot(self.place.table, self.place.probe.i),
+                self.old,
+                Word::live(h2(hash), pair).0,
+            ),
+        }
+    }
+
+    /// The kind of the exchange.
+    #[inline]
+    pub fn kind(self) -> StepKind
+        ensures { result ≡ write_kind self }
+    {
+        if self.old == 0 {
+            StepKind::Claim
+        } else {
+            StepKind::Replace
+        }
+    }
+}

@@ -1,0 +1,128 @@
+//! The callers, and the calls that they have under way.
+ghost use Rattle.std.specs.Prelude.{◌≡◌, ◌≢◌, ℕ, ◌<◌, ◌↔◌, length, [], ◌∷◌, ◌++◌, None, Some, is_some, IsSome, OnOk, OnErr, IfErr, slice_get, slice_set, EachIndex};
+ghost use Rattle.papaya_core.specs.Callers.{running, with_call, with_seat, IsSeated, IsSeatAt};
+
+use std::alloc::Global;
+use std::marker::Model;
+
+use papaya_words::probe::Refused;
+
+use crate::pairs::Running;
+
+/// A caller that has begun a call at some time, and the call that it has under way.
+#[derive(Drop)]
+pub struct Seat<K, V> {
+    pub caller: usize,
+    pub call: Option<Running<K, V>>,
+}
+
+/// The callers that ever began a call, in the order of their first begins. A large number of a
+/// caller takes no more memory than a small one.
+#[derive(Drop)]
+pub struct Callers<K, V> {
+    seats: Vec<Seat<K, V>>,
+}
+
+impl<K, V> Model for Callers<K, V> {
+    ghost use Rattle.std.specs.Prelude.{List};
+    ghost use Rattle.papaya_core.specs.declared.callers.Seat.{Seat};
+
+    ghost Value = { List (Seat K V) };
+
+    ghost view = { λ c. c.seats.items };
+}
+
+/// The first place among the seats with this caller, or their number.
+fn place_of<K, V>(seats: &[Seat<K, V>], caller: usize) -> usize
+    ensures { IsSeatAt seats.now caller result }
+{
+    for (place, seat) in seats.iter().enumerate() {
+        if seat.caller == caller {
+            return place;
+        }
+    }
+    seats.len()
+}
+
+/// Adds a seat.
+fn add_seat<K: Drop, V: Drop>(seats: &mut Vec<Seat<K, V>>, caller: usize) -> Result<(), Refused>
+    ensures ok { OnOk result (seats.new.items ≡ seats.old.items ++ record { caller = caller; call = None } ∷ []) }
+    ensures err { IfErr result (λ e. (e ≡ Refused.Memory) × (seats.new.items ≡ seats.old.items)) }
+{
+    match seats.push(Seat { caller, call: None }) {
+        Ok(()) => Ok(()),
+        Err(_) => Err(Refused::Memory),
+    }
+}
+
+/// Takes a call out of a seat.
+fn take_call<K, V>(seats: &mut Vec<Seat<K, V>>, place: usize) -> Option<Running<K, V>>
+    requires { place < length seats.old.items }
+    ensures seat { (seat : Seat K V) → slice_get seats.old.items place ≡ Some seat → (result ≡ seat.call) × (seats.new.items ≡ slice_set seats.old.items place (record seat { call = None })) }
+{
+    seats[place].call.take()
+}
+
+/// Puts a call into a seat.
+fn put_call<K: Drop, V: Drop>(seats: &mut Vec<Seat<K, V>>, place: usize, running: Running<K, V>)
+    requires { place < length seats.old.items }
+    ensures { (seat : Seat K V) → slice_get seats.old.items place ≡ Some seat → seats.new.items ≡ slice_set seats.old.items place (record seat { call = Some running }) }
+{
+    seats[place].call = Some(running);
+}
+
+impl<K: Drop, V: Drop> Callers<K, V> {
+    /// No callers.
+    pub fn new(alloc: Global) -> Callers<K, V>
+        ensures { result ≡ [] }
+    {
+        Callers {
+            seats: Vec::new(alloc),
+        }
+    }
+
+    /// Is this caller in a call?
+    pub fn is_running(&self, caller: usize) -> bool
+        ensures { result ≡ is_some (running self.now caller) }
+    {
+        match self.seats.get(place_of(&self.seats, caller)) {
+            Some(seat) => seat.call.is_some(),
+            None => false,
+        }
+    }
+
+    /// Makes a seat for this caller, where it has none.
+    pub fn seat(&mut self, caller: usize) -> Result<(), Refused>
+        ensures ok { OnOk result ((self.new ≡ with_seat self.old caller) × IsSeated self.new caller) }
+        ensures err { IfErr result (λ e. (e ≡ Refused.Memory) × (self.new ≡ self.old)) }
+    {
+        if place_of(&self.seats, caller) < self.seats.len() {
+            return Ok(());
+        }
+        add_seat(&mut self.seats, caller)?;
+        Ok(())
+    }
+
+    /// Takes the call of a caller that is in one.
+    pub fn take(&mut self, caller: usize) -> Running<K, V>
+        requires { IsSome (running self.old caller) }
+        ensures call { running self.old caller ≡ Some result }
+        ensures taken { self.new ≡ with_call self.old caller None }
+        ensures seat { IsSeated self.new caller }
+    {
+        let place = place_of(&self.seats, caller);
+        match take_call(&mut self.seats, place) {
+            Some(running) => running,
+            None => unreachable!(),
+        }
+    }
+
+    /// Gives a caller that has a seat this call.
+    pub fn put(&mut self, caller: usize, running: Running<K, V>)
+        requires { IsSeated self.old caller }
+        ensures { self.new ≡ with_call self.old caller (Some running) }
+    {
+        let place = place_of(&self.seats, caller);
+        put_call(&mut self.seats, place, running);
+    }
+}

@@ -1,0 +1,6 @@
+//! The map on plain words, under any schedule of any number of callers' steps.
+#![tactic(auto)]
+
+pub mod callers;
+pub mod pairs;
+pub mod trace;

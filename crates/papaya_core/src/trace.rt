@@ -1,0 +1,45 @@
+//! Schedules, and what happened in them.
+use papaya_call::ask::StepKind;
+use papaya_call::call::{Call, Reply};
+
+/// A turn of a schedule.
+#[derive(Drop)]
+pub enum Turn<K, V> {
+    /// This caller begins a call.
+    Begin(usize, Call<K, V>),
+    /// This caller makes a step, with memory or, where the second is true, without.
+    Step(usize, bool),
+    /// This caller makes as many steps with memory as its call needs, and at most so many.
+    Finish(usize, usize),
+}
+
+/// What happened at one moment. Pairs are named by number.
+#[derive(Clone, Copy, Debug, PartialEq, Eq)]
+pub enum Event {
+    /// A call began.
+    Begun,
+    /// An exchange changed the map: the pair that went, and the one that came.
+    Changed(StepKind, Option<u64>, Option<u64>),
+    /// An exchange left the map as it was.
+    Moved(StepKind),
+    /// A step changed no word.
+    Other,
+    /// The call replied.
+    Replied(Reply),
+}
+
+/// What happened at one moment to one caller.
+#[derive(Clone, Copy, Debug, PartialEq, Eq)]
+pub struct Entry {
+    /// The turn's place in the schedule.
+    pub turn: usize,
+    pub caller: usize,
+    pub event: Event,
+}
+
+/// What happened in a run, in order. A begin has one entry. A step has one for its ask, and a
+/// second where it gave the reply.
+#[derive(Debug, Drop)]
+pub struct Trace {
+    pub entries: Vec<Entry>,
+}
