@@ -142,9 +142,12 @@ pub fn table_len(asked: usize) -> usize
 }
 
 /// The length at which the table after one of `len` slots is asked for, where the
-/// map counts `count` pairs and `initial` is its initial capacity. `did_not_fit`
-/// says that a pair found no place, or that the table before was aborted: then it
-/// doubles whatever the count, which may lag behind callers that were stopped.
+/// map counts `count` pairs and `initial` is its initial capacity. It doubles from
+/// half full on, and halves up to an eighth, but not below `initial`.
+///
+/// `did_not_fit` says that a pair found no place, or that the table before was
+/// aborted: then it doubles whatever the count, which may lag behind any number of
+/// stopped callers.
 ///
 /// `Refused::Capacity` where it would pass [`MAX_TABLE_LEN`].
 pub fn next_len(
