@@ -1,8 +1,7 @@
 -- The places of a search: how one follows another, and that they differ.
-use Rattle.std.proofs.Common.{◌≡◌, ℕ, zero, suc, ◌+◌, ◌-◌, ◌*◌, ◌/◌, ◌%◌, ◌^◌, ◌<◌, ◌≤◌, ◌⊎◌, inl, inr, refl, sym, ◌∙◌, ap, subst, arith, add_assoc}
-use Rattle.std.proofs.Math.Nat.{add-mul, mul-zero, mul-suc, mul_assoc, mul_left_comm, mul-sub, mul_comm, mod-add-mod, mod-lt, div-add-mod, pow-succ'}
+use Rattle.std.proofs.Common.{◌≡◌, ℕ, zero, suc, ◌+◌, ◌-◌, ◌*◌, ◌/◌, ◌%◌, ◌^◌, ◌<◌, ◌≤◌, ◌⊎◌, inl, inr, refl, sym, ◌∙◌, ap, arith, add_assoc}
+use Rattle.std.proofs.Math.Nat.{mul-zero, mul-suc, mul_assoc, mul_left_comm, mul-sub, mul_comm, mod-add-mod, mod-lt, div-add-mod, pow-succ'}
 use Rattle.std.proofs.lemmas.Bool.{cases_lt, cases_order}
-use Rattle.std.proofs.lemmas.Nat.{pow_pos}
 use Rattle.std.specs.Int.{IsPowerOfTwo}
 use Rattle.papaya_words.specs.Probe.{place, triangular}
 
