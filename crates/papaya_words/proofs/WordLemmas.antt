@@ -1,5 +1,5 @@
--- What a word says is what it was made of.
-use Rattle.std.proofs.Common.{◌≡◌, ℕ, ◌+◌, ◌*◌, ◌/◌, ◌%◌, ◌<◌, ◌≢◌, ap, refl, subst, sym, arith}
+-- What a word says is what it was made of, and what the steps of a slot keep.
+use Rattle.std.proofs.Common.{◌≡◌, ℕ, ◌%◌, ◌<◌, ◌≢◌, ap, refl, subst, sym, arith}
 use Rattle.std.proofs.lemmas.Grind.{common_steps}
 use Rattle.papaya_words.specs.Word.{kind_of, kind_of_code, byte_of, pair_of, filled_word, live_word, marked_word, copied_word, buried_word, MayBecome, IsSlotStep}
 use Rattle.papaya_words.specs.declared.word.Kind.{Kind}

@@ -3,7 +3,7 @@ ghost use Rattle.std.specs.Prelude.{◌≡◌, ℕ, ◌+◌, ◌*◌, ◌%◌, �
 ghost use Rattle.papaya_words.specs.Word.{kind_of, kind_of_code, byte_of, pair_of, filled_word, live_word, marked_word, copied_word, buried_word, top_byte, IsSlotStep};
 ghost use Rattle.papaya_words.specs.declared.word.Kind.TheVariants.{Empty, Live, Marked, Copied, Buried, Closed};
 
-/// What a slot word says.
+/// What a slot word says. Its code in the word is its place in this list, from 0.
 #[derive(Clone, Copy, Debug, PartialEq, Eq)]
 pub enum Kind {
     /// Nothing was ever here.
@@ -103,6 +103,9 @@ impl Word {
 
 /// Whether one step may put `new` where `old` stands in a slot. Nothing makes a
 /// slot Empty again, and a slot that was filled keeps its hash byte.
+///
+/// The words show neither whose keys are equal nor which of two steps an Empty
+/// slot was filled by: those are conditions of the steps, not of the words.
 pub fn legal(old: Word, new: Word) -> bool
     ensures steps { IsTrue result ↔ IsSlotStep old.0 new.0 }
     ensures not_empty { IsTrue result → kind_of new.0 ≢ Empty }
