@@ -1,0 +1,8 @@
+use Rattle.papaya_call.proofs.rests.stays.Goals as goal
+use Rattle.papaya_call.proofs.RestsStay.{rests_stays}
+
+pub returns-clause-exchanges : goal.returns-clause-exchanges
+returns-clause-exchanges g c = λ s c' hashed begun since es may k m hands rests. rests_stays s c' hashed begun since es may k m hands rests
+
+pub returns-clause-tables : goal.returns-clause-tables
+returns-clause-tables g c = ?
