@@ -1,3 +1,4 @@
 pub mod Law
 pub mod RestsNames
 pub mod RestsStay
+pub mod RestsTables

@@ -1,7 +1,7 @@
 -- A machine names only tables of the chain, and slots within them.
 use Rattle.std.proofs.Common.{◌≡◌, ◌⊎◌, inl, inr, ⊎_elim, ℕ, ◌<◌, List, ◌++◌, append_assoc, sym, ap, ◌∙◌, subst}
-use Rattle.papaya_call.specs.declared.ask.At.{At}
 use Rattle.papaya_call.specs.declared.ask.At.TheVariants.{Next, Slot}
+use Rattle.papaya_call.specs.declared.ask.Ask.{Ask}
 use Rattle.papaya_call.specs.declared.ask.Ask.TheVariants.{Load, Exchange as Ask_exchange, SizeOf}
 use Rattle.papaya_call.specs.declared.call.Task.{Task}
 use Rattle.papaya_call.specs.declared.call.Task.TheVariants.{Get, Insert}
@@ -56,80 +56,44 @@ module _ {K P : Type 0} (g : Setting K P) (c : Coding K P) (h : IsHashed g c) (b
   leaving_on Get t r = come_on t r.1
   leaving_on (Insert replace) t r = come_on t r.0
 
-  -- a place is a slot of a table of the chain
-  place_on : (at : Place) (t x : ℕ) → IsAt g c begun since k at → at.table ≡ t → at.probe.i ≡ x → OnChain t × (x < g.size t)
-  place_on at t x r is i = (
-    subst OnChain is (come_on at.table r.come),
-    subst (λ y. x < g.size y) is (subst (λ y. y < g.size at.table) (sym r.slot ∙ i) (h.lawful.within k at.table at.probe.len r.within)),
-  )
+  -- the table is on the chain, and has the slot
+  abbrev pub HasSlot : ℕ → ℕ → Type 0
+  HasSlot t x = OnChain t × (x < g.size t)
 
-  -- so is the place of a write
-  write_on : (task : Task) (write : Write) (t x : ℕ) → RestsWriting g c begun since k task write → write.place.table ≡ t → write.place.probe.i ≡ x → OnChain t × (x < g.size t)
-  write_on Get write t x r is i = absurd r
-  write_on (Insert replace) write t x r is i = place_on write.place t x r.stands is i
+  -- what an ask names is on the chain, and within
+  abbrev pub IsNamed : Ask → Type 0
+  IsNamed (SizeOf t) = OnChain t
+  IsNamed (Load (Next t)) = OnChain t
+  IsNamed (Load (Slot t x)) = HasSlot t x
+  IsNamed (Ask_exchange (Slot t x) old new) = HasSlot t x
+  IsNamed _ = Unit {0}
+
+  -- the place of a search
+  place_within : (at : Place) → IsAt g c begun since k at → HasSlot at.table at.probe.i
+  place_within at r = (come_on at.table r.come, subst (λ y. y < g.size at.table) (sym r.slot) (h.lawful.within k at.table at.probe.len r.within))
+
+  -- the place of a write
+  write_within : (task : Task) (write : Write) → RestsWriting g c begun since k task write → HasSlot write.place.table write.place.probe.i
+  write_within Get write r = absurd r
+  write_within (Insert replace) write r = place_within write.place r.stands
 
   module _ (hands : Hands P) (task : Task) (hash : ℕ) where
-    -- a table whose size is asked for
-    pub size_named : (made : Made) (stage : Stage) → RestsStage g c begun since k hands task stage → (t : ℕ) → asks made hash stage ≡ SizeOf t → OnChain t
-    size_named made AtRoot r t e = absurd cc
-    size_named made Making r t e = absurd cc
-    size_named made (Opening u) r t e = absurd cc
-    size_named made (Searching (Sizing u)) r t e = let is : u ≡ t = cc in subst OnChain is (come_on u r)
-    size_named made (Searching (Looking at)) r t e = absurd cc
-    size_named made (Searching (Comparing at word)) r t e = absurd cc
-    size_named Nothing (Writing write) r t e = absurd cc
-    size_named Key (Writing write) r t e = absurd cc
-    size_named (Pair n) (Writing write) r t e = absurd cc
-    size_named made (Counting n) r t e = absurd cc
-    size_named made (Leaving u) r t e = absurd cc
-    size_named made (Ended reply) r t e = absurd cc
+    -- of each stage's ask
+    pub ask_named : (made : Made) (stage : Stage) → RestsStage g c begun since k hands task stage → IsNamed (asks made hash stage)
+    ask_named made AtRoot r = tt
+    ask_named made Making r = tt
+    ask_named made (Opening t) r = tt
+    ask_named made (Searching (Sizing t)) r = come_on t r
+    ask_named made (Searching (Looking at)) r = place_within at r
+    ask_named made (Searching (Comparing at word)) r = tt
+    ask_named Nothing (Writing write) r = tt
+    ask_named Key (Writing write) r = tt
+    ask_named (Pair n) (Writing write) r = write_within task write r
+    ask_named made (Counting n) r = tt
+    ask_named made (Leaving t) r = leaving_on task t r
+    ask_named made (Ended reply) r = tt
 
-    -- a table whose next one is loaded
-    pub next_named : (made : Made) (stage : Stage) → RestsStage g c begun since k hands task stage → (t : ℕ) → asks made hash stage ≡ Load (Next t) → OnChain t
-    next_named made AtRoot r t e = absurd cc
-    next_named made Making r t e = absurd cc
-    next_named made (Opening u) r t e = absurd cc
-    next_named made (Searching (Sizing u)) r t e = absurd cc
-    next_named made (Searching (Looking at)) r t e = absurd cc
-    next_named made (Searching (Comparing at word)) r t e = absurd cc
-    next_named Nothing (Writing write) r t e = absurd cc
-    next_named Key (Writing write) r t e = absurd cc
-    next_named (Pair n) (Writing write) r t e = absurd cc
-    next_named made (Counting n) r t e = absurd cc
-    next_named made (Leaving u) r t e = let is : u ≡ t = cc in subst OnChain is (leaving_on task u r)
-    next_named made (Ended reply) r t e = absurd cc
-
-    -- a slot that is loaded
-    load_named : (made : Made) (stage : Stage) → RestsStage g c begun since k hands task stage → (t x : ℕ) → asks made hash stage ≡ Load (Slot t x) → OnChain t × (x < g.size t)
-    load_named made AtRoot r t x e = absurd cc
-    load_named made Making r t x e = absurd cc
-    load_named made (Opening u) r t x e = absurd cc
-    load_named made (Searching (Sizing u)) r t x e = absurd cc
-    load_named made (Searching (Looking at)) r t x e = let is : at.table ≡ t = cc in let i : at.probe.i ≡ x = cc in place_on at t x r is i
-    load_named made (Searching (Comparing at word)) r t x e = absurd cc
-    load_named Nothing (Writing write) r t x e = absurd cc
-    load_named Key (Writing write) r t x e = absurd cc
-    load_named (Pair n) (Writing write) r t x e = absurd cc
-    load_named made (Counting n) r t x e = absurd cc
-    load_named made (Leaving u) r t x e = absurd cc
-    load_named made (Ended reply) r t x e = absurd cc
-
-    -- a slot whose word is exchanged
-    exchange_named : (made : Made) (stage : Stage) → RestsStage g c begun since k hands task stage → (t x old new : ℕ) → asks made hash stage ≡ Ask_exchange (Slot t x) old new → OnChain t × (x < g.size t)
-    exchange_named made AtRoot r t x old new e = absurd cc
-    exchange_named made Making r t x old new e = absurd cc
-    exchange_named made (Opening u) r t x old new e = absurd cc
-    exchange_named made (Searching (Sizing u)) r t x old new e = absurd cc
-    exchange_named made (Searching (Looking at)) r t x old new e = absurd cc
-    exchange_named made (Searching (Comparing at word)) r t x old new e = absurd cc
-    exchange_named Nothing (Writing write) r t x old new e = absurd cc
-    exchange_named Key (Writing write) r t x old new e = absurd cc
-    exchange_named (Pair n) (Writing write) r t x old new e = let is : write.place.table ≡ t = cc in let i : write.place.probe.i ≡ x = cc in write_on task write t x r is i
-    exchange_named made (Counting n) r t x old new e = absurd cc
-    exchange_named made (Leaving u) r t x old new e = absurd cc
-    exchange_named made (Ended reply) r t x old new e = absurd cc
-
-    -- of both
-    pub slot_named : (made : Made) (stage : Stage) → RestsStage g c begun since k hands task stage → (t x : ℕ) → (asks made hash stage ≡ Load (Slot t x)) ⊎ ((old : ℕ) × (new : ℕ) × (asks made hash stage ≡ Ask_exchange (Slot t x) old new)) → OnChain t × (x < g.size t)
-    slot_named made stage r t x (inl e) = load_named made stage r t x e
-    slot_named made stage r t x (inr (old, new, e)) = exchange_named made stage r t x old new e
+  -- a slot that is loaded or exchanged
+  pub slot_named : (ask : Ask) → IsNamed ask → (t x : ℕ) → (ask ≡ Load (Slot t x)) ⊎ ((old : ℕ) × (new : ℕ) × (ask ≡ Ask_exchange (Slot t x) old new)) → HasSlot t x
+  slot_named ask r t x (inl e) = subst IsNamed e r
+  slot_named ask r t x (inr (old, new, e)) = subst IsNamed e r
