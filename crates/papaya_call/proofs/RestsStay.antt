@@ -1,15 +1,9 @@
 -- What a machine rests on stays so, whatever others exchange.
-use Rattle.std.proofs.Common.{◌≡◌, inl, inr, ⊎_elim, ℕ, Bool, true, false, Option, None, Some, List, ◌++◌, append_assoc, refl, sym, ap, ◌∙◌, subst}
-use Rattle.papaya_call.specs.declared.call.Reply.{Reply}
-use Rattle.papaya_call.specs.declared.call.Reply.TheVariants.{Absent, Found, Inserted, Replaced, Occupied, Refused as Reply_refused}
+use Rattle.std.proofs.Common.{◌≡◌, inl, inr, ⊎_elim, ℕ, Bool, true, Option, Some, List, ◌++◌, append_assoc, refl, sym, ap, ◌∙◌, subst}
 use Rattle.papaya_call.specs.declared.call.Task.{Task}
 use Rattle.papaya_call.specs.declared.call.Task.TheVariants.{Get, Insert}
 use Rattle.papaya_call.specs.declared.search.Place.{Place}
-use Rattle.papaya_call.specs.declared.search.Search.{Search}
-use Rattle.papaya_call.specs.declared.search.Search.TheVariants.{Sizing, Looking, Comparing}
 use Rattle.papaya_call.specs.declared.write.Write.{Write}
-use Rattle.papaya_call.specs.declared.machine.State.{State as Stage}
-use Rattle.papaya_call.specs.declared.machine.State.TheVariants.{AtRoot, Making, Opening, Searching, Writing, Counting, Leaving, Ended}
 use Rattle.papaya_call.specs.declared.machine.Machine.{Machine}
 use Rattle.papaya_call.specs.Law.Exchange.{Setting, Exchange, run, start}
 use Rattle.papaya_call.specs.Law.View.{look, own}
@@ -17,9 +11,10 @@ use Rattle.papaya_call.specs.Law.Allows.{AllAllowed}
 use Rattle.papaya_call.specs.Law.Later.{IsLater, IsLasting}
 use Rattle.papaya_call.specs.Law.Code.{Coding}
 use Rattle.papaya_call.specs.Told.{Hands, IsHashed}
-use Rattle.papaya_call.specs.Rests.{now, HasComeTo, IsAt, HasMet, MayWrite, WasAtMoment, RestsWriting, RestsSearch, HasNoPlace, RestsLeaving, HadPair, IsReply, RestsStage, Rests}
+use Rattle.papaya_call.specs.Rests.{now, HasComeTo, IsAt, HasMet, MayWrite, WasAtMoment, HasNoPlace, RestsLeaving, Rests}
 use Rattle.papaya_call.proofs.Law.Later.{Sees, becomes_through, own_sees, sees_later}
 use Rattle.papaya_call.proofs.Law.OneMap.{lasting, later}
+use Rattle.papaya_call.proofs.RestsCarried.{rests_carried}
 
 module _ {K P : Type 0} (g : Setting K P) (c : Coding K P) (h : IsHashed g c) (begun since es : List (Exchange P)) (may : AllAllowed g start (begun ++ (since ++ es))) (k : K) where
   -- the exchanges in two lists, those of before and those since then
@@ -93,17 +88,6 @@ module _ {K P : Type 0} (g : Setting K P) (c : Coding K P) (h : IsHashed g c) (b
     old = ⊎_elim (λ e. inl e) (λ e. inr (e.0, e.1, own_stays write.place.table write.place.probe.len e.2)) r.old;
   }
 
-  -- so of a task
-  writing_stays : (task : Task) (write : Write) → RestsWriting g c begun since k task write → RestsWriting g c begun (since ++ es) k task write
-  writing_stays Get write r = r
-  writing_stays (Insert replace) write r = write_stays replace write r
-
-  -- the search
-  search_stays : (hands : Hands P) (search : Search) → RestsSearch g c begun since k hands search → RestsSearch g c begun (since ++ es) k hands search
-  search_stays hands (Sizing t) r = come_stays t r
-  search_stays hands (Looking at) r = at_stays at r
-  search_stays hands (Comparing at word) r = (r.0, r.1, met_stays at word r.0 r.2)
-
   -- a pair that was being copied is so still, or it is copied and the table passed
   no_place_stays : (t : ℕ) → HasNoPlace g c begun since k t → HasNoPlace g c begun (since ++ es) k t
   no_place_stays t (inl pass) = inl (state_lasts.passed k t pass)
@@ -115,38 +99,9 @@ module _ {K P : Type 0} (g : Setting K P) (c : Coding K P) (h : IsHashed g c) (b
   leaving_stays Get t r = (r.0, come_stays t r.1, state_lasts.passed k t r.2)
   leaving_stays (Insert replace) t r = (come_stays t r.0, no_place_stays t r.1)
 
-  -- the map had the pair
-  had_stays : (n : ℕ) → HadPair g c begun since k n → HadPair g c begun (since ++ es) k n
-  had_stays n r = (r.0, r.1, moment_stays (Some r.0) r.2)
-
-  -- a reply fits still
-  reply_stays : (hands : Hands P) (task : Task) (reply : Reply) → IsReply g c begun since k hands task reply → IsReply g c begun (since ++ es) k hands task reply
-  reply_stays hands Get Absent r = moment_stays None r
-  reply_stays hands Get (Found n) r = had_stays n r
-  reply_stays hands Get (Inserted n) r = r
-  reply_stays hands Get (Replaced m n) r = r
-  reply_stays hands Get (Occupied n) r = r
-  reply_stays hands Get (Reply_refused refused) r = r
-  reply_stays hands (Insert replace) Absent r = r
-  reply_stays hands (Insert replace) (Found n) r = r
-  reply_stays hands (Insert replace) (Inserted n) r = r
-  reply_stays hands (Insert true) (Replaced m n) r = r
-  reply_stays hands (Insert false) (Replaced m n) r = r
-  reply_stays hands (Insert true) (Occupied n) r = r
-  reply_stays hands (Insert false) (Occupied n) r = had_stays n r
-  reply_stays hands (Insert replace) (Reply_refused refused) r = r
-
-  -- each stage
-  stage_stays : (hands : Hands P) (task : Task) (stage : Stage) → RestsStage g c begun since k hands task stage → RestsStage g c begun (since ++ es) k hands task stage
-  stage_stays hands task AtRoot r = r
-  stage_stays hands task Making r = r
-  stage_stays hands task (Opening t) r = r
-  stage_stays hands task (Searching search) r = search_stays hands search r
-  stage_stays hands task (Writing write) r = writing_stays task write r
-  stage_stays hands task (Counting n) r = r
-  stage_stays hands task (Leaving t) r = leaving_stays task t r
-  stage_stays hands task (Ended reply) r = reply_stays hands task reply r
-
   -- the machine rests on what it rested on
   pub rests_stays : (m : Machine) (hands : Hands P) → Rests g c begun since k m hands → Rests g c begun (since ++ es) k m hands
-  rests_stays m hands r = record { hash = r.hash; mode = r.mode; made = r.made; stage = stage_stays hands m.task m.state r.stage }
+  rests_stays m hands r =
+      rests_carried g g c begun since (since ++ es) k
+      (record { mode = refl; key = λ p. refl; moment = moment_stays; come = come_stays; stands = at_stays; met = met_stays; write = write_stays; leaving = leaving_stays })
+      hands m r

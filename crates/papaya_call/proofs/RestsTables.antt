@@ -1,21 +1,13 @@
 -- What a machine rests on stays so, whatever tables come later.
-use Rattle.std.proofs.Common.{◌≡◌, inl, inr, ⊎_elim, ℕ, ◌<◌, Bool, true, false, Option, None, Some, List, ◌++◌, refl, sym, ap, ◌∙◌, subst}
+use Rattle.std.proofs.Common.{◌≡◌, inl, inr, ⊎_elim, ℕ, ◌<◌, Bool, Option, None, Some, List, ◌++◌, refl, sym, ap, ◌∙◌, subst}
 use Rattle.papaya_words.specs.Word.{top_byte, live_word, marked_word, copied_word, buried_word}
-use Rattle.papaya_call.specs.declared.call.Reply.{Reply}
-use Rattle.papaya_call.specs.declared.call.Reply.TheVariants.{Absent, Found, Inserted, Replaced, Occupied, Refused as Reply_refused}
 use Rattle.papaya_call.specs.declared.call.Task.{Task}
 use Rattle.papaya_call.specs.declared.call.Task.TheVariants.{Get, Insert}
 use Rattle.papaya_call.specs.declared.search.Place.{Place}
-use Rattle.papaya_call.specs.declared.search.Search.{Search}
-use Rattle.papaya_call.specs.declared.search.Search.TheVariants.{Sizing, Looking, Comparing}
-use Rattle.papaya_call.specs.declared.write.Made.{Made}
-use Rattle.papaya_call.specs.declared.write.Made.TheVariants.{Nothing, Key, Pair}
 use Rattle.papaya_call.specs.declared.write.Write.{Write}
-use Rattle.papaya_call.specs.declared.machine.State.{State as Stage}
-use Rattle.papaya_call.specs.declared.machine.State.TheVariants.{AtRoot, Making, Opening, Searching, Writing, Counting, Leaving, Ended}
 use Rattle.papaya_call.specs.declared.machine.Machine.{Machine}
-use Rattle.papaya_call.specs.Law.Exchange.{Word, Empty, Closed, Live, Marked, Copied, Buried, Setting, Exchange, run, start}
-use Rattle.papaya_call.specs.Law.View.{Leaving as View_leaving, held, own, beyond, look, IsPassed}
+use Rattle.papaya_call.specs.Law.Exchange.{Word, Empty, Closed, Live, Marked, Copied, Buried, Setting, Exchange, start}
+use Rattle.papaya_call.specs.Law.View.{held, own, beyond, look, IsPassed}
 use Rattle.papaya_call.specs.Law.Class.{IsOn}
 use Rattle.papaya_call.specs.Law.Allows.{AllAllowed}
 use Rattle.papaya_call.specs.Law.Meaning.{map_left, map_of}
@@ -23,10 +15,11 @@ use Rattle.papaya_call.specs.Law.Invariant.{IsSound}
 use Rattle.papaya_call.specs.Law.Code.{Coding, byte_of_pair, code}
 use Rattle.papaya_call.specs.Law.Grows.{Agrees}
 use Rattle.papaya_call.specs.Told.{Hands, IsHashed}
-use Rattle.papaya_call.specs.Rests.{IsModeOf, now, HasComeTo, IsAt, HasMet, MayWrite, WasAtMoment, RestsWriting, RestsMade, RestsSearch, HasNoPlace, RestsLeaving, HadPair, IsReply, RestsStage, Rests}
+use Rattle.papaya_call.specs.Rests.{now, HasComeTo, IsAt, HasMet, MayWrite, WasAtMoment, HasNoPlace, RestsLeaving, Rests}
 use Rattle.papaya_call.proofs.Law.Carries.{look_agrees, view_agrees, passed_carries}
 use Rattle.papaya_call.proofs.Law.Grows.{becomes_carries, map_of_carries, reached_carries}
 use Rattle.papaya_call.proofs.Law.OneMap.{sound}
+use Rattle.papaya_call.proofs.RestsCarried.{rests_carried}
 use Rattle.papaya_call.proofs.RestsNames.{OnChain, come_on}
 
 module _ {K P : Type 0} (g g' : Setting K P) (c : Coding K P) (h : IsHashed g c) (begun since : List (Exchange P)) (may : AllAllowed g start (begun ++ since)) (k : K)
@@ -103,17 +96,6 @@ module _ {K P : Type 0} (g g' : Setting K P) (c : Coding K P) (h : IsHashed g c)
     old = ⊎_elim (λ e. inl e) (λ e. inr (e.0, e.1, ap (λ V. own (V write.place.table write.place.probe.len)) sees_same ∙ e.2)) r.old;
   }
 
-  -- so of a task
-  writing_carries : (task : Task) (write : Write) → RestsWriting g c begun since k task write → RestsWriting g' c begun since k task write
-  writing_carries Get write r = r
-  writing_carries (Insert replace) write r = write_carries replace write r
-
-  -- the search
-  search_carries : (hands : Hands P) (search : Search) → RestsSearch g c begun since k hands search → RestsSearch g' c begun since k hands search
-  search_carries hands (Sizing t) r = come_carries t r
-  search_carries hands (Looking at) r = at_carries at r
-  search_carries hands (Comparing at word) r = (r.0, r.1, met_carries at word r.0 r.2)
-
   -- a passed table of the chain
   table_passed : (t : ℕ) → HasComeTo g c begun since k t → IsPassed g.places (look g (now g c begun since k) k) t → IsPassed g'.places (look g' (now g c begun since k) k) t
   table_passed t r pass = passed_carries g g' (now g c begun since k) kept agrees (look g (now g c begun since k) k) (look g' (now g c begun since k) k) sees_same t (come_on g c h begun since may k t r) pass
@@ -128,44 +110,9 @@ module _ {K P : Type 0} (g g' : Setting K P) (c : Coding K P) (h : IsHashed g c)
   leaving_carries Get t r = (agrees.blocking ∙ r.0, come_carries t r.1, table_passed t r.1 r.2)
   leaving_carries (Insert replace) t r = (come_carries t r.0, no_place_carries t r.0 r.1)
 
-  -- the map had the pair
-  had_carries : (n : ℕ) → HadPair g c begun since k n → HadPair g' c begun since k n
-  had_carries n r = (r.0, r.1, moment_carries (Some r.0) r.2)
-
-  -- a reply fits still
-  reply_carries : (hands : Hands P) (task : Task) (reply : Reply) → IsReply g c begun since k hands task reply → IsReply g' c begun since k hands task reply
-  reply_carries hands Get Absent r = moment_carries None r
-  reply_carries hands Get (Found n) r = had_carries n r
-  reply_carries hands Get (Inserted n) r = r
-  reply_carries hands Get (Replaced m n) r = r
-  reply_carries hands Get (Occupied n) r = r
-  reply_carries hands Get (Reply_refused refused) r = r
-  reply_carries hands (Insert replace) Absent r = r
-  reply_carries hands (Insert replace) (Found n) r = r
-  reply_carries hands (Insert replace) (Inserted n) r = r
-  reply_carries hands (Insert true) (Replaced m n) r = r
-  reply_carries hands (Insert false) (Replaced m n) r = r
-  reply_carries hands (Insert true) (Occupied n) r = r
-  reply_carries hands (Insert false) (Occupied n) r = had_carries n r
-  reply_carries hands (Insert replace) (Reply_refused refused) r = r
-
-  -- each stage
-  stage_carries : (hands : Hands P) (task : Task) (stage : Stage) → RestsStage g c begun since k hands task stage → RestsStage g' c begun since k hands task stage
-  stage_carries hands task AtRoot r = r
-  stage_carries hands task Making r = r
-  stage_carries hands task (Opening t) r = r
-  stage_carries hands task (Searching search) r = search_carries hands search r
-  stage_carries hands task (Writing write) r = writing_carries task write r
-  stage_carries hands task (Counting n) r = r
-  stage_carries hands task (Leaving t) r = leaving_carries task t r
-  stage_carries hands task (Ended reply) r = reply_carries hands task reply r
-
-  -- what the call made is a pair of its key
-  made_carries : (hands : Hands P) (made : Made) → RestsMade g c begun since k hands made → RestsMade g' c begun since k hands made
-  made_carries hands Nothing r = r
-  made_carries hands Key r = r
-  made_carries hands (Pair n) r = (r.0, r.1, r.2, agrees.key r.0 ∙ r.3)
-
   -- the machine rests on what it rested on
   pub rests_carries : (m : Machine) (hands : Hands P) → Rests g c begun since k m hands → Rests g' c begun since k m hands
-  rests_carries m hands r = record { hash = r.hash; mode = subst (IsModeOf m.mode) (sym agrees.blocking) r.mode; made = made_carries hands m.made r.made; stage = stage_carries hands m.task m.state r.stage }
+  rests_carries m hands r =
+      rests_carried g g' c begun since since k
+      (record { mode = agrees.blocking; key = agrees.key; moment = moment_carries; come = come_carries; stands = at_carries; met = met_carries; write = write_carries; leaving = leaving_carries })
+      hands m r
