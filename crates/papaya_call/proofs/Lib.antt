@@ -1,3 +1,5 @@
 pub mod Law
 pub mod RestsLearnMoments
 pub mod RestsLearnPlaces
+pub mod RestsLearnLook
+pub mod RestsLearnGoes
