@@ -3,3 +3,4 @@ pub mod RestsLearnMoments
 pub mod RestsLearnPlaces
 pub mod RestsLearnLook
 pub mod RestsLearnGoes
+pub mod RestsExchange
