@@ -4,3 +4,5 @@ pub mod RestsLearnPlaces
 pub mod RestsLearnLook
 pub mod RestsLearnGoes
 pub mod RestsExchange
+pub mod RestsLearnWrites
+pub mod RestsLearn
