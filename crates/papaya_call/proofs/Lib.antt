@@ -6,3 +6,5 @@ pub mod RestsLearnGoes
 pub mod RestsExchange
 pub mod RestsLearnWrites
 pub mod RestsLearn
+pub mod RestsReply
+pub mod RestsReplyRefused
