@@ -1,8 +1,7 @@
 -- The exchange that a machine asks for: where its old word stands there it may be made, and it writes just its word.
-use Rattle.std.proofs.Common.{◌≡◌, ◌⊎◌, inl, inr, ⊎_elim, ℕ, ◌<◌, ◌==◌, eqb-true, eq-eqb, Bool, true, false, cond, Option, None, Some, List, ◌++◌, refl, sym, ap, ◌∙◌, subst}
+use Rattle.std.proofs.Common.{◌≡◌, ◌⊎◌, ⊎_elim, ℕ, ◌<◌, ◌==◌, eqb-true, eq-eqb, Bool, true, false, cond, Option, Some, List, ◌++◌, refl, sym, ap, ◌∙◌, subst}
 use Rattle.papaya_words.specs.Word.{kind_of, live_word, top_byte}
 use Rattle.papaya_words.specs.declared.word.Kind.TheVariants as word_kinds
-use Rattle.papaya_call.specs.declared.ask.Ask.{Ask}
 use Rattle.papaya_call.specs.declared.ask.Ask.TheVariants.{Exchange as Ask_exchange}
 use Rattle.papaya_call.specs.declared.ask.At.{At}
 use Rattle.papaya_call.specs.declared.ask.At.TheVariants.{Root, Next, Aborted, Done, Slot}
@@ -18,8 +17,8 @@ use Rattle.papaya_call.specs.declared.write.Write.{Write}
 use Rattle.papaya_call.specs.declared.machine.Machine.{Machine}
 use Rattle.papaya_call.specs.declared.machine.State.{State as Stage}
 use Rattle.papaya_call.specs.declared.machine.State.TheVariants.{AtRoot, Making, Opening, Searching, Writing, Counting, Leaving, Ended}
-use Rattle.papaya_call.specs.Law.Exchange.{Word, Empty, Live, Setting, State, Exchange, Open, Claim, Replace, after, run, slot_put, start, walk}
-use Rattle.papaya_call.specs.Law.View.{View, Foreign, Here, look, own, beyond, view, IsPassed, IsReached}
+use Rattle.papaya_call.specs.Law.Exchange.{Word, Live, Setting, State, Exchange, Open, Claim, Replace, after, run, slot_put, start, walk}
+use Rattle.papaya_call.specs.Law.View.{Foreign, Here, look, own, beyond, IsPassed, IsReached}
 use Rattle.papaya_call.specs.Law.Allows.{AllAllowed, Allows, MayClaim, MayReplace}
 use Rattle.papaya_call.specs.Law.Code.{Coding, IsOfKind, code}
 use Rattle.papaya_call.specs.Machine.{asks, kind_asked}

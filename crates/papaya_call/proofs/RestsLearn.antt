@@ -1,8 +1,7 @@
 -- After an answer that is true of the words a machine rests again.
-use Rattle.std.proofs.Common.{◌≡◌, ◌⊎◌, inl, inr, ⊎_elim, ℕ, ◌+◌, ◌<◌, ◌≤◌, ◌==◌, eqb-true, Bool, true, false, cond, MatchBool, Option, None, Some, List, [], ◌∷◌, ◌++◌, append-nil, refl, sym, ap, ◌∙◌, subst, arith}
+use Rattle.std.proofs.Common.{◌≡◌, ◌⊎◌, ⊎_elim, ℕ, ◌+◌, ◌<◌, ◌≤◌, ◌==◌, eqb-true, Bool, true, false, cond, MatchBool, Some, List, [], ◌∷◌, ◌++◌, append-nil, refl, sym, ap, ◌∙◌, subst, arith}
 use Rattle.std.proofs.lemmas.Bool.{cases_lt, cond_both, eqb-false}
 use Rattle.papaya_words.specs.Word.{pair_of}
-use Rattle.papaya_words.specs.declared.probe.Refused.TheVariants.{Capacity}
 use Rattle.papaya_call.specs.declared.ask.Answer.{Answer}
 use Rattle.papaya_call.specs.declared.ask.Answer.TheVariants.{Word as Word_read, Exchanged, Found as Found_instead, Yes, Size, Made as Made_number, Ok as Ok_done, Refused as Was_refused}
 use Rattle.papaya_call.specs.declared.call.Reply.TheVariants.{Absent, Inserted, Refused as Reply_refused}
@@ -21,7 +20,7 @@ use Rattle.papaya_call.specs.Law.Allows.{AllAllowed}
 use Rattle.papaya_call.specs.declared.ask.At.TheVariants.{Root, Slot}
 use Rattle.papaya_call.specs.declared.ask.StepKind.TheVariants as kinds
 use Rattle.papaya_call.specs.Law.Code.{Coding, code}
-use Rattle.papaya_call.specs.Machine.{IsWriter, after, ask_of, asks, at_root, kind_asked, kind_of_ask, leaves, goes_as, written}
+use Rattle.papaya_call.specs.Machine.{IsWriter, after, ask_of, asks, at_root, kind_asked, kind_of_ask, leaves, goes_as}
 use Rattle.papaya_call.specs.Search.{first_place, look as look_seen, at_yes}
 use Rattle.papaya_call.specs.Told.{IsHashed, IsAsked, IsTold, IsUnmade, Hands}
 use Rattle.papaya_call.specs.Write.{new_word}
@@ -34,7 +33,7 @@ use Rattle.papaya_call.proofs.RestsLearnGoes.{goes_rests}
 use Rattle.papaya_call.proofs.RestsLearnWrites.{opens, writes}
 
 -- by a test's outcome
-by_test : (b : Bool) (A B R : Type 0) → MatchBool b A B → (b ≡ true → A → R) → (b ≡ false → B → R) → R
+pub by_test : (b : Bool) (A B R : Type 0) → MatchBool b A B → (b ≡ true → A → R) → (b ≡ false → B → R) → R
 by_test true A B R h yes_so not_so = yes_so refl h
 by_test false A B R h yes_so not_so = not_so refl h
 
@@ -172,7 +171,7 @@ module _ {K P : Type 0} (g : Setting K P) (c : Coding K P) (hashed : IsHashed g 
         let number : c.number p ≡ pair_of word = sym (ap pair_of met.loaded ∙ (code_pair g c hashed.coding met.was p met.names).0) in
         quiet (in_stage made (Searching (Comparing at word))) answer (Yes same) es hands' hands (h.0 p r.1 number) h.1.0 h.1.1
         (rests hands made n (goes_as m.task m.mode (at_yes (Comparing at word) same))
-          (goes_rests g c hashed begun since may k hands m.task m.mode mode (at_yes (Comparing at word) same) (compared g c hashed begun since may k at word p met hands same refl)))
+        (goes_rests g c hashed begun since may k hands m.task m.mode mode (at_yes (Comparing at word) same) (compared g c hashed begun since may k at word p met hands same refl)))
     learns_in Nothing n (Writing write) r answer es hands' h =
         ⊎_elim
         (λ u. unmade Nothing n (Writing write) answer es hands' u h.1.0 h.1.1 (λ refused. rests hands Nothing n (Ended (Reply_refused refused)) (refusal_rests hands m.task (writer m.task write r) refused)) (rests hands Nothing n (Writing write) r))

@@ -1,5 +1,5 @@
 -- Where a search ends, the machine rests on what it saw.
-use Rattle.std.proofs.Common.{◌≡◌, ◌⊎◌, inl, inr, ⊎_elim, ℕ, Bool, true, false, cond, Option, None, Some, List, ◌++◌, refl, sym, ap, ◌∙◌, subst}
+use Rattle.std.proofs.Common.{◌≡◌, ◌⊎◌, inl, inr, ⊎_elim, ℕ, true, false, cond, List, ◌++◌, refl, sym, ap, ◌∙◌, subst}
 use Rattle.papaya_words.specs.Word.{kind_of, pair_of}
 use Rattle.papaya_words.specs.declared.word.Kind.TheVariants as kinds
 use Rattle.papaya_words.specs.declared.probe.ResizeMode.{ResizeMode}
@@ -12,12 +12,12 @@ use Rattle.papaya_call.specs.declared.search.Seen.TheVariants as seen
 use Rattle.papaya_call.specs.Law.Exchange.{Word, Live, Marked, Copied, Setting, State, Exchange, run, start}
 use Rattle.papaya_call.specs.Law.View.{Foreign, Here, Leaving, Gone, look, own, held, view}
 use Rattle.papaya_call.specs.Law.Allows.{AllAllowed}
-use Rattle.papaya_call.specs.Law.Code.{Coding, code, kind}
+use Rattle.papaya_call.specs.Law.Code.{Coding, code}
 use Rattle.papaya_call.specs.Machine.{goes_as, found, replaces}
 use Rattle.papaya_call.specs.Told.{IsHashed, Hands}
 use Rattle.papaya_call.specs.Rests.{HadPair, HasMet, HasNoPlace, IsModeOf, RestsStage}
 use Rattle.papaya_call.proofs.Law.Code.{code_kind, code_pair}
-use Rattle.papaya_call.proofs.Law.Later.{Sees, own_sees, sees_later}
+use Rattle.papaya_call.proofs.Law.Later.{own_sees, sees_later}
 use Rattle.papaya_call.proofs.RestsLearnMoments.{empty_here, over_blocking}
 use Rattle.papaya_call.proofs.RestsLearnPlaces.{RestsSeen, sees}
 use Rattle.papaya_call.proofs.RestsLearnLook.{became_of}

@@ -1,20 +1,20 @@
 -- What a search sees in the word that stands at its place, and by comparing the key of the pair that it met.
-use Rattle.std.proofs.Common.{◌≡◌, ◌⊎◌, inl, inr, ⊎_elim, ℕ, ◌==◌, Bool, true, false, cond, Option, None, Some, List, ◌++◌, refl, sym, ap, ◌∙◌, subst}
-use Rattle.std.proofs.lemmas.Bool.{cases_Bool, cond_both}
+use Rattle.std.proofs.Common.{◌≡◌, ◌⊎◌, inl, inr, ⊎_elim, ℕ, ◌==◌, Bool, true, false, cond, Some, List, ◌++◌, refl, sym, ap, ◌∙◌, subst}
+use Rattle.std.proofs.lemmas.Bool.{cond_both}
 use Rattle.papaya_words.specs.Word.{kind_of, byte_of, top_byte}
 use Rattle.papaya_words.specs.declared.word.Kind.TheVariants as kinds
 use Rattle.papaya_call.specs.declared.search.Place.{Place}
 use Rattle.papaya_call.specs.declared.search.Search.TheVariants.{Comparing}
 use Rattle.papaya_call.specs.declared.search.Seen.TheVariants as seen
 use Rattle.papaya_call.specs.Law.Exchange.{Word, Empty, Closed, Live, Marked, Copied, Buried, Setting, State, Exchange, run, start}
-use Rattle.papaya_call.specs.Law.View.{View, Foreign, Here, Leaving, Gone, look, own, held, beyond, view}
+use Rattle.papaya_call.specs.Law.View.{View, Foreign, Here, Leaving, Gone, look, held, beyond, view}
 use Rattle.papaya_call.specs.Law.Allows.{AllAllowed}
 use Rattle.papaya_call.specs.Law.Code.{Coding, code, kind}
 use Rattle.papaya_call.specs.Law.Invariant.{named}
 use Rattle.papaya_call.specs.Law.Later.{Becomes}
 use Rattle.papaya_call.specs.Search.{go_on, compare_byte, look_at, look as look_seen, match_at, at_yes}
 use Rattle.papaya_call.specs.Told.{IsHashed, Hands, or_last}
-use Rattle.papaya_call.specs.Rests.{HasMet, IsAt, WasAtMoment}
+use Rattle.papaya_call.specs.Rests.{HasMet, IsAt}
 use Rattle.papaya_call.proofs.Law.Code.{code_kind}
 use Rattle.papaya_call.proofs.Law.CodeViews.{other_byte, other_key, past_buried}
 use Rattle.papaya_call.proofs.Law.Later.{Sees, later_itself, sees_later}
@@ -88,10 +88,6 @@ module _ {K P : Type 0} (g : Setting K P) (c : Coding K P) (hashed : IsHashed g 
         subst (λ y. RestsSeen g c hashed begun since k (told_word w hands) (look_at y at (c.hash k) (code g c w))) (sym (code_kind g c w)) (by_kind w refl hands)
 
   module _ (at : Place) (word : ℕ) (p : P) (h : HasMet g c begun since k at word p) where
-    -- of what was loaded there
-    abbrev stands : IsAt g c begun since k at
-    stands = h.stands
-
     -- the number is that of the word that was loaded
     kind_then : (w : Word P) → h.was ≡ w → kind_of word ≡ kind w
     kind_then w e = ap kind_of (h.loaded ∙ ap (code g c) e) ∙ code_kind g c w

@@ -1,5 +1,5 @@
 -- What a search finds where it has come to is the map's at a moment of the call.
-use Rattle.std.proofs.Common.{◌≡◌, ◌⊎◌, inl, inr, ⊎_elim, ℕ, ◌<◌, true, false, Option, None, Some, List, [], ◌++◌, append_assoc, append-nil, refl, sym, ap, ◌∙◌, subst, arith}
+use Rattle.std.proofs.Common.{◌≡◌, ◌⊎◌, inl, inr, ⊎_elim, ℕ, ◌<◌, true, false, Option, None, Some, List, [], ◌++◌, append_assoc, append-nil, refl, sym, ap, ◌∙◌, subst}
 use Rattle.std.proofs.lemmas.Bool.{cases_Bool}
 use Rattle.papaya_call.specs.Law.Exchange.{Setting, State, Exchange, run, start}
 use Rattle.papaya_call.specs.Law.View.{Free, Here, Leaving, look, beyond, IsPassed, IsReached}
@@ -58,7 +58,7 @@ module _ {K P : Type 0} (g : Setting K P) (c : Coding K P) (law : IsLawful g) (b
       ⊎_elim
       (λ a. at_now (Some p) ((means_map g law (begun ++ since) may k).found t j p a.1 (λ b. absurd (let d = a.0 in cc (b, d))) lt h))
       (λ a. let m = a.1 in at_deeper m.0 m.1 m.2 (Some p) (reader_found g law (begun ++ m.0) m.1 (may-split m.0 m.1 m.2) a.0 t m.3 r.some k j p lt
-        (subst (λ l. (look g (run l start) k t j ≡ Here p) ⊎ (look g (run l start) k t j ≡ Leaving p)) (split m.0 m.1 m.2) h)))
+      (subst (λ l. (look g (run l start) k t j ≡ Here p) ⊎ (look g (run l start) k t j ≡ Leaving p)) (split m.0 m.1 m.2) h)))
       r.is
 
   -- an Empty place
@@ -67,8 +67,8 @@ module _ {K P : Type 0} (g : Setting K P) (c : Coding K P) (law : IsLawful g) (b
       ⊎_elim
       (λ a. at_now None ((means_map g law (begun ++ since) may k).empty t j a.1 (λ b. absurd (let d = a.0 in cc (b, d))) lt all h))
       (λ a. let m = a.1 in at_deeper m.0 m.1 m.2 None (reader_empty g law (begun ++ m.0) m.1 (may-split m.0 m.1 m.2) a.0 t m.3 r.some k j lt
-        (subst (λ l. (i : ℕ) → i < j → beyond (look g (run l start) k t i) ≡ true) (split m.0 m.1 m.2) all)
-        (subst (λ l. look g (run l start) k t j ≡ Free) (split m.0 m.1 m.2) h)))
+      (subst (λ l. (i : ℕ) → i < j → beyond (look g (run l start) k t i) ≡ true) (split m.0 m.1 m.2) all)
+      (subst (λ l. look g (run l start) k t j ≡ Free) (split m.0 m.1 m.2) h)))
       r.is
 
   -- with blocking, a passed table
@@ -77,7 +77,7 @@ module _ {K P : Type 0} (g : Setting K P) (c : Coding K P) (law : IsLawful g) (b
       ⊎_elim
       (λ a. absurd (let d = a.0 in cc (b, d)))
       (λ a. let m = a.1 in at_deeper m.0 m.1 m.2 None (reader_over g law (begun ++ m.0) m.1 (may-split m.0 m.1 m.2) a.0 t m.3 r.some k
-        (subst (λ l. IsPassed g.places (look g (run l start) k) t) (split m.0 m.1 m.2) h)))
+      (subst (λ l. IsPassed g.places (look g (run l start) k) t) (split m.0 m.1 m.2) h)))
       r.is
 
   -- without blocking, a passed table with no next one

@@ -1,42 +1,38 @@
 -- What a call has changed, and that a refusal is answered or is of a full table.
-use Rattle.std.proofs.Common.{◌≡◌, ◌⊎◌, inl, inr, ⊎_elim, ℕ, ◌<◌, ◌==◌, Bool, true, false, cond, MatchBool, Option, None, Some, List, [], ◌∷◌, refl, sym, ap, ◌∙◌, subst, arith}
+use Rattle.std.proofs.Common.{◌≡◌, ◌⊎◌, ⊎_elim, ℕ, ◌<◌, ◌==◌, Bool, true, false, cond, None, Some, List, [], ◌∷◌, refl, sym, ap, subst, arith}
 use Rattle.std.proofs.lemmas.Bool.{cond_both}
 use Rattle.papaya_words.specs.Word.{kind_of, pair_of, top_byte}
 use Rattle.papaya_words.specs.declared.probe.Refused.{Refused}
-use Rattle.papaya_words.specs.declared.probe.Refused.TheVariants.{Capacity}
 use Rattle.papaya_words.specs.declared.probe.ResizeMode.{ResizeMode}
 use Rattle.papaya_words.specs.declared.probe.ResizeMode.TheVariants.{Incremental, Blocking}
 use Rattle.papaya_words.specs.declared.word.Kind.{Kind}
 use Rattle.papaya_words.specs.declared.word.Kind.TheVariants as word_kinds
 use Rattle.papaya_words.proofs.WordLemmas.{pair_of-filled_word}
 use Rattle.papaya_call.specs.declared.ask.Answer.{Answer}
-use Rattle.papaya_call.specs.declared.ask.Answer.TheVariants.{Word as Word_read, Exchanged, Found as Found_instead, Yes, Size, Made as Made_number, Ok as Ok_done, Refused as Was_refused}
-use Rattle.papaya_call.specs.declared.ask.Ask.{Ask}
-use Rattle.papaya_call.specs.declared.ask.Ask.TheVariants.{Exchange as Ask_exchange, Done as Ask_done}
+use Rattle.papaya_call.specs.declared.ask.Answer.TheVariants.{Exchanged, Found as Found_instead, Yes, Ok as Ok_done, Refused as Was_refused}
 use Rattle.papaya_call.specs.declared.ask.At.TheVariants.{Root, Slot}
 use Rattle.papaya_call.specs.declared.ask.StepKind.TheVariants as kinds
-use Rattle.papaya_call.specs.declared.call.Reply.TheVariants.{Absent, Replaced, Refused as Reply_refused}
+use Rattle.papaya_call.specs.declared.call.Reply.TheVariants.{Absent, Replaced}
 use Rattle.papaya_call.specs.declared.call.Task.{Task}
 use Rattle.papaya_call.specs.declared.call.Task.TheVariants.{Get, Insert}
 use Rattle.papaya_call.specs.declared.search.Place.{Place}
-use Rattle.papaya_call.specs.declared.search.Search.{Search}
 use Rattle.papaya_call.specs.declared.search.Search.TheVariants.{Sizing, Looking, Comparing}
 use Rattle.papaya_call.specs.declared.search.Seen.{Seen}
 use Rattle.papaya_call.specs.declared.search.Seen.TheVariants as seen
 use Rattle.papaya_call.specs.declared.write.Made.{Made}
 use Rattle.papaya_call.specs.declared.write.Made.TheVariants.{Nothing, Key, Pair}
-use Rattle.papaya_call.specs.declared.write.Write.{Write}
 use Rattle.papaya_call.specs.declared.machine.Machine.{Machine}
 use Rattle.papaya_call.specs.declared.machine.State.{State as Stage}
 use Rattle.papaya_call.specs.declared.machine.State.TheVariants.{AtRoot, Making, Opening, Searching, Writing, Counting, Leaving, Ended}
 use Rattle.papaya_call.specs.Law.Exchange.{Setting, State, Exchange}
 use Rattle.papaya_call.specs.Law.Code.{Coding, code}
-use Rattle.papaya_call.specs.Machine.{after, ask_of, asks, at_root, found, goes_as, kind_asked, kind_of_ask, leaves, replaces, written}
-use Rattle.papaya_call.specs.Search.{look as look_seen, ask_of as search_ask, at_size as search_sized, at_word as search_loaded, at_yes as search_compared}
+use Rattle.papaya_call.specs.Machine.{after, ask_of, asks, at_root, goes_as, kind_asked, kind_of_ask, leaves, replaces}
+use Rattle.papaya_call.specs.Search.{look as look_seen, at_yes as search_compared}
 use Rattle.papaya_call.specs.Told.{IsHashed, IsAsked, IsTold, IsUnmade, Hands, told_of}
 use Rattle.papaya_call.specs.Rests.{change_in, change_after, change_of_kind}
-use Rattle.papaya_call.specs.Write.{new_word, write_ask}
+use Rattle.papaya_call.specs.Write.{new_word}
 use Rattle.papaya_call.proofs.Law.Code.{byte_small}
+use Rattle.papaya_call.proofs.RestsLearn.{by_test}
 
 -- a replacement that is to come has changed nothing
 replaces_unchanged : (kd : Kind) (at : Place) (word : ℕ) → change_in (replaces kd at word) ≡ None
@@ -74,11 +70,6 @@ written_changes : (b : Bool) (old new n : ℕ) → pair_of new ≡ n → change_
 written_changes true old new n e = ap (λ y. Some (None, Some y)) (sym e)
 written_changes false old new n e = ap (λ y. Some (Some (pair_of old), Some y)) (sym e)
 
--- by a test's outcome
-by_test : (b : Bool) (A B R : Type 0) → MatchBool b A B → (A → R) → (B → R) → R
-by_test true A B R h yes_so not_so = yes_so h
-by_test false A B R h yes_so not_so = not_so h
-
 module _ {K P : Type 0} (g : Setting K P) (c : Coding K P) (hashed : IsHashed g c) (k : K) (s : State P) (m : Machine) (hash : m.hash ≡ c.hash k) (hands : Hands P) (es : List (Exchange P)) (hands' : Hands P) where
   -- what an answer changes in a stage
   abbrev Changes : Made → Stage → Answer → Type 0
@@ -112,8 +103,8 @@ module _ {K P : Type 0} (g : Setting K P) (c : Coding K P) (hashed : IsHashed g 
       ((answer ≡ Exchanged) × ((e : Exchange P) × IsAsked (Some kinds.Open) Root t s hands e × (es ≡ e ∷ [])) × (hands' ≡ hands))
       ((answer ≡ Found_instead s.root) × (es ≡ []) × (hands' ≡ hands))
       (Changes made (Opening t) answer) h
-      (λ h'. subst (Changes made (Opening t)) (sym h'.0) refl)
-      (λ h'. subst (Changes made (Opening t)) (sym h'.0) refl)
+      (λ _ h'. subst (Changes made (Opening t)) (sym h'.0) refl)
+      (λ _ h'. subst (Changes made (Opening t)) (sym h'.0) refl)
   changes_in made (Searching (Sizing t)) answer h = let size = h.0 in subst (Changes made (Searching (Sizing t))) (sym size.2) refl
   changes_in made (Searching (Looking at)) answer h =
       let word : ℕ = code g c (s.slot at.table at.probe.i) in
@@ -129,8 +120,8 @@ module _ {K P : Type 0} (g : Setting K P) (c : Coding K P) (hashed : IsHashed g 
       ((answer ≡ Exchanged) × ((e : Exchange P) × IsAsked (Some (cond (write.old == 0) kinds.Claim kinds.Replace)) (Slot t x) (new_word m.hash i) s hands e × (es ≡ e ∷ [])) × (hands' ≡ hands))
       ((answer ≡ Found_instead word) × (es ≡ []) × (hands' ≡ told_of s (Slot t x) hands))
       (Changes (Pair i) (Writing write) answer) h
-      (λ h'. subst (Changes (Pair i) (Writing write)) (sym h'.0) (written_changes (write.old == 0) write.old (new_word m.hash i) i (new_pair i)))
-      (λ h'. subst (Changes (Pair i) (Writing write)) (sym h'.0) (goes_unchanged m.task m.mode (look_seen write.place m.hash word)))
+      (λ _ h'. subst (Changes (Pair i) (Writing write)) (sym h'.0) (written_changes (write.old == 0) write.old (new_word m.hash i) i (new_pair i)))
+      (λ _ h'. subst (Changes (Pair i) (Writing write)) (sym h'.0) (goes_unchanged m.task m.mode (look_seen write.place m.hash word)))
   changes_in made (Counting i) answer h = subst (Changes made (Counting i)) (sym h.0) refl
   changes_in made (Leaving t) answer h = subst (Changes made (Leaving t)) (sym h.0) (next_unchanged m.task (s.next t))
   changes_in made (Ended reply) answer h = subst (Changes made (Ended reply)) (sym h.0) refl

@@ -1,5 +1,5 @@
 -- A refusal is the one that was answered, or that of an insertion that leaves a full table.
-use Rattle.std.proofs.Common.{◌≡◌, ◌⊎◌, inl, inr, ⊎_elim, ℕ, ◌==◌, Bool, true, false, cond, Option, None, Some, refl, sym, ap, ◌∙◌, subst}
+use Rattle.std.proofs.Common.{◌≡◌, ◌⊎◌, inl, inr, ℕ, ◌==◌, true, false, Option, None, Some, refl, sym, ap}
 use Rattle.std.proofs.lemmas.Bool.{cond_both}
 use Rattle.papaya_words.specs.Word.{kind_of, pair_of}
 use Rattle.papaya_words.specs.declared.probe.Refused.{Refused}
@@ -9,7 +9,7 @@ use Rattle.papaya_words.specs.declared.probe.ResizeMode.TheVariants.{Incremental
 use Rattle.papaya_words.specs.declared.word.Kind.{Kind}
 use Rattle.papaya_words.specs.declared.word.Kind.TheVariants as word_kinds
 use Rattle.papaya_call.specs.declared.ask.Answer.{Answer}
-use Rattle.papaya_call.specs.declared.ask.Answer.TheVariants.{Word as Word_read, Exchanged, Found as Found_instead, Yes, Size, Made as Made_number, Ok as Ok_done, Refused as Was_refused}
+use Rattle.papaya_call.specs.declared.ask.Answer.TheVariants.{Word as Word_read, Exchanged, Found as Found_instead, Yes, Size, Ok as Ok_done, Refused as Was_refused}
 use Rattle.papaya_call.specs.declared.ask.Ask.{Ask}
 use Rattle.papaya_call.specs.declared.ask.Ask.TheVariants.{Done as Ask_done}
 use Rattle.papaya_call.specs.declared.call.Reply.{Reply}
@@ -47,17 +47,17 @@ search_unrefused (Sizing t) = refl
 search_unrefused (Looking at) = refl
 search_unrefused (Comparing at word) = refl
 
-module _ (made : Made) (hash : ℕ) where
-  -- nor does a write
-  write_unrefused : (made' : Made) (write : Write) → refusal_of (write_ask write made' hash) ≡ None
-  write_unrefused Nothing write = refl
-  write_unrefused Key write = refl
-  write_unrefused (Pair n) write = refl
+-- nor does a write
+write_unrefused : (hash : ℕ) (made : Made) (write : Write) → refusal_of (write_ask write made hash) ≡ None
+write_unrefused hash Nothing write = refl
+write_unrefused hash Key write = refl
+write_unrefused hash (Pair n) write = refl
 
+module _ (made : Made) (hash : ℕ) where
   -- nor a replacement
   replaces_unrefused : (kd : Kind) (at : Place) (word : ℕ) → refusal_of (asks made hash (replaces kd at word)) ≡ None
   replaces_unrefused word_kinds.Empty at word = refl
-  replaces_unrefused word_kinds.Live at word = write_unrefused made (record { place = at; old = word })
+  replaces_unrefused word_kinds.Live at word = write_unrefused hash made (record { place = at; old = word })
   replaces_unrefused word_kinds.Marked at word = refl
   replaces_unrefused word_kinds.Copied at word = refl
   replaces_unrefused word_kinds.Buried at word = refl
@@ -70,7 +70,7 @@ module _ (made : Made) (hash : ℕ) where
   goes_unrefused (Insert false) mode (seen.Here at word) = refl
   goes_unrefused (Insert true) mode (seen.Here at word) = replaces_unrefused (kind_of word) at word
   goes_unrefused Get mode (seen.Empty at) = refl
-  goes_unrefused (Insert replace) mode (seen.Empty at) = write_unrefused made (record { place = at; old = 0 })
+  goes_unrefused (Insert replace) mode (seen.Empty at) = write_unrefused hash made (record { place = at; old = 0 })
   goes_unrefused Get (Incremental chunk) (seen.Over t) = refl
   goes_unrefused Get Blocking (seen.Over t) = refl
   goes_unrefused (Insert replace) mode (seen.Over t) = refl
