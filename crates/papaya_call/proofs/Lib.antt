@@ -1,1 +1,5 @@
-pub mod Law
+pub mod LoadsBound
+pub mod LoadsLeft
+pub mod LoadsLists
+pub mod LoadsSteps
+mod Law
