@@ -8,6 +8,7 @@
 pub mod ask;
 pub mod call;
 pub mod exchanges;
+pub mod loads;
 pub mod machine;
 pub mod rests;
 pub mod search;

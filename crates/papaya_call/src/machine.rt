@@ -3,6 +3,7 @@ ghost use Rattle.std.specs.Prelude.{◌≡◌, ◌<◌, ◌≤◌, ◌^◌};
 ghost use Rattle.papaya_call.specs.Search.{IsSize, IsSeen, IsWithin};
 ghost use Rattle.papaya_call.specs.Machine.{IsChunked, IsFit, IsFitAsk, IsStanding, IsStandingState, IsLookup, IsWriter, started, ask_of, kind_of_ask, after, at_root, goes, found, passes, leaves, written, at_word, at_exchanged, at_found, at_yes, at_size, state_made, at_ok, at_refused};
 
+use papaya_words::limits::{FIRST_TABLE_LEN, FIRST_TABLE_LIMIT};
 use papaya_words::probe::{Refused, ResizeMode};
 use papaya_words::word::{Kind, Word};
 
@@ -73,7 +74,10 @@ impl Machine {
     {
         match self.state {
             State::AtRoot => Ask::Load(At::Root),
-            State::Making => Ask::MakeTable { len: 32, limit: 25 },
+            State::Making => Ask::MakeTable {
+                len: FIRST_TABLE_LEN,
+                limit: FIRST_TABLE_LIMIT,
+            },
             State::Opening(table) => Ask::Exchange(At::Root, 0, table),
             State::Searching(search) => search.ask(),
             State::Writing(write) => write.ask(self.made, self.hash),
