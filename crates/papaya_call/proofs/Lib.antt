@@ -15,8 +15,8 @@ pub mod RestsLearn
 -- what it changes, and its refusals
 pub mod RestsReply
 pub mod RestsReplyRefused
+-- how much a lookup loads
 pub mod LoadsBound
 pub mod LoadsLeft
 pub mod LoadsLists
 pub mod LoadsSteps
-mod Law
