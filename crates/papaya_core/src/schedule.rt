@@ -16,8 +16,7 @@ use papaya_call::call::{Call, Reply, Task};
 use papaya_call::machine::Machine;
 use papaya_words::counter::Counter;
 use papaya_words::limits::MAX_TABLE_LEN;
-use papaya_words::probe::{Refused, ResizeMode, entries_for, limit};
-use papaya_words::table::table_len;
+use papaya_words::probe::{Refused, ResizeMode, entries_for};
 use papaya_words::word::Word;
 
 use crate::callers::Callers;
@@ -83,6 +82,36 @@ fn reply_in(ask: Ask) -> Option<Reply>
     }
 }
 
+/// Refuses a chunk of no slots.
+fn check_chunk(mode: ResizeMode) -> Result<(), Refused> {
+    match mode {
+        ResizeMode::Incremental(0) => Err(Refused::ZeroChunk),
+        _ => Ok(()),
+    }
+}
+
+/// The initial capacity of a map that is made for so many pairs.
+fn initial_len(capacity: usize) -> Result<usize, Refused> {
+    let initial = entries_for(capacity)?;
+    if initial > MAX_TABLE_LEN {
+        return Err(Refused::Capacity);
+    }
+    Ok(initial)
+}
+
+/// Makes room for so many more entries.
+fn reserve_entries(entries: &mut Vec<Entry>, more: usize) -> Result<(), Refused> {
+    match entries.reserve(more) {
+        Ok(()) => Ok(()),
+        Err(_) => Err(Refused::Memory),
+    }
+}
+
+/// Adds an entry, for which there is room.
+fn push_entry(entries: &mut Vec<Entry>, entry: Entry) {
+    let _ = entries.push(entry);
+}
+
 /// Lets a call go.
 fn end_call<K: Drop, V: Drop>(_running: Running<K, V>) {}
 
@@ -131,6 +160,37 @@ impl<K: Hash + Eq, V, S: BuildHasher> Core<K, V, S> {
     }
 }
 
+impl<K: Hash + Eq + Drop, V: Drop, S: BuildHasher + Drop> Core<K, V, S> {
+    /// A core with no pairs and no callers. `capacity` is for how many pairs its first table is
+    /// made at once; with 0 the first change makes one.
+    ///
+    /// `Refused::ZeroChunk` for chunks of no slots. `Refused::Capacity` for more shards than
+    /// [`papaya_words::limits::MAX_SHARDS`], and for a table past [`MAX_TABLE_LEN`].
+    /// `Refused::Memory` where a growth was refused.
+    pub fn new(
+        alloc: Global,
+        mode: ResizeMode,
+        capacity: usize,
+        shards: usize,
+        hasher: S,
+    ) -> Result<Core<K, V, S>, Refused> {
+        check_chunk(mode)?;
+        let initial = initial_len(capacity)?;
+        let counter = Counter::new(alloc, shards)?;
+        let mut store = Store::new(alloc, counter, hasher);
+        if capacity > 0 {
+            store.open_first(alloc, initial)?;
+        }
+        Ok(Core {
+            alloc,
+            store,
+            callers: Callers::new(alloc),
+            mode,
+            initial,
+        })
+    }
+}
+
 impl<K: Hash + Eq + Drop, V: Drop, S: BuildHasher> Core<K, V, S> {
     /// Begins a call of a caller that is in none.
     ///
@@ -175,5 +235,92 @@ impl<K: Hash + Eq + Drop, V: Drop, S: BuildHasher> Core<K, V, S> {
     {
         let (_, reply) = self.advance(caller, refuse_memory);
         reply
+    }
+
+    /// Makes the turns of a schedule, one after the other. A `Begin` of a caller that is in a
+    /// call, and a `Step` or `Finish` of one that is in none, are passed over.
+    ///
+    /// `Refused::Memory` where a growth was refused to a `Begin` or to the trace: the turns
+    /// before were made, and of a `Finish` perhaps some steps.
+    pub fn run(&mut self, schedule: Vec<Turn<K, V>>) -> Result<Trace, Refused> {
+        let mut entries = Vec::new(self.alloc);
+        for (turn, what) in schedule.into_iter().enumerate() {
+            self.turn_into(&mut entries, turn, what)?;
+        }
+        Ok(Trace { entries })
+    }
+
+    /// One turn of a schedule, and its entries.
+    fn turn_into(
+        &mut self,
+        entries: &mut Vec<Entry>,
+        turn: usize,
+        what: Turn<K, V>,
+    ) -> Result<(), Refused> {
+        match what {
+            Turn::Begin(caller, call) => {
+                if !self.running(caller) {
+                    self.begin_into(entries, turn, caller, call)?;
+                }
+            }
+            Turn::Step(caller, refuse_memory) => {
+                if self.running(caller) {
+                    self.step_into(entries, turn, caller, refuse_memory)?;
+                }
+            }
+            Turn::Finish(caller, steps) => self.finish_into(entries, turn, caller, steps)?,
+        }
+        Ok(())
+    }
+
+    /// The begin of a call, and its entry.
+    fn begin_into(
+        &mut self,
+        entries: &mut Vec<Entry>,
+        turn: usize,
+        caller: usize,
+        call: Call<K, V>,
+    ) -> Result<(), Refused> {
+        reserve_entries(entries, 1)?;
+        self.begin(caller, call)?;
+        let event = Event::Begun;
+        push_entry(entries, Entry { turn, caller, event });
+        Ok(())
+    }
+
+    /// One step of a caller, and its entries.
+    fn step_into(
+        &mut self,
+        entries: &mut Vec<Entry>,
+        turn: usize,
+        caller: usize,
+        refuse_memory: bool,
+    ) -> Result<(), Refused> {
+        // The room is there before the step, so no step goes unrecorded.
+        reserve_entries(entries, 2)?;
+        let (event, reply) = self.advance(caller, refuse_memory);
+        push_entry(entries, Entry { turn, caller, event });
+        if let Some(reply) = reply {
+            let event = Event::Replied(reply);
+            push_entry(entries, Entry { turn, caller, event });
+        }
+        Ok(())
+    }
+
+    /// So many steps of a caller, as far as its call goes on, and their entries.
+    fn finish_into(
+        &mut self,
+        entries: &mut Vec<Entry>,
+        turn: usize,
+        caller: usize,
+        steps: usize,
+    ) -> Result<(), Refused> {
+        for _ in 0..steps {
+            if !self.running(caller) {
+                break;
+            }
+            self.step_into(entries, turn, caller, false)?;
+        }
+        Ok(())
     }
 }

@@ -14,8 +14,8 @@ use std::mem;
 use papaya_call::ask::{Answer, Ask, At};
 use papaya_words::counter::Counter;
 use papaya_words::limits::{MAX_LOG_LEN, MAX_TABLES};
-use papaya_words::probe::Refused;
-use papaya_words::table::Table;
+use papaya_words::probe::{Refused, limit};
+use papaya_words::table::{Table, table_len};
 
 use crate::pairs::{KeyOf, Pair, Running};
 
@@ -176,13 +176,26 @@ impl<K: Hash + Eq, V, S: BuildHasher> Store<K, V, S> {
 }
 
 impl<K: Hash + Eq + Drop, V: Drop, S: BuildHasher> Store<K, V, S> {
+    /// Makes the first table, for this length, and opens it.
+    pub fn open_first(&mut self, alloc: Global, initial: usize) -> Result<(), Refused> {
+        let len = table_len(initial);
+        let table = Table::new(alloc, 1, len, limit(len))?;
+        match self.tables.push(table) {
+            Ok(()) => {
+                self.root = 1;
+                Ok(())
+            }
+            Err(_) => Err(Refused::Memory),
+        }
+    }
+
     /// Logs the key of a call, once.
     fn make_key(&mut self, running: &mut Running<K, V>) -> Answer
         ensures machine { running.new.machine ≡ running.old.machine }
         ensures makes { (Refuses MAX_LOG_LEN (length self.old.keys) result × Stays self.old running.old self.new running.new) ⊎ (HasKey result running.old × Stays self.old running.old self.new running.new) ⊎ LogsKey result self.old running.old self.new running.new }
     {
-        if let KeyOf::Logged(logged) = running.key {
-            return Answer::Made(logged as u64);
+        if let KeyOf::Logged(_) = running.key {
+            return Answer::Ok;
         }
         let n = self.keys.len();
         if n >= MAX_LOG_LEN {
