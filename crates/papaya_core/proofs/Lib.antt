@@ -1,2 +1,4 @@
 pub mod CallersLemmas
+pub mod CoreLemmas
+pub mod RunLemmas
 pub mod StoreLemmas

@@ -2,6 +2,8 @@ pub mod Advances
 pub mod Begins
 pub mod Callers
 pub mod Core
+pub mod New
 pub mod Performs
+pub mod Runs
 pub mod Store
 pub mod Tables

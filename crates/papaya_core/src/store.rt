@@ -1,7 +1,8 @@
 //! What the machines of all callers ask about: the words of the tables, the logs of keys and pairs, and the count.
-ghost use Rattle.std.specs.Prelude.{◌≡◌, ◌≢◌, ◌+◌, ◌-◌, ◌<◌, ◌^◌, ◌⊎◌, [], ◌∷◌, ◌++◌, ◌+ℤ◌, length, vec_len, vec_capacity, Some, None, pos, MatchOption, IfOk, IfErr, slice_get};
+ghost use Rattle.std.specs.Prelude.{◌≡◌, ◌≢◌, ◌+◌, ◌-◌, ◌<◌, ◌^◌, ◌⊎◌, [], ◌∷◌, ◌++◌, ◌+ℤ◌, length, vec_len, vec_capacity, Some, None, pos, MatchOption, IfOk, OnOk, IfErr, slice_get};
 ghost use Rattle.std.specs.Int.{w64, int_wrap};
 ghost use Rattle.papaya_words.specs.Table.{new_table};
+ghost use Rattle.papaya_core.specs.New.{HasCapacity};
 ghost use Rattle.papaya_core.specs.Tables.{table_of, word_at, put, put_in, written};
 ghost use Rattle.papaya_core.specs.Store.{Stored, pair_of, hash_of};
 ghost use Rattle.papaya_core.specs.Performs.{Performs, IsMake, Stays, Refuses, LogsKey, LogsPair, MakesTable, HasKey, HasNoPair, key_at, same};
@@ -14,8 +15,8 @@ use std::mem;
 use papaya_call::ask::{Answer, Ask, At};
 use papaya_words::counter::Counter;
 use papaya_words::limits::{MAX_LOG_LEN, MAX_TABLES};
-use papaya_words::probe::Refused;
-use papaya_words::table::Table;
+use papaya_words::probe::{Refused, limit};
+use papaya_words::table::{Table, table_len};
 
 use crate::pairs::{KeyOf, Pair, Running};
 
@@ -176,13 +177,31 @@ impl<K: Hash + Eq, V, S: BuildHasher> Store<K, V, S> {
 }
 
 impl<K: Hash + Eq + Drop, V: Drop, S: BuildHasher> Store<K, V, S> {
+    /// Makes the first table where there is a capacity, for this length, and opens it.
+    pub fn open(&mut self, alloc: Global, capacity: usize, initial: usize) -> Result<(), Refused>
+        requires { self.old.words ≡ record { root = 0; tables = [] } }
+        ensures ok { OnOk result (HasCapacity capacity initial self.new.words × (self.new ≡ record self.old { words = self.new.words })) }
+        ensures err { IfErr result (λ e. e ≡ Refused.Memory) }
+    {
+        if capacity == 0 {
+            return Ok(());
+        }
+        let len = table_len(initial);
+        let table = Table::new(alloc, 1, len, limit(len))?;
+        if self.tables.push(table).is_err() {
+            return Err(Refused::Memory);
+        }
+        self.root = 1;
+        Ok(())
+    }
+
     /// Logs the key of a call, once.
     fn make_key(&mut self, running: &mut Running<K, V>) -> Answer
         ensures machine { running.new.machine ≡ running.old.machine }
         ensures makes { (Refuses MAX_LOG_LEN (length self.old.keys) result × Stays self.old running.old self.new running.new) ⊎ (HasKey result running.old × Stays self.old running.old self.new running.new) ⊎ LogsKey result self.old running.old self.new running.new }
     {
-        if let KeyOf::Logged(logged) = running.key {
-            return Answer::Made(logged as u64);
+        if let KeyOf::Logged(_) = running.key {
+            return Answer::Ok;
         }
         let n = self.keys.len();
         if n >= MAX_LOG_LEN {
