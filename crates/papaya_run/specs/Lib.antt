@@ -1,0 +1,5 @@
+pub mod Arguments
+pub mod Failure
+pub mod Hashers
+pub mod Numbers
+pub mod Script
