@@ -41,7 +41,9 @@ fn run_core<S: BuildHasher + Drop, R: Read, W: Write>(alloc: Global, mode: Resiz
 }
 
 /// Runs what the arguments ask for.
-fn run<R: Read, W: Write>(alloc: Global, args: &[String], input: &mut R, output: &mut W) -> Result<(), Failure> {
+fn run<R: Read, W: Write>(alloc: Global, args: &[String], input: &mut R, output: &mut W) -> Result<(), Failure>
+    ensures { ((arguments : Arguments) → ¬ (WritesArguments (map string_bytes args.now) arguments)) → result ≡ Err Failure.Arguments }
+{
     let Some(arguments) = Arguments::from_words(args) else {
         return Err(Failure::Arguments);
     };
