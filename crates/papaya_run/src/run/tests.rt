@@ -7,6 +7,7 @@ use std::test::Fail;
 use super::run_on;
 
 /// A reader that gives a few bytes at a time, and may fail when it has given all of them.
+#[derive(Drop)]
 struct Source<'a> {
     text: &'a [u8],
     step: usize,
@@ -26,6 +27,7 @@ impl Read for Source<'_> {
 }
 
 /// A writer that fails when it has taken so many bytes.
+#[derive(Drop)]
 struct Sink {
     text: Vec<u8>,
     room: usize,
@@ -259,8 +261,6 @@ fn faults_of_the_output(rt: HostRuntime) -> Result<(), Fail> {
         assert_eq!(rt; run_on(rt.alloc(), args.as_slice(), &mut source, &mut output, &mut said), 1);
         assert_eq!(rt; output.text.as_slice(), kept.as_bytes());
         assert_eq!(rt; said.as_slice(), b"papaya-run: output failed\n".as_slice());
-        let Sink { text, .. } = output;
-        drop(text);
     }
     Ok(())
 }
@@ -275,7 +275,5 @@ fn faults_of_the_errors(rt: HostRuntime) -> Result<(), Fail> {
     let mut source = FIRST;
     assert_eq!(rt; run_on(rt.alloc(), &[], &mut source, &mut printed, &mut errors), 2);
     assert_eq!(rt; errors.text.as_slice(), b"pap".as_slice());
-    let Sink { text, .. } = errors;
-    drop(text);
     Ok(())
 }
