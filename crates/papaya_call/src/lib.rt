@@ -1,4 +1,5 @@
-//! The calls of the map, as machines that ask for one atomic step at a time and are answered.
+//! The calls of the map, as machines that ask for one atomic step at a time and are answered, and
+//! the law under which the words that they exchange mean one map.
 //!
 //! A machine is plain data. It knows no word and no memory: a backend answers what it asks. So the
 //! same machines run for one caller, for any schedule of callers, and on threads.
@@ -6,6 +7,8 @@
 
 pub mod ask;
 pub mod call;
+pub mod exchanges;
 pub mod machine;
+pub mod rests;
 pub mod search;
 pub mod write;

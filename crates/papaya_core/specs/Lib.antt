@@ -1,1 +1,7 @@
+pub mod Advances
+pub mod Begins
 pub mod Callers
+pub mod Core
+pub mod Performs
+pub mod Store
+pub mod Tables

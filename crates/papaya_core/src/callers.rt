@@ -1,5 +1,5 @@
 //! The callers, and the calls that they have under way.
-ghost use Rattle.std.specs.Prelude.{◌≡◌, ◌≢◌, ℕ, ◌<◌, ◌↔◌, length, [], None, Some, IsTrue, IsSome, OnOk, OnErr, IfErr, slice_get, slice_set, EachIndex};
+ghost use Rattle.std.specs.Prelude.{◌≡◌, ◌≢◌, ℕ, ◌<◌, ◌↔◌, length, [], ◌∷◌, ◌++◌, None, Some, is_some, IsSome, OnOk, OnErr, IfErr, slice_get, slice_set, EachIndex};
 ghost use Rattle.papaya_core.specs.Callers.{running, with_call, with_seat, IsSeated, IsSeatAt};
 
 use std::alloc::Global;
@@ -44,6 +44,17 @@ fn place_of<K, V>(seats: &[Seat<K, V>], caller: usize) -> usize
     seats.len()
 }
 
+/// Adds a seat.
+fn add_seat<K: Drop, V: Drop>(seats: &mut Vec<Seat<K, V>>, caller: usize) -> Result<(), Refused>
+    ensures ok { OnOk result (seats.new.items ≡ seats.old.items ++ record { caller = caller; call = None } ∷ []) }
+    ensures err { IfErr result (λ e. (e ≡ Refused.Memory) × (seats.new.items ≡ seats.old.items)) }
+{
+    match seats.push(Seat { caller, call: None }) {
+        Ok(()) => Ok(()),
+        Err(_) => Err(Refused::Memory),
+    }
+}
+
 /// Takes a call out of a seat.
 fn take_call<K, V>(seats: &mut Vec<Seat<K, V>>, place: usize) -> Option<Running<K, V>>
     requires { place < length seats.old.items }
@@ -72,9 +83,48 @@ impl<K, V> Callers<K, V> {
 
     /// Is this caller in a call?
     pub fn is_running(&self, caller: usize) -> bool
-        ensures { IsTrue result ↔ IsSome (running self.now caller) }
+        ensures { result ≡ is_some (running self.now caller) }
+    {
+        match self.seats.get(place_of(&self.seats, caller)) {
+            Some(seat) => seat.call.is_some(),
+            None => false,
+        }
+    }
+
+    /// Takes the call of a caller that is in one.
+    pub fn take(&mut self, caller: usize) -> Running<K, V>
+        requires { IsSome (running self.old caller) }
+        ensures call { running self.old caller ≡ Some result }
+        ensures taken { self.new ≡ with_call self.old caller None }
+        ensures seat { IsSeated self.new caller }
     {
         let place = place_of(&self.seats, caller);
-        place < self.seats.len() && self.seats[place].call.is_some()
+        match take_call(&mut self.seats, place) {
+            Some(running) => running,
+            None => unreachable!(),
+        }
+    }
+}
+
+impl<K: Drop, V: Drop> Callers<K, V> {
+    /// Makes a seat for this caller, where it has none.
+    pub fn seat(&mut self, caller: usize) -> Result<(), Refused>
+        ensures ok { OnOk result ((self.new ≡ with_seat self.old caller) × IsSeated self.new caller) }
+        ensures err { IfErr result (λ e. (e ≡ Refused.Memory) × (self.new ≡ self.old)) }
+    {
+        if place_of(&self.seats, caller) < self.seats.len() {
+            return Ok(());
+        }
+        add_seat(&mut self.seats, caller)?;
+        Ok(())
+    }
+
+    /// Gives a caller that has a seat this call.
+    pub fn put(&mut self, caller: usize, running: Running<K, V>)
+        requires { IsSeated self.old caller }
+        ensures { self.new ≡ with_call self.old caller (Some running) }
+    {
+        let place = place_of(&self.seats, caller);
+        put_call(&mut self.seats, place, running);
     }
 }

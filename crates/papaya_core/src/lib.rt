@@ -3,4 +3,6 @@
 
 pub mod callers;
 pub mod pairs;
+pub mod schedule;
+pub mod store;
 pub mod trace;

@@ -1,3 +1,5 @@
+pub mod Counter
 pub mod Probe
-pub mod Word
+pub mod Refusals
 pub mod Table
+pub mod Word

@@ -1,0 +1,5 @@
+pub mod ClassSteps
+pub mod States
+pub mod SlotSteps
+pub mod TableSteps
+pub mod Steps

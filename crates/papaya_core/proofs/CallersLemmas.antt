@@ -1,0 +1,117 @@
+-- The call that each caller has under way, and what takes it and puts it back.
+use Rattle.std.proofs.Common.{◌≡◌, ◌≢◌, ℕ, zero, suc, ◌<◌, ◌≤◌, ◌==◌, true, false, cond, List, [], ◌∷◌, length, slice_get, slice_set, Option, Some, None, refl, sym, ◌∙◌, ap, subst, arith, ⊎_elim, eq-eqb, eqb-true, ◌++◌, IsSome, is_some}
+use Rattle.std.proofs.lemmas.Bool.{cases_Bool, cases_lt}
+use Rattle.std.proofs.lemmas.Option.{slice_get_within}
+use Rattle.papaya_core.specs.declared.pairs.Running.{Running}
+use Rattle.papaya_core.specs.declared.callers.Seat.{Seat}
+use Rattle.papaya_core.specs.Callers.{running, with_call, with_seat, IsSeated, IsSeatAt}
+
+-- what a place of a list has, it has alone
+pub same_item : {A : Type 0} (x y : A) → Some x ≡ Some y → x ≡ y
+same_item x y e = cc
+
+-- a list has an item at each place
+pub item_there : {A : Type 0} (xs : List A) (i : ℕ) → i < length xs → (x : A) × (slice_get xs i ≡ Some x)
+item_there [] i lt = absurd (omega arith)
+item_there (x ∷ xs) zero lt = (x, refl)
+item_there (x ∷ xs) (suc i) lt = item_there xs i (omega arith)
+
+-- what is there isn't nothing
+pub not_none : {A : Type 0} (o : Option A) → is_some o ≡ true → o ≡ None → ⊥
+not_none o some none = let f : false ≡ true = sym (ap is_some none) ∙ some in cc
+
+-- a test of two numbers that differ
+pub differs : (a b : ℕ) → a ≢ b → (a == b) ≡ false
+differs a b ne = ⊎_elim (λ (e : (a == b) ≡ true). absurd (ne (eqb-true a b e))) (λ (e : (a == b) ≡ false). e) (cases_Bool (a == b))
+
+module _ {K V : Type 0} where
+  -- the place in a list without its first seat
+  later : (x : Seat K V) (xs : List (Seat K V)) (caller place : ℕ) → IsSeatAt (x ∷ xs) caller (suc place) → IsSeatAt xs caller place
+  later x xs caller place at = record {
+    within = let h : suc place ≤ length (x ∷ xs) = at.within in omega arith;
+    before = λ i seat lt e. at.before (suc i) seat (omega arith) e;
+    here = at.here;
+  }
+
+  -- the call of the first seat of a caller is the caller's
+  pub running-at : (seats : List (Seat K V)) (caller place : ℕ) (seat : Seat K V) → IsSeatAt seats caller place → slice_get seats place ≡ Some seat → running seats caller ≡ seat.call
+  running-at [] caller place seat at e = let f : None ≡ Some seat = e in cc
+  running-at (x ∷ xs) caller zero seat at e =
+      let same : x ≡ seat = same_item x seat e in
+      ap (λ b. cond b x.call (running xs caller)) (eq-eqb x.caller caller (at.here x refl)) ∙ ap (λ s. s.call) same
+  running-at (x ∷ xs) caller (suc place) seat at e =
+      ap (λ b. cond b x.call (running xs caller)) (differs x.caller caller (at.before 0 x (omega arith) refl))
+      ∙ running-at xs caller place seat (later x xs caller place at) e
+
+  -- with no seat a caller has no call
+  pub running-none : (seats : List (Seat K V)) (caller : ℕ) → IsSeatAt seats caller (length seats) → running seats caller ≡ None
+  running-none [] caller at = refl
+  running-none (x ∷ xs) caller at =
+      ap (λ b. cond b x.call (running xs caller)) (differs x.caller caller (at.before 0 x (omega arith) refl))
+      ∙ running-none xs caller (later x xs caller (length xs) at)
+
+  -- a write to the first seat of a caller
+  pub with_call-at : (seats : List (Seat K V)) (caller place : ℕ) (seat : Seat K V) (call : Option (Running K V)) → IsSeatAt seats caller place → slice_get seats place ≡ Some seat → with_call seats caller call ≡ slice_set seats place (record seat { call = call })
+  with_call-at [] caller place seat call at e = let f : None ≡ Some seat = e in cc
+  with_call-at (x ∷ xs) caller zero seat call at e =
+      let same : x ≡ seat = same_item x seat e in
+      ap (λ b. cond b (record x { call = call } ∷ xs) (x ∷ with_call xs caller call)) (eq-eqb x.caller caller (at.here x refl))
+      ∙ ap (λ (s : Seat K V). record s { call = call } ∷ xs) same
+  with_call-at (x ∷ xs) caller (suc place) seat call at e =
+      ap (λ b. cond b (record x { call = call } ∷ xs) (x ∷ with_call xs caller call)) (differs x.caller caller (at.before 0 x (omega arith) refl))
+      ∙ ap (λ (s : List (Seat K V)). x ∷ s) (with_call-at xs caller place seat call (later x xs caller place at) e)
+
+  -- a caller with a seat has a first one
+  pub seated-within : (seats : List (Seat K V)) (caller place : ℕ) → IsSeatAt seats caller place → IsSeated seats caller → place < length seats
+  seated-within seats caller place at (i, seat, there, is) =
+      ⊎_elim
+      (λ (within : place < length seats). within)
+      (λ (past : length seats ≤ place). let lt = slice_get_within seats i seat there in absurd (at.before i seat (omega arith) there is))
+      (cases_lt place (length seats))
+
+  -- a caller with a call has a seat
+  pub running-within : (seats : List (Seat K V)) (caller place : ℕ) → IsSeatAt seats caller place → IsSome (running seats caller) → place < length seats
+  running-within seats caller place at some =
+      ⊎_elim
+      (λ (within : place < length seats). within)
+      (λ (past : length seats ≤ place).
+        let e : place ≡ length seats = let w = at.within in omega arith in
+        let none : running seats caller ≡ None = running-none seats caller (subst (IsSeatAt seats caller) e at) in
+        let f : false ≡ true = sym (ap is_some none) ∙ some in
+        cc)
+      (cases_lt place (length seats))
+
+  -- a seat at the end for a caller that had none
+  pub with_seat-end : (seats : List (Seat K V)) (caller : ℕ) → IsSeatAt seats caller (length seats) → with_seat seats caller ≡ seats ++ record { caller = caller; call = None } ∷ []
+  with_seat-end [] caller at = refl
+  with_seat-end (x ∷ xs) caller at =
+      ap (λ b. cond b (x ∷ xs) (x ∷ with_seat xs caller)) (differs x.caller caller (at.before 0 x (omega arith) refl))
+      ∙ ap (λ (s : List (Seat K V)). x ∷ s) (with_seat-end xs caller (later x xs caller (length xs) at))
+
+  -- no new seat for a caller that has one
+  pub with_seat-there : (seats : List (Seat K V)) (caller place : ℕ) → IsSeatAt seats caller place → place < length seats → with_seat seats caller ≡ seats
+  with_seat-there [] caller place at lt = absurd (omega arith)
+  with_seat-there (x ∷ xs) caller zero at lt =
+      ap (λ b. cond b (x ∷ xs) (x ∷ with_seat xs caller)) (eq-eqb x.caller caller (at.here x refl))
+  with_seat-there (x ∷ xs) caller (suc place) at lt =
+      ap (λ b. cond b (x ∷ xs) (x ∷ with_seat xs caller)) (differs x.caller caller (at.before 0 x (omega arith) refl))
+      ∙ ap (λ (s : List (Seat K V)). x ∷ s) (with_seat-there xs caller place (later x xs caller place at) (omega arith))
+
+  -- the caller of a seat has a seat
+  pub seat-seated : (seats : List (Seat K V)) (caller place : ℕ) → IsSeatAt seats caller place → place < length seats → IsSeated seats caller
+  seat-seated seats caller place at lt = let (x, there) = item_there seats place lt in (place, x, there, at.here x there)
+
+  -- the caller has its seat after its call was taken or put back
+  pub with_call-seated : (seats : List (Seat K V)) (caller place : ℕ) (call : Option (Running K V)) → IsSeatAt seats caller place → place < length seats → IsSeated (with_call seats caller call) caller
+  with_call-seated [] caller place call at lt = absurd (omega arith)
+  with_call-seated (x ∷ xs) caller zero call at lt =
+      subst (λ (s : List (Seat K V)). IsSeated s caller) (sym (with_call-at (x ∷ xs) caller zero x call at refl)) (0, record x { call = call }, refl, at.here x refl)
+  with_call-seated (x ∷ xs) caller (suc place) call at lt =
+      let (i, seat, there, is) = with_call-seated xs caller place call (later x xs caller place at) (omega arith) in
+      let e : with_call (x ∷ xs) caller call ≡ x ∷ with_call xs caller call = ap (λ b. cond b (record x { call = call } ∷ xs) (x ∷ with_call xs caller call)) (differs x.caller caller (at.before 0 x (omega arith) refl)) in
+      subst (λ (s : List (Seat K V)). IsSeated s caller) (sym e) (suc i, seat, there, is)
+
+  -- a caller that was given a seat at the end has it
+  pub end-seated : (seats : List (Seat K V)) (caller : ℕ) → IsSeated (seats ++ record { caller = caller; call = None } ∷ []) caller
+  end-seated [] caller = (0, record { caller = caller; call = None }, refl, refl)
+  end-seated (x ∷ xs) caller = let (i, seat, there, is) = end-seated xs caller in (suc i, seat, there, is)

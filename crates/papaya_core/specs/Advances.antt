@@ -1,0 +1,91 @@
+-- One step of one caller.
+use Rattle.std.specs.Prelude.{◌≡◌, ℕ, ◌==◌, Bool, true, false, if◌then◌else◌, List, Option, Some, None}
+use Rattle.papaya_words.specs.Word.{pair_of}
+use Rattle.papaya_call.specs.declared.ask.At.{At}
+use Rattle.papaya_call.specs.declared.ask.Ask.{Ask}
+use Rattle.papaya_call.specs.declared.ask.Ask.TheVariants.{Load, Exchange, SameKey, SizeOf, MakeKey, MakePair, MakeTable, AddToShard, Done as Ask_done}
+use Rattle.papaya_call.specs.declared.ask.Answer.{Answer}
+use Rattle.papaya_call.specs.declared.ask.Answer.TheVariants.{Word as Word_read, Exchanged, Found as Found_instead, Yes, Size, Made as Made_number, Ok as Ok_done, Refused as Was_refused}
+use Rattle.papaya_call.specs.declared.ask.StepKind.{StepKind}
+use Rattle.papaya_call.specs.declared.ask.StepKind.TheVariants.{Open, Claim, Replace, Bury, Link, Mark, Close, Place, Finish, Advance, Promote, Abort}
+use Rattle.papaya_call.specs.declared.call.Reply.{Reply}
+use Rattle.papaya_call.specs.Machine.{ask_of, kind_of_ask, after}
+use Rattle.papaya_core.specs.declared.pairs.Running.{Running}
+use Rattle.papaya_core.specs.declared.trace.Event.{Event}
+use Rattle.papaya_core.specs.declared.trace.Event.TheVariants.{Begun, Changed, Moved, Other, Replied}
+use Rattle.papaya_core.specs.Callers.{with_call}
+use Rattle.papaya_core.specs.Performs.{Performs}
+use Rattle.papaya_core.specs.Core.{CoreState, call_of}
+
+-- the event of an exchange of this kind that was made: a change of the map names the pair that went and the one that came
+abbrev pub exchange_event : StepKind → (old new : ℕ) → Event
+exchange_event Claim old new = Changed Claim None (Some (pair_of new))
+exchange_event Replace old new = Changed Replace (Some (pair_of old)) (Some (pair_of new))
+exchange_event Bury old new = Changed Bury (Some (pair_of old)) None
+exchange_event Open old new = Moved Open
+exchange_event Link old new = Moved Link
+exchange_event Mark old new = Moved Mark
+exchange_event Close old new = Moved Close
+exchange_event Place old new = Moved Place
+exchange_event Finish old new = Moved Finish
+exchange_event Advance old new = Moved Advance
+exchange_event Promote old new = Moved Promote
+exchange_event Abort old new = Moved Abort
+
+-- the event of an exchange of no kind, which no machine asks for
+abbrev pub kind_event : Option StepKind → (old new : ℕ) → Event
+kind_event None old new = Other
+kind_event (Some kind) old new = exchange_event kind old new
+
+abbrev pub answered_event : Option StepKind → (old new : ℕ) → Answer → Event
+answered_event kind old new Exchanged = kind_event kind old new
+answered_event kind old new (Word_read word) = Other
+answered_event kind old new (Found_instead word) = Other
+answered_event kind old new (Yes same) = Other
+answered_event kind old new (Size slots limit) = Other
+answered_event kind old new (Made_number n) = Other
+answered_event kind old new Ok_done = Other
+answered_event kind old new (Was_refused refused) = Other
+
+-- the event of an ask that was answered so
+abbrev pub event_of : Option StepKind → Ask → Answer → Event
+event_of kind (Exchange at old new) answer = answered_event kind old new answer
+event_of kind (Load at) answer = Other
+event_of kind (SameKey n) answer = Other
+event_of kind (SizeOf n) answer = Other
+event_of kind MakeKey answer = Other
+event_of kind MakePair answer = Other
+event_of kind (MakeTable slots limit) answer = Other
+event_of kind (AddToShard by) answer = Other
+event_of kind (Ask_done reply) answer = Other
+
+-- the reply of a machine that asks no more
+abbrev pub reply_in : Ask → Option Reply
+reply_in (Ask_done reply) = Some reply
+reply_in (Load at) = None
+reply_in (Exchange at old new) = None
+reply_in (SameKey n) = None
+reply_in (SizeOf n) = None
+reply_in MakeKey = None
+reply_in MakePair = None
+reply_in (MakeTable slots limit) = None
+reply_in (AddToShard by) = None
+
+-- the call goes on, unless it has replied
+abbrev pub goes_on : {A : Type 0} → Option Reply → A → Option A
+goes_on None r = Some r
+goes_on (Some reply) r = None
+
+-- Just one ask of the caller's machine is answered, a load or an exchange by the word that stands there. A reply is the one in the machine's Done. No other caller's call changes.
+pub record Advances {K V S : Type 0} (eq : K → K → Bool) (refuse : Bool) (s : CoreState K V S) (caller : ℕ) (s' : CoreState K V S) (event : Event) (reply : Option Reply) : Type 0 where
+  pub before : Running K V
+  pub was : call_of s caller ≡ Some before
+  pub answer : Answer
+  pub later : Running K V
+  pub performs : Performs eq refuse (ask_of before.machine) s.store before answer s'.store later
+  pub machine : later.machine ≡ before.machine
+  pub event_is : event ≡ event_of (kind_of_ask before.machine) (ask_of before.machine) answer
+  pub reply_is : reply ≡ reply_in (ask_of (after before.machine answer))
+  pub callers : s'.callers ≡ with_call s.callers caller (goes_on reply (record later { machine = after before.machine answer }))
+  pub mode : s'.mode ≡ s.mode
+  pub initial : s'.initial ≡ s.initial

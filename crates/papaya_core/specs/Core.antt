@@ -1,0 +1,28 @@
+-- What the core holds, and what always holds of it.
+use Rattle.std.specs.Prelude.{◌≡◌, ℕ, List, Option, Some, length, slice_get}
+use Rattle.papaya_words.specs.Table.{TableWords}
+use Rattle.papaya_words.specs.declared.probe.ResizeMode.{ResizeMode}
+use Rattle.papaya_call.specs.Search.{IsSize}
+use Rattle.papaya_call.specs.Machine.{IsChunked, IsStanding}
+use Rattle.papaya_core.specs.declared.pairs.Running.{Running}
+use Rattle.papaya_core.specs.declared.callers.Seat.{Seat}
+use Rattle.papaya_core.specs.Callers.{running}
+use Rattle.papaya_core.specs.Tables.{table_of}
+use Rattle.papaya_core.specs.Store.{StoreState}
+
+-- the words, the logs and the count; the callers with what they have under way; and how the core resizes
+pub record CoreState (K V S : Type 0) : Type 0 where
+  pub store : StoreState K V S
+  pub callers : List (Seat K V)
+  pub mode : ResizeMode
+  pub initial : ℕ
+
+-- the call that a caller has under way
+abbrev pub call_of : {K V S : Type 0} → CoreState K V S → ℕ → Option (Running K V)
+call_of s caller = running s.callers caller
+
+-- each table has the size of a table, and each machine stands within its table
+pub record IsCore {K V S : Type 0} (store : StoreState K V S) (callers : List (Seat K V)) (mode : ResizeMode) : Type 0 where
+  pub chunked : IsChunked mode
+  pub sizes : (n : ℕ) (t : TableWords) → table_of store.words.tables n ≡ Some t → IsSize (length t.slots) t.limit
+  pub standing : (caller : ℕ) (r : Running K V) → running callers caller ≡ Some r → IsStanding r.machine

@@ -1,0 +1,300 @@
+//! What the machines of all callers ask about: the words of the tables, the logs of keys and pairs, and the count.
+ghost use Rattle.std.specs.Prelude.{◌≡◌, ◌≢◌, ◌+◌, ◌-◌, ◌<◌, ◌^◌, ◌⊎◌, [], ◌∷◌, ◌++◌, ◌+ℤ◌, length, vec_len, vec_capacity, Some, None, pos, MatchOption, IfOk, IfErr, slice_get};
+ghost use Rattle.std.specs.Int.{w64, int_wrap};
+ghost use Rattle.papaya_words.specs.Table.{new_table};
+ghost use Rattle.papaya_core.specs.Tables.{table_of, word_at, put, put_in, written};
+ghost use Rattle.papaya_core.specs.Store.{Stored, pair_of, hash_of};
+ghost use Rattle.papaya_core.specs.Performs.{Performs, IsMake, Stays, Refuses, LogsKey, LogsPair, MakesTable, HasKey, HasNoPair, key_at, same};
+
+use std::alloc::Global;
+use std::hash::{BuildHasher, Hash, Hasher};
+use std::marker::Model;
+use std::mem;
+
+use papaya_call::ask::{Answer, Ask, At};
+use papaya_words::counter::Counter;
+use papaya_words::limits::{MAX_LOG_LEN, MAX_TABLES};
+use papaya_words::probe::Refused;
+use papaya_words::table::Table;
+
+use crate::pairs::{KeyOf, Pair, Running};
+
+/// Writes a word of the table at place `k`, where there is such a one.
+fn put_in(tables: &mut Vec<Table>, k: usize, at: At, word: u64)
+    ensures { tables.new.items ≡ put_in at (slice_get tables.old.items k) tables.old.items k word }
+{
+    if k < tables.len() {
+        write_in(&mut tables[k], at, word);
+    }
+}
+
+/// Writes a word of a table.
+fn write_in(table: &mut Table, at: At, word: u64)
+    ensures { table.new ≡ written at table.old word }
+{
+    match at {
+        At::Root => {}
+        At::Next(_) => table.set_next(word),
+        At::Aborted(_) => table.set_aborted(word),
+        At::Done(_) => table.set_done(word),
+        At::Slot(_, i) => {
+            if i < table.len() {
+                table.put(i, word);
+            }
+        }
+    }
+}
+
+/// Adds an item, for which there is room.
+fn push_within<T: Drop>(items: &mut Vec<T>, item: T)
+    requires { vec_len items.old < vec_capacity items.old }
+    ensures { items.new.items ≡ items.old.items ++ item ∷ [] }
+{
+    let _ = items.push(item);
+}
+
+/// The words, the logs and the count.
+#[derive(Drop)]
+pub struct Store<K: Hash + Eq, V, S: BuildHasher> {
+    root: u64,
+    tables: Vec<Table>,
+    keys: Vec<K>,
+    pairs: Vec<Pair<V>>,
+    counter: Counter,
+    hasher: S,
+}
+
+impl<K: Hash + Eq, V, S: BuildHasher> Model for Store<K, V, S> {
+    ghost use Rattle.papaya_core.specs.Store.{StoreState};
+
+    ghost Value = { StoreState K V S };
+
+    ghost view = { λ s. record { words = record { root = s.root; tables = s.tables.items }; keys = s.keys.items; pairs = s.pairs.items; count = s.counter; hasher = s.hasher } };
+}
+
+impl<K: Hash + Eq, V, S: BuildHasher> Store<K, V, S> {
+    /// No words and no pairs.
+    pub fn new(alloc: Global, counter: Counter, hasher: S) -> Store<K, V, S>
+        ensures { result ≡ record { words = record { root = 0; tables = [] }; keys = []; pairs = []; count = counter; hasher = hasher } }
+    {
+        Store {
+            root: 0,
+            tables: Vec::new(alloc),
+            keys: Vec::new(alloc),
+            pairs: Vec::new(alloc),
+            counter,
+            hasher,
+        }
+    }
+
+    /// The hash of a key.
+    pub fn hash(&self, key: &K) -> u64
+        ensures value { result ≡ hash_of K.hash_input S.build_hasher S.Hasher.write S.Hasher.finish self.now.hasher key.now }
+        ensures fits { result < 2 ^ 64 }
+    {
+        let mut state = self.hasher.build_hasher();
+        key.hash(&mut state);
+        state.finish()
+    }
+
+    /// A pair by its number.
+    pub fn pair(&self, n: u64) -> Option<(&K, &V)>
+        ensures { MatchOption result (pair_of self.now n ≡ None) (λ p. pair_of self.now n ≡ Some (record { number = n; key = p.0.now; value = p.1.now })) }
+    {
+        let pair = self.pairs.get(n as usize)?;
+        let key = self.keys.get(pair.key)?;
+        Some((key, &pair.value))
+    }
+
+    /// A table by its number.
+    fn table(&self, n: u64) -> Option<&Table>
+        ensures { MatchOption result (table_of self.now.words.tables n ≡ None) (λ t. table_of self.now.words.tables n ≡ Some t.now) }
+    {
+        if n == 0 {
+            None
+        } else {
+            self.tables.get(n as usize - 1)
+        }
+    }
+
+    /// The word that stands at a place, 0 where there is no such place.
+    fn word(&self, at: At) -> u64
+        ensures { result ≡ word_at self.now.words at }
+    {
+        match at {
+            At::Root => self.root,
+            At::Next(n) => self.table(n).map_or(0, |table| table.next()),
+            At::Aborted(n) => self.table(n).map_or(0, |table| table.aborted()),
+            At::Done(n) => self.table(n).map_or(0, |table| table.done()),
+            At::Slot(n, i) => match self.table(n) {
+                Some(table) if i < table.len() => table.slot(i),
+                _ => 0,
+            },
+        }
+    }
+
+    /// Writes the word at a place, where there is such a place.
+    fn put(&mut self, at: At, word: u64)
+        ensures { self.new ≡ record self.old { words = put self.old.words at word } }
+    {
+        let n = match at {
+            At::Root => {
+                self.root = word;
+                return;
+            }
+            At::Next(n) | At::Aborted(n) | At::Done(n) | At::Slot(n, _) => n,
+        };
+        if n != 0 {
+            put_in(&mut self.tables, n as usize - 1, at, word);
+        }
+    }
+
+    /// Has pair `n` a key that equals the call's?
+    fn same_key(&self, n: u64, key: &KeyOf<K>) -> bool
+        ensures { result ≡ same K.eq (key_at self.now.keys key.now) (pair_of self.now n) }
+    {
+        let found = match self.pair(n) {
+            Some((found, _)) => found,
+            None => return false,
+        };
+        match key {
+            KeyOf::Own(key) => *key == *found,
+            KeyOf::Logged(at) => match self.keys.get(*at) {
+                Some(key) => *key == *found,
+                None => false,
+            },
+        }
+    }
+
+    /// Adds to the shard of this caller.
+    fn add_to_shard(&mut self, caller: usize, by: i64)
+        ensures { self.new ≡ record self.old { count = record self.old.count { sum = int_wrap w64 (self.old.count.sum +ℤ by) } } }
+    {
+        let place = self.counter.get(caller as u64);
+        self.counter.add(place, by);
+    }
+}
+
+impl<K: Hash + Eq + Drop, V: Drop, S: BuildHasher> Store<K, V, S> {
+    /// Logs the key of a call, once.
+    fn make_key(&mut self, running: &mut Running<K, V>) -> Answer
+        ensures machine { running.new.machine ≡ running.old.machine }
+        ensures makes { (Refuses MAX_LOG_LEN (length self.old.keys) result × Stays self.old running.old self.new running.new) ⊎ (HasKey result running.old × Stays self.old running.old self.new running.new) ⊎ LogsKey result self.old running.old self.new running.new }
+    {
+        if let KeyOf::Logged(logged) = running.key {
+            return Answer::Made(logged as u64);
+        }
+        let n = self.keys.len();
+        if n >= MAX_LOG_LEN {
+            return Answer::Refused(Refused::Capacity);
+        }
+        if self.keys.reserve(1).is_err() {
+            return Answer::Refused(Refused::Memory);
+        }
+        if let KeyOf::Own(key) = mem::replace(&mut running.key, KeyOf::Logged(n)) {
+            push_within(&mut self.keys, key);
+        }
+        Answer::Made(n as u64)
+    }
+
+    /// Logs a pair of the call's key, which is logged, and its value.
+    fn make_pair(&mut self, running: &mut Running<K, V>) -> Answer
+        ensures machine { running.new.machine ≡ running.old.machine }
+        ensures makes { (Refuses MAX_LOG_LEN (length self.old.pairs) result × Stays self.old running.old self.new running.new) ⊎ (HasNoPair result running.old × Stays self.old running.old self.new running.new) ⊎ LogsPair result self.old running.old self.new running.new }
+    {
+        let key = match running.key {
+            KeyOf::Own(_) => return Answer::Ok,
+            KeyOf::Logged(key) => key,
+        };
+        let n = self.pairs.len();
+        if n >= MAX_LOG_LEN {
+            return Answer::Refused(Refused::Capacity);
+        }
+        if self.pairs.reserve(1).is_err() {
+            return Answer::Refused(Refused::Memory);
+        }
+        match running.value.take() {
+            None => Answer::Ok,
+            Some(value) => {
+                push_within(&mut self.pairs, Pair { key, value });
+                Answer::Made(n as u64)
+            }
+        }
+    }
+
+    /// Makes a table of empty slots.
+    fn make_table(&mut self, alloc: Global, len: usize, limit: usize) -> Answer
+        ensures { (Refuses MAX_TABLES (length self.old.words.tables) result × (self.new ≡ self.old)) ⊎ MakesTable result len limit self.old self.new }
+    {
+        let n = self.tables.len() as u64;
+        if n >= MAX_TABLES {
+            return Answer::Refused(Refused::Capacity);
+        }
+        match Table::new(alloc, n + 1, len, limit) {
+            Err(refused) => Answer::Refused(refused),
+            Ok(table) => match self.tables.push(table) {
+                Ok(()) => Answer::Made(n + 1),
+                Err(_) => Answer::Refused(Refused::Memory),
+            },
+        }
+    }
+
+    /// What is made without memory.
+    fn make(&mut self, alloc: Global, running: &mut Running<K, V>, ask: Ask, refuse: bool) -> Answer
+        requires { IsMake ask }
+        ensures machine { running.new.machine ≡ running.old.machine }
+        ensures performs { Performs K.eq refuse ask self.old running.old result self.new running.new }
+    {
+        if refuse {
+            return Answer::Refused(Refused::Memory);
+        }
+        match ask {
+            Ask::MakeKey => self.make_key(running),
+            Ask::MakePair => self.make_pair(running),
+            Ask::MakeTable { len, limit } => self.make_table(alloc, len, limit),
+            _ => unreachable!(),
+        }
+    }
+
+    /// Answers one ask of this caller's machine.
+    pub fn perform(
+        &mut self,
+        alloc: Global,
+        caller: usize,
+        running: &mut Running<K, V>,
+        ask: Ask,
+        refuse: bool,
+    ) -> Answer
+        ensures machine { running.new.machine ≡ running.old.machine }
+        ensures performs { Performs K.eq refuse ask self.old running.old result self.new running.new }
+    {
+        match ask {
+            Ask::Load(at) => Answer::Word(self.word(at)),
+            Ask::Exchange(at, old, new) => {
+                let found = self.word(at);
+                if found == old {
+                    self.put(at, new);
+                    Answer::Exchanged
+                } else {
+                    Answer::Found(found)
+                }
+            }
+            Ask::SameKey(n) => Answer::Yes(self.same_key(n, &running.key)),
+            Ask::SizeOf(n) => match self.table(n) {
+                Some(table) => Answer::Size {
+                    len: table.len(),
+                    limit: table.limit(),
+                },
+                None => Answer::Ok,
+            },
+            Ask::MakeKey | Ask::MakePair | Ask::MakeTable { .. } => {
+                self.make(alloc, running, ask, refuse)
+            }
+            Ask::AddToShard(by) => {
+                self.add_to_shard(caller, by);
+                Answer::Ok
+            }
+            Ask::Done(_) => Answer::Ok,
+        }
+    }
+}

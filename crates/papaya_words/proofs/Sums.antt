@@ -1,0 +1,62 @@
+-- The wrapped sum of shards.
+use Rattle.std.proofs.Common.{◌≡◌, ℕ, zero, suc, ◌+◌, ◌<◌, List, [], ◌∷◌, length, ℤ, pos, ◌+ℤ◌, replicate, fold, take, slice_set, slice_index_or, refl, sym, ◌∙◌, ap, arith}
+use Rattle.std.proofs.Math.ListN.{length-set}
+use Rattle.std.proofs.lemmas.Int.{ints, int_wrap-add_left, int_wrap-add_right, int_wrap-add_same}
+use Rattle.std.proofs.lemmas.List.Sums.{fold_more}
+use Rattle.std.specs.Int.{w64, int_wrap}
+use Rattle.papaya_words.specs.Counter.{Count, sum_of}
+
+-- noughts add up to nought
+fold-noughts : (n : ℕ) → fold ◌+ℤ◌ (pos 0) (replicate n (pos 0)) ≡ pos 0
+fold-noughts zero = refl
+fold-noughts (suc n) = fold-noughts n
+
+-- new shards add up to nought
+pub sum_of-noughts : (n : ℕ) → sum_of (replicate n (pos 0)) ≡ pos 0
+unfolding int_wrap
+sum_of-noughts n = ap (int_wrap w64) (fold-noughts n)
+
+-- what is added before is added after
+fold-added : (a by : ℤ) (xs : List ℤ) → fold ◌+ℤ◌ (a +ℤ by) xs ≡ fold ◌+ℤ◌ a xs +ℤ by
+fold-added a by [] = refl
+fold-added a by (x ∷ xs) =
+    let turned : a +ℤ by +ℤ x ≡ a +ℤ x +ℤ by = omega (arith, ints) in
+    ap (λ z. fold ◌+ℤ◌ z xs) turned ∙ fold-added (a +ℤ x) by xs
+
+-- sums from two numbers that wrap alike wrap alike
+fold-alike : (a b : ℤ) (xs : List ℤ) → int_wrap w64 a ≡ int_wrap w64 b → int_wrap w64 (fold ◌+ℤ◌ a xs) ≡ int_wrap w64 (fold ◌+ℤ◌ b xs)
+fold-alike a b [] e = e
+fold-alike a b (x ∷ xs) e = fold-alike (a +ℤ x) (b +ℤ x) xs (int_wrap-add_same w64 a b x e)
+
+-- what is added to one of several is added to their sum
+fold-set : (a by : ℤ) (xs : List ℤ) (i : ℕ) → i < length xs →
+    int_wrap w64 (fold ◌+ℤ◌ a (slice_set xs i (int_wrap w64 (slice_index_or xs i (pos 0) +ℤ by)))) ≡ int_wrap w64 (fold ◌+ℤ◌ a xs +ℤ by)
+fold-set a by [] i h = absurd (omega arith)
+fold-set a by (x ∷ xs) zero h =
+    let joined : a +ℤ (x +ℤ by) ≡ a +ℤ x +ℤ by = omega (arith, ints) in
+    let one : int_wrap w64 (a +ℤ int_wrap w64 (x +ℤ by)) ≡ int_wrap w64 (a +ℤ x +ℤ by) = int_wrap-add_right w64 a (x +ℤ by) ∙ ap (int_wrap w64) joined in
+    fold-alike (a +ℤ int_wrap w64 (x +ℤ by)) (a +ℤ x +ℤ by) xs one ∙ ap (int_wrap w64) (fold-added (a +ℤ x) by xs)
+fold-set a by (x ∷ xs) (suc i) h = fold-set (a +ℤ x) by xs i (omega arith)
+
+-- what is added to a shard is added to the sum of all
+pub sum_of-set : (by : ℤ) (xs : List ℤ) (i : ℕ) → i < length xs →
+    sum_of (slice_set xs i (int_wrap w64 (slice_index_or xs i (pos 0) +ℤ by))) ≡ int_wrap w64 (sum_of xs +ℤ by)
+sum_of-set by xs i h = fold-set (pos 0) by xs i h ∙ sym (int_wrap-add_left w64 (fold ◌+ℤ◌ (pos 0) xs) by)
+
+-- the sum of one more shard
+pub sum_of_more : (xs : List ℤ) (i : ℕ) → i < length xs → int_wrap w64 (sum_of (take i xs) +ℤ slice_index_or xs i (pos 0)) ≡ sum_of (take (i + 1) xs)
+sum_of_more xs i h =
+    int_wrap-add_left w64 (fold ◌+ℤ◌ (pos 0) (take i xs)) (slice_index_or xs i (pos 0)) ∙ ap (int_wrap w64) (sym (fold_more ◌+ℤ◌ (pos 0) xs i (pos 0) h))
+
+-- a counter of so many shards with this sum
+abbrev pub count_from : ℕ → ℤ → Count
+count_from shards sum = record { shards = shards; sum = sum }
+
+-- two counters with as many shards and one sum are one value
+count_is : (m n : ℕ) (y z : ℤ) → m ≡ n → y ≡ z → count_from m y ≡ count_from n z
+count_is m n y z e f = ap (λ x. count_from x y) e ∙ ap (count_from n) f
+
+-- what an addition to one shard leaves
+pub added : (by : ℤ) (xs ys : List ℤ) (i : ℕ) → i < length xs → ys ≡ slice_set xs i (int_wrap w64 (slice_index_or xs i (pos 0) +ℤ by)) →
+    count_from (length ys) (sum_of ys) ≡ count_from (length xs) (int_wrap w64 (sum_of xs +ℤ by))
+added by xs ys i h e = count_is (length ys) (length xs) (sum_of ys) (int_wrap w64 (sum_of xs +ℤ by)) (ap length e ∙ length-set xs i _) (ap sum_of e ∙ sum_of-set by xs i h)

@@ -1,0 +1,26 @@
+-- How refusals are reported.
+use Rattle.std.specs.Prelude.{ℕ, List, codes}
+use Rattle.papaya_words.specs.declared.probe.Refused.{Refused}
+use Rattle.papaya_words.specs.declared.probe.Refused.TheVariants.{Memory, Capacity, WrongGuard, RemoveNothing, ZeroChunk, Shape, KeyClash, Item}
+
+-- the number by which a refusal is reported
+abbrev pub number_of : Refused → ℕ
+number_of Memory = 1
+number_of Capacity = 2
+number_of WrongGuard = 3
+number_of RemoveNothing = 4
+number_of ZeroChunk = 5
+number_of Shape = 6
+number_of KeyClash = 7
+number_of Item = 8
+
+-- the name by which a refusal is printed
+abbrev pub name_of : Refused → List ℕ
+name_of Memory = codes "Memory"
+name_of Capacity = codes "Capacity"
+name_of WrongGuard = codes "WrongGuard"
+name_of RemoveNothing = codes "RemoveNothing"
+name_of ZeroChunk = codes "ZeroChunk"
+name_of Shape = codes "Shape"
+name_of KeyClash = codes "KeyClash"
+name_of Item = codes "Item"
