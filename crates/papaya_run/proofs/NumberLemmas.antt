@@ -20,6 +20,6 @@ fits_before text i n inside w = omega (arith, w.1, w.2, digits_value-take-le 10 
 -- a loop over all digits has the number
 pub whole : (text : List ℕ) (i n : ℕ) → length text ≤ i → AllDigits 10 (take i text) → n ≡ digits_value 10 (take i text) → 0 < length text → n < 2 ^ 64 → WritesNumber text n
 whole text i n end digits value some fits =
-  let P : List ℕ → Type 0 = λ t. AllDigits 10 t × (n ≡ digits_value 10 t) in
-  let all : P text = subst P (take_all i text end) (digits, value) in
-  ((some, all.0), sym all.1, fits)
+    let P : List ℕ → Type 0 = λ t. AllDigits 10 t × (n ≡ digits_value 10 t) in
+    let all : P text = subst P (take_all i text end) (digits, value) in
+    ((some, all.0), sym all.1, fits)

@@ -39,10 +39,10 @@ cut_once [] b [] d e na nc = (refl, ap others e)
 cut_once [] b (y ∷ c) d e na nc = absurd (nc (has_space y c (sym (ap first e))))
 cut_once (x ∷ a) b [] d e na nc = absurd (na (has_space x a (ap first e)))
 cut_once (x ∷ a) b (y ∷ c) d e na nc =
-  let rest : (a ≡ c) × (b ≡ d) = cut_once a b c d (ap others e) (λ h. na (tail_has x a h)) (λ h. nc (tail_has y c h)) in
-  let heads : x ∷ a ≡ y ∷ a = ap (λ z. z ∷ a) (ap first e) in
-  let tails : y ∷ a ≡ y ∷ c = ap (λ z. y ∷ z) rest.0 in
-  (heads ∙ tails, rest.1)
+    let rest : (a ≡ c) × (b ≡ d) = cut_once a b c d (ap others e) (λ h. na (tail_has x a h)) (λ h. nc (tail_has y c h)) in
+    let heads : x ∷ a ≡ y ∷ a = ap (λ z. z ∷ a) (ap first e) in
+    let tails : y ∷ a ≡ y ∷ c = ap (λ z. y ∷ z) rest.0 in
+    (heads ∙ tails, rest.1)
 
 -- nothing is in an empty list
 empty_has : ¬ (Contains {X = ℕ} [] 32)
@@ -57,9 +57,9 @@ no_space_more x xs other rest (suc k, inside, e) = rest (k, omega (arith, inside
 digits_no_space : (text : List ℕ) → AllDigits 10 text → ¬ (Contains text 32)
 digits_no_space [] w = empty_has
 digits_no_space (x ∷ xs) w =
-  let Below : ℕ → Type 0 = λ b. digit_value b < 10 in
-  let Absurd : 36 < 10 → ⊥ = λ h. omega (arith, h) in
-  no_space_more x xs (λ e. let small : digit_value 32 < 10 = subst Below e w.0 in omega (arith, small)) (digits_no_space xs w.1)
+    let Below : ℕ → Type 0 = λ b. digit_value b < 10 in
+    let Absurd : 36 < 10 → ⊥ = λ h. omega (arith, h) in
+    no_space_more x xs (λ e. let small : digit_value 32 < 10 = subst Below e w.0 in omega (arith, small)) (digits_no_space xs w.1)
 
 -- a number has no space
 pub number_no_space : (text : List ℕ) (n : ℕ) → WritesNumber text n → ¬ (Contains text 32)
@@ -101,12 +101,12 @@ CallParts name rest (Insert k v) = (codes "i" ≡ name) × (key value : List ℕ
 
 call_parts : (text name rest : List ℕ) (call : Call ℕ ℕ) → Parts text name rest → WritesCall text call → CallParts name rest call
 call_parts text name rest (Get k) parts (key, w, e) =
-  let cut : (codes "g" ≡ name) × (key ≡ rest) = cut_once (codes "g") key name rest (sym e ∙ parts.0) g_no_space parts.1 in
-  let P : List ℕ → Type 0 = λ t. WritesNumber t k in
-  (cut.0, subst P cut.1 w)
+    let cut : (codes "g" ≡ name) × (key ≡ rest) = cut_once (codes "g") key name rest (sym e ∙ parts.0) g_no_space parts.1 in
+    let P : List ℕ → Type 0 = λ t. WritesNumber t k in
+    (cut.0, subst P cut.1 w)
 call_parts text name rest (Insert k v) parts (key, value, w, u, e) =
-  let cut : (codes "i" ≡ name) × (key ++ 32 ∷ value ≡ rest) = cut_once (codes "i") (key ++ 32 ∷ value) name rest (sym e ∙ parts.0) i_no_space parts.1 in
-  (cut.0, key, value, w, u, sym cut.1)
+    let cut : (codes "i" ≡ name) × (key ++ 32 ∷ value ≡ rest) = cut_once (codes "i") (key ++ 32 ∷ value) name rest (sym e ∙ parts.0) i_no_space parts.1 in
+    (cut.0, key, value, w, u, sym cut.1)
 
 -- a call of another name is none
 pub no_name : (text name rest : List ℕ) → Parts text name rest → ((called : CallName) → name ≢ call_word called) → (call : Call ℕ ℕ) → ¬ (WritesCall text call)
@@ -116,25 +116,25 @@ no_name text name rest parts none (Insert k v) w = none called.Insert (sym (call
 -- what an insertion has behind its name
 pub inserts : (text name rest : List ℕ) (Q : Type 0) → Parts text name rest → name ≡ codes "i" → (call : Call ℕ ℕ) → WritesCall text call → ((k v : ℕ) (key value : List ℕ) → WritesNumber key k → WritesNumber value v → rest ≡ key ++ 32 ∷ value → Q) → Q
 inserts text name rest Q parts named (Get k) w then =
-  let e : codes "g" ≡ codes "i" = (call_parts text name rest (Get k) parts w).0 ∙ named in
-  absurd (let h : 103 ≡ 105 = ap first e in omega (arith, h))
+    let e : codes "g" ≡ codes "i" = (call_parts text name rest (Get k) parts w).0 ∙ named in
+    absurd (let h : 103 ≡ 105 = ap first e in omega (arith, h))
 inserts text name rest Q parts named (Insert k v) w then =
-  let p : CallParts name rest (Insert k v) = call_parts text name rest (Insert k v) parts w in
-  then k v p.1 p.2 p.3 p.4 p.5
+    let p : CallParts name rest (Insert k v) = call_parts text name rest (Insert k v) parts w in
+    then k v p.1 p.2 p.3 p.4 p.5
 
 -- an insertion with no space behind its key
 pub no_value : (text name rest : List ℕ) → Parts text name rest → name ≡ codes "i" → ¬ (Contains rest 32) → (call : Call ℕ ℕ) → ¬ (WritesCall text call)
 no_value text name rest parts named none call w = inserts text name rest ⊥ parts named call w (λ k v key value u s e.
-  let P : List ℕ → Type 0 = λ t. Contains t 32 in
-  none (subst P (sym e) (Contains-append_right key (32 ∷ value) 32 (has_space 32 value refl))))
+    let P : List ℕ → Type 0 = λ t. Contains t 32 in
+    none (subst P (sym e) (Contains-append_right key (32 ∷ value) 32 (has_space 32 value refl))))
 
 -- an insertion whose key or value is no number
 pub no_number : (text name rest key value : List ℕ) → Parts text name rest → name ≡ codes "i" → Parts rest key value → (((n : ℕ) → ¬ (WritesNumber key n)) ⊎ ((n : ℕ) → ¬ (WritesNumber value n))) → (call : Call ℕ ℕ) → ¬ (WritesCall text call)
 no_number text name rest key value parts named split none call w = inserts text name rest ⊥ parts named call w (λ k v own other u s e.
-  let cut : (own ≡ key) × (other ≡ value) = cut_once own other key value (sym e ∙ split.0) (number_no_space own k u) split.1 in
-  let P : List ℕ → Type 0 = λ t. WritesNumber t k in
-  let R : List ℕ → Type 0 = λ t. WritesNumber t v in
-  elim none [ inl h ↦ h k (subst P cut.0 u) | inr h ↦ h v (subst R cut.1 s) ])
+    let cut : (own ≡ key) × (other ≡ value) = cut_once own other key value (sym e ∙ split.0) (number_no_space own k u) split.1 in
+    let P : List ℕ → Type 0 = λ t. WritesNumber t k in
+    let R : List ℕ → Type 0 = λ t. WritesNumber t v in
+    elim none [ inl h ↦ h k (subst P cut.0 u) | inr h ↦ h v (subst R cut.1 s) ])
 
 -- the word that a turn's line begins with
 abbrev word_of : Turn ℕ ℕ → List ℕ
@@ -153,15 +153,15 @@ turn_word line (Finish c n) ((caller, w, e), most) = (caller, e, finish_no_space
 -- a line without a space asks for no turn
 pub no_space_turn : (line : List ℕ) → ¬ (Contains line 32) → (turn : Turn ℕ ℕ) → ¬ (WritesTurn line turn)
 no_space_turn line none turn w =
-  let t : (rest : List ℕ) × (line ≡ word_of turn ++ 32 ∷ rest) × ¬ (Contains (word_of turn) 32) = turn_word line turn w in
-  let P : List ℕ → Type 0 = λ l. Contains l 32 in
-  none (subst P (sym t.1) (Contains-append_right (word_of turn) (32 ∷ t.0) 32 (has_space 32 t.0 refl)))
+    let t : (rest : List ℕ) × (line ≡ word_of turn ++ 32 ∷ rest) × ¬ (Contains (word_of turn) 32) = turn_word line turn w in
+    let P : List ℕ → Type 0 = λ l. Contains l 32 in
+    none (subst P (sym t.1) (Contains-append_right (word_of turn) (32 ∷ t.0) 32 (has_space 32 t.0 refl)))
 
 -- the part before the first space is the turn's word
 turn_first : (line verb rest : List ℕ) → Parts line verb rest → (turn : Turn ℕ ℕ) → WritesTurn line turn → word_of turn ≡ verb
 turn_first line verb rest parts turn w =
-  let t : (rest : List ℕ) × (line ≡ word_of turn ++ 32 ∷ rest) × ¬ (Contains (word_of turn) 32) = turn_word line turn w in
-  (cut_once (word_of turn) t.0 verb rest (sym t.1 ∙ parts.0) t.2 parts.1).0
+    let t : (rest : List ℕ) × (line ≡ word_of turn ++ 32 ∷ rest) × ¬ (Contains (word_of turn) 32) = turn_word line turn w in
+    (cut_once (word_of turn) t.0 verb rest (sym t.1 ∙ parts.0) t.2 parts.1).0
 
 -- a line of another verb asks for no turn
 pub no_verb : (line word rest : List ℕ) → Parts line word rest → ((v : Verb) → word ≢ verb_word v) → (turn : Turn ℕ ℕ) → ¬ (WritesTurn line turn)
@@ -173,7 +173,7 @@ no_verb line word rest parts none (Finish c n) w = none verb.Finish (sym (turn_f
 -- what a begin has behind its verb
 begins : (line word rest : List ℕ) → Parts line word rest → word ≡ codes "begin" → (turn : Turn ℕ ℕ) → WritesTurn line turn → ((c : ℕ) (what : Call ℕ ℕ) (caller call : List ℕ) → WritesCaller caller c → WritesCall call what → rest ≡ caller ++ 32 ∷ call → ⊥) → ⊥
 begins line word rest parts named (Begin c what) (caller, call, w, u, e) then =
-  then c what caller call w u (sym (cut_once (codes "begin") (caller ++ 32 ∷ call) word rest (sym e ∙ parts.0) begin_no_space parts.1).1)
+    then c what caller call w u (sym (cut_once (codes "begin") (caller ++ 32 ∷ call) word rest (sym e ∙ parts.0) begin_no_space parts.1).1)
 begins line word rest parts named (Step c false) w then = let h : 115 ≡ 98 = ap first (turn_first line word rest parts (Step c false) w ∙ named) in omega (arith, h)
 begins line word rest parts named (Step c true) w then = let h : 114 ≡ 98 = ap first (turn_first line word rest parts (Step c true) w ∙ named) in omega (arith, h)
 begins line word rest parts named (Finish c n) w then = let h : 102 ≡ 98 = ap first (turn_first line word rest parts (Finish c n) w ∙ named) in omega (arith, h)
@@ -181,16 +181,16 @@ begins line word rest parts named (Finish c n) w then = let h : 102 ≡ 98 = ap 
 -- a begin with no space behind its caller
 pub no_call : (line word rest : List ℕ) → Parts line word rest → word ≡ codes "begin" → ¬ (Contains rest 32) → (turn : Turn ℕ ℕ) → ¬ (WritesTurn line turn)
 no_call line word rest parts named none turn w = begins line word rest parts named turn w (λ c what caller call u s e.
-  let P : List ℕ → Type 0 = λ t. Contains t 32 in
-  none (subst P (sym e) (Contains-append_right caller (32 ∷ call) 32 (has_space 32 call refl))))
+    let P : List ℕ → Type 0 = λ t. Contains t 32 in
+    none (subst P (sym e) (Contains-append_right caller (32 ∷ call) 32 (has_space 32 call refl))))
 
 -- a begin whose caller or call is none
 pub no_begin : (line word rest caller call : List ℕ) → Parts line word rest → word ≡ codes "begin" → Parts rest caller call → (((c : ℕ) → ¬ (WritesCaller caller c)) ⊎ ((what : Call ℕ ℕ) → ¬ (WritesCall call what))) → (turn : Turn ℕ ℕ) → ¬ (WritesTurn line turn)
 no_begin line word rest caller call parts named split none turn w = begins line word rest parts named turn w (λ c what own other u s e.
-  let cut : (own ≡ caller) × (other ≡ call) = cut_once own other caller call (sym e ∙ split.0) (number_no_space own c u.0) split.1 in
-  let P : List ℕ → Type 0 = λ t. WritesCaller t c in
-  let R : List ℕ → Type 0 = λ t. WritesCall t what in
-  elim none [ inl h ↦ h c (subst P cut.0 u) | inr h ↦ h what (subst R cut.1 s) ])
+    let cut : (own ≡ caller) × (other ≡ call) = cut_once own other caller call (sym e ∙ split.0) (number_no_space own c u.0) split.1 in
+    let P : List ℕ → Type 0 = λ t. WritesCaller t c in
+    let R : List ℕ → Type 0 = λ t. WritesCall t what in
+    elim none [ inl h ↦ h c (subst P cut.0 u) | inr h ↦ h what (subst R cut.1 s) ])
 
 -- what a refusal says, of a result that is None
 pub none_call : (text : List ℕ) (r : Option (Call ℕ ℕ)) → r ≡ None → ((call : Call ℕ ℕ) → ¬ (WritesCall text call)) → MatchOption r ((call : Call ℕ ℕ) → ¬ (WritesCall text call)) (WritesCall text)

@@ -6,9 +6,8 @@ ghost use Rattle.papaya_run.specs.declared.arguments.Arguments.{Arguments};
 ghost use Rattle.papaya_run.specs.declared.arguments.Hashing.{Hashing};
 ghost use Rattle.papaya_run.specs.Arguments.{WritesArguments, WritesMode, backend_word, hashing_word};
 
-use papaya_words::probe::ResizeMode;
-
 use crate::numbers::number_of;
+use papaya_words::probe::ResizeMode;
 
 /// What the lines run on.
 #[derive(Clone, Copy, Debug, PartialEq, Eq)]
@@ -50,7 +49,9 @@ fn mode_of(word: &[u8]) -> Option<ResizeMode>
 {
     match word {
         b"block" => Some(ResizeMode::Blocking),
-        [b'i', b'n', b'c', b':', chunk @ ..] => Some(ResizeMode::Incremental(number_of(chunk)? as usize)),
+        [b'i', b'n', b'c', b':', chunk @ ..] => Some(ResizeMode::Incremental(
+            number_of(chunk)? as usize,
+        )),
         _ => None,
     }
 }

@@ -2,11 +2,10 @@
 ghost use Rattle.std.specs.Prelude.{◌≡◌};
 ghost use Rattle.papaya_run.specs.Failure.{status_of};
 
+use papaya_words::probe::Refused;
 use std::error::Error;
 use std::fmt;
 use std::io::Write;
-
-use papaya_words::probe::Refused;
 
 /// Why a run ended early. Its text is what the program prints on standard error, behind its name.
 #[derive(Clone, Copy, Debug, PartialEq, Eq)]
@@ -30,7 +29,7 @@ impl fmt::Display for Failure {
             Failure::Line(number) => write!(f, "line {number}: bad command"),
             Failure::Refused(refused) => {
                 let number = refused.number();
-                write!(f, "refused {number} {refused:?}")
+                write!(f, "refused {number} {refused}")
             }
             Failure::Input => write!(f, "input failed"),
             Failure::Output => write!(f, "output failed"),

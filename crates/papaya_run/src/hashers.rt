@@ -71,7 +71,7 @@ pub struct Zero;
 impl BuildHasher for Zero {
     type Hasher = ZeroHasher;
 
-    ghost build_hasher = { λ _. record { } };
+    ghost build_hasher = { λ _. record {} };
 
     fn build_hasher(&self) -> ZeroHasher {
         ZeroHasher

@@ -1,12 +1,13 @@
 //! The lines of a reader.
-use std::alloc::Global;
-use std::io::{BufRead, ErrorKind};
-
-use papaya_core::trace::Turn;
-use papaya_words::probe::Refused;
+ghost use Rattle.std.specs.Prelude.{◌≡◌, OnOk};
+ghost use Rattle.papaya_run.specs.Lines.{Adds, line_of};
 
 use crate::failure::Failure;
 use crate::script::turn_of;
+use papaya_core::trace::Turn;
+use papaya_words::probe::Refused;
+use std::alloc::Global;
+use std::io::{BufRead, ErrorKind};
 
 /// Reads a line into `line`, without its line end, or answers false at the input's end. The last
 /// line may lack its line end. Interrupted reads are made again, as std does.
@@ -43,6 +44,21 @@ pub struct Line {
     pub is_finish: bool,
 }
 
+/// The line of this number, which asks for this turn.
+fn line_of(number: u64, turn: &Turn<u64, u64>) -> Line
+    ensures { result ≡ line_of number turn.now }
+{
+    let (caller, is_finish) = match turn {
+        Turn::Begin(caller, _) | Turn::Step(caller, _) => (*caller, false),
+        Turn::Finish(caller, _) => (*caller, true),
+    };
+    Line {
+        number,
+        caller,
+        is_finish,
+    }
+}
+
 /// A whole script, up to its first line of bad form.
 #[derive(Drop)]
 pub struct Script {
@@ -73,21 +89,15 @@ impl Script {
         Err(Failure::Input)
     }
 
-    /// Adds the turn of a line that is not empty.
-    fn add(&mut self, number: u64, line: &[u8]) -> Result<(), Failure> {
+    /// Adds a line that is not empty, or notes that it is of bad form.
+    fn add(&mut self, number: u64, line: &[u8]) -> Result<(), Failure>
+        ensures { OnOk result (Adds self.old number line.now self.new) }
+    {
         let Some(turn) = turn_of(line) else {
             self.bad_line = Some(number);
             return Ok(());
         };
-        let (caller, is_finish) = match &turn {
-            Turn::Begin(caller, _) | Turn::Step(caller, _) => (*caller, false),
-            Turn::Finish(caller, _) => (*caller, true),
-        };
-        let line = Line {
-            number,
-            caller,
-            is_finish,
-        };
+        let line = line_of(number, &turn);
         self.turns
             .push(turn)
             .map_err(|_| Failure::Refused(Refused::Memory))?;

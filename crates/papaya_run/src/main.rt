@@ -10,13 +10,11 @@ mod replies;
 pub mod run;
 mod script;
 
+use crate::failure::Failure;
+use papaya_words::probe::Refused;
 use std::env;
 use std::io::ErrorKind;
 use std::process::ExitCode;
-
-use papaya_words::probe::Refused;
-
-use crate::failure::Failure;
 
 /// The words behind the program's name.
 fn words(rt: &HostRuntime) -> Result<Vec<String>, Failure> {

@@ -6,10 +6,9 @@ ghost use Rattle.papaya_run.specs.declared.script.Verb.{Verb};
 ghost use Rattle.papaya_call.specs.declared.call.Call.{Call};
 ghost use Rattle.papaya_core.specs.declared.trace.Turn.{Turn};
 
+use crate::numbers::number_of;
 use papaya_call::call::Call;
 use papaya_core::trace::Turn;
-
-use crate::numbers::number_of;
 
 /// How many callers a script may name.
 const CALLERS: u64 = 64;

@@ -1,10 +1,9 @@
+use super::run_on;
 use std::alloc::Global;
 use std::io;
 use std::io::{Read, Write};
 use std::process::Abort;
 use std::test::Fail;
-
-use super::run_on;
 
 /// A reader that gives a few bytes at a time, and may fail when it has given all of them.
 #[derive(Drop)]
@@ -59,7 +58,15 @@ fn words(alloc: Global, text: &str) -> Result<Vec<String>, Fail> {
 }
 
 /// Runs a script, and asserts what it prints, what it says on standard error, and its status.
-fn expect<A: Abort>(rt: &A, alloc: Global, args: &str, script: &[u8], output: &str, errors: &str, status: u8) -> Result<(), Fail> {
+fn expect<A: Abort>(
+    rt: &A,
+    alloc: Global,
+    args: &str,
+    script: &[u8],
+    output: &str,
+    errors: &str,
+    status: u8,
+) -> Result<(), Fail> {
     let args = words(alloc, args)?;
     let mut source = Source {
         text: script,
@@ -69,8 +76,16 @@ fn expect<A: Abort>(rt: &A, alloc: Global, args: &str, script: &[u8], output: &s
     let mut printed = Vec::new(alloc);
     let mut said = Vec::new(alloc);
     let found = run_on(alloc, args.as_slice(), &mut source, &mut printed, &mut said);
-    assert_eq!(rt; std::str::from_utf8(printed.as_slice())?, output, "in {script:?}");
-    assert_eq!(rt; std::str::from_utf8(said.as_slice())?, errors, "in {script:?}");
+    assert_eq!(rt;
+        std::str::from_utf8(printed.as_slice())?,
+        output,
+        "in {script:?}"
+    );
+    assert_eq!(rt;
+        std::str::from_utf8(said.as_slice())?,
+        errors,
+        "in {script:?}"
+    );
     assert_eq!(rt; found, status, "in {script:?}");
     Ok(())
 }
@@ -80,8 +95,22 @@ const FIRST: &[u8] = b"begin 0 i 1 10\nbegin 1 g 1\nfinish 1\nfinish 0\nbegin 1 
 
 #[test]
 fn a_lookup_beside_an_insertion(rt: HostRuntime) -> Result<(), Fail> {
-    for args in ["core inc:64 id", "core inc:00064 zero", "core block id", "core block zero", "core inc:18446744073709551615 id"] {
-        expect(&rt, rt.alloc(), args, FIRST, "1: none\n0: none\n1: some 10\n", "", 0)?;
+    for args in [
+        "core inc:64 id",
+        "core inc:00064 zero",
+        "core block id",
+        "core block zero",
+        "core inc:18446744073709551615 id",
+    ] {
+        expect(
+            &rt,
+            rt.alloc(),
+            args,
+            FIRST,
+            "1: none\n0: none\n1: some 10\n",
+            "",
+            0,
+        )?;
     }
     Ok(())
 }
@@ -89,7 +118,8 @@ fn a_lookup_beside_an_insertion(rt: HostRuntime) -> Result<(), Fail> {
 #[test]
 fn replies(rt: HostRuntime) -> Result<(), Fail> {
     // An old value, the greatest numbers, leading noughts, empty lines, and no last line end.
-    let script = b"\nbegin 63 i 18446744073709551615 1\n\nfinish 63\nbegin 63 i 00018446744073709551615 18446744073709551615\nfinish 063\nbegin 0 g 18446744073709551615\nfinish 00";
+    let script =
+        b"\nbegin 63 i 18446744073709551615 1\n\nfinish 63\nbegin 63 i 00018446744073709551615 18446744073709551615\nfinish 063\nbegin 0 g 18446744073709551615\nfinish 00";
     let output = "63: none\n63: old 1\n0: some 18446744073709551615\n";
     for args in ["core inc:1 id", "core block zero"] {
         expect(&rt, rt.alloc(), args, script, output, "", 0)?;
@@ -122,7 +152,15 @@ fn bad_arguments(rt: HostRuntime) -> Result<(), Fail> {
         "core block ident",
     ] {
         // Also where the lines are bad and the mode would be refused.
-        expect(&rt, rt.alloc(), args, b"x\n", "", "papaya-run: bad arguments\n", 2)?;
+        expect(
+            &rt,
+            rt.alloc(),
+            args,
+            b"x\n",
+            "",
+            "papaya-run: bad arguments\n",
+            2,
+        )?;
     }
     let mut source = Source {
         text: b"",
@@ -131,14 +169,25 @@ fn bad_arguments(rt: HostRuntime) -> Result<(), Fail> {
     };
     let mut printed = Vec::new(rt.alloc());
     let mut said = Vec::new(rt.alloc());
-    assert_eq!(rt; run_on(rt.alloc(), &[], &mut source, &mut printed, &mut said), 2);
+    assert_eq!(rt;
+        run_on(rt.alloc(), &[], &mut source, &mut printed, &mut said),
+        2
+    );
     Ok(())
 }
 
 #[test]
 fn a_chunk_of_nought(rt: HostRuntime) -> Result<(), Fail> {
     for args in ["core inc:0 id", "core inc:000 zero"] {
-        expect(&rt, rt.alloc(), args, b"x\n", "", "papaya-run: refused 5 ZeroChunk\n", 1)?;
+        expect(
+            &rt,
+            rt.alloc(),
+            args,
+            b"x\n",
+            "",
+            "papaya-run: refused 5 ZeroChunk\n",
+            1,
+        )?;
     }
     Ok(())
 }
@@ -195,7 +244,15 @@ fn bad_lines(rt: HostRuntime) -> Result<(), Fail> {
         let mut script = Vec::from_slice(rt.alloc(), b"begin 0 g 7\n\nfinish 0\nbegin 0 g 8\n")?;
         script.extend_from_slice(line)?;
         script.extend_from_slice(b"\nfinish 0\n")?;
-        expect(&rt, rt.alloc(), "core inc:64 id", script.as_slice(), "0: none\n", "papaya-run: line 5: bad command\n", 2)?;
+        expect(
+            &rt,
+            rt.alloc(),
+            "core inc:64 id",
+            script.as_slice(),
+            "0: none\n",
+            "papaya-run: line 5: bad command\n",
+            2,
+        )?;
     }
     Ok(())
 }
@@ -215,7 +272,15 @@ fn lines_for_another_caller(rt: HostRuntime) -> Result<(), Fail> {
     ];
     for (script, output, line) in scripts {
         let errors = format!(in rt.alloc(); "papaya-run: line {line}: bad command\n")?;
-        expect(&rt, rt.alloc(), "core inc:64 id", script, output, errors.as_str(), 2)?;
+        expect(
+            &rt,
+            rt.alloc(),
+            "core inc:64 id",
+            script,
+            output,
+            errors.as_str(),
+            2,
+        )?;
     }
     Ok(())
 }
@@ -224,7 +289,15 @@ fn lines_for_another_caller(rt: HostRuntime) -> Result<(), Fail> {
 fn refused_steps(rt: HostRuntime) -> Result<(), Fail> {
     // Where the step makes nothing it is an ordinary one; the insertion is refused where it makes.
     let script = b"begin 2 i 1 10\nrefuse 2\nrefuse 2\nbegin 2 g 1\nfinish 2\n";
-    expect(&rt, rt.alloc(), "core inc:64 id", script, "2: refused 1 Memory\n2: none\n", "", 0)
+    expect(
+        &rt,
+        rt.alloc(),
+        "core inc:64 id",
+        script,
+        "2: refused 1 Memory\n2: none\n",
+        "",
+        0,
+    )
 }
 
 #[test]
@@ -240,7 +313,16 @@ fn faults_of_the_input(rt: HostRuntime) -> Result<(), Fail> {
         };
         let mut printed = Vec::new(rt.alloc());
         let mut said = Vec::new(rt.alloc());
-        assert_eq!(rt; run_on(rt.alloc(), args.as_slice(), &mut source, &mut printed, &mut said), 1);
+        assert_eq!(rt;
+            run_on(
+                rt.alloc(),
+                args.as_slice(),
+                &mut source,
+                &mut printed,
+                &mut said
+            ),
+            1
+        );
         assert!(rt; printed.is_empty());
         assert_eq!(rt; said.as_slice(), b"papaya-run: input failed\n".as_slice());
     }
@@ -258,7 +340,16 @@ fn faults_of_the_output(rt: HostRuntime) -> Result<(), Fail> {
         };
         let mut said = Vec::new(rt.alloc());
         let mut source = FIRST;
-        assert_eq!(rt; run_on(rt.alloc(), args.as_slice(), &mut source, &mut output, &mut said), 1);
+        assert_eq!(rt;
+            run_on(
+                rt.alloc(),
+                args.as_slice(),
+                &mut source,
+                &mut output,
+                &mut said
+            ),
+            1
+        );
         assert_eq!(rt; output.text.as_slice(), kept.as_bytes());
         assert_eq!(rt; said.as_slice(), b"papaya-run: output failed\n".as_slice());
     }
@@ -273,7 +364,10 @@ fn faults_of_the_errors(rt: HostRuntime) -> Result<(), Fail> {
     };
     let mut printed = Vec::new(rt.alloc());
     let mut source = FIRST;
-    assert_eq!(rt; run_on(rt.alloc(), &[], &mut source, &mut printed, &mut errors), 2);
+    assert_eq!(rt;
+        run_on(rt.alloc(), &[], &mut source, &mut printed, &mut errors),
+        2
+    );
     assert_eq!(rt; errors.text.as_slice(), b"pap".as_slice());
     Ok(())
 }
