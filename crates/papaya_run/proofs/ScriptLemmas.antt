@@ -1,9 +1,9 @@
 -- A text is cut at its first space in one way alone, so a line asks for one turn at most.
-use Rattle.std.proofs.Common.{◌≡◌, ◌≢◌, ℕ, ◌+◌, ◌<◌, ◌≤◌, List, [], ◌∷◌, ◌++◌, length, Bool, true, false, refl, sym, ◌∙◌, ap, subst, arith, Contains, codes, inl, inr, suc, zero}
-use Rattle.std.specs.Prelude.{slice_index_or, ◌⊎◌, Option, None, MatchOption}
+use Rattle.std.proofs.Common.{◌≡◌, ◌≢◌, ℕ, ◌<◌, List, [], ◌∷◌, ◌++◌, true, false, refl, sym, ◌∙◌, ap, subst, arith, Contains, codes, inl, inr, suc, zero}
+use Rattle.std.specs.Prelude.{◌⊎◌, Option, None, MatchOption}
 use Rattle.std.specs.Char.{digit_value}
 use Rattle.std.specs.Str.Parse.{AllDigits}
-use Rattle.std.proofs.lemmas.List.Elements.{Contains-append_cases, Contains-append_right}
+use Rattle.std.proofs.lemmas.List.Elements.{Contains-append_right}
 use Rattle.papaya_call.specs.declared.call.Call.{Call}
 use Rattle.papaya_call.specs.declared.call.Call.TheVariants.{Get, Insert}
 use Rattle.papaya_core.specs.declared.trace.Turn.{Turn}
@@ -13,7 +13,7 @@ use Rattle.papaya_run.specs.declared.script.CallName.TheVariants as called
 use Rattle.papaya_run.specs.declared.script.Verb.{Verb}
 use Rattle.papaya_run.specs.declared.script.Verb.TheVariants as verb
 use Rattle.papaya_run.specs.Numbers.{WritesNumber}
-use Rattle.papaya_run.specs.Script.{Parts, WritesCaller, WritesCall, WritesVerb, WritesTurn, call_word, verb_word}
+use Rattle.papaya_run.specs.Script.{Parts, WritesCaller, WritesCall, WritesTurn, call_word, verb_word}
 
 -- the first of a list, or 0
 abbrev first : List ℕ → ℕ

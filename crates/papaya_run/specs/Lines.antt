@@ -1,6 +1,5 @@
 -- What a script keeps of its lines.
 use Rattle.std.specs.Prelude.{◌≡◌, ℕ, List, [], ◌∷◌, ◌++◌, true, false, Some, ◌⊎◌}
-use Rattle.papaya_call.specs.declared.call.Call.{Call}
 use Rattle.papaya_core.specs.declared.trace.Turn.{Turn}
 use Rattle.papaya_core.specs.declared.trace.Turn.TheVariants.{Begin, Step, Finish}
 use Rattle.papaya_run.specs.declared.input.Line.{Line}

@@ -1,4 +1,4 @@
-use Rattle.std.proofs.Common.{◌≡◌, ℕ, MatchOption, ◌<◌, Option, subst, sym, arith, rules}
+use Rattle.std.proofs.Common.{ℕ, MatchOption, ◌<◌, Option, subst, sym, arith, rules}
 use Rattle.std.specs.Char.{digit_value}
 use Rattle.papaya_run.specs.Numbers.{WritesNumber}
 use Rattle.papaya_run.proofs.NumberLemmas.{digit_below, whole}

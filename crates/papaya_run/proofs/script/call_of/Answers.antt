@@ -1,4 +1,4 @@
-use Rattle.std.proofs.Common.{◌≡◌, ◌∙◌, ap, inl, inr, codes}
+use Rattle.std.proofs.Common.{◌∙◌, ap, inl, inr}
 use Rattle.papaya_run.specs.Script.{call_word}
 use Rattle.papaya_run.proofs.ScriptLemmas.{no_name, no_value, no_number, none_call}
 use Rattle.papaya_run.proofs.script.call_of.Goals as goal

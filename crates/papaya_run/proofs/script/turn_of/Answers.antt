@@ -1,4 +1,4 @@
-use Rattle.std.proofs.Common.{◌≡◌, ◌∙◌, ap, inl, inr, codes}
+use Rattle.std.proofs.Common.{◌∙◌, ap, inl, inr}
 use Rattle.papaya_run.specs.Script.{verb_word}
 use Rattle.papaya_run.proofs.ScriptLemmas.{no_space_turn, no_verb, no_call, no_begin, none_turn}
 use Rattle.papaya_run.proofs.script.turn_of.Goals as goal
