@@ -172,7 +172,7 @@ module _ (limit : ℕ → ℕ) where
       chosen (λ s. IsStep (Leaving u) s (Load (Next u))) (word == 0) (Ended Absent) (Searching (Sizing word))
       (λ e. step_aside (Leaving u) (Ended Absent) (Load (Next u)) refl refl tt tt (λ t. omega arith) (λ n b. (n, omega arith, tt)) (λ v i. absurd i))
       (λ e. let up : u < word = ⊎_elim (λ (z : word ≡ 0). absurd (let q : (word == 0) ≡ true = eq-eqb word 0 z in cc (q, e))) (λ l. l) rises in
-          step_aside (Leaving u) (Searching (Sizing word)) (Load (Next u)) refl refl tt tt (λ t. left_later limit t u word up) (λ n b. (n, omega arith, omega (arith, b, up))) (λ v i. absurd i))
+      step_aside (Leaving u) (Searching (Sizing word)) (Load (Next u)) refl refl tt tt (λ t. left_later limit t u word up) (λ n b. (n, omega arith, omega (arith, b, up))) (λ v i. absurd i))
 
   -- a table is entered
   pub step_size : (hash u slots : ℕ) → IsStep (Searching (Sizing u)) (Searching (Looking (first_place hash u slots (limit u)))) (SizeOf u)

@@ -11,4 +11,6 @@ pub mod exchanges;
 pub mod loads;
 pub mod machine;
 pub mod search;
+#[cfg(test)]
+mod tests;
 pub mod write;
