@@ -1,6 +1,6 @@
 -- A lookup's loads are bounded: by induction over the answers.
-use Rattle.std.proofs.Common.{◌≡◌, ◌⊎◌, inl, inr, ⊎_elim, ℕ, ◌+◌, ◌≤◌, List, [], ◌∷◌, sym, subst, refl, arith}
-use Rattle.std.specs.List.{All, Contains}
+use Rattle.std.proofs.Common.{◌≡◌, ⊎_elim, ℕ, ◌≤◌, List, [], ◌∷◌, sym, subst, refl, arith}
+use Rattle.std.specs.List.{All}
 use Rattle.std.proofs.lemmas.List.Elements.{All-cons, All-nil}
 use Rattle.papaya_words.specs.Word.{kind_of}
 use Rattle.papaya_words.specs.declared.probe.ResizeMode.{ResizeMode}
@@ -15,11 +15,10 @@ use Rattle.papaya_call.specs.declared.machine.State.{State}
 use Rattle.papaya_call.specs.declared.machine.State.TheVariants.{AtRoot, Making, Opening, Searching, Writing, Counting, Leaving, Ended}
 use Rattle.papaya_call.specs.declared.machine.Machine.{Machine}
 use Rattle.papaya_call.specs.Machine.{IsLookup, ask_of, after, started, at_root, leaves, goes_as}
-use Rattle.papaya_call.specs.Machine as machine
 use Rattle.papaya_call.specs.Search.{first_place, look_at, at_yes as search_compared}
 use Rattle.papaya_call.specs.Loads.{IsAnswer, AreAnswers, IsBounded, asked, tables_entered, tables_loaded}
 use Rattle.papaya_call.proofs.LoadsLists.{count, IsFrom, from_nil}
-use Rattle.papaya_call.proofs.LoadsSteps.{lookup, IsReader, IsBelow, IsIn, left, AreKnown, IsStep, leads_look, leads_compared, step_root, step_next, step_size, step_load, step_compare, step_ended}
+use Rattle.papaya_call.proofs.LoadsSteps.{lookup, IsReader, IsBelow, left, AreKnown, IsStep, leads_look, leads_compared, step_root, step_next, step_size, step_load, step_compare, step_ended}
 
 module _ (limit : ℕ → ℕ) (hash initial : ℕ) (mode : ResizeMode) where
   -- the lookup in a state

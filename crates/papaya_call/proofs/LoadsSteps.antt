@@ -1,5 +1,5 @@
 -- What one answer leaves a lookup to load.
-use Rattle.std.proofs.Common.{◌≡◌, ◌⊎◌, inl, inr, ⊎_elim, ℕ, ◌+◌, ◌-◌, ◌<◌, ◌≤◌, ◌==◌, nat_lt, Bool, cond, true, false, Option, None, Some, List, [], ◌∷◌, refl, sym, subst, arith}
+use Rattle.std.proofs.Common.{◌≡◌, ◌⊎◌, inl, inr, ⊎_elim, ℕ, ◌+◌, ◌-◌, ◌<◌, ◌≤◌, ◌==◌, nat_lt, Bool, true, false, None, List, ◌∷◌, refl, sym, subst, arith}
 use Rattle.std.specs.List.{All, Contains, cons_option}
 use Rattle.std.proofs.lemmas.Bool.{ltb-true, eq-eqb}
 use Rattle.std.proofs.lemmas.List.Elements.{All-cons}
@@ -8,27 +8,23 @@ use Rattle.papaya_words.specs.declared.word.Kind.{Kind}
 use Rattle.papaya_words.specs.declared.word.Kind.TheVariants as kinds
 use Rattle.papaya_words.specs.declared.probe.ResizeMode.{ResizeMode}
 use Rattle.papaya_words.specs.declared.probe.ResizeMode.TheVariants.{Incremental, Blocking}
-use Rattle.papaya_call.specs.declared.ask.At.{At}
 use Rattle.papaya_call.specs.declared.ask.At.TheVariants.{Root, Next, Slot}
 use Rattle.papaya_call.specs.declared.ask.Ask.{Ask}
 use Rattle.papaya_call.specs.declared.ask.Ask.TheVariants.{Load, SameKey, SizeOf, Done}
-use Rattle.papaya_call.specs.declared.ask.Answer.{Answer}
-use Rattle.papaya_call.specs.declared.ask.Answer.TheVariants as answers
 use Rattle.papaya_call.specs.declared.call.Reply.{Reply}
 use Rattle.papaya_call.specs.declared.call.Reply.TheVariants.{Absent, Found}
 use Rattle.papaya_call.specs.declared.call.Task.TheVariants.{Get}
 use Rattle.papaya_call.specs.declared.search.Place.{Place}
-use Rattle.papaya_call.specs.declared.search.Search.{Search}
 use Rattle.papaya_call.specs.declared.search.Search.TheVariants.{Sizing, Looking, Comparing}
 use Rattle.papaya_call.specs.declared.search.Seen.{Seen}
-use Rattle.papaya_call.specs.declared.search.Seen.TheVariants.{On, Empty, Here, Over}
+use Rattle.papaya_call.specs.declared.search.Seen.TheVariants.{On, Over}
 use Rattle.papaya_call.specs.declared.write.Made.{Made}
 use Rattle.papaya_call.specs.declared.machine.State.{State}
 use Rattle.papaya_call.specs.declared.machine.State.TheVariants.{AtRoot, Making, Opening, Searching, Writing, Counting, Leaving, Ended}
 use Rattle.papaya_call.specs.declared.machine.Machine.{Machine}
 use Rattle.papaya_call.specs.Search.{first_place, next_place, go_on, compare_byte, look_at, match_at, at_yes as search_compared}
-use Rattle.papaya_call.specs.Machine.{IsLookup, ask_of, after, at_root, leaves, passes, goes_as}
-use Rattle.papaya_call.specs.Loads.{IsAnswer, IsRising, table_entered, table_loaded}
+use Rattle.papaya_call.specs.Machine.{IsLookup, at_root, leaves, passes, goes_as}
+use Rattle.papaya_call.specs.Loads.{table_entered, table_loaded}
 use Rattle.papaya_call.proofs.LoadsLists.{count, count-cons, IsFrom, from_lower, from_cons, contains_first, contains_more}
 use Rattle.papaya_call.proofs.LoadsLeft.{chosen, left_in, left_most, left_less, left_loaded, left_later}
 
@@ -172,7 +168,7 @@ module _ (limit : ℕ → ℕ) where
       chosen (λ s. IsStep (Leaving u) s (Load (Next u))) (word == 0) (Ended Absent) (Searching (Sizing word))
       (λ e. step_aside (Leaving u) (Ended Absent) (Load (Next u)) refl refl tt tt (λ t. omega arith) (λ n b. (n, omega arith, tt)) (λ v i. absurd i))
       (λ e. let up : u < word = ⊎_elim (λ (z : word ≡ 0). absurd (let q : (word == 0) ≡ true = eq-eqb word 0 z in cc (q, e))) (λ l. l) rises in
-          step_aside (Leaving u) (Searching (Sizing word)) (Load (Next u)) refl refl tt tt (λ t. left_later limit t u word up) (λ n b. (n, omega arith, omega (arith, b, up))) (λ v i. absurd i))
+      step_aside (Leaving u) (Searching (Sizing word)) (Load (Next u)) refl refl tt tt (λ t. left_later limit t u word up) (λ n b. (n, omega arith, omega (arith, b, up))) (λ v i. absurd i))
 
   -- a table is entered
   pub step_size : (hash u slots : ℕ) → IsStep (Searching (Sizing u)) (Searching (Looking (first_place hash u slots (limit u)))) (SizeOf u)

@@ -12,4 +12,6 @@ pub mod loads;
 pub mod machine;
 pub mod rests;
 pub mod search;
+#[cfg(test)]
+mod tests;
 pub mod write;
