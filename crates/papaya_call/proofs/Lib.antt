@@ -15,6 +15,7 @@ pub mod RestsLearn
 -- what it changes, and its refusals
 pub mod RestsReply
 pub mod RestsReplyRefused
+pub mod RestsCount
 -- how much a lookup loads
 pub mod LoadsBound
 pub mod LoadsLeft

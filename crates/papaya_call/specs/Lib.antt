@@ -1,6 +1,7 @@
 pub mod Law
 pub mod Loads
 pub mod Machine
+pub mod Owed
 pub mod Rests
 pub mod Search
 pub mod Told

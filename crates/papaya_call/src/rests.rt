@@ -12,6 +12,7 @@ ghost use Rattle.papaya_call.specs.Law.Code.{Coding};
 ghost use Rattle.papaya_call.specs.Law.Exchange.{Setting, Exchange, after as state_after, run, start};
 ghost use Rattle.papaya_call.specs.Law.Grows.{Agrees};
 ghost use Rattle.papaya_call.specs.Machine.{ask_of, kind_of_ask, after, started};
+ghost use Rattle.papaya_call.specs.Owed.{owed_by, grows_by};
 ghost use Rattle.papaya_call.specs.Rests.{Rests, IsModeOf, IsReply, change_in, change_of_reply, change_after};
 ghost use Rattle.papaya_call.specs.Told.{IsHashed, IsAsked, IsTold, IsWritten, Hands, no_hands, word_of};
 
@@ -55,4 +56,9 @@ pub fn replies<K, P>()
     ensures once { (m : Machine) (at : At) (old new : ℕ) → ask_of m ≡ Ask.Exchange at old new → change_in m.state ≡ None }
     ensures task { (m : Machine) (answer : Answer) → ((after m answer).task ≡ m.task) × ((after m answer).hash ≡ m.hash) }
     ensures refusal { (m : Machine) (answer : Answer) (refused : Refused) → ((reply : Reply) → ask_of m ≡ Ask.Done reply → ⊥) → ask_of (after m answer) ≡ Ask.Done (Reply.Refused refused) → (answer ≡ Answer.Refused refused) ⊎ ((refused ≡ Refused.Capacity) × ((t : ℕ) × (m.state ≡ State.Leaving t))) }
+{}
+
+/// What a machine has yet to add to the count after an answer is what the map grew by: it counts a claim by its next step, and a replacement never.
+pub fn counts<K, P>()
+    ensures { (g : Setting K P) (c : Coding K P) (k : K) (s : _) (m : Machine) (hands : Hands P) (answer : Answer) (es : List (Exchange P)) (hands' : Hands P) → IsTold g c k s (kind_of_ask m) hands (ask_of m) answer es hands' → owed_by (ask_of (after m answer)) ≡ grows_by (kind_of_ask m) (ask_of m) answer }
 {}
