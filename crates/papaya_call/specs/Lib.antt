@@ -1,4 +1,6 @@
 pub mod Law
 pub mod Machine
+pub mod Rests
 pub mod Search
+pub mod Told
 pub mod Write

@@ -1,5 +1,5 @@
 -- What a number that stands for a word of the law says: its kind, the pair's number and its key's hash byte.
-use Rattle.std.proofs.Common.{◌≡◌, ℕ, ◌%◌, ◌^◌, ◌<◌, Option, None, Some, refl, sym, ap, ◌∙◌, arith}
+use Rattle.std.proofs.Common.{◌≡◌, ℕ, ◌%◌, ◌^◌, ◌<◌, Some, refl, sym, ap, ◌∙◌, arith}
 use Rattle.papaya_words.specs.Word.{kind_of, kind_of_code, byte_of, pair_of, filled_word, top_byte}
 use Rattle.papaya_call.specs.Law.Exchange.{Word, Empty, Closed, Live, Marked, Copied, Buried, Setting}
 use Rattle.papaya_call.specs.Law.Invariant.{named}
