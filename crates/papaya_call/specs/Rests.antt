@@ -4,6 +4,12 @@ use Rattle.papaya_words.specs.Word.{kind_of, pair_of}
 use Rattle.papaya_words.specs.declared.word.Kind.TheVariants as word_kinds
 use Rattle.papaya_words.specs.declared.probe.ResizeMode.{ResizeMode}
 use Rattle.papaya_words.specs.declared.probe.ResizeMode.TheVariants.{Incremental, Blocking}
+use Rattle.papaya_call.specs.declared.ask.Ask.{Ask}
+use Rattle.papaya_call.specs.declared.ask.Ask.TheVariants.{Exchange as Ask_exchange}
+use Rattle.papaya_call.specs.declared.ask.Answer.{Answer}
+use Rattle.papaya_call.specs.declared.ask.Answer.TheVariants.{Exchanged}
+use Rattle.papaya_call.specs.declared.ask.StepKind.{StepKind}
+use Rattle.papaya_call.specs.declared.ask.StepKind.TheVariants as kinds
 use Rattle.papaya_call.specs.declared.call.Reply.{Reply}
 use Rattle.papaya_call.specs.declared.call.Reply.TheVariants.{Absent, Found, Inserted, Replaced, Occupied, Refused as Reply_refused}
 use Rattle.papaya_call.specs.declared.call.Task.{Task}
@@ -18,11 +24,12 @@ use Rattle.papaya_call.specs.declared.machine.State.{State as Stage}
 use Rattle.papaya_call.specs.declared.machine.State.TheVariants.{AtRoot, Making, Opening, Searching, Writing, Counting, Leaving, Ended}
 use Rattle.papaya_call.specs.declared.machine.Machine.{Machine}
 use Rattle.papaya_call.specs.Law.Exchange.{Word, Setting, State, Exchange, run, start}
-use Rattle.papaya_call.specs.Law.View.{view, look, own, held, beyond, IsPassed, IsReached}
+use Rattle.papaya_call.specs.Law.View.{Leaving as View_leaving, view, look, own, held, beyond, IsPassed, IsReached}
 use Rattle.papaya_call.specs.Law.Meaning.{IsAtMoment, map_left}
 use Rattle.papaya_call.specs.Law.Invariant.{named}
 use Rattle.papaya_call.specs.Law.Later.{Becomes}
 use Rattle.papaya_call.specs.Law.Code.{Coding, code}
+use Rattle.papaya_call.specs.Machine.{IsWriter}
 use Rattle.papaya_call.specs.Told.{Hands}
 
 -- the machine resizes as the setting does
@@ -66,10 +73,14 @@ module _ {K P : Type 0} (g : Setting K P) (c : Coding K P) (begun since : List (
     -- where p is the key's and was held there, the map had it at a moment of the call
     pub had : held (view g k was) ≡ true → WasAtMoment (Some p)
 
-  -- a write takes the place of nothing, or of a Live word of the key
-  pub record MayWrite (write : Write) : Type 0 where
+  -- a write takes the place of nothing or, where it may replace, of a Live word of the key
+  pub record MayWrite (replace : Bool) (write : Write) : Type 0 where
     pub stands : IsAt write.place
-    pub old : (write.old ≡ 0) ⊎ ((kind_of write.old ≡ word_kinds.Live) × (own (look g now k write.place.table write.place.probe.len) ≡ true))
+    pub old : (write.old ≡ 0) ⊎ ((replace ≡ true) × (kind_of write.old ≡ word_kinds.Live) × (own (look g now k write.place.table write.place.probe.len) ≡ true))
+
+  abbrev pub RestsWriting : Task → Write → Type 0
+  RestsWriting Get write = ⊥
+  RestsWriting (Insert replace) write = MayWrite replace write
 
   -- the pair of this number is the one that the call made
   abbrev pub IsOwnPair : Hands P → ℕ → Type 0
@@ -86,29 +97,38 @@ module _ {K P : Type 0} (g : Setting K P) (c : Coding K P) (begun since : List (
   RestsSearch hands (Looking at) = IsAt at
   RestsSearch hands (Comparing at word) = (p : P) × (hands.last ≡ Some p) × HasMet at word p
 
-  -- a lookup leaves a table that it passed; an insertion that leaves one is refused
+  -- the key has no place in table t, or its pair is being copied from there
+  abbrev pub HasNoPlace : ℕ → Type 0
+  HasNoPlace t = IsPassed g.places (look g now k) t ⊎ ((j : ℕ) × (p : P) × (look g now k t j ≡ View_leaving p))
+
+  -- a lookup leaves a table that it passed, and an insertion one where it has no place
   abbrev pub RestsLeaving : Task → ℕ → Type 0
   RestsLeaving Get t = (g.blocking ≡ false) × HasComeTo t × IsPassed g.places (look g now k) t
-  RestsLeaving (Insert replace) t = HasComeTo t
+  RestsLeaving (Insert replace) t = HasComeTo t × HasNoPlace t
 
-  -- what a reply says: a lookup's answer was the map's at a moment of the call, and a pair that was put in is the one that the call made
-  abbrev pub IsReply : Hands P → Reply → Type 0
-  IsReply hands Absent = WasAtMoment None
-  IsReply hands (Found n) = (p : P) × (c.number p ≡ n) × WasAtMoment (Some p)
-  IsReply hands (Occupied n) = (p : P) × (c.number p ≡ n) × WasAtMoment (Some p)
-  IsReply hands (Inserted n) = IsOwnPair hands n
-  IsReply hands (Replaced m n) = IsOwnPair hands n
-  IsReply hands (Reply_refused refused) = Unit {0}
+  -- some pair of this number was the key's at a moment of the call
+  abbrev pub HadPair : ℕ → Type 0
+  HadPair n = (p : P) × (c.number p ≡ n) × WasAtMoment (Some p)
+
+  -- A reply that fits the task: a lookup's answer was the map's at a moment of the call, and a pair that was put in is the one that the call made.
+  abbrev pub IsReply : Hands P → Task → Reply → Type 0
+  IsReply hands Get Absent = WasAtMoment None
+  IsReply hands Get (Found n) = HadPair n
+  IsReply hands (Insert replace) (Inserted n) = IsOwnPair hands n
+  IsReply hands (Insert true) (Replaced m n) = IsOwnPair hands n
+  IsReply hands (Insert false) (Occupied n) = HadPair n
+  IsReply hands (Insert replace) (Reply_refused refused) = Unit {0}
+  IsReply hands _ _ = ⊥
 
   abbrev pub RestsStage : Hands P → Task → Stage → Type 0
   RestsStage hands task AtRoot = Unit {0}
-  RestsStage hands task Making = Unit {0}
-  RestsStage hands task (Opening t) = 0 < t
+  RestsStage hands task Making = IsWriter task
+  RestsStage hands task (Opening t) = IsWriter task × (0 < t)
   RestsStage hands task (Searching search) = RestsSearch hands search
-  RestsStage hands task (Writing write) = MayWrite write
-  RestsStage hands task (Counting n) = IsOwnPair hands n
+  RestsStage hands task (Writing write) = RestsWriting task write
+  RestsStage hands task (Counting n) = IsWriter task × IsOwnPair hands n
   RestsStage hands task (Leaving t) = RestsLeaving task t
-  RestsStage hands task (Ended reply) = IsReply hands reply
+  RestsStage hands task (Ended reply) = IsReply hands task reply
 
   -- what the machine of a call with this key rests on
   pub record Rests (m : Machine) (hands : Hands P) : Type 0 where
@@ -117,8 +137,12 @@ module _ {K P : Type 0} (g : Setting K P) (c : Coding K P) (begun since : List (
     pub made : RestsMade hands m.made
     pub stage : RestsStage hands m.task m.state
 
--- the change that a machine in this stage has made: the pair that went, and the one that came
-abbrev pub change_of_reply : Reply → Option (Option ℕ × Option ℕ)
+-- a change of the map: the pair that went, and the one that came
+abbrev pub Change : Type 0
+Change = Option (Option ℕ × Option ℕ)
+
+-- the change that a call with this reply made
+abbrev pub change_of_reply : Reply → Change
 change_of_reply (Inserted n) = Some (None, Some n)
 change_of_reply (Replaced m n) = Some (Some m, Some n)
 change_of_reply Absent = None
@@ -126,7 +150,8 @@ change_of_reply (Found n) = None
 change_of_reply (Occupied n) = None
 change_of_reply (Reply_refused refused) = None
 
-abbrev pub change_in : Stage → Option (Option ℕ × Option ℕ)
+-- the change that a machine in this stage has made
+abbrev pub change_in : Stage → Change
 change_in (Counting n) = Some (None, Some n)
 change_in (Ended reply) = change_of_reply reply
 change_in AtRoot = None
@@ -135,3 +160,15 @@ change_in (Opening t) = None
 change_in (Searching search) = None
 change_in (Writing write) = None
 change_in (Leaving t) = None
+
+-- the change that an exchange of this kind makes
+abbrev pub change_of_kind : Option StepKind → (old new : ℕ) → Change
+change_of_kind (Some kinds.Claim) old new = Some (None, Some (pair_of new))
+change_of_kind (Some kinds.Replace) old new = Some (Some (pair_of old), Some (pair_of new))
+change_of_kind (Some kinds.Bury) old new = Some (Some (pair_of old), None)
+change_of_kind _ old new = None
+
+-- the change that a call has made after one of its asks was answered so, where it had made this one before
+abbrev pub change_after : Option StepKind → Ask → Answer → Change → Change
+change_after kind (Ask_exchange at old new) Exchanged before = change_of_kind kind old new
+change_after kind _ _ before = before
