@@ -1,2 +1,3 @@
 pub mod CallersLemmas
+pub mod KeptLemmas
 pub mod StoreLemmas

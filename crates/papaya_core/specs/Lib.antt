@@ -1,7 +1,12 @@
 pub mod Advances
 pub mod Begins
 pub mod Callers
+pub mod Content
 pub mod Core
+pub mod Headline
+pub mod Kept
+pub mod Maps
 pub mod Performs
 pub mod Store
 pub mod Tables
+pub mod Timeline
