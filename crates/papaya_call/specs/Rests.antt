@@ -99,7 +99,7 @@ module _ {K P : Type 0} (g : Setting K P) (c : Coding K P) (begun since : List (
 
   -- the key has no place in table t, or its pair is being copied from there
   abbrev pub HasNoPlace : ℕ → Type 0
-  HasNoPlace t = IsPassed g.places (look g now k) t ⊎ ((j : ℕ) × (p : P) × (look g now k t j ≡ View_leaving p))
+  HasNoPlace t = IsPassed g.places (look g now k) t ⊎ ((j : ℕ) × (p : P) × (j < g.places t) × (look g now k t j ≡ View_leaving p))
 
   -- a lookup leaves a table that it passed, and an insertion one where it has no place
   abbrev pub RestsLeaving : Task → ℕ → Type 0
