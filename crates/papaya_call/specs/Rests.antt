@@ -68,6 +68,8 @@ module _ {K P : Type 0} (g : Setting K P) (c : Coding K P) (begun since : List (
     pub was : Word P
     pub loaded : word ≡ code g c was
     pub names : named was ≡ Some p
+    -- a Buried word isn't compared
+    pub unburied : kind_of word ≡ word_kinds.Buried → ⊥
     -- what stands there now came of it
     pub became : Becomes g was (now.slot at.table at.probe.i)
     -- where p is the key's and was held there, the map had it at a moment of the call
