@@ -1,5 +1,6 @@
 pub mod CallersLemmas
 pub mod CoreLemmas
 pub mod KeptLemmas
+pub mod KeptTables
 pub mod RunLemmas
 pub mod StoreLemmas
