@@ -1,6 +1,9 @@
 pub mod CallersLemmas
 pub mod CoreLemmas
 pub mod KeptLemmas
+pub mod KeptLogs
+pub mod KeptOpening
+pub mod KeptSettings
 pub mod KeptTables
 pub mod RunLemmas
 pub mod StoreLemmas
