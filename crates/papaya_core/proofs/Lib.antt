@@ -1,5 +1,6 @@
 pub mod CallersLemmas
 pub mod CoreLemmas
+pub mod KeptAnswer
 pub mod KeptExchange
 pub mod KeptLemmas
 pub mod KeptLogs
