@@ -4,6 +4,7 @@ pub mod KeptAnswer
 pub mod KeptExchange
 pub mod KeptLemmas
 pub mod KeptLogs
+pub mod KeptMade
 pub mod KeptOpening
 pub mod KeptSettings
 pub mod KeptTables
