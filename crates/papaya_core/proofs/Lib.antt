@@ -8,5 +8,6 @@ pub mod KeptMade
 pub mod KeptOpening
 pub mod KeptSettings
 pub mod KeptTables
+pub mod KeptWritten
 pub mod RunLemmas
 pub mod StoreLemmas
