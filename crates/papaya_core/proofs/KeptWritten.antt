@@ -96,7 +96,7 @@ module _ {K V S : Type 0} (eq : K → K → Bool) (hash : K → ℕ) (mode : Res
   Leaves ask a store' later = IsAnswered eq hash mode store r es tale key ask a store' later
 
   -- a table of the chain was made
-  on_there : (t : ℕ) → IsOn (run (tale.begun ++ tale.since) start).first (run (tale.begun ++ tale.since) start).next t → (words : TableWords) × (table_of store.words.tables t ≡ Some words)
+  pub on_there : (t : ℕ) → IsOn (run (tale.begun ++ tale.since) start).first (run (tale.begun ++ tale.since) start).next t → (words : TableWords) × (table_of store.words.tables t ≡ Some words)
   on_there t on = there t on.0 (subst (λ l. Comes (run l start) t) split (on_comes (run (tale.begun ++ tale.since) start) t on))
 
   -- a slot that is exchanged is there
@@ -144,7 +144,7 @@ module _ {K V S : Type 0} (eq : K → K → Bool) (hash : K → ℕ) (mode : Res
       split (machine_may g (law_coding eq hash mode store r es tale) hashed tale.begun tale.since may key r.machine tale.hands rests at old new e)
 
   -- an exchange that was made
-  exchange_made : (at : At) (old new : ℕ) → ask_of r.machine ≡ Ask_exchange at old new → (a : Answer) → (word_at store.words at == old) ≡ true → a ≡ Exchanged → Leaves (Ask_exchange at old new) a (record store { words = put store.words at new }) r
+  pub exchange_made : (at : At) (old new : ℕ) → ask_of r.machine ≡ Ask_exchange at old new → (a : Answer) → (word_at store.words at == old) ≡ true → a ≡ Exchanged → Leaves (Ask_exchange at old new) a (record store { words = put store.words at new }) r
   exchange_made at old new e a hit is =
       let c = law_coding eq hash mode store r es tale in
       let stands : word_of g c now at ≡ old = coded at ∙ eqb-true (word_at store.words at) old hit in

@@ -6,6 +6,7 @@ pub mod KeptLemmas
 pub mod KeptLogs
 pub mod KeptMade
 pub mod KeptOpening
+pub mod KeptPerformed
 pub mod KeptSettings
 pub mod KeptTables
 pub mod KeptWritten
