@@ -8,6 +8,7 @@ pub mod KeptMade
 pub mod KeptOpening
 pub mod KeptPerformed
 pub mod KeptSettings
+pub mod KeptStep
 pub mod KeptTables
 pub mod KeptWritten
 pub mod RunLemmas
