@@ -1,4 +1,15 @@
 pub mod CallersLemmas
 pub mod CoreLemmas
+pub mod KeptAnswer
+pub mod KeptExchange
+pub mod KeptLemmas
+pub mod KeptLogs
+pub mod KeptMade
+pub mod KeptOpening
+pub mod KeptPerformed
+pub mod KeptSettings
+pub mod KeptStep
+pub mod KeptTables
+pub mod KeptWritten
 pub mod RunLemmas
 pub mod StoreLemmas
