@@ -1,5 +1,7 @@
 pub mod CallersLemmas
 pub mod CoreLemmas
+pub mod CountedSeats
+pub mod CountedStep
 pub mod KeptAnswer
 pub mod KeptExchange
 pub mod KeptLemmas

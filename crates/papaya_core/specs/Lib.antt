@@ -3,6 +3,7 @@ pub mod Begins
 pub mod Callers
 pub mod Content
 pub mod Core
+pub mod Counted
 pub mod Headline
 pub mod Kept
 pub mod Maps
