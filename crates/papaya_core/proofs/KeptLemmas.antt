@@ -21,7 +21,10 @@ use Rattle.papaya_core.specs.Performs.{Performs}
 use Rattle.papaya_core.specs.declared.trace.Event.{Event}
 use Rattle.papaya_call.specs.declared.call.Reply.{Reply}
 use Rattle.papaya_core.proofs.KeptSettings.{tables_hashed}
+use Rattle.papaya_core.proofs.KeptBegin.{begin_kept, new_kept}
+use Rattle.papaya_core.proofs.KeptMap.{kept_map}
 use Rattle.papaya_core.proofs.KeptStep as step
+use Rattle.papaya_core.specs.New.{HasCapacity}
 pub use Rattle.papaya_core.proofs.KeptSettings.{IsLawfulKeys}
 
 -- a call that goes on is the one that was put back
@@ -74,8 +77,18 @@ module _ {K V S : Type 0} (eq : K → K → Bool) (hash : K → ℕ) (law : IsLa
 
   -- a begin leaves the words, and its call rests on the exchanges as they are
   pub kept_begin : (s : CoreState K V S) (caller : ℕ) (call : Call K V) (s' : CoreState K V S) → Begins hash s caller call s' → hash (key_of_call call) < 2 ^ 64 → (es : List (Exchange (Stored K V))) (tales : ℕ → Tale K V) → IsKept eq hash s.mode s.store s.callers es tales → IsKept eq hash s'.mode s'.store s'.callers es (begun_tales tales caller es)
-  kept_begin s caller call s' begins fits es tales kept = ?
+  kept_begin s caller call s' begins fits es tales kept =
+      let tales' : ℕ → Tale K V = begun_tales tales caller es in
+      subst (λ y. IsKept eq hash y s'.store s'.callers es tales') (sym begins.mode)
+        (subst (λ (y : StoreState K V S). IsKept eq hash s.mode y s'.callers es tales') (sym begins.store)
+          (subst (λ (y : List (Seat K V)). IsKept eq hash s.mode s.store y es tales') (sym begins.callers) (begin_kept eq hash s caller call fits es tales kept)))
+
+  -- a core as it is made has made no exchange, or has opened its first table
+  pub kept_new : (mode : ResizeMode) (capacity initial : ℕ) (store : StoreState K V S) (callers : List (Seat K V)) → HasCapacity capacity initial store.words → callers ≡ [] → (tales : ℕ → Tale K V) → (es : List (Exchange (Stored K V))) × IsKept eq hash mode store callers es tales
+  kept_new mode capacity initial store callers words none tales =
+      let new = new_kept eq hash mode store tales capacity initial words in
+      (new.0, subst (λ (y : List (Seat K V)). IsKept eq hash mode store y new.0 tales) (sym none) new.1)
 
   -- the core's map is the replay of the exchanges
   pub map_kept : (s : CoreState K V S) (es : List (Exchange (Stored K V))) (tales : ℕ → Tale K V) → IsCore s.store s.callers s.mode → IsKept eq hash s.mode s.store s.callers es tales → (k : K) → map_of eq s k ≡ map_left (setting_of eq (low hash) s.mode s.store.words.tables) es k
-  map_kept s es tales core kept k = ?
+  map_kept s es tales core kept k = kept_map eq hash s.mode s.store (hashed_setting s core) s.callers es tales kept k

@@ -6,6 +6,7 @@ pub mod KeptExchange
 pub mod KeptLemmas
 pub mod KeptLogs
 pub mod KeptMade
+pub mod KeptMap
 pub mod KeptOpening
 pub mod KeptPerformed
 pub mod KeptSettings
