@@ -3,10 +3,12 @@ pub mod CoreLemmas
 pub mod CountedSeats
 pub mod CountedStep
 pub mod KeptAnswer
+pub mod KeptBegin
 pub mod KeptExchange
 pub mod KeptLemmas
 pub mod KeptLogs
 pub mod KeptMade
+pub mod KeptMap
 pub mod KeptOpening
 pub mod KeptPerformed
 pub mod KeptSettings
