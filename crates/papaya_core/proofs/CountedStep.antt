@@ -86,8 +86,8 @@ module _ {K P : Type 0} (g : Setting K P) (c : Coding K P) (k : K) (s : State P)
   pub told_grows : (ask : Ask) (a : Answer) (es : List (Exchange P)) (hands' : Hands P) → IsTold g c k s kind hands ask a es hands' → IsGrowth (grows_by kind ask a) es
   told_grows (Ask_exchange at old new) a es hands' h =
       matched (IsGrowth (grows_by kind (Ask_exchange at old new) a) es) (word_of g c s at == old) _ _ h
-      (λ _ done. inr (let asked = done.1.0 in (asked.0, asked.2, subst (λ y. Grows (grows_by kind (Ask_exchange at old new) y) asked.0) (sym done.0) (asked_grows s hands new kind at asked.0 asked.1))))
-      (λ _ lost. inl (lost.1.0, ap (grows_by kind (Ask_exchange at old new)) lost.0))
+      (λ _ done. inr (let asked = done.1 in (asked.0, asked.2, subst (λ y. Grows (grows_by kind (Ask_exchange at old new) y) asked.0) (sym done.0) (asked_grows s hands new kind at asked.0 asked.1))))
+      (λ _ lost. inl (lost.1, ap (grows_by kind (Ask_exchange at old new)) lost.0))
   told_grows (Load at) a es hands' h = inl (h.1, refl)
   told_grows (SameKey n) a es hands' h = inl (h.1.0, refl)
   told_grows (SizeOf t) a es hands' h = inl (h.1.0, refl)

@@ -1,5 +1,6 @@
 pub mod CallersLemmas
 pub mod CoreLemmas
+pub mod CountedContent
 pub mod CountedSeats
 pub mod CountedStep
 pub mod KeptAnswer
