@@ -2,6 +2,7 @@ pub mod CallersLemmas
 pub mod CoreLemmas
 pub mod KeptAnswer
 pub mod KeptBegin
+pub mod KeptCore
 pub mod KeptExchange
 pub mod KeptLemmas
 pub mod KeptLogs
