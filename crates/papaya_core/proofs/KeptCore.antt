@@ -1,5 +1,5 @@
 -- A core keeps to the law when it is made, and by each begin and each step.
-use Rattle.std.proofs.Common.{◌≡◌, ℕ, ◌+◌, ◌==◌, ◌<◌, ◌^◌, Bool, true, List, [], ◌∷◌, ◌++◌, Option, Some, None, ◌⊎◌, inl, inr, refl, sym, ◌∙◌, ap, subst, fold}
+use Rattle.std.proofs.Common.{◌≡◌, ℕ, ◌==◌, ◌<◌, ◌^◌, Bool, true, List, [], ◌++◌, Option, Some, inl, inr, refl, sym, ap, subst, fold}
 use Rattle.std.specs.Cmp.{IsEquivalence}
 use Rattle.papaya_words.specs.declared.probe.ResizeMode.{ResizeMode}
 use Rattle.papaya_call.specs.declared.ask.Ask.{Ask}
@@ -19,10 +19,10 @@ use Rattle.papaya_core.specs.Callers.{running, with_call}
 use Rattle.papaya_core.specs.Core.{CoreState, IsCore}
 use Rattle.papaya_core.specs.Kept.{IsKept, IsLawfulCore, Tale}
 use Rattle.papaya_core.specs.New.{HasCapacity}
-use Rattle.papaya_core.specs.Performs.{Performs, Refuses, Stays, HasKey, HasNoPair, LogsKey, LogsPair, MakesTable}
+use Rattle.papaya_core.specs.Performs.{Performs, Stays}
 use Rattle.papaya_core.specs.Store.{StoreState, hash_of}
 use Rattle.papaya_core.specs.Tables.{put, word_at}
-use Rattle.papaya_core.proofs.KeptLemmas.{IsLawfulKeys, IsStep, kept_begin, kept_new, kept_step}
+use Rattle.papaya_core.proofs.KeptLemmas.{IsLawfulKeys, kept_begin, kept_new, kept_step}
 use Rattle.papaya_core.proofs.StoreLemmas.{matched}
 
 module _ {K V S : Type 0} (eq : K → K → Bool) where
@@ -30,6 +30,7 @@ module _ {K V S : Type 0} (eq : K → K → Bool) where
   stays-hasher : (s : StoreState K V S) (r : Running K V) (s' : StoreState K V S) (r' : Running K V) → Stays s r s' r' → s'.hasher ≡ s.hasher
   stays-hasher s r s' r' stays = ap (λ (y : StoreState K V S). y.hasher) stays.0
 
+  -- an answered ask keeps it
   pub performs-hasher : (refuse : Bool) (ask : Ask) (s : StoreState K V S) (r : Running K V) (a : Answer) (s' : StoreState K V S) (r' : Running K V) → Performs eq refuse ask s r a s' r' → s'.hasher ≡ s.hasher
   performs-hasher refuse (Load at) s r a s' r' (e, stays) = stays-hasher s r s' r' stays
   performs-hasher refuse (Ask_exchange at old new) s r a s' r' (h, moved) =
