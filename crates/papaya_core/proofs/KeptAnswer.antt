@@ -1,15 +1,13 @@
 -- An answered ask, as the law of exchanges sees it: the answer is true of the words, and the words are those that the exchanges leave.
-use Rattle.std.proofs.Common.{◌≡◌, ◌≢◌, ℕ, suc, ◌+◌, ◌==◌, ◌<◌, ◌≤◌, ◌%◌, ◌^◌, Bool, true, false, List, [], ◌∷◌, ◌++◌, length, slice_get, Option, Some, None, ◌⊎◌, inl, inr, refl, sym, ◌∙◌, ap, subst, arith, MatchBool, append-nil, append_assoc, eqb-true}
+use Rattle.std.proofs.Common.{◌≡◌, ℕ, ◌<◌, ◌≤◌, Bool, List, [], ◌++◌, length, Option, Some, None, ◌⊎◌, inl, inr, refl, sym, ◌∙◌, ap, subst, arith, append-nil}
 use Rattle.papaya_words.specs.Counter.{Count}
-use Rattle.papaya_words.specs.Table.{TableWords, new_table}
-use Rattle.papaya_words.specs.declared.probe.Refused.{Refused}
+use Rattle.papaya_words.specs.Table.{TableWords}
 use Rattle.papaya_words.specs.declared.probe.ResizeMode.{ResizeMode}
 use Rattle.papaya_call.specs.declared.ask.At.{At}
 use Rattle.papaya_call.specs.declared.ask.At.TheVariants.{Root, Next, Aborted, Done, Slot}
 use Rattle.papaya_call.specs.declared.ask.Ask.{Ask}
-use Rattle.papaya_call.specs.declared.ask.Ask.TheVariants.{Load, Exchange as Ask_exchange, SameKey, SizeOf, MakeKey, MakePair, MakeTable, AddToShard, Done as Ask_done}
 use Rattle.papaya_call.specs.declared.ask.Answer.{Answer}
-use Rattle.papaya_call.specs.declared.ask.Answer.TheVariants.{Word as Word_read, Exchanged, Found as Found_instead, Yes, Size, Made as Made_number, Ok as Ok_done, Refused as Was_refused}
+use Rattle.papaya_call.specs.declared.ask.Answer.TheVariants.{Made as Made_number}
 use Rattle.papaya_call.specs.declared.machine.State.TheVariants.{Making}
 use Rattle.papaya_call.specs.Law.Code.{Coding}
 use Rattle.papaya_call.specs.Law.Exchange.{Setting, State, Exchange, run, start}
@@ -21,7 +19,7 @@ use Rattle.papaya_call.specs.Told.{Hands, IsTold, IsHashed, told_of, or_last, wo
 use Rattle.papaya_call.proofs.RestsReply.{machine_changes}
 use Rattle.papaya_core.specs.declared.pairs.KeyOf.{KeyOf}
 use Rattle.papaya_core.specs.declared.pairs.Running.{Running}
-use Rattle.papaya_core.specs.Kept.{Tale, IsCall, setting_of, coding_of, low}
+use Rattle.papaya_core.specs.Kept.{Tale, setting_of, coding_of, low}
 use Rattle.papaya_core.specs.Performs.{key_at, own_key}
 use Rattle.papaya_core.specs.Store.{StoreState, Stored, pair_of}
 use Rattle.papaya_core.specs.Tables.{table_of, word_at}
@@ -127,6 +125,7 @@ module _ {K V S : Type 0} (eq : K → K → Bool) (hash : K → ℕ) (mode : Res
     named_last last t x p None e h = inl h
     named_last last t x p (Some q) e h = inr (t, x, e ∙ h)
 
+    -- the pair that a machine was told of stood in the slot that was loaded, or it was told of before
     pub told_last : (at : At) (p : Stored K V) → (told_of words_now at tale.hands).last ≡ Some p → (tale.hands.last ≡ Some p) ⊎ ((t : ℕ) × (x : ℕ) × (named (words_now.slot t x) ≡ Some p))
     told_last Root p h = inl h
     told_last (Next t) p h = inl h
@@ -134,6 +133,7 @@ module _ {K V S : Type 0} (eq : K → K → Bool) (hash : K → ℕ) (mode : Res
     told_last (Done t) p h = inl h
     told_last (Slot t x) p h = named_last tale.hands.last t x p (named (words_now.slot t x)) refl h
 
+    -- what stands at a place says nothing of the pair that the call made
     pub told_made : (at : At) → (told_of words_now at tale.hands).made ≡ tale.hands.made
     told_made Root = refl
     told_made (Next t) = refl

@@ -1,19 +1,17 @@
 -- A begin keeps a core's words to the law of exchanges, as a new core does.
-use Rattle.std.proofs.Common.{◌≡◌, ◌≢◌, ℕ, zero, suc, ◌+◌, ◌-◌, ◌==◌, ◌<◌, ◌%◌, ◌^◌, Bool, true, false, cond, max, List, [], ◌∷◌, ◌++◌, Option, Some, None, ◌⊎◌, inl, inr, refl, sym, ◌∙◌, ap, subst, arith, append-nil, eq-eqb, mod-eq_of_lt, slice_get, slice_index}
+use Rattle.std.proofs.Common.{◌≡◌, ◌≢◌, ℕ, zero, suc, ◌-◌, ◌==◌, ◌<◌, ◌^◌, Bool, true, false, cond, max, List, [], ◌∷◌, Some, None, inl, inr, refl, sym, ◌∙◌, ap, subst, arith, append-nil, eq-eqb, mod-eq_of_lt, slice_get, slice_index}
 use Rattle.papaya_words.specs.Table.{TableWords, new_table}
 use Rattle.papaya_words.specs.declared.probe.ResizeMode.{ResizeMode}
 use Rattle.papaya_words.specs.declared.probe.ResizeMode.TheVariants.{Incremental, Blocking}
 use Rattle.papaya_call.specs.declared.ask.At.{At}
 use Rattle.papaya_call.specs.declared.ask.At.TheVariants.{Root, Next, Aborted, Done, Slot}
 use Rattle.papaya_call.specs.declared.call.Call.{Call}
-use Rattle.papaya_call.specs.Law.Code.{Coding}
-use Rattle.papaya_call.specs.Law.Exchange.{Setting, State, Exchange, Open, run, start}
-use Rattle.papaya_call.specs.Law.Grows.{Comes}
-use Rattle.papaya_call.specs.Rests.{IsModeOf, Rests}
+use Rattle.papaya_call.specs.Law.Exchange.{Exchange, Open, run, start}
+use Rattle.papaya_call.specs.Rests.{IsModeOf}
 use Rattle.papaya_call.specs.Told.{no_hands, word_of}
 use Rattle.papaya_core.specs.declared.pairs.Running.{Running}
 use Rattle.papaya_core.specs.declared.callers.Seat.{Seat}
-use Rattle.papaya_core.specs.Begins.{Begins, begun, key_of_call, task_of_call}
+use Rattle.papaya_core.specs.Begins.{begun, key_of_call}
 use Rattle.papaya_core.specs.Callers.{running, with_call, with_seat}
 use Rattle.papaya_core.specs.Core.{CoreState}
 use Rattle.papaya_core.specs.Kept.{IsKept, IsCall, Tale, is_blocking, setting_of, coding_of, low, begun_tales}
@@ -43,15 +41,19 @@ module _ {K V S : Type 0} (eq : K → K → Bool) (hash : K → ℕ) where
     abbrev r : Running K V
     r = begun hash s.mode s.initial call
 
+    -- what is told of it: nothing was exchanged since
     abbrev new_tale : Tale K V
     new_tale = record { begun = es; since = []; hands = no_hands }
 
+    -- the callers then
     abbrev callers' : List (Seat K V)
     callers' = with_call (with_seat s.callers caller) caller (Some r)
 
+    -- the tales then
     abbrev tales' : ℕ → Tale K V
     tales' = begun_tales tales caller es
 
+    -- the call rests on the exchanges as they are
     new_call : IsCall eq hash s.mode s.store r es new_tale
     new_call = record {
         key = key_of_call call;
@@ -64,15 +66,19 @@ module _ {K V S : Type 0} (eq : K → K → Bool) (hash : K → ℕ) where
         unwritten = λ p l. absurd cc;
       }
 
+    -- its tale is the new one
     new_is : (d : ℕ) → d ≡ caller → new_tale ≡ tales' d
     new_is d same = sym (ap (λ b. cond b new_tale (tales d)) (eq-eqb d caller same))
 
+    -- the other callers' tales stay
     other_is : (d : ℕ) → d ≢ caller → tales d ≡ tales' d
     other_is d differ = sym (ap (λ b. cond b new_tale (tales d)) (differs d caller differ))
 
+    -- and so do their calls
     other_runs : (d : ℕ) (q : Running K V) → d ≢ caller → running callers' d ≡ Some q → running s.callers d ≡ Some q
     other_runs d q differ runs = sym (running-with_seat s.callers caller d) ∙ sym (running-other (with_seat s.callers caller) caller d (Some r) differ) ∙ runs
 
+    -- each call rests on what is told of it
     calls : (d : ℕ) (q : Running K V) → running callers' d ≡ Some q → IsCall eq hash s.mode s.store q es (tales' d)
     calls d q runs = elim (cases_same d caller) [
         inl same ↦
@@ -81,6 +87,7 @@ module _ {K V S : Type 0} (eq : K → K → Bool) (hash : K → ℕ) where
           subst (IsCall eq hash s.mode s.store q es) (new_is d same) (subst (λ y. IsCall eq hash s.mode s.store y es new_tale) is new_call)
       | inr differ ↦ subst (IsCall eq hash s.mode s.store q es) (other_is d differ) (kept.calls d q (other_runs d q differ runs)) ]
 
+    -- no two calls have made one pair
     apart : (d e : ℕ) (q q' : Running K V) → running callers' d ≡ Some q → running callers' e ≡ Some q' → d ≢ e → (p p' : Stored K V) → (tales' d).hands.made ≡ Some p → (tales' e).hands.made ≡ Some p' → p.number ≢ p'.number
     apart d e q q' runs_d runs_e differ p p' made_d made_e = elim (cases_same d caller) [
         inl begins ↦ let f : None ≡ Some p = ap (λ (y : Tale K V). y.hands.made) (new_is d begins) ∙ made_d in absurd cc
@@ -97,6 +104,7 @@ module _ {K V S : Type 0} (eq : K → K → Bool) (hash : K → ℕ) where
     abbrev IsFresh : Tables → List (Exchange (Stored K V)) → Type 0
     IsFresh words es = IsKept eq hash mode (record store { words = words }) [] es tales
 
+    -- without a table nothing was exchanged
     empty_kept : IsFresh (record { root = 0; tables = [] }) []
     empty_kept = record {
         allowed = tt;
@@ -115,6 +123,7 @@ module _ {K V S : Type 0} (eq : K → K → Bool) (hash : K → ℕ) where
         coded (Done n) = no_words (Done n)
         coded (Slot n i) = no_words (Slot n i)
 
+    -- with its first table that one was opened
     opened_kept : (len limit : ℕ) → IsFresh (record { root = 1; tables = new_table 1 len limit ∷ [] }) (Open 1 ∷ [])
     opened_kept len limit = record {
         allowed = ((refl, omega arith), tt);
@@ -128,6 +137,7 @@ module _ {K V S : Type 0} (eq : K → K → Bool) (hash : K → ℕ) where
         apart = λ d e q q' l. absurd cc;
       }
       where
+        -- but for the root each word is 0
         none : (at : At) → (at ≡ Root → ⊥) → 0 ≡ word_at (record { root = 1; tables = new_table 1 len limit ∷ [] }) at
         none Root other = absurd (other refl)
         none (Next n) other = no_words (Next n) ∙ sym (word-made (record { root = 0; tables = [] }) 1 len limit (Next n))

@@ -1,10 +1,9 @@
 -- The words and the sizes of tables after a write, and after a table was made.
-use Rattle.std.proofs.Common.{◌≡◌, ◌≢◌, ℕ, zero, suc, ◌+◌, ◌-◌, ◌==◌, ◌<◌, ◌≤◌, Bool, true, false, cond, nat_lt, List, [], ◌∷◌, ◌++◌, length, get_or, slice_get, slice_set, slice_index, replicate, Option, Some, None, ◌⊎◌, ⊎_elim, inl, inr, refl, sym, ◌∙◌, ap, subst, arith, length-set, eqb-true, lt-ltb}
-use Rattle.std.proofs.lemmas.Bool.{cases_Bool}
+use Rattle.std.proofs.Common.{◌≡◌, ◌≢◌, ℕ, zero, suc, ◌+◌, ◌-◌, ◌==◌, ◌<◌, Bool, true, false, cond, List, [], ◌∷◌, ◌++◌, length, slice_get, slice_set, slice_index, replicate, Some, None, ⊎_elim, refl, sym, ◌∙◌, ap, arith, length-set, lt-ltb}
 use Rattle.papaya_words.specs.Table.{TableWords, new_table}
 use Rattle.papaya_call.specs.declared.ask.At.{At}
 use Rattle.papaya_call.specs.declared.ask.At.TheVariants.{Root, Next, Aborted, Done, Slot}
-use Rattle.papaya_core.specs.Tables.{Tables, table_of, word_in, word_at, written, put, put_at, put_in}
+use Rattle.papaya_core.specs.Tables.{Tables, table_of, word_in, word_at, put, put_in}
 use Rattle.papaya_core.proofs.CallersLemmas.{differs, same_item}
 use Rattle.papaya_core.proofs.CoreLemmas.{cases_same}
 
@@ -39,6 +38,7 @@ index-set_same [] k y lt = absurd (omega arith)
 index-set_same (a ∷ xs) zero y lt = refl
 index-set_same (a ∷ xs) (suc k) y lt = index-set_same xs k y (omega arith)
 
+-- the other words
 pub index-set_other : (xs : List ℕ) (k i y : ℕ) → i ≢ k → slice_index (slice_set xs k y) i ≡ slice_index xs i
 index-set_other [] k i y h = refl
 index-set_other (a ∷ xs) zero zero y h = absurd (h refl)
@@ -60,6 +60,7 @@ table_there tables n t e = go (n == 0) refl
     go true z = let f : None ≡ Some t = sym (ap (λ b. cond b None (slice_get tables (n - 1))) z) ∙ e in cc
     go false z = (z, sym (ap (λ b. cond b None (slice_get tables (n - 1))) z) ∙ e)
 
+-- the table of a number above 0
 pub table_at : (tables : List TableWords) (n : ℕ) → (n == 0) ≡ false → table_of tables n ≡ slice_get tables (n - 1)
 table_at tables n z = ap (λ b. cond b None (slice_get tables (n - 1))) z
 
@@ -67,6 +68,7 @@ table_at tables n z = ap (λ b. cond b None (slice_get tables (n - 1))) z
 abbrev pub IsGrown : List TableWords → List TableWords → Type 0
 IsGrown tables tables' = (n : ℕ) (t : TableWords) → table_of tables n ≡ Some t → (t' : TableWords) × (table_of tables' n ≡ Some t') × (length t'.slots ≡ length t.slots) × (t'.limit ≡ t.limit)
 
+-- tables that stay as they are
 pub grown-same : (tables : List TableWords) → IsGrown tables tables
 grown-same tables n t e = (t, e, refl, refl)
 
@@ -153,9 +155,11 @@ word-added read (t ∷ tables) new none zero = refl
 word-added read (t ∷ tables) new none (suc i) = word-added read tables new none i
 
 module _ (w : Tables) (number slots limit : ℕ) where
+  -- the tables with a new one
   abbrev added : Tables
   added = record w { tables = w.tables ++ new_table number slots limit ∷ [] }
 
+  -- a word of which the new table says 0
   word-grown : (read : TableWords → ℕ) → read (new_table number slots limit) ≡ 0 → (u : ℕ) → word_in read (table_of added.tables u) ≡ word_in read (table_of w.tables u)
   word-grown read none u = go (u == 0)
     where

@@ -1,36 +1,27 @@
 -- An exchange that was made, and every answered ask.
-use Rattle.std.proofs.Common.{◌≡◌, ◌≢◌, ℕ, suc, ◌+◌, ◌==◌, ◌<◌, ◌≤◌, ◌%◌, ◌^◌, Bool, true, false, List, [], ◌∷◌, ◌++◌, length, slice_get, Option, Some, None, ◌⊎◌, inl, inr, refl, sym, ◌∙◌, ap, subst, arith, MatchBool, length-append}
-use Rattle.papaya_words.specs.Table.{TableWords, new_table}
-use Rattle.papaya_words.specs.declared.limits.TheConstants.{MAX_TABLES, MAX_LOG_LEN}
-use Rattle.papaya_words.specs.declared.probe.Refused.{Refused}
-use Rattle.papaya_words.specs.declared.probe.Refused.TheVariants.{Memory, Capacity}
+use Rattle.std.proofs.Common.{◌≡◌, ℕ, ◌==◌, ◌<◌, Bool, true, List, [], ◌∷◌, ◌++◌, length, Some, None, ◌⊎◌, inl, inr, refl, sym, ◌∙◌, ap, subst, arith, MatchBool}
+use Rattle.papaya_words.specs.Table.{TableWords}
 use Rattle.papaya_words.specs.declared.probe.ResizeMode.{ResizeMode}
 use Rattle.papaya_call.specs.declared.ask.At.{At}
 use Rattle.papaya_call.specs.declared.ask.At.TheVariants.{Root, Next, Aborted, Done, Slot}
 use Rattle.papaya_call.specs.declared.ask.Ask.{Ask}
-use Rattle.papaya_call.specs.declared.ask.Ask.TheVariants.{Load, Exchange as Ask_exchange, SameKey, SizeOf, MakeKey, MakePair, MakeTable, AddToShard, Done as Ask_done}
+use Rattle.papaya_call.specs.declared.ask.Ask.TheVariants.{Exchange as Ask_exchange}
 use Rattle.papaya_call.specs.declared.ask.Answer.{Answer}
-use Rattle.papaya_call.specs.declared.ask.Answer.TheVariants.{Word as Word_read, Exchanged, Found as Found_instead, Yes, Size, Made as Made_number, Ok as Ok_done, Refused as Was_refused}
+use Rattle.papaya_call.specs.declared.ask.Answer.TheVariants.{Exchanged, Found as Found_instead}
 use Rattle.papaya_call.specs.declared.machine.State.TheVariants.{Making}
 use Rattle.papaya_call.specs.Law.Exchange.{Setting, State, Exchange, run, start}
 use Rattle.papaya_call.specs.Law.Grows.{Comes}
 use Rattle.papaya_call.specs.Law.Invariant.{named}
-use Rattle.papaya_call.specs.Machine.{ask_of, kind_of_ask, after, asks}
+use Rattle.papaya_call.specs.Machine.{ask_of, kind_of_ask, asks}
 use Rattle.papaya_call.specs.Rests.{Rests, change_in, change_after}
-use Rattle.papaya_call.specs.Told.{Hands, IsTold, IsHashed, IsUnmade, IsAsked, IsWritten, told_of, word_of}
-use Rattle.papaya_core.specs.declared.pairs.Pair.{Pair}
-use Rattle.papaya_core.specs.declared.pairs.KeyOf.{KeyOf}
-use Rattle.papaya_core.specs.declared.pairs.KeyOf.TheVariants.{Own, Logged}
+use Rattle.papaya_call.specs.Told.{IsTold, IsHashed, IsAsked, IsWritten, told_of, word_of}
 use Rattle.papaya_core.specs.declared.pairs.Running.{Running}
-use Rattle.papaya_core.specs.Kept.{Tale, IsCall, setting_of, coding_of, low, slots_in, places_in}
-use Rattle.papaya_core.specs.Performs.{Performs, Refuses, Stays, HasKey, HasNoPair, LogsKey, LogsPair, MakesTable, key_at, own_key, same, size_of}
-use Rattle.papaya_core.specs.Store.{StoreState, Stored, pair_of, stored_at, stored_in}
+use Rattle.papaya_core.specs.Kept.{Tale, slots_in}
+use Rattle.papaya_core.specs.Performs.{own_key}
+use Rattle.papaya_core.specs.Store.{StoreState, Stored, pair_of}
 use Rattle.papaya_core.specs.Tables.{Tables, table_of, word_at, put}
-use Rattle.papaya_core.proofs.StoreLemmas.{matched}
-use Rattle.papaya_core.proofs.KeptAnswer.{law_setting, law_coding, words_now, IsAnswered, unexchanged, quiet, changed, told_last, told_made}
-use Rattle.papaya_core.proofs.KeptLogs.{key_at-more, pair-more_keys, pair-more_pairs}
-use Rattle.papaya_core.proofs.KeptTables.{IsGrown, grown-same, get-append_last, made-grown, made-there, word-made, put-grown, word-here, word-other}
-use Rattle.papaya_call.specs.declared.ask.StepKind.{StepKind}
+use Rattle.papaya_core.proofs.KeptAnswer.{law_setting, law_coding, words_now, IsAnswered, changed}
+use Rattle.papaya_core.proofs.KeptTables.{IsGrown, grown-same, put-grown, word-here, word-other}
 use Rattle.papaya_call.specs.declared.machine.State.{State as Stage}
 use Rattle.papaya_call.specs.declared.machine.State.TheVariants.{AtRoot, Opening, Searching, Writing, Counting, Leaving, Ended}
 use Rattle.papaya_call.specs.declared.write.Made.{Made}
@@ -41,11 +32,11 @@ use Rattle.papaya_call.specs.Rests.{change_of_kind}
 use Rattle.papaya_call.proofs.Law.Logs.{on_comes}
 use Rattle.papaya_call.proofs.Law.Moments.{run-append}
 use Rattle.papaya_call.proofs.RestsExchange.{machine_may}
-use Rattle.papaya_call.proofs.RestsNames.{IsNamed, ask_named, slot_named}
+use Rattle.papaya_call.proofs.RestsNames.{ask_named, slot_named}
 use Rattle.std.proofs.Common.{eqb-true}
 use Rattle.papaya_core.proofs.CoreLemmas.{cases_same}
 use Rattle.papaya_core.proofs.KeptExchange.{IsChanged, changes}
-use Rattle.papaya_core.proofs.KeptMade.{key_made, pair_made, table_made, none_made, no_table}
+use Rattle.papaya_core.proofs.KeptMade.{no_table}
 use Rattle.papaya_core.proofs.KeptOpening.{root_opens}
 
 -- a call that exchanges has changed nothing before
@@ -89,9 +80,11 @@ module _ {K V S : Type 0} (eq : K → K → Bool) (hash : K → ℕ) (mode : Res
   abbrev g : Setting K (Stored K V)
   g = law_setting eq hash mode store r es tale
 
+  -- the words as the law has them
   abbrev now : State (Stored K V)
   now = words_now eq hash mode store r es tale
 
+  -- what an answer leaves, where it is this
   abbrev Leaves : Ask → Answer → StoreState K V S → Running K V → Type 0
   Leaves ask a store' later = IsAnswered eq hash mode store r es tale key ask a store' later
 
@@ -117,9 +110,11 @@ module _ {K V S : Type 0} (eq : K → K → Bool) (hash : K → ℕ) (mode : Res
   written_coded Root new s placed w (Slot u y) = w.others (Slot u y) (λ f. absurd cc) ∙ coded (Slot u y)
   written_coded (Slot n i) new s (t, here, lt) w other = at_slot other
     where
+      -- a word at another place
       elsewhere : (other : At) → (other ≡ Slot n i → ⊥) → word_of g (law_coding eq hash mode store r es tale) s other ≡ word_at (put store.words (Slot n i) new) other
       elsewhere other differ = w.others other differ ∙ coded other ∙ sym (word-other store.words n i new t here lt other differ)
 
+      -- each word
       at_slot : (other : At) → word_of g (law_coding eq hash mode store r es tale) s other ≡ word_at (put store.words (Slot n i) new) other
       at_slot Root = elsewhere Root (λ f. absurd cc)
       at_slot (Next u) = elsewhere (Next u) (λ f. absurd cc)

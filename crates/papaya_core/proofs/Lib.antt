@@ -6,6 +6,7 @@ pub mod CountedSeats
 pub mod CountedStep
 pub mod KeptAnswer
 pub mod KeptBegin
+pub mod KeptCore
 pub mod KeptExchange
 pub mod KeptLemmas
 pub mod KeptLogs

@@ -1,5 +1,5 @@
 -- How the words and the logs of a core stand to the law of exchanges.
-use Rattle.std.specs.Prelude.{◌≡◌, ◌≢◌, ℕ, ◌+◌, ◌%◌, ◌^◌, ◌<◌, ◌==◌, Bool, true, false, if◌then◌else◌, Option, None, Some, List, [], ◌∷◌, ◌++◌, length}
+use Rattle.std.specs.Prelude.{◌≡◌, ◌≢◌, ℕ, ◌+◌, ◌%◌, ◌^◌, ◌<◌, ◌==◌, Bool, true, false, if◌then◌else◌, Option, None, Some, List, [], ◌++◌, length}
 use Rattle.papaya_words.specs.Table.{TableWords}
 use Rattle.papaya_words.specs.declared.probe.ResizeMode.{ResizeMode}
 use Rattle.papaya_words.specs.declared.probe.ResizeMode.TheVariants.{Incremental, Blocking}
@@ -7,7 +7,7 @@ use Rattle.papaya_call.specs.declared.ask.At.{At}
 use Rattle.papaya_call.specs.declared.machine.State.TheVariants.{Opening}
 use Rattle.papaya_call.specs.Law.Allows.{AllAllowed}
 use Rattle.papaya_call.specs.Law.Code.{Coding}
-use Rattle.papaya_call.specs.Law.Exchange.{Setting, State, Exchange, run, start}
+use Rattle.papaya_call.specs.Law.Exchange.{Setting, Exchange, run, start}
 use Rattle.papaya_call.specs.Law.Grows.{Comes, planned}
 use Rattle.papaya_call.specs.Law.Hashing.{hashed}
 use Rattle.papaya_call.specs.Law.Invariant.{named}
@@ -16,19 +16,22 @@ use Rattle.papaya_call.specs.Told.{Hands, no_hands, word_of}
 use Rattle.papaya_core.specs.declared.pairs.Running.{Running}
 use Rattle.papaya_core.specs.declared.callers.Seat.{Seat}
 use Rattle.papaya_core.specs.Callers.{running}
+use Rattle.papaya_core.specs.Core.{IsCore}
 use Rattle.papaya_core.specs.Performs.{own_key}
 use Rattle.papaya_core.specs.Store.{StoreState, Stored, pair_of}
 use Rattle.papaya_core.specs.Tables.{table_of, word_at}
 
+-- does the core resize with blocking?
 abbrev pub is_blocking : ResizeMode → Bool
 is_blocking (Incremental chunk) = false
 is_blocking Blocking = true
 
--- how many slots a table has, and at how many places a search of it looks; 1 where there is no such table
+-- how many slots a table has; 1 where there is no such table
 abbrev pub slots_in : Option TableWords → ℕ
 slots_in None = 1
 slots_in (Some t) = length t.slots
 
+-- at how many places a search of it looks; 1 where there is no such table
 abbrev pub places_in : Option TableWords → ℕ
 places_in None = 1
 places_in (Some t) = t.limit + 1
@@ -79,6 +82,11 @@ module _ {K V S : Type 0} (eq : K → K → Bool) (hash : K → ℕ) (mode : Res
     pub calls : (caller : ℕ) (r : Running K V) → running callers caller ≡ Some r → IsCall r es (tales caller)
     -- two calls make two pairs
     pub apart : (c d : ℕ) (r q : Running K V) → running callers c ≡ Some r → running callers d ≡ Some q → c ≢ d → (p p' : Stored K V) → (tales c).hands.made ≡ Some p → (tales d).hands.made ≡ Some p' → p.number ≢ p'.number
+
+-- What always holds of a core: its tables and machines are in order, and there are exchanges by which its words keep to the law.
+pub record IsLawfulCore {K V S : Type 0} (eq : K → K → Bool) (hash : K → ℕ) (store : StoreState K V S) (callers : List (Seat K V)) (mode : ResizeMode) : Type 0 where
+  pub core : IsCore store callers mode
+  pub law : (es : List (Exchange (Stored K V))) × ((tales : ℕ → Tale K V) × IsKept eq hash mode store callers es tales)
 
 -- the tales after a step of a caller that made these exchanges, and of which its machine has these hands
 abbrev pub told_tales : {K V : Type 0} → (ℕ → Tale K V) → ℕ → List (Exchange (Stored K V)) → Hands (Stored K V) → ℕ → Tale K V
