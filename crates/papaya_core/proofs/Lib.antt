@@ -1,6 +1,7 @@
 pub mod CallersLemmas
 pub mod CoreLemmas
 pub mod CountedContent
+pub mod CountedCore
 pub mod CountedLemmas
 pub mod CountedSeats
 pub mod CountedStep

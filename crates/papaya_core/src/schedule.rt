@@ -6,6 +6,7 @@ ghost use Rattle.papaya_call.specs.Machine.{IsChunked, IsStanding};
 ghost use Rattle.papaya_core.specs.Callers.{running, with_seat};
 ghost use Rattle.papaya_core.specs.Store.{Stored, pair_of, hash_of};
 ghost use Rattle.papaya_core.specs.Core.{call_of};
+ghost use Rattle.papaya_core.specs.Counted.{IsCounted};
 ghost use Rattle.papaya_core.specs.Begins.{Begins, begun};
 ghost use Rattle.papaya_core.specs.Advances.{Advances, event_of, exchange_event, reply_in};
 ghost use Rattle.papaya_core.specs.New.{IsTooMuch, IsAllowed, IsRefused, IsNew};
@@ -42,6 +43,7 @@ pub struct Core<K: Hash + Eq, V, S: BuildHasher> {
 
 impl<K: Hash + Eq, V, S: BuildHasher> Model for Core<K, V, S> {
     ghost use Rattle.papaya_core.specs.Core.{CoreState};
+    ghost use Rattle.papaya_core.specs.Counted.{IsCounted};
     ghost use Rattle.papaya_core.specs.Kept.{IsLawfulCore};
     ghost use Rattle.papaya_core.specs.Store.{hash_of};
 
@@ -49,7 +51,7 @@ impl<K: Hash + Eq, V, S: BuildHasher> Model for Core<K, V, S> {
 
     ghost view = { λ c. record { store = c.store; callers = c.callers; mode = c.mode; initial = c.initial } };
 
-    ghost invariant = { λ c. IsLawfulCore K.eq (hash_of K.hash_input S.build_hasher S.Hasher.write S.Hasher.finish c.store.hasher) c.store c.callers c.mode };
+    ghost invariant = { λ c. IsLawfulCore K.eq (hash_of K.hash_input S.build_hasher S.Hasher.write S.Hasher.finish c.store.hasher) c.store c.callers c.mode × IsCounted c.store c.callers };
 }
 
 /// A call as it begins.
@@ -186,7 +188,8 @@ fn event_of(kind: Option<StepKind>, ask: Ask, answer: Answer) -> Event
 impl<K: Hash + Eq, V, S: BuildHasher> Core<K, V, S> {
     /// Is this caller in a call?
     pub fn running(&self, caller: usize) -> bool
-        ensures { result ≡ is_some (call_of self.now caller) }
+        ensures running { result ≡ is_some (call_of self.now caller) }
+        ensures counted { IsCounted self.now.store self.now.callers }
     {
         self.callers.is_running(caller)
     }
@@ -214,6 +217,7 @@ impl<K: Hash + Eq + Drop, V: Drop, S: BuildHasher + Drop> Core<K, V, S> {
         hasher: S,
     ) -> Result<Core<K, V, S>, Refused>
         ensures ok { IfOk result (λ core. IsAllowed mode capacity shards × IsNew mode capacity shards hasher core) }
+        ensures counted { IfOk result (λ core. IsCounted core.store core.callers) }
         ensures err { IfErr result (λ e. IsRefused mode capacity shards e) }
     {
         check_chunk(mode)?;
@@ -239,6 +243,7 @@ impl<K: Hash + Eq + Drop, V: Drop, S: BuildHasher> Core<K, V, S> {
         requires { call_of self.old caller ≡ None }
         ensures ok { OnOk result (Begins (hash_of K.hash_input S.build_hasher S.Hasher.write S.Hasher.finish self.old.store.hasher) self.old caller call self.new) }
         ensures err { IfErr result (λ e. (e ≡ Refused.Memory) × (self.new ≡ self.old)) }
+        ensures counted { IsCounted self.new.store self.new.callers }
     {
         self.callers.seat(caller)?;
         let running = begin_call(&self.store, self.mode, self.initial, call);
@@ -249,7 +254,8 @@ impl<K: Hash + Eq + Drop, V: Drop, S: BuildHasher> Core<K, V, S> {
     /// One step of a caller: what happened, and the reply where there is one.
     fn advance(&mut self, caller: usize, refuse: bool) -> (Event, Option<Reply>)
         requires { IsSome (call_of self.old caller) }
-        ensures { Advances K.eq refuse self.old caller self.new result.0 result.1 }
+        ensures advances { Advances K.eq refuse self.old caller self.new result.0 result.1 }
+        ensures counted { IsCounted self.new.store self.new.callers }
     {
         let mut running = self.callers.take(caller);
         let kind = running.machine.kind();
@@ -271,7 +277,8 @@ impl<K: Hash + Eq + Drop, V: Drop, S: BuildHasher> Core<K, V, S> {
     /// `Refused::Memory`, and any other step is an ordinary one.
     pub fn step(&mut self, caller: usize, refuse_memory: bool) -> Option<Reply>
         requires { IsSome (call_of self.old caller) }
-        ensures { (event : _) × Advances K.eq refuse_memory self.old caller self.new event result }
+        ensures advances { (event : _) × Advances K.eq refuse_memory self.old caller self.new event result }
+        ensures counted { IsCounted self.new.store self.new.callers }
     {
         let (_, reply) = self.advance(caller, refuse_memory);
         reply

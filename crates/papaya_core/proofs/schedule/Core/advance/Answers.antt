@@ -5,12 +5,16 @@ use Rattle.papaya_core.specs.declared.callers.Seat.{Seat}
 use Rattle.papaya_core.specs.Callers.{with_call}
 use Rattle.papaya_core.specs.Performs.{Performs}
 use Rattle.papaya_core.specs.Core.{IsCore}
+use Rattle.papaya_call.specs.declared.call.Reply.{Reply}
+use Rattle.papaya_core.specs.Counted.{IsCounted}
+use Rattle.papaya_core.specs.Kept.{IsLawfulCore}
+use Rattle.papaya_core.specs.Store.{hash_of}
 use Rattle.papaya_core.specs.Advances.{Advances, event_of, reply_in, goes_on}
 use Rattle.papaya_core.proofs.CallersLemmas.{with_call-twice}
 use Rattle.papaya_core.proofs.CoreLemmas.{with_call-core, performed-core}
-use Rattle.papaya_core.proofs.KeptCore.{stepped_lawful}
+use Rattle.papaya_core.proofs.CountedCore.{stepped_sound}
 use Rattle.papaya_core.proofs.schedule.Core.advance.Goals as goal
-use Rattle.papaya_core.proofs.schedule.Core.advance.Goals.{After-perform-answer}
+use Rattle.papaya_core.proofs.schedule.Core.advance.Goals.{After-perform-answer, After-put}
 use Rattle.papaya_core.proofs.schedule.Core.advance.Given.{Over}
 
 -- the ask of the caller's machine was answered
@@ -23,23 +27,25 @@ taken g c =
     subst (λ (y : List (Seat _ _)). IsCore c.perform-answer.new.self y c.self.inside.mode) (sym c.take-running.ensures.taken)
       (with_call-core c.perform-answer.new.self c.self.inside.callers c.self.inside.mode c.args.caller None
         (performed-core g.K.PartialEq.eq c.args.refuse c.self.inside.store c.self.inside.callers c.self.inside.mode c.take-running.result c.perform-answer.result c.perform-answer.new.self c.perform-answer.new.running
-          c.self.invariant.core (subst IsFitAsk c.ask-ask.ensures.value c.ask-ask.ensures.size) (asked g c))
+          c.self.invariant.0.core (subst IsFitAsk c.ask-ask.ensures.value c.ask-ask.ensures.size) (asked g c))
         (λ r e. let f : None ≡ Some r = e in cc))
 
-pub invariant_of-self : goal.invariant_of-self
-invariant_of-self g c =
+-- the core after a call has ended
+ended : (g : Over) (c : After-perform-answer g) (x : Reply) → reply_in (ask_of (after c.take-running.result.machine c.perform-answer.result)) ≡ Some x
+    → IsLawfulCore g.K.PartialEq.eq (hash_of g.K.Hash.hash_input g.S.BuildHasher.build_hasher g.S.Hasher.Hasher.write g.S.Hasher.Hasher.finish c.perform-answer.new.self.hasher) c.perform-answer.new.self c.take-running.new.self c.self.inside.mode × IsCounted c.perform-answer.new.self c.take-running.new.self
+ended g c x reply =
     let a = c.perform-answer.result in
     let later = c.perform-answer.new.running in
-    let is_after : c.answer.new.self ≡ after c.take-running.result.machine a = c.answer.ensures.after ∙ ap (λ m. after m a) c.perform-answer.ensures.machine in
-    let reply : reply_in (ask_of (after c.take-running.result.machine a)) ≡ Some c.in-Some.field-0 = sym (c.reply_in-reply.ensures ∙ ap reply_in c.ask.ensures.value ∙ ap (λ m. reply_in (ask_of m)) is_after) ∙ c.in-Some.is in
-    stepped_lawful g.K.PartialEq.eq g.K.Hash.hash_input g.S.BuildHasher.build_hasher g.S.Hasher.Hasher.write g.S.Hasher.Hasher.finish g.met.K.Eq.laws g.met.K.Hash.respects_eq
+    stepped_sound g.K.PartialEq.eq g.K.Hash.hash_input g.S.BuildHasher.build_hasher g.S.Hasher.Hasher.write g.S.Hasher.Hasher.finish g.met.K.Eq.laws g.met.K.Hash.respects_eq
       c.args.refuse (record { store = c.self.inside.store; callers = c.self.inside.callers; mode = c.self.inside.mode; initial = c.self.inside.initial }) c.args.caller c.perform-answer.new.self c.take-running.new.self
-      c.take-running.result a later c.take-running.ensures.call (asked g (goal.at.invariant_of-self g c).After-perform-answer) c.perform-answer.ensures.machine
+      c.take-running.result a later c.take-running.ensures.call (asked g c) c.perform-answer.ensures.machine
       (c.take-running.ensures.taken ∙ sym (ap (λ y. with_call c.self.inside.callers c.args.caller (goes_on y (record later { machine = after c.take-running.result.machine a }))) reply))
-      (taken g (goal.at.invariant_of-self g c).After-perform-answer) c.self.invariant
+      (taken g c) c.self.invariant.0 c.self.invariant.1
 
-pub invariant_of-self-in-None : goal.invariant_of-self-in-None
-invariant_of-self-in-None g c =
+-- the core after a call went on
+went_on : (g : Over) (c : After-put g) → Performs g.K.PartialEq.eq c.args.refuse (ask_of c.take-running.result.machine) c.self.inside.store c.take-running.result c.perform-answer.result c.perform-answer.new.self c.perform-answer.new.running → IsCore c.perform-answer.new.self c.take-running.new.self c.self.inside.mode
+    → IsLawfulCore g.K.PartialEq.eq (hash_of g.K.Hash.hash_input g.S.BuildHasher.build_hasher g.S.Hasher.Hasher.write g.S.Hasher.Hasher.finish c.perform-answer.new.self.hasher) c.perform-answer.new.self c.put.new.self c.self.inside.mode × IsCounted c.perform-answer.new.self c.put.new.self
+went_on g c performs core_taken =
     let a = c.perform-answer.result in
     let later = c.perform-answer.new.running in
     let r = record later { machine = c.answer.new.self } in
@@ -48,19 +54,37 @@ invariant_of-self-in-None g c =
     let core : IsCore c.perform-answer.new.self c.put.new.self c.self.inside.mode =
           subst (λ (y : List (Seat _ _)). IsCore c.perform-answer.new.self y c.self.inside.mode) (sym c.put.ensures)
             (with_call-core c.perform-answer.new.self c.take-running.new.self c.self.inside.mode c.args.caller (Some r)
-              (taken g (goal.at.invariant_of-self-in-None g c).After-perform-answer)
+              core_taken
               (λ q e. let same : r ≡ q = cc in subst (λ (y : Running _ _). IsStanding y.machine) same c.answer.ensures.standing)) in
-    stepped_lawful g.K.PartialEq.eq g.K.Hash.hash_input g.S.BuildHasher.build_hasher g.S.Hasher.Hasher.write g.S.Hasher.Hasher.finish g.met.K.Eq.laws g.met.K.Hash.respects_eq
+    stepped_sound g.K.PartialEq.eq g.K.Hash.hash_input g.S.BuildHasher.build_hasher g.S.Hasher.Hasher.write g.S.Hasher.Hasher.finish g.met.K.Eq.laws g.met.K.Hash.respects_eq
       c.args.refuse (record { store = c.self.inside.store; callers = c.self.inside.callers; mode = c.self.inside.mode; initial = c.self.inside.initial }) c.args.caller c.perform-answer.new.self c.put.new.self
-      c.take-running.result a later c.take-running.ensures.call (asked g (goal.at.invariant_of-self-in-None g c).After-perform-answer) c.perform-answer.ensures.machine
+      c.take-running.result a later c.take-running.ensures.call performs c.perform-answer.ensures.machine
       (c.put.ensures ∙ ap (λ y. with_call y c.args.caller (Some r)) c.take-running.ensures.taken
         ∙ with_call-twice c.self.inside.callers c.args.caller None (Some r)
         ∙ ap (λ m. with_call c.self.inside.callers c.args.caller (Some (record later { machine = m }))) is_after
         ∙ sym (ap (λ y. with_call c.self.inside.callers c.args.caller (goes_on y (record later { machine = after c.take-running.result.machine a }))) reply))
-      core c.self.invariant
+      core c.self.invariant.0 c.self.invariant.1
 
-pub returns-in-Some : goal.returns-in-Some
-returns-in-Some g c =
+pub invariant_of-self : goal.invariant_of-self
+invariant_of-self g c =
+    let is_after : c.answer.new.self ≡ after c.take-running.result.machine c.perform-answer.result = c.answer.ensures.after ∙ ap (λ m. after m c.perform-answer.result) c.perform-answer.ensures.machine in
+    ended g (goal.at.invariant_of-self g c).After-perform-answer c.in-Some.field-0
+      (sym (c.reply_in-reply.ensures ∙ ap reply_in c.ask.ensures.value ∙ ap (λ m. reply_in (ask_of m)) is_after) ∙ c.in-Some.is)
+
+pub invariant_of-self-in-None : goal.invariant_of-self-in-None
+invariant_of-self-in-None g c = went_on g (goal.at.invariant_of-self-in-None g c).After-put (asked g (goal.at.invariant_of-self-in-None g c).After-perform-answer) (taken g (goal.at.invariant_of-self-in-None g c).After-perform-answer)
+
+pub returns-in-Some-clause-counted : goal.returns-in-Some-clause-counted
+returns-in-Some-clause-counted g c =
+    let is_after : c.answer.new.self ≡ after c.take-running.result.machine c.perform-answer.result = c.answer.ensures.after ∙ ap (λ m. after m c.perform-answer.result) c.perform-answer.ensures.machine in
+    (ended g (goal.at.returns-in-Some-clause-counted g c).After-perform-answer c.in-Some.field-0
+      (sym (c.reply_in-reply.ensures ∙ ap reply_in c.ask.ensures.value ∙ ap (λ m. reply_in (ask_of m)) is_after) ∙ c.in-Some.is)).1
+
+pub returns-in-None-clause-counted : goal.returns-in-None-clause-counted
+returns-in-None-clause-counted g c = (went_on g (goal.at.returns-in-None-clause-counted g c).After-put (asked g (goal.at.returns-in-None-clause-counted g c).After-perform-answer) (taken g (goal.at.returns-in-None-clause-counted g c).After-perform-answer)).1
+
+pub returns-in-Some-clause-advances : goal.returns-in-Some-clause-advances
+returns-in-Some-clause-advances g c =
     let before = c.take-running.result in
     let later = c.perform-answer.new.running in
     let a = c.perform-answer.result in
@@ -70,7 +94,7 @@ returns-in-Some g c =
       was = c.take-running.ensures.call;
       answer = a;
       later = later;
-      performs = asked g (goal.at.returns-in-Some g c).After-perform-answer;
+      performs = asked g (goal.at.returns-in-Some-clause-advances g c).After-perform-answer;
       machine = c.perform-answer.ensures.machine;
       event_is = c.event_of-event.ensures ∙ ap (λ y. event_of y c.ask-ask.result a) c.kind-kind.ensures ∙ ap (λ y. event_of (kind_of_ask before.machine) y a) c.ask-ask.ensures.value;
       reply_is = c.reply_in-reply.ensures ∙ ap reply_in c.ask.ensures.value ∙ ap (λ m. reply_in (ask_of m)) is_after;
@@ -79,8 +103,8 @@ returns-in-Some g c =
       initial = refl;
     })
 
-pub returns-in-None : goal.returns-in-None
-returns-in-None g c =
+pub returns-in-None-clause-advances : goal.returns-in-None-clause-advances
+returns-in-None-clause-advances g c =
     let before = c.take-running.result in
     let later = c.perform-answer.new.running in
     let a = c.perform-answer.result in
@@ -90,7 +114,7 @@ returns-in-None g c =
       was = c.take-running.ensures.call;
       answer = a;
       later = later;
-      performs = asked g (goal.at.returns-in-None g c).After-perform-answer;
+      performs = asked g (goal.at.returns-in-None-clause-advances g c).After-perform-answer;
       machine = c.perform-answer.ensures.machine;
       event_is = c.event_of-event.ensures ∙ ap (λ y. event_of y c.ask-ask.result a) c.kind-kind.ensures ∙ ap (λ y. event_of (kind_of_ask before.machine) y a) c.ask-ask.ensures.value;
       reply_is = c.reply_in-reply.ensures ∙ ap reply_in c.ask.ensures.value ∙ ap (λ m. reply_in (ask_of m)) is_after;

@@ -3,16 +3,20 @@ use Rattle.std.proofs.lemmas.Bool.{cases_lt}
 use Rattle.std.specs.Int.{IsNextPowerOfTwo}
 use Rattle.papaya_words.specs.declared.probe.Refused.TheVariants.{Capacity}
 use Rattle.papaya_core.proofs.CoreLemmas.{new-core}
+use Rattle.papaya_core.proofs.CountedLemmas.{counted_new}
 use Rattle.papaya_core.proofs.KeptCore.{new_lawful}
 use Rattle.papaya_core.proofs.schedule.Core.new.Goals as goal
 
 pub invariant_of-result : goal.invariant_of-result
 invariant_of-result g c =
     let initial = c.in_ok-initial.ensures.ok in
-    new_lawful g.K.PartialEq.eq g.K.Hash.hash_input g.S.BuildHasher.build_hasher g.S.Hasher.Hasher.write g.S.Hasher.Hasher.finish g.met.K.Eq.laws g.met.K.Hash.respects_eq
+    let store = c.in_ok-open.ensures.ok.1 in
+    let made = c.new-store.ensures in
+    (new_lawful g.K.PartialEq.eq g.K.Hash.hash_input g.S.BuildHasher.build_hasher g.S.Hasher.Hasher.write g.S.Hasher.Hasher.finish g.met.K.Eq.laws g.met.K.Hash.respects_eq
       c.args.mode c.args.capacity c.in_ok-initial.initial c.open.new.self c.new-2.result
       (new-core c.open.new.self c.new-2.result c.args.mode c.args.capacity c.in_ok-initial.initial c.in_ok-check_chunk.ensures.ok initial.1.0 initial.2 c.in_ok-open.ensures.ok.0 c.new-2.ensures)
-      c.in_ok-open.ensures.ok.0 c.new-2.ensures
+      c.in_ok-open.ensures.ok.0 c.new-2.ensures,
+     counted_new c.open.new.self (ap (λ s. s.pairs) store ∙ ap (λ s. s.pairs) made) c.new-2.result (ap (λ s. s.count.sum) store ∙ ap (λ s. s.count.sum) made ∙ c.in_ok-counter.ensures.sum) c.new-2.ensures)
 
 pub returns-clause-ok : goal.returns-clause-ok
 returns-clause-ok g c =
@@ -32,3 +36,9 @@ returns-clause-ok g c =
        hasher_is = ap (λ s. s.hasher) store ∙ ap (λ s. s.hasher) made;
        callers = c.new-2.ensures;
      })
+
+pub returns-clause-counted : goal.returns-clause-counted
+returns-clause-counted g c =
+    let store = c.in_ok-open.ensures.ok.1 in
+    let made = c.new-store.ensures in
+    counted_new c.open.new.self (ap (λ s. s.pairs) store ∙ ap (λ s. s.pairs) made) c.new-2.result (ap (λ s. s.count.sum) store ∙ ap (λ s. s.count.sum) made ∙ c.in_ok-counter.ensures.sum) c.new-2.ensures
