@@ -292,6 +292,7 @@ impl<K: Hash + Eq + Drop, V: Drop, S: BuildHasher> Core<K, V, S> {
     pub fn run(&mut self, schedule: Vec<Turn<K, V>>) -> Result<Trace, Refused>
         ensures ok { IfOk result (λ trace. TurnsRun K.eq (hash_of K.hash_input S.build_hasher S.Hasher.write S.Hasher.finish) schedule.items (length schedule.items) self.old self.new (reverse trace.entries.items)) }
         ensures err { IfErr result (λ e. (e ≡ Refused.Memory) × StopsEarly K.eq (hash_of K.hash_input S.build_hasher S.Hasher.write S.Hasher.finish) schedule.items self.old self.new) }
+        ensures counted { IsCounted self.new.store self.new.callers }
     {
         let mut entries = Vec::new(self.alloc);
         for (turn, what) in schedule.into_iter().enumerate() {
@@ -309,6 +310,7 @@ impl<K: Hash + Eq + Drop, V: Drop, S: BuildHasher> Core<K, V, S> {
     ) -> Result<(), Refused>
         ensures ok { OnOk result (TurnRuns K.eq (hash_of K.hash_input S.build_hasher S.Hasher.write S.Hasher.finish) turn what self.old (reverse entries.old.items) self.new (reverse entries.new.items)) }
         ensures err { IfErr result (λ e. (e ≡ Refused.Memory) × IsCutShort K.eq (hash_of K.hash_input S.build_hasher S.Hasher.write S.Hasher.finish) turn what self.old (reverse entries.old.items) self.new) }
+        ensures counted { IsCounted self.old.store self.old.callers → IsCounted self.new.store self.new.callers }
     {
         match what {
             Turn::Begin(caller, call) => {
@@ -337,6 +339,7 @@ impl<K: Hash + Eq + Drop, V: Drop, S: BuildHasher> Core<K, V, S> {
         requires { call_of self.old caller ≡ None }
         ensures ok { OnOk result (BeginRuns K.eq (hash_of K.hash_input S.build_hasher S.Hasher.write S.Hasher.finish) turn caller call self.old (reverse entries.old.items) self.new (reverse entries.new.items)) }
         ensures err { IfErr result (λ e. (e ≡ Refused.Memory) × (self.new ≡ self.old)) }
+        ensures counted { IsCounted self.old.store self.old.callers → IsCounted self.new.store self.new.callers }
     {
         reserve_entries(entries, 1)?;
         self.begin(caller, call)?;
@@ -356,6 +359,7 @@ impl<K: Hash + Eq + Drop, V: Drop, S: BuildHasher> Core<K, V, S> {
         requires { IsSome (call_of self.old caller) }
         ensures ok { OnOk result (StepRuns K.eq (hash_of K.hash_input S.build_hasher S.Hasher.write S.Hasher.finish) turn caller refuse_memory self.old (reverse entries.old.items) self.new (reverse entries.new.items)) }
         ensures err { IfErr result (λ e. (e ≡ Refused.Memory) × (self.new ≡ self.old)) }
+        ensures counted { IsCounted self.old.store self.old.callers → IsCounted self.new.store self.new.callers }
     {
         // The room is there before the step, so no step goes unrecorded.
         reserve_entries(entries, 2)?;
@@ -374,6 +378,7 @@ impl<K: Hash + Eq + Drop, V: Drop, S: BuildHasher> Core<K, V, S> {
     ) -> Result<(), Refused>
         ensures ok { OnOk result (StepsRun K.eq (hash_of K.hash_input S.build_hasher S.Hasher.write S.Hasher.finish) turn caller steps self.old (reverse entries.old.items) self.new (reverse entries.new.items)) }
         ensures err { IfErr result (λ e. (e ≡ Refused.Memory) × ((made : _) × (made < steps) × (after : _) × StepsRun K.eq (hash_of K.hash_input S.build_hasher S.Hasher.write S.Hasher.finish) turn caller made self.old (reverse entries.old.items) self.new after)) }
+        ensures counted { IsCounted self.old.store self.old.callers → IsCounted self.new.store self.new.callers }
     {
         for _made in 0..steps {
             if !self.running(caller) {
