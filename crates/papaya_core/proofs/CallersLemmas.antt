@@ -1,5 +1,5 @@
 -- The call that each caller has under way, and what takes it and puts it back.
-use Rattle.std.proofs.Common.{◌≡◌, ◌≢◌, ℕ, zero, suc, ◌<◌, ◌≤◌, ◌==◌, true, false, cond, List, [], ◌∷◌, length, slice_get, slice_set, Option, Some, None, refl, sym, ◌∙◌, ap, subst, arith, ⊎_elim, eq-eqb, eqb-true, ◌++◌, IsSome, is_some}
+use Rattle.std.proofs.Common.{◌≡◌, ◌≢◌, ℕ, zero, suc, ◌<◌, ◌≤◌, ◌==◌, Bool, true, false, cond, List, [], ◌∷◌, length, slice_get, slice_set, Option, Some, None, refl, sym, ◌∙◌, ap, subst, arith, ⊎_elim, eq-eqb, eqb-true, ◌++◌, IsSome, is_some}
 use Rattle.std.proofs.lemmas.Bool.{cases_Bool, cases_lt}
 use Rattle.std.proofs.lemmas.Option.{slice_get_within}
 use Rattle.papaya_core.specs.declared.pairs.Running.{Running}
@@ -23,6 +23,11 @@ not_none o some none = let f : false ≡ true = sym (ap is_some none) ∙ some i
 -- a test of two numbers that differ
 pub differs : (a b : ℕ) → a ≢ b → (a == b) ≡ false
 differs a b ne = ⊎_elim (λ (e : (a == b) ≡ true). absurd (ne (eqb-true a b e))) (λ (e : (a == b) ≡ false). e) (cases_Bool (a == b))
+
+-- a choice between a value and itself
+pub either_way : {A : Type 0} (b : Bool) (x : A) → cond b x x ≡ x
+either_way true x = refl
+either_way false x = refl
 
 module _ {K V : Type 0} where
   -- the place in a list without its first seat
@@ -115,3 +120,41 @@ module _ {K V : Type 0} where
   pub end-seated : (seats : List (Seat K V)) (caller : ℕ) → IsSeated (seats ++ record { caller = caller; call = None } ∷ []) caller
   end-seated [] caller = (0, record { caller = caller; call = None }, refl, refl)
   end-seated (x ∷ xs) caller = let (i, seat, there, is) = end-seated xs caller in (suc i, seat, there, is)
+
+  -- a seat that was added leaves each caller's call
+  with_seat-first : (x : Seat K V) (xs more : List (Seat K V)) (other : ℕ) (b : Bool) → running more other ≡ running xs other → running (cond b (x ∷ xs) (x ∷ more)) other ≡ running (x ∷ xs) other
+  with_seat-first x xs more other true e = refl
+  with_seat-first x xs more other false e = ap (λ y. cond (x.caller == other) x.call y) e
+
+  pub running-with_seat : (seats : List (Seat K V)) (caller other : ℕ) → running (with_seat seats caller) other ≡ running seats other
+  running-with_seat [] caller other = either_way (caller == other) None
+  running-with_seat (x ∷ xs) caller other = with_seat-first x xs (with_seat xs caller) other (x.caller == caller) (running-with_seat xs caller other)
+
+  -- a call that was put into another's seat leaves a caller's call
+  other-first : (x : Seat K V) (xs more : List (Seat K V)) (caller other : ℕ) (call : Option (Running K V)) (b : Bool) → (x.caller == caller) ≡ b → other ≢ caller → running more other ≡ running xs other → running (cond b (record x { call = call } ∷ xs) (x ∷ more)) other ≡ running (x ∷ xs) other
+  other-first x xs more caller other call true is differ e =
+      let elsewhere : (x.caller == other) ≡ false = differs x.caller other (λ same. differ (sym same ∙ eqb-true x.caller caller is)) in
+      ap (λ b. cond b call (running xs other)) elsewhere ∙ sym (ap (λ b. cond b x.call (running xs other)) elsewhere)
+  other-first x xs more caller other call false is differ e = ap (λ y. cond (x.caller == other) x.call y) e
+
+  pub running-other : (seats : List (Seat K V)) (caller other : ℕ) (call : Option (Running K V)) → other ≢ caller → running (with_call seats caller call) other ≡ running seats other
+  running-other [] caller other call differ = refl
+  running-other (x ∷ xs) caller other call differ = other-first x xs (with_call xs caller call) caller other call (x.caller == caller) refl differ (running-other xs caller other call differ)
+
+  -- a caller's call is the one that was put into its seat
+  same-first : (x : Seat K V) (xs more : List (Seat K V)) (caller : ℕ) (call : Option (Running K V)) (r : Running K V) (b : Bool) → (x.caller == caller) ≡ b → (running more caller ≡ Some r → call ≡ Some r) → running (cond b (record x { call = call } ∷ xs) (x ∷ more)) caller ≡ Some r → call ≡ Some r
+  same-first x xs more caller call r true is f h = sym (ap (λ b. cond b call (running xs caller)) is) ∙ h
+  same-first x xs more caller call r false is f h = f (sym (ap (λ b. cond b x.call (running more caller)) is) ∙ h)
+
+  pub running-same : (seats : List (Seat K V)) (caller : ℕ) (call : Option (Running K V)) (r : Running K V) → running (with_call seats caller call) caller ≡ Some r → call ≡ Some r
+  running-same [] caller call r e = let f : None ≡ Some r = e in cc
+  running-same (x ∷ xs) caller call r e = same-first x xs (with_call xs caller call) caller call r (x.caller == caller) refl (running-same xs caller call r) e
+
+  -- of two calls put into one seat the second stays
+  twice-first : (x : Seat K V) (xs once : List (Seat K V)) (caller : ℕ) (first second : Option (Running K V)) (b : Bool) → (x.caller == caller) ≡ b → with_call once caller second ≡ with_call xs caller second → with_call (cond b (record x { call = first } ∷ xs) (x ∷ once)) caller second ≡ cond b (record x { call = second } ∷ xs) (x ∷ with_call xs caller second)
+  twice-first x xs once caller first second true is e = ap (λ b. cond b (record x { call = second } ∷ xs) (record x { call = first } ∷ with_call xs caller second)) is
+  twice-first x xs once caller first second false is e = ap (λ b. cond b (record x { call = second } ∷ once) (x ∷ with_call once caller second)) is ∙ ap (λ (s : List (Seat K V)). x ∷ s) e
+
+  pub with_call-twice : (seats : List (Seat K V)) (caller : ℕ) (first second : Option (Running K V)) → with_call (with_call seats caller first) caller second ≡ with_call seats caller second
+  with_call-twice [] caller first second = refl
+  with_call-twice (x ∷ xs) caller first second = twice-first x xs (with_call xs caller first) caller first second (x.caller == caller) refl (with_call-twice xs caller first second)

@@ -2,6 +2,8 @@
 use Rattle.std.proofs.Common.{◌≡◌, ◌≢◌, ℕ, zero, suc, ◌+◌, ◌-◌, ◌==◌, ◌<◌, ◌≤◌, ◌^◌, Bool, true, false, cond, nat_lt, List, [], ◌∷◌, ◌++◌, length, slice_get, slice_set, Option, Some, None, ◌⊎◌, ⊎_elim, inl, inr, refl, sym, ◌∙◌, ap, subst, arith, length-set, MatchBool}
 use Rattle.std.proofs.lemmas.Bool.{cases_Bool, eqb-true}
 use Rattle.std.specs.Int.{IsPowerOfTwo}
+use Rattle.std.proofs.lemmas.List.{length-replicate}
+use Rattle.papaya_core.proofs.CallersLemmas.{differs}
 use Rattle.papaya_words.specs.Table.{TableWords, new_table}
 use Rattle.papaya_call.specs.declared.ask.At.{At}
 use Rattle.papaya_call.specs.declared.ask.At.TheVariants.{Root, Next, Aborted, Done, Slot}
@@ -12,9 +14,10 @@ use Rattle.papaya_call.specs.declared.ask.Answer.TheVariants.{Word as Word_read,
 use Rattle.papaya_call.specs.Search.{IsSize}
 use Rattle.papaya_call.specs.Machine.{IsFit, IsFitAsk}
 use Rattle.papaya_core.specs.declared.pairs.Running.{Running}
-use Rattle.papaya_core.specs.Tables.{Tables, table_of, written, put, put_at, put_in}
+use Rattle.papaya_words.specs.declared.limits.TheConstants.{MAX_TABLES, MAX_LOG_LEN}
+use Rattle.papaya_core.specs.Tables.{Tables, table_of, word_at, written, put, put_at, put_in}
 use Rattle.papaya_core.specs.Store.{StoreState}
-use Rattle.papaya_core.specs.Performs.{Performs, Exchanges, Refuses, LogsKey, LogsPair, MakesTable, MakesOr, HasKey, HasNoPair, size_of}
+use Rattle.papaya_core.specs.Performs.{Performs, Exchanges, Refuses, Stays, LogsKey, LogsPair, MakesTable, HasKey, HasNoPair, size_of}
 
 -- what a test of two facts chose
 pub matched : (R : Type 0) (b : Bool) (P Q : Type 0) → MatchBool b P Q → (b ≡ true → P → R) → (b ≡ false → Q → R) → R
@@ -34,7 +37,11 @@ numbered tables all n t e = go (n == 0) refl
     go false z = all (n - 1) t (sym (ap (λ b. cond b None (slice_get tables (n - 1))) z) ∙ e)
 
 pub unnumbered : (tables : List TableWords) → ((n : ℕ) (t : TableWords) → table_of tables n ≡ Some t → IsSize (length t.slots) t.limit) → AllSized tables
-unnumbered tables all i t e = all (suc i) t (ap (λ j. slice_get tables j) (let h : suc i - 1 ≡ i = omega arith in h) ∙ e)
+unnumbered tables all i t e =
+    let h : suc i - 1 ≡ i = omega arith in
+    let nonzero : (suc i == 0) ≡ false = differs (suc i) 0 (λ z. absurd (omega arith)) in
+    let there : table_of tables (suc i) ≡ slice_get tables i = ap (λ b. cond b None (slice_get tables (suc i - 1))) nonzero ∙ ap (λ j. slice_get tables j) h in
+    all (suc i) t (there ∙ e)
 
 -- a write keeps a table's size
 written-size : (at : At) (t : TableWords) (word : ℕ) → IsSize (length t.slots) t.limit → IsSize (length (written at t word).slots) (written at t word).limit
@@ -64,7 +71,7 @@ append-cases (a ∷ xs) y zero x h = inl h
 append-cases (a ∷ xs) y (suc i) x h = append-cases xs y i x h
 
 put_in-sized : (at : At) (o : Option TableWords) (tables : List TableWords) (k word : ℕ) → o ≡ slice_get tables k → AllSized tables → AllSized (put_in at o tables k word)
-put_in-sized at None tables k word is all = all
+put_in-sized at None tables k word is all i t e = all i t e
 put_in-sized at (Some u) tables k word is all i t e =
     ⊎_elim
     (λ same. all i t same)
@@ -85,16 +92,15 @@ put-sized w (Aborted n) word all = put_at-sized (Aborted n) n w word all
 put-sized w (Done n) word all = put_at-sized (Done n) n w word all
 put-sized w (Slot n i) word all = put_at-sized (Slot n i) n w word all
 
-length-replicate : (n x : ℕ) → length (replicate n x) ≡ n
-length-replicate zero x = refl
-length-replicate (suc n) x = ap suc (length-replicate n x)
-
 pub append-sized : (tables : List TableWords) (n slots limit : ℕ) → IsSize slots limit → AllSized tables → AllSized (tables ++ new_table n slots limit ∷ [])
 append-sized tables n slots limit size all i t e =
     ⊎_elim
     (λ same. all i t same)
     (λ (new : t ≡ new_table n slots limit). subst (λ v. IsSize (length v.slots) v.limit) (sym new) (subst (λ l. IsSize l limit) (sym (length-replicate slots 0)) size))
     (append-cases tables (new_table n slots limit) i t e)
+
+said : (a b : Answer) → a ≡ b → IsFit b → IsFit a
+said a b e fit = subst IsFit (sym e) fit
 
 module _ {K V S : Type 0} (eq : K → K → Bool) where
   -- an answer is within the limits of tables and numbers, and the tables keep sizes of tables
@@ -105,33 +111,50 @@ module _ {K V S : Type 0} (eq : K → K → Bool) where
   quiet : (a : Answer) (s s' : StoreState K V S) → IsFit a → s' ≡ s → AllSized s.words.tables → IsKept a s'
   quiet a s s' fit same all = record { fit = fit; sized = subst (λ (y : StoreState K V S). AllSized y.words.tables) (sym same) all }
 
-  said : (a b : Answer) → a ≡ b → IsFit b → IsFit a
-  said a b e fit = subst IsFit (sym e) fit
-
   refused : (most count : ℕ) (a : Answer) (s s' : StoreState K V S) → Refuses most count a → s' ≡ s → AllSized s.words.tables → IsKept a s'
   refused most count a s s' (inl e) same all = quiet a s s' (said a _ e tt) same all
   refused most count a s s' (inr (e, full)) same all = quiet a s s' (said a _ e tt) same all
 
   pub performed : (refuse : Bool) (ask : Ask) (s : StoreState K V S) (r : Running K V) (a : Answer) (s' : StoreState K V S) (r' : Running K V) → AllSized s.words.tables → IsFitAsk ask → Performs eq refuse ask s r a s' r' → IsKept a s'
-  performed refuse (Load at) s r a s' r' all fit (e, same, _) = quiet a s s' (said a _ e tt) same all
+  performed refuse (Load at) s r a s' r' all fit (e, stays) = quiet a s s' (said a _ e tt) stays.0 all
   performed refuse (Exchange at old new) s r a s' r' all fit (ex, _) =
-      matched (IsKept a s') _ _ _ ex
-      (λ _ (e, same). record { fit = said a _ e tt; sized = subst (λ (y : StoreState K V S). AllSized y.words.tables) (sym same) (put-sized s.words at new all) })
-      (λ _ (e, same). quiet a s s' (said a _ e tt) same all)
-  performed refuse (SameKey n) s r a s' r' all fit (e, same, _) = quiet a s s' (said a _ e tt) same all
-  performed refuse (SizeOf n) s r a s' r' all fit (e, same, _) = quiet a s s' (sized_answer (table_of s.words.tables n) refl) same all
+      matched (IsKept a s') (word_at s.words at == old) _ _ ex
+      (λ _ done. record { fit = said a _ done.0 tt; sized = subst (λ (y : StoreState K V S). AllSized y.words.tables) (sym done.1) (put-sized s.words at new all) })
+      (λ _ lost. quiet a s s' (said a _ lost.0 tt) lost.1 all)
+  performed refuse (SameKey n) s r a s' r' all fit (e, stays) = quiet a s s' (said a _ e tt) stays.0 all
+  performed refuse (SizeOf n) s r a s' r' all fit (e, stays) = quiet a s s' (sized_answer (table_of s.words.tables n) refl) stays.0 all
     where
       sized_answer : (o : Option TableWords) → table_of s.words.tables n ≡ o → IsFit a
       sized_answer None is = said a _ (e ∙ ap size_of is) tt
       sized_answer (Some t) is = said a _ (e ∙ ap size_of is) (numbered s.words.tables all n t is)
   performed refuse MakeKey s r a s' r' all fit h =
-      matched (IsKept a s') _ _ _ h
-      (λ _ (e, same, _). quiet a s s' (said a _ e tt) same all)
-      (λ _ m. elim m [
-          inl (f, same, _) ↦ refused _ _ a s s' f same all
-        | inr (inl ((n, key, e), same, _)) ↦ quiet a s s' ? same all
-        | inr (inr (k, own, e, few, same, _)) ↦ record { fit = said a _ e few; sized = subst (λ (y : StoreState K V S). AllSized y.words.tables) (sym same) all } ])
-  performed refuse MakePair s r a s' r' all fit h = ?
-  performed refuse (MakeTable slots limit) s r a s' r' all fit h = ?
+      matched (IsKept a s') refuse _ _ h
+      (λ _ none. quiet a s s' (said a _ none.0 tt) none.1.0 all)
+      (λ _ makes. key_made s r a s' r' all makes)
+    where
+      key_made : (s : StoreState K V S) (r : Running K V) (a : Answer) (s' : StoreState K V S) (r' : Running K V) → AllSized s.words.tables → (Refuses MAX_LOG_LEN (length s.keys) a × Stays s r s' r') ⊎ (HasKey a r × Stays s r s' r') ⊎ LogsKey a s r s' r' → IsKept a s'
+      key_made s r a s' r' all (inl (f, stays)) = refused _ _ a s s' f stays.0 all
+      key_made s r a s' r' all (inr (inl (has, stays))) = quiet a s s' (said a _ has.0 tt) stays.0 all
+      key_made s r a s' r' all (inr (inr (k, own, e, few, same, _))) = record { fit = said a _ e few; sized = subst (λ (y : StoreState K V S). AllSized y.words.tables) (sym same) all }
+  performed refuse MakePair s r a s' r' all fit h =
+      matched (IsKept a s') refuse _ _ h
+      (λ _ none. quiet a s s' (said a _ none.0 tt) none.1.0 all)
+      (λ _ makes. pair_made s r a s' r' all makes)
+    where
+      pair_made : (s : StoreState K V S) (r : Running K V) (a : Answer) (s' : StoreState K V S) (r' : Running K V) → AllSized s.words.tables → (Refuses MAX_LOG_LEN (length s.pairs) a × Stays s r s' r') ⊎ (HasNoPair a r × Stays s r s' r') ⊎ LogsPair a s r s' r' → IsKept a s'
+      pair_made s r a s' r' all (inl (f, stays)) = refused _ _ a s s' f stays.0 all
+      pair_made s r a s' r' all (inr (inl (has, stays))) = quiet a s s' (said a _ has.0 tt) stays.0 all
+      pair_made s r a s' r' all (inr (inr (n, v, key, value, e, few, same, _))) = record { fit = said a _ e few; sized = subst (λ (y : StoreState K V S). AllSized y.words.tables) (sym same) all }
+  performed refuse (MakeTable slots limit) s r a s' r' all fit h =
+      matched (IsKept a s') refuse _ _ h
+      (λ _ none. quiet a s s' (said a _ none.0 tt) none.1.0 all)
+      (λ _ makes. table_made s a s' all fit makes.0)
+    where
+      table_made : (s : StoreState K V S) (a : Answer) (s' : StoreState K V S) → AllSized s.words.tables → IsSize slots limit → (Refuses MAX_TABLES (length s.words.tables) a × (s' ≡ s)) ⊎ MakesTable a slots limit s s' → IsKept a s'
+      table_made s a s' all size (inl (f, same)) = refused _ _ a s s' f same all
+      table_made s a s' all size (inr (e, few, same)) = record {
+          fit = said a _ e (let most : length s.words.tables < 2 ^ 32 = few in omega arith);
+          sized = subst (λ (y : StoreState K V S). AllSized y.words.tables) (sym same) (append-sized s.words.tables _ slots limit size all);
+        }
   performed refuse (AddToShard by) s r a s' r' all fit (e, same, _) = record { fit = said a _ e tt; sized = subst (λ (y : StoreState K V S). AllSized y.words.tables) (sym same) all }
-  performed refuse (Ask_done reply) s r a s' r' all fit (e, same, _) = quiet a s s' (said a _ e tt) same all
+  performed refuse (Ask_done reply) s r a s' r' all fit (e, stays) = quiet a s s' (said a _ e tt) stays.0 all

@@ -6,7 +6,9 @@ pub mod Core
 pub mod Headline
 pub mod Kept
 pub mod Maps
+pub mod New
 pub mod Performs
+pub mod Runs
 pub mod Store
 pub mod Tables
 pub mod Timeline

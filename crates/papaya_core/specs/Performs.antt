@@ -40,9 +40,9 @@ size_of (Some t) = Size (length t.slots) t.limit
 abbrev pub Refuses : (most count : ℕ) → Answer → Type 0
 Refuses most count answer = (answer ≡ Was_refused Memory) ⊎ ((answer ≡ Was_refused Capacity) × (most ≤ count))
 
--- what is to be made was made before: a key in the log has its number, and of a pair nothing is left to make
+-- nothing is left to make: the key is in the log, or there is no value or no key in the log for a pair; no machine asks for it then
 abbrev pub HasKey : {K V : Type 0} → Answer → Running K V → Type 0
-HasKey answer r = (n : ℕ) × (r.key ≡ Logged n) × (answer ≡ Made_number n)
+HasKey answer r = (answer ≡ Ok_done) × (n : ℕ) × (r.key ≡ Logged n)
 
 abbrev pub HasNoPair : {K V : Type 0} → Answer → Running K V → Type 0
 HasNoPair answer r = (answer ≡ Ok_done) × (((k : _) × (r.key ≡ Own k)) ⊎ (r.value ≡ None))

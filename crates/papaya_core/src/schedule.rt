@@ -1,11 +1,15 @@
 //! Any number of callers, and any schedule of their steps.
-ghost use Rattle.std.specs.Prelude.{◌≡◌, ◌<◌, ◌^◌, length, IfOk, IfErr, OnOk, OnErr, IsTrue, IsSome, IsNone, [], Some, None, is_some, MatchOption, vec_len, vec_capacity, ◌+◌, ◌≤◌, ◌∷◌};
+ghost use Rattle.std.specs.Prelude.{◌≡◌, ◌<◌, ◌^◌, length, IfOk, IfErr, OnOk, OnErr, IsTrue, IsSome, IsNone, [], Some, None, is_some, MatchOption, vec_len, vec_capacity, reverse, ◌+◌, ◌*◌, ◌≤◌, ◌∷◌};
+ghost use Rattle.papaya_words.specs.declared.limits.TheConstants.{MAX_TABLE_LEN};
+ghost use Rattle.papaya_words.specs.Probe.{IsEntriesFor};
 ghost use Rattle.papaya_call.specs.Machine.{IsChunked, IsStanding};
 ghost use Rattle.papaya_core.specs.Callers.{running, with_seat};
 ghost use Rattle.papaya_core.specs.Store.{Stored, pair_of, hash_of};
 ghost use Rattle.papaya_core.specs.Core.{IsCore, call_of};
 ghost use Rattle.papaya_core.specs.Begins.{Begins, begun};
 ghost use Rattle.papaya_core.specs.Advances.{Advances, event_of, exchange_event, reply_in};
+ghost use Rattle.papaya_core.specs.New.{IsTooMuch, IsAllowed, IsRefused, IsNew};
+ghost use Rattle.papaya_core.specs.Runs.{TurnsRun, StopsEarly, TurnRuns, IsCutShort, BeginRuns, StepRuns, StepsRun, with_step};
 
 use std::alloc::Global;
 use std::hash::{BuildHasher, Hash};
@@ -83,7 +87,10 @@ fn reply_in(ask: Ask) -> Option<Reply>
 }
 
 /// Refuses a chunk of no slots.
-fn check_chunk(mode: ResizeMode) -> Result<(), Refused> {
+fn check_chunk(mode: ResizeMode) -> Result<(), Refused>
+    ensures ok { OnOk result (IsChunked mode) }
+    ensures err { IfErr result (λ e. (e ≡ Refused.ZeroChunk) × (mode ≡ ResizeMode.Incremental 0)) }
+{
     match mode {
         ResizeMode::Incremental(0) => Err(Refused::ZeroChunk),
         _ => Ok(()),
@@ -91,7 +98,10 @@ fn check_chunk(mode: ResizeMode) -> Result<(), Refused> {
 }
 
 /// The initial capacity of a map that is made for so many pairs.
-fn initial_len(capacity: usize) -> Result<usize, Refused> {
+fn initial_len(capacity: usize) -> Result<usize, Refused>
+    ensures ok { IfOk result (λ initial. (capacity * 8 < 2 ^ 64) × IsEntriesFor capacity initial × (initial ≤ MAX_TABLE_LEN)) }
+    ensures err { IfErr result (λ e. (e ≡ Refused.Capacity) × IsTooMuch capacity) }
+{
     let initial = entries_for(capacity)?;
     if initial > MAX_TABLE_LEN {
         return Err(Refused::Capacity);
@@ -100,7 +110,11 @@ fn initial_len(capacity: usize) -> Result<usize, Refused> {
 }
 
 /// Makes room for so many more entries.
-fn reserve_entries(entries: &mut Vec<Entry>, more: usize) -> Result<(), Refused> {
+fn reserve_entries(entries: &mut Vec<Entry>, more: usize) -> Result<(), Refused>
+    ensures room { OnOk result (vec_len entries.new + more ≤ vec_capacity entries.new) }
+    ensures err { IfErr result (λ e. e ≡ Refused.Memory) }
+    ensures items { entries.new.items ≡ entries.old.items }
+{
     match entries.reserve(more) {
         Ok(()) => Ok(()),
         Err(_) => Err(Refused::Memory),
@@ -108,8 +122,31 @@ fn reserve_entries(entries: &mut Vec<Entry>, more: usize) -> Result<(), Refused>
 }
 
 /// Adds an entry, for which there is room.
-fn push_entry(entries: &mut Vec<Entry>, entry: Entry) {
+fn push_entry(entries: &mut Vec<Entry>, entry: Entry)
+    requires { vec_len entries.old < vec_capacity entries.old }
+    ensures newest { reverse entries.new.items ≡ entry ∷ reverse entries.old.items }
+    ensures len { vec_len entries.new ≡ vec_len entries.old + 1 }
+    ensures capacity { vec_capacity entries.old ≤ vec_capacity entries.new }
+{
     let _ = entries.push(entry);
+}
+
+/// Adds the entries of a step, for which there is room.
+fn push_step(
+    entries: &mut Vec<Entry>,
+    turn: usize,
+    caller: usize,
+    event: Event,
+    reply: Option<Reply>,
+)
+    requires { vec_len entries.old + 2 ≤ vec_capacity entries.old }
+    ensures { reverse entries.new.items ≡ with_step turn caller event reply (reverse entries.old.items) }
+{
+    push_entry(entries, Entry { turn, caller, event });
+    if let Some(reply) = reply {
+        let event = Event::Replied(reply);
+        push_entry(entries, Entry { turn, caller, event });
+    }
 }
 
 /// Lets a call go.
@@ -173,14 +210,15 @@ impl<K: Hash + Eq + Drop, V: Drop, S: BuildHasher + Drop> Core<K, V, S> {
         capacity: usize,
         shards: usize,
         hasher: S,
-    ) -> Result<Core<K, V, S>, Refused> {
+    ) -> Result<Core<K, V, S>, Refused>
+        ensures ok { IfOk result (λ core. IsAllowed mode capacity shards × IsNew mode capacity shards hasher core) }
+        ensures err { IfErr result (λ e. IsRefused mode capacity shards e) }
+    {
         check_chunk(mode)?;
         let initial = initial_len(capacity)?;
         let counter = Counter::new(alloc, shards)?;
         let mut store = Store::new(alloc, counter, hasher);
-        if capacity > 0 {
-            store.open_first(alloc, initial)?;
-        }
+        store.open(alloc, capacity, initial)?;
         Ok(Core {
             alloc,
             store,
@@ -242,7 +280,10 @@ impl<K: Hash + Eq + Drop, V: Drop, S: BuildHasher> Core<K, V, S> {
     ///
     /// `Refused::Memory` where a growth was refused to a `Begin` or to the trace: the turns
     /// before were made, and of a `Finish` perhaps some steps.
-    pub fn run(&mut self, schedule: Vec<Turn<K, V>>) -> Result<Trace, Refused> {
+    pub fn run(&mut self, schedule: Vec<Turn<K, V>>) -> Result<Trace, Refused>
+        ensures ok { IfOk result (λ trace. TurnsRun K.eq (hash_of K.hash_input S.build_hasher S.Hasher.write S.Hasher.finish) schedule.items (length schedule.items) self.old self.new (reverse trace.entries.items)) }
+        ensures err { IfErr result (λ e. (e ≡ Refused.Memory) × StopsEarly K.eq (hash_of K.hash_input S.build_hasher S.Hasher.write S.Hasher.finish) schedule.items self.old self.new) }
+    {
         let mut entries = Vec::new(self.alloc);
         for (turn, what) in schedule.into_iter().enumerate() {
             self.turn_into(&mut entries, turn, what)?;
@@ -256,7 +297,10 @@ impl<K: Hash + Eq + Drop, V: Drop, S: BuildHasher> Core<K, V, S> {
         entries: &mut Vec<Entry>,
         turn: usize,
         what: Turn<K, V>,
-    ) -> Result<(), Refused> {
+    ) -> Result<(), Refused>
+        ensures ok { OnOk result (TurnRuns K.eq (hash_of K.hash_input S.build_hasher S.Hasher.write S.Hasher.finish) turn what self.old (reverse entries.old.items) self.new (reverse entries.new.items)) }
+        ensures err { IfErr result (λ e. (e ≡ Refused.Memory) × IsCutShort K.eq (hash_of K.hash_input S.build_hasher S.Hasher.write S.Hasher.finish) turn what self.old (reverse entries.old.items) self.new) }
+    {
         match what {
             Turn::Begin(caller, call) => {
                 if !self.running(caller) {
@@ -280,7 +324,11 @@ impl<K: Hash + Eq + Drop, V: Drop, S: BuildHasher> Core<K, V, S> {
         turn: usize,
         caller: usize,
         call: Call<K, V>,
-    ) -> Result<(), Refused> {
+    ) -> Result<(), Refused>
+        requires { call_of self.old caller ≡ None }
+        ensures ok { OnOk result (BeginRuns K.eq (hash_of K.hash_input S.build_hasher S.Hasher.write S.Hasher.finish) turn caller call self.old (reverse entries.old.items) self.new (reverse entries.new.items)) }
+        ensures err { IfErr result (λ e. (e ≡ Refused.Memory) × (self.new ≡ self.old)) }
+    {
         reserve_entries(entries, 1)?;
         self.begin(caller, call)?;
         let event = Event::Begun;
@@ -295,15 +343,15 @@ impl<K: Hash + Eq + Drop, V: Drop, S: BuildHasher> Core<K, V, S> {
         turn: usize,
         caller: usize,
         refuse_memory: bool,
-    ) -> Result<(), Refused> {
+    ) -> Result<(), Refused>
+        requires { IsSome (call_of self.old caller) }
+        ensures ok { OnOk result (StepRuns K.eq (hash_of K.hash_input S.build_hasher S.Hasher.write S.Hasher.finish) turn caller refuse_memory self.old (reverse entries.old.items) self.new (reverse entries.new.items)) }
+        ensures err { IfErr result (λ e. (e ≡ Refused.Memory) × (self.new ≡ self.old)) }
+    {
         // The room is there before the step, so no step goes unrecorded.
         reserve_entries(entries, 2)?;
         let (event, reply) = self.advance(caller, refuse_memory);
-        push_entry(entries, Entry { turn, caller, event });
-        if let Some(reply) = reply {
-            let event = Event::Replied(reply);
-            push_entry(entries, Entry { turn, caller, event });
-        }
+        push_step(entries, turn, caller, event, reply);
         Ok(())
     }
 
@@ -314,10 +362,13 @@ impl<K: Hash + Eq + Drop, V: Drop, S: BuildHasher> Core<K, V, S> {
         turn: usize,
         caller: usize,
         steps: usize,
-    ) -> Result<(), Refused> {
-        for _ in 0..steps {
+    ) -> Result<(), Refused>
+        ensures ok { OnOk result (StepsRun K.eq (hash_of K.hash_input S.build_hasher S.Hasher.write S.Hasher.finish) turn caller steps self.old (reverse entries.old.items) self.new (reverse entries.new.items)) }
+        ensures err { IfErr result (λ e. (e ≡ Refused.Memory) × ((made : _) × (made < steps) × (after : _) × StepsRun K.eq (hash_of K.hash_input S.build_hasher S.Hasher.write S.Hasher.finish) turn caller made self.old (reverse entries.old.items) self.new after)) }
+    {
+        for _made in 0..steps {
             if !self.running(caller) {
-                break;
+                return Ok(());
             }
             self.step_into(entries, turn, caller, false)?;
         }

@@ -1,7 +1,8 @@
 //! What the machines of all callers ask about: the words of the tables, the logs of keys and pairs, and the count.
-ghost use Rattle.std.specs.Prelude.{◌≡◌, ◌≢◌, ◌+◌, ◌-◌, ◌<◌, ◌^◌, ◌⊎◌, [], ◌∷◌, ◌++◌, ◌+ℤ◌, length, vec_len, vec_capacity, Some, None, pos, MatchOption, IfOk, IfErr, slice_get};
+ghost use Rattle.std.specs.Prelude.{◌≡◌, ◌≢◌, ◌+◌, ◌-◌, ◌<◌, ◌^◌, ◌⊎◌, [], ◌∷◌, ◌++◌, ◌+ℤ◌, length, vec_len, vec_capacity, Some, None, pos, MatchOption, IfOk, OnOk, IfErr, slice_get};
 ghost use Rattle.std.specs.Int.{w64, int_wrap};
 ghost use Rattle.papaya_words.specs.Table.{new_table};
+ghost use Rattle.papaya_core.specs.New.{HasCapacity};
 ghost use Rattle.papaya_core.specs.Tables.{table_of, word_at, put, put_in, written};
 ghost use Rattle.papaya_core.specs.Store.{Stored, pair_of, hash_of};
 ghost use Rattle.papaya_core.specs.Performs.{Performs, IsMake, Stays, Refuses, LogsKey, LogsPair, MakesTable, HasKey, HasNoPair, key_at, same};
@@ -176,17 +177,22 @@ impl<K: Hash + Eq, V, S: BuildHasher> Store<K, V, S> {
 }
 
 impl<K: Hash + Eq + Drop, V: Drop, S: BuildHasher> Store<K, V, S> {
-    /// Makes the first table, for this length, and opens it.
-    pub fn open_first(&mut self, alloc: Global, initial: usize) -> Result<(), Refused> {
+    /// Makes the first table where there is a capacity, for this length, and opens it.
+    pub fn open(&mut self, alloc: Global, capacity: usize, initial: usize) -> Result<(), Refused>
+        requires { self.old.words ≡ record { root = 0; tables = [] } }
+        ensures ok { OnOk result (HasCapacity capacity initial self.new.words × (self.new ≡ record self.old { words = self.new.words })) }
+        ensures err { IfErr result (λ e. e ≡ Refused.Memory) }
+    {
+        if capacity == 0 {
+            return Ok(());
+        }
         let len = table_len(initial);
         let table = Table::new(alloc, 1, len, limit(len))?;
-        match self.tables.push(table) {
-            Ok(()) => {
-                self.root = 1;
-                Ok(())
-            }
-            Err(_) => Err(Refused::Memory),
+        if self.tables.push(table).is_err() {
+            return Err(Refused::Memory);
         }
+        self.root = 1;
+        Ok(())
     }
 
     /// Logs the key of a call, once.

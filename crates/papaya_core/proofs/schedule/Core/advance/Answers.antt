@@ -1,0 +1,80 @@
+use Rattle.std.proofs.Common.{◌≡◌, List, Option, Some, None, refl, sym, ap, subst, ◌∙◌}
+use Rattle.papaya_call.specs.Machine.{IsStanding, IsFitAsk, ask_of, kind_of_ask, after}
+use Rattle.papaya_core.specs.declared.pairs.Running.{Running}
+use Rattle.papaya_core.specs.declared.callers.Seat.{Seat}
+use Rattle.papaya_core.specs.Callers.{with_call}
+use Rattle.papaya_core.specs.Performs.{Performs}
+use Rattle.papaya_core.specs.Core.{IsCore}
+use Rattle.papaya_core.specs.Advances.{Advances, event_of, reply_in, goes_on}
+use Rattle.papaya_core.proofs.CallersLemmas.{with_call-twice}
+use Rattle.papaya_core.proofs.CoreLemmas.{with_call-core, performed-core}
+use Rattle.papaya_core.proofs.schedule.Core.advance.Goals as goal
+use Rattle.papaya_core.proofs.schedule.Core.advance.Goals.{After-perform-answer}
+use Rattle.papaya_core.proofs.schedule.Core.advance.Given.{Over}
+
+-- the ask of the caller's machine was answered
+asked : (g : Over) (c : After-perform-answer g) → Performs g.K.PartialEq.eq c.args.refuse (ask_of c.take-running.result.machine) c.self.inside.store c.take-running.result c.perform-answer.result c.perform-answer.new.self c.perform-answer.new.running
+asked g c = subst (λ y. Performs g.K.PartialEq.eq c.args.refuse y c.self.inside.store c.take-running.result c.perform-answer.result c.perform-answer.new.self c.perform-answer.new.running) c.ask-ask.ensures.value c.perform-answer.ensures.performs
+
+-- the core without the caller's call
+taken : (g : Over) (c : After-perform-answer g) → IsCore c.perform-answer.new.self c.take-running.new.self c.self.inside.mode
+taken g c =
+    subst (λ (y : List (Seat _ _)). IsCore c.perform-answer.new.self y c.self.inside.mode) (sym c.take-running.ensures.taken)
+      (with_call-core c.perform-answer.new.self c.self.inside.callers c.self.inside.mode c.args.caller None
+        (performed-core g.K.PartialEq.eq c.args.refuse c.self.inside.store c.self.inside.callers c.self.inside.mode c.take-running.result c.perform-answer.result c.perform-answer.new.self c.perform-answer.new.running
+          c.self.invariant (subst IsFitAsk c.ask-ask.ensures.value c.ask-ask.ensures.size) (asked g c))
+        (λ r e. let f : None ≡ Some r = e in cc))
+
+pub invariant_of-self : goal.invariant_of-self
+invariant_of-self g c = taken g (goal.at.invariant_of-self g c).After-perform-answer
+
+pub invariant_of-self-in-None : goal.invariant_of-self-in-None
+invariant_of-self-in-None g c =
+    let r = record c.perform-answer.new.running { machine = c.answer.new.self } in
+    subst (λ (y : List (Seat _ _)). IsCore c.perform-answer.new.self y c.self.inside.mode) (sym c.put.ensures)
+      (with_call-core c.perform-answer.new.self c.take-running.new.self c.self.inside.mode c.args.caller (Some r)
+        (taken g (goal.at.invariant_of-self-in-None g c).After-perform-answer)
+        (λ q e. let same : r ≡ q = cc in subst (λ (y : Running _ _). IsStanding y.machine) same c.answer.ensures.standing))
+
+pub returns-in-Some : goal.returns-in-Some
+returns-in-Some g c =
+    let before = c.take-running.result in
+    let later = c.perform-answer.new.running in
+    let a = c.perform-answer.result in
+    let is_after : c.answer.new.self ≡ after before.machine a = c.answer.ensures.after ∙ ap (λ m. after m a) c.perform-answer.ensures.machine in
+    subst (λ s. Advances g.K.PartialEq.eq c.args.refuse s c.args.caller (record { store = c.perform-answer.new.self; callers = c.take-running.new.self; mode = c.self.inside.mode; initial = c.self.inside.initial }) c.event_of-event.result c.reply_in-reply.result) c.self.view_is (record {
+      before = before;
+      was = c.take-running.ensures.call;
+      answer = a;
+      later = later;
+      performs = asked g (goal.at.returns-in-Some g c).After-perform-answer;
+      machine = c.perform-answer.ensures.machine;
+      event_is = c.event_of-event.ensures ∙ ap (λ y. event_of y c.ask-ask.result a) c.kind-kind.ensures ∙ ap (λ y. event_of (kind_of_ask before.machine) y a) c.ask-ask.ensures.value;
+      reply_is = c.reply_in-reply.ensures ∙ ap reply_in c.ask.ensures.value ∙ ap (λ m. reply_in (ask_of m)) is_after;
+      callers = c.take-running.ensures.taken ∙ sym (ap (λ y. with_call c.self.inside.callers c.args.caller (goes_on y (record later { machine = after before.machine a }))) c.in-Some.is);
+      mode = refl;
+      initial = refl;
+    })
+
+pub returns-in-None : goal.returns-in-None
+returns-in-None g c =
+    let before = c.take-running.result in
+    let later = c.perform-answer.new.running in
+    let a = c.perform-answer.result in
+    let is_after : c.answer.new.self ≡ after before.machine a = c.answer.ensures.after ∙ ap (λ m. after m a) c.perform-answer.ensures.machine in
+    subst (λ s. Advances g.K.PartialEq.eq c.args.refuse s c.args.caller (record { store = c.perform-answer.new.self; callers = c.put.new.self; mode = c.self.inside.mode; initial = c.self.inside.initial }) c.event_of-event.result c.reply_in-reply.result) c.self.view_is (record {
+      before = before;
+      was = c.take-running.ensures.call;
+      answer = a;
+      later = later;
+      performs = asked g (goal.at.returns-in-None g c).After-perform-answer;
+      machine = c.perform-answer.ensures.machine;
+      event_is = c.event_of-event.ensures ∙ ap (λ y. event_of y c.ask-ask.result a) c.kind-kind.ensures ∙ ap (λ y. event_of (kind_of_ask before.machine) y a) c.ask-ask.ensures.value;
+      reply_is = c.reply_in-reply.ensures ∙ ap reply_in c.ask.ensures.value ∙ ap (λ m. reply_in (ask_of m)) is_after;
+      callers = c.put.ensures ∙ ap (λ y. with_call y c.args.caller (Some (record later { machine = c.answer.new.self }))) c.take-running.ensures.taken
+        ∙ with_call-twice c.self.inside.callers c.args.caller None (Some (record later { machine = c.answer.new.self }))
+        ∙ ap (λ m. with_call c.self.inside.callers c.args.caller (Some (record later { machine = m }))) is_after
+        ∙ sym (ap (λ y. with_call c.self.inside.callers c.args.caller (goes_on y (record later { machine = after before.machine a }))) c.in-None.is);
+      mode = refl;
+      initial = refl;
+    })

@@ -1,0 +1,8 @@
+use Rattle.std.proofs.Common.{reverse}
+use Rattle.papaya_core.specs.Store.{hash_of}
+use Rattle.papaya_core.specs.Runs.{StepsRun}
+use Rattle.papaya_core.proofs.schedule.Core.finish_into.Given as goal
+
+-- so many steps were made
+abbrev pub invariant-loop-made : goal.invariant-loop-made
+invariant-loop-made g l = StepsRun g.K.PartialEq.eq (hash_of g.K.Hash.hash_input g.S.BuildHasher.build_hasher g.S.Hasher.Hasher.write g.S.Hasher.Hasher.finish) l.turn l.caller l._made l.fn.self (reverse l.fn.entries.items) l.self (reverse l.entries.items)

@@ -1,0 +1,8 @@
+use Rattle.std.proofs.Common.{reverse, length}
+use Rattle.papaya_core.specs.Store.{hash_of}
+use Rattle.papaya_core.specs.Runs.{TurnsRun}
+use Rattle.papaya_core.proofs.schedule.Core.run.Given as goal
+
+-- the turns so far were made
+abbrev pub invariant-loop-turn : goal.invariant-loop-turn
+invariant-loop-turn g l = TurnsRun g.K.PartialEq.eq (hash_of g.K.Hash.hash_input g.S.BuildHasher.build_hasher g.S.Hasher.Hasher.write g.S.Hasher.Hasher.finish) l.fn.schedule.items (length l.yielded) l.fn.self l.self (reverse l.entries.items)
