@@ -1,1 +1,10 @@
 pub mod Law
+pub mod RestsLearnMoments
+pub mod RestsLearnPlaces
+pub mod RestsLearnLook
+pub mod RestsLearnGoes
+pub mod RestsExchange
+pub mod RestsLearnWrites
+pub mod RestsLearn
+pub mod RestsReply
+pub mod RestsReplyRefused

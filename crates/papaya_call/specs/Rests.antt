@@ -68,6 +68,8 @@ module _ {K P : Type 0} (g : Setting K P) (c : Coding K P) (begun since : List (
     pub was : Word P
     pub loaded : word ≡ code g c was
     pub names : named was ≡ Some p
+    -- a Buried word isn't compared
+    pub unburied : kind_of word ≡ word_kinds.Buried → ⊥
     -- what stands there now came of it
     pub became : Becomes g was (now.slot at.table at.probe.i)
     -- where p is the key's and was held there, the map had it at a moment of the call
@@ -99,7 +101,7 @@ module _ {K P : Type 0} (g : Setting K P) (c : Coding K P) (begun since : List (
 
   -- the key has no place in table t, or its pair is being copied from there
   abbrev pub HasNoPlace : ℕ → Type 0
-  HasNoPlace t = IsPassed g.places (look g now k) t ⊎ ((j : ℕ) × (p : P) × (look g now k t j ≡ View_leaving p))
+  HasNoPlace t = IsPassed g.places (look g now k) t ⊎ ((j : ℕ) × (p : P) × (j < g.places t) × (look g now k t j ≡ View_leaving p))
 
   -- a lookup leaves a table that it passed, and an insertion one where it has no place
   abbrev pub RestsLeaving : Task → ℕ → Type 0

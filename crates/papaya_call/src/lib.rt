@@ -9,5 +9,6 @@ pub mod ask;
 pub mod call;
 pub mod exchanges;
 pub mod machine;
+pub mod rests;
 pub mod search;
 pub mod write;

@@ -26,7 +26,7 @@ filled_some : (a b n : ℕ) → 0 < a → filled_word a b n ≡ 0 → ⊥
 filled_some a b n lt e = omega (arith, lt, e)
 
 -- a hash of 64 bits has a byte of seven bits
-byte_small : (h : ℕ) → h < 2 ^ 64 → top_byte h < 128
+pub byte_small : (h : ℕ) → h < 2 ^ 64 → top_byte h < 128
 byte_small h lt = omega (arith, lt)
 
 module _ {K P : Type 0} (g : Setting K P) (c : Coding K P) where
