@@ -1,4 +1,9 @@
 pub mod Law
+-- what machines rest on: it lasts, and names only what there is
+pub mod RestsCarried
+pub mod RestsNames
+pub mod RestsStay
+pub mod RestsTables
 -- what a machine learns from an answer
 pub mod RestsLearnMoments
 pub mod RestsLearnPlaces

@@ -104,7 +104,7 @@ module _ {K P : Type 0} (g g' : Setting K P) (s : State P) (sound : IsSound g s)
   same_key k p = agrees.same k (g'.key p) ∙ ap (g.same k) (agrees.key p)
 
   -- a word tells a key the same
-  view_agrees : (k : K) (w : Word P) → view g' k w ≡ view g k w
+  pub view_agrees : (k : K) (w : Word P) → view g' k w ≡ view g k w
   view_agrees k Empty = refl
   view_agrees k Closed = refl
   view_agrees k (Live p) = ap (λ b. cond b (Here p) Foreign) (same_key k p)
