@@ -73,6 +73,7 @@ module _ {K P : Type 0} (g : Setting K P) (c : Coding K P) (h : IsHashed g c) (b
     was = r.was;
     loaded = r.loaded;
     names = r.names;
+    unburied = r.unburied;
     became = becomes_through g h.lawful r.was ((now g c begun since k).slot at.table at.probe.i) ((now g c begun (since ++ es) k).slot at.table at.probe.i) r.became (state_later.words at.table at.probe.i);
     had = λ e. moment_stays (Some p) (r.had e);
   }

@@ -85,6 +85,7 @@ module _ {K P : Type 0} (g g' : Setting K P) (c : Coding K P) (h : IsHashed g c)
     was = r.was;
     loaded = r.loaded ∙ sym (code_same r.was);
     names = r.names;
+    unburied = r.unburied;
     became = becomes_carries g g' (IsOn (now g c begun since k).first (now g c begun since k).next) agrees r.was ((now g c begun since k).slot at.table at.probe.i) r.became;
     had = λ e. moment_carries (Some p) (r.had (ap held (sym (view_agrees g g' (now g c begun since k) kept agrees k r.was)) ∙ e));
   }
