@@ -1,7 +1,9 @@
 pub mod CallersLemmas
 pub mod CoreLemmas
+pub mod EventLemmas
 pub mod Good
 pub mod KeptLemmas
+pub mod MachineLemmas
 pub mod ReplayLemmas
 pub mod RunLemmas
 pub mod StoreLemmas
