@@ -3,6 +3,7 @@ pub mod CoreLemmas
 pub mod EventLemmas
 pub mod Good
 pub mod KeptLemmas
+pub mod KeptTables
 pub mod MachineLemmas
 pub mod ReplayLemmas
 pub mod RunLemmas

@@ -5,7 +5,7 @@ use Rattle.std.proofs.lemmas.List.FromFn.{length-enumerate_from, get_or-enumerat
 use Rattle.std.proofs.lemmas.Option.{slice_get_read}
 use Rattle.papaya_core.specs.declared.trace.Turn.{Turn}
 use Rattle.papaya_core.specs.Core.{CoreState, call_of}
-use Rattle.papaya_core.specs.Runs.{History, StepRuns, StepsRun, TurnRuns, TurnsRun}
+use Rattle.papaya_core.specs.Runs.{History, StepRuns, StepsRun, TurnRuns, TurnsRun, IsCutShort, StopsEarly}
 
 -- what is not there is nothing
 pub is_none : {A : Type 0} (o : Option A) → is_some o ≡ false → o ≡ None
@@ -38,3 +38,8 @@ module _ {K V S : Type 0} (eq : K → K → Bool) (hash : S → K → ℕ) where
   pub TurnsRun-more : (schedule : List (Turn K V)) (n turn turns : ℕ) (what : Turn K V) (s middle : CoreState K V S) (so_far : History) (s' : CoreState K V S) (history : History) → slice_get schedule n ≡ Some what → turn ≡ n → turns ≡ suc n → TurnsRun eq hash schedule n s middle so_far → TurnRuns eq hash turn what middle so_far s' history → TurnsRun eq hash schedule turns s s' history
   TurnsRun-more schedule n turn turns what s middle so_far s' history there same e runs last =
       subst (λ (m : ℕ). TurnsRun eq hash schedule m s s' history) (sym e) (what, middle, so_far, there, runs, subst (λ (m : ℕ). TurnRuns eq hash m what middle so_far s' history) same last)
+
+  -- a turn that was cut short
+  pub StopsEarly-at : (schedule : List (Turn K V)) (n turn : ℕ) (what : Turn K V) (s middle : CoreState K V S) (so_far : History) (s' : CoreState K V S) → slice_get schedule n ≡ Some what → turn ≡ n → TurnsRun eq hash schedule n s middle so_far → IsCutShort eq hash turn what middle so_far s' → StopsEarly eq hash schedule s s'
+  StopsEarly-at schedule n turn what s middle so_far s' there same runs cut =
+      (n, what, middle, so_far, there, runs, subst (λ (m : ℕ). IsCutShort eq hash m what middle so_far s') same cut)

@@ -4,6 +4,7 @@ use Rattle.papaya_words.specs.Table.{TableWords}
 use Rattle.papaya_words.specs.declared.probe.ResizeMode.{ResizeMode}
 use Rattle.papaya_words.specs.declared.probe.ResizeMode.TheVariants.{Incremental, Blocking}
 use Rattle.papaya_call.specs.declared.ask.At.{At}
+use Rattle.papaya_call.specs.declared.machine.State.TheVariants.{Opening}
 use Rattle.papaya_call.specs.Law.Allows.{AllAllowed}
 use Rattle.papaya_call.specs.Law.Code.{Coding}
 use Rattle.papaya_call.specs.Law.Exchange.{Setting, State, Exchange, run, start}
@@ -63,6 +64,8 @@ module _ {K V S : Type 0} (eq : K → K → Bool) (hash : K → ℕ) (mode : Res
     pub rests : Rests (setting_of eq (low hash) mode store.words.tables) (coding_of (low hash)) tale.begun tale.since key r.machine tale.hands
     pub last : (p : Stored K V) → tale.hands.last ≡ Some p → IsLogged p
     pub made : (p : Stored K V) → tale.hands.made ≡ Some p → IsLogged p
+    -- the table that a call is about to open was made
+    pub opens : (t : ℕ) → r.machine.state ≡ Opening t → (words : TableWords) × (table_of store.words.tables t ≡ Some words)
     -- a pair that was made and is not written yet stands in no slot
     pub unwritten : (p : Stored K V) → tale.hands.made ≡ Some p → change_in r.machine.state ≡ None → (t x : ℕ) (q : Stored K V) → named ((run es start).slot t x) ≡ Some q → q.number ≢ p.number
 
