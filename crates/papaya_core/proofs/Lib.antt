@@ -4,6 +4,7 @@ pub mod EventLemmas
 pub mod Good
 pub mod KeptLemmas
 pub mod KeptTables
+pub mod LegalLemmas
 pub mod MachineLemmas
 pub mod ReplayLemmas
 pub mod RunLemmas
