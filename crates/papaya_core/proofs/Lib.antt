@@ -9,4 +9,5 @@ pub mod MachineLemmas
 pub mod ReplayLemmas
 pub mod RunLemmas
 pub mod StoreLemmas
+pub mod TiedLemmas
 pub mod TimelineLemmas
