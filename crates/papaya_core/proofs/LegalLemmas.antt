@@ -95,7 +95,7 @@ module _ {K V : Type 0} (eq : K → K → Bool) (hash : K → ℕ) (mode mode' :
 
     -- a pair that the call made may be put into the class of its key
     abbrev MayPut : Type 0
-    MayPut = (q : Stored K V) → hands.made ≡ Some q → (went : Option (Stored K V)) → MayChange eq (open_call schedule caller h) (change_of caller h) k went (Some q)
+    MayPut = (q : Stored K V) → hands.made ≡ Some q → change_in m.state ≡ None → (went : Option (Stored K V)) → MayChange eq (open_call schedule caller h) (change_of caller h) k went (Some q)
 
     -- the pair is new
     abbrev IsNew : Type 0
@@ -105,8 +105,8 @@ module _ {K V : Type 0} (eq : K → K → Bool) (hash : K → ℕ) (mode mode' :
     Legal event made = IsLegal eq event schedule caller h (replay eq es) maps (replay eq (es ++ made))
 
     -- the word that was written names the pair
-    written_number : (at : At) (t x new : ℕ) (e : Exchange (Stored K V)) (q : Stored K V) → (after now e).slot t x ≡ Live q → IsWritten g c now (Slot t x) new (after now e) → pair_of new ≡ q.number
-    written_number at t x new e q there written =
+    written_number : (t x new : ℕ) (e : Exchange (Stored K V)) (q : Stored K V) → (after now e).slot t x ≡ Live q → IsWritten g c now (Slot t x) new (after now e) → pair_of new ≡ q.number
+    written_number t x new e q there written =
         sym (ap pair_of written.here) ∙ ap (λ w. pair_of (code g c w)) there ∙ (code_pair g c hashed.coding (Live q) q refl).0
 
     -- and so did the one that stood there
@@ -126,7 +126,7 @@ module _ {K V : Type 0} (eq : K → K → Bool) (hash : K → ℕ) (mode mode' :
           went_is = went_is;
           came_is = came_is;
           fresh = fresh q made unchanged;
-          may = may_put q made went;
+          may = may_put q made unchanged went;
         }
 
       -- what the machine asked for may be done, and writes just its word
@@ -144,7 +144,7 @@ module _ {K V : Type 0} (eq : K → K → Bool) (hash : K → ℕ) (mode mode' :
       exchange_legal (Some kinds.Claim) (Slot t x) old new e (q, made, is) (e', (q', made', is'), _, written) stood legal allows no_burial =
           let same : q' ≡ q = the_same q' q (sym made' ∙ made) in
           let there : (after now e').slot t x ≡ Live q = ap (λ y. (after now y).slot t x) is' ∙ (put_there now t x (Live q') t x (refl, refl)).0 ∙ ap (λ y. Live y) same in
-          let number : pair_of new ≡ q.number = written_number (Slot t x) t x new e' q there written in
+          let number : pair_of new ≡ q.number = written_number t x new e' q there written in
           let none : replay eq es q.key ≡ None = subst (λ y. IsLegal_exchange g' (replay eq es) y) is legal in
           put_legal None (Some (pair_of new)) e None q (ap (λ y. replay eq (es ++ y ∷ [])) is ∙ replay-append eq es (Claim t x q ∷ [])) made
             (ap (replay eq es) (sym (made_key g c begun since k m hands q rests made)) ∙ none) refl (ap Some (sym number))
@@ -155,7 +155,7 @@ module _ {K V : Type 0} (eq : K → K → Bool) (hash : K → ℕ) (mode mode' :
       exchange_legal (Some kinds.Replace) (Slot t x) old new e (p, q, live, made, is) (e', (p', q', _, made', is'), _, written) stood legal allows no_burial =
           let same : q' ≡ q = the_same q' q (sym made' ∙ made) in
           let there : (after now e').slot t x ≡ Live q = ap (λ y. (after now y).slot t x) is' ∙ (put_there now t x (Live q') t x (refl, refl)).0 ∙ ap (λ y. Live y) same in
-          let number : pair_of new ≡ q.number = written_number (Slot t x) t x new e' q there written in
+          let number : pair_of new ≡ q.number = written_number t x new e' q there written in
           let here : replay eq es p.key ≡ Some p = subst (λ y. IsLegal_exchange g' (replay eq es) y) is legal in
           let alike : eq p.key q.key ≡ true = (subst (λ y. Allows g' now y) is allows).same in
           let own : q.key ≡ k = made_key g c begun since k m hands q rests made in

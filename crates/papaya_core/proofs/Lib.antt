@@ -2,6 +2,7 @@ pub mod CallersLemmas
 pub mod CoreLemmas
 pub mod EventLemmas
 pub mod Good
+pub mod GoodLemmas
 pub mod KeptLemmas
 pub mod KeptTables
 pub mod LegalLemmas
