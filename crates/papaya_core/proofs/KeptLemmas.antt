@@ -20,16 +20,13 @@ use Rattle.papaya_core.specs.Store.{StoreState, Stored, pair_of}
 use Rattle.papaya_core.specs.Performs.{Performs}
 use Rattle.papaya_core.specs.declared.trace.Event.{Event}
 use Rattle.papaya_call.specs.declared.call.Reply.{Reply}
-
--- equality is an equivalence, and equal keys hash alike
-pub record IsLawfulKeys {K : Type 0} (eq : K → K → Bool) (hash : K → ℕ) : Type 0 where
-  pub classes : IsEquivalence eq
-  pub alike : (x y : K) → eq x y ≡ true → hash x ≡ hash y
+use Rattle.papaya_core.proofs.KeptSettings.{tables_hashed}
+pub use Rattle.papaya_core.proofs.KeptSettings.{IsLawfulKeys}
 
 module _ {K V S : Type 0} (eq : K → K → Bool) (hash : K → ℕ) (law : IsLawfulKeys eq hash) where
   -- keys are placed by their hashes, in a core whose tables have sizes of tables
   pub hashed_setting : (s : CoreState K V S) → IsCore s.store s.callers s.mode → IsHashed (setting_of {V = V} eq (low hash) s.mode s.store.words.tables) (coding_of (low hash))
-  hashed_setting s core = ?
+  hashed_setting s core = tables_hashed eq hash law s.mode s.store.words.tables core.sizes
 
   -- what a step leaves: the exchange that it made, if it made one, and what is told of each call since
   pub record IsStep (refuse : Bool) (s : CoreState K V S) (caller : ℕ) (s' : CoreState K V S) (event : Event) (reply : Option Reply) (a : Advances eq refuse s caller s' event reply) (es : List (Exchange (Stored K V))) (tales : ℕ → Tale K V) : Type 0 where

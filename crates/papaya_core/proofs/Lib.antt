@@ -3,8 +3,17 @@ pub mod CoreLemmas
 pub mod EventLemmas
 pub mod Good
 pub mod GoodLemmas
+pub mod KeptAnswer
+pub mod KeptExchange
 pub mod KeptLemmas
+pub mod KeptLogs
+pub mod KeptMade
+pub mod KeptOpening
+pub mod KeptPerformed
+pub mod KeptSettings
+pub mod KeptStep
 pub mod KeptTables
+pub mod KeptWritten
 pub mod LegalLemmas
 pub mod MachineLemmas
 pub mod ReplayLemmas
