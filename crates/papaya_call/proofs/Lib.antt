@@ -15,3 +15,5 @@ pub mod RestsLearn
 -- what it changes, and its refusals
 pub mod RestsReply
 pub mod RestsReplyRefused
+-- a machine stands within its table
+pub mod Standing
