@@ -3,6 +3,7 @@ pub mod CoreLemmas
 pub mod EventLemmas
 pub mod Good
 pub mod GoodLemmas
+pub mod HeadlineLemmas
 pub mod KeptAnswer
 pub mod KeptExchange
 pub mod KeptLemmas
