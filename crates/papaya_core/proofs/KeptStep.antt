@@ -133,6 +133,10 @@ module _ {K V S : Type 0} (eq : K → K → Bool) (hash : K → ℕ) (law : IsLa
       unwritten = λ p l. own_unwritten p (ap (λ (y : Hands (Stored K V)). y.made) e ∙ l);
     }
 
+  pub own_call-key : (hands : Hands (Stored K V)) (e : left.hands ≡ hands) → (own_call hands e).key ≡ call.key
+  unfolding own_call
+  own_call-key hands e = refl
+
   -- another call's facts
   other_unwritten : (d : ℕ) (r : Running K V) → running s.callers d ≡ Some r → d ≢ caller → (p : Stored K V) → (tales d).hands.made ≡ Some p → change_in r.machine.state ≡ None → (t x : ℕ) (q : Stored K V) → named ((run es' start).slot t x) ≡ Some q → q.number ≢ p.number
   other_unwritten d r runs differ p made none t x q names = elim (left.slots t x q names) [

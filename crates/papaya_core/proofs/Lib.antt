@@ -5,10 +5,12 @@ pub mod Good
 pub mod GoodLemmas
 pub mod HeadlineLemmas
 pub mod KeptAnswer
+pub mod KeptBegin
 pub mod KeptExchange
 pub mod KeptLemmas
 pub mod KeptLogs
 pub mod KeptMade
+pub mod KeptMap
 pub mod KeptOpening
 pub mod KeptPerformed
 pub mod KeptSettings
