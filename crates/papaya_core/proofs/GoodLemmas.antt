@@ -39,7 +39,8 @@ use Rattle.papaya_core.proofs.CoreLemmas.{cases_same}
 use Rattle.papaya_core.proofs.EventLemmas.{one_exchange, event_begins, event_open, event_change, unchanged_before}
 use Rattle.papaya_core.proofs.Good.{AllBelow, IsGood, IsTied, replay, replayed}
 use Rattle.papaya_core.proofs.KeptLemmas.{IsLawfulKeys, IsStep, kept_step, kept_begin, map_kept, hashed_setting}
-use Rattle.papaya_core.proofs.LegalLemmas.{step_legal, insertion_does}
+use Rattle.papaya_core.proofs.AdvanceLemmas.{advance_legal}
+use Rattle.papaya_core.proofs.LegalLemmas.{insertion_does}
 use Rattle.papaya_core.proofs.MachineLemmas.{machine_once, machine_task, made_key}
 use Rattle.papaya_core.proofs.ReplayLemmas.{map_replayed, held_in_slot}
 use Rattle.papaya_core.proofs.TiedLemmas.{IsGrown, grown, tied_other, tied_entry, tied_fits, moments_more}
@@ -113,18 +114,7 @@ module _ {K V S : Type 0} (eq : K → K → Bool) (hash : K → ℕ) (law : IsLa
         (own, tied.change ∙ none, insertion_does call step.call.key went q own key (tied.made q made))
 
     legal : IsLegal eq event schedule c h (replay eq good.es) good.maps (replay eq es)
-    legal =
-        let split = step.call.split in
-        subst (λ y. IsLegal eq y schedule c h (replay eq good.es) good.maps (replay eq es)) (sym x.event_is)
-          (subst (λ (l : List (Exchange (Stored K V))). IsLegal eq (event_of (kind_of_ask x.before.machine) (ask_of x.before.machine) x.answer) schedule c h (replay eq l) good.maps (replay eq (l ++ step.made))) split
-            (step_legal eq hash s.mode s'.mode s.store.words.tables s'.store.words.tables hashed (hashed_setting eq hash law s' core').lawful (good.tales c).begun (good.tales c).since
-              (subst (AllAllowed (setting_of eq (low hash) s.mode s.store.words.tables) first_state) (sym split) good.kept.allowed)
-              step.call.key x.before.machine (good.tales c).hands step.call.rests schedule c h good.maps
-              (may_put (open_call schedule c h) refl)
-              (λ q made none. subst (λ (l : List (Exchange (Stored K V))). IsUnused q.number (replay eq l ∷ good.maps)) (sym split) (good.unused c x.before x.was q made none))
-              x.answer step.made step.hands
-              (subst (λ (l : List (Exchange (Stored K V))). IsTold (setting_of eq (low hash) s.mode s.store.words.tables) (coding_of (low hash)) step.call.key (run l first_state) (kind_of_ask x.before.machine) (good.tales c).hands (ask_of x.before.machine) x.answer step.made step.hands) (sym split) step.told)
-              (subst (λ (l : List (Exchange (Stored K V))). AllAllowed (setting_of eq (low hash) s'.mode s'.store.words.tables) first_state (l ++ step.made)) (sym split) step.kept.allowed)))
+    legal = advance_legal eq hash law refuse s s' c event reply x good.core core' good.es good.tales good.kept step schedule h good.maps (may_put (open_call schedule c h) refl) (good.unused c x.before x.was)
 
     timeline : Timeline eq schedule start later_history later_maps
     timeline = (legal, good.timeline)

@@ -1,3 +1,4 @@
+pub mod AdvanceLemmas
 pub mod CallersLemmas
 pub mod CoreLemmas
 pub mod EventLemmas

@@ -10,6 +10,7 @@ use Rattle.papaya_call.specs.declared.ask.StepKind.{StepKind}
 use Rattle.papaya_call.specs.declared.ask.StepKind.TheVariants as kinds
 use Rattle.papaya_call.specs.declared.call.Reply.{Reply}
 use Rattle.papaya_call.specs.declared.search.Search.TheVariants.{Sizing, Looking, Comparing}
+use Rattle.papaya_call.specs.declared.call.Task.{Task}
 use Rattle.papaya_call.specs.declared.write.Made.{Made}
 use Rattle.papaya_call.specs.declared.write.Made.TheVariants.{Nothing, Key, Pair}
 use Rattle.papaya_call.specs.declared.machine.Machine.{Machine}
@@ -17,9 +18,11 @@ use Rattle.papaya_call.specs.declared.machine.State.{State as Stage}
 use Rattle.papaya_call.specs.declared.machine.State.TheVariants.{AtRoot, Making, Opening, Searching, Writing, Counting, Leaving, Ended}
 use Rattle.papaya_call.specs.Law.Exchange.{Setting, Exchange}
 use Rattle.papaya_call.specs.Law.Code.{Coding}
-use Rattle.papaya_call.specs.Machine.{asks, ask_of, kind_asked, kind_of_ask, after}
+use Rattle.papaya_call.specs.Machine.{IsStanding, IsStandingState, IsWriter, asks, ask_of, kind_asked, kind_of_ask, after}
 use Rattle.papaya_call.specs.Rests.{Rests, RestsMade, RestsStage, IsReply, change_in, change_of_reply}
 use Rattle.papaya_call.specs.Told.{Hands}
+use Rattle.papaya_core.specs.declared.trace.Event.TheVariants.{Changed, Moved, Other}
+use Rattle.papaya_core.specs.Advances.{event_of}
 
 -- an exchange comes before any change
 once_in : (made : Made) (hash : ℕ) (stage : Stage) (at : At) (old new : ℕ) → asks made hash stage ≡ Ask_exchange at old new → change_in stage ≡ None
@@ -94,3 +97,19 @@ module _ {K P : Type 0} (g : Setting K P) (c : Coding K P) (begun since : List (
 
   pub machine_replies : (m : Machine) (hands : Hands P) → Rests g c begun since k m hands → (reply : Reply) → ask_of m ≡ Ask_done reply → IsReply g c begun since k hands m.task reply × (change_in m.state ≡ change_of_reply reply)
   machine_replies m hands rests reply e = reply_in_stage m hands m.made m.state reply rests.stage e
+
+-- an exchange that changes the map is an insertion's
+writes_in : (task : Task) (made : Made) (hash : ℕ) (stage : Stage) → IsStandingState task stage → (kind : StepKind) (old new : Option ℕ) (answer : Answer) → event_of (kind_asked made stage) (asks made hash stage) answer ≡ Changed kind old new → IsWriter task
+writes_in task made hash AtRoot stands kind old new answer e = absurd cc
+writes_in task made hash Making stands kind old new answer e = stands
+writes_in task made hash (Opening t) stands kind old new answer e = stands
+writes_in task made hash (Searching (Sizing t)) stands kind old new answer e = absurd cc
+writes_in task made hash (Searching (Looking at)) stands kind old new answer e = absurd cc
+writes_in task made hash (Searching (Comparing at word)) stands kind old new answer e = absurd cc
+writes_in task made hash (Writing write) stands kind old new answer e = stands.0
+writes_in task made hash (Counting n) stands kind old new answer e = stands
+writes_in task made hash (Leaving t) stands kind old new answer e = absurd cc
+writes_in task made hash (Ended reply) stands kind old new answer e = absurd cc
+
+pub machine_writes : (m : Machine) → IsStanding m → (kind : StepKind) (old new : Option ℕ) (answer : Answer) → event_of (kind_of_ask m) (ask_of m) answer ≡ Changed kind old new → IsWriter m.task
+machine_writes m stands kind old new answer e = writes_in m.task m.made m.hash m.state stands.state kind old new answer e
