@@ -7,6 +7,7 @@ pub mod GoodLemmas
 pub mod HeadlineLemmas
 pub mod KeptAnswer
 pub mod KeptBegin
+pub mod KeptCore
 pub mod KeptExchange
 pub mod KeptLemmas
 pub mod KeptLogs

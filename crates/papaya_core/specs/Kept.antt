@@ -16,6 +16,7 @@ use Rattle.papaya_call.specs.Told.{Hands, no_hands, word_of}
 use Rattle.papaya_core.specs.declared.pairs.Running.{Running}
 use Rattle.papaya_core.specs.declared.callers.Seat.{Seat}
 use Rattle.papaya_core.specs.Callers.{running}
+use Rattle.papaya_core.specs.Core.{IsCore}
 use Rattle.papaya_core.specs.Performs.{own_key}
 use Rattle.papaya_core.specs.Store.{StoreState, Stored, pair_of}
 use Rattle.papaya_core.specs.Tables.{table_of, word_at}
@@ -79,6 +80,11 @@ module _ {K V S : Type 0} (eq : K → K → Bool) (hash : K → ℕ) (mode : Res
     pub calls : (caller : ℕ) (r : Running K V) → running callers caller ≡ Some r → IsCall r es (tales caller)
     -- two calls make two pairs
     pub apart : (c d : ℕ) (r q : Running K V) → running callers c ≡ Some r → running callers d ≡ Some q → c ≢ d → (p p' : Stored K V) → (tales c).hands.made ≡ Some p → (tales d).hands.made ≡ Some p' → p.number ≢ p'.number
+
+-- What always holds of a core: its tables and machines are in order, and there are exchanges by which its words keep to the law.
+pub record IsLawfulCore {K V S : Type 0} (eq : K → K → Bool) (hash : K → ℕ) (store : StoreState K V S) (callers : List (Seat K V)) (mode : ResizeMode) : Type 0 where
+  pub core : IsCore store callers mode
+  pub law : (es : List (Exchange (Stored K V))) × ((tales : ℕ → Tale K V) × IsKept eq hash mode store callers es tales)
 
 -- the tales after a step of a caller that made these exchanges, and of which its machine has these hands
 abbrev pub told_tales : {K V : Type 0} → (ℕ → Tale K V) → ℕ → List (Exchange (Stored K V)) → Hands (Stored K V) → ℕ → Tale K V
