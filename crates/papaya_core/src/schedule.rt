@@ -53,7 +53,7 @@ impl<K: Hash + Eq, V, S: BuildHasher> Model for Core<K, V, S> {
 }
 
 /// A call as it begins.
-fn begin_call<K: Hash + Eq, V, S: BuildHasher>(
+fn begin_call<K: Hash + Eq, V: Drop, S: BuildHasher>(
     store: &Store<K, V, S>,
     mode: ResizeMode,
     initial: usize,
