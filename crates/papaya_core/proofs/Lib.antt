@@ -1,5 +1,10 @@
+pub mod AdvanceLemmas
 pub mod CallersLemmas
 pub mod CoreLemmas
+pub mod EventLemmas
+pub mod Good
+pub mod GoodLemmas
+pub mod HeadlineLemmas
 pub mod KeptAnswer
 pub mod KeptBegin
 pub mod KeptCore
@@ -14,5 +19,10 @@ pub mod KeptSettings
 pub mod KeptStep
 pub mod KeptTables
 pub mod KeptWritten
+pub mod LegalLemmas
+pub mod MachineLemmas
+pub mod ReplayLemmas
 pub mod RunLemmas
 pub mod StoreLemmas
+pub mod TiedLemmas
+pub mod TimelineLemmas

@@ -6,6 +6,7 @@ pub mod Core
 pub mod Headline
 pub mod Kept
 pub mod Maps
+pub mod Moves
 pub mod New
 pub mod Performs
 pub mod Runs
