@@ -1,18 +1,21 @@
 //! The law of exchanges: what any list of allowed exchanges keeps. The functions do nothing; their contracts are what the layers above use.
 
 ghost use Rattle.papaya_call.specs.Law.Allows.{AllAllowed, Allows, MayAbort, MayClaim, MayFinish, MayPlace};
-ghost use Rattle.papaya_call.specs.Law.Code.{AreAlike, ChangesSlot, Coding, IsLawfulCoding, byte_of_pair, code, kind};
+ghost use Rattle.papaya_call.specs.Law.Code.{AreAlike, ChangesSlot, Coding, IsLawfulCoding, IsOfKind, byte_of_pair, code, kind};
+ghost use Rattle.papaya_call.specs.Law.Content.{AreApart, IsCountAfter, content, lookup, pairs_in};
 ghost use Rattle.papaya_call.specs.Law.Copying.{IsPutting, IsTaker, IsTarget};
 ghost use Rattle.papaya_call.specs.Law.Example.{by_two, two_tables, of_one, three_tables};
 ghost use Rattle.papaya_call.specs.Law.Exchange.{Empty, Marked, Exchange, Setting, State, Word, after, run, start};
 ghost use Rattle.papaya_call.specs.Law.Grows.{Agrees, AllSized, Comes, Entry, IsLawfulPlan, Plan, brings, exchanges, planned, setting_in};
+ghost use Rattle.papaya_call.specs.Law.Hashing.{hashed};
 ghost use Rattle.papaya_call.specs.Law.Invariant.{IsKeeping, named, shut};
 ghost use Rattle.papaya_call.specs.Law.Class.{IsOn};
 ghost use Rattle.papaya_call.specs.Law.Later.{IsLasting, IsLater};
 ghost use Rattle.papaya_call.specs.Law.Meaning.{AllLegal, IsAtMoment, IsLawful, IsLegal, IsMeaning, map_after, map_left, map_of};
-ghost use Rattle.papaya_call.specs.Law.View.{Free, Gone, Grave, Here, HasWord, IsPassed, IsReached, Leaving, active, beyond, held, look, own};
-ghost use Rattle.papaya_words.specs.Word.{IsSlotStep, byte_of, kind_of, pair_of};
-ghost use Rattle.std.specs.Prelude.{◌≡◌, ◌⊎◌, ℕ, zero, suc, ◌<◌, ◌^◌, ◌++◌, Bool, true, false, List, [], ◌∷◌, Option, None, Some};
+ghost use Rattle.papaya_call.specs.Law.View.{Foreign, Free, Gone, Grave, Here, HasWord, IsPassed, IsReached, Leaving, active, beyond, held, look, own, view};
+ghost use Rattle.papaya_words.specs.Word.{IsSlotStep, byte_of, kind_of, pair_of, top_byte};
+ghost use Rattle.papaya_words.specs.declared.word.Kind.TheVariants as kinds;
+ghost use Rattle.std.specs.Prelude.{◌≡◌, ◌⊎◌, ℕ, zero, suc, ◌<◌, ◌^◌, ◌==◌, ◌++◌, Bool, true, false, List, [], ◌∷◌, length, Option, None, Some};
 
 /// The law: after each list of allowed exchanges the tables mean one map, which its claims, replacements and burials alone change, each taking out just the pair that was there.
 pub fn one_map<K, P>()
@@ -107,8 +110,39 @@ pub fn codes<K, P>()
     ensures stays { (s : State P) (e : Exchange P) (t x : ℕ) → (ChangesSlot e t x → ⊥) → (after s e).slot t x ≡ s.slot t x }
 {}
 
-/// The conditions can be met: two lists, one in each mode, together of every kind.
+/// What a search for a key learns from the number that it loads, and from comparing the key.
+pub fn words_in_a_search<K, P>()
+    ensures kind { (g : Setting K P) (c : Coding K P) (w : Word P) → IsOfKind (kind_of (code g c w)) w }
+    ensures past_buried { (g : Setting K P) (c : Coding K P) (k : K) (w : Word P) → kind_of (code g c w) ≡ kinds.Buried → beyond (view g k w) ≡ true }
+    ensures past_closed { (g : Setting K P) (c : Coding K P) (k : K) (w : Word P) → kind_of (code g c w) ≡ kinds.Closed → beyond (view g k w) ≡ true }
+    ensures own_byte { (g : Setting K P) (c : Coding K P) → IsLawfulCoding g c → (k : K) (w : Word P) (p : P) → named w ≡ Some p → g.same k (g.key p) ≡ true → byte_of (code g c w) ≡ top_byte (c.hash k) }
+    ensures other_byte { (g : Setting K P) (c : Coding K P) → IsLawfulCoding g c → (k : K) (w : Word P) (p : P) → named w ≡ Some p → (byte_of (code g c w) == top_byte (c.hash k)) ≡ false → view g k w ≡ Foreign }
+    ensures other_key { (g : Setting K P) (k : K) (w : Word P) (p : P) → named w ≡ Some p → g.same k (g.key p) ≡ false → view g k w ≡ Foreign }
+{}
+
+/// Keys that are looked for by their hash have a lawful plan, and a lawful plan gives lawful settings.
+pub fn plans_by_hash<K, P>()
+    ensures plan { (blocking : Bool) (key : P → K) (same : K → K → Bool) (hash : K → ℕ) → ((k : K) → same k k ≡ true) → ((k l : K) → same k l ≡ true → same l k ≡ true) → ((k l m : K) → same k l ≡ true → same l m ≡ true → same k m ≡ true) → ((k l : K) → same k l ≡ true → hash k ≡ hash l) → IsLawfulPlan (hashed blocking key same hash) }
+    ensures setting { (h : Plan K P) → IsLawfulPlan h → (size places : ℕ → ℕ) → ((t : ℕ) → 0 < size t) → ((t : ℕ) → 0 < places t) → IsLawful (planned h size places) }
+{}
+
+/// The root's table as a list of pairs. With blocking, or while the root has no next table, it is the map; and while there is one table, each exchange adds, takes out or leaves as many pairs as its kind says.
+pub fn content_of_a_table<K, P>()
+    ensures holds { (g : Setting K P) → IsLawful g → (s : State P) (m : K → Option P) → IsKeeping g s m → (g.blocking ≡ false → s.next s.root ≡ 0) → (k : K) → lookup g.same g.key (content g s) k ≡ m k }
+    ensures apart { (g : Setting K P) → IsLawful g → (s : State P) (m : K → Option P) → IsKeeping g s m → (t n : ℕ) → AreApart g.same g.key (pairs_in (s.slot t) n) }
+    ensures nothing { (g : Setting K P) → IsLawful g → (s : State P) (m : K → Option P) → IsKeeping g s m → s.root ≡ 0 → (content g s ≡ []) × ((k : K) → m k ≡ None) }
+    ensures count { (g : Setting K P) → IsLawful g → (s : State P) (m : K → Option P) → IsKeeping g s m → ((t : ℕ) → s.next t ≡ 0) → (e : Exchange P) → Allows g s e → IsCountAfter e (length (content g s)) (length (content g (after s e))) }
+{}
+
+/// The map as a list in which no key stands twice, whatever tables there are: one stays to be had after each exchange, all of them are of one length, and that length follows the claims and burials.
+pub fn finite_maps<K, P>()
+    ensures list { (g : Setting K P) → IsLawful g → (s : State P) (m : K → Option P) → IsKeeping g s m → (e : Exchange P) → Allows g s e → (a : List P) → AreApart g.same g.key a → ((k : K) → lookup g.same g.key a k ≡ m k) → (b : List P) × AreApart g.same g.key b × ((k : K) → lookup g.same g.key b k ≡ map_after g m e k) }
+    ensures length { (g : Setting K P) → IsLawful g → (a b : List P) → AreApart g.same g.key a → AreApart g.same g.key b → ((k : K) → lookup g.same g.key a k ≡ lookup g.same g.key b k) → length a ≡ length b }
+    ensures count { (g : Setting K P) → IsLawful g → (m : K → Option P) (e : Exchange P) → IsLegal g m e → (a b : List P) → AreApart g.same g.key a → AreApart g.same g.key b → ((k : K) → lookup g.same g.key a k ≡ m k) → ((k : K) → lookup g.same g.key b k ≡ map_after g m e k) → IsCountAfter e (length a) (length b) }
+{}
+
+/// The conditions can be met: two lists in lawful settings, one in each mode, together of every kind.
 pub fn examples()
-    ensures incremental { AllAllowed by_two start two_tables }
-    ensures blocking { AllAllowed of_one start three_tables }
+    ensures incremental { IsLawful by_two × AllAllowed by_two start two_tables }
+    ensures blocking { IsLawful of_one × AllAllowed of_one start three_tables }
 {}

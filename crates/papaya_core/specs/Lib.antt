@@ -1,9 +1,15 @@
 pub mod Advances
 pub mod Begins
 pub mod Callers
+pub mod Content
 pub mod Core
+pub mod Headline
+pub mod Kept
+pub mod Maps
+pub mod Moves
 pub mod New
 pub mod Performs
 pub mod Runs
 pub mod Store
 pub mod Tables
+pub mod Timeline

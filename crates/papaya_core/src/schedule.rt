@@ -5,7 +5,7 @@ ghost use Rattle.papaya_words.specs.Probe.{IsEntriesFor};
 ghost use Rattle.papaya_call.specs.Machine.{IsChunked, IsStanding};
 ghost use Rattle.papaya_core.specs.Callers.{running};
 ghost use Rattle.papaya_core.specs.Store.{pair_of, hash_of};
-ghost use Rattle.papaya_core.specs.Core.{IsCore, call_of};
+ghost use Rattle.papaya_core.specs.Core.{call_of};
 ghost use Rattle.papaya_core.specs.Begins.{Begins, begun};
 ghost use Rattle.papaya_core.specs.Advances.{Advances, event_of, reply_in};
 ghost use Rattle.papaya_core.specs.New.{IsTooMuch, IsAllowed, IsRefused, IsNew};
@@ -39,13 +39,15 @@ pub struct Core<K: Hash + Eq, V, S: BuildHasher> {
 }
 
 impl<K: Hash + Eq, V, S: BuildHasher> Model for Core<K, V, S> {
-    ghost use Rattle.papaya_core.specs.Core.{CoreState, IsCore};
+    ghost use Rattle.papaya_core.specs.Core.{CoreState};
+    ghost use Rattle.papaya_core.specs.Kept.{IsLawfulCore};
+    ghost use Rattle.papaya_core.specs.Store.{hash_of};
 
     ghost Value = { CoreState K V S };
 
     ghost view = { λ c. record { store = c.store; callers = c.callers; mode = c.mode; initial = c.initial } };
 
-    ghost invariant = { λ c. IsCore c.store c.callers c.mode };
+    ghost invariant = { λ c. IsLawfulCore K.eq (hash_of K.hash_input S.build_hasher S.Hasher.write S.Hasher.finish c.store.hasher) c.store c.callers c.mode };
 }
 
 /// A call as it begins.

@@ -1,8 +1,7 @@
 -- The places of a search: how one follows another, and that they differ.
-use Rattle.std.proofs.Common.{◌≡◌, ℕ, zero, suc, ◌+◌, ◌-◌, ◌*◌, ◌/◌, ◌%◌, ◌^◌, ◌<◌, ◌≤◌, ◌⊎◌, inl, inr, refl, sym, ◌∙◌, ap, subst, arith, add_assoc}
-use Rattle.std.proofs.Math.Nat.{add-mul, mul-zero, mul-suc, mul_assoc, mul_left_comm, mul-sub, mul_comm, mod-add-mod, div-add-mod, pow-succ'}
+use Rattle.std.proofs.Common.{◌≡◌, ℕ, zero, suc, ◌+◌, ◌-◌, ◌*◌, ◌/◌, ◌%◌, ◌^◌, ◌<◌, ◌≤◌, ◌⊎◌, inl, inr, refl, sym, ◌∙◌, ap, arith, add_assoc}
+use Rattle.std.proofs.Math.Nat.{mul-zero, mul-suc, mul_assoc, mul_left_comm, mul-sub, mul_comm, mod-add-mod, mod-lt, div-add-mod, pow-succ'}
 use Rattle.std.proofs.lemmas.Bool.{cases_lt, cases_order}
-use Rattle.std.proofs.lemmas.Nat.{pow_pos}
 use Rattle.std.specs.Int.{IsPowerOfTwo}
 use Rattle.papaya_words.specs.Probe.{place, triangular}
 
@@ -99,3 +98,7 @@ places_distinct hash slots i j power hi hj same =
       | inr (inl less) ↦ absurd (apart_in hash slots i j power less hj same)
       | inr (inr more) ↦ absurd (apart_in hash slots j i power more hi (sym same))
     ]
+
+-- a place is a slot of the table
+pub place_within : (hash slots n : ℕ) → 0 < slots → place hash slots n < slots
+place_within hash slots n h = mod-lt (hash + triangular n) h

@@ -1,5 +1,5 @@
--- The numbers of refusals.
-use Rattle.std.specs.Prelude.{ℕ}
+-- How refusals are reported.
+use Rattle.std.specs.Prelude.{ℕ, List, codes}
 use Rattle.papaya_words.specs.declared.probe.Refused.{Refused}
 use Rattle.papaya_words.specs.declared.probe.Refused.TheVariants.{Memory, Capacity, WrongGuard, RemoveNothing, ZeroChunk, Shape, KeyClash, Item}
 
@@ -13,3 +13,14 @@ number_of ZeroChunk = 5
 number_of Shape = 6
 number_of KeyClash = 7
 number_of Item = 8
+
+-- the name by which a refusal is printed
+abbrev pub name_of : Refused → List ℕ
+name_of Memory = codes "Memory"
+name_of Capacity = codes "Capacity"
+name_of WrongGuard = codes "WrongGuard"
+name_of RemoveNothing = codes "RemoveNothing"
+name_of ZeroChunk = codes "ZeroChunk"
+name_of Shape = codes "Shape"
+name_of KeyClash = codes "KeyClash"
+name_of Item = codes "Item"

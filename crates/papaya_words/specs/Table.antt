@@ -14,7 +14,7 @@ pub record TableWords : Type 0 where
 abbrev pub new_table : ℕ → ℕ → ℕ → TableWords
 new_table number len limit = record { number = number; limit = limit; slots = replicate len 0; next = 0; aborted = 0; done = 0 }
 
--- the length after a table of this length, by the count of the map's pairs, the initial capacity, and whether a pair did not fit: it doubles from half full on, and halves up to an eighth
+-- the length that follows a table's length, by the count of the map's pairs, the initial capacity, and whether a pair did not fit: it doubles from half full on, and halves up to an eighth
 abbrev pub length_after : ℕ → ℕ → ℕ → Bool → ℕ
 length_after len count initial did_not_fit =
     if did_not_fit || nat_le (len / 2) count then 2 * len

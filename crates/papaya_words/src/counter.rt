@@ -9,10 +9,10 @@ use std::alloc::Global;
 use std::marker::Model;
 
 /// A signed number in shards. Contracts see how many shards there are, and their
-/// sum, wrapped to 64 bits: while the true sum fits, it is that sum.
+/// sum, wrapped to 64 bits: the true sum of what was added wherever that fits.
 ///
-/// 0.2.5 keeps each shard on a cache line of its own and takes their number from
-/// the machine's processors.
+/// Its words are plain. 0.2.5 gives each shard a cache line of its own, and takes
+/// their number from the machine's processors.
 #[derive(Drop)]
 pub struct Counter {
     shards: Vec<i64>,
@@ -66,7 +66,7 @@ impl Counter {
         (guard_number & (self.shards.len() as u64 - 1)) as usize
     }
 
-    /// Adds to one shard.
+    /// Adds to one shard, wrapping.
     pub fn add(&mut self, place: usize, by: i64)
         requires { place < self.old.shards }
         ensures { self.new ≡ record self.old { sum = int_wrap w64 (self.old.sum +ℤ by) } }
@@ -86,6 +86,7 @@ impl Counter {
     }
 }
 
+// Apart from `Counter`, so that it is proved over the bare list.
 fn add_at(shards: &mut Vec<i64>, place: usize, by: i64)
     requires { place < length shards.old.items }
     ensures { shards.new.items ≡ slice_set shards.old.items place (int_wrap w64 (slice_index_or shards.old.items place (pos 0) +ℤ by)) }

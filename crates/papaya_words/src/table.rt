@@ -8,7 +8,10 @@ use crate::probe::{Refused, limit};
 use std::alloc::Global;
 use std::marker::Model;
 
-/// A table: its slots, how far a search goes, and the number of the next table.
+/// A table: its slots, how far a search of it goes, and how far its resize has
+/// come. Its words are plain; the shared map keeps the like in atomic words.
+///
+/// It stands in place of 0.2.5's `RawTable` and the `State` beside it.
 #[derive(Drop)]
 pub struct Table {
     number: u64,
@@ -30,10 +33,12 @@ impl Model for Table {
 impl Table {
     ghost use Rattle.papaya_words.specs.Table.{new_table};
 
-    /// A table with empty slots.
+    /// A table of this number, with `len` Empty slots and no next.
+    ///
+    /// `Refused::Memory` where the growth was refused.
     pub fn new(alloc: Global, number: u64, len: usize, limit: usize) -> Result<Table, Refused>
-        ensures ok { IfOk result (λ t. t ≡ new_table number len limit) }
-        ensures err { IfErr result (λ e. e ≡ Refused.Memory) }
+        ensures ok { IfOk result (λ table. table ≡ new_table number len limit) }
+        ensures err { IfErr result (λ refused. refused ≡ Refused.Memory) }
     {
         match vec![in alloc; 0; len] {
             Ok(slots) => Ok(Table {
@@ -48,54 +53,64 @@ impl Table {
         }
     }
 
-    pub fn len(&self) -> usize
-        ensures { result ≡ length self.now.slots }
-    {
-        self.slots.len()
-    }
-
-    pub fn limit(&self) -> usize
-        ensures { result ≡ self.now.limit }
-    {
-        self.limit
-    }
-
+    /// The table's number in its map, from 1 on.
     pub fn number(&self) -> u64
         ensures { result ≡ self.now.number }
     {
         self.number
     }
 
+    /// How many slots the table has.
+    pub fn len(&self) -> usize
+        ensures { result ≡ length self.now.slots }
+    {
+        self.slots.len()
+    }
+
+    /// How many places a search visits after the first.
+    pub fn limit(&self) -> usize
+        ensures { result ≡ self.now.limit }
+    {
+        self.limit
+    }
+
+    /// The number of the next table, or 0 where there is none yet.
     pub fn next(&self) -> u64
         ensures { result ≡ self.now.next }
     {
         self.next
     }
 
+    /// 1 where a pair of the table before found no place here, so that the copy
+    /// goes on with the next table; else 0.
     pub fn aborted(&self) -> u64
         ensures { result ≡ self.now.aborted }
     {
         self.aborted
     }
 
+    /// How many slots of the table before are copied, counted from its first.
     pub fn done(&self) -> u64
         ensures { result ≡ self.now.done }
     {
         self.done
     }
 
+    /// Writes the number of the next table.
     pub fn set_next(&mut self, next: u64)
         ensures { self.new ≡ record self.old { next = next } }
     {
         self.next = next;
     }
 
+    /// Writes whether the copy to this table was given up.
     pub fn set_aborted(&mut self, aborted: u64)
         ensures { self.new ≡ record self.old { aborted = aborted } }
     {
         self.aborted = aborted;
     }
 
+    /// Writes how many slots of the table before are copied.
     pub fn set_done(&mut self, done: u64)
         ensures { self.new ≡ record self.old { done = done } }
     {
@@ -110,6 +125,7 @@ impl Table {
         self.slots[i]
     }
 
+    /// Writes the word of a slot.
     pub fn put(&mut self, i: usize, word: u64)
         requires { i < length self.old.slots }
         ensures { self.new ≡ record self.old { slots = slice_set self.old.slots i word } }
@@ -126,9 +142,12 @@ pub fn table_len(asked: usize) -> usize
 }
 
 /// The length at which the table after one of `len` slots is asked for, where the
-/// map counts `count` pairs and `initial` is its initial capacity. `did_not_fit`
-/// says that a pair found no place, or that the table before was aborted: then it
-/// doubles whatever the count, which may lag behind callers that were stopped.
+/// map counts `count` pairs and `initial` is its initial capacity. It doubles from
+/// half full on, and halves up to an eighth, but not below `initial`.
+///
+/// `did_not_fit` says that a pair found no place, or that the table before was
+/// aborted: then it doubles whatever the count, which may lag behind any number of
+/// stopped callers.
 ///
 /// `Refused::Capacity` where it would pass [`MAX_TABLE_LEN`].
 pub fn next_len(

@@ -1,9 +1,9 @@
 //! The words of slots: what stands in a slot of a table, and how it may change.
 ghost use Rattle.std.specs.Prelude.{◌≡◌, ℕ, ◌+◌, ◌*◌, ◌%◌, ◌^◌, ◌<◌, ◌≤◌, ◌↔◌, ◌≢◌, IsTrue};
 ghost use Rattle.papaya_words.specs.Word.{kind_of, kind_of_code, byte_of, pair_of, filled_word, live_word, marked_word, copied_word, buried_word, top_byte, IsSlotStep};
-ghost use Rattle.papaya_words.specs.declared.word.Kind.TheVariants.{Empty};
+ghost use Rattle.papaya_words.specs.declared.word.Kind.TheVariants.{Empty, Live, Marked, Copied, Buried, Closed};
 
-/// What a slot word says.
+/// What a slot word says. Its code in the word is its place in this list, from 0.
 #[derive(Clone, Copy, Debug, PartialEq, Eq)]
 pub enum Kind {
     /// Nothing was ever here.
@@ -103,10 +103,13 @@ impl Word {
 
 /// Whether one step may put `new` where `old` stands in a slot. Nothing makes a
 /// slot Empty again, and a slot that was filled keeps its hash byte.
+///
+/// The words show neither whose keys are equal nor which of two steps an Empty
+/// slot was filled by: those are conditions of the steps, not of the words.
 pub fn legal(old: Word, new: Word) -> bool
     ensures steps { IsTrue result ↔ IsSlotStep old.0 new.0 }
-    ensures filled { IsTrue result → kind_of new.0 ≢ Empty }
-    ensures class { IsTrue result → kind_of old.0 ≢ Empty → byte_of new.0 ≡ byte_of old.0 }
+    ensures not_empty { IsTrue result → kind_of new.0 ≢ Empty }
+    ensures byte { IsTrue result → kind_of old.0 ≢ Empty → byte_of new.0 ≡ byte_of old.0 }
 {
     let same_byte = old.hash_byte() == new.hash_byte();
     let same_pair = same_byte && old.pair() == new.pair();
@@ -127,7 +130,11 @@ pub fn words_read_back()
     ensures kind { (code byte pair : ℕ) → code < 8 → kind_of (filled_word code byte pair) ≡ kind_of_code code }
     ensures byte { (code byte pair : ℕ) → code < 8 → byte < 128 → byte_of (filled_word code byte pair) ≡ byte }
     ensures pair { (code byte pair : ℕ) → code < 8 → byte < 128 → pair_of (filled_word code byte pair) ≡ pair }
-    ensures whole { (word : ℕ) → filled_word (word % 8) (byte_of word) (pair_of word) ≡ word }
+    ensures bare { (kind_of 0 ≡ Empty) × (kind_of 5 ≡ Closed) }
+    ensures live { (w : ℕ) → kind_of w ≡ Live → w ≡ live_word (byte_of w) (pair_of w) }
+    ensures marked { (w : ℕ) → kind_of w ≡ Marked → w ≡ marked_word (byte_of w) (pair_of w) }
+    ensures copied { (w : ℕ) → kind_of w ≡ Copied → w ≡ copied_word (byte_of w) (pair_of w) }
+    ensures buried { (w : ℕ) → kind_of w ≡ Buried → w ≡ buried_word (byte_of w) (pair_of w) }
 {}
 
 /// The hash from which the places of a search are counted.

@@ -104,7 +104,7 @@ module _ {K P : Type 0} (g g' : Setting K P) (s : State P) (sound : IsSound g s)
   same_key k p = agrees.same k (g'.key p) ∙ ap (g.same k) (agrees.key p)
 
   -- a word tells a key the same
-  view_agrees : (k : K) (w : Word P) → view g' k w ≡ view g k w
+  pub view_agrees : (k : K) (w : Word P) → view g' k w ≡ view g k w
   view_agrees k Empty = refl
   view_agrees k Closed = refl
   view_agrees k (Live p) = ap (λ b. cond b (Here p) Foreign) (same_key k p)
@@ -176,33 +176,33 @@ module _ {K P : Type 0} (g g' : Setting K P) (s : State P) (sound : IsSound g s)
 
   -- without blocking
   incremental_carries : (m : K → Option P) → IsIncrementalState g s m → IsIncrementalState g' s m
-  incremental_carries m good = record {
+  incremental_carries m holds = record {
     sound = sound_carries;
-    settled = λ t x on lt h. good.settled t x on lt (subst (λ y. x < y) (agrees.size t on) h);
-    done = λ t x on lt h. good.done t x on lt (subst (λ y. x < y) (agrees.size t on) h);
+    settled = λ t x on lt h. holds.settled t x on lt (subst (λ y. x < y) (agrees.size t on) h);
+    done = λ t x on lt h. holds.done t x on lt (subst (λ y. x < y) (agrees.size t on) h);
     class = λ k.
         subst (λ W. IsIncrementalClass (IsOn s.first s.next) g'.places (g'.place k) W (m k)) (sym (look_agrees k))
-        (incremental_class_agrees (IsOn s.first s.next) g.places g'.places (look g s k) agrees.places (g.place k) (g'.place k) (agrees.place k) (one_slot k) (m k) (good.class k));
+        (incremental_class_agrees (IsOn s.first s.next) g.places g'.places (look g s k) agrees.places (g.place k) (g'.place k) (agrees.place k) (one_slot k) (m k) (holds.class k));
   }
 
   -- with blocking
   blocking_carries : (m : K → Option P) → IsBlockingState g s m → IsBlockingState g' s m
-  blocking_carries m good = record {
+  blocking_carries m holds = record {
     sound = sound_carries;
-    alive = good.alive;
-    frozen = λ t x was lt h. good.frozen t x was lt (subst (λ y. x < y) (agrees.size t (good.was t was).0) h);
-    fresh = good.fresh;
-    copied = good.copied;
+    alive = holds.alive;
+    frozen = λ t x was lt h. holds.frozen t x was lt (subst (λ y. x < y) (agrees.size t (holds.was t was).0) h);
+    fresh = holds.fresh;
+    copied = holds.copied;
     given_up = λ t a lt.
-        let v = good.given_up t a lt in
+        let v = holds.given_up t a lt in
         record { on = v.on; between = v.between; slot = v.slot; pair = v.pair; marked = v.marked; full = full_carries (look g s (g.key v.pair)) (look g' s (g'.key v.pair)) (look_pair v.pair) t v.on v.full };
     done_to = λ t lt some.
-        let v = good.done_to t lt some in
-        let on = good.done_on t some in
+        let v = holds.done_to t lt some in
+        let on = holds.done_on t some in
         record { between = v.between; settled = λ x h i. settled_carries t on (s.slot s.root x) (v.settled x h (subst (λ y. x < y) (agrees.size s.root (root_on t on)) i)) };
     class = λ k.
         subst (λ W. IsBlockingClass (IsOn s.first s.next) s.was_root s.aborted s.root g'.places (g'.place k) W (m k)) (sym (look_agrees k))
-        (blocking_class_agrees (IsOn s.first s.next) g.places g'.places (look g s k) agrees.places (g.place k) (g'.place k) (agrees.place k) (one_slot k) s.was_root s.aborted s.root (m k) (good.class k));
+        (blocking_class_agrees (IsOn s.first s.next) g.places g'.places (look g s k) agrees.places (g.place k) (g'.place k) (agrees.place k) (one_slot k) s.was_root s.aborted s.root (m k) (holds.class k));
   }
     where
       root_on : (t : ℕ) → IsOn s.first s.next t → IsOn s.first s.next s.root

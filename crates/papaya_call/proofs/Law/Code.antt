@@ -1,5 +1,5 @@
 -- What a number that stands for a word of the law says: its kind, the pair's number and its key's hash byte.
-use Rattle.std.proofs.Common.{◌≡◌, ℕ, ◌%◌, ◌^◌, ◌<◌, Option, None, Some, refl, sym, ap, ◌∙◌, arith}
+use Rattle.std.proofs.Common.{◌≡◌, ℕ, ◌%◌, ◌^◌, ◌<◌, Some, refl, sym, ap, ◌∙◌, arith}
 use Rattle.papaya_words.specs.Word.{kind_of, kind_of_code, byte_of, pair_of, filled_word, top_byte}
 use Rattle.papaya_call.specs.Law.Exchange.{Word, Empty, Closed, Live, Marked, Copied, Buried, Setting}
 use Rattle.papaya_call.specs.Law.Invariant.{named}
@@ -26,7 +26,7 @@ filled_some : (a b n : ℕ) → 0 < a → filled_word a b n ≡ 0 → ⊥
 filled_some a b n lt e = omega (arith, lt, e)
 
 -- a hash of 64 bits has a byte of seven bits
-byte_small : (h : ℕ) → h < 2 ^ 64 → top_byte h < 128
+pub byte_small : (h : ℕ) → h < 2 ^ 64 → top_byte h < 128
 byte_small h lt = omega (arith, lt)
 
 module _ {K P : Type 0} (g : Setting K P) (c : Coding K P) where

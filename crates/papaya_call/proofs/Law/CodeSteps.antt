@@ -1,21 +1,12 @@
 -- Each exchange of a slot is a legal step of the numbers that stand for its words.
-use Rattle.std.proofs.Common.{◌≡◌, inl, inr, ⊎_elim, ℕ, Option, None, Some, refl, sym, ap, ◌∙◌, subst}
-use Rattle.papaya_words.specs.Word.{IsSlotStep, MayBecome, NamesSamePair, byte_of, kind_of, top_byte}
+use Rattle.std.proofs.Common.{◌≡◌, ℕ, Some, refl, sym, ap, ◌∙◌, subst}
+use Rattle.papaya_words.specs.Word.{IsSlotStep, MayBecome, NamesSamePair, kind_of, top_byte}
 use Rattle.papaya_call.specs.Law.Exchange.{Word, Empty, Closed, Live, Marked, Copied, Buried, Setting, State, Exchange, Open, Claim, Replace, Bury, Link, Mark, Close, Place, Finish, Advance, Promote, Abort, after, slot_put}
 use Rattle.papaya_call.specs.Law.Allows.{Allows}
 use Rattle.papaya_call.specs.Law.Invariant.{named}
 use Rattle.papaya_call.specs.Law.Code.{Coding, IsLawfulCoding, code, kind, ChangesSlot}
 use Rattle.papaya_call.proofs.Law.Code.{code_kind, code_pair}
-use Rattle.papaya_call.proofs.Law.Slots.{slot_cases}
-
--- the slot that a word is put into holds it
-put_there : {P : Type 0} → (s : State P) (t x : ℕ) (w : Word P) (u y : ℕ) → (t ≡ u) × (x ≡ y) → ((slot_put s t x w).slot u y ≡ w) × (s.slot u y ≡ s.slot t x)
-put_there s t x w u y e =
-    ⊎_elim (λ h. absurd (h.1 (sym e.0, sym e.1))) (λ h. (h.2, ap (λ v. s.slot v y) h.0 ∙ ap (s.slot t) h.1)) (slot_cases s t x w u y)
-
--- each other slot keeps its word
-put_elsewhere : {P : Type 0} → (s : State P) (t x : ℕ) (w : Word P) (u y : ℕ) → ((t ≡ u) × (x ≡ y) → ⊥) → (slot_put s t x w).slot u y ≡ s.slot u y
-put_elsewhere s t x w u y other = ⊎_elim (λ h. h.0) (λ h. absurd (other (sym h.0, sym h.1))) (slot_cases s t x w u y)
+use Rattle.papaya_call.proofs.Law.Slots.{put_there, put_elsewhere}
 
 module _ {K P : Type 0} (g : Setting K P) (c : Coding K P) where
   -- what the kinds of two words ask of their numbers

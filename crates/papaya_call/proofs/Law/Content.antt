@@ -1,8 +1,8 @@
 -- What the table of the root has is the map, as a list in which no key stands twice.
-use Rattle.std.proofs.Common.{◌≡◌, ◌⊎◌, inl, inr, ⊎_elim, ℕ, ◌<◌, ◌≤◌, true, false, Option, None, Some, List, [], refl, sym, ap, ◌∙◌, subst, arith}
+use Rattle.std.proofs.Common.{◌≡◌, ◌⊎◌, inl, inr, ⊎_elim, ℕ, ◌<◌, true, false, Option, None, Some, [], refl, sym, ap, ◌∙◌, arith}
 use Rattle.std.proofs.lemmas.Bool.{cases_Bool, cases_lt, cond-true, cond-false}
 use Rattle.papaya_call.specs.Law.Exchange.{Word, Empty, Closed, Live, Marked, Copied, Buried, Setting, State}
-use Rattle.papaya_call.specs.Law.View.{View, Free, Foreign, Here, Leaving, Gone, Grave, view, look, held, active, own}
+use Rattle.papaya_call.specs.Law.View.{View, Free, Foreign, Here, Leaving, Gone, Grave, view, look, held}
 use Rattle.papaya_call.specs.Law.Meaning.{IsLawful}
 use Rattle.papaya_call.specs.Law.Class.{IsOn, IsBase}
 use Rattle.papaya_call.specs.Law.Invariant.{IsKeeping, named}
@@ -35,15 +35,14 @@ module _ {K P : Type 0} (g : Setting K P) where
     at_place t x p h k same =
         let name : named (s.slot t x) ≡ Some p = ⊎_elim (λ e. ap named e) (λ e. ap named e) h in
         let o = (keeping_sound g s m keeps).placed t x p name in
-        let is : g.place k t o.at ≡ x = law.places_same k (g.key p) same t o.at ∙ o.is in
-        (
+        let is : g.place k t o.at ≡ x = law.places_same k (g.key p) same t o.at ∙ o.is in (
           o.at,
           o.within,
           is,
           ⊎_elim
-          (λ e. inl (ap (λ y. view g k (s.slot t y)) is ∙ ap (view g k) e ∙ cond-true (g.same k (g.key p)) (Here p) Foreign same))
-          (λ e. inr (ap (λ y. view g k (s.slot t y)) is ∙ ap (view g k) e ∙ cond-true (g.same k (g.key p)) (Leaving p) Foreign same))
-          h,
+              (λ e. inl (ap (λ y. view g k (s.slot t y)) is ∙ ap (view g k) e ∙ cond-true (g.same k (g.key p)) (Here p) Foreign same))
+              (λ e. inr (ap (λ y. view g k (s.slot t y)) is ∙ ap (view g k) e ∙ cond-true (g.same k (g.key p)) (Leaving p) Foreign same))
+              h,
         )
 
     -- no two slots of a table have pairs of one key

@@ -1,10 +1,37 @@
 -- Two lists of exchanges that are allowed, one in each mode, together of every kind: the conditions can be met.
-use Rattle.std.proofs.Common.{◌≡◌, inl, inr, ℕ, zero, suc, ◌<◌, true, [], ◌∷◌, refl, arith}
+use Rattle.std.proofs.Common.{◌≡◌, inl, inr, ℕ, zero, suc, ◌<◌, ◌==◌, Bool, true, false, cond, [], ◌∷◌, refl, sym, ◌∙◌, arith, eqb-true, eq-eqb}
 use Rattle.papaya_call.specs.Law.Exchange.{State, Open, Claim, Replace, Link, Mark, Close, Place, Finish, Abort, start, after, run, walk}
 use Rattle.papaya_call.specs.Law.View.{look, beyond, foreign}
 use Rattle.papaya_call.specs.Law.Copying.{IsSettled}
 use Rattle.papaya_call.specs.Law.Allows.{AllAllowed}
+use Rattle.papaya_call.specs.Law.Meaning.{IsLawful}
 use Rattle.papaya_call.specs.Law.Example.{by_two, two_tables, of_one, three_tables}
+
+-- equality of numbers is lawful
+same_back : (k l : ℕ) → (k == l) ≡ true → (l == k) ≡ true
+same_back k l e = eq-eqb l k (sym (eqb-true k l e))
+
+-- and leads on
+same_through : (k l m : ℕ) → (k == l) ≡ true → (l == m) ≡ true → (k == m) ≡ true
+same_through k l m a b = eq-eqb k m (eqb-true k l a ∙ eqb-true l m b)
+
+-- the first setting is lawful
+pub by_two_lawful : IsLawful by_two
+by_two_lawful = record { itself = λ k. eq-eqb k k refl; back = same_back; through = same_through; places_same = λ k l e t j. refl; within = λ k t j lt. lt; some_place = λ t. omega arith }
+
+-- a table of one slot or of two
+place_within : (b : Bool) (j : ℕ) → j < cond b 1 2 → cond b 0 j < cond b 1 2
+place_within true j lt = omega arith
+place_within false j lt = lt
+
+-- has one
+some_slot : (b : Bool) → 0 < cond b 1 2
+some_slot true = omega arith
+some_slot false = omega arith
+
+-- the second setting is lawful
+pub of_one_lawful : IsLawful of_one
+of_one_lawful = record { itself = λ k. eq-eqb k k refl; back = same_back; through = same_through; places_same = λ k l e t j. refl; within = λ k t j lt. place_within (t == 2) j lt; some_place = λ t. some_slot (t == 2) }
 
 -- the numbers below 2
 below_two : (Q : ℕ → Type 0) → Q 0 → Q 1 → (x : ℕ) → x < 2 → Q x
@@ -14,7 +41,7 @@ below_two Q a b (suc (suc n)) h = absurd (omega arith)
 
 -- after eight exchanges
 abbrev eight : State ℕ
-eight = run {P = ℕ} (Open 1 ∷ Claim 1 0 7 ∷ Replace 1 0 7 7 ∷ Link 1 2 ∷ Mark 1 0 7 ∷ Place 2 0 7 ∷ Finish 1 0 7 ∷ Close 1 1 ∷ []) start
+eight = run {P = ℕ} (Open 1 ∷ Claim 1 0 70 ∷ Replace 1 0 70 71 ∷ Link 1 2 ∷ Mark 1 0 71 ∷ Place 2 0 71 ∷ Finish 1 0 71 ∷ Close 1 1 ∷ []) start
 
 -- without blocking
 pub one_walk : AllAllowed by_two start two_tables
@@ -71,11 +98,11 @@ below_one Q a (suc n) h = absurd (omega arith)
 
 -- with blocking, after eight exchanges
 abbrev at_eight : State ℕ
-at_eight = run {P = ℕ} (Open 1 ∷ Claim 1 0 7 ∷ Claim 1 1 8 ∷ Link 1 2 ∷ Link 2 3 ∷ Mark 1 0 7 ∷ Mark 1 1 8 ∷ Place 2 0 7 ∷ []) start
+at_eight = run {P = ℕ} (Open 1 ∷ Claim 1 0 70 ∷ Claim 1 1 80 ∷ Link 1 2 ∷ Link 2 3 ∷ Mark 1 0 70 ∷ Mark 1 1 80 ∷ Place 2 0 70 ∷ []) start
 
 -- and after three more
 abbrev at_eleven : State ℕ
-at_eleven = run {P = ℕ} (Abort 2 ∷ Place 3 0 7 ∷ Place 3 1 8 ∷ []) at_eight
+at_eleven = run {P = ℕ} (Abort 2 ∷ Place 3 0 70 ∷ Place 3 1 80 ∷ []) at_eight
 
 -- with blocking
 pub one_abort : AllAllowed of_one start three_tables
@@ -87,7 +114,7 @@ one_abort = (
       record {
         empty = refl;
         reached = record { from = 1; links = 0; was = refl; is = refl; made = omega arith; mode = inl refl; passed = λ i lt. absurd (omega arith) };
-        place = record { at = 1; within = omega arith; is = refl; before = λ i lt. below_one (λ y. beyond (look of_one (run (Open 1 ∷ Claim 1 0 7 ∷ []) start) 8 1 y) ≡ true) refl i lt };
+        place = record { at = 1; within = omega arith; is = refl; before = λ i lt. below_one (λ y. beyond (look of_one (run (Open 1 ∷ Claim 1 0 70 ∷ []) start) 8 1 y) ≡ true) refl i lt };
       },
       (
         (refl, omega arith, omega arith),
@@ -107,7 +134,7 @@ one_abort = (
                   record {
                     before = refl;
                     mode = refl;
-                    pair = 8;
+                    pair = 80;
                     source = record { from = 1; slot = 1; stood = inl refl; taker = record { links = 0; is = refl; made = omega arith; over = λ i lt. absurd (omega arith) } };
                     full = λ i lt. below_one (λ y. foreign (look of_one at_eight 8 2 y) ≡ true) refl i lt;
                   },
@@ -121,7 +148,7 @@ one_abort = (
                       record {
                         empty = refl;
                         source = record { from = 1; slot = 1; stood = inl refl; taker = record { links = 1; is = refl; made = omega arith; over = λ i lt. inl (refl, below_one (λ y. (after at_eight (Abort 2)).aborted (walk (after at_eight (Abort 2)).next (suc y) 1) ≡ true) refl i lt) } };
-                        place = record { at = 1; within = omega arith; is = refl; before = λ i lt. below_one (λ y. foreign (look of_one (run (Abort 2 ∷ Place 3 0 7 ∷ []) at_eight) 8 3 y) ≡ true) refl i lt };
+                        place = record { at = 1; within = omega arith; is = refl; before = λ i lt. below_one (λ y. foreign (look of_one (run (Abort 2 ∷ Place 3 0 70 ∷ []) at_eight) 8 3 y) ≡ true) refl i lt };
                       },
                       (
                         record {

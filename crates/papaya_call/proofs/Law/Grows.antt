@@ -145,7 +145,7 @@ module _ {K P : Type 0} (g g' : Setting K P) (On : ℕ → Type 0) (agrees : Agr
   same_pairs p q h = agrees.same (g'.key p) (g'.key q) ∙ (ap (λ k. g.same k (g'.key q)) (agrees.key p) ∙ (ap (g.same (g.key p)) (agrees.key q) ∙ h))
 
   -- what a word may become
-  becomes_carries : (u w : Word P) → Becomes g u w → Becomes g' u w
+  pub becomes_carries : (u w : Word P) → Becomes g u w → Becomes g' u w
   becomes_carries Empty w b = b
   becomes_carries Closed w b = b
   becomes_carries (Live p) Empty b = b

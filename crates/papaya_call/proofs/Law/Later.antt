@@ -69,7 +69,7 @@ module _ {K P : Type 0} (g : Setting K P) (law : IsLawful g) where
   live_through p q h (Buried r) b = law.through (g.key p) (g.key q) (g.key r) h b
 
   -- in two steps
-  becomes_through : (u v w : Word P) → Becomes g u v → Becomes g v w → Becomes g u w
+  pub becomes_through : (u v w : Word P) → Becomes g u v → Becomes g v w → Becomes g u w
   becomes_through Empty v w a b = tt
   becomes_through Closed v w a b = subst (λ y. Becomes g y w) a b
   becomes_through (Live p) Empty w a b = absurd a

@@ -47,12 +47,12 @@ module _ {K P : Type 0} (g : Setting K P) where
   module _ (law : IsLawful g) (blocks : g.blocking ≡ true) where
     -- where the root changes, its words stand for good
     promoted : (s : State P) (m : K → Option P) → IsBlockingState g s m → (t n : ℕ) → MayPromote g s t n → (x : ℕ) → x < g.size t → plain (s.slot t x) ≡ false
-    promoted s m good t n may x lt =
-        let was : s.was_root t ≡ true = subst (λ y. s.was_root y ≡ true) may.root (good.root_was (subst (λ y. 0 < y) (sym may.root) may.made)) in
-        let target = target_aborted g s good.sound t n (good.was t was).0 may.target in
+    promoted s m holds t n may x lt =
+        let was : s.was_root t ≡ true = subst (λ y. s.was_root y ≡ true) may.root (holds.root_was (subst (λ y. 0 < y) (sym may.root) may.made)) in
+        let target = target_aborted g s holds.sound t n (holds.was t was).0 may.target in
         let whole = may.whole in
         let low : s.root < n = subst (λ y. y < n) (sym may.root) target.1 in
-        let d = good.done_to n low (omega arith) in
+        let d = holds.done_to n low (omega arith) in
         subst (λ y. plain (s.slot y x) ≡ false) may.root (settled_not_plain g s n (s.slot s.root x) (d.settled x (omega arith) (subst (λ y. x < g.size y) (sym may.root) lt)))
 
     -- a word that no copier has to come to stands
@@ -81,9 +81,9 @@ module _ {K P : Type 0} (g : Setting K P) where
 
     -- a root of the past was seen so at a moment when it was the root
     pub root_moment : (fs : List (Exchange P)) (s : State P) (m : K → Option P) → IsBlockingState g s m → AllAllowed g s fs → (t : ℕ) → s.root ≡ t → 0 < t → IsRootMoment s t fs
-    root_moment [] s m good may t is some = record { so_far = []; rest = []; is = refl; root = is; sees = λ k j lt. refl }
-    root_moment (e ∷ fs) s m good may t is some =
-        first (root_moment fs (after s e) (map_after g m e) (step_blocking g law blocks s m good e may.0).1 may.1 t) (keeps_root s t is some e may.0)
+    root_moment [] s m holds may t is some = record { so_far = []; rest = []; is = refl; root = is; sees = λ k j lt. refl }
+    root_moment (e ∷ fs) s m holds may t is some =
+        first (root_moment fs (after s e) (map_after g m e) (step_blocking g law blocks s m holds e may.0).1 may.1 t) (keeps_root s t is some e may.0)
       where
         first : ((after s e).root ≡ t → 0 < t → IsRootMoment (after s e) t fs) → ((after s e).root ≡ t) ⊎ ((n : ℕ) × MayPromote g s t n) → IsRootMoment s t (e ∷ fs)
         first ih (inl same) = let r = ih same some in record { so_far = e ∷ r.so_far; rest = r.rest; is = ap (λ l. e ∷ l) r.is; root = r.root; sees = r.sees }
@@ -94,5 +94,5 @@ module _ {K P : Type 0} (g : Setting K P) where
           root = is;
           sees = λ k j lt.
               let x : ℕ = g.place k t j in
-              ap (view g k) (stands (s.slot t x) ((run (e ∷ fs) s).slot t x) (promoted s m good t n p x (law.within k t j lt)) ((run_blocking g law blocks (e ∷ fs) s m good may).copied t x) ((later_run g law (e ∷ fs) s may).words t x));
+              ap (view g k) (stands (s.slot t x) ((run (e ∷ fs) s).slot t x) (promoted s m holds t n p x (law.within k t j lt)) ((run_blocking g law blocks (e ∷ fs) s m holds may).copied t x) ((later_run g law (e ∷ fs) s may).words t x));
         }

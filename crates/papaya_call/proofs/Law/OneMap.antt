@@ -98,8 +98,8 @@ module _ {K P : Type 0} (g : Setting K P) (law : IsLawful g) where
     -- a reader that took t for the root after es, and now finds a word in it
     module _ (blocks : g.blocking ≡ true) (t : ℕ) (root : (run es start).root ≡ t) (some : 0 < t) (k : K) where
       -- what was kept after es
-      good : IsBlockingState g (run es start) (map_left g es)
-      good = blocking_state g (run es start) (map_left g es) (keeping es (allowed_first g es fs start may)) blocks
+      holds : IsBlockingState g (run es start) (map_left g es)
+      holds = blocking_state g (run es start) (map_left g es) (keeping es (allowed_first g es fs start may)) blocks
 
       -- the state after both lists
       now : run fs (run es start) ≡ run (es ++ fs) start
@@ -107,14 +107,14 @@ module _ {K P : Type 0} (g : Setting K P) (law : IsLawful g) where
 
       -- it finds a pair
       pub reader_found : (j : ℕ) (p : P) → j < g.places t → (look g (run (es ++ fs) start) k t j ≡ Here p) ⊎ (look g (run (es ++ fs) start) k t j ≡ Leaving p) → IsAtMoment g (map_left g es) fs k (Some p)
-      reader_found j p lt h = slow_found g law blocks (run es start) (map_left g es) good t root some fs (allowed_rest g es fs start may) k j p lt (subst (λ s. (look g s k t j ≡ Here p) ⊎ (look g s k t j ≡ Leaving p)) (sym now) h)
+      reader_found j p lt h = slow_found g law blocks (run es start) (map_left g es) holds t root some fs (allowed_rest g es fs start may) k j p lt (subst (λ s. (look g s k t j ≡ Here p) ⊎ (look g s k t j ≡ Leaving p)) (sym now) h)
 
       -- it comes to an Empty place
       pub reader_empty : (j : ℕ) → j < g.places t → ((i : ℕ) → i < j → beyond (look g (run (es ++ fs) start) k t i) ≡ true) → look g (run (es ++ fs) start) k t j ≡ Free → IsAtMoment g (map_left g es) fs k None
       reader_empty j lt before free =
-          slow_empty g law blocks (run es start) (map_left g es) good t root some fs (allowed_rest g es fs start may) k j lt
+          slow_empty g law blocks (run es start) (map_left g es) holds t root some fs (allowed_rest g es fs start may) k j lt
           (subst (λ s. (i : ℕ) → i < j → beyond (look g s k t i) ≡ true) (sym now) before) (subst (λ s. look g s k t j ≡ Free) (sym now) free)
 
       -- it comes to the table's end
       pub reader_over : IsPassed g.places (look g (run (es ++ fs) start) k) t → IsAtMoment g (map_left g es) fs k None
-      reader_over h = slow_over g law blocks (run es start) (map_left g es) good t root some fs (allowed_rest g es fs start may) k (subst (λ s. IsPassed g.places (look g s k) t) (sym now) h)
+      reader_over h = slow_over g law blocks (run es start) (map_left g es) holds t root some fs (allowed_rest g es fs start may) k (subst (λ s. IsPassed g.places (look g s k) t) (sym now) h)

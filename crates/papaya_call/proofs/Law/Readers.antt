@@ -8,14 +8,14 @@ use Rattle.papaya_call.specs.Law.Invariant.{IsBlockingState}
 use Rattle.papaya_call.proofs.Law.Blocking.Steps.{run_blocking, meaning_blocking}
 use Rattle.papaya_call.proofs.Law.Moments.{IsRootMoment, root_moment, allowed_first}
 
-module _ {K P : Type 0} (g : Setting K P) (law : IsLawful g) (blocks : g.blocking ≡ true) (s : State P) (m : K → Option P) (good : IsBlockingState g s m) (t : ℕ) (root : s.root ≡ t) (some : 0 < t) (fs : List (Exchange P)) (may : AllAllowed g s fs) (k : K) where
+module _ {K P : Type 0} (g : Setting K P) (law : IsLawful g) (blocks : g.blocking ≡ true) (s : State P) (m : K → Option P) (holds : IsBlockingState g s m) (t : ℕ) (root : s.root ≡ t) (some : 0 < t) (fs : List (Exchange P)) (may : AllAllowed g s fs) (k : K) where
   -- a moment when t was the root and was seen so
   pub moment : IsRootMoment g s t fs
-  moment = root_moment g law blocks fs s m good may t root some
+  moment = root_moment g law blocks fs s m holds may t root some
 
   -- what was kept then
   then_good : IsBlockingState g (run moment.so_far s) (map_of g m moment.so_far)
-  then_good = run_blocking g law blocks moment.so_far s m good (allowed_first g moment.so_far moment.rest s (subst (AllAllowed g s) (sym moment.is) may))
+  then_good = run_blocking g law blocks moment.so_far s m holds (allowed_first g moment.so_far moment.rest s (subst (AllAllowed g s) (sym moment.is) may))
 
   -- what the words meant then
   then_means : IsMeaning g (run moment.so_far s) k (map_of g m moment.so_far k)

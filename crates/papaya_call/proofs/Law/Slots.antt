@@ -18,6 +18,15 @@ slot_cases s t x w u y =
     inl (cond-false ((u == t) && (y == x)) w (s.slot u y) h, λ e. let b : ((u == t) && (y == x)) ≡ true = and_from (u == t) (y == x) (eq-eqb u t e.0) (eq-eqb y x e.1) in cc (b, h)))
     (cases_Bool ((u == t) && (y == x)))
 
+-- the slot that a word is put into holds it
+pub put_there : {P : Type 0} → (s : State P) (t x : ℕ) (w : Word P) (u y : ℕ) → (t ≡ u) × (x ≡ y) → ((slot_put s t x w).slot u y ≡ w) × (s.slot u y ≡ s.slot t x)
+put_there s t x w u y e =
+    ⊎_elim (λ h. absurd (h.1 (sym e.0, sym e.1))) (λ h. (h.2, ap (λ v. s.slot v y) h.0 ∙ ap (s.slot t) h.1)) (slot_cases s t x w u y)
+
+-- each other slot keeps its word
+pub put_elsewhere : {P : Type 0} → (s : State P) (t x : ℕ) (w : Word P) (u y : ℕ) → ((t ≡ u) × (x ≡ y) → ⊥) → (slot_put s t x w).slot u y ≡ s.slot u y
+put_elsewhere s t x w u y other = ⊎_elim (λ h. h.0) (λ h. absurd (other (sym h.0, sym h.1))) (slot_cases s t x w u y)
+
 module _ {K P : Type 0} (g : Setting K P) where
   -- a slot's change is a turn for each key
   pub slot_turn : (s : State P) (k : K) (t x : ℕ) (w w' : Word P) → s.slot t x ≡ w → IsTurn (g.place k) (look g s k) (look g (slot_put s t x w') k) t x (view g k w) (view g k w')

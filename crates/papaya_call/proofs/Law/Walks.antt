@@ -22,30 +22,30 @@ use Rattle.papaya_call.proofs.Law.Turns.{buried, copied, IsTurnOf, none_since, t
 module _ {K P : Type 0} (g : Setting K P) (law : IsLawful g) where
   -- a root without a next table holds each pair of the map
   root_holds_incremental : g.blocking ≡ false → (s : State P) (m : K → Option P) → IsIncrementalState g s m → s.next s.root ≡ 0 → (k : K) (p : P) → m k ≡ Some p → (j : ℕ) × (j < g.places s.root) × (held (look g s k s.root j) ≡ true)
-  root_holds_incremental inc s m good last k p e =
-      let o : IsOwner (IsOn s.first s.next) g.places (look g s k) p = subst (IsTied (IsOn s.first s.next) g.places (look g s k)) e (good.class k).tied in
+  root_holds_incremental inc s m holds last k p e =
+      let o : IsOwner (IsOn s.first s.next) g.places (look g s k) p = subst (IsTied (IsOn s.first s.next) g.places (look g s k)) e (holds.class k).tied in
       let there : held (look g s k o.table o.at) ≡ true = held_of (look g s k o.table o.at) p o.has in
       let is : o.table ≡ s.root = ⊎_elim
       (λ q. q)
       (⊎_elim
       (λ (c : o.table < s.root). absurd (before o c there))
-      (λ (c : s.root < o.table). absurd (let on = ⊎_elim (λ r. absurd (omega (arith, r.0, o.on.0, none o r.0))) (λ h. h) good.root in let n = has_next s.next good.rises s.first s.root o.table on o.on c in omega arith)))
+      (λ (c : s.root < o.table). absurd (let on = ⊎_elim (λ r. absurd (omega (arith, r.0, o.on.0, none o r.0))) (λ h. h) holds.root in let n = has_next s.next holds.rises s.first s.root o.table on o.on c in omega arith)))
       (cases_order o.table s.root) in
       (o.at, subst (λ t. o.at < g.places t) is o.within, subst (λ t. held (look g s k t o.at) ≡ true) is there)
     where
       none : (o : IsOwner (IsOn s.first s.next) g.places (look g s k) p) → s.root ≡ 0 → ⊥
-      none o z = let v : m k ≡ None = (meaning_incremental g law inc s m good k).no_root z in cc (v, e)
+      none o z = let v : m k ≡ None = (meaning_incremental g law inc s m holds k).no_root z in cc (v, e)
 
       before : (o : IsOwner (IsOn s.first s.next) g.places (look g s k) p) → o.table < s.root → held (look g s k o.table o.at) ≡ true → ⊥
       before o c h =
           let some : 0 < s.root = omega arith in
-          let r : IsReached g s k s.root = record { from = s.root; links = 0; was = good.root_was some; is = refl; made = some; mode = inl refl; passed = λ i lt. absurd (omega arith) } in
-          passed_not_held (IsOn s.first s.next) g.places (g.place k) (look g s k) (good.class k).base o.table o.at ((reached_front g law inc s m good k s.root r).1 o.table o.on c) o.within h
+          let r : IsReached g s k s.root = record { from = s.root; links = 0; was = holds.root_was some; is = refl; made = some; mode = inl refl; passed = λ i lt. absurd (omega arith) } in
+          passed_not_held (IsOn s.first s.next) g.places (g.place k) (look g s k) (holds.class k).base o.table o.at ((reached_front g law inc s m holds k s.root r).1 o.table o.on c) o.within h
 
   -- the same with blocking, of any root
   root_holds_blocking : (s : State P) (m : K → Option P) → IsBlockingState g s m → (k : K) (p : P) → m k ≡ Some p → (j : ℕ) × (j < g.places s.root) × (held (look g s k s.root j) ≡ true)
-  root_holds_blocking s m good k p e =
-      let o : IsRootOwner g.places (look g s k) s.root p = subst (IsRootTied g.places (look g s k) s.root) e (good.class k).tied in
+  root_holds_blocking s m holds k p e =
+      let o : IsRootOwner g.places (look g s k) s.root p = subst (IsRootTied g.places (look g s k) s.root) e (holds.class k).tied in
       (o.at, o.within, held_of (look g s k s.root o.at) p o.has)
 
   -- in both modes
@@ -100,7 +100,7 @@ module _ {K P : Type 0} (g : Setting K P) (law : IsLawful g) where
   -- a Copied word where it wasn't: its pair was the map's at a moment since
   pub copied_since : g.blocking ≡ false → (s : State P) (m : K → Option P) → IsIncrementalState g s m → (k : K) (t j : ℕ) (p : P) (fs : List (Exchange P)) → AllAllowed g s fs → IsReached g s k t → j < g.places t
       → (look g s k t j ≡ Gone p → ⊥) → look g (run fs s) k t j ≡ Gone p → IsAtMoment g m fs k (Some p)
-  copied_since inc s m good k t j p fs may reached lt old now =
+  copied_since inc s m holds k t j p fs may reached lt old now =
       let x : ℕ = g.place k t j in
       let w = view_gone g k ((run fs s).slot t x) p now in
       let not_yet : copied (s.slot t x) ≡ false =
@@ -113,16 +113,16 @@ module _ {K P : Type 0} (g : Setting K P) (law : IsLawful g) where
       let r = turn_of g copied t x fs s may not_yet (ap copied w.0) in
       let b = by_finish g (run r.so_far s) t x r.by r.may r.old r.new in
       let may-first : AllAllowed g s r.so_far = allowed_first g r.so_far (r.by ∷ r.rest) s (subst (AllAllowed g s) (sym r.is) may) in
-      let good' = run_incremental g law inc r.so_far s m good may-first in
+      let holds' = run_incremental g law inc r.so_far s m holds may-first in
       let pair : b.0 ≡ p = same_pair r b.0 b.1 b.2 w.0 in
       let marked : (run r.so_far s).slot t x ≡ Marked p = subst (λ q. (run r.so_far s).slot t x ≡ Marked q) pair b.1 in
       let leaving : look g (run r.so_far s) k t j ≡ Leaving p = subst (λ y. view g k y ≡ Leaving p) (sym marked) (cond-true (g.same k (g.key p)) (Leaving p) Foreign w.1) in
-      let reached' = (lasts g law s (run r.so_far s) (next_zero s.next good.rises) (later_run g law r.so_far s may-first)).reached k t reached in
+      let reached' = (lasts g law s (run r.so_far s) (next_zero s.next holds.rises) (later_run g law r.so_far s may-first)).reached k t reached in
       record {
         so_far = r.so_far;
         rest = r.by ∷ r.rest;
         is = r.is;
-        value_is = (meaning_incremental g law inc (run r.so_far s) (map_of g m r.so_far) good' k).found t j p reached' (λ c. absurd (cc (inc, c))) lt (inr leaving);
+        value_is = (meaning_incremental g law inc (run r.so_far s) (map_of g m r.so_far) holds' k).found t j p reached' (λ c. absurd (cc (inc, c))) lt (inr leaving);
       }
     where
       same_pair : (r : IsTurnOf g copied s t (g.place k t j) fs) → (q : P) → (run r.so_far s).slot t (g.place k t j) ≡ Marked q → r.by ≡ Finish t (g.place k t j) q → (run fs s).slot t (g.place k t j) ≡ Copied p → q ≡ p

@@ -57,3 +57,12 @@ ChangesSlot (Link t n) u y = ⊥
 ChangesSlot (Advance n a b) u y = ⊥
 ChangesSlot (Promote t n) u y = ⊥
 ChangesSlot (Abort n) u y = ⊥
+
+-- what the kind of a number says of the word that it stands for
+abbrev pub IsOfKind : {P : Type 0} → Kind → Word P → Type 0
+IsOfKind kinds.Empty w = w ≡ Empty
+IsOfKind kinds.Closed w = w ≡ Closed
+IsOfKind {P = P} kinds.Live w = (p : P) × (w ≡ Live p)
+IsOfKind {P = P} kinds.Marked w = (p : P) × (w ≡ Marked p)
+IsOfKind {P = P} kinds.Copied w = (p : P) × (w ≡ Copied p)
+IsOfKind {P = P} kinds.Buried w = (p : P) × (w ≡ Buried p)

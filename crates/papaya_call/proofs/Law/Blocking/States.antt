@@ -71,45 +71,45 @@ module _ {K P : Type 0} (g : Setting K P) (s : State P) where
   settled_not_plain u (Copied p) h = refl
   settled_not_plain u (Buried p) h = refl
 
-  module _ (m : K → Option P) (good : IsBlockingState g s m) where
+  module _ (m : K → Option P) (holds : IsBlockingState g s m) where
     -- where a word is Empty or Live in a table that was the root, that table is the root
     pub is_root : (t x : ℕ) (w : Word P) → s.was_root t ≡ true → s.slot t x ≡ w → plain w ≡ true → x < g.size t → t ≡ s.root
     is_root t x w was old p lt =
         ⊎_elim
-        (λ (c : t < s.root). absurd (let f = good.frozen t x was c lt in let e = ap plain old in cc (e, f, p)))
-        (λ (c : s.root ≤ t). let l = (good.was t was).1 in omega arith)
+        (λ (c : t < s.root). absurd (let f = holds.frozen t x was c lt in let e = ap plain old in cc (e, f, p)))
+        (λ (c : s.root ≤ t). let l = (holds.was t was).1 in omega arith)
         (cases_lt t s.root)
 
     -- where another word than Empty and Live stands, the table was the root
     pub was_root_of : (t x : ℕ) (w : Word P) → s.slot t x ≡ w → plain w ≡ false → s.was_root t ≡ true
-    was_root_of t x w old p = ⊎_elim (λ e. e) (λ e. absurd (let f = good.fresh t x e in let q = ap plain old in cc (f, q, p))) (cases_Bool (s.was_root t))
+    was_root_of t x w old p = ⊎_elim (λ e. e) (λ e. absurd (let f = holds.fresh t x e in let q = ap plain old in cc (f, q, p))) (cases_Bool (s.was_root t))
 
     -- the root is on the chain
     pub root_on : (t : ℕ) → IsOn s.first s.next t → t ≤ s.root → IsOn s.first s.next s.root
-    root_on t on le = ⊎_elim (λ r. absurd (omega (arith, r.0, on.0))) (λ h. h) good.root
+    root_on t on le = ⊎_elim (λ r. absurd (omega (arith, r.0, on.0))) (λ h. h) holds.root
 
     -- the root isn't aborted
     pub root_alive : (t : ℕ) → IsOn s.first s.next t → t ≤ s.root → s.aborted s.root ≡ false
-    root_alive t on le = good.alive s.root (good.root_was (let p = on.0 in omega arith))
+    root_alive t on le = holds.alive s.root (holds.root_was (let p = on.0 in omega arith))
 
     -- a slot's word changes, and the classes are as they have to be
     pub slot_blocking : (t x : ℕ) (w w' : Word P) → s.slot t x ≡ w → plain w ≡ true → (plain w' ≡ true) ⊎ (s.was_root t ≡ true) → ((p : P) → w' ≡ Copied p → ⊥) → IsOn s.first s.next t
         → ((p : P) → named w' ≡ Some p → IsPlaceOf g t x p) → (shut w' ≡ true → 0 < s.next t) → ((k : K) → IsMild g s t x w' k) → (m' : K → Option P)
         → ((k : K) → IsBlockingClass (IsOn s.first s.next) s.was_root s.aborted s.root g.places (g.place k) (look g (slot_put s t x w') k) (m' k)) → IsBlockingState g (slot_put s t x w') m'
     slot_blocking t x w w' old p new never on place next mild m' class = record {
-      sound = slot_sound g s good.sound t x w' on place next;
-      alive = good.alive;
-      frozen = λ u y was lt h. let f = good.frozen u y was lt h in ap plain (same u y f) ∙ f;
+      sound = slot_sound g s holds.sound t x w' on place next;
+      alive = holds.alive;
+      frozen = λ u y was lt h. let f = holds.frozen u y was lt h in ap plain (same u y f) ∙ f;
       fresh = λ u y no'. ⊎_elim
-          (λ r. ap plain r.0 ∙ good.fresh u y no')
+          (λ r. ap plain r.0 ∙ holds.fresh u y no')
           (λ r. ⊎_elim (λ q. ap plain r.2 ∙ q) (λ q. absurd (let e = ap s.was_root r.0 in cc (e, q, no'))) new)
           (slot_cases s t x w' u y);
-      copied = λ u y q e. ⊎_elim (λ r. good.copied u y q (sym r.0 ∙ e)) (λ r. never q (sym r.2 ∙ e)) (slot_cases s t x w' u y);
+      copied = λ u y q e. ⊎_elim (λ r. holds.copied u y q (sym r.0 ∙ e)) (λ r. never q (sym r.2 ∙ e)) (slot_cases s t x w' u y);
       given_up = λ u ab lt.
-          let v = good.given_up u ab lt in
+          let v = holds.given_up u ab lt in
           record { on = v.on; between = v.between; slot = v.slot; pair = v.pair; marked = same s.root v.slot (ap plain v.marked) ∙ v.marked; full = mild_full t x w' (g.key v.pair) (mild (g.key v.pair)) u v.full };
       done_to = λ u lt some.
-          let v = good.done_to u lt some in
+          let v = holds.done_to u lt some in
           record {
             between = v.between;
             settled = λ y h i.

@@ -45,18 +45,18 @@ module _ {K P : Type 0} (g : Setting K P) (law : IsLawful g) (inc : g.blocking �
           (at_word (s.slot t (g.place k t n)) (h n (omega arith))))
           (scan n (λ j lt. h j (omega arith)))
 
-  module _ (s : State P) (m : K → Option P) (good : IsIncrementalState g s m) where
+  module _ (s : State P) (m : K → Option P) (holds : IsIncrementalState g s m) where
     -- a table that is reached is in the chain, and a search goes past all before it
     pub reached_front : (k : K) (t : ℕ) → IsReached g s k t → IsOn s.first s.next t × IsFront (IsOn s.first s.next) g.places (look g s k) t
     reached_front k t r =
-        let from = good.was r.from r.was in
+        let from = holds.was r.from r.was in
         let up : 0 < walk s.next r.links r.from = subst (λ y. 0 < y) (sym r.is) r.made in (
-          subst (IsOn s.first s.next) r.is (walk_on s.next good.rises s.first r.from r.links from.0 up),
+          subst (IsOn s.first s.next) r.is (walk_on s.next holds.rises s.first r.from r.links from.0 up),
           λ l on lt.
               ⊎_elim
-              (λ (c : l < r.from). let low : l < s.root = omega (arith, from.1) in passed_finished s k l (λ x h. good.settled l x on low h))
+              (λ (c : l < r.from). let low : l < s.root = omega (arith, from.1) in passed_finished s k l (λ x h. holds.settled l x on low h))
               (λ (c : r.from ≤ l).
-              let w = on_walk s.next good.rises s.first r.from l r.links from.0 on c up (subst (λ y. l < y) (sym r.is) lt) in
+              let w = on_walk s.next holds.rises s.first r.from l r.links from.0 on c up (subst (λ y. l < y) (sym r.is) lt) in
               subst (IsPassed g.places (look g s k)) w.2 (r.passed w.0 w.1))
               (cases_lt l r.from),
         )
@@ -64,7 +64,7 @@ module _ {K P : Type 0} (g : Setting K P) (law : IsLawful g) (inc : g.blocking �
     -- where a copy of a key's pair may go
     pub taker_full : (k : K) (t n : ℕ) → IsOn s.first s.next t → IsTaker g s k t n → IsOn s.first s.next n × (t < n) × AllFull (IsOn s.first s.next) g.places (look g s k) t n
     taker_full k t n on r =
-        walk_between s.next good.rises (λ l. IsFull g.places (look g s k) l) s.first t r.links n on r.is r.made
+        walk_between s.next holds.rises (λ l. IsFull g.places (look g s k) l) s.first t r.links n on r.is r.made
         (λ i lt. ⊎_elim (λ h. let b : g.blocking ≡ true = h.0 in absurd (cc (b, inc))) (λ h. h.1) (r.over i lt))
 
     -- the same of a key that is equal
@@ -77,9 +77,9 @@ module _ {K P : Type 0} (g : Setting K P) (law : IsLawful g) (inc : g.blocking �
     pub slot_incremental : (t x : ℕ) (w w' : Word P) → s.slot t x ≡ w → finished w ≡ false → IsOn s.first s.next t → ((p : P) → named w' ≡ Some p → IsPlaceOf g t x p) → (shut w' ≡ true → 0 < s.next t) → (m' : K → Option P)
         → ((k : K) → IsIncrementalClass (IsOn s.first s.next) g.places (g.place k) (look g (slot_put s t x w') k) (m' k)) → IsIncrementalState g (slot_put s t x w') m'
     slot_incremental t x w w' old open' on new next m' class = record {
-      sound = slot_sound g s good.sound t x w' on new next;
-      settled = λ u y on lt h. stays u y (good.settled u y on lt h);
-      done = λ u y on lt h. stays u y (good.done u y on lt h);
+      sound = slot_sound g s holds.sound t x w' on new next;
+      settled = λ u y on lt h. stays u y (holds.settled u y on lt h);
+      done = λ u y on lt h. stays u y (holds.done u y on lt h);
       class = class;
     }
       where
@@ -104,11 +104,11 @@ module _ {K P : Type 0} (g : Setting K P) (law : IsLawful g) (inc : g.blocking �
         of_class k e =
             let f = front_same k (g.key p) t e may.reached in
             let r : IsNextPlace g s k beyond t x = place_same g s law beyond k (g.key p) t x e may.place in
-            claim_kept (IsOn s.first s.next) g.places (g.place k) (look g s k) (look g (slot_put s t x (Live p)) k) t x (m k) (good.class k) f.0 f.1 r.at r.within r.is p
+            claim_kept (IsOn s.first s.next) g.places (g.place k) (look g s k) (look g (slot_put s t x (Live p)) k) t x (m k) (holds.class k) f.0 f.1 r.at r.within r.is p
             (turn_own g s k t x Empty (Live p) Free (Here p) may.empty refl (cond-true (g.same k (g.key p)) (Here p) Foreign e))
             r.before
 
         other : (k : K) → g.same k (g.key p) ≡ false → IsIncrementalClass (IsOn s.first s.next) g.places (g.place k) (look g (slot_put s t x (Live p)) k) (m k)
         other k e =
-            fill_kept (IsOn s.first s.next) g.places (g.place k) (look g s k) (look g (slot_put s t x (Live p)) k) t x (m k) (good.class k)
+            fill_kept (IsOn s.first s.next) g.places (g.place k) (look g s k) (look g (slot_put s t x (Live p)) k) t x (m k) (holds.class k)
             (turn_own g s k t x Empty (Live p) Free Foreign may.empty refl (cond-false (g.same k (g.key p)) (Here p) Foreign e))

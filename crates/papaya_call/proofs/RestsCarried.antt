@@ -1,0 +1,84 @@
+-- What a machine rests on, by its parts: where each part is carried over, all of it is.
+use Rattle.std.proofs.Common.{◌≡◌, ℕ, Bool, true, false, Option, None, Some, List, sym, ◌∙◌, subst}
+use Rattle.papaya_call.specs.declared.call.Reply.{Reply}
+use Rattle.papaya_call.specs.declared.call.Reply.TheVariants.{Absent, Found, Inserted, Replaced, Occupied, Refused as Reply_refused}
+use Rattle.papaya_call.specs.declared.call.Task.{Task}
+use Rattle.papaya_call.specs.declared.call.Task.TheVariants.{Get, Insert}
+use Rattle.papaya_call.specs.declared.search.Place.{Place}
+use Rattle.papaya_call.specs.declared.search.Search.{Search}
+use Rattle.papaya_call.specs.declared.search.Search.TheVariants.{Sizing, Looking, Comparing}
+use Rattle.papaya_call.specs.declared.write.Made.{Made}
+use Rattle.papaya_call.specs.declared.write.Made.TheVariants.{Nothing, Key, Pair}
+use Rattle.papaya_call.specs.declared.write.Write.{Write}
+use Rattle.papaya_call.specs.declared.machine.State.{State as Stage}
+use Rattle.papaya_call.specs.declared.machine.State.TheVariants.{AtRoot, Making, Opening, Searching, Writing, Counting, Leaving, Ended}
+use Rattle.papaya_call.specs.declared.machine.Machine.{Machine}
+use Rattle.papaya_call.specs.Law.Exchange.{Setting, Exchange}
+use Rattle.papaya_call.specs.Law.Code.{Coding}
+use Rattle.papaya_call.specs.Told.{Hands}
+use Rattle.papaya_call.specs.Rests.{IsModeOf, HasComeTo, IsAt, HasMet, MayWrite, WasAtMoment, RestsWriting, RestsMade, RestsSearch, RestsLeaving, HadPair, IsReply, RestsStage, Rests}
+
+-- each part is carried from one setting, and the exchanges of a call so far, to another setting and more of them
+pub record AreCarried {K P : Type 0} (g g' : Setting K P) (c : Coding K P) (begun since since' : List (Exchange P)) (k : K) : Type 0 where
+  pub mode : g'.blocking ≡ g.blocking
+  pub key : (p : P) → g'.key p ≡ g.key p
+  pub moment : (value : Option P) → WasAtMoment g c begun since k value → WasAtMoment g' c begun since' k value
+  pub come : (t : ℕ) → HasComeTo g c begun since k t → HasComeTo g' c begun since' k t
+  pub stands : (at : Place) → IsAt g c begun since k at → IsAt g' c begun since' k at
+  pub met : (at : Place) (word : ℕ) (p : P) → HasMet g c begun since k at word p → HasMet g' c begun since' k at word p
+  pub write : (replace : Bool) (write : Write) → MayWrite g c begun since k replace write → MayWrite g' c begun since' k replace write
+  pub leaving : (task : Task) (t : ℕ) → RestsLeaving g c begun since k task t → RestsLeaving g' c begun since' k task t
+
+module _ {K P : Type 0} (g g' : Setting K P) (c : Coding K P) (begun since since' : List (Exchange P)) (k : K) (carried : AreCarried g g' c begun since since' k) (hands : Hands P) where
+  -- the search
+  search_carried : (search : Search) → RestsSearch g c begun since k hands search → RestsSearch g' c begun since' k hands search
+  search_carried (Sizing t) r = carried.come t r
+  search_carried (Looking at) r = carried.stands at r
+  search_carried (Comparing at word) r = (r.0, r.1, carried.met at word r.0 r.2)
+
+  -- the write of a task
+  writing_carried : (task : Task) (write : Write) → RestsWriting g c begun since k task write → RestsWriting g' c begun since' k task write
+  writing_carried Get write r = r
+  writing_carried (Insert replace) write r = carried.write replace write r
+
+  -- the map had the pair
+  had_carried : (n : ℕ) → HadPair g c begun since k n → HadPair g' c begun since' k n
+  had_carried n r = (r.0, r.1, carried.moment (Some r.0) r.2)
+
+  -- a reply fits still
+  reply_carried : (task : Task) (reply : Reply) → IsReply g c begun since k hands task reply → IsReply g' c begun since' k hands task reply
+  reply_carried Get Absent r = carried.moment None r
+  reply_carried Get (Found n) r = had_carried n r
+  reply_carried Get (Inserted n) r = r
+  reply_carried Get (Replaced m n) r = r
+  reply_carried Get (Occupied n) r = r
+  reply_carried Get (Reply_refused refused) r = r
+  reply_carried (Insert replace) Absent r = r
+  reply_carried (Insert replace) (Found n) r = r
+  reply_carried (Insert replace) (Inserted n) r = r
+  reply_carried (Insert true) (Replaced m n) r = r
+  reply_carried (Insert false) (Replaced m n) r = r
+  reply_carried (Insert true) (Occupied n) r = r
+  reply_carried (Insert false) (Occupied n) r = had_carried n r
+  reply_carried (Insert replace) (Reply_refused refused) r = r
+
+  -- each stage
+  stage_carried : (task : Task) (stage : Stage) → RestsStage g c begun since k hands task stage → RestsStage g' c begun since' k hands task stage
+  stage_carried task AtRoot r = r
+  stage_carried task Making r = r
+  stage_carried task (Opening t) r = r
+  stage_carried task (Searching search) r = search_carried search r
+  stage_carried task (Writing write) r = writing_carried task write r
+  stage_carried task (Counting n) r = r
+  stage_carried task (Leaving t) r = carried.leaving task t r
+  stage_carried task (Ended reply) r = reply_carried task reply r
+
+  -- what the call made is a pair of its key
+  made_carried : (made : Made) → RestsMade g c begun since k hands made → RestsMade g' c begun since' k hands made
+  made_carried Nothing r = r
+  made_carried Key r = r
+  made_carried (Pair n) r = (r.0, r.1, r.2, carried.key r.0 ∙ r.3)
+
+  -- all of it
+  pub rests_carried : (m : Machine) → Rests g c begun since k m hands → Rests g' c begun since' k m hands
+  rests_carried m r = record { hash = r.hash; mode = subst (IsModeOf m.mode) (sym carried.mode) r.mode; made = made_carried m.made r.made; stage = stage_carried m.task m.state r.stage }

@@ -1,0 +1,180 @@
+-- The exchange that a machine asks for: where its old word stands there it may be made, and it writes just its word.
+use Rattle.std.proofs.Common.{◌≡◌, ⊎_elim, ℕ, ◌<◌, ◌==◌, eqb-true, eq-eqb, Bool, true, false, cond, Option, Some, List, ◌++◌, refl, sym, ap, ◌∙◌, subst}
+use Rattle.papaya_words.specs.Word.{kind_of, live_word, top_byte}
+use Rattle.papaya_words.specs.declared.word.Kind.TheVariants as word_kinds
+use Rattle.papaya_call.specs.declared.ask.Ask.TheVariants.{Exchange as Ask_exchange}
+use Rattle.papaya_call.specs.declared.ask.At.{At}
+use Rattle.papaya_call.specs.declared.ask.At.TheVariants.{Root, Next, Aborted, Done, Slot}
+use Rattle.papaya_call.specs.declared.ask.StepKind.{StepKind}
+use Rattle.papaya_call.specs.declared.ask.StepKind.TheVariants as kinds
+use Rattle.papaya_call.specs.declared.call.Task.{Task}
+use Rattle.papaya_call.specs.declared.call.Task.TheVariants.{Get, Insert}
+use Rattle.papaya_call.specs.declared.search.Place.{Place}
+use Rattle.papaya_call.specs.declared.search.Search.TheVariants.{Sizing, Looking, Comparing}
+use Rattle.papaya_call.specs.declared.write.Made.{Made}
+use Rattle.papaya_call.specs.declared.write.Made.TheVariants.{Nothing, Key, Pair}
+use Rattle.papaya_call.specs.declared.write.Write.{Write}
+use Rattle.papaya_call.specs.declared.machine.Machine.{Machine}
+use Rattle.papaya_call.specs.declared.machine.State.{State as Stage}
+use Rattle.papaya_call.specs.declared.machine.State.TheVariants.{AtRoot, Making, Opening, Searching, Writing, Counting, Leaving, Ended}
+use Rattle.papaya_call.specs.Law.Exchange.{Word, Live, Setting, State, Exchange, Open, Claim, Replace, after, run, slot_put, start, walk}
+use Rattle.papaya_call.specs.Law.View.{Foreign, Here, look, own, beyond, IsPassed, IsReached}
+use Rattle.papaya_call.specs.Law.Allows.{AllAllowed, Allows, MayClaim, MayReplace}
+use Rattle.papaya_call.specs.Law.Code.{Coding, IsOfKind, code}
+use Rattle.papaya_call.specs.Machine.{asks, kind_asked}
+use Rattle.papaya_call.specs.Told.{IsHashed, IsAsked, IsWritten, Hands, word_of}
+use Rattle.papaya_call.specs.Rests.{IsAt, MayWrite, Rests, RestsMade, RestsStage, RestsWriting}
+use Rattle.papaya_call.specs.Write.{new_word}
+use Rattle.papaya_call.proofs.Law.Code.{code_empty}
+use Rattle.papaya_call.proofs.Law.CodeViews.{word_of_kind}
+use Rattle.papaya_call.proofs.Law.Slots.{look_same, put_there, put_elsewhere}
+use Rattle.papaya_call.proofs.RestsLearnMoments.{come_reached}
+use Rattle.papaya_call.proofs.RestsLearnPlaces.{sees}
+
+-- a Live word that is the key's has an equal key
+own_live : {P : Type 0} → (b : Bool) (p : P) → own (cond b (Here p) Foreign) ≡ true → b ≡ true
+own_live true p h = refl
+own_live false p h = absurd cc
+
+module _ {K P : Type 0} (g : Setting K P) (c : Coding K P) (hashed : IsHashed g c) (begun since : List (Exchange P)) (may : AllAllowed g start (begun ++ since)) (k : K) where
+  -- the state after all exchanges
+  abbrev now : State P
+  now = run (begun ++ since) start
+
+  module _ (at : Place) (r : IsAt g c begun since k at) (q : P) (mine : g.key q ≡ k) where
+    -- the key's search comes to the place
+    reached : IsReached g now k at.table
+    reached = come_reached g c hashed.lawful begun since may k at.table r.come
+
+    -- at an Empty place a pair of the key may be claimed
+    pub may_claim : code g c (now.slot at.table at.probe.i) ≡ 0 → MayClaim g now at.table at.probe.i q
+    may_claim none = record {
+      empty = code_empty g c (now.slot at.table at.probe.i) none;
+      reached = subst (λ l. IsReached g now l at.table) (sym mine) reached;
+      place = record {
+        at = at.probe.len;
+        within = r.within;
+        is = ap (λ l. g.place l at.table at.probe.len) mine ∙ sym r.slot;
+        before = subst (λ l. (i : ℕ) → i < at.probe.len → beyond (look g now l at.table i) ≡ true) (sym mine) r.before;
+      };
+    }
+
+    module _ (p : P) (live : now.slot at.table at.probe.i ≡ Live p) (own_word : own (look g now k at.table at.probe.len) ≡ true) where
+      -- the pair that stands there is of the key
+      same_key : g.same k (g.key p) ≡ true
+      same_key = own_live (g.same k (g.key p)) p (ap own (sym (sees g c hashed begun since k at r (Live p) live)) ∙ own_word)
+
+      -- where the key is reached the pair's key is
+      reached_pair : IsReached g now (g.key p) at.table
+      reached_pair = let e = reached in record {
+        from = e.from;
+        links = e.links;
+        was = e.was;
+        is = e.is;
+        made = e.made;
+        mode = e.mode;
+        passed = λ i lt. subst (λ V. IsPassed g.places V (walk now.next i e.from)) (look_same g hashed.lawful now k (g.key p) same_key) (e.passed i lt);
+      }
+
+      -- it may be replaced
+      pub may_replace : MayReplace g now at.table at.probe.i p q
+      may_replace = record {
+        live = live;
+        reached = reached_pair;
+        same = subst (λ l. g.same (g.key p) l ≡ true) (sym mine) (hashed.lawful.back k (g.key p) same_key);
+      }
+
+  -- the exchange of this kind at this place may be made, and writes just the new word
+  abbrev pub MayDo : Option StepKind → Hands P → At → (old new : ℕ) → Type 0
+  MayDo kind hands at old new = word_of g c now at ≡ old → (e : Exchange P) × IsAsked kind at new now hands e × Allows g now e × IsWritten g c now at new (after now e)
+
+  -- what an ask says is one thing
+  same_ask : (kind : Option StepKind) (hands : Hands P) (at at' : At) (old old' new new' : ℕ) → Ask_exchange at old new ≡ Ask_exchange at' old' new' → MayDo kind hands at old new → MayDo kind hands at' old' new'
+  same_ask kind hands at at' old old' new new' e h =
+      let a : at ≡ at' = cc e in
+      let b : old ≡ old' = cc e in
+      let d : new ≡ new' = cc e in
+      subst (λ y. MayDo kind hands y old' new') a (subst (λ y. MayDo kind hands at y new') b (subst (λ y. MayDo kind hands at old y) d h))
+
+  -- a root is put in
+  opens : (hands : Hands P) (t : ℕ) → 0 < t → MayDo (Some kinds.Open) hands Root 0 t
+  opens hands t some none = (Open t, refl, (none, some), record { here = refl; others = others })
+    where
+      others : (other : At) → (other ≡ Root → ⊥) → word_of g c (after now (Open t)) other ≡ word_of g c now other
+      others Root different = absurd (different refl)
+      others (Next u) different = refl
+      others (Aborted u) different = refl
+      others (Done u) different = refl
+      others (Slot u y) different = refl
+
+  -- a word that is put into a slot is the only one that changes
+  slot_written : (t x : ℕ) (w : Word P) → IsWritten g c now (Slot t x) (code g c w) (slot_put now t x w)
+  slot_written t x w = record { here = ap (code g c) (put_there now t x w t x (refl, refl)).0; others = others }
+    where
+      others : (other : At) → (other ≡ Slot t x → ⊥) → word_of g c (slot_put now t x w) other ≡ word_of g c now other
+      others Root different = refl
+      others (Next u) different = refl
+      others (Aborted u) different = refl
+      others (Done u) different = refl
+      others (Slot u y) different = ap (code g c) (put_elsewhere now t x w u y (λ e. different (ap (λ a. Slot a y) (sym e.0) ∙ ap (Slot t) (sym e.1))))
+
+  -- an insertion's word is the code of its pair
+  new_code : (hash n : ℕ) (q : P) → hash ≡ c.hash k → g.key q ≡ k → c.number q ≡ n → code g c (Live q) ≡ new_word hash n
+  new_code hash n q same mine is =
+      ap (λ l. live_word (top_byte (c.hash l)) (c.number q)) mine
+      ∙ ap (λ h. live_word (top_byte h) (c.number q)) (sym same)
+      ∙ ap (live_word (top_byte hash)) is
+
+  -- a pair is written: claimed where there was none, or put in place of another
+  writes : (hands : Hands P) (hash n : ℕ) → hash ≡ c.hash k → RestsMade g c begun since k hands (Pair n) → (replace : Bool) (write : Write) → MayWrite g c begun since k replace write → (b : Bool) → (write.old == 0) ≡ b
+      → MayDo (Some (cond b kinds.Claim kinds.Replace)) hands (Slot write.place.table write.place.probe.i) write.old (new_word hash n)
+  writes hands hash n same m replace write r true e old =
+      let t : ℕ = write.place.table in
+      let x : ℕ = write.place.probe.i in
+      let q : P = m.0 in (
+        Claim t x q,
+        (q, m.1, refl),
+        may_claim write.place r.stands q m.3 (old ∙ eqb-true write.old 0 e),
+        subst (λ y. IsWritten g c now (Slot t x) y (slot_put now t x (Live q))) (new_code hash n q same m.3 m.2) (slot_written t x (Live q)),
+      )
+  writes hands hash n same m replace write r false e old =
+      let t : ℕ = write.place.table in
+      let x : ℕ = write.place.probe.i in
+      let q : P = m.0 in
+      ⊎_elim
+      (λ none. absurd (let some = eq-eqb write.old 0 none in cc (some, e)))
+      (λ h.
+      let live : IsOfKind word_kinds.Live (now.slot t x) = subst (λ y. IsOfKind y (now.slot t x)) (ap kind_of old ∙ h.1) (word_of_kind g c (now.slot t x)) in (
+        Replace t x live.0 q,
+        (live.0, q, live.1, m.1, refl),
+        may_replace write.place r.stands q m.3 live.0 live.1 h.2,
+        subst (λ y. IsWritten g c now (Slot t x) y (slot_put now t x (Live q))) (new_code hash n q same m.3 m.2) (slot_written t x (Live q)),
+      ))
+      r.old
+
+  -- only an insertion writes
+  writing : (hands : Hands P) (hash n : ℕ) → hash ≡ c.hash k → RestsMade g c begun since k hands (Pair n) → (task : Task) (write : Write) → RestsWriting g c begun since k task write
+      → MayDo (Some (cond (write.old == 0) kinds.Claim kinds.Replace)) hands (Slot write.place.table write.place.probe.i) write.old (new_word hash n)
+  writing hands hash n same m Get write r = absurd r
+  writing hands hash n same m (Insert replace) write r = writes hands hash n same m replace write r (write.old == 0) refl
+
+  -- what a machine asks for may be made
+  may_do : (hands : Hands P) (hash : ℕ) → hash ≡ c.hash k → (task : Task) (made : Made) → RestsMade g c begun since k hands made → (stage : Stage) → RestsStage g c begun since k hands task stage
+      → (at : At) (old new : ℕ) → asks made hash stage ≡ Ask_exchange at old new → MayDo (kind_asked made stage) hands at old new
+  may_do hands hash same task made m AtRoot r at old new e = absurd cc
+  may_do hands hash same task made m Making r at old new e = absurd cc
+  may_do hands hash same task made m (Opening t) r at old new e = same_ask (Some kinds.Open) hands Root at 0 old t new e (opens hands t r.1)
+  may_do hands hash same task made m (Searching (Sizing t)) r at old new e = absurd cc
+  may_do hands hash same task made m (Searching (Looking place)) r at old new e = absurd cc
+  may_do hands hash same task made m (Searching (Comparing place word)) r at old new e = absurd cc
+  may_do hands hash same task Nothing m (Writing write) r at old new e = absurd cc
+  may_do hands hash same task Key m (Writing write) r at old new e = absurd cc
+  may_do hands hash same task (Pair n) m (Writing write) r at old new e =
+      same_ask (Some (cond (write.old == 0) kinds.Claim kinds.Replace)) hands (Slot write.place.table write.place.probe.i) at write.old old (new_word hash n) new e (writing hands hash n same m task write r)
+  may_do hands hash same task made m (Counting n) r at old new e = absurd cc
+  may_do hands hash same task made m (Leaving t) r at old new e = absurd cc
+  may_do hands hash same task made m (Ended reply) r at old new e = absurd cc
+
+  -- the same of the machine
+  pub machine_may : (m : Machine) (hands : Hands P) → Rests g c begun since k m hands → (at : At) (old new : ℕ) → asks m.made m.hash m.state ≡ Ask_exchange at old new → MayDo (kind_asked m.made m.state) hands at old new
+  machine_may m hands r at old new e = may_do hands m.hash r.hash m.task m.made r.made m.state r.stage at old new e

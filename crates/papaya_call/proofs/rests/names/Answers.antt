@@ -1,0 +1,13 @@
+use Rattle.papaya_call.proofs.rests.names.Goals as goal
+use Rattle.std.proofs.Common.{subst}
+use Rattle.papaya_call.specs.Machine.{ask_of}
+use Rattle.papaya_call.proofs.RestsNames.{IsNamed, ask_named, slot_named}
+
+pub returns-clause-size : goal.returns-clause-size
+returns-clause-size g c = λ s c' hashed begun since may k m hands rests t e. subst (IsNamed s c' hashed begun since may k) e (ask_named s c' hashed begun since may k hands m.task m.hash m.made m.state rests.stage)
+
+pub returns-clause-next : goal.returns-clause-next
+returns-clause-next g c = λ s c' hashed begun since may k m hands rests t e. subst (IsNamed s c' hashed begun since may k) e (ask_named s c' hashed begun since may k hands m.task m.hash m.made m.state rests.stage)
+
+pub returns-clause-slot : goal.returns-clause-slot
+returns-clause-slot g c = λ s c' hashed begun since may k m hands rests t x e. slot_named s c' hashed begun since may k (ask_of m) (ask_named s c' hashed begun since may k hands m.task m.hash m.made m.state rests.stage) t x e

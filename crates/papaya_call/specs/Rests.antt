@@ -1,0 +1,176 @@
+-- What a machine rests on: facts of the words that stay true whatever exchanges follow, and facts about a moment since its call began.
+use Rattle.std.specs.Prelude.{◌≡◌, ◌⊎◌, ℕ, ◌+◌, ◌<◌, Bool, true, false, Option, None, Some, List, ◌++◌}
+use Rattle.papaya_words.specs.Word.{kind_of, pair_of}
+use Rattle.papaya_words.specs.declared.word.Kind.TheVariants as word_kinds
+use Rattle.papaya_words.specs.declared.probe.ResizeMode.{ResizeMode}
+use Rattle.papaya_words.specs.declared.probe.ResizeMode.TheVariants.{Incremental, Blocking}
+use Rattle.papaya_call.specs.declared.ask.Ask.{Ask}
+use Rattle.papaya_call.specs.declared.ask.Ask.TheVariants.{Exchange as Ask_exchange}
+use Rattle.papaya_call.specs.declared.ask.Answer.{Answer}
+use Rattle.papaya_call.specs.declared.ask.Answer.TheVariants.{Exchanged}
+use Rattle.papaya_call.specs.declared.ask.StepKind.{StepKind}
+use Rattle.papaya_call.specs.declared.ask.StepKind.TheVariants as kinds
+use Rattle.papaya_call.specs.declared.call.Reply.{Reply}
+use Rattle.papaya_call.specs.declared.call.Reply.TheVariants.{Absent, Found, Inserted, Replaced, Occupied, Refused as Reply_refused}
+use Rattle.papaya_call.specs.declared.call.Task.{Task}
+use Rattle.papaya_call.specs.declared.call.Task.TheVariants.{Get, Insert}
+use Rattle.papaya_call.specs.declared.search.Place.{Place}
+use Rattle.papaya_call.specs.declared.search.Search.{Search}
+use Rattle.papaya_call.specs.declared.search.Search.TheVariants.{Sizing, Looking, Comparing}
+use Rattle.papaya_call.specs.declared.write.Made.{Made}
+use Rattle.papaya_call.specs.declared.write.Made.TheVariants.{Nothing, Key, Pair}
+use Rattle.papaya_call.specs.declared.write.Write.{Write}
+use Rattle.papaya_call.specs.declared.machine.State.{State as Stage}
+use Rattle.papaya_call.specs.declared.machine.State.TheVariants.{AtRoot, Making, Opening, Searching, Writing, Counting, Leaving, Ended}
+use Rattle.papaya_call.specs.declared.machine.Machine.{Machine}
+use Rattle.papaya_call.specs.Law.Exchange.{Word, Setting, State, Exchange, run, start}
+use Rattle.papaya_call.specs.Law.View.{Leaving as View_leaving, view, look, own, held, beyond, IsPassed, IsReached}
+use Rattle.papaya_call.specs.Law.Meaning.{IsAtMoment, map_left}
+use Rattle.papaya_call.specs.Law.Invariant.{named}
+use Rattle.papaya_call.specs.Law.Later.{Becomes}
+use Rattle.papaya_call.specs.Law.Code.{Coding, code}
+use Rattle.papaya_call.specs.Machine.{IsWriter}
+use Rattle.papaya_call.specs.Told.{Hands}
+
+-- the machine resizes as the setting does
+abbrev pub IsModeOf : ResizeMode → Bool → Type 0
+IsModeOf (Incremental chunk) blocking = blocking ≡ false
+IsModeOf Blocking blocking = blocking ≡ true
+
+-- The exchanges when the call began are `begun`, and those since then `since`.
+module _ {K P : Type 0} (g : Setting K P) (c : Coding K P) (begun since : List (Exchange P)) (k : K) where
+  -- the state after all exchanges
+  abbrev pub now : State P
+  now = run (begun ++ since) start
+
+  -- at some moment of the call the key's pair was this
+  abbrev pub WasAtMoment : Option P → Type 0
+  WasAtMoment value = IsAtMoment g (map_left g begun) since k value
+
+  -- The search for the key has come to table t. With blocking t was the root at a moment of the call; else t is reached.
+  pub record HasComeTo (t : ℕ) : Type 0 where
+    pub some : 0 < t
+    pub is : ((g.blocking ≡ false) × IsReached g now k t)
+        ⊎ ((g.blocking ≡ true) × ((es : List (Exchange P)) × (fs : List (Exchange P)) × (es ++ fs ≡ since) × ((run (begun ++ es) start).root ≡ t)))
+
+  -- the search stands at this place of its table, and passed the places before
+  pub record IsAt (at : Place) : Type 0 where
+    pub come : HasComeTo at.table
+    pub len : at.len ≡ g.size at.table
+    pub limit : at.limit + 1 ≡ g.places at.table
+    pub slot : at.probe.i ≡ g.place k at.table at.probe.len
+    pub within : at.probe.len < g.places at.table
+    pub before : (i : ℕ) → i < at.probe.len → beyond (look g now k at.table i) ≡ true
+
+  -- the word that was loaded at this place named the pair p
+  pub record HasMet (at : Place) (word : ℕ) (p : P) : Type 0 where
+    pub stands : IsAt at
+    pub was : Word P
+    pub loaded : word ≡ code g c was
+    pub names : named was ≡ Some p
+    -- a Buried word isn't compared
+    pub unburied : kind_of word ≡ word_kinds.Buried → ⊥
+    -- what stands there now came of it
+    pub became : Becomes g was (now.slot at.table at.probe.i)
+    -- where p is the key's and was held there, the map had it at a moment of the call
+    pub had : held (view g k was) ≡ true → WasAtMoment (Some p)
+
+  -- a write takes the place of nothing or, where it may replace, of a Live word of the key
+  pub record MayWrite (replace : Bool) (write : Write) : Type 0 where
+    pub stands : IsAt write.place
+    pub old : (write.old ≡ 0) ⊎ ((replace ≡ true) × (kind_of write.old ≡ word_kinds.Live) × (own (look g now k write.place.table write.place.probe.len) ≡ true))
+
+  abbrev pub RestsWriting : Task → Write → Type 0
+  RestsWriting Get write = ⊥
+  RestsWriting (Insert replace) write = MayWrite replace write
+
+  -- the pair of this number is the one that the call made
+  abbrev pub IsOwnPair : Hands P → ℕ → Type 0
+  IsOwnPair hands n = (q : P) × (hands.made ≡ Some q) × (c.number q ≡ n)
+
+  -- what the call has made: a pair of its key
+  abbrev pub RestsMade : Hands P → Made → Type 0
+  RestsMade hands Nothing = hands.made ≡ None
+  RestsMade hands Key = hands.made ≡ None
+  RestsMade hands (Pair n) = (q : P) × (hands.made ≡ Some q) × (c.number q ≡ n) × (g.key q ≡ k)
+
+  abbrev pub RestsSearch : Hands P → Search → Type 0
+  RestsSearch hands (Sizing t) = HasComeTo t
+  RestsSearch hands (Looking at) = IsAt at
+  RestsSearch hands (Comparing at word) = (p : P) × (hands.last ≡ Some p) × HasMet at word p
+
+  -- the key has no place in table t, or its pair is being copied from there
+  abbrev pub HasNoPlace : ℕ → Type 0
+  HasNoPlace t = IsPassed g.places (look g now k) t ⊎ ((j : ℕ) × (p : P) × (j < g.places t) × (look g now k t j ≡ View_leaving p))
+
+  -- a lookup leaves a table that it passed, and an insertion one where it has no place
+  abbrev pub RestsLeaving : Task → ℕ → Type 0
+  RestsLeaving Get t = (g.blocking ≡ false) × HasComeTo t × IsPassed g.places (look g now k) t
+  RestsLeaving (Insert replace) t = HasComeTo t × HasNoPlace t
+
+  -- some pair of this number was the key's at a moment of the call
+  abbrev pub HadPair : ℕ → Type 0
+  HadPair n = (p : P) × (c.number p ≡ n) × WasAtMoment (Some p)
+
+  -- A reply that fits the task: a lookup's answer was the map's at a moment of the call, and a pair that was put in is the one that the call made.
+  abbrev pub IsReply : Hands P → Task → Reply → Type 0
+  IsReply hands Get Absent = WasAtMoment None
+  IsReply hands Get (Found n) = HadPair n
+  IsReply hands (Insert replace) (Inserted n) = IsOwnPair hands n
+  IsReply hands (Insert true) (Replaced m n) = IsOwnPair hands n
+  IsReply hands (Insert false) (Occupied n) = HadPair n
+  IsReply hands (Insert replace) (Reply_refused refused) = Unit {0}
+  IsReply hands _ _ = ⊥
+
+  abbrev pub RestsStage : Hands P → Task → Stage → Type 0
+  RestsStage hands task AtRoot = Unit {0}
+  RestsStage hands task Making = IsWriter task
+  RestsStage hands task (Opening t) = IsWriter task × (0 < t)
+  RestsStage hands task (Searching search) = RestsSearch hands search
+  RestsStage hands task (Writing write) = RestsWriting task write
+  RestsStage hands task (Counting n) = IsWriter task × IsOwnPair hands n
+  RestsStage hands task (Leaving t) = RestsLeaving task t
+  RestsStage hands task (Ended reply) = IsReply hands task reply
+
+  -- what the machine of a call with this key rests on
+  pub record Rests (m : Machine) (hands : Hands P) : Type 0 where
+    pub hash : m.hash ≡ c.hash k
+    pub mode : IsModeOf m.mode g.blocking
+    pub made : RestsMade hands m.made
+    pub stage : RestsStage hands m.task m.state
+
+-- a change of the map: the pair that went, and the one that came
+abbrev pub Change : Type 0
+Change = Option (Option ℕ × Option ℕ)
+
+-- the change that a call with this reply made
+abbrev pub change_of_reply : Reply → Change
+change_of_reply (Inserted n) = Some (None, Some n)
+change_of_reply (Replaced m n) = Some (Some m, Some n)
+change_of_reply Absent = None
+change_of_reply (Found n) = None
+change_of_reply (Occupied n) = None
+change_of_reply (Reply_refused refused) = None
+
+-- the change that a machine in this stage has made
+abbrev pub change_in : Stage → Change
+change_in (Counting n) = Some (None, Some n)
+change_in (Ended reply) = change_of_reply reply
+change_in AtRoot = None
+change_in Making = None
+change_in (Opening t) = None
+change_in (Searching search) = None
+change_in (Writing write) = None
+change_in (Leaving t) = None
+
+-- the change that an exchange of this kind makes
+abbrev pub change_of_kind : Option StepKind → (old new : ℕ) → Change
+change_of_kind (Some kinds.Claim) old new = Some (None, Some (pair_of new))
+change_of_kind (Some kinds.Replace) old new = Some (Some (pair_of old), Some (pair_of new))
+change_of_kind (Some kinds.Bury) old new = Some (Some (pair_of old), None)
+change_of_kind _ old new = None
+
+-- the change that a call has made after one of its asks was answered so, where it had made this one before
+abbrev pub change_after : Option StepKind → Ask → Answer → Change → Change
+change_after kind (Ask_exchange at old new) Exchanged before = change_of_kind kind old new
+change_after kind _ _ before = before

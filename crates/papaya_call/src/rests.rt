@@ -1,0 +1,58 @@
+//! What a machine rests on, while others exchange words between its asks.
+//!
+//! A backend answers what machines ask, and keeps for each call the exchanges that there were when
+//! it began, those since then, and the pairs that it was told of. By the laws below it need not
+//! look into a machine. The functions do nothing: their contracts are the laws.
+ghost use Rattle.std.specs.Prelude.{◌≡◌, ◌⊎◌, ℕ, ◌<◌, ◌++◌, List, [], Option, None, Some};
+ghost use Rattle.papaya_words.specs.declared.probe.Refused.{Refused};
+ghost use Rattle.papaya_words.specs.declared.probe.ResizeMode.{ResizeMode};
+ghost use Rattle.papaya_call.specs.Law.Allows.{AllAllowed, Allows};
+ghost use Rattle.papaya_call.specs.Law.Class.{IsOn};
+ghost use Rattle.papaya_call.specs.Law.Code.{Coding};
+ghost use Rattle.papaya_call.specs.Law.Exchange.{Setting, Exchange, after as state_after, run, start};
+ghost use Rattle.papaya_call.specs.Law.Grows.{Agrees};
+ghost use Rattle.papaya_call.specs.Machine.{ask_of, kind_of_ask, after, started};
+ghost use Rattle.papaya_call.specs.Rests.{Rests, IsModeOf, IsReply, change_in, change_of_reply, change_after};
+ghost use Rattle.papaya_call.specs.Told.{IsHashed, IsAsked, IsTold, IsWritten, Hands, no_hands, word_of};
+
+use crate::ask::{Answer, Ask, At};
+use crate::call::{Reply, Task};
+use crate::machine::{Machine, State};
+
+/// A call that begins rests on the exchanges as they are.
+pub fn begins<K, P>()
+    ensures { (g : Setting K P) (c : Coding K P) → (begun : List (Exchange P)) (k : K) (task : Task) (mode : ResizeMode) (initial : ℕ) → IsModeOf mode g.blocking → Rests g c begun [] k (started task (c.hash k) mode initial) no_hands }
+{}
+
+/// What a machine rests on stays so, whatever others exchange and whichever tables are made.
+pub fn stays<K, P>()
+    ensures exchanges { (g : Setting K P) (c : Coding K P) → IsHashed g c → (begun since es : List (Exchange P)) → AllAllowed g start (begun ++ (since ++ es)) → (k : K) (m : Machine) (hands : Hands P) → Rests g c begun since k m hands → Rests g c begun (since ++ es) k m hands }
+    ensures tables { (g g' : Setting K P) (c : Coding K P) → IsHashed g c → IsHashed g' c → (begun since : List (Exchange P)) → AllAllowed g start (begun ++ since) → Agrees (IsOn (run (begun ++ since) start).first (run (begun ++ since) start).next) g g' → (k : K) (m : Machine) (hands : Hands P) → Rests g c begun since k m hands → Rests g' c begun since k m hands }
+{}
+
+/// A machine names only tables that were opened or linked, slots within them, and the pair last loaded.
+pub fn names<K, P>()
+    ensures size { (g : Setting K P) (c : Coding K P) → IsHashed g c → (begun since : List (Exchange P)) → AllAllowed g start (begun ++ since) → (k : K) (m : Machine) (hands : Hands P) → Rests g c begun since k m hands → (t : ℕ) → ask_of m ≡ Ask.SizeOf t → IsOn (run (begun ++ since) start).first (run (begun ++ since) start).next t }
+    ensures next { (g : Setting K P) (c : Coding K P) → IsHashed g c → (begun since : List (Exchange P)) → AllAllowed g start (begun ++ since) → (k : K) (m : Machine) (hands : Hands P) → Rests g c begun since k m hands → (t : ℕ) → ask_of m ≡ Ask.Load (At.Next t) → IsOn (run (begun ++ since) start).first (run (begun ++ since) start).next t }
+    ensures slot { (g : Setting K P) (c : Coding K P) → IsHashed g c → (begun since : List (Exchange P)) → AllAllowed g start (begun ++ since) → (k : K) (m : Machine) (hands : Hands P) → Rests g c begun since k m hands → (t x : ℕ) → (ask_of m ≡ Ask.Load (At.Slot t x)) ⊎ ((old : ℕ) × (new : ℕ) × (ask_of m ≡ Ask.Exchange (At.Slot t x) old new)) → IsOn (run (begun ++ since) start).first (run (begun ++ since) start).next t × (x < g.size t) }
+    ensures pair { (g : Setting K P) (c : Coding K P) → IsHashed g c → (begun since : List (Exchange P)) → AllAllowed g start (begun ++ since) → (k : K) (m : Machine) (hands : Hands P) → Rests g c begun since k m hands → (n : ℕ) → ask_of m ≡ Ask.SameKey n → (p : P) × (hands.last ≡ Some p) × (c.number p ≡ n) }
+{}
+
+/// An exchange whose old word stands there is one of the law, allowed, and writes just its word.
+pub fn may_exchange<K, P>()
+    ensures { (g : Setting K P) (c : Coding K P) → IsHashed g c → (begun since : List (Exchange P)) → AllAllowed g start (begun ++ since) → (k : K) (m : Machine) (hands : Hands P) → Rests g c begun since k m hands → (at : At) (old new : ℕ) → ask_of m ≡ Ask.Exchange at old new → word_of g c (run (begun ++ since) start) at ≡ old → (e : Exchange P) × IsAsked (kind_of_ask m) at new (run (begun ++ since) start) hands e × Allows g (run (begun ++ since) start) e × IsWritten g c (run (begun ++ since) start) at new (state_after (run (begun ++ since) start) e) }
+{}
+
+/// After an answer that is true of the words the machine rests again, and what was exchanged was allowed.
+pub fn learns<K, P>()
+    ensures { (g : Setting K P) (c : Coding K P) → IsHashed g c → (begun since : List (Exchange P)) → AllAllowed g start (begun ++ since) → (k : K) (m : Machine) (hands : Hands P) → Rests g c begun since k m hands → (answer : Answer) (es : List (Exchange P)) (hands' : Hands P) → IsTold g c k (run (begun ++ since) start) (kind_of_ask m) hands (ask_of m) answer es hands' → AllAllowed g start (begun ++ (since ++ es)) × Rests g c begun (since ++ es) k (after m answer) hands' }
+{}
+
+/// A reply is the map's at a moment of the call; a change was made by an exchange of its own, at most one in a call; and a refusal follows none.
+pub fn replies<K, P>()
+    ensures reply { (g : Setting K P) (c : Coding K P) (begun since : List (Exchange P)) (k : K) (m : Machine) (hands : Hands P) → Rests g c begun since k m hands → (reply : Reply) → ask_of m ≡ Ask.Done reply → IsReply g c begun since k hands m.task reply × (change_in m.state ≡ change_of_reply reply) }
+    ensures change { (g : Setting K P) (c : Coding K P) → IsHashed g c → (begun since : List (Exchange P)) (k : K) (m : Machine) (hands : Hands P) → Rests g c begun since k m hands → (s : _) (answer : Answer) (es : List (Exchange P)) (hands' : Hands P) → IsTold g c k s (kind_of_ask m) hands (ask_of m) answer es hands' → change_in (after m answer).state ≡ change_after (kind_of_ask m) (ask_of m) answer (change_in m.state) }
+    ensures once { (m : Machine) (at : At) (old new : ℕ) → ask_of m ≡ Ask.Exchange at old new → change_in m.state ≡ None }
+    ensures task { (m : Machine) (answer : Answer) → ((after m answer).task ≡ m.task) × ((after m answer).hash ≡ m.hash) }
+    ensures refusal { (m : Machine) (answer : Answer) (refused : Refused) → ((reply : Reply) → ask_of m ≡ Ask.Done reply → ⊥) → ask_of (after m answer) ≡ Ask.Done (Reply.Refused refused) → (answer ≡ Answer.Refused refused) ⊎ ((refused ≡ Refused.Capacity) × ((t : ℕ) × (m.state ≡ State.Leaving t))) }
+{}

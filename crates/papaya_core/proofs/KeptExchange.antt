@@ -1,0 +1,70 @@
+-- What an exchange that a machine asked for changes.
+use Rattle.std.proofs.Common.{◌≡◌, ℕ, ◌==◌, ◌&&◌, Bool, true, false, cond, Option, None, Some, List, ◌⊎◌, inl, inr, refl, sym, ◌∙◌, ap, subst, eqb-true}
+use Rattle.papaya_call.specs.declared.ask.At.{At}
+use Rattle.papaya_call.specs.declared.ask.At.TheVariants.{Root, Slot}
+use Rattle.papaya_call.specs.declared.ask.StepKind.{StepKind}
+use Rattle.papaya_call.specs.declared.ask.StepKind.TheVariants as kinds
+use Rattle.papaya_call.specs.Law.Exchange.{Word, Live, Buried, State, Exchange, Open, Claim, Replace, Bury, after}
+use Rattle.papaya_call.specs.Law.Grows.{Comes}
+use Rattle.papaya_call.specs.Law.Invariant.{named}
+use Rattle.papaya_call.specs.Rests.{change_of_kind}
+use Rattle.papaya_call.specs.Told.{Hands, IsAsked}
+
+-- two tests are both met
+both : (a b : Bool) → (a && b) ≡ true → (a ≡ true) × (b ≡ true)
+both true b h = (refl, h)
+both false b h = absurd cc
+
+module _ {P : Type 0} (s : State P) (hands : Hands P) (new : ℕ) where
+  -- The tables that have come are those of before, and the one that was opened; a pair that a slot names stood there before, or is the one that the call made. Where it changes no pair of the map, each slot names what it named.
+  pub record IsChanged (kind : Option StepKind) (at : At) (e : Exchange P) : Type 0 where
+    pub place : (at ≡ Root) ⊎ ((t : ℕ) × (x : ℕ) × (at ≡ Slot t x))
+    pub next : (t : ℕ) → (after s e).next t ≡ s.next t
+    pub comes : (t : ℕ) → Comes (after s e) t → Comes s t ⊎ ((at ≡ Root) × (new ≡ t))
+    pub slots : (t x : ℕ) (p : P) → named ((after s e).slot t x) ≡ Some p → (named (s.slot t x) ≡ Some p) ⊎ (hands.made ≡ Some p)
+    pub unchanged : (old word : ℕ) → change_of_kind kind old word ≡ None → (t x : ℕ) (p : P) → named ((after s e).slot t x) ≡ Some p → named (s.slot t x) ≡ Some p
+
+  -- a slot after the call's pair was put into one
+  put_made : (q : P) → hands.made ≡ Some q → (w : Word P) (p : P) (b : Bool) → named (cond b (Live q) w) ≡ Some p → (named w ≡ Some p) ⊎ (hands.made ≡ Some p)
+  put_made q made w p true e = inr (made ∙ e)
+  put_made q made w p false e = inl e
+
+  -- a slot after a pair was buried in one
+  put_buried : (t x : ℕ) (q : P) → s.slot t x ≡ Live q → (u y : ℕ) (p : P) (b : Bool) → ((u == t) && (y == x)) ≡ b → named (cond b (Buried q) (s.slot u y)) ≡ Some p → named (s.slot u y) ≡ Some p
+  put_buried t x q live u y p true is e =
+      let same = both (u == t) (y == x) is in
+      ap (λ z. named (s.slot z y)) (eqb-true u t same.0) ∙ ap (λ z. named (s.slot t z)) (eqb-true y x same.1) ∙ ap named live ∙ e
+  put_buried t x q live u y p false is e = e
+
+  opened : IsChanged (Some kinds.Open) Root (Open new)
+  opened = record { place = inl refl; next = λ t. refl; comes = comes; slots = λ t x p e. inl e; unchanged = λ old word none t x p e. e }
+    where
+      comes : (t : ℕ) → Comes (after s (Open new)) t → Comes s t ⊎ ((Root ≡ Root) × (new ≡ t))
+      comes t (inl first) = inr (refl, first)
+      comes t (inr linked) = inl (inr linked)
+
+  -- what an asked exchange changes
+  pub changes : (kind : Option StepKind) (at : At) (e : Exchange P) → IsAsked kind at new s hands e → IsChanged kind at e
+  changes (Some kinds.Open) Root e is = subst (IsChanged (Some kinds.Open) Root) (sym is) opened
+  changes (Some kinds.Claim) (Slot t x) e (q, made, is) = subst (IsChanged (Some kinds.Claim) (Slot t x)) (sym is) (record {
+      place = inr (t, x, refl);
+      next = λ u. refl;
+      comes = λ u h. inl h;
+      slots = λ u y p h. put_made q made (s.slot u y) p ((u == t) && (y == x)) h;
+      unchanged = λ old word none. absurd cc;
+    })
+  changes (Some kinds.Replace) (Slot t x) e (p, q, live, made, is) = subst (IsChanged (Some kinds.Replace) (Slot t x)) (sym is) (record {
+      place = inr (t, x, refl);
+      next = λ u. refl;
+      comes = λ u h. inl h;
+      slots = λ u y p' h. put_made q made (s.slot u y) p' ((u == t) && (y == x)) h;
+      unchanged = λ old word none. absurd cc;
+    })
+  changes (Some kinds.Bury) (Slot t x) e (q, live, is) = subst (IsChanged (Some kinds.Bury) (Slot t x)) (sym is) (record {
+      place = inr (t, x, refl);
+      next = λ u. refl;
+      comes = λ u h. inl h;
+      slots = λ u y p h. inl (put_buried t x q live u y p ((u == t) && (y == x)) refl h);
+      unchanged = λ old word none. absurd cc;
+    })
+  changes _ _ e h = absurd h

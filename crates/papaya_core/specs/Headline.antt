@@ -1,0 +1,14 @@
+-- The maps of a run.
+use Rattle.std.specs.Prelude.{◌≡◌, ℕ, Bool, Option, List, ◌∷◌}
+use Rattle.papaya_core.specs.declared.trace.Turn.{Turn}
+use Rattle.papaya_core.specs.Core.{CoreState}
+use Rattle.papaya_core.specs.Maps.{Map}
+use Rattle.papaya_core.specs.Timeline.{History, Timeline}
+use Rattle.papaya_core.specs.Content.{map_of}
+
+-- The maps of a run, one a moment, are a legal timeline with its history, from the core's map at its begin to the core's map at its end.
+pub record HasTimeline {K V S : Type 0} (eq : K → K → Bool) (schedule : List (Turn K V)) (s : CoreState K V S) (h : History) (s' : CoreState K V S) : Type 0 where
+  pub last : Map K V
+  pub maps : List (Map K V)
+  pub timeline : Timeline eq schedule (map_of eq s) h (last ∷ maps)
+  pub is_last : (j : K) → last j ≡ map_of eq s' j

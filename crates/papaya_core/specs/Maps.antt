@@ -1,0 +1,48 @@
+-- Stored pairs, finite maps, and what each call on one key replies and changes.
+use Rattle.std.specs.Prelude.{◌≡◌, ◌≢◌, ℕ, Bool, true, false, Option, None, Some, List, [], ◌∷◌}
+use Rattle.papaya_call.specs.Law.Content.{lookup, AreApart}
+use Rattle.papaya_call.specs.declared.call.Call.{Call}
+use Rattle.papaya_call.specs.declared.call.Call.TheVariants.{Get, Insert}
+use Rattle.papaya_call.specs.declared.call.Reply.{Reply}
+use Rattle.papaya_call.specs.declared.call.Reply.TheVariants.{Absent, Found, Inserted, Replaced, Occupied, Refused}
+use Rattle.papaya_core.specs.Store.{Stored}
+
+-- a map gives to each class of equal keys one stored pair, or none
+abbrev pub Map : (K V : Type 0) → Type 0
+Map K V = K → Option (Stored K V)
+
+-- a finite map: it has the pairs of a list in which no key stands twice
+pub record IsFinite {K V : Type 0} (eq : K → K → Bool) (m : Map K V) : Type 0 where
+  pub pairs : List (Stored K V)
+  pub apart : AreApart eq (λ p. p.key) pairs
+  pub has : (k : K) → m k ≡ lookup eq (λ p. p.key) pairs k
+
+-- the key of a call
+abbrev pub key_of : {K V : Type 0} → Call K V → K
+key_of (Get k) = k
+key_of (Insert k v) = k
+
+module _ {K V : Type 0} where
+  -- a pair of this number that was made of the key and the value that the call was handed
+  pub record IsMadeOf (k : K) (v : V) (n : ℕ) (q : Stored K V) : Type 0 where
+    pub number : q.number ≡ n
+    pub key : q.key ≡ k
+    pub value : q.value ≡ v
+
+  -- What a call on one key does where the class of its key has `here`: what it replies, and which pair the class has next.
+  abbrev pub Does : Call K V → Option (Stored K V) → Reply → Option (Stored K V) → Type 0
+  Does (Get k) None Absent next = next ≡ None
+  Does (Get k) (Some p) (Found n) next = (p.number ≡ n) × (next ≡ Some p)
+  Does (Insert k v) None (Inserted n) next = (q : Stored K V) × IsMadeOf k v n q × (next ≡ Some q)
+  Does (Insert k v) (Some p) (Replaced m n) next = (p.number ≡ m) × ((q : Stored K V) × IsMadeOf k v n q × (next ≡ Some q))
+  Does _ _ _ _ = ⊥
+
+-- two maps are one
+abbrev pub Same : {K V : Type 0} → Map K V → Map K V → Type 0
+Same {K = K} m m' = (j : K) → m' j ≡ m j
+
+-- the class of this key, which had `old`, has `new`, and every other class has what it had
+pub record IsUpdate {K V : Type 0} (eq : K → K → Bool) (k : K) (old new : Option (Stored K V)) (m m' : Map K V) : Type 0 where
+  pub before : m k ≡ old
+  pub class : (j : K) → eq j k ≡ true → m' j ≡ new
+  pub others : (j : K) → eq j k ≡ false → m' j ≡ m j

@@ -1,0 +1,136 @@
+-- What a trace says of the map: its moments, its changes and its replies. No definition here knows a slot, a hash, a mark or a probe.
+use Rattle.std.specs.Prelude.{◌≡◌, ◌≢◌, ℕ, ◌==◌, Bool, true, false, if◌then◌else◌, List, [], ◌∷◌, Option, Some, None, slice_get, ◌⊎◌}
+use Rattle.papaya_call.specs.Rests.{Change, change_of_reply}
+use Rattle.papaya_call.specs.declared.call.Call.{Call}
+use Rattle.papaya_call.specs.declared.call.Reply.{Reply}
+use Rattle.papaya_call.specs.declared.call.Reply.TheVariants.{Absent, Found, Inserted, Replaced, Occupied, Refused}
+use Rattle.papaya_core.specs.declared.trace.Turn.{Turn}
+use Rattle.papaya_core.specs.declared.trace.Turn.TheVariants.{Begin, Step, Finish}
+use Rattle.papaya_core.specs.declared.trace.Entry.{Entry}
+use Rattle.papaya_core.specs.declared.trace.Event.{Event}
+use Rattle.papaya_core.specs.declared.trace.Event.TheVariants.{Begun, Changed, Moved, Other, Replied}
+use Rattle.papaya_core.specs.Store.{Stored}
+use Rattle.papaya_core.specs.Maps.{Map, Does, Same, IsUpdate, key_of}
+
+-- a history is a trace, its newest entry first
+abbrev pub History : Type 0
+History = List Entry
+
+-- the call that a turn begins
+abbrev pub begun_by : {K V : Type 0} → Option (Turn K V) → Option (Call K V)
+begun_by None = None
+begun_by (Some (Begin caller call)) = Some call
+begun_by (Some (Step caller refuse)) = None
+begun_by (Some (Finish caller steps)) = None
+
+-- the call that a caller has open after an event of its own, which had this one before
+abbrev pub open_after : {A : Type 0} → Event → Option A → Option A → Option A
+open_after Begun begun before = begun
+open_after (Changed kind old new) begun before = before
+open_after (Moved kind) begun before = before
+open_after Other begun before = before
+open_after (Replied reply) begun before = None
+
+-- the call that a caller has open, of those that the schedule began
+abbrev pub open_call : {K V : Type 0} → List (Turn K V) → ℕ → History → Option (Call K V)
+open_call schedule caller [] = None
+open_call schedule caller (e ∷ before) =
+    if e.caller == caller
+    then open_after e.event (begun_by (slice_get schedule e.turn)) (open_call schedule caller before)
+    else open_call schedule caller before
+
+-- the change that an open call has made so far
+abbrev pub change_by : Event → Change → Change
+change_by Begun before = None
+change_by (Changed kind old new) before = Some (old, new)
+change_by (Moved kind) before = before
+change_by Other before = before
+change_by (Replied reply) before = None
+
+abbrev pub change_of : ℕ → History → Change
+change_of caller [] = None
+change_of caller (e ∷ before) = if e.caller == caller then change_by e.event (change_of caller before) else change_of caller before
+
+abbrev pub begins : Event → Bool
+begins Begun = true
+begins (Changed kind old new) = false
+begins (Moved kind) = false
+begins Other = false
+begins (Replied reply) = false
+
+-- is this the begin of the caller's call
+abbrev pub is_begin : ℕ → Entry → Bool
+is_begin caller e = if e.caller == caller then begins e.event else false
+
+-- P held of the map at some moment since the caller's call began: after the begin itself, or after a later entry.
+-- The maps are those after each entry of the history, the newest first, and at last the one before it.
+abbrev pub AtSomeMoment : {K V : Type 0} → (Map K V → Type 0) → ℕ → History → List (Map K V) → Type 0
+AtSomeMoment P caller [] maps = ⊥
+AtSomeMoment P caller (e ∷ before) [] = ⊥
+AtSomeMoment P caller (e ∷ before) (m ∷ maps) = P m ⊎ ((is_begin caller e ≡ false) × AtSomeMoment P caller before maps)
+
+-- no map had a pair of this number
+abbrev pub IsUnused : {K V : Type 0} → ℕ → List (Map K V) → Type 0
+IsUnused n [] = Unit {0}
+IsUnused {K = K} {V = V} n (m ∷ maps) = ((j : K) (p : Stored K V) → m j ≡ Some p → p.number ≢ n) × IsUnused n maps
+
+-- the number of a pair, if there is one
+abbrev pub number_in : {K V : Type 0} → Option (Stored K V) → Option ℕ
+number_in None = None
+number_in (Some p) = Some p.number
+
+-- a pair that comes has a number that no map had before
+abbrev pub IsFresh : {K V : Type 0} → Option (Stored K V) → List (Map K V) → Type 0
+IsFresh None maps = Unit {0}
+IsFresh (Some q) maps = IsUnused q.number maps
+
+module _ {K V : Type 0} (eq : K → K → Bool) where
+  -- An open call changes the class of its own key once, as such a call does. Of a call that began before the run nothing is said but that it changes one class.
+  abbrev pub MayChange : Option (Call K V) → Change → K → Option (Stored K V) → Option (Stored K V) → Type 0
+  MayChange None made k old new = Unit {0}
+  MayChange (Some call) made k old new = (key_of call ≡ k) × (made ≡ None) × ((reply : Reply) × Does call old reply new × (change_of_reply reply ≡ Some (number_in old, number_in new)))
+
+  -- a reply without a change is the call's for the map at some moment since it began
+  abbrev pub IsAnswer : Call K V → Reply → ℕ → History → List (Map K V) → Type 0
+  IsAnswer call reply caller before maps = (change_of caller before ≡ None) × AtSomeMoment (λ m. Does call (m (key_of call)) reply (m (key_of call))) caller before maps
+
+  -- a reply fits the call, its changes and the maps since it began
+  abbrev pub Fits : Call K V → Reply → ℕ → History → List (Map K V) → Type 0
+  Fits call (Inserted n) caller before maps = change_of caller before ≡ Some (None, Some n)
+  Fits call (Replaced m n) caller before maps = change_of caller before ≡ Some (Some m, Some n)
+  Fits call Absent caller before maps = IsAnswer call Absent caller before maps
+  Fits call (Found n) caller before maps = IsAnswer call (Found n) caller before maps
+  Fits call (Occupied n) caller before maps = IsAnswer call (Occupied n) caller before maps
+  Fits call (Refused refused) caller before maps = change_of caller before ≡ None
+
+  abbrev pub FitsOpen : Option (Call K V) → Reply → ℕ → History → List (Map K V) → Type 0
+  FitsOpen None reply caller before maps = Unit {0}
+  FitsOpen (Some call) reply caller before maps = Fits call reply caller before maps
+
+  -- A change of one class: the pair that goes and the pair that comes have the numbers told, and the one that comes is new.
+  pub record IsChange (schedule : List (Turn K V)) (caller : ℕ) (before : History) (m : Map K V) (maps : List (Map K V)) (m' : Map K V) (old new : Option ℕ) : Type 0 where
+    pub key : K
+    pub went : Option (Stored K V)
+    pub came : Option (Stored K V)
+    pub update : IsUpdate eq key went came m m'
+    pub went_is : number_in went ≡ old
+    pub came_is : number_in came ≡ new
+    pub fresh : IsFresh came (m ∷ maps)
+    pub may : MayChange (open_call schedule caller before) (change_of caller before) key went came
+
+  -- an event is legal after this history, with these maps, and leads to the map m'
+  abbrev pub IsLegal : Event → List (Turn K V) → ℕ → History → Map K V → List (Map K V) → Map K V → Type 0
+  IsLegal Begun schedule caller before m maps m' = Same m m'
+  IsLegal (Changed kind old new) schedule caller before m maps m' = IsChange schedule caller before m maps m' old new
+  IsLegal (Moved kind) schedule caller before m maps m' = Same m m'
+  IsLegal Other schedule caller before m maps m' = Same m m'
+  IsLegal (Replied reply) schedule caller before m maps m' = Same m m' × FitsOpen (open_call schedule caller before) reply caller before (m ∷ maps)
+
+  -- the maps, one a moment, the newest first, from the one at the start
+  abbrev pub Timeline : List (Turn K V) → Map K V → History → List (Map K V) → Type 0
+  Timeline schedule start [] [] = ⊥
+  Timeline schedule start [] (m ∷ []) = Same start m
+  Timeline schedule start [] (m ∷ m0 ∷ maps) = ⊥
+  Timeline schedule start (e ∷ before) [] = ⊥
+  Timeline schedule start (e ∷ before) (m ∷ []) = ⊥
+  Timeline schedule start (e ∷ before) (m ∷ m0 ∷ maps) = IsLegal e.event schedule e.caller before m0 maps m × Timeline schedule start before (m0 ∷ maps)
