@@ -2,10 +2,10 @@
 #![tactic(auto)]
 
 pub mod callers;
+mod entries;
 pub mod pairs;
 pub mod schedule;
 pub mod store;
-pub mod trace;
-
 #[cfg(test)]
 mod tests;
+pub mod trace;

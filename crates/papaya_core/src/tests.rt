@@ -1,13 +1,11 @@
-use std::alloc::Global;
-use std::hash::{BuildHasherDefault, FoldHasher};
-use std::test::Fail;
-
+use crate::schedule::Core;
+use crate::trace::{Entry, Event, Trace, Turn};
 use papaya_call::ask::StepKind;
 use papaya_call::call::{Call, Reply};
 use papaya_words::probe::{Refused, ResizeMode};
-
-use crate::schedule::Core;
-use crate::trace::{Entry, Event, Trace, Turn};
+use std::alloc::Global;
+use std::hash::{BuildHasherDefault, FoldHasher};
+use std::test::Fail;
 
 type Numbers = Core<u64, u64, BuildHasherDefault<FoldHasher>>;
 
@@ -91,19 +89,33 @@ fn stopped_insertion_replaces_or_is_replaced(rt: HostRuntime) -> Result<(), Fail
         // Caller 0 makes its pair in its seventh step, and claims the slot in its eighth.
         let (own, other) = if steps < 7 { (1, 0) } else { (0, 1) };
         let (replies, last) = if steps < 8 {
-            let replaced = Reply::Replaced { old: other, new: own };
+            let replaced = Reply::Replaced {
+                old: other,
+                new: own,
+            };
             ((Some(replaced), Some(Reply::Inserted(other))), own)
         } else {
-            let replaced = Reply::Replaced { old: own, new: other };
+            let replaced = Reply::Replaced {
+                old: own,
+                new: other,
+            };
             ((Some(Reply::Inserted(own)), Some(replaced)), other)
         };
         let expected = Outcome {
             replies,
             opened: 1,
-            values: if steps < 7 { (Some(200), Some(100)) } else { (Some(100), Some(200)) },
+            values: if steps < 7 {
+                (Some(200), Some(100))
+            } else {
+                (Some(100), Some(200))
+            },
             found: Some(Reply::Found(last)),
         };
-        assert_eq!(rt; outcome_of(rt.alloc(), schedule)?, expected, "after {steps} steps");
+        assert_eq!(rt;
+            outcome_of(rt.alloc(), schedule)?,
+            expected,
+            "after {steps} steps"
+        );
     }
     Ok(())
 }
@@ -126,9 +138,17 @@ fn step_without_memory_refuses_what_makes(rt: HostRuntime) -> Result<(), Fail> {
             replies: (reply, None),
             opened: if steps < 2 { 0 } else { 1 },
             values: (if steps < 7 { None } else { Some(100) }, None),
-            found: Some(if steps < 7 { Reply::Absent } else { Reply::Found(0) }),
+            found: Some(if steps < 7 {
+                Reply::Absent
+            } else {
+                Reply::Found(0)
+            }),
         };
-        assert_eq!(rt; outcome_of(rt.alloc(), schedule)?, expected, "after {steps} steps");
+        assert_eq!(rt;
+            outcome_of(rt.alloc(), schedule)?,
+            expected,
+            "after {steps} steps"
+        );
     }
     Ok(())
 }
@@ -157,7 +177,10 @@ fn two_callers_make_a_first_table(rt: HostRuntime) -> Result<(), Fail> {
 fn entries_of_insert(alloc: Global, caller: usize) -> Result<(usize, usize), Fail> {
     let hasher: BuildHasherDefault<FoldHasher> = BuildHasherDefault::default();
     let mut core = Core::new(alloc, ResizeMode::Blocking, 10, 16, hasher)?;
-    let begin = vec![in alloc; Turn::Begin(caller, Call::Insert(7, 100)), Turn::Finish(caller, 3)]?;
+    let begin = vec![in alloc;
+        Turn::Begin(caller, Call::Insert(7, 100)),
+        Turn::Finish(caller, 3),
+    ]?;
     let stopped = core.run(begin)?;
     let goes_on = core.run(vec![in alloc; Turn::Finish(caller, WHOLE)]?)?;
     Ok((stopped.entries.len(), goes_on.entries.len()))

@@ -98,9 +98,9 @@ returns-in-None-clause-advances g c =
       event_is = c.event_of-event.ensures ∙ ap (λ y. event_of y c.ask-ask.result a) c.kind-kind.ensures ∙ ap (λ y. event_of (kind_of_ask before.machine) y a) c.ask-ask.ensures.value;
       reply_is = c.reply_in-reply.ensures ∙ ap reply_in c.ask.ensures.value ∙ ap (λ m. reply_in (ask_of m)) is_after;
       callers = c.put.ensures ∙ ap (λ y. with_call y c.args.caller (Some (record later { machine = c.answer.new.self }))) c.take-running.ensures.taken
-        ∙ with_call-twice c.self.inside.callers c.args.caller None (Some (record later { machine = c.answer.new.self }))
-        ∙ ap (λ m. with_call c.self.inside.callers c.args.caller (Some (record later { machine = m }))) is_after
-        ∙ sym (ap (λ y. with_call c.self.inside.callers c.args.caller (goes_on y (record later { machine = after before.machine a }))) c.in-None.is);
+          ∙ with_call-twice c.self.inside.callers c.args.caller None (Some (record later { machine = c.answer.new.self }))
+          ∙ ap (λ m. with_call c.self.inside.callers c.args.caller (Some (record later { machine = m }))) is_after
+          ∙ sym (ap (λ y. with_call c.self.inside.callers c.args.caller (goes_on y (record later { machine = after before.machine a }))) c.in-None.is);
       mode = refl;
       initial = refl;
     })

@@ -1,4 +1,4 @@
-use Rattle.std.proofs.Common.{◌≡◌, ℕ, ◌+◌, ◌<◌, List, [], ◌∷◌, ◌++◌, length, slice_get, reverse, Some, IfErr, refl, sym, ◌∙◌, ap, subst, arith}
+use Rattle.std.proofs.Common.{◌≡◌, ℕ, [], ◌∷◌, ◌++◌, length, reverse, IfErr, sym, ◌∙◌, ap, subst, arith}
 use Rattle.std.specs.List.{enumerate_from}
 use Rattle.std.specs.Vec.Iter.{into_iter_items, into_iter_len, into_iter_steps}
 use Rattle.std.specs.Iterator.Adapters.{enumerate_source, enumerate_count, enumerate_steps}
@@ -25,16 +25,16 @@ turns g c =
     let source = c.enumerate-turn-items.ensures.source in
     let len : into_iter_len c.into_iter.result ≡ length c.args.schedule.items = omega (arith, c.into_iter.ensures.len, c.args.schedule.ok.0) in
     YieldsList-from_enumerate {s = c.into_iter-turn-iterator.result} (YieldsList-from_vec {s = enumerate_source c.into_iter-turn-iterator.result} c.args.schedule.items
-      (ap (λ it. into_iter_items (enumerate_source it)) same ∙ ap into_iter_items source ∙ c.into_iter.ensures.rest)
-      (ap (λ it. into_iter_len (enumerate_source it)) same ∙ ap into_iter_len source ∙ len)) (ap enumerate_count same ∙ c.enumerate-turn-items.ensures.count)
+    (ap (λ it. into_iter_items (enumerate_source it)) same ∙ ap into_iter_items source ∙ c.into_iter.ensures.rest)
+    (ap (λ it. into_iter_len (enumerate_source it)) same ∙ ap into_iter_len source ∙ len)) (ap enumerate_count same ∙ c.enumerate-turn-items.ensures.count)
 
 pub loop-turn-preserved : goal.loop-turn-preserved
 loop-turn-preserved g c =
     let t = YieldsList-turn (turns g (goal.at.loop-turn-preserved g c).After-into_iter-turn-iterator) c.loop-turn.yielded c.loop-turn.turn-iterator c.loop-turn.yielded_by c.next.result c.next.new.self (c.in-Some.turn, c.in-Some.what) c.in-Some.is c.next.ensures.steps in
     let there = numbered_item c.args.schedule.items (length c.loop-turn.yielded) (c.in-Some.turn, c.in-Some.what) t.0 t.1 in
     TurnsRun-more g.K.PartialEq.eq (hash_of g.K.Hash.hash_input g.S.BuildHasher.build_hasher g.S.Hasher.Hasher.write g.S.Hasher.Hasher.finish) c.args.schedule.items (length c.loop-turn.yielded) c.in-Some.turn (length (c.loop-turn.yielded ++ (c.in-Some.turn, c.in-Some.what) ∷ [])) c.in-Some.what
-      c.args.self.now c.loop-turn.self (reverse c.loop-turn.entries.items) c.turn_into.new.self (reverse c.turn_into.new.entries.items)
-      there.1 there.0 (let n = length_push c.loop-turn.yielded (c.in-Some.turn, c.in-Some.what) in omega arith) c.loop-turn.invariant c.in_ok-turn_into.ensures.ok
+    c.args.self.now c.loop-turn.self (reverse c.loop-turn.entries.items) c.turn_into.new.self (reverse c.turn_into.new.entries.items)
+    there.1 there.0 (let n = length_push c.loop-turn.yielded (c.in-Some.turn, c.in-Some.what) in omega arith) c.loop-turn.invariant c.in_ok-turn_into.ensures.ok
 
 pub returns-in_err-turn_into-clause-err : goal.returns-in_err-turn_into-clause-err
 returns-in_err-turn_into-clause-err g c =
@@ -42,7 +42,7 @@ returns-in_err-turn_into-clause-err g c =
     let there = numbered_item c.args.schedule.items (length c.loop-turn.yielded) (c.in-Some.turn, c.in-Some.what) t.0 t.1 in
     let err = c.in_err-turn_into.ensures.err in
     let stops = StopsEarly-at g.K.PartialEq.eq (hash_of g.K.Hash.hash_input g.S.BuildHasher.build_hasher g.S.Hasher.Hasher.write g.S.Hasher.Hasher.finish) c.args.schedule.items (length c.loop-turn.yielded) c.in-Some.turn c.in-Some.what
-      c.args.self.now c.loop-turn.self (reverse c.loop-turn.entries.items) c.turn_into.new.self there.1 there.0 c.loop-turn.invariant err.1 in
+    c.args.self.now c.loop-turn.self (reverse c.loop-turn.entries.items) c.turn_into.new.self there.1 there.0 c.loop-turn.invariant err.1 in
     let (refused, is, gives) = err_from_is_err_and c.from_residual.result c.from_residual.ensures.1 in
     subst (λ r. IfErr r (λ e. (e ≡ Memory) × StopsEarly g.K.PartialEq.eq (hash_of g.K.Hash.hash_input g.S.BuildHasher.build_hasher g.S.Hasher.Hasher.write g.S.Hasher.Hasher.finish) c.args.schedule.items c.args.self.now c.turn_into.new.self)) (sym is) (gives ∙ err.0, stops)
 
