@@ -1,5 +1,6 @@
 -- The turns of a schedule keep a good history, and so a run has a timeline.
-use Rattle.std.proofs.Common.{◌≡◌, ◌⊎◌, inl, inr, ⊎_elim, ℕ, zero, suc, ◌<◌, ◌^◌, Bool, false, Option, None, Some, List, [], ◌∷◌, slice_get, refl, sym, ◌∙◌, ap, subst}
+use Rattle.std.proofs.Common.{◌≡◌, ◌⊎◌, inl, inr, ⊎_elim, ℕ, zero, suc, ◌<◌, ◌^◌, Bool, true, false, Option, None, Some, List, [], ◌∷◌, slice_get, refl, sym, ◌∙◌, ap, subst}
+use Rattle.std.specs.Cmp.{IsEquivalence}
 use Rattle.papaya_call.specs.declared.call.Call.{Call}
 use Rattle.papaya_call.specs.declared.call.Reply.{Reply}
 use Rattle.papaya_call.specs.declared.machine.Machine.{Machine}
@@ -17,16 +18,19 @@ use Rattle.papaya_core.specs.Callers.{with_call, with_seat}
 use Rattle.papaya_core.specs.Content.{map_of}
 use Rattle.papaya_core.specs.Core.{CoreState, IsCore}
 use Rattle.papaya_core.specs.Headline.{HasTimeline}
-use Rattle.papaya_core.specs.Kept.{IsKept, Tale}
+use Rattle.papaya_core.specs.Kept.{IsKept, IsLawfulCore, Tale}
 use Rattle.papaya_core.specs.Maps.{Map}
+use Rattle.papaya_core.specs.Moves.{MovesMap}
 use Rattle.papaya_core.specs.Runs.{with_step, StepRuns, BeginRuns, StepsRun, TurnRuns, TurnsRun}
-use Rattle.papaya_core.specs.Store.{StoreState, Stored}
+use Rattle.papaya_core.specs.Store.{StoreState, Stored, hash_of}
 use Rattle.papaya_core.specs.Timeline.{History}
 use Rattle.papaya_core.proofs.CallersLemmas.{same_item}
 use Rattle.papaya_core.proofs.CoreLemmas.{begun-core, performed-core, with_call-core}
 use Rattle.papaya_core.proofs.Good.{IsGood}
 use Rattle.papaya_core.proofs.GoodLemmas.{good_start, good_begin, good_step, good_end}
-use Rattle.papaya_core.proofs.KeptLemmas.{IsLawfulKeys}
+use Rattle.papaya_core.proofs.AdvanceLemmas.{advance_moves}
+use Rattle.papaya_core.proofs.KeptCore.{keys_lawful}
+use Rattle.papaya_core.proofs.KeptLemmas.{IsLawfulKeys, kept_step}
 use Rattle.papaya_core.proofs.StoreLemmas.{performed, unnumbered}
 use Rattle.papaya_core.proofs.TiedLemmas.{grown}
 
@@ -100,3 +104,23 @@ pub run_timeline : {K V S : Type 0} (eq : K → K → Bool) (hash : S → K → 
 run_timeline eq hash schedule turns s s' h law core es tales kept runs =
     good_end eq (hash s.store.hasher) law schedule s s' h
       (turns_run eq hash s.store.hasher law schedule (map_of eq s) turns s s' h runs (refl, good_start eq (hash s.store.hasher) law schedule s es tales core kept)).1
+
+-- The same of a core whose invariant holds, with keys that are hashed as its hasher does.
+module _ {K V S H : Type 0} (eq : K → K → Bool) (input : K → List (List ℕ)) (build : S → H) (write : H → List ℕ → H) (finish : H → ℕ) (classes : IsEquivalence eq) (respects : (x y : K) → eq x y ≡ true → input x ≡ input y) where
+  -- what always holds of a core
+  abbrev pub Always : CoreState K V S → Type 0
+  Always s = IsLawfulCore eq (hash_of input build write finish s.store.hasher) s.store s.callers s.mode
+
+  -- a run has a timeline
+  pub lawful_timeline : (schedule : List (Turn K V)) (turns : ℕ) (s s' : CoreState K V S) (h : History) → Always s → TurnsRun eq (hash_of input build write finish) schedule turns s s' h → HasTimeline eq schedule s h s'
+  lawful_timeline schedule turns s s' h always runs =
+      let (es, (tales, kept)) = always.law in
+      run_timeline eq (hash_of input build write finish) schedule turns s s' h (keys_lawful eq input build write finish classes respects s.store.hasher) always.core es tales kept runs
+
+  -- a step moves the map in the class of its call's key alone
+  pub lawful_moves : (refuse : Bool) (s s' : CoreState K V S) (caller : ℕ) (event : Event) (reply : Option Reply) → Always s → Advances eq refuse s caller s' event reply → MovesMap eq s caller s' event
+  lawful_moves refuse s s' caller event reply always x =
+      let (es, (tales, kept)) = always.law in
+      let hash : K → ℕ = hash_of input build write finish s.store.hasher in
+      let law : IsLawfulKeys eq hash = keys_lawful eq input build write finish classes respects s.store.hasher in
+      advance_moves eq hash law refuse s s' caller event reply x always.core (advance-core eq refuse s caller s' event reply x always.core) es tales kept (kept_step eq hash law refuse s caller s' event reply x es tales always.core kept)

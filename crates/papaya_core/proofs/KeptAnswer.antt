@@ -1,15 +1,13 @@
 -- An answered ask, as the law of exchanges sees it: the answer is true of the words, and the words are those that the exchanges leave.
-use Rattle.std.proofs.Common.{◌≡◌, ◌≢◌, ℕ, suc, ◌+◌, ◌==◌, ◌<◌, ◌≤◌, ◌%◌, ◌^◌, Bool, true, false, List, [], ◌∷◌, ◌++◌, length, slice_get, Option, Some, None, ◌⊎◌, inl, inr, refl, sym, ◌∙◌, ap, subst, arith, MatchBool, append-nil, append_assoc, eqb-true}
+use Rattle.std.proofs.Common.{◌≡◌, ℕ, ◌<◌, ◌≤◌, Bool, List, [], ◌++◌, length, Option, Some, None, ◌⊎◌, inl, inr, refl, sym, ◌∙◌, ap, subst, arith, append-nil}
 use Rattle.papaya_words.specs.Counter.{Count}
-use Rattle.papaya_words.specs.Table.{TableWords, new_table}
-use Rattle.papaya_words.specs.declared.probe.Refused.{Refused}
+use Rattle.papaya_words.specs.Table.{TableWords}
 use Rattle.papaya_words.specs.declared.probe.ResizeMode.{ResizeMode}
 use Rattle.papaya_call.specs.declared.ask.At.{At}
 use Rattle.papaya_call.specs.declared.ask.At.TheVariants.{Root, Next, Aborted, Done, Slot}
 use Rattle.papaya_call.specs.declared.ask.Ask.{Ask}
-use Rattle.papaya_call.specs.declared.ask.Ask.TheVariants.{Load, Exchange as Ask_exchange, SameKey, SizeOf, MakeKey, MakePair, MakeTable, AddToShard, Done as Ask_done}
 use Rattle.papaya_call.specs.declared.ask.Answer.{Answer}
-use Rattle.papaya_call.specs.declared.ask.Answer.TheVariants.{Word as Word_read, Exchanged, Found as Found_instead, Yes, Size, Made as Made_number, Ok as Ok_done, Refused as Was_refused}
+use Rattle.papaya_call.specs.declared.ask.Answer.TheVariants.{Made as Made_number}
 use Rattle.papaya_call.specs.declared.machine.State.TheVariants.{Making}
 use Rattle.papaya_call.specs.Law.Code.{Coding}
 use Rattle.papaya_call.specs.Law.Exchange.{Setting, State, Exchange, run, start}
@@ -21,7 +19,7 @@ use Rattle.papaya_call.specs.Told.{Hands, IsTold, IsHashed, told_of, or_last, wo
 use Rattle.papaya_call.proofs.RestsReply.{machine_changes}
 use Rattle.papaya_core.specs.declared.pairs.KeyOf.{KeyOf}
 use Rattle.papaya_core.specs.declared.pairs.Running.{Running}
-use Rattle.papaya_core.specs.Kept.{Tale, IsCall, setting_of, coding_of, low}
+use Rattle.papaya_core.specs.Kept.{Tale, setting_of, coding_of, low}
 use Rattle.papaya_core.specs.Performs.{key_at, own_key}
 use Rattle.papaya_core.specs.Store.{StoreState, Stored, pair_of}
 use Rattle.papaya_core.specs.Tables.{table_of, word_at}
@@ -70,7 +68,7 @@ module _ {K V S : Type 0} (eq : K → K → Bool) (hash : K → ℕ) (mode : Res
     pub changed : (ask : Ask) → ask_of r.machine ≡ ask → (a : Answer) (made : List (Exchange (Stored K V))) (hands : Hands (Stored K V)) → IsTold law_setting law_coding key words_now (kind_of_ask r.machine) tale.hands ask a made hands → change_in (after r.machine a).state ≡ change_after (kind_of_ask r.machine) ask a (change_in r.machine.state)
     changed ask e a made hands told =
         machine_changes law_setting law_coding hashed key words_now r.machine same_hash tale.hands made hands a
-          (subst (λ y. IsTold law_setting law_coding key words_now (kind_of_ask r.machine) tale.hands y a made hands) (sym e) told)
+        (subst (λ y. IsTold law_setting law_coding key words_now (kind_of_ask r.machine) tale.hands y a made hands) (sym e) told)
         ∙ ap (λ y. change_after (kind_of_ask r.machine) y a (change_in r.machine.state)) e
 
     -- the words after no exchange
@@ -92,23 +90,23 @@ module _ {K V S : Type 0} (eq : K → K → Bool) (hash : K → ℕ) (mode : Res
         → ((t : ℕ) → a ≡ Made_number t → r.machine.state ≡ Making → (words : TableWords) × (table_of store'.words.tables t ≡ Some words))
         → IsAnswered key ask a store' later
     unexchanged ask e a store' later hands told still keys own logged longer grown words last new opens = record {
-        made = [];
-        hands = hands;
-        told = told;
-        keys = keys;
-        own = own;
-        logged = logged;
-        longer = longer;
-        grown = grown;
-        coded = λ at. ap (λ z. word_of law_setting law_coding z at) none_made ∙ coded at ∙ sym (words at);
-        single = λ t. ap (λ z. z.next t) none_made ∙ single t;
-        there = λ t some comes. there t some (subst (λ z. Comes z t) none_made comes);
-        slots = λ t x p h. inl (ap (λ z. named (z.slot t x)) (sym none_made) ∙ h);
-        unchanged = λ none. (sym still ∙ sym (changed ask e a [] hands told) ∙ none, λ t x p h. ap (λ z. named (z.slot t x)) (sym none_made) ∙ h);
-        last = last;
-        new = new;
-        opens = opens;
-      }
+      made = [];
+      hands = hands;
+      told = told;
+      keys = keys;
+      own = own;
+      logged = logged;
+      longer = longer;
+      grown = grown;
+      coded = λ at. ap (λ z. word_of law_setting law_coding z at) none_made ∙ coded at ∙ sym (words at);
+      single = λ t. ap (λ z. z.next t) none_made ∙ single t;
+      there = λ t some comes. there t some (subst (λ z. Comes z t) none_made comes);
+      slots = λ t x p h. inl (ap (λ z. named (z.slot t x)) (sym none_made) ∙ h);
+      unchanged = λ none. (sym still ∙ sym (changed ask e a [] hands told) ∙ none, λ t x p h. ap (λ z. named (z.slot t x)) (sym none_made) ∙ h);
+      last = last;
+      new = new;
+      opens = opens;
+    }
 
     -- an answer that leaves words, logs and call, but for the count
     pub quiet : own_key store r ≡ Some key → (ask : Ask) → ask_of r.machine ≡ ask → (a : Answer) (store' : StoreState K V S) (later : Running K V) (hands : Hands (Stored K V)) (count : Count) → store' ≡ record store { count = count } → later ≡ r
@@ -120,13 +118,14 @@ module _ {K V S : Type 0} (eq : K → K → Bool) (hash : K → ℕ) (mode : Res
         → IsAnswered key ask a store' later
     quiet own ask e a store' later hands count same_store same_call told still last made never =
         subst (λ y. IsAnswered key ask a y later) (sym same_store) (subst (IsAnswered key ask a (record store { count = count })) (sym same_call)
-          (unexchanged ask e a (record store { count = count }) r hands told still (λ at k h. h) own (λ n p h. h) (omega arith) (grown-same store.words.tables) (λ at. refl) last (λ q h. inl (sym made ∙ h)) (λ t is making. absurd (never t is making))))
+        (unexchanged ask e a (record store { count = count }) r hands told still (λ at k h. h) own (λ n p h. h) (omega arith) (grown-same store.words.tables) (λ at. refl) last (λ q h. inl (sym made ∙ h)) (λ t is making. absurd (never t is making))))
 
     -- the pair that the word at a place names
     named_last : (last : Option (Stored K V)) (t x : ℕ) (p : Stored K V) (o : Option (Stored K V)) → named (words_now.slot t x) ≡ o → or_last o last ≡ Some p → (last ≡ Some p) ⊎ ((t : ℕ) × (x : ℕ) × (named (words_now.slot t x) ≡ Some p))
     named_last last t x p None e h = inl h
     named_last last t x p (Some q) e h = inr (t, x, e ∙ h)
 
+    -- the pair that a machine was told of stood in the slot that was loaded, or it was told of before
     pub told_last : (at : At) (p : Stored K V) → (told_of words_now at tale.hands).last ≡ Some p → (tale.hands.last ≡ Some p) ⊎ ((t : ℕ) × (x : ℕ) × (named (words_now.slot t x) ≡ Some p))
     told_last Root p h = inl h
     told_last (Next t) p h = inl h
@@ -134,6 +133,7 @@ module _ {K V S : Type 0} (eq : K → K → Bool) (hash : K → ℕ) (mode : Res
     told_last (Done t) p h = inl h
     told_last (Slot t x) p h = named_last tale.hands.last t x p (named (words_now.slot t x)) refl h
 
+    -- what stands at a place says nothing of the pair that the call made
     pub told_made : (at : At) → (told_of words_now at tale.hands).made ≡ tale.hands.made
     told_made Root = refl
     told_made (Next t) = refl

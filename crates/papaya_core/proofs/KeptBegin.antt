@@ -1,19 +1,17 @@
 -- A begin keeps a core's words to the law of exchanges, as a new core does.
-use Rattle.std.proofs.Common.{◌≡◌, ◌≢◌, ℕ, zero, suc, ◌+◌, ◌-◌, ◌==◌, ◌<◌, ◌%◌, ◌^◌, Bool, true, false, cond, max, List, [], ◌∷◌, ◌++◌, Option, Some, None, ◌⊎◌, inl, inr, refl, sym, ◌∙◌, ap, subst, arith, append-nil, eq-eqb, mod-eq_of_lt, slice_get, slice_index}
+use Rattle.std.proofs.Common.{◌≡◌, ◌≢◌, ℕ, zero, suc, ◌-◌, ◌==◌, ◌<◌, ◌^◌, Bool, true, false, cond, max, List, [], ◌∷◌, Some, None, inl, inr, refl, sym, ◌∙◌, ap, subst, arith, append-nil, eq-eqb, mod-eq_of_lt, slice_get, slice_index}
 use Rattle.papaya_words.specs.Table.{TableWords, new_table}
 use Rattle.papaya_words.specs.declared.probe.ResizeMode.{ResizeMode}
 use Rattle.papaya_words.specs.declared.probe.ResizeMode.TheVariants.{Incremental, Blocking}
 use Rattle.papaya_call.specs.declared.ask.At.{At}
 use Rattle.papaya_call.specs.declared.ask.At.TheVariants.{Root, Next, Aborted, Done, Slot}
 use Rattle.papaya_call.specs.declared.call.Call.{Call}
-use Rattle.papaya_call.specs.Law.Code.{Coding}
-use Rattle.papaya_call.specs.Law.Exchange.{Setting, State, Exchange, Open, run, start}
-use Rattle.papaya_call.specs.Law.Grows.{Comes}
-use Rattle.papaya_call.specs.Rests.{IsModeOf, Rests}
+use Rattle.papaya_call.specs.Law.Exchange.{Exchange, Open, run, start}
+use Rattle.papaya_call.specs.Rests.{IsModeOf}
 use Rattle.papaya_call.specs.Told.{no_hands, word_of}
 use Rattle.papaya_core.specs.declared.pairs.Running.{Running}
 use Rattle.papaya_core.specs.declared.callers.Seat.{Seat}
-use Rattle.papaya_core.specs.Begins.{Begins, begun, key_of_call, task_of_call}
+use Rattle.papaya_core.specs.Begins.{begun, key_of_call}
 use Rattle.papaya_core.specs.Callers.{running, with_call, with_seat}
 use Rattle.papaya_core.specs.Core.{CoreState}
 use Rattle.papaya_core.specs.Kept.{IsKept, IsCall, Tale, is_blocking, setting_of, coding_of, low, begun_tales}
@@ -43,50 +41,62 @@ module _ {K V S : Type 0} (eq : K → K → Bool) (hash : K → ℕ) where
     abbrev r : Running K V
     r = begun hash s.mode s.initial call
 
+    -- what is told of it: nothing was exchanged since
     abbrev new_tale : Tale K V
     new_tale = record { begun = es; since = []; hands = no_hands }
 
+    -- the callers then
     abbrev callers' : List (Seat K V)
     callers' = with_call (with_seat s.callers caller) caller (Some r)
 
+    -- the tales then
     abbrev tales' : ℕ → Tale K V
     tales' = begun_tales tales caller es
 
+    -- the call rests on the exchanges as they are
     new_call : IsCall eq hash s.mode s.store r es new_tale
     new_call = record {
-        key = key_of_call call;
-        own = refl;
-        split = append-nil es;
-        rests = record { hash = sym (mod-eq_of_lt fits); mode = mode_of s.mode; made = refl; stage = tt };
-        last = λ p l. absurd cc;
-        made = λ p l. absurd cc;
-        opens = λ t l. absurd cc;
-        unwritten = λ p l. absurd cc;
-      }
+      key = key_of_call call;
+      own = refl;
+      split = append-nil es;
+      rests = record { hash = sym (mod-eq_of_lt fits); mode = mode_of s.mode; made = refl; stage = tt };
+      last = λ p l. absurd cc;
+      made = λ p l. absurd cc;
+      opens = λ t l. absurd cc;
+      unwritten = λ p l. absurd cc;
+    }
 
+    -- its tale is the new one
     new_is : (d : ℕ) → d ≡ caller → new_tale ≡ tales' d
     new_is d same = sym (ap (λ b. cond b new_tale (tales d)) (eq-eqb d caller same))
 
+    -- the other callers' tales stay
     other_is : (d : ℕ) → d ≢ caller → tales d ≡ tales' d
     other_is d differ = sym (ap (λ b. cond b new_tale (tales d)) (differs d caller differ))
 
+    -- and so do their calls
     other_runs : (d : ℕ) (q : Running K V) → d ≢ caller → running callers' d ≡ Some q → running s.callers d ≡ Some q
     other_runs d q differ runs = sym (running-with_seat s.callers caller d) ∙ sym (running-other (with_seat s.callers caller) caller d (Some r) differ) ∙ runs
 
+    -- each call rests on what is told of it
     calls : (d : ℕ) (q : Running K V) → running callers' d ≡ Some q → IsCall eq hash s.mode s.store q es (tales' d)
     calls d q runs = elim (cases_same d caller) [
-        inl same ↦
+      | inl same ↦
           let f : Some r ≡ Some q = running-same (with_seat s.callers caller) caller (Some r) q (ap (running callers') (sym same) ∙ runs) in
           let is : r ≡ q = cc in
           subst (IsCall eq hash s.mode s.store q es) (new_is d same) (subst (λ y. IsCall eq hash s.mode s.store y es new_tale) is new_call)
-      | inr differ ↦ subst (IsCall eq hash s.mode s.store q es) (other_is d differ) (kept.calls d q (other_runs d q differ runs)) ]
+      | inr differ ↦ subst (IsCall eq hash s.mode s.store q es) (other_is d differ) (kept.calls d q (other_runs d q differ runs))
+    ]
 
+    -- no two calls have made one pair
     apart : (d e : ℕ) (q q' : Running K V) → running callers' d ≡ Some q → running callers' e ≡ Some q' → d ≢ e → (p p' : Stored K V) → (tales' d).hands.made ≡ Some p → (tales' e).hands.made ≡ Some p' → p.number ≢ p'.number
     apart d e q q' runs_d runs_e differ p p' made_d made_e = elim (cases_same d caller) [
-        inl begins ↦ let f : None ≡ Some p = ap (λ (y : Tale K V). y.hands.made) (new_is d begins) ∙ made_d in absurd cc
+      | inl begins ↦ let f : None ≡ Some p = ap (λ (y : Tale K V). y.hands.made) (new_is d begins) ∙ made_d in absurd cc
       | inr d_not ↦ elim (cases_same e caller) [
-            inl begins ↦ let f : None ≡ Some p' = ap (λ (y : Tale K V). y.hands.made) (new_is e begins) ∙ made_e in absurd cc
-          | inr e_not ↦ kept.apart d e q q' (other_runs d q d_not runs_d) (other_runs e q' e_not runs_e) differ p p' (ap (λ (y : Tale K V). y.hands.made) (other_is d d_not) ∙ made_d) (ap (λ (y : Tale K V). y.hands.made) (other_is e e_not) ∙ made_e) ] ]
+        | inl begins ↦ let f : None ≡ Some p' = ap (λ (y : Tale K V). y.hands.made) (new_is e begins) ∙ made_e in absurd cc
+        | inr e_not ↦ kept.apart d e q q' (other_runs d q d_not runs_d) (other_runs e q' e_not runs_e) differ p p' (ap (λ (y : Tale K V). y.hands.made) (other_is d d_not) ∙ made_d) (ap (λ (y : Tale K V). y.hands.made) (other_is e e_not) ∙ made_e)
+      ]
+    ]
 
     -- the core after the begin
     pub begin_kept : IsKept eq hash s.mode s.store callers' es tales'
@@ -97,16 +107,17 @@ module _ {K V S : Type 0} (eq : K → K → Bool) (hash : K → ℕ) where
     abbrev IsFresh : Tables → List (Exchange (Stored K V)) → Type 0
     IsFresh words es = IsKept eq hash mode (record store { words = words }) [] es tales
 
+    -- without a table nothing was exchanged
     empty_kept : IsFresh (record { root = 0; tables = [] }) []
     empty_kept = record {
-        allowed = tt;
-        coded = coded;
-        single = λ t. refl;
-        made = λ t some comes. absurd (elim comes [ inl first ↦ (let f : 0 ≡ t = first in omega arith) | inr (u, next) ↦ (let f : 0 ≡ t = next in omega arith) ]);
-        logged = λ t x p l. absurd cc;
-        calls = λ d q l. absurd cc;
-        apart = λ d e q q' l. absurd cc;
-      }
+      allowed = tt;
+      coded = coded;
+      single = λ t. refl;
+      made = λ t some comes. absurd (elim comes [ inl first ↦ (let f : 0 ≡ t = first in omega arith) | inr (u, next) ↦ (let f : 0 ≡ t = next in omega arith) ]);
+      logged = λ t x p l. absurd cc;
+      calls = λ d q l. absurd cc;
+      apart = λ d e q q' l. absurd cc;
+    }
       where
         coded : (at : At) → word_of (setting_of {V = V} eq (low hash) mode []) (coding_of (low hash)) start at ≡ word_at (record { root = 0; tables = [] }) at
         coded Root = refl
@@ -115,19 +126,22 @@ module _ {K V S : Type 0} (eq : K → K → Bool) (hash : K → ℕ) where
         coded (Done n) = no_words (Done n)
         coded (Slot n i) = no_words (Slot n i)
 
+    -- with its first table that one was opened
     opened_kept : (len limit : ℕ) → IsFresh (record { root = 1; tables = new_table 1 len limit ∷ [] }) (Open 1 ∷ [])
     opened_kept len limit = record {
-        allowed = ((refl, omega arith), tt);
-        coded = coded;
-        single = λ t. refl;
-        made = λ t some comes. elim comes [
-            inl first ↦ (new_table 1 len limit, subst (λ y. table_of (new_table 1 len limit ∷ []) y ≡ Some (new_table 1 len limit)) first refl)
-          | inr (u, next) ↦ absurd (let f : 0 ≡ t = next in omega arith) ];
-        logged = λ t x p l. absurd cc;
-        calls = λ d q l. absurd cc;
-        apart = λ d e q q' l. absurd cc;
-      }
+      allowed = ((refl, omega arith), tt);
+      coded = coded;
+      single = λ t. refl;
+      made = λ t some comes. elim comes [
+        | inl first ↦ (new_table 1 len limit, subst (λ y. table_of (new_table 1 len limit ∷ []) y ≡ Some (new_table 1 len limit)) first refl)
+        | inr (u, next) ↦ absurd (let f : 0 ≡ t = next in omega arith)
+      ];
+      logged = λ t x p l. absurd cc;
+      calls = λ d q l. absurd cc;
+      apart = λ d e q q' l. absurd cc;
+    }
       where
+        -- but for the root each word is 0
         none : (at : At) → (at ≡ Root → ⊥) → 0 ≡ word_at (record { root = 1; tables = new_table 1 len limit ∷ [] }) at
         none Root other = absurd (other refl)
         none (Next n) other = no_words (Next n) ∙ sym (word-made (record { root = 0; tables = [] }) 1 len limit (Next n))

@@ -1,5 +1,5 @@
 -- A core keeps to the law when it is made, and by each begin and each step.
-use Rattle.std.proofs.Common.{◌≡◌, ℕ, ◌+◌, ◌==◌, ◌<◌, ◌^◌, Bool, true, List, [], ◌∷◌, ◌++◌, Option, Some, None, ◌⊎◌, inl, inr, refl, sym, ◌∙◌, ap, subst, fold}
+use Rattle.std.proofs.Common.{◌≡◌, ℕ, ◌==◌, ◌<◌, ◌^◌, Bool, true, List, [], ◌++◌, Option, Some, inl, inr, refl, sym, ap, subst, fold}
 use Rattle.std.specs.Cmp.{IsEquivalence}
 use Rattle.papaya_words.specs.declared.probe.ResizeMode.{ResizeMode}
 use Rattle.papaya_call.specs.declared.ask.Ask.{Ask}
@@ -19,10 +19,10 @@ use Rattle.papaya_core.specs.Callers.{running, with_call}
 use Rattle.papaya_core.specs.Core.{CoreState, IsCore}
 use Rattle.papaya_core.specs.Kept.{IsKept, IsLawfulCore, Tale}
 use Rattle.papaya_core.specs.New.{HasCapacity}
-use Rattle.papaya_core.specs.Performs.{Performs, Refuses, Stays, HasKey, HasNoPair, LogsKey, LogsPair, MakesTable}
+use Rattle.papaya_core.specs.Performs.{Performs, Stays}
 use Rattle.papaya_core.specs.Store.{StoreState, hash_of}
 use Rattle.papaya_core.specs.Tables.{put, word_at}
-use Rattle.papaya_core.proofs.KeptLemmas.{IsLawfulKeys, IsStep, kept_begin, kept_new, kept_step}
+use Rattle.papaya_core.proofs.KeptLemmas.{IsLawfulKeys, kept_begin, kept_new, kept_step}
 use Rattle.papaya_core.proofs.StoreLemmas.{matched}
 
 module _ {K V S : Type 0} (eq : K → K → Bool) where
@@ -30,6 +30,7 @@ module _ {K V S : Type 0} (eq : K → K → Bool) where
   stays-hasher : (s : StoreState K V S) (r : Running K V) (s' : StoreState K V S) (r' : Running K V) → Stays s r s' r' → s'.hasher ≡ s.hasher
   stays-hasher s r s' r' stays = ap (λ (y : StoreState K V S). y.hasher) stays.0
 
+  -- an answered ask keeps it
   pub performs-hasher : (refuse : Bool) (ask : Ask) (s : StoreState K V S) (r : Running K V) (a : Answer) (s' : StoreState K V S) (r' : Running K V) → Performs eq refuse ask s r a s' r' → s'.hasher ≡ s.hasher
   performs-hasher refuse (Load at) s r a s' r' (e, stays) = stays-hasher s r s' r' stays
   performs-hasher refuse (Ask_exchange at old new) s r a s' r' (h, moved) =
@@ -86,5 +87,5 @@ module _ {K V S H : Type 0} (eq : K → K → Bool) (input : K → List (List �
       → callers' ≡ with_call s.callers caller (goes_on (reply_in (ask_of (after before.machine a))) (record later { machine = after before.machine a })) → IsCore store' callers' s.mode → Lawful s → IsLawfulCore eq (hash_of input build write finish store'.hasher) store' callers' s.mode
   stepped_lawful refuse s caller store' callers' before a later was performs machine callers core lawful =
       step_lawful refuse s caller (record { store = store'; callers = callers'; mode = s.mode; initial = s.initial }) (event_of (kind_of_ask before.machine) (ask_of before.machine) a) (reply_in (ask_of (after before.machine a)))
-        (record { before = before; was = was; answer = a; later = later; performs = performs; machine = machine; event_is = refl; reply_is = refl; callers = callers; mode = refl; initial = refl })
-        core lawful
+      (record { before = before; was = was; answer = a; later = later; performs = performs; machine = machine; event_is = refl; reply_is = refl; callers = callers; mode = refl; initial = refl })
+      core lawful

@@ -1,10 +1,10 @@
 -- What an exchange that a machine asked for changes.
-use Rattle.std.proofs.Common.{◌≡◌, ℕ, ◌==◌, ◌&&◌, Bool, true, false, cond, Option, None, Some, List, ◌⊎◌, inl, inr, refl, sym, ◌∙◌, ap, subst, eqb-true}
+use Rattle.std.proofs.Common.{◌≡◌, ℕ, ◌==◌, ◌&&◌, Bool, true, false, cond, Option, None, Some, ◌⊎◌, inl, inr, refl, sym, ◌∙◌, ap, subst, eqb-true}
 use Rattle.papaya_call.specs.declared.ask.At.{At}
 use Rattle.papaya_call.specs.declared.ask.At.TheVariants.{Root, Slot}
 use Rattle.papaya_call.specs.declared.ask.StepKind.{StepKind}
 use Rattle.papaya_call.specs.declared.ask.StepKind.TheVariants as kinds
-use Rattle.papaya_call.specs.Law.Exchange.{Word, Live, Buried, State, Exchange, Open, Claim, Replace, Bury, after}
+use Rattle.papaya_call.specs.Law.Exchange.{Word, Live, Buried, State, Exchange, Open, after}
 use Rattle.papaya_call.specs.Law.Grows.{Comes}
 use Rattle.papaya_call.specs.Law.Invariant.{named}
 use Rattle.papaya_call.specs.Rests.{change_of_kind}
@@ -36,9 +36,11 @@ module _ {P : Type 0} (s : State P) (hands : Hands P) (new : ℕ) where
       ap (λ z. named (s.slot z y)) (eqb-true u t same.0) ∙ ap (λ z. named (s.slot t z)) (eqb-true y x same.1) ∙ ap named live ∙ e
   put_buried t x q live u y p false is e = e
 
+  -- an opened table
   opened : IsChanged (Some kinds.Open) Root (Open new)
   opened = record { place = inl refl; next = λ t. refl; comes = comes; slots = λ t x p e. inl e; unchanged = λ old word none t x p e. e }
     where
+      -- a table that has come is the opened one, or it had come before
       comes : (t : ℕ) → Comes (after s (Open new)) t → Comes s t ⊎ ((Root ≡ Root) × (new ≡ t))
       comes t (inl first) = inr (refl, first)
       comes t (inr linked) = inl (inr linked)
@@ -47,24 +49,24 @@ module _ {P : Type 0} (s : State P) (hands : Hands P) (new : ℕ) where
   pub changes : (kind : Option StepKind) (at : At) (e : Exchange P) → IsAsked kind at new s hands e → IsChanged kind at e
   changes (Some kinds.Open) Root e is = subst (IsChanged (Some kinds.Open) Root) (sym is) opened
   changes (Some kinds.Claim) (Slot t x) e (q, made, is) = subst (IsChanged (Some kinds.Claim) (Slot t x)) (sym is) (record {
-      place = inr (t, x, refl);
-      next = λ u. refl;
-      comes = λ u h. inl h;
-      slots = λ u y p h. put_made q made (s.slot u y) p ((u == t) && (y == x)) h;
-      unchanged = λ old word none. absurd cc;
-    })
+    place = inr (t, x, refl);
+    next = λ u. refl;
+    comes = λ u h. inl h;
+    slots = λ u y p h. put_made q made (s.slot u y) p ((u == t) && (y == x)) h;
+    unchanged = λ old word none. absurd cc;
+  })
   changes (Some kinds.Replace) (Slot t x) e (p, q, live, made, is) = subst (IsChanged (Some kinds.Replace) (Slot t x)) (sym is) (record {
-      place = inr (t, x, refl);
-      next = λ u. refl;
-      comes = λ u h. inl h;
-      slots = λ u y p' h. put_made q made (s.slot u y) p' ((u == t) && (y == x)) h;
-      unchanged = λ old word none. absurd cc;
-    })
+    place = inr (t, x, refl);
+    next = λ u. refl;
+    comes = λ u h. inl h;
+    slots = λ u y p' h. put_made q made (s.slot u y) p' ((u == t) && (y == x)) h;
+    unchanged = λ old word none. absurd cc;
+  })
   changes (Some kinds.Bury) (Slot t x) e (q, live, is) = subst (IsChanged (Some kinds.Bury) (Slot t x)) (sym is) (record {
-      place = inr (t, x, refl);
-      next = λ u. refl;
-      comes = λ u h. inl h;
-      slots = λ u y p h. inl (put_buried t x q live u y p ((u == t) && (y == x)) refl h);
-      unchanged = λ old word none. absurd cc;
-    })
+    place = inr (t, x, refl);
+    next = λ u. refl;
+    comes = λ u h. inl h;
+    slots = λ u y p h. inl (put_buried t x q live u y p ((u == t) && (y == x)) refl h);
+    unchanged = λ old word none. absurd cc;
+  })
   changes _ _ e h = absurd h

@@ -1,11 +1,8 @@
 -- A core's words keep to the law of exchanges: the statements that the timeline rests on.
-use Rattle.std.proofs.Common.{◌≡◌, ◌≢◌, ℕ, ◌<◌, ◌%◌, ◌^◌, Bool, true, false, Option, None, Some, List, [], ◌∷◌, ◌++◌, length, slice_get, ◌≤◌, ◌⊎◌, inl, inr, refl, sym, ◌∙◌, ap, subst}
-use Rattle.std.specs.Cmp.{IsEquivalence}
-use Rattle.papaya_words.specs.Table.{TableWords}
+use Rattle.std.proofs.Common.{◌≡◌, ℕ, ◌<◌, ◌^◌, Bool, Option, None, Some, List, [], ◌++◌, length, ◌≤◌, ◌⊎◌, inl, inr, refl, sym, subst}
 use Rattle.papaya_words.specs.declared.probe.ResizeMode.{ResizeMode}
-use Rattle.papaya_call.specs.declared.ask.Answer.{Answer}
 use Rattle.papaya_call.specs.declared.call.Call.{Call}
-use Rattle.papaya_call.specs.Law.Exchange.{Setting, State, Exchange, run, start}
+use Rattle.papaya_call.specs.Law.Exchange.{Exchange, run, start}
 use Rattle.papaya_call.specs.Law.Meaning.{map_left}
 use Rattle.papaya_call.specs.Machine.{ask_of, kind_of_ask, after}
 use Rattle.papaya_call.specs.Told.{Hands, IsTold, IsHashed}
@@ -13,11 +10,10 @@ use Rattle.papaya_core.specs.declared.pairs.Running.{Running}
 use Rattle.papaya_core.specs.declared.callers.Seat.{Seat}
 use Rattle.papaya_core.specs.Advances.{Advances, goes_on}
 use Rattle.papaya_core.specs.Begins.{Begins, key_of_call}
-use Rattle.papaya_core.specs.Core.{CoreState, IsCore, call_of}
+use Rattle.papaya_core.specs.Core.{CoreState, IsCore}
 use Rattle.papaya_core.specs.Content.{map_of}
 use Rattle.papaya_core.specs.Kept.{IsKept, IsCall, Tale, setting_of, coding_of, low, told_tales, begun_tales}
 use Rattle.papaya_core.specs.Store.{StoreState, Stored, pair_of}
-use Rattle.papaya_core.specs.Performs.{Performs}
 use Rattle.papaya_core.specs.declared.trace.Event.{Event}
 use Rattle.papaya_call.specs.declared.call.Reply.{Reply}
 use Rattle.papaya_core.proofs.KeptSettings.{tables_hashed}
@@ -55,6 +51,7 @@ module _ {K V S : Type 0} (eq : K → K → Bool) (hash : K → ℕ) (law : IsLa
     -- a pair that was made in this step has the number after all others, and the value that was handed in
     pub new : (q : Stored K V) → hands.made ≡ Some q → ((tales caller).hands.made ≡ Some q) ⊎ ((q.number ≡ length s.store.pairs) × (a.before.value ≡ Some q.value))
 
+  -- a step keeps a core to the law
   pub kept_step : (refuse : Bool) (s : CoreState K V S) (caller : ℕ) (s' : CoreState K V S) (event : Event) (reply : Option Reply) (a : Advances eq refuse s caller s' event reply) (es : List (Exchange (Stored K V))) (tales : ℕ → Tale K V) → IsCore s.store s.callers s.mode → IsKept eq hash s.mode s.store s.callers es tales → IsStep refuse s caller s' event reply a es tales
   kept_step refuse s caller s' event reply a es tales core kept =
       let r' : Running K V = record a.later { machine = after a.before.machine a.answer } in
@@ -80,8 +77,8 @@ module _ {K V S : Type 0} (eq : K → K → Bool) (hash : K → ℕ) (law : IsLa
   kept_begin s caller call s' begins fits es tales kept =
       let tales' : ℕ → Tale K V = begun_tales tales caller es in
       subst (λ y. IsKept eq hash y s'.store s'.callers es tales') (sym begins.mode)
-        (subst (λ (y : StoreState K V S). IsKept eq hash s.mode y s'.callers es tales') (sym begins.store)
-          (subst (λ (y : List (Seat K V)). IsKept eq hash s.mode s.store y es tales') (sym begins.callers) (begin_kept eq hash s caller call fits es tales kept)))
+      (subst (λ (y : StoreState K V S). IsKept eq hash s.mode y s'.callers es tales') (sym begins.store)
+      (subst (λ (y : List (Seat K V)). IsKept eq hash s.mode s.store y es tales') (sym begins.callers) (begin_kept eq hash s caller call fits es tales kept)))
 
   -- a core as it is made has made no exchange, or has opened its first table
   pub kept_new : (mode : ResizeMode) (capacity initial : ℕ) (store : StoreState K V S) (callers : List (Seat K V)) → HasCapacity capacity initial store.words → callers ≡ [] → (tales : ℕ → Tale K V) → (es : List (Exchange (Stored K V))) × IsKept eq hash mode store callers es tales

@@ -1,5 +1,5 @@
 -- Keys and pairs that were logged stay in longer logs.
-use Rattle.std.proofs.Common.{◌≡◌, ℕ, ◌<◌, List, [], ◌∷◌, ◌++◌, length, slice_get, Option, Some, None, refl, sym, ◌∙◌, ap}
+use Rattle.std.proofs.Common.{◌≡◌, ℕ, ◌<◌, List, ◌++◌, length, slice_get, Option, Some, None, refl, ◌∙◌, ap}
 use Rattle.std.proofs.lemmas.Option.{slice_get_within}
 use Rattle.papaya_core.specs.declared.pairs.Pair.{Pair}
 use Rattle.papaya_core.specs.declared.pairs.KeyOf.{KeyOf}
@@ -18,14 +18,17 @@ stored_key : {K V : Type 0} (n : ℕ) (v : V) (keys more : List K) (i : ℕ) (p 
 stored_key n v keys more i p None e h = let f : None ≡ Some p = h in cc
 stored_key n v keys more i p (Some k) e h = ap (stored_at n v) (get-append keys more i k e) ∙ h
 
+-- a pair, where there are more keys
 stored-more_keys : {K V : Type 0} (keys more : List K) (n : ℕ) (o : Option (Pair V)) (p : Stored K V) → stored_in keys n o ≡ Some p → stored_in (keys ++ more) n o ≡ Some p
 stored-more_keys keys more n None p h = let f : None ≡ Some p = h in cc
 stored-more_keys keys more n (Some q) p h = stored_key n q.value keys more q.key p (slice_get keys q.key) refl h
 
+-- a pair, where there are more pairs
 stored-more_pairs : {K V : Type 0} (keys : List K) (pairs more : List (Pair V)) (n : ℕ) (o : Option (Pair V)) (p : Stored K V) → slice_get pairs n ≡ o → stored_in keys n o ≡ Some p → stored_in keys n (slice_get (pairs ++ more) n) ≡ Some p
 stored-more_pairs keys pairs more n None p e h = let f : None ≡ Some p = h in cc
 stored-more_pairs keys pairs more n (Some q) p e h = ap (stored_in keys n) (get-append pairs more n q e) ∙ h
 
+-- a pair that is stored is in the log
 stored_there : {K V : Type 0} (keys : List K) (pairs : List (Pair V)) (n : ℕ) (o : Option (Pair V)) (p : Stored K V) → slice_get pairs n ≡ o → stored_in keys n o ≡ Some p → n < length pairs
 stored_there keys pairs n None p e h = let f : None ≡ Some p = h in cc
 stored_there keys pairs n (Some q) p e h = slice_get_within pairs n q e

@@ -1,35 +1,31 @@
 -- A key, a pair or a table that was to be made.
-use Rattle.std.proofs.Common.{◌≡◌, ◌≢◌, ℕ, suc, ◌+◌, ◌==◌, ◌<◌, ◌≤◌, ◌%◌, ◌^◌, Bool, true, false, List, [], ◌∷◌, ◌++◌, length, slice_get, Option, Some, None, ◌⊎◌, inl, inr, refl, sym, ◌∙◌, ap, subst, arith, MatchBool, length-append}
+use Rattle.std.proofs.Common.{◌≡◌, ℕ, ◌+◌, ◌<◌, Bool, List, [], ◌∷◌, ◌++◌, length, slice_get, Some, None, ◌⊎◌, inl, inr, refl, sym, ◌∙◌, ap, subst, arith, length-append}
 use Rattle.papaya_words.specs.Table.{TableWords, new_table}
 use Rattle.papaya_words.specs.declared.limits.TheConstants.{MAX_TABLES, MAX_LOG_LEN}
 use Rattle.papaya_words.specs.declared.probe.Refused.{Refused}
 use Rattle.papaya_words.specs.declared.probe.Refused.TheVariants.{Memory, Capacity}
 use Rattle.papaya_words.specs.declared.probe.ResizeMode.{ResizeMode}
 use Rattle.papaya_call.specs.declared.ask.At.{At}
-use Rattle.papaya_call.specs.declared.ask.At.TheVariants.{Root, Next, Aborted, Done, Slot}
 use Rattle.papaya_call.specs.declared.ask.Ask.{Ask}
-use Rattle.papaya_call.specs.declared.ask.Ask.TheVariants.{Load, Exchange as Ask_exchange, SameKey, SizeOf, MakeKey, MakePair, MakeTable, AddToShard, Done as Ask_done}
+use Rattle.papaya_call.specs.declared.ask.Ask.TheVariants.{MakeKey, MakePair, MakeTable}
 use Rattle.papaya_call.specs.declared.ask.Answer.{Answer}
-use Rattle.papaya_call.specs.declared.ask.Answer.TheVariants.{Word as Word_read, Exchanged, Found as Found_instead, Yes, Size, Made as Made_number, Ok as Ok_done, Refused as Was_refused}
+use Rattle.papaya_call.specs.declared.ask.Answer.TheVariants.{Made as Made_number, Refused as Was_refused}
 use Rattle.papaya_call.specs.declared.machine.State.TheVariants.{Making}
-use Rattle.papaya_call.specs.Law.Exchange.{Setting, State, Exchange, run, start}
+use Rattle.papaya_call.specs.Law.Exchange.{Exchange}
 use Rattle.papaya_call.specs.Law.Grows.{Comes}
-use Rattle.papaya_call.specs.Law.Invariant.{named}
-use Rattle.papaya_call.specs.Machine.{ask_of, kind_of_ask, after, asks}
-use Rattle.papaya_call.specs.Rests.{Rests, change_in, change_after}
-use Rattle.papaya_call.specs.Told.{Hands, IsTold, IsHashed, IsUnmade, IsAsked, IsWritten, told_of, word_of}
+use Rattle.papaya_call.specs.Machine.{ask_of, kind_of_ask, asks}
+use Rattle.papaya_call.specs.Rests.{change_in, change_after}
+use Rattle.papaya_call.specs.Told.{Hands, IsTold, IsHashed, word_of}
 use Rattle.papaya_core.specs.declared.pairs.Pair.{Pair}
-use Rattle.papaya_core.specs.declared.pairs.KeyOf.{KeyOf}
-use Rattle.papaya_core.specs.declared.pairs.KeyOf.TheVariants.{Own, Logged}
+use Rattle.papaya_core.specs.declared.pairs.KeyOf.TheVariants.{Logged}
 use Rattle.papaya_core.specs.declared.pairs.Running.{Running}
-use Rattle.papaya_core.specs.Kept.{Tale, IsCall, setting_of, coding_of, low, slots_in, places_in}
-use Rattle.papaya_core.specs.Performs.{Performs, Refuses, Stays, HasKey, HasNoPair, LogsKey, LogsPair, MakesTable, key_at, own_key, same, size_of}
+use Rattle.papaya_core.specs.Kept.{Tale, low}
+use Rattle.papaya_core.specs.Performs.{Refuses, Stays, HasKey, HasNoPair, LogsKey, LogsPair, MakesTable, key_at, own_key}
 use Rattle.papaya_core.specs.Store.{StoreState, Stored, pair_of, stored_at, stored_in}
-use Rattle.papaya_core.specs.Tables.{Tables, table_of, word_at, put}
-use Rattle.papaya_core.proofs.StoreLemmas.{matched}
-use Rattle.papaya_core.proofs.KeptAnswer.{law_setting, law_coding, words_now, IsAnswered, unexchanged, quiet, changed, told_last, told_made}
+use Rattle.papaya_core.specs.Tables.{table_of, word_at}
+use Rattle.papaya_core.proofs.KeptAnswer.{law_setting, law_coding, words_now, IsAnswered, unexchanged, quiet}
 use Rattle.papaya_core.proofs.KeptLogs.{key_at-more, pair-more_keys, pair-more_pairs}
-use Rattle.papaya_core.proofs.KeptTables.{IsGrown, grown-same, get-append_last, made-grown, made-there, word-made, put-grown, word-here, word-other}
+use Rattle.papaya_core.proofs.KeptTables.{grown-same, get-append_last, made-grown, made-there, word-made}
 
 -- nothing was made: it was refused
 refusal : (most count : ℕ) (a : Answer) → Refuses most count a → (refused : Refused) × (a ≡ Was_refused refused)
@@ -65,9 +61,9 @@ module _ {K V S : Type 0} (eq : K → K → Bool) (hash : K → ℕ) (mode : Res
       let call : Running K V = record r { key = Logged (length store.keys) } in
       let mine : Some k ≡ Some key = sym (ap (key_at store.keys) was) ∙ own in
       subst (λ y. Leaves MakeKey a y later) (sym grown) (subst (Leaves MakeKey a longer) (sym moved)
-        (unexchanged eq hash mode store r es tale hashed key same_hash coded single there MakeKey e a longer call tale.hands (inr (length store.keys, is), (refl, refl)) refl
-          (λ at j h. key_at-more store.keys (k ∷ []) at j h) (get-append_last store.keys k ∙ mine) (λ n p h. pair-more_keys store (k ∷ []) n p h) (omega arith) (grown-same store.words.tables) (λ at. refl)
-          (λ p h. inl h) (λ q h. inl h) (λ t is' making. absurd (no_table MakeKey e (λ f. absurd cc) making))))
+      (unexchanged eq hash mode store r es tale hashed key same_hash coded single there MakeKey e a longer call tale.hands (inr (length store.keys, is), (refl, refl)) refl
+      (λ at j h. key_at-more store.keys (k ∷ []) at j h) (get-append_last store.keys k ∙ mine) (λ n p h. pair-more_keys store (k ∷ []) n p h) (omega arith) (grown-same store.words.tables) (λ at. refl)
+      (λ p h. inl h) (λ q h. inl h) (λ t is' making. absurd (no_table MakeKey e (λ f. absurd cc) making))))
 
   -- a pair
   pub pair_made : ask_of r.machine ≡ MakePair → (a : Answer) (store' : StoreState K V S) (later : Running K V) → (Refuses MAX_LOG_LEN (length store.pairs) a × Stays store r store' later) ⊎ (HasNoPair a r × Stays store r store' later) ⊎ LogsPair a store r store' later → Leaves MakePair a store' later
@@ -82,10 +78,10 @@ module _ {K V S : Type 0} (eq : K → K → Bool) (hash : K → ℕ) (mode : Res
       let there' : pair_of longer (length store.pairs) ≡ Some stored = ap (stored_in store.keys (length store.pairs)) (get-append_last store.pairs pair) ∙ ap (stored_at (length store.pairs) v) mine in
       let hands : Hands (Stored K V) = record tale.hands { made = Some stored } in
       subst (λ y. Leaves MakePair a y later) (sym grown) (subst (Leaves MakePair a longer) (sym moved)
-        (unexchanged eq hash mode store r es tale hashed key same_hash coded single there MakePair e a longer call hands (inr (stored, refl, is, refl, refl)) refl
-          (λ at j h. h) own (λ m p h. pair-more_pairs store (pair ∷ []) m p h) (let more : length (store.pairs ++ pair ∷ []) ≡ length store.pairs + 1 = length-append store.pairs (pair ∷ []) in omega arith) (grown-same store.words.tables) (λ at. refl)
-          (λ p h. inl h) (λ q h. let f : stored ≡ q = cc in inr (ap (λ (y : Stored K V). y.number) (sym f), value ∙ ap (λ (y : Stored K V). Some y.value) f, subst (λ (y : Stored K V). pair_of longer y.number ≡ Some y) f there'))
-          (λ t is' making. absurd (no_table MakePair e (λ f. absurd cc) making))))
+      (unexchanged eq hash mode store r es tale hashed key same_hash coded single there MakePair e a longer call hands (inr (stored, refl, is, refl, refl)) refl
+      (λ at j h. h) own (λ m p h. pair-more_pairs store (pair ∷ []) m p h) (let more : length (store.pairs ++ pair ∷ []) ≡ length store.pairs + 1 = length-append store.pairs (pair ∷ []) in omega arith) (grown-same store.words.tables) (λ at. refl)
+      (λ p h. inl h) (λ q h. let f : stored ≡ q = cc in inr (ap (λ (y : Stored K V). y.number) (sym f), value ∙ ap (λ (y : Stored K V). Some y.value) f, subst (λ (y : Stored K V). pair_of longer y.number ≡ Some y) f there'))
+      (λ t is' making. absurd (no_table MakePair e (λ f. absurd cc) making))))
 
   -- a table
   pub table_made : (slots limit : ℕ) → ask_of r.machine ≡ MakeTable slots limit → (a : Answer) (store' : StoreState K V S) (later : Running K V) → later ≡ r → (Refuses MAX_TABLES (length store.words.tables) a × (store' ≡ store)) ⊎ MakesTable a slots limit store store' → Leaves (MakeTable slots limit) a store' later
@@ -96,10 +92,10 @@ module _ {K V S : Type 0} (eq : K → K → Bool) (hash : K → ℕ) (mode : Res
       let n : ℕ = length store.words.tables + 1 in
       let wider : StoreState K V S = record store { words = record store.words { tables = store.words.tables ++ new_table n slots limit ∷ [] } } in
       subst (λ y. Leaves (MakeTable slots limit) a y later) (sym grown) (subst (Leaves (MakeTable slots limit) a wider) (sym same_call)
-        (unexchanged eq hash mode store r es tale hashed key same_hash coded single there (MakeTable slots limit) e a wider r tale.hands (inr (n, omega arith, is), (refl, refl)) refl
-          (λ at j h. h) own (λ m p h. h) (omega arith) (made-grown store.words n slots limit) (word-made store.words n slots limit)
-          (λ p h. inl h) (λ q h. inl h)
-          (λ t is' making. let f : Made_number n ≡ Made_number t = sym is ∙ is' in let g : n ≡ t = cc in (new_table n slots limit, subst (λ y. table_of wider.words.tables y ≡ Some (new_table n slots limit)) g (made-there store.words n slots limit)))))
+      (unexchanged eq hash mode store r es tale hashed key same_hash coded single there (MakeTable slots limit) e a wider r tale.hands (inr (n, omega arith, is), (refl, refl)) refl
+      (λ at j h. h) own (λ m p h. h) (omega arith) (made-grown store.words n slots limit) (word-made store.words n slots limit)
+      (λ p h. inl h) (λ q h. inl h)
+      (λ t is' making. let f : Made_number n ≡ Made_number t = sym is ∙ is' in let g : n ≡ t = cc in (new_table n slots limit, subst (λ y. table_of wider.words.tables y ≡ Some (new_table n slots limit)) g (made-there store.words n slots limit)))))
 
   -- where memory is refused nothing is made
   pub none_made : (ask : Ask) → ask_of r.machine ≡ ask → (a : Answer) (store' : StoreState K V S) (later : Running K V) → (told : IsTold (law_setting eq hash mode store r es tale) (law_coding eq hash mode store r es tale) key (words_now eq hash mode store r es tale) (kind_of_ask r.machine) tale.hands ask a [] tale.hands)

@@ -1,11 +1,9 @@
 -- The map that a core's words mean is the replay of the exchanges.
-use Rattle.std.proofs.Common.{◌≡◌, ℕ, zero, suc, ◌+◌, ◌==◌, ◌<◌, Bool, true, false, List, [], ◌∷◌, ◌++◌, length, slice_index, Option, Some, None, ◌⊎◌, inl, inr, refl, sym, ◌∙◌, ap, subst, arith, append-nil, append_assoc}
+use Rattle.std.proofs.Common.{◌≡◌, ℕ, zero, suc, Bool, List, [], ◌∷◌, ◌++◌, length, slice_index, Option, Some, None, inl, inr, refl, sym, ◌∙◌, ap, append-nil, append_assoc}
 use Rattle.papaya_words.specs.Table.{TableWords}
 use Rattle.papaya_words.specs.Word.{kind_of, pair_of as number_of}
 use Rattle.papaya_words.specs.declared.probe.ResizeMode.{ResizeMode}
-use Rattle.papaya_words.specs.declared.word.Kind.TheVariants as kinds
 use Rattle.papaya_call.specs.declared.ask.At.TheVariants.{Root, Slot}
-use Rattle.papaya_call.specs.Law.Class.{IsOn}
 use Rattle.papaya_call.specs.Law.Code.{Coding, code, kind}
 use Rattle.papaya_call.specs.Law.Content.{lookup, pairs_in, pairs_of_word, content as law_content}
 use Rattle.papaya_call.specs.Law.Exchange.{Word, Empty, Closed, Live, Marked, Copied, Buried, Setting, State, Exchange, run, start}
@@ -49,6 +47,7 @@ module _ {K V S : Type 0} (eq : K → K → Bool) (hash : K → ℕ) (mode : Res
   kind_pairs (Copied p) logged = refl
   kind_pairs (Buried p) logged = refl
 
+  -- the pair of a number that stands for a word
   word_pairs : (w : Word (Stored K V)) (word : ℕ) → code g c w ≡ word → ((p : Stored K V) → named w ≡ Some p → IsLogged eq hash mode store p) → pairs_of_kind store (kind_of word) (number_of word) ≡ pairs_of_word w
   word_pairs w word is logged =
       ap (λ y. pairs_of_kind store (kind_of y) (number_of y)) (sym is)
@@ -71,8 +70,9 @@ module _ {K V S : Type 0} (eq : K → K → Bool) (hash : K → ℕ) (mode : Res
     -- with no root table there is no root
     no_root : table_of store.words.tables now.root ≡ None → now.root ≡ 0
     no_root none = elim (sound g hashed.lawful es kept.allowed).root [
-        inl rootless ↦ rootless.0
-      | inr on ↦ let made = kept.made now.root on.0 (on_comes now now.root on) in let f : None ≡ Some made.0 = sym none ∙ made.1 in absurd cc ]
+      | inl rootless ↦ rootless.0
+      | inr on ↦ let made = kept.made now.root on.0 (on_comes now now.root on) in let f : None ≡ Some made.0 = sym none ∙ made.1 in absurd cc
+    ]
 
     -- the content of the root table is what the law has there
     table_content : (o : Option TableWords) → table_of store.words.tables now.root ≡ o → pairs_of_table store o ≡ law_content g now

@@ -1,5 +1,5 @@
 -- Only where a table was made a machine is about to open one.
-use Rattle.std.proofs.Common.{◌≡◌, ℕ, ◌==◌, Bool, true, false, cond, Option, None, Some, ◌⊎◌, inl, inr, refl, sym, ◌∙◌, ap}
+use Rattle.std.proofs.Common.{◌≡◌, ℕ, ◌==◌, Bool, true, false, Option, None, Some, ◌⊎◌, inl, inr, refl, sym, ◌∙◌, ap}
 use Rattle.std.proofs.lemmas.Bool.{cond_both}
 use Rattle.papaya_words.specs.Word.{kind_of, pair_of}
 use Rattle.papaya_words.specs.declared.probe.ResizeMode.{ResizeMode}
@@ -8,14 +8,12 @@ use Rattle.papaya_words.specs.declared.word.Kind.{Kind}
 use Rattle.papaya_words.specs.declared.word.Kind.TheVariants as word_kinds
 use Rattle.papaya_call.specs.declared.ask.Answer.{Answer}
 use Rattle.papaya_call.specs.declared.ask.Answer.TheVariants.{Word as Word_read, Exchanged, Found as Found_instead, Yes, Size, Made as Made_number, Ok as Ok_done, Refused as Was_refused}
-use Rattle.papaya_call.specs.declared.ask.Ask.{Ask}
 use Rattle.papaya_call.specs.declared.ask.Ask.TheVariants.{Exchange as Ask_exchange}
 use Rattle.papaya_call.specs.declared.ask.At.TheVariants.{Root}
-use Rattle.papaya_call.specs.declared.call.Reply.TheVariants.{Absent, Replaced, Refused as Reply_refused}
+use Rattle.papaya_call.specs.declared.call.Reply.TheVariants.{Absent, Replaced}
 use Rattle.papaya_call.specs.declared.call.Task.{Task}
 use Rattle.papaya_call.specs.declared.call.Task.TheVariants.{Get, Insert}
 use Rattle.papaya_call.specs.declared.search.Place.{Place}
-use Rattle.papaya_call.specs.declared.search.Search.{Search}
 use Rattle.papaya_call.specs.declared.search.Search.TheVariants.{Sizing, Looking, Comparing}
 use Rattle.papaya_call.specs.declared.search.Seen.{Seen}
 use Rattle.papaya_call.specs.declared.search.Seen.TheVariants as seen
@@ -25,7 +23,7 @@ use Rattle.papaya_call.specs.declared.write.Write.{Write}
 use Rattle.papaya_call.specs.declared.machine.Machine.{Machine}
 use Rattle.papaya_call.specs.declared.machine.State.{State}
 use Rattle.papaya_call.specs.declared.machine.State.TheVariants.{AtRoot, Making, Opening, Searching, Writing, Counting, Leaving, Ended}
-use Rattle.papaya_call.specs.Machine.{after, asks, ask_of, at_root, found, goes_as, leaves, replaces, written, exchanged, refuses, at_word, at_exchanged, at_found, at_yes, at_size, at_ok, at_refused, state_in}
+use Rattle.papaya_call.specs.Machine.{after, asks, at_root, goes_as, leaves, replaces, exchanged, refuses, at_word, at_exchanged, at_found, at_yes, at_size, at_ok, at_refused, state_in}
 
 -- the table that a machine in this stage is about to open
 abbrev opened_in : State → Option ℕ
@@ -38,6 +36,7 @@ opened_in (Counting n) = None
 opened_in (Leaving t) = None
 opened_in (Ended reply) = None
 
+-- a replacement opens no table
 opened_replaces : (kd : Kind) (at : Place) (word : ℕ) → opened_in (replaces kd at word) ≡ None
 opened_replaces word_kinds.Empty at word = refl
 opened_replaces word_kinds.Live at word = refl
@@ -46,6 +45,7 @@ opened_replaces word_kinds.Copied at word = refl
 opened_replaces word_kinds.Buried at word = refl
 opened_replaces word_kinds.Closed at word = refl
 
+-- nor does what a search leads to
 opened_goes : (task : Task) (mode : ResizeMode) (s : Seen) → opened_in (goes_as task mode s) ≡ None
 opened_goes task mode (seen.On search) = refl
 opened_goes Get mode (seen.Here at word) = refl
@@ -57,19 +57,23 @@ opened_goes Get (Incremental chunk) (seen.Over t) = refl
 opened_goes Get Blocking (seen.Over t) = refl
 opened_goes (Insert replace) mode (seen.Over t) = refl
 
+-- nor what a load of the root leads to
 opened_root : (task : Task) (word : ℕ) → opened_in (at_root task word) ≡ None
 opened_root Get word = cond_both (word == 0) (Ended Absent) (Searching (Sizing word)) (λ s. opened_in s ≡ None) (λ _. refl) (λ _. refl)
 opened_root (Insert replace) word = cond_both (word == 0) Making (Searching (Sizing word)) (λ s. opened_in s ≡ None) (λ _. refl) (λ _. refl)
 
+-- nor what a load of the next table leads to
 opened_leaves : (task : Task) (word : ℕ) → opened_in (leaves task word) ≡ None
 opened_leaves Get word = cond_both (word == 0) (Ended Absent) (Searching (Sizing word)) (λ s. opened_in s ≡ None) (λ _. refl) (λ _. refl)
 opened_leaves (Insert replace) word = refl
 
+-- nor what a write leads to
 opened_exchanged : (made : Made) (write : Write) → opened_in (exchanged made write) ≡ None
 opened_exchanged Nothing write = refl
 opened_exchanged Key write = refl
 opened_exchanged (Pair n) write = cond_both (write.old == 0) (Counting n) (Ended (Replaced (pair_of write.old) n)) (λ s. opened_in s ≡ None) (λ _. refl) (λ _. refl)
 
+-- nor a refusal
 opened_refuses : (made : Made) (refused : _) (write : Write) → opened_in (refuses made refused write) ≡ None
 opened_refuses Nothing refused write = refl
 opened_refuses Key refused write = refl
@@ -79,6 +83,7 @@ opened_refuses (Pair n) refused write = refl
 abbrev Stays : State → State → Type 0
 Stays before next = (opened_in next ≡ opened_in before) ⊎ (opened_in next ≡ None)
 
+-- by a word that was read
 word_stays : (m : Machine) (word : ℕ) (s : State) → Stays s (at_word m word s)
 word_stays m word AtRoot = inr (opened_root m.task word)
 word_stays m word (Searching search) = inr (opened_goes m.task m.mode _)
@@ -89,6 +94,7 @@ word_stays m word (Writing write) = inl refl
 word_stays m word (Counting n) = inl refl
 word_stays m word (Ended reply) = inl refl
 
+-- by an exchange that was made
 exchanged_stays : (made : Made) (s : State) → Stays s (at_exchanged made s)
 exchanged_stays made (Opening t) = inr refl
 exchanged_stays made (Writing write) = inr (opened_exchanged made write)
@@ -99,6 +105,7 @@ exchanged_stays made (Counting n) = inl refl
 exchanged_stays made (Leaving t) = inl refl
 exchanged_stays made (Ended reply) = inl refl
 
+-- by one that was lost
 found_stays : (m : Machine) (word : ℕ) (s : State) → Stays s (at_found m word s)
 found_stays m word (Opening t) = inr refl
 found_stays m word (Writing write) = inr (opened_goes m.task m.mode _)
@@ -109,6 +116,7 @@ found_stays m word (Counting n) = inl refl
 found_stays m word (Leaving t) = inl refl
 found_stays m word (Ended reply) = inl refl
 
+-- by a comparison
 yes_stays : (m : Machine) (same : Bool) (s : State) → Stays s (at_yes m same s)
 yes_stays m same (Searching search) = inr (opened_goes m.task m.mode _)
 yes_stays m same AtRoot = inl refl
@@ -119,6 +127,7 @@ yes_stays m same (Counting n) = inl refl
 yes_stays m same (Leaving t) = inl refl
 yes_stays m same (Ended reply) = inl refl
 
+-- by a size
 size_stays : (hash slots limit : ℕ) (s : State) → Stays s (at_size hash slots limit s)
 size_stays hash slots limit (Searching search) = inl refl
 size_stays hash slots limit AtRoot = inl refl
@@ -129,6 +138,7 @@ size_stays hash slots limit (Counting n) = inl refl
 size_stays hash slots limit (Leaving t) = inl refl
 size_stays hash slots limit (Ended reply) = inl refl
 
+-- by an answer that something was done
 ok_stays : (s : State) → Stays s (at_ok s)
 ok_stays (Counting n) = inl refl
 ok_stays AtRoot = inl refl
@@ -139,6 +149,7 @@ ok_stays (Writing write) = inl refl
 ok_stays (Leaving t) = inl refl
 ok_stays (Ended reply) = inl refl
 
+-- by a refusal
 refused_stays : (made : Made) (refused : _) (s : State) → Stays s (at_refused made refused s)
 refused_stays made refused Making = inl refl
 refused_stays made refused (Writing write) = inr (opened_refuses made refused write)

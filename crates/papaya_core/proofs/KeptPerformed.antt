@@ -1,36 +1,25 @@
 -- Every answered ask keeps to the law.
-use Rattle.std.proofs.Common.{◌≡◌, ◌≢◌, ℕ, suc, ◌+◌, ◌==◌, ◌<◌, ◌≤◌, ◌%◌, ◌^◌, Bool, true, false, List, [], ◌∷◌, ◌++◌, length, slice_get, Option, Some, None, ◌⊎◌, inl, inr, refl, sym, ◌∙◌, ap, subst, arith, MatchBool, length-append}
-use Rattle.papaya_words.specs.Table.{TableWords, new_table}
-use Rattle.papaya_words.specs.declared.limits.TheConstants.{MAX_TABLES, MAX_LOG_LEN}
-use Rattle.papaya_words.specs.declared.probe.Refused.{Refused}
-use Rattle.papaya_words.specs.declared.probe.Refused.TheVariants.{Memory, Capacity}
+use Rattle.std.proofs.Common.{◌≡◌, ℕ, ◌==◌, ◌<◌, Bool, List, [], ◌∷◌, ◌++◌, Some, inl, refl, sym, ◌∙◌, ap, subst, MatchBool}
+use Rattle.papaya_words.specs.Table.{TableWords}
+use Rattle.papaya_words.specs.declared.probe.Refused.TheVariants.{Memory}
 use Rattle.papaya_words.specs.declared.probe.ResizeMode.{ResizeMode}
 use Rattle.papaya_call.specs.declared.ask.At.{At}
-use Rattle.papaya_call.specs.declared.ask.At.TheVariants.{Root, Next, Aborted, Done, Slot}
 use Rattle.papaya_call.specs.declared.ask.Ask.{Ask}
 use Rattle.papaya_call.specs.declared.ask.Ask.TheVariants.{Load, Exchange as Ask_exchange, SameKey, SizeOf, MakeKey, MakePair, MakeTable, AddToShard, Done as Ask_done}
 use Rattle.papaya_call.specs.declared.ask.Answer.{Answer}
-use Rattle.papaya_call.specs.declared.ask.Answer.TheVariants.{Word as Word_read, Exchanged, Found as Found_instead, Yes, Size, Made as Made_number, Ok as Ok_done, Refused as Was_refused}
-use Rattle.papaya_call.specs.declared.machine.State.TheVariants.{Making}
-use Rattle.papaya_call.specs.Law.Exchange.{Setting, State, Exchange, run, start}
+use Rattle.papaya_call.specs.declared.ask.Answer.TheVariants.{Word as Word_read, Exchanged, Found as Found_instead, Yes, Size}
+use Rattle.papaya_call.specs.Law.Exchange.{Exchange, run, start}
 use Rattle.papaya_call.specs.Law.Grows.{Comes}
-use Rattle.papaya_call.specs.Law.Invariant.{named}
-use Rattle.papaya_call.specs.Machine.{ask_of, kind_of_ask, after, asks}
+use Rattle.papaya_call.specs.Machine.{ask_of, kind_of_ask}
 use Rattle.papaya_call.specs.Rests.{Rests, change_in, change_after}
-use Rattle.papaya_call.specs.Told.{Hands, IsTold, IsHashed, IsUnmade, IsAsked, IsWritten, told_of, word_of}
-use Rattle.papaya_core.specs.declared.pairs.Pair.{Pair}
-use Rattle.papaya_core.specs.declared.pairs.KeyOf.{KeyOf}
-use Rattle.papaya_core.specs.declared.pairs.KeyOf.TheVariants.{Own, Logged}
+use Rattle.papaya_call.specs.Told.{Hands, IsHashed, IsAsked, told_of, word_of}
 use Rattle.papaya_core.specs.declared.pairs.Running.{Running}
-use Rattle.papaya_core.specs.Kept.{Tale, IsCall, setting_of, coding_of, low, slots_in, places_in}
-use Rattle.papaya_core.specs.Performs.{Performs, Refuses, Stays, HasKey, HasNoPair, LogsKey, LogsPair, MakesTable, key_at, own_key, same, size_of}
-use Rattle.papaya_core.specs.Store.{StoreState, Stored, pair_of, stored_at, stored_in}
-use Rattle.papaya_core.specs.Tables.{Tables, table_of, word_at, put}
+use Rattle.papaya_core.specs.Kept.{Tale, slots_in, places_in}
+use Rattle.papaya_core.specs.Performs.{Performs, own_key, same, size_of}
+use Rattle.papaya_core.specs.Store.{StoreState, Stored, pair_of}
+use Rattle.papaya_core.specs.Tables.{table_of, word_at, put}
 use Rattle.papaya_core.proofs.StoreLemmas.{matched}
-use Rattle.papaya_core.proofs.KeptAnswer.{law_setting, law_coding, words_now, IsAnswered, unexchanged, quiet, changed, told_last, told_made}
-use Rattle.papaya_core.proofs.KeptLogs.{key_at-more, pair-more_keys, pair-more_pairs}
-use Rattle.papaya_core.proofs.KeptTables.{IsGrown, grown-same, get-append_last, made-grown, made-there, word-made, put-grown, word-here, word-other}
-use Rattle.std.proofs.lemmas.Bool.{cases_Bool}
+use Rattle.papaya_core.proofs.KeptAnswer.{law_setting, law_coding, words_now, IsAnswered, quiet, told_last, told_made}
 use Rattle.papaya_call.specs.declared.machine.State.TheVariants.{Opening}
 use Rattle.papaya_call.specs.Law.Allows.{AllAllowed}
 use Rattle.papaya_call.specs.Law.Class.{IsOn}
@@ -58,45 +47,45 @@ module _ {K V S : Type 0} (eq : K → K → Bool) (hash : K → ℕ) (mode : Res
   exchanged at old new e a store' later h same_call =
       matched (Leaves (Ask_exchange at old new) a store' later) (word_at store.words at == old) _ _ h
       (λ hit done. subst (λ y. Leaves (Ask_exchange at old new) a y later) (sym done.1) (subst (Leaves (Ask_exchange at old new) a (record store { words = put store.words at new })) (sym same_call)
-        (exchange_made eq hash mode store r es tale hashed key split may rests coded single there last opens own at old new e a hit done.0)))
+      (exchange_made eq hash mode store r es tale hashed key split may rests coded single there last opens own at old new e a hit done.0)))
       (λ miss lost.
-        let g = law_setting eq hash mode store r es tale in
-        let c = law_coding eq hash mode store r es tale in
-        let now = words_now eq hash mode store r es tale in
-        let hands : Hands (Stored K V) = told_of now at tale.hands in
-        let nothing : List (Exchange (Stored K V)) = [] in
-        let is : a ≡ Found_instead (word_of g c now at) = lost.0 ∙ ap Found_instead (sym (coded at)) in
-        quiet eq hash mode store r es tale hashed key rests.hash coded single there own (Ask_exchange at old new) e a store' later hands store.count lost.1 same_call
-          (subst (λ b. MatchBool b
-              ((a ≡ Exchanged) × ((y : Exchange (Stored K V)) × IsAsked (kind_of_ask r.machine) at new now tale.hands y × (nothing ≡ y ∷ [])) × (hands ≡ tale.hands))
-              ((a ≡ Found_instead (word_of g c now at)) × (nothing ≡ nothing) × (hands ≡ hands)))
-            (sym (ap (λ y. y == old) (coded at) ∙ miss)) (is, refl, refl))
-          (ap (λ y. change_after (kind_of_ask r.machine) (Ask_exchange at old new) y (change_in r.machine.state)) is)
-          (told_last eq hash mode store r es tale hashed key rests.hash coded single there at) (told_made eq hash mode store r es tale hashed key rests.hash coded single there at)
-          (λ t f making. no_table eq hash mode store r es tale hashed key rests.hash coded single there own (Ask_exchange at old new) e (λ z. absurd cc) making))
+      let g = law_setting eq hash mode store r es tale in
+      let c = law_coding eq hash mode store r es tale in
+      let now = words_now eq hash mode store r es tale in
+      let hands : Hands (Stored K V) = told_of now at tale.hands in
+      let nothing : List (Exchange (Stored K V)) = [] in
+      let is : a ≡ Found_instead (word_of g c now at) = lost.0 ∙ ap Found_instead (sym (coded at)) in
+      quiet eq hash mode store r es tale hashed key rests.hash coded single there own (Ask_exchange at old new) e a store' later hands store.count lost.1 same_call
+      (subst (λ b. MatchBool b
+      ((a ≡ Exchanged) × ((y : Exchange (Stored K V)) × IsAsked (kind_of_ask r.machine) at new now tale.hands y × (nothing ≡ y ∷ [])) × (hands ≡ tale.hands))
+      ((a ≡ Found_instead (word_of g c now at)) × (nothing ≡ nothing) × (hands ≡ hands)))
+      (sym (ap (λ y. y == old) (coded at) ∙ miss)) (is, refl, refl))
+      (ap (λ y. change_after (kind_of_ask r.machine) (Ask_exchange at old new) y (change_in r.machine.state)) is)
+      (told_last eq hash mode store r es tale hashed key rests.hash coded single there at) (told_made eq hash mode store r es tale hashed key rests.hash coded single there at)
+      (λ t f making. no_table eq hash mode store r es tale hashed key rests.hash coded single there own (Ask_exchange at old new) e (λ z. absurd cc) making))
 
   -- each ask
   pub answered : (refuse : Bool) (ask : Ask) → ask_of r.machine ≡ ask → (a : Answer) (store' : StoreState K V S) (later : Running K V) → Performs eq refuse ask store r a store' later → Leaves ask a store' later
   answered refuse (Load at) e a store' later (is, stays) =
       quiet eq hash mode store r es tale hashed key rests.hash coded single there own (Load at) e a store' later (told_of (words_now eq hash mode store r es tale) at tale.hands) store.count stays.0 stays.1
-        (is ∙ ap Word_read (sym (coded at)), refl, refl) refl
-        (told_last eq hash mode store r es tale hashed key rests.hash coded single there at) (told_made eq hash mode store r es tale hashed key rests.hash coded single there at)
-        (λ t f making. no_table eq hash mode store r es tale hashed key rests.hash coded single there own (Load at) e (λ z. absurd cc) making)
+      (is ∙ ap Word_read (sym (coded at)), refl, refl) refl
+      (told_last eq hash mode store r es tale hashed key rests.hash coded single there at) (told_made eq hash mode store r es tale hashed key rests.hash coded single there at)
+      (λ t f making. no_table eq hash mode store r es tale hashed key rests.hash coded single there own (Load at) e (λ z. absurd cc) making)
   answered refuse (Ask_exchange at old new) e a store' later (h, same_call) = exchanged at old new e a store' later h same_call
   answered refuse (SameKey n) e a store' later (is, stays) =
       quiet eq hash mode store r es tale hashed key rests.hash coded single there own (SameKey n) e a store' later tale.hands store.count stays.0 stays.1
-        ((λ p l number. is ∙ ap (λ o. Yes (same eq o (pair_of store n))) own ∙ ap (λ o. Yes (same eq (Some key) o)) (subst (λ m. pair_of store m ≡ Some p) number (last p l))), (refl, refl)) refl
-        (λ p h. inl h) refl
-        (λ t f making. no_table eq hash mode store r es tale hashed key rests.hash coded single there own (SameKey n) e (λ z. absurd cc) making)
+      ((λ p l number. is ∙ ap (λ o. Yes (same eq o (pair_of store n))) own ∙ ap (λ o. Yes (same eq (Some key) o)) (subst (λ m. pair_of store m ≡ Some p) number (last p l))), (refl, refl)) refl
+      (λ p h. inl h) refl
+      (λ t f making. no_table eq hash mode store r es tale hashed key rests.hash coded single there own (SameKey n) e (λ z. absurd cc) making)
   answered refuse (SizeOf n) e a store' later (is, stays) =
       let g = law_setting eq hash mode store r es tale in
       let c = law_coding eq hash mode store r es tale in
       let on : IsOn (run (tale.begun ++ tale.since) start).first (run (tale.begun ++ tale.since) start).next n = subst (IsNamed g c hashed tale.begun tale.since may key) e (ask_named g c hashed tale.begun tale.since may key tale.hands r.machine.task r.machine.hash r.machine.made r.machine.state rests.stage) in
       let words = on_there eq hash mode store r es tale hashed key split may rests coded single there last opens own n on in
       quiet eq hash mode store r es tale hashed key rests.hash coded single there own (SizeOf n) e a store' later tale.hands store.count stays.0 stays.1
-        ((words.0.limit, sym (ap places_in words.1), is ∙ ap size_of words.1 ∙ ap (λ y. Size y words.0.limit) (sym (ap slots_in words.1))), (refl, refl)) refl
-        (λ p h. inl h) refl
-        (λ t f making. no_table eq hash mode store r es tale hashed key rests.hash coded single there own (SizeOf n) e (λ z. absurd cc) making)
+      ((words.0.limit, sym (ap places_in words.1), is ∙ ap size_of words.1 ∙ ap (λ y. Size y words.0.limit) (sym (ap slots_in words.1))), (refl, refl)) refl
+      (λ p h. inl h) refl
+      (λ t f making. no_table eq hash mode store r es tale hashed key rests.hash coded single there own (SizeOf n) e (λ z. absurd cc) making)
   answered refuse MakeKey e a store' later h =
       matched (Leaves MakeKey a store' later) refuse _ _ h
       (λ _ none. none_made eq hash mode store r es tale hashed key rests.hash coded single there own MakeKey e a store' later (inl (inl (Memory, none.0)), (refl, refl)) refl none)
@@ -111,9 +100,9 @@ module _ {K V S : Type 0} (eq : K → K → Bool) (hash : K → ℕ) (mode : Res
       (λ _ makes. table_made eq hash mode store r es tale hashed key rests.hash coded single there own slots limit e a store' later makes.1 makes.0)
   answered refuse (AddToShard by) e a store' later (is, same_store, same_call) =
       quiet eq hash mode store r es tale hashed key rests.hash coded single there own (AddToShard by) e a store' later tale.hands _ same_store same_call
-        (is, (refl, refl)) refl (λ p h. inl h) refl
-        (λ t f making. no_table eq hash mode store r es tale hashed key rests.hash coded single there own (AddToShard by) e (λ z. absurd cc) making)
+      (is, (refl, refl)) refl (λ p h. inl h) refl
+      (λ t f making. no_table eq hash mode store r es tale hashed key rests.hash coded single there own (AddToShard by) e (λ z. absurd cc) making)
   answered refuse (Ask_done reply) e a store' later (is, stays) =
       quiet eq hash mode store r es tale hashed key rests.hash coded single there own (Ask_done reply) e a store' later tale.hands store.count stays.0 stays.1
-        (is, (refl, refl)) refl (λ p h. inl h) refl
-        (λ t f making. no_table eq hash mode store r es tale hashed key rests.hash coded single there own (Ask_done reply) e (λ z. absurd cc) making)
+      (is, (refl, refl)) refl (λ p h. inl h) refl
+      (λ t f making. no_table eq hash mode store r es tale hashed key rests.hash coded single there own (Ask_done reply) e (λ z. absurd cc) making)

@@ -27,6 +27,7 @@ some_slot : (o : Option TableWords) → ((t : TableWords) → o ≡ Some t → I
 some_slot None sized = omega arith
 some_slot (Some t) sized = let power = (sized t refl).power in subst (λ n. 0 < n) (sym power.1) (pow_pos power.0)
 
+-- and a search of it a place
 some_place : (o : Option TableWords) → 0 < places_in o
 some_place None = omega arith
 some_place (Some t) = omega arith
@@ -51,12 +52,14 @@ module _ {K V : Type 0} (eq : K → K → Bool) (hash : K → ℕ) where
   grown_agrees mode mode' tables tables' same grown On made =
       record { blocking = ap is_blocking same; key = λ p. refl; same = λ k l. refl; size = size; places = places; place = λ k t j on. ap (λ n. place (low hash k) n j) (size t on) }
     where
+      -- a made table is as long as it was
       size : (t : ℕ) → On t → slots_in (table_of tables' t) ≡ slots_in (table_of tables t)
       size t on =
           let m = made t on in
           let g = grown t m.0 m.1 in
           ap slots_in g.1 ∙ g.2 ∙ sym (ap slots_in m.1)
 
+      -- and a search of it looks at as many places
       places : (t : ℕ) → On t → places_in (table_of tables' t) ≡ places_in (table_of tables t)
       places t on =
           let m = made t on in

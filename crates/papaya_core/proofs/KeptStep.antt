@@ -1,20 +1,18 @@
 -- A step of one caller keeps a core's words to the law of exchanges.
-use Rattle.std.proofs.Common.{◌≡◌, ◌≢◌, ℕ, ◌+◌, ◌==◌, ◌<◌, ◌≤◌, Bool, true, false, cond, List, [], ◌∷◌, ◌++◌, length, Option, Some, None, ◌⊎◌, inl, inr, refl, sym, ◌∙◌, ap, subst, arith, append_assoc, eq-eqb}
+use Rattle.std.proofs.Common.{◌≡◌, ◌≢◌, ℕ, ◌<◌, Bool, cond, List, ◌++◌, length, Option, Some, None, ◌⊎◌, inl, inr, refl, sym, ◌∙◌, ap, subst, arith, append_assoc, eq-eqb}
 use Rattle.papaya_words.specs.Table.{TableWords}
-use Rattle.papaya_words.specs.declared.probe.ResizeMode.{ResizeMode}
-use Rattle.papaya_call.specs.declared.ask.At.{At}
 use Rattle.papaya_call.specs.declared.ask.Answer.{Answer}
 use Rattle.papaya_call.specs.declared.machine.State.TheVariants.{Opening}
 use Rattle.papaya_call.specs.Law.Allows.{AllAllowed}
 use Rattle.papaya_call.specs.Law.Class.{IsOn}
 use Rattle.papaya_call.specs.Law.Code.{Coding}
-use Rattle.papaya_call.specs.Law.Exchange.{Setting, State, Exchange, run, start}
+use Rattle.papaya_call.specs.Law.Exchange.{Setting, Exchange, run, start}
 use Rattle.papaya_call.specs.Law.Grows.{Agrees}
 use Rattle.papaya_call.specs.Law.Invariant.{named}
 use Rattle.papaya_call.specs.Law.Meaning.{map_left}
 use Rattle.papaya_call.specs.Machine.{ask_of, kind_of_ask, after}
 use Rattle.papaya_call.specs.Rests.{Rests, change_in}
-use Rattle.papaya_call.specs.Told.{Hands, IsTold, IsHashed, word_of}
+use Rattle.papaya_call.specs.Told.{Hands, IsTold, IsHashed}
 use Rattle.papaya_call.proofs.Law.Grows.{all_carries, map_of_carries}
 use Rattle.papaya_call.proofs.Law.Logs.{on_comes}
 use Rattle.papaya_call.proofs.Law.OneMap.{start_keeps}
@@ -27,8 +25,8 @@ use Rattle.papaya_core.specs.Callers.{running, with_call}
 use Rattle.papaya_core.specs.Core.{CoreState, IsCore}
 use Rattle.papaya_core.specs.Kept.{IsKept, IsCall, IsLogged, Tale, setting_of, coding_of, low, told_tales}
 use Rattle.papaya_core.specs.Performs.{Performs}
-use Rattle.papaya_core.specs.Store.{StoreState, Stored, pair_of}
-use Rattle.papaya_core.specs.Tables.{table_of, word_at}
+use Rattle.papaya_core.specs.Store.{Stored, pair_of}
+use Rattle.papaya_core.specs.Tables.{table_of}
 use Rattle.papaya_core.proofs.CallersLemmas.{differs, running-other, running-same}
 use Rattle.papaya_core.proofs.CoreLemmas.{cases_same}
 use Rattle.papaya_core.proofs.KeptAnswer.{IsAnswered}
@@ -44,9 +42,11 @@ module _ {K V S : Type 0} (eq : K → K → Bool) (hash : K → ℕ) (law : IsLa
   abbrev g : Setting K (Stored K V)
   g = setting_of eq (low hash) s.mode s.store.words.tables
 
+  -- the setting after it
   abbrev g' : Setting K (Stored K V)
   g' = setting_of eq (low hash) s'.mode s'.store.words.tables
 
+  -- the coding
   abbrev c : Coding K (Stored K V)
   c = coding_of (low hash)
 
@@ -54,9 +54,11 @@ module _ {K V S : Type 0} (eq : K → K → Bool) (hash : K → ℕ) (law : IsLa
   abbrev pub call : IsCall eq hash s.mode s.store before es (tales caller)
   call = kept.calls caller before was
 
+  -- keys are placed by their hashes
   hashed : IsHashed g c
   hashed = tables_hashed eq hash law s.mode s.store.words.tables core.sizes
 
+  -- what is told of a call was allowed
   may : (tale : Tale K V) → tale.begun ++ tale.since ≡ es → AllAllowed g start (tale.begun ++ tale.since)
   may tale split = subst (AllAllowed g start) (sym split) kept.allowed
 
@@ -68,6 +70,7 @@ module _ {K V S : Type 0} (eq : K → K → Bool) (hash : K → ℕ) (law : IsLa
   abbrev pub es' : List (Exchange (Stored K V))
   es' = es ++ left.made
 
+  -- and the exchanges of the step come after it
   longer_split : (tale : Tale K V) → tale.begun ++ tale.since ≡ es → tale.begun ++ (tale.since ++ left.made) ≡ es'
   longer_split tale split = sym (append_assoc tale.begun tale.since left.made) ∙ ap (λ l. l ++ left.made) split
 
@@ -76,6 +79,7 @@ module _ {K V S : Type 0} (eq : K → K → Bool) (hash : K → ℕ) (law : IsLa
   learnt = machine_learns g c hashed (tales caller).begun (tales caller).since (may (tales caller) call.split) call.key before.machine (tales caller).hands call.rests a left.made left.hands
       (subst (λ l. IsTold g c call.key (run l start) (kind_of_ask before.machine) (tales caller).hands (ask_of before.machine) a left.made left.hands) (sym call.split) left.told)
 
+  -- all exchanges were allowed
   all : AllAllowed g start es'
   all = subst (AllAllowed g start) (longer_split (tales caller) call.split) learnt.0
 
@@ -106,33 +110,39 @@ module _ {K V S : Type 0} (eq : K → K → Bool) (hash : K → ℕ) (law : IsLa
   own_last p (inl old) = left.logged p.number p (call.last p old)
   own_last p (inr (t, x, names)) = left.logged p.number p (kept.logged t x p names)
 
+  -- the pair that it made is logged
   own_made : (p : Stored K V) → (((tales caller).hands.made ≡ Some p) ⊎ ((p.number ≡ length s.store.pairs) × (before.value ≡ Some p.value) × (pair_of s'.store p.number ≡ Some p))) → IsLogged eq hash s'.mode s'.store p
   own_made p (inl old) = left.logged p.number p (call.made p old)
   own_made p (inr (number, value, there)) = there
 
+  -- the table that it is about to open is there
   own_opens : (t : ℕ) → (after before.machine a).state ≡ Opening t → (words : TableWords) × (table_of s'.store.words.tables t ≡ Some words)
   own_opens t opening = elim (opening_after before.machine a t opening) [ inl old ↦ still_there t (call.opens t old) | inr (making, is) ↦ left.opens t is making ]
 
+  -- a pair that it made and did not write stands in no slot
   own_unwritten : (p : Stored K V) → left.hands.made ≡ Some p → change_in (after before.machine a).state ≡ None → (t x : ℕ) (q : Stored K V) → named ((run es' start).slot t x) ≡ Some q → q.number ≢ p.number
   own_unwritten p made none t x q names =
       let u = left.unchanged none in
       let stood : named ((run es start).slot t x) ≡ Some q = u.1 t x q names in
       elim (left.new p made) [
-          inl old ↦ call.unwritten p old u.0 t x q stood
-        | inr (number, value, there) ↦ (λ same. let lt : q.number < length s.store.pairs = below q (kept.logged t x q stood) in omega arith) ]
+        | inl old ↦ call.unwritten p old u.0 t x q stood
+        | inr (number, value, there) ↦ (λ same. let lt : q.number < length s.store.pairs = below q (kept.logged t x q stood) in omega arith)
+      ]
 
+  -- so it rests on what is told of it after the step
   pub own_call : (hands : Hands (Stored K V)) → left.hands ≡ hands → IsCall eq hash s'.mode s'.store (record later { machine = after before.machine a }) es' (record { begun = (tales caller).begun; since = (tales caller).since ++ left.made; hands = hands })
   own_call hands e = record {
-      key = call.key;
-      own = left.own;
-      split = longer_split (tales caller) call.split;
-      rests = subst (Rests g' c (tales caller).begun ((tales caller).since ++ left.made) call.key (after before.machine a)) e (grown_rests (tales caller) call.split call.key (after before.machine a) left.hands learnt.1);
-      last = λ p l. own_last p (left.last p (ap (λ (y : Hands (Stored K V)). y.last) e ∙ l));
-      made = λ p l. own_made p (left.new p (ap (λ (y : Hands (Stored K V)). y.made) e ∙ l));
-      opens = own_opens;
-      unwritten = λ p l. own_unwritten p (ap (λ (y : Hands (Stored K V)). y.made) e ∙ l);
-    }
+    key = call.key;
+    own = left.own;
+    split = longer_split (tales caller) call.split;
+    rests = subst (Rests g' c (tales caller).begun ((tales caller).since ++ left.made) call.key (after before.machine a)) e (grown_rests (tales caller) call.split call.key (after before.machine a) left.hands learnt.1);
+    last = λ p l. own_last p (left.last p (ap (λ (y : Hands (Stored K V)). y.last) e ∙ l));
+    made = λ p l. own_made p (left.new p (ap (λ (y : Hands (Stored K V)). y.made) e ∙ l));
+    opens = own_opens;
+    unwritten = λ p l. own_unwritten p (ap (λ (y : Hands (Stored K V)). y.made) e ∙ l);
+  }
 
+  -- with the key that it had
   pub own_call-key : (hands : Hands (Stored K V)) (e : left.hands ≡ hands) → (own_call hands e).key ≡ call.key
   unfolding own_call
   own_call-key hands e = refl
@@ -140,15 +150,17 @@ module _ {K V S : Type 0} (eq : K → K → Bool) (hash : K → ℕ) (law : IsLa
   -- another call's facts
   other_unwritten : (d : ℕ) (r : Running K V) → running s.callers d ≡ Some r → d ≢ caller → (p : Stored K V) → (tales d).hands.made ≡ Some p → change_in r.machine.state ≡ None → (t x : ℕ) (q : Stored K V) → named ((run es' start).slot t x) ≡ Some q → q.number ≢ p.number
   other_unwritten d r runs differ p made none t x q names = elim (left.slots t x q names) [
-      inl stood ↦ (kept.calls d r runs).unwritten p made none t x q stood
-    | inr mine ↦ kept.apart caller d before r was runs (λ same. differ (sym same)) q p mine made ]
+    | inl stood ↦ (kept.calls d r runs).unwritten p made none t x q stood
+    | inr mine ↦ kept.apart caller d before r was runs (λ same. differ (sym same)) q p mine made
+  ]
 
+  -- so it rests on what is told of it after the step
   other_call : (d : ℕ) (r : Running K V) → running s.callers d ≡ Some r → d ≢ caller → (hands : Hands (Stored K V)) → (tales d).hands ≡ hands → IsCall eq hash s'.mode s'.store r es' (record { begun = (tales d).begun; since = (tales d).since ++ left.made; hands = hands })
   other_call d r runs differ hands e =
       let o = kept.calls d r runs in
       let tale : Tale K V = tales d in
       let stays : Rests g c tale.begun (tale.since ++ left.made) o.key r.machine tale.hands =
-            rests_stays g c hashed tale.begun tale.since left.made (subst (AllAllowed g start) (sym (longer_split tale o.split)) all) o.key r.machine tale.hands o.rests in
+      rests_stays g c hashed tale.begun tale.since left.made (subst (AllAllowed g start) (sym (longer_split tale o.split)) all) o.key r.machine tale.hands o.rests in
       record {
         key = o.key;
         own = left.keys r.key o.key o.own;
@@ -164,9 +176,11 @@ module _ {K V S : Type 0} (eq : K → K → Bool) (hash : K → ℕ) (law : IsLa
   abbrev pub tales' : ℕ → Tale K V
   tales' = told_tales tales caller left.made left.hands
 
+  -- the stepping call was told of what its answer says
   pub own_hands : (d : ℕ) → d ≡ caller → left.hands ≡ (tales' d).hands
   own_hands d same = sym (ap (λ b. cond b left.hands (tales d).hands) (eq-eqb d caller same))
 
+  -- and no other call of anything
   other_hands : (d : ℕ) → d ≢ caller → (tales d).hands ≡ (tales' d).hands
   other_hands d differ = sym (ap (λ b. cond b left.hands (tales d).hands) (differs d caller differ))
 
@@ -175,29 +189,37 @@ module _ {K V S : Type 0} (eq : K → K → Bool) (hash : K → ℕ) (law : IsLa
     other_runs : (d : ℕ) (r : Running K V) → d ≢ caller → running s'.callers d ≡ Some r → running s.callers d ≡ Some r
     other_runs d r differ runs = sym (running-other s.callers caller d goes differ) ∙ sym (ap (λ (y : List (Seat K V)). running y d) callers) ∙ runs
 
+    -- the stepping call goes on as its machine says
     own_runs : (d : ℕ) (r : Running K V) → d ≡ caller → running s'.callers d ≡ Some r → record later { machine = after before.machine a } ≡ r
     own_runs d r same runs = goes_is r (running-same s.callers caller goes r (sym (ap (λ (y : List (Seat K V)). running y caller) callers) ∙ ap (running s'.callers) (sym same) ∙ runs))
 
+    -- each call rests on what is told of it
     calls : (d : ℕ) (r : Running K V) → running s'.callers d ≡ Some r → IsCall eq hash s'.mode s'.store r es' (tales' d)
     calls d r runs = elim (cases_same d caller) [
-        inl same ↦ subst (λ y. IsCall eq hash s'.mode s'.store r es' (tales' y)) (sym same)
+      | inl same ↦ subst (λ y. IsCall eq hash s'.mode s'.store r es' (tales' y)) (sym same)
           (subst (λ y. IsCall eq hash s'.mode s'.store y es' (tales' caller)) (own_runs d r same runs) (own_call (tales' caller).hands (own_hands caller refl)))
-      | inr differ ↦ other_call d r (other_runs d r differ runs) differ (tales' d).hands (other_hands d differ) ]
+      | inr differ ↦ other_call d r (other_runs d r differ runs) differ (tales' d).hands (other_hands d differ)
+    ]
 
     -- the stepping call's pair is not another's
     own_apart : (d : ℕ) (r : Running K V) → running s.callers d ≡ Some r → d ≢ caller → (p p' : Stored K V) → left.hands.made ≡ Some p → (tales d).hands.made ≡ Some p' → p.number ≢ p'.number
     own_apart d r runs differ p p' mine other = elim (left.new p mine) [
-        inl old ↦ kept.apart caller d before r was runs (λ same. differ (sym same)) p p' old other
-      | inr (number, value, there) ↦ (λ same. let lt : p'.number < length s.store.pairs = below p' ((kept.calls d r runs).made p' other) in omega arith) ]
+      | inl old ↦ kept.apart caller d before r was runs (λ same. differ (sym same)) p p' old other
+      | inr (number, value, there) ↦ (λ same. let lt : p'.number < length s.store.pairs = below p' ((kept.calls d r runs).made p' other) in omega arith)
+    ]
 
+    -- no two calls have made one pair
     apart : (d e : ℕ) (r q : Running K V) → running s'.callers d ≡ Some r → running s'.callers e ≡ Some q → d ≢ e → (p p' : Stored K V) → (tales' d).hands.made ≡ Some p → (tales' e).hands.made ≡ Some p' → p.number ≢ p'.number
     apart d e r q runs_d runs_e differ p p' made_d made_e = elim (cases_same d caller) [
-        inl d_steps ↦ elim (cases_same e caller) [
-            inl e_steps ↦ absurd (differ (d_steps ∙ sym e_steps))
-          | inr e_not ↦ own_apart e q (other_runs e q e_not runs_e) e_not p p' (ap (λ (y : Hands (Stored K V)). y.made) (own_hands d d_steps) ∙ made_d) (ap (λ (y : Hands (Stored K V)). y.made) (other_hands e e_not) ∙ made_e) ]
+      | inl d_steps ↦ elim (cases_same e caller) [
+        | inl e_steps ↦ absurd (differ (d_steps ∙ sym e_steps))
+        | inr e_not ↦ own_apart e q (other_runs e q e_not runs_e) e_not p p' (ap (λ (y : Hands (Stored K V)). y.made) (own_hands d d_steps) ∙ made_d) (ap (λ (y : Hands (Stored K V)). y.made) (other_hands e e_not) ∙ made_e)
+      ]
       | inr d_not ↦ elim (cases_same e caller) [
-            inl e_steps ↦ (λ same. own_apart d r (other_runs d r d_not runs_d) d_not p' p (ap (λ (y : Hands (Stored K V)). y.made) (own_hands e e_steps) ∙ made_e) (ap (λ (y : Hands (Stored K V)). y.made) (other_hands d d_not) ∙ made_d) (sym same))
-          | inr e_not ↦ kept.apart d e r q (other_runs d r d_not runs_d) (other_runs e q e_not runs_e) differ p p' (ap (λ (y : Hands (Stored K V)). y.made) (other_hands d d_not) ∙ made_d) (ap (λ (y : Hands (Stored K V)). y.made) (other_hands e e_not) ∙ made_e) ] ]
+        | inl e_steps ↦ (λ same. own_apart d r (other_runs d r d_not runs_d) d_not p' p (ap (λ (y : Hands (Stored K V)). y.made) (own_hands e e_steps) ∙ made_e) (ap (λ (y : Hands (Stored K V)). y.made) (other_hands d d_not) ∙ made_d) (sym same))
+        | inr e_not ↦ kept.apart d e r q (other_runs d r d_not runs_d) (other_runs e q e_not runs_e) differ p p' (ap (λ (y : Hands (Stored K V)). y.made) (other_hands d d_not) ∙ made_d) (ap (λ (y : Hands (Stored K V)). y.made) (other_hands e e_not) ∙ made_e)
+      ]
+    ]
 
     -- a pair that a slot names is logged
     logged : (t x : ℕ) (p : Stored K V) → named ((run es' start).slot t x) ≡ Some p → IsLogged eq hash s'.mode s'.store p
@@ -206,11 +228,11 @@ module _ {K V S : Type 0} (eq : K → K → Bool) (hash : K → ℕ) (law : IsLa
     -- the core after the step
     pub step_kept : IsKept eq hash s'.mode s'.store s'.callers es' tales'
     step_kept = record {
-        allowed = all_carries g hashed.lawful g' es' start (λ k. None) (start_keeps g hashed.lawful) all agrees;
-        coded = left.coded;
-        single = left.single;
-        made = λ t some comes. still_there t (left.there t some comes);
-        logged = logged;
-        calls = calls;
-        apart = apart;
-      }
+      allowed = all_carries g hashed.lawful g' es' start (λ k. None) (start_keeps g hashed.lawful) all agrees;
+      coded = left.coded;
+      single = left.single;
+      made = λ t some comes. still_there t (left.there t some comes);
+      logged = logged;
+      calls = calls;
+      apart = apart;
+    }

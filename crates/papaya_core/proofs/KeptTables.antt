@@ -1,10 +1,9 @@
 -- The words and the sizes of tables after a write, and after a table was made.
-use Rattle.std.proofs.Common.{◌≡◌, ◌≢◌, ℕ, zero, suc, ◌+◌, ◌-◌, ◌==◌, ◌<◌, ◌≤◌, Bool, true, false, cond, nat_lt, List, [], ◌∷◌, ◌++◌, length, get_or, slice_get, slice_set, slice_index, replicate, Option, Some, None, ◌⊎◌, ⊎_elim, inl, inr, refl, sym, ◌∙◌, ap, subst, arith, length-set, eqb-true, lt-ltb}
-use Rattle.std.proofs.lemmas.Bool.{cases_Bool}
+use Rattle.std.proofs.Common.{◌≡◌, ◌≢◌, ℕ, zero, suc, ◌+◌, ◌-◌, ◌==◌, ◌<◌, Bool, true, false, cond, List, [], ◌∷◌, ◌++◌, length, slice_get, slice_set, slice_index, replicate, Some, None, ⊎_elim, refl, sym, ◌∙◌, ap, arith, length-set, lt-ltb}
 use Rattle.papaya_words.specs.Table.{TableWords, new_table}
 use Rattle.papaya_call.specs.declared.ask.At.{At}
 use Rattle.papaya_call.specs.declared.ask.At.TheVariants.{Root, Next, Aborted, Done, Slot}
-use Rattle.papaya_core.specs.Tables.{Tables, table_of, word_in, word_at, written, put, put_at, put_in}
+use Rattle.papaya_core.specs.Tables.{Tables, table_of, word_in, word_at, put, put_in}
 use Rattle.papaya_core.proofs.CallersLemmas.{differs, same_item}
 use Rattle.papaya_core.proofs.CoreLemmas.{cases_same}
 
@@ -39,6 +38,7 @@ index-set_same [] k y lt = absurd (omega arith)
 index-set_same (a ∷ xs) zero y lt = refl
 index-set_same (a ∷ xs) (suc k) y lt = index-set_same xs k y (omega arith)
 
+-- the other words
 pub index-set_other : (xs : List ℕ) (k i y : ℕ) → i ≢ k → slice_index (slice_set xs k y) i ≡ slice_index xs i
 index-set_other [] k i y h = refl
 index-set_other (a ∷ xs) zero zero y h = absurd (h refl)
@@ -60,6 +60,7 @@ table_there tables n t e = go (n == 0) refl
     go true z = let f : None ≡ Some t = sym (ap (λ b. cond b None (slice_get tables (n - 1))) z) ∙ e in cc
     go false z = (z, sym (ap (λ b. cond b None (slice_get tables (n - 1))) z) ∙ e)
 
+-- the table of a number above 0
 pub table_at : (tables : List TableWords) (n : ℕ) → (n == 0) ≡ false → table_of tables n ≡ slice_get tables (n - 1)
 table_at tables n z = ap (λ b. cond b None (slice_get tables (n - 1))) z
 
@@ -67,6 +68,7 @@ table_at tables n z = ap (λ b. cond b None (slice_get tables (n - 1))) z
 abbrev pub IsGrown : List TableWords → List TableWords → Type 0
 IsGrown tables tables' = (n : ℕ) (t : TableWords) → table_of tables n ≡ Some t → (t' : TableWords) × (table_of tables' n ≡ Some t') × (length t'.slots ≡ length t.slots) × (t'.limit ≡ t.limit)
 
+-- tables that stay as they are
 pub grown-same : (tables : List TableWords) → IsGrown tables tables
 grown-same tables n t e = (t, e, refl, refl)
 
@@ -101,6 +103,7 @@ module _ (w : Tables) (n i word : ℕ) (t : TableWords) (there : table_of w.tabl
         where
           eqb-same : (m : ℕ) → m ≡ 0 → (m == 0) ≡ true
           eqb-same m e = ap (λ y. y == 0) e
+
       go : (b : Bool) → (u == 0) ≡ b → table_of (slice_set w.tables (n - 1) after_write) u ≡ table_of w.tables u
       go true z = ap (λ b. cond b None (slice_get (slice_set w.tables (n - 1) after_write) (u - 1))) z ∙ sym (ap (λ b. cond b None (slice_get w.tables (u - 1))) z)
       go false z = table_at (slice_set w.tables (n - 1) after_write) u z ∙ get-set_other w.tables (n - 1) (u - 1) after_write (λ e. differ (same_number e)) ∙ sym (table_at w.tables u z)
@@ -115,8 +118,8 @@ module _ (w : Tables) (n i word : ℕ) (t : TableWords) (there : table_of w.tabl
   pub put-grown : IsGrown w.tables (put w (Slot n i) word).tables
   put-grown u v e = ⊎_elim
       (λ (same : u ≡ n).
-        let f : t ≡ v = same_item t v (sym there ∙ (ap (table_of w.tables) (sym same) ∙ e)) in
-        (after_write, ap (table_of (put w (Slot n i) word).tables) same ∙ table-here, length-set t.slots i word ∙ ap (λ (y : TableWords). length y.slots) f, ap (λ (y : TableWords). y.limit) f))
+      let f : t ≡ v = same_item t v (sym there ∙ (ap (table_of w.tables) (sym same) ∙ e)) in
+      (after_write, ap (table_of (put w (Slot n i) word).tables) same ∙ table-here, length-set t.slots i word ∙ ap (λ (y : TableWords). length y.slots) f, ap (λ (y : TableWords). y.limit) f))
       (λ (differ : u ≢ n). (v, table-other u differ ∙ e, refl, refl))
       (cases_same u n)
 
@@ -139,9 +142,9 @@ module _ (w : Tables) (n i word : ℕ) (t : TableWords) (there : table_of w.tabl
   word-other (Done u) differ = word-left (λ v. v.done) refl u
   word-other (Slot u y) differ = ⊎_elim
       (λ (e : u ≡ n).
-        ap (λ z. word_in (λ v. slice_index v.slots y) (table_of (put w (Slot n i) word).tables z)) e ∙ ap (word_in (λ v. slice_index v.slots y)) table-here
-        ∙ index-set_other t.slots i y word (λ same. differ (ap (λ z. Slot z y) e ∙ ap (Slot n) same))
-        ∙ sym (ap (word_in (λ v. slice_index v.slots y)) there) ∙ ap (λ z. word_in (λ v. slice_index v.slots y) (table_of w.tables z)) (sym e))
+      ap (λ z. word_in (λ v. slice_index v.slots y) (table_of (put w (Slot n i) word).tables z)) e ∙ ap (word_in (λ v. slice_index v.slots y)) table-here
+      ∙ index-set_other t.slots i y word (λ same. differ (ap (λ z. Slot z y) e ∙ ap (Slot n) same))
+      ∙ sym (ap (word_in (λ v. slice_index v.slots y)) there) ∙ ap (λ z. word_in (λ v. slice_index v.slots y) (table_of w.tables z)) (sym e))
       (λ (other_table : u ≢ n). ap (word_in (λ v. slice_index v.slots y)) (table-other u other_table))
       (cases_same u n)
 
@@ -153,9 +156,11 @@ word-added read (t ∷ tables) new none zero = refl
 word-added read (t ∷ tables) new none (suc i) = word-added read tables new none i
 
 module _ (w : Tables) (number slots limit : ℕ) where
+  -- the tables with a new one
   abbrev added : Tables
   added = record w { tables = w.tables ++ new_table number slots limit ∷ [] }
 
+  -- a word of which the new table says 0
   word-grown : (read : TableWords → ℕ) → read (new_table number slots limit) ≡ 0 → (u : ℕ) → word_in read (table_of added.tables u) ≡ word_in read (table_of w.tables u)
   word-grown read none u = go (u == 0)
     where

@@ -1,36 +1,27 @@
 -- An exchange that was made, and every answered ask.
-use Rattle.std.proofs.Common.{◌≡◌, ◌≢◌, ℕ, suc, ◌+◌, ◌==◌, ◌<◌, ◌≤◌, ◌%◌, ◌^◌, Bool, true, false, List, [], ◌∷◌, ◌++◌, length, slice_get, Option, Some, None, ◌⊎◌, inl, inr, refl, sym, ◌∙◌, ap, subst, arith, MatchBool, length-append}
-use Rattle.papaya_words.specs.Table.{TableWords, new_table}
-use Rattle.papaya_words.specs.declared.limits.TheConstants.{MAX_TABLES, MAX_LOG_LEN}
-use Rattle.papaya_words.specs.declared.probe.Refused.{Refused}
-use Rattle.papaya_words.specs.declared.probe.Refused.TheVariants.{Memory, Capacity}
+use Rattle.std.proofs.Common.{◌≡◌, ℕ, ◌==◌, ◌<◌, Bool, true, List, [], ◌∷◌, ◌++◌, length, Some, None, ◌⊎◌, inl, inr, refl, sym, ◌∙◌, ap, subst, arith, MatchBool}
+use Rattle.papaya_words.specs.Table.{TableWords}
 use Rattle.papaya_words.specs.declared.probe.ResizeMode.{ResizeMode}
 use Rattle.papaya_call.specs.declared.ask.At.{At}
 use Rattle.papaya_call.specs.declared.ask.At.TheVariants.{Root, Next, Aborted, Done, Slot}
 use Rattle.papaya_call.specs.declared.ask.Ask.{Ask}
-use Rattle.papaya_call.specs.declared.ask.Ask.TheVariants.{Load, Exchange as Ask_exchange, SameKey, SizeOf, MakeKey, MakePair, MakeTable, AddToShard, Done as Ask_done}
+use Rattle.papaya_call.specs.declared.ask.Ask.TheVariants.{Exchange as Ask_exchange}
 use Rattle.papaya_call.specs.declared.ask.Answer.{Answer}
-use Rattle.papaya_call.specs.declared.ask.Answer.TheVariants.{Word as Word_read, Exchanged, Found as Found_instead, Yes, Size, Made as Made_number, Ok as Ok_done, Refused as Was_refused}
+use Rattle.papaya_call.specs.declared.ask.Answer.TheVariants.{Exchanged, Found as Found_instead}
 use Rattle.papaya_call.specs.declared.machine.State.TheVariants.{Making}
 use Rattle.papaya_call.specs.Law.Exchange.{Setting, State, Exchange, run, start}
 use Rattle.papaya_call.specs.Law.Grows.{Comes}
 use Rattle.papaya_call.specs.Law.Invariant.{named}
-use Rattle.papaya_call.specs.Machine.{ask_of, kind_of_ask, after, asks}
+use Rattle.papaya_call.specs.Machine.{ask_of, kind_of_ask, asks}
 use Rattle.papaya_call.specs.Rests.{Rests, change_in, change_after}
-use Rattle.papaya_call.specs.Told.{Hands, IsTold, IsHashed, IsUnmade, IsAsked, IsWritten, told_of, word_of}
-use Rattle.papaya_core.specs.declared.pairs.Pair.{Pair}
-use Rattle.papaya_core.specs.declared.pairs.KeyOf.{KeyOf}
-use Rattle.papaya_core.specs.declared.pairs.KeyOf.TheVariants.{Own, Logged}
+use Rattle.papaya_call.specs.Told.{IsTold, IsHashed, IsAsked, IsWritten, told_of, word_of}
 use Rattle.papaya_core.specs.declared.pairs.Running.{Running}
-use Rattle.papaya_core.specs.Kept.{Tale, IsCall, setting_of, coding_of, low, slots_in, places_in}
-use Rattle.papaya_core.specs.Performs.{Performs, Refuses, Stays, HasKey, HasNoPair, LogsKey, LogsPair, MakesTable, key_at, own_key, same, size_of}
-use Rattle.papaya_core.specs.Store.{StoreState, Stored, pair_of, stored_at, stored_in}
+use Rattle.papaya_core.specs.Kept.{Tale, slots_in}
+use Rattle.papaya_core.specs.Performs.{own_key}
+use Rattle.papaya_core.specs.Store.{StoreState, Stored, pair_of}
 use Rattle.papaya_core.specs.Tables.{Tables, table_of, word_at, put}
-use Rattle.papaya_core.proofs.StoreLemmas.{matched}
-use Rattle.papaya_core.proofs.KeptAnswer.{law_setting, law_coding, words_now, IsAnswered, unexchanged, quiet, changed, told_last, told_made}
-use Rattle.papaya_core.proofs.KeptLogs.{key_at-more, pair-more_keys, pair-more_pairs}
-use Rattle.papaya_core.proofs.KeptTables.{IsGrown, grown-same, get-append_last, made-grown, made-there, word-made, put-grown, word-here, word-other}
-use Rattle.papaya_call.specs.declared.ask.StepKind.{StepKind}
+use Rattle.papaya_core.proofs.KeptAnswer.{law_setting, law_coding, words_now, IsAnswered, changed}
+use Rattle.papaya_core.proofs.KeptTables.{IsGrown, grown-same, put-grown, word-here, word-other}
 use Rattle.papaya_call.specs.declared.machine.State.{State as Stage}
 use Rattle.papaya_call.specs.declared.machine.State.TheVariants.{AtRoot, Opening, Searching, Writing, Counting, Leaving, Ended}
 use Rattle.papaya_call.specs.declared.write.Made.{Made}
@@ -41,11 +32,11 @@ use Rattle.papaya_call.specs.Rests.{change_of_kind}
 use Rattle.papaya_call.proofs.Law.Logs.{on_comes}
 use Rattle.papaya_call.proofs.Law.Moments.{run-append}
 use Rattle.papaya_call.proofs.RestsExchange.{machine_may}
-use Rattle.papaya_call.proofs.RestsNames.{IsNamed, ask_named, slot_named}
+use Rattle.papaya_call.proofs.RestsNames.{ask_named, slot_named}
 use Rattle.std.proofs.Common.{eqb-true}
 use Rattle.papaya_core.proofs.CoreLemmas.{cases_same}
 use Rattle.papaya_core.proofs.KeptExchange.{IsChanged, changes}
-use Rattle.papaya_core.proofs.KeptMade.{key_made, pair_made, table_made, none_made, no_table}
+use Rattle.papaya_core.proofs.KeptMade.{no_table}
 use Rattle.papaya_core.proofs.KeptOpening.{root_opens}
 
 -- a call that exchanges has changed nothing before
@@ -89,9 +80,11 @@ module _ {K V S : Type 0} (eq : K → K → Bool) (hash : K → ℕ) (mode : Res
   abbrev g : Setting K (Stored K V)
   g = law_setting eq hash mode store r es tale
 
+  -- the words as the law has them
   abbrev now : State (Stored K V)
   now = words_now eq hash mode store r es tale
 
+  -- what an answer leaves, where it is this
   abbrev Leaves : Ask → Answer → StoreState K V S → Running K V → Type 0
   Leaves ask a store' later = IsAnswered eq hash mode store r es tale key ask a store' later
 
@@ -117,21 +110,25 @@ module _ {K V S : Type 0} (eq : K → K → Bool) (hash : K → ℕ) (mode : Res
   written_coded Root new s placed w (Slot u y) = w.others (Slot u y) (λ f. absurd cc) ∙ coded (Slot u y)
   written_coded (Slot n i) new s (t, here, lt) w other = at_slot other
     where
+      -- a word at another place
       elsewhere : (other : At) → (other ≡ Slot n i → ⊥) → word_of g (law_coding eq hash mode store r es tale) s other ≡ word_at (put store.words (Slot n i) new) other
       elsewhere other differ = w.others other differ ∙ coded other ∙ sym (word-other store.words n i new t here lt other differ)
 
+      -- each word
       at_slot : (other : At) → word_of g (law_coding eq hash mode store r es tale) s other ≡ word_at (put store.words (Slot n i) new) other
       at_slot Root = elsewhere Root (λ f. absurd cc)
       at_slot (Next u) = elsewhere (Next u) (λ f. absurd cc)
       at_slot (Aborted u) = elsewhere (Aborted u) (λ f. absurd cc)
       at_slot (Done u) = elsewhere (Done u) (λ f. absurd cc)
       at_slot (Slot u y) = elim (cases_same u n) [
-          inl table ↦ elim (cases_same y i) [
-              inl slot ↦
-                let is : Slot u y ≡ Slot n i = ap (λ z. Slot z y) table ∙ ap (Slot n) slot in
-                ap (word_of g (law_coding eq hash mode store r es tale) s) is ∙ w.here ∙ sym (word-here store.words n i new t here lt) ∙ ap (word_at (put store.words (Slot n i) new)) (sym is)
-            | inr slot ↦ elsewhere (Slot u y) (λ f. slot cc) ]
-        | inr table ↦ elsewhere (Slot u y) (λ f. table cc) ]
+        | inl table ↦ elim (cases_same y i) [
+          | inl slot ↦
+              let is : Slot u y ≡ Slot n i = ap (λ z. Slot z y) table ∙ ap (Slot n) slot in
+              ap (word_of g (law_coding eq hash mode store r es tale) s) is ∙ w.here ∙ sym (word-here store.words n i new t here lt) ∙ ap (word_at (put store.words (Slot n i) new)) (sym is)
+          | inr slot ↦ elsewhere (Slot u y) (λ f. slot cc)
+        ]
+        | inr table ↦ elsewhere (Slot u y) (λ f. table cc)
+      ]
   written_coded (Next n) new s placed w other = absurd placed
   written_coded (Aborted n) new s placed w other = absurd placed
   written_coded (Done n) new s placed w other = absurd placed
@@ -153,10 +150,10 @@ module _ {K V S : Type 0} (eq : K → K → Bool) (hash : K → ℕ) (mode : Res
       let place : IsPlaced store.words.tables at = placed at old new e changed_by.place in
       let to : run (es ++ x.0 ∷ []) start ≡ state_after now x.0 = run-append es (x.0 ∷ []) start in
       let told : IsTold g c key now (kind_of_ask r.machine) tale.hands (Ask_exchange at old new) a (x.0 ∷ []) tale.hands =
-            subst (λ b. MatchBool b
-                ((a ≡ Exchanged) × ((y : Exchange (Stored K V)) × IsAsked (kind_of_ask r.machine) at new now tale.hands y × (x.0 ∷ [] ≡ y ∷ [])) × (tale.hands ≡ tale.hands))
-                ((a ≡ Found_instead (word_of g c now at)) × (x.0 ∷ [] ≡ []) × (tale.hands ≡ told_of now at tale.hands)))
-              (sym (ap (λ y. y == old) (coded at) ∙ hit)) (is, (x.0, x.1, refl), refl) in
+      subst (λ b. MatchBool b
+      ((a ≡ Exchanged) × ((y : Exchange (Stored K V)) × IsAsked (kind_of_ask r.machine) at new now tale.hands y × (x.0 ∷ [] ≡ y ∷ [])) × (tale.hands ≡ tale.hands))
+      ((a ≡ Found_instead (word_of g c now at)) × (x.0 ∷ [] ≡ []) × (tale.hands ≡ told_of now at tale.hands)))
+      (sym (ap (λ y. y == old) (coded at) ∙ hit)) (is, (x.0, x.1, refl), refl) in
       record {
         made = x.0 ∷ [];
         hands = tale.hands;
@@ -169,13 +166,14 @@ module _ {K V S : Type 0} (eq : K → K → Bool) (hash : K → ℕ) (mode : Res
         coded = λ other. ap (λ z. word_of g c z other) to ∙ written_coded at new (state_after now x.0) place x.3 other;
         single = λ t. ap (λ z. z.next t) to ∙ changed_by.next t ∙ single t;
         there = λ t some comes. elim (changed_by.comes t (subst (λ z. Comes z t) to comes)) [
-            inl before ↦ there t some before
-          | inr (root, same_table) ↦ opens t (root_opens r.machine.made r.machine.hash r.machine.state old t (e ∙ ap (λ y. Ask_exchange y old new) root ∙ ap (Ask_exchange Root old) same_table)) ];
+          | inl before ↦ there t some before
+          | inr (root, same_table) ↦ opens t (root_opens r.machine.made r.machine.hash r.machine.state old t (e ∙ ap (λ y. Ask_exchange y old new) root ∙ ap (Ask_exchange Root old) same_table))
+        ];
         slots = λ t y p h. changed_by.slots t y p (ap (λ z. named (z.slot t y)) (sym to) ∙ h);
         unchanged = λ none.
-          let same_change : change_of_kind (kind_of_ask r.machine) old new ≡ None =
-                sym (changed eq hash mode store r es tale hashed key rests.hash coded single there (Ask_exchange at old new) e a (x.0 ∷ []) tale.hands told ∙ ap (λ y. change_after (kind_of_ask r.machine) (Ask_exchange at old new) y (change_in r.machine.state)) is) ∙ none in
-          (unchanged_before r.machine.made r.machine.hash r.machine.state at old new e, λ t y p h. changed_by.unchanged old new same_change t y p (ap (λ z. named (z.slot t y)) (sym to) ∙ h));
+            let same_change : change_of_kind (kind_of_ask r.machine) old new ≡ None =
+            sym (changed eq hash mode store r es tale hashed key rests.hash coded single there (Ask_exchange at old new) e a (x.0 ∷ []) tale.hands told ∙ ap (λ y. change_after (kind_of_ask r.machine) (Ask_exchange at old new) y (change_in r.machine.state)) is) ∙ none in
+            (unchanged_before r.machine.made r.machine.hash r.machine.state at old new e, λ t y p h. changed_by.unchanged old new same_change t y p (ap (λ z. named (z.slot t y)) (sym to) ∙ h));
         last = λ p h. inl h;
         new = λ q h. inl h;
         opens = λ t f making. absurd (no_table eq hash mode store r es tale hashed key rests.hash coded single there own (Ask_exchange at old new) e (λ z. absurd cc) making);

@@ -1,5 +1,5 @@
 -- How the words and the logs of a core stand to the law of exchanges.
-use Rattle.std.specs.Prelude.{◌≡◌, ◌≢◌, ℕ, ◌+◌, ◌%◌, ◌^◌, ◌<◌, ◌==◌, Bool, true, false, if◌then◌else◌, Option, None, Some, List, [], ◌∷◌, ◌++◌, length}
+use Rattle.std.specs.Prelude.{◌≡◌, ◌≢◌, ℕ, ◌+◌, ◌%◌, ◌^◌, ◌<◌, ◌==◌, Bool, true, false, if◌then◌else◌, Option, None, Some, List, [], ◌++◌, length}
 use Rattle.papaya_words.specs.Table.{TableWords}
 use Rattle.papaya_words.specs.declared.probe.ResizeMode.{ResizeMode}
 use Rattle.papaya_words.specs.declared.probe.ResizeMode.TheVariants.{Incremental, Blocking}
@@ -7,7 +7,7 @@ use Rattle.papaya_call.specs.declared.ask.At.{At}
 use Rattle.papaya_call.specs.declared.machine.State.TheVariants.{Opening}
 use Rattle.papaya_call.specs.Law.Allows.{AllAllowed}
 use Rattle.papaya_call.specs.Law.Code.{Coding}
-use Rattle.papaya_call.specs.Law.Exchange.{Setting, State, Exchange, run, start}
+use Rattle.papaya_call.specs.Law.Exchange.{Setting, Exchange, run, start}
 use Rattle.papaya_call.specs.Law.Grows.{Comes, planned}
 use Rattle.papaya_call.specs.Law.Hashing.{hashed}
 use Rattle.papaya_call.specs.Law.Invariant.{named}
@@ -21,15 +21,17 @@ use Rattle.papaya_core.specs.Performs.{own_key}
 use Rattle.papaya_core.specs.Store.{StoreState, Stored, pair_of}
 use Rattle.papaya_core.specs.Tables.{table_of, word_at}
 
+-- does the core resize with blocking?
 abbrev pub is_blocking : ResizeMode → Bool
 is_blocking (Incremental chunk) = false
 is_blocking Blocking = true
 
--- how many slots a table has, and at how many places a search of it looks; 1 where there is no such table
+-- how many slots a table has; 1 where there is no such table
 abbrev pub slots_in : Option TableWords → ℕ
 slots_in None = 1
 slots_in (Some t) = length t.slots
 
+-- at how many places a search of it looks; 1 where there is no such table
 abbrev pub places_in : Option TableWords → ℕ
 places_in None = 1
 places_in (Some t) = t.limit + 1

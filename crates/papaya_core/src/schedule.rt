@@ -8,6 +8,8 @@ ghost use Rattle.papaya_core.specs.Store.{pair_of, hash_of};
 ghost use Rattle.papaya_core.specs.Core.{call_of};
 ghost use Rattle.papaya_core.specs.Begins.{Begins, begun};
 ghost use Rattle.papaya_core.specs.Advances.{Advances, event_of, reply_in};
+ghost use Rattle.papaya_core.specs.Headline.{HasTimeline};
+ghost use Rattle.papaya_core.specs.Moves.{MovesMap};
 ghost use Rattle.papaya_core.specs.New.{IsTooMuch, IsAllowed, IsRefused, IsNew};
 ghost use Rattle.papaya_core.specs.Runs.{TurnsRun, StopsEarly, TurnRuns, IsCutShort, BeginRuns, StepRuns, StepsRun};
 
@@ -183,7 +185,8 @@ impl<K: Hash + Eq + Drop, V: Drop, S: BuildHasher> Core<K, V, S> {
     /// One step of a caller: what happened, and the reply where there is one.
     fn advance(&mut self, caller: usize, refuse: bool) -> (Event, Option<Reply>)
         requires { IsSome (call_of self.old caller) }
-        ensures { Advances K.eq refuse self.old caller self.new result.0 result.1 }
+        ensures advances { Advances K.eq refuse self.old caller self.new result.0 result.1 }
+        ensures moves { MovesMap K.eq self.old caller self.new result.0 }
     {
         let mut running = self.callers.take(caller);
         let kind = running.machine.kind();
@@ -207,7 +210,7 @@ impl<K: Hash + Eq + Drop, V: Drop, S: BuildHasher> Core<K, V, S> {
     /// `Refused::Memory`, and any other step is an ordinary one.
     pub fn step(&mut self, caller: usize, refuse_memory: bool) -> Option<Reply>
         requires { IsSome (call_of self.old caller) }
-        ensures { (event : _) × Advances K.eq refuse_memory self.old caller self.new event result }
+        ensures { (event : _) × Advances K.eq refuse_memory self.old caller self.new event result × MovesMap K.eq self.old caller self.new event }
     {
         let (_, reply) = self.advance(caller, refuse_memory);
         reply
@@ -220,6 +223,7 @@ impl<K: Hash + Eq + Drop, V: Drop, S: BuildHasher> Core<K, V, S> {
     /// before were made, and of a `Finish` perhaps some steps.
     pub fn run(&mut self, schedule: Vec<Turn<K, V>>) -> Result<Trace, Refused>
         ensures ok { IfOk result (λ trace. TurnsRun K.eq (hash_of K.hash_input S.build_hasher S.Hasher.write S.Hasher.finish) schedule.items (length schedule.items) self.old self.new (reverse trace.entries.items)) }
+        ensures timeline { IfOk result (λ trace. HasTimeline K.eq schedule.items self.old (reverse trace.entries.items) self.new) }
         ensures err { IfErr result (λ e. (e ≡ Refused.Memory) × StopsEarly K.eq (hash_of K.hash_input S.build_hasher S.Hasher.write S.Hasher.finish) schedule.items self.old self.new) }
     {
         let mut entries = Vec::new(self.alloc);

@@ -6,8 +6,11 @@ use Rattle.papaya_core.specs.Callers.{with_call}
 use Rattle.papaya_core.specs.Performs.{Performs}
 use Rattle.papaya_core.specs.Core.{IsCore}
 use Rattle.papaya_core.specs.Advances.{Advances, event_of, reply_in, goes_on}
+use Rattle.papaya_core.specs.Kept.{IsLawfulCore}
+use Rattle.papaya_core.specs.Store.{hash_of}
 use Rattle.papaya_core.proofs.CallersLemmas.{with_call-twice}
 use Rattle.papaya_core.proofs.CoreLemmas.{with_call-core, performed-core}
+use Rattle.papaya_core.proofs.HeadlineLemmas.{lawful_moves}
 use Rattle.papaya_core.proofs.KeptCore.{stepped_lawful}
 use Rattle.papaya_core.proofs.schedule.Core.advance.Goals as goal
 use Rattle.papaya_core.proofs.schedule.Core.advance.Goals.{After-perform-answer}
@@ -59,8 +62,8 @@ invariant_of-self-in-None g c =
         ∙ sym (ap (λ y. with_call c.self.inside.callers c.args.caller (goes_on y (record later { machine = after c.take-running.result.machine a }))) reply))
       core c.self.invariant
 
-pub returns-in-Some : goal.returns-in-Some
-returns-in-Some g c =
+pub returns-in-Some-clause-advances : goal.returns-in-Some-clause-advances
+returns-in-Some-clause-advances g c =
     let before = c.take-running.result in
     let later = c.perform-answer.new.running in
     let a = c.perform-answer.result in
@@ -70,7 +73,7 @@ returns-in-Some g c =
       was = c.take-running.ensures.call;
       answer = a;
       later = later;
-      performs = asked g (goal.at.returns-in-Some g c).After-perform-answer;
+      performs = asked g (goal.at.returns-in-Some-clause-advances g c).After-perform-answer;
       machine = c.perform-answer.ensures.machine;
       event_is = c.event_of-event.ensures ∙ ap (λ y. event_of y c.ask-ask.result a) c.kind-kind.ensures ∙ ap (λ y. event_of (kind_of_ask before.machine) y a) c.ask-ask.ensures.value;
       reply_is = c.reply_in-reply.ensures ∙ ap reply_in c.ask.ensures.value ∙ ap (λ m. reply_in (ask_of m)) is_after;
@@ -79,8 +82,8 @@ returns-in-Some g c =
       initial = refl;
     })
 
-pub returns-in-None : goal.returns-in-None
-returns-in-None g c =
+pub returns-in-None-clause-advances : goal.returns-in-None-clause-advances
+returns-in-None-clause-advances g c =
     let before = c.take-running.result in
     let later = c.perform-answer.new.running in
     let a = c.perform-answer.result in
@@ -90,7 +93,7 @@ returns-in-None g c =
       was = c.take-running.ensures.call;
       answer = a;
       later = later;
-      performs = asked g (goal.at.returns-in-None g c).After-perform-answer;
+      performs = asked g (goal.at.returns-in-None-clause-advances g c).After-perform-answer;
       machine = c.perform-answer.ensures.machine;
       event_is = c.event_of-event.ensures ∙ ap (λ y. event_of y c.ask-ask.result a) c.kind-kind.ensures ∙ ap (λ y. event_of (kind_of_ask before.machine) y a) c.ask-ask.ensures.value;
       reply_is = c.reply_in-reply.ensures ∙ ap reply_in c.ask.ensures.value ∙ ap (λ m. reply_in (ask_of m)) is_after;
@@ -101,3 +104,17 @@ returns-in-None g c =
       mode = refl;
       initial = refl;
     })
+
+pub returns-in-Some-clause-moves : goal.returns-in-Some-clause-moves
+returns-in-Some-clause-moves g c =
+    lawful_moves g.K.PartialEq.eq g.K.Hash.hash_input g.S.BuildHasher.build_hasher g.S.Hasher.Hasher.write g.S.Hasher.Hasher.finish g.met.K.Eq.laws g.met.K.Hash.respects_eq
+      c.args.refuse c.args.self.now (record { store = c.perform-answer.new.self; callers = c.take-running.new.self; mode = c.self.inside.mode; initial = c.self.inside.initial }) c.args.caller c.event_of-event.result c.reply_in-reply.result
+      (subst (λ s. IsLawfulCore g.K.PartialEq.eq (hash_of g.K.Hash.hash_input g.S.BuildHasher.build_hasher g.S.Hasher.Hasher.write g.S.Hasher.Hasher.finish s.store.hasher) s.store s.callers s.mode) c.self.view_is c.self.invariant)
+      (returns-in-Some-clause-advances g c)
+
+pub returns-in-None-clause-moves : goal.returns-in-None-clause-moves
+returns-in-None-clause-moves g c =
+    lawful_moves g.K.PartialEq.eq g.K.Hash.hash_input g.S.BuildHasher.build_hasher g.S.Hasher.Hasher.write g.S.Hasher.Hasher.finish g.met.K.Eq.laws g.met.K.Hash.respects_eq
+      c.args.refuse c.args.self.now (record { store = c.perform-answer.new.self; callers = c.put.new.self; mode = c.self.inside.mode; initial = c.self.inside.initial }) c.args.caller c.event_of-event.result c.reply_in-reply.result
+      (subst (λ s. IsLawfulCore g.K.PartialEq.eq (hash_of g.K.Hash.hash_input g.S.BuildHasher.build_hasher g.S.Hasher.Hasher.write g.S.Hasher.Hasher.finish s.store.hasher) s.store s.callers s.mode) c.self.view_is c.self.invariant)
+      (returns-in-None-clause-advances g c)

@@ -10,7 +10,9 @@ use Rattle.std.proofs.lemmas.Iterator.Consumers.{YieldsList-from_enumerate, Yiel
 use Rattle.std.proofs.lemmas.Result.{err_from_is_err_and}
 use Rattle.papaya_words.specs.declared.probe.Refused.TheVariants.{Memory}
 use Rattle.papaya_core.specs.Store.{hash_of}
+use Rattle.papaya_core.specs.Kept.{IsLawfulCore}
 use Rattle.papaya_core.specs.Runs.{TurnsRun, StopsEarly}
+use Rattle.papaya_core.proofs.HeadlineLemmas.{lawful_timeline}
 use Rattle.papaya_core.proofs.RunLemmas.{numbered_item, TurnsRun-more, StopsEarly-at}
 use Rattle.papaya_core.proofs.schedule.Core.run.Goals as goal
 use Rattle.papaya_core.proofs.schedule.Core.run.Goals.{After-into_iter-turn-iterator, After-next}
@@ -49,3 +51,10 @@ returns-clause-ok g c =
     let t = YieldsList-end (turns g (goal.at.returns-clause-ok g c).After-into_iter-turn-iterator) c.loop-turn.yielded c.loop-turn.turn-iterator c.loop-turn.yielded_by c.next.result c.next.new.self c.in-None.is c.next.ensures.steps in
     let all : length c.loop-turn.yielded ≡ length c.args.schedule.items = t.1 ∙ length-enumerate_from 0 c.args.schedule.items in
     subst (λ (n : ℕ). TurnsRun g.K.PartialEq.eq (hash_of g.K.Hash.hash_input g.S.BuildHasher.build_hasher g.S.Hasher.Hasher.write g.S.Hasher.Hasher.finish) c.args.schedule.items n c.args.self.now c.loop-turn.self (reverse c.loop-turn.entries.items)) all c.loop-turn.invariant
+
+pub returns-clause-timeline : goal.returns-clause-timeline
+returns-clause-timeline g c =
+    lawful_timeline g.K.PartialEq.eq g.K.Hash.hash_input g.S.BuildHasher.build_hasher g.S.Hasher.Hasher.write g.S.Hasher.Hasher.finish g.met.K.Eq.laws g.met.K.Hash.respects_eq
+      c.args.schedule.items (length c.loop-turn.yielded) c.args.self.now c.loop-turn.self (reverse c.loop-turn.entries.items)
+      (subst (λ s. IsLawfulCore g.K.PartialEq.eq (hash_of g.K.Hash.hash_input g.S.BuildHasher.build_hasher g.S.Hasher.Hasher.write g.S.Hasher.Hasher.finish s.store.hasher) s.store s.callers s.mode) c.self.view_is c.self.invariant)
+      c.loop-turn.invariant
