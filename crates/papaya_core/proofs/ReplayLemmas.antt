@@ -77,10 +77,12 @@ module _ {K V : Type 0} (eq : K → K → Bool) where
       where
         same_left : (j k l : K) → eq j k ≡ true → eq j l ≡ eq k l
         same_left j k l same = elim (cases_Bool (eq k l)) [
-            inl here ↦ law.through j k l same here ∙ sym here
+          | inl here ↦ law.through j k l same here ∙ sym here
           | inr other ↦ elim (cases_Bool (eq j l)) [
-              inl there ↦ let f : eq k l ≡ true = law.through k j l (law.back j k same) there in cc
-            | inr elsewhere ↦ elsewhere ∙ sym other ] ]
+            | inl there ↦ let f : eq k l ≡ true = law.through k j l (law.back j k same) there in cc
+            | inr elsewhere ↦ elsewhere ∙ sym other
+          ]
+        ]
 
     respects : (es : List (Exchange (Stored K V))) (m : Map K V) → ((j k : K) → eq j k ≡ true → m j ≡ m k) → (j k : K) → eq j k ≡ true → replayed eq m es j ≡ replayed eq m es k
     respects [] m alike = alike

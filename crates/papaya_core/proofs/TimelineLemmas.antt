@@ -36,8 +36,9 @@ not_begin-other c d turn event h = ap (λ b. cond b (begins event) false) (diffe
 -- nor does an event that is no begin
 pub not_begin-own : (c d turn : ℕ) (event : Event) → begins event ≡ false → is_begin d (entry turn c event) ≡ false
 not_begin-own c d turn event h = elim (cases_Bool (c == d)) [
-    inl same ↦ ap (λ b. cond b (begins event) false) same ∙ h
-  | inr other ↦ ap (λ b. cond b (begins event) false) other ]
+  | inl same ↦ ap (λ b. cond b (begins event) false) same ∙ h
+  | inr other ↦ ap (λ b. cond b (begins event) false) other
+]
 
 module _ {K V : Type 0} where
   -- what held at a moment, and what follows from it
