@@ -6,3 +6,6 @@ pub mod pairs;
 pub mod schedule;
 pub mod store;
 pub mod trace;
+
+#[cfg(test)]
+mod tests;
