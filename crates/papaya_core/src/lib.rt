@@ -3,9 +3,10 @@
 
 pub mod callers;
 pub mod pairs;
+#[cfg(test)]
+mod plain_tests;
 pub mod schedule;
 pub mod store;
-pub mod trace;
-
 #[cfg(test)]
 mod tests;
+pub mod trace;
