@@ -153,8 +153,8 @@ module _ {K V S : Type 0} (eq : K → K → Bool) where
       table_made : (s : StoreState K V S) (a : Answer) (s' : StoreState K V S) → AllSized s.words.tables → IsSize slots limit → (Refuses MAX_TABLES (length s.words.tables) a × (s' ≡ s)) ⊎ MakesTable a slots limit s s' → IsKept a s'
       table_made s a s' all size (inl (f, same)) = refused _ _ a s s' f same all
       table_made s a s' all size (inr (e, few, same)) = record {
-        fit = said a _ e (let most : length s.words.tables < 2 ^ 32 = few in omega arith);
-        sized = subst (λ (y : StoreState K V S). AllSized y.words.tables) (sym same) (append-sized s.words.tables _ slots limit size all);
-      }
+          fit = said a _ e (let most : length s.words.tables < 2 ^ 32 = few in omega arith);
+          sized = subst (λ (y : StoreState K V S). AllSized y.words.tables) (sym same) (append-sized s.words.tables _ slots limit size all);
+        }
   performed refuse (AddToShard by) s r a s' r' all fit (e, same, _) = record { fit = said a _ e tt; sized = subst (λ (y : StoreState K V S). AllSized y.words.tables) (sym same) all }
   performed refuse (Ask_done reply) s r a s' r' all fit (e, stays) = quiet a s s' (said a _ e tt) stays.0 all

@@ -2,10 +2,12 @@
 ghost use Rattle.std.specs.Prelude.{◌≡◌, ◌≢◌, ℕ, ◌<◌, ◌↔◌, length, [], ◌∷◌, ◌++◌, None, Some, is_some, IsSome, OnOk, OnErr, IfErr, slice_get, slice_set, EachIndex};
 ghost use Rattle.papaya_core.specs.Callers.{running, with_call, with_seat, IsSeated, IsSeatAt};
 
-use crate::pairs::Running;
-use papaya_words::probe::Refused;
 use std::alloc::Global;
 use std::marker::Model;
+
+use papaya_words::probe::Refused;
+
+use crate::pairs::Running;
 
 /// A caller that has begun a call at some time, and the call that it has under way.
 #[derive(Drop)]

@@ -1,74 +1,25 @@
 // Compares the core with a plain map, written from the definitions: a list of pairs, which a call
-// changes whole at one moment between its begin and its reply.
+// changes whole at one moment between its begin and its reply. So the replies and the pairs at the
+// end are those of one call whole before the other, and not against the order of calls of which
+// one replied before the other began. Of calls that overlap each of both orders has to be met.
 //
 // Two callers make one call each, on the keys 0 and 1. Their first turns come in every order: ten
 // of an insertion, which is the whole of one that meets nobody, and seven of a lookup, which is the
-// whole of any. Then they go on to their ends, the first caller before the second.
-ghost use Rattle.std.specs.Prelude.{◌≡◌, ◌≤◌, ◌<◌, ◌*◌, slice_index};
+// whole of any. Then at most one of them has not replied, and it goes on alone.
+ghost use Rattle.std.specs.Prelude.{◌≤◌, ◌<◌};
 
 use crate::schedule::Core;
 use crate::trace::{Event, Trace, Turn};
+
+mod hashing;
+
+use hashing::{APART, TOGETHER, Times};
 use papaya_call::call::{Call, Reply};
 use papaya_words::probe::ResizeMode;
 use std::alloc::Global;
-use std::hash::{BuildHasher, Hasher};
 use std::mem;
 use std::process::Abort;
 use std::test::Fail;
-
-/// Hashes a key below 256 to so many times itself.
-#[derive(Clone, Copy, Debug)]
-struct Times(u8);
-
-/// Each key has a slot of its own.
-const APART: Times = Times(1);
-
-/// All keys share one path.
-const TOGETHER: Times = Times(0);
-
-/// The first byte that was written last, and what its hash is a multiple by.
-#[derive(Drop)]
-struct FirstByte {
-    factor: u8,
-    byte: u8,
-}
-
-/// The first of the bytes, or 0.
-fn first_of(bytes: &[u8]) -> u8
-    ensures { result ≡ slice_index bytes.now 0 }
-{
-    match bytes {
-        [first, ..] => *first,
-        [] => 0,
-    }
-}
-
-impl Hasher for FirstByte {
-    ghost write = { λ s bytes. record s { byte = slice_index bytes 0 } };
-
-    ghost finish = { λ s. s.byte * s.factor };
-
-    fn finish(&self) -> u64 {
-        self.byte as u64 * self.factor as u64
-    }
-
-    fn write(&mut self, bytes: &[u8]) {
-        self.byte = first_of(bytes);
-    }
-}
-
-impl BuildHasher for Times {
-    type Hasher = FirstByte;
-
-    ghost build_hasher = { λ times. record { factor = times.0; byte = 0 } };
-
-    fn build_hasher(&self) -> FirstByte {
-        FirstByte {
-            factor: self.0,
-            byte: 0,
-        }
-    }
-}
 
 type Numbers = Core<u64, u64, Times>;
 
@@ -280,11 +231,7 @@ fn has_every_good_turn(trace: &Trace, order: u32, turns: u32) -> bool
         .filter(|entry| !matches!(entry.event, Event::Replied(_)));
     for turn in 0..turns {
         let caller = caller_at(order, turn);
-        let last = if caller == 0 {
-            last_turns.0
-        } else {
-            last_turns.1
-        };
+        let last = if caller == 0 { last_turns.0 } else { last_turns.1 };
         let is_good = last.is_none_or(|(last, _)| turn as usize <= last);
         if is_good {
             match entries.next() {
@@ -294,6 +241,11 @@ fn has_every_good_turn(trace: &Trace, order: u32, turns: u32) -> bool
         }
     }
     true
+}
+
+/// Has this caller not replied in these turns?
+fn goes_on(trace: &Trace, caller: usize, turns: u32) -> bool {
+    reply_of(trace, caller).is_none_or(|(last, _)| last >= turns as usize)
 }
 
 /// Runs a case in every order of the callers' turns, and answers how many there are.
@@ -311,6 +263,10 @@ fn compare(rt: &impl Abort, alloc: Global, case: Case) -> Result<usize, Fail> {
         let trace = core.run(schedule_of(alloc, case, order)?)?;
         assert!(rt;
             has_every_good_turn(&trace, order, turns),
+            "order {order} of {case:?}"
+        );
+        assert!(rt;
+            !goes_on(&trace, 0, turns) || !goes_on(&trace, 1, turns),
             "order {order} of {case:?}"
         );
         let outcome = core_outcome(&core, &trace, case).ok_or(
@@ -332,44 +288,38 @@ fn compare(rt: &impl Abort, alloc: Global, case: Case) -> Result<usize, Fail> {
     Ok(orders)
 }
 
-#[test]
-fn two_insertions_in_every_order(rt: HostRuntime) -> Result<(), Fail> {
+/// Runs these calls on each map that they may come to. There are so many orders of their turns.
+fn compare_on_each_map(
+    rt: &impl Abort,
+    alloc: Global,
+    (first, second): (Asked, Asked),
+    orders: usize,
+) -> Result<(), Fail> {
     for hashing in [APART, TOGETHER] {
         for has_zero in [false, true] {
-            for (first_key, second_key) in [(0, 0), (0, 1), (1, 0), (1, 1)] {
-                let first = Asked::Insert(first_key, 20);
-                let second = Asked::Insert(second_key, 30);
-                let case = Case {
-                    hashing,
-                    has_zero,
-                    first,
-                    second,
-                };
-                // The first caller has 10 of 20 turns.
-                assert_eq!(rt; compare(&rt, rt.alloc(), case)?, 184_756);
-            }
+            let case = Case { hashing, has_zero, first, second };
+            assert_eq!(rt; compare(rt, alloc, case)?, orders);
         }
     }
     Ok(())
 }
 
 #[test]
+fn two_insertions_in_every_order(rt: HostRuntime) -> Result<(), Fail> {
+    for (first, second) in [(0, 0), (0, 1), (1, 0), (1, 1)] {
+        let calls = (Asked::Insert(first, 20), Asked::Insert(second, 30));
+        // The first caller has 10 of 20 turns.
+        compare_on_each_map(&rt, rt.alloc(), calls, 184_756)?;
+    }
+    Ok(())
+}
+
+#[test]
 fn insertion_and_lookup_in_every_order(rt: HostRuntime) -> Result<(), Fail> {
-    for hashing in [APART, TOGETHER] {
-        for has_zero in [false, true] {
-            for (first_key, second_key) in [(0, 0), (0, 1), (1, 0), (1, 1)] {
-                let first = Asked::Insert(first_key, 20);
-                let second = Asked::Get(second_key);
-                let case = Case {
-                    hashing,
-                    has_zero,
-                    first,
-                    second,
-                };
-                // The first caller has 10 of 17 turns.
-                assert_eq!(rt; compare(&rt, rt.alloc(), case)?, 19_448);
-            }
-        }
+    for (first, second) in [(0, 0), (0, 1), (1, 0), (1, 1)] {
+        let calls = (Asked::Insert(first, 20), Asked::Get(second));
+        // The first caller has 10 of 17 turns.
+        compare_on_each_map(&rt, rt.alloc(), calls, 19_448)?;
     }
     Ok(())
 }

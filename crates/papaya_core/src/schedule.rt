@@ -11,10 +11,10 @@ ghost use Rattle.papaya_core.specs.Advances.{Advances, event_of, exchange_event,
 ghost use Rattle.papaya_core.specs.New.{IsTooMuch, IsAllowed, IsRefused, IsNew};
 ghost use Rattle.papaya_core.specs.Runs.{TurnsRun, StopsEarly, TurnRuns, IsCutShort, BeginRuns, StepRuns, StepsRun, with_step};
 
-use crate::callers::Callers;
-use crate::pairs::{KeyOf, Running};
-use crate::store::Store;
-use crate::trace::{Entry, Event, Trace, Turn};
+use std::alloc::Global;
+use std::hash::{BuildHasher, Hash};
+use std::marker::Model;
+
 use papaya_call::ask::{Answer, Ask, StepKind};
 use papaya_call::call::{Call, Reply, Task};
 use papaya_call::machine::Machine;
@@ -22,9 +22,11 @@ use papaya_words::counter::Counter;
 use papaya_words::limits::MAX_TABLE_LEN;
 use papaya_words::probe::{Refused, ResizeMode, entries_for};
 use papaya_words::word::Word;
-use std::alloc::Global;
-use std::hash::{BuildHasher, Hash};
-use std::marker::Model;
+
+use crate::callers::Callers;
+use crate::pairs::{KeyOf, Running};
+use crate::store::Store;
+use crate::trace::{Entry, Event, Trace, Turn};
 
 /// A map on plain words, whose callers' steps come in any order that its user chooses.
 ///
@@ -67,12 +69,7 @@ fn begin_call<K: Hash + Eq, V, S: BuildHasher>(
             value: None,
         },
         Call::Insert(key, value) => Running {
-            machine: Machine::new(
-                Task::Insert { replace: true },
-                store.hash(&key),
-                mode,
-                initial,
-            ),
+            machine: Machine::new(Task::Insert { replace: true }, store.hash(&key), mode, initial),
             key: KeyOf::Own(key),
             value: Some(value),
         },
@@ -145,24 +142,10 @@ fn push_step(
     requires { vec_len entries.old + 2 ≤ vec_capacity entries.old }
     ensures { reverse entries.new.items ≡ with_step turn caller event reply (reverse entries.old.items) }
 {
-    push_entry(
-        entries,
-        Entry {
-            turn,
-            caller,
-            event,
-        },
-    );
+    push_entry(entries, Entry { turn, caller, event });
     if let Some(reply) = reply {
         let event = Event::Replied(reply);
-        push_entry(
-            entries,
-            Entry {
-                turn,
-                caller,
-                event,
-            },
-        );
+        push_entry(entries, Entry { turn, caller, event });
     }
 }
 
@@ -269,9 +252,7 @@ impl<K: Hash + Eq + Drop, V: Drop, S: BuildHasher> Core<K, V, S> {
         let mut running = self.callers.take(caller);
         let kind = running.machine.kind();
         let ask = running.machine.ask();
-        let answer = self
-            .store
-            .perform(self.alloc, caller, &mut running, ask, refuse);
+        let answer = self.store.perform(self.alloc, caller, &mut running, ask, refuse);
         running.machine.answer(answer);
         let event = event_of(kind, ask, answer);
         let reply = reply_in(running.machine.ask());
@@ -351,14 +332,7 @@ impl<K: Hash + Eq + Drop, V: Drop, S: BuildHasher> Core<K, V, S> {
         reserve_entries(entries, 1)?;
         self.begin(caller, call)?;
         let event = Event::Begun;
-        push_entry(
-            entries,
-            Entry {
-                turn,
-                caller,
-                event,
-            },
-        );
+        push_entry(entries, Entry { turn, caller, event });
         Ok(())
     }
 

@@ -7,16 +7,18 @@ ghost use Rattle.papaya_core.specs.Tables.{table_of, word_at, put, put_in, writt
 ghost use Rattle.papaya_core.specs.Store.{Stored, pair_of, hash_of};
 ghost use Rattle.papaya_core.specs.Performs.{Performs, IsMake, Stays, Refuses, LogsKey, LogsPair, MakesTable, HasKey, HasNoPair, key_at, same};
 
-use crate::pairs::{KeyOf, Pair, Running};
+use std::alloc::Global;
+use std::hash::{BuildHasher, Hash, Hasher};
+use std::marker::Model;
+use std::mem;
+
 use papaya_call::ask::{Answer, Ask, At};
 use papaya_words::counter::Counter;
 use papaya_words::limits::{MAX_LOG_LEN, MAX_TABLES};
 use papaya_words::probe::{Refused, limit};
 use papaya_words::table::{Table, table_len};
-use std::alloc::Global;
-use std::hash::{BuildHasher, Hash, Hasher};
-use std::marker::Model;
-use std::mem;
+
+use crate::pairs::{KeyOf, Pair, Running};
 
 /// Writes a word of the table at place `k`, where there is such a one.
 fn put_in(tables: &mut Vec<Table>, k: usize, at: At, word: u64)

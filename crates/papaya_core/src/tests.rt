@@ -1,11 +1,13 @@
-use crate::schedule::Core;
-use crate::trace::{Event, Trace, Turn};
-use papaya_call::ask::StepKind;
-use papaya_call::call::{Call, Reply};
-use papaya_words::probe::{Refused, ResizeMode};
 use std::alloc::Global;
 use std::hash::{BuildHasherDefault, FoldHasher};
 use std::test::Fail;
+
+use papaya_call::ask::StepKind;
+use papaya_call::call::{Call, Reply};
+use papaya_words::probe::{Refused, ResizeMode};
+
+use crate::schedule::Core;
+use crate::trace::{Event, Trace, Turn};
 
 type Numbers = Core<u64, u64, BuildHasherDefault<FoldHasher>>;
 
@@ -60,33 +62,17 @@ fn stopped_insertion_replaces_or_is_replaced(rt: HostRuntime) -> Result<(), Fail
         let mut core = numbers(alloc, 0)?;
         let trace = insert_beside(alloc, &mut core, steps)?;
         // Caller 0 claims the slot in its last step but one.
-        let (first, second) = if steps < STEPS_OF_INSERT - 1 {
-            (1, 0)
-        } else {
-            (0, 1)
-        };
+        let (first, second) = if steps < STEPS_OF_INSERT - 1 { (1, 0) } else { (0, 1) };
         let inserted = replies(alloc, &trace, first)?;
         let replaced = replies(alloc, &trace, second)?;
         match (inserted.first(), replaced.first()) {
             (Some(Reply::Inserted(old)), Some(Reply::Replaced { old: gone, new })) => {
                 assert_eq!(rt; *old, *gone, "after {steps} steps");
                 let values = [100, 200];
-                assert_eq!(rt;
-                    core.pair(*old),
-                    Some((&7, &values[first])),
-                    "after {steps} steps"
-                );
-                assert_eq!(rt;
-                    core.pair(*new),
-                    Some((&7, &values[second])),
-                    "after {steps} steps"
-                );
+                assert_eq!(rt; core.pair(*old), Some((&7, &values[first])), "after {steps} steps");
+                assert_eq!(rt; core.pair(*new), Some((&7, &values[second])), "after {steps} steps");
                 let found = looks_up(alloc, &mut core, 7)?;
-                assert_eq!(rt;
-                    found.as_slice(),
-                    [Reply::Found(*new)].as_slice(),
-                    "after {steps} steps"
-                );
+                assert_eq!(rt; found.as_slice(), [Reply::Found(*new)].as_slice(), "after {steps} steps");
             }
             _ => assert!(rt; false, "other replies after {steps} steps"),
         }
@@ -109,24 +95,12 @@ fn step_without_memory_refuses_what_makes(rt: HostRuntime) -> Result<(), Fail> {
         // It makes a table, the key and the pair in these steps.
         let makes = steps == 1 || steps == 5 || steps == 6;
         if makes {
-            assert_eq!(rt;
-                replied.as_slice(),
-                [Reply::Refused(Refused::Memory)].as_slice(),
-                "after {steps} steps"
-            );
+            assert_eq!(rt; replied.as_slice(), [Reply::Refused(Refused::Memory)].as_slice(), "after {steps} steps");
         }
-        assert_eq!(rt;
-            core.running(0),
-            !makes && steps < STEPS_OF_INSERT - 1,
-            "after {steps} steps"
-        );
+        assert_eq!(rt; core.running(0), !makes && steps < STEPS_OF_INSERT - 1, "after {steps} steps");
         if steps < STEPS_OF_INSERT - 2 {
             let found = looks_up(alloc, &mut core, 7)?;
-            assert_eq!(rt;
-                found.as_slice(),
-                [Reply::Absent].as_slice(),
-                "after {steps} steps"
-            );
+            assert_eq!(rt; found.as_slice(), [Reply::Absent].as_slice(), "after {steps} steps");
         }
     }
     Ok(())
@@ -145,14 +119,8 @@ fn two_callers_make_a_first_table(rt: HostRuntime) -> Result<(), Fail> {
         Turn::Finish(1, WHOLE),
     ]?;
     let trace = core.run(schedule)?;
-    assert_eq!(rt;
-        replies(alloc, &trace, 0)?.as_slice(),
-        [Reply::Inserted(0)].as_slice()
-    );
-    assert_eq!(rt;
-        replies(alloc, &trace, 1)?.as_slice(),
-        [Reply::Inserted(1)].as_slice()
-    );
+    assert_eq!(rt; replies(alloc, &trace, 0)?.as_slice(), [Reply::Inserted(0)].as_slice());
+    assert_eq!(rt; replies(alloc, &trace, 1)?.as_slice(), [Reply::Inserted(1)].as_slice());
     let mut opened = 0usize;
     for entry in &trace.entries {
         if entry.event == Event::Moved(StepKind::Open) {
@@ -160,14 +128,8 @@ fn two_callers_make_a_first_table(rt: HostRuntime) -> Result<(), Fail> {
         }
     }
     assert_eq!(rt; opened, 1);
-    assert_eq!(rt;
-        looks_up(alloc, &mut core, 1)?.as_slice(),
-        [Reply::Found(0)].as_slice()
-    );
-    assert_eq!(rt;
-        looks_up(alloc, &mut core, 2)?.as_slice(),
-        [Reply::Found(1)].as_slice()
-    );
+    assert_eq!(rt; looks_up(alloc, &mut core, 1)?.as_slice(), [Reply::Found(0)].as_slice());
+    assert_eq!(rt; looks_up(alloc, &mut core, 2)?.as_slice(), [Reply::Found(1)].as_slice());
     Ok(())
 }
 
@@ -175,19 +137,13 @@ fn two_callers_make_a_first_table(rt: HostRuntime) -> Result<(), Fail> {
 fn finish_ends_with_the_reply_or_its_steps(rt: HostRuntime) -> Result<(), Fail> {
     let alloc = rt.alloc();
     let mut core = numbers(alloc, 0)?;
-    let short = core.run(vec![in alloc;
-        Turn::Begin(0, Call::Insert(7, 100)),
-        Turn::Finish(0, 3),
-    ]?)?;
+    let short = core.run(vec![in alloc; Turn::Begin(0, Call::Insert(7, 100)), Turn::Finish(0, 3)]?)?;
     // The begin has an entry, and each step one.
     assert_eq!(rt; short.entries.len(), 4);
     assert!(rt; core.running(0));
     let rest = core.run(vec![in alloc; Turn::Finish(0, WHOLE)]?)?;
     assert_eq!(rt; rest.entries.len(), STEPS_OF_INSERT - 3 + 1);
-    assert_eq!(rt;
-        replies(alloc, &rest, 0)?.as_slice(),
-        [Reply::Inserted(0)].as_slice()
-    );
+    assert_eq!(rt; replies(alloc, &rest, 0)?.as_slice(), [Reply::Inserted(0)].as_slice());
     assert!(rt; !core.running(0));
     Ok(())
 }
@@ -198,17 +154,11 @@ fn first_table_stands_for_a_capacity(rt: HostRuntime) -> Result<(), Fail> {
     let mut core = numbers(alloc, 10)?;
     // The number of a caller names it and nothing else.
     let caller = usize::MAX;
-    let schedule = vec![in alloc;
-        Turn::Begin(caller, Call::Insert(7, 100)),
-        Turn::Finish(caller, WHOLE),
-    ]?;
+    let schedule = vec![in alloc; Turn::Begin(caller, Call::Insert(7, 100)), Turn::Finish(caller, WHOLE)]?;
     let trace = core.run(schedule)?;
     // No table is made and none opened, and there are a begin and a reply.
     assert_eq!(rt; trace.entries.len(), STEPS_OF_INSERT - 2 + 2);
-    assert_eq!(rt;
-        looks_up(alloc, &mut core, 7)?.as_slice(),
-        [Reply::Found(0)].as_slice()
-    );
+    assert_eq!(rt; looks_up(alloc, &mut core, 7)?.as_slice(), [Reply::Found(0)].as_slice());
     Ok(())
 }
 
