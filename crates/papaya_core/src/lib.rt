@@ -2,6 +2,7 @@
 #![tactic(auto)]
 
 pub mod callers;
+mod entries;
 pub mod pairs;
 #[cfg(test)]
 mod plain_tests;

@@ -1,4 +1,4 @@
-use Rattle.std.proofs.Common.{◌≡◌, List, Option, Some, None, refl, sym, ap, subst, ◌∙◌}
+use Rattle.std.proofs.Common.{◌≡◌, List, Some, None, refl, sym, ap, subst, ◌∙◌}
 use Rattle.papaya_call.specs.Machine.{IsStanding, IsFitAsk, ask_of, kind_of_ask, after}
 use Rattle.papaya_core.specs.declared.pairs.Running.{Running}
 use Rattle.papaya_core.specs.declared.callers.Seat.{Seat}
@@ -20,10 +20,10 @@ asked g c = subst (λ y. Performs g.K.PartialEq.eq c.args.refuse y c.self.inside
 taken : (g : Over) (c : After-perform-answer g) → IsCore c.perform-answer.new.self c.take-running.new.self c.self.inside.mode
 taken g c =
     subst (λ (y : List (Seat _ _)). IsCore c.perform-answer.new.self y c.self.inside.mode) (sym c.take-running.ensures.taken)
-      (with_call-core c.perform-answer.new.self c.self.inside.callers c.self.inside.mode c.args.caller None
-        (performed-core g.K.PartialEq.eq c.args.refuse c.self.inside.store c.self.inside.callers c.self.inside.mode c.take-running.result c.perform-answer.result c.perform-answer.new.self c.perform-answer.new.running
-          c.self.invariant (subst IsFitAsk c.ask-ask.ensures.value c.ask-ask.ensures.size) (asked g c))
-        (λ r e. let f : None ≡ Some r = e in cc))
+    (with_call-core c.perform-answer.new.self c.self.inside.callers c.self.inside.mode c.args.caller None
+    (performed-core g.K.PartialEq.eq c.args.refuse c.self.inside.store c.self.inside.callers c.self.inside.mode c.take-running.result c.perform-answer.result c.perform-answer.new.self c.perform-answer.new.running
+    c.self.invariant (subst IsFitAsk c.ask-ask.ensures.value c.ask-ask.ensures.size) (asked g c))
+    (λ r e. let f : None ≡ Some r = e in cc))
 
 pub invariant_of-self : goal.invariant_of-self
 invariant_of-self g c = taken g (goal.at.invariant_of-self g c).After-perform-answer
@@ -32,9 +32,9 @@ pub invariant_of-self-in-None : goal.invariant_of-self-in-None
 invariant_of-self-in-None g c =
     let r = record c.perform-answer.new.running { machine = c.answer.new.self } in
     subst (λ (y : List (Seat _ _)). IsCore c.perform-answer.new.self y c.self.inside.mode) (sym c.put.ensures)
-      (with_call-core c.perform-answer.new.self c.take-running.new.self c.self.inside.mode c.args.caller (Some r)
-        (taken g (goal.at.invariant_of-self-in-None g c).After-perform-answer)
-        (λ q e. let same : r ≡ q = cc in subst (λ (y : Running _ _). IsStanding y.machine) same c.answer.ensures.standing))
+    (with_call-core c.perform-answer.new.self c.take-running.new.self c.self.inside.mode c.args.caller (Some r)
+    (taken g (goal.at.invariant_of-self-in-None g c).After-perform-answer)
+    (λ q e. let same : r ≡ q = cc in subst (λ (y : Running _ _). IsStanding y.machine) same c.answer.ensures.standing))
 
 pub returns-in-Some : goal.returns-in-Some
 returns-in-Some g c =
@@ -72,9 +72,9 @@ returns-in-None g c =
       event_is = c.event_of-event.ensures ∙ ap (λ y. event_of y c.ask-ask.result a) c.kind-kind.ensures ∙ ap (λ y. event_of (kind_of_ask before.machine) y a) c.ask-ask.ensures.value;
       reply_is = c.reply_in-reply.ensures ∙ ap reply_in c.ask.ensures.value ∙ ap (λ m. reply_in (ask_of m)) is_after;
       callers = c.put.ensures ∙ ap (λ y. with_call y c.args.caller (Some (record later { machine = c.answer.new.self }))) c.take-running.ensures.taken
-        ∙ with_call-twice c.self.inside.callers c.args.caller None (Some (record later { machine = c.answer.new.self }))
-        ∙ ap (λ m. with_call c.self.inside.callers c.args.caller (Some (record later { machine = m }))) is_after
-        ∙ sym (ap (λ y. with_call c.self.inside.callers c.args.caller (goes_on y (record later { machine = after before.machine a }))) c.in-None.is);
+          ∙ with_call-twice c.self.inside.callers c.args.caller None (Some (record later { machine = c.answer.new.self }))
+          ∙ ap (λ m. with_call c.self.inside.callers c.args.caller (Some (record later { machine = m }))) is_after
+          ∙ sym (ap (λ y. with_call c.self.inside.callers c.args.caller (goes_on y (record later { machine = after before.machine a }))) c.in-None.is);
       mode = refl;
       initial = refl;
     })
