@@ -231,7 +231,11 @@ fn has_every_good_turn(trace: &Trace, order: u32, turns: u32) -> bool
         .filter(|entry| !matches!(entry.event, Event::Replied(_)));
     for turn in 0..turns {
         let caller = caller_at(order, turn);
-        let last = if caller == 0 { last_turns.0 } else { last_turns.1 };
+        let last = if caller == 0 {
+            last_turns.0
+        } else {
+            last_turns.1
+        };
         let is_good = last.is_none_or(|(last, _)| turn as usize <= last);
         if is_good {
             match entries.next() {
@@ -297,7 +301,12 @@ fn compare_on_each_map(
 ) -> Result<(), Fail> {
     for hashing in [APART, TOGETHER] {
         for has_zero in [false, true] {
-            let case = Case { hashing, has_zero, first, second };
+            let case = Case {
+                hashing,
+                has_zero,
+                first,
+                second,
+            };
             assert_eq!(rt; compare(rt, alloc, case)?, orders);
         }
     }
