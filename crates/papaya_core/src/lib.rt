@@ -4,6 +4,8 @@
 pub mod callers;
 mod entries;
 pub mod pairs;
+#[cfg(test)]
+mod plain_tests;
 pub mod schedule;
 pub mod store;
 #[cfg(test)]
