@@ -21,3 +21,5 @@ pub mod LoadsBound
 pub mod LoadsLeft
 pub mod LoadsLists
 pub mod LoadsSteps
+-- a machine that stands within its table does so after each answer
+pub mod Standing

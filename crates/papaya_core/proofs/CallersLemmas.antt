@@ -80,10 +80,10 @@ module _ {K V : Type 0} where
       ⊎_elim
       (λ (within : place < length seats). within)
       (λ (past : length seats ≤ place).
-        let e : place ≡ length seats = let w = at.within in omega arith in
-        let none : running seats caller ≡ None = running-none seats caller (subst (IsSeatAt seats caller) e at) in
-        let f : false ≡ true = sym (ap is_some none) ∙ some in
-        cc)
+      let e : place ≡ length seats = let w = at.within in omega arith in
+      let none : running seats caller ≡ None = running-none seats caller (subst (IsSeatAt seats caller) e at) in
+      let f : false ≡ true = sym (ap is_some none) ∙ some in
+      cc)
       (cases_lt place (length seats))
 
   -- a seat at the end for a caller that had none

@@ -68,7 +68,7 @@ module _ {K V S : Type 0} (eq : K → K → Bool) (hash : K → ℕ) (mode : Res
     pub changed : (ask : Ask) → ask_of r.machine ≡ ask → (a : Answer) (made : List (Exchange (Stored K V))) (hands : Hands (Stored K V)) → IsTold law_setting law_coding key words_now (kind_of_ask r.machine) tale.hands ask a made hands → change_in (after r.machine a).state ≡ change_after (kind_of_ask r.machine) ask a (change_in r.machine.state)
     changed ask e a made hands told =
         machine_changes law_setting law_coding hashed key words_now r.machine same_hash tale.hands made hands a
-          (subst (λ y. IsTold law_setting law_coding key words_now (kind_of_ask r.machine) tale.hands y a made hands) (sym e) told)
+        (subst (λ y. IsTold law_setting law_coding key words_now (kind_of_ask r.machine) tale.hands y a made hands) (sym e) told)
         ∙ ap (λ y. change_after (kind_of_ask r.machine) y a (change_in r.machine.state)) e
 
     -- the words after no exchange
@@ -90,23 +90,23 @@ module _ {K V S : Type 0} (eq : K → K → Bool) (hash : K → ℕ) (mode : Res
         → ((t : ℕ) → a ≡ Made_number t → r.machine.state ≡ Making → (words : TableWords) × (table_of store'.words.tables t ≡ Some words))
         → IsAnswered key ask a store' later
     unexchanged ask e a store' later hands told still keys own logged longer grown words last new opens = record {
-        made = [];
-        hands = hands;
-        told = told;
-        keys = keys;
-        own = own;
-        logged = logged;
-        longer = longer;
-        grown = grown;
-        coded = λ at. ap (λ z. word_of law_setting law_coding z at) none_made ∙ coded at ∙ sym (words at);
-        single = λ t. ap (λ z. z.next t) none_made ∙ single t;
-        there = λ t some comes. there t some (subst (λ z. Comes z t) none_made comes);
-        slots = λ t x p h. inl (ap (λ z. named (z.slot t x)) (sym none_made) ∙ h);
-        unchanged = λ none. (sym still ∙ sym (changed ask e a [] hands told) ∙ none, λ t x p h. ap (λ z. named (z.slot t x)) (sym none_made) ∙ h);
-        last = last;
-        new = new;
-        opens = opens;
-      }
+      made = [];
+      hands = hands;
+      told = told;
+      keys = keys;
+      own = own;
+      logged = logged;
+      longer = longer;
+      grown = grown;
+      coded = λ at. ap (λ z. word_of law_setting law_coding z at) none_made ∙ coded at ∙ sym (words at);
+      single = λ t. ap (λ z. z.next t) none_made ∙ single t;
+      there = λ t some comes. there t some (subst (λ z. Comes z t) none_made comes);
+      slots = λ t x p h. inl (ap (λ z. named (z.slot t x)) (sym none_made) ∙ h);
+      unchanged = λ none. (sym still ∙ sym (changed ask e a [] hands told) ∙ none, λ t x p h. ap (λ z. named (z.slot t x)) (sym none_made) ∙ h);
+      last = last;
+      new = new;
+      opens = opens;
+    }
 
     -- an answer that leaves words, logs and call, but for the count
     pub quiet : own_key store r ≡ Some key → (ask : Ask) → ask_of r.machine ≡ ask → (a : Answer) (store' : StoreState K V S) (later : Running K V) (hands : Hands (Stored K V)) (count : Count) → store' ≡ record store { count = count } → later ≡ r
@@ -118,7 +118,7 @@ module _ {K V S : Type 0} (eq : K → K → Bool) (hash : K → ℕ) (mode : Res
         → IsAnswered key ask a store' later
     quiet own ask e a store' later hands count same_store same_call told still last made never =
         subst (λ y. IsAnswered key ask a y later) (sym same_store) (subst (IsAnswered key ask a (record store { count = count })) (sym same_call)
-          (unexchanged ask e a (record store { count = count }) r hands told still (λ at k h. h) own (λ n p h. h) (omega arith) (grown-same store.words.tables) (λ at. refl) last (λ q h. inl (sym made ∙ h)) (λ t is making. absurd (never t is making))))
+        (unexchanged ask e a (record store { count = count }) r hands told still (λ at k h. h) own (λ n p h. h) (omega arith) (grown-same store.words.tables) (λ at. refl) last (λ q h. inl (sym made ∙ h)) (λ t is making. absurd (never t is making))))
 
     -- the pair that the word at a place names
     named_last : (last : Option (Stored K V)) (t x : ℕ) (p : Stored K V) (o : Option (Stored K V)) → named (words_now.slot t x) ≡ o → or_last o last ≡ Some p → (last ≡ Some p) ⊎ ((t : ℕ) × (x : ℕ) × (named (words_now.slot t x) ≡ Some p))

@@ -56,15 +56,15 @@ module _ {K V S : Type 0} (eq : K → K → Bool) (hash : K → ℕ) where
     -- the call rests on the exchanges as they are
     new_call : IsCall eq hash s.mode s.store r es new_tale
     new_call = record {
-        key = key_of_call call;
-        own = refl;
-        split = append-nil es;
-        rests = record { hash = sym (mod-eq_of_lt fits); mode = mode_of s.mode; made = refl; stage = tt };
-        last = λ p l. absurd cc;
-        made = λ p l. absurd cc;
-        opens = λ t l. absurd cc;
-        unwritten = λ p l. absurd cc;
-      }
+      key = key_of_call call;
+      own = refl;
+      split = append-nil es;
+      rests = record { hash = sym (mod-eq_of_lt fits); mode = mode_of s.mode; made = refl; stage = tt };
+      last = λ p l. absurd cc;
+      made = λ p l. absurd cc;
+      opens = λ t l. absurd cc;
+      unwritten = λ p l. absurd cc;
+    }
 
     -- its tale is the new one
     new_is : (d : ℕ) → d ≡ caller → new_tale ≡ tales' d
@@ -81,19 +81,22 @@ module _ {K V S : Type 0} (eq : K → K → Bool) (hash : K → ℕ) where
     -- each call rests on what is told of it
     calls : (d : ℕ) (q : Running K V) → running callers' d ≡ Some q → IsCall eq hash s.mode s.store q es (tales' d)
     calls d q runs = elim (cases_same d caller) [
-        inl same ↦
+      | inl same ↦
           let f : Some r ≡ Some q = running-same (with_seat s.callers caller) caller (Some r) q (ap (running callers') (sym same) ∙ runs) in
           let is : r ≡ q = cc in
           subst (IsCall eq hash s.mode s.store q es) (new_is d same) (subst (λ y. IsCall eq hash s.mode s.store y es new_tale) is new_call)
-      | inr differ ↦ subst (IsCall eq hash s.mode s.store q es) (other_is d differ) (kept.calls d q (other_runs d q differ runs)) ]
+      | inr differ ↦ subst (IsCall eq hash s.mode s.store q es) (other_is d differ) (kept.calls d q (other_runs d q differ runs))
+    ]
 
     -- no two calls have made one pair
     apart : (d e : ℕ) (q q' : Running K V) → running callers' d ≡ Some q → running callers' e ≡ Some q' → d ≢ e → (p p' : Stored K V) → (tales' d).hands.made ≡ Some p → (tales' e).hands.made ≡ Some p' → p.number ≢ p'.number
     apart d e q q' runs_d runs_e differ p p' made_d made_e = elim (cases_same d caller) [
-        inl begins ↦ let f : None ≡ Some p = ap (λ (y : Tale K V). y.hands.made) (new_is d begins) ∙ made_d in absurd cc
+      | inl begins ↦ let f : None ≡ Some p = ap (λ (y : Tale K V). y.hands.made) (new_is d begins) ∙ made_d in absurd cc
       | inr d_not ↦ elim (cases_same e caller) [
-            inl begins ↦ let f : None ≡ Some p' = ap (λ (y : Tale K V). y.hands.made) (new_is e begins) ∙ made_e in absurd cc
-          | inr e_not ↦ kept.apart d e q q' (other_runs d q d_not runs_d) (other_runs e q' e_not runs_e) differ p p' (ap (λ (y : Tale K V). y.hands.made) (other_is d d_not) ∙ made_d) (ap (λ (y : Tale K V). y.hands.made) (other_is e e_not) ∙ made_e) ] ]
+        | inl begins ↦ let f : None ≡ Some p' = ap (λ (y : Tale K V). y.hands.made) (new_is e begins) ∙ made_e in absurd cc
+        | inr e_not ↦ kept.apart d e q q' (other_runs d q d_not runs_d) (other_runs e q' e_not runs_e) differ p p' (ap (λ (y : Tale K V). y.hands.made) (other_is d d_not) ∙ made_d) (ap (λ (y : Tale K V). y.hands.made) (other_is e e_not) ∙ made_e)
+      ]
+    ]
 
     -- the core after the begin
     pub begin_kept : IsKept eq hash s.mode s.store callers' es tales'
@@ -107,14 +110,14 @@ module _ {K V S : Type 0} (eq : K → K → Bool) (hash : K → ℕ) where
     -- without a table nothing was exchanged
     empty_kept : IsFresh (record { root = 0; tables = [] }) []
     empty_kept = record {
-        allowed = tt;
-        coded = coded;
-        single = λ t. refl;
-        made = λ t some comes. absurd (elim comes [ inl first ↦ (let f : 0 ≡ t = first in omega arith) | inr (u, next) ↦ (let f : 0 ≡ t = next in omega arith) ]);
-        logged = λ t x p l. absurd cc;
-        calls = λ d q l. absurd cc;
-        apart = λ d e q q' l. absurd cc;
-      }
+      allowed = tt;
+      coded = coded;
+      single = λ t. refl;
+      made = λ t some comes. absurd (elim comes [ inl first ↦ (let f : 0 ≡ t = first in omega arith) | inr (u, next) ↦ (let f : 0 ≡ t = next in omega arith) ]);
+      logged = λ t x p l. absurd cc;
+      calls = λ d q l. absurd cc;
+      apart = λ d e q q' l. absurd cc;
+    }
       where
         coded : (at : At) → word_of (setting_of {V = V} eq (low hash) mode []) (coding_of (low hash)) start at ≡ word_at (record { root = 0; tables = [] }) at
         coded Root = refl
@@ -126,16 +129,17 @@ module _ {K V S : Type 0} (eq : K → K → Bool) (hash : K → ℕ) where
     -- with its first table that one was opened
     opened_kept : (len limit : ℕ) → IsFresh (record { root = 1; tables = new_table 1 len limit ∷ [] }) (Open 1 ∷ [])
     opened_kept len limit = record {
-        allowed = ((refl, omega arith), tt);
-        coded = coded;
-        single = λ t. refl;
-        made = λ t some comes. elim comes [
-            inl first ↦ (new_table 1 len limit, subst (λ y. table_of (new_table 1 len limit ∷ []) y ≡ Some (new_table 1 len limit)) first refl)
-          | inr (u, next) ↦ absurd (let f : 0 ≡ t = next in omega arith) ];
-        logged = λ t x p l. absurd cc;
-        calls = λ d q l. absurd cc;
-        apart = λ d e q q' l. absurd cc;
-      }
+      allowed = ((refl, omega arith), tt);
+      coded = coded;
+      single = λ t. refl;
+      made = λ t some comes. elim comes [
+        | inl first ↦ (new_table 1 len limit, subst (λ y. table_of (new_table 1 len limit ∷ []) y ≡ Some (new_table 1 len limit)) first refl)
+        | inr (u, next) ↦ absurd (let f : 0 ≡ t = next in omega arith)
+      ];
+      logged = λ t x p l. absurd cc;
+      calls = λ d q l. absurd cc;
+      apart = λ d e q q' l. absurd cc;
+    }
       where
         -- but for the root each word is 0
         none : (at : At) → (at ≡ Root → ⊥) → 0 ≡ word_at (record { root = 1; tables = new_table 1 len limit ∷ [] }) at

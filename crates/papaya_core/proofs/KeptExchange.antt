@@ -49,24 +49,24 @@ module _ {P : Type 0} (s : State P) (hands : Hands P) (new : ℕ) where
   pub changes : (kind : Option StepKind) (at : At) (e : Exchange P) → IsAsked kind at new s hands e → IsChanged kind at e
   changes (Some kinds.Open) Root e is = subst (IsChanged (Some kinds.Open) Root) (sym is) opened
   changes (Some kinds.Claim) (Slot t x) e (q, made, is) = subst (IsChanged (Some kinds.Claim) (Slot t x)) (sym is) (record {
-      place = inr (t, x, refl);
-      next = λ u. refl;
-      comes = λ u h. inl h;
-      slots = λ u y p h. put_made q made (s.slot u y) p ((u == t) && (y == x)) h;
-      unchanged = λ old word none. absurd cc;
-    })
+    place = inr (t, x, refl);
+    next = λ u. refl;
+    comes = λ u h. inl h;
+    slots = λ u y p h. put_made q made (s.slot u y) p ((u == t) && (y == x)) h;
+    unchanged = λ old word none. absurd cc;
+  })
   changes (Some kinds.Replace) (Slot t x) e (p, q, live, made, is) = subst (IsChanged (Some kinds.Replace) (Slot t x)) (sym is) (record {
-      place = inr (t, x, refl);
-      next = λ u. refl;
-      comes = λ u h. inl h;
-      slots = λ u y p' h. put_made q made (s.slot u y) p' ((u == t) && (y == x)) h;
-      unchanged = λ old word none. absurd cc;
-    })
+    place = inr (t, x, refl);
+    next = λ u. refl;
+    comes = λ u h. inl h;
+    slots = λ u y p' h. put_made q made (s.slot u y) p' ((u == t) && (y == x)) h;
+    unchanged = λ old word none. absurd cc;
+  })
   changes (Some kinds.Bury) (Slot t x) e (q, live, is) = subst (IsChanged (Some kinds.Bury) (Slot t x)) (sym is) (record {
-      place = inr (t, x, refl);
-      next = λ u. refl;
-      comes = λ u h. inl h;
-      slots = λ u y p h. inl (put_buried t x q live u y p ((u == t) && (y == x)) refl h);
-      unchanged = λ old word none. absurd cc;
-    })
+    place = inr (t, x, refl);
+    next = λ u. refl;
+    comes = λ u h. inl h;
+    slots = λ u y p h. inl (put_buried t x q live u y p ((u == t) && (y == x)) refl h);
+    unchanged = λ old word none. absurd cc;
+  })
   changes _ _ e h = absurd h

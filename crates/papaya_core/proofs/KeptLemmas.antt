@@ -77,8 +77,8 @@ module _ {K V S : Type 0} (eq : K → K → Bool) (hash : K → ℕ) (law : IsLa
   kept_begin s caller call s' begins fits es tales kept =
       let tales' : ℕ → Tale K V = begun_tales tales caller es in
       subst (λ y. IsKept eq hash y s'.store s'.callers es tales') (sym begins.mode)
-        (subst (λ (y : StoreState K V S). IsKept eq hash s.mode y s'.callers es tales') (sym begins.store)
-          (subst (λ (y : List (Seat K V)). IsKept eq hash s.mode s.store y es tales') (sym begins.callers) (begin_kept eq hash s caller call fits es tales kept)))
+      (subst (λ (y : StoreState K V S). IsKept eq hash s.mode y s'.callers es tales') (sym begins.store)
+      (subst (λ (y : List (Seat K V)). IsKept eq hash s.mode s.store y es tales') (sym begins.callers) (begin_kept eq hash s caller call fits es tales kept)))
 
   -- a core as it is made has made no exchange, or has opened its first table
   pub kept_new : (mode : ResizeMode) (capacity initial : ℕ) (store : StoreState K V S) (callers : List (Seat K V)) → HasCapacity capacity initial store.words → callers ≡ [] → (tales : ℕ → Tale K V) → (es : List (Exchange (Stored K V))) × IsKept eq hash mode store callers es tales

@@ -61,9 +61,9 @@ module _ {K V S : Type 0} (eq : K → K → Bool) (hash : K → ℕ) (mode : Res
       let call : Running K V = record r { key = Logged (length store.keys) } in
       let mine : Some k ≡ Some key = sym (ap (key_at store.keys) was) ∙ own in
       subst (λ y. Leaves MakeKey a y later) (sym grown) (subst (Leaves MakeKey a longer) (sym moved)
-        (unexchanged eq hash mode store r es tale hashed key same_hash coded single there MakeKey e a longer call tale.hands (inr (length store.keys, is), (refl, refl)) refl
-          (λ at j h. key_at-more store.keys (k ∷ []) at j h) (get-append_last store.keys k ∙ mine) (λ n p h. pair-more_keys store (k ∷ []) n p h) (omega arith) (grown-same store.words.tables) (λ at. refl)
-          (λ p h. inl h) (λ q h. inl h) (λ t is' making. absurd (no_table MakeKey e (λ f. absurd cc) making))))
+      (unexchanged eq hash mode store r es tale hashed key same_hash coded single there MakeKey e a longer call tale.hands (inr (length store.keys, is), (refl, refl)) refl
+      (λ at j h. key_at-more store.keys (k ∷ []) at j h) (get-append_last store.keys k ∙ mine) (λ n p h. pair-more_keys store (k ∷ []) n p h) (omega arith) (grown-same store.words.tables) (λ at. refl)
+      (λ p h. inl h) (λ q h. inl h) (λ t is' making. absurd (no_table MakeKey e (λ f. absurd cc) making))))
 
   -- a pair
   pub pair_made : ask_of r.machine ≡ MakePair → (a : Answer) (store' : StoreState K V S) (later : Running K V) → (Refuses MAX_LOG_LEN (length store.pairs) a × Stays store r store' later) ⊎ (HasNoPair a r × Stays store r store' later) ⊎ LogsPair a store r store' later → Leaves MakePair a store' later
@@ -78,10 +78,10 @@ module _ {K V S : Type 0} (eq : K → K → Bool) (hash : K → ℕ) (mode : Res
       let there' : pair_of longer (length store.pairs) ≡ Some stored = ap (stored_in store.keys (length store.pairs)) (get-append_last store.pairs pair) ∙ ap (stored_at (length store.pairs) v) mine in
       let hands : Hands (Stored K V) = record tale.hands { made = Some stored } in
       subst (λ y. Leaves MakePair a y later) (sym grown) (subst (Leaves MakePair a longer) (sym moved)
-        (unexchanged eq hash mode store r es tale hashed key same_hash coded single there MakePair e a longer call hands (inr (stored, refl, is, refl, refl)) refl
-          (λ at j h. h) own (λ m p h. pair-more_pairs store (pair ∷ []) m p h) (let more : length (store.pairs ++ pair ∷ []) ≡ length store.pairs + 1 = length-append store.pairs (pair ∷ []) in omega arith) (grown-same store.words.tables) (λ at. refl)
-          (λ p h. inl h) (λ q h. let f : stored ≡ q = cc in inr (ap (λ (y : Stored K V). y.number) (sym f), value ∙ ap (λ (y : Stored K V). Some y.value) f, subst (λ (y : Stored K V). pair_of longer y.number ≡ Some y) f there'))
-          (λ t is' making. absurd (no_table MakePair e (λ f. absurd cc) making))))
+      (unexchanged eq hash mode store r es tale hashed key same_hash coded single there MakePair e a longer call hands (inr (stored, refl, is, refl, refl)) refl
+      (λ at j h. h) own (λ m p h. pair-more_pairs store (pair ∷ []) m p h) (let more : length (store.pairs ++ pair ∷ []) ≡ length store.pairs + 1 = length-append store.pairs (pair ∷ []) in omega arith) (grown-same store.words.tables) (λ at. refl)
+      (λ p h. inl h) (λ q h. let f : stored ≡ q = cc in inr (ap (λ (y : Stored K V). y.number) (sym f), value ∙ ap (λ (y : Stored K V). Some y.value) f, subst (λ (y : Stored K V). pair_of longer y.number ≡ Some y) f there'))
+      (λ t is' making. absurd (no_table MakePair e (λ f. absurd cc) making))))
 
   -- a table
   pub table_made : (slots limit : ℕ) → ask_of r.machine ≡ MakeTable slots limit → (a : Answer) (store' : StoreState K V S) (later : Running K V) → later ≡ r → (Refuses MAX_TABLES (length store.words.tables) a × (store' ≡ store)) ⊎ MakesTable a slots limit store store' → Leaves (MakeTable slots limit) a store' later
@@ -92,10 +92,10 @@ module _ {K V S : Type 0} (eq : K → K → Bool) (hash : K → ℕ) (mode : Res
       let n : ℕ = length store.words.tables + 1 in
       let wider : StoreState K V S = record store { words = record store.words { tables = store.words.tables ++ new_table n slots limit ∷ [] } } in
       subst (λ y. Leaves (MakeTable slots limit) a y later) (sym grown) (subst (Leaves (MakeTable slots limit) a wider) (sym same_call)
-        (unexchanged eq hash mode store r es tale hashed key same_hash coded single there (MakeTable slots limit) e a wider r tale.hands (inr (n, omega arith, is), (refl, refl)) refl
-          (λ at j h. h) own (λ m p h. h) (omega arith) (made-grown store.words n slots limit) (word-made store.words n slots limit)
-          (λ p h. inl h) (λ q h. inl h)
-          (λ t is' making. let f : Made_number n ≡ Made_number t = sym is ∙ is' in let g : n ≡ t = cc in (new_table n slots limit, subst (λ y. table_of wider.words.tables y ≡ Some (new_table n slots limit)) g (made-there store.words n slots limit)))))
+      (unexchanged eq hash mode store r es tale hashed key same_hash coded single there (MakeTable slots limit) e a wider r tale.hands (inr (n, omega arith, is), (refl, refl)) refl
+      (λ at j h. h) own (λ m p h. h) (omega arith) (made-grown store.words n slots limit) (word-made store.words n slots limit)
+      (λ p h. inl h) (λ q h. inl h)
+      (λ t is' making. let f : Made_number n ≡ Made_number t = sym is ∙ is' in let g : n ≡ t = cc in (new_table n slots limit, subst (λ y. table_of wider.words.tables y ≡ Some (new_table n slots limit)) g (made-there store.words n slots limit)))))
 
   -- where memory is refused nothing is made
   pub none_made : (ask : Ask) → ask_of r.machine ≡ ask → (a : Answer) (store' : StoreState K V S) (later : Running K V) → (told : IsTold (law_setting eq hash mode store r es tale) (law_coding eq hash mode store r es tale) key (words_now eq hash mode store r es tale) (kind_of_ask r.machine) tale.hands ask a [] tale.hands)

@@ -70,8 +70,9 @@ module _ {K V S : Type 0} (eq : K → K → Bool) (hash : K → ℕ) (mode : Res
     -- with no root table there is no root
     no_root : table_of store.words.tables now.root ≡ None → now.root ≡ 0
     no_root none = elim (sound g hashed.lawful es kept.allowed).root [
-        inl rootless ↦ rootless.0
-      | inr on ↦ let made = kept.made now.root on.0 (on_comes now now.root on) in let f : None ≡ Some made.0 = sym none ∙ made.1 in absurd cc ]
+      | inl rootless ↦ rootless.0
+      | inr on ↦ let made = kept.made now.root on.0 (on_comes now now.root on) in let f : None ≡ Some made.0 = sym none ∙ made.1 in absurd cc
+    ]
 
     -- the content of the root table is what the law has there
     table_content : (o : Option TableWords) → table_of store.words.tables now.root ≡ o → pairs_of_table store o ≡ law_content g now

@@ -47,45 +47,45 @@ module _ {K V S : Type 0} (eq : K → K → Bool) (hash : K → ℕ) (mode : Res
   exchanged at old new e a store' later h same_call =
       matched (Leaves (Ask_exchange at old new) a store' later) (word_at store.words at == old) _ _ h
       (λ hit done. subst (λ y. Leaves (Ask_exchange at old new) a y later) (sym done.1) (subst (Leaves (Ask_exchange at old new) a (record store { words = put store.words at new })) (sym same_call)
-        (exchange_made eq hash mode store r es tale hashed key split may rests coded single there last opens own at old new e a hit done.0)))
+      (exchange_made eq hash mode store r es tale hashed key split may rests coded single there last opens own at old new e a hit done.0)))
       (λ miss lost.
-        let g = law_setting eq hash mode store r es tale in
-        let c = law_coding eq hash mode store r es tale in
-        let now = words_now eq hash mode store r es tale in
-        let hands : Hands (Stored K V) = told_of now at tale.hands in
-        let nothing : List (Exchange (Stored K V)) = [] in
-        let is : a ≡ Found_instead (word_of g c now at) = lost.0 ∙ ap Found_instead (sym (coded at)) in
-        quiet eq hash mode store r es tale hashed key rests.hash coded single there own (Ask_exchange at old new) e a store' later hands store.count lost.1 same_call
-          (subst (λ b. MatchBool b
-              ((a ≡ Exchanged) × ((y : Exchange (Stored K V)) × IsAsked (kind_of_ask r.machine) at new now tale.hands y × (nothing ≡ y ∷ [])) × (hands ≡ tale.hands))
-              ((a ≡ Found_instead (word_of g c now at)) × (nothing ≡ nothing) × (hands ≡ hands)))
-            (sym (ap (λ y. y == old) (coded at) ∙ miss)) (is, refl, refl))
-          (ap (λ y. change_after (kind_of_ask r.machine) (Ask_exchange at old new) y (change_in r.machine.state)) is)
-          (told_last eq hash mode store r es tale hashed key rests.hash coded single there at) (told_made eq hash mode store r es tale hashed key rests.hash coded single there at)
-          (λ t f making. no_table eq hash mode store r es tale hashed key rests.hash coded single there own (Ask_exchange at old new) e (λ z. absurd cc) making))
+      let g = law_setting eq hash mode store r es tale in
+      let c = law_coding eq hash mode store r es tale in
+      let now = words_now eq hash mode store r es tale in
+      let hands : Hands (Stored K V) = told_of now at tale.hands in
+      let nothing : List (Exchange (Stored K V)) = [] in
+      let is : a ≡ Found_instead (word_of g c now at) = lost.0 ∙ ap Found_instead (sym (coded at)) in
+      quiet eq hash mode store r es tale hashed key rests.hash coded single there own (Ask_exchange at old new) e a store' later hands store.count lost.1 same_call
+      (subst (λ b. MatchBool b
+      ((a ≡ Exchanged) × ((y : Exchange (Stored K V)) × IsAsked (kind_of_ask r.machine) at new now tale.hands y × (nothing ≡ y ∷ [])) × (hands ≡ tale.hands))
+      ((a ≡ Found_instead (word_of g c now at)) × (nothing ≡ nothing) × (hands ≡ hands)))
+      (sym (ap (λ y. y == old) (coded at) ∙ miss)) (is, refl, refl))
+      (ap (λ y. change_after (kind_of_ask r.machine) (Ask_exchange at old new) y (change_in r.machine.state)) is)
+      (told_last eq hash mode store r es tale hashed key rests.hash coded single there at) (told_made eq hash mode store r es tale hashed key rests.hash coded single there at)
+      (λ t f making. no_table eq hash mode store r es tale hashed key rests.hash coded single there own (Ask_exchange at old new) e (λ z. absurd cc) making))
 
   -- each ask
   pub answered : (refuse : Bool) (ask : Ask) → ask_of r.machine ≡ ask → (a : Answer) (store' : StoreState K V S) (later : Running K V) → Performs eq refuse ask store r a store' later → Leaves ask a store' later
   answered refuse (Load at) e a store' later (is, stays) =
       quiet eq hash mode store r es tale hashed key rests.hash coded single there own (Load at) e a store' later (told_of (words_now eq hash mode store r es tale) at tale.hands) store.count stays.0 stays.1
-        (is ∙ ap Word_read (sym (coded at)), refl, refl) refl
-        (told_last eq hash mode store r es tale hashed key rests.hash coded single there at) (told_made eq hash mode store r es tale hashed key rests.hash coded single there at)
-        (λ t f making. no_table eq hash mode store r es tale hashed key rests.hash coded single there own (Load at) e (λ z. absurd cc) making)
+      (is ∙ ap Word_read (sym (coded at)), refl, refl) refl
+      (told_last eq hash mode store r es tale hashed key rests.hash coded single there at) (told_made eq hash mode store r es tale hashed key rests.hash coded single there at)
+      (λ t f making. no_table eq hash mode store r es tale hashed key rests.hash coded single there own (Load at) e (λ z. absurd cc) making)
   answered refuse (Ask_exchange at old new) e a store' later (h, same_call) = exchanged at old new e a store' later h same_call
   answered refuse (SameKey n) e a store' later (is, stays) =
       quiet eq hash mode store r es tale hashed key rests.hash coded single there own (SameKey n) e a store' later tale.hands store.count stays.0 stays.1
-        ((λ p l number. is ∙ ap (λ o. Yes (same eq o (pair_of store n))) own ∙ ap (λ o. Yes (same eq (Some key) o)) (subst (λ m. pair_of store m ≡ Some p) number (last p l))), (refl, refl)) refl
-        (λ p h. inl h) refl
-        (λ t f making. no_table eq hash mode store r es tale hashed key rests.hash coded single there own (SameKey n) e (λ z. absurd cc) making)
+      ((λ p l number. is ∙ ap (λ o. Yes (same eq o (pair_of store n))) own ∙ ap (λ o. Yes (same eq (Some key) o)) (subst (λ m. pair_of store m ≡ Some p) number (last p l))), (refl, refl)) refl
+      (λ p h. inl h) refl
+      (λ t f making. no_table eq hash mode store r es tale hashed key rests.hash coded single there own (SameKey n) e (λ z. absurd cc) making)
   answered refuse (SizeOf n) e a store' later (is, stays) =
       let g = law_setting eq hash mode store r es tale in
       let c = law_coding eq hash mode store r es tale in
       let on : IsOn (run (tale.begun ++ tale.since) start).first (run (tale.begun ++ tale.since) start).next n = subst (IsNamed g c hashed tale.begun tale.since may key) e (ask_named g c hashed tale.begun tale.since may key tale.hands r.machine.task r.machine.hash r.machine.made r.machine.state rests.stage) in
       let words = on_there eq hash mode store r es tale hashed key split may rests coded single there last opens own n on in
       quiet eq hash mode store r es tale hashed key rests.hash coded single there own (SizeOf n) e a store' later tale.hands store.count stays.0 stays.1
-        ((words.0.limit, sym (ap places_in words.1), is ∙ ap size_of words.1 ∙ ap (λ y. Size y words.0.limit) (sym (ap slots_in words.1))), (refl, refl)) refl
-        (λ p h. inl h) refl
-        (λ t f making. no_table eq hash mode store r es tale hashed key rests.hash coded single there own (SizeOf n) e (λ z. absurd cc) making)
+      ((words.0.limit, sym (ap places_in words.1), is ∙ ap size_of words.1 ∙ ap (λ y. Size y words.0.limit) (sym (ap slots_in words.1))), (refl, refl)) refl
+      (λ p h. inl h) refl
+      (λ t f making. no_table eq hash mode store r es tale hashed key rests.hash coded single there own (SizeOf n) e (λ z. absurd cc) making)
   answered refuse MakeKey e a store' later h =
       matched (Leaves MakeKey a store' later) refuse _ _ h
       (λ _ none. none_made eq hash mode store r es tale hashed key rests.hash coded single there own MakeKey e a store' later (inl (inl (Memory, none.0)), (refl, refl)) refl none)
@@ -100,9 +100,9 @@ module _ {K V S : Type 0} (eq : K → K → Bool) (hash : K → ℕ) (mode : Res
       (λ _ makes. table_made eq hash mode store r es tale hashed key rests.hash coded single there own slots limit e a store' later makes.1 makes.0)
   answered refuse (AddToShard by) e a store' later (is, same_store, same_call) =
       quiet eq hash mode store r es tale hashed key rests.hash coded single there own (AddToShard by) e a store' later tale.hands _ same_store same_call
-        (is, (refl, refl)) refl (λ p h. inl h) refl
-        (λ t f making. no_table eq hash mode store r es tale hashed key rests.hash coded single there own (AddToShard by) e (λ z. absurd cc) making)
+      (is, (refl, refl)) refl (λ p h. inl h) refl
+      (λ t f making. no_table eq hash mode store r es tale hashed key rests.hash coded single there own (AddToShard by) e (λ z. absurd cc) making)
   answered refuse (Ask_done reply) e a store' later (is, stays) =
       quiet eq hash mode store r es tale hashed key rests.hash coded single there own (Ask_done reply) e a store' later tale.hands store.count stays.0 stays.1
-        (is, (refl, refl)) refl (λ p h. inl h) refl
-        (λ t f making. no_table eq hash mode store r es tale hashed key rests.hash coded single there own (Ask_done reply) e (λ z. absurd cc) making)
+      (is, (refl, refl)) refl (λ p h. inl h) refl
+      (λ t f making. no_table eq hash mode store r es tale hashed key rests.hash coded single there own (Ask_done reply) e (λ z. absurd cc) making)

@@ -125,21 +125,22 @@ module _ {K V S : Type 0} (eq : K → K → Bool) (hash : K → ℕ) (law : IsLa
       let u = left.unchanged none in
       let stood : named ((run es start).slot t x) ≡ Some q = u.1 t x q names in
       elim (left.new p made) [
-          inl old ↦ call.unwritten p old u.0 t x q stood
-        | inr (number, value, there) ↦ (λ same. let lt : q.number < length s.store.pairs = below q (kept.logged t x q stood) in omega arith) ]
+        | inl old ↦ call.unwritten p old u.0 t x q stood
+        | inr (number, value, there) ↦ (λ same. let lt : q.number < length s.store.pairs = below q (kept.logged t x q stood) in omega arith)
+      ]
 
   -- so it rests on what is told of it after the step
   pub own_call : (hands : Hands (Stored K V)) → left.hands ≡ hands → IsCall eq hash s'.mode s'.store (record later { machine = after before.machine a }) es' (record { begun = (tales caller).begun; since = (tales caller).since ++ left.made; hands = hands })
   own_call hands e = record {
-      key = call.key;
-      own = left.own;
-      split = longer_split (tales caller) call.split;
-      rests = subst (Rests g' c (tales caller).begun ((tales caller).since ++ left.made) call.key (after before.machine a)) e (grown_rests (tales caller) call.split call.key (after before.machine a) left.hands learnt.1);
-      last = λ p l. own_last p (left.last p (ap (λ (y : Hands (Stored K V)). y.last) e ∙ l));
-      made = λ p l. own_made p (left.new p (ap (λ (y : Hands (Stored K V)). y.made) e ∙ l));
-      opens = own_opens;
-      unwritten = λ p l. own_unwritten p (ap (λ (y : Hands (Stored K V)). y.made) e ∙ l);
-    }
+    key = call.key;
+    own = left.own;
+    split = longer_split (tales caller) call.split;
+    rests = subst (Rests g' c (tales caller).begun ((tales caller).since ++ left.made) call.key (after before.machine a)) e (grown_rests (tales caller) call.split call.key (after before.machine a) left.hands learnt.1);
+    last = λ p l. own_last p (left.last p (ap (λ (y : Hands (Stored K V)). y.last) e ∙ l));
+    made = λ p l. own_made p (left.new p (ap (λ (y : Hands (Stored K V)). y.made) e ∙ l));
+    opens = own_opens;
+    unwritten = λ p l. own_unwritten p (ap (λ (y : Hands (Stored K V)). y.made) e ∙ l);
+  }
 
   -- with the key that it had
   pub own_call-key : (hands : Hands (Stored K V)) (e : left.hands ≡ hands) → (own_call hands e).key ≡ call.key
@@ -149,8 +150,9 @@ module _ {K V S : Type 0} (eq : K → K → Bool) (hash : K → ℕ) (law : IsLa
   -- another call's facts
   other_unwritten : (d : ℕ) (r : Running K V) → running s.callers d ≡ Some r → d ≢ caller → (p : Stored K V) → (tales d).hands.made ≡ Some p → change_in r.machine.state ≡ None → (t x : ℕ) (q : Stored K V) → named ((run es' start).slot t x) ≡ Some q → q.number ≢ p.number
   other_unwritten d r runs differ p made none t x q names = elim (left.slots t x q names) [
-      inl stood ↦ (kept.calls d r runs).unwritten p made none t x q stood
-    | inr mine ↦ kept.apart caller d before r was runs (λ same. differ (sym same)) q p mine made ]
+    | inl stood ↦ (kept.calls d r runs).unwritten p made none t x q stood
+    | inr mine ↦ kept.apart caller d before r was runs (λ same. differ (sym same)) q p mine made
+  ]
 
   -- so it rests on what is told of it after the step
   other_call : (d : ℕ) (r : Running K V) → running s.callers d ≡ Some r → d ≢ caller → (hands : Hands (Stored K V)) → (tales d).hands ≡ hands → IsCall eq hash s'.mode s'.store r es' (record { begun = (tales d).begun; since = (tales d).since ++ left.made; hands = hands })
@@ -158,7 +160,7 @@ module _ {K V S : Type 0} (eq : K → K → Bool) (hash : K → ℕ) (law : IsLa
       let o = kept.calls d r runs in
       let tale : Tale K V = tales d in
       let stays : Rests g c tale.begun (tale.since ++ left.made) o.key r.machine tale.hands =
-            rests_stays g c hashed tale.begun tale.since left.made (subst (AllAllowed g start) (sym (longer_split tale o.split)) all) o.key r.machine tale.hands o.rests in
+      rests_stays g c hashed tale.begun tale.since left.made (subst (AllAllowed g start) (sym (longer_split tale o.split)) all) o.key r.machine tale.hands o.rests in
       record {
         key = o.key;
         own = left.keys r.key o.key o.own;
@@ -194,25 +196,30 @@ module _ {K V S : Type 0} (eq : K → K → Bool) (hash : K → ℕ) (law : IsLa
     -- each call rests on what is told of it
     calls : (d : ℕ) (r : Running K V) → running s'.callers d ≡ Some r → IsCall eq hash s'.mode s'.store r es' (tales' d)
     calls d r runs = elim (cases_same d caller) [
-        inl same ↦ subst (λ y. IsCall eq hash s'.mode s'.store r es' (tales' y)) (sym same)
+      | inl same ↦ subst (λ y. IsCall eq hash s'.mode s'.store r es' (tales' y)) (sym same)
           (subst (λ y. IsCall eq hash s'.mode s'.store y es' (tales' caller)) (own_runs d r same runs) (own_call (tales' caller).hands (own_hands caller refl)))
-      | inr differ ↦ other_call d r (other_runs d r differ runs) differ (tales' d).hands (other_hands d differ) ]
+      | inr differ ↦ other_call d r (other_runs d r differ runs) differ (tales' d).hands (other_hands d differ)
+    ]
 
     -- the stepping call's pair is not another's
     own_apart : (d : ℕ) (r : Running K V) → running s.callers d ≡ Some r → d ≢ caller → (p p' : Stored K V) → left.hands.made ≡ Some p → (tales d).hands.made ≡ Some p' → p.number ≢ p'.number
     own_apart d r runs differ p p' mine other = elim (left.new p mine) [
-        inl old ↦ kept.apart caller d before r was runs (λ same. differ (sym same)) p p' old other
-      | inr (number, value, there) ↦ (λ same. let lt : p'.number < length s.store.pairs = below p' ((kept.calls d r runs).made p' other) in omega arith) ]
+      | inl old ↦ kept.apart caller d before r was runs (λ same. differ (sym same)) p p' old other
+      | inr (number, value, there) ↦ (λ same. let lt : p'.number < length s.store.pairs = below p' ((kept.calls d r runs).made p' other) in omega arith)
+    ]
 
     -- no two calls have made one pair
     apart : (d e : ℕ) (r q : Running K V) → running s'.callers d ≡ Some r → running s'.callers e ≡ Some q → d ≢ e → (p p' : Stored K V) → (tales' d).hands.made ≡ Some p → (tales' e).hands.made ≡ Some p' → p.number ≢ p'.number
     apart d e r q runs_d runs_e differ p p' made_d made_e = elim (cases_same d caller) [
-        inl d_steps ↦ elim (cases_same e caller) [
-            inl e_steps ↦ absurd (differ (d_steps ∙ sym e_steps))
-          | inr e_not ↦ own_apart e q (other_runs e q e_not runs_e) e_not p p' (ap (λ (y : Hands (Stored K V)). y.made) (own_hands d d_steps) ∙ made_d) (ap (λ (y : Hands (Stored K V)). y.made) (other_hands e e_not) ∙ made_e) ]
+      | inl d_steps ↦ elim (cases_same e caller) [
+        | inl e_steps ↦ absurd (differ (d_steps ∙ sym e_steps))
+        | inr e_not ↦ own_apart e q (other_runs e q e_not runs_e) e_not p p' (ap (λ (y : Hands (Stored K V)). y.made) (own_hands d d_steps) ∙ made_d) (ap (λ (y : Hands (Stored K V)). y.made) (other_hands e e_not) ∙ made_e)
+      ]
       | inr d_not ↦ elim (cases_same e caller) [
-            inl e_steps ↦ (λ same. own_apart d r (other_runs d r d_not runs_d) d_not p' p (ap (λ (y : Hands (Stored K V)). y.made) (own_hands e e_steps) ∙ made_e) (ap (λ (y : Hands (Stored K V)). y.made) (other_hands d d_not) ∙ made_d) (sym same))
-          | inr e_not ↦ kept.apart d e r q (other_runs d r d_not runs_d) (other_runs e q e_not runs_e) differ p p' (ap (λ (y : Hands (Stored K V)). y.made) (other_hands d d_not) ∙ made_d) (ap (λ (y : Hands (Stored K V)). y.made) (other_hands e e_not) ∙ made_e) ] ]
+        | inl e_steps ↦ (λ same. own_apart d r (other_runs d r d_not runs_d) d_not p' p (ap (λ (y : Hands (Stored K V)). y.made) (own_hands e e_steps) ∙ made_e) (ap (λ (y : Hands (Stored K V)). y.made) (other_hands d d_not) ∙ made_d) (sym same))
+        | inr e_not ↦ kept.apart d e r q (other_runs d r d_not runs_d) (other_runs e q e_not runs_e) differ p p' (ap (λ (y : Hands (Stored K V)). y.made) (other_hands d d_not) ∙ made_d) (ap (λ (y : Hands (Stored K V)). y.made) (other_hands e e_not) ∙ made_e)
+      ]
+    ]
 
     -- a pair that a slot names is logged
     logged : (t x : ℕ) (p : Stored K V) → named ((run es' start).slot t x) ≡ Some p → IsLogged eq hash s'.mode s'.store p
@@ -221,11 +228,11 @@ module _ {K V S : Type 0} (eq : K → K → Bool) (hash : K → ℕ) (law : IsLa
     -- the core after the step
     pub step_kept : IsKept eq hash s'.mode s'.store s'.callers es' tales'
     step_kept = record {
-        allowed = all_carries g hashed.lawful g' es' start (λ k. None) (start_keeps g hashed.lawful) all agrees;
-        coded = left.coded;
-        single = left.single;
-        made = λ t some comes. still_there t (left.there t some comes);
-        logged = logged;
-        calls = calls;
-        apart = apart;
-      }
+      allowed = all_carries g hashed.lawful g' es' start (λ k. None) (start_keeps g hashed.lawful) all agrees;
+      coded = left.coded;
+      single = left.single;
+      made = λ t some comes. still_there t (left.there t some comes);
+      logged = logged;
+      calls = calls;
+      apart = apart;
+    }

@@ -103,6 +103,7 @@ module _ (w : Tables) (n i word : ℕ) (t : TableWords) (there : table_of w.tabl
         where
           eqb-same : (m : ℕ) → m ≡ 0 → (m == 0) ≡ true
           eqb-same m e = ap (λ y. y == 0) e
+
       go : (b : Bool) → (u == 0) ≡ b → table_of (slice_set w.tables (n - 1) after_write) u ≡ table_of w.tables u
       go true z = ap (λ b. cond b None (slice_get (slice_set w.tables (n - 1) after_write) (u - 1))) z ∙ sym (ap (λ b. cond b None (slice_get w.tables (u - 1))) z)
       go false z = table_at (slice_set w.tables (n - 1) after_write) u z ∙ get-set_other w.tables (n - 1) (u - 1) after_write (λ e. differ (same_number e)) ∙ sym (table_at w.tables u z)
@@ -117,8 +118,8 @@ module _ (w : Tables) (n i word : ℕ) (t : TableWords) (there : table_of w.tabl
   pub put-grown : IsGrown w.tables (put w (Slot n i) word).tables
   put-grown u v e = ⊎_elim
       (λ (same : u ≡ n).
-        let f : t ≡ v = same_item t v (sym there ∙ (ap (table_of w.tables) (sym same) ∙ e)) in
-        (after_write, ap (table_of (put w (Slot n i) word).tables) same ∙ table-here, length-set t.slots i word ∙ ap (λ (y : TableWords). length y.slots) f, ap (λ (y : TableWords). y.limit) f))
+      let f : t ≡ v = same_item t v (sym there ∙ (ap (table_of w.tables) (sym same) ∙ e)) in
+      (after_write, ap (table_of (put w (Slot n i) word).tables) same ∙ table-here, length-set t.slots i word ∙ ap (λ (y : TableWords). length y.slots) f, ap (λ (y : TableWords). y.limit) f))
       (λ (differ : u ≢ n). (v, table-other u differ ∙ e, refl, refl))
       (cases_same u n)
 
@@ -141,9 +142,9 @@ module _ (w : Tables) (n i word : ℕ) (t : TableWords) (there : table_of w.tabl
   word-other (Done u) differ = word-left (λ v. v.done) refl u
   word-other (Slot u y) differ = ⊎_elim
       (λ (e : u ≡ n).
-        ap (λ z. word_in (λ v. slice_index v.slots y) (table_of (put w (Slot n i) word).tables z)) e ∙ ap (word_in (λ v. slice_index v.slots y)) table-here
-        ∙ index-set_other t.slots i y word (λ same. differ (ap (λ z. Slot z y) e ∙ ap (Slot n) same))
-        ∙ sym (ap (word_in (λ v. slice_index v.slots y)) there) ∙ ap (λ z. word_in (λ v. slice_index v.slots y) (table_of w.tables z)) (sym e))
+      ap (λ z. word_in (λ v. slice_index v.slots y) (table_of (put w (Slot n i) word).tables z)) e ∙ ap (word_in (λ v. slice_index v.slots y)) table-here
+      ∙ index-set_other t.slots i y word (λ same. differ (ap (λ z. Slot z y) e ∙ ap (Slot n) same))
+      ∙ sym (ap (word_in (λ v. slice_index v.slots y)) there) ∙ ap (λ z. word_in (λ v. slice_index v.slots y) (table_of w.tables z)) (sym e))
       (λ (other_table : u ≢ n). ap (word_in (λ v. slice_index v.slots y)) (table-other u other_table))
       (cases_same u n)
 

@@ -121,12 +121,14 @@ module _ {K V S : Type 0} (eq : K → K → Bool) (hash : K → ℕ) (mode : Res
       at_slot (Aborted u) = elsewhere (Aborted u) (λ f. absurd cc)
       at_slot (Done u) = elsewhere (Done u) (λ f. absurd cc)
       at_slot (Slot u y) = elim (cases_same u n) [
-          inl table ↦ elim (cases_same y i) [
-              inl slot ↦
-                let is : Slot u y ≡ Slot n i = ap (λ z. Slot z y) table ∙ ap (Slot n) slot in
-                ap (word_of g (law_coding eq hash mode store r es tale) s) is ∙ w.here ∙ sym (word-here store.words n i new t here lt) ∙ ap (word_at (put store.words (Slot n i) new)) (sym is)
-            | inr slot ↦ elsewhere (Slot u y) (λ f. slot cc) ]
-        | inr table ↦ elsewhere (Slot u y) (λ f. table cc) ]
+        | inl table ↦ elim (cases_same y i) [
+          | inl slot ↦
+              let is : Slot u y ≡ Slot n i = ap (λ z. Slot z y) table ∙ ap (Slot n) slot in
+              ap (word_of g (law_coding eq hash mode store r es tale) s) is ∙ w.here ∙ sym (word-here store.words n i new t here lt) ∙ ap (word_at (put store.words (Slot n i) new)) (sym is)
+          | inr slot ↦ elsewhere (Slot u y) (λ f. slot cc)
+        ]
+        | inr table ↦ elsewhere (Slot u y) (λ f. table cc)
+      ]
   written_coded (Next n) new s placed w other = absurd placed
   written_coded (Aborted n) new s placed w other = absurd placed
   written_coded (Done n) new s placed w other = absurd placed
@@ -148,10 +150,10 @@ module _ {K V S : Type 0} (eq : K → K → Bool) (hash : K → ℕ) (mode : Res
       let place : IsPlaced store.words.tables at = placed at old new e changed_by.place in
       let to : run (es ++ x.0 ∷ []) start ≡ state_after now x.0 = run-append es (x.0 ∷ []) start in
       let told : IsTold g c key now (kind_of_ask r.machine) tale.hands (Ask_exchange at old new) a (x.0 ∷ []) tale.hands =
-            subst (λ b. MatchBool b
-                ((a ≡ Exchanged) × ((y : Exchange (Stored K V)) × IsAsked (kind_of_ask r.machine) at new now tale.hands y × (x.0 ∷ [] ≡ y ∷ [])) × (tale.hands ≡ tale.hands))
-                ((a ≡ Found_instead (word_of g c now at)) × (x.0 ∷ [] ≡ []) × (tale.hands ≡ told_of now at tale.hands)))
-              (sym (ap (λ y. y == old) (coded at) ∙ hit)) (is, (x.0, x.1, refl), refl) in
+      subst (λ b. MatchBool b
+      ((a ≡ Exchanged) × ((y : Exchange (Stored K V)) × IsAsked (kind_of_ask r.machine) at new now tale.hands y × (x.0 ∷ [] ≡ y ∷ [])) × (tale.hands ≡ tale.hands))
+      ((a ≡ Found_instead (word_of g c now at)) × (x.0 ∷ [] ≡ []) × (tale.hands ≡ told_of now at tale.hands)))
+      (sym (ap (λ y. y == old) (coded at) ∙ hit)) (is, (x.0, x.1, refl), refl) in
       record {
         made = x.0 ∷ [];
         hands = tale.hands;
@@ -164,13 +166,14 @@ module _ {K V S : Type 0} (eq : K → K → Bool) (hash : K → ℕ) (mode : Res
         coded = λ other. ap (λ z. word_of g c z other) to ∙ written_coded at new (state_after now x.0) place x.3 other;
         single = λ t. ap (λ z. z.next t) to ∙ changed_by.next t ∙ single t;
         there = λ t some comes. elim (changed_by.comes t (subst (λ z. Comes z t) to comes)) [
-            inl before ↦ there t some before
-          | inr (root, same_table) ↦ opens t (root_opens r.machine.made r.machine.hash r.machine.state old t (e ∙ ap (λ y. Ask_exchange y old new) root ∙ ap (Ask_exchange Root old) same_table)) ];
+          | inl before ↦ there t some before
+          | inr (root, same_table) ↦ opens t (root_opens r.machine.made r.machine.hash r.machine.state old t (e ∙ ap (λ y. Ask_exchange y old new) root ∙ ap (Ask_exchange Root old) same_table))
+        ];
         slots = λ t y p h. changed_by.slots t y p (ap (λ z. named (z.slot t y)) (sym to) ∙ h);
         unchanged = λ none.
-          let same_change : change_of_kind (kind_of_ask r.machine) old new ≡ None =
-                sym (changed eq hash mode store r es tale hashed key rests.hash coded single there (Ask_exchange at old new) e a (x.0 ∷ []) tale.hands told ∙ ap (λ y. change_after (kind_of_ask r.machine) (Ask_exchange at old new) y (change_in r.machine.state)) is) ∙ none in
-          (unchanged_before r.machine.made r.machine.hash r.machine.state at old new e, λ t y p h. changed_by.unchanged old new same_change t y p (ap (λ z. named (z.slot t y)) (sym to) ∙ h));
+            let same_change : change_of_kind (kind_of_ask r.machine) old new ≡ None =
+            sym (changed eq hash mode store r es tale hashed key rests.hash coded single there (Ask_exchange at old new) e a (x.0 ∷ []) tale.hands told ∙ ap (λ y. change_after (kind_of_ask r.machine) (Ask_exchange at old new) y (change_in r.machine.state)) is) ∙ none in
+            (unchanged_before r.machine.made r.machine.hash r.machine.state at old new e, λ t y p h. changed_by.unchanged old new same_change t y p (ap (λ z. named (z.slot t y)) (sym to) ∙ h));
         last = λ p h. inl h;
         new = λ q h. inl h;
         opens = λ t f making. absurd (no_table eq hash mode store r es tale hashed key rests.hash coded single there own (Ask_exchange at old new) e (λ z. absurd cc) making);

@@ -1,3 +1,4 @@
+pub mod AdvanceLemmas
 pub mod CallersLemmas
 pub mod CoreLemmas
 pub mod CountedContent
@@ -5,6 +6,10 @@ pub mod CountedCore
 pub mod CountedLemmas
 pub mod CountedSeats
 pub mod CountedStep
+pub mod EventLemmas
+pub mod Good
+pub mod GoodLemmas
+pub mod HeadlineLemmas
 pub mod KeptAnswer
 pub mod KeptBegin
 pub mod KeptCore
@@ -19,5 +24,10 @@ pub mod KeptSettings
 pub mod KeptStep
 pub mod KeptTables
 pub mod KeptWritten
+pub mod LegalLemmas
+pub mod MachineLemmas
+pub mod ReplayLemmas
 pub mod RunLemmas
 pub mod StoreLemmas
+pub mod TiedLemmas
+pub mod TimelineLemmas

@@ -1,7 +1,5 @@
 -- The sizes of tables, over a step of a store.
-use Rattle.std.proofs.Common.{◌≡◌, ◌≢◌, ℕ, zero, suc, ◌+◌, ◌-◌, ◌==◌, ◌<◌, ◌≤◌, ◌^◌, Bool, true, false, cond, nat_lt, List, [], ◌∷◌, ◌++◌, length, slice_get, slice_set, Option, Some, None, ◌⊎◌, ⊎_elim, inl, inr, refl, sym, ◌∙◌, ap, subst, arith, length-set, MatchBool}
-use Rattle.std.proofs.lemmas.Bool.{cases_Bool, eqb-true}
-use Rattle.std.specs.Int.{IsPowerOfTwo}
+use Rattle.std.proofs.Common.{◌≡◌, ℕ, zero, suc, ◌-◌, ◌==◌, ◌<◌, ◌^◌, Bool, true, false, cond, nat_lt, List, [], ◌∷◌, ◌++◌, length, slice_get, slice_set, Option, Some, None, ◌⊎◌, ⊎_elim, inl, inr, refl, sym, ◌∙◌, ap, subst, arith, length-set, MatchBool}
 use Rattle.std.proofs.lemmas.List.{length-replicate}
 use Rattle.papaya_core.proofs.CallersLemmas.{differs}
 use Rattle.papaya_words.specs.Table.{TableWords, new_table}
@@ -10,14 +8,13 @@ use Rattle.papaya_call.specs.declared.ask.At.TheVariants.{Root, Next, Aborted, D
 use Rattle.papaya_call.specs.declared.ask.Ask.{Ask}
 use Rattle.papaya_call.specs.declared.ask.Ask.TheVariants.{Load, Exchange, SameKey, SizeOf, MakeKey, MakePair, MakeTable, AddToShard, Done as Ask_done}
 use Rattle.papaya_call.specs.declared.ask.Answer.{Answer}
-use Rattle.papaya_call.specs.declared.ask.Answer.TheVariants.{Word as Word_read, Exchanged, Found as Found_instead, Yes, Size, Made as Made_number, Ok as Ok_done, Refused as Was_refused}
 use Rattle.papaya_call.specs.Search.{IsSize}
 use Rattle.papaya_call.specs.Machine.{IsFit, IsFitAsk}
 use Rattle.papaya_core.specs.declared.pairs.Running.{Running}
 use Rattle.papaya_words.specs.declared.limits.TheConstants.{MAX_TABLES, MAX_LOG_LEN}
 use Rattle.papaya_core.specs.Tables.{Tables, table_of, word_at, written, put, put_at, put_in}
 use Rattle.papaya_core.specs.Store.{StoreState}
-use Rattle.papaya_core.specs.Performs.{Performs, Exchanges, Refuses, Stays, LogsKey, LogsPair, MakesTable, HasKey, HasNoPair, size_of}
+use Rattle.papaya_core.specs.Performs.{Performs, Refuses, Stays, LogsKey, LogsPair, MakesTable, HasKey, HasNoPair, size_of}
 
 -- what a test of two facts chose
 pub matched : (R : Type 0) (b : Bool) (P Q : Type 0) → MatchBool b P Q → (b ≡ true → P → R) → (b ≡ false → Q → R) → R
@@ -153,8 +150,8 @@ module _ {K V S : Type 0} (eq : K → K → Bool) where
       table_made : (s : StoreState K V S) (a : Answer) (s' : StoreState K V S) → AllSized s.words.tables → IsSize slots limit → (Refuses MAX_TABLES (length s.words.tables) a × (s' ≡ s)) ⊎ MakesTable a slots limit s s' → IsKept a s'
       table_made s a s' all size (inl (f, same)) = refused _ _ a s s' f same all
       table_made s a s' all size (inr (e, few, same)) = record {
-          fit = said a _ e (let most : length s.words.tables < 2 ^ 32 = few in omega arith);
-          sized = subst (λ (y : StoreState K V S). AllSized y.words.tables) (sym same) (append-sized s.words.tables _ slots limit size all);
-        }
+        fit = said a _ e (let most : length s.words.tables < 2 ^ 32 = few in omega arith);
+        sized = subst (λ (y : StoreState K V S). AllSized y.words.tables) (sym same) (append-sized s.words.tables _ slots limit size all);
+      }
   performed refuse (AddToShard by) s r a s' r' all fit (e, same, _) = record { fit = said a _ e tt; sized = subst (λ (y : StoreState K V S). AllSized y.words.tables) (sym same) all }
   performed refuse (Ask_done reply) s r a s' r' all fit (e, stays) = quiet a s s' (said a _ e tt) stays.0 all

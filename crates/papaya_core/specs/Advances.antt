@@ -1,7 +1,6 @@
 -- One step of one caller.
-use Rattle.std.specs.Prelude.{◌≡◌, ℕ, ◌==◌, Bool, true, false, if◌then◌else◌, List, Option, Some, None}
+use Rattle.std.specs.Prelude.{◌≡◌, ℕ, Bool, Option, Some, None}
 use Rattle.papaya_words.specs.Word.{pair_of}
-use Rattle.papaya_call.specs.declared.ask.At.{At}
 use Rattle.papaya_call.specs.declared.ask.Ask.{Ask}
 use Rattle.papaya_call.specs.declared.ask.Ask.TheVariants.{Load, Exchange, SameKey, SizeOf, MakeKey, MakePair, MakeTable, AddToShard, Done as Ask_done}
 use Rattle.papaya_call.specs.declared.ask.Answer.{Answer}
@@ -12,7 +11,7 @@ use Rattle.papaya_call.specs.declared.call.Reply.{Reply}
 use Rattle.papaya_call.specs.Machine.{ask_of, kind_of_ask, after}
 use Rattle.papaya_core.specs.declared.pairs.Running.{Running}
 use Rattle.papaya_core.specs.declared.trace.Event.{Event}
-use Rattle.papaya_core.specs.declared.trace.Event.TheVariants.{Begun, Changed, Moved, Other, Replied}
+use Rattle.papaya_core.specs.declared.trace.Event.TheVariants.{Changed, Moved, Other}
 use Rattle.papaya_core.specs.Callers.{with_call}
 use Rattle.papaya_core.specs.Performs.{Performs}
 use Rattle.papaya_core.specs.Core.{CoreState, call_of}

@@ -1,5 +1,5 @@
 -- The begin of a call.
-use Rattle.std.specs.Prelude.{◌≡◌, ◌≢◌, ℕ, true, Option, Some, None}
+use Rattle.std.specs.Prelude.{◌≡◌, ℕ, ◌<◌, ◌^◌, true, Option, Some, None}
 use Rattle.papaya_words.specs.declared.probe.ResizeMode.{ResizeMode}
 use Rattle.papaya_call.specs.declared.call.Call.{Call}
 use Rattle.papaya_call.specs.declared.call.Call.TheVariants.{Get, Insert}
@@ -9,7 +9,7 @@ use Rattle.papaya_call.specs.Machine.{started}
 use Rattle.papaya_core.specs.declared.pairs.KeyOf.TheVariants.{Own}
 use Rattle.papaya_core.specs.declared.pairs.Running.{Running}
 use Rattle.papaya_core.specs.Callers.{with_call, with_seat}
-use Rattle.papaya_core.specs.Core.{CoreState, call_of}
+use Rattle.papaya_core.specs.Core.{CoreState}
 
 -- the key that a call was handed, its value, and its task
 abbrev pub key_of_call : {K V : Type 0} → Call K V → K
@@ -39,3 +39,5 @@ pub record Begins {K V S : Type 0} (hash : K → ℕ) (s : CoreState K V S) (cal
   pub callers : s'.callers ≡ with_call (with_seat s.callers caller) caller (Some (begun hash s.mode s.initial call))
   pub mode : s'.mode ≡ s.mode
   pub initial : s'.initial ≡ s.initial
+  -- the key's hash has 64 bits
+  pub fits : hash (key_of_call call) < 2 ^ 64

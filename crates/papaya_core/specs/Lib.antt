@@ -7,6 +7,7 @@ pub mod Counted
 pub mod Headline
 pub mod Kept
 pub mod Maps
+pub mod Moves
 pub mod New
 pub mod Performs
 pub mod Runs

@@ -1,13 +1,11 @@
 //! The callers, and the calls that they have under way.
-ghost use Rattle.std.specs.Prelude.{◌≡◌, ◌≢◌, ℕ, ◌<◌, ◌↔◌, length, [], ◌∷◌, ◌++◌, None, Some, is_some, IsSome, OnOk, OnErr, IfErr, slice_get, slice_set, EachIndex};
+ghost use Rattle.std.specs.Prelude.{◌≡◌, ◌<◌, length, [], ◌∷◌, ◌++◌, None, Some, is_some, IsSome, OnOk, IfErr, slice_get, slice_set};
 ghost use Rattle.papaya_core.specs.Callers.{running, with_call, with_seat, IsSeated, IsSeatAt};
 
+use crate::pairs::Running;
+use papaya_words::probe::Refused;
 use std::alloc::Global;
 use std::marker::Model;
-
-use papaya_words::probe::Refused;
-
-use crate::pairs::Running;
 
 /// A caller that has begun a call at some time, and the call that it has under way.
 #[derive(Drop)]

@@ -2,10 +2,12 @@
 #![tactic(auto)]
 
 pub mod callers;
+mod entries;
 pub mod pairs;
+#[cfg(test)]
+mod plain_tests;
 pub mod schedule;
 pub mod store;
-pub mod trace;
-
 #[cfg(test)]
 mod tests;
+pub mod trace;

@@ -1,33 +1,33 @@
 //! Any number of callers, and any schedule of their steps.
-ghost use Rattle.std.specs.Prelude.{◌≡◌, ◌<◌, ◌^◌, length, IfOk, IfErr, OnOk, OnErr, IsTrue, IsSome, IsNone, [], Some, None, is_some, MatchOption, vec_len, vec_capacity, reverse, ◌+◌, ◌*◌, ◌≤◌, ◌∷◌};
+ghost use Rattle.std.specs.Prelude.{◌≡◌, ◌<◌, ◌^◌, length, IfOk, IfErr, OnOk, IsSome, Some, None, is_some, MatchOption, reverse, ◌+◌, ◌*◌, ◌≤◌};
 ghost use Rattle.papaya_words.specs.declared.limits.TheConstants.{MAX_TABLE_LEN};
 ghost use Rattle.papaya_words.specs.Probe.{IsEntriesFor};
 ghost use Rattle.papaya_call.specs.Machine.{IsChunked, IsStanding};
-ghost use Rattle.papaya_core.specs.Callers.{running, with_seat};
-ghost use Rattle.papaya_core.specs.Store.{Stored, pair_of, hash_of};
+ghost use Rattle.papaya_core.specs.Callers.{running};
+ghost use Rattle.papaya_core.specs.Store.{pair_of, hash_of};
 ghost use Rattle.papaya_core.specs.Core.{call_of};
 ghost use Rattle.papaya_core.specs.Counted.{IsCounted};
 ghost use Rattle.papaya_core.specs.Begins.{Begins, begun};
-ghost use Rattle.papaya_core.specs.Advances.{Advances, event_of, exchange_event, reply_in};
+ghost use Rattle.papaya_core.specs.Advances.{Advances, event_of, reply_in};
+ghost use Rattle.papaya_core.specs.Headline.{HasTimeline};
+ghost use Rattle.papaya_core.specs.Moves.{MovesMap};
 ghost use Rattle.papaya_core.specs.New.{IsTooMuch, IsAllowed, IsRefused, IsNew};
-ghost use Rattle.papaya_core.specs.Runs.{TurnsRun, StopsEarly, TurnRuns, IsCutShort, BeginRuns, StepRuns, StepsRun, with_step};
+ghost use Rattle.papaya_core.specs.Runs.{TurnsRun, StopsEarly, TurnRuns, IsCutShort, BeginRuns, StepRuns, StepsRun};
 
-use std::alloc::Global;
-use std::hash::{BuildHasher, Hash};
-use std::marker::Model;
-
-use papaya_call::ask::{Answer, Ask, StepKind};
+use crate::callers::Callers;
+use crate::entries::{event_of, push_entry, push_step, reserve_entries};
+use crate::pairs::{KeyOf, Running};
+use crate::store::Store;
+use crate::trace::{Entry, Event, Trace, Turn};
+use papaya_call::ask::Ask;
 use papaya_call::call::{Call, Reply, Task};
 use papaya_call::machine::Machine;
 use papaya_words::counter::Counter;
 use papaya_words::limits::MAX_TABLE_LEN;
 use papaya_words::probe::{Refused, ResizeMode, entries_for};
-use papaya_words::word::Word;
-
-use crate::callers::Callers;
-use crate::pairs::{KeyOf, Running};
-use crate::store::Store;
-use crate::trace::{Entry, Event, Trace, Turn};
+use std::alloc::Global;
+use std::hash::{BuildHasher, Hash};
+use std::marker::Model;
 
 /// A map on plain words, whose callers' steps come in any order that its user chooses.
 ///
@@ -55,7 +55,7 @@ impl<K: Hash + Eq, V, S: BuildHasher> Model for Core<K, V, S> {
 }
 
 /// A call as it begins.
-fn begin_call<K: Hash + Eq, V, S: BuildHasher>(
+fn begin_call<K: Hash + Eq, V: Drop, S: BuildHasher>(
     store: &Store<K, V, S>,
     mode: ResizeMode,
     initial: usize,
@@ -73,7 +73,12 @@ fn begin_call<K: Hash + Eq, V, S: BuildHasher>(
             value: None,
         },
         Call::Insert(key, value) => Running {
-            machine: Machine::new(Task::Insert { replace: true }, store.hash(&key), mode, initial),
+            machine: Machine::new(
+                Task::Insert { replace: true },
+                store.hash(&key),
+                mode,
+                initial,
+            ),
             key: KeyOf::Own(key),
             value: Some(value),
         },
@@ -113,77 +118,8 @@ fn initial_len(capacity: usize) -> Result<usize, Refused>
     Ok(initial)
 }
 
-/// Makes room for so many more entries.
-fn reserve_entries(entries: &mut Vec<Entry>, more: usize) -> Result<(), Refused>
-    ensures room { OnOk result (vec_len entries.new + more ≤ vec_capacity entries.new) }
-    ensures err { IfErr result (λ e. e ≡ Refused.Memory) }
-    ensures items { entries.new.items ≡ entries.old.items }
-{
-    match entries.reserve(more) {
-        Ok(()) => Ok(()),
-        Err(_) => Err(Refused::Memory),
-    }
-}
-
-/// Adds an entry, for which there is room.
-fn push_entry(entries: &mut Vec<Entry>, entry: Entry)
-    requires { vec_len entries.old < vec_capacity entries.old }
-    ensures newest { reverse entries.new.items ≡ entry ∷ reverse entries.old.items }
-    ensures len { vec_len entries.new ≡ vec_len entries.old + 1 }
-    ensures capacity { vec_capacity entries.old ≤ vec_capacity entries.new }
-{
-    let _ = entries.push(entry);
-}
-
-/// Adds the entries of a step, for which there is room.
-fn push_step(
-    entries: &mut Vec<Entry>,
-    turn: usize,
-    caller: usize,
-    event: Event,
-    reply: Option<Reply>,
-)
-    requires { vec_len entries.old + 2 ≤ vec_capacity entries.old }
-    ensures { reverse entries.new.items ≡ with_step turn caller event reply (reverse entries.old.items) }
-{
-    push_entry(entries, Entry { turn, caller, event });
-    if let Some(reply) = reply {
-        let event = Event::Replied(reply);
-        push_entry(entries, Entry { turn, caller, event });
-    }
-}
-
 /// Lets a call go.
 fn end_call<K: Drop, V: Drop>(_running: Running<K, V>) {}
-
-/// The event of an exchange that was made.
-fn exchange_event(kind: StepKind, old: u64, new: u64) -> Event
-    ensures { result ≡ exchange_event kind old new }
-{
-    let (old, new) = (Word(old).pair(), Word(new).pair());
-    match kind {
-        StepKind::Claim => Event::Changed(kind, None, Some(new)),
-        StepKind::Replace => Event::Changed(kind, Some(old), Some(new)),
-        StepKind::Bury => Event::Changed(kind, Some(old), None),
-        _ => Event::Moved(kind),
-    }
-}
-
-/// The event of an ask that was answered.
-fn event_of(kind: Option<StepKind>, ask: Ask, answer: Answer) -> Event
-    ensures { result ≡ event_of kind ask answer }
-{
-    match ask {
-        Ask::Exchange(_, old, new) => match answer {
-            Answer::Exchanged => match kind {
-                Some(kind) => exchange_event(kind, old, new),
-                None => Event::Other,
-            },
-            _ => Event::Other,
-        },
-        _ => Event::Other,
-    }
-}
 
 impl<K: Hash + Eq, V, S: BuildHasher> Core<K, V, S> {
     /// Is this caller in a call?
@@ -217,8 +153,8 @@ impl<K: Hash + Eq + Drop, V: Drop, S: BuildHasher + Drop> Core<K, V, S> {
         hasher: S,
     ) -> Result<Core<K, V, S>, Refused>
         ensures ok { IfOk result (λ core. IsAllowed mode capacity shards × IsNew mode capacity shards hasher core) }
-        ensures counted { IfOk result (λ core. IsCounted core.store core.callers) }
         ensures err { IfErr result (λ e. IsRefused mode capacity shards e) }
+        ensures counted { IfOk result (λ core. IsCounted core.store core.callers) }
     {
         check_chunk(mode)?;
         let initial = initial_len(capacity)?;
@@ -255,12 +191,15 @@ impl<K: Hash + Eq + Drop, V: Drop, S: BuildHasher> Core<K, V, S> {
     fn advance(&mut self, caller: usize, refuse: bool) -> (Event, Option<Reply>)
         requires { IsSome (call_of self.old caller) }
         ensures advances { Advances K.eq refuse self.old caller self.new result.0 result.1 }
+        ensures moves { MovesMap K.eq self.old caller self.new result.0 }
         ensures counted { IsCounted self.new.store self.new.callers }
     {
         let mut running = self.callers.take(caller);
         let kind = running.machine.kind();
         let ask = running.machine.ask();
-        let answer = self.store.perform(self.alloc, caller, &mut running, ask, refuse);
+        let answer = self
+            .store
+            .perform(self.alloc, caller, &mut running, ask, refuse);
         running.machine.answer(answer);
         let event = event_of(kind, ask, answer);
         let reply = reply_in(running.machine.ask());
@@ -277,7 +216,7 @@ impl<K: Hash + Eq + Drop, V: Drop, S: BuildHasher> Core<K, V, S> {
     /// `Refused::Memory`, and any other step is an ordinary one.
     pub fn step(&mut self, caller: usize, refuse_memory: bool) -> Option<Reply>
         requires { IsSome (call_of self.old caller) }
-        ensures advances { (event : _) × Advances K.eq refuse_memory self.old caller self.new event result }
+        ensures advances { (event : _) × Advances K.eq refuse_memory self.old caller self.new event result × MovesMap K.eq self.old caller self.new event }
         ensures counted { IsCounted self.new.store self.new.callers }
     {
         let (_, reply) = self.advance(caller, refuse_memory);
@@ -291,6 +230,7 @@ impl<K: Hash + Eq + Drop, V: Drop, S: BuildHasher> Core<K, V, S> {
     /// before were made, and of a `Finish` perhaps some steps.
     pub fn run(&mut self, schedule: Vec<Turn<K, V>>) -> Result<Trace, Refused>
         ensures ok { IfOk result (λ trace. TurnsRun K.eq (hash_of K.hash_input S.build_hasher S.Hasher.write S.Hasher.finish) schedule.items (length schedule.items) self.old self.new (reverse trace.entries.items)) }
+        ensures timeline { IfOk result (λ trace. HasTimeline K.eq schedule.items self.old (reverse trace.entries.items) self.new) }
         ensures err { IfErr result (λ e. (e ≡ Refused.Memory) × StopsEarly K.eq (hash_of K.hash_input S.build_hasher S.Hasher.write S.Hasher.finish) schedule.items self.old self.new) }
         ensures counted { IsCounted self.new.store self.new.callers }
     {
@@ -344,7 +284,14 @@ impl<K: Hash + Eq + Drop, V: Drop, S: BuildHasher> Core<K, V, S> {
         reserve_entries(entries, 1)?;
         self.begin(caller, call)?;
         let event = Event::Begun;
-        push_entry(entries, Entry { turn, caller, event });
+        push_entry(
+            entries,
+            Entry {
+                turn,
+                caller,
+                event,
+            },
+        );
         Ok(())
     }
 

@@ -1,24 +1,21 @@
 //! What the machines of all callers ask about: the words of the tables, the logs of keys and pairs, and the count.
-ghost use Rattle.std.specs.Prelude.{◌≡◌, ◌≢◌, ◌+◌, ◌-◌, ◌<◌, ◌^◌, ◌⊎◌, [], ◌∷◌, ◌++◌, ◌+ℤ◌, length, vec_len, vec_capacity, Some, None, pos, MatchOption, IfOk, OnOk, IfErr, slice_get};
+ghost use Rattle.std.specs.Prelude.{◌≡◌, ◌+◌, ◌-◌, ◌<◌, ◌^◌, ◌⊎◌, [], ◌∷◌, ◌++◌, ◌+ℤ◌, length, vec_len, vec_capacity, Some, None, MatchOption, OnOk, IfErr, slice_get};
 ghost use Rattle.std.specs.Int.{w64, int_wrap};
-ghost use Rattle.papaya_words.specs.Table.{new_table};
 ghost use Rattle.papaya_core.specs.New.{HasCapacity};
 ghost use Rattle.papaya_core.specs.Tables.{table_of, word_at, put, put_in, written};
-ghost use Rattle.papaya_core.specs.Store.{Stored, pair_of, hash_of};
+ghost use Rattle.papaya_core.specs.Store.{pair_of, hash_of};
 ghost use Rattle.papaya_core.specs.Performs.{Performs, IsMake, Stays, Refuses, LogsKey, LogsPair, MakesTable, HasKey, HasNoPair, key_at, same};
 
-use std::alloc::Global;
-use std::hash::{BuildHasher, Hash, Hasher};
-use std::marker::Model;
-use std::mem;
-
+use crate::pairs::{KeyOf, Pair, Running};
 use papaya_call::ask::{Answer, Ask, At};
 use papaya_words::counter::Counter;
 use papaya_words::limits::{MAX_LOG_LEN, MAX_TABLES};
 use papaya_words::probe::{Refused, limit};
 use papaya_words::table::{Table, table_len};
-
-use crate::pairs::{KeyOf, Pair, Running};
+use std::alloc::Global;
+use std::hash::{BuildHasher, Hash, Hasher};
+use std::marker::Model;
+use std::mem;
 
 /// Writes a word of the table at place `k`, where there is such a one.
 fn put_in(tables: &mut Vec<Table>, k: usize, at: At, word: u64)

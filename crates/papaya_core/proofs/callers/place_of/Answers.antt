@@ -22,13 +22,13 @@ loop-place-preserved g c = λ i seat lt e.
     ⊎_elim
     (λ (below : i < c.loop-place.place). c.loop-place.invariant i seat below e)
     (λ (above : c.loop-place.place ≤ i).
-      let same : i ≡ c.loop-place.place = omega arith in
-      λ is. c.if-seat-caller.false (ap (λ x. x.caller) (same_item c.index-seats-place.result seat (sym at ∙ (ap (slice_get c.args.seats.now) (sym same) ∙ e))) ∙ is))
+    let same : i ≡ c.loop-place.place = omega arith in
+    λ is. c.if-seat-caller.false (ap (λ x. x.caller) (same_item c.index-seats-place.result seat (sym at ∙ (ap (slice_get c.args.seats.now) (sym same) ∙ e))) ∙ is))
     (cases_lt i c.loop-place.place)
 
 pub returns : goal.returns
 returns g c = record {
-    within = omega arith;
-    before = λ i seat lt e. c.loop-place.invariant i seat (omega arith) e;
-    here = λ seat e. absurd (let lt = slice_get_within c.args.seats.now (length c.args.seats.now) seat e in omega arith);
-  }
+  within = omega arith;
+  before = λ i seat lt e. c.loop-place.invariant i seat (omega arith) e;
+  here = λ seat e. absurd (let lt = slice_get_within c.args.seats.now (length c.args.seats.now) seat e in omega arith);
+}

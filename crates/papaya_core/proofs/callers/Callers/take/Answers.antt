@@ -17,7 +17,7 @@ unreachable-requires g c =
     let within = running-within seats c.args.caller c.place_of-place.result at (subst (λ (xs : List (Seat _ _)). is_some (running xs c.args.caller) ≡ true) (sym c.self.view_is) c.requires) in
     let (seat, there) = item_there seats c.place_of-place.result within in
     not_none (running seats c.args.caller) (subst (λ (xs : List (Seat _ _)). is_some (running xs c.args.caller) ≡ true) (sym c.self.view_is) c.requires)
-      (running-at seats c.args.caller c.place_of-place.result seat at there ∙ sym (c.take_call.ensures.seat seat there).0 ∙ c.in-None.is)
+    (running-at seats c.args.caller c.place_of-place.result seat at there ∙ sym (c.take_call.ensures.seat seat there).0 ∙ c.in-None.is)
 
 pub returns-clause-call : goal.returns-clause-call
 returns-clause-call g c =
@@ -42,4 +42,4 @@ returns-clause-seat g c =
     let within = running-within seats c.args.caller c.place_of-place.result at (subst (λ (xs : List (Seat _ _)). is_some (running xs c.args.caller) ≡ true) (sym c.self.view_is) c.requires) in
     let (seat, there) = item_there seats c.place_of-place.result within in
     subst (λ (xs : List (Seat _ _)). IsSeated xs c.args.caller) (with_call-at seats c.args.caller c.place_of-place.result seat None at there ∙ sym (c.take_call.ensures.seat seat there).1)
-      (with_call-seated seats c.args.caller c.place_of-place.result None at within)
+    (with_call-seated seats c.args.caller c.place_of-place.result None at within)

@@ -12,6 +12,7 @@ use Rattle.papaya_core.specs.Store.{hash_of}
 use Rattle.papaya_core.specs.Advances.{Advances, event_of, reply_in, goes_on}
 use Rattle.papaya_core.proofs.CallersLemmas.{with_call-twice}
 use Rattle.papaya_core.proofs.CoreLemmas.{with_call-core, performed-core}
+use Rattle.papaya_core.proofs.HeadlineLemmas.{lawful_moves}
 use Rattle.papaya_core.proofs.CountedCore.{stepped_sound}
 use Rattle.papaya_core.proofs.schedule.Core.advance.Goals as goal
 use Rattle.papaya_core.proofs.schedule.Core.advance.Goals.{After-perform-answer, After-put}
@@ -125,3 +126,17 @@ returns-in-None-clause-advances g c =
       mode = refl;
       initial = refl;
     })
+
+pub returns-in-Some-clause-moves : goal.returns-in-Some-clause-moves
+returns-in-Some-clause-moves g c =
+    lawful_moves g.K.PartialEq.eq g.K.Hash.hash_input g.S.BuildHasher.build_hasher g.S.Hasher.Hasher.write g.S.Hasher.Hasher.finish g.met.K.Eq.laws g.met.K.Hash.respects_eq
+    c.args.refuse c.args.self.now (record { store = c.perform-answer.new.self; callers = c.take-running.new.self; mode = c.self.inside.mode; initial = c.self.inside.initial }) c.args.caller c.event_of-event.result c.reply_in-reply.result
+    (subst (λ s. IsLawfulCore g.K.PartialEq.eq (hash_of g.K.Hash.hash_input g.S.BuildHasher.build_hasher g.S.Hasher.Hasher.write g.S.Hasher.Hasher.finish s.store.hasher) s.store s.callers s.mode) c.self.view_is c.self.invariant.0)
+    (returns-in-Some-clause-advances g c)
+
+pub returns-in-None-clause-moves : goal.returns-in-None-clause-moves
+returns-in-None-clause-moves g c =
+    lawful_moves g.K.PartialEq.eq g.K.Hash.hash_input g.S.BuildHasher.build_hasher g.S.Hasher.Hasher.write g.S.Hasher.Hasher.finish g.met.K.Eq.laws g.met.K.Hash.respects_eq
+    c.args.refuse c.args.self.now (record { store = c.perform-answer.new.self; callers = c.put.new.self; mode = c.self.inside.mode; initial = c.self.inside.initial }) c.args.caller c.event_of-event.result c.reply_in-reply.result
+    (subst (λ s. IsLawfulCore g.K.PartialEq.eq (hash_of g.K.Hash.hash_input g.S.BuildHasher.build_hasher g.S.Hasher.Hasher.write g.S.Hasher.Hasher.finish s.store.hasher) s.store s.callers s.mode) c.self.view_is c.self.invariant.0)
+    (returns-in-None-clause-advances g c)
