@@ -1,12 +1,11 @@
 -- The content of a core as a list: no key stands twice in it, and it is no longer than its table.
-use Rattle.std.proofs.Common.{◌≡◌, ℕ, zero, suc, ◌+◌, ◌<◌, ◌≤◌, ◌^◌, Bool, List, [], ◌∷◌, ◌++◌, length, slice_index, Option, Some, None, ◌⊎◌, inl, inr, refl, sym, ◌∙◌, ap, subst, arith, append-nil, append_assoc, length-append}
+use Rattle.std.proofs.Common.{◌≡◌, ℕ, zero, suc, ◌+◌, ◌≤◌, ◌^◌, Bool, List, [], ◌∷◌, ◌++◌, length, slice_index, Option, Some, None, inl, inr, refl, sym, ◌∙◌, ap, subst, arith, append-nil, append_assoc, length-append}
 use Rattle.papaya_words.specs.Table.{TableWords}
 use Rattle.papaya_words.specs.Word.{kind_of, pair_of as number_of}
 use Rattle.papaya_words.specs.declared.probe.ResizeMode.{ResizeMode}
 use Rattle.papaya_words.specs.declared.word.Kind.{Kind}
 use Rattle.papaya_words.specs.declared.word.Kind.TheVariants as kinds
 use Rattle.papaya_call.specs.declared.ask.At.TheVariants.{Root, Slot}
-use Rattle.papaya_call.specs.Law.Class.{IsOn}
 use Rattle.papaya_call.specs.Law.Code.{Coding, code, kind}
 use Rattle.papaya_call.specs.Law.Content.{AreApart, pairs_in, pairs_of_word, content as law_content}
 use Rattle.papaya_call.specs.Law.Exchange.{Word, Empty, Closed, Live, Marked, Copied, Buried, Setting, State, Exchange, run, start}
@@ -104,8 +103,9 @@ module _ {K V S : Type 0} (eq : K → K → Bool) (hash : K → ℕ) (mode : Res
     -- with no root table there is no root
     no_root : table_of store.words.tables now.root ≡ None → now.root ≡ 0
     no_root none = elim (sound g hashed.lawful es kept.allowed).root [
-        inl rootless ↦ rootless.0
-      | inr on ↦ let made = kept.made now.root on.0 (on_comes now now.root on) in let f : None ≡ Some made.0 = sym none ∙ made.1 in absurd cc ]
+      | inl rootless ↦ rootless.0
+      | inr on ↦ let made = kept.made now.root on.0 (on_comes now now.root on) in let f : None ≡ Some made.0 = sym none ∙ made.1 in absurd cc
+    ]
 
     -- the content of the root table is what the law has there
     table_content : (o : Option TableWords) → table_of store.words.tables now.root ≡ o → pairs_of_table store o ≡ law_content g now
@@ -118,5 +118,5 @@ module _ {K V S : Type 0} (eq : K → K → Bool) (hash : K → ℕ) (mode : Res
     pub content_apart : AreApart eq (λ p. p.key) (content store)
     content_apart =
         subst (AreApart eq (λ p. p.key))
-          (sym (ap (λ n. pairs_of_table store (table_of store.words.tables n)) (sym (kept.coded Root)) ∙ table_content (table_of store.words.tables now.root) refl))
-          (apart_in g hashed.lawful now (map_left g es) (keeping g hashed.lawful es kept.allowed) now.root (g.size now.root))
+        (sym (ap (λ n. pairs_of_table store (table_of store.words.tables n)) (sym (kept.coded Root)) ∙ table_content (table_of store.words.tables now.root) refl))
+        (apart_in g hashed.lawful now (map_left g es) (keeping g hashed.lawful es kept.allowed) now.root (g.size now.root))

@@ -1,5 +1,5 @@
 -- The sum of the shards, with what is yet to be added, stays the number of pairs.
-use Rattle.std.proofs.Common.{◌≡◌, ℕ, ◌+◌, ◌<◌, ◌≤◌, ◌^◌, ℤ, pos, ◌+ℤ◌, Bool, List, [], ◌∷◌, ◌++◌, length, Option, Some, None, ◌⊎◌, inl, inr, refl, sym, ◌∙◌, ap, subst, arith, append-nil}
+use Rattle.std.proofs.Common.{◌≡◌, ℕ, ◌≤◌, ◌^◌, ℤ, pos, ◌+ℤ◌, Bool, List, [], ◌∷◌, ◌++◌, length, Option, Some, None, inl, inr, refl, sym, ◌∙◌, ap, subst, arith}
 use Rattle.std.proofs.lemmas.Int.{ints, int_wrap_fits, int_wrap-add_same, fits_signed_from_abs}
 use Rattle.std.specs.Int.{w64, int_wrap}
 use Rattle.papaya_words.specs.Table.{TableWords}
@@ -9,13 +9,11 @@ use Rattle.papaya_words.specs.declared.word.Kind.TheVariants as kinds
 use Rattle.papaya_call.specs.declared.call.Call.{Call}
 use Rattle.papaya_call.specs.declared.call.Reply.{Reply}
 use Rattle.papaya_call.specs.Law.Allows.{AllAllowed}
-use Rattle.papaya_call.specs.Law.Code.{Coding}
-use Rattle.papaya_call.specs.Law.Content.{AreApart, IsCountAfter, lookup}
-use Rattle.papaya_call.specs.Law.Exchange.{Setting, State, Exchange, run, start}
+use Rattle.papaya_call.specs.Law.Content.{AreApart, lookup}
+use Rattle.papaya_call.specs.Law.Exchange.{Setting, Exchange, run, start}
 use Rattle.papaya_call.specs.Law.Meaning.{map_left, map_of as law_map}
 use Rattle.papaya_call.specs.Machine.{ask_of, kind_of_ask, after}
 use Rattle.papaya_call.specs.Owed.{owed_by, grows_by}
-use Rattle.papaya_call.specs.Told.{IsHashed}
 use Rattle.papaya_call.proofs.Law.FiniteMaps.{length_after, one_length}
 use Rattle.papaya_call.proofs.Law.Moments.{allowed_first, allowed_rest, map_of-append}
 use Rattle.papaya_call.proofs.Law.OneMap.{keeping, step_keeps}
@@ -23,7 +21,7 @@ use Rattle.papaya_call.proofs.RestsCount.{machine_owes}
 use Rattle.papaya_core.specs.declared.pairs.Running.{Running}
 use Rattle.papaya_core.specs.declared.callers.Seat.{Seat}
 use Rattle.papaya_core.specs.declared.trace.Event.{Event}
-use Rattle.papaya_core.specs.Advances.{Advances, goes_on, reply_in}
+use Rattle.papaya_core.specs.Advances.{Advances, goes_on}
 use Rattle.papaya_core.specs.Begins.{Begins, begun}
 use Rattle.papaya_core.specs.Content.{content, pairs_of_kind, pairs_of_slots, pairs_of_table}
 use Rattle.papaya_core.specs.Core.{CoreState, IsCore, call_of}
@@ -70,9 +68,9 @@ module _ {K V S : Type 0} (store : StoreState K V S) (none : store.pairs ≡ [])
 pub counted_begin : {K V S : Type 0} (hash : K → ℕ) (s : CoreState K V S) (caller : ℕ) (call : Call K V) (s' : CoreState K V S) → Begins hash s caller call s' → call_of s caller ≡ None → IsCounted s.store s.callers → IsCounted s'.store s'.callers
 counted_begin {K} {V} {S} hash s caller call s' begins free counted =
     subst (λ (y : StoreState K V S). IsCounted y s'.callers) (sym begins.store)
-      (ap (λ (l : List (Seat K V)). int_wrap w64 (s.store.count.sum +ℤ owed_in l)) begins.callers
-      ∙ ap (λ z. int_wrap w64 (s.store.count.sum +ℤ z)) (owed-begun s.callers caller free (Some (begun hash s.mode s.initial call)) ∙ omega (arith, ints))
-      ∙ counted)
+    (ap (λ (l : List (Seat K V)). int_wrap w64 (s.store.count.sum +ℤ owed_in l)) begins.callers
+    ∙ ap (λ z. int_wrap w64 (s.store.count.sum +ℤ z)) (owed-begun s.callers caller free (Some (begun hash s.mode s.initial call)) ∙ omega (arith, ints))
+    ∙ counted)
 
 module _ {K V S : Type 0} (eq : K → K → Bool) (hash : K → ℕ) (law : IsLawfulKeys eq hash) (refuse : Bool) (s : CoreState K V S) (caller : ℕ) (s' : CoreState K V S) (event : Event) (reply : Option Reply)
     (a : Advances eq refuse s caller s' event reply) (es : List (Exchange (Stored K V))) (tales : ℕ → Tale K V)

@@ -1,5 +1,5 @@
 -- What a step adds to the sum, and by how many pairs the map grows in it.
-use Rattle.std.proofs.Common.{◌≡◌, ℕ, suc, ℤ, pos, negsuc, ◌+ℤ◌, ◌==◌, Bool, List, [], ◌∷◌, Option, Some, None, ◌⊎◌, inl, inr, refl, sym, ◌∙◌, ap, subst, arith}
+use Rattle.std.proofs.Common.{◌≡◌, ℕ, ℤ, pos, negsuc, ◌+ℤ◌, ◌==◌, Bool, List, [], ◌∷◌, Option, Some, ◌⊎◌, inl, inr, refl, sym, ◌∙◌, ap, subst, arith}
 use Rattle.std.proofs.Math.IntN.{+ℤ_idr}
 use Rattle.std.proofs.lemmas.Int.{ints, int_wrap_fits, SFits-int_wrap}
 use Rattle.std.specs.Int.{w64, int_wrap}
@@ -8,16 +8,15 @@ use Rattle.papaya_call.specs.declared.ask.At.TheVariants.{Root, Slot}
 use Rattle.papaya_call.specs.declared.ask.Ask.{Ask}
 use Rattle.papaya_call.specs.declared.ask.Ask.TheVariants.{Load, Exchange as Ask_exchange, SameKey, SizeOf, MakeKey, MakePair, MakeTable, AddToShard, Done as Ask_done}
 use Rattle.papaya_call.specs.declared.ask.Answer.{Answer}
-use Rattle.papaya_call.specs.declared.ask.Answer.TheVariants.{Exchanged, Found as Found_instead}
 use Rattle.papaya_call.specs.declared.ask.StepKind.{StepKind}
 use Rattle.papaya_call.specs.declared.ask.StepKind.TheVariants as kinds
 use Rattle.papaya_call.specs.Law.Code.{Coding}
 use Rattle.papaya_call.specs.Law.Content.{IsCountAfter}
-use Rattle.papaya_call.specs.Law.Exchange.{Setting, State, Exchange, Open, Claim, Replace, Bury}
+use Rattle.papaya_call.specs.Law.Exchange.{Setting, State, Exchange}
 use Rattle.papaya_call.specs.Owed.{owed_by, grows_of, grows_by}
 use Rattle.papaya_call.specs.Told.{Hands, IsAsked, IsTold, word_of}
 use Rattle.papaya_core.specs.declared.pairs.Running.{Running}
-use Rattle.papaya_core.specs.Performs.{Performs, Refuses, Stays, HasKey, HasNoPair, LogsKey, LogsPair, MakesTable}
+use Rattle.papaya_core.specs.Performs.{Performs, Stays, LogsKey, LogsPair, MakesTable}
 use Rattle.papaya_core.specs.Store.{StoreState}
 use Rattle.papaya_core.specs.Tables.{word_at}
 use Rattle.papaya_core.proofs.StoreLemmas.{matched}

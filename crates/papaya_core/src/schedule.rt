@@ -2,10 +2,12 @@
 ghost use Rattle.std.specs.Prelude.{◌≡◌, ◌<◌, ◌^◌, length, IfOk, IfErr, OnOk, IsSome, Some, None, is_some, MatchOption, reverse, ◌+◌, ◌*◌, ◌≤◌};
 ghost use Rattle.papaya_words.specs.declared.limits.TheConstants.{MAX_TABLE_LEN};
 ghost use Rattle.papaya_words.specs.Probe.{IsEntriesFor};
+ghost use Rattle.papaya_call.specs.Law.Content.{AreApart};
 ghost use Rattle.papaya_call.specs.Machine.{IsChunked, IsStanding};
 ghost use Rattle.papaya_core.specs.Callers.{running};
 ghost use Rattle.papaya_core.specs.Store.{pair_of, hash_of};
 ghost use Rattle.papaya_core.specs.Core.{call_of};
+ghost use Rattle.papaya_core.specs.Content.{content};
 ghost use Rattle.papaya_core.specs.Counted.{IsCounted};
 ghost use Rattle.papaya_core.specs.Begins.{Begins, begun};
 ghost use Rattle.papaya_core.specs.Advances.{Advances, event_of, reply_in};
@@ -123,8 +125,12 @@ fn end_call<K: Drop, V: Drop>(_running: Running<K, V>) {}
 
 impl<K: Hash + Eq, V, S: BuildHasher> Core<K, V, S> {
     /// Is this caller in a call?
+    ///
+    /// The contract also says of any core, whatever calls are under way, that its count is the
+    /// number of pairs, but for what the calls have yet to add.
     pub fn running(&self, caller: usize) -> bool
         ensures running { result ≡ is_some (call_of self.now caller) }
+        ensures apart { AreApart K.eq (λ p. p.key) (content self.now.store) }
         ensures counted { IsCounted self.now.store self.now.callers }
     {
         self.callers.is_running(caller)

@@ -26,10 +26,10 @@ asked g c = subst (λ y. Performs g.K.PartialEq.eq c.args.refuse y c.self.inside
 taken : (g : Over) (c : After-perform-answer g) → IsCore c.perform-answer.new.self c.take-running.new.self c.self.inside.mode
 taken g c =
     subst (λ (y : List (Seat _ _)). IsCore c.perform-answer.new.self y c.self.inside.mode) (sym c.take-running.ensures.taken)
-      (with_call-core c.perform-answer.new.self c.self.inside.callers c.self.inside.mode c.args.caller None
-        (performed-core g.K.PartialEq.eq c.args.refuse c.self.inside.store c.self.inside.callers c.self.inside.mode c.take-running.result c.perform-answer.result c.perform-answer.new.self c.perform-answer.new.running
-          c.self.invariant.0.core (subst IsFitAsk c.ask-ask.ensures.value c.ask-ask.ensures.size) (asked g c))
-        (λ r e. let f : None ≡ Some r = e in cc))
+    (with_call-core c.perform-answer.new.self c.self.inside.callers c.self.inside.mode c.args.caller None
+    (performed-core g.K.PartialEq.eq c.args.refuse c.self.inside.store c.self.inside.callers c.self.inside.mode c.take-running.result c.perform-answer.result c.perform-answer.new.self c.perform-answer.new.running
+    c.self.invariant.0.core (subst IsFitAsk c.ask-ask.ensures.value c.ask-ask.ensures.size) (asked g c))
+    (λ r e. let f : None ≡ Some r = e in cc))
 
 -- the core after a call has ended
 ended : (g : Over) (c : After-perform-answer g) (x : Reply) → reply_in (ask_of (after c.take-running.result.machine c.perform-answer.result)) ≡ Some x
@@ -38,10 +38,10 @@ ended g c x reply =
     let a = c.perform-answer.result in
     let later = c.perform-answer.new.running in
     stepped_sound g.K.PartialEq.eq g.K.Hash.hash_input g.S.BuildHasher.build_hasher g.S.Hasher.Hasher.write g.S.Hasher.Hasher.finish g.met.K.Eq.laws g.met.K.Hash.respects_eq
-      c.args.refuse (record { store = c.self.inside.store; callers = c.self.inside.callers; mode = c.self.inside.mode; initial = c.self.inside.initial }) c.args.caller c.perform-answer.new.self c.take-running.new.self
-      c.take-running.result a later c.take-running.ensures.call (asked g c) c.perform-answer.ensures.machine
-      (c.take-running.ensures.taken ∙ sym (ap (λ y. with_call c.self.inside.callers c.args.caller (goes_on y (record later { machine = after c.take-running.result.machine a }))) reply))
-      (taken g c) c.self.invariant.0 c.self.invariant.1
+    c.args.refuse (record { store = c.self.inside.store; callers = c.self.inside.callers; mode = c.self.inside.mode; initial = c.self.inside.initial }) c.args.caller c.perform-answer.new.self c.take-running.new.self
+    c.take-running.result a later c.take-running.ensures.call (asked g c) c.perform-answer.ensures.machine
+    (c.take-running.ensures.taken ∙ sym (ap (λ y. with_call c.self.inside.callers c.args.caller (goes_on y (record later { machine = after c.take-running.result.machine a }))) reply))
+    (taken g c) c.self.invariant.0 c.self.invariant.1
 
 -- the core after a call went on
 went_on : (g : Over) (c : After-put g) → Performs g.K.PartialEq.eq c.args.refuse (ask_of c.take-running.result.machine) c.self.inside.store c.take-running.result c.perform-answer.result c.perform-answer.new.self c.perform-answer.new.running → IsCore c.perform-answer.new.self c.take-running.new.self c.self.inside.mode
@@ -53,24 +53,24 @@ went_on g c performs core_taken =
     let is_after : c.answer.new.self ≡ after c.take-running.result.machine a = c.answer.ensures.after ∙ ap (λ m. after m a) c.perform-answer.ensures.machine in
     let reply : reply_in (ask_of (after c.take-running.result.machine a)) ≡ None = sym (c.reply_in-reply.ensures ∙ ap reply_in c.ask.ensures.value ∙ ap (λ m. reply_in (ask_of m)) is_after) ∙ c.in-None.is in
     let core : IsCore c.perform-answer.new.self c.put.new.self c.self.inside.mode =
-          subst (λ (y : List (Seat _ _)). IsCore c.perform-answer.new.self y c.self.inside.mode) (sym c.put.ensures)
-            (with_call-core c.perform-answer.new.self c.take-running.new.self c.self.inside.mode c.args.caller (Some r)
-              core_taken
-              (λ q e. let same : r ≡ q = cc in subst (λ (y : Running _ _). IsStanding y.machine) same c.answer.ensures.standing)) in
+    subst (λ (y : List (Seat _ _)). IsCore c.perform-answer.new.self y c.self.inside.mode) (sym c.put.ensures)
+    (with_call-core c.perform-answer.new.self c.take-running.new.self c.self.inside.mode c.args.caller (Some r)
+    core_taken
+    (λ q e. let same : r ≡ q = cc in subst (λ (y : Running _ _). IsStanding y.machine) same c.answer.ensures.standing)) in
     stepped_sound g.K.PartialEq.eq g.K.Hash.hash_input g.S.BuildHasher.build_hasher g.S.Hasher.Hasher.write g.S.Hasher.Hasher.finish g.met.K.Eq.laws g.met.K.Hash.respects_eq
-      c.args.refuse (record { store = c.self.inside.store; callers = c.self.inside.callers; mode = c.self.inside.mode; initial = c.self.inside.initial }) c.args.caller c.perform-answer.new.self c.put.new.self
-      c.take-running.result a later c.take-running.ensures.call performs c.perform-answer.ensures.machine
-      (c.put.ensures ∙ ap (λ y. with_call y c.args.caller (Some r)) c.take-running.ensures.taken
-        ∙ with_call-twice c.self.inside.callers c.args.caller None (Some r)
-        ∙ ap (λ m. with_call c.self.inside.callers c.args.caller (Some (record later { machine = m }))) is_after
-        ∙ sym (ap (λ y. with_call c.self.inside.callers c.args.caller (goes_on y (record later { machine = after c.take-running.result.machine a }))) reply))
-      core c.self.invariant.0 c.self.invariant.1
+    c.args.refuse (record { store = c.self.inside.store; callers = c.self.inside.callers; mode = c.self.inside.mode; initial = c.self.inside.initial }) c.args.caller c.perform-answer.new.self c.put.new.self
+    c.take-running.result a later c.take-running.ensures.call performs c.perform-answer.ensures.machine
+    (c.put.ensures ∙ ap (λ y. with_call y c.args.caller (Some r)) c.take-running.ensures.taken
+    ∙ with_call-twice c.self.inside.callers c.args.caller None (Some r)
+    ∙ ap (λ m. with_call c.self.inside.callers c.args.caller (Some (record later { machine = m }))) is_after
+    ∙ sym (ap (λ y. with_call c.self.inside.callers c.args.caller (goes_on y (record later { machine = after c.take-running.result.machine a }))) reply))
+    core c.self.invariant.0 c.self.invariant.1
 
 pub invariant_of-self : goal.invariant_of-self
 invariant_of-self g c =
     let is_after : c.answer.new.self ≡ after c.take-running.result.machine c.perform-answer.result = c.answer.ensures.after ∙ ap (λ m. after m c.perform-answer.result) c.perform-answer.ensures.machine in
     ended g (goal.at.invariant_of-self g c).After-perform-answer c.in-Some.field-0
-      (sym (c.reply_in-reply.ensures ∙ ap reply_in c.ask.ensures.value ∙ ap (λ m. reply_in (ask_of m)) is_after) ∙ c.in-Some.is)
+    (sym (c.reply_in-reply.ensures ∙ ap reply_in c.ask.ensures.value ∙ ap (λ m. reply_in (ask_of m)) is_after) ∙ c.in-Some.is)
 
 pub invariant_of-self-in-None : goal.invariant_of-self-in-None
 invariant_of-self-in-None g c = went_on g (goal.at.invariant_of-self-in-None g c).After-put (asked g (goal.at.invariant_of-self-in-None g c).After-perform-answer) (taken g (goal.at.invariant_of-self-in-None g c).After-perform-answer)
@@ -79,7 +79,7 @@ pub returns-in-Some-clause-counted : goal.returns-in-Some-clause-counted
 returns-in-Some-clause-counted g c =
     let is_after : c.answer.new.self ≡ after c.take-running.result.machine c.perform-answer.result = c.answer.ensures.after ∙ ap (λ m. after m c.perform-answer.result) c.perform-answer.ensures.machine in
     (ended g (goal.at.returns-in-Some-clause-counted g c).After-perform-answer c.in-Some.field-0
-      (sym (c.reply_in-reply.ensures ∙ ap reply_in c.ask.ensures.value ∙ ap (λ m. reply_in (ask_of m)) is_after) ∙ c.in-Some.is)).1
+    (sym (c.reply_in-reply.ensures ∙ ap reply_in c.ask.ensures.value ∙ ap (λ m. reply_in (ask_of m)) is_after) ∙ c.in-Some.is)).1
 
 pub returns-in-None-clause-counted : goal.returns-in-None-clause-counted
 returns-in-None-clause-counted g c = (went_on g (goal.at.returns-in-None-clause-counted g c).After-put (asked g (goal.at.returns-in-None-clause-counted g c).After-perform-answer) (taken g (goal.at.returns-in-None-clause-counted g c).After-perform-answer)).1
@@ -120,9 +120,9 @@ returns-in-None-clause-advances g c =
       event_is = c.event_of-event.ensures ∙ ap (λ y. event_of y c.ask-ask.result a) c.kind-kind.ensures ∙ ap (λ y. event_of (kind_of_ask before.machine) y a) c.ask-ask.ensures.value;
       reply_is = c.reply_in-reply.ensures ∙ ap reply_in c.ask.ensures.value ∙ ap (λ m. reply_in (ask_of m)) is_after;
       callers = c.put.ensures ∙ ap (λ y. with_call y c.args.caller (Some (record later { machine = c.answer.new.self }))) c.take-running.ensures.taken
-        ∙ with_call-twice c.self.inside.callers c.args.caller None (Some (record later { machine = c.answer.new.self }))
-        ∙ ap (λ m. with_call c.self.inside.callers c.args.caller (Some (record later { machine = m }))) is_after
-        ∙ sym (ap (λ y. with_call c.self.inside.callers c.args.caller (goes_on y (record later { machine = after before.machine a }))) c.in-None.is);
+          ∙ with_call-twice c.self.inside.callers c.args.caller None (Some (record later { machine = c.answer.new.self }))
+          ∙ ap (λ m. with_call c.self.inside.callers c.args.caller (Some (record later { machine = m }))) is_after
+          ∙ sym (ap (λ y. with_call c.self.inside.callers c.args.caller (goes_on y (record later { machine = after before.machine a }))) c.in-None.is);
       mode = refl;
       initial = refl;
     })

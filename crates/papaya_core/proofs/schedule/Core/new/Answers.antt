@@ -11,31 +11,33 @@ pub invariant_of-result : goal.invariant_of-result
 invariant_of-result g c =
     let initial = c.in_ok-initial.ensures.ok in
     let store = c.in_ok-open.ensures.ok.1 in
-    let made = c.new-store.ensures in
-    (new_lawful g.K.PartialEq.eq g.K.Hash.hash_input g.S.BuildHasher.build_hasher g.S.Hasher.Hasher.write g.S.Hasher.Hasher.finish g.met.K.Eq.laws g.met.K.Hash.respects_eq
-      c.args.mode c.args.capacity c.in_ok-initial.initial c.open.new.self c.new-2.result
-      (new-core c.open.new.self c.new-2.result c.args.mode c.args.capacity c.in_ok-initial.initial c.in_ok-check_chunk.ensures.ok initial.1.0 initial.2 c.in_ok-open.ensures.ok.0 c.new-2.ensures)
-      c.in_ok-open.ensures.ok.0 c.new-2.ensures,
-     counted_new c.open.new.self (ap (λ s. s.pairs) store ∙ ap (λ s. s.pairs) made) c.new-2.result (ap (λ s. s.count.sum) store ∙ ap (λ s. s.count.sum) made ∙ c.in_ok-counter.ensures.sum) c.new-2.ensures)
+    let made = c.new-store.ensures in (
+      new_lawful g.K.PartialEq.eq g.K.Hash.hash_input g.S.BuildHasher.build_hasher g.S.Hasher.Hasher.write g.S.Hasher.Hasher.finish g.met.K.Eq.laws g.met.K.Hash.respects_eq
+          c.args.mode c.args.capacity c.in_ok-initial.initial c.open.new.self c.new-2.result
+          (new-core c.open.new.self c.new-2.result c.args.mode c.args.capacity c.in_ok-initial.initial c.in_ok-check_chunk.ensures.ok initial.1.0 initial.2 c.in_ok-open.ensures.ok.0 c.new-2.ensures)
+          c.in_ok-open.ensures.ok.0 c.new-2.ensures,
+      counted_new c.open.new.self (ap (λ s. s.pairs) store ∙ ap (λ s. s.pairs) made) c.new-2.result (ap (λ s. s.count.sum) store ∙ ap (λ s. s.count.sum) made ∙ c.in_ok-counter.ensures.sum) c.new-2.ensures,
+    )
 
 pub returns-clause-ok : goal.returns-clause-ok
 returns-clause-ok g c =
     let initial = c.in_ok-initial.ensures.ok in
     let store = c.in_ok-open.ensures.ok.1 in
     let made = c.new-store.ensures in
-    let few : c.args.shards ≤ 65536 = ⊎_elim (λ (many : 65536 < c.args.shards). let f : Ok c.in_ok-counter.counter ≡ Err Capacity = sym c.in_ok-counter.was ∙ c.new.ensures.many many in cc) (λ (few : c.args.shards ≤ 65536). few) (cases_lt 65536 c.args.shards) in
-    ((c.in_ok-check_chunk.ensures.ok, (initial.0, c.in_ok-initial.initial, initial.1, initial.2), few),
-     record {
-       mode_is = refl;
-       initial = initial.1;
-       words = c.in_ok-open.ensures.ok.0;
-       keys = ap (λ s. s.keys) store ∙ ap (λ s. s.keys) made;
-       pairs = ap (λ s. s.pairs) store ∙ ap (λ s. s.pairs) made;
-       count = subst (IsNextPowerOfTwo c.args.shards) (sym (ap (λ s. s.count.shards) store ∙ ap (λ s. s.count.shards) made)) c.in_ok-counter.ensures.shards;
-       sum = ap (λ s. s.count.sum) store ∙ ap (λ s. s.count.sum) made ∙ c.in_ok-counter.ensures.sum;
-       hasher_is = ap (λ s. s.hasher) store ∙ ap (λ s. s.hasher) made;
-       callers = c.new-2.ensures;
-     })
+    let few : c.args.shards ≤ 65536 = ⊎_elim (λ (many : 65536 < c.args.shards). let f : Ok c.in_ok-counter.counter ≡ Err Capacity = sym c.in_ok-counter.was ∙ c.new.ensures.many many in cc) (λ (few : c.args.shards ≤ 65536). few) (cases_lt 65536 c.args.shards) in (
+      (c.in_ok-check_chunk.ensures.ok, (initial.0, c.in_ok-initial.initial, initial.1, initial.2), few),
+      record {
+        mode_is = refl;
+        initial = initial.1;
+        words = c.in_ok-open.ensures.ok.0;
+        keys = ap (λ s. s.keys) store ∙ ap (λ s. s.keys) made;
+        pairs = ap (λ s. s.pairs) store ∙ ap (λ s. s.pairs) made;
+        count = subst (IsNextPowerOfTwo c.args.shards) (sym (ap (λ s. s.count.shards) store ∙ ap (λ s. s.count.shards) made)) c.in_ok-counter.ensures.shards;
+        sum = ap (λ s. s.count.sum) store ∙ ap (λ s. s.count.sum) made ∙ c.in_ok-counter.ensures.sum;
+        hasher_is = ap (λ s. s.hasher) store ∙ ap (λ s. s.hasher) made;
+        callers = c.new-2.ensures;
+      },
+    )
 
 pub returns-clause-counted : goal.returns-clause-counted
 returns-clause-counted g c =

@@ -31,11 +31,12 @@ turns g c =
 pub loop-turn-preserved : goal.loop-turn-preserved
 loop-turn-preserved g c =
     let t = YieldsList-turn (turns g (goal.at.loop-turn-preserved g c).After-into_iter-turn-iterator) c.loop-turn.yielded c.loop-turn.turn-iterator c.loop-turn.yielded_by c.next.result c.next.new.self (c.in-Some.turn, c.in-Some.what) c.in-Some.is c.next.ensures.steps in
-    let there = numbered_item c.args.schedule.items (length c.loop-turn.yielded) (c.in-Some.turn, c.in-Some.what) t.0 t.1 in
-    (TurnsRun-more g.K.PartialEq.eq (hash_of g.K.Hash.hash_input g.S.BuildHasher.build_hasher g.S.Hasher.Hasher.write g.S.Hasher.Hasher.finish) c.args.schedule.items (length c.loop-turn.yielded) c.in-Some.turn (length (c.loop-turn.yielded ++ (c.in-Some.turn, c.in-Some.what) ∷ [])) c.in-Some.what
-    c.args.self.now c.loop-turn.self (reverse c.loop-turn.entries.items) c.turn_into.new.self (reverse c.turn_into.new.entries.items)
-    there.1 there.0 (let n = length_push c.loop-turn.yielded (c.in-Some.turn, c.in-Some.what) in omega arith) c.loop-turn.invariant.0 c.in_ok-turn_into.ensures.ok,
-     c.turn_into.ensures.counted c.loop-turn.invariant.1)
+    let there = numbered_item c.args.schedule.items (length c.loop-turn.yielded) (c.in-Some.turn, c.in-Some.what) t.0 t.1 in (
+      TurnsRun-more g.K.PartialEq.eq (hash_of g.K.Hash.hash_input g.S.BuildHasher.build_hasher g.S.Hasher.Hasher.write g.S.Hasher.Hasher.finish) c.args.schedule.items (length c.loop-turn.yielded) c.in-Some.turn (length (c.loop-turn.yielded ++ (c.in-Some.turn, c.in-Some.what) ∷ [])) c.in-Some.what
+          c.args.self.now c.loop-turn.self (reverse c.loop-turn.entries.items) c.turn_into.new.self (reverse c.turn_into.new.entries.items)
+          there.1 there.0 (let n = length_push c.loop-turn.yielded (c.in-Some.turn, c.in-Some.what) in omega arith) c.loop-turn.invariant.0 c.in_ok-turn_into.ensures.ok,
+      c.turn_into.ensures.counted c.loop-turn.invariant.1,
+    )
 
 pub returns-in_err-turn_into-clause-err : goal.returns-in_err-turn_into-clause-err
 returns-in_err-turn_into-clause-err g c =
