@@ -1,9 +1,8 @@
 -- A machine that stands within its table does so after each answer within the limits, and asks for tables of sizes of tables.
-use Rattle.std.proofs.Common.{◌≡◌, ℕ, zero, suc, ◌+◌, ◌%◌, ◌==◌, ◌<◌, ◌≤◌, ◌^◌, nat_lt, Bool, true, false, cond, refl, sym, ◌∙◌, ap, subst, arith}
+use Rattle.std.proofs.Common.{ℕ, ◌+◌, ◌==◌, ◌<◌, ◌^◌, nat_lt, Bool, true, false, refl, arith}
 use Rattle.std.proofs.Math.Nat.{mod-lt}
 use Rattle.std.proofs.lemmas.Bool.{cond_both, ltb-true}
 use Rattle.std.proofs.lemmas.Nat.{pow_pos}
-use Rattle.std.specs.Int.{IsPowerOfTwo}
 use Rattle.papaya_words.specs.Word.{kind_of, byte_of, top_byte}
 use Rattle.papaya_words.specs.Probe.{triangular}
 use Rattle.papaya_words.specs.declared.word.Kind.{Kind}
@@ -12,7 +11,7 @@ use Rattle.papaya_words.specs.declared.probe.ResizeMode.{ResizeMode}
 use Rattle.papaya_words.specs.declared.probe.ResizeMode.TheVariants.{Incremental, Blocking}
 use Rattle.papaya_call.specs.declared.ask.Answer.{Answer}
 use Rattle.papaya_call.specs.declared.ask.Answer.TheVariants.{Word as Word_read, Exchanged, Found as Found_instead, Yes, Size, Made as Made_number, Ok as Ok_done, Refused as Was_refused}
-use Rattle.papaya_call.specs.declared.call.Reply.TheVariants.{Absent, Replaced, Refused as Reply_refused}
+use Rattle.papaya_call.specs.declared.call.Reply.TheVariants.{Absent, Replaced}
 use Rattle.papaya_call.specs.declared.call.Task.{Task}
 use Rattle.papaya_call.specs.declared.call.Task.TheVariants.{Get, Insert}
 use Rattle.papaya_call.specs.declared.search.Place.{Place}
@@ -22,13 +21,12 @@ use Rattle.papaya_call.specs.declared.search.Seen.{Seen}
 use Rattle.papaya_call.specs.declared.search.Seen.TheVariants as seen
 use Rattle.papaya_call.specs.declared.write.Made.{Made}
 use Rattle.papaya_call.specs.declared.write.Made.TheVariants.{Nothing, Key, Pair}
-use Rattle.papaya_call.specs.declared.write.Write.{Write}
 use Rattle.papaya_call.specs.declared.machine.Machine.{Machine}
 use Rattle.papaya_call.specs.declared.machine.State.{State}
 use Rattle.papaya_call.specs.declared.machine.State.TheVariants.{AtRoot, Making, Opening, Searching, Writing, Counting, Leaving, Ended}
 use Rattle.papaya_call.specs.Search.{IsSize, IsWithin, IsSearching, IsSeen, next_place, go_on, look_at, look, match_at, at_word as search_loaded, at_yes as search_compared}
 use Rattle.papaya_call.specs.Write.{IsMade}
-use Rattle.papaya_call.specs.Machine.{IsWriter, IsStanding, IsStandingState, IsFit, IsFitAsk, ask_of, asks, after, at_root, leaves, passes, replaces, found, goes_as, made_in, state_in, at_word, at_exchanged, at_found, at_yes, at_size, at_ok, at_refused}
+use Rattle.papaya_call.specs.Machine.{IsStanding, IsStandingState, IsFit, IsFitAsk, ask_of, asks, after, at_root, leaves, replaces, goes_as, made_in, state_in, at_word, at_exchanged, at_found, at_yes, at_size, at_ok, at_refused}
 
 -- a table with a size has a slot
 some_slots : (slots last : ℕ) → IsSize slots last → 0 < slots
@@ -37,10 +35,10 @@ some_slots slots last size = let some = pow_pos size.power.0 in let is = size.po
 -- the place after one that is not the last is within the table
 next_within : (at : Place) → IsWithin at → at.probe.len < at.limit → IsWithin (next_place at)
 next_within at within more = record {
-    size = within.size;
-    len = omega arith;
-    i = mod-lt (at.probe.i + at.probe.len + 1) (some_slots at.len at.limit within.size);
-  }
+  size = within.size;
+  len = omega arith;
+  i = mod-lt (at.probe.i + at.probe.len + 1) (some_slots at.len at.limit within.size);
+}
 
 -- a search goes on within the table
 go_on_seen : (at : Place) → IsWithin at → IsSeen (go_on at)

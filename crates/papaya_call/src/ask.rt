@@ -1,7 +1,6 @@
 //! What a machine asks of its backend, and what it is answered.
-use papaya_words::probe::Refused;
-
 use crate::call::Reply;
+use papaya_words::probe::Refused;
 
 /// A word of the tables, which are named by number.
 #[derive(Clone, Copy, Debug, PartialEq, Eq)]

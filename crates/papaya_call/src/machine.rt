@@ -3,13 +3,12 @@ ghost use Rattle.std.specs.Prelude.{◌≡◌, ◌<◌, ◌≤◌, ◌^◌};
 ghost use Rattle.papaya_call.specs.Search.{IsSize, IsSeen, IsWithin};
 ghost use Rattle.papaya_call.specs.Machine.{IsChunked, IsFit, IsFitAsk, IsStanding, IsStandingState, IsLookup, IsWriter, started, ask_of, kind_of_ask, after, at_root, goes, found, passes, leaves, written, at_word, at_exchanged, at_found, at_yes, at_size, state_made, at_ok, at_refused};
 
-use papaya_words::probe::{Refused, ResizeMode};
-use papaya_words::word::{Kind, Word};
-
 use crate::ask::{Answer, Ask, At, StepKind};
 use crate::call::{Reply, Task};
 use crate::search::{Place, Search, Seen};
 use crate::write::{Made, Write};
+use papaya_words::probe::{Refused, ResizeMode};
+use papaya_words::word::{Kind, Word};
 
 /// Where a call stands, between two answers.
 #[derive(Clone, Copy, Debug, PartialEq, Eq)]

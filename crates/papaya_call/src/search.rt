@@ -2,10 +2,9 @@
 ghost use Rattle.std.specs.Prelude.{◌≡◌, ◌<◌, ◌^◌};
 ghost use Rattle.papaya_call.specs.Search.{IsSize, IsWithin, IsSearching, IsSeen, first_place, go_on, look, ask_of, at_size, at_word, at_yes};
 
+use crate::ask::{Ask, At};
 use papaya_words::probe::Probe;
 use papaya_words::word::{Kind, Word, h1, h2};
-
-use crate::ask::{Ask, At};
 
 /// A place of a key in a table.
 #[derive(Clone, Copy, Debug, PartialEq, Eq)]

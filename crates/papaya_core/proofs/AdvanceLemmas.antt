@@ -1,5 +1,5 @@
 -- A step of a core is legal, and moves the map in the class of its call's key alone.
-use Rattle.std.proofs.Common.{◌≡◌, ℕ, ◌==◌, Bool, true, false, Option, None, Some, List, [], ◌∷◌, ◌++◌, refl, sym, ◌∙◌, ap, subst}
+use Rattle.std.proofs.Common.{◌≡◌, ℕ, Bool, Option, None, Some, List, [], ◌∷◌, ◌++◌, refl, sym, ◌∙◌, ap, subst}
 use Rattle.papaya_call.specs.declared.call.Call.{Call}
 use Rattle.papaya_call.specs.declared.call.Call.TheVariants.{Get, Insert}
 use Rattle.papaya_call.specs.declared.call.Reply.{Reply}
@@ -18,9 +18,9 @@ use Rattle.papaya_core.specs.Core.{CoreState, IsCore}
 use Rattle.papaya_core.specs.Kept.{IsKept, Tale, setting_of, coding_of, low, told_tales}
 use Rattle.papaya_core.specs.Content.{map_of}
 use Rattle.papaya_core.specs.Maps.{Map, IsUpdate, Same, key_of}
-use Rattle.papaya_core.specs.Moves.{IsOwnChange, MovesMap}
+use Rattle.papaya_core.specs.Moves.{MovesMap}
 use Rattle.papaya_core.specs.Store.{Stored}
-use Rattle.papaya_core.specs.Timeline.{History, IsLegal, IsChange, MayChange, IsUnused, change_of, number_in, open_call}
+use Rattle.papaya_core.specs.Timeline.{History, IsLegal, MayChange, IsUnused, change_of, number_in, open_call}
 use Rattle.papaya_core.proofs.Good.{replay}
 use Rattle.papaya_core.proofs.KeptLemmas.{IsLawfulKeys, IsStep, hashed_setting, map_kept}
 use Rattle.papaya_core.proofs.LegalLemmas.{step_legal, insertion_does}
@@ -39,15 +39,15 @@ module _ {K V S : Type 0} (eq : K → K → Bool) (hash : K → ℕ) (law : IsLa
         let split = step.call.split in
         let m : Machine = x.before.machine in
         subst (λ y. IsLegal eq y schedule c h (replay eq es) maps (replay eq (es ++ step.made))) (sym x.event_is)
-          (subst (λ (l : List (Exchange (Stored K V))). IsLegal eq (event_of (kind_of_ask m) (ask_of m) x.answer) schedule c h (replay eq l) maps (replay eq (l ++ step.made))) split
-            (step_legal eq hash s.mode s'.mode s.store.words.tables s'.store.words.tables (hashed_setting eq hash law s core) (hashed_setting eq hash law s' core').lawful (tales c).begun (tales c).since
-              (subst (AllAllowed (setting_of eq (low hash) s.mode s.store.words.tables) first_state) (sym split) kept.allowed)
-              step.call.key m (tales c).hands step.call.rests schedule c h maps
-              may_put
-              (λ q made none. subst (λ (l : List (Exchange (Stored K V))). IsUnused q.number (replay eq l ∷ maps)) (sym split) (fresh q made none))
-              x.answer step.made step.hands
-              (subst (λ (l : List (Exchange (Stored K V))). IsTold (setting_of eq (low hash) s.mode s.store.words.tables) (coding_of (low hash)) step.call.key (run l first_state) (kind_of_ask m) (tales c).hands (ask_of m) x.answer step.made step.hands) (sym split) step.told)
-              (subst (λ (l : List (Exchange (Stored K V))). AllAllowed (setting_of eq (low hash) s'.mode s'.store.words.tables) first_state (l ++ step.made)) (sym split) step.kept.allowed)))
+        (subst (λ (l : List (Exchange (Stored K V))). IsLegal eq (event_of (kind_of_ask m) (ask_of m) x.answer) schedule c h (replay eq l) maps (replay eq (l ++ step.made))) split
+        (step_legal eq hash s.mode s'.mode s.store.words.tables s'.store.words.tables (hashed_setting eq hash law s core) (hashed_setting eq hash law s' core').lawful (tales c).begun (tales c).since
+        (subst (AllAllowed (setting_of eq (low hash) s.mode s.store.words.tables) first_state) (sym split) kept.allowed)
+        step.call.key m (tales c).hands step.call.rests schedule c h maps
+        may_put
+        (λ q made none. subst (λ (l : List (Exchange (Stored K V))). IsUnused q.number (replay eq l ∷ maps)) (sym split) (fresh q made none))
+        x.answer step.made step.hands
+        (subst (λ (l : List (Exchange (Stored K V))). IsTold (setting_of eq (low hash) s.mode s.store.words.tables) (coding_of (low hash)) step.call.key (run l first_state) (kind_of_ask m) (tales c).hands (ask_of m) x.answer step.made step.hands) (sym split) step.told)
+        (subst (λ (l : List (Exchange (Stored K V))). AllAllowed (setting_of eq (low hash) s'.mode s'.store.words.tables) first_state (l ++ step.made)) (sym split) step.kept.allowed)))
 
     -- the map before it and after it
     map_before : (j : K) → map_of eq s j ≡ replay eq es j
@@ -61,10 +61,10 @@ module _ {K V S : Type 0} (eq : K → K → Bool) (hash : K → ℕ) (law : IsLa
 
     same_update : (k : K) (went came : Option (Stored K V)) → IsUpdate eq k went came (replay eq es) (replay eq (es ++ step.made)) → IsUpdate eq k went came (map_of eq s) (map_of eq s')
     same_update k went came u = record {
-        before = map_before k ∙ u.before;
-        class = λ j e. map_after j ∙ u.class j e;
-        others = λ j e. map_after j ∙ u.others j e ∙ sym (map_before j);
-      }
+      before = map_before k ∙ u.before;
+      class = λ j e. map_after j ∙ u.class j e;
+      others = λ j e. map_after j ∙ u.others j e ∙ sym (map_before j);
+    }
 
     -- a pair that was made and is not written is not in the map
     fresh : (q : Stored K V) → (tales c).hands.made ≡ Some q → change_in x.before.machine.state ≡ None → IsUnused q.number (replay eq es ∷ [])
@@ -94,8 +94,8 @@ module _ {K V S : Type 0} (eq : K → K → Bool) (hash : K → ℕ) (law : IsLa
         let key = made_key (setting_of eq (low hash) s.mode s.store.words.tables) (coding_of (low hash)) (tales c).begun (tales c).since step.call.key x.before.machine (tales c).hands q step.call.rests made in
         let is : Insert step.call.key q.value ≡ puts (tales c).hands.made = ap puts (sym made) in
         subst (λ y. MayChange eq y (change_of c begun_now) step.call.key went (Some q)) (sym open_now)
-          (subst (λ y. MayChange eq (Some y) (change_of c begun_now) step.call.key went (Some q)) is
-            (refl, change_of-own c 0 Begun [], insertion_does (Insert step.call.key q.value) step.call.key went q refl key refl))
+        (subst (λ y. MayChange eq (Some y) (change_of c begun_now) step.call.key went (Some q)) is
+        (refl, change_of-own c 0 Begun [], insertion_does (Insert step.call.key q.value) step.call.key went q refl key refl))
 
     -- only an insertion changes the map
     moves : (e : Event) → e ≡ event_of (kind_of_ask x.before.machine) (ask_of x.before.machine) x.answer → IsLegal eq e begins_it c begun_now (replay eq es) [] (replay eq (es ++ step.made)) → MovesMap eq s c s' e

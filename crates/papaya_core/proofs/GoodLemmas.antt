@@ -1,20 +1,16 @@
 -- Begins and steps keep a good history.
-use Rattle.std.proofs.Common.{◌≡◌, ◌≢◌, ◌⊎◌, inl, inr, ⊎_elim, ℕ, ◌+◌, ◌<◌, ◌≤◌, ◌==◌, ◌^◌, Bool, true, false, cond, Option, None, Some, List, [], ◌∷◌, ◌++◌, length, slice_get, refl, sym, ◌∙◌, ap, subst, append-nil, eq-eqb}
+use Rattle.std.proofs.Common.{◌≡◌, ◌≢◌, ◌⊎◌, inl, inr, ⊎_elim, ℕ, ◌<◌, ◌^◌, Bool, cond, Option, None, Some, List, [], ◌∷◌, ◌++◌, length, slice_get, refl, sym, ◌∙◌, ap, subst, eq-eqb}
 use Rattle.std.proofs.lemmas.Option.{slice_get_within}
-use Rattle.papaya_call.specs.declared.ask.Answer.{Answer}
 use Rattle.papaya_call.specs.declared.ask.Ask.{Ask}
 use Rattle.papaya_call.specs.declared.ask.Ask.TheVariants.{Done as Ask_done}
 use Rattle.papaya_call.specs.declared.call.Call.{Call}
 use Rattle.papaya_call.specs.declared.call.Call.TheVariants.{Get, Insert}
 use Rattle.papaya_call.specs.declared.call.Reply.{Reply}
-use Rattle.papaya_call.specs.declared.machine.Machine.{Machine}
-use Rattle.papaya_call.specs.Law.Allows.{AllAllowed}
-use Rattle.papaya_call.specs.Law.Code.{Coding}
-use Rattle.papaya_call.specs.Law.Exchange.{Setting, Exchange, run, start as first_state}
+use Rattle.papaya_call.specs.Law.Exchange.{Exchange, run, start as first_state}
 use Rattle.papaya_call.specs.Law.Invariant.{named}
 use Rattle.papaya_call.specs.Machine.{ask_of, kind_of_ask, after}
-use Rattle.papaya_call.specs.Rests.{Rests, change_in, change_after}
-use Rattle.papaya_call.specs.Told.{Hands, IsHashed, IsTold, no_hands}
+use Rattle.papaya_call.specs.Rests.{change_in, change_after}
+use Rattle.papaya_call.specs.Told.{Hands, IsHashed, no_hands}
 use Rattle.papaya_call.proofs.RestsReply.{machine_changes}
 use Rattle.papaya_core.specs.declared.pairs.Pair.{Pair}
 use Rattle.papaya_core.specs.declared.pairs.Running.{Running}
@@ -23,13 +19,13 @@ use Rattle.papaya_core.specs.declared.trace.Turn.{Turn}
 use Rattle.papaya_core.specs.declared.trace.Turn.TheVariants.{Begin}
 use Rattle.papaya_core.specs.declared.trace.Event.{Event}
 use Rattle.papaya_core.specs.declared.trace.Event.TheVariants.{Begun, Replied}
-use Rattle.papaya_core.specs.Advances.{Advances, event_of, goes_on, reply_in}
+use Rattle.papaya_core.specs.Advances.{Advances, goes_on, reply_in}
 use Rattle.papaya_core.specs.Begins.{Begins, begun, key_of_call}
-use Rattle.papaya_core.specs.Callers.{running, with_call, with_seat}
+use Rattle.papaya_core.specs.Callers.{running, with_seat}
 use Rattle.papaya_core.specs.Content.{map_of}
 use Rattle.papaya_core.specs.Core.{CoreState, IsCore}
 use Rattle.papaya_core.specs.Headline.{HasTimeline}
-use Rattle.papaya_core.specs.Kept.{IsKept, IsCall, Tale, setting_of, coding_of, low, told_tales, begun_tales}
+use Rattle.papaya_core.specs.Kept.{IsKept, Tale, setting_of, coding_of, low, told_tales, begun_tales}
 use Rattle.papaya_core.specs.Maps.{Map, key_of}
 use Rattle.papaya_core.specs.Runs.{with_step}
 use Rattle.papaya_core.specs.Store.{StoreState, Stored, pair_of, stored_in}
@@ -44,7 +40,7 @@ use Rattle.papaya_core.proofs.LegalLemmas.{insertion_does}
 use Rattle.papaya_core.proofs.MachineLemmas.{machine_once, machine_task, made_key}
 use Rattle.papaya_core.proofs.ReplayLemmas.{map_replayed, held_in_slot}
 use Rattle.papaya_core.proofs.TiedLemmas.{IsGrown, grown, tied_other, tied_entry, tied_fits, moments_more}
-use Rattle.papaya_core.proofs.TimelineLemmas.{entry, open_call-own, open_call-other, change_of-own, change_of-other, not_begin-own, below_more, below_unused}
+use Rattle.papaya_core.proofs.TimelineLemmas.{entry, open_call-own, open_call-other, change_of-own, not_begin-own, below_more, below_unused}
 
 -- a pair of the log has a number within it
 pub pair_within : {K V S : Type 0} (s : StoreState K V S) (n : ℕ) (p : Stored K V) → pair_of s n ≡ Some p → n < length s.pairs
@@ -155,13 +151,15 @@ module _ {K V S : Type 0} (eq : K → K → Bool) (hash : K → ℕ) (law : IsLa
     hands_other d differ = ap (λ b. cond b step.hands (good.tales d).hands) (differs d c differ)
 
     unused : (d : ℕ) (r : Running K V) → running s'.callers d ≡ Some r → (q : Stored K V) → (tales d).hands.made ≡ Some q → change_in r.machine.state ≡ None → IsUnused q.number later_maps
-    unused d r now q made none =
-        (λ j p e. let (t, i, there) = standing j p e in (step.kept.calls d r now).unwritten q made none t i p there,
-         elim (cases_same d c) [
-            inl same ↦
-              let is = run_same d r same now in
-              own_unused q (sym (ap (λ (y : Hands (Stored K V)). y.made) own_hands) ∙ sym (ap (λ y. (tales y).hands.made) same) ∙ made) (ap (λ (y : Running K V). change_in y.machine.state) is.1 ∙ none)
-          | inr differ ↦ good.unused d r (run_other d r differ now) q (sym (ap (λ (y : Hands (Stored K V)). y.made) (hands_other d differ)) ∙ made) none ])
+    unused d r now q made none = (
+      λ j p e. let (t, i, there) = standing j p e in (step.kept.calls d r now).unwritten q made none t i p there,
+      elim (cases_same d c) [
+        | inl same ↦
+            let is = run_same d r same now in
+            own_unused q (sym (ap (λ (y : Hands (Stored K V)). y.made) own_hands) ∙ sym (ap (λ y. (tales y).hands.made) same) ∙ made) (ap (λ (y : Running K V). change_in y.machine.state) is.1 ∙ none)
+        | inr differ ↦ good.unused d r (run_other d r differ now) q (sym (ap (λ (y : Hands (Stored K V)). y.made) (hands_other d differ)) ∙ made) none
+      ],
+    )
 
     -- the open call stays open until it replies
     opened : open_call schedule c later_history ≡ open_call schedule c h
@@ -177,9 +175,9 @@ module _ {K V S : Type 0} (eq : K → K → Bool) (hash : K → ℕ) (law : IsLa
           value = λ v had. tied.value v (grows.value_stays v had);
           made = λ q made. ⊎_elim (λ was. tied.made q was) (λ (new : (q.number ≡ length s.store.pairs) × (x.before.value ≡ Some q.value)). tied.value q.value new.1) (step.new q (sym (ap (λ (y : Hands (Stored K V)). y.made) own_hands) ∙ made));
           change = change_of-own c turn event h ∙ ap (change_by event) tied.change ∙ ap (λ y. change_by y (change_in x.before.machine.state)) x.event_is
-            ∙ event_change (change_in x.before.machine.state) (kind_of_ask x.before.machine) (ask_of x.before.machine) x.answer (machine_once x.before.machine) ∙ sym changed;
+              ∙ event_change (change_in x.before.machine.state) (kind_of_ask x.before.machine) (ask_of x.before.machine) x.answer (machine_once x.before.machine) ∙ sym changed;
           moments = subst (λ (l : List (Exchange (Stored K V))). (so_far rest : List (Exchange (Stored K V))) → so_far ++ rest ≡ (good.tales c).since ++ step.made → AtSomeMoment (λ m. m (key_of call) ≡ replayed eq (replay eq (good.tales c).begun) so_far (key_of call)) c later_history (replay eq (l ++ step.made) ∷ replay eq good.es ∷ good.maps)) step.call.split
-            (moments_more eq (key_of call) c (entry turn c event) h (replay eq good.es ∷ good.maps) (good.tales c).begun (good.tales c).since step.made one
+              (moments_more eq (key_of call) c (entry turn c event) h (replay eq good.es ∷ good.maps) (good.tales c).begun (good.tales c).since step.made one
               (not_begin-own c c turn event (ap begins x.event_is ∙ event_begins (kind_of_ask x.before.machine) (ask_of x.before.machine) x.answer)) tied.moments);
         }
 
@@ -203,12 +201,13 @@ module _ {K V S : Type 0} (eq : K → K → Bool) (hash : K → ℕ) (law : IsLa
 
     tied : (d : ℕ) (r : Running K V) (call : Call K V) → running s'.callers d ≡ Some r → open_call schedule d later_history ≡ Some call → IsTied eq s'.store r call d (tales d) later_history later_maps
     tied d r call now e = elim (cases_same d c) [
-        inl same ↦
+      | inl same ↦
           let is = (run_same d r same now).1 in
           subst (λ y. IsTied eq s'.store r call y (tales y) later_history later_maps) (sym same)
-            (subst (λ y. IsTied eq s'.store y call c (tales c) later_history later_maps) is
-              (tied_own call (sym opened ∙ ap (λ y. open_call schedule y later_history) (sym same) ∙ e)))
-      | inr differ ↦ tied_others d r call differ now (open_other d call differ e) ]
+          (subst (λ y. IsTied eq s'.store y call c (tales c) later_history later_maps) is
+          (tied_own call (sym opened ∙ ap (λ y. open_call schedule y later_history) (sym same) ∙ e)))
+      | inr differ ↦ tied_others d r call differ now (open_other d call differ e)
+    ]
 
     -- the call goes on
     goes_on_good : IsGood eq hash schedule start s' later_history
@@ -217,21 +216,22 @@ module _ {K V S : Type 0} (eq : K → K → Bool) (hash : K → ℕ) (law : IsLa
     -- or it replies
     replies_good : (rep : Reply) → reply ≡ Some rep → IsGood eq hash schedule start s' (entry turn c (Replied rep) ∷ later_history)
     replies_good rep some = record {
-        es = es;
-        tales = tales;
-        maps = later_maps;
-        core = core';
-        kept = step.kept;
-        timeline = ((λ j. refl, fits (open_call schedule c later_history) refl rep some), timeline);
-        below = (within, below);
-        unused = λ d r now q made none. let u = unused d r now q made none in (u.0, u);
-        tied = λ d r call now e. elim (cases_same d c) [
-            inl same ↦ let f : Some rep ≡ None = sym some ∙ (run_same d r same now).0 in cc
-          | inr differ ↦
-              let ne : c ≢ d = λ z. differ (sym z) in
-              tied_entry eq s'.store s'.store r call c d turn (Replied rep) (tales d) later_history (replay eq es) later_maps refl ne
-                (tied_others d r call differ now (open_other d call differ (sym (open_call-other schedule c d turn (Replied rep) later_history ne) ∙ e))) ];
-      }
+      es = es;
+      tales = tales;
+      maps = later_maps;
+      core = core';
+      kept = step.kept;
+      timeline = ((λ j. refl, fits (open_call schedule c later_history) refl rep some), timeline);
+      below = (within, below);
+      unused = λ d r now q made none. let u = unused d r now q made none in (u.0, u);
+      tied = λ d r call now e. elim (cases_same d c) [
+        | inl same ↦ let f : Some rep ≡ None = sym some ∙ (run_same d r same now).0 in cc
+        | inr differ ↦
+            let ne : c ≢ d = λ z. differ (sym z) in
+            tied_entry eq s'.store s'.store r call c d turn (Replied rep) (tales d) later_history (replay eq es) later_maps refl ne
+            (tied_others d r call differ now (open_other d call differ (sym (open_call-other schedule c d turn (Replied rep) later_history ne) ∙ e)))
+      ];
+    }
 
   -- a step keeps a good history
   pub good_step : (refuse : Bool) (schedule : List (Turn K V)) (start : Map K V) (s s' : CoreState K V S) (h : History) (turn c : ℕ) (event : Event) (reply : Option Reply) → Advances eq refuse s c s' event reply → IsCore s'.store s'.callers s'.mode → IsGood eq hash schedule start s h → IsGood eq hash schedule start s' (with_step turn c event reply h)
@@ -241,16 +241,16 @@ module _ {K V S : Type 0} (eq : K → K → Bool) (hash : K → ℕ) (law : IsLa
   -- a begin adds a call that rests on the exchanges as they are
   pub good_begin : (schedule : List (Turn K V)) (start : Map K V) (s s' : CoreState K V S) (h : History) (turn c : ℕ) (call : Call K V) → slice_get schedule turn ≡ Some (Begin c call) → Begins hash s c call s' → hash (key_of_call call) < 2 ^ 64 → IsCore s'.store s'.callers s'.mode → IsGood eq hash schedule start s h → IsGood eq hash schedule start s' (entry turn c Begun ∷ h)
   good_begin schedule start s s' h turn c call at x low_hash core' good = record {
-      es = good.es;
-      tales = tales;
-      maps = replay eq good.es ∷ good.maps;
-      core = core';
-      kept = kept_begin eq hash law s c call s' x low_hash good.es good.tales good.kept;
-      timeline = (λ j. refl, good.timeline);
-      below = (below.0, below);
-      unused = unused;
-      tied = tied;
-    }
+    es = good.es;
+    tales = tales;
+    maps = replay eq good.es ∷ good.maps;
+    core = core';
+    kept = kept_begin eq hash law s c call s' x low_hash good.es good.tales good.kept;
+    timeline = (λ j. refl, good.timeline);
+    below = (below.0, below);
+    unused = unused;
+    tied = tied;
+  }
     where
       tales : ℕ → Tale K V
       tales = begun_tales good.tales c good.es
@@ -274,25 +274,27 @@ module _ {K V S : Type 0} (eq : K → K → Bool) (hash : K → ℕ) (law : IsLa
 
       unused : (d : ℕ) (r : Running K V) → running s'.callers d ≡ Some r → (q : Stored K V) → (tales d).hands.made ≡ Some q → change_in r.machine.state ≡ None → IsUnused q.number (replay eq good.es ∷ replay eq good.es ∷ good.maps)
       unused d r now q made none = elim (cases_same d c) [
-          inl same ↦ let f : None ≡ Some q = sym (ap (λ (y : Tale K V). y.hands.made) (ap tales same ∙ tale_same)) ∙ made in cc
+        | inl same ↦ let f : None ≡ Some q = sym (ap (λ (y : Tale K V). y.hands.made) (ap tales same ∙ tale_same)) ∙ made in cc
         | inr differ ↦
             let u = good.unused d r (run_other d r differ now) q (sym (ap (λ (y : Tale K V). y.hands.made) (tale_other d differ)) ∙ made) none in
-            (u.0, u) ]
+            (u.0, u)
+      ]
 
       tied : (d : ℕ) (r : Running K V) (other : Call K V) → running s'.callers d ≡ Some r → open_call schedule d (entry turn c Begun ∷ h) ≡ Some other → IsTied eq s'.store r other d (tales d) (entry turn c Begun ∷ h) (replay eq good.es ∷ replay eq good.es ∷ good.maps)
       tied d r other now e = elim (cases_same d c) [
-          inl same ↦
+        | inl same ↦
             let is = run_same d r same now in
             let is_call : call ≡ other = same_item call other (sym (open_call-own schedule c turn Begun h ∙ ap begun_by at) ∙ sym (ap (λ y. open_call schedule y (entry turn c Begun ∷ h)) same) ∙ e) in
             subst (λ y. IsTied eq s'.store r other y (tales y) (entry turn c Begun ∷ h) (replay eq good.es ∷ replay eq good.es ∷ good.maps)) (sym same)
-              (subst (λ y. IsTied eq s'.store r y c (tales c) (entry turn c Begun ∷ h) (replay eq good.es ∷ replay eq good.es ∷ good.maps)) is_call
-                (subst (λ y. IsTied eq s'.store y call c (tales c) (entry turn c Begun ∷ h) (replay eq good.es ∷ replay eq good.es ∷ good.maps)) is
-                  (subst (λ y. IsTied eq s'.store (begun hash s.mode s.initial call) call c y (entry turn c Begun ∷ h) (replay eq good.es ∷ replay eq good.es ∷ good.maps)) (sym tale_same) tied_begun)))
+            (subst (λ y. IsTied eq s'.store r y c (tales c) (entry turn c Begun ∷ h) (replay eq good.es ∷ replay eq good.es ∷ good.maps)) is_call
+            (subst (λ y. IsTied eq s'.store y call c (tales c) (entry turn c Begun ∷ h) (replay eq good.es ∷ replay eq good.es ∷ good.maps)) is
+            (subst (λ y. IsTied eq s'.store (begun hash s.mode s.initial call) call c y (entry turn c Begun ∷ h) (replay eq good.es ∷ replay eq good.es ∷ good.maps)) (sym tale_same) tied_begun)))
         | inr differ ↦
             let ne : c ≢ d = λ z. differ (sym z) in
             subst (λ y. IsTied eq s'.store r other d y (entry turn c Begun ∷ h) (replay eq good.es ∷ replay eq good.es ∷ good.maps)) (sym (tale_other d differ))
-              (tied_entry eq s.store s'.store r other c d turn Begun (good.tales d) h (replay eq good.es) (replay eq good.es ∷ good.maps) x.store ne
-                (good.tied d r other (run_other d r differ now) (sym (open_call-other schedule c d turn Begun h ne) ∙ e))) ]
+            (tied_entry eq s.store s'.store r other c d turn Begun (good.tales d) h (replay eq good.es) (replay eq good.es ∷ good.maps) x.store ne
+            (good.tied d r other (run_other d r differ now) (sym (open_call-other schedule c d turn Begun h ne) ∙ e)))
+      ]
         where
           nothing_before : (so_far rest : List (Exchange (Stored K V))) → so_far ++ rest ≡ [] → so_far ≡ []
           nothing_before [] rest none = refl
@@ -300,13 +302,13 @@ module _ {K V S : Type 0} (eq : K → K → Bool) (hash : K → ℕ) (law : IsLa
 
           tied_begun : IsTied eq s'.store (begun hash s.mode s.initial call) call c (record { begun = good.es; since = []; hands = no_hands }) (entry turn c Begun ∷ h) (replay eq good.es ∷ replay eq good.es ∷ good.maps)
           tied_begun = record {
-              key = key_is call;
-              task = refl;
-              value = λ v had. had;
-              made = λ q made. let f : None ≡ Some q = made in cc;
-              change = change_of-own c turn Begun h;
-              moments = λ so_far rest none. inl (ap (λ l. replayed eq (replay eq good.es) l (key_of call)) (sym (nothing_before so_far rest none)));
-            }
+            key = key_is call;
+            task = refl;
+            value = λ v had. had;
+            made = λ q made. let f : None ≡ Some q = made in cc;
+            change = change_of-own c turn Begun h;
+            moments = λ so_far rest none. inl (ap (λ l. replayed eq (replay eq good.es) l (key_of call)) (sym (nothing_before so_far rest none)));
+          }
             where
               key_is : (call : Call K V) → Some (key_of_call call) ≡ Some (key_of call)
               key_is (Get k) = refl
@@ -315,16 +317,16 @@ module _ {K V S : Type 0} (eq : K → K → Bool) (hash : K → ℕ) (law : IsLa
   -- a run begins with no entry and the core's map
   pub good_start : (schedule : List (Turn K V)) (s : CoreState K V S) (es : List (Exchange (Stored K V))) (tales : ℕ → Tale K V) → IsCore s.store s.callers s.mode → IsKept eq hash s.mode s.store s.callers es tales → IsGood eq hash schedule (map_of eq s) s []
   good_start schedule s es tales core kept = record {
-      es = es;
-      tales = tales;
-      maps = [];
-      core = core;
-      kept = kept;
-      timeline = λ j. sym (is_map j);
-      below = (λ j p e. let (t, i, there) = standing j p e in pair_within s.store p.number p (kept.logged t i p there), tt);
-      unused = λ d r now q made none. (λ j p e. let (t, i, there) = standing j p e in (kept.calls d r now).unwritten q made none t i p there, tt);
-      tied = λ d r call now e. let f : None ≡ Some call = e in cc;
-    }
+    es = es;
+    tales = tales;
+    maps = [];
+    core = core;
+    kept = kept;
+    timeline = λ j. sym (is_map j);
+    below = (λ j p e. let (t, i, there) = standing j p e in pair_within s.store p.number p (kept.logged t i p there), tt);
+    unused = λ d r now q made none. (λ j p e. let (t, i, there) = standing j p e in (kept.calls d r now).unwritten q made none t i p there, tt);
+    tied = λ d r call now e. let f : None ≡ Some call = e in cc;
+  }
     where
       is_map : (j : K) → map_of eq s j ≡ replay eq es j
       is_map j = map_kept eq hash law s es tales core kept j ∙ ap (λ m. m j) (map_replayed eq (low hash) s.mode s.store.words.tables es (λ k. None))
@@ -335,8 +337,8 @@ module _ {K V S : Type 0} (eq : K → K → Bool) (hash : K → ℕ) (law : IsLa
   -- at its end the maps of a run are a timeline from the core's map to the core's map
   pub good_end : (schedule : List (Turn K V)) (s s' : CoreState K V S) (h : History) → IsGood eq hash schedule (map_of eq s) s' h → HasTimeline eq schedule s h s'
   good_end schedule s s' h good = record {
-      last = replay eq good.es;
-      maps = good.maps;
-      timeline = good.timeline;
-      is_last = λ j. sym (map_kept eq hash law s' good.es good.tales good.core good.kept j ∙ ap (λ m. m j) (map_replayed eq (low hash) s'.mode s'.store.words.tables good.es (λ k. None)));
-    }
+    last = replay eq good.es;
+    maps = good.maps;
+    timeline = good.timeline;
+    is_last = λ j. sym (map_kept eq hash law s' good.es good.tales good.core good.kept j ∙ ap (λ m. m j) (map_replayed eq (low hash) s'.mode s'.store.words.tables good.es (λ k. None)));
+  }

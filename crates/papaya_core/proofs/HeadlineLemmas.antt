@@ -1,11 +1,10 @@
 -- The turns of a schedule keep a good history, and so a run has a timeline.
-use Rattle.std.proofs.Common.{◌≡◌, ◌⊎◌, inl, inr, ⊎_elim, ℕ, zero, suc, ◌<◌, ◌^◌, Bool, true, false, Option, None, Some, List, [], ◌∷◌, slice_get, refl, sym, ◌∙◌, ap, subst}
+use Rattle.std.proofs.Common.{◌≡◌, inl, inr, ℕ, zero, suc, Bool, true, false, Option, None, Some, List, [], slice_get, refl, sym, ◌∙◌, ap, subst}
 use Rattle.std.specs.Cmp.{IsEquivalence}
 use Rattle.papaya_call.specs.declared.call.Call.{Call}
 use Rattle.papaya_call.specs.declared.call.Reply.{Reply}
-use Rattle.papaya_call.specs.declared.machine.Machine.{Machine}
 use Rattle.papaya_call.specs.Law.Exchange.{Exchange}
-use Rattle.papaya_call.specs.Machine.{IsStanding, ask_of, after, started}
+use Rattle.papaya_call.specs.Machine.{IsStanding, ask_of, after}
 use Rattle.papaya_call.proofs.Standing.{machine_stands, machine_ask_fits}
 use Rattle.papaya_core.specs.declared.pairs.Running.{Running}
 use Rattle.papaya_core.specs.declared.callers.Seat.{Seat}
@@ -13,7 +12,7 @@ use Rattle.papaya_core.specs.declared.trace.Turn.{Turn}
 use Rattle.papaya_core.specs.declared.trace.Turn.TheVariants.{Begin, Step, Finish}
 use Rattle.papaya_core.specs.declared.trace.Event.{Event}
 use Rattle.papaya_core.specs.Advances.{Advances, goes_on}
-use Rattle.papaya_core.specs.Begins.{Begins, begun, key_of_call}
+use Rattle.papaya_core.specs.Begins.{Begins, begun}
 use Rattle.papaya_core.specs.Callers.{with_call, with_seat}
 use Rattle.papaya_core.specs.Content.{map_of}
 use Rattle.papaya_core.specs.Core.{CoreState, IsCore}
@@ -21,7 +20,7 @@ use Rattle.papaya_core.specs.Headline.{HasTimeline}
 use Rattle.papaya_core.specs.Kept.{IsKept, IsLawfulCore, Tale}
 use Rattle.papaya_core.specs.Maps.{Map}
 use Rattle.papaya_core.specs.Moves.{MovesMap}
-use Rattle.papaya_core.specs.Runs.{with_step, StepRuns, BeginRuns, StepsRun, TurnRuns, TurnsRun}
+use Rattle.papaya_core.specs.Runs.{StepRuns, BeginRuns, StepsRun, TurnRuns, TurnsRun}
 use Rattle.papaya_core.specs.Store.{StoreState, Stored, hash_of}
 use Rattle.papaya_core.specs.Timeline.{History}
 use Rattle.papaya_core.proofs.CallersLemmas.{same_item}
@@ -44,8 +43,8 @@ module _ {K V S : Type 0} where
       let kept : IsCore s'.store s.callers s.mode = performed-core eq refuse s.store s.callers s.mode x.before x.answer s'.store x.later core fit x.performs in
       let r : Running K V = record x.later { machine = after m x.answer } in
       subst (λ y. IsCore s'.store s'.callers y) (sym x.mode)
-        (subst (λ (y : List (Seat K V)). IsCore s'.store y s.mode) (sym x.callers)
-          (with_call-core s'.store s.callers s.mode caller (goes_on reply r) kept (still reply r stands)))
+      (subst (λ (y : List (Seat K V)). IsCore s'.store y s.mode) (sym x.callers)
+      (with_call-core s'.store s.callers s.mode caller (goes_on reply r) kept (still reply r stands)))
     where
       still : (reply : Option Reply) (r : Running K V) → IsStanding r.machine → (q : Running K V) → goes_on reply r ≡ Some q → IsStanding q.machine
       still None r stands q e = subst (λ (y : Running K V). IsStanding y.machine) (same_item r q e) stands
@@ -56,9 +55,9 @@ module _ {K V S : Type 0} where
   begin-core hash s caller call s' x core =
       let r : Running K V = begun hash s.mode s.initial call in
       subst (λ y. IsCore s'.store s'.callers y) (sym x.mode)
-        (subst (λ (y : List (Seat K V)). IsCore s'.store y s.mode) (sym x.callers)
-          (subst (λ (y : StoreState K V S). IsCore y (with_call (with_seat s.callers caller) caller (Some r)) s.mode) (sym x.store)
-            (begun-core s.store s.callers s.mode caller r core (record { made = tt; state = tt }))))
+      (subst (λ (y : List (Seat K V)). IsCore s'.store y s.mode) (sym x.callers)
+      (subst (λ (y : StoreState K V S). IsCore y (with_call (with_seat s.callers caller) caller (Some r)) s.mode) (sym x.store)
+      (begun-core s.store s.callers s.mode caller r core (record { made = tt; state = tt }))))
 
 module _ {K V S : Type 0} (eq : K → K → Bool) (hash : S → K → ℕ) (hasher : S) (law : IsLawfulKeys eq (hash hasher)) (schedule : List (Turn K V)) (start : Map K V) where
   -- a good history of a core with this hasher
@@ -70,18 +69,20 @@ module _ {K V S : Type 0} (eq : K → K → Bool) (hash : S → K → ℕ) (hash
   passes s s' before after same as_before good = subst (λ y. Good y after) (sym same) (subst (λ y. Good s y) (sym as_before) good)
 
   step_runs : (turn caller : ℕ) (refuse : Bool) (s s' : CoreState K V S) (before after : History) → StepRuns eq hash turn caller refuse s before s' after → Good s before → Good s' after
-  step_runs turn caller refuse s s' before after (inl (event, reply, x, is)) (same, good) =
-      (ap (λ (y : S). y) (grown eq refuse (ask_of x.before.machine) s.store x.before x.answer s'.store x.later x.performs).hasher_is ∙ same,
-       subst (λ y. IsGood eq (hash hasher) schedule start s' y) (sym is)
-         (good_step eq (hash hasher) law refuse schedule start s s' before turn caller event reply x (advance-core eq refuse s caller s' event reply x good.core) good))
+  step_runs turn caller refuse s s' before after (inl (event, reply, x, is)) (same, good) = (
+    ap (λ (y : S). y) (grown eq refuse (ask_of x.before.machine) s.store x.before x.answer s'.store x.later x.performs).hasher_is ∙ same,
+    subst (λ y. IsGood eq (hash hasher) schedule start s' y) (sym is)
+        (good_step eq (hash hasher) law refuse schedule start s s' before turn caller event reply x (advance-core eq refuse s caller s' event reply x good.core) good),
+  )
   step_runs turn caller refuse s s' before after (inr (idle, passed)) good = passes s s' before after passed.0 passed.1 good
 
   begin_runs : (turn caller : ℕ) (call : Call K V) (s s' : CoreState K V S) (before after : History) → slice_get schedule turn ≡ Some (Begin caller call) → BeginRuns eq hash turn caller call s before s' after → Good s before → Good s' after
   begin_runs turn caller call s s' before after there (inl (idle, begins, is)) (same, good) =
-      let x : Begins (hash hasher) s caller call s' = subst (λ (y : S). Begins (hash y) s caller call s') same begins in
-      (ap (λ (y : StoreState K V S). y.hasher) x.store ∙ same,
-       subst (λ y. IsGood eq (hash hasher) schedule start s' y) (sym is)
-         (good_begin eq (hash hasher) law schedule start s s' before turn caller call there x x.fits (begin-core (hash hasher) s caller call s' x good.core) good))
+      let x : Begins (hash hasher) s caller call s' = subst (λ (y : S). Begins (hash y) s caller call s') same begins in (
+        ap (λ (y : StoreState K V S). y.hasher) x.store ∙ same,
+        subst (λ y. IsGood eq (hash hasher) schedule start s' y) (sym is)
+            (good_begin eq (hash hasher) law schedule start s s' before turn caller call there x x.fits (begin-core (hash hasher) s caller call s' x good.core) good),
+      )
   begin_runs turn caller call s s' before after there (inr (r, busy, passed)) good = passes s s' before after passed.0 passed.1 good
 
   steps_run : (turn caller steps : ℕ) (s s' : CoreState K V S) (before after : History) → StepsRun eq hash turn caller steps s before s' after → Good s before → Good s' after
@@ -103,7 +104,7 @@ module _ {K V S : Type 0} (eq : K → K → Bool) (hash : S → K → ℕ) (hash
 pub run_timeline : {K V S : Type 0} (eq : K → K → Bool) (hash : S → K → ℕ) (schedule : List (Turn K V)) (turns : ℕ) (s s' : CoreState K V S) (h : History) → IsLawfulKeys eq (hash s.store.hasher) → IsCore s.store s.callers s.mode → (es : List (Exchange (Stored K V))) (tales : ℕ → Tale K V) → IsKept eq (hash s.store.hasher) s.mode s.store s.callers es tales → TurnsRun eq hash schedule turns s s' h → HasTimeline eq schedule s h s'
 run_timeline eq hash schedule turns s s' h law core es tales kept runs =
     good_end eq (hash s.store.hasher) law schedule s s' h
-      (turns_run eq hash s.store.hasher law schedule (map_of eq s) turns s s' h runs (refl, good_start eq (hash s.store.hasher) law schedule s es tales core kept)).1
+    (turns_run eq hash s.store.hasher law schedule (map_of eq s) turns s s' h runs (refl, good_start eq (hash s.store.hasher) law schedule s es tales core kept)).1
 
 -- The same of a core whose invariant holds, with keys that are hashed as its hasher does.
 module _ {K V S H : Type 0} (eq : K → K → Bool) (input : K → List (List ℕ)) (build : S → H) (write : H → List ℕ → H) (finish : H → ℕ) (classes : IsEquivalence eq) (respects : (x y : K) → eq x y ≡ true → input x ≡ input y) where

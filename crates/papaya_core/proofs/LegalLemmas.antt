@@ -1,16 +1,12 @@
 -- The event of a step is legal: it changes the class of the call's own key, as the exchange that was made says, or nothing.
 use mathlib.Core.Path.{fun_ext}
-use Rattle.std.proofs.Common.{◌≡◌, ◌≢◌, ◌⊎◌, inl, inr, ⊎_elim, ℕ, ◌==◌, Bool, true, false, cond, Option, None, Some, List, [], ◌∷◌, ◌++◌, refl, sym, ◌∙◌, ap, subst, append-nil}
-use Rattle.std.proofs.lemmas.Bool.{cases_Bool}
+use Rattle.std.proofs.Common.{◌≡◌, ⊎_elim, ℕ, Bool, true, cond, Option, None, Some, List, [], ◌∷◌, ◌++◌, refl, sym, ◌∙◌, ap, subst, append-nil}
 use Rattle.papaya_words.specs.Word.{pair_of}
 use Rattle.papaya_words.specs.Table.{TableWords}
 use Rattle.papaya_words.specs.declared.probe.ResizeMode.{ResizeMode}
 use Rattle.papaya_call.specs.declared.ask.At.{At}
 use Rattle.papaya_call.specs.declared.ask.At.TheVariants.{Root, Next, Aborted, Done, Slot}
-use Rattle.papaya_call.specs.declared.ask.Ask.{Ask}
-use Rattle.papaya_call.specs.declared.ask.Ask.TheVariants.{Exchange as Ask_exchange}
 use Rattle.papaya_call.specs.declared.ask.Answer.{Answer}
-use Rattle.papaya_call.specs.declared.ask.Answer.TheVariants.{Exchanged}
 use Rattle.papaya_call.specs.declared.ask.StepKind.{StepKind}
 use Rattle.papaya_call.specs.declared.ask.StepKind.TheVariants as kinds
 use Rattle.papaya_call.specs.declared.call.Call.{Call}
@@ -19,11 +15,11 @@ use Rattle.papaya_call.specs.declared.call.Reply.{Reply}
 use Rattle.papaya_call.specs.declared.call.Reply.TheVariants.{Inserted, Replaced}
 use Rattle.papaya_call.specs.declared.machine.Machine.{Machine}
 use Rattle.papaya_call.specs.Law.Allows.{Allows, AllAllowed}
-use Rattle.papaya_call.specs.Law.Exchange.{Live, Setting, State, Exchange, Open, Claim, Replace, Bury, run, start, after, slot_put}
+use Rattle.papaya_call.specs.Law.Exchange.{Live, Setting, State, Exchange, Open, Claim, Replace, run, start, after}
 use Rattle.papaya_call.specs.Law.Code.{Coding, code}
 use Rattle.papaya_call.specs.Law.Meaning.{IsLawful, IsLegal as IsLegal_exchange}
 use Rattle.papaya_call.specs.Machine.{ask_of, kind_of_ask}
-use Rattle.papaya_call.specs.Rests.{Change, Rests, change_in, change_of_reply}
+use Rattle.papaya_call.specs.Rests.{Rests, change_in, change_of_reply}
 use Rattle.papaya_call.specs.Told.{Hands, IsAsked, IsHashed, IsTold, IsWritten, word_of}
 use Rattle.papaya_call.proofs.Law.Code.{code_pair}
 use Rattle.papaya_call.proofs.Law.Moments.{allowed_rest}
@@ -35,9 +31,9 @@ use Rattle.papaya_core.specs.declared.trace.Event.TheVariants.{Other}
 use Rattle.papaya_core.specs.Advances.{event_of, answered_event, kind_event}
 use Rattle.papaya_core.specs.Begins.{value_of_call}
 use Rattle.papaya_core.specs.Kept.{setting_of, coding_of, low}
-use Rattle.papaya_core.specs.Maps.{Map, Does, IsMadeOf, IsUpdate, Same, key_of}
+use Rattle.papaya_core.specs.Maps.{Map, Does, IsUpdate, key_of}
 use Rattle.papaya_core.specs.Store.{Stored}
-use Rattle.papaya_core.specs.Timeline.{History, open_call, change_of, number_in, IsUnused, IsFresh, MayChange, IsChange, IsLegal}
+use Rattle.papaya_core.specs.Timeline.{History, open_call, change_of, number_in, IsUnused, MayChange, IsChange, IsLegal}
 use Rattle.papaya_core.proofs.EventLemmas.{told_cases, IsExchanged}
 use Rattle.papaya_core.proofs.Good.{replay}
 use Rattle.papaya_core.proofs.MachineLemmas.{machine_once, made_key, no_bury}
@@ -65,10 +61,10 @@ module _ {K V : Type 0} where
   -- is updated there
   pub put_update : (eq : K → K → Bool) (m : Map K V) (k l : K) (went came : Option (Stored K V)) → l ≡ k → m k ≡ went → IsUpdate eq k went came m (with_class eq m l came)
   put_update eq m k l went came same before = record {
-      before = before;
-      class = λ j e. ap (λ b. cond b came (m j)) (ap (eq j) same ∙ e);
-      others = λ j e. ap (λ b. cond b came (m j)) (ap (eq j) same ∙ e);
-    }
+    before = before;
+    class = λ j e. ap (λ b. cond b came (m j)) (ap (eq j) same ∙ e);
+    others = λ j e. ap (λ b. cond b came (m j)) (ap (eq j) same ∙ e);
+  }
 
   -- two updates with one outcome
   pub update_by : (eq : K → K → Bool) (k : K) (went came : Option (Stored K V)) (m m' m'' : Map K V) → m'' ≡ m' → IsUpdate eq k went came m m' → IsUpdate eq k went came m m''
@@ -118,16 +114,16 @@ module _ {K V : Type 0} (eq : K → K → Bool) (hash : K → ℕ) (mode mode' :
       -- a pair was put into the class of the call's key
       put_legal : (old new : Option ℕ) (e : Exchange (Stored K V)) (went : Option (Stored K V)) (q : Stored K V) → replay eq (es ++ e ∷ []) ≡ with_class eq (replay eq es) q.key (Some q) → hands.made ≡ Some q → replay eq es k ≡ went → number_in went ≡ old → Some q.number ≡ new → IsChange eq schedule caller h (replay eq es) maps (replay eq (es ++ e ∷ [])) old new
       put_legal old new e went q is made before went_is came_is = record {
-          key = k;
-          went = went;
-          came = Some q;
-          update = update_by eq k went (Some q) (replay eq es) (with_class eq (replay eq es) q.key (Some q)) (replay eq (es ++ e ∷ [])) is
+        key = k;
+        went = went;
+        came = Some q;
+        update = update_by eq k went (Some q) (replay eq es) (with_class eq (replay eq es) q.key (Some q)) (replay eq (es ++ e ∷ [])) is
             (put_update eq (replay eq es) k q.key went (Some q) (made_key g c begun since k m hands q rests made) before);
-          went_is = went_is;
-          came_is = came_is;
-          fresh = fresh q made unchanged;
-          may = may_put q made unchanged went;
-        }
+        went_is = went_is;
+        came_is = came_is;
+        fresh = fresh q made unchanged;
+        may = may_put q made unchanged went;
+      }
 
       -- what the machine asked for may be done, and writes just its word
       abbrev MayDo : Option StepKind → At → ℕ → Type 0
@@ -147,7 +143,7 @@ module _ {K V : Type 0} (eq : K → K → Bool) (hash : K → ℕ) (mode mode' :
           let number : pair_of new ≡ q.number = written_number t x new e' q there written in
           let none : replay eq es q.key ≡ None = subst (λ y. IsLegal_exchange g' (replay eq es) y) is legal in
           put_legal None (Some (pair_of new)) e None q (ap (λ y. replay eq (es ++ y ∷ [])) is ∙ replay-append eq es (Claim t x q ∷ [])) made
-            (ap (replay eq es) (sym (made_key g c begun since k m hands q rests made)) ∙ none) refl (ap Some (sym number))
+          (ap (replay eq es) (sym (made_key g c begun since k m hands q rests made)) ∙ none) refl (ap Some (sym number))
       exchange_legal (Some kinds.Claim) Root old new e asked does stood legal allows no_burial = absurd asked
       exchange_legal (Some kinds.Claim) (Next t) old new e asked does stood legal allows no_burial = absurd asked
       exchange_legal (Some kinds.Claim) (Aborted t) old new e asked does stood legal allows no_burial = absurd asked
@@ -161,7 +157,7 @@ module _ {K V : Type 0} (eq : K → K → Bool) (hash : K → ℕ) (mode mode' :
           let own : q.key ≡ k = made_key g c begun since k m hands q rests made in
           let before : replay eq es k ≡ Some p = ap (replay eq es) (sym own) ∙ sym (replay-alike eq (low hash) mode' tables' lawful' es p.key q.key alike) ∙ here in
           put_legal (Some (pair_of old)) (Some (pair_of new)) e (Some p) q (ap (λ y. replay eq (es ++ y ∷ [])) is ∙ replay-append eq es (Replace t x p q ∷ []) ∙ replaced p q alike) made
-            before (ap Some (sym (stood_number t x old p stood live))) (ap Some (sym number))
+          before (ap Some (sym (stood_number t x old p stood live))) (ap Some (sym number))
         where
           replaced : (p q : Stored K V) → eq p.key q.key ≡ true → with_class eq (replay eq es) p.key (Some q) ≡ with_class eq (replay eq es) q.key (Some q)
           replaced p q alike = fun_ext (λ j. ap (λ b. cond b (Some q) (replay eq es j)) (same_right g' lawful' j p.key q.key alike))
@@ -191,6 +187,6 @@ module _ {K V : Type 0} (eq : K → K → Bool) (hash : K → ℕ) (mode mode' :
             let is : event_of (kind_of_ask m) (ask_of m) answer ≡ kind_event (kind_of_ask m) x.old x.new = ap (λ y. event_of (kind_of_ask m) y answer) x.ask_is ∙ ap (answered_event (kind_of_ask m) x.old x.new) x.answer_is in
             let allowed : AllAllowed g' start (es ++ x.by ∷ []) = subst (λ fs. AllAllowed g' start (es ++ fs)) x.made may' in
             subst (λ y. Legal y made) (sym is) (subst (λ fs. Legal (kind_event (kind_of_ask m) x.old x.new) fs) (sym x.made)
-              (exchange_legal may_put fresh (machine_once m x.at x.old x.new x.ask_is) (kind_of_ask m) x.at x.old x.new x.by x.asked
-                (machine_may g c hashed begun since may k m hands rests x.at x.old x.new x.ask_is x.stood)
-                x.stood (next_legal eq (low hash) mode' tables' lawful' es x.by allowed) (allowed_rest g' es (x.by ∷ []) start allowed).0 (no_bury m)))
+            (exchange_legal may_put fresh (machine_once m x.at x.old x.new x.ask_is) (kind_of_ask m) x.at x.old x.new x.by x.asked
+            (machine_may g c hashed begun since may k m hands rests x.at x.old x.new x.ask_is x.stood)
+            x.stood (next_legal eq (low hash) mode' tables' lawful' es x.by allowed) (allowed_rest g' es (x.by ∷ []) start allowed).0 (no_bury m)))

@@ -1,12 +1,12 @@
 -- The map that a list of exchanges leaves, whatever tables there are.
-use Rattle.std.proofs.Common.{◌≡◌, ◌⊎◌, inl, inr, ⊎_elim, ℕ, Bool, true, false, cond, Option, None, Some, List, [], ◌∷◌, ◌++◌, refl, sym, ◌∙◌, ap, subst, append_assoc}
+use Rattle.std.proofs.Common.{◌≡◌, ◌⊎◌, inl, inr, ⊎_elim, ℕ, Bool, true, cond, Option, None, Some, List, [], ◌∷◌, ◌++◌, refl, sym, ◌∙◌, ap, subst, append_assoc}
 use Rattle.std.proofs.lemmas.Bool.{cases_Bool}
 use Rattle.papaya_words.specs.Table.{TableWords}
 use Rattle.papaya_words.specs.declared.probe.ResizeMode.{ResizeMode}
 use Rattle.papaya_words.specs.declared.probe.ResizeMode.TheVariants.{Blocking}
-use Rattle.papaya_call.specs.Law.Allows.{Allows, AllAllowed}
+use Rattle.papaya_call.specs.Law.Allows.{AllAllowed}
 use Rattle.papaya_call.specs.Law.Content.{lookup, content}
-use Rattle.papaya_call.specs.Law.Exchange.{Setting, State, Exchange, Open, Claim, Replace, Bury, Link, Mark, Close, Place, Finish, Advance, Promote, Abort, run, start}
+use Rattle.papaya_call.specs.Law.Exchange.{Setting, Exchange, Open, Claim, Replace, Bury, Link, Mark, Close, Place, Finish, Advance, Promote, Abort, run, start}
 use Rattle.papaya_call.specs.Law.Invariant.{named}
 use Rattle.papaya_call.specs.Law.Meaning.{map_of, map_after, map_left, IsLegal, AllLegal, IsLawful}
 use Rattle.papaya_call.proofs.Law.Content.{content_is}
@@ -77,10 +77,12 @@ module _ {K V : Type 0} (eq : K → K → Bool) where
       where
         same_left : (j k l : K) → eq j k ≡ true → eq j l ≡ eq k l
         same_left j k l same = elim (cases_Bool (eq k l)) [
-            inl here ↦ law.through j k l same here ∙ sym here
+          | inl here ↦ law.through j k l same here ∙ sym here
           | inr other ↦ elim (cases_Bool (eq j l)) [
-              inl there ↦ let f : eq k l ≡ true = law.through k j l (law.back j k same) there in cc
-            | inr elsewhere ↦ elsewhere ∙ sym other ] ]
+            | inl there ↦ let f : eq k l ≡ true = law.through k j l (law.back j k same) there in cc
+            | inr elsewhere ↦ elsewhere ∙ sym other
+          ]
+        ]
 
     respects : (es : List (Exchange (Stored K V))) (m : Map K V) → ((j k : K) → eq j k ≡ true → m j ≡ m k) → (j k : K) → eq j k ≡ true → replayed eq m es j ≡ replayed eq m es k
     respects [] m alike = alike

@@ -1,5 +1,5 @@
 -- How calls under way stand to a history that grows by an entry.
-use Rattle.std.proofs.Common.{◌≡◌, ◌≢◌, ◌⊎◌, inl, inr, ⊎_elim, ℕ, ◌+◌, ◌==◌, Bool, true, false, cond, Option, None, Some, List, [], ◌∷◌, ◌++◌, length, slice_get, refl, sym, ◌∙◌, ap, subst, zero, suc}
+use Rattle.std.proofs.Common.{◌≡◌, ◌≢◌, ◌⊎◌, inl, inr, ⊎_elim, ℕ, ◌==◌, Bool, false, cond, Option, None, Some, List, [], ◌∷◌, ◌++◌, length, slice_get, refl, sym, ◌∙◌, ap, subst, zero, suc}
 use Rattle.papaya_call.specs.declared.ask.Ask.{Ask}
 use Rattle.papaya_call.specs.declared.ask.Ask.TheVariants.{Load, Exchange as Ask_exchange, SameKey, SizeOf, MakeKey, MakePair, MakeTable, AddToShard, Done as Ask_done}
 use Rattle.papaya_call.specs.declared.ask.Answer.{Answer}
@@ -7,29 +7,25 @@ use Rattle.papaya_call.specs.declared.call.Call.{Call}
 use Rattle.papaya_call.specs.declared.call.Call.TheVariants.{Get, Insert}
 use Rattle.papaya_call.specs.declared.call.Reply.{Reply}
 use Rattle.papaya_call.specs.declared.call.Reply.TheVariants.{Absent, Found, Inserted, Replaced, Occupied, Refused}
-use Rattle.papaya_call.specs.declared.call.Task.{Task}
-use Rattle.papaya_call.specs.declared.machine.Machine.{Machine}
-use Rattle.papaya_call.specs.Law.Code.{Coding}
-use Rattle.papaya_call.specs.Law.Exchange.{Setting, Exchange}
-use Rattle.papaya_call.specs.Machine.{ask_of, kind_of_ask, after}
-use Rattle.papaya_call.specs.Rests.{Rests, IsReply, change_in, change_of_reply, WasAtMoment}
+use Rattle.papaya_call.specs.Law.Exchange.{Exchange}
+use Rattle.papaya_call.specs.Machine.{ask_of}
+use Rattle.papaya_call.specs.Rests.{Rests, IsReply, change_of_reply, WasAtMoment}
 use Rattle.papaya_call.specs.Told.{Hands}
 use Rattle.papaya_words.specs.Table.{TableWords}
-use Rattle.papaya_words.specs.declared.limits.TheConstants.{MAX_LOG_LEN, MAX_TABLES}
+use Rattle.papaya_words.specs.declared.limits.TheConstants.{MAX_LOG_LEN}
 use Rattle.papaya_words.specs.declared.probe.ResizeMode.{ResizeMode}
 use Rattle.papaya_core.specs.declared.pairs.KeyOf.{KeyOf}
 use Rattle.papaya_core.specs.declared.pairs.KeyOf.TheVariants.{Own, Logged}
 use Rattle.papaya_core.specs.declared.pairs.Running.{Running}
 use Rattle.papaya_core.specs.declared.trace.Entry.{Entry}
 use Rattle.papaya_core.specs.declared.trace.Event.{Event}
-use Rattle.papaya_core.specs.declared.trace.Event.TheVariants.{Begun, Changed, Moved, Other, Replied}
-use Rattle.papaya_core.specs.Begins.{task_of_call, value_of_call}
-use Rattle.papaya_core.specs.Kept.{Tale, told_tales, setting_of, coding_of, low}
+use Rattle.papaya_core.specs.Begins.{task_of_call}
+use Rattle.papaya_core.specs.Kept.{Tale, told_tales, setting_of, coding_of}
 use Rattle.papaya_core.specs.Maps.{Map, Does, key_of}
 use Rattle.papaya_core.specs.Performs.{Performs, own_key, key_at, Stays, LogsKey, LogsPair, Refuses, HasKey, HasNoPair}
 use Rattle.papaya_core.specs.Store.{StoreState, Stored}
 use Rattle.papaya_core.specs.Tables.{word_at}
-use Rattle.papaya_core.specs.Timeline.{History, is_begin, change_of, AtSomeMoment, Fits, IsAnswer}
+use Rattle.papaya_core.specs.Timeline.{History, is_begin, change_of, AtSomeMoment, Fits}
 use Rattle.papaya_core.proofs.CallersLemmas.{differs}
 use Rattle.papaya_core.proofs.Good.{IsTied, replay, replayed}
 use Rattle.papaya_core.proofs.MachineLemmas.{machine_replies}
@@ -52,32 +48,32 @@ module _ {K V S : Type 0} where
 
   still : (s : StoreState K V S) (r : Running K V) (s' : StoreState K V S) (r' : Running K V) → s' ≡ s → r' ≡ r → IsGrown s r s' r'
   still s r s' r' same as_was = record {
-      hasher_is = ap (λ (y : StoreState K V S). y.hasher) same;
-      keys_stay = λ n k e. ap (λ (y : StoreState K V S). slice_get y.keys n) same ∙ e;
-      value_stays = λ v e. sym (ap (λ (y : Running K V). y.value) as_was) ∙ e;
-    }
+    hasher_is = ap (λ (y : StoreState K V S). y.hasher) same;
+    keys_stay = λ n k e. ap (λ (y : StoreState K V S). slice_get y.keys n) same ∙ e;
+    value_stays = λ v e. sym (ap (λ (y : Running K V). y.value) as_was) ∙ e;
+  }
 
   key_logged : (answer : Answer) (s : StoreState K V S) (r : Running K V) (s' : StoreState K V S) (r' : Running K V) → LogsKey answer s r s' r' → IsGrown s r s' r'
   key_logged answer s r s' r' (k, own, e, few, same, is) = record {
-      hasher_is = ap (λ (y : StoreState K V S). y.hasher) same;
-      keys_stay = λ n j there. ap (λ (y : StoreState K V S). slice_get y.keys n) same ∙ get-append s.keys (k ∷ []) n j there;
-      value_stays = λ v e. sym (ap (λ (y : Running K V). y.value) is) ∙ e;
-    }
+    hasher_is = ap (λ (y : StoreState K V S). y.hasher) same;
+    keys_stay = λ n j there. ap (λ (y : StoreState K V S). slice_get y.keys n) same ∙ get-append s.keys (k ∷ []) n j there;
+    value_stays = λ v e. sym (ap (λ (y : Running K V). y.value) is) ∙ e;
+  }
 
   pair_logged : (answer : Answer) (s : StoreState K V S) (r : Running K V) (s' : StoreState K V S) (r' : Running K V) → LogsPair answer s r s' r' → IsGrown s r s' r'
   pair_logged answer s r s' r' (n, v, key, value, e, few, same, is) = record {
-      hasher_is = ap (λ (y : StoreState K V S). y.hasher) same;
-      keys_stay = λ i j there. ap (λ (y : StoreState K V S). slice_get y.keys i) same ∙ there;
-      value_stays = λ u e. let f : None ≡ Some u = sym (ap (λ (y : Running K V). y.value) is) ∙ e in cc;
-    }
+    hasher_is = ap (λ (y : StoreState K V S). y.hasher) same;
+    keys_stay = λ i j there. ap (λ (y : StoreState K V S). slice_get y.keys i) same ∙ there;
+    value_stays = λ u e. let f : None ≡ Some u = sym (ap (λ (y : Running K V). y.value) is) ∙ e in cc;
+  }
 
   -- words alone were written
   words_changed : (s : StoreState K V S) (r : Running K V) (s' : StoreState K V S) (r' : Running K V) → s'.hasher ≡ s.hasher → s'.keys ≡ s.keys → r' ≡ r → IsGrown s r s' r'
   words_changed s r s' r' hasher keys as_was = record {
-      hasher_is = hasher;
-      keys_stay = λ n k e. ap (λ (y : List K). slice_get y n) keys ∙ e;
-      value_stays = λ v e. sym (ap (λ (y : Running K V). y.value) as_was) ∙ e;
-    }
+    hasher_is = hasher;
+    keys_stay = λ n k e. ap (λ (y : List K). slice_get y n) keys ∙ e;
+    value_stays = λ v e. sym (ap (λ (y : Running K V). y.value) as_was) ∙ e;
+  }
 
   pub grown : (eq : K → K → Bool) (refuse : Bool) (ask : Ask) (s : StoreState K V S) (r : Running K V) (a : Answer) (s' : StoreState K V S) (r' : Running K V) → Performs eq refuse ask s r a s' r' → IsGrown s r s' r'
   grown eq refuse (Load at) s r a s' r' (e, stays) = still s r s' r' stays.0 stays.1
@@ -109,9 +105,9 @@ module _ {K V S : Type 0} where
       matched (IsGrown s r s' r') refuse _ _ h
       (λ _ none. still s r s' r' none.1.0 none.1.1)
       (λ _ makes. ⊎_elim
-        (λ refused. still s r s' r' refused.1 makes.1)
-        (λ table. words_changed s r s' r' (ap (λ (y : StoreState K V S). y.hasher) table.2) (ap (λ (y : StoreState K V S). y.keys) table.2) makes.1)
-        makes.0)
+      (λ refused. still s r s' r' refused.1 makes.1)
+      (λ table. words_changed s r s' r' (ap (λ (y : StoreState K V S). y.hasher) table.2) (ap (λ (y : StoreState K V S). y.keys) table.2) makes.1)
+      makes.0)
   grown eq refuse (AddToShard by) s r a s' r' (e, same, as_was) = words_changed s r s' r' (ap (λ (y : StoreState K V S). y.hasher) same) (ap (λ (y : StoreState K V S). y.keys) same) as_was
   grown eq refuse (Ask_done reply) s r a s' r' (e, stays) = still s r s' r' stays.0 stays.1
 
@@ -151,26 +147,26 @@ module _ {K V : Type 0} (eq : K → K → Bool) where
         → ((n : ℕ) (k : K) → slice_get s.keys n ≡ Some k → slice_get s'.keys n ≡ Some k) → (made ≡ []) ⊎ ((x : Exchange (Stored K V)) × (made ≡ x ∷ [])) → c ≢ d → (tales d).begun ++ (tales d).since ≡ es
         → IsTied eq s r call d (tales d) h maps → IsTied eq s' r call d (told_tales tales c made hands d) (entry turn c event ∷ h) (replay eq (es ++ made) ∷ maps)
     tied_other s s' r call c d turn event tales made hands h es maps keys one differ split tied = record {
-        key = own_key_stays s s' r (key_of call) keys tied.key;
-        task = tied.task;
-        value = tied.value;
-        made = λ q e. tied.made q (sym (ap (λ b. (cond b hands (tales d).hands).made) (differs d c (λ z. differ (sym z)))) ∙ e);
-        change = change_of-other c d turn event h differ ∙ tied.change;
-        moments = subst (λ (l : List (Exchange (Stored K V))). (so_far rest : List (Exchange (Stored K V))) → so_far ++ rest ≡ (tales d).since ++ made → AtSomeMoment (λ m. m (key_of call) ≡ replayed eq (replay eq (tales d).begun) so_far (key_of call)) d (entry turn c event ∷ h) (replay eq (l ++ made) ∷ maps)) split
-            (moments_more (key_of call) d (entry turn c event) h maps (tales d).begun (tales d).since made one (not_begin-other c d turn event differ) tied.moments);
-      }
+      key = own_key_stays s s' r (key_of call) keys tied.key;
+      task = tied.task;
+      value = tied.value;
+      made = λ q e. tied.made q (sym (ap (λ b. (cond b hands (tales d).hands).made) (differs d c (λ z. differ (sym z)))) ∙ e);
+      change = change_of-other c d turn event h differ ∙ tied.change;
+      moments = subst (λ (l : List (Exchange (Stored K V))). (so_far rest : List (Exchange (Stored K V))) → so_far ++ rest ≡ (tales d).since ++ made → AtSomeMoment (λ m. m (key_of call) ≡ replayed eq (replay eq (tales d).begun) so_far (key_of call)) d (entry turn c event ∷ h) (replay eq (l ++ made) ∷ maps)) split
+          (moments_more (key_of call) d (entry turn c event) h maps (tales d).begun (tales d).since made one (not_begin-other c d turn event differ) tied.moments);
+    }
 
     -- and so does an entry of another with a map of its own
     pub tied_entry : (s s' : StoreState K V S) (r : Running K V) (call : Call K V) (c d turn : ℕ) (event : Event) (tale : Tale K V) (h : History) (m : Map K V) (maps : List (Map K V)) → s' ≡ s → c ≢ d
         → IsTied eq s r call d tale h maps → IsTied eq s' r call d tale (entry turn c event ∷ h) (m ∷ maps)
     tied_entry s s' r call c d turn event tale h m maps same differ tied = record {
-        key = ap (λ (y : StoreState K V S). own_key y r) same ∙ tied.key;
-        task = tied.task;
-        value = tied.value;
-        made = tied.made;
-        change = change_of-other c d turn event h differ ∙ tied.change;
-        moments = λ so_far rest is. inr (not_begin-other c d turn event differ, tied.moments so_far rest is);
-      }
+      key = ap (λ (y : StoreState K V S). own_key y r) same ∙ tied.key;
+      task = tied.task;
+      value = tied.value;
+      made = tied.made;
+      change = change_of-other c d turn event h differ ∙ tied.change;
+      moments = λ so_far rest is. inr (not_begin-other c d turn event differ, tied.moments so_far rest is);
+    }
 
     -- where the machine asks no more, its reply fits
     pub tied_fits : (s : StoreState K V S) (r : Running K V) (call : Call K V) (caller : ℕ) (tale : Tale K V) (h : History) (maps : List (Map K V)) (hash : K → ℕ) (mode : ResizeMode) (tables : List TableWords) (k : K) → k ≡ key_of call
@@ -182,10 +178,10 @@ module _ {K V : Type 0} (eq : K → K → Bool) where
         at_moment : (call : Call K V) (v : Option (Stored K V)) → k ≡ key_of call → Moments call caller tale h maps → WasAtMoment (setting_of eq hash mode tables) (coding_of hash) tale.begun tale.since k v → AtSomeMoment (λ m. m (key_of call) ≡ v) caller h maps
         at_moment call v own moments was =
             let value : replayed eq (replay eq tale.begun) was.so_far (key_of call) ≡ v =
-                ap (replayed eq (replay eq tale.begun) was.so_far) (sym own)
-                ∙ ap (λ m. replayed eq m was.so_far k) (sym (map_replayed eq hash mode tables tale.begun (λ j. None)))
-                ∙ ap (λ m. m k) (sym (map_replayed eq hash mode tables was.so_far _))
-                ∙ was.value_is in
+            ap (replayed eq (replay eq tale.begun) was.so_far) (sym own)
+            ∙ ap (λ m. replayed eq m was.so_far k) (sym (map_replayed eq hash mode tables tale.begun (λ j. None)))
+            ∙ ap (λ m. m k) (sym (map_replayed eq hash mode tables was.so_far _))
+            ∙ was.value_is in
             at_weaker (λ m. m (key_of call) ≡ replayed eq (replay eq tale.begun) was.so_far (key_of call)) (λ m. m (key_of call) ≡ v) caller h maps (λ m e. e ∙ value) (moments was.so_far was.rest was.is)
 
         by_reply : (call : Call K V) (reply : Reply) → k ≡ key_of call → IsReply (setting_of eq hash mode tables) (coding_of hash) tale.begun tale.since k tale.hands (task_of_call call) reply → change_of caller h ≡ change_of_reply reply → Moments call caller tale h maps → Fits eq call reply caller h maps

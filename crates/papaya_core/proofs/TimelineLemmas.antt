@@ -1,11 +1,10 @@
 -- One entry more in a history, and one map more in a timeline.
-use Rattle.std.proofs.Common.{◌≡◌, ◌≢◌, ℕ, ◌<◌, ◌≤◌, ◌==◌, Bool, true, false, cond, List, [], ◌∷◌, Option, Some, None, slice_get, inl, inr, refl, sym, ◌∙◌, ap, arith, eq-eqb}
+use Rattle.std.proofs.Common.{◌≡◌, ◌≢◌, ℕ, ◌<◌, ◌≤◌, ◌==◌, false, cond, List, [], ◌∷◌, slice_get, inl, inr, refl, ◌∙◌, ap, arith, eq-eqb}
 use Rattle.std.proofs.lemmas.Bool.{cases_Bool}
 use Rattle.papaya_core.specs.declared.trace.Turn.{Turn}
 use Rattle.papaya_core.specs.declared.trace.Entry.{Entry}
 use Rattle.papaya_core.specs.declared.trace.Event.{Event}
 use Rattle.papaya_core.specs.Maps.{Map}
-use Rattle.papaya_core.specs.Store.{Stored}
 use Rattle.papaya_core.specs.Timeline.{History, begun_by, open_call, open_after, change_of, change_by, is_begin, begins, AtSomeMoment, IsUnused}
 use Rattle.papaya_core.proofs.CallersLemmas.{differs}
 use Rattle.papaya_core.proofs.Good.{AllBelow}
@@ -36,8 +35,9 @@ not_begin-other c d turn event h = ap (λ b. cond b (begins event) false) (diffe
 -- nor does an event that is no begin
 pub not_begin-own : (c d turn : ℕ) (event : Event) → begins event ≡ false → is_begin d (entry turn c event) ≡ false
 not_begin-own c d turn event h = elim (cases_Bool (c == d)) [
-    inl same ↦ ap (λ b. cond b (begins event) false) same ∙ h
-  | inr other ↦ ap (λ b. cond b (begins event) false) other ]
+  | inl same ↦ ap (λ b. cond b (begins event) false) same ∙ h
+  | inr other ↦ ap (λ b. cond b (begins event) false) other
+]
 
 module _ {K V : Type 0} where
   -- what held at a moment, and what follows from it

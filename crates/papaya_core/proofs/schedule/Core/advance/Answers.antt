@@ -24,10 +24,10 @@ asked g c = subst (λ y. Performs g.K.PartialEq.eq c.args.refuse y c.self.inside
 taken : (g : Over) (c : After-perform-answer g) → IsCore c.perform-answer.new.self c.take-running.new.self c.self.inside.mode
 taken g c =
     subst (λ (y : List (Seat _ _)). IsCore c.perform-answer.new.self y c.self.inside.mode) (sym c.take-running.ensures.taken)
-      (with_call-core c.perform-answer.new.self c.self.inside.callers c.self.inside.mode c.args.caller None
-        (performed-core g.K.PartialEq.eq c.args.refuse c.self.inside.store c.self.inside.callers c.self.inside.mode c.take-running.result c.perform-answer.result c.perform-answer.new.self c.perform-answer.new.running
-          c.self.invariant.core (subst IsFitAsk c.ask-ask.ensures.value c.ask-ask.ensures.size) (asked g c))
-        (λ r e. let f : None ≡ Some r = e in cc))
+    (with_call-core c.perform-answer.new.self c.self.inside.callers c.self.inside.mode c.args.caller None
+    (performed-core g.K.PartialEq.eq c.args.refuse c.self.inside.store c.self.inside.callers c.self.inside.mode c.take-running.result c.perform-answer.result c.perform-answer.new.self c.perform-answer.new.running
+    c.self.invariant.core (subst IsFitAsk c.ask-ask.ensures.value c.ask-ask.ensures.size) (asked g c))
+    (λ r e. let f : None ≡ Some r = e in cc))
 
 pub invariant_of-self : goal.invariant_of-self
 invariant_of-self g c =
@@ -36,10 +36,10 @@ invariant_of-self g c =
     let is_after : c.answer.new.self ≡ after c.take-running.result.machine a = c.answer.ensures.after ∙ ap (λ m. after m a) c.perform-answer.ensures.machine in
     let reply : reply_in (ask_of (after c.take-running.result.machine a)) ≡ Some c.in-Some.field-0 = sym (c.reply_in-reply.ensures ∙ ap reply_in c.ask.ensures.value ∙ ap (λ m. reply_in (ask_of m)) is_after) ∙ c.in-Some.is in
     stepped_lawful g.K.PartialEq.eq g.K.Hash.hash_input g.S.BuildHasher.build_hasher g.S.Hasher.Hasher.write g.S.Hasher.Hasher.finish g.met.K.Eq.laws g.met.K.Hash.respects_eq
-      c.args.refuse (record { store = c.self.inside.store; callers = c.self.inside.callers; mode = c.self.inside.mode; initial = c.self.inside.initial }) c.args.caller c.perform-answer.new.self c.take-running.new.self
-      c.take-running.result a later c.take-running.ensures.call (asked g (goal.at.invariant_of-self g c).After-perform-answer) c.perform-answer.ensures.machine
-      (c.take-running.ensures.taken ∙ sym (ap (λ y. with_call c.self.inside.callers c.args.caller (goes_on y (record later { machine = after c.take-running.result.machine a }))) reply))
-      (taken g (goal.at.invariant_of-self g c).After-perform-answer) c.self.invariant
+    c.args.refuse (record { store = c.self.inside.store; callers = c.self.inside.callers; mode = c.self.inside.mode; initial = c.self.inside.initial }) c.args.caller c.perform-answer.new.self c.take-running.new.self
+    c.take-running.result a later c.take-running.ensures.call (asked g (goal.at.invariant_of-self g c).After-perform-answer) c.perform-answer.ensures.machine
+    (c.take-running.ensures.taken ∙ sym (ap (λ y. with_call c.self.inside.callers c.args.caller (goes_on y (record later { machine = after c.take-running.result.machine a }))) reply))
+    (taken g (goal.at.invariant_of-self g c).After-perform-answer) c.self.invariant
 
 pub invariant_of-self-in-None : goal.invariant_of-self-in-None
 invariant_of-self-in-None g c =
@@ -49,18 +49,18 @@ invariant_of-self-in-None g c =
     let is_after : c.answer.new.self ≡ after c.take-running.result.machine a = c.answer.ensures.after ∙ ap (λ m. after m a) c.perform-answer.ensures.machine in
     let reply : reply_in (ask_of (after c.take-running.result.machine a)) ≡ None = sym (c.reply_in-reply.ensures ∙ ap reply_in c.ask.ensures.value ∙ ap (λ m. reply_in (ask_of m)) is_after) ∙ c.in-None.is in
     let core : IsCore c.perform-answer.new.self c.put.new.self c.self.inside.mode =
-          subst (λ (y : List (Seat _ _)). IsCore c.perform-answer.new.self y c.self.inside.mode) (sym c.put.ensures)
-            (with_call-core c.perform-answer.new.self c.take-running.new.self c.self.inside.mode c.args.caller (Some r)
-              (taken g (goal.at.invariant_of-self-in-None g c).After-perform-answer)
-              (λ q e. let same : r ≡ q = cc in subst (λ (y : Running _ _). IsStanding y.machine) same c.answer.ensures.standing)) in
+    subst (λ (y : List (Seat _ _)). IsCore c.perform-answer.new.self y c.self.inside.mode) (sym c.put.ensures)
+    (with_call-core c.perform-answer.new.self c.take-running.new.self c.self.inside.mode c.args.caller (Some r)
+    (taken g (goal.at.invariant_of-self-in-None g c).After-perform-answer)
+    (λ q e. let same : r ≡ q = cc in subst (λ (y : Running _ _). IsStanding y.machine) same c.answer.ensures.standing)) in
     stepped_lawful g.K.PartialEq.eq g.K.Hash.hash_input g.S.BuildHasher.build_hasher g.S.Hasher.Hasher.write g.S.Hasher.Hasher.finish g.met.K.Eq.laws g.met.K.Hash.respects_eq
-      c.args.refuse (record { store = c.self.inside.store; callers = c.self.inside.callers; mode = c.self.inside.mode; initial = c.self.inside.initial }) c.args.caller c.perform-answer.new.self c.put.new.self
-      c.take-running.result a later c.take-running.ensures.call (asked g (goal.at.invariant_of-self-in-None g c).After-perform-answer) c.perform-answer.ensures.machine
-      (c.put.ensures ∙ ap (λ y. with_call y c.args.caller (Some r)) c.take-running.ensures.taken
-        ∙ with_call-twice c.self.inside.callers c.args.caller None (Some r)
-        ∙ ap (λ m. with_call c.self.inside.callers c.args.caller (Some (record later { machine = m }))) is_after
-        ∙ sym (ap (λ y. with_call c.self.inside.callers c.args.caller (goes_on y (record later { machine = after c.take-running.result.machine a }))) reply))
-      core c.self.invariant
+    c.args.refuse (record { store = c.self.inside.store; callers = c.self.inside.callers; mode = c.self.inside.mode; initial = c.self.inside.initial }) c.args.caller c.perform-answer.new.self c.put.new.self
+    c.take-running.result a later c.take-running.ensures.call (asked g (goal.at.invariant_of-self-in-None g c).After-perform-answer) c.perform-answer.ensures.machine
+    (c.put.ensures ∙ ap (λ y. with_call y c.args.caller (Some r)) c.take-running.ensures.taken
+    ∙ with_call-twice c.self.inside.callers c.args.caller None (Some r)
+    ∙ ap (λ m. with_call c.self.inside.callers c.args.caller (Some (record later { machine = m }))) is_after
+    ∙ sym (ap (λ y. with_call c.self.inside.callers c.args.caller (goes_on y (record later { machine = after c.take-running.result.machine a }))) reply))
+    core c.self.invariant
 
 pub returns-in-Some-clause-advances : goal.returns-in-Some-clause-advances
 returns-in-Some-clause-advances g c =
@@ -108,13 +108,13 @@ returns-in-None-clause-advances g c =
 pub returns-in-Some-clause-moves : goal.returns-in-Some-clause-moves
 returns-in-Some-clause-moves g c =
     lawful_moves g.K.PartialEq.eq g.K.Hash.hash_input g.S.BuildHasher.build_hasher g.S.Hasher.Hasher.write g.S.Hasher.Hasher.finish g.met.K.Eq.laws g.met.K.Hash.respects_eq
-      c.args.refuse c.args.self.now (record { store = c.perform-answer.new.self; callers = c.take-running.new.self; mode = c.self.inside.mode; initial = c.self.inside.initial }) c.args.caller c.event_of-event.result c.reply_in-reply.result
-      (subst (λ s. IsLawfulCore g.K.PartialEq.eq (hash_of g.K.Hash.hash_input g.S.BuildHasher.build_hasher g.S.Hasher.Hasher.write g.S.Hasher.Hasher.finish s.store.hasher) s.store s.callers s.mode) c.self.view_is c.self.invariant)
-      (returns-in-Some-clause-advances g c)
+    c.args.refuse c.args.self.now (record { store = c.perform-answer.new.self; callers = c.take-running.new.self; mode = c.self.inside.mode; initial = c.self.inside.initial }) c.args.caller c.event_of-event.result c.reply_in-reply.result
+    (subst (λ s. IsLawfulCore g.K.PartialEq.eq (hash_of g.K.Hash.hash_input g.S.BuildHasher.build_hasher g.S.Hasher.Hasher.write g.S.Hasher.Hasher.finish s.store.hasher) s.store s.callers s.mode) c.self.view_is c.self.invariant)
+    (returns-in-Some-clause-advances g c)
 
 pub returns-in-None-clause-moves : goal.returns-in-None-clause-moves
 returns-in-None-clause-moves g c =
     lawful_moves g.K.PartialEq.eq g.K.Hash.hash_input g.S.BuildHasher.build_hasher g.S.Hasher.Hasher.write g.S.Hasher.Hasher.finish g.met.K.Eq.laws g.met.K.Hash.respects_eq
-      c.args.refuse c.args.self.now (record { store = c.perform-answer.new.self; callers = c.put.new.self; mode = c.self.inside.mode; initial = c.self.inside.initial }) c.args.caller c.event_of-event.result c.reply_in-reply.result
-      (subst (λ s. IsLawfulCore g.K.PartialEq.eq (hash_of g.K.Hash.hash_input g.S.BuildHasher.build_hasher g.S.Hasher.Hasher.write g.S.Hasher.Hasher.finish s.store.hasher) s.store s.callers s.mode) c.self.view_is c.self.invariant)
-      (returns-in-None-clause-advances g c)
+    c.args.refuse c.args.self.now (record { store = c.perform-answer.new.self; callers = c.put.new.self; mode = c.self.inside.mode; initial = c.self.inside.initial }) c.args.caller c.event_of-event.result c.reply_in-reply.result
+    (subst (λ s. IsLawfulCore g.K.PartialEq.eq (hash_of g.K.Hash.hash_input g.S.BuildHasher.build_hasher g.S.Hasher.Hasher.write g.S.Hasher.Hasher.finish s.store.hasher) s.store s.callers s.mode) c.self.view_is c.self.invariant)
+    (returns-in-None-clause-advances g c)

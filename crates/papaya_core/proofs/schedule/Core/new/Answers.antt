@@ -10,9 +10,9 @@ pub invariant_of-result : goal.invariant_of-result
 invariant_of-result g c =
     let initial = c.in_ok-initial.ensures.ok in
     new_lawful g.K.PartialEq.eq g.K.Hash.hash_input g.S.BuildHasher.build_hasher g.S.Hasher.Hasher.write g.S.Hasher.Hasher.finish g.met.K.Eq.laws g.met.K.Hash.respects_eq
-      c.args.mode c.args.capacity c.in_ok-initial.initial c.open.new.self c.new-2.result
-      (new-core c.open.new.self c.new-2.result c.args.mode c.args.capacity c.in_ok-initial.initial c.in_ok-check_chunk.ensures.ok initial.1.0 initial.2 c.in_ok-open.ensures.ok.0 c.new-2.ensures)
-      c.in_ok-open.ensures.ok.0 c.new-2.ensures
+    c.args.mode c.args.capacity c.in_ok-initial.initial c.open.new.self c.new-2.result
+    (new-core c.open.new.self c.new-2.result c.args.mode c.args.capacity c.in_ok-initial.initial c.in_ok-check_chunk.ensures.ok initial.1.0 initial.2 c.in_ok-open.ensures.ok.0 c.new-2.ensures)
+    c.in_ok-open.ensures.ok.0 c.new-2.ensures
 
 pub returns-clause-ok : goal.returns-clause-ok
 returns-clause-ok g c =

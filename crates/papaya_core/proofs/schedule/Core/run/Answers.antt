@@ -55,6 +55,6 @@ returns-clause-ok g c =
 pub returns-clause-timeline : goal.returns-clause-timeline
 returns-clause-timeline g c =
     lawful_timeline g.K.PartialEq.eq g.K.Hash.hash_input g.S.BuildHasher.build_hasher g.S.Hasher.Hasher.write g.S.Hasher.Hasher.finish g.met.K.Eq.laws g.met.K.Hash.respects_eq
-      c.args.schedule.items (length c.loop-turn.yielded) c.args.self.now c.loop-turn.self (reverse c.loop-turn.entries.items)
-      (subst (λ s. IsLawfulCore g.K.PartialEq.eq (hash_of g.K.Hash.hash_input g.S.BuildHasher.build_hasher g.S.Hasher.Hasher.write g.S.Hasher.Hasher.finish s.store.hasher) s.store s.callers s.mode) c.self.view_is c.self.invariant)
-      c.loop-turn.invariant
+    c.args.schedule.items (length c.loop-turn.yielded) c.args.self.now c.loop-turn.self (reverse c.loop-turn.entries.items)
+    (subst (λ s. IsLawfulCore g.K.PartialEq.eq (hash_of g.K.Hash.hash_input g.S.BuildHasher.build_hasher g.S.Hasher.Hasher.write g.S.Hasher.Hasher.finish s.store.hasher) s.store s.callers s.mode) c.self.view_is c.self.invariant)
+    c.loop-turn.invariant
