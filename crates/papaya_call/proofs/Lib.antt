@@ -1,5 +1,5 @@
 pub mod Law
--- what machines rest on: it lasts, and names only what there is
+-- what machines rest on
 pub mod RestsCarried
 pub mod RestsNames
 pub mod RestsStay
@@ -15,5 +15,10 @@ pub mod RestsLearn
 -- what it changes, and its refusals
 pub mod RestsReply
 pub mod RestsReplyRefused
--- a machine stands within its table
+-- how much a lookup loads
+pub mod LoadsBound
+pub mod LoadsLeft
+pub mod LoadsLists
+pub mod LoadsSteps
+-- a machine that stands within its table does so after each answer
 pub mod Standing

@@ -1,4 +1,5 @@
 pub mod Law
+pub mod Loads
 pub mod Machine
 pub mod Rests
 pub mod Search

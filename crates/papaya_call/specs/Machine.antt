@@ -2,6 +2,7 @@
 use Rattle.std.specs.Prelude.{ℕ, ◌<◌, ◌≤◌, ◌^◌, ◌==◌, Bool, true, false, if◌then◌else◌, Option, Some, None}
 use Rattle.std.specs.Prelude.{pos}
 use Rattle.papaya_words.specs.Word.{kind_of, pair_of}
+use Rattle.papaya_words.specs.declared.limits.TheConstants.{FIRST_TABLE_LEN, FIRST_TABLE_LIMIT}
 use Rattle.papaya_words.specs.declared.probe.Refused.{Refused}
 use Rattle.papaya_words.specs.declared.probe.Refused.TheVariants.{Capacity}
 use Rattle.papaya_words.specs.declared.probe.ResizeMode.{ResizeMode}
@@ -44,7 +45,7 @@ started task hash mode initial = record { task = task; hash = hash; mode = mode;
 -- what a machine asks
 abbrev pub asks : Made → ℕ → State → Ask
 asks made hash AtRoot = Load Root
-asks made hash Making = MakeTable 32 25
+asks made hash Making = MakeTable FIRST_TABLE_LEN FIRST_TABLE_LIMIT
 asks made hash (Opening table) = Exchange Root 0 table
 asks made hash (Searching search) = search_ask search
 asks made hash (Writing write) = write_ask write made hash

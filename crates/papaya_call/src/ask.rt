@@ -2,7 +2,9 @@
 use crate::call::Reply;
 use papaya_words::probe::Refused;
 
-/// A word of the tables, which are named by number.
+/// A word that callers share. Tables are named by number, from 1 on.
+///
+/// In 0.2.5 these are the map's atomic root pointer, and the atomics of a table and of its state.
 #[derive(Clone, Copy, Debug, PartialEq, Eq)]
 pub enum At {
     /// The number of the root table, or 0.
@@ -13,30 +15,32 @@ pub enum At {
     Aborted(u64),
     /// How many slots of the table before were copied to this one.
     Done(u64),
-    /// A slot of a table.
+    /// A slot of a table: the table, and the slot's place in it from 0.
     Slot(u64, usize),
 }
 
-/// What a machine asks next: one step on one word at most.
+/// What a machine asks next: one atomic step on one word at most. Each kind of ask has its own kinds
+/// of answer.
 #[derive(Clone, Copy, Debug, PartialEq, Eq)]
 pub enum Ask {
-    /// The word that stands there.
+    /// The word that stands there. Answered by `Word`.
     Load(At),
-    /// The second word in place of the first, if the first stands there.
+    /// The second word in place of the first, if the first stands there. Answered by `Exchanged`,
+    /// or by `Found` with the word that stands there instead.
     Exchange(At, u64, u64),
-    /// Has this pair a key that matches the call's?
+    /// Has the pair of this number a key that equals the call's? Answered by `Yes`.
     SameKey(u64),
-    /// The size of a table, which never changes.
+    /// The size of a table, which never changes. Answered by `Size`.
     SizeOf(u64),
-    /// Log the call's key.
+    /// Log the call's key. Answered by `Made` or `Refused`, as all that is to be made.
     MakeKey,
-    /// Log a pair of the call's key and value.
+    /// Log a pair of the call's key and value. Only then does a word name it.
     MakePair,
-    /// Make a table whose slots are empty.
+    /// Make a table of so many slots, all empty, which a search looks at in `limit + 1` places.
     MakeTable { len: usize, limit: usize },
-    /// Add to the count of pairs.
+    /// Add to the count of pairs, in the caller's shard. Answered by `Ok`.
     AddToShard(i64),
-    /// Nothing more: the call replies.
+    /// Nothing more: the call replies this.
     Done(Reply),
 }
 
@@ -57,7 +61,7 @@ pub enum Answer {
     Made(u64),
     /// The count was added to.
     Ok,
-    /// What was to be made was refused.
+    /// What was to be made was refused: for memory, or at a limit of `papaya_words::limits`.
     Refused(Refused),
 }
 

@@ -1,24 +1,27 @@
 //! Calls, as a caller hands them in, and what they reply.
 use papaya_words::probe::Refused;
 
-/// A call that a caller begins.
+/// A call that a caller begins, with what it hands in.
 #[derive(Debug, Drop)]
 pub enum Call<K, V> {
-    /// Looks a key up.
+    /// Looks a key up: `get` of 0.2.5.
     Get(K),
-    /// Stores a pair, in place of one with an equal key.
+    /// Stores a pair, in place of one with an equal key: `insert` of 0.2.5. As there, the new key
+    /// takes the old one's place too.
     Insert(K, V),
 }
 
-/// What a machine does: the call without what was handed in.
+/// What a machine does: the call without what was handed in, which the backend keeps.
 #[derive(Clone, Copy, Debug, PartialEq, Eq)]
 pub enum Task {
+    /// A lookup.
     Get,
-    /// An insertion; one that does not replace answers with the pair that it finds.
+    /// An insertion: `insert` of 0.2.5, or with `replace: false` its `try_insert`, which answers
+    /// with the pair that it finds.
     Insert { replace: bool },
 }
 
-/// What a call replies. Pairs are named by number.
+/// What a call replies. Pairs are named by their numbers in the log.
 #[derive(Clone, Copy, Debug, PartialEq, Eq)]
 pub enum Reply {
     /// The key is not in the map.
@@ -31,6 +34,6 @@ pub enum Reply {
     Replaced { old: u64, new: u64 },
     /// The key had this pair, and keeps it.
     Occupied(u64),
-    /// The call changed nothing.
+    /// The call changed nothing: what it was to make was refused, or there is no room for it.
     Refused(Refused),
 }

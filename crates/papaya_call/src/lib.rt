@@ -8,7 +8,10 @@
 pub mod ask;
 pub mod call;
 pub mod exchanges;
+pub mod loads;
 pub mod machine;
 pub mod rests;
 pub mod search;
+#[cfg(test)]
+mod tests;
 pub mod write;

@@ -7,6 +7,7 @@ use crate::ask::{Answer, Ask, At, StepKind};
 use crate::call::{Reply, Task};
 use crate::search::{Place, Search, Seen};
 use crate::write::{Made, Write};
+use papaya_words::limits::{FIRST_TABLE_LEN, FIRST_TABLE_LIMIT};
 use papaya_words::probe::{Refused, ResizeMode};
 use papaya_words::word::{Kind, Word};
 
@@ -31,21 +32,24 @@ pub enum State {
     Ended(Reply),
 }
 
-/// A call under way.
+/// A call under way. It is plain data and holds no key, value or memory: what it asks is all that
+/// a backend does for it.
 #[derive(Clone, Copy, Debug, PartialEq, Eq)]
 pub struct Machine {
     pub task: Task,
+    /// The hash of the call's key.
     pub hash: u64,
     pub mode: ResizeMode,
-    /// No table is made shorter.
+    /// The initial capacity of the map in slots: no table is made shorter.
     pub initial: usize,
     pub made: Made,
     pub state: State,
 }
 
 impl Machine {
-    /// A call that begins. The hash is that of its key. `initial` is the initial capacity of its
-    /// map: no table is shorter.
+    /// A call that begins.
+    ///
+    /// It stands for the whole of a call of 0.2.5, whose steps run one after another there.
     #[inline]
     pub fn new(task: Task, hash: u64, mode: ResizeMode, initial: usize) -> Machine
         requires { IsChunked mode }
@@ -62,7 +66,7 @@ impl Machine {
         }
     }
 
-    /// What the machine asks next.
+    /// What the machine asks next. Until it is answered it asks the same.
     #[inline]
     pub fn ask(&self) -> Ask
         requires { IsStanding self.now }
@@ -72,7 +76,10 @@ impl Machine {
     {
         match self.state {
             State::AtRoot => Ask::Load(At::Root),
-            State::Making => Ask::MakeTable { len: 32, limit: 25 },
+            State::Making => Ask::MakeTable {
+                len: FIRST_TABLE_LEN,
+                limit: FIRST_TABLE_LIMIT,
+            },
             State::Opening(table) => Ask::Exchange(At::Root, 0, table),
             State::Searching(search) => search.ask(),
             State::Writing(write) => write.ask(self.made, self.hash),
@@ -82,7 +89,8 @@ impl Machine {
         }
     }
 
-    /// The kind of the exchange that the machine asks for, if it asks for one.
+    /// The kind of the exchange that the machine asks for, if it asks for one. The words alone do
+    /// not tell it.
     #[inline]
     pub fn kind(&self) -> Option<StepKind>
         ensures { result ≡ kind_of_ask self.now }
@@ -97,7 +105,7 @@ impl Machine {
         }
     }
 
-    /// Goes on after an answer. One that was not asked for leads nowhere.
+    /// Goes on after an answer to what was asked. A machine that has replied stays as it is.
     #[inline]
     pub fn answer(&mut self, answer: Answer)
         requires standing { IsStanding self.old }

@@ -6,15 +6,17 @@ use crate::ask::{Ask, At};
 use papaya_words::probe::Probe;
 use papaya_words::word::{Kind, Word, h1, h2};
 
-/// A place of a key in a table.
+/// A place of a key in a table. A search carries its table's size along, which never changes, so
+/// that the size is asked for once a table.
 #[derive(Clone, Copy, Debug, PartialEq, Eq)]
 pub struct Place {
     /// The table's number.
     pub table: u64,
-    /// How many slots the table has.
+    /// How many slots the table has: a power of two.
     pub len: usize,
     /// How many places after the first a search looks at.
     pub limit: usize,
+    /// The slot, and how many places came before it.
     pub probe: Probe,
 }
 
@@ -25,7 +27,7 @@ pub enum Search {
     Sizing(u64),
     /// It loads the word at this place.
     Looking(Place),
-    /// It compares the key of the pair that the word at this place names.
+    /// It compares the key of the pair that this word names, which was loaded at this place.
     Comparing(Place, u64),
 }
 
@@ -58,7 +60,7 @@ impl Place {
         }
     }
 
-    /// The key is not at this place.
+    /// The key is not at this place, so the next one is looked at, while there is one.
     #[inline]
     fn go_on(mut self) -> Seen
         requires { IsWithin self }
@@ -73,7 +75,8 @@ impl Place {
         }
     }
 
-    /// This word stands at the place. Its key is compared only where the hash byte agrees.
+    /// This word stands at the place. Its key is compared only where the hash byte agrees, so that
+    /// a pair is rarely read in vain.
     #[inline]
     pub fn look(self, hash: u64, word: u64) -> Seen
         requires { IsWithin self }

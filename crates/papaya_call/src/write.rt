@@ -10,6 +10,7 @@ use papaya_words::word::{Word, h2};
 /// names the pair, and serve each exchange that it tries.
 #[derive(Clone, Copy, Debug, PartialEq, Eq)]
 pub enum Made {
+    /// Neither a key nor a pair.
     Nothing,
     /// The key is logged.
     Key,
@@ -20,6 +21,7 @@ pub enum Made {
 /// A pair is to stand at this place, in place of the word that was found there.
 #[derive(Clone, Copy, Debug, PartialEq, Eq)]
 pub struct Write {
+    /// Where the pair is to stand.
     pub place: Place,
     /// 0, or a word that names a pair with a matching key.
     pub old: u64,
@@ -43,7 +45,7 @@ impl Write {
         }
     }
 
-    /// The kind of the exchange.
+    /// The kind of the exchange, which says under what conditions it is allowed.
     #[inline]
     pub fn kind(self) -> StepKind
         ensures { result ≡ write_kind self }

@@ -16,6 +16,10 @@ pub const LEAST_TABLE_LEN: usize = 8;
 /// The length of the first table of a map that was given no capacity.
 pub const FIRST_TABLE_LEN: usize = 32;
 
+/// How many places after the first a search of that table looks at:
+/// [`crate::probe::limit`] of [`FIRST_TABLE_LEN`].
+pub const FIRST_TABLE_LIMIT: usize = 25;
+
 /// How many slots a changing call copies at a time in `ResizeMode::Incremental`,
 /// where nothing else was asked for.
 pub const DEFAULT_CHUNK: usize = 64;

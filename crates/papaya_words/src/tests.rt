@@ -1,7 +1,7 @@
 //! Worked values, where clause and code might agree and both be wrong, and that
 //! each call can succeed.
 use crate::counter::Counter;
-use crate::limits::{DEFAULT_CHUNK, MAX_SHARDS};
+use crate::limits::{DEFAULT_CHUNK, FIRST_TABLE_LEN, FIRST_TABLE_LIMIT, MAX_SHARDS};
 use crate::probe::{Probe, Refused, ResizeMode, entries_for, limit};
 use crate::table::{Table, next_len, next_limit, table_len};
 use crate::word::{Kind, Word, h1, h2, legal};
@@ -22,6 +22,7 @@ fn limits_of_tables(rt: HostRuntime) {
     assert_eq!(rt; limit(1), 0);
     assert_eq!(rt; limit(8), 15);
     assert_eq!(rt; limit(32), 25);
+    assert_eq!(rt; limit(FIRST_TABLE_LEN), FIRST_TABLE_LIMIT);
     assert_eq!(rt; limit(4096), 60);
     assert_eq!(rt; next_limit(64, 32, false), 30);
     assert_eq!(rt; next_limit(64, 64, false), 63);

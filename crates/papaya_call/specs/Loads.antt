@@ -1,0 +1,68 @@
+-- What a machine asks along the answers that it is given, and which tables a lookup goes through.
+use Rattle.std.specs.Prelude.{◌≡◌, ◌⊎◌, ℕ, ◌+◌, ◌<◌, ◌≤◌, ◌==◌, Bool, Option, None, Some, List, [], ◌∷◌}
+use Rattle.std.specs.List.{All, Contains, count_by, filter_map}
+use Rattle.std.specs.List.Sorted.{IsStrictlyIncreasing}
+use Rattle.papaya_call.specs.declared.ask.At.{At}
+use Rattle.papaya_call.specs.declared.ask.At.TheVariants.{Next, Slot}
+use Rattle.papaya_call.specs.declared.ask.Ask.{Ask}
+use Rattle.papaya_call.specs.declared.ask.Ask.TheVariants.{Load, SameKey, SizeOf}
+use Rattle.papaya_call.specs.declared.ask.Answer.{Answer}
+use Rattle.papaya_call.specs.declared.ask.Answer.TheVariants.{Word, Yes, Size}
+use Rattle.papaya_call.specs.declared.machine.Machine.{Machine}
+use Rattle.papaya_call.specs.Machine.{IsLookup, ask_of, after}
+
+-- what a machine asks, oldest first, where it is given these answers one after another
+abbrev pub asked : Machine → List Answer → List Ask
+asked m [] = []
+asked m (answer ∷ rest) = ask_of m ∷ asked (after m answer) rest
+
+-- the next table has a greater number
+abbrev pub IsRising : At → ℕ → Type 0
+IsRising (Next t) word = (word ≡ 0) ⊎ (t < word)
+IsRising _ word = Unit {0}
+
+-- An answer fits what is asked. Each table has one limit, and a next one has a greater number; else any word may be loaded.
+abbrev pub IsAnswer : (ℕ → ℕ) → Ask → Answer → Type 0
+IsAnswer limit (Load at) answer = (word : ℕ) × (answer ≡ Word word) × IsRising at word
+IsAnswer limit (SizeOf t) answer = (slots : ℕ) × (answer ≡ Size slots (limit t))
+IsAnswer limit (SameKey n) answer = (same : Bool) × (answer ≡ Yes same)
+-- a lookup asks nothing else until it replies
+IsAnswer limit _ answer = Unit {0}
+
+-- each answer fits what the machine asks when it is given
+abbrev pub AreAnswers : (ℕ → ℕ) → Machine → List Answer → Type 0
+AreAnswers limit m [] = Unit {0}
+AreAnswers limit m (answer ∷ rest) = IsAnswer limit (ask_of m) answer × AreAnswers limit (after m answer) rest
+
+-- the table that an ask enters
+abbrev pub table_entered : Ask → Option ℕ
+table_entered (SizeOf t) = Some t
+table_entered _ = None
+
+-- the table of the slot that an ask loads
+abbrev pub table_of_slot : At → Option ℕ
+table_of_slot (Slot t x) = Some t
+table_of_slot _ = None
+
+abbrev pub table_loaded : Ask → Option ℕ
+table_loaded (Load at) = table_of_slot at
+table_loaded _ = None
+
+-- the tables that are entered, in their order
+abbrev pub tables_entered : List Ask → List ℕ
+tables_entered asks = filter_map table_entered asks
+
+-- the tables whose slots are loaded, each as often as a slot of it is loaded
+abbrev pub tables_loaded : List Ask → List ℕ
+tables_loaded asks = filter_map table_loaded asks
+
+-- The asks of a lookup, where table t has this limit.
+pub record IsBounded (limit : ℕ → ℕ) (asks : List Ask) : Type 0 where
+  -- no table has more slot words loaded than its limit and one
+  pub loads : (t : ℕ) → count_by (λ u. u == t) (tables_loaded asks) ≤ limit t + 1
+  -- none is entered twice
+  pub rising : IsStrictlyIncreasing (tables_entered asks)
+  -- each whose slots are loaded was entered
+  pub entered : All (Contains (tables_entered asks)) (tables_loaded asks)
+  -- nothing is changed or made
+  pub quiet : All IsLookup asks

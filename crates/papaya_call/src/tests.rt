@@ -1,0 +1,247 @@
+//! What machines ask and reply over words that stand in tables: worked values, where specs and
+//! code might agree and both be wrong.
+ghost use Rattle.papaya_call.specs.Machine.{IsChunked, IsFit, IsStanding};
+
+use crate::ask::{Answer, Ask, At, StepKind};
+use crate::call::{Reply, Task};
+use crate::machine::Machine;
+use papaya_words::probe::ResizeMode;
+use std::process::Abort;
+
+/// A key whose hash byte is 5 and whose places in 8 slots are 2, 3, 5, 0, 4, 1, 7, 6.
+const HASH: u64 = 0x0a00_0000_0000_0002;
+
+/// The byte 6 and the pair 9.
+const LIVE_OF_ANOTHER_BYTE: u64 = 9265;
+/// From here on the byte is 5. The pair 3:
+const LIVE: u64 = 3113;
+
+const BURIED: u64 = 3116;
+/// The pair 4.
+const COPIED: u64 = 4139;
+/// The pair 7.
+const MARKED: u64 = 7210;
+
+const CLOSED: u64 = 5;
+
+const EMPTY: u64 = 0;
+/// What an insertion puts where its pair has the number 12.
+const LIVE_12: u64 = 12_329;
+
+/// The machine asks this, and is answered.
+fn told(rt: &impl Abort, machine: &mut Machine, ask: Ask, answer: Answer)
+    requires standing { IsStanding machine.old }
+    requires fit { IsFit answer }
+    ensures { IsStanding machine.new }
+{
+    assert_eq!(rt; machine.ask(), ask);
+    machine.answer(answer);
+}
+
+/// The machine loads the root, and enters that table, which has 8 slots.
+fn enters_root(rt: &impl Abort, machine: &mut Machine, table: u64)
+    requires { IsStanding machine.old }
+    ensures { IsStanding machine.new }
+{
+    told(rt, machine, Ask::Load(At::Root), Answer::Word(table));
+    enters(rt, machine, table);
+}
+
+fn enters(rt: &impl Abort, machine: &mut Machine, table: u64)
+    requires { IsStanding machine.old }
+    ensures { IsStanding machine.new }
+{
+    let size = Answer::Size { len: 8, limit: 7 };
+    told(rt, machine, Ask::SizeOf(table), size);
+}
+
+/// The machine loads a slot.
+fn loads(rt: &impl Abort, machine: &mut Machine, table: u64, slot: usize, word: u64)
+    requires { IsStanding machine.old }
+    ensures { IsStanding machine.new }
+{
+    let ask = Ask::Load(At::Slot(table, slot));
+    told(rt, machine, ask, Answer::Word(word));
+}
+
+/// The machine compares its key with a pair's.
+fn compares(rt: &impl Abort, machine: &mut Machine, pair: u64, same: bool)
+    requires { IsStanding machine.old }
+    ensures { IsStanding machine.new }
+{
+    told(rt, machine, Ask::SameKey(pair), Answer::Yes(same));
+}
+
+/// The machine tries to put its pair in place of a word.
+fn tries(
+    rt: &impl Abort,
+    machine: &mut Machine,
+    slot: usize,
+    old: u64,
+    kind: StepKind,
+    answer: Answer,
+)
+    requires standing { IsStanding machine.old }
+    requires fit { IsFit answer }
+    ensures { IsStanding machine.new }
+{
+    assert_eq!(rt; machine.kind(), Some(kind));
+    let ask = Ask::Exchange(At::Slot(2, slot), old, LIVE_12);
+    told(rt, machine, ask, answer);
+}
+
+/// The machine replies.
+fn replies(rt: &impl Abort, machine: &Machine, reply: Reply)
+    requires { IsStanding machine.now }
+{
+    assert_eq!(rt; machine.ask(), Ask::Done(reply));
+}
+
+#[test]
+fn lookup_passes_each_kind_of_word(rt: HostRuntime) {
+    let mut lookup = Machine::new(Task::Get, HASH, ResizeMode::Incremental(64), 1);
+    enters_root(&rt, &mut lookup, 1);
+    loads(&rt, &mut lookup, 1, 2, LIVE_OF_ANOTHER_BYTE);
+    loads(&rt, &mut lookup, 1, 3, BURIED);
+    loads(&rt, &mut lookup, 1, 5, CLOSED);
+    loads(&rt, &mut lookup, 1, 0, COPIED);
+    compares(&rt, &mut lookup, 4, false);
+    loads(&rt, &mut lookup, 1, 4, LIVE);
+    compares(&rt, &mut lookup, 3, false);
+    loads(&rt, &mut lookup, 1, 1, MARKED);
+    compares(&rt, &mut lookup, 7, true);
+    replies(&rt, &lookup, Reply::Found(7));
+}
+
+#[test]
+fn lookup_ends_at_an_empty_word(rt: HostRuntime) {
+    let mut lookup = Machine::new(Task::Get, HASH, ResizeMode::Incremental(64), 1);
+    enters_root(&rt, &mut lookup, 1);
+    loads(&rt, &mut lookup, 1, 2, LIVE);
+    compares(&rt, &mut lookup, 3, false);
+    loads(&rt, &mut lookup, 1, 3, EMPTY);
+    replies(&rt, &lookup, Reply::Absent);
+}
+
+#[test]
+fn lookup_follows_a_copied_pair(rt: HostRuntime) {
+    let mut lookup = Machine::new(Task::Get, HASH, ResizeMode::Incremental(64), 1);
+    enters_root(&rt, &mut lookup, 1);
+    loads(&rt, &mut lookup, 1, 2, COPIED);
+    compares(&rt, &mut lookup, 4, true);
+    told(&rt, &mut lookup, Ask::Load(At::Next(1)), Answer::Word(2));
+    enters(&rt, &mut lookup, 2);
+    loads(&rt, &mut lookup, 2, 2, LIVE);
+    compares(&rt, &mut lookup, 3, true);
+    replies(&rt, &lookup, Reply::Found(3));
+}
+
+/// A lookup that met a Closed word at each place of table 1.
+fn past_closed_slots(rt: &impl Abort, mode: ResizeMode) -> Machine
+    requires { IsChunked mode }
+    ensures { IsStanding result }
+{
+    let mut lookup = Machine::new(Task::Get, HASH, mode, 1);
+    enters_root(rt, &mut lookup, 1);
+    loads(rt, &mut lookup, 1, 2, CLOSED);
+    loads(rt, &mut lookup, 1, 3, CLOSED);
+    loads(rt, &mut lookup, 1, 5, CLOSED);
+    loads(rt, &mut lookup, 1, 0, CLOSED);
+    loads(rt, &mut lookup, 1, 4, CLOSED);
+    loads(rt, &mut lookup, 1, 1, CLOSED);
+    loads(rt, &mut lookup, 1, 7, CLOSED);
+    loads(rt, &mut lookup, 1, 6, CLOSED);
+    lookup
+}
+
+#[test]
+fn lookup_goes_on_where_no_place_is_left(rt: HostRuntime) {
+    let mut lookup = past_closed_slots(&rt, ResizeMode::Incremental(64));
+    told(&rt, &mut lookup, Ask::Load(At::Next(1)), Answer::Word(0));
+    replies(&rt, &lookup, Reply::Absent);
+    let lookup = past_closed_slots(&rt, ResizeMode::Blocking);
+    replies(&rt, &lookup, Reply::Absent);
+}
+
+/// An insertion that found no root, lost its table's exchange to table 2, and is to claim the key's
+/// first place there.
+fn insertion(rt: &impl Abort) -> Machine
+    ensures { IsStanding result }
+{
+    let task = Task::Insert { replace: true };
+    let mut insertion = Machine::new(task, HASH, ResizeMode::Blocking, 1);
+    let first = Ask::MakeTable { len: 32, limit: 25 };
+    told(rt, &mut insertion, Ask::Load(At::Root), Answer::Word(0));
+    told(rt, &mut insertion, first, Answer::Made(1));
+    assert_eq!(rt; insertion.kind(), Some(StepKind::Open));
+    told(
+        rt,
+        &mut insertion,
+        Ask::Exchange(At::Root, 0, 1),
+        Answer::Found(2),
+    );
+    enters(rt, &mut insertion, 2);
+    loads(rt, &mut insertion, 2, 2, EMPTY);
+    told(rt, &mut insertion, Ask::MakeKey, Answer::Made(11));
+    assert_eq!(rt; insertion.kind(), None);
+    told(rt, &mut insertion, Ask::MakePair, Answer::Made(12));
+    insertion
+}
+
+#[test]
+fn insertion_loses_its_place_to_another_key(rt: HostRuntime) {
+    let mut insertion = insertion(&rt);
+    tries(
+        &rt,
+        &mut insertion,
+        2,
+        EMPTY,
+        StepKind::Claim,
+        Answer::Found(LIVE),
+    );
+    compares(&rt, &mut insertion, 3, false);
+    loads(&rt, &mut insertion, 2, 3, EMPTY);
+    tries(
+        &rt,
+        &mut insertion,
+        3,
+        EMPTY,
+        StepKind::Claim,
+        Answer::Exchanged,
+    );
+    told(&rt, &mut insertion, Ask::AddToShard(1), Answer::Ok);
+    replies(&rt, &insertion, Reply::Inserted(12));
+}
+
+#[test]
+fn insertion_loses_its_place_to_its_own_key(rt: HostRuntime) {
+    let mut insertion = insertion(&rt);
+    tries(
+        &rt,
+        &mut insertion,
+        2,
+        EMPTY,
+        StepKind::Claim,
+        Answer::Found(LIVE),
+    );
+    compares(&rt, &mut insertion, 3, true);
+    tries(
+        &rt,
+        &mut insertion,
+        2,
+        LIVE,
+        StepKind::Replace,
+        Answer::Exchanged,
+    );
+    replies(&rt, &insertion, Reply::Replaced { old: 3, new: 12 });
+}
+
+#[test]
+fn insertion_that_keeps_what_it_finds(rt: HostRuntime) {
+    let task = Task::Insert { replace: false };
+    let mut insertion = Machine::new(task, HASH, ResizeMode::Blocking, 1);
+    enters_root(&rt, &mut insertion, 1);
+    loads(&rt, &mut insertion, 1, 2, LIVE);
+    compares(&rt, &mut insertion, 3, true);
+    replies(&rt, &insertion, Reply::Occupied(3));
+}

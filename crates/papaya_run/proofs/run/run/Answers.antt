@@ -1,0 +1,7 @@
+use Rattle.papaya_run.proofs.run.run.Goals as goal
+
+pub returns-in-Core-Identity : goal.returns-in-Core-Identity
+returns-in-Core-Identity g c h = absurd (h c.in-Some.arguments c.in-Some.ensures)
+
+pub returns-in-Core-Zero : goal.returns-in-Core-Zero
+returns-in-Core-Zero g c h = absurd (h c.in-Some.arguments c.in-Some.ensures)

@@ -1,0 +1,373 @@
+use super::run_on;
+use std::alloc::Global;
+use std::io;
+use std::io::{Read, Write};
+use std::process::Abort;
+use std::test::Fail;
+
+/// A reader that gives a few bytes at a time, and may fail when it has given all of them.
+#[derive(Drop)]
+struct Source<'a> {
+    text: &'a [u8],
+    step: usize,
+    fails: bool,
+}
+
+impl Read for Source<'_> {
+    fn read(&mut self, buf: &mut [u8]) -> io::Result<usize> {
+        if self.fails && self.text.is_empty() {
+            return Err(io::Error::from(io::ErrorKind::TimedOut));
+        }
+        let count = self.text.len().min(buf.len()).min(self.step);
+        buf[..count].copy_from_slice(&self.text[..count]);
+        self.text = &self.text[count..];
+        Ok(count)
+    }
+}
+
+/// A writer that fails when it has taken so many bytes.
+#[derive(Drop)]
+struct Sink {
+    text: Vec<u8>,
+    room: usize,
+}
+
+impl Write for Sink {
+    fn write(&mut self, buf: &[u8]) -> io::Result<usize> {
+        let count = buf.len().min(self.room);
+        if count == 0 && !buf.is_empty() {
+            return Err(io::Error::from(io::ErrorKind::StorageFull));
+        }
+        self.text.extend_from_slice(&buf[..count])?;
+        self.room -= count;
+        Ok(count)
+    }
+
+    fn flush(&mut self) -> io::Result<()> {
+        Ok(())
+    }
+}
+
+/// The words of a text.
+fn words(alloc: Global, text: &str) -> Result<Vec<String>, Fail> {
+    let mut words = Vec::new(alloc);
+    for word in text.split(' ') {
+        words.push(String::from_str(alloc, word)?)?;
+    }
+    Ok(words)
+}
+
+/// Runs a script, and asserts what it prints, what it says on standard error, and its status.
+fn expect<A: Abort>(
+    rt: &A,
+    alloc: Global,
+    args: &str,
+    script: &[u8],
+    output: &str,
+    errors: &str,
+    status: u8,
+) -> Result<(), Fail> {
+    let args = words(alloc, args)?;
+    let mut source = Source {
+        text: script,
+        step: 5,
+        fails: false,
+    };
+    let mut printed = Vec::new(alloc);
+    let mut said = Vec::new(alloc);
+    let found = run_on(alloc, args.as_slice(), &mut source, &mut printed, &mut said);
+    assert_eq!(rt;
+        std::str::from_utf8(printed.as_slice())?,
+        output,
+        "in {script:?}"
+    );
+    assert_eq!(rt;
+        std::str::from_utf8(said.as_slice())?,
+        errors,
+        "in {script:?}"
+    );
+    assert_eq!(rt; found, status, "in {script:?}");
+    Ok(())
+}
+
+/// The first run.
+const FIRST: &[u8] = b"begin 0 i 1 10\nbegin 1 g 1\nfinish 1\nfinish 0\nbegin 1 g 1\nfinish 1\n";
+
+#[test]
+fn a_lookup_beside_an_insertion(rt: HostRuntime) -> Result<(), Fail> {
+    for args in [
+        "core inc:64 id",
+        "core inc:00064 zero",
+        "core block id",
+        "core block zero",
+        "core inc:18446744073709551615 id",
+    ] {
+        expect(
+            &rt,
+            rt.alloc(),
+            args,
+            FIRST,
+            "1: none\n0: none\n1: some 10\n",
+            "",
+            0,
+        )?;
+    }
+    Ok(())
+}
+
+#[test]
+fn replies(rt: HostRuntime) -> Result<(), Fail> {
+    // An old value, the greatest numbers, leading noughts, empty lines, and no last line end.
+    let script =
+        b"\nbegin 63 i 18446744073709551615 1\n\nfinish 63\nbegin 63 i 00018446744073709551615 18446744073709551615\nfinish 063\nbegin 0 g 18446744073709551615\nfinish 00";
+    let output = "63: none\n63: old 1\n0: some 18446744073709551615\n";
+    for args in ["core inc:1 id", "core block zero"] {
+        expect(&rt, rt.alloc(), args, script, output, "", 0)?;
+    }
+    expect(&rt, rt.alloc(), "core inc:64 id", b"", "", "", 0)?;
+    expect(&rt, rt.alloc(), "core inc:64 id", b"\n\n", "", "", 0)
+}
+
+#[test]
+fn bad_arguments(rt: HostRuntime) -> Result<(), Fail> {
+    for args in [
+        "",
+        "core",
+        "core inc:64",
+        "core inc:64 id ",
+        "core inc:64 id id",
+        " core inc:64 id",
+        "seq inc:64 id",
+        "shared inc:64 id",
+        "Core inc:64 id",
+        "core inc: id",
+        "core inc:+1 id",
+        "core inc:-1 id",
+        "core inc:1x id",
+        "core inc:18446744073709551616 id",
+        "core inc id",
+        "core 64 id",
+        "core Block id",
+        "core block one",
+        "core block ident",
+    ] {
+        // Also where the lines are bad and the mode would be refused.
+        expect(
+            &rt,
+            rt.alloc(),
+            args,
+            b"x\n",
+            "",
+            "papaya-run: bad arguments\n",
+            2,
+        )?;
+    }
+    let mut source = Source {
+        text: b"",
+        step: 1,
+        fails: true,
+    };
+    let mut printed = Vec::new(rt.alloc());
+    let mut said = Vec::new(rt.alloc());
+    assert_eq!(rt;
+        run_on(rt.alloc(), &[], &mut source, &mut printed, &mut said),
+        2
+    );
+    Ok(())
+}
+
+#[test]
+fn a_chunk_of_nought(rt: HostRuntime) -> Result<(), Fail> {
+    for args in ["core inc:0 id", "core inc:000 zero"] {
+        expect(
+            &rt,
+            rt.alloc(),
+            args,
+            b"x\n",
+            "",
+            "papaya-run: refused 5 ZeroChunk\n",
+            1,
+        )?;
+    }
+    Ok(())
+}
+
+#[test]
+fn bad_lines(rt: HostRuntime) -> Result<(), Fail> {
+    let lines: [&[u8]; 44] = [
+        b" ",
+        b"x",
+        b"begin",
+        b"begin ",
+        b"begin 0",
+        b"begin 0 ",
+        b"begin 0 g",
+        b"begin 0 g ",
+        b"begin 0 g 1 ",
+        b"begin 0 g 1 2",
+        b"begin 0 g  1",
+        b"begin  0 g 1",
+        b"begin 0  g 1",
+        b" begin 0 g 1",
+        b"begin 0 g +1",
+        b"begin 0 g -1",
+        b"begin 0 g 1\t",
+        b"begin\t0 g 1",
+        b"begin 0 g 1\r",
+        b"begin 0 g \xc2\xb2",
+        b"begin 0 g \xff",
+        b"begin 0 g 18446744073709551616",
+        b"begin 0 g 99999999999999999999999",
+        b"begin 0 g 0x1",
+        b"begin 0 i 1",
+        b"begin 0 i 1 ",
+        b"begin 0 i 1 2 3",
+        b"begin 0 i 1 18446744073709551616",
+        b"begin 0 i 18446744073709551616 1",
+        b"begin 64 g 1",
+        b"begin 18446744073709551616 g 1",
+        b"begin -1 g 1",
+        b"begin 0 r 1",
+        b"begin 0 u 1",
+        b"begin 0 clear",
+        b"begin 0 walk",
+        b"step",
+        b"step 64",
+        b"step 0 ",
+        b"step 0 1",
+        b"Finish 0",
+        b"len",
+        b"slots",
+        b"i 1 10",
+    ];
+    for line in lines {
+        let mut script = Vec::from_slice(rt.alloc(), b"begin 0 g 7\n\nfinish 0\nbegin 0 g 8\n")?;
+        script.extend_from_slice(line)?;
+        script.extend_from_slice(b"\nfinish 0\n")?;
+        expect(
+            &rt,
+            rt.alloc(),
+            "core inc:64 id",
+            script.as_slice(),
+            "0: none\n",
+            "papaya-run: line 5: bad command\n",
+            2,
+        )?;
+    }
+    Ok(())
+}
+
+#[test]
+fn lines_for_another_caller(rt: HostRuntime) -> Result<(), Fail> {
+    // The bad line, in the middle of good ones, and what is printed before it.
+    let scripts: [(&[u8], &str, u64); 7] = [
+        (b"step 0\nbegin 0 g 1\n", "", 1),
+        (b"refuse 63\n", "", 1),
+        (b"\n\nfinish 5\n", "", 3),
+        (b"begin 0 g 1\nbegin 0 g 1\nfinish 0\n", "", 2),
+        (b"begin 0 g 1\nfinish 0\nfinish 0\n", "0: none\n", 3),
+        (b"begin 0 g 1\nfinish 0\nstep 0\nx\n", "0: none\n", 3),
+        // A line of bad form ends the schedule, but one before it that was passed over is the first.
+        (b"begin 0 g 1\nfinish 0\nx\nstep 0\n", "0: none\n", 3),
+    ];
+    for (script, output, line) in scripts {
+        let errors = format!(in rt.alloc(); "papaya-run: line {line}: bad command\n")?;
+        expect(
+            &rt,
+            rt.alloc(),
+            "core inc:64 id",
+            script,
+            output,
+            errors.as_str(),
+            2,
+        )?;
+    }
+    Ok(())
+}
+
+#[test]
+fn refused_steps(rt: HostRuntime) -> Result<(), Fail> {
+    // Where the step makes nothing it is an ordinary one; the insertion is refused where it makes.
+    let script = b"begin 2 i 1 10\nrefuse 2\nrefuse 2\nbegin 2 g 1\nfinish 2\n";
+    expect(
+        &rt,
+        rt.alloc(),
+        "core inc:64 id",
+        script,
+        "2: refused 1 Memory\n2: none\n",
+        "",
+        0,
+    )
+}
+
+#[test]
+fn faults_of_the_input(rt: HostRuntime) -> Result<(), Fail> {
+    let args = words(rt.alloc(), "core inc:64 id")?;
+    // Also behind a bad line.
+    let scripts: [&[u8]; 3] = [b"", FIRST, b"x\nbegin 0 g 1\nfin"];
+    for text in scripts {
+        let mut source = Source {
+            text,
+            step: 7,
+            fails: true,
+        };
+        let mut printed = Vec::new(rt.alloc());
+        let mut said = Vec::new(rt.alloc());
+        assert_eq!(rt;
+            run_on(
+                rt.alloc(),
+                args.as_slice(),
+                &mut source,
+                &mut printed,
+                &mut said
+            ),
+            1
+        );
+        assert!(rt; printed.is_empty());
+        assert_eq!(rt; said.as_slice(), b"papaya-run: input failed\n".as_slice());
+    }
+    Ok(())
+}
+
+#[test]
+fn faults_of_the_output(rt: HostRuntime) -> Result<(), Fail> {
+    let args = words(rt.alloc(), "core inc:64 id")?;
+    // The first write fails, one in the middle of a line, and one of a later line.
+    for (room, kept) in [(0, ""), (4, "1: n"), (16, "1: none\n0: none\n")] {
+        let mut output = Sink {
+            text: Vec::new(rt.alloc()),
+            room,
+        };
+        let mut said = Vec::new(rt.alloc());
+        let mut source = FIRST;
+        assert_eq!(rt;
+            run_on(
+                rt.alloc(),
+                args.as_slice(),
+                &mut source,
+                &mut output,
+                &mut said
+            ),
+            1
+        );
+        assert_eq!(rt; output.text.as_slice(), kept.as_bytes());
+        assert_eq!(rt; said.as_slice(), b"papaya-run: output failed\n".as_slice());
+    }
+    Ok(())
+}
+
+#[test]
+fn faults_of_the_errors(rt: HostRuntime) -> Result<(), Fail> {
+    let mut errors = Sink {
+        text: Vec::new(rt.alloc()),
+        room: 3,
+    };
+    let mut printed = Vec::new(rt.alloc());
+    let mut source = FIRST;
+    assert_eq!(rt;
+        run_on(rt.alloc(), &[], &mut source, &mut printed, &mut errors),
+        2
+    );
+    assert_eq!(rt; errors.text.as_slice(), b"pap".as_slice());
+    Ok(())
+}
