@@ -1,5 +1,5 @@
 -- A step of a core is legal, and moves the map in the class of its call's key alone.
-use Rattle.std.proofs.Common.{◌≡◌, ℕ, ◌==◌, Bool, true, false, Option, None, Some, List, [], ◌∷◌, ◌++◌, refl, sym, ◌∙◌, ap, subst}
+use Rattle.std.proofs.Common.{◌≡◌, ℕ, Bool, Option, None, Some, List, [], ◌∷◌, ◌++◌, refl, sym, ◌∙◌, ap, subst}
 use Rattle.papaya_call.specs.declared.call.Call.{Call}
 use Rattle.papaya_call.specs.declared.call.Call.TheVariants.{Get, Insert}
 use Rattle.papaya_call.specs.declared.call.Reply.{Reply}
@@ -18,9 +18,9 @@ use Rattle.papaya_core.specs.Core.{CoreState, IsCore}
 use Rattle.papaya_core.specs.Kept.{IsKept, Tale, setting_of, coding_of, low, told_tales}
 use Rattle.papaya_core.specs.Content.{map_of}
 use Rattle.papaya_core.specs.Maps.{Map, IsUpdate, Same, key_of}
-use Rattle.papaya_core.specs.Moves.{IsOwnChange, MovesMap}
+use Rattle.papaya_core.specs.Moves.{MovesMap}
 use Rattle.papaya_core.specs.Store.{Stored}
-use Rattle.papaya_core.specs.Timeline.{History, IsLegal, IsChange, MayChange, IsUnused, change_of, number_in, open_call}
+use Rattle.papaya_core.specs.Timeline.{History, IsLegal, MayChange, IsUnused, change_of, number_in, open_call}
 use Rattle.papaya_core.proofs.Good.{replay}
 use Rattle.papaya_core.proofs.KeptLemmas.{IsLawfulKeys, IsStep, hashed_setting, map_kept}
 use Rattle.papaya_core.proofs.LegalLemmas.{step_legal, insertion_does}

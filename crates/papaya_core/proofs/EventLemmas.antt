@@ -1,7 +1,6 @@
 -- What the event of a step is: an exchange that was made, or nothing.
-use Rattle.std.proofs.Common.{◌≡◌, ◌⊎◌, inl, inr, ⊎_elim, ℕ, ◌+◌, ◌==◌, Bool, true, false, Option, None, Some, List, [], ◌∷◌, refl, sym, ◌∙◌, ap, subst, eqb-true}
+use Rattle.std.proofs.Common.{◌≡◌, ◌⊎◌, inl, inr, ⊎_elim, ℕ, ◌==◌, false, Option, None, Some, List, [], ◌∷◌, refl, ap, eqb-true}
 use Rattle.papaya_call.specs.declared.ask.At.{At}
-use Rattle.papaya_call.specs.declared.ask.At.TheVariants.{Root, Next, Aborted, Done, Slot}
 use Rattle.papaya_call.specs.declared.ask.Ask.{Ask}
 use Rattle.papaya_call.specs.declared.ask.Ask.TheVariants.{Load, Exchange as Ask_exchange, SameKey, SizeOf, MakeKey, MakePair, MakeTable, AddToShard, Done as Ask_done}
 use Rattle.papaya_call.specs.declared.ask.Answer.{Answer}
@@ -13,7 +12,7 @@ use Rattle.papaya_call.specs.Law.Code.{Coding}
 use Rattle.papaya_call.specs.Rests.{Change, change_after, change_of_kind}
 use Rattle.papaya_call.specs.Told.{IsTold, IsAsked, Hands, word_of}
 use Rattle.papaya_core.specs.declared.trace.Event.{Event}
-use Rattle.papaya_core.specs.declared.trace.Event.TheVariants.{Begun, Changed, Moved, Other, Replied}
+use Rattle.papaya_core.specs.declared.trace.Event.TheVariants.{Changed, Moved, Other}
 use Rattle.papaya_core.specs.Advances.{event_of, answered_event, kind_event}
 use Rattle.papaya_core.specs.Timeline.{begins, change_by, open_after}
 use Rattle.papaya_core.proofs.StoreLemmas.{matched}

@@ -1,20 +1,16 @@
 -- Begins and steps keep a good history.
-use Rattle.std.proofs.Common.{◌≡◌, ◌≢◌, ◌⊎◌, inl, inr, ⊎_elim, ℕ, ◌+◌, ◌<◌, ◌≤◌, ◌==◌, ◌^◌, Bool, true, false, cond, Option, None, Some, List, [], ◌∷◌, ◌++◌, length, slice_get, refl, sym, ◌∙◌, ap, subst, append-nil, eq-eqb}
+use Rattle.std.proofs.Common.{◌≡◌, ◌≢◌, ◌⊎◌, inl, inr, ⊎_elim, ℕ, ◌<◌, ◌^◌, Bool, cond, Option, None, Some, List, [], ◌∷◌, ◌++◌, length, slice_get, refl, sym, ◌∙◌, ap, subst, eq-eqb}
 use Rattle.std.proofs.lemmas.Option.{slice_get_within}
-use Rattle.papaya_call.specs.declared.ask.Answer.{Answer}
 use Rattle.papaya_call.specs.declared.ask.Ask.{Ask}
 use Rattle.papaya_call.specs.declared.ask.Ask.TheVariants.{Done as Ask_done}
 use Rattle.papaya_call.specs.declared.call.Call.{Call}
 use Rattle.papaya_call.specs.declared.call.Call.TheVariants.{Get, Insert}
 use Rattle.papaya_call.specs.declared.call.Reply.{Reply}
-use Rattle.papaya_call.specs.declared.machine.Machine.{Machine}
-use Rattle.papaya_call.specs.Law.Allows.{AllAllowed}
-use Rattle.papaya_call.specs.Law.Code.{Coding}
-use Rattle.papaya_call.specs.Law.Exchange.{Setting, Exchange, run, start as first_state}
+use Rattle.papaya_call.specs.Law.Exchange.{Exchange, run, start as first_state}
 use Rattle.papaya_call.specs.Law.Invariant.{named}
 use Rattle.papaya_call.specs.Machine.{ask_of, kind_of_ask, after}
-use Rattle.papaya_call.specs.Rests.{Rests, change_in, change_after}
-use Rattle.papaya_call.specs.Told.{Hands, IsHashed, IsTold, no_hands}
+use Rattle.papaya_call.specs.Rests.{change_in, change_after}
+use Rattle.papaya_call.specs.Told.{Hands, IsHashed, no_hands}
 use Rattle.papaya_call.proofs.RestsReply.{machine_changes}
 use Rattle.papaya_core.specs.declared.pairs.Pair.{Pair}
 use Rattle.papaya_core.specs.declared.pairs.Running.{Running}
@@ -23,13 +19,13 @@ use Rattle.papaya_core.specs.declared.trace.Turn.{Turn}
 use Rattle.papaya_core.specs.declared.trace.Turn.TheVariants.{Begin}
 use Rattle.papaya_core.specs.declared.trace.Event.{Event}
 use Rattle.papaya_core.specs.declared.trace.Event.TheVariants.{Begun, Replied}
-use Rattle.papaya_core.specs.Advances.{Advances, event_of, goes_on, reply_in}
+use Rattle.papaya_core.specs.Advances.{Advances, goes_on, reply_in}
 use Rattle.papaya_core.specs.Begins.{Begins, begun, key_of_call}
-use Rattle.papaya_core.specs.Callers.{running, with_call, with_seat}
+use Rattle.papaya_core.specs.Callers.{running, with_seat}
 use Rattle.papaya_core.specs.Content.{map_of}
 use Rattle.papaya_core.specs.Core.{CoreState, IsCore}
 use Rattle.papaya_core.specs.Headline.{HasTimeline}
-use Rattle.papaya_core.specs.Kept.{IsKept, IsCall, Tale, setting_of, coding_of, low, told_tales, begun_tales}
+use Rattle.papaya_core.specs.Kept.{IsKept, Tale, setting_of, coding_of, low, told_tales, begun_tales}
 use Rattle.papaya_core.specs.Maps.{Map, key_of}
 use Rattle.papaya_core.specs.Runs.{with_step}
 use Rattle.papaya_core.specs.Store.{StoreState, Stored, pair_of, stored_in}
@@ -44,7 +40,7 @@ use Rattle.papaya_core.proofs.LegalLemmas.{insertion_does}
 use Rattle.papaya_core.proofs.MachineLemmas.{machine_once, machine_task, made_key}
 use Rattle.papaya_core.proofs.ReplayLemmas.{map_replayed, held_in_slot}
 use Rattle.papaya_core.proofs.TiedLemmas.{IsGrown, grown, tied_other, tied_entry, tied_fits, moments_more}
-use Rattle.papaya_core.proofs.TimelineLemmas.{entry, open_call-own, open_call-other, change_of-own, change_of-other, not_begin-own, below_more, below_unused}
+use Rattle.papaya_core.proofs.TimelineLemmas.{entry, open_call-own, open_call-other, change_of-own, not_begin-own, below_more, below_unused}
 
 -- a pair of the log has a number within it
 pub pair_within : {K V S : Type 0} (s : StoreState K V S) (n : ℕ) (p : Stored K V) → pair_of s n ≡ Some p → n < length s.pairs

@@ -1,11 +1,10 @@
 -- The turns of a schedule keep a good history, and so a run has a timeline.
-use Rattle.std.proofs.Common.{◌≡◌, ◌⊎◌, inl, inr, ⊎_elim, ℕ, zero, suc, ◌<◌, ◌^◌, Bool, true, false, Option, None, Some, List, [], ◌∷◌, slice_get, refl, sym, ◌∙◌, ap, subst}
+use Rattle.std.proofs.Common.{◌≡◌, inl, inr, ℕ, zero, suc, Bool, true, false, Option, None, Some, List, [], slice_get, refl, sym, ◌∙◌, ap, subst}
 use Rattle.std.specs.Cmp.{IsEquivalence}
 use Rattle.papaya_call.specs.declared.call.Call.{Call}
 use Rattle.papaya_call.specs.declared.call.Reply.{Reply}
-use Rattle.papaya_call.specs.declared.machine.Machine.{Machine}
 use Rattle.papaya_call.specs.Law.Exchange.{Exchange}
-use Rattle.papaya_call.specs.Machine.{IsStanding, ask_of, after, started}
+use Rattle.papaya_call.specs.Machine.{IsStanding, ask_of, after}
 use Rattle.papaya_call.proofs.Standing.{machine_stands, machine_ask_fits}
 use Rattle.papaya_core.specs.declared.pairs.Running.{Running}
 use Rattle.papaya_core.specs.declared.callers.Seat.{Seat}
@@ -13,7 +12,7 @@ use Rattle.papaya_core.specs.declared.trace.Turn.{Turn}
 use Rattle.papaya_core.specs.declared.trace.Turn.TheVariants.{Begin, Step, Finish}
 use Rattle.papaya_core.specs.declared.trace.Event.{Event}
 use Rattle.papaya_core.specs.Advances.{Advances, goes_on}
-use Rattle.papaya_core.specs.Begins.{Begins, begun, key_of_call}
+use Rattle.papaya_core.specs.Begins.{Begins, begun}
 use Rattle.papaya_core.specs.Callers.{with_call, with_seat}
 use Rattle.papaya_core.specs.Content.{map_of}
 use Rattle.papaya_core.specs.Core.{CoreState, IsCore}
@@ -21,7 +20,7 @@ use Rattle.papaya_core.specs.Headline.{HasTimeline}
 use Rattle.papaya_core.specs.Kept.{IsKept, IsLawfulCore, Tale}
 use Rattle.papaya_core.specs.Maps.{Map}
 use Rattle.papaya_core.specs.Moves.{MovesMap}
-use Rattle.papaya_core.specs.Runs.{with_step, StepRuns, BeginRuns, StepsRun, TurnRuns, TurnsRun}
+use Rattle.papaya_core.specs.Runs.{StepRuns, BeginRuns, StepsRun, TurnRuns, TurnsRun}
 use Rattle.papaya_core.specs.Store.{StoreState, Stored, hash_of}
 use Rattle.papaya_core.specs.Timeline.{History}
 use Rattle.papaya_core.proofs.CallersLemmas.{same_item}

@@ -1,16 +1,12 @@
 -- The event of a step is legal: it changes the class of the call's own key, as the exchange that was made says, or nothing.
 use mathlib.Core.Path.{fun_ext}
-use Rattle.std.proofs.Common.{◌≡◌, ◌≢◌, ◌⊎◌, inl, inr, ⊎_elim, ℕ, ◌==◌, Bool, true, false, cond, Option, None, Some, List, [], ◌∷◌, ◌++◌, refl, sym, ◌∙◌, ap, subst, append-nil}
-use Rattle.std.proofs.lemmas.Bool.{cases_Bool}
+use Rattle.std.proofs.Common.{◌≡◌, ⊎_elim, ℕ, Bool, true, cond, Option, None, Some, List, [], ◌∷◌, ◌++◌, refl, sym, ◌∙◌, ap, subst, append-nil}
 use Rattle.papaya_words.specs.Word.{pair_of}
 use Rattle.papaya_words.specs.Table.{TableWords}
 use Rattle.papaya_words.specs.declared.probe.ResizeMode.{ResizeMode}
 use Rattle.papaya_call.specs.declared.ask.At.{At}
 use Rattle.papaya_call.specs.declared.ask.At.TheVariants.{Root, Next, Aborted, Done, Slot}
-use Rattle.papaya_call.specs.declared.ask.Ask.{Ask}
-use Rattle.papaya_call.specs.declared.ask.Ask.TheVariants.{Exchange as Ask_exchange}
 use Rattle.papaya_call.specs.declared.ask.Answer.{Answer}
-use Rattle.papaya_call.specs.declared.ask.Answer.TheVariants.{Exchanged}
 use Rattle.papaya_call.specs.declared.ask.StepKind.{StepKind}
 use Rattle.papaya_call.specs.declared.ask.StepKind.TheVariants as kinds
 use Rattle.papaya_call.specs.declared.call.Call.{Call}
@@ -19,11 +15,11 @@ use Rattle.papaya_call.specs.declared.call.Reply.{Reply}
 use Rattle.papaya_call.specs.declared.call.Reply.TheVariants.{Inserted, Replaced}
 use Rattle.papaya_call.specs.declared.machine.Machine.{Machine}
 use Rattle.papaya_call.specs.Law.Allows.{Allows, AllAllowed}
-use Rattle.papaya_call.specs.Law.Exchange.{Live, Setting, State, Exchange, Open, Claim, Replace, Bury, run, start, after, slot_put}
+use Rattle.papaya_call.specs.Law.Exchange.{Live, Setting, State, Exchange, Open, Claim, Replace, run, start, after}
 use Rattle.papaya_call.specs.Law.Code.{Coding, code}
 use Rattle.papaya_call.specs.Law.Meaning.{IsLawful, IsLegal as IsLegal_exchange}
 use Rattle.papaya_call.specs.Machine.{ask_of, kind_of_ask}
-use Rattle.papaya_call.specs.Rests.{Change, Rests, change_in, change_of_reply}
+use Rattle.papaya_call.specs.Rests.{Rests, change_in, change_of_reply}
 use Rattle.papaya_call.specs.Told.{Hands, IsAsked, IsHashed, IsTold, IsWritten, word_of}
 use Rattle.papaya_call.proofs.Law.Code.{code_pair}
 use Rattle.papaya_call.proofs.Law.Moments.{allowed_rest}
@@ -35,9 +31,9 @@ use Rattle.papaya_core.specs.declared.trace.Event.TheVariants.{Other}
 use Rattle.papaya_core.specs.Advances.{event_of, answered_event, kind_event}
 use Rattle.papaya_core.specs.Begins.{value_of_call}
 use Rattle.papaya_core.specs.Kept.{setting_of, coding_of, low}
-use Rattle.papaya_core.specs.Maps.{Map, Does, IsMadeOf, IsUpdate, Same, key_of}
+use Rattle.papaya_core.specs.Maps.{Map, Does, IsUpdate, key_of}
 use Rattle.papaya_core.specs.Store.{Stored}
-use Rattle.papaya_core.specs.Timeline.{History, open_call, change_of, number_in, IsUnused, IsFresh, MayChange, IsChange, IsLegal}
+use Rattle.papaya_core.specs.Timeline.{History, open_call, change_of, number_in, IsUnused, MayChange, IsChange, IsLegal}
 use Rattle.papaya_core.proofs.EventLemmas.{told_cases, IsExchanged}
 use Rattle.papaya_core.proofs.Good.{replay}
 use Rattle.papaya_core.proofs.MachineLemmas.{machine_once, made_key, no_bury}

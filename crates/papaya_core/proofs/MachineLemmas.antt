@@ -1,9 +1,8 @@
 -- What every machine keeps to, of those laws of machines that stand on no words.
-use Rattle.std.proofs.Common.{◌≡◌, ◌⊎◌, ⊎_elim, ℕ, ◌==◌, Bool, true, false, cond, Option, None, Some, List, refl, sym, ◌∙◌, ap, subst}
+use Rattle.std.proofs.Common.{◌≡◌, ℕ, ◌==◌, Option, None, Some, List, refl, sym, ◌∙◌, ap, subst}
 use Rattle.std.proofs.lemmas.Bool.{cond_both}
 use Rattle.papaya_call.specs.declared.ask.At.{At}
-use Rattle.papaya_call.specs.declared.ask.Ask.{Ask}
-use Rattle.papaya_call.specs.declared.ask.Ask.TheVariants.{Load, Exchange as Ask_exchange, SameKey, SizeOf, MakeKey, MakePair, MakeTable, AddToShard, Done as Ask_done}
+use Rattle.papaya_call.specs.declared.ask.Ask.TheVariants.{Exchange as Ask_exchange, Done as Ask_done}
 use Rattle.papaya_call.specs.declared.ask.Answer.{Answer}
 use Rattle.papaya_call.specs.declared.ask.Answer.TheVariants.{Word as Word_read, Exchanged, Found as Found_instead, Yes, Size, Made as Made_number, Ok as Ok_done, Refused as Was_refused}
 use Rattle.papaya_call.specs.declared.ask.StepKind.{StepKind}
@@ -21,7 +20,7 @@ use Rattle.papaya_call.specs.Law.Code.{Coding}
 use Rattle.papaya_call.specs.Machine.{IsStanding, IsStandingState, IsWriter, asks, ask_of, kind_asked, kind_of_ask, after}
 use Rattle.papaya_call.specs.Rests.{Rests, RestsMade, RestsStage, IsReply, change_in, change_of_reply}
 use Rattle.papaya_call.specs.Told.{Hands}
-use Rattle.papaya_core.specs.declared.trace.Event.TheVariants.{Changed, Moved, Other}
+use Rattle.papaya_core.specs.declared.trace.Event.TheVariants.{Changed}
 use Rattle.papaya_core.specs.Advances.{event_of}
 
 -- an exchange comes before any change

@@ -1,5 +1,5 @@
 -- How calls under way stand to a history that grows by an entry.
-use Rattle.std.proofs.Common.{◌≡◌, ◌≢◌, ◌⊎◌, inl, inr, ⊎_elim, ℕ, ◌+◌, ◌==◌, Bool, true, false, cond, Option, None, Some, List, [], ◌∷◌, ◌++◌, length, slice_get, refl, sym, ◌∙◌, ap, subst, zero, suc}
+use Rattle.std.proofs.Common.{◌≡◌, ◌≢◌, ◌⊎◌, inl, inr, ⊎_elim, ℕ, ◌==◌, Bool, false, cond, Option, None, Some, List, [], ◌∷◌, ◌++◌, length, slice_get, refl, sym, ◌∙◌, ap, subst, zero, suc}
 use Rattle.papaya_call.specs.declared.ask.Ask.{Ask}
 use Rattle.papaya_call.specs.declared.ask.Ask.TheVariants.{Load, Exchange as Ask_exchange, SameKey, SizeOf, MakeKey, MakePair, MakeTable, AddToShard, Done as Ask_done}
 use Rattle.papaya_call.specs.declared.ask.Answer.{Answer}
@@ -7,29 +7,25 @@ use Rattle.papaya_call.specs.declared.call.Call.{Call}
 use Rattle.papaya_call.specs.declared.call.Call.TheVariants.{Get, Insert}
 use Rattle.papaya_call.specs.declared.call.Reply.{Reply}
 use Rattle.papaya_call.specs.declared.call.Reply.TheVariants.{Absent, Found, Inserted, Replaced, Occupied, Refused}
-use Rattle.papaya_call.specs.declared.call.Task.{Task}
-use Rattle.papaya_call.specs.declared.machine.Machine.{Machine}
-use Rattle.papaya_call.specs.Law.Code.{Coding}
-use Rattle.papaya_call.specs.Law.Exchange.{Setting, Exchange}
-use Rattle.papaya_call.specs.Machine.{ask_of, kind_of_ask, after}
-use Rattle.papaya_call.specs.Rests.{Rests, IsReply, change_in, change_of_reply, WasAtMoment}
+use Rattle.papaya_call.specs.Law.Exchange.{Exchange}
+use Rattle.papaya_call.specs.Machine.{ask_of}
+use Rattle.papaya_call.specs.Rests.{Rests, IsReply, change_of_reply, WasAtMoment}
 use Rattle.papaya_call.specs.Told.{Hands}
 use Rattle.papaya_words.specs.Table.{TableWords}
-use Rattle.papaya_words.specs.declared.limits.TheConstants.{MAX_LOG_LEN, MAX_TABLES}
+use Rattle.papaya_words.specs.declared.limits.TheConstants.{MAX_LOG_LEN}
 use Rattle.papaya_words.specs.declared.probe.ResizeMode.{ResizeMode}
 use Rattle.papaya_core.specs.declared.pairs.KeyOf.{KeyOf}
 use Rattle.papaya_core.specs.declared.pairs.KeyOf.TheVariants.{Own, Logged}
 use Rattle.papaya_core.specs.declared.pairs.Running.{Running}
 use Rattle.papaya_core.specs.declared.trace.Entry.{Entry}
 use Rattle.papaya_core.specs.declared.trace.Event.{Event}
-use Rattle.papaya_core.specs.declared.trace.Event.TheVariants.{Begun, Changed, Moved, Other, Replied}
-use Rattle.papaya_core.specs.Begins.{task_of_call, value_of_call}
-use Rattle.papaya_core.specs.Kept.{Tale, told_tales, setting_of, coding_of, low}
+use Rattle.papaya_core.specs.Begins.{task_of_call}
+use Rattle.papaya_core.specs.Kept.{Tale, told_tales, setting_of, coding_of}
 use Rattle.papaya_core.specs.Maps.{Map, Does, key_of}
 use Rattle.papaya_core.specs.Performs.{Performs, own_key, key_at, Stays, LogsKey, LogsPair, Refuses, HasKey, HasNoPair}
 use Rattle.papaya_core.specs.Store.{StoreState, Stored}
 use Rattle.papaya_core.specs.Tables.{word_at}
-use Rattle.papaya_core.specs.Timeline.{History, is_begin, change_of, AtSomeMoment, Fits, IsAnswer}
+use Rattle.papaya_core.specs.Timeline.{History, is_begin, change_of, AtSomeMoment, Fits}
 use Rattle.papaya_core.proofs.CallersLemmas.{differs}
 use Rattle.papaya_core.proofs.Good.{IsTied, replay, replayed}
 use Rattle.papaya_core.proofs.MachineLemmas.{machine_replies}

@@ -1,5 +1,5 @@
 -- The maps of a run.
-use Rattle.std.specs.Prelude.{◌≡◌, ℕ, Bool, Option, List, ◌∷◌}
+use Rattle.std.specs.Prelude.{◌≡◌, Bool, List, ◌∷◌}
 use Rattle.papaya_core.specs.declared.trace.Turn.{Turn}
 use Rattle.papaya_core.specs.Core.{CoreState}
 use Rattle.papaya_core.specs.Maps.{Map}
