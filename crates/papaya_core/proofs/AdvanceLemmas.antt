@@ -20,7 +20,8 @@ use Rattle.papaya_core.specs.Content.{map_of}
 use Rattle.papaya_core.specs.Maps.{Map, IsUpdate, Same, key_of}
 use Rattle.papaya_core.specs.Moves.{MovesMap}
 use Rattle.papaya_core.specs.Store.{Stored}
-use Rattle.papaya_core.specs.Timeline.{History, IsLegal, MayChange, IsUnused, change_of, number_in, open_call}
+use Rattle.papaya_core.specs.Runs.{History}
+use Rattle.papaya_core.specs.Timeline.{IsLegal, MayChange, IsUnused, change_of, number_in, open_call}
 use Rattle.papaya_core.proofs.Good.{replay}
 use Rattle.papaya_core.proofs.KeptLemmas.{IsLawfulKeys, IsStep, hashed_setting, map_kept}
 use Rattle.papaya_core.proofs.LegalLemmas.{step_legal, insertion_does}

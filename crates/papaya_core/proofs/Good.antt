@@ -14,7 +14,8 @@ use Rattle.papaya_core.specs.Kept.{IsKept, Tale, setting_of}
 use Rattle.papaya_core.specs.Maps.{Map, key_of}
 use Rattle.papaya_core.specs.Performs.{own_key}
 use Rattle.papaya_core.specs.Store.{StoreState, Stored}
-use Rattle.papaya_core.specs.Timeline.{History, open_call, change_of, AtSomeMoment, IsUnused, Timeline}
+use Rattle.papaya_core.specs.Runs.{History}
+use Rattle.papaya_core.specs.Timeline.{open_call, change_of, AtSomeMoment, IsUnused, Timeline}
 
 -- each pair of each map has a number below n
 abbrev pub AllBelow : {K V : Type 0} → ℕ → List (Map K V) → Type 0

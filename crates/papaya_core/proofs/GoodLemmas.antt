@@ -27,9 +27,9 @@ use Rattle.papaya_core.specs.Core.{CoreState, IsCore}
 use Rattle.papaya_core.specs.Headline.{HasTimeline}
 use Rattle.papaya_core.specs.Kept.{IsKept, Tale, setting_of, coding_of, low, told_tales, begun_tales}
 use Rattle.papaya_core.specs.Maps.{Map, key_of}
-use Rattle.papaya_core.specs.Runs.{with_step}
+use Rattle.papaya_core.specs.Runs.{History, with_step}
 use Rattle.papaya_core.specs.Store.{StoreState, Stored, pair_of, stored_in}
-use Rattle.papaya_core.specs.Timeline.{History, Timeline, IsLegal, MayChange, FitsOpen, IsUnused, change_of, change_by, open_call, open_after, begun_by, begins, AtSomeMoment}
+use Rattle.papaya_core.specs.Timeline.{Timeline, IsLegal, MayChange, FitsOpen, IsUnused, change_of, change_by, open_call, open_after, begun_by, begins, AtSomeMoment}
 use Rattle.papaya_core.proofs.CallersLemmas.{running-same, running-other, running-with_seat, same_item, differs}
 use Rattle.papaya_core.proofs.CoreLemmas.{cases_same}
 use Rattle.papaya_core.proofs.EventLemmas.{one_exchange, event_begins, event_open, event_change, unchanged_before}

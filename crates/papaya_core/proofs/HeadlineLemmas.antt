@@ -20,9 +20,8 @@ use Rattle.papaya_core.specs.Headline.{HasTimeline}
 use Rattle.papaya_core.specs.Kept.{IsKept, IsLawfulCore, Tale}
 use Rattle.papaya_core.specs.Maps.{Map}
 use Rattle.papaya_core.specs.Moves.{MovesMap}
-use Rattle.papaya_core.specs.Runs.{StepRuns, BeginRuns, StepsRun, TurnRuns, TurnsRun}
+use Rattle.papaya_core.specs.Runs.{History, StepRuns, BeginRuns, StepsRun, TurnRuns, TurnsRun}
 use Rattle.papaya_core.specs.Store.{StoreState, Stored, hash_of}
-use Rattle.papaya_core.specs.Timeline.{History}
 use Rattle.papaya_core.proofs.CallersLemmas.{same_item}
 use Rattle.papaya_core.proofs.CoreLemmas.{begun-core, performed-core, with_call-core}
 use Rattle.papaya_core.proofs.Good.{IsGood}

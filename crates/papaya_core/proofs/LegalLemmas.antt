@@ -33,7 +33,8 @@ use Rattle.papaya_core.specs.Begins.{value_of_call}
 use Rattle.papaya_core.specs.Kept.{setting_of, coding_of, low}
 use Rattle.papaya_core.specs.Maps.{Map, Does, IsUpdate, key_of}
 use Rattle.papaya_core.specs.Store.{Stored}
-use Rattle.papaya_core.specs.Timeline.{History, open_call, change_of, number_in, IsUnused, MayChange, IsChange, IsLegal}
+use Rattle.papaya_core.specs.Runs.{History}
+use Rattle.papaya_core.specs.Timeline.{open_call, change_of, number_in, IsUnused, MayChange, IsChange, IsLegal}
 use Rattle.papaya_core.proofs.EventLemmas.{told_cases, IsExchanged}
 use Rattle.papaya_core.proofs.Good.{replay}
 use Rattle.papaya_core.proofs.MachineLemmas.{machine_once, made_key, no_bury}

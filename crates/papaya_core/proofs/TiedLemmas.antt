@@ -25,7 +25,8 @@ use Rattle.papaya_core.specs.Maps.{Map, Does, key_of}
 use Rattle.papaya_core.specs.Performs.{Performs, own_key, key_at, Stays, LogsKey, LogsPair, Refuses, HasKey, HasNoPair}
 use Rattle.papaya_core.specs.Store.{StoreState, Stored}
 use Rattle.papaya_core.specs.Tables.{word_at}
-use Rattle.papaya_core.specs.Timeline.{History, is_begin, change_of, AtSomeMoment, Fits}
+use Rattle.papaya_core.specs.Runs.{History}
+use Rattle.papaya_core.specs.Timeline.{is_begin, change_of, AtSomeMoment, Fits}
 use Rattle.papaya_core.proofs.CallersLemmas.{differs}
 use Rattle.papaya_core.proofs.Good.{IsTied, replay, replayed}
 use Rattle.papaya_core.proofs.MachineLemmas.{machine_replies}

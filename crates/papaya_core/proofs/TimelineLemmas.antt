@@ -5,7 +5,8 @@ use Rattle.papaya_core.specs.declared.trace.Turn.{Turn}
 use Rattle.papaya_core.specs.declared.trace.Entry.{Entry}
 use Rattle.papaya_core.specs.declared.trace.Event.{Event}
 use Rattle.papaya_core.specs.Maps.{Map}
-use Rattle.papaya_core.specs.Timeline.{History, begun_by, open_call, open_after, change_of, change_by, is_begin, begins, AtSomeMoment, IsUnused}
+use Rattle.papaya_core.specs.Runs.{History}
+use Rattle.papaya_core.specs.Timeline.{begun_by, open_call, open_after, change_of, change_by, is_begin, begins, AtSomeMoment, IsUnused}
 use Rattle.papaya_core.proofs.CallersLemmas.{differs}
 use Rattle.papaya_core.proofs.Good.{AllBelow}
 

@@ -3,7 +3,8 @@ use Rattle.std.specs.Prelude.{◌≡◌, Bool, List, ◌∷◌}
 use Rattle.papaya_core.specs.declared.trace.Turn.{Turn}
 use Rattle.papaya_core.specs.Core.{CoreState}
 use Rattle.papaya_core.specs.Maps.{Map}
-use Rattle.papaya_core.specs.Timeline.{History, Timeline}
+use Rattle.papaya_core.specs.Runs.{History}
+use Rattle.papaya_core.specs.Timeline.{Timeline}
 use Rattle.papaya_core.specs.Content.{map_of}
 
 -- The maps of a run, one a moment, are a legal timeline with its history, from the core's map at its begin to the core's map at its end.

@@ -1,6 +1,5 @@
 -- Stored pairs, finite maps, and what each call on one key replies and changes.
 use Rattle.std.specs.Prelude.{◌≡◌, ℕ, Bool, true, false, Option, None, Some, List}
-use Rattle.papaya_call.specs.Law.Content.{lookup, AreApart}
 use Rattle.papaya_call.specs.declared.call.Call.{Call}
 use Rattle.papaya_call.specs.declared.call.Call.TheVariants.{Get, Insert}
 use Rattle.papaya_call.specs.declared.call.Reply.{Reply}
@@ -10,12 +9,6 @@ use Rattle.papaya_core.specs.Store.{Stored}
 -- a map gives to each class of equal keys one stored pair, or none
 abbrev pub Map : (K V : Type 0) → Type 0
 Map K V = K → Option (Stored K V)
-
--- a finite map: it has the pairs of a list in which no key stands twice
-pub record IsFinite {K V : Type 0} (eq : K → K → Bool) (m : Map K V) : Type 0 where
-  pub pairs : List (Stored K V)
-  pub apart : AreApart eq (λ p. p.key) pairs
-  pub has : (k : K) → m k ≡ lookup eq (λ p. p.key) pairs k
 
 -- the key of a call
 abbrev pub key_of : {K V : Type 0} → Call K V → K

@@ -9,12 +9,9 @@ use Rattle.papaya_core.specs.declared.trace.Turn.TheVariants.{Begin, Step, Finis
 use Rattle.papaya_core.specs.declared.trace.Entry.{Entry}
 use Rattle.papaya_core.specs.declared.trace.Event.{Event}
 use Rattle.papaya_core.specs.declared.trace.Event.TheVariants.{Begun, Changed, Moved, Other, Replied}
+use Rattle.papaya_core.specs.Runs.{History}
 use Rattle.papaya_core.specs.Store.{Stored}
 use Rattle.papaya_core.specs.Maps.{Map, Does, Same, IsUpdate, key_of}
-
--- a history is a trace, its newest entry first
-abbrev pub History : Type 0
-History = List Entry
 
 -- the call that a turn begins
 abbrev pub begun_by : {K V : Type 0} → Option (Turn K V) → Option (Call K V)
