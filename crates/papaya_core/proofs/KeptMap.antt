@@ -75,7 +75,7 @@ module _ {K V S : Type 0} (eq : K → K → Bool) (hash : K → ℕ) (mode : Res
     ]
 
     -- the content of the root table is what the law has there
-    table_content : (o : Option TableWords) → table_of store.words.tables now.root ≡ o → pairs_of_table store o ≡ law_content g now
+    pub table_content : (o : Option TableWords) → table_of store.words.tables now.root ≡ o → pairs_of_table store o ≡ law_content g now
     table_content None none = sym (no_content g hashed.lawful now (map_left g es) (keeping g hashed.lawful es kept.allowed) (no_root none))
     table_content (Some t) there =
         slots_pairs t.slots (now.slot now.root) (λ x. kept.coded (Slot now.root x) ∙ ap (word_in (λ v. slice_index v.slots x)) there) (λ x. kept.logged now.root x)
