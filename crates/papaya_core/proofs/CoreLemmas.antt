@@ -7,14 +7,24 @@ use Rattle.papaya_words.specs.Probe.{IsLimit}
 use Rattle.papaya_words.specs.declared.probe.ResizeMode.{ResizeMode}
 use Rattle.papaya_call.specs.declared.ask.Answer.{Answer}
 use Rattle.papaya_call.specs.Search.{IsSize}
-use Rattle.papaya_call.specs.Machine.{IsChunked, IsStanding, IsFitAsk, ask_of}
+use Rattle.papaya_words.specs.declared.probe.Refused.{Refused}
+use Rattle.papaya_call.specs.declared.ask.Ask.{Ask}
+use Rattle.papaya_call.specs.declared.ask.Ask.TheVariants.{Load, Exchange, SameKey, SizeOf, MakeKey, MakePair, MakeTable, AddToShard, Done as Ask_done}
+use Rattle.papaya_call.specs.declared.call.Reply.{Reply}
+use Rattle.papaya_call.specs.declared.call.Reply.TheVariants.{Refused as Reply_refused}
+use Rattle.papaya_call.specs.declared.machine.Machine.{Machine}
+use Rattle.papaya_call.specs.Machine.{IsChunked, IsStanding, IsFitAsk, asks, ask_of, after}
+use Rattle.papaya_call.proofs.RestsReplyRefused.{machine_refused}
+use Rattle.papaya_call.specs.declared.call.Call.{Call}
+use Rattle.papaya_core.specs.Advances.{IsCause, reply_in}
+use Rattle.papaya_core.specs.Begins.{begun}
 use Rattle.papaya_core.specs.declared.pairs.Running.{Running}
 use Rattle.papaya_core.specs.declared.callers.Seat.{Seat}
 use Rattle.papaya_core.specs.Callers.{running, with_call, with_seat}
 use Rattle.papaya_core.specs.Tables.{Tables}
 use Rattle.papaya_core.specs.Store.{StoreState}
 use Rattle.papaya_core.specs.Performs.{Performs}
-use Rattle.papaya_core.specs.Core.{IsCore}
+use Rattle.papaya_core.specs.Core.{IsCore, IsGoing}
 use Rattle.papaya_core.specs.New.{HasCapacity}
 use Rattle.papaya_core.proofs.CallersLemmas.{running-with_seat, running-other, running-same}
 use Rattle.papaya_core.proofs.StoreLemmas.{AllSized, numbered, unnumbered, performed, append-sized}
@@ -23,15 +33,46 @@ use Rattle.papaya_core.proofs.StoreLemmas.{AllSized, numbered, unnumbered, perfo
 pub cases_same : (a b : ℕ) → (a ≡ b) ⊎ (a ≢ b)
 cases_same a b = elim (cases_Bool (a == b)) [ inl same ↦ inl (eqb-true a b same) | inr other ↦ inr (eqb-false a b other) ]
 
+-- a machine whose ask has no reply goes on
+pub still_going : (m : Machine) → reply_in (ask_of m) ≡ None → IsGoing m
+still_going m none reply e = let f : Some reply ≡ None = sym (ap reply_in e) ∙ none in cc
+
+-- a reply that is in an ask is the ask's
+reply_asked : (ask : Ask) (reply : Reply) → reply_in ask ≡ Some reply → ask ≡ Ask_done reply
+reply_asked (Ask_done r) reply e = let same : r ≡ reply = cc in ap Ask_done same
+reply_asked (Load at) reply e = absurd cc
+reply_asked (Exchange at old new) reply e = absurd cc
+reply_asked (SameKey n) reply e = absurd cc
+reply_asked (SizeOf n) reply e = absurd cc
+reply_asked MakeKey reply e = absurd cc
+reply_asked MakePair reply e = absurd cc
+reply_asked (MakeTable slots limit) reply e = absurd cc
+reply_asked (AddToShard by) reply e = absurd cc
+
+-- a call that goes on is refused for a cause
+pub caused : (m : Machine) (answer : Answer) (refused : Refused) → IsGoing m → reply_in (ask_of (after m answer)) ≡ Some (Reply_refused refused) → IsCause m answer refused
+caused m answer refused going e = elim (machine_refused m refused answer going (reply_asked (ask_of (after m answer)) (Reply_refused refused) e)) [
+  | inl same ↦ inl same
+  | inr left ↦ inr (left.0, (left.1.0, ap (asks m.made m.hash) left.1.1))
+]
+
+-- a call that begins has not replied
+pub begun-going : {K V : Type 0} (hash : K → ℕ) (mode : ResizeMode) (initial : ℕ) (call : Call K V) → IsGoing (begun hash mode initial call).machine
+begun-going hash mode initial call = still_going (begun hash mode initial call).machine refl
+
 module _ {K V S : Type 0} where
   -- a call was put into a seat, or taken out of it
-  pub with_call-core : (store : StoreState K V S) (callers : List (Seat K V)) (mode : ResizeMode) (caller : ℕ) (call : Option (Running K V)) → IsCore store callers mode → ((r : Running K V) → call ≡ Some r → IsStanding r.machine) → IsCore store (with_call callers caller call) mode
+  pub with_call-core : (store : StoreState K V S) (callers : List (Seat K V)) (mode : ResizeMode) (caller : ℕ) (call : Option (Running K V)) → IsCore store callers mode → ((r : Running K V) → call ≡ Some r → IsStanding r.machine × IsGoing r.machine) → IsCore store (with_call callers caller call) mode
   with_call-core store callers mode caller call core stands = record {
     chunked = core.chunked;
     sizes = core.sizes;
     standing = λ other r e. elim (cases_same other caller) [
-      | inl same ↦ stands r (running-same callers caller call r (subst (λ (d : ℕ). running (with_call callers caller call) d ≡ Some r) same e))
+      | inl same ↦ (stands r (running-same callers caller call r (subst (λ (d : ℕ). running (with_call callers caller call) d ≡ Some r) same e))).0
       | inr differ ↦ core.standing other r (sym (running-other callers caller other call differ) ∙ e)
+    ];
+    going = λ other r e. elim (cases_same other caller) [
+      | inl same ↦ (stands r (running-same callers caller call r (subst (λ (d : ℕ). running (with_call callers caller call) d ≡ Some r) same e))).1
+      | inr differ ↦ core.going other r (sym (running-other callers caller other call differ) ∙ e)
     ];
   }
 
@@ -41,13 +82,14 @@ module _ {K V S : Type 0} where
     chunked = core.chunked;
     sizes = core.sizes;
     standing = λ other r e. core.standing other r (sym (running-with_seat callers caller other) ∙ e);
+    going = λ other r e. core.going other r (sym (running-with_seat callers caller other) ∙ e);
   }
 
   -- a caller began a call
-  pub begun-core : (store : StoreState K V S) (callers : List (Seat K V)) (mode : ResizeMode) (caller : ℕ) (r : Running K V) → IsCore store callers mode → IsStanding r.machine → IsCore store (with_call (with_seat callers caller) caller (Some r)) mode
-  begun-core store callers mode caller r core stands =
+  pub begun-core : (store : StoreState K V S) (callers : List (Seat K V)) (mode : ResizeMode) (caller : ℕ) (r : Running K V) → IsCore store callers mode → IsStanding r.machine → IsGoing r.machine → IsCore store (with_call (with_seat callers caller) caller (Some r)) mode
+  begun-core store callers mode caller r core stands goes =
       with_call-core store (with_seat callers caller) mode caller (Some r) (with_seat-core store callers mode caller core)
-      (λ q e. let same : r ≡ q = cc in subst (λ (y : Running K V). IsStanding y.machine) same stands)
+      (λ q e. let same : r ≡ q = cc in subst (λ (y : Running K V). IsStanding y.machine × IsGoing y.machine) same (stands, goes))
 
   -- an ask of a caller was answered
   pub performed-core : (eq : K → K → Bool) (refuse : Bool) (store : StoreState K V S) (callers : List (Seat K V)) (mode : ResizeMode) (r : Running K V) (a : Answer) (store' : StoreState K V S) (later : Running K V) → IsCore store callers mode → IsFitAsk (ask_of r.machine) → Performs eq refuse (ask_of r.machine) store r a store' later → IsCore store' callers mode
@@ -55,6 +97,7 @@ module _ {K V S : Type 0} where
     chunked = core.chunked;
     sizes = numbered store'.words.tables (performed eq refuse (ask_of r.machine) store r a store' later (unnumbered store.words.tables core.sizes) fit performs).sized;
     standing = core.standing;
+    going = core.going;
   }
 
 -- a length that was asked for is one of tables
@@ -85,4 +128,5 @@ new-core store callers mode capacity initial chunked power most words none = rec
   chunked = chunked;
   sizes = numbered store.words.tables (new-sized capacity initial store.words power most words);
   standing = λ caller r e. let f : None ≡ Some r = sym (ap (λ (y : List (Seat _ _)). running y caller) none) ∙ e in cc;
+  going = λ caller r e. let f : None ≡ Some r = sym (ap (λ (y : List (Seat _ _)). running y caller) none) ∙ e in absurd cc;
 }

@@ -14,6 +14,7 @@ use Rattle.papaya_core.specs.Counted.{IsCounted}
 use Rattle.papaya_core.specs.Kept.{IsLawfulCore}
 use Rattle.papaya_core.specs.Performs.{Performs}
 use Rattle.papaya_core.specs.Store.{StoreState, hash_of}
+use Rattle.papaya_core.proofs.CoreLemmas.{caused}
 use Rattle.papaya_core.proofs.CountedContent.{content_apart}
 use Rattle.papaya_core.proofs.CountedLemmas.{counted_step}
 use Rattle.papaya_core.proofs.KeptLemmas.{hashed_setting}
@@ -28,7 +29,7 @@ module _ {K V S H : Type 0} (eq : K → K → Bool) (input : K → List (List �
         stepped_lawful eq input build write finish classes respects refuse s caller store' callers' before a later was performs machine callers core lawful,
         counted_step eq (hash_of input build write finish s.store.hasher) (keys_lawful eq input build write finish classes respects s.store.hasher) refuse s caller (record { store = store'; callers = callers'; mode = s.mode; initial = s.initial })
             (event_of (kind_of_ask before.machine) (ask_of before.machine) a) (reply_in (ask_of (after before.machine a)))
-            (record { before = before; was = was; answer = a; later = later; performs = performs; machine = machine; event_is = refl; reply_is = refl; callers = callers; mode = refl; initial = refl })
+            (record { before = before; was = was; answer = a; later = later; performs = performs; machine = machine; event_is = refl; reply_is = refl; callers = callers; mode = refl; initial = refl; cause = λ refused e. caused before.machine a refused (lawful.core.going caller before was) e })
             es tales lawful.core core kept counted,
       )
 

@@ -15,7 +15,7 @@ use Rattle.papaya_core.specs.Advances.{Advances, goes_on}
 use Rattle.papaya_core.specs.Begins.{Begins, begun}
 use Rattle.papaya_core.specs.Callers.{with_call, with_seat}
 use Rattle.papaya_core.specs.Content.{map_of}
-use Rattle.papaya_core.specs.Core.{CoreState, IsCore}
+use Rattle.papaya_core.specs.Core.{IsGoing, CoreState, IsCore}
 use Rattle.papaya_core.specs.Headline.{HasTimeline}
 use Rattle.papaya_core.specs.Kept.{IsKept, IsLawfulCore, Tale}
 use Rattle.papaya_core.specs.Maps.{Map}
@@ -23,7 +23,7 @@ use Rattle.papaya_core.specs.Moves.{MovesMap}
 use Rattle.papaya_core.specs.Runs.{History, StepRuns, BeginRuns, StepsRun, TurnRuns, TurnsRun}
 use Rattle.papaya_core.specs.Store.{StoreState, Stored, hash_of}
 use Rattle.papaya_core.proofs.CallersLemmas.{same_item}
-use Rattle.papaya_core.proofs.CoreLemmas.{begun-core, performed-core, with_call-core}
+use Rattle.papaya_core.proofs.CoreLemmas.{begun-core, still_going, performed-core, with_call-core}
 use Rattle.papaya_core.proofs.Good.{IsGood}
 use Rattle.papaya_core.proofs.GoodLemmas.{good_start, good_begin, good_step, good_end}
 use Rattle.papaya_core.proofs.AdvanceLemmas.{advance_moves}
@@ -43,11 +43,11 @@ module _ {K V S : Type 0} where
       let r : Running K V = record x.later { machine = after m x.answer } in
       subst (λ y. IsCore s'.store s'.callers y) (sym x.mode)
       (subst (λ (y : List (Seat K V)). IsCore s'.store y s.mode) (sym x.callers)
-      (with_call-core s'.store s.callers s.mode caller (goes_on reply r) kept (still reply r stands)))
+      (with_call-core s'.store s.callers s.mode caller (goes_on reply r) kept (still reply r stands (λ none. still_going (after m x.answer) (sym x.reply_is ∙ none)))))
     where
-      still : (reply : Option Reply) (r : Running K V) → IsStanding r.machine → (q : Running K V) → goes_on reply r ≡ Some q → IsStanding q.machine
-      still None r stands q e = subst (λ (y : Running K V). IsStanding y.machine) (same_item r q e) stands
-      still (Some rep) r stands q e = let f : None ≡ Some q = e in cc
+      still : (reply : Option Reply) (r : Running K V) → IsStanding r.machine → (reply ≡ None → IsGoing r.machine) → (q : Running K V) → goes_on reply r ≡ Some q → IsStanding q.machine × IsGoing q.machine
+      still None r stands goes q e = subst (λ (y : Running K V). IsStanding y.machine × IsGoing y.machine) (same_item r q e) (stands, goes refl)
+      still (Some rep) r stands goes q e = let f : None ≡ Some q = e in cc
 
   -- and after a begin
   pub begin-core : (hash : K → ℕ) (s : CoreState K V S) (caller : ℕ) (call : Call K V) (s' : CoreState K V S) → Begins hash s caller call s' → IsCore s.store s.callers s.mode → IsCore s'.store s'.callers s'.mode
@@ -56,7 +56,7 @@ module _ {K V S : Type 0} where
       subst (λ y. IsCore s'.store s'.callers y) (sym x.mode)
       (subst (λ (y : List (Seat K V)). IsCore s'.store y s.mode) (sym x.callers)
       (subst (λ (y : StoreState K V S). IsCore y (with_call (with_seat s.callers caller) caller (Some r)) s.mode) (sym x.store)
-      (begun-core s.store s.callers s.mode caller r core (record { made = tt; state = tt }))))
+      (begun-core s.store s.callers s.mode caller r core (record { made = tt; state = tt }) (still_going r.machine refl))))
 
 module _ {K V S : Type 0} (eq : K → K → Bool) (hash : S → K → ℕ) (hasher : S) (law : IsLawfulKeys eq (hash hasher)) (schedule : List (Turn K V)) (start : Map K V) where
   -- a good history of a core with this hasher

@@ -22,6 +22,7 @@ use Rattle.papaya_core.specs.New.{HasCapacity}
 use Rattle.papaya_core.specs.Performs.{Performs, Stays}
 use Rattle.papaya_core.specs.Store.{StoreState, hash_of}
 use Rattle.papaya_core.specs.Tables.{put, word_at}
+use Rattle.papaya_core.proofs.CoreLemmas.{caused}
 use Rattle.papaya_core.proofs.KeptLemmas.{IsLawfulKeys, kept_begin, kept_new, kept_step}
 use Rattle.papaya_core.proofs.StoreLemmas.{matched}
 
@@ -87,5 +88,5 @@ module _ {K V S H : Type 0} (eq : K → K → Bool) (input : K → List (List �
       → callers' ≡ with_call s.callers caller (goes_on (reply_in (ask_of (after before.machine a))) (record later { machine = after before.machine a })) → IsCore store' callers' s.mode → Lawful s → IsLawfulCore eq (hash_of input build write finish store'.hasher) store' callers' s.mode
   stepped_lawful refuse s caller store' callers' before a later was performs machine callers core lawful =
       step_lawful refuse s caller (record { store = store'; callers = callers'; mode = s.mode; initial = s.initial }) (event_of (kind_of_ask before.machine) (ask_of before.machine) a) (reply_in (ask_of (after before.machine a)))
-      (record { before = before; was = was; answer = a; later = later; performs = performs; machine = machine; event_is = refl; reply_is = refl; callers = callers; mode = refl; initial = refl })
+      (record { before = before; was = was; answer = a; later = later; performs = performs; machine = machine; event_is = refl; reply_is = refl; callers = callers; mode = refl; initial = refl; cause = λ refused e. caused before.machine a refused (lawful.core.going caller before was) e })
       core lawful

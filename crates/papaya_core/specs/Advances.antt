@@ -1,5 +1,5 @@
 -- One step of one caller.
-use Rattle.std.specs.Prelude.{◌≡◌, ℕ, Bool, Option, Some, None}
+use Rattle.std.specs.Prelude.{◌≡◌, ◌⊎◌, ℕ, Bool, Option, Some, None}
 use Rattle.papaya_words.specs.Word.{pair_of}
 use Rattle.papaya_call.specs.declared.ask.Ask.{Ask}
 use Rattle.papaya_call.specs.declared.ask.Ask.TheVariants.{Load, Exchange, SameKey, SizeOf, MakeKey, MakePair, MakeTable, AddToShard, Done as Ask_done}
@@ -7,7 +7,12 @@ use Rattle.papaya_call.specs.declared.ask.Answer.{Answer}
 use Rattle.papaya_call.specs.declared.ask.Answer.TheVariants.{Word as Word_read, Exchanged, Found as Found_instead, Yes, Size, Made as Made_number, Ok as Ok_done, Refused as Was_refused}
 use Rattle.papaya_call.specs.declared.ask.StepKind.{StepKind}
 use Rattle.papaya_call.specs.declared.ask.StepKind.TheVariants.{Open, Claim, Replace, Bury, Link, Mark, Close, Place, Finish, Advance, Promote, Abort}
+use Rattle.papaya_words.specs.declared.probe.Refused.{Refused}
+use Rattle.papaya_words.specs.declared.probe.Refused.TheVariants.{Capacity}
+use Rattle.papaya_call.specs.declared.ask.At.TheVariants.{Next}
 use Rattle.papaya_call.specs.declared.call.Reply.{Reply}
+use Rattle.papaya_call.specs.declared.call.Reply.TheVariants.{Refused as Reply_refused}
+use Rattle.papaya_call.specs.declared.machine.Machine.{Machine}
 use Rattle.papaya_call.specs.Machine.{ask_of, kind_of_ask, after}
 use Rattle.papaya_core.specs.declared.pairs.Running.{Running}
 use Rattle.papaya_core.specs.declared.trace.Event.{Event}
@@ -75,6 +80,10 @@ abbrev pub goes_on : {A : Type 0} → Option Reply → A → Option A
 goes_on None r = Some r
 goes_on (Some reply) r = None
 
+-- why a call is refused: what it asked to be made was refused so, or it goes on to a next table, of which there is none yet
+abbrev pub IsCause : Machine → Answer → Refused → Type 0
+IsCause m answer refused = (answer ≡ Was_refused refused) ⊎ ((refused ≡ Capacity) × ((t : ℕ) × (ask_of m ≡ Load (Next t))))
+
 -- Just one ask of the caller's machine is answered, a load or an exchange by the word that stands there. A reply is the one in the machine's Done. No other caller's call changes.
 pub record Advances {K V S : Type 0} (eq : K → K → Bool) (refuse : Bool) (s : CoreState K V S) (caller : ℕ) (s' : CoreState K V S) (event : Event) (reply : Option Reply) : Type 0 where
   pub before : Running K V
@@ -88,3 +97,4 @@ pub record Advances {K V S : Type 0} (eq : K → K → Bool) (refuse : Bool) (s 
   pub callers : s'.callers ≡ with_call s.callers caller (goes_on reply (record later { machine = after before.machine answer }))
   pub mode : s'.mode ≡ s.mode
   pub initial : s'.initial ≡ s.initial
+  pub cause : (refused : Refused) → reply ≡ Some (Reply_refused refused) → IsCause before.machine answer refused

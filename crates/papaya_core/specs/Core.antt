@@ -3,7 +3,10 @@ use Rattle.std.specs.Prelude.{◌≡◌, ℕ, List, Option, Some, length}
 use Rattle.papaya_words.specs.Table.{TableWords}
 use Rattle.papaya_words.specs.declared.probe.ResizeMode.{ResizeMode}
 use Rattle.papaya_call.specs.Search.{IsSize}
-use Rattle.papaya_call.specs.Machine.{IsChunked, IsStanding}
+use Rattle.papaya_call.specs.declared.ask.Ask.TheVariants.{Done as Ask_done}
+use Rattle.papaya_call.specs.declared.call.Reply.{Reply}
+use Rattle.papaya_call.specs.declared.machine.Machine.{Machine}
+use Rattle.papaya_call.specs.Machine.{IsChunked, IsStanding, ask_of}
 use Rattle.papaya_core.specs.declared.pairs.Running.{Running}
 use Rattle.papaya_core.specs.declared.callers.Seat.{Seat}
 use Rattle.papaya_core.specs.Callers.{running}
@@ -21,8 +24,13 @@ pub record CoreState (K V S : Type 0) : Type 0 where
 abbrev pub call_of : {K V S : Type 0} → CoreState K V S → ℕ → Option (Running K V)
 call_of s caller = running s.callers caller
 
--- each table has the size of a table, and each machine stands within its table
+-- the machine has not replied
+abbrev pub IsGoing : Machine → Type 0
+IsGoing m = (reply : Reply) → ask_of m ≡ Ask_done reply → ⊥
+
+-- each table has the size of a table, each machine stands within its table, and no call under way has replied
 pub record IsCore {K V S : Type 0} (store : StoreState K V S) (callers : List (Seat K V)) (mode : ResizeMode) : Type 0 where
   pub chunked : IsChunked mode
   pub sizes : (n : ℕ) (t : TableWords) → table_of store.words.tables n ≡ Some t → IsSize (length t.slots) t.limit
   pub standing : (caller : ℕ) (r : Running K V) → running callers caller ≡ Some r → IsStanding r.machine
+  pub going : (caller : ℕ) (r : Running K V) → running callers caller ≡ Some r → IsGoing r.machine

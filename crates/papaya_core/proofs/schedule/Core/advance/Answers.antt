@@ -4,14 +4,15 @@ use Rattle.papaya_core.specs.declared.pairs.Running.{Running}
 use Rattle.papaya_core.specs.declared.callers.Seat.{Seat}
 use Rattle.papaya_core.specs.Callers.{with_call}
 use Rattle.papaya_core.specs.Performs.{Performs}
-use Rattle.papaya_core.specs.Core.{IsCore}
+use Rattle.papaya_call.specs.declared.call.Reply.TheVariants.{Refused as Reply_refused}
+use Rattle.papaya_core.specs.Core.{IsCore, IsGoing}
 use Rattle.papaya_call.specs.declared.call.Reply.{Reply}
 use Rattle.papaya_core.specs.Counted.{IsCounted}
 use Rattle.papaya_core.specs.Kept.{IsLawfulCore}
 use Rattle.papaya_core.specs.Store.{hash_of}
 use Rattle.papaya_core.specs.Advances.{Advances, event_of, reply_in, goes_on}
 use Rattle.papaya_core.proofs.CallersLemmas.{with_call-twice}
-use Rattle.papaya_core.proofs.CoreLemmas.{with_call-core, performed-core}
+use Rattle.papaya_core.proofs.CoreLemmas.{caused, still_going, with_call-core, performed-core}
 use Rattle.papaya_core.proofs.HeadlineLemmas.{lawful_moves}
 use Rattle.papaya_core.proofs.CountedCore.{stepped_sound}
 use Rattle.papaya_core.proofs.schedule.Core.advance.Goals as goal
@@ -56,7 +57,7 @@ went_on g c performs core_taken =
     subst (λ (y : List (Seat _ _)). IsCore c.perform-answer.new.self y c.self.inside.mode) (sym c.put.ensures)
     (with_call-core c.perform-answer.new.self c.take-running.new.self c.self.inside.mode c.args.caller (Some r)
     core_taken
-    (λ q e. let same : r ≡ q = cc in subst (λ (y : Running _ _). IsStanding y.machine) same c.answer.ensures.standing)) in
+    (λ q e. let same : r ≡ q = cc in subst (λ (y : Running _ _). IsStanding y.machine × IsGoing y.machine) same (c.answer.ensures.standing, still_going c.answer.new.self (ap (λ m. reply_in (ask_of m)) is_after ∙ reply)))) in
     stepped_sound g.K.PartialEq.eq g.K.Hash.hash_input g.S.BuildHasher.build_hasher g.S.Hasher.Hasher.write g.S.Hasher.Hasher.finish g.met.K.Eq.laws g.met.K.Hash.respects_eq
     c.args.refuse (record { store = c.self.inside.store; callers = c.self.inside.callers; mode = c.self.inside.mode; initial = c.self.inside.initial }) c.args.caller c.perform-answer.new.self c.put.new.self
     c.take-running.result a later c.take-running.ensures.call performs c.perform-answer.ensures.machine
@@ -102,6 +103,7 @@ returns-in-Some-clause-advances g c =
       callers = c.take-running.ensures.taken ∙ sym (ap (λ y. with_call c.self.inside.callers c.args.caller (goes_on y (record later { machine = after before.machine a }))) c.in-Some.is);
       mode = refl;
       initial = refl;
+      cause = λ refused e. caused before.machine a refused (c.self.invariant.0.core.going c.args.caller before c.take-running.ensures.call) (sym (c.reply_in-reply.ensures ∙ ap reply_in c.ask.ensures.value ∙ ap (λ m. reply_in (ask_of m)) is_after) ∙ e);
     })
 
 pub returns-in-None-clause-advances : goal.returns-in-None-clause-advances
@@ -125,6 +127,7 @@ returns-in-None-clause-advances g c =
           ∙ sym (ap (λ y. with_call c.self.inside.callers c.args.caller (goes_on y (record later { machine = after before.machine a }))) c.in-None.is);
       mode = refl;
       initial = refl;
+      cause = λ refused e. let f : None ≡ Some (Reply_refused refused) = sym c.in-None.is ∙ e in absurd cc;
     })
 
 pub returns-in-Some-clause-moves : goal.returns-in-Some-clause-moves

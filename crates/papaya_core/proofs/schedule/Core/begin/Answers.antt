@@ -1,12 +1,13 @@
 use Rattle.std.proofs.Common.{◌<◌, ◌^◌, List, Some, refl, sym, ap, subst, ◌∙◌}
 use Rattle.papaya_core.specs.declared.callers.Seat.{Seat}
+use Rattle.papaya_core.specs.declared.pairs.Running.{Running}
 use Rattle.papaya_core.specs.Callers.{with_call, with_seat}
 use Rattle.papaya_core.specs.Begins.{Begins}
-use Rattle.papaya_core.specs.Core.{CoreState, IsCore, call_of}
+use Rattle.papaya_core.specs.Core.{CoreState, IsCore, IsGoing, call_of}
 use Rattle.papaya_core.specs.Counted.{IsCounted}
 use Rattle.papaya_core.specs.Kept.{IsLawfulCore}
 use Rattle.papaya_core.specs.Store.{hash_of}
-use Rattle.papaya_core.proofs.CoreLemmas.{begun-core}
+use Rattle.papaya_core.proofs.CoreLemmas.{begun-core, begun-going}
 use Rattle.papaya_core.proofs.CountedLemmas.{counted_begin}
 use Rattle.papaya_core.proofs.KeptCore.{begin_lawful}
 use Rattle.papaya_core.proofs.schedule.Core.begin.Goals as goal
@@ -20,7 +21,8 @@ call_begun g c =
     let callers = c.put.ensures ∙ ap (λ (y : List (Seat _ _)). with_call y c.args.caller (Some c.begin_call-running.result)) c.in_ok-seat.ensures.ok.0 in
     let fits = subst (λ r. r.machine.hash < 2 ^ 64) c.begin_call-running.ensures.begun c.begin_call-running.ensures.fits in
     let core = subst (λ (y : List (Seat _ _)). IsCore c.self.inside.store y c.self.inside.mode) (sym callers)
-    (begun-core c.self.inside.store c.self.inside.callers c.self.inside.mode c.args.caller c.begin_call-running.result c.self.invariant.0.core c.begin_call-running.ensures.standing) in
+    (begun-core c.self.inside.store c.self.inside.callers c.self.inside.mode c.args.caller c.begin_call-running.result c.self.invariant.0.core c.begin_call-running.ensures.standing
+    (subst (λ (r : Running _ _). IsGoing r.machine) (sym c.begin_call-running.ensures.begun) (begun-going (hash_of g.K.Hash.hash_input g.S.BuildHasher.build_hasher g.S.Hasher.Hasher.write g.S.Hasher.Hasher.finish c.self.inside.store.hasher) c.self.inside.mode c.self.inside.initial c.args.call))) in
     let hash = hash_of g.K.Hash.hash_input g.S.BuildHasher.build_hasher g.S.Hasher.Hasher.write g.S.Hasher.Hasher.finish c.self.inside.store.hasher in
     let before : CoreState _ _ _ = record { store = c.self.inside.store; callers = c.self.inside.callers; mode = c.self.inside.mode; initial = c.self.inside.initial } in
     let later : CoreState _ _ _ = record { store = c.self.inside.store; callers = c.put.new.self; mode = c.self.inside.mode; initial = c.self.inside.initial } in
