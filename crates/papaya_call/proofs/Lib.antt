@@ -11,10 +11,12 @@ pub mod RestsLearnLook
 pub mod RestsLearnGoes
 pub mod RestsExchange
 pub mod RestsLearnWrites
+pub mod RestsLearnRemovals
 pub mod RestsLearn
 -- what it changes, and its refusals
 pub mod RestsReply
 pub mod RestsReplyRefused
+pub mod RestsRemovals
 pub mod RestsCount
 -- how much a lookup loads
 pub mod LoadsBound
@@ -23,3 +25,7 @@ pub mod LoadsLists
 pub mod LoadsSteps
 -- a machine that stands within its table does so after each answer
 pub mod Standing
+-- a call whose words nobody else changes
+pub mod AloneCurrent
+pub mod AloneSteps
+pub mod AloneUnmatched

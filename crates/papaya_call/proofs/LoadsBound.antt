@@ -12,9 +12,9 @@ use Rattle.papaya_call.specs.declared.search.Search.TheVariants.{Sizing, Looking
 use Rattle.papaya_call.specs.declared.write.Made.{Made}
 use Rattle.papaya_call.specs.declared.write.Made.TheVariants.{Nothing}
 use Rattle.papaya_call.specs.declared.machine.State.{State}
-use Rattle.papaya_call.specs.declared.machine.State.TheVariants.{AtRoot, Making, Opening, Searching, Writing, Counting, Leaving, Ended}
+use Rattle.papaya_call.specs.declared.machine.State.TheVariants.{AtRoot, Making, Opening, Searching, Writing, Showing, Burying, Counting, Uncounting, Leaving, Growing, Ended}
 use Rattle.papaya_call.specs.declared.machine.Machine.{Machine}
-use Rattle.papaya_call.specs.Machine.{IsLookup, ask_of, after, started, at_root, leaves, goes_as}
+use Rattle.papaya_call.specs.Machine.{IsLookup, ask_of, after, started, at_root, left as state_left, goes_as}
 use Rattle.papaya_call.specs.Search.{first_place, look_at, at_yes as search_compared}
 use Rattle.papaya_call.specs.Loads.{IsAnswer, AreAnswers, IsBounded, asked, tables_entered, tables_loaded}
 use Rattle.papaya_call.proofs.LoadsLists.{count, IsFrom, from_nil}
@@ -44,7 +44,7 @@ module _ (limit : ℕ → ℕ) (hash initial : ℕ) (mode : ResizeMode) where
       subst (IsStepBy made (Searching (Comparing at found))) (sym e)
       (record { then_made = made; to = goes_as Get mode (search_compared (Comparing at found) same); is = refl; step = step_compare limit at found (goes_as Get mode (search_compared (Comparing at found) same)) (leads_compared limit mode at reader found same) })
   step_by made (Leaving u) answer reader (word, e, rises) =
-      subst (IsStepBy made (Leaving u)) (sym e) (record { then_made = made; to = leaves Get word; is = refl; step = step_next limit u word rises })
+      subst (IsStepBy made (Leaving u)) (sym e) (record { then_made = made; to = state_left word; is = refl; step = step_next limit u word rises })
   step_by made (Ended reply) answer reader fits = record { then_made = made; to = Ended reply; is = stays answer; step = step_ended limit reply }
     where
       stays : (answer : Answer) → after (standing made (Ended reply)) answer ≡ standing made (Ended reply)
@@ -59,7 +59,11 @@ module _ (limit : ℕ → ℕ) (hash initial : ℕ) (mode : ResizeMode) where
   step_by made Making answer reader fits = absurd reader
   step_by made (Opening u) answer reader fits = absurd reader
   step_by made (Writing write) answer reader fits = absurd reader
+  step_by made (Showing removal) answer reader fits = absurd reader
+  step_by made (Burying removal) answer reader fits = absurd reader
   step_by made (Counting pair) answer reader fits = absurd reader
+  step_by made (Uncounting pair) answer reader fits = absurd reader
+  step_by made (Growing u) answer reader fits = absurd reader
 
   -- what is asked from a state on is bounded
   record IsRun (s : State) (asks : List Ask) : Type 0 where

@@ -20,10 +20,10 @@ use Rattle.papaya_call.specs.declared.search.Seen.{Seen}
 use Rattle.papaya_call.specs.declared.search.Seen.TheVariants.{On, Over}
 use Rattle.papaya_call.specs.declared.write.Made.{Made}
 use Rattle.papaya_call.specs.declared.machine.State.{State}
-use Rattle.papaya_call.specs.declared.machine.State.TheVariants.{AtRoot, Making, Opening, Searching, Writing, Counting, Leaving, Ended}
+use Rattle.papaya_call.specs.declared.machine.State.TheVariants.{AtRoot, Making, Opening, Searching, Writing, Showing, Burying, Counting, Uncounting, Leaving, Growing, Ended}
 use Rattle.papaya_call.specs.declared.machine.Machine.{Machine}
 use Rattle.papaya_call.specs.Search.{first_place, next_place, go_on, compare_byte, look_at, match_at, at_yes as search_compared}
-use Rattle.papaya_call.specs.Machine.{IsLookup, at_root, leaves, passes, goes_as}
+use Rattle.papaya_call.specs.Machine.{IsLookup, at_root, left as state_left, passes, goes_as}
 use Rattle.papaya_call.specs.Loads.{table_entered, table_loaded}
 use Rattle.papaya_call.proofs.LoadsLists.{count, count-cons, IsFrom, from_lower, from_cons, contains_first, contains_more}
 use Rattle.papaya_call.proofs.LoadsLeft.{chosen, left_in, left_most, left_less, left_loaded, left_later}
@@ -43,7 +43,11 @@ IsReader (Ended reply) = Unit {0}
 IsReader Making = ⊥
 IsReader (Opening u) = ⊥
 IsReader (Writing write) = ⊥
+IsReader (Showing removal) = ⊥
+IsReader (Burying removal) = ⊥
 IsReader (Counting pair) = ⊥
+IsReader (Uncounting pair) = ⊥
+IsReader (Growing u) = ⊥
 
 -- each table that it enters from here on has number n or a greater one
 abbrev pub IsBelow : ℕ → State → Type 0
@@ -163,7 +167,7 @@ module _ (limit : ℕ → ℕ) where
       (λ e. step_aside AtRoot (Searching (Sizing word)) (Load Root) refl refl tt tt (λ t. left_most limit t word (limit t + 1) (λ q. omega arith)) (λ n b. (n, omega arith, omega (arith, b))) (λ u i. absurd i))
 
   -- a next table's number was loaded
-  pub step_next : (u word : ℕ) → (word ≡ 0) ⊎ (u < word) → IsStep (Leaving u) (leaves Get word) (Load (Next u))
+  pub step_next : (u word : ℕ) → (word ≡ 0) ⊎ (u < word) → IsStep (Leaving u) (state_left word) (Load (Next u))
   step_next u word rises =
       chosen (λ s. IsStep (Leaving u) s (Load (Next u))) (word == 0) (Ended Absent) (Searching (Sizing word))
       (λ e. step_aside (Leaving u) (Ended Absent) (Load (Next u)) refl refl tt tt (λ t. omega arith) (λ n b. (n, omega arith, tt)) (λ v i. absurd i))

@@ -1,9 +1,10 @@
 -- What a machine rests on, by its parts: where each part is carried over, all of it is.
-use Rattle.std.proofs.Common.{◌≡◌, ℕ, Bool, true, false, Option, None, Some, List, sym, ◌∙◌, subst}
+use Rattle.std.proofs.Common.{◌≡◌, ℕ, Bool, true, false, Option, None, Some, List, sym, ap, ◌∙◌, subst}
 use Rattle.papaya_call.specs.declared.call.Reply.{Reply}
-use Rattle.papaya_call.specs.declared.call.Reply.TheVariants.{Absent, Found, Inserted, Replaced, Occupied, Refused as Reply_refused}
+use Rattle.papaya_call.specs.declared.call.Reply.TheVariants.{Absent, Found, Inserted, Replaced, Occupied, Removed, Kept, Refused as Reply_refused}
 use Rattle.papaya_call.specs.declared.call.Task.{Task}
-use Rattle.papaya_call.specs.declared.call.Task.TheVariants.{Get, Insert}
+use Rattle.papaya_call.specs.declared.call.Task.TheVariants.{Get, Insert, RemoveIf}
+use Rattle.papaya_call.specs.declared.remove.Removal.{Removal}
 use Rattle.papaya_call.specs.declared.search.Place.{Place}
 use Rattle.papaya_call.specs.declared.search.Search.{Search}
 use Rattle.papaya_call.specs.declared.search.Search.TheVariants.{Sizing, Looking, Comparing}
@@ -11,23 +12,25 @@ use Rattle.papaya_call.specs.declared.write.Made.{Made}
 use Rattle.papaya_call.specs.declared.write.Made.TheVariants.{Nothing, Key, Pair}
 use Rattle.papaya_call.specs.declared.write.Write.{Write}
 use Rattle.papaya_call.specs.declared.machine.State.{State as Stage}
-use Rattle.papaya_call.specs.declared.machine.State.TheVariants.{AtRoot, Making, Opening, Searching, Writing, Counting, Leaving, Ended}
+use Rattle.papaya_call.specs.declared.machine.State.TheVariants.{AtRoot, Making, Opening, Searching, Writing, Showing, Burying, Counting, Uncounting, Leaving, Growing, Ended}
 use Rattle.papaya_call.specs.declared.machine.Machine.{Machine}
 use Rattle.papaya_call.specs.Law.Exchange.{Setting, Exchange}
 use Rattle.papaya_call.specs.Law.Code.{Coding}
 use Rattle.papaya_call.specs.Told.{Hands}
-use Rattle.papaya_call.specs.Rests.{IsModeOf, HasComeTo, IsAt, HasMet, MayWrite, WasAtMoment, RestsWriting, RestsMade, RestsSearch, RestsLeaving, HadPair, IsReply, RestsStage, Rests}
+use Rattle.papaya_call.specs.Rests.{IsModeOf, HasComeTo, IsAt, HasMet, MayRemove, MayWrite, WasAtMoment, RestsWriting, RestsMade, RestsSearch, RestsLeaving, RestsGrowing, HadPair, IsReply, RestsStage, Rests}
 
 -- each part is carried from one setting, and the exchanges of a call so far, to another setting and more of them
 pub record AreCarried {K P : Type 0} (g g' : Setting K P) (c : Coding K P) (begun since since' : List (Exchange P)) (k : K) : Type 0 where
   pub mode : g'.blocking ≡ g.blocking
   pub key : (p : P) → g'.key p ≡ g.key p
+  pub same : (k k' : K) → g'.same k k' ≡ g.same k k'
   pub moment : (value : Option P) → WasAtMoment g c begun since k value → WasAtMoment g' c begun since' k value
   pub come : (t : ℕ) → HasComeTo g c begun since k t → HasComeTo g' c begun since' k t
   pub stands : (at : Place) → IsAt g c begun since k at → IsAt g' c begun since' k at
   pub met : (at : Place) (word : ℕ) (p : P) → HasMet g c begun since k at word p → HasMet g' c begun since' k at word p
   pub write : (replace : Bool) (write : Write) → MayWrite g c begun since k replace write → MayWrite g' c begun since' k replace write
   pub leaving : (task : Task) (t : ℕ) → RestsLeaving g c begun since k task t → RestsLeaving g' c begun since' k task t
+  pub growing : (task : Task) (t : ℕ) → RestsGrowing g c begun since k task t → RestsGrowing g' c begun since' k task t
 
 module _ {K P : Type 0} (g g' : Setting K P) (c : Coding K P) (begun since since' : List (Exchange P)) (k : K) (carried : AreCarried g g' c begun since since' k) (hands : Hands P) where
   -- the search
@@ -40,6 +43,14 @@ module _ {K P : Type 0} (g g' : Setting K P) (c : Coding K P) (begun since since
   writing_carried : (task : Task) (write : Write) → RestsWriting g c begun since k task write → RestsWriting g' c begun since' k task write
   writing_carried Get write r = r
   writing_carried (Insert replace) write r = carried.write replace write r
+  writing_carried RemoveIf write r = r
+
+  -- the removal of a pair
+  removal_carried : (removal : Removal) → MayRemove g c begun since k hands removal → MayRemove g' c begun since' k hands removal
+  removal_carried removal r = record { pair = r.pair; last = r.last; met = carried.met removal.place removal.word r.pair r.met; live = r.live; same = same_carried r.pair ∙ r.same }
+    where
+      same_carried : (p : P) → g'.same k (g'.key p) ≡ g.same k (g.key p)
+      same_carried p = carried.same k (g'.key p) ∙ ap (λ key. g.same k key) (carried.key p)
 
   -- the map had the pair
   had_carried : (n : ℕ) → HadPair g c begun since k n → HadPair g' c begun since' k n
@@ -52,6 +63,8 @@ module _ {K P : Type 0} (g g' : Setting K P) (c : Coding K P) (begun since since
   reply_carried Get (Inserted n) r = r
   reply_carried Get (Replaced m n) r = r
   reply_carried Get (Occupied n) r = r
+  reply_carried Get (Removed n) r = r
+  reply_carried Get (Kept n) r = r
   reply_carried Get (Reply_refused refused) r = r
   reply_carried (Insert replace) Absent r = r
   reply_carried (Insert replace) (Found n) r = r
@@ -60,7 +73,17 @@ module _ {K P : Type 0} (g g' : Setting K P) (c : Coding K P) (begun since since
   reply_carried (Insert false) (Replaced m n) r = r
   reply_carried (Insert true) (Occupied n) r = r
   reply_carried (Insert false) (Occupied n) r = had_carried n r
+  reply_carried (Insert replace) (Removed n) r = r
+  reply_carried (Insert replace) (Kept n) r = r
   reply_carried (Insert replace) (Reply_refused refused) r = r
+  reply_carried RemoveIf Absent r = carried.moment None r
+  reply_carried RemoveIf (Found n) r = r
+  reply_carried RemoveIf (Inserted n) r = r
+  reply_carried RemoveIf (Replaced m n) r = r
+  reply_carried RemoveIf (Occupied n) r = r
+  reply_carried RemoveIf (Removed n) r = r
+  reply_carried RemoveIf (Kept n) r = had_carried n r
+  reply_carried RemoveIf (Reply_refused refused) r = r
 
   -- each stage
   stage_carried : (task : Task) (stage : Stage) → RestsStage g c begun since k hands task stage → RestsStage g' c begun since' k hands task stage
@@ -69,8 +92,12 @@ module _ {K P : Type 0} (g g' : Setting K P) (c : Coding K P) (begun since since
   stage_carried task (Opening t) r = r
   stage_carried task (Searching search) r = search_carried search r
   stage_carried task (Writing write) r = writing_carried task write r
+  stage_carried task (Showing removal) r = (r.0, removal_carried removal r.1)
+  stage_carried task (Burying removal) r = (r.0, removal_carried removal r.1)
   stage_carried task (Counting n) r = r
+  stage_carried task (Uncounting n) r = r
   stage_carried task (Leaving t) r = carried.leaving task t r
+  stage_carried task (Growing t) r = carried.growing task t r
   stage_carried task (Ended reply) r = reply_carried task reply r
 
   -- what the call made is a pair of its key

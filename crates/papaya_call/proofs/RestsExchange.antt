@@ -1,6 +1,6 @@
 -- The exchange that a machine asks for: where its old word stands there it may be made, and it writes just its word.
 use Rattle.std.proofs.Common.{◌≡◌, ⊎_elim, ℕ, ◌<◌, ◌==◌, eqb-true, eq-eqb, Bool, true, false, cond, Option, Some, List, ◌++◌, refl, sym, ap, ◌∙◌, subst}
-use Rattle.papaya_words.specs.Word.{kind_of, live_word, top_byte}
+use Rattle.papaya_words.specs.Word.{byte_of, kind_of, live_word, buried_word, top_byte}
 use Rattle.papaya_words.specs.declared.word.Kind.TheVariants as word_kinds
 use Rattle.papaya_call.specs.declared.ask.Ask.TheVariants.{Exchange as Ask_exchange}
 use Rattle.papaya_call.specs.declared.ask.At.{At}
@@ -8,7 +8,8 @@ use Rattle.papaya_call.specs.declared.ask.At.TheVariants.{Root, Next, Aborted, D
 use Rattle.papaya_call.specs.declared.ask.StepKind.{StepKind}
 use Rattle.papaya_call.specs.declared.ask.StepKind.TheVariants as kinds
 use Rattle.papaya_call.specs.declared.call.Task.{Task}
-use Rattle.papaya_call.specs.declared.call.Task.TheVariants.{Get, Insert}
+use Rattle.papaya_call.specs.declared.call.Task.TheVariants.{Get, Insert, RemoveIf}
+use Rattle.papaya_call.specs.declared.remove.Removal.{Removal}
 use Rattle.papaya_call.specs.declared.search.Place.{Place}
 use Rattle.papaya_call.specs.declared.search.Search.TheVariants.{Sizing, Looking, Comparing}
 use Rattle.papaya_call.specs.declared.write.Made.{Made}
@@ -16,16 +17,19 @@ use Rattle.papaya_call.specs.declared.write.Made.TheVariants.{Nothing, Key, Pair
 use Rattle.papaya_call.specs.declared.write.Write.{Write}
 use Rattle.papaya_call.specs.declared.machine.Machine.{Machine}
 use Rattle.papaya_call.specs.declared.machine.State.{State as Stage}
-use Rattle.papaya_call.specs.declared.machine.State.TheVariants.{AtRoot, Making, Opening, Searching, Writing, Counting, Leaving, Ended}
-use Rattle.papaya_call.specs.Law.Exchange.{Word, Live, Setting, State, Exchange, Open, Claim, Replace, after, run, slot_put, start, walk}
+use Rattle.papaya_call.specs.declared.machine.State.TheVariants.{AtRoot, Making, Opening, Searching, Writing, Showing, Burying, Counting, Uncounting, Leaving, Growing, Ended}
+use Rattle.papaya_call.specs.Law.Exchange.{Word, Live, Buried, Setting, State, Exchange, Open, Claim, Replace, Bury, after, run, slot_put, start, walk}
 use Rattle.papaya_call.specs.Law.View.{Foreign, Here, look, own, beyond, IsPassed, IsReached}
-use Rattle.papaya_call.specs.Law.Allows.{AllAllowed, Allows, MayClaim, MayReplace}
+use Rattle.papaya_call.specs.Law.Allows.{AllAllowed, Allows, MayClaim, MayReplace, MayBury}
 use Rattle.papaya_call.specs.Law.Code.{Coding, IsOfKind, code}
+use Rattle.papaya_call.specs.Law.Invariant.{named}
+use Rattle.papaya_call.specs.Law.Later.{Becomes}
 use Rattle.papaya_call.specs.Machine.{asks, kind_asked}
 use Rattle.papaya_call.specs.Told.{IsHashed, IsAsked, IsWritten, Hands, word_of}
-use Rattle.papaya_call.specs.Rests.{IsAt, MayWrite, Rests, RestsMade, RestsStage, RestsWriting}
+use Rattle.papaya_call.specs.Remove.{grave_word}
+use Rattle.papaya_call.specs.Rests.{IsAt, MayRemove, MayWrite, Rests, RestsMade, RestsStage, RestsWriting}
 use Rattle.papaya_call.specs.Write.{new_word}
-use Rattle.papaya_call.proofs.Law.Code.{code_empty}
+use Rattle.papaya_call.proofs.Law.Code.{code_empty, code_pair}
 use Rattle.papaya_call.proofs.Law.CodeViews.{word_of_kind}
 use Rattle.papaya_call.proofs.Law.Slots.{look_same, put_there, put_elsewhere}
 use Rattle.papaya_call.proofs.RestsLearnMoments.{come_reached}
@@ -41,48 +45,53 @@ module _ {K P : Type 0} (g : Setting K P) (c : Coding K P) (hashed : IsHashed g 
   abbrev now : State P
   now = run (begun ++ since) start
 
-  module _ (at : Place) (r : IsAt g c begun since k at) (q : P) (mine : g.key q ≡ k) where
+  module _ (at : Place) (r : IsAt g c begun since k at) where
     -- the key's search comes to the place
     reached : IsReached g now k at.table
     reached = come_reached g c hashed.lawful begun since may k at.table r.come
 
-    -- at an Empty place a pair of the key may be claimed
-    pub may_claim : code g c (now.slot at.table at.probe.i) ≡ 0 → MayClaim g now at.table at.probe.i q
-    may_claim none = record {
-      empty = code_empty g c (now.slot at.table at.probe.i) none;
-      reached = subst (λ l. IsReached g now l at.table) (sym mine) reached;
-      place = record {
-        at = at.probe.len;
-        within = r.within;
-        is = ap (λ l. g.place l at.table at.probe.len) mine ∙ sym r.slot;
-        before = subst (λ l. (i : ℕ) → i < at.probe.len → beyond (look g now l at.table i) ≡ true) (sym mine) r.before;
-      };
+    -- so does the search for each equal key
+    reached_pair : (p : P) → g.same k (g.key p) ≡ true → IsReached g now (g.key p) at.table
+    reached_pair p same = let e = reached in record {
+      from = e.from;
+      links = e.links;
+      was = e.was;
+      is = e.is;
+      made = e.made;
+      mode = e.mode;
+      passed = λ i lt. subst (λ V. IsPassed g.places V (walk now.next i e.from)) (look_same g hashed.lawful now k (g.key p) same) (e.passed i lt);
     }
 
-    module _ (p : P) (live : now.slot at.table at.probe.i ≡ Live p) (own_word : own (look g now k at.table at.probe.len) ≡ true) where
-      -- the pair that stands there is of the key
-      same_key : g.same k (g.key p) ≡ true
-      same_key = own_live (g.same k (g.key p)) p (ap own (sym (sees g c hashed begun since k at r (Live p) live)) ∙ own_word)
+    -- a pair of the key that is Live may be buried
+    pub may_bury : (p : P) → now.slot at.table at.probe.i ≡ Live p → g.same k (g.key p) ≡ true → MayBury g now at.table at.probe.i p
+    may_bury p live same = record { live = live; reached = reached_pair p same }
 
-      -- where the key is reached the pair's key is
-      reached_pair : IsReached g now (g.key p) at.table
-      reached_pair = let e = reached in record {
-        from = e.from;
-        links = e.links;
-        was = e.was;
-        is = e.is;
-        made = e.made;
-        mode = e.mode;
-        passed = λ i lt. subst (λ V. IsPassed g.places V (walk now.next i e.from)) (look_same g hashed.lawful now k (g.key p) same_key) (e.passed i lt);
+    module _ (q : P) (mine : g.key q ≡ k) where
+      -- at an Empty place a pair of the key may be claimed
+      pub may_claim : code g c (now.slot at.table at.probe.i) ≡ 0 → MayClaim g now at.table at.probe.i q
+      may_claim none = record {
+        empty = code_empty g c (now.slot at.table at.probe.i) none;
+        reached = subst (λ l. IsReached g now l at.table) (sym mine) reached;
+        place = record {
+          at = at.probe.len;
+          within = r.within;
+          is = ap (λ l. g.place l at.table at.probe.len) mine ∙ sym r.slot;
+          before = subst (λ l. (i : ℕ) → i < at.probe.len → beyond (look g now l at.table i) ≡ true) (sym mine) r.before;
+        };
       }
 
-      -- it may be replaced
-      pub may_replace : MayReplace g now at.table at.probe.i p q
-      may_replace = record {
-        live = live;
-        reached = reached_pair;
-        same = subst (λ l. g.same (g.key p) l ≡ true) (sym mine) (hashed.lawful.back k (g.key p) same_key);
-      }
+      module _ (p : P) (live : now.slot at.table at.probe.i ≡ Live p) (own_word : own (look g now k at.table at.probe.len) ≡ true) where
+        -- the pair that stands there is of the key
+        same_key : g.same k (g.key p) ≡ true
+        same_key = own_live (g.same k (g.key p)) p (ap own (sym (sees g c hashed begun since k at r (Live p) live)) ∙ own_word)
+
+        -- it may be replaced
+        pub may_replace : MayReplace g now at.table at.probe.i p q
+        may_replace = record {
+          live = live;
+          reached = reached_pair p same_key;
+          same = subst (λ l. g.same (g.key p) l ≡ true) (sym mine) (hashed.lawful.back k (g.key p) same_key);
+        }
 
   -- the exchange of this kind at this place may be made, and writes just the new word
   abbrev pub MayDo : Option StepKind → Hands P → At → (old new : ℕ) → Type 0
@@ -156,7 +165,36 @@ module _ {K P : Type 0} (g : Setting K P) (c : Coding K P) (hashed : IsHashed g 
   writing : (hands : Hands P) (hash n : ℕ) → hash ≡ c.hash k → RestsMade g c begun since k hands (Pair n) → (task : Task) (write : Write) → RestsWriting g c begun since k task write
       → MayDo (Some (cond (write.old == 0) kinds.Claim kinds.Replace)) hands (Slot write.place.table write.place.probe.i) write.old (new_word hash n)
   writing hands hash n same m Get write r = absurd r
+  writing hands hash n same m RemoveIf write r = absurd r
   writing hands hash n same m (Insert replace) write r = writes hands hash n same m replace write r (write.old == 0) refl
+
+  -- a Live word that came of one of the key is of the key
+  still_own : (was : Word P) (p q : P) → IsOfKind word_kinds.Live was → named was ≡ Some p → Becomes g was (Live q) → g.same k (g.key p) ≡ true → g.same k (g.key q) ≡ true
+  still_own was p q live names became same =
+      let is : live.0 ≡ p = let n = ap named (sym live.1) ∙ names in cc n in
+      let became' : Becomes g (Live live.0) (Live q) = subst (λ w. Becomes g w (Live q)) live.1 became in
+      hashed.lawful.through k (g.key p) (g.key q) same (subst (λ r. g.same (g.key r) (g.key q) ≡ true) is became')
+
+  -- a removed pair's word is the code of its Buried word
+  grave_code : (p : P) (word : ℕ) → code g c (Live p) ≡ word → code g c (Buried p) ≡ grave_word word
+  grave_code p word e =
+      let parts = code_pair g c hashed.coding (Live p) p refl in
+      ap (λ b. buried_word b (c.number p)) (sym parts.1) ∙ ap (buried_word (byte_of (code g c (Live p)))) (sym parts.0) ∙ ap grave_word e
+
+  -- a pair to which the closure agreed is buried where its word stands
+  buries : (hands : Hands P) (removal : Removal) → MayRemove g c begun since k hands removal → MayDo (Some kinds.Bury) hands (Slot removal.place.table removal.place.probe.i) removal.word (grave_word removal.word)
+  buries hands removal r stands_there =
+      let t : ℕ = removal.place.table in
+      let x : ℕ = removal.place.probe.i in
+      let live : IsOfKind word_kinds.Live (now.slot t x) = subst (λ y. IsOfKind y (now.slot t x)) (ap kind_of stands_there ∙ r.live) (word_of_kind g c (now.slot t x)) in
+      let was_live : IsOfKind word_kinds.Live r.met.was = subst (λ y. IsOfKind y r.met.was) (ap kind_of (sym r.met.loaded) ∙ r.live) (word_of_kind g c r.met.was) in
+      let q : P = live.0 in
+      let same : g.same k (g.key q) ≡ true = still_own r.met.was r.pair q was_live r.met.names (subst (Becomes g r.met.was) live.1 r.met.became) r.same in (
+        Bury t x q,
+        (q, live.1, refl),
+        may_bury removal.place r.met.stands q live.1 same,
+        subst (λ y. IsWritten g c now (Slot t x) y (slot_put now t x (Buried q))) (grave_code q removal.word (ap (code g c) (sym live.1) ∙ stands_there)) (slot_written t x (Buried q)),
+      )
 
   -- what a machine asks for may be made
   may_do : (hands : Hands P) (hash : ℕ) → hash ≡ c.hash k → (task : Task) (made : Made) → RestsMade g c begun since k hands made → (stage : Stage) → RestsStage g c begun since k hands task stage
@@ -171,8 +209,13 @@ module _ {K P : Type 0} (g : Setting K P) (c : Coding K P) (hashed : IsHashed g 
   may_do hands hash same task Key m (Writing write) r at old new e = absurd cc
   may_do hands hash same task (Pair n) m (Writing write) r at old new e =
       same_ask (Some (cond (write.old == 0) kinds.Claim kinds.Replace)) hands (Slot write.place.table write.place.probe.i) at write.old old (new_word hash n) new e (writing hands hash n same m task write r)
+  may_do hands hash same task made m (Showing removal) r at old new e = absurd cc
+  may_do hands hash same task made m (Burying removal) r at old new e =
+      same_ask (Some kinds.Bury) hands (Slot removal.place.table removal.place.probe.i) at removal.word old (grave_word removal.word) new e (buries hands removal r.1)
   may_do hands hash same task made m (Counting n) r at old new e = absurd cc
+  may_do hands hash same task made m (Uncounting n) r at old new e = absurd cc
   may_do hands hash same task made m (Leaving t) r at old new e = absurd cc
+  may_do hands hash same task made m (Growing t) r at old new e = absurd cc
   may_do hands hash same task made m (Ended reply) r at old new e = absurd cc
 
   -- the same of the machine

@@ -1,12 +1,13 @@
 -- After an answer that is true of the words a machine rests again.
-use Rattle.std.proofs.Common.{◌≡◌, ⊎_elim, ℕ, ◌<◌, ◌≤◌, ◌==◌, eqb-true, Bool, true, false, cond, MatchBool, Some, List, [], ◌∷◌, ◌++◌, append-nil, refl, sym, ap, ◌∙◌, subst, arith}
+use Rattle.std.proofs.Common.{◌≡◌, ⊎_elim, ℕ, ◌<◌, ◌≤◌, ◌==◌, eqb-true, Bool, true, false, cond, MatchBool, None, Some, List, [], ◌∷◌, ◌++◌, append-nil, refl, sym, ap, ◌∙◌, subst, arith}
 use Rattle.std.proofs.lemmas.Bool.{cases_lt, cond_both, eqb-false}
 use Rattle.papaya_words.specs.Word.{pair_of}
+use Rattle.papaya_words.specs.declared.probe.Refused.TheVariants.{Capacity}
 use Rattle.papaya_call.specs.declared.ask.Answer.{Answer}
 use Rattle.papaya_call.specs.declared.ask.Answer.TheVariants.{Word as Word_read, Exchanged, Found as Found_instead, Yes, Size, Made as Made_number, Ok as Ok_done, Refused as Was_refused}
-use Rattle.papaya_call.specs.declared.call.Reply.TheVariants.{Absent, Inserted, Refused as Reply_refused}
+use Rattle.papaya_call.specs.declared.call.Reply.TheVariants.{Absent, Inserted, Removed, Refused as Reply_refused}
 use Rattle.papaya_call.specs.declared.call.Task.{Task}
-use Rattle.papaya_call.specs.declared.call.Task.TheVariants.{Get, Insert}
+use Rattle.papaya_call.specs.declared.call.Task.TheVariants.{Get, Insert, RemoveIf}
 use Rattle.papaya_call.specs.declared.search.Place.{Place}
 use Rattle.papaya_call.specs.declared.search.Search.TheVariants.{Sizing, Looking, Comparing}
 use Rattle.papaya_call.specs.declared.write.Made.{Made}
@@ -14,23 +15,25 @@ use Rattle.papaya_call.specs.declared.write.Made.TheVariants.{Nothing, Key, Pair
 use Rattle.papaya_call.specs.declared.write.Write.{Write}
 use Rattle.papaya_call.specs.declared.machine.Machine.{Machine}
 use Rattle.papaya_call.specs.declared.machine.State.{State as Stage}
-use Rattle.papaya_call.specs.declared.machine.State.TheVariants.{AtRoot, Making, Opening, Searching, Writing, Counting, Leaving, Ended}
+use Rattle.papaya_call.specs.declared.machine.State.TheVariants.{AtRoot, Making, Opening, Searching, Writing, Showing, Burying, Counting, Uncounting, Leaving, Growing, Ended}
 use Rattle.papaya_call.specs.Law.Exchange.{Word, Setting, State, Exchange, run, start}
 use Rattle.papaya_call.specs.Law.Allows.{AllAllowed}
 use Rattle.papaya_call.specs.declared.ask.At.TheVariants.{Root, Slot}
 use Rattle.papaya_call.specs.declared.ask.StepKind.TheVariants as kinds
 use Rattle.papaya_call.specs.Law.Code.{Coding, code}
-use Rattle.papaya_call.specs.Machine.{IsWriter, after, ask_of, asks, at_root, kind_asked, kind_of_ask, leaves, goes_as}
+use Rattle.papaya_call.specs.Machine.{IsWriter, after, ask_of, asks, at_root, kind_asked, kind_of_ask, left, goes_as, agreed, beaten}
 use Rattle.papaya_call.specs.Search.{first_place, look as look_seen, at_yes}
 use Rattle.papaya_call.specs.Told.{IsHashed, IsAsked, IsTold, IsUnmade, Hands}
 use Rattle.papaya_call.specs.Write.{new_word}
-use Rattle.papaya_call.specs.Rests.{IsAt, IsModeOf, IsOwnPair, Rests, RestsLeaving, RestsMade, RestsStage, RestsWriting, HasMet}
+use Rattle.papaya_call.specs.Remove.{grave_word}
+use Rattle.papaya_call.specs.Rests.{IsAt, IsModeOf, IsOwnPair, Rests, RestsGrowing, RestsLeaving, RestsMade, RestsStage, RestsWriting, HasComeTo, HasMet, WasAtMoment}
 use Rattle.papaya_call.proofs.Law.Code.{code_pair}
 use Rattle.papaya_call.proofs.RestsLearnMoments.{no_root, next_come, over_last, root_come}
 use Rattle.papaya_call.proofs.RestsLearnPlaces.{first}
 use Rattle.papaya_call.proofs.RestsLearnLook.{compared, looks, told_word}
 use Rattle.papaya_call.proofs.RestsLearnGoes.{goes_rests}
 use Rattle.papaya_call.proofs.RestsLearnWrites.{opens, writes}
+use Rattle.papaya_call.proofs.RestsLearnRemovals.{agreed_rests, beaten_rests, buries, uncounted}
 
 -- by a test's outcome
 pub by_test : (b : Bool) (A B R : Type 0) → MatchBool b A B → (b ≡ true → A → R) → (b ≡ false → B → R) → R
@@ -46,34 +49,44 @@ module _ {K P : Type 0} (g : Setting K P) (c : Coding K P) (hashed : IsHashed g 
   abbrev now : State P
   now = run (begun ++ since) start
 
+  -- a call that looks for its key loaded the number of a table
+  looked : (hands : Hands P) (task : Task) (word : ℕ) → (WasAtMoment g c begun since k None → RestsStage g c begun since k hands task (Ended Absent)) → (word ≡ 0 → WasAtMoment g c begun since k None)
+      → (0 < word → HasComeTo g c begun since k word) → RestsStage g c begun since k hands task (left word)
+  looked hands task word says absent come =
+      cond_both (word == 0) (Ended Absent) (Searching (Sizing word)) (RestsStage g c begun since k hands task) (λ none. says (absent (eqb-true word 0 none))) (λ some. come (more_than_none word some))
+
   -- the root that was loaded
   root_rests : (hands : Hands P) (task : Task) → RestsStage g c begun since k hands task (at_root task now.root)
-  root_rests hands Get =
-      cond_both (now.root == 0) (Ended Absent) (Searching (Sizing now.root)) (RestsStage g c begun since k hands Get)
-      (λ none. no_root g c hashed.lawful begun since may k (eqb-true now.root 0 none))
-      (λ some. root_come g c hashed.lawful begun since may k (more_than_none now.root some))
+  root_rests hands Get = looked hands Get now.root (λ m. m) (no_root g c hashed.lawful begun since may k) (root_come g c hashed.lawful begun since may k)
+  root_rests hands RemoveIf = looked hands RemoveIf now.root (λ m. m) (no_root g c hashed.lawful begun since may k) (root_come g c hashed.lawful begun since may k)
   root_rests hands (Insert replace) =
       cond_both (now.root == 0) Making (Searching (Sizing now.root)) (RestsStage g c begun since k hands (Insert replace))
       (λ none. tt)
       (λ some. root_come g c hashed.lawful begun since may k (more_than_none now.root some))
 
   -- the next table that was loaded
-  next_rests : (hands : Hands P) (task : Task) (t : ℕ) → RestsLeaving g c begun since k task t → RestsStage g c begun since k hands task (leaves task (now.next t))
-  next_rests hands Get t r =
-      cond_both (now.next t == 0) (Ended Absent) (Searching (Sizing (now.next t))) (RestsStage g c begun since k hands Get)
-      (λ none. over_last g c hashed.lawful begun since may k t r.1 r.0 r.2 (eqb-true (now.next t) 0 none))
-      (λ some. next_come g c hashed.lawful begun since may k t r.1 r.0 r.2 (more_than_none (now.next t) some))
-  next_rests hands (Insert replace) t r = tt
+  next_rests : (hands : Hands P) (task : Task) (t : ℕ) → RestsLeaving g c begun since k task t → RestsStage g c begun since k hands task (left (now.next t))
+  next_rests hands Get t r = looked hands Get (now.next t) (λ m. m) (over_last g c hashed.lawful begun since may k t r.1 r.0 r.2) (next_come g c hashed.lawful begun since may k t r.1 r.0 r.2)
+  next_rests hands (Insert replace) t r = absurd r
+  next_rests hands RemoveIf t r = looked hands RemoveIf (now.next t) (λ m. m) (over_last g c hashed.lawful begun since may k t r.1 r.0 r.2) (next_come g c hashed.lawful begun since may k t r.1 r.0 r.2)
+
+  -- a call that needs a further table ends refused
+  growing_refused : (hands : Hands P) (task : Task) (t : ℕ) → RestsGrowing g c begun since k task t → (refused : _) → RestsStage g c begun since k hands task (Ended (Reply_refused refused))
+  growing_refused hands Get t r refused = absurd r
+  growing_refused hands (Insert replace) t r refused = tt
+  growing_refused hands RemoveIf t r refused = tt
 
   -- a refusal ends an insertion
   refusal_rests : (hands : Hands P) (task : Task) → IsWriter task → (refused : _) → RestsStage g c begun since k hands task (Ended (Reply_refused refused))
   refusal_rests hands Get w refused = absurd w
   refusal_rests hands (Insert replace) w refused = tt
+  refusal_rests hands RemoveIf w refused = absurd w
 
   -- who writes inserts
   writer : (task : Task) (write : Write) → RestsWriting g c begun since k task write → IsWriter task
   writer Get write r = r
   writer (Insert replace) write r = tt
+  writer RemoveIf write r = r
 
   -- the word that was found at a place
   look_rests : (m : Machine) → m.hash ≡ c.hash k → IsModeOf m.mode g.blocking → (hands : Hands P) (at : Place) → IsAt g c begun since k at
@@ -87,11 +100,13 @@ module _ {K P : Type 0} (g : Setting K P) (c : Coding K P) (hashed : IsHashed g 
   write_stands : (task : Task) (write : Write) → RestsWriting g c begun since k task write → IsAt g c begun since k write.place
   write_stands Get write r = absurd r
   write_stands (Insert replace) write r = r.stands
+  write_stands RemoveIf write r = absurd r
 
   -- a claimed pair that was counted is the reply
   counted : (hands : Hands P) (task : Task) (n : ℕ) → IsWriter task × IsOwnPair g c begun since k hands n → RestsStage g c begun since k hands task (Ended (Inserted n))
   counted hands Get n r = absurd r.0
   counted hands (Insert replace) n r = r.1
+  counted hands RemoveIf n r = absurd r.0
 
   -- another load says nothing of what was made
   made_told : (w : Word P) (hands : Hands P) (made : Made) → RestsMade g c begun since k hands made → RestsMade g c begun since k (told_word w hands) made
@@ -171,7 +186,7 @@ module _ {K P : Type 0} (g : Setting K P) (c : Coding K P) (hashed : IsHashed g 
         let number : c.number p ≡ pair_of word = sym (ap pair_of met.loaded ∙ (code_pair g c hashed.coding met.was p met.names).0) in
         quiet (in_stage made (Searching (Comparing at word))) answer (Yes same) es hands' hands (h.0 p r.1 number) h.1.0 h.1.1
         (rests hands made n (goes_as m.task m.mode (at_yes (Comparing at word) same))
-        (goes_rests g c hashed begun since may k hands m.task m.mode mode (at_yes (Comparing at word) same) (compared g c hashed begun since may k at word p met hands same refl)))
+        (goes_rests g c hashed begun since may k hands m.task m.mode mode (at_yes (Comparing at word) same) (compared g c hashed begun since may k at word p met hands r.1 same refl)))
     learns_in Nothing n (Writing write) r answer es hands' h =
         ⊎_elim
         (λ u. unmade Nothing n (Writing write) answer es hands' u h.1.0 h.1.1 (λ refused. rests hands Nothing n (Ended (Reply_refused refused)) (refusal_rests hands m.task (writer m.task write r) refused)) (rests hands Nothing n (Writing write) r))
@@ -198,8 +213,30 @@ module _ {K P : Type 0} (g : Setting K P) (c : Coding K P) (hashed : IsHashed g 
         (λ other h'.
         quiet (in_stage (Pair i) (Writing write)) answer (Found_instead (code g c w)) es hands' (told_word w hands) h'.0 h'.1 h'.2
         (rests (told_word w hands) (Pair i) n (goes_as m.task m.mode (look_seen write.place m.hash (code g c w))) (look_rests m hash mode hands write.place (write_stands m.task write r))))
+    learns_in made n (Showing removal) r answer es hands' h =
+        ⊎_elim
+        (λ said. quiet (in_stage made (Showing removal)) answer (Yes said.0) es hands' hands said.1 h.1.0 h.1.1 (rests hands made n (agreed removal said.0) (agreed_rests g c hashed begun since may k hands removal r.1 m.task r.0 said.0)))
+        (λ none. quiet (in_stage made (Showing removal)) answer Ok_done es hands' hands none h.1.0 h.1.1 (rests hands made n (Showing removal) r))
+        h.0
+    learns_in made n (Burying removal) r answer es hands' h =
+        let t : ℕ = removal.place.table in
+        let x : ℕ = removal.place.probe.i in
+        let w : Word P = now.slot t x in
+        by_test (code g c w == removal.word)
+        ((answer ≡ Exchanged) × ((e : Exchange P) × IsAsked (Some kinds.Bury) (Slot t x) (grave_word removal.word) now hands e × (es ≡ e ∷ [])) × (hands' ≡ hands))
+        ((answer ≡ Found_instead (code g c w)) × (es ≡ []) × (hands' ≡ told_word w hands))
+        (Learned (in_stage made (Burying removal)) answer es hands') h
+        (λ there h'.
+        answered (in_stage made (Burying removal)) answer Exchanged es hands' hands h'.0 h'.2
+        (buries g c hashed begun since may k hands removal r.1 (grave_word removal.word) es h'.1, record { hash = hash; mode = mode; made = made_later (since ++ es) hands made n; stage = r.0 }))
+        (λ other h'.
+        quiet (in_stage made (Burying removal)) answer (Found_instead (code g c w)) es hands' (told_word w hands) h'.0 h'.1 h'.2
+        (rests (told_word w hands) made (made_told w hands made n) (beaten (in_stage made (Burying removal)) removal (code g c w))
+        (beaten_rests g c hashed begun since may k hands removal r.1 (in_stage made (Burying removal)) (told_word w hands) (code g c w) refl r.0 (look_rests m hash mode hands removal.place r.1.met.stands))))
+    learns_in made n (Uncounting i) r answer es hands' h = quiet (in_stage made (Uncounting i)) answer Ok_done es hands' hands h.0 h.1.0 h.1.1 (rests hands made n (Ended (Removed i)) (uncounted g c hashed begun since may k hands m.task i r))
     learns_in made n (Counting i) r answer es hands' h = quiet (in_stage made (Counting i)) answer Ok_done es hands' hands h.0 h.1.0 h.1.1 (rests hands made n (Ended (Inserted i)) (counted hands m.task i r))
-    learns_in made n (Leaving t) r answer es hands' h = quiet (in_stage made (Leaving t)) answer (Word_read (now.next t)) es hands' hands h.0 h.1 h.2 (rests hands made n (leaves m.task (now.next t)) (next_rests hands m.task t r))
+    learns_in made n (Leaving t) r answer es hands' h = quiet (in_stage made (Leaving t)) answer (Word_read (now.next t)) es hands' hands h.0 h.1 h.2 (rests hands made n (left (now.next t)) (next_rests hands m.task t r))
+    learns_in made n (Growing t) r answer es hands' h = quiet (in_stage made (Growing t)) answer (Word_read (now.next t)) es hands' hands h.0 h.1 h.2 (rests hands made n (Ended (Reply_refused Capacity)) (growing_refused hands m.task t r Capacity))
     learns_in made n (Ended reply) r answer es hands' h = quiet (in_stage made (Ended reply)) answer Ok_done es hands' hands h.0 h.1.0 h.1.1 (rests hands made n (Ended reply) r)
 
   -- of the machine

@@ -1,11 +1,11 @@
 -- Where a search ends, the machine rests on what it saw.
-use Rattle.std.proofs.Common.{◌≡◌, ◌⊎◌, inl, inr, ⊎_elim, ℕ, true, false, cond, List, ◌++◌, refl, sym, ap, ◌∙◌, subst}
+use Rattle.std.proofs.Common.{◌≡◌, ◌⊎◌, inl, inr, ⊎_elim, ℕ, true, false, cond, None, Some, List, ◌++◌, refl, sym, ap, ◌∙◌, subst}
 use Rattle.papaya_words.specs.Word.{kind_of, pair_of}
 use Rattle.papaya_words.specs.declared.word.Kind.TheVariants as kinds
 use Rattle.papaya_words.specs.declared.probe.ResizeMode.{ResizeMode}
 use Rattle.papaya_words.specs.declared.probe.ResizeMode.TheVariants.{Incremental, Blocking}
 use Rattle.papaya_call.specs.declared.call.Task.{Task}
-use Rattle.papaya_call.specs.declared.call.Task.TheVariants.{Get, Insert}
+use Rattle.papaya_call.specs.declared.call.Task.TheVariants.{Get, Insert, RemoveIf}
 use Rattle.papaya_call.specs.declared.search.Place.{Place}
 use Rattle.papaya_call.specs.declared.search.Seen.{Seen}
 use Rattle.papaya_call.specs.declared.search.Seen.TheVariants as seen
@@ -13,9 +13,9 @@ use Rattle.papaya_call.specs.Law.Exchange.{Word, Live, Marked, Copied, Setting, 
 use Rattle.papaya_call.specs.Law.View.{Foreign, Here, Leaving, Gone, look, own, held, view}
 use Rattle.papaya_call.specs.Law.Allows.{AllAllowed}
 use Rattle.papaya_call.specs.Law.Code.{Coding, code}
-use Rattle.papaya_call.specs.Machine.{goes_as, found, replaces}
+use Rattle.papaya_call.specs.Machine.{goes_as, found, removes, replaces}
 use Rattle.papaya_call.specs.Told.{IsHashed, Hands}
-use Rattle.papaya_call.specs.Rests.{HadPair, HasMet, HasNoPlace, IsModeOf, RestsStage}
+use Rattle.papaya_call.specs.Rests.{HadPair, HasMet, IsAt, IsMovingFrom, IsModeOf, RestsStage, WasAtMoment}
 use Rattle.papaya_call.proofs.Law.Code.{code_kind, code_pair}
 use Rattle.papaya_call.proofs.Law.Later.{own_sees, sees_later}
 use Rattle.papaya_call.proofs.RestsLearnMoments.{empty_here, over_blocking}
@@ -37,7 +37,7 @@ module _ {K P : Type 0} (g : Setting K P) (c : Coding K P) (hashed : IsHashed g 
     shows_marked e = ap (view g k) e ∙ ap (λ b. cond b (Leaving p) Foreign) same
 
     -- the map had the pair at a moment
-    had_pair : (h.was ≡ Live p) ⊎ (h.was ≡ Marked p) → HadPair g c begun since k (pair_of word)
+    pub had_pair : (h.was ≡ Live p) ⊎ (h.was ≡ Marked p) → HadPair g c begun since k (pair_of word)
     had_pair e = (
       p,
       sym (ap pair_of h.loaded ∙ (code_pair g c hashed.coding h.was p h.names).0),
@@ -51,35 +51,56 @@ module _ {K P : Type 0} (g : Setting K P) (c : Coding K P) (hashed : IsHashed g 
         ap own (sees g c hashed begun since k at h.stands w refl)
         ∙ own_sees (view g k h.was) (view g k w) (sees_later g hashed.lawful k h.was w h.became) (ap own (shows_live e))
 
-    -- where it stood Marked there is no place for the key
-    no_place : h.was ≡ Marked p → HasNoPlace g c begun since k at.table
-    no_place e =
+    -- where it stood Marked the pair is being copied, or was
+    moving : h.was ≡ Marked p → IsMovingFrom g c begun since k at.table
+    moving e =
         ⊎_elim
-        (λ m. inr (at.probe.len, p, h.stands.within, sees g c hashed begun since k at h.stands (Marked p) m ∙ ap (λ b. cond b (Leaving p) Foreign) same))
-        (λ m. inl (inl (at.probe.len, p, h.stands.within, sees g c hashed begun since k at h.stands (Copied p) m ∙ ap (λ b. cond b (Gone p) Foreign) same)))
+        (λ m. (at.probe.len, p, h.stands.within, inl (sees g c hashed begun since k at h.stands (Marked p) m ∙ ap (λ b. cond b (Leaving p) Foreign) same)))
+        (λ m. (at.probe.len, p, h.stands.within, inr (sees g c hashed begun since k at h.stands (Copied p) m ∙ ap (λ b. cond b (Gone p) Foreign) same)))
         (became_of g c hashed begun since may k at word p h (Marked p) e)
+
+    -- the number says how the word stood
+    live_kind : h.was ≡ Live p → kind_of word ≡ kinds.Live
+    live_kind e = ap kind_of (h.loaded ∙ ap (code g c) e) ∙ code_kind g c (Live p)
+
+    -- of a Marked one too
+    marked_kind : h.was ≡ Marked p → kind_of word ≡ kinds.Marked
+    marked_kind e = ap kind_of (h.loaded ∙ ap (code g c) e) ∙ code_kind g c (Marked p)
 
     -- an insertion that replaces
     replacing : (hands : Hands P) → (h.was ≡ Live p) ⊎ (h.was ≡ Marked p) → RestsStage g c begun since k hands (Insert true) (replaces (kind_of word) at word)
     replacing hands (inl e) =
-        let live : kind_of word ≡ kinds.Live = ap kind_of (h.loaded ∙ ap (code g c) e) ∙ code_kind g c (Live p) in
-        subst (λ y. RestsStage g c begun since k hands (Insert true) (replaces y at word)) (sym live) (record { stands = h.stands; old = inr (refl, live, own_now e) })
+        subst (λ y. RestsStage g c begun since k hands (Insert true) (replaces y at word)) (sym (live_kind e)) (record { stands = h.stands; old = inr (refl, live_kind e, own_now e) })
     replacing hands (inr e) =
-        let marked : kind_of word ≡ kinds.Marked = ap kind_of (h.loaded ∙ ap (code g c) e) ∙ code_kind g c (Marked p) in
-        subst (λ y. RestsStage g c begun since k hands (Insert true) (replaces y at word)) (sym marked) (h.stands.come, no_place e)
+        subst (λ y. RestsStage g c begun since k hands (Insert true) (replaces y at word)) (sym (marked_kind e)) (h.stands.come, inr (moving e))
+
+    -- a removal
+    removing : (hands : Hands P) → hands.last ≡ Some p → (h.was ≡ Live p) ⊎ (h.was ≡ Marked p) → RestsStage g c begun since k hands RemoveIf (removes (kind_of word) at word)
+    removing hands last (inl e) =
+        subst (λ y. RestsStage g c begun since k hands RemoveIf (removes y at word)) (sym (live_kind e)) (tt, record { pair = p; last = last; met = h; live = live_kind e; same = same })
+    removing hands last (inr e) =
+        subst (λ y. RestsStage g c begun since k hands RemoveIf (removes y at word)) (sym (marked_kind e)) (h.stands.come, moving e)
 
     -- each task
-    finds : (hands : Hands P) (task : Task) → (h.was ≡ Live p) ⊎ (h.was ≡ Marked p) → RestsStage g c begun since k hands task (found task at word)
-    finds hands Get e = had_pair e
-    finds hands (Insert false) e = had_pair e
-    finds hands (Insert true) e = replacing hands e
+    finds : (hands : Hands P) → hands.last ≡ Some p → (task : Task) → (h.was ≡ Live p) ⊎ (h.was ≡ Marked p) → RestsStage g c begun since k hands task (found task at word)
+    finds hands last Get e = had_pair e
+    finds hands last (Insert false) e = had_pair e
+    finds hands last (Insert true) e = replacing hands e
+    finds hands last RemoveIf e = removing hands last e
+
+  -- a call that looks for its key comes to an Empty place
+  empty_rests : (at : Place) → IsAt g c begun since k at → now.slot at.table at.probe.i ≡ Word.Empty → WasAtMoment g c begun since k None
+  empty_rests at r e = empty_here g c hashed.lawful begun since may k at.table at.probe.len r.come r.within r.before (sees g c hashed begun since k at r Word.Empty e)
 
   -- what the search saw leads where the machine rests
   pub goes_rests : (hands : Hands P) (task : Task) (mode : ResizeMode) → IsModeOf mode g.blocking → (s : Seen) → RestsSeen g c hashed begun since k hands s → RestsStage g c begun since k hands task (goes_as task mode s)
   goes_rests hands task mode is (seen.On search) r = r
-  goes_rests hands task mode is (seen.Here at word) r = finds at word r.0 r.1 r.2 hands task r.3
-  goes_rests hands Get mode is (seen.Empty at) r = empty_here g c hashed.lawful begun since may k at.table at.probe.len r.0.come r.0.within r.0.before (sees g c hashed begun since k at r.0 Word.Empty r.1)
+  goes_rests hands task mode is (seen.Here at word) r = finds at word r.0 r.2 r.3 hands r.1 task r.4
+  goes_rests hands Get mode is (seen.Empty at) r = empty_rests at r.0 r.1
+  goes_rests hands RemoveIf mode is (seen.Empty at) r = empty_rests at r.0 r.1
   goes_rests hands (Insert replace) mode is (seen.Empty at) r = record { stands = r.0; old = inl refl }
   goes_rests hands Get (Incremental chunk) is (seen.Over t) r = (is, r.0, r.1)
   goes_rests hands Get Blocking is (seen.Over t) r = over_blocking g c hashed.lawful begun since may k t r.0 is r.1
+  goes_rests hands RemoveIf (Incremental chunk) is (seen.Over t) r = (is, r.0, r.1)
+  goes_rests hands RemoveIf Blocking is (seen.Over t) r = over_blocking g c hashed.lawful begun since may k t r.0 is r.1
   goes_rests hands (Insert replace) mode is (seen.Over t) r = (r.0, inl r.1)

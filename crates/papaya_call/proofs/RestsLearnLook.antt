@@ -1,5 +1,5 @@
 -- What a search sees in the word that stands at its place, and by comparing the key of the pair that it met.
-use Rattle.std.proofs.Common.{◌≡◌, ◌⊎◌, inl, inr, ⊎_elim, ℕ, ◌==◌, Bool, true, false, cond, Some, List, ◌++◌, refl, sym, ap, ◌∙◌, subst}
+use Rattle.std.proofs.Common.{◌≡◌, ◌⊎◌, inl, inr, ⊎_elim, ℕ, ◌==◌, Bool, true, false, cond, Some, List, [], ◌++◌, append-nil, refl, sym, ap, ◌∙◌, subst}
 use Rattle.std.proofs.lemmas.Bool.{cond_both}
 use Rattle.papaya_words.specs.Word.{kind_of, byte_of, top_byte}
 use Rattle.papaya_words.specs.declared.word.Kind.TheVariants as kinds
@@ -54,6 +54,7 @@ module _ {K P : Type 0} (g : Setting K P) (c : Coding K P) (hashed : IsHashed g 
       loaded = refl;
       names = n;
       unburied = λ b. unburied (sym (code_kind g c w) ∙ b);
+      stood = (since, ([], append-nil since, e));
       became = subst (λ v. Becomes g v (now.slot at.table at.probe.i)) e ((later_itself g hashed.lawful now).words at.table at.probe.i);
       had = λ h.
           let there = sees g c hashed begun since k at r w e in
@@ -101,16 +102,16 @@ module _ {K P : Type 0} (g : Setting K P) (c : Coding K P) (hashed : IsHashed g 
     became_of w e = subst (λ v. Becomes g v (now.slot at.table at.probe.i)) e h.became
 
     -- the key's pair
-    matches : g.same k (g.key p) ≡ true → (hands : Hands P) (w : Word P) → h.was ≡ w → RestsSeen g c hashed begun since k hands (match_at (kind w) at word)
-    matches same hands Empty e = absurd (let n = h.names in let there = ap named e in cc (n, there))
-    matches same hands Closed e = absurd (let n = h.names in let there = ap named e in cc (n, there))
-    matches same hands (Live q) e = (p, h, same, inl (e ∙ ap Live (same_pair (Live q) q refl e)))
-    matches same hands (Marked q) e = (p, h, same, inr (e ∙ ap Marked (same_pair (Marked q) q refl e)))
-    matches same hands (Copied q) e =
+    matches : g.same k (g.key p) ≡ true → (hands : Hands P) → hands.last ≡ Some p → (w : Word P) → h.was ≡ w → RestsSeen g c hashed begun since k hands (match_at (kind w) at word)
+    matches same hands last Empty e = absurd (let n = h.names in let there = ap named e in cc (n, there))
+    matches same hands last Closed e = absurd (let n = h.names in let there = ap named e in cc (n, there))
+    matches same hands last (Live q) e = (p, last, h, same, inl (e ∙ ap Live (same_pair (Live q) q refl e)))
+    matches same hands last (Marked q) e = (p, last, h, same, inr (e ∙ ap Marked (same_pair (Marked q) q refl e)))
+    matches same hands last (Copied q) e =
         let mine : g.same k (g.key q) ≡ true = subst (λ y. g.same k (g.key y) ≡ true) (sym (same_pair (Copied q) q refl e)) same in
         let gone : look g now k at.table at.probe.len ≡ Gone q = sees g c hashed begun since k at h.stands (Copied q) (became_of (Copied q) e) ∙ ap (λ b. cond b (Gone q) Foreign) mine in
         (h.stands.come, inl (at.probe.len, q, h.stands.within, gone))
-    matches same hands (Buried q) e = absurd (h.unburied (kind_then (Buried q) e))
+    matches same hands last (Buried q) e = absurd (h.unburied (kind_then (Buried q) e))
 
     -- another key's pair
     differs : g.same k (g.key p) ≡ false → (hands : Hands P) → RestsSeen g c hashed begun since k hands (go_on at)
@@ -121,6 +122,6 @@ module _ {K P : Type 0} (g : Setting K P) (c : Coding K P) (hashed : IsHashed g 
         goes_on g c hashed begun since k at h.stands (ap beyond (sees g c hashed begun since k at h.stands (now.slot at.table at.probe.i) refl ∙ foreign)) hands
 
     -- what the comparison tells
-    pub compared : (hands : Hands P) (same : Bool) → g.same k (g.key p) ≡ same → RestsSeen g c hashed begun since k hands (at_yes (Comparing at word) same)
-    compared hands true e = subst (λ y. RestsSeen g c hashed begun since k hands (match_at y at word)) (sym (kind_then h.was refl)) (matches e hands h.was refl)
-    compared hands false e = differs e hands
+    pub compared : (hands : Hands P) → hands.last ≡ Some p → (same : Bool) → g.same k (g.key p) ≡ same → RestsSeen g c hashed begun since k hands (at_yes (Comparing at word) same)
+    compared hands last true e = subst (λ y. RestsSeen g c hashed begun since k hands (match_at y at word)) (sym (kind_then h.was refl)) (matches e hands last h.was refl)
+    compared hands last false e = differs e hands

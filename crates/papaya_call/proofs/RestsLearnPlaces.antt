@@ -1,5 +1,5 @@
 -- The places of a search: the first one, the next one, and that none is left.
-use Rattle.std.proofs.Common.{◌≡◌, ◌⊎◌, inr, ⊎_elim, ℕ, ◌+◌, ◌%◌, ◌<◌, ◌≤◌, nat_lt, ltb-true, ltb-false, true, List, ◌++◌, refl, sym, ap, ◌∙◌, subst, arith}
+use Rattle.std.proofs.Common.{◌≡◌, ◌⊎◌, inr, ⊎_elim, ℕ, ◌+◌, ◌%◌, ◌<◌, ◌≤◌, nat_lt, ltb-true, ltb-false, true, Some, List, ◌++◌, refl, sym, ap, ◌∙◌, subst, arith}
 use Rattle.std.proofs.lemmas.Bool.{cases_lt, cond_both}
 use Rattle.papaya_words.specs.Probe.{place}
 use Rattle.papaya_words.proofs.Places.{place-next}
@@ -23,7 +23,7 @@ module _ {K P : Type 0} (g : Setting K P) (c : Coding K P) (hashed : IsHashed g 
   abbrev pub RestsSeen : Hands P → Seen → Type 0
   RestsSeen hands (seen.On search) = RestsSearch g c begun since k hands search
   RestsSeen hands (seen.Empty at) = IsAt g c begun since k at × (now.slot at.table at.probe.i ≡ Empty)
-  RestsSeen hands (seen.Here at word) = (p : P) × (h : HasMet g c begun since k at word p) × (g.same k (g.key p) ≡ true) × ((h.was ≡ Live p) ⊎ (h.was ≡ Marked p))
+  RestsSeen hands (seen.Here at word) = (p : P) × (hands.last ≡ Some p) × (h : HasMet g c begun since k at word p) × (g.same k (g.key p) ≡ true) × ((h.was ≡ Live p) ⊎ (h.was ≡ Marked p))
   RestsSeen hands (seen.Over t) = HasComeTo g c begun since k t × IsPassed g.places (look g now k) t
 
   -- a search begins at a table's first place

@@ -5,7 +5,7 @@ use Rattle.papaya_call.specs.declared.ask.At.TheVariants.{Root, Slot}
 use Rattle.papaya_call.specs.declared.ask.StepKind.TheVariants as kinds
 use Rattle.papaya_call.specs.declared.call.Reply.TheVariants.{Replaced}
 use Rattle.papaya_call.specs.declared.call.Task.{Task}
-use Rattle.papaya_call.specs.declared.call.Task.TheVariants.{Get, Insert}
+use Rattle.papaya_call.specs.declared.call.Task.TheVariants.{Get, Insert, RemoveIf}
 use Rattle.papaya_call.specs.declared.machine.State.TheVariants.{Counting, Ended}
 use Rattle.papaya_call.specs.declared.write.Made.TheVariants.{Pair}
 use Rattle.papaya_call.specs.declared.write.Write.{Write}
@@ -25,7 +25,7 @@ module _ {K P : Type 0} (g : Setting K P) (c : Coding K P) (hashed : IsHashed g 
   now = run (begun ++ since) start
 
   -- one more allowed exchange
-  one_more : (e : Exchange P) → Allows g now e → AllAllowed g start (begun ++ (since ++ e ∷ []))
+  pub one_more : (e : Exchange P) → Allows g now e → AllAllowed g start (begun ++ (since ++ e ∷ []))
   one_more e allows = subst (AllAllowed g start) (append_assoc begun since (e ∷ [])) (allowed_append g (begun ++ since) (e ∷ []) start may (allows, tt))
 
   -- the state after it
@@ -74,6 +74,7 @@ module _ {K P : Type 0} (g : Setting K P) (c : Coding K P) (hashed : IsHashed g 
       → code g c (now.slot write.place.table write.place.probe.i) ≡ write.old → (es : List (Exchange P)) → ((e : Exchange P) × IsAsked (Some (cond (write.old == 0) kinds.Claim kinds.Replace)) (Slot write.place.table write.place.probe.i) new now hands e × (es ≡ e ∷ []))
       → AllAllowed g start (begun ++ (since ++ es)) × RestsStage g c begun (since ++ es) k hands task (written write n)
   writes hands n new m Get write r old es h = absurd r
+  writes hands n new m RemoveIf write r old es h = absurd r
   writes hands n new m (Insert replace) write r old es h = (
     subst (λ l. AllAllowed g start (begun ++ (since ++ l))) (sym h.2) (one_more h.0 (allowed_write hands n new m replace write r (write.old == 0) refl old h.0 h.1)),
     has_written (since ++ es) hands n m replace write r (write.old == 0) refl,

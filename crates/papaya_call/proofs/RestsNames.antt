@@ -4,14 +4,14 @@ use Rattle.papaya_call.specs.declared.ask.At.TheVariants.{Next, Slot}
 use Rattle.papaya_call.specs.declared.ask.Ask.{Ask}
 use Rattle.papaya_call.specs.declared.ask.Ask.TheVariants.{Load, Exchange as Ask_exchange, SizeOf}
 use Rattle.papaya_call.specs.declared.call.Task.{Task}
-use Rattle.papaya_call.specs.declared.call.Task.TheVariants.{Get, Insert}
+use Rattle.papaya_call.specs.declared.call.Task.TheVariants.{Get, Insert, RemoveIf}
 use Rattle.papaya_call.specs.declared.search.Place.{Place}
 use Rattle.papaya_call.specs.declared.search.Search.TheVariants.{Sizing, Looking, Comparing}
 use Rattle.papaya_call.specs.declared.write.Made.{Made}
 use Rattle.papaya_call.specs.declared.write.Made.TheVariants.{Nothing, Key, Pair}
 use Rattle.papaya_call.specs.declared.write.Write.{Write}
 use Rattle.papaya_call.specs.declared.machine.State.{State as Stage}
-use Rattle.papaya_call.specs.declared.machine.State.TheVariants.{AtRoot, Making, Opening, Searching, Writing, Counting, Leaving, Ended}
+use Rattle.papaya_call.specs.declared.machine.State.TheVariants.{AtRoot, Making, Opening, Searching, Writing, Showing, Burying, Counting, Uncounting, Leaving, Growing, Ended}
 use Rattle.papaya_call.specs.Law.Exchange.{Setting, Exchange, run, start}
 use Rattle.papaya_call.specs.Law.View.{IsReached}
 use Rattle.papaya_call.specs.Law.Class.{IsOn}
@@ -19,7 +19,7 @@ use Rattle.papaya_call.specs.Law.Allows.{AllAllowed}
 use Rattle.papaya_call.specs.Law.Code.{Coding}
 use Rattle.papaya_call.specs.Machine.{asks}
 use Rattle.papaya_call.specs.Told.{Hands, IsHashed}
-use Rattle.papaya_call.specs.Rests.{now, HasComeTo, IsAt, RestsWriting, RestsLeaving, RestsStage}
+use Rattle.papaya_call.specs.Rests.{now, HasComeTo, IsAt, RestsWriting, RestsGrowing, RestsLeaving, RestsStage}
 use Rattle.papaya_call.proofs.Law.Chain.{walk_on}
 use Rattle.papaya_call.proofs.Law.Moments.{allowed_first}
 use Rattle.papaya_call.proofs.Law.OneMap.{lasting, root_is_reached, sound}
@@ -54,7 +54,14 @@ module _ {K P : Type 0} (g : Setting K P) (c : Coding K P) (h : IsHashed g c) (b
   -- what a call leaves is on the chain
   leaving_on : (task : Task) (t : ℕ) → RestsLeaving g c begun since k task t → OnChain t
   leaving_on Get t r = come_on t r.1
-  leaving_on (Insert replace) t r = come_on t r.0
+  leaving_on (Insert replace) t r = absurd r
+  leaving_on RemoveIf t r = come_on t r.1
+
+  -- and what it is to grow from
+  growing_on : (task : Task) (t : ℕ) → RestsGrowing g c begun since k task t → OnChain t
+  growing_on Get t r = absurd r
+  growing_on (Insert replace) t r = come_on t r.0
+  growing_on RemoveIf t r = come_on t r.0
 
   -- the table is on the chain, and has the slot
   abbrev pub HasSlot : ℕ → ℕ → Type 0
@@ -76,6 +83,7 @@ module _ {K P : Type 0} (g : Setting K P) (c : Coding K P) (h : IsHashed g c) (b
   write_within : (task : Task) (write : Write) → RestsWriting g c begun since k task write → HasSlot write.place.table write.place.probe.i
   write_within Get write r = absurd r
   write_within (Insert replace) write r = place_within write.place r.stands
+  write_within RemoveIf write r = absurd r
 
   module _ (hands : Hands P) (task : Task) (hash : ℕ) where
     -- of each stage's ask
@@ -89,8 +97,12 @@ module _ {K P : Type 0} (g : Setting K P) (c : Coding K P) (h : IsHashed g c) (b
     ask_named Nothing (Writing write) r = tt
     ask_named Key (Writing write) r = tt
     ask_named (Pair n) (Writing write) r = write_within task write r
+    ask_named made (Showing removal) r = tt
+    ask_named made (Burying removal) r = place_within removal.place (r.1).met.stands
     ask_named made (Counting n) r = tt
+    ask_named made (Uncounting n) r = tt
     ask_named made (Leaving t) r = leaving_on task t r
+    ask_named made (Growing t) r = growing_on task t r
     ask_named made (Ended reply) r = tt
 
   -- a slot that is loaded or exchanged

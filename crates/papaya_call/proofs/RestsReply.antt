@@ -1,5 +1,5 @@
 -- What a call has changed, and that a refusal is answered or is of a full table.
-use Rattle.std.proofs.Common.{◌≡◌, ⊎_elim, ℕ, ◌<◌, ◌==◌, Bool, true, false, cond, None, Some, List, [], ◌∷◌, refl, sym, ap, subst, arith}
+use Rattle.std.proofs.Common.{◌≡◌, ◌⊎◌, ⊎_elim, ℕ, ◌<◌, ◌==◌, Bool, true, false, cond, None, Some, List, [], ◌∷◌, refl, sym, ap, subst, arith}
 use Rattle.std.proofs.lemmas.Bool.{cond_both}
 use Rattle.papaya_words.specs.Word.{kind_of, pair_of, top_byte}
 use Rattle.papaya_words.specs.declared.probe.Refused.{Refused}
@@ -14,7 +14,8 @@ use Rattle.papaya_call.specs.declared.ask.At.TheVariants.{Root, Slot}
 use Rattle.papaya_call.specs.declared.ask.StepKind.TheVariants as kinds
 use Rattle.papaya_call.specs.declared.call.Reply.TheVariants.{Absent, Replaced}
 use Rattle.papaya_call.specs.declared.call.Task.{Task}
-use Rattle.papaya_call.specs.declared.call.Task.TheVariants.{Get, Insert}
+use Rattle.papaya_call.specs.declared.call.Task.TheVariants.{Get, Insert, RemoveIf}
+use Rattle.papaya_call.specs.declared.remove.Removal.{Removal}
 use Rattle.papaya_call.specs.declared.search.Place.{Place}
 use Rattle.papaya_call.specs.declared.search.Search.TheVariants.{Sizing, Looking, Comparing}
 use Rattle.papaya_call.specs.declared.search.Seen.{Seen}
@@ -23,12 +24,13 @@ use Rattle.papaya_call.specs.declared.write.Made.{Made}
 use Rattle.papaya_call.specs.declared.write.Made.TheVariants.{Nothing, Key, Pair}
 use Rattle.papaya_call.specs.declared.machine.Machine.{Machine}
 use Rattle.papaya_call.specs.declared.machine.State.{State as Stage}
-use Rattle.papaya_call.specs.declared.machine.State.TheVariants.{AtRoot, Making, Opening, Searching, Writing, Counting, Leaving, Ended}
+use Rattle.papaya_call.specs.declared.machine.State.TheVariants.{AtRoot, Making, Opening, Searching, Writing, Showing, Burying, Counting, Uncounting, Leaving, Growing, Ended}
 use Rattle.papaya_call.specs.Law.Exchange.{Setting, State, Exchange}
 use Rattle.papaya_call.specs.Law.Code.{Coding, code}
-use Rattle.papaya_call.specs.Machine.{after, ask_of, asks, at_root, goes_as, kind_asked, kind_of_ask, leaves, replaces}
+use Rattle.papaya_call.specs.Machine.{after, agreed, ask_of, asks, at_root, beaten_by, goes_as, kind_asked, kind_of_ask, left, removes, replaces}
 use Rattle.papaya_call.specs.Search.{look as look_seen, at_yes as search_compared}
 use Rattle.papaya_call.specs.Told.{IsHashed, IsAsked, IsTold, IsUnmade, Hands, told_of}
+use Rattle.papaya_call.specs.Remove.{grave_word}
 use Rattle.papaya_call.specs.Rests.{change_in, change_after, change_of_kind}
 use Rattle.papaya_call.specs.Write.{new_word}
 use Rattle.papaya_call.proofs.Law.Code.{byte_small}
@@ -43,27 +45,45 @@ replaces_unchanged word_kinds.Copied at word = refl
 replaces_unchanged word_kinds.Buried at word = refl
 replaces_unchanged word_kinds.Closed at word = refl
 
+-- nor has a removal that is to come
+removes_unchanged : (kd : Kind) (at : Place) (word : ℕ) → change_in (removes kd at word) ≡ None
+removes_unchanged word_kinds.Empty at word = refl
+removes_unchanged word_kinds.Live at word = refl
+removes_unchanged word_kinds.Marked at word = refl
+removes_unchanged word_kinds.Copied at word = refl
+removes_unchanged word_kinds.Buried at word = refl
+removes_unchanged word_kinds.Closed at word = refl
+
 -- nor has a call that searched
 goes_unchanged : (task : Task) (mode : ResizeMode) (s : Seen) → change_in (goes_as task mode s) ≡ None
 goes_unchanged task mode (seen.On search) = refl
 goes_unchanged Get mode (seen.Here at word) = refl
 goes_unchanged (Insert false) mode (seen.Here at word) = refl
 goes_unchanged (Insert true) mode (seen.Here at word) = replaces_unchanged (kind_of word) at word
+goes_unchanged RemoveIf mode (seen.Here at word) = removes_unchanged (kind_of word) at word
 goes_unchanged Get mode (seen.Empty at) = refl
+goes_unchanged RemoveIf mode (seen.Empty at) = refl
 goes_unchanged (Insert replace) mode (seen.Empty at) = refl
 goes_unchanged Get (Incremental chunk) (seen.Over t) = refl
 goes_unchanged Get Blocking (seen.Over t) = refl
+goes_unchanged RemoveIf (Incremental chunk) (seen.Over t) = refl
+goes_unchanged RemoveIf Blocking (seen.Over t) = refl
 goes_unchanged (Insert replace) mode (seen.Over t) = refl
 
 -- nor one that loaded the root
 root_unchanged : (task : Task) (word : ℕ) → change_in (at_root task word) ≡ None
 root_unchanged Get word = cond_both (word == 0) (Ended Absent) (Searching (Sizing word)) (λ s. change_in s ≡ None) (λ _. refl) (λ _. refl)
+root_unchanged RemoveIf word = cond_both (word == 0) (Ended Absent) (Searching (Sizing word)) (λ s. change_in s ≡ None) (λ _. refl) (λ _. refl)
 root_unchanged (Insert replace) word = cond_both (word == 0) Making (Searching (Sizing word)) (λ s. change_in s ≡ None) (λ _. refl) (λ _. refl)
 
 -- nor one that loaded the next table
-next_unchanged : (task : Task) (word : ℕ) → change_in (leaves task word) ≡ None
-next_unchanged Get word = cond_both (word == 0) (Ended Absent) (Searching (Sizing word)) (λ s. change_in s ≡ None) (λ _. refl) (λ _. refl)
-next_unchanged (Insert replace) word = refl
+next_unchanged : (word : ℕ) → change_in (left word) ≡ None
+next_unchanged word = cond_both (word == 0) (Ended Absent) (Searching (Sizing word)) (λ s. change_in s ≡ None) (λ _. refl) (λ _. refl)
+
+-- nor one whose closure answered
+agreed_unchanged : (removal : Removal) (agrees : Bool) → change_in (agreed removal agrees) ≡ None
+agreed_unchanged removal true = refl
+agreed_unchanged removal false = refl
 
 -- a pair that was written is in the map: it was claimed, or took the place of another
 written_changes : (b : Bool) (old new n : ℕ) → pair_of new ≡ n → change_in (cond b (Counting n) (Ended (Replaced (pair_of old) n))) ≡ change_of_kind (Some (cond b kinds.Claim kinds.Replace)) old new
@@ -80,6 +100,23 @@ module _ {K P : Type 0} (g : Setting K P) (c : Coding K P) (hashed : IsHashed g 
   new_pair n =
       let small : top_byte m.hash < 128 = subst (λ h. top_byte h < 128) (sym hash) (byte_small (c.hash k) (hashed.coding.hash_fits k)) in
       pair_of-filled_word 1 (top_byte m.hash) n (omega arith) small
+
+  -- nothing changes by a burial that was lost
+  beaten_unchanged : (made : Made) (stage : Stage) (kd : Kind) (at : Place) (word : ℕ) → change_in (beaten_by kd (record m { made = made; state = stage }) at word) ≡ None
+  beaten_unchanged made stage word_kinds.Buried at word = refl
+  beaten_unchanged made stage word_kinds.Empty at word = goes_unchanged m.task m.mode (look_seen at m.hash word)
+  beaten_unchanged made stage word_kinds.Live at word = goes_unchanged m.task m.mode (look_seen at m.hash word)
+  beaten_unchanged made stage word_kinds.Marked at word = goes_unchanged m.task m.mode (look_seen at m.hash word)
+  beaten_unchanged made stage word_kinds.Copied at word = goes_unchanged m.task m.mode (look_seen at m.hash word)
+  beaten_unchanged made stage word_kinds.Closed at word = goes_unchanged m.task m.mode (look_seen at m.hash word)
+
+  -- nor by what a closure answers
+  shown_unchanged : (made : Made) (removal : Removal) (answer : Answer) → (((agrees : Bool) × (answer ≡ Yes agrees)) ⊎ (answer ≡ Ok_done)) → Changes made (Showing removal) answer
+  shown_unchanged made removal answer h =
+      ⊎_elim
+      (λ (said : (agrees : Bool) × (answer ≡ Yes agrees)). subst (Changes made (Showing removal)) (sym said.1) (agreed_unchanged removal said.0))
+      (λ (none : answer ≡ Ok_done). subst (Changes made (Showing removal)) (sym none) refl)
+      h
 
   -- nothing changes where there is nothing to make
   unmade_changes : (made : Made) (stage : Stage) (answer : Answer) → IsUnmade g c k answer → ((refused : Refused) → Changes made stage (Was_refused refused)) → Changes made stage Ok_done → Changes made stage answer
@@ -123,7 +160,20 @@ module _ {K P : Type 0} (g : Setting K P) (c : Coding K P) (hashed : IsHashed g 
       (λ _ h'. subst (Changes (Pair i) (Writing write)) (sym h'.0) (written_changes (write.old == 0) write.old (new_word m.hash i) i (new_pair i)))
       (λ _ h'. subst (Changes (Pair i) (Writing write)) (sym h'.0) (goes_unchanged m.task m.mode (look_seen write.place m.hash word)))
   changes_in made (Counting i) answer h = subst (Changes made (Counting i)) (sym h.0) refl
-  changes_in made (Leaving t) answer h = subst (Changes made (Leaving t)) (sym h.0) (next_unchanged m.task (s.next t))
+  changes_in made (Showing removal) answer h = shown_unchanged made removal answer h.0
+  changes_in made (Burying removal) answer h =
+      let t : ℕ = removal.place.table in
+      let x : ℕ = removal.place.probe.i in
+      let word : ℕ = code g c (s.slot t x) in
+      by_test (word == removal.word)
+      ((answer ≡ Exchanged) × ((e : Exchange P) × IsAsked (Some kinds.Bury) (Slot t x) (grave_word removal.word) s hands e × (es ≡ e ∷ [])) × (hands' ≡ hands))
+      ((answer ≡ Found_instead word) × (es ≡ []) × (hands' ≡ told_of s (Slot t x) hands))
+      (Changes made (Burying removal) answer) h
+      (λ _ h'. subst (Changes made (Burying removal)) (sym h'.0) refl)
+      (λ _ h'. subst (Changes made (Burying removal)) (sym h'.0) (beaten_unchanged made (Burying removal) (kind_of word) removal.place word))
+  changes_in made (Uncounting i) answer h = subst (Changes made (Uncounting i)) (sym h.0) refl
+  changes_in made (Leaving t) answer h = subst (Changes made (Leaving t)) (sym h.0) (next_unchanged (s.next t))
+  changes_in made (Growing t) answer h = subst (Changes made (Growing t)) (sym h.0) refl
   changes_in made (Ended reply) answer h = subst (Changes made (Ended reply)) (sym h.0) refl
 
   -- of the machine

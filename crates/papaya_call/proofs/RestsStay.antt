@@ -1,7 +1,7 @@
 -- What a machine rests on stays so, whatever others exchange.
 use Rattle.std.proofs.Common.{◌≡◌, inl, inr, ⊎_elim, ℕ, Bool, true, Option, Some, List, ◌++◌, append_assoc, refl, sym, ap, ◌∙◌, subst}
 use Rattle.papaya_call.specs.declared.call.Task.{Task}
-use Rattle.papaya_call.specs.declared.call.Task.TheVariants.{Get, Insert}
+use Rattle.papaya_call.specs.declared.call.Task.TheVariants.{Get, Insert, RemoveIf}
 use Rattle.papaya_call.specs.declared.search.Place.{Place}
 use Rattle.papaya_call.specs.declared.write.Write.{Write}
 use Rattle.papaya_call.specs.declared.machine.Machine.{Machine}
@@ -11,7 +11,7 @@ use Rattle.papaya_call.specs.Law.Allows.{AllAllowed}
 use Rattle.papaya_call.specs.Law.Later.{IsLater, IsLasting}
 use Rattle.papaya_call.specs.Law.Code.{Coding}
 use Rattle.papaya_call.specs.Told.{Hands, IsHashed}
-use Rattle.papaya_call.specs.Rests.{now, HasComeTo, IsAt, HasMet, MayWrite, WasAtMoment, HasNoPlace, RestsLeaving, Rests}
+use Rattle.papaya_call.specs.Rests.{now, HasComeTo, IsAt, HasMet, MayWrite, WasAtMoment, IsMovingFrom, RestsGrowing, RestsLeaving, Rests}
 use Rattle.papaya_call.proofs.Law.Later.{Sees, becomes_through, own_sees, sees_later}
 use Rattle.papaya_call.proofs.Law.OneMap.{lasting, later}
 use Rattle.papaya_call.proofs.RestsCarried.{rests_carried}
@@ -41,9 +41,13 @@ module _ {K P : Type 0} (g : Setting K P) (c : Coding K P) (h : IsHashed g c) (b
   sees_next : (t j : ℕ) → Sees (look g (now g c begun since k) k t j) (look g (now g c begun (since ++ es) k) k t j)
   sees_next t j = let x : ℕ = g.place k t j in sees_later g h.lawful k ((now g c begun since k).slot t x) ((now g c begun (since ++ es) k).slot t x) (state_later.words t x)
 
+  -- a moment of the call has the new exchanges behind it too
+  more_behind : (so_far rest : List (Exchange P)) → so_far ++ rest ≡ since → so_far ++ (rest ++ es) ≡ since ++ es
+  more_behind so_far rest is = sym (append_assoc so_far rest es) ∙ ap (λ l. l ++ es) is
+
   -- a moment of the call is one of it for good
   moment_stays : (value : Option P) → WasAtMoment g c begun since k value → WasAtMoment g c begun (since ++ es) k value
-  moment_stays value m = record { so_far = m.so_far; rest = m.rest ++ es; is = sym (append_assoc m.so_far m.rest es) ∙ ap (λ l. l ++ es) m.is; value_is = m.value_is }
+  moment_stays value m = record { so_far = m.so_far; rest = m.rest ++ es; is = more_behind m.so_far m.rest m.is; value_is = m.value_is }
 
   -- the search came to the table
   come_stays : (t : ℕ) → HasComeTo g c begun since k t → HasComeTo g c begun (since ++ es) k t
@@ -51,7 +55,7 @@ module _ {K P : Type 0} (g : Setting K P) (c : Coding K P) (h : IsHashed g c) (b
     some = r.some;
     is = ⊎_elim
         (λ h. inl (h.0, state_lasts.reached k t h.1))
-        (λ h. let m = h.1 in inr (h.0, (m.0, m.1 ++ es, sym (append_assoc m.0 m.1 es) ∙ ap (λ l. l ++ es) m.2, m.3)))
+        (λ h. let m = h.1 in inr (h.0, (m.0, m.1 ++ es, more_behind m.0 m.1 m.2, m.3)))
         r.is;
   }
 
@@ -74,6 +78,7 @@ module _ {K P : Type 0} (g : Setting K P) (c : Coding K P) (h : IsHashed g c) (b
     loaded = r.loaded;
     names = r.names;
     unburied = r.unburied;
+    stood = let m = r.stood in (m.0, ((m.1).0 ++ es, more_behind m.0 (m.1).0 (m.1).1, (m.1).2));
     became = becomes_through g h.lawful r.was ((now g c begun since k).slot at.table at.probe.i) ((now g c begun (since ++ es) k).slot at.table at.probe.i) r.became (state_later.words at.table at.probe.i);
     had = λ e. moment_stays (Some p) (r.had e);
   }
@@ -89,20 +94,26 @@ module _ {K P : Type 0} (g : Setting K P) (c : Coding K P) (h : IsHashed g c) (b
     old = ⊎_elim (λ e. inl e) (λ e. inr (e.0, e.1, own_stays write.place.table write.place.probe.len e.2)) r.old;
   }
 
-  -- a pair that was being copied is so still, or it is copied and the table passed
-  no_place_stays : (t : ℕ) → HasNoPlace g c begun since k t → HasNoPlace g c begun (since ++ es) k t
-  no_place_stays t (inl pass) = inl (state_lasts.passed k t pass)
-  no_place_stays t (inr (j, p, lt, e)) =
-      ⊎_elim (λ f. inr (j, p, lt, f)) (λ f. inl (inl (j, p, lt, f))) (subst (λ v. Sees v (look g (now g c begun (since ++ es) k) k t j)) e (sees_next t j))
+  -- a pair that was being copied is so still, or it is copied
+  moving_stays : (t : ℕ) → IsMovingFrom g c begun since k t → IsMovingFrom g c begun (since ++ es) k t
+  moving_stays t (j, p, lt, inl e) = (j, p, lt, subst (λ v. Sees v (look g (now g c begun (since ++ es) k) k t j)) e (sees_next t j))
+  moving_stays t (j, p, lt, inr e) = (j, p, lt, inr (subst (λ v. Sees v (look g (now g c begun (since ++ es) k) k t j)) e (sees_next t j)))
 
   -- what a call leaves
   leaving_stays : (task : Task) (t : ℕ) → RestsLeaving g c begun since k task t → RestsLeaving g c begun (since ++ es) k task t
   leaving_stays Get t r = (r.0, come_stays t r.1, state_lasts.passed k t r.2)
-  leaving_stays (Insert replace) t r = (come_stays t r.0, no_place_stays t r.1)
+  leaving_stays (Insert replace) t r = r
+  leaving_stays RemoveIf t r = (r.0, come_stays t r.1, state_lasts.passed k t r.2)
+
+  -- where it needs a further table
+  growing_stays : (task : Task) (t : ℕ) → RestsGrowing g c begun since k task t → RestsGrowing g c begun (since ++ es) k task t
+  growing_stays Get t r = r
+  growing_stays (Insert replace) t r = (come_stays t r.0, ⊎_elim (λ pass. inl (state_lasts.passed k t pass)) (λ moving. inr (moving_stays t moving)) r.1)
+  growing_stays RemoveIf t r = (come_stays t r.0, moving_stays t r.1)
 
   -- the machine rests on what it rested on
   pub rests_stays : (m : Machine) (hands : Hands P) → Rests g c begun since k m hands → Rests g c begun (since ++ es) k m hands
   rests_stays m hands r =
       rests_carried g g c begun since (since ++ es) k
-      (record { mode = refl; key = λ p. refl; moment = moment_stays; come = come_stays; stands = at_stays; met = met_stays; write = write_stays; leaving = leaving_stays })
+      (record { mode = refl; key = λ p. refl; same = λ l l'. refl; moment = moment_stays; come = come_stays; stands = at_stays; met = met_stays; write = write_stays; leaving = leaving_stays; growing = growing_stays })
       hands m r

@@ -1,13 +1,13 @@
 -- What a machine rests on stays so, whatever tables come later.
-use Rattle.std.proofs.Common.{◌≡◌, inl, inr, ⊎_elim, ℕ, ◌<◌, Bool, Option, None, Some, List, ◌++◌, refl, sym, ap, ◌∙◌, subst}
+use Rattle.std.proofs.Common.{◌≡◌, ◌⊎◌, inl, inr, ⊎_elim, ℕ, ◌<◌, Bool, Option, None, Some, List, ◌++◌, refl, sym, ap, ◌∙◌, subst}
 use Rattle.papaya_words.specs.Word.{top_byte, live_word, marked_word, copied_word, buried_word}
 use Rattle.papaya_call.specs.declared.call.Task.{Task}
-use Rattle.papaya_call.specs.declared.call.Task.TheVariants.{Get, Insert}
+use Rattle.papaya_call.specs.declared.call.Task.TheVariants.{Get, Insert, RemoveIf}
 use Rattle.papaya_call.specs.declared.search.Place.{Place}
 use Rattle.papaya_call.specs.declared.write.Write.{Write}
 use Rattle.papaya_call.specs.declared.machine.Machine.{Machine}
 use Rattle.papaya_call.specs.Law.Exchange.{Word, Empty, Closed, Live, Marked, Copied, Buried, Setting, Exchange, start}
-use Rattle.papaya_call.specs.Law.View.{held, own, beyond, look, IsPassed}
+use Rattle.papaya_call.specs.Law.View.{Leaving as View_leaving, Gone, held, own, beyond, look, IsPassed}
 use Rattle.papaya_call.specs.Law.Class.{IsOn}
 use Rattle.papaya_call.specs.Law.Allows.{AllAllowed}
 use Rattle.papaya_call.specs.Law.Meaning.{map_left, map_of}
@@ -15,7 +15,7 @@ use Rattle.papaya_call.specs.Law.Invariant.{IsSound}
 use Rattle.papaya_call.specs.Law.Code.{Coding, byte_of_pair, code}
 use Rattle.papaya_call.specs.Law.Grows.{Agrees}
 use Rattle.papaya_call.specs.Told.{Hands, IsHashed}
-use Rattle.papaya_call.specs.Rests.{now, HasComeTo, IsAt, HasMet, MayWrite, WasAtMoment, HasNoPlace, RestsLeaving, Rests}
+use Rattle.papaya_call.specs.Rests.{now, HasComeTo, IsAt, HasMet, MayWrite, WasAtMoment, IsMovingFrom, RestsGrowing, RestsLeaving, Rests}
 use Rattle.papaya_call.proofs.Law.Carries.{look_agrees, view_agrees, passed_carries}
 use Rattle.papaya_call.proofs.Law.Grows.{becomes_carries, map_of_carries, reached_carries}
 use Rattle.papaya_call.proofs.Law.OneMap.{sound}
@@ -86,6 +86,7 @@ module _ {K P : Type 0} (g g' : Setting K P) (c : Coding K P) (h : IsHashed g c)
     loaded = r.loaded ∙ sym (code_same r.was);
     names = r.names;
     unburied = r.unburied;
+    stood = r.stood;
     became = becomes_carries g g' (IsOn (now g c begun since k).first (now g c begun since k).next) agrees r.was ((now g c begun since k).slot at.table at.probe.i) r.became;
     had = λ e. moment_carries (Some p) (r.had (ap held (sym (view_agrees g g' (now g c begun since k) kept agrees k r.was)) ∙ e));
   }
@@ -101,19 +102,30 @@ module _ {K P : Type 0} (g g' : Setting K P) (c : Coding K P) (h : IsHashed g c)
   table_passed : (t : ℕ) → HasComeTo g c begun since k t → IsPassed g.places (look g (now g c begun since k) k) t → IsPassed g'.places (look g' (now g c begun since k) k) t
   table_passed t r pass = passed_carries g g' (now g c begun since k) kept agrees (look g (now g c begun since k) k) (look g' (now g c begun since k) k) sees_same t (come_on g c h begun since may k t r) pass
 
-  -- a table with no place
-  no_place_carries : (t : ℕ) → HasComeTo g c begun since k t → HasNoPlace g c begun since k t → HasNoPlace g' c begun since k t
-  no_place_carries t r (inl pass) = inl (table_passed t r pass)
-  no_place_carries t r (inr (j, p, lt, e)) = inr (j, p, subst (λ y. j < y) (sym (agrees.places t (come_on g c h begun since may k t r))) lt, ap (λ V. V t j) sees_same ∙ e)
+  -- a table from where the pair is copied
+  moving_carries : (t : ℕ) → HasComeTo g c begun since k t → IsMovingFrom g c begun since k t → IsMovingFrom g' c begun since k t
+  moving_carries t r (j, p, lt, e) = (
+    j,
+    p,
+    subst (λ y. j < y) (sym (agrees.places t (come_on g c h begun since may k t r))) lt,
+    subst (λ V. (V t j ≡ View_leaving p) ⊎ (V t j ≡ Gone p)) (sym sees_same) e,
+  )
 
   -- what a call leaves
   leaving_carries : (task : Task) (t : ℕ) → RestsLeaving g c begun since k task t → RestsLeaving g' c begun since k task t
   leaving_carries Get t r = (agrees.blocking ∙ r.0, come_carries t r.1, table_passed t r.1 r.2)
-  leaving_carries (Insert replace) t r = (come_carries t r.0, no_place_carries t r.0 r.1)
+  leaving_carries RemoveIf t r = (agrees.blocking ∙ r.0, come_carries t r.1, table_passed t r.1 r.2)
+  leaving_carries (Insert replace) t r = absurd r
+
+  -- what a call that needs a further table leaves
+  growing_carries : (task : Task) (t : ℕ) → RestsGrowing g c begun since k task t → RestsGrowing g' c begun since k task t
+  growing_carries Get t r = absurd r
+  growing_carries RemoveIf t r = (come_carries t r.0, moving_carries t r.0 r.1)
+  growing_carries (Insert replace) t r = (come_carries t r.0, ⊎_elim (λ pass. inl (table_passed t r.0 pass)) (λ moving. inr (moving_carries t r.0 moving)) r.1)
 
   -- the machine rests on what it rested on
   pub rests_carries : (m : Machine) (hands : Hands P) → Rests g c begun since k m hands → Rests g' c begun since k m hands
   rests_carries m hands r =
       rests_carried g g' c begun since since k
-      (record { mode = agrees.blocking; key = agrees.key; moment = moment_carries; come = come_carries; stands = at_carries; met = met_carries; write = write_carries; leaving = leaving_carries })
+      (record { mode = agrees.blocking; key = agrees.key; same = agrees.same; moment = moment_carries; come = come_carries; stands = at_carries; met = met_carries; write = write_carries; leaving = leaving_carries; growing = growing_carries })
       hands m r

@@ -13,7 +13,8 @@ use Rattle.papaya_call.specs.declared.ask.Answer.{Answer}
 use Rattle.papaya_call.specs.declared.ask.Answer.TheVariants.{Word as Word_read, Exchanged, Found as Found_instead, Yes, Size, Made as Made_number, Ok as Ok_done, Refused as Was_refused}
 use Rattle.papaya_call.specs.declared.call.Reply.TheVariants.{Absent, Replaced}
 use Rattle.papaya_call.specs.declared.call.Task.{Task}
-use Rattle.papaya_call.specs.declared.call.Task.TheVariants.{Get, Insert}
+use Rattle.papaya_call.specs.declared.call.Task.TheVariants.{Get, Insert, RemoveIf}
+use Rattle.papaya_call.specs.declared.remove.Removal.{Removal}
 use Rattle.papaya_call.specs.declared.search.Place.{Place}
 use Rattle.papaya_call.specs.declared.search.Search.{Search}
 use Rattle.papaya_call.specs.declared.search.Search.TheVariants.{Sizing, Looking, Comparing}
@@ -23,10 +24,10 @@ use Rattle.papaya_call.specs.declared.write.Made.{Made}
 use Rattle.papaya_call.specs.declared.write.Made.TheVariants.{Nothing, Key, Pair}
 use Rattle.papaya_call.specs.declared.machine.Machine.{Machine}
 use Rattle.papaya_call.specs.declared.machine.State.{State}
-use Rattle.papaya_call.specs.declared.machine.State.TheVariants.{AtRoot, Making, Opening, Searching, Writing, Counting, Leaving, Ended}
+use Rattle.papaya_call.specs.declared.machine.State.TheVariants.{AtRoot, Making, Opening, Searching, Writing, Showing, Burying, Counting, Uncounting, Leaving, Growing, Ended}
 use Rattle.papaya_call.specs.Search.{IsSize, IsWithin, IsSearching, IsSeen, next_place, go_on, look_at, look, match_at, at_word as search_loaded, at_yes as search_compared}
 use Rattle.papaya_call.specs.Write.{IsMade}
-use Rattle.papaya_call.specs.Machine.{IsStanding, IsStandingState, IsFit, IsFitAsk, ask_of, asks, after, at_root, leaves, replaces, goes_as, made_in, state_in, at_word, at_exchanged, at_found, at_yes, at_size, at_ok, at_refused}
+use Rattle.papaya_call.specs.Machine.{IsStanding, IsStandingState, IsFit, IsFitAsk, ask_of, asks, after, at_root, beaten_by, left, removes, replaces, goes_as, made_in, state_in, at_word, at_exchanged, at_found, at_yes, at_size, at_ok, at_refused}
 
 -- a table with a size has a slot
 some_slots : (slots last : ℕ) → IsSize slots last → 0 < slots
@@ -80,34 +81,50 @@ replaces_stands word_kinds.Copied at word within = tt
 replaces_stands word_kinds.Buried at word within = tt
 replaces_stands word_kinds.Closed at word within = tt
 
+removes_stands : (kind : Kind) (at : Place) (word : ℕ) → IsWithin at → IsStandingState RemoveIf (removes kind at word)
+removes_stands word_kinds.Empty at word within = tt
+removes_stands word_kinds.Live at word within = (tt, within)
+removes_stands word_kinds.Marked at word within = tt
+removes_stands word_kinds.Copied at word within = tt
+removes_stands word_kinds.Buried at word within = tt
+removes_stands word_kinds.Closed at word within = tt
+
 goes_stands : (task : Task) (mode : ResizeMode) (s : Seen) → IsSeen s → IsStandingState task (goes_as task mode s)
 goes_stands task mode (seen.On search) within = within
 goes_stands Get mode (seen.Here at word) within = tt
 goes_stands (Insert false) mode (seen.Here at word) within = tt
 goes_stands (Insert true) mode (seen.Here at word) within = replaces_stands (kind_of word) at word within
+goes_stands RemoveIf mode (seen.Here at word) within = removes_stands (kind_of word) at word within
 goes_stands Get mode (seen.Empty at) within = tt
+goes_stands RemoveIf mode (seen.Empty at) within = tt
 goes_stands (Insert replace) mode (seen.Empty at) within = (tt, within)
 goes_stands Get (Incremental chunk) (seen.Over t) within = tt
 goes_stands Get Blocking (seen.Over t) within = tt
+goes_stands RemoveIf (Incremental chunk) (seen.Over t) within = tt
+goes_stands RemoveIf Blocking (seen.Over t) within = tt
 goes_stands (Insert replace) mode (seen.Over t) within = tt
 
 root_stands : (task : Task) (word : ℕ) → IsStandingState task (at_root task word)
 root_stands Get word = cond_both (word == 0) (Ended Absent) (Searching (Sizing word)) (IsStandingState Get) (λ _. tt) (λ _. tt)
+root_stands RemoveIf word = cond_both (word == 0) (Ended Absent) (Searching (Sizing word)) (IsStandingState RemoveIf) (λ _. tt) (λ _. tt)
 root_stands (Insert replace) word = cond_both (word == 0) Making (Searching (Sizing word)) (IsStandingState (Insert replace)) (λ _. tt) (λ _. tt)
 
-next_stands : (task : Task) (word : ℕ) → IsStandingState task (leaves task word)
-next_stands Get word = cond_both (word == 0) (Ended Absent) (Searching (Sizing word)) (IsStandingState Get) (λ _. tt) (λ _. tt)
-next_stands (Insert replace) word = tt
+next_stands : (task : Task) (word : ℕ) → IsStandingState task (left word)
+next_stands task word = cond_both (word == 0) (Ended Absent) (Searching (Sizing word)) (IsStandingState task) (λ _. tt) (λ _. tt)
 
 module _ (m : Machine) where
   word_stands : (word : ℕ) (state : State) → IsStandingState m.task state → IsStandingState m.task (at_word m word state)
   word_stands word AtRoot stands = root_stands m.task word
   word_stands word (Searching search) stands = goes_stands m.task m.mode (search_loaded search m.hash word) (loaded_seen search m.hash word stands)
   word_stands word (Leaving table) stands = next_stands m.task word
+  word_stands word (Growing table) stands = tt
   word_stands word Making stands = stands
   word_stands word (Opening table) stands = stands
   word_stands word (Writing write) stands = stands
   word_stands word (Counting pair) stands = stands
+  word_stands word (Showing removal) stands = stands
+  word_stands word (Burying removal) stands = stands
+  word_stands word (Uncounting pair) stands = stands
   word_stands word (Ended reply) stands = stands
 
   exchanged_stands : (made : Made) (state : State) → IsStandingState m.task state → IsStandingState m.task (at_exchanged made state)
@@ -115,31 +132,57 @@ module _ (m : Machine) where
   exchanged_stands Nothing (Writing write) stands = stands
   exchanged_stands Key (Writing write) stands = stands
   exchanged_stands (Pair n) (Writing write) stands = cond_both (write.old == 0) (Counting n) (Ended (Replaced _ n)) (IsStandingState m.task) (λ _. stands.0) (λ _. tt)
+  exchanged_stands made (Burying removal) stands = stands.0
   exchanged_stands made AtRoot stands = stands
   exchanged_stands made Making stands = stands
   exchanged_stands made (Searching search) stands = stands
   exchanged_stands made (Counting pair) stands = stands
   exchanged_stands made (Leaving table) stands = stands
+  exchanged_stands made (Showing removal) stands = stands
+  exchanged_stands made (Uncounting pair) stands = stands
+  exchanged_stands made (Growing table) stands = stands
   exchanged_stands made (Ended reply) stands = stands
+
+  -- a call that lost an exchange goes on from its place
+  look_goes : (at : Place) (word : ℕ) → IsWithin at → IsStandingState m.task (goes_as m.task m.mode (look at m.hash word))
+  look_goes at word within = goes_stands m.task m.mode (look at m.hash word) (look_seen (kind_of word) at m.hash word within)
+
+  -- a removal that was beaten goes on from its place, or has ended
+  beaten_stands : (kind : Kind) (removal : Removal) (word : ℕ) → IsWithin removal.place → IsStandingState m.task (beaten_by kind m removal.place word)
+  beaten_stands word_kinds.Buried removal word within = tt
+  beaten_stands word_kinds.Empty removal word within = look_goes removal.place word within
+  beaten_stands word_kinds.Live removal word within = look_goes removal.place word within
+  beaten_stands word_kinds.Marked removal word within = look_goes removal.place word within
+  beaten_stands word_kinds.Copied removal word within = look_goes removal.place word within
+  beaten_stands word_kinds.Closed removal word within = look_goes removal.place word within
 
   found_stands : (word : ℕ) (state : State) → IsStandingState m.task state → IsStandingState m.task (at_found m word state)
   found_stands word (Opening table) stands = tt
-  found_stands word (Writing write) stands = goes_stands m.task m.mode (look write.place m.hash word) (look_seen (kind_of word) write.place m.hash word stands.1)
+  found_stands word (Writing write) stands = look_goes write.place word stands.1
+  found_stands word (Burying removal) stands = beaten_stands (kind_of word) removal word stands.1
   found_stands word AtRoot stands = stands
   found_stands word Making stands = stands
   found_stands word (Searching search) stands = stands
   found_stands word (Counting pair) stands = stands
   found_stands word (Leaving table) stands = stands
+  found_stands word (Showing removal) stands = stands
+  found_stands word (Uncounting pair) stands = stands
+  found_stands word (Growing table) stands = stands
   found_stands word (Ended reply) stands = stands
 
   yes_stands : (same : Bool) (state : State) → IsStandingState m.task state → IsStandingState m.task (at_yes m same state)
   yes_stands same (Searching search) stands = goes_stands m.task m.mode (search_compared search same) (compared_seen search same stands)
+  yes_stands true (Showing removal) stands = stands
+  yes_stands false (Showing removal) stands = tt
   yes_stands same AtRoot stands = stands
   yes_stands same Making stands = stands
   yes_stands same (Opening table) stands = stands
   yes_stands same (Writing write) stands = stands
   yes_stands same (Counting pair) stands = stands
   yes_stands same (Leaving table) stands = stands
+  yes_stands same (Burying removal) stands = stands
+  yes_stands same (Uncounting pair) stands = stands
+  yes_stands same (Growing table) stands = stands
   yes_stands same (Ended reply) stands = stands
 
   size_stands : (slots limit : ℕ) → IsSize slots limit → (state : State) → IsStandingState m.task state → IsStandingState m.task (at_size m.hash slots limit state)
@@ -152,16 +195,24 @@ module _ (m : Machine) where
   size_stands slots limit size (Writing write) stands = stands
   size_stands slots limit size (Counting pair) stands = stands
   size_stands slots limit size (Leaving table) stands = stands
+  size_stands slots limit size (Showing removal) stands = stands
+  size_stands slots limit size (Burying removal) stands = stands
+  size_stands slots limit size (Uncounting pair) stands = stands
+  size_stands slots limit size (Growing table) stands = stands
   size_stands slots limit size (Ended reply) stands = stands
 
   ok_stands : (state : State) → IsStandingState m.task state → IsStandingState m.task (at_ok state)
   ok_stands (Counting pair) stands = tt
+  ok_stands (Uncounting pair) stands = tt
   ok_stands AtRoot stands = stands
   ok_stands Making stands = stands
   ok_stands (Opening table) stands = stands
   ok_stands (Searching search) stands = stands
   ok_stands (Writing write) stands = stands
   ok_stands (Leaving table) stands = stands
+  ok_stands (Showing removal) stands = stands
+  ok_stands (Burying removal) stands = stands
+  ok_stands (Growing table) stands = stands
   ok_stands (Ended reply) stands = stands
 
   refused_stands : (made : Made) (refused : _) (state : State) → IsStandingState m.task state → IsStandingState m.task (at_refused made refused state)
@@ -174,6 +225,10 @@ module _ (m : Machine) where
   refused_stands made refused (Searching search) stands = stands
   refused_stands made refused (Counting pair) stands = stands
   refused_stands made refused (Leaving table) stands = stands
+  refused_stands made refused (Showing removal) stands = stands
+  refused_stands made refused (Burying removal) stands = stands
+  refused_stands made refused (Uncounting pair) stands = stands
+  refused_stands made refused (Growing table) stands = stands
   refused_stands made refused (Ended reply) stands = stands
 
   -- what was made has a number of pairs
@@ -187,6 +242,10 @@ module _ (m : Machine) where
   made_fits made n (Searching search) fit is = is
   made_fits made n (Counting pair) fit is = is
   made_fits made n (Leaving table) fit is = is
+  made_fits made n (Showing removal) fit is = is
+  made_fits made n (Burying removal) fit is = is
+  made_fits made n (Uncounting pair) fit is = is
+  made_fits made n (Growing table) fit is = is
   made_fits made n (Ended reply) fit is = is
 
   made_stands : (n : ℕ) (state : State) → IsStandingState m.task state → IsStandingState m.task (state_in n state)
@@ -197,6 +256,10 @@ module _ (m : Machine) where
   made_stands n (Writing write) stands = stands
   made_stands n (Counting pair) stands = stands
   made_stands n (Leaving table) stands = stands
+  made_stands n (Showing removal) stands = stands
+  made_stands n (Burying removal) stands = stands
+  made_stands n (Uncounting pair) stands = stands
+  made_stands n (Growing table) stands = stands
   made_stands n (Ended reply) stands = stands
 
   -- after each answer
@@ -223,6 +286,10 @@ asks_fit Key hash (Writing write) = tt
 asks_fit (Pair n) hash (Writing write) = tt
 asks_fit made hash (Counting pair) = tt
 asks_fit made hash (Leaving table) = tt
+asks_fit made hash (Showing removal) = tt
+asks_fit made hash (Burying removal) = tt
+asks_fit made hash (Uncounting pair) = tt
+asks_fit made hash (Growing table) = tt
 asks_fit made hash (Ended reply) = tt
 
 pub machine_ask_fits : (m : Machine) → IsFitAsk (ask_of m)

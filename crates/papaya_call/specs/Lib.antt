@@ -1,7 +1,10 @@
+pub mod Alone
+pub mod Answers
 pub mod Law
 pub mod Loads
 pub mod Machine
 pub mod Owed
+pub mod Remove
 pub mod Rests
 pub mod Search
 pub mod Told

@@ -11,9 +11,10 @@ use Rattle.papaya_call.specs.declared.ask.Answer.TheVariants.{Exchanged}
 use Rattle.papaya_call.specs.declared.ask.StepKind.{StepKind}
 use Rattle.papaya_call.specs.declared.ask.StepKind.TheVariants as kinds
 use Rattle.papaya_call.specs.declared.call.Reply.{Reply}
-use Rattle.papaya_call.specs.declared.call.Reply.TheVariants.{Absent, Found, Inserted, Replaced, Occupied, Refused as Reply_refused}
+use Rattle.papaya_call.specs.declared.call.Reply.TheVariants.{Absent, Found, Inserted, Replaced, Occupied, Removed, Kept, Refused as Reply_refused}
 use Rattle.papaya_call.specs.declared.call.Task.{Task}
-use Rattle.papaya_call.specs.declared.call.Task.TheVariants.{Get, Insert}
+use Rattle.papaya_call.specs.declared.call.Task.TheVariants.{Get, Insert, RemoveIf}
+use Rattle.papaya_call.specs.declared.remove.Removal.{Removal}
 use Rattle.papaya_call.specs.declared.search.Place.{Place}
 use Rattle.papaya_call.specs.declared.search.Search.{Search}
 use Rattle.papaya_call.specs.declared.search.Search.TheVariants.{Sizing, Looking, Comparing}
@@ -21,15 +22,15 @@ use Rattle.papaya_call.specs.declared.write.Made.{Made}
 use Rattle.papaya_call.specs.declared.write.Made.TheVariants.{Nothing, Key, Pair}
 use Rattle.papaya_call.specs.declared.write.Write.{Write}
 use Rattle.papaya_call.specs.declared.machine.State.{State as Stage}
-use Rattle.papaya_call.specs.declared.machine.State.TheVariants.{AtRoot, Making, Opening, Searching, Writing, Counting, Leaving, Ended}
+use Rattle.papaya_call.specs.declared.machine.State.TheVariants.{AtRoot, Making, Opening, Searching, Writing, Showing, Burying, Counting, Uncounting, Leaving, Growing, Ended}
 use Rattle.papaya_call.specs.declared.machine.Machine.{Machine}
 use Rattle.papaya_call.specs.Law.Exchange.{Word, Setting, State, Exchange, run, start}
-use Rattle.papaya_call.specs.Law.View.{Leaving as View_leaving, view, look, own, held, beyond, IsPassed, IsReached}
+use Rattle.papaya_call.specs.Law.View.{Leaving as View_leaving, Gone, view, look, own, held, beyond, IsPassed, IsReached}
 use Rattle.papaya_call.specs.Law.Meaning.{IsAtMoment, map_left}
 use Rattle.papaya_call.specs.Law.Invariant.{named}
 use Rattle.papaya_call.specs.Law.Later.{Becomes}
 use Rattle.papaya_call.specs.Law.Code.{Coding, code}
-use Rattle.papaya_call.specs.Machine.{IsWriter}
+use Rattle.papaya_call.specs.Machine.{IsRemover, IsWriter}
 use Rattle.papaya_call.specs.Told.{Hands}
 
 -- the machine resizes as the setting does
@@ -70,6 +71,8 @@ module _ {K P : Type 0} (g : Setting K P) (c : Coding K P) (begun since : List (
     pub names : named was ≡ Some p
     -- a Buried word isn't compared
     pub unburied : kind_of word ≡ word_kinds.Buried → ⊥
+    -- it stood there at a moment of the call
+    pub stood : (so_far : List (Exchange P)) × ((rest : List (Exchange P)) × (so_far ++ rest ≡ since) × ((run (begun ++ so_far) start).slot at.table at.probe.i ≡ was))
     -- what stands there now came of it
     pub became : Becomes g was (now.slot at.table at.probe.i)
     -- where p is the key's and was held there, the map had it at a moment of the call
@@ -83,6 +86,15 @@ module _ {K P : Type 0} (g : Setting K P) (c : Coding K P) (begun since : List (
   abbrev pub RestsWriting : Task → Write → Type 0
   RestsWriting Get write = ⊥
   RestsWriting (Insert replace) write = MayWrite replace write
+  RestsWriting RemoveIf write = ⊥
+
+  -- the pair last told of is the key's, and was Live at the removal's place
+  pub record MayRemove (hands : Hands P) (removal : Removal) : Type 0 where
+    pub pair : P
+    pub last : hands.last ≡ Some pair
+    pub met : HasMet removal.place removal.word pair
+    pub live : kind_of removal.word ≡ word_kinds.Live
+    pub same : g.same k (g.key pair) ≡ true
 
   -- the pair of this number is the one that the call made
   abbrev pub IsOwnPair : Hands P → ℕ → Type 0
@@ -99,20 +111,27 @@ module _ {K P : Type 0} (g : Setting K P) (c : Coding K P) (begun since : List (
   RestsSearch hands (Looking at) = IsAt at
   RestsSearch hands (Comparing at word) = (p : P) × (hands.last ≡ Some p) × HasMet at word p
 
-  -- the key has no place in table t, or its pair is being copied from there
-  abbrev pub HasNoPlace : ℕ → Type 0
-  HasNoPlace t = IsPassed g.places (look g now k) t ⊎ ((j : ℕ) × (p : P) × (j < g.places t) × (look g now k t j ≡ View_leaving p))
+  -- the key's pair is being copied from table t, or was
+  abbrev pub IsMovingFrom : ℕ → Type 0
+  IsMovingFrom t = (j : ℕ) × (p : P) × (j < g.places t) × ((look g now k t j ≡ View_leaving p) ⊎ (look g now k t j ≡ Gone p))
 
-  -- a lookup leaves a table that it passed, and an insertion one where it has no place
+  -- a call that looks for its key leaves a table that it passed
   abbrev pub RestsLeaving : Task → ℕ → Type 0
+  RestsLeaving (Insert replace) t = ⊥
   RestsLeaving Get t = (g.blocking ≡ false) × HasComeTo t × IsPassed g.places (look g now k) t
-  RestsLeaving (Insert replace) t = HasComeTo t × HasNoPlace t
+  RestsLeaving RemoveIf t = (g.blocking ≡ false) × HasComeTo t × IsPassed g.places (look g now k) t
+
+  -- an insertion needs a further table where its key has no place in this one or its pair is being copied, and a removal only where its pair is
+  abbrev pub RestsGrowing : Task → ℕ → Type 0
+  RestsGrowing Get t = ⊥
+  RestsGrowing (Insert replace) t = HasComeTo t × (IsPassed g.places (look g now k) t ⊎ IsMovingFrom t)
+  RestsGrowing RemoveIf t = HasComeTo t × IsMovingFrom t
 
   -- some pair of this number was the key's at a moment of the call
   abbrev pub HadPair : ℕ → Type 0
   HadPair n = (p : P) × (c.number p ≡ n) × WasAtMoment (Some p)
 
-  -- A reply that fits the task: a lookup's answer was the map's at a moment of the call, and a pair that was put in is the one that the call made.
+  -- A reply that fits the task: what a call found was the map's at a moment of the call, and a pair that was put in is the one that the call made.
   abbrev pub IsReply : Hands P → Task → Reply → Type 0
   IsReply hands Get Absent = WasAtMoment None
   IsReply hands Get (Found n) = HadPair n
@@ -120,6 +139,10 @@ module _ {K P : Type 0} (g : Setting K P) (c : Coding K P) (begun since : List (
   IsReply hands (Insert true) (Replaced m n) = IsOwnPair hands n
   IsReply hands (Insert false) (Occupied n) = HadPair n
   IsReply hands (Insert replace) (Reply_refused refused) = Unit {0}
+  IsReply hands RemoveIf Absent = WasAtMoment None
+  IsReply hands RemoveIf (Kept n) = HadPair n
+  IsReply hands RemoveIf (Removed n) = Unit {0}
+  IsReply hands RemoveIf (Reply_refused refused) = Unit {0}
   IsReply hands _ _ = ⊥
 
   abbrev pub RestsStage : Hands P → Task → Stage → Type 0
@@ -128,8 +151,12 @@ module _ {K P : Type 0} (g : Setting K P) (c : Coding K P) (begun since : List (
   RestsStage hands task (Opening t) = IsWriter task × (0 < t)
   RestsStage hands task (Searching search) = RestsSearch hands search
   RestsStage hands task (Writing write) = RestsWriting task write
+  RestsStage hands task (Showing removal) = IsRemover task × MayRemove hands removal
+  RestsStage hands task (Burying removal) = IsRemover task × MayRemove hands removal
   RestsStage hands task (Counting n) = IsWriter task × IsOwnPair hands n
+  RestsStage hands task (Uncounting n) = IsRemover task
   RestsStage hands task (Leaving t) = RestsLeaving task t
+  RestsStage hands task (Growing t) = RestsGrowing task t
   RestsStage hands task (Ended reply) = IsReply hands task reply
 
   -- what the machine of a call with this key rests on
@@ -150,18 +177,24 @@ change_of_reply (Replaced m n) = Some (Some m, Some n)
 change_of_reply Absent = None
 change_of_reply (Found n) = None
 change_of_reply (Occupied n) = None
+change_of_reply (Removed n) = Some (Some n, None)
+change_of_reply (Kept n) = None
 change_of_reply (Reply_refused refused) = None
 
 -- the change that a machine in this stage has made
 abbrev pub change_in : Stage → Change
 change_in (Counting n) = Some (None, Some n)
+change_in (Uncounting n) = Some (Some n, None)
 change_in (Ended reply) = change_of_reply reply
 change_in AtRoot = None
 change_in Making = None
 change_in (Opening t) = None
 change_in (Searching search) = None
 change_in (Writing write) = None
+change_in (Showing removal) = None
+change_in (Burying removal) = None
 change_in (Leaving t) = None
+change_in (Growing t) = None
 
 -- the change that an exchange of this kind makes
 abbrev pub change_of_kind : Option StepKind → (old new : ℕ) → Change
@@ -174,3 +207,32 @@ change_of_kind _ old new = None
 abbrev pub change_after : Option StepKind → Ask → Answer → Change → Change
 change_after kind (Ask_exchange at old new) Exchanged before = change_of_kind kind old new
 change_after kind _ _ before = before
+
+-- what a closure answered of the pair that it was shown: the pair's number, and whether it agreed to its removal
+abbrev pub Said : Type 0
+Said = Option (ℕ × Bool)
+
+-- what the closure answered, on which the rest of a machine in this stage stands
+abbrev pub said_in_reply : Reply → Said
+said_in_reply (Removed n) = Some (n, true)
+said_in_reply (Kept n) = Some (n, false)
+said_in_reply Absent = None
+said_in_reply (Found n) = None
+said_in_reply (Inserted n) = None
+said_in_reply (Replaced m n) = None
+said_in_reply (Occupied n) = None
+said_in_reply (Reply_refused refused) = None
+
+abbrev pub said_in : Stage → Said
+said_in (Burying removal) = Some (pair_of removal.word, true)
+said_in (Uncounting n) = Some (n, true)
+said_in (Ended reply) = said_in_reply reply
+said_in AtRoot = None
+said_in Making = None
+said_in (Opening t) = None
+said_in (Searching search) = None
+said_in (Writing write) = None
+said_in (Showing removal) = None
+said_in (Counting n) = None
+said_in (Leaving t) = None
+said_in (Growing t) = None

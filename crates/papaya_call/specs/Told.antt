@@ -1,11 +1,11 @@
 -- What an answer tells a machine of the words.
-use Rattle.std.specs.Prelude.{◌≡◌, ◌⊎◌, ℕ, ◌+◌, ◌<◌, ◌==◌, cond, Option, None, Some, List, [], ◌∷◌, MatchBool}
+use Rattle.std.specs.Prelude.{◌≡◌, ◌⊎◌, ℕ, ◌+◌, ◌<◌, ◌==◌, cond, Bool, Option, None, Some, List, [], ◌∷◌, MatchBool}
 use Rattle.papaya_words.specs.Probe.{place}
 use Rattle.papaya_words.specs.declared.probe.Refused.{Refused}
 use Rattle.papaya_call.specs.declared.ask.At.{At}
 use Rattle.papaya_call.specs.declared.ask.At.TheVariants.{Root, Next, Aborted, Done, Slot}
 use Rattle.papaya_call.specs.declared.ask.Ask.{Ask}
-use Rattle.papaya_call.specs.declared.ask.Ask.TheVariants.{Load, Exchange as Ask_exchange, SameKey, SizeOf, MakeKey, MakePair, MakeTable, AddToShard, Done as Ask_done}
+use Rattle.papaya_call.specs.declared.ask.Ask.TheVariants.{Load, Exchange as Ask_exchange, SameKey, ShowPair, SizeOf, MakeKey, MakePair, MakeTable, AddToShard, Done as Ask_done}
 use Rattle.papaya_call.specs.declared.ask.Answer.{Answer}
 use Rattle.papaya_call.specs.declared.ask.Answer.TheVariants.{Word as Word_read, Exchanged, Found as Found_instead, Yes, Size, Made as Made_number, Ok as Ok_done, Refused as Was_refused}
 use Rattle.papaya_call.specs.declared.ask.StepKind.{StepKind}
@@ -81,6 +81,8 @@ module _ {K P : Type 0} (g : Setting K P) (c : Coding K P) (k : K) where
       ((answer ≡ Exchanged) × ((e : Exchange P) × IsAsked kind at new s hands e × (es ≡ e ∷ [])) × (hands' ≡ hands))
       ((answer ≡ Found_instead (word_of g c s at)) × (es ≡ []) × (hands' ≡ told_of s at hands))
   IsTold s kind hands (SameKey n) answer es hands' = ((p : P) → hands.last ≡ Some p → c.number p ≡ n → answer ≡ Yes (g.same k (g.key p))) × Quiet hands es hands'
+  -- a closure answers as it likes; where there is none, it doesn't
+  IsTold s kind hands (ShowPair n) answer es hands' = (((agrees : Bool) × (answer ≡ Yes agrees)) ⊎ (answer ≡ Ok_done)) × Quiet hands es hands'
   IsTold s kind hands (SizeOf t) answer es hands' = ((limit : ℕ) × (limit + 1 ≡ g.places t) × (answer ≡ Size (g.size t) limit)) × Quiet hands es hands'
   IsTold s kind hands MakeKey answer es hands' = (IsUnmade answer ⊎ ((n : ℕ) × (answer ≡ Made_number n))) × Quiet hands es hands'
   IsTold s kind hands MakePair answer es hands' =

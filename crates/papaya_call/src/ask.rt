@@ -30,6 +30,9 @@ pub enum Ask {
     Exchange(At, u64, u64),
     /// Has the pair of this number a key that equals the call's? Answered by `Yes`.
     SameKey(u64),
+    /// Is the pair of this number, which the call's closure is shown, to be removed? Answered by
+    /// `Yes`.
+    ShowPair(u64),
     /// The size of a table, which never changes. Answered by `Size`.
     SizeOf(u64),
     /// Log the call's key. Answered by `Made` or `Refused`, as all that is to be made.
@@ -53,7 +56,7 @@ pub enum Answer {
     Exchanged,
     /// The exchange was not made: this word stands there.
     Found(u64),
-    /// Whether the keys match.
+    /// Whether the keys match, or what the closure answered.
     Yes(bool),
     /// How many slots a table has, and how many places after the first a search of it looks at.
     Size { len: usize, limit: usize },
@@ -63,6 +66,17 @@ pub enum Answer {
     Ok,
     /// What was to be made was refused: for memory, or at a limit of `papaya_words::limits`.
     Refused(Refused),
+}
+
+/// What a closure that may insert, remove or abort has answered, without the value.
+#[derive(Clone, Copy, Debug, PartialEq, Eq)]
+pub enum OpKind {
+    /// A new value is to be stored.
+    Insert,
+    /// The pair that was shown is to be removed.
+    Remove,
+    /// The call is to end without a change, and to reply this.
+    Abort(u64),
 }
 
 /// The kinds of exchange. An empty slot is filled by a claim or by a copy, which the words alone

@@ -1,14 +1,19 @@
 //! Calls, as a caller hands them in, and what they reply.
 use papaya_words::probe::Refused;
 
-/// A call that a caller begins, with what it hands in.
+/// A call that a caller begins, with what it hands in. `A` gives the answers of the closure of a
+/// call that takes one, as [`crate::answers::Listed`] does.
 #[derive(Debug, Drop)]
-pub enum Call<K, V> {
+pub enum Call<K, V, A> {
     /// Looks a key up: `get` of 0.2.5.
     Get(K),
     /// Stores a pair, in place of one with an equal key: `insert` of 0.2.5. As there, the new key
     /// takes the old one's place too.
     Insert(K, V),
+    /// Stores a pair where the key is absent: `try_insert` of 0.2.5.
+    TryInsert(K, V),
+    /// Removes the key's pair if the closure, which is shown it, answers yes: `remove_if` of 0.2.5.
+    RemoveIf(K, A),
 }
 
 /// What a machine does: the call without what was handed in, which the backend keeps.
@@ -19,6 +24,8 @@ pub enum Task {
     /// An insertion: `insert` of 0.2.5, or with `replace: false` its `try_insert`, which answers
     /// with the pair that it finds.
     Insert { replace: bool },
+    /// A removal of a pair that its closure agrees to: `remove_if` of 0.2.5.
+    RemoveIf,
 }
 
 /// What a call replies. Pairs are named by their numbers in the log.
@@ -34,6 +41,10 @@ pub enum Reply {
     Replaced { old: u64, new: u64 },
     /// The key had this pair, and keeps it.
     Occupied(u64),
+    /// The closure answered yes for this pair, and it was removed.
+    Removed(u64),
+    /// The closure answered no for this pair, and it stays.
+    Kept(u64),
     /// The call changed nothing: what it was to make was refused, or there is no room for it.
     Refused(Refused),
 }

@@ -6,6 +6,7 @@ ghost use Rattle.papaya_call.specs.Law.Content.{AreApart, IsCountAfter, content,
 ghost use Rattle.papaya_call.specs.Law.Copying.{IsPutting, IsTaker, IsTarget};
 ghost use Rattle.papaya_call.specs.Law.Example.{by_two, two_tables, of_one, three_tables};
 ghost use Rattle.papaya_call.specs.Law.Exchange.{Empty, Marked, Exchange, Setting, State, Word, after, run, start};
+ghost use Rattle.papaya_call.specs.Law.Further.{IsLawfulKey, IsMapWith, IsMatchedAtMoment, coding_with, hash_with, same_with, with_key};
 ghost use Rattle.papaya_call.specs.Law.Grows.{Agrees, AllSized, Comes, Entry, IsLawfulPlan, Plan, brings, exchanges, planned, setting_in};
 ghost use Rattle.papaya_call.specs.Law.Hashing.{hashed};
 ghost use Rattle.papaya_call.specs.Law.Invariant.{IsKeeping, named, shut};
@@ -13,9 +14,11 @@ ghost use Rattle.papaya_call.specs.Law.Class.{IsOn};
 ghost use Rattle.papaya_call.specs.Law.Later.{IsLasting, IsLater};
 ghost use Rattle.papaya_call.specs.Law.Meaning.{AllLegal, IsAtMoment, IsLawful, IsLegal, IsMeaning, map_after, map_left, map_of};
 ghost use Rattle.papaya_call.specs.Law.View.{Foreign, Free, Gone, Grave, Here, HasWord, IsPassed, IsReached, Leaving, active, beyond, held, look, own, view};
+ghost use Rattle.papaya_call.specs.Told.{IsHashed, word_of};
+ghost use Rattle.papaya_call.specs.declared.ask.At.{At};
 ghost use Rattle.papaya_words.specs.Word.{IsSlotStep, byte_of, kind_of, pair_of, top_byte};
 ghost use Rattle.papaya_words.specs.declared.word.Kind.TheVariants as kinds;
-ghost use Rattle.std.specs.Prelude.{◌≡◌, ◌⊎◌, ℕ, zero, suc, ◌<◌, ◌^◌, ◌==◌, ◌++◌, Bool, true, false, List, [], ◌∷◌, length, Option, None, Some};
+ghost use Rattle.std.specs.Prelude.{◌≡◌, ◌⊎◌, ◌↔◌, ℕ, zero, suc, ◌<◌, ◌^◌, ◌==◌, ◌++◌, Bool, true, false, List, [], ◌∷◌, length, Option, None, Some};
 
 /// The law: after each list of allowed exchanges the tables mean one map, which its claims, replacements and burials alone change, each taking out just the pair that was there.
 pub fn one_map<K, P>()
@@ -124,6 +127,23 @@ pub fn words_in_a_search<K, P>()
 pub fn plans_by_hash<K, P>()
     ensures plan { (blocking : Bool) (key : P → K) (same : K → K → Bool) (hash : K → ℕ) → ((k : K) → same k k ≡ true) → ((k l : K) → same k l ≡ true → same l k ≡ true) → ((k l m : K) → same k l ≡ true → same l m ≡ true → same k m ≡ true) → ((k l : K) → same k l ≡ true → hash k ≡ hash l) → IsLawfulPlan (hashed blocking key same hash) }
     ensures setting { (h : Plan K P) → IsLawfulPlan h → (size places : ℕ → ℕ) → ((t : ℕ) → 0 < size t) → ((t : ℕ) → 0 < places t) → IsLawful (planned h size places) }
+{}
+
+/// Lookups by a borrowed form of a key, on every backend: by a `&str` where the keys are `String`s. Such a form is no key of the map's type: it matches the keys of one class, or none. The laws and what a machine rests on speak of a setting's keys; they serve such a lookup in the setting that has the form as one further key, over the same exchanges of the same pairs. The map's own keys are forms of themselves.
+pub fn further_keys<K, P>()
+    ensures itself { (g : Setting K P) (c : Coding K P) → IsHashed g c → (k : K) → IsLawfulKey g c (g.same k) (c.hash k) }
+    ensures lawful { (g : Setting K P) (c : Coding K P) → IsHashed g c → ((t : ℕ) → 0 < g.size t) → (matches : K → Bool) (hash : ℕ) → IsLawfulKey g c matches hash → IsHashed (with_key g matches hash) (coding_with c hash) }
+    ensures planned { (blocking : Bool) (key : P → K) (same : K → K → Bool) (hash_of : K → ℕ) (size places : ℕ → ℕ) (matches : K → Bool) (hash : ℕ) → with_key (planned (hashed blocking key same hash_of) size places) matches hash ≡ planned (hashed blocking (λ p. Some (key p)) (same_with same matches) (hash_with hash_of hash)) size places }
+    ensures agrees { (g g' : Setting K P) (s : State P) → Agrees (IsOn s.first s.next) g g' → (matches : K → Bool) (hash : ℕ) → Agrees (IsOn s.first s.next) (with_key g matches hash) (with_key g' matches hash) }
+    ensures allows { (g : Setting K P) (matches : K → Bool) (hash : ℕ) (s : State P) (e : Exchange P) → Allows g s e ↔ Allows (with_key g matches hash) s e }
+    ensures list { (g : Setting K P) (matches : K → Bool) (hash : ℕ) (s : State P) (es : List (Exchange P)) → AllAllowed g s es ↔ AllAllowed (with_key g matches hash) s es }
+    ensures code { (g : Setting K P) (c : Coding K P) (matches : K → Bool) (hash : ℕ) (w : Word P) → code (with_key g matches hash) (coding_with c hash) w ≡ code g c w }
+    ensures word { (g : Setting K P) (c : Coding K P) (matches : K → Bool) (hash : ℕ) (s : State P) (at : At) → word_of (with_key g matches hash) (coding_with c hash) s at ≡ word_of g c s at }
+    ensures legal { (g : Setting K P) (matches : K → Bool) (hash : ℕ) (m : K → Option P) (m' : Option K → Option P) → ((k : K) → m' (Some k) ≡ m k) → (e : Exchange P) → IsLegal g m e ↔ IsLegal (with_key g matches hash) m' e }
+    ensures all_legal { (g : Setting K P) (matches : K → Bool) (hash : ℕ) (m : K → Option P) (m' : Option K → Option P) → ((k : K) → m' (Some k) ≡ m k) → (es : List (Exchange P)) → AllLegal g m es ↔ AllLegal (with_key g matches hash) m' es }
+    ensures map { (g : Setting K P) (c : Coding K P) (matches : K → Bool) (hash : ℕ) → IsLawfulKey g c matches hash → (m : K → Option P) (m' : Option K → Option P) → IsMapWith g matches m m' → (s : State P) (es : List (Exchange P)) → AllAllowed g s es → IsMapWith g matches (map_of g m es) (map_of (with_key g matches hash) m' es) }
+    ensures left { (g : Setting K P) (c : Coding K P) (matches : K → Bool) (hash : ℕ) → IsLawfulKey g c matches hash → (es : List (Exchange P)) → AllAllowed g start es → IsMapWith g matches (map_left g es) (map_left (with_key g matches hash) es) }
+    ensures moment { (g : Setting K P) (c : Coding K P) (matches : K → Bool) (hash : ℕ) → IsLawfulKey g c matches hash → (begun since : List (Exchange P)) → AllAllowed g start (begun ++ since) → (value : Option P) → IsAtMoment (with_key g matches hash) (map_left (with_key g matches hash) begun) since None value → IsMatchedAtMoment g matches (map_left g begun) since value }
 {}
 
 /// The root's table as a list of pairs. With blocking, or while the root has no next table, it is the map; and while there is one table, each exchange adds, takes out or leaves as many pairs as its kind says.

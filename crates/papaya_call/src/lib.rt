@@ -5,11 +5,14 @@
 //! same machines run for one caller, for any schedule of callers, and on threads.
 #![tactic(auto)]
 
+pub mod alone;
+pub mod answers;
 pub mod ask;
 pub mod call;
 pub mod exchanges;
 pub mod loads;
 pub mod machine;
+pub mod remove;
 pub mod rests;
 pub mod search;
 #[cfg(test)]

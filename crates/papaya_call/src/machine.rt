@@ -1,10 +1,12 @@
 //! The machine of a call: what it asks, and what it does with each answer.
 ghost use Rattle.std.specs.Prelude.{◌≡◌, ◌<◌, ◌≤◌, ◌^◌};
 ghost use Rattle.papaya_call.specs.Search.{IsSize, IsSeen, IsWithin};
-ghost use Rattle.papaya_call.specs.Machine.{IsChunked, IsFit, IsFitAsk, IsStanding, IsStandingState, IsLookup, IsWriter, started, ask_of, kind_of_ask, after, at_root, goes, found, passes, leaves, written, at_word, at_exchanged, at_found, at_yes, at_size, state_made, at_ok, at_refused};
+ghost use Rattle.papaya_call.specs.declared.call.Task.{Task};
+ghost use Rattle.papaya_call.specs.Machine.{IsChunked, IsFit, IsFitAsk, IsStanding, IsStandingState, IsLookup, IsWriter, IsRemover, started, ask_of, kind_of_ask, after, at_root, goes, found, passes, left, beaten, written, at_word, at_exchanged, at_found, at_yes, at_size, state_made, at_ok, at_refused};
 
 use crate::ask::{Answer, Ask, At, StepKind};
 use crate::call::{Reply, Task};
+use crate::remove::Removal;
 use crate::search::{Place, Search, Seen};
 use crate::write::{Made, Write};
 use papaya_words::limits::{FIRST_TABLE_LEN, FIRST_TABLE_LIMIT};
@@ -24,10 +26,18 @@ pub enum State {
     Searching(Search),
     /// It writes its pair.
     Writing(Write),
+    /// It asks its closure whether this pair is to be removed.
+    Showing(Removal),
+    /// Its closure agreed to the removal of this pair, and it removes it.
+    Burying(Removal),
     /// Its pair of this number was claimed, and is to be counted.
     Counting(u64),
-    /// It loads the number of the table after this one.
+    /// The pair of this number was buried, and is to be counted out.
+    Uncounting(u64),
+    /// Its key is not in this table, and it loads the number of the next.
     Leaving(u64),
+    /// It needs a table after this one, and loads its number.
+    Growing(u64),
     /// It has replied.
     Ended(Reply),
 }
@@ -50,7 +60,7 @@ impl Machine {
     /// A call that begins.
     ///
     /// It stands for the whole of a call of 0.2.5, whose steps run one after another there.
-    #[inline]
+    #[inline(always)]
     pub fn new(task: Task, hash: u64, mode: ResizeMode, initial: usize) -> Machine
         requires { IsChunked mode }
         ensures value { result ≡ started task hash mode initial }
@@ -67,7 +77,7 @@ impl Machine {
     }
 
     /// What the machine asks next. Until it is answered it asks the same.
-    #[inline]
+    #[inline(always)]
     pub fn ask(&self) -> Ask
         requires { IsStanding self.now }
         ensures value { result ≡ ask_of self.now }
@@ -83,8 +93,11 @@ impl Machine {
             State::Opening(table) => Ask::Exchange(At::Root, 0, table),
             State::Searching(search) => search.ask(),
             State::Writing(write) => write.ask(self.made, self.hash),
+            State::Showing(removal) => removal.show(),
+            State::Burying(removal) => removal.ask(),
             State::Counting(_) => Ask::AddToShard(1),
-            State::Leaving(table) => Ask::Load(At::Next(table)),
+            State::Uncounting(_) => Ask::AddToShard(-1),
+            State::Leaving(table) | State::Growing(table) => Ask::Load(At::Next(table)),
             State::Ended(reply) => Ask::Done(reply),
         }
     }
@@ -101,12 +114,13 @@ impl Machine {
                 Made::Pair(_) => Some(write.kind()),
                 _ => None,
             },
+            State::Burying(_) => Some(StepKind::Bury),
             _ => None,
         }
     }
 
     /// Goes on after an answer to what was asked. A machine that has replied stays as it is.
-    #[inline]
+    #[inline(always)]
     pub fn answer(&mut self, answer: Answer)
         requires standing { IsStanding self.old }
         requires fit { IsFit answer }
@@ -127,7 +141,7 @@ impl Machine {
 }
 
 impl Machine {
-    #[inline]
+    #[inline(always)]
     fn at_word(&self, word: u64) -> State
         requires { IsStanding self.now }
         ensures value { result ≡ at_word self.now word self.now.state }
@@ -136,12 +150,13 @@ impl Machine {
         match self.state {
             State::AtRoot => self.at_root(word),
             State::Searching(search) => self.goes(search.at_word(self.hash, word)),
-            State::Leaving(_) => self.leaves(word),
+            State::Leaving(_) => State::left(word),
+            State::Growing(_) => State::Ended(Reply::Refused(Refused::Capacity)),
             state => state,
         }
     }
 
-    #[inline]
+    #[inline(always)]
     fn at_exchanged(&self) -> State
         requires { IsStanding self.now }
         ensures value { result ≡ at_exchanged self.now.made self.now.state }
@@ -153,12 +168,13 @@ impl Machine {
                 Made::Pair(pair) => self.written(write, pair),
                 _ => State::Writing(write),
             },
+            State::Burying(removal) => State::Uncounting(removal.pair()),
             state => state,
         }
     }
 
     /// The pair of this number was written.
-    #[inline]
+    #[inline(always)]
     fn written(&self, write: Write, pair: u64) -> State
         requires { IsWriter self.now.task }
         ensures value { result ≡ written write pair }
@@ -174,7 +190,7 @@ impl Machine {
         }
     }
 
-    #[inline]
+    #[inline(always)]
     fn at_found(&self, word: u64) -> State
         requires { IsStanding self.now }
         ensures value { result ≡ at_found self.now word self.now.state }
@@ -183,11 +199,26 @@ impl Machine {
         match self.state {
             State::Opening(_) => State::Searching(Search::Sizing(word)),
             State::Writing(write) => self.goes(write.place.look(self.hash, word)),
+            State::Burying(removal) => self.beaten(removal, word),
             state => state,
         }
     }
 
-    #[inline]
+    /// A removal found this word in the place of its own. Where the pair was buried by another
+    /// call, the key was absent then.
+    #[inline(always)]
+    fn beaten(&self, removal: Removal, word: u64) -> State
+        requires { IsWithin removal.place }
+        ensures value { result ≡ beaten self.now removal word }
+        ensures standing { IsStandingState self.now.task result }
+    {
+        match Word(word).kind() {
+            Kind::Buried => State::Ended(Reply::Absent),
+            _ => self.goes(removal.place.look(self.hash, word)),
+        }
+    }
+
+    #[inline(always)]
     fn at_yes(&self, yes: bool) -> State
         requires { IsStanding self.now }
         ensures value { result ≡ at_yes self.now yes self.now.state }
@@ -195,11 +226,18 @@ impl Machine {
     {
         match self.state {
             State::Searching(search) => self.goes(search.at_yes(yes)),
+            State::Showing(removal) => {
+                if yes {
+                    State::Burying(removal)
+                } else {
+                    State::Ended(Reply::Kept(removal.pair()))
+                }
+            }
             state => state,
         }
     }
 
-    #[inline]
+    #[inline(always)]
     fn at_size(&self, len: usize, limit: usize) -> State
         requires standing { IsStanding self.now }
         requires size { IsSize len limit }
@@ -212,7 +250,7 @@ impl Machine {
         }
     }
 
-    #[inline]
+    #[inline(always)]
     fn at_made(&mut self, number: u64)
         requires standing { IsStanding self.old }
         requires number { number < 2 ^ 48 }
@@ -230,7 +268,7 @@ impl Machine {
         }
     }
 
-    #[inline]
+    #[inline(always)]
     fn at_ok(&self) -> State
         requires { IsStanding self.now }
         ensures value { result ≡ at_ok self.now.state }
@@ -238,12 +276,13 @@ impl Machine {
     {
         match self.state {
             State::Counting(pair) => State::Ended(Reply::Inserted(pair)),
+            State::Uncounting(pair) => State::Ended(Reply::Removed(pair)),
             state => state,
         }
     }
 
     /// Only what was to be made can be refused, and no change was made before it.
-    #[inline]
+    #[inline(always)]
     fn at_refused(&self, refused: Refused) -> State
         requires { IsStanding self.now }
         ensures value { result ≡ at_refused self.now.made refused self.now.state }
@@ -260,7 +299,7 @@ impl Machine {
     }
 
     /// The root is this table, or there is none.
-    #[inline]
+    #[inline(always)]
     fn at_root(&self, word: u64) -> State
         ensures value { result ≡ at_root self.now.task word }
         ensures standing { IsStandingState self.now.task result }
@@ -269,13 +308,13 @@ impl Machine {
             return State::Searching(Search::Sizing(word));
         }
         match self.task {
-            Task::Get => State::Ended(Reply::Absent),
+            Task::Get | Task::RemoveIf => State::Ended(Reply::Absent),
             Task::Insert { .. } => State::Making,
         }
     }
 
     /// What the search saw leads here.
-    #[inline]
+    #[inline(always)]
     fn goes(&self, seen: Seen) -> State
         requires { IsSeen seen }
         ensures value { result ≡ goes self.now seen }
@@ -284,19 +323,19 @@ impl Machine {
         match seen {
             Seen::On(search) => State::Searching(search),
             Seen::Empty(place) => match self.task {
-                Task::Get => State::Ended(Reply::Absent),
+                Task::Get | Task::RemoveIf => State::Ended(Reply::Absent),
                 Task::Insert { .. } => State::Writing(Write { place, old: 0 }),
             },
             Seen::Here(place, word) => self.found(place, word),
             Seen::Over(table) => match self.task {
-                Task::Get => self.passes(table),
-                Task::Insert { .. } => State::Leaving(table),
+                Task::Get | Task::RemoveIf => self.passes(table),
+                Task::Insert { .. } => State::Growing(table),
             },
         }
     }
 
     /// A word at this place names a pair with a matching key. One that is marked can't be changed here.
-    #[inline]
+    #[inline(always)]
     fn found(&self, place: Place, word: u64) -> State
         requires { IsWithin place }
         ensures value { result ≡ found self.now.task place word }
@@ -310,14 +349,22 @@ impl Machine {
                 } else if Word(word).kind() == Kind::Live {
                     State::Writing(Write { place, old: word })
                 } else {
-                    State::Leaving(place.table)
+                    State::Growing(place.table)
+                }
+            }
+            Task::RemoveIf => {
+                if Word(word).kind() == Kind::Live {
+                    State::Showing(Removal { place, word })
+                } else {
+                    State::Growing(place.table)
                 }
             }
         }
     }
 
-    /// A lookup goes past a table. In `Blocking` what it looks for never is in a later one.
-    #[inline]
+    /// A call that looks for its key goes past a table. In `Blocking` what it looks for never is
+    /// in a later one.
+    #[inline(always)]
     fn passes(&self, table: u64) -> State
         ensures value { result ≡ passes self.now.mode table }
         ensures standing { IsStandingState self.now.task result }
@@ -327,22 +374,19 @@ impl Machine {
             ResizeMode::Blocking => State::Ended(Reply::Absent),
         }
     }
+}
 
-    /// The next table has this number, or there is none. Insertions don't go on to a next table yet.
-    #[inline]
-    fn leaves(&self, word: u64) -> State
-        ensures value { result ≡ leaves self.now.task word }
-        ensures standing { IsStandingState self.now.task result }
+impl State {
+    /// The next table has this number, or there is none.
+    #[inline(always)]
+    fn left(word: u64) -> State
+        ensures value { result ≡ left word }
+        ensures standing { (task : Task) → IsStandingState task result }
     {
-        match self.task {
-            Task::Get => {
-                if word == 0 {
-                    State::Ended(Reply::Absent)
-                } else {
-                    State::Searching(Search::Sizing(word))
-                }
-            }
-            Task::Insert { .. } => State::Ended(Reply::Refused(Refused::Capacity)),
+        if word == 0 {
+            State::Ended(Reply::Absent)
+        } else {
+            State::Searching(Search::Sizing(word))
         }
     }
 }

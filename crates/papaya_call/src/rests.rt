@@ -3,7 +3,7 @@
 //! A backend answers what machines ask, and keeps for each call the exchanges that there were when
 //! it began, those since then, and the pairs that it was told of. By the laws below it need not
 //! look into a machine. The functions do nothing: their contracts are the laws.
-ghost use Rattle.std.specs.Prelude.{◌≡◌, ◌⊎◌, ℕ, ◌<◌, ◌++◌, List, [], Option, None, Some};
+ghost use Rattle.std.specs.Prelude.{◌≡◌, ◌⊎◌, ℕ, Bool, true, ◌<◌, ◌++◌, List, [], Option, None, Some};
 ghost use Rattle.papaya_words.specs.declared.probe.Refused.{Refused};
 ghost use Rattle.papaya_words.specs.declared.probe.ResizeMode.{ResizeMode};
 ghost use Rattle.papaya_call.specs.Law.Allows.{AllAllowed, Allows};
@@ -11,14 +11,15 @@ ghost use Rattle.papaya_call.specs.Law.Class.{IsOn};
 ghost use Rattle.papaya_call.specs.Law.Code.{Coding};
 ghost use Rattle.papaya_call.specs.Law.Exchange.{Setting, Exchange, after as state_after, run, start};
 ghost use Rattle.papaya_call.specs.Law.Grows.{Agrees};
+ghost use Rattle.papaya_words.specs.Word.{pair_of};
 ghost use Rattle.papaya_call.specs.Machine.{ask_of, kind_of_ask, after, started};
 ghost use Rattle.papaya_call.specs.Owed.{owed_by, grows_by};
-ghost use Rattle.papaya_call.specs.Rests.{Rests, IsModeOf, IsReply, change_in, change_of_reply, change_after};
+ghost use Rattle.papaya_call.specs.Rests.{Rests, IsModeOf, IsReply, WasAtMoment, change_in, change_of_reply, change_after, said_in, said_in_reply};
 ghost use Rattle.papaya_call.specs.Told.{IsHashed, IsAsked, IsTold, IsWritten, Hands, no_hands, word_of};
 
-use crate::ask::{Answer, Ask, At};
+use crate::ask::{Answer, Ask, At, StepKind};
 use crate::call::{Reply, Task};
-use crate::machine::{Machine, State};
+use crate::machine::Machine;
 
 /// A call that begins rests on the exchanges as they are.
 pub fn begins<K, P>()
@@ -37,6 +38,25 @@ pub fn names<K, P>()
     ensures next { (g : Setting K P) (c : Coding K P) → IsHashed g c → (begun since : List (Exchange P)) → AllAllowed g start (begun ++ since) → (k : K) (m : Machine) (hands : Hands P) → Rests g c begun since k m hands → (t : ℕ) → ask_of m ≡ Ask.Load (At.Next t) → IsOn (run (begun ++ since) start).first (run (begun ++ since) start).next t }
     ensures slot { (g : Setting K P) (c : Coding K P) → IsHashed g c → (begun since : List (Exchange P)) → AllAllowed g start (begun ++ since) → (k : K) (m : Machine) (hands : Hands P) → Rests g c begun since k m hands → (t x : ℕ) → (ask_of m ≡ Ask.Load (At.Slot t x)) ⊎ ((old : ℕ) × (new : ℕ) × (ask_of m ≡ Ask.Exchange (At.Slot t x) old new)) → IsOn (run (begun ++ since) start).first (run (begun ++ since) start).next t × (x < g.size t) }
     ensures pair { (g : Setting K P) (c : Coding K P) → IsHashed g c → (begun since : List (Exchange P)) → AllAllowed g start (begun ++ since) → (k : K) (m : Machine) (hands : Hands P) → Rests g c begun since k m hands → (n : ℕ) → ask_of m ≡ Ask.SameKey n → (p : P) × (hands.last ≡ Some p) × (c.number p ≡ n) }
+    ensures opened { (m : Machine) (answer : Answer) (t : ℕ) → ask_of (after m answer) ≡ Ask.Exchange At.Root 0 t → ((answer ≡ Answer.Made t) × ((len limit : ℕ) × (ask_of m ≡ Ask.MakeTable len limit))) ⊎ (ask_of m ≡ Ask.Exchange At.Root 0 t) }
+{}
+
+/// A pair that a closure is shown is the one last loaded, has the call's key, and was the map's at a moment of the call.
+pub fn shows<K, P>()
+    ensures { (g : Setting K P) (c : Coding K P) → IsHashed g c → (begun since : List (Exchange P)) → AllAllowed g start (begun ++ since) → (k : K) (m : Machine) (hands : Hands P) → Rests g c begun since k m hands → (n : ℕ) → ask_of m ≡ Ask.ShowPair n → (p : P) × (hands.last ≡ Some p) × (c.number p ≡ n) × (g.same k (g.key p) ≡ true) × WasAtMoment g c begun since k (Some p) }
+{}
+
+/// What a machine stands on was said by its closure: a pair is buried only after the closure was shown it and agreed.
+pub fn says()
+    ensures said { (m : Machine) (answer : Answer) (n : ℕ) (agrees : Bool) → said_in (after m answer).state ≡ Some (n, agrees) → (said_in m.state ≡ Some (n, agrees)) ⊎ ((ask_of m ≡ Ask.ShowPair n) × (answer ≡ Answer.Yes agrees)) }
+    ensures buries { (m : Machine) (at : At) (old new : ℕ) → ask_of m ≡ Ask.Exchange at old new → kind_of_ask m ≡ Some StepKind.Bury → said_in m.state ≡ Some (pair_of old, true) }
+    ensures replies { (m : Machine) (reply : Reply) → ask_of m ≡ Ask.Done reply → said_in m.state ≡ said_in_reply reply }
+    ensures begins { (task : Task) (hash : ℕ) (mode : ResizeMode) (initial : ℕ) → said_in (started task hash mode initial).state ≡ None }
+{}
+
+/// While no table has a next one, a removal is never refused.
+pub fn removals_are_not_refused<K, P>()
+    ensures { (g : Setting K P) (c : Coding K P) → IsHashed g c → (begun since : List (Exchange P)) → AllAllowed g start (begun ++ since) → ((t : ℕ) → (run (begun ++ since) start).next t ≡ 0) → (k : K) (m : Machine) (hands : Hands P) → Rests g c begun since k m hands → m.task ≡ Task.RemoveIf → ((reply : Reply) → ask_of m ≡ Ask.Done reply → ⊥) → (answer : Answer) (refused : Refused) → ask_of (after m answer) ≡ Ask.Done (Reply.Refused refused) → ⊥ }
 {}
 
 /// An exchange whose old word stands there is one of the law, allowed, and writes just its word.
@@ -55,7 +75,7 @@ pub fn replies<K, P>()
     ensures change { (g : Setting K P) (c : Coding K P) → IsHashed g c → (begun since : List (Exchange P)) (k : K) (m : Machine) (hands : Hands P) → Rests g c begun since k m hands → (s : _) (answer : Answer) (es : List (Exchange P)) (hands' : Hands P) → IsTold g c k s (kind_of_ask m) hands (ask_of m) answer es hands' → change_in (after m answer).state ≡ change_after (kind_of_ask m) (ask_of m) answer (change_in m.state) }
     ensures once { (m : Machine) (at : At) (old new : ℕ) → ask_of m ≡ Ask.Exchange at old new → change_in m.state ≡ None }
     ensures task { (m : Machine) (answer : Answer) → ((after m answer).task ≡ m.task) × ((after m answer).hash ≡ m.hash) }
-    ensures refusal { (m : Machine) (answer : Answer) (refused : Refused) → ((reply : Reply) → ask_of m ≡ Ask.Done reply → ⊥) → ask_of (after m answer) ≡ Ask.Done (Reply.Refused refused) → (answer ≡ Answer.Refused refused) ⊎ ((refused ≡ Refused.Capacity) × ((t : ℕ) × (m.state ≡ State.Leaving t))) }
+    ensures refusal { (m : Machine) (answer : Answer) (refused : Refused) → ((reply : Reply) → ask_of m ≡ Ask.Done reply → ⊥) → ask_of (after m answer) ≡ Ask.Done (Reply.Refused refused) → (answer ≡ Answer.Refused refused) ⊎ ((refused ≡ Refused.Capacity) × ((t : ℕ) × (ask_of m ≡ Ask.Load (At.Next t)))) }
 {}
 
 /// What a machine has yet to add to the count after an answer is what the map grew by: it counts a claim by its next step, and a replacement never.

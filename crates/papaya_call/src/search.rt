@@ -46,7 +46,7 @@ pub enum Seen {
 
 impl Place {
     /// The first place of a key with this hash.
-    #[inline]
+    #[inline(always)]
     pub fn first(hash: u64, table: u64, len: usize, limit: usize) -> Place
         requires { IsSize len limit }
         ensures value { result ≡ first_place hash table len limit }
@@ -61,7 +61,7 @@ impl Place {
     }
 
     /// The key is not at this place, so the next one is looked at, while there is one.
-    #[inline]
+    #[inline(always)]
     fn go_on(mut self) -> Seen
         requires { IsWithin self }
         ensures value { result ≡ go_on self }
@@ -77,7 +77,7 @@ impl Place {
 
     /// This word stands at the place. Its key is compared only where the hash byte agrees, so that
     /// a pair is rarely read in vain.
-    #[inline]
+    #[inline(always)]
     pub fn look(self, hash: u64, word: u64) -> Seen
         requires { IsWithin self }
         ensures value { result ≡ look self hash word }
@@ -99,7 +99,7 @@ impl Place {
 
 impl Search {
     /// What the search asks next.
-    #[inline]
+    #[inline(always)]
     pub fn ask(self) -> Ask
         ensures { result ≡ ask_of self }
     {
@@ -111,7 +111,7 @@ impl Search {
     }
 
     /// The table has this size.
-    #[inline]
+    #[inline(always)]
     pub fn at_size(self, hash: u64, len: usize, limit: usize) -> Search
         requires searching { IsSearching self }
         requires size { IsSize len limit }
@@ -125,7 +125,7 @@ impl Search {
     }
 
     /// This word was loaded.
-    #[inline]
+    #[inline(always)]
     pub fn at_word(self, hash: u64, word: u64) -> Seen
         requires { IsSearching self }
         ensures value { result ≡ at_word self hash word }
@@ -138,7 +138,7 @@ impl Search {
     }
 
     /// The keys match, or they do not. A pair that was copied has to be looked for further on.
-    #[inline]
+    #[inline(always)]
     pub fn at_yes(self, yes: bool) -> Seen
         requires { IsSearching self }
         ensures value { result ≡ at_yes self yes }

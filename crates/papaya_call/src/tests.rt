@@ -27,6 +27,8 @@ const CLOSED: u64 = 5;
 const EMPTY: u64 = 0;
 /// What an insertion puts where its pair has the number 12.
 const LIVE_12: u64 = 12_329;
+/// What a removal of that pair leaves.
+const BURIED_12: u64 = 12_332;
 
 /// The machine asks this, and is answered.
 fn told(rt: &impl Abort, machine: &mut Machine, ask: Ask, answer: Answer)
@@ -244,4 +246,98 @@ fn insertion_that_keeps_what_it_finds(rt: HostRuntime) {
     loads(&rt, &mut insertion, 1, 2, LIVE);
     compares(&rt, &mut insertion, 3, true);
     replies(&rt, &insertion, Reply::Occupied(3));
+}
+
+/// A removal that found the pair 3 of its key at the first place of table 1.
+fn removal(rt: &impl Abort) -> Machine
+    ensures { IsStanding result }
+{
+    let mut removal = Machine::new(Task::RemoveIf, HASH, ResizeMode::Blocking, 1);
+    enters_root(rt, &mut removal, 1);
+    loads(rt, &mut removal, 1, 2, LIVE);
+    compares(rt, &mut removal, 3, true);
+    removal
+}
+
+/// The machine shows a pair to its closure.
+fn shows(rt: &impl Abort, machine: &mut Machine, pair: u64, agrees: bool)
+    requires { IsStanding machine.old }
+    ensures { IsStanding machine.new }
+{
+    assert_eq!(rt; machine.kind(), None);
+    told(rt, machine, Ask::ShowPair(pair), Answer::Yes(agrees));
+}
+
+/// The machine tries to bury the pair at the first place of table 1.
+fn buries(rt: &impl Abort, machine: &mut Machine, old: u64, new: u64, answer: Answer)
+    requires standing { IsStanding machine.old }
+    requires fit { IsFit answer }
+    ensures { IsStanding machine.new }
+{
+    assert_eq!(rt; machine.kind(), Some(StepKind::Bury));
+    told(rt, machine, Ask::Exchange(At::Slot(1, 2), old, new), answer);
+}
+
+#[test]
+fn removal_buries_and_counts_out(rt: HostRuntime) {
+    let mut removal = removal(&rt);
+    shows(&rt, &mut removal, 3, true);
+    buries(&rt, &mut removal, LIVE, BURIED, Answer::Exchanged);
+    assert_eq!(&rt; removal.kind(), None);
+    told(&rt, &mut removal, Ask::AddToShard(-1), Answer::Ok);
+    replies(&rt, &removal, Reply::Removed(3));
+}
+
+#[test]
+fn removal_keeps_what_its_closure_wants_kept(rt: HostRuntime) {
+    let mut removal = removal(&rt);
+    shows(&rt, &mut removal, 3, false);
+    replies(&rt, &removal, Reply::Kept(3));
+}
+
+#[test]
+fn removal_loses_to_another_removal(rt: HostRuntime) {
+    let mut removal = removal(&rt);
+    shows(&rt, &mut removal, 3, true);
+    buries(&rt, &mut removal, LIVE, BURIED, Answer::Found(BURIED));
+    replies(&rt, &removal, Reply::Absent);
+}
+
+/// A removal whose closure agreed to the pair 3, and that lost it to a replacement by the pair 12.
+fn lost_to_a_replacement(rt: &impl Abort) -> Machine
+    ensures { IsStanding result }
+{
+    let mut removal = removal(rt);
+    shows(rt, &mut removal, 3, true);
+    buries(rt, &mut removal, LIVE, BURIED, Answer::Found(LIVE_12));
+    compares(rt, &mut removal, 12, true);
+    removal
+}
+
+#[test]
+fn removal_shows_the_pair_that_it_lost_to(rt: HostRuntime) {
+    let mut removal = lost_to_a_replacement(&rt);
+    shows(&rt, &mut removal, 12, true);
+    buries(&rt, &mut removal, LIVE_12, BURIED_12, Answer::Exchanged);
+    told(&rt, &mut removal, Ask::AddToShard(-1), Answer::Ok);
+    replies(&rt, &removal, Reply::Removed(12));
+    let mut removal = lost_to_a_replacement(&rt);
+    shows(&rt, &mut removal, 12, false);
+    replies(&rt, &removal, Reply::Kept(12));
+}
+
+#[test]
+fn removal_of_an_absent_key(rt: HostRuntime) {
+    let mut removal = Machine::new(Task::RemoveIf, HASH, ResizeMode::Blocking, 1);
+    told(&rt, &mut removal, Ask::Load(At::Root), Answer::Word(0));
+    replies(&rt, &removal, Reply::Absent);
+    let mut removal = Machine::new(Task::RemoveIf, HASH, ResizeMode::Incremental(64), 1);
+    enters_root(&rt, &mut removal, 1);
+    loads(&rt, &mut removal, 1, 2, COPIED);
+    compares(&rt, &mut removal, 4, true);
+    told(&rt, &mut removal, Ask::Load(At::Next(1)), Answer::Word(2));
+    enters(&rt, &mut removal, 2);
+    loads(&rt, &mut removal, 2, 2, BURIED);
+    loads(&rt, &mut removal, 2, 3, EMPTY);
+    replies(&rt, &removal, Reply::Absent);
 }

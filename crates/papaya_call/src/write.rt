@@ -29,7 +29,7 @@ pub struct Write {
 
 impl Write {
     /// What is asked next: a key, then a pair, then the exchange.
-    #[inline]
+    #[inline(always)]
     pub fn ask(self, made: Made, hash: u64) -> Ask
         requires { IsMade made }
         ensures { result ≡ write_ask self made hash }

@@ -1,5 +1,5 @@
 //! The count of a map, in shards, so that callers seldom meet at one word.
-ghost use Rattle.std.specs.Prelude.{◌≡◌, ℕ, ◌-◌, ◌<◌, ◌≤◌, length, slice_set, slice_index_or, pos, ◌+ℤ◌, bit_and, Err, IfErr, IfOk};
+ghost use Rattle.std.specs.Prelude.{◌≡◌, ℕ, ◌-◌, ◌<◌, ◌≤◌, length, slice_set, slice_index_or, pos, ◌+ℤ◌, bit_and, Err, FitsSigned, IfErr, IfOk};
 ghost use Rattle.std.specs.Int.{w64, int_wrap, IsPowerOfTwo, IsNextPowerOfTwo};
 ghost use Rattle.papaya_words.specs.Counter.{count_of};
 
@@ -59,6 +59,7 @@ impl Counter {
     }
 
     /// The shard that a guard of this number adds to.
+    #[inline(always)]
     pub fn get(&self, guard_number: u64) -> usize
         ensures place { result ≡ bit_and guard_number (self.now.shards - 1) }
         ensures bound { result < self.now.shards }
@@ -67,6 +68,7 @@ impl Counter {
     }
 
     /// Adds to one shard, wrapping.
+    #[inline(always)]
     pub fn add(&mut self, place: usize, by: i64)
         requires { place < self.old.shards }
         ensures { self.new ≡ record self.old { sum = int_wrap w64 (self.old.sum +ℤ by) } }
@@ -76,7 +78,8 @@ impl Counter {
 
     /// The sum of all shards; a negative one counts as 0.
     pub fn sum(&self) -> usize
-        ensures { result ≡ count_of self.now.sum }
+        ensures value { result ≡ count_of self.now.sum }
+        ensures fits { FitsSigned w64 self.now.sum }
     {
         let mut sum: i64 = 0;
         for shard in &self.shards {

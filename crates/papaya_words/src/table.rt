@@ -61,6 +61,7 @@ impl Table {
     }
 
     /// How many slots the table has.
+    #[inline(always)]
     pub fn len(&self) -> usize
         ensures { result ≡ length self.now.slots }
     {
@@ -68,6 +69,7 @@ impl Table {
     }
 
     /// How many places a search visits after the first.
+    #[inline(always)]
     pub fn limit(&self) -> usize
         ensures { result ≡ self.now.limit }
     {
@@ -75,6 +77,7 @@ impl Table {
     }
 
     /// The number of the next table, or 0 where there is none yet.
+    #[inline(always)]
     pub fn next(&self) -> u64
         ensures { result ≡ self.now.next }
     {
@@ -118,6 +121,7 @@ impl Table {
     }
 
     /// The word of a slot.
+    #[inline(always)]
     pub fn slot(&self, i: usize) -> u64
         requires { i < length self.now.slots }
         ensures { slice_get self.now.slots i ≡ Some result }
@@ -126,6 +130,7 @@ impl Table {
     }
 
     /// Writes the word of a slot.
+    #[inline(always)]
     pub fn put(&mut self, i: usize, word: u64)
         requires { i < length self.old.slots }
         ensures { self.new ≡ record self.old { slots = slice_set self.old.slots i word } }

@@ -35,9 +35,10 @@ impl Word {
     pub const CLOSED: Word = Word(5);
 
     /// The word of a slot that holds this pair.
+    #[inline(always)]
     pub fn live(h2: u8, pair: u64) -> Word
         requires byte { h2 < 128 }
-        requires pair { pair < 2 ^ 48 }
+        requires pair { pair < 2 ^ 54 }
         ensures { result.0 ≡ live_word h2 pair }
     {
         Word(1 + 8 * h2 as u64 + 1024 * pair)
@@ -46,7 +47,7 @@ impl Word {
     /// The word of a slot whose pair is being copied.
     pub fn marked(h2: u8, pair: u64) -> Word
         requires byte { h2 < 128 }
-        requires pair { pair < 2 ^ 48 }
+        requires pair { pair < 2 ^ 54 }
         ensures { result.0 ≡ marked_word h2 pair }
     {
         Word(2 + 8 * h2 as u64 + 1024 * pair)
@@ -55,16 +56,17 @@ impl Word {
     /// The word of a slot whose pair was copied.
     pub fn copied(h2: u8, pair: u64) -> Word
         requires byte { h2 < 128 }
-        requires pair { pair < 2 ^ 48 }
+        requires pair { pair < 2 ^ 54 }
         ensures { result.0 ≡ copied_word h2 pair }
     {
         Word(3 + 8 * h2 as u64 + 1024 * pair)
     }
 
     /// The word of a slot whose pair was removed.
+    #[inline(always)]
     pub fn buried(h2: u8, pair: u64) -> Word
         requires byte { h2 < 128 }
-        requires pair { pair < 2 ^ 48 }
+        requires pair { pair < 2 ^ 54 }
         ensures { result.0 ≡ buried_word h2 pair }
     {
         Word(4 + 8 * h2 as u64 + 1024 * pair)
@@ -72,6 +74,7 @@ impl Word {
 
     /// What the word says. The codes 6 and 7 stand in no table; they read as
     /// Closed.
+    #[inline(always)]
     pub fn kind(self) -> Kind
         ensures { result ≡ kind_of self.0 }
     {
@@ -86,6 +89,7 @@ impl Word {
     }
 
     /// The number of the pair. It says nothing in an Empty or a Closed word.
+    #[inline(always)]
     pub fn pair(self) -> u64
         ensures { result ≡ pair_of self.0 }
     {
@@ -94,6 +98,7 @@ impl Word {
 
     /// The hash byte of the pair's key, below 128: a key is compared only where
     /// it agrees. It says nothing in an Empty or a Closed word.
+    #[inline(always)]
     pub fn hash_byte(self) -> u8
         ensures { result ≡ byte_of self.0 }
     {
@@ -138,6 +143,7 @@ pub fn words_read_back()
 {}
 
 /// The hash from which the places of a search are counted.
+#[inline(always)]
 pub fn h1(hash: u64) -> usize
     ensures { result ≡ hash }
 {
@@ -145,6 +151,7 @@ pub fn h1(hash: u64) -> usize
 }
 
 /// The hash byte: the top seven bits of the hash.
+#[inline(always)]
 pub fn h2(hash: u64) -> u8
     ensures value { result ≡ top_byte hash }
     ensures byte { result < 128 }

@@ -76,7 +76,7 @@ module _ {K P : Type 0} (g : Setting K P) where
 
   module _ (law : IsLawful g) where
     -- equal keys are equal to the same keys
-    same_test : (k l m : K) → g.same k l ≡ true → g.same k m ≡ g.same l m
+    pub same_test : (k l m : K) → g.same k l ≡ true → g.same k m ≡ g.same l m
     same_test k l m h =
         ⊎_elim
         (λ (a : g.same k m ≡ true). a ∙ sym (law.through l k m (law.back k l h) a))

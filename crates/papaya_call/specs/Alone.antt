@@ -1,0 +1,148 @@
+-- One caller alone: nobody else changes the words, so what a machine has read stands there still, and its call comes to an end.
+use Rattle.std.specs.Prelude.{◌≡◌, ◌⊎◌, ℕ, ◌+◌, ◌*◌, ◌-◌, ◌^◌, ◌==◌, Bool, false, MatchBool}
+use Rattle.papaya_words.specs.Word.{kind_of}
+use Rattle.papaya_words.specs.declared.probe.Refused.{Refused}
+use Rattle.papaya_words.specs.declared.word.Kind.TheVariants.{Empty as Is_empty}
+use Rattle.papaya_call.specs.declared.ask.At.{At}
+use Rattle.papaya_call.specs.declared.ask.At.TheVariants.{Root, Slot}
+use Rattle.papaya_call.specs.declared.ask.Ask.{Ask}
+use Rattle.papaya_call.specs.declared.ask.Ask.TheVariants.{Load, Exchange, SameKey, ShowPair, SizeOf, MakeKey, MakePair, MakeTable, AddToShard, Done}
+use Rattle.papaya_call.specs.declared.ask.Answer.{Answer}
+use Rattle.papaya_call.specs.declared.ask.Answer.TheVariants.{Word as Word_read, Exchanged, Found as Found_instead, Yes, Size, Made as Made_number, Ok as Ok_done, Refused as Was_refused}
+use Rattle.papaya_call.specs.declared.call.Reply.TheVariants.{Absent}
+use Rattle.papaya_call.specs.declared.call.Task.{Task}
+use Rattle.papaya_call.specs.declared.call.Task.TheVariants.{Get, Insert, RemoveIf}
+use Rattle.papaya_call.specs.declared.machine.Machine.{Machine}
+use Rattle.papaya_call.specs.declared.machine.State.{State}
+use Rattle.papaya_call.specs.declared.machine.State.TheVariants.{AtRoot, Making, Opening, Searching, Writing, Showing, Burying, Counting, Uncounting, Leaving, Growing, Ended}
+use Rattle.papaya_call.specs.declared.search.Place.{Place}
+use Rattle.papaya_call.specs.declared.search.Search.{Search}
+use Rattle.papaya_call.specs.declared.search.Search.TheVariants.{Sizing, Looking, Comparing}
+use Rattle.papaya_call.specs.declared.write.Made.{Made}
+use Rattle.papaya_call.specs.declared.write.Made.TheVariants.{Nothing, Key, Pair}
+use Rattle.papaya_call.specs.Search.{IsSize}
+
+-- the words are the same
+abbrev pub IsSame : (At → ℕ) → (At → ℕ) → Type 0
+IsSame words words' = (at : At) → words' at ≡ words at
+
+-- just the word at this place is another
+pub record IsPut (words : At → ℕ) (at : At) (new : ℕ) (words' : At → ℕ) : Type 0 where
+  pub here : words' at ≡ new
+  pub others : (other : At) → (other ≡ at → ⊥) → words' other ≡ words other
+
+-- what was to be made was made, or refused
+abbrev pub IsMaking : Answer → Type 0
+IsMaking answer = ((n : ℕ) × (answer ≡ Made_number n)) ⊎ ((refused : Refused) × (answer ≡ Was_refused refused))
+
+-- An ask is answered by the words, and just its own exchange changes them.
+abbrev pub IsPrompt : (At → ℕ) → Ask → Answer → (At → ℕ) → Type 0
+IsPrompt words (Load at) answer words' = (answer ≡ Word_read (words at)) × IsSame words words'
+IsPrompt words (Exchange at old new) answer words' =
+    MatchBool (words at == old) ((answer ≡ Exchanged) × IsPut words at new words') ((answer ≡ Found_instead (words at)) × IsSame words words')
+IsPrompt words (SameKey n) answer words' = ((same : Bool) × (answer ≡ Yes same)) × IsSame words words'
+IsPrompt words (ShowPair n) answer words' = ((agrees : Bool) × (answer ≡ Yes agrees)) × IsSame words words'
+IsPrompt words (SizeOf t) answer words' = ((slots : ℕ) × (limit : ℕ) × IsSize slots limit × (answer ≡ Size slots limit)) × IsSame words words'
+IsPrompt words MakeKey answer words' = IsMaking answer × IsSame words words'
+IsPrompt words MakePair answer words' = IsMaking answer × IsSame words words'
+IsPrompt words (MakeTable slots limit) answer words' = IsMaking answer × IsSame words words'
+IsPrompt words (AddToShard by) answer words' = (answer ≡ Ok_done) × IsSame words words'
+IsPrompt words (Done reply) answer words' = ⊥
+
+-- the word that stands at a place of a table
+abbrev pub word_of_place : (At → ℕ) → Place → ℕ
+word_of_place words at = words (Slot at.table at.probe.i)
+
+-- what a search has read stands there still
+abbrev pub IsSearchRead : (At → ℕ) → Search → Type 0
+IsSearchRead words (Sizing t) = Unit {0}
+IsSearchRead words (Looking at) = Unit {0}
+IsSearchRead words (Comparing at word) = word_of_place words at ≡ word
+
+-- and what a machine has read
+abbrev pub IsRead : (At → ℕ) → State → Type 0
+IsRead words AtRoot = Unit {0}
+IsRead words Making = words Root ≡ 0
+IsRead words (Opening t) = words Root ≡ 0
+IsRead words (Searching search) = IsSearchRead words search
+IsRead words (Writing write) = word_of_place words write.place ≡ write.old
+IsRead words (Showing removal) = word_of_place words removal.place ≡ removal.word
+IsRead words (Burying removal) = word_of_place words removal.place ≡ removal.word
+IsRead words (Counting n) = Unit {0}
+IsRead words (Uncounting n) = Unit {0}
+IsRead words (Leaving t) = Unit {0}
+IsRead words (Growing t) = Unit {0}
+IsRead words (Ended reply) = Unit {0}
+
+-- the word of an empty slot says nothing else: a write finds there the word that it looks for
+abbrev pub IsBare : (At → ℕ) → Type 0
+IsBare words = (t i : ℕ) → kind_of (words (Slot t i)) ≡ Is_empty → words (Slot t i) ≡ 0
+
+-- what a machine has read stands there still, and an empty slot's word is 0
+pub record IsCurrent (words : At → ℕ) (s : State) : Type 0 where
+  pub bare : IsBare words
+  pub read : IsRead words s
+
+-- the steps that are left to a write: its key, its pair, the exchange, and the count
+abbrev pub left_to_write : Made → ℕ
+left_to_write Nothing = 4
+left_to_write Key = 3
+left_to_write (Pair n) = 2
+
+-- the steps that are left to a search of one table, at most, and to what comes of it
+abbrev pub left_to_search : Search → ℕ
+left_to_search (Sizing t) = 2 ^ 40
+left_to_search (Looking at) = 8 + 2 * (at.limit - at.probe.len)
+left_to_search (Comparing at word) = 7 + 2 * (at.limit - at.probe.len)
+
+-- The steps that are left to a call, at most, while no table has a next one.
+abbrev pub left_in : Made → State → ℕ
+left_in made AtRoot = 2 ^ 40 + 3
+left_in made Making = 2 ^ 40 + 2
+left_in made (Opening t) = 2 ^ 40 + 1
+left_in made (Searching search) = left_to_search search
+left_in made (Writing write) = left_to_write made
+left_in made (Showing removal) = 3
+left_in made (Burying removal) = 2
+left_in made (Counting n) = 1
+left_in made (Uncounting n) = 1
+left_in made (Leaving t) = 1
+left_in made (Growing t) = 1
+left_in made (Ended reply) = 0
+
+abbrev pub left : Machine → ℕ
+left m = left_in m.made m.state
+
+-- a call that looks for its key
+abbrev pub IsSeeker : Task → Type 0
+IsSeeker Get = Unit {0}
+IsSeeker (Insert replace) = ⊥
+IsSeeker RemoveIf = Unit {0}
+
+-- a call that looks for its key and has met no pair with it
+abbrev pub HasMetNone : State → Type 0
+HasMetNone AtRoot = Unit {0}
+HasMetNone Making = ⊥
+HasMetNone (Opening t) = ⊥
+HasMetNone (Searching search) = Unit {0}
+HasMetNone (Writing write) = ⊥
+HasMetNone (Showing removal) = ⊥
+HasMetNone (Burying removal) = ⊥
+HasMetNone (Counting n) = ⊥
+HasMetNone (Uncounting n) = ⊥
+HasMetNone (Leaving t) = Unit {0}
+HasMetNone (Growing t) = ⊥
+HasMetNone (Ended reply) = reply ≡ Absent
+
+-- no key was told to match
+abbrev pub IsUnmatched : Ask → Answer → Type 0
+IsUnmatched (SameKey n) answer = answer ≡ Yes false
+IsUnmatched (Load at) answer = (word : ℕ) × (answer ≡ Word_read word)
+IsUnmatched (SizeOf t) answer = (slots : ℕ) × (limit : ℕ) × (answer ≡ Size slots limit)
+IsUnmatched (Exchange at old new) answer = Unit {0}
+IsUnmatched (ShowPair n) answer = Unit {0}
+IsUnmatched MakeKey answer = Unit {0}
+IsUnmatched MakePair answer = Unit {0}
+IsUnmatched (MakeTable slots limit) answer = Unit {0}
+IsUnmatched (AddToShard by) answer = Unit {0}
+IsUnmatched (Done reply) answer = Unit {0}

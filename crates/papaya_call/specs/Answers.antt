@@ -1,0 +1,18 @@
+-- The answers of closures, as values.
+use Rattle.std.specs.Prelude.{ℕ, Bool, Option, List, [], ◌∷◌}
+use Rattle.papaya_call.specs.declared.answers.Operation.{Operation}
+
+-- What a type of answers gives: for what is shown, which answer, and which answers are left.
+pub record Says (K V A : Type 0) : Type 1 where
+  pub op : A → Option (K × V) → Operation V ℕ → A → Type 0
+  pub yes : A → K → V → Bool → A → Type 0
+
+-- the first of a list, or what is given where the list is used up
+abbrev pub first_or : {A : Type 0} → A → List A → A
+first_or default [] = default
+first_or default (x ∷ rest) = x
+
+-- the list without its first
+abbrev pub rest_of : {A : Type 0} → List A → List A
+rest_of [] = []
+rest_of (x ∷ rest) = rest

@@ -1,0 +1,49 @@
+//! The removal of the pair that a word names.
+ghost use Rattle.std.specs.Prelude.{◌≡◌};
+ghost use Rattle.papaya_words.specs.Word.{pair_of};
+ghost use Rattle.papaya_call.specs.Remove.{removal_ask, show_ask};
+
+use crate::ask::{Ask, At};
+use crate::search::Place;
+use papaya_words::word::Word;
+
+/// A pair that is to be removed if the call's closure agrees: the word that names it, and where
+/// that was found.
+#[derive(Clone, Copy, Debug, PartialEq, Eq)]
+pub struct Removal {
+    /// Where the word stands, or stood when it was loaded.
+    pub place: Place,
+    /// A Live word, which names a pair with a matching key.
+    pub word: u64,
+}
+
+impl Removal {
+    /// The number of the pair.
+    #[inline(always)]
+    pub fn pair(self) -> u64
+        ensures { result ≡ pair_of self.word }
+    {
+        Word(self.word).pair()
+    }
+
+    /// Shows the pair to the closure.
+    #[inline(always)]
+    pub fn show(self) -> Ask
+        ensures { result ≡ show_ask self }
+    {
+        Ask::ShowPair(self.pair())
+    }
+
+    /// Buries the pair: its number stays in the slot.
+    #[inline(always)]
+    pub fn ask(self) -> Ask
+        ensures { result ≡ removal_ask self }
+    {
+        let word = Word(self.word);
+        Ask::Exchange(
+            At::Slot(self.place.table, self.place.probe.i),
+            self.word,
+            Word::buried(word.hash_byte(), word.pair()).0,
+        )
+    }
+}
