@@ -5,15 +5,16 @@ use Rattle.std.proofs.Math.Pow.{pow_mono}
 use Rattle.std.specs.Int.{IsPowerOfTwo}
 use Rattle.papaya_words.specs.Probe.{IsLimit}
 use Rattle.papaya_words.specs.declared.probe.ResizeMode.{ResizeMode}
+use Rattle.papaya_call.specs.Answers.{Says}
 use Rattle.papaya_call.specs.declared.ask.Answer.{Answer}
 use Rattle.papaya_call.specs.Search.{IsSize}
 use Rattle.papaya_words.specs.declared.probe.Refused.{Refused}
 use Rattle.papaya_call.specs.declared.ask.Ask.{Ask}
-use Rattle.papaya_call.specs.declared.ask.Ask.TheVariants.{Load, Exchange, SameKey, SizeOf, MakeKey, MakePair, MakeTable, AddToShard, Done as Ask_done}
+use Rattle.papaya_call.specs.declared.ask.Ask.TheVariants.{Load, Exchange, SameKey, ShowPair, SizeOf, MakeKey, MakePair, MakeTable, AddToShard, Done as Ask_done}
 use Rattle.papaya_call.specs.declared.call.Reply.{Reply}
 use Rattle.papaya_call.specs.declared.call.Reply.TheVariants.{Refused as Reply_refused}
 use Rattle.papaya_call.specs.declared.machine.Machine.{Machine}
-use Rattle.papaya_call.specs.Machine.{IsChunked, IsStanding, IsFitAsk, asks, ask_of, after}
+use Rattle.papaya_call.specs.Machine.{IsChunked, IsStanding, IsFitAsk, ask_of, after}
 use Rattle.papaya_call.proofs.RestsReplyRefused.{machine_refused}
 use Rattle.papaya_call.specs.declared.call.Call.{Call}
 use Rattle.papaya_core.specs.Advances.{IsCause, reply_in}
@@ -38,11 +39,12 @@ pub still_going : (m : Machine) → reply_in (ask_of m) ≡ None → IsGoing m
 still_going m none reply e = let f : Some reply ≡ None = sym (ap reply_in e) ∙ none in cc
 
 -- a reply that is in an ask is the ask's
-reply_asked : (ask : Ask) (reply : Reply) → reply_in ask ≡ Some reply → ask ≡ Ask_done reply
+pub reply_asked : (ask : Ask) (reply : Reply) → reply_in ask ≡ Some reply → ask ≡ Ask_done reply
 reply_asked (Ask_done r) reply e = let same : r ≡ reply = cc in ap Ask_done same
 reply_asked (Load at) reply e = absurd cc
 reply_asked (Exchange at old new) reply e = absurd cc
 reply_asked (SameKey n) reply e = absurd cc
+reply_asked (ShowPair n) reply e = absurd cc
 reply_asked (SizeOf n) reply e = absurd cc
 reply_asked MakeKey reply e = absurd cc
 reply_asked MakePair reply e = absurd cc
@@ -51,18 +53,15 @@ reply_asked (AddToShard by) reply e = absurd cc
 
 -- a call that goes on is refused for a cause
 pub caused : (m : Machine) (answer : Answer) (refused : Refused) → IsGoing m → reply_in (ask_of (after m answer)) ≡ Some (Reply_refused refused) → IsCause m answer refused
-caused m answer refused going e = elim (machine_refused m refused answer going (reply_asked (ask_of (after m answer)) (Reply_refused refused) e)) [
-  | inl same ↦ inl same
-  | inr left ↦ inr (left.0, (left.1.0, ap (asks m.made m.hash) left.1.1))
-]
+caused m answer refused going e = machine_refused m refused answer going (reply_asked (ask_of (after m answer)) (Reply_refused refused) e)
 
 -- a call that begins has not replied
-pub begun-going : {K V : Type 0} (hash : K → ℕ) (mode : ResizeMode) (initial : ℕ) (call : Call K V) → IsGoing (begun hash mode initial call).machine
+pub begun-going : {K V A : Type 0} (hash : K → ℕ) (mode : ResizeMode) (initial : ℕ) (call : Call K V A) → IsGoing (begun hash mode initial call).machine
 begun-going hash mode initial call = still_going (begun hash mode initial call).machine refl
 
-module _ {K V S : Type 0} where
+module _ {K V S A : Type 0} where
   -- a call was put into a seat, or taken out of it
-  pub with_call-core : (store : StoreState K V S) (callers : List (Seat K V)) (mode : ResizeMode) (caller : ℕ) (call : Option (Running K V)) → IsCore store callers mode → ((r : Running K V) → call ≡ Some r → IsStanding r.machine × IsGoing r.machine) → IsCore store (with_call callers caller call) mode
+  pub with_call-core : (store : StoreState K V S) (callers : List (Seat K V A)) (mode : ResizeMode) (caller : ℕ) (call : Option (Running K V A)) → IsCore store callers mode → ((r : Running K V A) → call ≡ Some r → IsStanding r.machine × IsGoing r.machine) → IsCore store (with_call callers caller call) mode
   with_call-core store callers mode caller call core stands = record {
     chunked = core.chunked;
     sizes = core.sizes;
@@ -77,7 +76,7 @@ module _ {K V S : Type 0} where
   }
 
   -- a caller got a seat
-  pub with_seat-core : (store : StoreState K V S) (callers : List (Seat K V)) (mode : ResizeMode) (caller : ℕ) → IsCore store callers mode → IsCore store (with_seat callers caller) mode
+  pub with_seat-core : (store : StoreState K V S) (callers : List (Seat K V A)) (mode : ResizeMode) (caller : ℕ) → IsCore store callers mode → IsCore store (with_seat callers caller) mode
   with_seat-core store callers mode caller core = record {
     chunked = core.chunked;
     sizes = core.sizes;
@@ -86,16 +85,16 @@ module _ {K V S : Type 0} where
   }
 
   -- a caller began a call
-  pub begun-core : (store : StoreState K V S) (callers : List (Seat K V)) (mode : ResizeMode) (caller : ℕ) (r : Running K V) → IsCore store callers mode → IsStanding r.machine → IsGoing r.machine → IsCore store (with_call (with_seat callers caller) caller (Some r)) mode
+  pub begun-core : (store : StoreState K V S) (callers : List (Seat K V A)) (mode : ResizeMode) (caller : ℕ) (r : Running K V A) → IsCore store callers mode → IsStanding r.machine → IsGoing r.machine → IsCore store (with_call (with_seat callers caller) caller (Some r)) mode
   begun-core store callers mode caller r core stands goes =
       with_call-core store (with_seat callers caller) mode caller (Some r) (with_seat-core store callers mode caller core)
-      (λ q e. let same : r ≡ q = cc in subst (λ (y : Running K V). IsStanding y.machine × IsGoing y.machine) same (stands, goes))
+      (λ q e. let same : r ≡ q = cc in subst (λ (y : Running K V A). IsStanding y.machine × IsGoing y.machine) same (stands, goes))
 
   -- an ask of a caller was answered
-  pub performed-core : (eq : K → K → Bool) (refuse : Bool) (store : StoreState K V S) (callers : List (Seat K V)) (mode : ResizeMode) (r : Running K V) (a : Answer) (store' : StoreState K V S) (later : Running K V) → IsCore store callers mode → IsFitAsk (ask_of r.machine) → Performs eq refuse (ask_of r.machine) store r a store' later → IsCore store' callers mode
-  performed-core eq refuse store callers mode r a store' later core fit performs = record {
+  pub performed-core : (eq : K → K → Bool) (says : Says K V A) (refuse : Bool) (store : StoreState K V S) (callers : List (Seat K V A)) (mode : ResizeMode) (r : Running K V A) (a : Answer) (store' : StoreState K V S) (later : Running K V A) → IsCore store callers mode → IsFitAsk (ask_of r.machine) → Performs eq says refuse (ask_of r.machine) store r a store' later → IsCore store' callers mode
+  performed-core eq says refuse store callers mode r a store' later core fit performs = record {
     chunked = core.chunked;
-    sizes = numbered store'.words.tables (performed eq refuse (ask_of r.machine) store r a store' later (unnumbered store.words.tables core.sizes) fit performs).sized;
+    sizes = numbered store'.words.tables (performed eq says refuse (ask_of r.machine) store r a store' later (unnumbered store.words.tables core.sizes) fit performs).sized;
     standing = core.standing;
     going = core.going;
   }
@@ -123,10 +122,10 @@ new-sized zero initial words power most e = no-tables words e
 new-sized (suc n) initial words power most (limit, is, e) =
     subst (λ (w : Tables). AllSized w.tables) (sym e) (append-sized [] 1 (max initial 8) limit (table-size initial limit power most is) (no-tables (record { root = 0; tables = [] }) refl))
 
-pub new-core : {K V S : Type 0} (store : StoreState K V S) (callers : List (Seat K V)) (mode : ResizeMode) (capacity initial : ℕ) → IsChunked mode → IsPowerOfTwo initial → initial ≤ 2 ^ 32 → HasCapacity capacity initial store.words → callers ≡ [] → IsCore store callers mode
+pub new-core : {K V S A : Type 0} (store : StoreState K V S) (callers : List (Seat K V A)) (mode : ResizeMode) (capacity initial : ℕ) → IsChunked mode → IsPowerOfTwo initial → initial ≤ 2 ^ 32 → HasCapacity capacity initial store.words → callers ≡ [] → IsCore store callers mode
 new-core store callers mode capacity initial chunked power most words none = record {
   chunked = chunked;
   sizes = numbered store.words.tables (new-sized capacity initial store.words power most words);
-  standing = λ caller r e. let f : None ≡ Some r = sym (ap (λ (y : List (Seat _ _)). running y caller) none) ∙ e in cc;
-  going = λ caller r e. let f : None ≡ Some r = sym (ap (λ (y : List (Seat _ _)). running y caller) none) ∙ e in absurd cc;
+  standing = λ caller r e. let f : None ≡ Some r = sym (ap (λ (y : List (Seat _ _ _)). running y caller) none) ∙ e in cc;
+  going = λ caller r e. let f : None ≡ Some r = sym (ap (λ (y : List (Seat _ _ _)). running y caller) none) ∙ e in absurd cc;
 }

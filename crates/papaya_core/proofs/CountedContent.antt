@@ -61,7 +61,7 @@ module _ {K V S : Type 0} (eq : K → K → Bool) (hash : K → ℕ) (mode : Res
   abbrev c : Coding K (Stored K V)
   c = coding_of (low hash)
 
-  module _ (callers : List (Seat K V)) (es : List (Exchange (Stored K V))) (tales : ℕ → Tale K V) (kept : IsKept eq hash mode store callers es tales) where
+  module _ {A : Type 0} (callers : List (Seat K V A)) (es : List (Exchange (Stored K V))) (tales : ℕ → Tale K V) (kept : IsKept eq hash mode store callers es tales) where
     -- the words of the law
     abbrev now : State (Stored K V)
     now = run es start

@@ -1,6 +1,7 @@
 -- A core stays lawful and counted by each step, as the code has it; and its content has each key once.
 use Rattle.std.proofs.Common.{◌≡◌, Bool, ℕ, true, List, Some, refl}
 use Rattle.std.specs.Cmp.{IsEquivalence}
+use Rattle.papaya_call.specs.Answers.{Says}
 use Rattle.papaya_call.specs.declared.ask.Answer.{Answer}
 use Rattle.papaya_call.specs.Law.Content.{AreApart}
 use Rattle.papaya_call.specs.Machine.{after, ask_of, kind_of_ask}
@@ -20,21 +21,21 @@ use Rattle.papaya_core.proofs.CountedLemmas.{counted_step}
 use Rattle.papaya_core.proofs.KeptLemmas.{hashed_setting}
 use Rattle.papaya_core.proofs.KeptCore.{Lawful, keys_lawful, stepped_lawful}
 
-module _ {K V S H : Type 0} (eq : K → K → Bool) (input : K → List (List ℕ)) (build : S → H) (write : H → List ℕ → H) (finish : H → ℕ) (classes : IsEquivalence eq) (respects : (x y : K) → eq x y ≡ true → input x ≡ input y) where
+module _ {K V S A H : Type 0} (eq : K → K → Bool) (input : K → List (List ℕ)) (build : S → H) (write : H → List ℕ → H) (finish : H → ℕ) (classes : IsEquivalence eq) (respects : (x y : K) → eq x y ≡ true → input x ≡ input y) where
   -- after a step
-  pub stepped_sound : (refuse : Bool) (s : CoreState K V S) (caller : ℕ) (store' : StoreState K V S) (callers' : List (Seat K V)) (before : Running K V) (a : Answer) (later : Running K V) → running s.callers caller ≡ Some before → Performs eq refuse (ask_of before.machine) s.store before a store' later → later.machine ≡ before.machine
+  pub stepped_sound : (says : Says K V A) (refuse : Bool) (s : CoreState K V S A) (caller : ℕ) (store' : StoreState K V S) (callers' : List (Seat K V A)) (before : Running K V A) (a : Answer) (later : Running K V A) → running s.callers caller ≡ Some before → Performs eq says refuse (ask_of before.machine) s.store before a store' later → later.machine ≡ before.machine
       → callers' ≡ with_call s.callers caller (goes_on (reply_in (ask_of (after before.machine a))) (record later { machine = after before.machine a })) → IsCore store' callers' s.mode → Lawful eq input build write finish classes respects s → IsCounted s.store s.callers → IsLawfulCore eq (hash_of input build write finish store'.hasher) store' callers' s.mode × IsCounted store' callers'
-  stepped_sound refuse s caller store' callers' before a later was performs machine callers core lawful counted =
+  stepped_sound says refuse s caller store' callers' before a later was performs machine callers core lawful counted =
       let (es, (tales, kept)) = lawful.law in (
-        stepped_lawful eq input build write finish classes respects refuse s caller store' callers' before a later was performs machine callers core lawful,
-        counted_step eq (hash_of input build write finish s.store.hasher) (keys_lawful eq input build write finish classes respects s.store.hasher) refuse s caller (record { store = store'; callers = callers'; mode = s.mode; initial = s.initial })
+        stepped_lawful eq input build write finish classes respects says refuse s caller store' callers' before a later was performs machine callers core lawful,
+        counted_step eq (hash_of input build write finish s.store.hasher) (keys_lawful eq input build write finish classes respects s.store.hasher) {says = says} refuse s caller (record { store = store'; callers = callers'; mode = s.mode; initial = s.initial })
             (event_of (kind_of_ask before.machine) (ask_of before.machine) a) (reply_in (ask_of (after before.machine a)))
             (record { before = before; was = was; answer = a; later = later; performs = performs; machine = machine; event_is = refl; reply_is = refl; callers = callers; mode = refl; initial = refl; cause = λ refused e. caused before.machine a refused (lawful.core.going caller before was) e })
             es tales lawful.core core kept counted,
       )
 
   -- in the content of a core no key stands twice
-  pub lawful_apart : (s : CoreState K V S) → Lawful eq input build write finish classes respects s → AreApart eq (λ p. p.key) (content s.store)
+  pub lawful_apart : (s : CoreState K V S A) → Lawful eq input build write finish classes respects s → AreApart eq (λ p. p.key) (content s.store)
   lawful_apart s lawful =
       let law = keys_lawful eq input build write finish classes respects s.store.hasher in
       let (es, (tales, kept)) = lawful.law in

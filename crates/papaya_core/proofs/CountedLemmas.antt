@@ -6,6 +6,7 @@ use Rattle.papaya_words.specs.Table.{TableWords}
 use Rattle.papaya_words.specs.Word.{kind_of, pair_of as number_of}
 use Rattle.papaya_words.specs.declared.word.Kind.{Kind}
 use Rattle.papaya_words.specs.declared.word.Kind.TheVariants as kinds
+use Rattle.papaya_call.specs.Answers.{Says}
 use Rattle.papaya_call.specs.declared.call.Call.{Call}
 use Rattle.papaya_call.specs.declared.call.Reply.{Reply}
 use Rattle.papaya_call.specs.Law.Allows.{AllAllowed}
@@ -57,23 +58,23 @@ module _ {K V S : Type 0} (store : StoreState K V S) (none : store.pairs ≡ [])
   no_table (Some t) = no_slots t.slots
 
   -- a core as it is made: a sum of 0, no callers and no pairs
-  pub counted_new : (callers : List (Seat K V)) → store.count.sum ≡ pos 0 → callers ≡ [] → IsCounted store callers
-  counted_new callers zero alone =
+  pub counted_new : {A : Type 0} (callers : List (Seat K V A)) → store.count.sum ≡ pos 0 → callers ≡ [] → IsCounted store callers
+  counted_new {A = A} callers zero alone =
       ap (λ z. int_wrap w64 (z +ℤ owed_in callers)) zero
-      ∙ ap (λ (l : List (Seat K V)). int_wrap w64 (pos 0 +ℤ owed_in l)) alone
+      ∙ ap (λ (l : List (Seat K V A)). int_wrap w64 (pos 0 +ℤ owed_in l)) alone
       ∙ length_fits 0 (omega arith)
       ∙ sym (ap (λ (l : List (Stored K V)). pos (length l)) (no_table (table_of store.words.tables store.words.root)))
 
 -- a begin leaves the sum and the pairs, and its call owes nothing
-pub counted_begin : {K V S : Type 0} (hash : K → ℕ) (s : CoreState K V S) (caller : ℕ) (call : Call K V) (s' : CoreState K V S) → Begins hash s caller call s' → call_of s caller ≡ None → IsCounted s.store s.callers → IsCounted s'.store s'.callers
-counted_begin {K} {V} {S} hash s caller call s' begins free counted =
+pub counted_begin : {K V S A : Type 0} (hash : K → ℕ) (s : CoreState K V S A) (caller : ℕ) (call : Call K V A) (s' : CoreState K V S A) → Begins hash s caller call s' → call_of s caller ≡ None → IsCounted s.store s.callers → IsCounted s'.store s'.callers
+counted_begin {K} {V} {S} {A} hash s caller call s' begins free counted =
     subst (λ (y : StoreState K V S). IsCounted y s'.callers) (sym begins.store)
-    (ap (λ (l : List (Seat K V)). int_wrap w64 (s.store.count.sum +ℤ owed_in l)) begins.callers
+    (ap (λ (l : List (Seat K V A)). int_wrap w64 (s.store.count.sum +ℤ owed_in l)) begins.callers
     ∙ ap (λ z. int_wrap w64 (s.store.count.sum +ℤ z)) (owed-begun s.callers caller free (Some (begun hash s.mode s.initial call)) ∙ omega (arith, ints))
     ∙ counted)
 
-module _ {K V S : Type 0} (eq : K → K → Bool) (hash : K → ℕ) (law : IsLawfulKeys eq hash) (refuse : Bool) (s : CoreState K V S) (caller : ℕ) (s' : CoreState K V S) (event : Event) (reply : Option Reply)
-    (a : Advances eq refuse s caller s' event reply) (es : List (Exchange (Stored K V))) (tales : ℕ → Tale K V)
+module _ {K V S A : Type 0} (eq : K → K → Bool) (hash : K → ℕ) (law : IsLawfulKeys eq hash) {says : Says K V A} (refuse : Bool) (s : CoreState K V S A) (caller : ℕ) (s' : CoreState K V S A) (event : Event) (reply : Option Reply)
+    (a : Advances eq says refuse s caller s' event reply) (es : List (Exchange (Stored K V))) (tales : ℕ → Tale K V)
     (core : IsCore s.store s.callers s.mode) (core' : IsCore s'.store s'.callers s'.mode) (kept : IsKept eq hash s.mode s.store s.callers es tales) where
   -- the setting after the step
   abbrev g' : Setting K (Stored K V)
@@ -119,11 +120,11 @@ module _ {K V S : Type 0} (eq : K → K → Bool) (hash : K → ℕ) (law : IsLa
   owed : owed_in s'.callers +ℤ owed_by (ask_of a.before.machine) ≡ owed_in s.callers +ℤ grows_by (kind_of_ask a.before.machine) (ask_of a.before.machine) a.answer
   owed =
       let m' = after a.before.machine a.answer in
-      let r' : Running K V = record a.later { machine = m' } in
-      let goes : Option (Running K V) = goes_on reply r' in
+      let r' : Running K V A = record a.later { machine = m' } in
+      let goes : Option (Running K V A) = goes_on reply r' in
       let learnt : owed_by (ask_of m') ≡ grows_by (kind_of_ask a.before.machine) (ask_of a.before.machine) a.answer = machine_owes (setting_of eq (low hash) s.mode s.store.words.tables) (coding_of (low hash)) step.call.key (run es start) a.before.machine (tales caller).hands step.made step.hands a.answer step.told in
       let rest : owed_of goes ≡ owed_by (ask_of m') = ap (λ o. owed_of (goes_on o r')) a.reply_is ∙ owed-goes_on (ask_of m') r' refl in
-      ap (λ (l : List (Seat K V)). owed_in l +ℤ owed_by (ask_of a.before.machine)) a.callers
+      ap (λ (l : List (Seat K V A)). owed_in l +ℤ owed_by (ask_of a.before.machine)) a.callers
       ∙ owed-with_call s.callers caller a.before a.was goes
       ∙ ap (λ z. owed_in s.callers +ℤ z) (rest ∙ learnt)
 
@@ -134,7 +135,7 @@ module _ {K V S : Type 0} (eq : K → K → Bool) (hash : K → ℕ) (law : IsLa
       let by : ℤ = grows_by (kind_of_ask a.before.machine) (ask_of a.before.machine) a.answer in
       let is_grown : pos (length new) ≡ pos (length old) +ℤ by = grown by (told_grows (setting_of eq (low hash) s.mode s.store.words.tables) (coding_of (low hash)) step.call.key (run es start) (kind_of_ask a.before.machine) (tales caller).hands (ask_of a.before.machine) a.answer step.made step.hands step.told) in
       let to : (s.store.count.sum +ℤ o) +ℤ owed_in s'.callers ≡ (s.store.count.sum +ℤ owed_in s.callers) +ℤ by = let e = owed in omega (arith, ints, e) in
-      int_wrap-add_same w64 s'.store.count.sum (s.store.count.sum +ℤ o) (owed_in s'.callers) (sum_performed eq refuse (ask_of a.before.machine) s.store a.before a.answer s'.store a.later a.performs)
+      int_wrap-add_same w64 s'.store.count.sum (s.store.count.sum +ℤ o) (owed_in s'.callers) (sum_performed eq says refuse (ask_of a.before.machine) s.store a.before a.answer s'.store a.later a.performs)
       ∙ ap (int_wrap w64) to
       ∙ int_wrap-add_same w64 (s.store.count.sum +ℤ owed_in s.callers) (pos (length old)) by (counted ∙ sym (length_fits (length old) (content_few s.store core.sizes)))
       ∙ ap (int_wrap w64) (sym is_grown)

@@ -2,7 +2,7 @@
 use Rattle.std.proofs.Common.{◌≡◌, ℕ, pos, ◌+ℤ◌, ◌==◌, Bool, true, false, cond, List, [], ◌∷◌, Option, Some, None, refl, sym, ◌∙◌, ap, arith, eq-eqb}
 use Rattle.std.proofs.lemmas.Int.{ints}
 use Rattle.papaya_call.specs.declared.ask.Ask.{Ask}
-use Rattle.papaya_call.specs.declared.ask.Ask.TheVariants.{Load, Exchange, SameKey, SizeOf, MakeKey, MakePair, MakeTable, AddToShard, Done}
+use Rattle.papaya_call.specs.declared.ask.Ask.TheVariants.{Load, Exchange, SameKey, ShowPair, SizeOf, MakeKey, MakePair, MakeTable, AddToShard, Done}
 use Rattle.papaya_call.specs.Machine.{ask_of}
 use Rattle.papaya_call.specs.Owed.{owed_by}
 use Rattle.papaya_core.specs.declared.pairs.Running.{Running}
@@ -11,13 +11,14 @@ use Rattle.papaya_core.specs.Advances.{goes_on, reply_in}
 use Rattle.papaya_core.specs.Callers.{running, with_call, with_seat}
 use Rattle.papaya_core.specs.Counted.{owed_of, owed_in}
 
-module _ {K V : Type 0} where
+module _ {K V A : Type 0} where
   -- a machine that asks no more owes nothing
-  pub owed-goes_on : (ask : Ask) (r : Running K V) → owed_by (ask_of r.machine) ≡ owed_by ask → owed_of (goes_on (reply_in ask) r) ≡ owed_by ask
+  pub owed-goes_on : (ask : Ask) (r : Running K V A) → owed_by (ask_of r.machine) ≡ owed_by ask → owed_of (goes_on (reply_in ask) r) ≡ owed_by ask
   owed-goes_on (Done reply) r e = refl
   owed-goes_on (Load at) r e = e
   owed-goes_on (Exchange at old new) r e = e
   owed-goes_on (SameKey n) r e = e
+  owed-goes_on (ShowPair n) r e = e
   owed-goes_on (SizeOf n) r e = e
   owed-goes_on MakeKey r e = e
   owed-goes_on MakePair r e = e
@@ -25,7 +26,7 @@ module _ {K V : Type 0} where
   owed-goes_on (AddToShard by) r e = e
 
   -- the call of one caller is another, and what the old one owed isn't owed any more
-  pub owed-with_call : (seats : List (Seat K V)) (caller : ℕ) (r : Running K V) → running seats caller ≡ Some r → (call : Option (Running K V)) → owed_in (with_call seats caller call) +ℤ owed_by (ask_of r.machine) ≡ owed_in seats +ℤ owed_of call
+  pub owed-with_call : (seats : List (Seat K V A)) (caller : ℕ) (r : Running K V A) → running seats caller ≡ Some r → (call : Option (Running K V A)) → owed_in (with_call seats caller call) +ℤ owed_by (ask_of r.machine) ≡ owed_in seats +ℤ owed_of call
   owed-with_call [] caller r runs call = let f : None ≡ Some r = runs in cc
   owed-with_call (x ∷ xs) caller r runs call = by_seat (x.caller == caller) runs (λ is. owed-with_call xs caller r is call)
     where
@@ -34,7 +35,7 @@ module _ {K V : Type 0} where
       by_seat false is others = let rest = others is in omega (arith, ints)
 
   -- a caller that had no call begins one
-  pub owed-begun : (seats : List (Seat K V)) (caller : ℕ) → running seats caller ≡ None → (call : Option (Running K V)) → owed_in (with_call (with_seat seats caller) caller call) ≡ owed_in seats +ℤ owed_of call
+  pub owed-begun : (seats : List (Seat K V A)) (caller : ℕ) → running seats caller ≡ None → (call : Option (Running K V A)) → owed_in (with_call (with_seat seats caller) caller call) ≡ owed_in seats +ℤ owed_of call
   owed-begun [] caller runs call = ap (λ b. owed_in (cond b (record { caller = caller; call = call } ∷ []) (record { caller = caller; call = None } ∷ []))) (eq-eqb caller caller refl) ∙ omega (arith, ints)
   owed-begun (x ∷ xs) caller runs call = by_seat (x.caller == caller) refl (λ is. owed-begun xs caller is call)
     where

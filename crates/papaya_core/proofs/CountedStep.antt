@@ -3,10 +3,11 @@ use Rattle.std.proofs.Common.{◌≡◌, ℕ, ℤ, pos, negsuc, ◌+ℤ◌, ◌=
 use Rattle.std.proofs.Math.IntN.{+ℤ_idr}
 use Rattle.std.proofs.lemmas.Int.{ints, int_wrap_fits, SFits-int_wrap}
 use Rattle.std.specs.Int.{w64, int_wrap}
+use Rattle.papaya_call.specs.Answers.{Says}
 use Rattle.papaya_call.specs.declared.ask.At.{At}
 use Rattle.papaya_call.specs.declared.ask.At.TheVariants.{Root, Slot}
 use Rattle.papaya_call.specs.declared.ask.Ask.{Ask}
-use Rattle.papaya_call.specs.declared.ask.Ask.TheVariants.{Load, Exchange as Ask_exchange, SameKey, SizeOf, MakeKey, MakePair, MakeTable, AddToShard, Done as Ask_done}
+use Rattle.papaya_call.specs.declared.ask.Ask.TheVariants.{Load, Exchange as Ask_exchange, SameKey, ShowPair, SizeOf, MakeKey, MakePair, MakeTable, AddToShard, Done as Ask_done}
 use Rattle.papaya_call.specs.declared.ask.Answer.{Answer}
 use Rattle.papaya_call.specs.declared.ask.StepKind.{StepKind}
 use Rattle.papaya_call.specs.declared.ask.StepKind.TheVariants as kinds
@@ -21,7 +22,7 @@ use Rattle.papaya_core.specs.Store.{StoreState}
 use Rattle.papaya_core.specs.Tables.{word_at}
 use Rattle.papaya_core.proofs.StoreLemmas.{matched}
 
-module _ {K V S : Type 0} (eq : K → K → Bool) where
+module _ {K V S : Type 0} where
   -- the sum after a step is that of before, with what the machine owed
   abbrev Adds : ℤ → StoreState K V S → StoreState K V S → Type 0
   Adds owed s s' = int_wrap w64 s'.count.sum ≡ int_wrap w64 (s.count.sum +ℤ owed)
@@ -33,28 +34,33 @@ module _ {K V S : Type 0} (eq : K → K → Bool) where
   quiet : (s s' : StoreState K V S) → s' ≡ s → Adds (pos 0) s s'
   quiet s s' e = same_count s s' (ap (λ (y : StoreState K V S). y.count.sum) e)
 
-  key_made : (s : StoreState K V S) (r : Running K V) (a : Answer) (s' : StoreState K V S) (r' : Running K V) (Not Has : Type 0) → (Not × Stays s r s' r') ⊎ (Has × Stays s r s' r') ⊎ LogsKey a s r s' r' → Adds (pos 0) s s'
-  key_made s r a s' r' Not Has (inl h) = quiet s s' h.1.0
-  key_made s r a s' r' Not Has (inr (inl h)) = quiet s s' h.1.0
-  key_made s r a s' r' Not Has (inr (inr (k, was, is, few, grown, moved))) = same_count s s' (ap (λ (y : StoreState K V S). y.count.sum) grown)
-
-  pair_made : (s : StoreState K V S) (r : Running K V) (a : Answer) (s' : StoreState K V S) (r' : Running K V) (Not Has : Type 0) → (Not × Stays s r s' r') ⊎ (Has × Stays s r s' r') ⊎ LogsPair a s r s' r' → Adds (pos 0) s s'
-  pair_made s r a s' r' Not Has (inl h) = quiet s s' h.1.0
-  pair_made s r a s' r' Not Has (inr (inl h)) = quiet s s' h.1.0
-  pair_made s r a s' r' Not Has (inr (inr (n, v, was, value, is, few, grown, moved))) = same_count s s' (ap (λ (y : StoreState K V S). y.count.sum) grown)
-
   table_made : (slots limit : ℕ) (s : StoreState K V S) (a : Answer) (s' : StoreState K V S) (Not : Type 0) → (Not × (s' ≡ s)) ⊎ MakesTable a slots limit s s' → Adds (pos 0) s s'
   table_made slots limit s a s' Not (inl h) = quiet s s' h.1
   table_made slots limit s a s' Not (inr (is, few, grown)) = same_count s s' (ap (λ (y : StoreState K V S). y.count.sum) grown)
 
+module _ {K V S A : Type 0} where
+  -- nor does a key or a pair that was made
+  key_made : (s : StoreState K V S) (r : Running K V A) (a : Answer) (s' : StoreState K V S) (r' : Running K V A) (Not Has : Type 0) → (Not × Stays s r s' r') ⊎ (Has × Stays s r s' r') ⊎ LogsKey a s r s' r' → Adds (pos 0) s s'
+  key_made s r a s' r' Not Has (inl h) = quiet s s' h.1.0
+  key_made s r a s' r' Not Has (inr (inl h)) = quiet s s' h.1.0
+  key_made s r a s' r' Not Has (inr (inr (k, was, is, few, grown, moved))) = same_count s s' (ap (λ (y : StoreState K V S). y.count.sum) grown)
+
+  pair_made : (s : StoreState K V S) (r : Running K V A) (a : Answer) (s' : StoreState K V S) (r' : Running K V A) (Not Has : Type 0) → (Not × Stays s r s' r') ⊎ (Has × Stays s r s' r') ⊎ LogsPair a s r s' r' → Adds (pos 0) s s'
+  pair_made s r a s' r' Not Has (inl h) = quiet s s' h.1.0
+  pair_made s r a s' r' Not Has (inr (inl h)) = quiet s s' h.1.0
+  pair_made s r a s' r' Not Has (inr (inr (n, v, was, value, is, few, grown, moved))) = same_count s s' (ap (λ (y : StoreState K V S). y.count.sum) grown)
+
+module _ {K V S A : Type 0} (eq : K → K → Bool) (says : Says K V A) where
   -- each ask
-  pub sum_performed : (refuse : Bool) (ask : Ask) (s : StoreState K V S) (r : Running K V) (a : Answer) (s' : StoreState K V S) (r' : Running K V) → Performs eq refuse ask s r a s' r' → Adds (owed_by ask) s s'
+  pub sum_performed : (refuse : Bool) (ask : Ask) (s : StoreState K V S) (r : Running K V A) (a : Answer) (s' : StoreState K V S) (r' : Running K V A) → Performs eq says refuse ask s r a s' r' → Adds (owed_by ask) s s'
   sum_performed refuse (Load at) s r a s' r' h = quiet s s' h.1.0
   sum_performed refuse (Ask_exchange at old new) s r a s' r' h =
       matched (Adds (pos 0) s s') (word_at s.words at == old) _ _ h.0
       (λ _ done. same_count s s' (ap (λ (y : StoreState K V S). y.count.sum) done.1))
       (λ _ lost. quiet s s' lost.1)
   sum_performed refuse (SameKey n) s r a s' r' h = quiet s s' h.1.0
+  sum_performed refuse (ShowPair n) s r a s' r' (inl h) = quiet s s' h.2.0
+  sum_performed refuse (ShowPair n) s r a s' r' (inr (x, p, agrees, y, _, _, _, e, same, _)) = quiet s s' same
   sum_performed refuse (SizeOf n) s r a s' r' h = quiet s s' h.1.0
   sum_performed refuse MakeKey s r a s' r' h = matched (Adds (pos 0) s s') refuse _ _ h (λ _ none. quiet s s' none.1.0) (λ _ makes. key_made s r a s' r' _ _ makes)
   sum_performed refuse MakePair s r a s' r' h = matched (Adds (pos 0) s s') refuse _ _ h (λ _ none. quiet s s' none.1.0) (λ _ makes. pair_made s r a s' r' _ _ makes)
@@ -89,6 +95,7 @@ module _ {K P : Type 0} (g : Setting K P) (c : Coding K P) (k : K) (s : State P)
       (λ _ lost. inl (lost.1, ap (grows_by kind (Ask_exchange at old new)) lost.0))
   told_grows (Load at) a es hands' h = inl (h.1, refl)
   told_grows (SameKey n) a es hands' h = inl (h.1.0, refl)
+  told_grows (ShowPair n) a es hands' h = inl (h.1.0, refl)
   told_grows (SizeOf t) a es hands' h = inl (h.1.0, refl)
   told_grows MakeKey a es hands' h = inl (h.1.0, refl)
   told_grows MakePair a es hands' (inl h) = inl (h.1.0, refl)

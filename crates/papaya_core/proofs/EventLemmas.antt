@@ -1,8 +1,8 @@
 -- What the event of a step is: an exchange that was made, or nothing.
-use Rattle.std.proofs.Common.{◌≡◌, ◌⊎◌, inl, inr, ⊎_elim, ℕ, ◌==◌, false, Option, None, Some, List, [], ◌∷◌, refl, ap, eqb-true}
+use Rattle.std.proofs.Common.{◌≡◌, ◌⊎◌, inl, inr, ⊎_elim, ℕ, ◌==◌, Bool, false, Option, None, Some, List, [], ◌∷◌, refl, ◌∙◌, ap, eqb-true}
 use Rattle.papaya_call.specs.declared.ask.At.{At}
 use Rattle.papaya_call.specs.declared.ask.Ask.{Ask}
-use Rattle.papaya_call.specs.declared.ask.Ask.TheVariants.{Load, Exchange as Ask_exchange, SameKey, SizeOf, MakeKey, MakePair, MakeTable, AddToShard, Done as Ask_done}
+use Rattle.papaya_call.specs.declared.ask.Ask.TheVariants.{Load, Exchange as Ask_exchange, SameKey, ShowPair, SizeOf, MakeKey, MakePair, MakeTable, AddToShard, Done as Ask_done}
 use Rattle.papaya_call.specs.declared.ask.Answer.{Answer}
 use Rattle.papaya_call.specs.declared.ask.Answer.TheVariants.{Word as Word_read, Exchanged, Found as Found_instead, Yes, Size, Made as Made_number, Ok as Ok_done, Refused as Was_refused}
 use Rattle.papaya_call.specs.declared.ask.StepKind.{StepKind}
@@ -12,10 +12,12 @@ use Rattle.papaya_call.specs.Law.Code.{Coding}
 use Rattle.papaya_call.specs.Rests.{Change, change_after, change_of_kind}
 use Rattle.papaya_call.specs.Told.{IsTold, IsAsked, Hands, word_of}
 use Rattle.papaya_core.specs.declared.trace.Event.{Event}
-use Rattle.papaya_core.specs.declared.trace.Event.TheVariants.{Changed, Moved, Other}
-use Rattle.papaya_core.specs.Advances.{event_of, answered_event, kind_event}
-use Rattle.papaya_core.specs.Timeline.{begins, change_by, open_after}
+use Rattle.papaya_core.specs.declared.trace.Event.TheVariants.{Changed, Moved, Asked, Other}
+use Rattle.papaya_core.specs.Advances.{event_of, answered_event, kind_event, shown_event}
+use Rattle.papaya_core.specs.Runs.{History}
+use Rattle.papaya_core.specs.Timeline.{begins, change_by, open_after, WasAsked}
 use Rattle.papaya_core.proofs.StoreLemmas.{matched}
+use Rattle.papaya_core.proofs.TimelineLemmas.{entry, asked-own, asked-now}
 
 -- an exchange of this ask was made
 pub record IsExchanged {K P : Type 0} (g : Setting K P) (c : Coding K P) (s : State P) (kind : Option StepKind) (hands : Hands P) (ask : Ask) (answer : Answer) (es : List (Exchange P)) : Type 0 where
@@ -33,18 +35,27 @@ pub record IsExchanged {K P : Type 0} (g : Setting K P) (c : Coding K P) (s : St
 abbrev pub IsQuiet : {P : Type 0} → Option StepKind → Ask → Answer → List (Exchange P) → Type 0
 IsQuiet kind ask answer es = (es ≡ []) × (event_of kind ask answer ≡ Other)
 
+-- or a closure was shown a pair, and answered
+abbrev pub IsShowing : {P : Type 0} → Option StepKind → Ask → Answer → List (Exchange P) → Type 0
+IsShowing kind ask answer es = (n : ℕ) × (agrees : Bool) × (ask ≡ ShowPair n) × (answer ≡ Yes agrees) × (es ≡ []) × (event_of kind ask answer ≡ Asked n agrees)
+
 module _ {K P : Type 0} (g : Setting K P) (c : Coding K P) (k : K) (s : State P) (kind : Option StepKind) (hands : Hands P) where
   abbrev Cases : Ask → Answer → List (Exchange P) → Type 0
-  Cases ask answer es = IsQuiet kind ask answer es ⊎ IsExchanged g c s kind hands ask answer es
+  Cases ask answer es = IsQuiet kind ask answer es ⊎ IsExchanged g c s kind hands ask answer es ⊎ IsShowing kind ask answer es
 
-  -- what is told is one or the other
+  -- what is told is one of them
   pub told_cases : (ask : Ask) (answer : Answer) (es : List (Exchange P)) (hands' : Hands P) → IsTold g c k s kind hands ask answer es hands' → Cases ask answer es
   told_cases (Load at) answer es hands' h = inl (h.1, refl)
   told_cases (Ask_exchange at old new) answer es hands' h =
       matched (Cases (Ask_exchange at old new) answer es) (word_of g c s at == old) _ _ h
-      (λ same h'. let e = h'.1 in inr (record { at = at; old = old; new = new; by = e.0; ask_is = refl; answer_is = h'.0; stood = eqb-true (word_of g c s at) old same; asked = e.1; made = e.2 }))
+      (λ same h'. let e = h'.1 in inr (inl (record { at = at; old = old; new = new; by = e.0; ask_is = refl; answer_is = h'.0; stood = eqb-true (word_of g c s at) old same; asked = e.1; made = e.2 })))
       (λ differ h'. inl (h'.1, ap (answered_event kind old new) h'.0))
   told_cases (SameKey n) answer es hands' h = inl (h.1.0, refl)
+  told_cases (ShowPair n) answer es hands' h =
+      ⊎_elim
+      (λ (yes : (agrees : Bool) × (answer ≡ Yes agrees)). inr (inr (n, yes.0, refl, yes.1, h.1.0, ap (shown_event n) yes.1)))
+      (λ (none : answer ≡ Ok_done). inl (h.1.0, ap (shown_event n) none))
+      h.0
   told_cases (SizeOf t) answer es hands' h = inl (h.1.0, refl)
   told_cases MakeKey answer es hands' h = inl (h.1.0, refl)
   told_cases MakePair answer es hands' h = ⊎_elim (λ quiet. inl (quiet.1.0, refl)) (λ made. inl (made.3, refl)) h
@@ -54,12 +65,12 @@ module _ {K P : Type 0} (g : Setting K P) (c : Coding K P) (k : K) (s : State P)
 
   -- so at most one exchange
   pub one_exchange : (ask : Ask) (answer : Answer) (es : List (Exchange P)) (hands' : Hands P) → IsTold g c k s kind hands ask answer es hands' → (es ≡ []) ⊎ ((e : Exchange P) × (es ≡ e ∷ []))
-  one_exchange ask answer es hands' h = ⊎_elim (λ quiet. inl quiet.0) (λ x. inr (x.by, x.made)) (told_cases ask answer es hands' h)
+  one_exchange ask answer es hands' h = ⊎_elim (λ quiet. inl quiet.0) (λ x. ⊎_elim (λ y. inr (y.by, y.made)) (λ y. inl y.4) x) (told_cases ask answer es hands' h)
 
--- what holds of events of exchanges and of no event holds of a step's
-event_cases : (P : Event → Type 0) → P Other → ((kind : StepKind) (old new : Option ℕ) → P (Changed kind old new)) → ((kind : StepKind) → P (Moved kind)) → (kind : Option StepKind) (ask : Ask) (answer : Answer) → P (event_of kind ask answer)
-event_cases P other changed moved kind (Load at) answer = other
-event_cases P other changed moved kind (Ask_exchange at old new) answer = by_answer answer
+-- what holds of events of exchanges, of showings and of no event holds of a step's
+event_cases : (P : Event → Type 0) → P Other → ((kind : StepKind) (old new : Option ℕ) → P (Changed kind old new)) → ((kind : StepKind) → P (Moved kind)) → ((n : ℕ) (agrees : Bool) → P (Asked n agrees)) → (kind : Option StepKind) (ask : Ask) (answer : Answer) → P (event_of kind ask answer)
+event_cases P other changed moved shown kind (Load at) answer = other
+event_cases P other changed moved shown kind (Ask_exchange at old new) answer = by_answer answer
   where
     by_kind : (kind : Option StepKind) → P (kind_event kind old new)
     by_kind None = other
@@ -85,21 +96,37 @@ event_cases P other changed moved kind (Ask_exchange at old new) answer = by_ans
     by_answer (Made_number n) = other
     by_answer Ok_done = other
     by_answer (Was_refused refused) = other
-event_cases P other changed moved kind (SameKey n) answer = other
-event_cases P other changed moved kind (SizeOf n) answer = other
-event_cases P other changed moved kind MakeKey answer = other
-event_cases P other changed moved kind MakePair answer = other
-event_cases P other changed moved kind (MakeTable slots limit) answer = other
-event_cases P other changed moved kind (AddToShard by) answer = other
-event_cases P other changed moved kind (Ask_done reply) answer = other
+event_cases P other changed moved shown kind (SameKey n) answer = other
+event_cases P other changed moved shown kind (ShowPair n) answer = by_answer answer
+  where
+    by_answer : (answer : Answer) → P (shown_event n answer)
+    by_answer (Yes agrees) = shown n agrees
+    by_answer Exchanged = other
+    by_answer (Word_read word) = other
+    by_answer (Found_instead word) = other
+    by_answer (Size slots limit) = other
+    by_answer (Made_number m) = other
+    by_answer Ok_done = other
+    by_answer (Was_refused refused) = other
+event_cases P other changed moved shown kind (SizeOf n) answer = other
+event_cases P other changed moved shown kind MakeKey answer = other
+event_cases P other changed moved shown kind MakePair answer = other
+event_cases P other changed moved shown kind (MakeTable slots limit) answer = other
+event_cases P other changed moved shown kind (AddToShard by) answer = other
+event_cases P other changed moved shown kind (Ask_done reply) answer = other
 
 -- it begins no call
 pub event_begins : (kind : Option StepKind) (ask : Ask) (answer : Answer) → begins (event_of kind ask answer) ≡ false
-event_begins = event_cases (λ e. begins e ≡ false) refl (λ kind old new. refl) (λ kind. refl)
+event_begins = event_cases (λ e. begins e ≡ false) refl (λ kind old new. refl) (λ kind. refl) (λ n agrees. refl)
+
+-- What a closure has answered after a step, it had answered before it or answers now.
+pub step_asked : (c turn n : ℕ) (agrees : Bool) (kind : Option StepKind) (ask : Ask) (answer : Answer) (event : Event) (before : History) → event ≡ event_of kind ask answer → WasAsked c n agrees before ⊎ ((ask ≡ ShowPair n) × (answer ≡ Yes agrees)) → WasAsked c n agrees (entry turn c event ∷ before)
+step_asked c turn n agrees kind ask answer event before is (inl was) = asked-own c c turn n agrees event before (ap begins is ∙ event_begins kind ask answer) was
+step_asked c turn n agrees kind ask answer event before is (inr (showed, said)) = asked-now c turn n agrees event before (is ∙ ap (λ y. event_of kind y answer) showed ∙ ap (shown_event n) said)
 
 -- and the open call stays open
 pub event_open : {A : Type 0} (begun before : Option A) (kind : Option StepKind) (ask : Ask) (answer : Answer) → open_after (event_of kind ask answer) begun before ≡ before
-event_open begun before = event_cases (λ e. open_after e begun before ≡ before) refl (λ kind old new. refl) (λ kind. refl)
+event_open begun before = event_cases (λ e. open_after e begun before ≡ before) refl (λ kind old new. refl) (λ kind. refl) (λ n agrees. refl)
 
 -- it tells the change that the machine makes
 pub event_change : (before : Change) (kind : Option StepKind) (ask : Ask) (answer : Answer) → ((at : At) (old new : ℕ) → ask ≡ Ask_exchange at old new → before ≡ None) → change_by (event_of kind ask answer) before ≡ change_after kind ask answer before
@@ -134,6 +161,17 @@ event_change before kind (Ask_exchange at old new) answer once = by_answer answe
     by_answer Ok_done = refl
     by_answer (Was_refused refused) = refl
 event_change before kind (SameKey n) answer once = refl
+event_change before kind (ShowPair n) answer once = by_answer answer
+  where
+    by_answer : (answer : Answer) → change_by (shown_event n answer) before ≡ before
+    by_answer (Yes agrees) = refl
+    by_answer Exchanged = refl
+    by_answer (Word_read word) = refl
+    by_answer (Found_instead word) = refl
+    by_answer (Size slots limit) = refl
+    by_answer (Made_number m) = refl
+    by_answer Ok_done = refl
+    by_answer (Was_refused refused) = refl
 event_change before kind (SizeOf n) answer once = refl
 event_change before kind MakeKey answer once = refl
 event_change before kind MakePair answer once = refl
@@ -146,6 +184,7 @@ pub unchanged_before : (before : Change) (kind : Option StepKind) (ask : Ask) (a
 unchanged_before before kind (Load at) answer once e = e
 unchanged_before before kind (Ask_exchange at old new) answer once e = once at old new refl
 unchanged_before before kind (SameKey n) answer once e = e
+unchanged_before before kind (ShowPair n) answer once e = e
 unchanged_before before kind (SizeOf n) answer once e = e
 unchanged_before before kind MakeKey answer once e = e
 unchanged_before before kind MakePair answer once e = e

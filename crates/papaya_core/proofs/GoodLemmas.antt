@@ -1,14 +1,19 @@
 -- Begins and steps keep a good history.
-use Rattle.std.proofs.Common.{◌≡◌, ◌≢◌, ◌⊎◌, inl, inr, ⊎_elim, ℕ, ◌<◌, ◌^◌, Bool, cond, Option, None, Some, List, [], ◌∷◌, ◌++◌, length, slice_get, refl, sym, ◌∙◌, ap, subst, eq-eqb}
+use Rattle.std.proofs.Common.{◌≡◌, ◌≢◌, ◌⊎◌, inl, inr, ⊎_elim, ℕ, ◌<◌, ◌^◌, Bool, true, false, cond, Option, None, Some, List, [], ◌∷◌, ◌++◌, length, slice_get, refl, sym, ◌∙◌, ap, subst, eq-eqb}
 use Rattle.std.proofs.lemmas.Option.{slice_get_within}
+use Rattle.papaya_words.specs.Word.{pair_of}
 use Rattle.papaya_call.specs.declared.ask.Ask.{Ask}
-use Rattle.papaya_call.specs.declared.ask.Ask.TheVariants.{Done as Ask_done}
+use Rattle.papaya_call.specs.declared.ask.Ask.TheVariants.{Exchange as Ask_exchange, ShowPair, Done as Ask_done}
+use Rattle.papaya_call.specs.declared.ask.At.{At}
+use Rattle.papaya_call.specs.declared.ask.At.TheVariants.{Slot}
+use Rattle.papaya_call.specs.declared.ask.StepKind.TheVariants.{Bury}
 use Rattle.papaya_call.specs.declared.call.Call.{Call}
-use Rattle.papaya_call.specs.declared.call.Call.TheVariants.{Get, Insert}
+use Rattle.papaya_call.specs.declared.call.Call.TheVariants.{Get, Insert, TryInsert, RemoveIf}
 use Rattle.papaya_call.specs.declared.call.Reply.{Reply}
+use Rattle.papaya_call.specs.Answers.{Says}
 use Rattle.papaya_call.specs.Law.Exchange.{Exchange, run, start as first_state}
 use Rattle.papaya_call.specs.Law.Invariant.{named}
-use Rattle.papaya_call.specs.Machine.{ask_of, kind_of_ask, after}
+use Rattle.papaya_call.specs.Machine.{IsRemover, ask_of, kind_of_ask, after}
 use Rattle.papaya_call.specs.Rests.{change_in, change_after}
 use Rattle.papaya_call.specs.Told.{Hands, IsHashed, no_hands}
 use Rattle.papaya_call.proofs.RestsReply.{machine_changes}
@@ -28,22 +33,22 @@ use Rattle.papaya_core.specs.Headline.{HasTimeline}
 use Rattle.papaya_core.specs.Kept.{IsKept, Tale, setting_of, coding_of, low, told_tales, begun_tales}
 use Rattle.papaya_core.specs.Maps.{Map, key_of}
 use Rattle.papaya_core.specs.Runs.{History, with_step}
-use Rattle.papaya_core.specs.Store.{StoreState, Stored, pair_of, stored_in}
-use Rattle.papaya_core.specs.Timeline.{Timeline, IsLegal, MayChange, FitsOpen, IsUnused, change_of, change_by, open_call, open_after, begun_by, begins, AtSomeMoment}
+use Rattle.papaya_core.specs.Store.{StoreState, Stored, pair_of as stored_pair, stored_in}
+use Rattle.papaya_core.specs.Timeline.{Timeline, IsLegal, MayChange, FitsOpen, FitsShown, IsAgreed, IsUnused, change_of, change_by, open_call, open_after, begun_by, begins, is_begin, AtSomeMoment}
 use Rattle.papaya_core.proofs.CallersLemmas.{running-same, running-other, running-with_seat, same_item, differs}
 use Rattle.papaya_core.proofs.CoreLemmas.{cases_same}
-use Rattle.papaya_core.proofs.EventLemmas.{one_exchange, event_begins, event_open, event_change, unchanged_before}
+use Rattle.papaya_core.proofs.EventLemmas.{one_exchange, event_begins, event_open, event_change, step_asked, unchanged_before}
 use Rattle.papaya_core.proofs.Good.{AllBelow, IsGood, IsTied, replay, replayed}
 use Rattle.papaya_core.proofs.KeptLemmas.{IsLawfulKeys, IsStep, kept_step, kept_begin, map_kept, hashed_setting}
 use Rattle.papaya_core.proofs.AdvanceLemmas.{advance_legal}
-use Rattle.papaya_core.proofs.LegalLemmas.{insertion_does}
-use Rattle.papaya_core.proofs.MachineLemmas.{machine_once, machine_task, made_key}
+use Rattle.papaya_core.proofs.LegalLemmas.{MayReplace, insertion_does, removal_does, take_agreed}
+use Rattle.papaya_core.proofs.MachineLemmas.{machine_buries, machine_once, machine_said, machine_shows, machine_takes, machine_task, made_key}
 use Rattle.papaya_core.proofs.ReplayLemmas.{map_replayed, held_in_slot}
-use Rattle.papaya_core.proofs.TiedLemmas.{IsGrown, grown, tied_other, tied_entry, tied_fits, moments_more}
+use Rattle.papaya_core.proofs.TiedLemmas.{IsGrown, grown, tied_other, tied_entry, tied_fits, at_showing, moments_more}
 use Rattle.papaya_core.proofs.TimelineLemmas.{entry, open_call-own, open_call-other, change_of-own, not_begin-own, below_more, below_unused}
 
 -- a pair of the log has a number within it
-pub pair_within : {K V S : Type 0} (s : StoreState K V S) (n : ℕ) (p : Stored K V) → pair_of s n ≡ Some p → n < length s.pairs
+pub pair_within : {K V S : Type 0} (s : StoreState K V S) (n : ℕ) (p : Stored K V) → stored_pair s n ≡ Some p → n < length s.pairs
 pair_within s n p e = by_pair (slice_get s.pairs n) refl
   where
     by_pair : (o : Option (Pair _)) → slice_get s.pairs n ≡ o → n < length s.pairs
@@ -60,9 +65,9 @@ done_in : (ask : Ask) (reply : Reply) → reply_in ask ≡ Some reply → ask �
 done_in (Ask_done other) reply e = ap (λ y. Ask_done y) (same_item other reply e)
 done_in ask reply e = let f : None ≡ Some reply = e in cc
 
-module _ {K V S : Type 0} (eq : K → K → Bool) (hash : K → ℕ) (law : IsLawfulKeys eq hash) where
+module _ {K V S A : Type 0} (eq : K → K → Bool) (hash : K → ℕ) (law : IsLawfulKeys eq hash) where
   -- One step of a call, in a run whose history is good.
-  module _ (refuse : Bool) (schedule : List (Turn K V)) (start : Map K V) (s s' : CoreState K V S) (h : History) (turn c : ℕ) (event : Event) (reply : Option Reply) (x : Advances eq refuse s c s' event reply) (core' : IsCore s'.store s'.callers s'.mode) (good : IsGood eq hash schedule start s h) where
+  module _ {says : Says K V A} (refuse : Bool) (schedule : List (Turn K V A)) (start : Map K V) (s s' : CoreState K V S A) (h : History) (turn c : ℕ) (event : Event) (reply : Option Reply) (x : Advances eq says refuse s c s' event reply) (core' : IsCore s'.store s'.callers s'.mode) (good : IsGood eq hash schedule start s h) where
     step : IsStep eq hash law refuse s c s' event reply x good.es good.tales
     step = kept_step eq hash law refuse s c s' event reply x good.es good.tales good.core good.kept
 
@@ -74,7 +79,7 @@ module _ {K V S : Type 0} (eq : K → K → Bool) (hash : K → ℕ) (law : IsLa
     tales = told_tales good.tales c step.made step.hands
 
     -- the call after it
-    abbrev r' : Running K V
+    abbrev r' : Running K V A
     r' = record x.later { machine = after x.before.machine x.answer }
 
     abbrev later_history : History
@@ -87,7 +92,7 @@ module _ {K V S : Type 0} (eq : K → K → Bool) (hash : K → ℕ) (law : IsLa
     hashed = hashed_setting eq hash law s good.core
 
     grows : IsGrown s.store x.before s'.store x.later
-    grows = grown eq refuse (ask_of x.before.machine) s.store x.before x.answer s'.store x.later x.performs
+    grows = grown eq says refuse (ask_of x.before.machine) s.store x.before x.answer s'.store x.later x.performs
 
     one : (step.made ≡ []) ⊎ ((e : Exchange (Stored K V)) × (step.made ≡ e ∷ []))
     one = one_exchange (setting_of eq (low hash) s.mode s.store.words.tables) (coding_of (low hash)) step.call.key (run good.es first_state) (kind_of_ask x.before.machine) (good.tales c).hands (ask_of x.before.machine) x.answer step.made step.hands step.told
@@ -97,20 +102,41 @@ module _ {K V S : Type 0} (eq : K → K → Bool) (hash : K → ℕ) (law : IsLa
     changed = machine_changes (setting_of eq (low hash) s.mode s.store.words.tables) (coding_of (low hash)) hashed step.call.key (run good.es first_state) x.before.machine step.call.rests.hash (good.tales c).hands step.made step.hands x.answer step.told
 
     -- the key of an open call
-    own_is : (call : Call K V) → open_call schedule c h ≡ Some call → step.call.key ≡ key_of call
+    own_is : (call : Call K V A) → open_call schedule c h ≡ Some call → step.call.key ≡ key_of call
     own_is call e = same_item step.call.key (key_of call) (sym step.call.own ∙ (good.tied c x.before call x.was e).key)
 
     -- an open call may put in the pair that it made
-    may_put : (o : Option (Call K V)) → open_call schedule c h ≡ o → (q : Stored K V) → (good.tales c).hands.made ≡ Some q → change_in x.before.machine.state ≡ None → (went : Option (Stored K V)) → MayChange eq o (change_of c h) step.call.key went (Some q)
-    may_put None e q made none went = tt
-    may_put (Some call) e q made none went =
+    may_put : (o : Option (Call K V A)) → open_call schedule c h ≡ o → (q : Stored K V) → (good.tales c).hands.made ≡ Some q → change_in x.before.machine.state ≡ None → (went : Option (Stored K V)) → MayReplace went x.before.machine.task → MayChange eq o (change_of c h) step.call.key went (Some q)
+    may_put None e q made none went may = tt
+    may_put (Some call) e q made none went may =
         let tied = good.tied c x.before call x.was e in
         let own = sym (own_is call e) in
         let key = made_key (setting_of eq (low hash) s.mode s.store.words.tables) (coding_of (low hash)) (good.tales c).begun (good.tales c).since step.call.key x.before.machine (good.tales c).hands q step.call.rests made in
-        (own, tied.change ∙ none, insertion_does call step.call.key went q own key (tied.made q made))
+        (own, tied.change ∙ none, insertion_does call step.call.key went q own key (tied.made q made) (subst (MayReplace went) tied.task may))
+
+    -- an open call takes out a pair of its key, to which its closure agreed
+    may_take : (o : Option (Call K V A)) → open_call schedule c h ≡ o → (at : At) (old new : ℕ) (p : Stored K V) → kind_of_ask x.before.machine ≡ Some Bury → ask_of x.before.machine ≡ Ask_exchange at old new → MayChange eq o (change_of c h) step.call.key (Some p) None × IsAgreed o c (Some (pair_of old)) h
+    may_take None e at old new p kind asks = (tt, tt)
+    may_take (Some call) e at old new p kind asks =
+        let m = x.before.machine in
+        let tied = good.tied c x.before call x.was e in
+        let removes = (machine_takes (setting_of eq (low hash) s.mode s.store.words.tables) (coding_of (low hash)) (good.tales c).begun (good.tales c).since step.call.key hashed.coding m (good.tales c).hands step.call.rests kind at old new asks).removes in (
+          (sym (own_is call e), tied.change ∙ machine_once m at old new asks, removal_does call p (subst IsRemover tied.task removes)),
+          take_agreed call c (pair_of old) h (tied.said (pair_of old) true (machine_buries m at old new asks kind)),
+        )
+
+    -- and is shown what its key had at a moment of the call
+    may_show : (o : Option (Call K V A)) → open_call schedule c h ≡ o → (n : ℕ) → ask_of x.before.machine ≡ ShowPair n → FitsShown eq o (Some n) c h (replay eq good.es ∷ good.maps)
+    may_show None e n asks = tt
+    may_show (Some call) e n asks =
+        let (p, last, number, same, was) =
+        machine_shows (setting_of eq (low hash) s.mode s.store.words.tables) (coding_of (low hash)) (good.tales c).begun (good.tales c).since step.call.key hashed x.before.machine (good.tales c).hands step.call.rests n asks in
+        at_showing eq call c (good.tales c) h (replay eq good.es ∷ good.maps) (low hash) s.mode s.store.words.tables step.call.key (own_is call e) (good.tied c x.before call x.was e).moments p n number was
 
     legal : IsLegal eq event schedule c h (replay eq good.es) good.maps (replay eq es)
-    legal = advance_legal eq hash law refuse s s' c event reply x good.core core' good.es good.tales good.kept step schedule h good.maps (may_put (open_call schedule c h) refl) (good.unused c x.before x.was)
+    legal =
+        advance_legal eq hash law refuse s s' c event reply x good.core core' good.es good.tales good.kept step schedule h good.maps (may_put (open_call schedule c h) refl) (good.unused c x.before x.was)
+        (λ t i old new p kind asks there number. may_take (open_call schedule c h) refl (Slot t i) old new p kind asks) (may_show (open_call schedule c h) refl)
 
     timeline : Timeline eq schedule start later_history later_maps
     timeline = (legal, good.timeline)
@@ -140,23 +166,23 @@ module _ {K V S : Type 0} (eq : K → K → Bool) (hash : K → ℕ) (law : IsLa
         (step.new q made)
 
     -- each caller's call, before it and after it
-    run_other : (d : ℕ) (r : Running K V) → d ≢ c → running s'.callers d ≡ Some r → running s.callers d ≡ Some r
-    run_other d r differ now = sym (running-other s.callers c d (goes_on reply r') differ) ∙ sym (ap (λ (y : List (Seat K V)). running y d) x.callers) ∙ now
+    run_other : (d : ℕ) (r : Running K V A) → d ≢ c → running s'.callers d ≡ Some r → running s.callers d ≡ Some r
+    run_other d r differ now = sym (running-other s.callers c d (goes_on reply r') differ) ∙ sym (ap (λ (y : List (Seat K V A)). running y d) x.callers) ∙ now
 
-    run_same : (d : ℕ) (r : Running K V) → d ≡ c → running s'.callers d ≡ Some r → (reply ≡ None) × (r' ≡ r)
+    run_same : (d : ℕ) (r : Running K V A) → d ≡ c → running s'.callers d ≡ Some r → (reply ≡ None) × (r' ≡ r)
     run_same d r same now =
-        goes reply r' r (running-same s.callers c (goes_on reply r') r (sym (ap (λ (y : List (Seat K V)). running y c) x.callers) ∙ ap (running s'.callers) (sym same) ∙ now))
+        goes reply r' r (running-same s.callers c (goes_on reply r') r (sym (ap (λ (y : List (Seat K V A)). running y c) x.callers) ∙ ap (running s'.callers) (sym same) ∙ now))
 
     hands_other : (d : ℕ) → d ≢ c → (tales d).hands ≡ (good.tales d).hands
     hands_other d differ = ap (λ b. cond b step.hands (good.tales d).hands) (differs d c differ)
 
-    unused : (d : ℕ) (r : Running K V) → running s'.callers d ≡ Some r → (q : Stored K V) → (tales d).hands.made ≡ Some q → change_in r.machine.state ≡ None → IsUnused q.number later_maps
+    unused : (d : ℕ) (r : Running K V A) → running s'.callers d ≡ Some r → (q : Stored K V) → (tales d).hands.made ≡ Some q → change_in r.machine.state ≡ None → IsUnused q.number later_maps
     unused d r now q made none = (
       λ j p e. let (t, i, there) = standing j p e in (step.kept.calls d r now).unwritten q made none t i p there,
       elim (cases_same d c) [
         | inl same ↦
             let is = run_same d r same now in
-            own_unused q (sym (ap (λ (y : Hands (Stored K V)). y.made) own_hands) ∙ sym (ap (λ y. (tales y).hands.made) same) ∙ made) (ap (λ (y : Running K V). change_in y.machine.state) is.1 ∙ none)
+            own_unused q (sym (ap (λ (y : Hands (Stored K V)). y.made) own_hands) ∙ sym (ap (λ y. (tales y).hands.made) same) ∙ made) (ap (λ (y : Running K V A). change_in y.machine.state) is.1 ∙ none)
         | inr differ ↦ good.unused d r (run_other d r differ now) q (sym (ap (λ (y : Hands (Stored K V)). y.made) (hands_other d differ)) ∙ made) none
       ],
     )
@@ -165,8 +191,12 @@ module _ {K V S : Type 0} (eq : K → K → Bool) (hash : K → ℕ) (law : IsLa
     opened : open_call schedule c later_history ≡ open_call schedule c h
     opened = open_call-own schedule c turn event h ∙ ap (λ y. open_after y (begun_by (slice_get schedule turn)) (open_call schedule c h)) x.event_is ∙ event_open (begun_by (slice_get schedule turn)) (open_call schedule c h) (kind_of_ask x.before.machine) (ask_of x.before.machine) x.answer
 
+    -- a step begins no call
+    no_begin : is_begin c (entry turn c event) ≡ false
+    no_begin = not_begin-own c c turn event (ap begins x.event_is ∙ event_begins (kind_of_ask x.before.machine) (ask_of x.before.machine) x.answer)
+
     -- the step's own call stands to the history, replied or not
-    tied_own : (call : Call K V) → open_call schedule c h ≡ Some call → IsTied eq s'.store r' call c (tales c) later_history later_maps
+    tied_own : (call : Call K V A) → open_call schedule c h ≡ Some call → IsTied eq s'.store r' call c (tales c) later_history later_maps
     tied_own call e =
         let tied = good.tied c x.before call x.was e in
         record {
@@ -176,19 +206,21 @@ module _ {K V S : Type 0} (eq : K → K → Bool) (hash : K → ℕ) (law : IsLa
           made = λ q made. ⊎_elim (λ was. tied.made q was) (λ (new : (q.number ≡ length s.store.pairs) × (x.before.value ≡ Some q.value)). tied.value q.value new.1) (step.new q (sym (ap (λ (y : Hands (Stored K V)). y.made) own_hands) ∙ made));
           change = change_of-own c turn event h ∙ ap (change_by event) tied.change ∙ ap (λ y. change_by y (change_in x.before.machine.state)) x.event_is
               ∙ event_change (change_in x.before.machine.state) (kind_of_ask x.before.machine) (ask_of x.before.machine) x.answer (machine_once x.before.machine) ∙ sym changed;
+          said = λ n agrees now. step_asked c turn n agrees (kind_of_ask x.before.machine) (ask_of x.before.machine) x.answer event h x.event_is
+              (⊎_elim (λ was. inl (tied.said n agrees was)) (λ shown. inr shown) (machine_said x.before.machine x.answer n agrees now));
           moments = subst (λ (l : List (Exchange (Stored K V))). (so_far rest : List (Exchange (Stored K V))) → so_far ++ rest ≡ (good.tales c).since ++ step.made → AtSomeMoment (λ m. m (key_of call) ≡ replayed eq (replay eq (good.tales c).begun) so_far (key_of call)) c later_history (replay eq (l ++ step.made) ∷ replay eq good.es ∷ good.maps)) step.call.split
               (moments_more eq (key_of call) c (entry turn c event) h (replay eq good.es ∷ good.maps) (good.tales c).begun (good.tales c).since step.made one
-              (not_begin-own c c turn event (ap begins x.event_is ∙ event_begins (kind_of_ask x.before.machine) (ask_of x.before.machine) x.answer)) tied.moments);
+              no_begin tied.moments);
         }
 
     -- and so does each other call
-    tied_others : (d : ℕ) (r : Running K V) (call : Call K V) → d ≢ c → running s'.callers d ≡ Some r → open_call schedule d h ≡ Some call → IsTied eq s'.store r call d (tales d) later_history later_maps
+    tied_others : (d : ℕ) (r : Running K V A) (call : Call K V A) → d ≢ c → running s'.callers d ≡ Some r → open_call schedule d h ≡ Some call → IsTied eq s'.store r call d (tales d) later_history later_maps
     tied_others d r call differ now e =
         let before = run_other d r differ now in
         tied_other eq s.store s'.store r call c d turn event good.tales step.made step.hands h good.es (replay eq good.es ∷ good.maps) grows.keys_stay one (λ z. differ (sym z)) (good.kept.calls d r before).split (good.tied d r call before e)
 
     -- a reply fits
-    fits : (o : Option (Call K V)) → open_call schedule c later_history ≡ o → (rep : Reply) → reply ≡ Some rep → FitsOpen eq o rep c later_history later_maps
+    fits : (o : Option (Call K V A)) → open_call schedule c later_history ≡ o → (rep : Reply) → reply ≡ Some rep → FitsOpen eq o rep c later_history later_maps
     fits None e rep some = tt
     fits (Some call) e rep some =
         let was = sym opened ∙ e in
@@ -196,10 +228,10 @@ module _ {K V S : Type 0} (eq : K → K → Bool) (hash : K → ℕ) (law : IsLa
         tied_fits eq s'.store r' call c (tales c) later_history later_maps (low hash) s'.mode s'.store.words.tables step.own.key (step.own_key ∙ own_is call was) (tied_own call was) step.own.rests rep done
 
     -- a call of another that is open now was open before
-    open_other : (d : ℕ) (call : Call K V) → d ≢ c → open_call schedule d later_history ≡ Some call → open_call schedule d h ≡ Some call
+    open_other : (d : ℕ) (call : Call K V A) → d ≢ c → open_call schedule d later_history ≡ Some call → open_call schedule d h ≡ Some call
     open_other d call differ e = sym (open_call-other schedule c d turn event h (λ z. differ (sym z))) ∙ e
 
-    tied : (d : ℕ) (r : Running K V) (call : Call K V) → running s'.callers d ≡ Some r → open_call schedule d later_history ≡ Some call → IsTied eq s'.store r call d (tales d) later_history later_maps
+    tied : (d : ℕ) (r : Running K V A) (call : Call K V A) → running s'.callers d ≡ Some r → open_call schedule d later_history ≡ Some call → IsTied eq s'.store r call d (tales d) later_history later_maps
     tied d r call now e = elim (cases_same d c) [
       | inl same ↦
           let is = (run_same d r same now).1 in
@@ -234,12 +266,12 @@ module _ {K V S : Type 0} (eq : K → K → Bool) (hash : K → ℕ) (law : IsLa
     }
 
   -- a step keeps a good history
-  pub good_step : (refuse : Bool) (schedule : List (Turn K V)) (start : Map K V) (s s' : CoreState K V S) (h : History) (turn c : ℕ) (event : Event) (reply : Option Reply) → Advances eq refuse s c s' event reply → IsCore s'.store s'.callers s'.mode → IsGood eq hash schedule start s h → IsGood eq hash schedule start s' (with_step turn c event reply h)
+  pub good_step : {says : Says K V A} (refuse : Bool) (schedule : List (Turn K V A)) (start : Map K V) (s s' : CoreState K V S A) (h : History) (turn c : ℕ) (event : Event) (reply : Option Reply) → Advances eq says refuse s c s' event reply → IsCore s'.store s'.callers s'.mode → IsGood eq hash schedule start s h → IsGood eq hash schedule start s' (with_step turn c event reply h)
   good_step refuse schedule start s s' h turn c event None x core' good = goes_on_good refuse schedule start s s' h turn c event None x core' good
   good_step refuse schedule start s s' h turn c event (Some rep) x core' good = replies_good refuse schedule start s s' h turn c event (Some rep) x core' good rep refl
 
   -- a begin adds a call that rests on the exchanges as they are
-  pub good_begin : (schedule : List (Turn K V)) (start : Map K V) (s s' : CoreState K V S) (h : History) (turn c : ℕ) (call : Call K V) → slice_get schedule turn ≡ Some (Begin c call) → Begins hash s c call s' → hash (key_of_call call) < 2 ^ 64 → IsCore s'.store s'.callers s'.mode → IsGood eq hash schedule start s h → IsGood eq hash schedule start s' (entry turn c Begun ∷ h)
+  pub good_begin : (schedule : List (Turn K V A)) (start : Map K V) (s s' : CoreState K V S A) (h : History) (turn c : ℕ) (call : Call K V A) → slice_get schedule turn ≡ Some (Begin c call) → Begins hash s c call s' → hash (key_of_call call) < 2 ^ 64 → IsCore s'.store s'.callers s'.mode → IsGood eq hash schedule start s h → IsGood eq hash schedule start s' (entry turn c Begun ∷ h)
   good_begin schedule start s s' h turn c call at x low_hash core' good = record {
     es = good.es;
     tales = tales;
@@ -258,13 +290,13 @@ module _ {K V S : Type 0} (eq : K → K → Bool) (hash : K → ℕ) (law : IsLa
       below : AllBelow (length s'.store.pairs) (replay eq good.es ∷ good.maps)
       below = subst (λ (y : StoreState K V S). AllBelow (length y.pairs) (replay eq good.es ∷ good.maps)) (sym x.store) good.below
 
-      run_other : (d : ℕ) (r : Running K V) → d ≢ c → running s'.callers d ≡ Some r → running s.callers d ≡ Some r
+      run_other : (d : ℕ) (r : Running K V A) → d ≢ c → running s'.callers d ≡ Some r → running s.callers d ≡ Some r
       run_other d r differ now =
-          sym (running-with_seat s.callers c d) ∙ sym (running-other (with_seat s.callers c) c d (Some (begun hash s.mode s.initial call)) differ) ∙ sym (ap (λ (y : List (Seat K V)). running y d) x.callers) ∙ now
+          sym (running-with_seat s.callers c d) ∙ sym (running-other (with_seat s.callers c) c d (Some (begun hash s.mode s.initial call)) differ) ∙ sym (ap (λ (y : List (Seat K V A)). running y d) x.callers) ∙ now
 
-      run_same : (d : ℕ) (r : Running K V) → d ≡ c → running s'.callers d ≡ Some r → begun hash s.mode s.initial call ≡ r
+      run_same : (d : ℕ) (r : Running K V A) → d ≡ c → running s'.callers d ≡ Some r → begun hash s.mode s.initial call ≡ r
       run_same d r same now =
-          same_item (begun hash s.mode s.initial call) r (running-same (with_seat s.callers c) c (Some (begun hash s.mode s.initial call)) r (sym (ap (λ (y : List (Seat K V)). running y c) x.callers) ∙ ap (running s'.callers) (sym same) ∙ now))
+          same_item (begun hash s.mode s.initial call) r (running-same (with_seat s.callers c) c (Some (begun hash s.mode s.initial call)) r (sym (ap (λ (y : List (Seat K V A)). running y c) x.callers) ∙ ap (running s'.callers) (sym same) ∙ now))
 
       tale_other : (d : ℕ) → d ≢ c → tales d ≡ good.tales d
       tale_other d differ = ap (λ b. cond b (record { begun = good.es; since = []; hands = no_hands }) (good.tales d)) (differs d c differ)
@@ -272,7 +304,7 @@ module _ {K V S : Type 0} (eq : K → K → Bool) (hash : K → ℕ) (law : IsLa
       tale_same : tales c ≡ record { begun = good.es; since = []; hands = no_hands }
       tale_same = ap (λ b. cond b (record { begun = good.es; since = []; hands = no_hands }) (good.tales c)) (eq-eqb c c refl)
 
-      unused : (d : ℕ) (r : Running K V) → running s'.callers d ≡ Some r → (q : Stored K V) → (tales d).hands.made ≡ Some q → change_in r.machine.state ≡ None → IsUnused q.number (replay eq good.es ∷ replay eq good.es ∷ good.maps)
+      unused : (d : ℕ) (r : Running K V A) → running s'.callers d ≡ Some r → (q : Stored K V) → (tales d).hands.made ≡ Some q → change_in r.machine.state ≡ None → IsUnused q.number (replay eq good.es ∷ replay eq good.es ∷ good.maps)
       unused d r now q made none = elim (cases_same d c) [
         | inl same ↦ let f : None ≡ Some q = sym (ap (λ (y : Tale K V). y.hands.made) (ap tales same ∙ tale_same)) ∙ made in cc
         | inr differ ↦
@@ -280,7 +312,7 @@ module _ {K V S : Type 0} (eq : K → K → Bool) (hash : K → ℕ) (law : IsLa
             (u.0, u)
       ]
 
-      tied : (d : ℕ) (r : Running K V) (other : Call K V) → running s'.callers d ≡ Some r → open_call schedule d (entry turn c Begun ∷ h) ≡ Some other → IsTied eq s'.store r other d (tales d) (entry turn c Begun ∷ h) (replay eq good.es ∷ replay eq good.es ∷ good.maps)
+      tied : (d : ℕ) (r : Running K V A) (other : Call K V A) → running s'.callers d ≡ Some r → open_call schedule d (entry turn c Begun ∷ h) ≡ Some other → IsTied eq s'.store r other d (tales d) (entry turn c Begun ∷ h) (replay eq good.es ∷ replay eq good.es ∷ good.maps)
       tied d r other now e = elim (cases_same d c) [
         | inl same ↦
             let is = run_same d r same now in
@@ -307,15 +339,18 @@ module _ {K V S : Type 0} (eq : K → K → Bool) (hash : K → ℕ) (law : IsLa
             value = λ v had. had;
             made = λ q made. let f : None ≡ Some q = made in cc;
             change = change_of-own c turn Begun h;
+            said = λ n agrees some. let f : None ≡ Some (n, agrees) = some in cc;
             moments = λ so_far rest none. inl (ap (λ l. replayed eq (replay eq good.es) l (key_of call)) (sym (nothing_before so_far rest none)));
           }
             where
-              key_is : (call : Call K V) → Some (key_of_call call) ≡ Some (key_of call)
+              key_is : (call : Call K V A) → Some (key_of_call call) ≡ Some (key_of call)
               key_is (Get k) = refl
               key_is (Insert k v) = refl
+              key_is (TryInsert k v) = refl
+              key_is (RemoveIf k a) = refl
 
   -- a run begins with no entry and the core's map
-  pub good_start : (schedule : List (Turn K V)) (s : CoreState K V S) (es : List (Exchange (Stored K V))) (tales : ℕ → Tale K V) → IsCore s.store s.callers s.mode → IsKept eq hash s.mode s.store s.callers es tales → IsGood eq hash schedule (map_of eq s) s []
+  pub good_start : (schedule : List (Turn K V A)) (s : CoreState K V S A) (es : List (Exchange (Stored K V))) (tales : ℕ → Tale K V) → IsCore s.store s.callers s.mode → IsKept eq hash s.mode s.store s.callers es tales → IsGood eq hash schedule (map_of eq s) s []
   good_start schedule s es tales core kept = record {
     es = es;
     tales = tales;
@@ -335,7 +370,7 @@ module _ {K V S : Type 0} (eq : K → K → Bool) (hash : K → ℕ) (law : IsLa
       standing = held_in_slot eq (low hash) s.mode s.store.words.tables (hashed_setting eq hash law s core).lawful es kept.allowed kept.single
 
   -- at its end the maps of a run are a timeline from the core's map to the core's map
-  pub good_end : (schedule : List (Turn K V)) (s s' : CoreState K V S) (h : History) → IsGood eq hash schedule (map_of eq s) s' h → HasTimeline eq schedule s h s'
+  pub good_end : (schedule : List (Turn K V A)) (s s' : CoreState K V S A) (h : History) → IsGood eq hash schedule (map_of eq s) s' h → HasTimeline eq schedule s h s'
   good_end schedule s s' h good = record {
     last = replay eq good.es;
     maps = good.maps;

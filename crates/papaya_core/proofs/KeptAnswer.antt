@@ -6,9 +6,9 @@ use Rattle.papaya_words.specs.declared.probe.ResizeMode.{ResizeMode}
 use Rattle.papaya_call.specs.declared.ask.At.{At}
 use Rattle.papaya_call.specs.declared.ask.At.TheVariants.{Root, Next, Aborted, Done, Slot}
 use Rattle.papaya_call.specs.declared.ask.Ask.{Ask}
+use Rattle.papaya_call.specs.declared.ask.Ask.TheVariants.{MakeTable}
 use Rattle.papaya_call.specs.declared.ask.Answer.{Answer}
 use Rattle.papaya_call.specs.declared.ask.Answer.TheVariants.{Made as Made_number}
-use Rattle.papaya_call.specs.declared.machine.State.TheVariants.{Making}
 use Rattle.papaya_call.specs.Law.Code.{Coding}
 use Rattle.papaya_call.specs.Law.Exchange.{Setting, State, Exchange, run, start}
 use Rattle.papaya_call.specs.Law.Grows.{Comes}
@@ -25,7 +25,7 @@ use Rattle.papaya_core.specs.Store.{StoreState, Stored, pair_of}
 use Rattle.papaya_core.specs.Tables.{table_of, word_at}
 use Rattle.papaya_core.proofs.KeptTables.{IsGrown, grown-same}
 
-module _ {K V S : Type 0} (eq : K → K → Bool) (hash : K → ℕ) (mode : ResizeMode) (store : StoreState K V S) (r : Running K V) (es : List (Exchange (Stored K V))) (tale : Tale K V) where
+module _ {K V S A : Type 0} (eq : K → K → Bool) (hash : K → ℕ) (mode : ResizeMode) (store : StoreState K V S) (r : Running K V A) (es : List (Exchange (Stored K V))) (tale : Tale K V) where
   -- the setting, the coding and the words as the law has them
   abbrev pub law_setting : Setting K (Stored K V)
   law_setting = setting_of eq (low hash) mode store.words.tables
@@ -37,7 +37,7 @@ module _ {K V S : Type 0} (eq : K → K → Bool) (hash : K → ℕ) (mode : Res
   words_now = run es start
 
   -- What an answered ask leaves.
-  pub record IsAnswered (key : K) (ask : Ask) (a : Answer) (store' : StoreState K V S) (later : Running K V) : Type 0 where
+  pub record IsAnswered (key : K) (ask : Ask) (a : Answer) (store' : StoreState K V S) (later : Running K V A) : Type 0 where
     pub made : List (Exchange (Stored K V))
     pub hands : Hands (Stored K V)
     pub told : IsTold law_setting law_coding key words_now (kind_of_ask r.machine) tale.hands ask a made hands
@@ -58,7 +58,7 @@ module _ {K V S : Type 0} (eq : K → K → Bool) (hash : K → ℕ) (mode : Res
     pub last : (p : Stored K V) → hands.last ≡ Some p → (tale.hands.last ≡ Some p) ⊎ ((t : ℕ) × (x : ℕ) × (named (words_now.slot t x) ≡ Some p))
     pub new : (q : Stored K V) → hands.made ≡ Some q → (tale.hands.made ≡ Some q) ⊎ ((q.number ≡ length store.pairs) × (r.value ≡ Some q.value) × (pair_of store' q.number ≡ Some q))
     -- a table that was made is there
-    pub opens : (t : ℕ) → a ≡ Made_number t → r.machine.state ≡ Making → (words : TableWords) × (table_of store'.words.tables t ≡ Some words)
+    pub opens : (t slots limit : ℕ) → a ≡ Made_number t → ask ≡ MakeTable slots limit → (words : TableWords) × (table_of store'.words.tables t ≡ Some words)
 
   module _ (hashed : IsHashed law_setting law_coding) (key : K) (same_hash : r.machine.hash ≡ low hash key)
       (coded : (at : At) → word_of law_setting law_coding words_now at ≡ word_at store.words at)
@@ -76,7 +76,7 @@ module _ {K V S : Type 0} (eq : K → K → Bool) (hash : K → ℕ) (mode : Res
     none_made = ap (λ l. run l start) (append-nil es)
 
     -- an answer without an exchange
-    pub unexchanged : (ask : Ask) → ask_of r.machine ≡ ask → (a : Answer) (store' : StoreState K V S) (later : Running K V) (hands : Hands (Stored K V))
+    pub unexchanged : (ask : Ask) → ask_of r.machine ≡ ask → (a : Answer) (store' : StoreState K V S) (later : Running K V A) (hands : Hands (Stored K V))
         → IsTold law_setting law_coding key words_now (kind_of_ask r.machine) tale.hands ask a [] hands
         → change_after (kind_of_ask r.machine) ask a (change_in r.machine.state) ≡ change_in r.machine.state
         → ((at : KeyOf K) (k : K) → key_at store.keys at ≡ Some k → key_at store'.keys at ≡ Some k)
@@ -87,7 +87,7 @@ module _ {K V S : Type 0} (eq : K → K → Bool) (hash : K → ℕ) (mode : Res
         → ((at : At) → word_at store'.words at ≡ word_at store.words at)
         → ((p : Stored K V) → hands.last ≡ Some p → (tale.hands.last ≡ Some p) ⊎ ((t : ℕ) × (x : ℕ) × (named (words_now.slot t x) ≡ Some p)))
         → ((q : Stored K V) → hands.made ≡ Some q → (tale.hands.made ≡ Some q) ⊎ ((q.number ≡ length store.pairs) × (r.value ≡ Some q.value) × (pair_of store' q.number ≡ Some q)))
-        → ((t : ℕ) → a ≡ Made_number t → r.machine.state ≡ Making → (words : TableWords) × (table_of store'.words.tables t ≡ Some words))
+        → ((t slots limit : ℕ) → a ≡ Made_number t → ask ≡ MakeTable slots limit → (words : TableWords) × (table_of store'.words.tables t ≡ Some words))
         → IsAnswered key ask a store' later
     unexchanged ask e a store' later hands told still keys own logged longer grown words last new opens = record {
       made = [];
@@ -109,16 +109,16 @@ module _ {K V S : Type 0} (eq : K → K → Bool) (hash : K → ℕ) (mode : Res
     }
 
     -- an answer that leaves words, logs and call, but for the count
-    pub quiet : own_key store r ≡ Some key → (ask : Ask) → ask_of r.machine ≡ ask → (a : Answer) (store' : StoreState K V S) (later : Running K V) (hands : Hands (Stored K V)) (count : Count) → store' ≡ record store { count = count } → later ≡ r
+    pub quiet : own_key store r ≡ Some key → (ask : Ask) → ask_of r.machine ≡ ask → (a : Answer) (store' : StoreState K V S) (later : Running K V A) (hands : Hands (Stored K V)) (count : Count) → store' ≡ record store { count = count } → later ≡ r
         → IsTold law_setting law_coding key words_now (kind_of_ask r.machine) tale.hands ask a [] hands
         → change_after (kind_of_ask r.machine) ask a (change_in r.machine.state) ≡ change_in r.machine.state
         → ((p : Stored K V) → hands.last ≡ Some p → (tale.hands.last ≡ Some p) ⊎ ((t : ℕ) × (x : ℕ) × (named (words_now.slot t x) ≡ Some p)))
         → hands.made ≡ tale.hands.made
-        → ((t : ℕ) → a ≡ Made_number t → r.machine.state ≡ Making → ⊥)
+        → ((t slots limit : ℕ) → a ≡ Made_number t → ask ≡ MakeTable slots limit → ⊥)
         → IsAnswered key ask a store' later
     quiet own ask e a store' later hands count same_store same_call told still last made never =
         subst (λ y. IsAnswered key ask a y later) (sym same_store) (subst (IsAnswered key ask a (record store { count = count })) (sym same_call)
-        (unexchanged ask e a (record store { count = count }) r hands told still (λ at k h. h) own (λ n p h. h) (omega arith) (grown-same store.words.tables) (λ at. refl) last (λ q h. inl (sym made ∙ h)) (λ t is making. absurd (never t is making))))
+        (unexchanged ask e a (record store { count = count }) r hands told still (λ at k h. h) own (λ n p h. h) (omega arith) (grown-same store.words.tables) (λ at. refl) last (λ q h. inl (sym made ∙ h)) (λ t slots limit is asks. absurd (never t slots limit is asks))))
 
     -- the pair that the word at a place names
     named_last : (last : Option (Stored K V)) (t x : ℕ) (p : Stored K V) (o : Option (Stored K V)) → named (words_now.slot t x) ≡ o → or_last o last ≡ Some p → (last ≡ Some p) ⊎ ((t : ℕ) × (x : ℕ) × (named (words_now.slot t x) ≡ Some p))

@@ -20,6 +20,7 @@ use Rattle.papaya_core.specs.Store.{StoreState, Stored}
 use Rattle.papaya_core.specs.Tables.{Tables, table_of, word_at, word_in}
 use Rattle.papaya_core.proofs.CallersLemmas.{differs, running-other, running-same, running-with_seat}
 use Rattle.papaya_core.proofs.CoreLemmas.{cases_same}
+use Rattle.papaya_core.proofs.KeptClosures.{begun_answers}
 use Rattle.papaya_core.proofs.KeptTables.{word-made}
 
 -- a core's machines resize as its setting does
@@ -35,10 +36,10 @@ no_words (Aborted n) = elim (n == 0) as (λ b. 0 ≡ word_in (λ t. t.aborted) (
 no_words (Done n) = elim (n == 0) as (λ b. 0 ≡ word_in (λ t. t.done) (cond b None (slice_get {X = TableWords} [] (n - 1)))) [ true ↦ refl | false ↦ refl ]
 no_words (Slot n i) = elim (n == 0) as (λ b. 0 ≡ word_in (λ t. slice_index t.slots i) (cond b None (slice_get {X = TableWords} [] (n - 1)))) [ true ↦ refl | false ↦ refl ]
 
-module _ {K V S : Type 0} (eq : K → K → Bool) (hash : K → ℕ) where
-  module _ (s : CoreState K V S) (caller : ℕ) (call : Call K V) (fits : hash (key_of_call call) < 2 ^ 64) (es : List (Exchange (Stored K V))) (tales : ℕ → Tale K V) (kept : IsKept eq hash s.mode s.store s.callers es tales) where
+module _ {K V S A : Type 0} (eq : K → K → Bool) (hash : K → ℕ) where
+  module _ (s : CoreState K V S A) (caller : ℕ) (call : Call K V A) (fits : hash (key_of_call call) < 2 ^ 64) (es : List (Exchange (Stored K V))) (tales : ℕ → Tale K V) (kept : IsKept eq hash s.mode s.store s.callers es tales) where
     -- the call as it begins, what is told of it, and the callers then
-    abbrev r : Running K V
+    abbrev r : Running K V A
     r = begun hash s.mode s.initial call
 
     -- what is told of it: nothing was exchanged since
@@ -46,7 +47,7 @@ module _ {K V S : Type 0} (eq : K → K → Bool) (hash : K → ℕ) where
     new_tale = record { begun = es; since = []; hands = no_hands }
 
     -- the callers then
-    abbrev callers' : List (Seat K V)
+    abbrev callers' : List (Seat K V A)
     callers' = with_call (with_seat s.callers caller) caller (Some r)
 
     -- the tales then
@@ -58,6 +59,7 @@ module _ {K V S : Type 0} (eq : K → K → Bool) (hash : K → ℕ) where
     new_call = record {
       key = key_of_call call;
       own = refl;
+      answers = begun_answers call;
       split = append-nil es;
       rests = record { hash = sym (mod-eq_of_lt fits); mode = mode_of s.mode; made = refl; stage = tt };
       last = λ p l. absurd cc;
@@ -75,11 +77,11 @@ module _ {K V S : Type 0} (eq : K → K → Bool) (hash : K → ℕ) where
     other_is d differ = sym (ap (λ b. cond b new_tale (tales d)) (differs d caller differ))
 
     -- and so do their calls
-    other_runs : (d : ℕ) (q : Running K V) → d ≢ caller → running callers' d ≡ Some q → running s.callers d ≡ Some q
+    other_runs : (d : ℕ) (q : Running K V A) → d ≢ caller → running callers' d ≡ Some q → running s.callers d ≡ Some q
     other_runs d q differ runs = sym (running-with_seat s.callers caller d) ∙ sym (running-other (with_seat s.callers caller) caller d (Some r) differ) ∙ runs
 
     -- each call rests on what is told of it
-    calls : (d : ℕ) (q : Running K V) → running callers' d ≡ Some q → IsCall eq hash s.mode s.store q es (tales' d)
+    calls : (d : ℕ) (q : Running K V A) → running callers' d ≡ Some q → IsCall eq hash s.mode s.store q es (tales' d)
     calls d q runs = elim (cases_same d caller) [
       | inl same ↦
           let f : Some r ≡ Some q = running-same (with_seat s.callers caller) caller (Some r) q (ap (running callers') (sym same) ∙ runs) in
@@ -89,7 +91,7 @@ module _ {K V S : Type 0} (eq : K → K → Bool) (hash : K → ℕ) where
     ]
 
     -- no two calls have made one pair
-    apart : (d e : ℕ) (q q' : Running K V) → running callers' d ≡ Some q → running callers' e ≡ Some q' → d ≢ e → (p p' : Stored K V) → (tales' d).hands.made ≡ Some p → (tales' e).hands.made ≡ Some p' → p.number ≢ p'.number
+    apart : (d e : ℕ) (q q' : Running K V A) → running callers' d ≡ Some q → running callers' e ≡ Some q' → d ≢ e → (p p' : Stored K V) → (tales' d).hands.made ≡ Some p → (tales' e).hands.made ≡ Some p' → p.number ≢ p'.number
     apart d e q q' runs_d runs_e differ p p' made_d made_e = elim (cases_same d caller) [
       | inl begins ↦ let f : None ≡ Some p = ap (λ (y : Tale K V). y.hands.made) (new_is d begins) ∙ made_d in absurd cc
       | inr d_not ↦ elim (cases_same e caller) [
@@ -102,10 +104,11 @@ module _ {K V S : Type 0} (eq : K → K → Bool) (hash : K → ℕ) where
     pub begin_kept : IsKept eq hash s.mode s.store callers' es tales'
     begin_kept = record { allowed = kept.allowed; coded = kept.coded; single = kept.single; made = kept.made; logged = kept.logged; calls = calls; apart = apart }
 
+module _ {K V S : Type 0} (A : Type 0) (eq : K → K → Bool) (hash : K → ℕ) where
   module _ (mode : ResizeMode) (store : StoreState K V S) (tales : ℕ → Tale K V) where
     -- a core with these words, in which nobody called yet
     abbrev IsFresh : Tables → List (Exchange (Stored K V)) → Type 0
-    IsFresh words es = IsKept eq hash mode (record store { words = words }) [] es tales
+    IsFresh words es = IsKept {A = A} eq hash mode (record store { words = words }) [] es tales
 
     -- without a table nothing was exchanged
     empty_kept : IsFresh (record { root = 0; tables = [] }) []
@@ -157,6 +160,6 @@ module _ {K V S : Type 0} (eq : K → K → Bool) (hash : K → ℕ) where
         coded (Slot n i) = none (Slot n i) (λ f. absurd cc)
 
     -- a core as it is made, after no exchange or after its first table was opened
-    pub new_kept : (capacity initial : ℕ) → HasCapacity capacity initial store.words → (es : List (Exchange (Stored K V))) × IsKept eq hash mode store [] es tales
+    pub new_kept : (capacity initial : ℕ) → HasCapacity capacity initial store.words → (es : List (Exchange (Stored K V))) × IsKept {A = A} eq hash mode store [] es tales
     new_kept zero initial none = ([], subst (λ (w : Tables). IsFresh w []) (sym none) empty_kept)
     new_kept (suc n) initial (limit, is, opened) = (Open 1 ∷ [], subst (λ (w : Tables). IsFresh w (Open 1 ∷ [])) (sym opened) (opened_kept (max initial 8) limit))

@@ -4,7 +4,8 @@ use Rattle.papaya_call.specs.declared.ask.At.{At}
 use Rattle.papaya_call.specs.declared.ask.At.TheVariants.{Root, Slot}
 use Rattle.papaya_call.specs.declared.ask.StepKind.{StepKind}
 use Rattle.papaya_call.specs.declared.ask.StepKind.TheVariants as kinds
-use Rattle.papaya_call.specs.Law.Exchange.{Word, Live, Buried, State, Exchange, Open, after}
+use Rattle.papaya_call.specs.Law.Allows.{Allows}
+use Rattle.papaya_call.specs.Law.Exchange.{Setting, Word, Live, Buried, State, Exchange, Open, after}
 use Rattle.papaya_call.specs.Law.Grows.{Comes}
 use Rattle.papaya_call.specs.Law.Invariant.{named}
 use Rattle.papaya_call.specs.Rests.{change_of_kind}
@@ -14,6 +15,11 @@ use Rattle.papaya_call.specs.Told.{Hands, IsAsked}
 both : (a b : Bool) → (a && b) ≡ true → (a ≡ true) × (b ≡ true)
 both true b h = (refl, h)
 both false b h = absurd cc
+
+-- the root is exchanged where there is none yet
+pub root_empty : {K P : Type 0} (g : Setting K P) (s : State P) (hands : Hands P) (new : ℕ) (kind : Option StepKind) (e : Exchange P) → IsAsked kind Root new s hands e → Allows g s e → s.root ≡ 0
+root_empty g s hands new (Some kinds.Open) e is allows = (subst (Allows g s) is allows).0
+root_empty g s hands new _ e h allows = absurd h
 
 module _ {P : Type 0} (s : State P) (hands : Hands P) (new : ℕ) where
   -- The tables that have come are those of before, and the one that was opened; a pair that a slot names stood there before, or is the one that the call made. Where it changes no pair of the map, each slot names what it named.

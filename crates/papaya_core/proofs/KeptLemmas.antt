@@ -1,6 +1,7 @@
 -- A core's words keep to the law of exchanges: the statements that the timeline rests on.
 use Rattle.std.proofs.Common.{◌≡◌, ℕ, ◌<◌, ◌^◌, Bool, Option, None, Some, List, [], ◌++◌, length, ◌≤◌, ◌⊎◌, inl, inr, refl, sym, subst}
 use Rattle.papaya_words.specs.declared.probe.ResizeMode.{ResizeMode}
+use Rattle.papaya_call.specs.Answers.{Says}
 use Rattle.papaya_call.specs.declared.call.Call.{Call}
 use Rattle.papaya_call.specs.Law.Exchange.{Exchange, run, start}
 use Rattle.papaya_call.specs.Law.Meaning.{map_left}
@@ -28,13 +29,13 @@ gone_on : {A : Type 0} (reply : Option Reply) (r q : A) → goes_on reply r ≡ 
 gone_on None r q e = cc
 gone_on (Some reply) r q e = let f : None ≡ Some q = e in cc
 
-module _ {K V S : Type 0} (eq : K → K → Bool) (hash : K → ℕ) (law : IsLawfulKeys eq hash) where
+module _ {K V S A : Type 0} (eq : K → K → Bool) (hash : K → ℕ) (law : IsLawfulKeys eq hash) where
   -- keys are placed by their hashes, in a core whose tables have sizes of tables
-  pub hashed_setting : (s : CoreState K V S) → IsCore s.store s.callers s.mode → IsHashed (setting_of {V = V} eq (low hash) s.mode s.store.words.tables) (coding_of (low hash))
+  pub hashed_setting : (s : CoreState K V S A) → IsCore s.store s.callers s.mode → IsHashed (setting_of {V = V} eq (low hash) s.mode s.store.words.tables) (coding_of (low hash))
   hashed_setting s core = tables_hashed eq hash law s.mode s.store.words.tables core.sizes
 
   -- what a step leaves: the exchange that it made, if it made one, and what is told of each call since
-  pub record IsStep (refuse : Bool) (s : CoreState K V S) (caller : ℕ) (s' : CoreState K V S) (event : Event) (reply : Option Reply) (a : Advances eq refuse s caller s' event reply) (es : List (Exchange (Stored K V))) (tales : ℕ → Tale K V) : Type 0 where
+  pub record IsStep {says : Says K V A} (refuse : Bool) (s : CoreState K V S A) (caller : ℕ) (s' : CoreState K V S A) (event : Event) (reply : Option Reply) (a : Advances eq says refuse s caller s' event reply) (es : List (Exchange (Stored K V))) (tales : ℕ → Tale K V) : Type 0 where
     pub made : List (Exchange (Stored K V))
     pub hands : Hands (Stored K V)
     pub call : IsCall eq hash s.mode s.store a.before es (tales caller)
@@ -52,40 +53,40 @@ module _ {K V S : Type 0} (eq : K → K → Bool) (hash : K → ℕ) (law : IsLa
     pub new : (q : Stored K V) → hands.made ≡ Some q → ((tales caller).hands.made ≡ Some q) ⊎ ((q.number ≡ length s.store.pairs) × (a.before.value ≡ Some q.value))
 
   -- a step keeps a core to the law
-  pub kept_step : (refuse : Bool) (s : CoreState K V S) (caller : ℕ) (s' : CoreState K V S) (event : Event) (reply : Option Reply) (a : Advances eq refuse s caller s' event reply) (es : List (Exchange (Stored K V))) (tales : ℕ → Tale K V) → IsCore s.store s.callers s.mode → IsKept eq hash s.mode s.store s.callers es tales → IsStep refuse s caller s' event reply a es tales
-  kept_step refuse s caller s' event reply a es tales core kept =
-      let r' : Running K V = record a.later { machine = after a.before.machine a.answer } in
-      let left = step.left eq hash law refuse s caller s' a.before a.answer a.later a.was a.performs a.mode es tales core kept in
+  pub kept_step : {says : Says K V A} (refuse : Bool) (s : CoreState K V S A) (caller : ℕ) (s' : CoreState K V S A) (event : Event) (reply : Option Reply) (a : Advances eq says refuse s caller s' event reply) (es : List (Exchange (Stored K V))) (tales : ℕ → Tale K V) → IsCore s.store s.callers s.mode → IsKept eq hash s.mode s.store s.callers es tales → IsStep refuse s caller s' event reply a es tales
+  kept_step {says = says} refuse s caller s' event reply a es tales core kept =
+      let r' : Running K V A = record a.later { machine = after a.before.machine a.answer } in
+      let left = step.left eq hash law says refuse s caller s' a.before a.answer a.later a.was a.performs a.mode es tales core kept in
       record {
         made = left.made;
         hands = left.hands;
         call = kept.calls caller a.before a.was;
         told = left.told;
-        kept = step.step_kept eq hash law refuse s caller s' a.before a.answer a.later a.was a.performs a.mode es tales core kept (goes_on reply r') a.callers (λ q. gone_on reply r' q);
-        own = step.own_call eq hash law refuse s caller s' a.before a.answer a.later a.was a.performs a.mode es tales core kept (told_tales tales caller left.made left.hands caller).hands
-            (step.own_hands eq hash law refuse s caller s' a.before a.answer a.later a.was a.performs a.mode es tales core kept caller refl);
-        own_key = step.own_call-key eq hash law refuse s caller s' a.before a.answer a.later a.was a.performs a.mode es tales core kept (told_tales tales caller left.made left.hands caller).hands
-            (step.own_hands eq hash law refuse s caller s' a.before a.answer a.later a.was a.performs a.mode es tales core kept caller refl);
-        map_same = step.same_map eq hash law refuse s caller s' a.before a.answer a.later a.was a.performs a.mode es tales core kept;
+        kept = step.step_kept eq hash law says refuse s caller s' a.before a.answer a.later a.was a.performs a.mode es tales core kept (goes_on reply r') a.callers (λ q. gone_on reply r' q);
+        own = step.own_call eq hash law says refuse s caller s' a.before a.answer a.later a.was a.performs a.mode es tales core kept (told_tales tales caller left.made left.hands caller).hands
+            (step.own_hands eq hash law says refuse s caller s' a.before a.answer a.later a.was a.performs a.mode es tales core kept caller refl);
+        own_key = step.own_call-key eq hash law says refuse s caller s' a.before a.answer a.later a.was a.performs a.mode es tales core kept (told_tales tales caller left.made left.hands caller).hands
+            (step.own_hands eq hash law says refuse s caller s' a.before a.answer a.later a.was a.performs a.mode es tales core kept caller refl);
+        map_same = step.same_map eq hash law says refuse s caller s' a.before a.answer a.later a.was a.performs a.mode es tales core kept;
         logged = λ p h. left.logged p.number p h;
         longer = left.longer;
         new = λ q h. elim (left.new q h) [ inl old ↦ inl old | inr (number, value, there) ↦ inr (number, value) ];
       }
 
   -- a begin leaves the words, and its call rests on the exchanges as they are
-  pub kept_begin : (s : CoreState K V S) (caller : ℕ) (call : Call K V) (s' : CoreState K V S) → Begins hash s caller call s' → hash (key_of_call call) < 2 ^ 64 → (es : List (Exchange (Stored K V))) (tales : ℕ → Tale K V) → IsKept eq hash s.mode s.store s.callers es tales → IsKept eq hash s'.mode s'.store s'.callers es (begun_tales tales caller es)
+  pub kept_begin : (s : CoreState K V S A) (caller : ℕ) (call : Call K V A) (s' : CoreState K V S A) → Begins hash s caller call s' → hash (key_of_call call) < 2 ^ 64 → (es : List (Exchange (Stored K V))) (tales : ℕ → Tale K V) → IsKept eq hash s.mode s.store s.callers es tales → IsKept eq hash s'.mode s'.store s'.callers es (begun_tales tales caller es)
   kept_begin s caller call s' begins fits es tales kept =
       let tales' : ℕ → Tale K V = begun_tales tales caller es in
       subst (λ y. IsKept eq hash y s'.store s'.callers es tales') (sym begins.mode)
       (subst (λ (y : StoreState K V S). IsKept eq hash s.mode y s'.callers es tales') (sym begins.store)
-      (subst (λ (y : List (Seat K V)). IsKept eq hash s.mode s.store y es tales') (sym begins.callers) (begin_kept eq hash s caller call fits es tales kept)))
+      (subst (λ (y : List (Seat K V A)). IsKept eq hash s.mode s.store y es tales') (sym begins.callers) (begin_kept eq hash s caller call fits es tales kept)))
 
   -- a core as it is made has made no exchange, or has opened its first table
-  pub kept_new : (mode : ResizeMode) (capacity initial : ℕ) (store : StoreState K V S) (callers : List (Seat K V)) → HasCapacity capacity initial store.words → callers ≡ [] → (tales : ℕ → Tale K V) → (es : List (Exchange (Stored K V))) × IsKept eq hash mode store callers es tales
+  pub kept_new : (mode : ResizeMode) (capacity initial : ℕ) (store : StoreState K V S) (callers : List (Seat K V A)) → HasCapacity capacity initial store.words → callers ≡ [] → (tales : ℕ → Tale K V) → (es : List (Exchange (Stored K V))) × IsKept eq hash mode store callers es tales
   kept_new mode capacity initial store callers words none tales =
-      let new = new_kept eq hash mode store tales capacity initial words in
-      (new.0, subst (λ (y : List (Seat K V)). IsKept eq hash mode store y new.0 tales) (sym none) new.1)
+      let new = new_kept A eq hash mode store tales capacity initial words in
+      (new.0, subst (λ (y : List (Seat K V A)). IsKept eq hash mode store y new.0 tales) (sym none) new.1)
 
   -- the core's map is the replay of the exchanges
-  pub map_kept : (s : CoreState K V S) (es : List (Exchange (Stored K V))) (tales : ℕ → Tale K V) → IsCore s.store s.callers s.mode → IsKept eq hash s.mode s.store s.callers es tales → (k : K) → map_of eq s k ≡ map_left (setting_of eq (low hash) s.mode s.store.words.tables) es k
+  pub map_kept : (s : CoreState K V S A) (es : List (Exchange (Stored K V))) (tales : ℕ → Tale K V) → IsCore s.store s.callers s.mode → IsKept eq hash s.mode s.store s.callers es tales → (k : K) → map_of eq s k ≡ map_left (setting_of eq (low hash) s.mode s.store.words.tables) es k
   map_kept s es tales core kept k = kept_map eq hash s.mode s.store (hashed_setting s core) s.callers es tales kept k

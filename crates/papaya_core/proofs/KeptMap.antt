@@ -35,11 +35,11 @@ module _ {K V S : Type 0} (eq : K → K → Bool) (hash : K → ℕ) (mode : Res
   c = coding_of (low hash)
 
   -- a pair that is there, by the number that its word has
-  pair_listed : (w : Word (Stored K V)) (p : Stored K V) → named w ≡ Some p → IsLogged eq hash mode store p → listed (pair_of store (number_of (code g c w))) ≡ p ∷ []
+  pair_listed : (w : Word (Stored K V)) (p : Stored K V) → named w ≡ Some p → IsLogged store p → listed (pair_of store (number_of (code g c w))) ≡ p ∷ []
   pair_listed w p names logged = ap (λ n. listed (pair_of store n)) (code_pair g c hashed.coding w p names).0 ∙ ap listed logged
 
   -- the pair of a word
-  kind_pairs : (w : Word (Stored K V)) → ((p : Stored K V) → named w ≡ Some p → IsLogged eq hash mode store p) → pairs_of_kind store (kind w) (number_of (code g c w)) ≡ pairs_of_word w
+  kind_pairs : (w : Word (Stored K V)) → ((p : Stored K V) → named w ≡ Some p → IsLogged store p) → pairs_of_kind store (kind w) (number_of (code g c w)) ≡ pairs_of_word w
   kind_pairs Empty logged = refl
   kind_pairs Closed logged = refl
   kind_pairs (Live p) logged = pair_listed (Live p) p refl (logged p refl)
@@ -48,21 +48,21 @@ module _ {K V S : Type 0} (eq : K → K → Bool) (hash : K → ℕ) (mode : Res
   kind_pairs (Buried p) logged = refl
 
   -- the pair of a number that stands for a word
-  word_pairs : (w : Word (Stored K V)) (word : ℕ) → code g c w ≡ word → ((p : Stored K V) → named w ≡ Some p → IsLogged eq hash mode store p) → pairs_of_kind store (kind_of word) (number_of word) ≡ pairs_of_word w
+  word_pairs : (w : Word (Stored K V)) (word : ℕ) → code g c w ≡ word → ((p : Stored K V) → named w ≡ Some p → IsLogged store p) → pairs_of_kind store (kind_of word) (number_of word) ≡ pairs_of_word w
   word_pairs w word is logged =
       ap (λ y. pairs_of_kind store (kind_of y) (number_of y)) (sym is)
       ∙ ap (λ y. pairs_of_kind store y (number_of (code g c w))) (code_kind g c w)
       ∙ kind_pairs w logged
 
   -- the pairs of a table's slots
-  slots_pairs : (words : List ℕ) (slot : ℕ → Word (Stored K V)) → ((x : ℕ) → code g c (slot x) ≡ slice_index words x) → ((x : ℕ) (p : Stored K V) → named (slot x) ≡ Some p → IsLogged eq hash mode store p) → pairs_of_slots store words ≡ pairs_in slot (length words)
+  slots_pairs : (words : List ℕ) (slot : ℕ → Word (Stored K V)) → ((x : ℕ) → code g c (slot x) ≡ slice_index words x) → ((x : ℕ) (p : Stored K V) → named (slot x) ≡ Some p → IsLogged store p) → pairs_of_slots store words ≡ pairs_in slot (length words)
   slots_pairs [] slot coded logged = refl
   slots_pairs (word ∷ words) slot coded logged =
       ap (λ l. l ++ pairs_of_slots store words) (word_pairs (slot 0) word (coded 0) (logged 0))
       ∙ ap (λ l. pairs_of_word (slot 0) ++ l) (slots_pairs words (λ x. slot (suc x)) (λ x. coded (suc x)) (λ x. logged (suc x)))
       ∙ sym (pairs_in-first slot (length words))
 
-  module _ (callers : List (Seat K V)) (es : List (Exchange (Stored K V))) (tales : ℕ → Tale K V) (kept : IsKept eq hash mode store callers es tales) where
+  module _ {A : Type 0} (callers : List (Seat K V A)) (es : List (Exchange (Stored K V))) (tales : ℕ → Tale K V) (kept : IsKept eq hash mode store callers es tales) where
     -- the words of the law
     abbrev now : State (Stored K V)
     now = run es start

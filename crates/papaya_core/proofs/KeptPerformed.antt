@@ -1,11 +1,13 @@
 -- Every answered ask keeps to the law.
-use Rattle.std.proofs.Common.{◌≡◌, ℕ, ◌==◌, ◌<◌, Bool, List, [], ◌∷◌, ◌++◌, Some, inl, refl, sym, ◌∙◌, ap, subst, MatchBool}
+use Rattle.std.proofs.Common.{◌≡◌, ℕ, ◌==◌, ◌<◌, Bool, List, [], ◌∷◌, ◌++◌, Some, inl, inr, refl, sym, ◌∙◌, ap, subst, arith, MatchBool}
 use Rattle.papaya_words.specs.Table.{TableWords}
 use Rattle.papaya_words.specs.declared.probe.Refused.TheVariants.{Memory}
 use Rattle.papaya_words.specs.declared.probe.ResizeMode.{ResizeMode}
+use Rattle.papaya_call.specs.Answers.{Says}
 use Rattle.papaya_call.specs.declared.ask.At.{At}
+use Rattle.papaya_call.specs.declared.ask.At.TheVariants.{Root}
 use Rattle.papaya_call.specs.declared.ask.Ask.{Ask}
-use Rattle.papaya_call.specs.declared.ask.Ask.TheVariants.{Load, Exchange as Ask_exchange, SameKey, SizeOf, MakeKey, MakePair, MakeTable, AddToShard, Done as Ask_done}
+use Rattle.papaya_call.specs.declared.ask.Ask.TheVariants.{Load, Exchange as Ask_exchange, SameKey, ShowPair, SizeOf, MakeKey, MakePair, MakeTable, AddToShard, Done as Ask_done}
 use Rattle.papaya_call.specs.declared.ask.Answer.{Answer}
 use Rattle.papaya_call.specs.declared.ask.Answer.TheVariants.{Word as Word_read, Exchanged, Found as Found_instead, Yes, Size}
 use Rattle.papaya_call.specs.Law.Exchange.{Exchange, run, start}
@@ -19,16 +21,16 @@ use Rattle.papaya_core.specs.Performs.{Performs, own_key, same, size_of}
 use Rattle.papaya_core.specs.Store.{StoreState, Stored, pair_of}
 use Rattle.papaya_core.specs.Tables.{table_of, word_at, put}
 use Rattle.papaya_core.proofs.StoreLemmas.{matched}
-use Rattle.papaya_core.proofs.KeptAnswer.{law_setting, law_coding, words_now, IsAnswered, quiet, told_last, told_made}
-use Rattle.papaya_call.specs.declared.machine.State.TheVariants.{Opening}
+use Rattle.papaya_core.proofs.KeptAnswer.{law_setting, law_coding, words_now, IsAnswered, quiet, unexchanged, told_last, told_made}
 use Rattle.papaya_call.specs.Law.Allows.{AllAllowed}
 use Rattle.papaya_call.specs.Law.Class.{IsOn}
 use Rattle.papaya_call.proofs.RestsNames.{IsNamed, ask_named}
 use Rattle.papaya_core.specs.Performs.{Exchanges}
-use Rattle.papaya_core.proofs.KeptMade.{key_made, pair_made, table_made, none_made, no_table}
+use Rattle.papaya_core.proofs.KeptTables.{grown-same}
+use Rattle.papaya_core.proofs.KeptMade.{key_made, pair_made, table_made, none_made}
 use Rattle.papaya_core.proofs.KeptWritten.{exchange_made, on_there}
 
-module _ {K V S : Type 0} (eq : K → K → Bool) (hash : K → ℕ) (mode : ResizeMode) (store : StoreState K V S) (r : Running K V) (es : List (Exchange (Stored K V))) (tale : Tale K V)
+module _ {K V S A : Type 0} (eq : K → K → Bool) (says : Says K V A) (hash : K → ℕ) (mode : ResizeMode) (store : StoreState K V S) (r : Running K V A) (es : List (Exchange (Stored K V))) (tale : Tale K V)
     (hashed : IsHashed (law_setting eq hash mode store r es tale) (law_coding eq hash mode store r es tale)) (key : K)
     (split : tale.begun ++ tale.since ≡ es) (may : AllAllowed (law_setting eq hash mode store r es tale) start (tale.begun ++ tale.since))
     (rests : Rests (law_setting eq hash mode store r es tale) (law_coding eq hash mode store r es tale) tale.begun tale.since key r.machine tale.hands)
@@ -36,14 +38,14 @@ module _ {K V S : Type 0} (eq : K → K → Bool) (hash : K → ℕ) (mode : Res
     (single : (t : ℕ) → (words_now eq hash mode store r es tale).next t ≡ 0)
     (there : (t : ℕ) → 0 < t → Comes (words_now eq hash mode store r es tale) t → (words : TableWords) × (table_of store.words.tables t ≡ Some words))
     (last : (p : Stored K V) → tale.hands.last ≡ Some p → pair_of store p.number ≡ Some p)
-    (opens : (t : ℕ) → r.machine.state ≡ Opening t → (words : TableWords) × (table_of store.words.tables t ≡ Some words))
+    (opens : (t : ℕ) → ask_of r.machine ≡ Ask_exchange Root 0 t → (words : TableWords) × (table_of store.words.tables t ≡ Some words))
     (own : own_key store r ≡ Some key) where
   -- what an answer leaves, where it is this
-  abbrev Leaves : Ask → Answer → StoreState K V S → Running K V → Type 0
+  abbrev Leaves : Ask → Answer → StoreState K V S → Running K V A → Type 0
   Leaves ask a store' later = IsAnswered eq hash mode store r es tale key ask a store' later
 
   -- an exchange, made or lost
-  exchanged : (at : At) (old new : ℕ) → ask_of r.machine ≡ Ask_exchange at old new → (a : Answer) (store' : StoreState K V S) (later : Running K V) → Exchanges (word_at store.words at) old (put store.words at new) a store store' → later ≡ r → Leaves (Ask_exchange at old new) a store' later
+  exchanged : (at : At) (old new : ℕ) → ask_of r.machine ≡ Ask_exchange at old new → (a : Answer) (store' : StoreState K V S) (later : Running K V A) → Exchanges (word_at store.words at) old (put store.words at new) a store store' → later ≡ r → Leaves (Ask_exchange at old new) a store' later
   exchanged at old new e a store' later h same_call =
       matched (Leaves (Ask_exchange at old new) a store' later) (word_at store.words at == old) _ _ h
       (λ hit done. subst (λ y. Leaves (Ask_exchange at old new) a y later) (sym done.1) (subst (Leaves (Ask_exchange at old new) a (record store { words = put store.words at new })) (sym same_call)
@@ -62,21 +64,31 @@ module _ {K V S : Type 0} (eq : K → K → Bool) (hash : K → ℕ) (mode : Res
       (sym (ap (λ y. y == old) (coded at) ∙ miss)) (is, refl, refl))
       (ap (λ y. change_after (kind_of_ask r.machine) (Ask_exchange at old new) y (change_in r.machine.state)) is)
       (told_last eq hash mode store r es tale hashed key rests.hash coded single there at) (told_made eq hash mode store r es tale hashed key rests.hash coded single there at)
-      (λ t f making. no_table eq hash mode store r es tale hashed key rests.hash coded single there own (Ask_exchange at old new) e (λ z. absurd cc) making))
+      (λ t slots limit f asks. absurd cc))
 
   -- each ask
-  pub answered : (refuse : Bool) (ask : Ask) → ask_of r.machine ≡ ask → (a : Answer) (store' : StoreState K V S) (later : Running K V) → Performs eq refuse ask store r a store' later → Leaves ask a store' later
+  pub answered : (refuse : Bool) (ask : Ask) → ask_of r.machine ≡ ask → (a : Answer) (store' : StoreState K V S) (later : Running K V A) → Performs eq says refuse ask store r a store' later → Leaves ask a store' later
   answered refuse (Load at) e a store' later (is, stays) =
       quiet eq hash mode store r es tale hashed key rests.hash coded single there own (Load at) e a store' later (told_of (words_now eq hash mode store r es tale) at tale.hands) store.count stays.0 stays.1
       (is ∙ ap Word_read (sym (coded at)), refl, refl) refl
       (told_last eq hash mode store r es tale hashed key rests.hash coded single there at) (told_made eq hash mode store r es tale hashed key rests.hash coded single there at)
-      (λ t f making. no_table eq hash mode store r es tale hashed key rests.hash coded single there own (Load at) e (λ z. absurd cc) making)
+      (λ t slots limit f asks. absurd cc)
   answered refuse (Ask_exchange at old new) e a store' later (h, same_call) = exchanged at old new e a store' later h same_call
   answered refuse (SameKey n) e a store' later (is, stays) =
       quiet eq hash mode store r es tale hashed key rests.hash coded single there own (SameKey n) e a store' later tale.hands store.count stays.0 stays.1
       ((λ p l number. is ∙ ap (λ o. Yes (same eq o (pair_of store n))) own ∙ ap (λ o. Yes (same eq (Some key) o)) (subst (λ m. pair_of store m ≡ Some p) number (last p l))), (refl, refl)) refl
       (λ p h. inl h) refl
-      (λ t f making. no_table eq hash mode store r es tale hashed key rests.hash coded single there own (SameKey n) e (λ z. absurd cc) making)
+      (λ t slots limit f asks. absurd cc)
+  answered refuse (ShowPair n) e a store' later (inl (none, is, stays)) =
+      quiet eq hash mode store r es tale hashed key rests.hash coded single there own (ShowPair n) e a store' later tale.hands store.count stays.0 stays.1
+      (inr is, (refl, refl)) refl (λ p h. inl h) refl
+      (λ t slots limit f asks. absurd cc)
+  answered refuse (ShowPair n) e a store' later (inr (x, p, agrees, y, _, _, _, is, same_store, shown)) =
+      let call : Running K V A = record r { answers = Some y } in
+      subst (λ z. Leaves (ShowPair n) a z later) (sym same_store) (subst (Leaves (ShowPair n) a store) (sym shown)
+      (unexchanged eq hash mode store r es tale hashed key rests.hash coded single there (ShowPair n) e a store call tale.hands (inl (agrees, is), (refl, refl)) refl
+      (λ at j h. h) own (λ m q h. h) (omega arith) (grown-same store.words.tables) (λ at. refl) (λ q h. inl h) (λ q h. inl h)
+      (λ t slots limit f asks. absurd cc)))
   answered refuse (SizeOf n) e a store' later (is, stays) =
       let g = law_setting eq hash mode store r es tale in
       let c = law_coding eq hash mode store r es tale in
@@ -85,7 +97,7 @@ module _ {K V S : Type 0} (eq : K → K → Bool) (hash : K → ℕ) (mode : Res
       quiet eq hash mode store r es tale hashed key rests.hash coded single there own (SizeOf n) e a store' later tale.hands store.count stays.0 stays.1
       ((words.0.limit, sym (ap places_in words.1), is ∙ ap size_of words.1 ∙ ap (λ y. Size y words.0.limit) (sym (ap slots_in words.1))), (refl, refl)) refl
       (λ p h. inl h) refl
-      (λ t f making. no_table eq hash mode store r es tale hashed key rests.hash coded single there own (SizeOf n) e (λ z. absurd cc) making)
+      (λ t slots limit f asks. absurd cc)
   answered refuse MakeKey e a store' later h =
       matched (Leaves MakeKey a store' later) refuse _ _ h
       (λ _ none. none_made eq hash mode store r es tale hashed key rests.hash coded single there own MakeKey e a store' later (inl (inl (Memory, none.0)), (refl, refl)) refl none)
@@ -101,8 +113,8 @@ module _ {K V S : Type 0} (eq : K → K → Bool) (hash : K → ℕ) (mode : Res
   answered refuse (AddToShard by) e a store' later (is, same_store, same_call) =
       quiet eq hash mode store r es tale hashed key rests.hash coded single there own (AddToShard by) e a store' later tale.hands _ same_store same_call
       (is, (refl, refl)) refl (λ p h. inl h) refl
-      (λ t f making. no_table eq hash mode store r es tale hashed key rests.hash coded single there own (AddToShard by) e (λ z. absurd cc) making)
+      (λ t slots limit f asks. absurd cc)
   answered refuse (Ask_done reply) e a store' later (is, stays) =
       quiet eq hash mode store r es tale hashed key rests.hash coded single there own (Ask_done reply) e a store' later tale.hands store.count stays.0 stays.1
       (is, (refl, refl)) refl (λ p h. inl h) refl
-      (λ t f making. no_table eq hash mode store r es tale hashed key rests.hash coded single there own (Ask_done reply) e (λ z. absurd cc) making)
+      (λ t slots limit f asks. absurd cc)

@@ -1,8 +1,10 @@
 -- A step of one caller keeps a core's words to the law of exchanges.
 use Rattle.std.proofs.Common.{◌≡◌, ◌≢◌, ℕ, ◌<◌, Bool, cond, List, ◌++◌, length, Option, Some, None, ◌⊎◌, inl, inr, refl, sym, ◌∙◌, ap, subst, arith, append_assoc, eq-eqb}
 use Rattle.papaya_words.specs.Table.{TableWords}
+use Rattle.papaya_call.specs.Answers.{Says}
 use Rattle.papaya_call.specs.declared.ask.Answer.{Answer}
-use Rattle.papaya_call.specs.declared.machine.State.TheVariants.{Opening}
+use Rattle.papaya_call.specs.declared.ask.Ask.TheVariants.{Exchange as Ask_exchange}
+use Rattle.papaya_call.specs.declared.ask.At.TheVariants.{Root}
 use Rattle.papaya_call.specs.Law.Allows.{AllAllowed}
 use Rattle.papaya_call.specs.Law.Class.{IsOn}
 use Rattle.papaya_call.specs.Law.Code.{Coding}
@@ -10,7 +12,7 @@ use Rattle.papaya_call.specs.Law.Exchange.{Setting, Exchange, run, start}
 use Rattle.papaya_call.specs.Law.Grows.{Agrees}
 use Rattle.papaya_call.specs.Law.Invariant.{named}
 use Rattle.papaya_call.specs.Law.Meaning.{map_left}
-use Rattle.papaya_call.specs.Machine.{ask_of, kind_of_ask, after}
+use Rattle.papaya_call.specs.Machine.{IsRemover, ask_of, kind_of_ask, after}
 use Rattle.papaya_call.specs.Rests.{Rests, change_in}
 use Rattle.papaya_call.specs.Told.{Hands, IsTold, IsHashed}
 use Rattle.papaya_call.proofs.Law.Grows.{all_carries, map_of_carries}
@@ -30,13 +32,14 @@ use Rattle.papaya_core.specs.Tables.{table_of}
 use Rattle.papaya_core.proofs.CallersLemmas.{differs, running-other, running-same}
 use Rattle.papaya_core.proofs.CoreLemmas.{cases_same}
 use Rattle.papaya_core.proofs.KeptAnswer.{IsAnswered}
+use Rattle.papaya_core.proofs.KeptClosures.{answers_performed}
 use Rattle.papaya_core.proofs.KeptLogs.{pair_below}
-use Rattle.papaya_core.proofs.KeptOpening.{opening_after}
 use Rattle.papaya_core.proofs.KeptPerformed.{answered}
 use Rattle.papaya_core.proofs.KeptSettings.{IsLawfulKeys, tables_hashed, grown_agrees}
+use Rattle.papaya_core.proofs.MachineLemmas.{machine_opens, machine_task}
 
-module _ {K V S : Type 0} (eq : K → K → Bool) (hash : K → ℕ) (law : IsLawfulKeys eq hash) (refuse : Bool) (s : CoreState K V S) (caller : ℕ) (s' : CoreState K V S)
-    (before : Running K V) (a : Answer) (later : Running K V) (was : running s.callers caller ≡ Some before) (performs : Performs eq refuse (ask_of before.machine) s.store before a s'.store later)
+module _ {K V S A : Type 0} (eq : K → K → Bool) (hash : K → ℕ) (law : IsLawfulKeys eq hash) (says : Says K V A) (refuse : Bool) (s : CoreState K V S A) (caller : ℕ) (s' : CoreState K V S A)
+    (before : Running K V A) (a : Answer) (later : Running K V A) (was : running s.callers caller ≡ Some before) (performs : Performs eq says refuse (ask_of before.machine) s.store before a s'.store later)
     (mode_is : s'.mode ≡ s.mode) (es : List (Exchange (Stored K V))) (tales : ℕ → Tale K V) (core : IsCore s.store s.callers s.mode) (kept : IsKept eq hash s.mode s.store s.callers es tales) where
   -- the setting before and after the step, and the coding
   abbrev g : Setting K (Stored K V)
@@ -64,7 +67,7 @@ module _ {K V S : Type 0} (eq : K → K → Bool) (hash : K → ℕ) (law : IsLa
 
   -- what its answer leaves
   pub left : IsAnswered eq hash s.mode s.store before es (tales caller) call.key (ask_of before.machine) a s'.store later
-  left = answered eq hash s.mode s.store before es (tales caller) hashed call.key call.split (may (tales caller) call.split) call.rests kept.coded kept.single kept.made call.last call.opens call.own refuse (ask_of before.machine) refl a s'.store later performs
+  left = answered eq says hash s.mode s.store before es (tales caller) hashed call.key call.split (may (tales caller) call.split) call.rests kept.coded kept.single kept.made call.last call.opens call.own refuse (ask_of before.machine) refl a s'.store later performs
 
   -- the exchanges after it
   abbrev pub es' : List (Exchange (Stored K V))
@@ -102,22 +105,22 @@ module _ {K V S : Type 0} (eq : K → K → Bool) (hash : K → ℕ) (law : IsLa
   still_there t w = let grown = left.grown t w.0 w.1 in (grown.0, grown.1)
 
   -- a pair of the log has a number below its length
-  below : (p : Stored K V) → IsLogged eq hash s.mode s.store p → p.number < length s.store.pairs
+  below : (p : Stored K V) → IsLogged s.store p → p.number < length s.store.pairs
   below p logged = pair_below s.store p.number p logged
 
   -- the stepping call's own facts
-  own_last : (p : Stored K V) → (((tales caller).hands.last ≡ Some p) ⊎ ((t : ℕ) × (x : ℕ) × (named ((run es start).slot t x) ≡ Some p))) → IsLogged eq hash s'.mode s'.store p
+  own_last : (p : Stored K V) → (((tales caller).hands.last ≡ Some p) ⊎ ((t : ℕ) × (x : ℕ) × (named ((run es start).slot t x) ≡ Some p))) → IsLogged s'.store p
   own_last p (inl old) = left.logged p.number p (call.last p old)
   own_last p (inr (t, x, names)) = left.logged p.number p (kept.logged t x p names)
 
   -- the pair that it made is logged
-  own_made : (p : Stored K V) → (((tales caller).hands.made ≡ Some p) ⊎ ((p.number ≡ length s.store.pairs) × (before.value ≡ Some p.value) × (pair_of s'.store p.number ≡ Some p))) → IsLogged eq hash s'.mode s'.store p
+  own_made : (p : Stored K V) → (((tales caller).hands.made ≡ Some p) ⊎ ((p.number ≡ length s.store.pairs) × (before.value ≡ Some p.value) × (pair_of s'.store p.number ≡ Some p))) → IsLogged s'.store p
   own_made p (inl old) = left.logged p.number p (call.made p old)
   own_made p (inr (number, value, there)) = there
 
   -- the table that it is about to open is there
-  own_opens : (t : ℕ) → (after before.machine a).state ≡ Opening t → (words : TableWords) × (table_of s'.store.words.tables t ≡ Some words)
-  own_opens t opening = elim (opening_after before.machine a t opening) [ inl old ↦ still_there t (call.opens t old) | inr (making, is) ↦ left.opens t is making ]
+  own_opens : (t : ℕ) → ask_of (after before.machine a) ≡ Ask_exchange Root 0 t → (words : TableWords) × (table_of s'.store.words.tables t ≡ Some words)
+  own_opens t opening = elim (machine_opens before.machine a t opening) [ inl old ↦ still_there t (call.opens t old) | inr (is, slots, limit, making) ↦ left.opens t slots limit is making ]
 
   -- a pair that it made and did not write stands in no slot
   own_unwritten : (p : Stored K V) → left.hands.made ≡ Some p → change_in (after before.machine a).state ≡ None → (t x : ℕ) (q : Stored K V) → named ((run es' start).slot t x) ≡ Some q → q.number ≢ p.number
@@ -134,6 +137,7 @@ module _ {K V S : Type 0} (eq : K → K → Bool) (hash : K → ℕ) (law : IsLa
   own_call hands e = record {
     key = call.key;
     own = left.own;
+    answers = λ removes. answers_performed eq says refuse (ask_of before.machine) s.store before a s'.store later performs (call.answers (subst IsRemover (machine_task before.machine a) removes));
     split = longer_split (tales caller) call.split;
     rests = subst (Rests g' c (tales caller).begun ((tales caller).since ++ left.made) call.key (after before.machine a)) e (grown_rests (tales caller) call.split call.key (after before.machine a) left.hands learnt.1);
     last = λ p l. own_last p (left.last p (ap (λ (y : Hands (Stored K V)). y.last) e ∙ l));
@@ -148,14 +152,14 @@ module _ {K V S : Type 0} (eq : K → K → Bool) (hash : K → ℕ) (law : IsLa
   own_call-key hands e = refl
 
   -- another call's facts
-  other_unwritten : (d : ℕ) (r : Running K V) → running s.callers d ≡ Some r → d ≢ caller → (p : Stored K V) → (tales d).hands.made ≡ Some p → change_in r.machine.state ≡ None → (t x : ℕ) (q : Stored K V) → named ((run es' start).slot t x) ≡ Some q → q.number ≢ p.number
+  other_unwritten : (d : ℕ) (r : Running K V A) → running s.callers d ≡ Some r → d ≢ caller → (p : Stored K V) → (tales d).hands.made ≡ Some p → change_in r.machine.state ≡ None → (t x : ℕ) (q : Stored K V) → named ((run es' start).slot t x) ≡ Some q → q.number ≢ p.number
   other_unwritten d r runs differ p made none t x q names = elim (left.slots t x q names) [
     | inl stood ↦ (kept.calls d r runs).unwritten p made none t x q stood
     | inr mine ↦ kept.apart caller d before r was runs (λ same. differ (sym same)) q p mine made
   ]
 
   -- so it rests on what is told of it after the step
-  other_call : (d : ℕ) (r : Running K V) → running s.callers d ≡ Some r → d ≢ caller → (hands : Hands (Stored K V)) → (tales d).hands ≡ hands → IsCall eq hash s'.mode s'.store r es' (record { begun = (tales d).begun; since = (tales d).since ++ left.made; hands = hands })
+  other_call : (d : ℕ) (r : Running K V A) → running s.callers d ≡ Some r → d ≢ caller → (hands : Hands (Stored K V)) → (tales d).hands ≡ hands → IsCall eq hash s'.mode s'.store r es' (record { begun = (tales d).begun; since = (tales d).since ++ left.made; hands = hands })
   other_call d r runs differ hands e =
       let o = kept.calls d r runs in
       let tale : Tale K V = tales d in
@@ -164,6 +168,7 @@ module _ {K V S : Type 0} (eq : K → K → Bool) (hash : K → ℕ) (law : IsLa
       record {
         key = o.key;
         own = left.keys r.key o.key o.own;
+        answers = o.answers;
         split = longer_split tale o.split;
         rests = subst (Rests g' c tale.begun (tale.since ++ left.made) o.key r.machine) e (grown_rests tale o.split o.key r.machine tale.hands stays);
         last = λ p l. left.logged p.number p (o.last p (ap (λ (y : Hands (Stored K V)). y.last) e ∙ l));
@@ -184,17 +189,17 @@ module _ {K V S : Type 0} (eq : K → K → Bool) (hash : K → ℕ) (law : IsLa
   other_hands : (d : ℕ) → d ≢ caller → (tales d).hands ≡ (tales' d).hands
   other_hands d differ = sym (ap (λ b. cond b left.hands (tales d).hands) (differs d caller differ))
 
-  module _ (goes : Option (Running K V)) (callers : s'.callers ≡ with_call s.callers caller goes) (goes_is : (q : Running K V) → goes ≡ Some q → record later { machine = after before.machine a } ≡ q) where
+  module _ (goes : Option (Running K V A)) (callers : s'.callers ≡ with_call s.callers caller goes) (goes_is : (q : Running K V A) → goes ≡ Some q → record later { machine = after before.machine a } ≡ q) where
     -- the call of another caller is the one of before
-    other_runs : (d : ℕ) (r : Running K V) → d ≢ caller → running s'.callers d ≡ Some r → running s.callers d ≡ Some r
-    other_runs d r differ runs = sym (running-other s.callers caller d goes differ) ∙ sym (ap (λ (y : List (Seat K V)). running y d) callers) ∙ runs
+    other_runs : (d : ℕ) (r : Running K V A) → d ≢ caller → running s'.callers d ≡ Some r → running s.callers d ≡ Some r
+    other_runs d r differ runs = sym (running-other s.callers caller d goes differ) ∙ sym (ap (λ (y : List (Seat K V A)). running y d) callers) ∙ runs
 
     -- the stepping call goes on as its machine says
-    own_runs : (d : ℕ) (r : Running K V) → d ≡ caller → running s'.callers d ≡ Some r → record later { machine = after before.machine a } ≡ r
-    own_runs d r same runs = goes_is r (running-same s.callers caller goes r (sym (ap (λ (y : List (Seat K V)). running y caller) callers) ∙ ap (running s'.callers) (sym same) ∙ runs))
+    own_runs : (d : ℕ) (r : Running K V A) → d ≡ caller → running s'.callers d ≡ Some r → record later { machine = after before.machine a } ≡ r
+    own_runs d r same runs = goes_is r (running-same s.callers caller goes r (sym (ap (λ (y : List (Seat K V A)). running y caller) callers) ∙ ap (running s'.callers) (sym same) ∙ runs))
 
     -- each call rests on what is told of it
-    calls : (d : ℕ) (r : Running K V) → running s'.callers d ≡ Some r → IsCall eq hash s'.mode s'.store r es' (tales' d)
+    calls : (d : ℕ) (r : Running K V A) → running s'.callers d ≡ Some r → IsCall eq hash s'.mode s'.store r es' (tales' d)
     calls d r runs = elim (cases_same d caller) [
       | inl same ↦ subst (λ y. IsCall eq hash s'.mode s'.store r es' (tales' y)) (sym same)
           (subst (λ y. IsCall eq hash s'.mode s'.store y es' (tales' caller)) (own_runs d r same runs) (own_call (tales' caller).hands (own_hands caller refl)))
@@ -202,14 +207,14 @@ module _ {K V S : Type 0} (eq : K → K → Bool) (hash : K → ℕ) (law : IsLa
     ]
 
     -- the stepping call's pair is not another's
-    own_apart : (d : ℕ) (r : Running K V) → running s.callers d ≡ Some r → d ≢ caller → (p p' : Stored K V) → left.hands.made ≡ Some p → (tales d).hands.made ≡ Some p' → p.number ≢ p'.number
+    own_apart : (d : ℕ) (r : Running K V A) → running s.callers d ≡ Some r → d ≢ caller → (p p' : Stored K V) → left.hands.made ≡ Some p → (tales d).hands.made ≡ Some p' → p.number ≢ p'.number
     own_apart d r runs differ p p' mine other = elim (left.new p mine) [
       | inl old ↦ kept.apart caller d before r was runs (λ same. differ (sym same)) p p' old other
       | inr (number, value, there) ↦ (λ same. let lt : p'.number < length s.store.pairs = below p' ((kept.calls d r runs).made p' other) in omega arith)
     ]
 
     -- no two calls have made one pair
-    apart : (d e : ℕ) (r q : Running K V) → running s'.callers d ≡ Some r → running s'.callers e ≡ Some q → d ≢ e → (p p' : Stored K V) → (tales' d).hands.made ≡ Some p → (tales' e).hands.made ≡ Some p' → p.number ≢ p'.number
+    apart : (d e : ℕ) (r q : Running K V A) → running s'.callers d ≡ Some r → running s'.callers e ≡ Some q → d ≢ e → (p p' : Stored K V) → (tales' d).hands.made ≡ Some p → (tales' e).hands.made ≡ Some p' → p.number ≢ p'.number
     apart d e r q runs_d runs_e differ p p' made_d made_e = elim (cases_same d caller) [
       | inl d_steps ↦ elim (cases_same e caller) [
         | inl e_steps ↦ absurd (differ (d_steps ∙ sym e_steps))
@@ -222,7 +227,7 @@ module _ {K V S : Type 0} (eq : K → K → Bool) (hash : K → ℕ) (law : IsLa
     ]
 
     -- a pair that a slot names is logged
-    logged : (t x : ℕ) (p : Stored K V) → named ((run es' start).slot t x) ≡ Some p → IsLogged eq hash s'.mode s'.store p
+    logged : (t x : ℕ) (p : Stored K V) → named ((run es' start).slot t x) ≡ Some p → IsLogged s'.store p
     logged t x p names = elim (left.slots t x p names) [ inl stood ↦ left.logged p.number p (kept.logged t x p stood) | inr mine ↦ left.logged p.number p (call.made p mine) ]
 
     -- the core after the step

@@ -8,11 +8,10 @@ use Rattle.papaya_call.specs.declared.ask.Ask.{Ask}
 use Rattle.papaya_call.specs.declared.ask.Ask.TheVariants.{Exchange as Ask_exchange}
 use Rattle.papaya_call.specs.declared.ask.Answer.{Answer}
 use Rattle.papaya_call.specs.declared.ask.Answer.TheVariants.{Exchanged, Found as Found_instead}
-use Rattle.papaya_call.specs.declared.machine.State.TheVariants.{Making}
 use Rattle.papaya_call.specs.Law.Exchange.{Setting, State, Exchange, run, start}
 use Rattle.papaya_call.specs.Law.Grows.{Comes}
 use Rattle.papaya_call.specs.Law.Invariant.{named}
-use Rattle.papaya_call.specs.Machine.{ask_of, kind_of_ask, asks}
+use Rattle.papaya_call.specs.Machine.{ask_of, kind_of_ask}
 use Rattle.papaya_call.specs.Rests.{Rests, change_in, change_after}
 use Rattle.papaya_call.specs.Told.{IsTold, IsHashed, IsAsked, IsWritten, told_of, word_of}
 use Rattle.papaya_core.specs.declared.pairs.Running.{Running}
@@ -22,9 +21,6 @@ use Rattle.papaya_core.specs.Store.{StoreState, Stored, pair_of}
 use Rattle.papaya_core.specs.Tables.{Tables, table_of, word_at, put}
 use Rattle.papaya_core.proofs.KeptAnswer.{law_setting, law_coding, words_now, IsAnswered, changed}
 use Rattle.papaya_core.proofs.KeptTables.{IsGrown, grown-same, put-grown, word-here, word-other}
-use Rattle.papaya_call.specs.declared.machine.State.{State as Stage}
-use Rattle.papaya_call.specs.declared.machine.State.TheVariants.{AtRoot, Opening, Searching, Writing, Counting, Leaving, Ended}
-use Rattle.papaya_call.specs.declared.write.Made.{Made}
 use Rattle.papaya_call.specs.Law.Allows.{AllAllowed, Allows}
 use Rattle.papaya_call.specs.Law.Class.{IsOn}
 use Rattle.papaya_call.specs.Law.Exchange.{after as state_after}
@@ -35,20 +31,8 @@ use Rattle.papaya_call.proofs.RestsExchange.{machine_may}
 use Rattle.papaya_call.proofs.RestsNames.{ask_named, slot_named}
 use Rattle.std.proofs.Common.{eqb-true}
 use Rattle.papaya_core.proofs.CoreLemmas.{cases_same}
-use Rattle.papaya_core.proofs.KeptExchange.{IsChanged, changes}
-use Rattle.papaya_core.proofs.KeptMade.{no_table}
-use Rattle.papaya_core.proofs.KeptOpening.{root_opens}
-
--- a call that exchanges has changed nothing before
-unchanged_before : (made : Made) (hash : ℕ) (s : Stage) (at : At) (old new : ℕ) → asks made hash s ≡ Ask_exchange at old new → change_in s ≡ None
-unchanged_before made hash AtRoot at old new e = refl
-unchanged_before made hash Making at old new e = refl
-unchanged_before made hash (Opening t) at old new e = refl
-unchanged_before made hash (Searching search) at old new e = refl
-unchanged_before made hash (Writing write) at old new e = refl
-unchanged_before made hash (Counting n) at old new e = absurd cc
-unchanged_before made hash (Leaving t) at old new e = refl
-unchanged_before made hash (Ended reply) at old new e = absurd cc
+use Rattle.papaya_core.proofs.KeptExchange.{IsChanged, changes, root_empty}
+use Rattle.papaya_core.proofs.MachineLemmas.{machine_once}
 
 -- a word that is written is the root's, or that of a slot which is there
 abbrev IsPlaced : List TableWords → At → Type 0
@@ -66,7 +50,7 @@ placed_grown w (Next n) new placed = absurd placed
 placed_grown w (Aborted n) new placed = absurd placed
 placed_grown w (Done n) new placed = absurd placed
 
-module _ {K V S : Type 0} (eq : K → K → Bool) (hash : K → ℕ) (mode : ResizeMode) (store : StoreState K V S) (r : Running K V) (es : List (Exchange (Stored K V))) (tale : Tale K V)
+module _ {K V S A : Type 0} (eq : K → K → Bool) (hash : K → ℕ) (mode : ResizeMode) (store : StoreState K V S) (r : Running K V A) (es : List (Exchange (Stored K V))) (tale : Tale K V)
     (hashed : IsHashed (law_setting eq hash mode store r es tale) (law_coding eq hash mode store r es tale)) (key : K)
     (split : tale.begun ++ tale.since ≡ es) (may : AllAllowed (law_setting eq hash mode store r es tale) start (tale.begun ++ tale.since))
     (rests : Rests (law_setting eq hash mode store r es tale) (law_coding eq hash mode store r es tale) tale.begun tale.since key r.machine tale.hands)
@@ -74,7 +58,7 @@ module _ {K V S : Type 0} (eq : K → K → Bool) (hash : K → ℕ) (mode : Res
     (single : (t : ℕ) → (words_now eq hash mode store r es tale).next t ≡ 0)
     (there : (t : ℕ) → 0 < t → Comes (words_now eq hash mode store r es tale) t → (words : TableWords) × (table_of store.words.tables t ≡ Some words))
     (last : (p : Stored K V) → tale.hands.last ≡ Some p → pair_of store p.number ≡ Some p)
-    (opens : (t : ℕ) → r.machine.state ≡ Opening t → (words : TableWords) × (table_of store.words.tables t ≡ Some words))
+    (opens : (t : ℕ) → ask_of r.machine ≡ Ask_exchange Root 0 t → (words : TableWords) × (table_of store.words.tables t ≡ Some words))
     (own : own_key store r ≡ Some key) where
   -- in short
   abbrev g : Setting K (Stored K V)
@@ -85,7 +69,7 @@ module _ {K V S : Type 0} (eq : K → K → Bool) (hash : K → ℕ) (mode : Res
   now = words_now eq hash mode store r es tale
 
   -- what an answer leaves, where it is this
-  abbrev Leaves : Ask → Answer → StoreState K V S → Running K V → Type 0
+  abbrev Leaves : Ask → Answer → StoreState K V S → Running K V A → Type 0
   Leaves ask a store' later = IsAnswered eq hash mode store r es tale key ask a store' later
 
   -- a table of the chain was made
@@ -140,6 +124,13 @@ module _ {K V S : Type 0} (eq : K → K → Bool) (hash : K → ℕ) (mode : Res
       → (e : Exchange (Stored K V)) × IsAsked (kind_of_ask r.machine) at new (run l start) tale.hands e × Allows g (run l start) e × IsWritten g (law_coding eq hash mode store r es tale) (run l start) at new (state_after (run l start) e))
       split (machine_may g (law_coding eq hash mode store r es tale) hashed tale.begun tale.since may key r.machine tale.hands rests at old new e)
 
+  -- an exchange of the root finds none and opens a table
+  opening : (at : At) (old new : ℕ) (e : Exchange (Stored K V)) → IsAsked (kind_of_ask r.machine) at new now tale.hands e → Allows g now e → word_of g (law_coding eq hash mode store r es tale) now at ≡ old → at ≡ Root → Ask_exchange at old new ≡ Ask_exchange Root 0 new
+  opening at old new e asks allows stands root =
+      let none : now.root ≡ 0 = root_empty g now tale.hands new (kind_of_ask r.machine) e (subst (λ y. IsAsked (kind_of_ask r.machine) y new now tale.hands e) root asks) allows in
+      let zero : old ≡ 0 = sym stands ∙ ap (word_of g (law_coding eq hash mode store r es tale) now) root ∙ none in
+      ap (λ y. Ask_exchange y old new) root ∙ ap (λ y. Ask_exchange Root y new) zero
+
   -- an exchange that was made
   pub exchange_made : (at : At) (old new : ℕ) → ask_of r.machine ≡ Ask_exchange at old new → (a : Answer) → (word_at store.words at == old) ≡ true → a ≡ Exchanged → Leaves (Ask_exchange at old new) a (record store { words = put store.words at new }) r
   exchange_made at old new e a hit is =
@@ -167,14 +158,14 @@ module _ {K V S : Type 0} (eq : K → K → Bool) (hash : K → ℕ) (mode : Res
         single = λ t. ap (λ z. z.next t) to ∙ changed_by.next t ∙ single t;
         there = λ t some comes. elim (changed_by.comes t (subst (λ z. Comes z t) to comes)) [
           | inl before ↦ there t some before
-          | inr (root, same_table) ↦ opens t (root_opens r.machine.made r.machine.hash r.machine.state old t (e ∙ ap (λ y. Ask_exchange y old new) root ∙ ap (Ask_exchange Root old) same_table))
+          | inr (root, same_table) ↦ opens t (e ∙ opening at old new x.0 x.1 x.2 stands root ∙ ap (Ask_exchange Root 0) same_table)
         ];
         slots = λ t y p h. changed_by.slots t y p (ap (λ z. named (z.slot t y)) (sym to) ∙ h);
         unchanged = λ none.
             let same_change : change_of_kind (kind_of_ask r.machine) old new ≡ None =
             sym (changed eq hash mode store r es tale hashed key rests.hash coded single there (Ask_exchange at old new) e a (x.0 ∷ []) tale.hands told ∙ ap (λ y. change_after (kind_of_ask r.machine) (Ask_exchange at old new) y (change_in r.machine.state)) is) ∙ none in
-            (unchanged_before r.machine.made r.machine.hash r.machine.state at old new e, λ t y p h. changed_by.unchanged old new same_change t y p (ap (λ z. named (z.slot t y)) (sym to) ∙ h));
+            (machine_once r.machine at old new e, λ t y p h. changed_by.unchanged old new same_change t y p (ap (λ z. named (z.slot t y)) (sym to) ∙ h));
         last = λ p h. inl h;
         new = λ q h. inl h;
-        opens = λ t f making. absurd (no_table eq hash mode store r es tale hashed key rests.hash coded single there own (Ask_exchange at old new) e (λ z. absurd cc) making);
+        opens = λ t slots limit f asks. absurd cc;
       }

@@ -12,13 +12,13 @@ pub mod GoodLemmas
 pub mod HeadlineLemmas
 pub mod KeptAnswer
 pub mod KeptBegin
+pub mod KeptClosures
 pub mod KeptCore
 pub mod KeptExchange
 pub mod KeptLemmas
 pub mod KeptLogs
 pub mod KeptMade
 pub mod KeptMap
-pub mod KeptOpening
 pub mod KeptPerformed
 pub mod KeptSettings
 pub mod KeptStep
@@ -28,6 +28,9 @@ pub mod LegalLemmas
 pub mod MachineLemmas
 pub mod ReplayLemmas
 pub mod RunLemmas
+pub mod SoloLaw
+pub mod SoloRun
+pub mod SoloTimeline
 pub mod StoreLemmas
 pub mod TiedLemmas
 pub mod TimelineLemmas

@@ -3,10 +3,11 @@ use Rattle.std.proofs.Common.{◌≡◌, ℕ, zero, suc, ◌-◌, ◌==◌, ◌<
 use Rattle.std.proofs.lemmas.List.{length-replicate}
 use Rattle.papaya_core.proofs.CallersLemmas.{differs}
 use Rattle.papaya_words.specs.Table.{TableWords, new_table}
+use Rattle.papaya_call.specs.Answers.{Says}
 use Rattle.papaya_call.specs.declared.ask.At.{At}
 use Rattle.papaya_call.specs.declared.ask.At.TheVariants.{Root, Next, Aborted, Done, Slot}
 use Rattle.papaya_call.specs.declared.ask.Ask.{Ask}
-use Rattle.papaya_call.specs.declared.ask.Ask.TheVariants.{Load, Exchange, SameKey, SizeOf, MakeKey, MakePair, MakeTable, AddToShard, Done as Ask_done}
+use Rattle.papaya_call.specs.declared.ask.Ask.TheVariants.{Load, Exchange, SameKey, ShowPair, SizeOf, MakeKey, MakePair, MakeTable, AddToShard, Done as Ask_done}
 use Rattle.papaya_call.specs.declared.ask.Answer.{Answer}
 use Rattle.papaya_call.specs.Search.{IsSize}
 use Rattle.papaya_call.specs.Machine.{IsFit, IsFitAsk}
@@ -99,7 +100,7 @@ append-sized tables n slots limit size all i t e =
 said : (a b : Answer) → a ≡ b → IsFit b → IsFit a
 said a b e fit = subst IsFit (sym e) fit
 
-module _ {K V S : Type 0} (eq : K → K → Bool) where
+module _ {K V S : Type 0} where
   -- an answer is within the limits of tables and numbers, and the tables keep sizes of tables
   pub record IsKept (a : Answer) (s' : StoreState K V S) : Type 0 where
     pub fit : IsFit a
@@ -112,13 +113,17 @@ module _ {K V S : Type 0} (eq : K → K → Bool) where
   refused most count a s s' (inl e) same all = quiet a s s' (said a _ e tt) same all
   refused most count a s s' (inr (e, full)) same all = quiet a s s' (said a _ e tt) same all
 
-  pub performed : (refuse : Bool) (ask : Ask) (s : StoreState K V S) (r : Running K V) (a : Answer) (s' : StoreState K V S) (r' : Running K V) → AllSized s.words.tables → IsFitAsk ask → Performs eq refuse ask s r a s' r' → IsKept a s'
+module _ {K V S A : Type 0} (eq : K → K → Bool) (says : Says K V A) where
+  -- what an answered ask leaves
+  pub performed : (refuse : Bool) (ask : Ask) (s : StoreState K V S) (r : Running K V A) (a : Answer) (s' : StoreState K V S) (r' : Running K V A) → AllSized s.words.tables → IsFitAsk ask → Performs eq says refuse ask s r a s' r' → IsKept a s'
   performed refuse (Load at) s r a s' r' all fit (e, stays) = quiet a s s' (said a _ e tt) stays.0 all
   performed refuse (Exchange at old new) s r a s' r' all fit (ex, _) =
       matched (IsKept a s') (word_at s.words at == old) _ _ ex
       (λ _ done. record { fit = said a _ done.0 tt; sized = subst (λ (y : StoreState K V S). AllSized y.words.tables) (sym done.1) (put-sized s.words at new all) })
       (λ _ lost. quiet a s s' (said a _ lost.0 tt) lost.1 all)
   performed refuse (SameKey n) s r a s' r' all fit (e, stays) = quiet a s s' (said a _ e tt) stays.0 all
+  performed refuse (ShowPair n) s r a s' r' all fit (inl (none, e, stays)) = quiet a s s' (said a _ e tt) stays.0 all
+  performed refuse (ShowPair n) s r a s' r' all fit (inr (x, p, agrees, y, _, _, _, e, same, _)) = quiet a s s' (said a _ e tt) same all
   performed refuse (SizeOf n) s r a s' r' all fit (e, stays) = quiet a s s' (sized_answer (table_of s.words.tables n) refl) stays.0 all
     where
       sized_answer : (o : Option TableWords) → table_of s.words.tables n ≡ o → IsFit a
@@ -129,7 +134,7 @@ module _ {K V S : Type 0} (eq : K → K → Bool) where
       (λ _ none. quiet a s s' (said a _ none.0 tt) none.1.0 all)
       (λ _ makes. key_made s r a s' r' all makes)
     where
-      key_made : (s : StoreState K V S) (r : Running K V) (a : Answer) (s' : StoreState K V S) (r' : Running K V) → AllSized s.words.tables → (Refuses MAX_LOG_LEN (length s.keys) a × Stays s r s' r') ⊎ (HasKey a r × Stays s r s' r') ⊎ LogsKey a s r s' r' → IsKept a s'
+      key_made : (s : StoreState K V S) (r : Running K V A) (a : Answer) (s' : StoreState K V S) (r' : Running K V A) → AllSized s.words.tables → (Refuses MAX_LOG_LEN (length s.keys) a × Stays s r s' r') ⊎ (HasKey a r × Stays s r s' r') ⊎ LogsKey a s r s' r' → IsKept a s'
       key_made s r a s' r' all (inl (f, stays)) = refused _ _ a s s' f stays.0 all
       key_made s r a s' r' all (inr (inl (has, stays))) = quiet a s s' (said a _ has.0 tt) stays.0 all
       key_made s r a s' r' all (inr (inr (k, own, e, few, same, _))) = record { fit = said a _ e few; sized = subst (λ (y : StoreState K V S). AllSized y.words.tables) (sym same) all }
@@ -138,7 +143,7 @@ module _ {K V S : Type 0} (eq : K → K → Bool) where
       (λ _ none. quiet a s s' (said a _ none.0 tt) none.1.0 all)
       (λ _ makes. pair_made s r a s' r' all makes)
     where
-      pair_made : (s : StoreState K V S) (r : Running K V) (a : Answer) (s' : StoreState K V S) (r' : Running K V) → AllSized s.words.tables → (Refuses MAX_LOG_LEN (length s.pairs) a × Stays s r s' r') ⊎ (HasNoPair a r × Stays s r s' r') ⊎ LogsPair a s r s' r' → IsKept a s'
+      pair_made : (s : StoreState K V S) (r : Running K V A) (a : Answer) (s' : StoreState K V S) (r' : Running K V A) → AllSized s.words.tables → (Refuses MAX_LOG_LEN (length s.pairs) a × Stays s r s' r') ⊎ (HasNoPair a r × Stays s r s' r') ⊎ LogsPair a s r s' r' → IsKept a s'
       pair_made s r a s' r' all (inl (f, stays)) = refused _ _ a s s' f stays.0 all
       pair_made s r a s' r' all (inr (inl (has, stays))) = quiet a s s' (said a _ has.0 tt) stays.0 all
       pair_made s r a s' r' all (inr (inr (n, v, key, value, e, few, same, _))) = record { fit = said a _ e few; sized = subst (λ (y : StoreState K V S). AllSized y.words.tables) (sym same) all }

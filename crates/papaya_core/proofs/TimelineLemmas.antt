@@ -1,12 +1,13 @@
 -- One entry more in a history, and one map more in a timeline.
-use Rattle.std.proofs.Common.{◌≡◌, ◌≢◌, ℕ, ◌<◌, ◌≤◌, ◌==◌, false, cond, List, [], ◌∷◌, slice_get, inl, inr, refl, ◌∙◌, ap, arith, eq-eqb}
+use Rattle.std.proofs.Common.{◌≡◌, ◌≢◌, ℕ, Bool, ◌<◌, ◌≤◌, ◌==◌, false, cond, List, [], ◌∷◌, slice_get, inl, inr, refl, ◌∙◌, ap, arith, eq-eqb}
 use Rattle.std.proofs.lemmas.Bool.{cases_Bool}
 use Rattle.papaya_core.specs.declared.trace.Turn.{Turn}
 use Rattle.papaya_core.specs.declared.trace.Entry.{Entry}
 use Rattle.papaya_core.specs.declared.trace.Event.{Event}
+use Rattle.papaya_core.specs.declared.trace.Event.TheVariants.{Asked}
 use Rattle.papaya_core.specs.Maps.{Map}
 use Rattle.papaya_core.specs.Runs.{History}
-use Rattle.papaya_core.specs.Timeline.{begun_by, open_call, open_after, change_of, change_by, is_begin, begins, AtSomeMoment, IsUnused}
+use Rattle.papaya_core.specs.Timeline.{begun_by, open_call, open_after, change_of, change_by, is_begin, begins, WasAsked, AtSomeMoment, IsUnused}
 use Rattle.papaya_core.proofs.CallersLemmas.{differs}
 use Rattle.papaya_core.proofs.Good.{AllBelow}
 
@@ -14,7 +15,7 @@ use Rattle.papaya_core.proofs.Good.{AllBelow}
 abbrev pub entry : (turn caller : ℕ) → Event → Entry
 entry turn caller event = record { turn = turn; caller = caller; event = event }
 
-module _ {K V : Type 0} (schedule : List (Turn K V)) where
+module _ {K V A : Type 0} (schedule : List (Turn K V A)) where
   -- another caller's entry leaves the call that a caller has open
   pub open_call-other : (c d turn : ℕ) (event : Event) (before : History) → c ≢ d → open_call schedule d (entry turn c event ∷ before) ≡ open_call schedule d before
   open_call-other c d turn event before h = ap (λ b. cond b (open_after event (begun_by (slice_get schedule turn)) (open_call schedule d before)) (open_call schedule d before)) (differs c d h)
@@ -39,6 +40,18 @@ not_begin-own c d turn event h = elim (cases_Bool (c == d)) [
   | inl same ↦ ap (λ b. cond b (begins event) false) same ∙ h
   | inr other ↦ ap (λ b. cond b (begins event) false) other
 ]
+
+-- a showing that was answered so stays, whatever another caller does
+pub asked-other : (c d turn n : ℕ) (agrees : Bool) (event : Event) (before : History) → c ≢ d → WasAsked d n agrees before → WasAsked d n agrees (entry turn c event ∷ before)
+asked-other c d turn n agrees event before differ was = inr (not_begin-other c d turn event differ, was)
+
+-- and whatever its own caller does but begin a call
+pub asked-own : (c d turn n : ℕ) (agrees : Bool) (event : Event) (before : History) → begins event ≡ false → WasAsked d n agrees before → WasAsked d n agrees (entry turn c event ∷ before)
+asked-own c d turn n agrees event before no_begin was = inr (not_begin-own c d turn event no_begin, was)
+
+-- it was just now
+pub asked-now : (c turn n : ℕ) (agrees : Bool) (event : Event) (before : History) → event ≡ Asked n agrees → WasAsked c n agrees (entry turn c event ∷ before)
+asked-now c turn n agrees event before is = inl (refl, is)
 
 module _ {K V : Type 0} where
   -- what held at a moment, and what follows from it

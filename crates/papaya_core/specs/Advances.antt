@@ -1,8 +1,9 @@
 -- One step of one caller.
 use Rattle.std.specs.Prelude.{◌≡◌, ◌⊎◌, ℕ, Bool, Option, Some, None}
+use Rattle.papaya_call.specs.Answers.{Says}
 use Rattle.papaya_words.specs.Word.{pair_of}
 use Rattle.papaya_call.specs.declared.ask.Ask.{Ask}
-use Rattle.papaya_call.specs.declared.ask.Ask.TheVariants.{Load, Exchange, SameKey, SizeOf, MakeKey, MakePair, MakeTable, AddToShard, Done as Ask_done}
+use Rattle.papaya_call.specs.declared.ask.Ask.TheVariants.{Load, Exchange, SameKey, ShowPair, SizeOf, MakeKey, MakePair, MakeTable, AddToShard, Done as Ask_done}
 use Rattle.papaya_call.specs.declared.ask.Answer.{Answer}
 use Rattle.papaya_call.specs.declared.ask.Answer.TheVariants.{Word as Word_read, Exchanged, Found as Found_instead, Yes, Size, Made as Made_number, Ok as Ok_done, Refused as Was_refused}
 use Rattle.papaya_call.specs.declared.ask.StepKind.{StepKind}
@@ -16,7 +17,7 @@ use Rattle.papaya_call.specs.declared.machine.Machine.{Machine}
 use Rattle.papaya_call.specs.Machine.{ask_of, kind_of_ask, after}
 use Rattle.papaya_core.specs.declared.pairs.Running.{Running}
 use Rattle.papaya_core.specs.declared.trace.Event.{Event}
-use Rattle.papaya_core.specs.declared.trace.Event.TheVariants.{Changed, Moved, Other}
+use Rattle.papaya_core.specs.declared.trace.Event.TheVariants.{Changed, Moved, Asked, Other}
 use Rattle.papaya_core.specs.Callers.{with_call}
 use Rattle.papaya_core.specs.Performs.{Performs}
 use Rattle.papaya_core.specs.Core.{CoreState, call_of}
@@ -51,11 +52,23 @@ answered_event kind old new (Made_number n) = Other
 answered_event kind old new Ok_done = Other
 answered_event kind old new (Was_refused refused) = Other
 
+-- the event of a showing: what the closure answered
+abbrev pub shown_event : ℕ → Answer → Event
+shown_event n (Yes agrees) = Asked n agrees
+shown_event n (Word_read word) = Other
+shown_event n Exchanged = Other
+shown_event n (Found_instead word) = Other
+shown_event n (Size slots limit) = Other
+shown_event n (Made_number m) = Other
+shown_event n Ok_done = Other
+shown_event n (Was_refused refused) = Other
+
 -- the event of an ask that was answered so
 abbrev pub event_of : Option StepKind → Ask → Answer → Event
 event_of kind (Exchange at old new) answer = answered_event kind old new answer
 event_of kind (Load at) answer = Other
 event_of kind (SameKey n) answer = Other
+event_of kind (ShowPair n) answer = shown_event n answer
 event_of kind (SizeOf n) answer = Other
 event_of kind MakeKey answer = Other
 event_of kind MakePair answer = Other
@@ -69,6 +82,7 @@ reply_in (Ask_done reply) = Some reply
 reply_in (Load at) = None
 reply_in (Exchange at old new) = None
 reply_in (SameKey n) = None
+reply_in (ShowPair n) = None
 reply_in (SizeOf n) = None
 reply_in MakeKey = None
 reply_in MakePair = None
@@ -85,12 +99,12 @@ abbrev pub IsCause : Machine → Answer → Refused → Type 0
 IsCause m answer refused = (answer ≡ Was_refused refused) ⊎ ((refused ≡ Capacity) × ((t : ℕ) × (ask_of m ≡ Load (Next t))))
 
 -- Just one ask of the caller's machine is answered, a load or an exchange by the word that stands there. A reply is the one in the machine's Done. No other caller's call changes.
-pub record Advances {K V S : Type 0} (eq : K → K → Bool) (refuse : Bool) (s : CoreState K V S) (caller : ℕ) (s' : CoreState K V S) (event : Event) (reply : Option Reply) : Type 0 where
-  pub before : Running K V
+pub record Advances {K V S A : Type 0} (eq : K → K → Bool) (says : Says K V A) (refuse : Bool) (s : CoreState K V S A) (caller : ℕ) (s' : CoreState K V S A) (event : Event) (reply : Option Reply) : Type 0 where
+  pub before : Running K V A
   pub was : call_of s caller ≡ Some before
   pub answer : Answer
-  pub later : Running K V
-  pub performs : Performs eq refuse (ask_of before.machine) s.store before answer s'.store later
+  pub later : Running K V A
+  pub performs : Performs eq says refuse (ask_of before.machine) s.store before answer s'.store later
   pub machine : later.machine ≡ before.machine
   pub event_is : event ≡ event_of (kind_of_ask before.machine) (ask_of before.machine) answer
   pub reply_is : reply ≡ reply_in (ask_of (after before.machine answer))

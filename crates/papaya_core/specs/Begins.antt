@@ -1,40 +1,53 @@
 -- The begin of a call.
-use Rattle.std.specs.Prelude.{◌≡◌, ℕ, ◌<◌, ◌^◌, true, Option, Some, None}
+use Rattle.std.specs.Prelude.{◌≡◌, ℕ, ◌<◌, ◌^◌, true, false, Option, Some, None}
 use Rattle.papaya_words.specs.declared.probe.ResizeMode.{ResizeMode}
 use Rattle.papaya_call.specs.declared.call.Call.{Call}
-use Rattle.papaya_call.specs.declared.call.Call.TheVariants.{Get, Insert}
+use Rattle.papaya_call.specs.declared.call.Call.TheVariants.{Get, Insert, TryInsert, RemoveIf}
 use Rattle.papaya_call.specs.declared.call.Task.{Task}
-use Rattle.papaya_call.specs.declared.call.Task.TheVariants.{Get as Get_task, Insert as Insert_task}
+use Rattle.papaya_call.specs.declared.call.Task.TheVariants.{Get as Get_task, Insert as Insert_task, RemoveIf as RemoveIf_task}
 use Rattle.papaya_call.specs.Machine.{started}
 use Rattle.papaya_core.specs.declared.pairs.KeyOf.TheVariants.{Own}
 use Rattle.papaya_core.specs.declared.pairs.Running.{Running}
 use Rattle.papaya_core.specs.Callers.{with_call, with_seat}
 use Rattle.papaya_core.specs.Core.{CoreState}
 
--- the key that a call was handed, its value, and its task
-abbrev pub key_of_call : {K V : Type 0} → Call K V → K
+-- the key that a call was handed, its value, its closure's answers, and its task
+abbrev pub key_of_call : {K V A : Type 0} → Call K V A → K
 key_of_call (Get k) = k
 key_of_call (Insert k v) = k
+key_of_call (TryInsert k v) = k
+key_of_call (RemoveIf k a) = k
 
-abbrev pub value_of_call : {K V : Type 0} → Call K V → Option V
+abbrev pub value_of_call : {K V A : Type 0} → Call K V A → Option V
 value_of_call (Get k) = None
 value_of_call (Insert k v) = Some v
+value_of_call (TryInsert k v) = Some v
+value_of_call (RemoveIf k a) = None
 
-abbrev pub task_of_call : {K V : Type 0} → Call K V → Task
+abbrev pub answers_of_call : {K V A : Type 0} → Call K V A → Option A
+answers_of_call (Get k) = None
+answers_of_call (Insert k v) = None
+answers_of_call (TryInsert k v) = None
+answers_of_call (RemoveIf k a) = Some a
+
+abbrev pub task_of_call : {K V A : Type 0} → Call K V A → Task
 task_of_call (Get k) = Get_task
 task_of_call (Insert k v) = Insert_task true
+task_of_call (TryInsert k v) = Insert_task false
+task_of_call (RemoveIf k a) = RemoveIf_task
 
 -- a call as it begins
-abbrev pub begun : {K V : Type 0} → (K → ℕ) → ResizeMode → ℕ → Call K V → Running K V
+abbrev pub begun : {K V A : Type 0} → (K → ℕ) → ResizeMode → ℕ → Call K V A → Running K V A
 begun hash mode initial call =
     record {
       machine = started (task_of_call call) (hash (key_of_call call)) mode initial;
       key = Own (key_of_call call);
       value = value_of_call call;
+      answers = answers_of_call call;
     }
 
 -- a begin changes no word, no log and no other caller's call
-pub record Begins {K V S : Type 0} (hash : K → ℕ) (s : CoreState K V S) (caller : ℕ) (call : Call K V) (s' : CoreState K V S) : Type 0 where
+pub record Begins {K V S A : Type 0} (hash : K → ℕ) (s : CoreState K V S A) (caller : ℕ) (call : Call K V A) (s' : CoreState K V S A) : Type 0 where
   pub store : s'.store ≡ s.store
   pub callers : s'.callers ≡ with_call (with_seat s.callers caller) caller (Some (begun hash s.mode s.initial call))
   pub mode : s'.mode ≡ s.mode

@@ -39,5 +39,5 @@ module _ {K V S : Type 0} (store : StoreState K V S) where
   content = pairs_of_table (table_of store.words.tables store.words.root)
 
 -- the map that a core means: its content's pair of each class
-abbrev pub map_of : {K V S : Type 0} → (K → K → Bool) → CoreState K V S → Map K V
+abbrev pub map_of : {K V S A : Type 0} → (K → K → Bool) → CoreState K V S A → Map K V
 map_of eq s = lookup eq (λ p. p.key) (content s.store)

@@ -8,7 +8,7 @@ use Rattle.papaya_core.specs.Timeline.{Timeline}
 use Rattle.papaya_core.specs.Content.{map_of}
 
 -- The maps of a run, one a moment, are a legal timeline with its history, from the core's map at its begin to the core's map at its end.
-pub record HasTimeline {K V S : Type 0} (eq : K → K → Bool) (schedule : List (Turn K V)) (s : CoreState K V S) (h : History) (s' : CoreState K V S) : Type 0 where
+pub record HasTimeline {K V S A : Type 0} (eq : K → K → Bool) (schedule : List (Turn K V A)) (s : CoreState K V S A) (h : History) (s' : CoreState K V S A) : Type 0 where
   pub last : Map K V
   pub maps : List (Map K V)
   pub timeline : Timeline eq schedule (map_of eq s) h (last ∷ maps)

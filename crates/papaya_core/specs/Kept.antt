@@ -4,7 +4,9 @@ use Rattle.papaya_words.specs.Table.{TableWords}
 use Rattle.papaya_words.specs.declared.probe.ResizeMode.{ResizeMode}
 use Rattle.papaya_words.specs.declared.probe.ResizeMode.TheVariants.{Incremental, Blocking}
 use Rattle.papaya_call.specs.declared.ask.At.{At}
-use Rattle.papaya_call.specs.declared.machine.State.TheVariants.{Opening}
+use Rattle.papaya_call.specs.declared.ask.At.TheVariants.{Root}
+use Rattle.papaya_call.specs.declared.ask.Ask.TheVariants.{Exchange as Asks_exchange}
+use Rattle.papaya_call.specs.Machine.{IsRemover, ask_of}
 use Rattle.papaya_call.specs.Law.Allows.{AllAllowed}
 use Rattle.papaya_call.specs.Law.Code.{Coding}
 use Rattle.papaya_call.specs.Law.Exchange.{Setting, Exchange, run, start}
@@ -54,37 +56,40 @@ pub record Tale (K V : Type 0) : Type 0 where
   pub since : List (Exchange (Stored K V))
   pub hands : Hands (Stored K V)
 
-module _ {K V S : Type 0} (eq : K → K → Bool) (hash : K → ℕ) (mode : ResizeMode) (store : StoreState K V S) where
+module _ {K V S : Type 0} (store : StoreState K V S) where
   -- the log has this pair under its number
   abbrev pub IsLogged : Stored K V → Type 0
   IsLogged p = pair_of store p.number ≡ Some p
 
+module _ {K V S A : Type 0} (eq : K → K → Bool) (hash : K → ℕ) (mode : ResizeMode) (store : StoreState K V S) where
   -- a call under way rests on what is told of it, after the exchanges es
-  pub record IsCall (r : Running K V) (es : List (Exchange (Stored K V))) (tale : Tale K V) : Type 0 where
+  pub record IsCall (r : Running K V A) (es : List (Exchange (Stored K V))) (tale : Tale K V) : Type 0 where
     pub key : K
     pub own : own_key store r ≡ Some key
+    -- a removal has its closure's answers
+    pub answers : IsRemover r.machine.task → (a : A) × (r.answers ≡ Some a)
     pub split : tale.begun ++ tale.since ≡ es
     pub rests : Rests (setting_of eq (low hash) mode store.words.tables) (coding_of (low hash)) tale.begun tale.since key r.machine tale.hands
-    pub last : (p : Stored K V) → tale.hands.last ≡ Some p → IsLogged p
-    pub made : (p : Stored K V) → tale.hands.made ≡ Some p → IsLogged p
+    pub last : (p : Stored K V) → tale.hands.last ≡ Some p → IsLogged store p
+    pub made : (p : Stored K V) → tale.hands.made ≡ Some p → IsLogged store p
     -- the table that a call is about to open was made
-    pub opens : (t : ℕ) → r.machine.state ≡ Opening t → (words : TableWords) × (table_of store.words.tables t ≡ Some words)
+    pub opens : (t : ℕ) → ask_of r.machine ≡ Asks_exchange Root 0 t → (words : TableWords) × (table_of store.words.tables t ≡ Some words)
     -- a pair that was made and is not written yet stands in no slot
     pub unwritten : (p : Stored K V) → tale.hands.made ≡ Some p → change_in r.machine.state ≡ None → (t x : ℕ) (q : Stored K V) → named ((run es start).slot t x) ≡ Some q → q.number ≢ p.number
 
   -- The words are those that the exchanges es leave, which were allowed, and each call under way rests on what is told of it.
-  pub record IsKept (callers : List (Seat K V)) (es : List (Exchange (Stored K V))) (tales : ℕ → Tale K V) : Type 0 where
+  pub record IsKept (callers : List (Seat K V A)) (es : List (Exchange (Stored K V))) (tales : ℕ → Tale K V) : Type 0 where
     pub allowed : AllAllowed (setting_of eq (low hash) mode store.words.tables) start es
     pub coded : (at : At) → word_of (setting_of eq (low hash) mode store.words.tables) (coding_of (low hash)) (run es start) at ≡ word_at store.words at
     pub single : (t : ℕ) → (run es start).next t ≡ 0
     pub made : (t : ℕ) → 0 < t → Comes (run es start) t → (words : TableWords) × (table_of store.words.tables t ≡ Some words)
-    pub logged : (t x : ℕ) (p : Stored K V) → named ((run es start).slot t x) ≡ Some p → IsLogged p
-    pub calls : (caller : ℕ) (r : Running K V) → running callers caller ≡ Some r → IsCall r es (tales caller)
+    pub logged : (t x : ℕ) (p : Stored K V) → named ((run es start).slot t x) ≡ Some p → IsLogged store p
+    pub calls : (caller : ℕ) (r : Running K V A) → running callers caller ≡ Some r → IsCall r es (tales caller)
     -- two calls make two pairs
-    pub apart : (c d : ℕ) (r q : Running K V) → running callers c ≡ Some r → running callers d ≡ Some q → c ≢ d → (p p' : Stored K V) → (tales c).hands.made ≡ Some p → (tales d).hands.made ≡ Some p' → p.number ≢ p'.number
+    pub apart : (c d : ℕ) (r q : Running K V A) → running callers c ≡ Some r → running callers d ≡ Some q → c ≢ d → (p p' : Stored K V) → (tales c).hands.made ≡ Some p → (tales d).hands.made ≡ Some p' → p.number ≢ p'.number
 
 -- What always holds of a core: its tables and machines are in order, and there are exchanges by which its words keep to the law.
-pub record IsLawfulCore {K V S : Type 0} (eq : K → K → Bool) (hash : K → ℕ) (store : StoreState K V S) (callers : List (Seat K V)) (mode : ResizeMode) : Type 0 where
+pub record IsLawfulCore {K V S A : Type 0} (eq : K → K → Bool) (hash : K → ℕ) (store : StoreState K V S) (callers : List (Seat K V A)) (mode : ResizeMode) : Type 0 where
   pub core : IsCore store callers mode
   pub law : (es : List (Exchange (Stored K V))) × ((tales : ℕ → Tale K V) × IsKept eq hash mode store callers es tales)
 

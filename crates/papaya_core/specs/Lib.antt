@@ -11,6 +11,7 @@ pub mod Moves
 pub mod New
 pub mod Performs
 pub mod Runs
+pub mod Solo
 pub mod Store
 pub mod Tables
 pub mod Timeline

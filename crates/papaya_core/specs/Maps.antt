@@ -1,9 +1,9 @@
 -- Stored pairs, finite maps, and what each call on one key replies and changes.
 use Rattle.std.specs.Prelude.{◌≡◌, ℕ, Bool, true, false, Option, None, Some}
 use Rattle.papaya_call.specs.declared.call.Call.{Call}
-use Rattle.papaya_call.specs.declared.call.Call.TheVariants.{Get, Insert}
+use Rattle.papaya_call.specs.declared.call.Call.TheVariants.{Get, Insert, TryInsert, RemoveIf}
 use Rattle.papaya_call.specs.declared.call.Reply.{Reply}
-use Rattle.papaya_call.specs.declared.call.Reply.TheVariants.{Absent, Found, Inserted, Replaced}
+use Rattle.papaya_call.specs.declared.call.Reply.TheVariants.{Absent, Found, Inserted, Replaced, Occupied, Removed, Kept}
 use Rattle.papaya_core.specs.Store.{Stored}
 
 -- a map gives to each class of equal keys one stored pair, or none
@@ -11,9 +11,11 @@ abbrev pub Map : (K V : Type 0) → Type 0
 Map K V = K → Option (Stored K V)
 
 -- the key of a call
-abbrev pub key_of : {K V : Type 0} → Call K V → K
+abbrev pub key_of : {K V A : Type 0} → Call K V A → K
 key_of (Get k) = k
 key_of (Insert k v) = k
+key_of (TryInsert k v) = k
+key_of (RemoveIf k a) = k
 
 module _ {K V : Type 0} where
   -- a pair of this number that was made of the key and the value that the call was handed
@@ -22,12 +24,18 @@ module _ {K V : Type 0} where
     pub key : q.key ≡ k
     pub value : q.value ≡ v
 
+module _ {K V A : Type 0} where
   -- What a call on one key does where the class of its key has `here`: what it replies, and which pair the class has next.
-  abbrev pub Does : Call K V → Option (Stored K V) → Reply → Option (Stored K V) → Type 0
+  abbrev pub Does : Call K V A → Option (Stored K V) → Reply → Option (Stored K V) → Type 0
   Does (Get k) None Absent next = next ≡ None
   Does (Get k) (Some p) (Found n) next = (p.number ≡ n) × (next ≡ Some p)
   Does (Insert k v) None (Inserted n) next = (q : Stored K V) × IsMadeOf k v n q × (next ≡ Some q)
   Does (Insert k v) (Some p) (Replaced m n) next = (p.number ≡ m) × ((q : Stored K V) × IsMadeOf k v n q × (next ≡ Some q))
+  Does (TryInsert k v) None (Inserted n) next = (q : Stored K V) × IsMadeOf k v n q × (next ≡ Some q)
+  Does (TryInsert k v) (Some p) (Occupied n) next = (p.number ≡ n) × (next ≡ Some p)
+  Does (RemoveIf k a) None Absent next = next ≡ None
+  Does (RemoveIf k a) (Some p) (Kept n) next = (p.number ≡ n) × (next ≡ Some p)
+  Does (RemoveIf k a) (Some p) (Removed n) next = (p.number ≡ n) × (next ≡ None)
   Does _ _ _ _ = ⊥
 
 -- two maps are one

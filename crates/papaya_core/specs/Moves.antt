@@ -2,11 +2,11 @@
 use Rattle.std.specs.Prelude.{◌≡◌, ℕ, Bool, Option, Some}
 use Rattle.papaya_call.specs.declared.call.Call.{Call}
 use Rattle.papaya_call.specs.declared.call.Reply.{Reply}
-use Rattle.papaya_call.specs.Machine.{IsWriter}
+use Rattle.papaya_call.specs.Machine.{IsChanger}
 use Rattle.papaya_call.specs.Rests.{change_of_reply}
 use Rattle.papaya_core.specs.declared.pairs.Running.{Running}
 use Rattle.papaya_core.specs.declared.trace.Event.{Event}
-use Rattle.papaya_core.specs.declared.trace.Event.TheVariants.{Begun, Changed, Moved, Other, Replied}
+use Rattle.papaya_core.specs.declared.trace.Event.TheVariants.{Begun, Changed, Moved, Asked, Shown, Other, Replied}
 use Rattle.papaya_core.specs.Content.{map_of}
 use Rattle.papaya_core.specs.Core.{CoreState, call_of}
 use Rattle.papaya_core.specs.Maps.{Does, IsUpdate, Same, key_of}
@@ -14,14 +14,14 @@ use Rattle.papaya_core.specs.Performs.{own_key}
 use Rattle.papaya_core.specs.Store.{Stored}
 use Rattle.papaya_core.specs.Timeline.{number_in}
 
-module _ {K V S : Type 0} (eq : K → K → Bool) (s : CoreState K V S) (caller : ℕ) (s' : CoreState K V S) where
+module _ {K V S A : Type 0} (eq : K → K → Bool) (s : CoreState K V S A) (caller : ℕ) (s' : CoreState K V S A) where
   -- The class of the key of the caller's own call has another pair, as such a call does, and no other class changes.
   pub record IsOwnChange (old new : Option ℕ) : Type 0 where
-    pub running_call : Running K V
+    pub running_call : Running K V A
     pub is_running : call_of s caller ≡ Some running_call
-    -- only an insertion changes the map
-    pub writes : IsWriter running_call.machine.task
-    pub call : Call K V
+    -- a lookup changes nothing
+    pub changes : IsChanger running_call.machine.task
+    pub call : Call K V A
     pub own : own_key s.store running_call ≡ Some (key_of call)
     pub went : Option (Stored K V)
     pub came : Option (Stored K V)
@@ -37,5 +37,7 @@ module _ {K V S : Type 0} (eq : K → K → Bool) (s : CoreState K V S) (caller 
   MovesMap (Changed kind old new) = IsOwnChange old new
   MovesMap Begun = Same (map_of eq s) (map_of eq s')
   MovesMap (Moved kind) = Same (map_of eq s) (map_of eq s')
+  MovesMap (Asked n agrees) = Same (map_of eq s) (map_of eq s')
+  MovesMap (Shown n kind) = Same (map_of eq s) (map_of eq s')
   MovesMap Other = Same (map_of eq s) (map_of eq s')
   MovesMap (Replied reply) = Same (map_of eq s) (map_of eq s')

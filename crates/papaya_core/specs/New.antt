@@ -11,6 +11,7 @@ use Rattle.papaya_words.specs.declared.probe.ResizeMode.TheVariants.{Incremental
 use Rattle.papaya_call.specs.Machine.{IsChunked}
 use Rattle.papaya_core.specs.Tables.{Tables}
 use Rattle.papaya_core.specs.Core.{CoreState}
+use Rattle.papaya_core.specs.Store.{StoreState}
 
 -- the first table: it is the root, and as long as was asked for, or of the least length
 abbrev pub IsOpened : ℕ → Tables → Type 0
@@ -21,16 +22,20 @@ abbrev pub HasCapacity : (capacity initial : ℕ) → Tables → Type 0
 HasCapacity zero initial words = words ≡ record { root = 0; tables = [] }
 HasCapacity (suc n) initial words = IsOpened initial words
 
--- no callers, no pairs, a count of 0 in as many shards as were asked for, rounded up, and a table for the capacity
-pub record IsNew {K V S : Type 0} (mode : ResizeMode) (capacity shards : ℕ) (hasher : S) (s : CoreState K V S) : Type 0 where
+-- no pairs, a count of 0 in as many shards as were asked for, rounded up, and a table for the capacity
+pub record IsNewStore {K V S : Type 0} (capacity shards : ℕ) (hasher : S) (entries : ℕ) (s : StoreState K V S) : Type 0 where
+  pub initial : IsEntriesFor capacity entries
+  pub words : HasCapacity capacity entries s.words
+  pub keys : s.keys ≡ []
+  pub pairs : s.pairs ≡ []
+  pub count : IsNextPowerOfTwo shards s.count.shards
+  pub sum : s.count.sum ≡ pos 0
+  pub hasher_is : s.hasher ≡ hasher
+
+-- and no callers
+pub record IsNew {K V S A : Type 0} (mode : ResizeMode) (capacity shards : ℕ) (hasher : S) (s : CoreState K V S A) : Type 0 where
+  pub store_is : IsNewStore capacity shards hasher s.initial s.store
   pub mode_is : s.mode ≡ mode
-  pub initial : IsEntriesFor capacity s.initial
-  pub words : HasCapacity capacity s.initial s.store.words
-  pub keys : s.store.keys ≡ []
-  pub pairs : s.store.pairs ≡ []
-  pub count : IsNextPowerOfTwo shards s.store.count.shards
-  pub sum : s.store.count.sum ≡ pos 0
-  pub hasher_is : s.store.hasher ≡ hasher
   pub callers : s.callers ≡ []
 
 -- a table for so many pairs is within the limits, or past them

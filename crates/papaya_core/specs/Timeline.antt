@@ -2,19 +2,20 @@
 use Rattle.std.specs.Prelude.{◌≡◌, ◌≢◌, ℕ, ◌==◌, Bool, true, false, if◌then◌else◌, List, [], ◌∷◌, Option, Some, None, slice_get, ◌⊎◌}
 use Rattle.papaya_call.specs.Rests.{Change, change_of_reply}
 use Rattle.papaya_call.specs.declared.call.Call.{Call}
+use Rattle.papaya_call.specs.declared.call.Call.TheVariants.{Get, Insert, TryInsert, RemoveIf}
 use Rattle.papaya_call.specs.declared.call.Reply.{Reply}
-use Rattle.papaya_call.specs.declared.call.Reply.TheVariants.{Absent, Found, Inserted, Replaced, Occupied, Refused}
+use Rattle.papaya_call.specs.declared.call.Reply.TheVariants.{Absent, Found, Inserted, Replaced, Occupied, Removed, Kept, Refused}
 use Rattle.papaya_core.specs.declared.trace.Turn.{Turn}
 use Rattle.papaya_core.specs.declared.trace.Turn.TheVariants.{Begin, Step, Finish}
 use Rattle.papaya_core.specs.declared.trace.Entry.{Entry}
 use Rattle.papaya_core.specs.declared.trace.Event.{Event}
-use Rattle.papaya_core.specs.declared.trace.Event.TheVariants.{Begun, Changed, Moved, Other, Replied}
+use Rattle.papaya_core.specs.declared.trace.Event.TheVariants.{Begun, Changed, Moved, Asked, Shown, Other, Replied}
 use Rattle.papaya_core.specs.Runs.{History}
 use Rattle.papaya_core.specs.Store.{Stored}
 use Rattle.papaya_core.specs.Maps.{Map, Does, Same, IsUpdate, key_of}
 
 -- the call that a turn begins
-abbrev pub begun_by : {K V : Type 0} → Option (Turn K V) → Option (Call K V)
+abbrev pub begun_by : {K V A : Type 0} → Option (Turn K V A) → Option (Call K V A)
 begun_by None = None
 begun_by (Some (Begin caller call)) = Some call
 begun_by (Some (Step caller refuse)) = None
@@ -25,11 +26,13 @@ abbrev pub open_after : {A : Type 0} → Event → Option A → Option A → Opt
 open_after Begun begun before = begun
 open_after (Changed kind old new) begun before = before
 open_after (Moved kind) begun before = before
+open_after (Asked n agrees) begun before = before
+open_after (Shown n kind) begun before = before
 open_after Other begun before = before
 open_after (Replied reply) begun before = None
 
 -- the call that a caller has open, of those that the schedule began
-abbrev pub open_call : {K V : Type 0} → List (Turn K V) → ℕ → History → Option (Call K V)
+abbrev pub open_call : {K V A : Type 0} → List (Turn K V A) → ℕ → History → Option (Call K V A)
 open_call schedule caller [] = None
 open_call schedule caller (e ∷ before) =
     if e.caller == caller
@@ -41,6 +44,8 @@ abbrev pub change_by : Event → Change → Change
 change_by Begun before = None
 change_by (Changed kind old new) before = Some (old, new)
 change_by (Moved kind) before = before
+change_by (Asked n agrees) before = before
+change_by (Shown n kind) before = before
 change_by Other before = before
 change_by (Replied reply) before = None
 
@@ -52,6 +57,8 @@ abbrev pub begins : Event → Bool
 begins Begun = true
 begins (Changed kind old new) = false
 begins (Moved kind) = false
+begins (Asked n agrees) = false
+begins (Shown n kind) = false
 begins Other = false
 begins (Replied reply) = false
 
@@ -65,6 +72,20 @@ abbrev pub AtSomeMoment : {K V : Type 0} → (Map K V → Type 0) → ℕ → Hi
 AtSomeMoment P caller [] maps = ⊥
 AtSomeMoment P caller (e ∷ before) [] = ⊥
 AtSomeMoment P caller (e ∷ before) (m ∷ maps) = P m ⊎ ((is_begin caller e ≡ false) × AtSomeMoment P caller before maps)
+
+-- in the caller's call the closure was shown the pair of this number and answered so
+abbrev pub WasAsked : ℕ → ℕ → Bool → History → Type 0
+WasAsked caller n agrees [] = ⊥
+WasAsked caller n agrees (e ∷ before) = ((e.caller ≡ caller) × (e.event ≡ Asked n agrees)) ⊎ ((is_begin caller e ≡ false) × WasAsked caller n agrees before)
+
+-- a removal takes out a pair only after its closure was shown it and agreed
+abbrev pub IsAgreed : {K V A : Type 0} → Option (Call K V A) → ℕ → Option ℕ → History → Type 0
+IsAgreed None caller old before = Unit {0}
+IsAgreed (Some (Get k)) caller old before = Unit {0}
+IsAgreed (Some (Insert k v)) caller old before = Unit {0}
+IsAgreed (Some (TryInsert k v)) caller old before = Unit {0}
+IsAgreed (Some (RemoveIf k a)) caller None before = ⊥
+IsAgreed (Some (RemoveIf k a)) caller (Some n) before = WasAsked caller n true before
 
 -- no map had a pair of this number
 abbrev pub IsUnused : {K V : Type 0} → ℕ → List (Map K V) → Type 0
@@ -81,31 +102,38 @@ abbrev pub IsFresh : {K V : Type 0} → Option (Stored K V) → List (Map K V) �
 IsFresh None maps = Unit {0}
 IsFresh (Some q) maps = IsUnused q.number maps
 
-module _ {K V : Type 0} (eq : K → K → Bool) where
+module _ {K V A : Type 0} (eq : K → K → Bool) where
   -- An open call changes the class of its own key once, as such a call does. Of a call that began before the run nothing is said but that it changes one class.
-  abbrev pub MayChange : Option (Call K V) → Change → K → Option (Stored K V) → Option (Stored K V) → Type 0
+  abbrev pub MayChange : Option (Call K V A) → Change → K → Option (Stored K V) → Option (Stored K V) → Type 0
   MayChange None made k old new = Unit {0}
   MayChange (Some call) made k old new = (key_of call ≡ k) × (made ≡ None) × ((reply : Reply) × Does call old reply new × (change_of_reply reply ≡ Some (number_in old, number_in new)))
 
   -- a reply without a change is the call's for the map at some moment since it began
-  abbrev pub IsAnswer : Call K V → Reply → ℕ → History → List (Map K V) → Type 0
+  abbrev pub IsAnswer : Call K V A → Reply → ℕ → History → List (Map K V) → Type 0
   IsAnswer call reply caller before maps = (change_of caller before ≡ None) × AtSomeMoment (λ m. Does call (m (key_of call)) reply (m (key_of call))) caller before maps
 
   -- a reply fits the call, its changes and the maps since it began
-  abbrev pub Fits : Call K V → Reply → ℕ → History → List (Map K V) → Type 0
+  abbrev pub Fits : Call K V A → Reply → ℕ → History → List (Map K V) → Type 0
   Fits call (Inserted n) caller before maps = change_of caller before ≡ Some (None, Some n)
   Fits call (Replaced m n) caller before maps = change_of caller before ≡ Some (Some m, Some n)
   Fits call Absent caller before maps = IsAnswer call Absent caller before maps
   Fits call (Found n) caller before maps = IsAnswer call (Found n) caller before maps
   Fits call (Occupied n) caller before maps = IsAnswer call (Occupied n) caller before maps
+  Fits call (Removed n) caller before maps = (change_of caller before ≡ Some (Some n, None)) × WasAsked caller n true before
+  Fits call (Kept n) caller before maps = IsAnswer call (Kept n) caller before maps × WasAsked caller n false before
   Fits call (Refused refused) caller before maps = change_of caller before ≡ None
 
-  abbrev pub FitsOpen : Option (Call K V) → Reply → ℕ → History → List (Map K V) → Type 0
+  abbrev pub FitsOpen : Option (Call K V A) → Reply → ℕ → History → List (Map K V) → Type 0
   FitsOpen None reply caller before maps = Unit {0}
   FitsOpen (Some call) reply caller before maps = Fits call reply caller before maps
 
+  -- what a closure is shown is what the class of its call's key had at some moment since the call began
+  abbrev pub FitsShown : Option (Call K V A) → Option ℕ → ℕ → History → List (Map K V) → Type 0
+  FitsShown None shown caller before maps = Unit {0}
+  FitsShown (Some call) shown caller before maps = AtSomeMoment (λ m. number_in (m (key_of call)) ≡ shown) caller before maps
+
   -- A change of one class: the pair that goes and the pair that comes have the numbers told, and the one that comes is new.
-  pub record IsChange (schedule : List (Turn K V)) (caller : ℕ) (before : History) (m : Map K V) (maps : List (Map K V)) (m' : Map K V) (old new : Option ℕ) : Type 0 where
+  pub record IsChange (schedule : List (Turn K V A)) (caller : ℕ) (before : History) (m : Map K V) (maps : List (Map K V)) (m' : Map K V) (old new : Option ℕ) : Type 0 where
     pub key : K
     pub went : Option (Stored K V)
     pub came : Option (Stored K V)
@@ -114,17 +142,20 @@ module _ {K V : Type 0} (eq : K → K → Bool) where
     pub came_is : number_in came ≡ new
     pub fresh : IsFresh came (m ∷ maps)
     pub may : MayChange (open_call schedule caller before) (change_of caller before) key went came
+    pub agreed : IsAgreed (open_call schedule caller before) caller old before
 
   -- an event is legal after this history, with these maps, and leads to the map m'
-  abbrev pub IsLegal : Event → List (Turn K V) → ℕ → History → Map K V → List (Map K V) → Map K V → Type 0
+  abbrev pub IsLegal : Event → List (Turn K V A) → ℕ → History → Map K V → List (Map K V) → Map K V → Type 0
   IsLegal Begun schedule caller before m maps m' = Same m m'
   IsLegal (Changed kind old new) schedule caller before m maps m' = IsChange schedule caller before m maps m' old new
   IsLegal (Moved kind) schedule caller before m maps m' = Same m m'
+  IsLegal (Asked n agrees) schedule caller before m maps m' = Same m m' × FitsShown (open_call schedule caller before) (Some n) caller before (m ∷ maps)
+  IsLegal (Shown n kind) schedule caller before m maps m' = Same m m' × FitsShown (open_call schedule caller before) n caller before (m ∷ maps)
   IsLegal Other schedule caller before m maps m' = Same m m'
   IsLegal (Replied reply) schedule caller before m maps m' = Same m m' × FitsOpen (open_call schedule caller before) reply caller before (m ∷ maps)
 
   -- the maps, one a moment, the newest first, from the one at the start
-  abbrev pub Timeline : List (Turn K V) → Map K V → History → List (Map K V) → Type 0
+  abbrev pub Timeline : List (Turn K V A) → Map K V → History → List (Map K V) → Type 0
   Timeline schedule start [] [] = ⊥
   Timeline schedule start [] (m ∷ []) = Same start m
   Timeline schedule start [] (m ∷ m0 ∷ maps) = ⊥

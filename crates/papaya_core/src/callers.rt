@@ -9,29 +9,29 @@ use std::marker::Model;
 
 /// A caller that has begun a call at some time, and the call that it has under way.
 #[derive(Drop)]
-pub struct Seat<K, V> {
+pub struct Seat<K, V, A> {
     pub caller: usize,
-    pub call: Option<Running<K, V>>,
+    pub call: Option<Running<K, V, A>>,
 }
 
 /// The callers that ever began a call, in the order of their first begins. A large number of a
 /// caller takes no more memory than a small one.
 #[derive(Drop)]
-pub struct Callers<K, V> {
-    seats: Vec<Seat<K, V>>,
+pub struct Callers<K, V, A> {
+    seats: Vec<Seat<K, V, A>>,
 }
 
-impl<K, V> Model for Callers<K, V> {
+impl<K, V, A> Model for Callers<K, V, A> {
     ghost use Rattle.std.specs.Prelude.{List};
     ghost use Rattle.papaya_core.specs.declared.callers.Seat.{Seat};
 
-    ghost Value = { List (Seat K V) };
+    ghost Value = { List (Seat K V A) };
 
     ghost view = { λ c. c.seats.items };
 }
 
 /// The first place among the seats with this caller, or their number.
-fn place_of<K, V>(seats: &[Seat<K, V>], caller: usize) -> usize
+fn place_of<K, V, A>(seats: &[Seat<K, V, A>], caller: usize) -> usize
     ensures { IsSeatAt seats.now caller result }
 {
     for (place, seat) in seats.iter().enumerate() {
@@ -43,7 +43,10 @@ fn place_of<K, V>(seats: &[Seat<K, V>], caller: usize) -> usize
 }
 
 /// Adds a seat.
-fn add_seat<K: Drop, V: Drop>(seats: &mut Vec<Seat<K, V>>, caller: usize) -> Result<(), Refused>
+fn add_seat<K: Drop, V: Drop, A: Drop>(
+    seats: &mut Vec<Seat<K, V, A>>,
+    caller: usize,
+) -> Result<(), Refused>
     ensures ok { OnOk result (seats.new.items ≡ seats.old.items ++ record { caller = caller; call = None } ∷ []) }
     ensures err { IfErr result (λ e. (e ≡ Refused.Memory) × (seats.new.items ≡ seats.old.items)) }
 {
@@ -54,24 +57,28 @@ fn add_seat<K: Drop, V: Drop>(seats: &mut Vec<Seat<K, V>>, caller: usize) -> Res
 }
 
 /// Takes a call out of a seat.
-fn take_call<K, V>(seats: &mut Vec<Seat<K, V>>, place: usize) -> Option<Running<K, V>>
+fn take_call<K, V, A>(seats: &mut Vec<Seat<K, V, A>>, place: usize) -> Option<Running<K, V, A>>
     requires { place < length seats.old.items }
-    ensures seat { (seat : Seat K V) → slice_get seats.old.items place ≡ Some seat → (result ≡ seat.call) × (seats.new.items ≡ slice_set seats.old.items place (record seat { call = None })) }
+    ensures seat { (seat : Seat K V A) → slice_get seats.old.items place ≡ Some seat → (result ≡ seat.call) × (seats.new.items ≡ slice_set seats.old.items place (record seat { call = None })) }
 {
     seats[place].call.take()
 }
 
 /// Puts a call into a seat.
-fn put_call<K: Drop, V: Drop>(seats: &mut Vec<Seat<K, V>>, place: usize, running: Running<K, V>)
+fn put_call<K: Drop, V: Drop, A: Drop>(
+    seats: &mut Vec<Seat<K, V, A>>,
+    place: usize,
+    running: Running<K, V, A>,
+)
     requires { place < length seats.old.items }
-    ensures { (seat : Seat K V) → slice_get seats.old.items place ≡ Some seat → seats.new.items ≡ slice_set seats.old.items place (record seat { call = Some running }) }
+    ensures { (seat : Seat K V A) → slice_get seats.old.items place ≡ Some seat → seats.new.items ≡ slice_set seats.old.items place (record seat { call = Some running }) }
 {
     seats[place].call = Some(running);
 }
 
-impl<K, V> Callers<K, V> {
+impl<K, V, A> Callers<K, V, A> {
     /// No callers.
-    pub fn new(alloc: Global) -> Callers<K, V>
+    pub fn new(alloc: Global) -> Callers<K, V, A>
         ensures { result ≡ [] }
     {
         Callers {
@@ -90,7 +97,7 @@ impl<K, V> Callers<K, V> {
     }
 
     /// Takes the call of a caller that is in one.
-    pub fn take(&mut self, caller: usize) -> Running<K, V>
+    pub fn take(&mut self, caller: usize) -> Running<K, V, A>
         requires { IsSome (running self.old caller) }
         ensures call { running self.old caller ≡ Some result }
         ensures taken { self.new ≡ with_call self.old caller None }
@@ -104,7 +111,7 @@ impl<K, V> Callers<K, V> {
     }
 }
 
-impl<K: Drop, V: Drop> Callers<K, V> {
+impl<K: Drop, V: Drop, A: Drop> Callers<K, V, A> {
     /// Makes a seat for this caller, where it has none.
     pub fn seat(&mut self, caller: usize) -> Result<(), Refused>
         ensures ok { OnOk result ((self.new ≡ with_seat self.old caller) × IsSeated self.new caller) }
@@ -118,7 +125,7 @@ impl<K: Drop, V: Drop> Callers<K, V> {
     }
 
     /// Gives a caller that has a seat this call.
-    pub fn put(&mut self, caller: usize, running: Running<K, V>)
+    pub fn put(&mut self, caller: usize, running: Running<K, V, A>)
         requires { IsSeated self.old caller }
         ensures { self.new ≡ with_call self.old caller (Some running) }
     {

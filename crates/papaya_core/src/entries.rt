@@ -34,6 +34,10 @@ pub(crate) fn event_of(kind: Option<StepKind>, ask: Ask, answer: Answer) -> Even
             },
             _ => Event::Other,
         },
+        Ask::ShowPair(pair) => match answer {
+            Answer::Yes(agrees) => Event::Asked(pair, agrees),
+            _ => Event::Other,
+        },
         _ => Event::Other,
     }
 }

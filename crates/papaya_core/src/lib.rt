@@ -7,6 +7,7 @@ pub mod pairs;
 #[cfg(test)]
 mod plain_tests;
 pub mod schedule;
+pub mod solo;
 pub mod store;
 #[cfg(test)]
 mod tests;

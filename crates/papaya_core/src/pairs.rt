@@ -17,8 +17,10 @@ pub enum KeyOf<K> {
 
 /// A call under way: its machine, and what it was handed and has not logged yet.
 #[derive(Drop)]
-pub struct Running<K, V> {
+pub struct Running<K, V, A> {
     pub machine: Machine,
     pub key: KeyOf<K>,
     pub value: Option<V>,
+    /// The answers that its closure has yet to give.
+    pub answers: Option<A>,
 }

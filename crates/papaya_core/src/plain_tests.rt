@@ -14,6 +14,7 @@ use crate::trace::{Event, Trace, Turn};
 mod hashing;
 
 use hashing::{APART, TOGETHER, Times};
+use papaya_call::answers::Listed;
 use papaya_call::call::{Call, Reply};
 use papaya_words::probe::ResizeMode;
 use std::alloc::Global;
@@ -21,7 +22,7 @@ use std::mem;
 use std::process::Abort;
 use std::test::Fail;
 
-type Numbers = Core<u64, u64, Times>;
+type Numbers = Core<u64, u64, Times, Listed<u64>>;
 
 /// The value of key 0 in a map that has it from the start.
 const FIRST_VALUE: u64 = 10;
@@ -34,19 +35,21 @@ const WHOLE: usize = 100;
 enum Asked {
     Get(u64),
     Insert(u64, u64),
+    TryInsert(u64, u64),
 }
 
 impl Asked {
     fn key(self) -> u64 {
         match self {
-            Asked::Get(key) | Asked::Insert(key, _) => key,
+            Asked::Get(key) | Asked::Insert(key, _) | Asked::TryInsert(key, _) => key,
         }
     }
 
-    fn call(self) -> Call<u64, u64> {
+    fn call(self) -> Call<u64, u64, Listed<u64>> {
         match self {
             Asked::Get(key) => Call::Get(key),
             Asked::Insert(key, value) => Call::Insert(key, value),
+            Asked::TryInsert(key, value) => Call::TryInsert(key, value),
         }
     }
 
@@ -56,7 +59,7 @@ impl Asked {
     {
         match self {
             Asked::Get(_) => 7,
-            Asked::Insert(..) => 10,
+            Asked::Insert(..) | Asked::TryInsert(..) => 10,
         }
     }
 }
@@ -90,12 +93,13 @@ fn call_whole(pairs: &mut Vec<(u64, u64)>, call: Asked) -> Result<Reply, Fail> {
                     old: mem::replace(value, new),
                     new,
                 },
+                Asked::TryInsert(..) => Reply::Occupied(*value),
             });
         }
     }
     Ok(match call {
         Asked::Get(_) => Reply::Absent,
-        Asked::Insert(key, value) => {
+        Asked::Insert(key, value) | Asked::TryInsert(key, value) => {
             pairs.push((key, value))?;
             Reply::Inserted(value)
         }
@@ -141,7 +145,11 @@ fn caller_at(order: u32, turn: u32) -> usize
 }
 
 /// The two calls, their first turns in this order, and then a lookup of each key.
-fn schedule_of(alloc: Global, case: Case, order: u32) -> Result<Vec<Turn<u64, u64>>, Fail> {
+fn schedule_of(
+    alloc: Global,
+    case: Case,
+    order: u32,
+) -> Result<Vec<Turn<u64, u64, Listed<u64>>>, Fail> {
     let mut schedule = Vec::with_capacity(alloc, 32)?;
     let (mut first_begun, mut second_begun) = (false, false);
     for turn in 0..case.first.turns() + case.second.turns() {
@@ -202,6 +210,7 @@ fn reply_by_value(core: &Numbers, trace: &Trace, caller: usize, key: u64) -> Opt
     Some(match reply {
         Reply::Found(number) => Reply::Found(value_of(core, key, number)?),
         Reply::Inserted(number) => Reply::Inserted(value_of(core, key, number)?),
+        Reply::Occupied(number) => Reply::Occupied(value_of(core, key, number)?),
         Reply::Replaced { old, new } => Reply::Replaced {
             old: value_of(core, key, old)?,
             new: value_of(core, key, new)?,
@@ -319,6 +328,19 @@ fn two_insertions_in_every_order(rt: HostRuntime) -> Result<(), Fail> {
         let calls = (Asked::Insert(first, 20), Asked::Insert(second, 30));
         // The first caller has 10 of 20 turns.
         compare_on_each_map(&rt, rt.alloc(), calls, 184_756)?;
+    }
+    Ok(())
+}
+
+#[test]
+fn insertion_that_never_replaces_in_every_order(rt: HostRuntime) -> Result<(), Fail> {
+    for first in [0, 1] {
+        let calls = (Asked::TryInsert(first, 20), Asked::TryInsert(0, 30));
+        compare_on_each_map(&rt, rt.alloc(), calls, 184_756)?;
+        let calls = (Asked::TryInsert(first, 20), Asked::Insert(0, 30));
+        compare_on_each_map(&rt, rt.alloc(), calls, 184_756)?;
+        let calls = (Asked::TryInsert(first, 20), Asked::Get(0));
+        compare_on_each_map(&rt, rt.alloc(), calls, 19_448)?;
     }
     Ok(())
 }

@@ -1,7 +1,5 @@
 //! Any number of callers, and any schedule of their steps.
 ghost use Rattle.std.specs.Prelude.{◌≡◌, ◌<◌, ◌^◌, length, IfOk, IfErr, OnOk, IsSome, Some, None, is_some, MatchOption, reverse, ◌+◌, ◌*◌, ◌≤◌};
-ghost use Rattle.papaya_words.specs.declared.limits.TheConstants.{MAX_TABLE_LEN};
-ghost use Rattle.papaya_words.specs.Probe.{IsEntriesFor};
 ghost use Rattle.papaya_call.specs.Law.Content.{AreApart};
 ghost use Rattle.papaya_call.specs.Machine.{IsChunked, IsStanding};
 ghost use Rattle.papaya_core.specs.Callers.{running};
@@ -13,7 +11,7 @@ ghost use Rattle.papaya_core.specs.Begins.{Begins, begun};
 ghost use Rattle.papaya_core.specs.Advances.{Advances, event_of, reply_in};
 ghost use Rattle.papaya_core.specs.Headline.{HasTimeline};
 ghost use Rattle.papaya_core.specs.Moves.{MovesMap};
-ghost use Rattle.papaya_core.specs.New.{IsTooMuch, IsAllowed, IsRefused, IsNew};
+ghost use Rattle.papaya_core.specs.New.{IsAllowed, IsRefused, IsNew};
 ghost use Rattle.papaya_core.specs.Runs.{TurnsRun, StopsEarly, TurnRuns, IsCutShort, BeginRuns, StepRuns, StepsRun};
 
 use crate::callers::Callers;
@@ -21,35 +19,37 @@ use crate::entries::{event_of, push_entry, push_step, reserve_entries};
 use crate::pairs::{KeyOf, Running};
 use crate::store::Store;
 use crate::trace::{Entry, Event, Trace, Turn};
+use papaya_call::answers::Answers;
 use papaya_call::ask::Ask;
 use papaya_call::call::{Call, Reply, Task};
 use papaya_call::machine::Machine;
-use papaya_words::counter::Counter;
-use papaya_words::limits::MAX_TABLE_LEN;
-use papaya_words::probe::{Refused, ResizeMode, entries_for};
+use papaya_words::probe::{Refused, ResizeMode};
 use std::alloc::Global;
 use std::hash::{BuildHasher, Hash};
 use std::marker::Model;
 
 /// A map on plain words, whose callers' steps come in any order that its user chooses.
 ///
+/// `A` gives the answers of the closures of calls that take one: [`papaya_call::answers::Listed`],
+/// or a type of the user's own.
+///
 /// Contracts see the words, the logs of keys and pairs, and the calls under way.
 #[derive(Drop)]
-pub struct Core<K: Hash + Eq, V, S: BuildHasher> {
+pub struct Core<K: Hash + Eq, V, S: BuildHasher, A> {
     alloc: Global,
     store: Store<K, V, S>,
-    callers: Callers<K, V>,
+    callers: Callers<K, V, A>,
     mode: ResizeMode,
     initial: usize,
 }
 
-impl<K: Hash + Eq, V, S: BuildHasher> Model for Core<K, V, S> {
+impl<K: Hash + Eq, V, S: BuildHasher, A> Model for Core<K, V, S, A> {
     ghost use Rattle.papaya_core.specs.Core.{CoreState};
     ghost use Rattle.papaya_core.specs.Counted.{IsCounted};
     ghost use Rattle.papaya_core.specs.Kept.{IsLawfulCore};
     ghost use Rattle.papaya_core.specs.Store.{hash_of};
 
-    ghost Value = { CoreState K V S };
+    ghost Value = { CoreState K V S A };
 
     ghost view = { λ c. record { store = c.store; callers = c.callers; mode = c.mode; initial = c.initial } };
 
@@ -57,33 +57,28 @@ impl<K: Hash + Eq, V, S: BuildHasher> Model for Core<K, V, S> {
 }
 
 /// A call as it begins.
-fn begin_call<K: Hash + Eq, V: Drop, S: BuildHasher>(
+fn begin_call<K: Hash + Eq, V: Drop, S: BuildHasher, A>(
     store: &Store<K, V, S>,
     mode: ResizeMode,
     initial: usize,
-    call: Call<K, V>,
-) -> Running<K, V>
+    call: Call<K, V, A>,
+) -> Running<K, V, A>
     requires { IsChunked mode }
     ensures begun { result ≡ begun (hash_of K.hash_input S.build_hasher S.Hasher.write S.Hasher.finish store.now.hasher) mode initial call }
     ensures fits { result.machine.hash < 2 ^ 64 }
     ensures standing { IsStanding result.machine }
 {
-    match call {
-        Call::Get(key) => Running {
-            machine: Machine::new(Task::Get, store.hash(&key), mode, initial),
-            key: KeyOf::Own(key),
-            value: None,
-        },
-        Call::Insert(key, value) => Running {
-            machine: Machine::new(
-                Task::Insert { replace: true },
-                store.hash(&key),
-                mode,
-                initial,
-            ),
-            key: KeyOf::Own(key),
-            value: Some(value),
-        },
+    let (task, key, value, answers) = match call {
+        Call::Get(key) => (Task::Get, key, None, None),
+        Call::Insert(key, value) => (Task::Insert { replace: true }, key, Some(value), None),
+        Call::TryInsert(key, value) => (Task::Insert { replace: false }, key, Some(value), None),
+        Call::RemoveIf(key, answers) => (Task::RemoveIf, key, None, Some(answers)),
+    };
+    Running {
+        machine: Machine::new(task, store.hash(&key), mode, initial),
+        key: KeyOf::Own(key),
+        value,
+        answers,
     }
 }
 
@@ -97,33 +92,10 @@ fn reply_in(ask: Ask) -> Option<Reply>
     }
 }
 
-/// Refuses a chunk of no slots.
-fn check_chunk(mode: ResizeMode) -> Result<(), Refused>
-    ensures ok { OnOk result (IsChunked mode) }
-    ensures err { IfErr result (λ e. (e ≡ Refused.ZeroChunk) × (mode ≡ ResizeMode.Incremental 0)) }
-{
-    match mode {
-        ResizeMode::Incremental(0) => Err(Refused::ZeroChunk),
-        _ => Ok(()),
-    }
-}
-
-/// The initial capacity of a map that is made for so many pairs.
-fn initial_len(capacity: usize) -> Result<usize, Refused>
-    ensures ok { IfOk result (λ initial. (capacity * 8 < 2 ^ 64) × IsEntriesFor capacity initial × (initial ≤ MAX_TABLE_LEN)) }
-    ensures err { IfErr result (λ e. (e ≡ Refused.Capacity) × IsTooMuch capacity) }
-{
-    let initial = entries_for(capacity)?;
-    if initial > MAX_TABLE_LEN {
-        return Err(Refused::Capacity);
-    }
-    Ok(initial)
-}
-
 /// Lets a call go.
-fn end_call<K: Drop, V: Drop>(_running: Running<K, V>) {}
+fn end_call<K: Drop, V: Drop, A: Drop>(_running: Running<K, V, A>) {}
 
-impl<K: Hash + Eq, V, S: BuildHasher> Core<K, V, S> {
+impl<K: Hash + Eq, V, S: BuildHasher, A> Core<K, V, S, A> {
     /// Is this caller in a call?
     ///
     /// The contract also says of any core, whatever calls are under way, that its count is the
@@ -144,12 +116,13 @@ impl<K: Hash + Eq, V, S: BuildHasher> Core<K, V, S> {
     }
 }
 
-impl<K: Hash + Eq + Drop, V: Drop, S: BuildHasher + Drop> Core<K, V, S> {
+impl<K: Hash + Eq + Drop, V: Drop, S: BuildHasher + Drop, A> Core<K, V, S, A> {
     /// A core with no pairs and no callers. `capacity` is for how many pairs its first table is
     /// made at once; with 0 the first change makes one.
     ///
     /// `Refused::ZeroChunk` for chunks of no slots. `Refused::Capacity` for more shards than
-    /// [`papaya_words::limits::MAX_SHARDS`], and for a table past [`MAX_TABLE_LEN`].
+    /// [`papaya_words::limits::MAX_SHARDS`], and for a table past
+    /// [`papaya_words::limits::MAX_TABLE_LEN`].
     /// `Refused::Memory` where a growth was refused.
     pub fn new(
         alloc: Global,
@@ -157,16 +130,12 @@ impl<K: Hash + Eq + Drop, V: Drop, S: BuildHasher + Drop> Core<K, V, S> {
         capacity: usize,
         shards: usize,
         hasher: S,
-    ) -> Result<Core<K, V, S>, Refused>
+    ) -> Result<Core<K, V, S, A>, Refused>
         ensures ok { IfOk result (λ core. IsAllowed mode capacity shards × IsNew mode capacity shards hasher core) }
         ensures err { IfErr result (λ e. IsRefused mode capacity shards e) }
         ensures counted { IfOk result (λ core. IsCounted core.store core.callers) }
     {
-        check_chunk(mode)?;
-        let initial = initial_len(capacity)?;
-        let counter = Counter::new(alloc, shards)?;
-        let mut store = Store::new(alloc, counter, hasher);
-        store.open(alloc, capacity, initial)?;
+        let (store, initial) = Store::with_parts(alloc, mode, capacity, shards, hasher)?;
         Ok(Core {
             alloc,
             store,
@@ -177,11 +146,11 @@ impl<K: Hash + Eq + Drop, V: Drop, S: BuildHasher + Drop> Core<K, V, S> {
     }
 }
 
-impl<K: Hash + Eq + Drop, V: Drop, S: BuildHasher> Core<K, V, S> {
+impl<K: Hash + Eq + Drop, V: Drop, S: BuildHasher, A: Answers<K, V> + Drop> Core<K, V, S, A> {
     /// Begins a call of a caller that is in none.
     ///
     /// `Refused::Memory` where a growth was refused: the call and what it was handed are dropped.
-    pub fn begin(&mut self, caller: usize, call: Call<K, V>) -> Result<(), Refused>
+    pub fn begin(&mut self, caller: usize, call: Call<K, V, A>) -> Result<(), Refused>
         requires { call_of self.old caller ≡ None }
         ensures ok { OnOk result (Begins (hash_of K.hash_input S.build_hasher S.Hasher.write S.Hasher.finish self.old.store.hasher) self.old caller call self.new) }
         ensures err { IfErr result (λ e. (e ≡ Refused.Memory) × (self.new ≡ self.old)) }
@@ -196,7 +165,7 @@ impl<K: Hash + Eq + Drop, V: Drop, S: BuildHasher> Core<K, V, S> {
     /// One step of a caller: what happened, and the reply where there is one.
     fn advance(&mut self, caller: usize, refuse: bool) -> (Event, Option<Reply>)
         requires { IsSome (call_of self.old caller) }
-        ensures advances { Advances K.eq refuse self.old caller self.new result.0 result.1 }
+        ensures advances { Advances K.eq (record { op = A.op_gives; yes = A.yes_gives }) refuse self.old caller self.new result.0 result.1 }
         ensures moves { MovesMap K.eq self.old caller self.new result.0 }
         ensures counted { IsCounted self.new.store self.new.callers }
     {
@@ -222,7 +191,7 @@ impl<K: Hash + Eq + Drop, V: Drop, S: BuildHasher> Core<K, V, S> {
     /// `Refused::Memory`, and any other step is an ordinary one.
     pub fn step(&mut self, caller: usize, refuse_memory: bool) -> Option<Reply>
         requires { IsSome (call_of self.old caller) }
-        ensures advances { (event : _) × Advances K.eq refuse_memory self.old caller self.new event result × MovesMap K.eq self.old caller self.new event }
+        ensures advances { (event : _) × Advances K.eq (record { op = A.op_gives; yes = A.yes_gives }) refuse_memory self.old caller self.new event result × MovesMap K.eq self.old caller self.new event }
         ensures counted { IsCounted self.new.store self.new.callers }
     {
         let (_, reply) = self.advance(caller, refuse_memory);
@@ -234,10 +203,10 @@ impl<K: Hash + Eq + Drop, V: Drop, S: BuildHasher> Core<K, V, S> {
     ///
     /// `Refused::Memory` where a growth was refused to a `Begin` or to the trace: the turns
     /// before were made, and of a `Finish` perhaps some steps.
-    pub fn run(&mut self, schedule: Vec<Turn<K, V>>) -> Result<Trace, Refused>
-        ensures ok { IfOk result (λ trace. TurnsRun K.eq (hash_of K.hash_input S.build_hasher S.Hasher.write S.Hasher.finish) schedule.items (length schedule.items) self.old self.new (reverse trace.entries.items)) }
+    pub fn run(&mut self, schedule: Vec<Turn<K, V, A>>) -> Result<Trace, Refused>
+        ensures ok { IfOk result (λ trace. TurnsRun K.eq (record { op = A.op_gives; yes = A.yes_gives }) (hash_of K.hash_input S.build_hasher S.Hasher.write S.Hasher.finish) schedule.items (length schedule.items) self.old self.new (reverse trace.entries.items)) }
         ensures timeline { IfOk result (λ trace. HasTimeline K.eq schedule.items self.old (reverse trace.entries.items) self.new) }
-        ensures err { IfErr result (λ e. (e ≡ Refused.Memory) × StopsEarly K.eq (hash_of K.hash_input S.build_hasher S.Hasher.write S.Hasher.finish) schedule.items self.old self.new) }
+        ensures err { IfErr result (λ e. (e ≡ Refused.Memory) × StopsEarly K.eq (record { op = A.op_gives; yes = A.yes_gives }) (hash_of K.hash_input S.build_hasher S.Hasher.write S.Hasher.finish) schedule.items self.old self.new) }
         ensures counted { IsCounted self.new.store self.new.callers }
     {
         let mut entries = Vec::new(self.alloc);
@@ -252,10 +221,10 @@ impl<K: Hash + Eq + Drop, V: Drop, S: BuildHasher> Core<K, V, S> {
         &mut self,
         entries: &mut Vec<Entry>,
         turn: usize,
-        what: Turn<K, V>,
+        what: Turn<K, V, A>,
     ) -> Result<(), Refused>
-        ensures ok { OnOk result (TurnRuns K.eq (hash_of K.hash_input S.build_hasher S.Hasher.write S.Hasher.finish) turn what self.old (reverse entries.old.items) self.new (reverse entries.new.items)) }
-        ensures err { IfErr result (λ e. (e ≡ Refused.Memory) × IsCutShort K.eq (hash_of K.hash_input S.build_hasher S.Hasher.write S.Hasher.finish) turn what self.old (reverse entries.old.items) self.new) }
+        ensures ok { OnOk result (TurnRuns K.eq (record { op = A.op_gives; yes = A.yes_gives }) (hash_of K.hash_input S.build_hasher S.Hasher.write S.Hasher.finish) turn what self.old (reverse entries.old.items) self.new (reverse entries.new.items)) }
+        ensures err { IfErr result (λ e. (e ≡ Refused.Memory) × IsCutShort K.eq (record { op = A.op_gives; yes = A.yes_gives }) (hash_of K.hash_input S.build_hasher S.Hasher.write S.Hasher.finish) turn what self.old (reverse entries.old.items) self.new) }
         ensures counted { IsCounted self.old.store self.old.callers → IsCounted self.new.store self.new.callers }
     {
         match what {
@@ -280,10 +249,10 @@ impl<K: Hash + Eq + Drop, V: Drop, S: BuildHasher> Core<K, V, S> {
         entries: &mut Vec<Entry>,
         turn: usize,
         caller: usize,
-        call: Call<K, V>,
+        call: Call<K, V, A>,
     ) -> Result<(), Refused>
         requires { call_of self.old caller ≡ None }
-        ensures ok { OnOk result (BeginRuns K.eq (hash_of K.hash_input S.build_hasher S.Hasher.write S.Hasher.finish) turn caller call self.old (reverse entries.old.items) self.new (reverse entries.new.items)) }
+        ensures ok { OnOk result (BeginRuns K.eq (record { op = A.op_gives; yes = A.yes_gives }) (hash_of K.hash_input S.build_hasher S.Hasher.write S.Hasher.finish) turn caller call self.old (reverse entries.old.items) self.new (reverse entries.new.items)) }
         ensures err { IfErr result (λ e. (e ≡ Refused.Memory) × (self.new ≡ self.old)) }
         ensures counted { IsCounted self.old.store self.old.callers → IsCounted self.new.store self.new.callers }
     {
@@ -310,7 +279,7 @@ impl<K: Hash + Eq + Drop, V: Drop, S: BuildHasher> Core<K, V, S> {
         refuse_memory: bool,
     ) -> Result<(), Refused>
         requires { IsSome (call_of self.old caller) }
-        ensures ok { OnOk result (StepRuns K.eq (hash_of K.hash_input S.build_hasher S.Hasher.write S.Hasher.finish) turn caller refuse_memory self.old (reverse entries.old.items) self.new (reverse entries.new.items)) }
+        ensures ok { OnOk result (StepRuns K.eq (record { op = A.op_gives; yes = A.yes_gives }) (hash_of K.hash_input S.build_hasher S.Hasher.write S.Hasher.finish) turn caller refuse_memory self.old (reverse entries.old.items) self.new (reverse entries.new.items)) }
         ensures err { IfErr result (λ e. (e ≡ Refused.Memory) × (self.new ≡ self.old)) }
         ensures counted { IsCounted self.old.store self.old.callers → IsCounted self.new.store self.new.callers }
     {
@@ -329,8 +298,8 @@ impl<K: Hash + Eq + Drop, V: Drop, S: BuildHasher> Core<K, V, S> {
         caller: usize,
         steps: usize,
     ) -> Result<(), Refused>
-        ensures ok { OnOk result (StepsRun K.eq (hash_of K.hash_input S.build_hasher S.Hasher.write S.Hasher.finish) turn caller steps self.old (reverse entries.old.items) self.new (reverse entries.new.items)) }
-        ensures err { IfErr result (λ e. (e ≡ Refused.Memory) × ((made : _) × (made < steps) × (after : _) × StepsRun K.eq (hash_of K.hash_input S.build_hasher S.Hasher.write S.Hasher.finish) turn caller made self.old (reverse entries.old.items) self.new after)) }
+        ensures ok { OnOk result (StepsRun K.eq (record { op = A.op_gives; yes = A.yes_gives }) (hash_of K.hash_input S.build_hasher S.Hasher.write S.Hasher.finish) turn caller steps self.old (reverse entries.old.items) self.new (reverse entries.new.items)) }
+        ensures err { IfErr result (λ e. (e ≡ Refused.Memory) × ((made : _) × (made < steps) × (after : _) × StepsRun K.eq (record { op = A.op_gives; yes = A.yes_gives }) (hash_of K.hash_input S.build_hasher S.Hasher.write S.Hasher.finish) turn caller made self.old (reverse entries.old.items) self.new after)) }
         ensures counted { IsCounted self.old.store self.old.callers → IsCounted self.new.store self.new.callers }
     {
         for _made in 0..steps {

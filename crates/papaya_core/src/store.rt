@@ -1,16 +1,21 @@
 //! What the machines of all callers ask about: the words of the tables, the logs of keys and pairs, and the count.
-ghost use Rattle.std.specs.Prelude.{◌≡◌, ◌+◌, ◌-◌, ◌<◌, ◌^◌, ◌⊎◌, [], ◌∷◌, ◌++◌, ◌+ℤ◌, length, vec_len, vec_capacity, Some, None, MatchOption, OnOk, IfErr, slice_get};
+ghost use Rattle.std.specs.Prelude.{◌≡◌, ◌+◌, ◌-◌, ◌<◌, ◌^◌, ◌⊎◌, [], ◌∷◌, ◌++◌, ◌+ℤ◌, length, vec_len, vec_capacity, Some, None, FitsSigned, MatchOption, OnOk, IfOk, IfErr, ◌*◌, ◌≤◌, slice_get};
 ghost use Rattle.std.specs.Int.{w64, int_wrap};
-ghost use Rattle.papaya_core.specs.New.{HasCapacity};
+ghost use Rattle.papaya_words.specs.Counter.{count_of};
+ghost use Rattle.papaya_words.specs.declared.limits.TheConstants.{MAX_TABLE_LEN};
+ghost use Rattle.papaya_words.specs.Probe.{IsEntriesFor};
+ghost use Rattle.papaya_call.specs.Machine.{IsChunked};
+ghost use Rattle.papaya_core.specs.New.{HasCapacity, IsAllowed, IsNewStore, IsRefused, IsTooMuch};
 ghost use Rattle.papaya_core.specs.Tables.{table_of, word_at, put, put_in, written};
 ghost use Rattle.papaya_core.specs.Store.{pair_of, hash_of};
-ghost use Rattle.papaya_core.specs.Performs.{Performs, IsMake, Stays, Refuses, LogsKey, LogsPair, MakesTable, HasKey, HasNoPair, key_at, same};
+ghost use Rattle.papaya_core.specs.Performs.{Exchanges, size_of, Performs, IsMake, Shows, Stays, Refuses, LogsKey, LogsPair, MakesTable, HasKey, HasNoPair, key_at, same};
 
 use crate::pairs::{KeyOf, Pair, Running};
+use papaya_call::answers::Answers;
 use papaya_call::ask::{Answer, Ask, At};
 use papaya_words::counter::Counter;
-use papaya_words::limits::{MAX_LOG_LEN, MAX_TABLES};
-use papaya_words::probe::{Refused, limit};
+use papaya_words::limits::{MAX_LOG_LEN, MAX_TABLE_LEN, MAX_TABLES};
+use papaya_words::probe::{Refused, ResizeMode, entries_for, limit};
 use papaya_words::table::{Table, table_len};
 use std::alloc::Global;
 use std::hash::{BuildHasher, Hash, Hasher};
@@ -18,6 +23,7 @@ use std::marker::Model;
 use std::mem;
 
 /// Writes a word of the table at place `k`, where there is such a one.
+#[inline(always)]
 fn put_in(tables: &mut Vec<Table>, k: usize, at: At, word: u64)
     ensures { tables.new.items ≡ put_in at (slice_get tables.old.items k) tables.old.items k word }
 {
@@ -27,6 +33,7 @@ fn put_in(tables: &mut Vec<Table>, k: usize, at: At, word: u64)
 }
 
 /// Writes a word of a table.
+#[inline(always)]
 fn write_in(table: &mut Table, at: At, word: u64)
     ensures { table.new ≡ written at table.old word }
 {
@@ -44,11 +51,35 @@ fn write_in(table: &mut Table, at: At, word: u64)
 }
 
 /// Adds an item, for which there is room.
+#[inline(always)]
 fn push_within<T: Drop>(items: &mut Vec<T>, item: T)
     requires { vec_len items.old < vec_capacity items.old }
     ensures { items.new.items ≡ items.old.items ++ item ∷ [] }
 {
     let _ = items.push(item);
+}
+
+/// Refuses a chunk of no slots.
+fn check_chunk(mode: ResizeMode) -> Result<(), Refused>
+    ensures ok { OnOk result (IsChunked mode) }
+    ensures err { IfErr result (λ e. (e ≡ Refused.ZeroChunk) × (mode ≡ ResizeMode.Incremental 0)) }
+{
+    match mode {
+        ResizeMode::Incremental(0) => Err(Refused::ZeroChunk),
+        _ => Ok(()),
+    }
+}
+
+/// The initial capacity of a map that is made for so many pairs.
+fn initial_len(capacity: usize) -> Result<usize, Refused>
+    ensures ok { IfOk result (λ initial. (capacity * 8 < 2 ^ 64) × IsEntriesFor capacity initial × (initial ≤ MAX_TABLE_LEN)) }
+    ensures err { IfErr result (λ e. (e ≡ Refused.Capacity) × IsTooMuch capacity) }
+{
+    let initial = entries_for(capacity)?;
+    if initial > MAX_TABLE_LEN {
+        return Err(Refused::Capacity);
+    }
+    Ok(initial)
 }
 
 /// The words, the logs and the count.
@@ -72,7 +103,7 @@ impl<K: Hash + Eq, V, S: BuildHasher> Model for Store<K, V, S> {
 
 impl<K: Hash + Eq, V, S: BuildHasher> Store<K, V, S> {
     /// No words and no pairs.
-    pub fn new(alloc: Global, counter: Counter, hasher: S) -> Store<K, V, S>
+    fn new(alloc: Global, counter: Counter, hasher: S) -> Store<K, V, S>
         ensures { result ≡ record { words = record { root = 0; tables = [] }; keys = []; pairs = []; count = counter; hasher = hasher } }
     {
         Store {
@@ -85,9 +116,10 @@ impl<K: Hash + Eq, V, S: BuildHasher> Store<K, V, S> {
         }
     }
 
-    /// The hash of a key.
-    pub fn hash(&self, key: &K) -> u64
-        ensures value { result ≡ hash_of K.hash_input S.build_hasher S.Hasher.write S.Hasher.finish self.now.hasher key.now }
+    /// The hash of a key, or of what a key is looked up by.
+    #[inline(always)]
+    pub fn hash<Q: Hash>(&self, key: &Q) -> u64
+        ensures value { result ≡ hash_of Q.hash_input S.build_hasher S.Hasher.write S.Hasher.finish self.now.hasher key.now }
         ensures fits { result < 2 ^ 64 }
     {
         let mut state = self.hasher.build_hasher();
@@ -96,6 +128,7 @@ impl<K: Hash + Eq, V, S: BuildHasher> Store<K, V, S> {
     }
 
     /// A pair by its number.
+    #[inline(always)]
     pub fn pair(&self, n: u64) -> Option<(&K, &V)>
         ensures { MatchOption result (pair_of self.now n ≡ None) (λ p. pair_of self.now n ≡ Some (record { number = n; key = p.0.now; value = p.1.now })) }
     {
@@ -105,6 +138,7 @@ impl<K: Hash + Eq, V, S: BuildHasher> Store<K, V, S> {
     }
 
     /// A table by its number.
+    #[inline(always)]
     fn table(&self, n: u64) -> Option<&Table>
         ensures { MatchOption result (table_of self.now.words.tables n ≡ None) (λ t. table_of self.now.words.tables n ≡ Some t.now) }
     {
@@ -115,8 +149,38 @@ impl<K: Hash + Eq, V, S: BuildHasher> Store<K, V, S> {
         }
     }
 
+    /// The size of a table, or nothing where there is none.
+    #[inline(always)]
+    pub fn size_of(&self, n: u64) -> Answer
+        ensures { result ≡ size_of (table_of self.now.words.tables n) }
+    {
+        match self.table(n) {
+            Some(table) => Answer::Size {
+                len: table.len(),
+                limit: table.limit(),
+            },
+            None => Answer::Ok,
+        }
+    }
+
+    /// How many pairs were counted.
+    pub fn count(&self) -> usize
+        ensures value { result ≡ count_of self.now.count.sum }
+        ensures fits { FitsSigned w64 self.now.count.sum }
+    {
+        self.counter.sum()
+    }
+
+    /// The root table.
+    pub fn root(&self) -> Option<&Table>
+        ensures { MatchOption result (table_of self.now.words.tables self.now.words.root ≡ None) (λ t. table_of self.now.words.tables self.now.words.root ≡ Some t.now) }
+    {
+        self.table(self.root)
+    }
+
     /// The word that stands at a place, 0 where there is no such place.
-    fn word(&self, at: At) -> u64
+    #[inline(always)]
+    pub fn word(&self, at: At) -> u64
         ensures { result ≡ word_at self.now.words at }
     {
         match at {
@@ -132,6 +196,7 @@ impl<K: Hash + Eq, V, S: BuildHasher> Store<K, V, S> {
     }
 
     /// Writes the word at a place, where there is such a place.
+    #[inline(always)]
     fn put(&mut self, at: At, word: u64)
         ensures { self.new ≡ record self.old { words = put self.old.words at word } }
     {
@@ -147,7 +212,22 @@ impl<K: Hash + Eq, V, S: BuildHasher> Store<K, V, S> {
         }
     }
 
+    /// An exchange, which is made if the word that stands there is the old one.
+    #[inline(always)]
+    pub fn exchange(&mut self, at: At, old: u64, new: u64) -> Answer
+        ensures { Exchanges (word_at self.old.words at) old (put self.old.words at new) result self.old self.new }
+    {
+        let found = self.word(at);
+        if found == old {
+            self.put(at, new);
+            Answer::Exchanged
+        } else {
+            Answer::Found(found)
+        }
+    }
+
     /// Has pair `n` a key that equals the call's?
+    #[inline(always)]
     fn same_key(&self, n: u64, key: &KeyOf<K>) -> bool
         ensures { result ≡ same K.eq (key_at self.now.keys key.now) (pair_of self.now n) }
     {
@@ -165,7 +245,8 @@ impl<K: Hash + Eq, V, S: BuildHasher> Store<K, V, S> {
     }
 
     /// Adds to the shard of this caller.
-    fn add_to_shard(&mut self, caller: usize, by: i64)
+    #[inline(always)]
+    pub fn add_to_shard(&mut self, caller: usize, by: i64)
         ensures { self.new ≡ record self.old { count = record self.old.count { sum = int_wrap w64 (self.old.count.sum +ℤ by) } } }
     {
         let place = self.counter.get(caller as u64);
@@ -173,9 +254,32 @@ impl<K: Hash + Eq, V, S: BuildHasher> Store<K, V, S> {
     }
 }
 
-impl<K: Hash + Eq + Drop, V: Drop, S: BuildHasher> Store<K, V, S> {
+impl<K: Hash + Eq + Drop, V: Drop, S: BuildHasher + Drop> Store<K, V, S> {
+    /// No pairs, and a table for the capacity, with the initial capacity that it makes.
+    ///
+    /// `Refused::ZeroChunk` for chunks of no slots. `Refused::Capacity` for more shards than
+    /// [`papaya_words::limits::MAX_SHARDS`], and for a table past [`MAX_TABLE_LEN`].
+    /// `Refused::Memory` where a growth was refused.
+    pub fn with_parts(
+        alloc: Global,
+        mode: ResizeMode,
+        capacity: usize,
+        shards: usize,
+        hasher: S,
+    ) -> Result<(Store<K, V, S>, usize), Refused>
+        ensures ok { IfOk result (λ made. IsAllowed mode capacity shards × IsNewStore capacity shards hasher made.1 made.0 × (made.1 ≤ MAX_TABLE_LEN)) }
+        ensures err { IfErr result (λ e. IsRefused mode capacity shards e) }
+    {
+        check_chunk(mode)?;
+        let initial = initial_len(capacity)?;
+        let counter = Counter::new(alloc, shards)?;
+        let mut store = Store::new(alloc, counter, hasher);
+        store.open(alloc, capacity, initial)?;
+        Ok((store, initial))
+    }
+
     /// Makes the first table where there is a capacity, for this length, and opens it.
-    pub fn open(&mut self, alloc: Global, capacity: usize, initial: usize) -> Result<(), Refused>
+    fn open(&mut self, alloc: Global, capacity: usize, initial: usize) -> Result<(), Refused>
         requires { self.old.words ≡ record { root = 0; tables = [] } }
         ensures ok { OnOk result (HasCapacity capacity initial self.new.words × (self.new ≡ record self.old { words = self.new.words })) }
         ensures err { IfErr result (λ e. e ≡ Refused.Memory) }
@@ -191,9 +295,12 @@ impl<K: Hash + Eq + Drop, V: Drop, S: BuildHasher> Store<K, V, S> {
         self.root = 1;
         Ok(())
     }
+}
 
+impl<K: Hash + Eq + Drop, V: Drop, S: BuildHasher> Store<K, V, S> {
     /// Logs the key of a call, once.
-    fn make_key(&mut self, running: &mut Running<K, V>) -> Answer
+    #[inline(always)]
+    fn make_key<A>(&mut self, running: &mut Running<K, V, A>) -> Answer
         ensures machine { running.new.machine ≡ running.old.machine }
         ensures makes { (Refuses MAX_LOG_LEN (length self.old.keys) result × Stays self.old running.old self.new running.new) ⊎ (HasKey result running.old × Stays self.old running.old self.new running.new) ⊎ LogsKey result self.old running.old self.new running.new }
     {
@@ -214,7 +321,8 @@ impl<K: Hash + Eq + Drop, V: Drop, S: BuildHasher> Store<K, V, S> {
     }
 
     /// Logs a pair of the call's key, which is logged, and its value.
-    fn make_pair(&mut self, running: &mut Running<K, V>) -> Answer
+    #[inline(always)]
+    fn make_pair<A>(&mut self, running: &mut Running<K, V, A>) -> Answer
         ensures machine { running.new.machine ≡ running.old.machine }
         ensures makes { (Refuses MAX_LOG_LEN (length self.old.pairs) result × Stays self.old running.old self.new running.new) ⊎ (HasNoPair result running.old × Stays self.old running.old self.new running.new) ⊎ LogsPair result self.old running.old self.new running.new }
     {
@@ -255,11 +363,32 @@ impl<K: Hash + Eq + Drop, V: Drop, S: BuildHasher> Store<K, V, S> {
         }
     }
 
+    /// Shows pair `n` to the closure of a call, which answers whether it agrees.
+    fn show<A: Answers<K, V>>(&self, n: u64, running: &mut Running<K, V, A>) -> Answer
+        ensures machine { running.new.machine ≡ running.old.machine }
+        ensures shows { Shows (record { op = A.op_gives; yes = A.yes_gives }) n self.now running.old result self.now running.new }
+    {
+        let Some(answers) = running.answers.as_mut() else {
+            return Answer::Ok;
+        };
+        match self.pair(n) {
+            Some((key, value)) => Answer::Yes(answers.yes(key, value)),
+            None => Answer::Ok,
+        }
+    }
+
     /// What is made without memory.
-    fn make(&mut self, alloc: Global, running: &mut Running<K, V>, ask: Ask, refuse: bool) -> Answer
+    #[inline(always)]
+    fn make<A: Answers<K, V>>(
+        &mut self,
+        alloc: Global,
+        running: &mut Running<K, V, A>,
+        ask: Ask,
+        refuse: bool,
+    ) -> Answer
         requires { IsMake ask }
         ensures machine { running.new.machine ≡ running.old.machine }
-        ensures performs { Performs K.eq refuse ask self.old running.old result self.new running.new }
+        ensures performs { Performs K.eq (record { op = A.op_gives; yes = A.yes_gives }) refuse ask self.old running.old result self.new running.new }
     {
         if refuse {
             return Answer::Refused(Refused::Memory);
@@ -273,36 +402,24 @@ impl<K: Hash + Eq + Drop, V: Drop, S: BuildHasher> Store<K, V, S> {
     }
 
     /// Answers one ask of this caller's machine.
-    pub fn perform(
+    #[inline(always)]
+    pub fn perform<A: Answers<K, V>>(
         &mut self,
         alloc: Global,
         caller: usize,
-        running: &mut Running<K, V>,
+        running: &mut Running<K, V, A>,
         ask: Ask,
         refuse: bool,
     ) -> Answer
         ensures machine { running.new.machine ≡ running.old.machine }
-        ensures performs { Performs K.eq refuse ask self.old running.old result self.new running.new }
+        ensures performs { Performs K.eq (record { op = A.op_gives; yes = A.yes_gives }) refuse ask self.old running.old result self.new running.new }
     {
         match ask {
             Ask::Load(at) => Answer::Word(self.word(at)),
-            Ask::Exchange(at, old, new) => {
-                let found = self.word(at);
-                if found == old {
-                    self.put(at, new);
-                    Answer::Exchanged
-                } else {
-                    Answer::Found(found)
-                }
-            }
+            Ask::Exchange(at, old, new) => self.exchange(at, old, new),
             Ask::SameKey(n) => Answer::Yes(self.same_key(n, &running.key)),
-            Ask::SizeOf(n) => match self.table(n) {
-                Some(table) => Answer::Size {
-                    len: table.len(),
-                    limit: table.limit(),
-                },
-                None => Answer::Ok,
-            },
+            Ask::ShowPair(n) => self.show(n, running),
+            Ask::SizeOf(n) => self.size_of(n),
             Ask::MakeKey | Ask::MakePair | Ask::MakeTable { .. } => {
                 self.make(alloc, running, ask, refuse)
             }

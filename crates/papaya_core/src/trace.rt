@@ -1,12 +1,12 @@
 //! Schedules, and what happened in them.
-use papaya_call::ask::StepKind;
+use papaya_call::ask::{OpKind, StepKind};
 use papaya_call::call::{Call, Reply};
 
 /// A turn of a schedule.
 #[derive(Drop)]
-pub enum Turn<K, V> {
+pub enum Turn<K, V, A> {
     /// This caller begins a call.
-    Begin(usize, Call<K, V>),
+    Begin(usize, Call<K, V, A>),
     /// This caller makes a step, with memory or, where the second is true, without.
     Step(usize, bool),
     /// This caller makes as many steps with memory as its call needs, and at most so many.
@@ -22,7 +22,12 @@ pub enum Event {
     Changed(StepKind, Option<u64>, Option<u64>),
     /// An exchange left the map as it was.
     Moved(StepKind),
-    /// A step changed no word.
+    /// The closure of a removal was shown a pair, and answered this.
+    Asked(u64, bool),
+    /// The closure of a call that may insert, remove or abort was shown a pair, or that there is
+    /// none, and answered this.
+    Shown(Option<u64>, OpKind),
+    /// A step changed no word, and showed nothing.
     Other,
     /// The call replied.
     Replied(Reply),

@@ -4,4 +4,4 @@ use Rattle.papaya_core.proofs.callers.place_of.Given as goal
 
 -- no seat so far is the caller's
 abbrev pub invariant-loop-place : goal.invariant-loop-place
-invariant-loop-place g l = (i : ℕ) (seat : Seat _ _) → i < l.place → slice_get l.seats i ≡ Some seat → seat.caller ≢ l.caller
+invariant-loop-place g l = (i : ℕ) (seat : Seat _ _ _) → i < l.place → slice_get l.seats i ≡ Some seat → seat.caller ≢ l.caller

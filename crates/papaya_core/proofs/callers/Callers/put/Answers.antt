@@ -7,14 +7,14 @@ use Rattle.papaya_core.proofs.callers.Callers.put.Goals as goal
 pub put_call-requires : goal.put_call-requires
 put_call-requires g c =
     let seats = c.self.inside.seats.items in
-    let at : IsSeatAt seats c.args.caller c.place_of-place.result = subst (λ (xs : List (Seat _ _)). IsSeatAt xs c.args.caller c.place_of-place.result) c.deref.ensures.value c.place_of-place.ensures in
-    seated-within seats c.args.caller c.place_of-place.result at (subst (λ (xs : List (Seat _ _)). IsSeated xs c.args.caller) (sym c.self.view_is) c.requires)
+    let at : IsSeatAt seats c.args.caller c.place_of-place.result = subst (λ (xs : List (Seat _ _ _)). IsSeatAt xs c.args.caller c.place_of-place.result) c.deref.ensures.value c.place_of-place.ensures in
+    seated-within seats c.args.caller c.place_of-place.result at (subst (λ (xs : List (Seat _ _ _)). IsSeated xs c.args.caller) (sym c.self.view_is) c.requires)
 
 pub returns : goal.returns
 returns g c =
     let seats = c.self.inside.seats.items in
-    let at : IsSeatAt seats c.args.caller c.place_of-place.result = subst (λ (xs : List (Seat _ _)). IsSeatAt xs c.args.caller c.place_of-place.result) c.deref.ensures.value c.place_of-place.ensures in
-    let within = seated-within seats c.args.caller c.place_of-place.result at (subst (λ (xs : List (Seat _ _)). IsSeated xs c.args.caller) (sym c.self.view_is) c.requires) in
+    let at : IsSeatAt seats c.args.caller c.place_of-place.result = subst (λ (xs : List (Seat _ _ _)). IsSeatAt xs c.args.caller c.place_of-place.result) c.deref.ensures.value c.place_of-place.ensures in
+    let within = seated-within seats c.args.caller c.place_of-place.result at (subst (λ (xs : List (Seat _ _ _)). IsSeated xs c.args.caller) (sym c.self.view_is) c.requires) in
     let (seat, there) = item_there seats c.place_of-place.result within in
     c.put_call.ensures seat there ∙ sym (with_call-at seats c.args.caller c.place_of-place.result seat (Some c.args.running) at there)
-    ∙ ap (λ (xs : List (Seat _ _)). with_call xs c.args.caller (Some c.args.running)) c.self.view_is
+    ∙ ap (λ (xs : List (Seat _ _ _)). with_call xs c.args.caller (Some c.args.running)) c.self.view_is

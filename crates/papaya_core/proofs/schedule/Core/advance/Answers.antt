@@ -1,4 +1,5 @@
 use Rattle.std.proofs.Common.{◌≡◌, List, Some, None, refl, sym, ap, subst, ◌∙◌}
+use Rattle.papaya_call.specs.Answers.{Says}
 use Rattle.papaya_call.specs.Machine.{IsStanding, IsFitAsk, ask_of, kind_of_ask, after}
 use Rattle.papaya_core.specs.declared.pairs.Running.{Running}
 use Rattle.papaya_core.specs.declared.callers.Seat.{Seat}
@@ -19,16 +20,20 @@ use Rattle.papaya_core.proofs.schedule.Core.advance.Goals as goal
 use Rattle.papaya_core.proofs.schedule.Core.advance.Goals.{After-perform-answer, After-put}
 use Rattle.papaya_core.proofs.schedule.Core.advance.Given.{Over}
 
+-- what the closures' answers give
+abbrev says : (g : Over) → Says g.row.K.Denot g.row.V.Denot g.row.A.Denot
+says g = record { op = g.A.Answers.op_gives; yes = g.A.Answers.yes_gives }
+
 -- the ask of the caller's machine was answered
-asked : (g : Over) (c : After-perform-answer g) → Performs g.K.PartialEq.eq c.args.refuse (ask_of c.take-running.result.machine) c.self.inside.store c.take-running.result c.perform-answer.result c.perform-answer.new.self c.perform-answer.new.running
-asked g c = subst (λ y. Performs g.K.PartialEq.eq c.args.refuse y c.self.inside.store c.take-running.result c.perform-answer.result c.perform-answer.new.self c.perform-answer.new.running) c.ask-ask.ensures.value c.perform-answer.ensures.performs
+asked : (g : Over) (c : After-perform-answer g) → Performs g.K.PartialEq.eq (says g) c.args.refuse (ask_of c.take-running.result.machine) c.self.inside.store c.take-running.result c.perform-answer.result c.perform-answer.new.self c.perform-answer.new.running
+asked g c = subst (λ y. Performs g.K.PartialEq.eq (says g) c.args.refuse y c.self.inside.store c.take-running.result c.perform-answer.result c.perform-answer.new.self c.perform-answer.new.running) c.ask-ask.ensures.value c.perform-answer.ensures.performs
 
 -- the core without the caller's call
 taken : (g : Over) (c : After-perform-answer g) → IsCore c.perform-answer.new.self c.take-running.new.self c.self.inside.mode
 taken g c =
-    subst (λ (y : List (Seat _ _)). IsCore c.perform-answer.new.self y c.self.inside.mode) (sym c.take-running.ensures.taken)
+    subst (λ (y : List (Seat _ _ _)). IsCore c.perform-answer.new.self y c.self.inside.mode) (sym c.take-running.ensures.taken)
     (with_call-core c.perform-answer.new.self c.self.inside.callers c.self.inside.mode c.args.caller None
-    (performed-core g.K.PartialEq.eq c.args.refuse c.self.inside.store c.self.inside.callers c.self.inside.mode c.take-running.result c.perform-answer.result c.perform-answer.new.self c.perform-answer.new.running
+    (performed-core g.K.PartialEq.eq (says g) c.args.refuse c.self.inside.store c.self.inside.callers c.self.inside.mode c.take-running.result c.perform-answer.result c.perform-answer.new.self c.perform-answer.new.running
     c.self.invariant.0.core (subst IsFitAsk c.ask-ask.ensures.value c.ask-ask.ensures.size) (asked g c))
     (λ r e. let f : None ≡ Some r = e in cc))
 
@@ -39,13 +44,13 @@ ended g c x reply =
     let a = c.perform-answer.result in
     let later = c.perform-answer.new.running in
     stepped_sound g.K.PartialEq.eq g.K.Hash.hash_input g.S.BuildHasher.build_hasher g.S.Hasher.Hasher.write g.S.Hasher.Hasher.finish g.met.K.Eq.laws g.met.K.Hash.respects_eq
-    c.args.refuse (record { store = c.self.inside.store; callers = c.self.inside.callers; mode = c.self.inside.mode; initial = c.self.inside.initial }) c.args.caller c.perform-answer.new.self c.take-running.new.self
+    (says g) c.args.refuse (record { store = c.self.inside.store; callers = c.self.inside.callers; mode = c.self.inside.mode; initial = c.self.inside.initial }) c.args.caller c.perform-answer.new.self c.take-running.new.self
     c.take-running.result a later c.take-running.ensures.call (asked g c) c.perform-answer.ensures.machine
     (c.take-running.ensures.taken ∙ sym (ap (λ y. with_call c.self.inside.callers c.args.caller (goes_on y (record later { machine = after c.take-running.result.machine a }))) reply))
     (taken g c) c.self.invariant.0 c.self.invariant.1
 
 -- the core after a call went on
-went_on : (g : Over) (c : After-put g) → Performs g.K.PartialEq.eq c.args.refuse (ask_of c.take-running.result.machine) c.self.inside.store c.take-running.result c.perform-answer.result c.perform-answer.new.self c.perform-answer.new.running → IsCore c.perform-answer.new.self c.take-running.new.self c.self.inside.mode
+went_on : (g : Over) (c : After-put g) → Performs g.K.PartialEq.eq (says g) c.args.refuse (ask_of c.take-running.result.machine) c.self.inside.store c.take-running.result c.perform-answer.result c.perform-answer.new.self c.perform-answer.new.running → IsCore c.perform-answer.new.self c.take-running.new.self c.self.inside.mode
     → IsLawfulCore g.K.PartialEq.eq (hash_of g.K.Hash.hash_input g.S.BuildHasher.build_hasher g.S.Hasher.Hasher.write g.S.Hasher.Hasher.finish c.perform-answer.new.self.hasher) c.perform-answer.new.self c.put.new.self c.self.inside.mode × IsCounted c.perform-answer.new.self c.put.new.self
 went_on g c performs core_taken =
     let a = c.perform-answer.result in
@@ -54,12 +59,12 @@ went_on g c performs core_taken =
     let is_after : c.answer.new.self ≡ after c.take-running.result.machine a = c.answer.ensures.after ∙ ap (λ m. after m a) c.perform-answer.ensures.machine in
     let reply : reply_in (ask_of (after c.take-running.result.machine a)) ≡ None = sym (c.reply_in-reply.ensures ∙ ap reply_in c.ask.ensures.value ∙ ap (λ m. reply_in (ask_of m)) is_after) ∙ c.in-None.is in
     let core : IsCore c.perform-answer.new.self c.put.new.self c.self.inside.mode =
-    subst (λ (y : List (Seat _ _)). IsCore c.perform-answer.new.self y c.self.inside.mode) (sym c.put.ensures)
+    subst (λ (y : List (Seat _ _ _)). IsCore c.perform-answer.new.self y c.self.inside.mode) (sym c.put.ensures)
     (with_call-core c.perform-answer.new.self c.take-running.new.self c.self.inside.mode c.args.caller (Some r)
     core_taken
-    (λ q e. let same : r ≡ q = cc in subst (λ (y : Running _ _). IsStanding y.machine × IsGoing y.machine) same (c.answer.ensures.standing, still_going c.answer.new.self (ap (λ m. reply_in (ask_of m)) is_after ∙ reply)))) in
+    (λ q e. let same : r ≡ q = cc in subst (λ (y : Running _ _ _). IsStanding y.machine × IsGoing y.machine) same (c.answer.ensures.standing, still_going c.answer.new.self (ap (λ m. reply_in (ask_of m)) is_after ∙ reply)))) in
     stepped_sound g.K.PartialEq.eq g.K.Hash.hash_input g.S.BuildHasher.build_hasher g.S.Hasher.Hasher.write g.S.Hasher.Hasher.finish g.met.K.Eq.laws g.met.K.Hash.respects_eq
-    c.args.refuse (record { store = c.self.inside.store; callers = c.self.inside.callers; mode = c.self.inside.mode; initial = c.self.inside.initial }) c.args.caller c.perform-answer.new.self c.put.new.self
+    (says g) c.args.refuse (record { store = c.self.inside.store; callers = c.self.inside.callers; mode = c.self.inside.mode; initial = c.self.inside.initial }) c.args.caller c.perform-answer.new.self c.put.new.self
     c.take-running.result a later c.take-running.ensures.call performs c.perform-answer.ensures.machine
     (c.put.ensures ∙ ap (λ y. with_call y c.args.caller (Some r)) c.take-running.ensures.taken
     ∙ with_call-twice c.self.inside.callers c.args.caller None (Some r)
@@ -91,7 +96,7 @@ returns-in-Some-clause-advances g c =
     let later = c.perform-answer.new.running in
     let a = c.perform-answer.result in
     let is_after : c.answer.new.self ≡ after before.machine a = c.answer.ensures.after ∙ ap (λ m. after m a) c.perform-answer.ensures.machine in
-    subst (λ s. Advances g.K.PartialEq.eq c.args.refuse s c.args.caller (record { store = c.perform-answer.new.self; callers = c.take-running.new.self; mode = c.self.inside.mode; initial = c.self.inside.initial }) c.event_of-event.result c.reply_in-reply.result) c.self.view_is (record {
+    subst (λ s. Advances g.K.PartialEq.eq (says g) c.args.refuse s c.args.caller (record { store = c.perform-answer.new.self; callers = c.take-running.new.self; mode = c.self.inside.mode; initial = c.self.inside.initial }) c.event_of-event.result c.reply_in-reply.result) c.self.view_is (record {
       before = before;
       was = c.take-running.ensures.call;
       answer = a;
@@ -112,7 +117,7 @@ returns-in-None-clause-advances g c =
     let later = c.perform-answer.new.running in
     let a = c.perform-answer.result in
     let is_after : c.answer.new.self ≡ after before.machine a = c.answer.ensures.after ∙ ap (λ m. after m a) c.perform-answer.ensures.machine in
-    subst (λ s. Advances g.K.PartialEq.eq c.args.refuse s c.args.caller (record { store = c.perform-answer.new.self; callers = c.put.new.self; mode = c.self.inside.mode; initial = c.self.inside.initial }) c.event_of-event.result c.reply_in-reply.result) c.self.view_is (record {
+    subst (λ s. Advances g.K.PartialEq.eq (says g) c.args.refuse s c.args.caller (record { store = c.perform-answer.new.self; callers = c.put.new.self; mode = c.self.inside.mode; initial = c.self.inside.initial }) c.event_of-event.result c.reply_in-reply.result) c.self.view_is (record {
       before = before;
       was = c.take-running.ensures.call;
       answer = a;
@@ -133,13 +138,13 @@ returns-in-None-clause-advances g c =
 pub returns-in-Some-clause-moves : goal.returns-in-Some-clause-moves
 returns-in-Some-clause-moves g c =
     lawful_moves g.K.PartialEq.eq g.K.Hash.hash_input g.S.BuildHasher.build_hasher g.S.Hasher.Hasher.write g.S.Hasher.Hasher.finish g.met.K.Eq.laws g.met.K.Hash.respects_eq
-    c.args.refuse c.args.self.now (record { store = c.perform-answer.new.self; callers = c.take-running.new.self; mode = c.self.inside.mode; initial = c.self.inside.initial }) c.args.caller c.event_of-event.result c.reply_in-reply.result
+    (says g) c.args.refuse c.args.self.now (record { store = c.perform-answer.new.self; callers = c.take-running.new.self; mode = c.self.inside.mode; initial = c.self.inside.initial }) c.args.caller c.event_of-event.result c.reply_in-reply.result
     (subst (λ s. IsLawfulCore g.K.PartialEq.eq (hash_of g.K.Hash.hash_input g.S.BuildHasher.build_hasher g.S.Hasher.Hasher.write g.S.Hasher.Hasher.finish s.store.hasher) s.store s.callers s.mode) c.self.view_is c.self.invariant.0)
     (returns-in-Some-clause-advances g c)
 
 pub returns-in-None-clause-moves : goal.returns-in-None-clause-moves
 returns-in-None-clause-moves g c =
     lawful_moves g.K.PartialEq.eq g.K.Hash.hash_input g.S.BuildHasher.build_hasher g.S.Hasher.Hasher.write g.S.Hasher.Hasher.finish g.met.K.Eq.laws g.met.K.Hash.respects_eq
-    c.args.refuse c.args.self.now (record { store = c.perform-answer.new.self; callers = c.put.new.self; mode = c.self.inside.mode; initial = c.self.inside.initial }) c.args.caller c.event_of-event.result c.reply_in-reply.result
+    (says g) c.args.refuse c.args.self.now (record { store = c.perform-answer.new.self; callers = c.put.new.self; mode = c.self.inside.mode; initial = c.self.inside.initial }) c.args.caller c.event_of-event.result c.reply_in-reply.result
     (subst (λ s. IsLawfulCore g.K.PartialEq.eq (hash_of g.K.Hash.hash_input g.S.BuildHasher.build_hasher g.S.Hasher.Hasher.write g.S.Hasher.Hasher.finish s.store.hasher) s.store s.callers s.mode) c.self.view_is c.self.invariant.0)
     (returns-in-None-clause-advances g c)

@@ -1,7 +1,4 @@
-use Rattle.std.proofs.Common.{◌≡◌, ◌<◌, ◌≤◌, ⊎_elim, Ok, Err, refl, sym, ◌∙◌, ap, subst}
-use Rattle.std.proofs.lemmas.Bool.{cases_lt}
-use Rattle.std.specs.Int.{IsNextPowerOfTwo}
-use Rattle.papaya_words.specs.declared.probe.Refused.TheVariants.{Capacity}
+use Rattle.std.proofs.Common.{refl}
 use Rattle.papaya_core.proofs.CoreLemmas.{new-core}
 use Rattle.papaya_core.proofs.CountedLemmas.{counted_new}
 use Rattle.papaya_core.proofs.KeptCore.{new_lawful}
@@ -9,38 +6,18 @@ use Rattle.papaya_core.proofs.schedule.Core.new.Goals as goal
 
 pub invariant_of-result : goal.invariant_of-result
 invariant_of-result g c =
-    let initial = c.in_ok-initial.ensures.ok in
-    let store = c.in_ok-open.ensures.ok.1 in
-    let made = c.new-store.ensures in (
+    let (allowed, made, few) = c.in_ok-store.ensures.ok in (
       new_lawful g.K.PartialEq.eq g.K.Hash.hash_input g.S.BuildHasher.build_hasher g.S.Hasher.Hasher.write g.S.Hasher.Hasher.finish g.met.K.Eq.laws g.met.K.Hash.respects_eq
-          c.args.mode c.args.capacity c.in_ok-initial.initial c.open.new.self c.new-2.result
-          (new-core c.open.new.self c.new-2.result c.args.mode c.args.capacity c.in_ok-initial.initial c.in_ok-check_chunk.ensures.ok initial.1.0 initial.2 c.in_ok-open.ensures.ok.0 c.new-2.ensures)
-          c.in_ok-open.ensures.ok.0 c.new-2.ensures,
-      counted_new c.open.new.self (ap (λ s. s.pairs) store ∙ ap (λ s. s.pairs) made) c.new-2.result (ap (λ s. s.count.sum) store ∙ ap (λ s. s.count.sum) made ∙ c.in_ok-counter.ensures.sum) c.new-2.ensures,
+          c.args.mode c.args.capacity c.in_ok-store.initial c.in_ok-store.store c.new.result
+          (new-core c.in_ok-store.store c.new.result c.args.mode c.args.capacity c.in_ok-store.initial allowed.0 made.initial.0 few made.words c.new.ensures)
+          made.words c.new.ensures,
+      counted_new c.in_ok-store.store made.pairs c.new.result made.sum c.new.ensures,
     )
 
 pub returns-clause-ok : goal.returns-clause-ok
 returns-clause-ok g c =
-    let initial = c.in_ok-initial.ensures.ok in
-    let store = c.in_ok-open.ensures.ok.1 in
-    let made = c.new-store.ensures in
-    let few : c.args.shards ≤ 65536 = ⊎_elim (λ (many : 65536 < c.args.shards). let f : Ok c.in_ok-counter.counter ≡ Err Capacity = sym c.in_ok-counter.was ∙ c.new.ensures.many many in cc) (λ (few : c.args.shards ≤ 65536). few) (cases_lt 65536 c.args.shards) in (
-      (c.in_ok-check_chunk.ensures.ok, (initial.0, c.in_ok-initial.initial, initial.1, initial.2), few),
-      record {
-        mode_is = refl;
-        initial = initial.1;
-        words = c.in_ok-open.ensures.ok.0;
-        keys = ap (λ s. s.keys) store ∙ ap (λ s. s.keys) made;
-        pairs = ap (λ s. s.pairs) store ∙ ap (λ s. s.pairs) made;
-        count = subst (IsNextPowerOfTwo c.args.shards) (sym (ap (λ s. s.count.shards) store ∙ ap (λ s. s.count.shards) made)) c.in_ok-counter.ensures.shards;
-        sum = ap (λ s. s.count.sum) store ∙ ap (λ s. s.count.sum) made ∙ c.in_ok-counter.ensures.sum;
-        hasher_is = ap (λ s. s.hasher) store ∙ ap (λ s. s.hasher) made;
-        callers = c.new-2.ensures;
-      },
-    )
+    let (allowed, made, few) = c.in_ok-store.ensures.ok in (allowed, record { store_is = made; mode_is = refl; callers = c.new.ensures })
 
 pub returns-clause-counted : goal.returns-clause-counted
 returns-clause-counted g c =
-    let store = c.in_ok-open.ensures.ok.1 in
-    let made = c.new-store.ensures in
-    counted_new c.open.new.self (ap (λ s. s.pairs) store ∙ ap (λ s. s.pairs) made) c.new-2.result (ap (λ s. s.count.sum) store ∙ ap (λ s. s.count.sum) made ∙ c.in_ok-counter.ensures.sum) c.new-2.ensures
+    let (allowed, made, few) = c.in_ok-store.ensures.ok in counted_new c.in_ok-store.store made.pairs c.new.result made.sum c.new.ensures
