@@ -1,0 +1,29 @@
+-- What a call that was made alone leaves of a map for one caller.
+use Rattle.std.proofs.Common.{◌≡◌, ℕ, Bool, true, List, None}
+use Rattle.std.specs.Cmp.{IsEquivalence}
+use Rattle.papaya_call.specs.declared.call.Call.{Call}
+use Rattle.papaya_call.specs.declared.call.Reply.{Reply}
+use Rattle.papaya_core.specs.Solo.{IsAnswered, IsNewIn, KeepsPairs, RunsAlone}
+use Rattle.papaya_core.specs.Store.{StoreState, hash_of}
+use Rattle.papaya_core.proofs.SoloLaw.{alone_answered, alone_lawful, alone_logged}
+use Rattle.papaya_seq.specs.Map.{IsLawfulMap, MapState, core_of, map_of}
+use Rattle.papaya_seq.proofs.Steps.{seated}
+
+module _ {K V S H : Type 0} (eq : K → K → Bool) (input : K → List (List ℕ)) (build : S → H) (write : H → List ℕ → H) (finish : H → ℕ) (classes : IsEquivalence eq) (respects : (x y : K) → eq x y ≡ true → input x ≡ input y)
+    (s : MapState K V S) (call : Call K V (Unit {0})) (reply : Reply) (store : StoreState K V S)
+    (lawful : IsLawfulMap eq (hash_of input build write finish s.store.hasher) s.store s.mode) (alone : RunsAlone eq (hash_of input build write finish) (core_of s) call reply (seated store None s.mode s.initial)) where
+  -- the finite map
+  pub map_answered : IsAnswered eq call (map_of eq s.store) reply (map_of eq store)
+  map_answered = alone_answered eq input build write finish classes respects (core_of s) (seated store None s.mode s.initial) call reply lawful.lawful alone
+
+  -- the logs
+  pub map_logged : IsNewIn s.store reply × KeepsPairs s.store store
+  map_logged = alone_logged eq input build write finish classes respects (core_of s) (seated store None s.mode s.initial) call reply lawful.lawful alone
+
+  -- the words and the count are in order
+  pub map_lawful : IsLawfulMap eq (hash_of input build write finish store.hasher) store s.mode
+  map_lawful = let left = alone_lawful eq input build write finish classes respects (core_of s) (seated store None s.mode s.initial) call reply lawful.lawful alone lawful.counted in record { lawful = left.0; counted = left.1 }
+
+  -- the hasher stays
+  pub map_hasher : store.hasher ≡ s.store.hasher
+  map_hasher = (alone_lawful eq input build write finish classes respects (core_of s) (seated store None s.mode s.initial) call reply lawful.lawful alone lawful.counted).2

@@ -1,0 +1,175 @@
+-- An insertion of a map for one caller, from its begin to its reply.
+use Rattle.std.proofs.Common.{◌≡◌, ℕ, ◌^◌, ◌<◌, Bool, true, false, Option, None, Some, length, refl, sym, ◌∙◌, ap, subst}
+use Rattle.papaya_words.specs.Table.{TableWords}
+use Rattle.papaya_words.specs.declared.probe.Refused.{Refused}
+use Rattle.papaya_words.specs.declared.probe.ResizeMode.{ResizeMode}
+use Rattle.papaya_call.specs.Alone.{IsCurrent, IsPrompt, left}
+use Rattle.papaya_call.specs.Answers.{Says}
+use Rattle.papaya_call.specs.declared.ask.Ask.{Ask}
+use Rattle.papaya_call.specs.declared.ask.Ask.TheVariants.{Done as Ask_done}
+use Rattle.papaya_call.specs.declared.ask.Answer.{Answer}
+use Rattle.papaya_call.specs.declared.ask.At.TheVariants.{Next}
+use Rattle.papaya_call.specs.declared.call.Reply.{Reply}
+use Rattle.papaya_call.specs.declared.call.Reply.TheVariants.{Occupied, Refused as Reply_refused}
+use Rattle.papaya_call.specs.declared.call.Task.TheVariants.{Insert}
+use Rattle.papaya_call.specs.declared.machine.Machine.{Machine}
+use Rattle.papaya_call.specs.declared.machine.State.{State}
+use Rattle.papaya_call.specs.declared.machine.State.TheVariants.{AtRoot, Making, Opening, Searching, Writing, Showing, Burying, Counting, Uncounting, Leaving, Growing, Ended}
+use Rattle.papaya_call.specs.declared.search.Search.TheVariants.{Sizing, Looking, Comparing}
+use Rattle.papaya_call.specs.declared.write.Made.{Made}
+use Rattle.papaya_call.specs.declared.write.Made.TheVariants.{Nothing, Key, Pair}
+use Rattle.papaya_call.specs.Machine.{IsFit, IsStanding, after, ask_of, asks, started}
+use Rattle.papaya_call.specs.Search.{IsSize}
+use Rattle.papaya_call.proofs.AloneCurrent.{machine_stays}
+use Rattle.papaya_call.proofs.AloneSteps.{machine_nears}
+use Rattle.papaya_call.proofs.Standing.{machine_ask_fits, machine_stands}
+use Rattle.papaya_core.specs.declared.pairs.KeyOf.TheVariants.{Own}
+use Rattle.papaya_core.specs.declared.pairs.Running.{Running}
+use Rattle.papaya_core.specs.Advances.{reply_in}
+use Rattle.papaya_core.specs.Begins.{begun, key_of_call}
+use Rattle.papaya_core.specs.Performs.{Performs}
+use Rattle.papaya_core.specs.Solo.{RunsAlone}
+use Rattle.papaya_core.specs.Store.{StoreState}
+use Rattle.papaya_core.specs.Tables.{Tables, table_of, word_at}
+use Rattle.papaya_core.proofs.KeptSettings.{IsLawfulKeys}
+use Rattle.papaya_core.proofs.StoreLemmas.{numbered, performed, unnumbered}
+use Rattle.papaya_seq.specs.Map.{IsCause, IsLawfulMap, MapState, core_of, insertion}
+use Rattle.papaya_seq.proofs.Inserting.{IsAtHand, IsEnd, IsPlain, IsStage}
+use Rattle.papaya_seq.proofs.InsertingSteps.{answerable_in, leads_in}
+use Rattle.papaya_seq.proofs.Lawful.{bare, single, sized}
+use Rattle.papaya_seq.proofs.Steps.{IsAnswerable, IsMade, made_alone, made_more, made_none, prompt_single, prompted, same_task, seated, silent, silent_performs, unreplied, words_of}
+use Rattle.papaya_seq.proofs.Words.{rooted, uncopied, unmarked}
+
+-- an insertion as it begins
+abbrev insertion_begun : {K V A : Type 0} → ℕ → ResizeMode → ℕ → Bool → K → V → Running K V A
+insertion_begun hash mode initial replace k value = record { machine = started (Insert replace) hash mode initial; key = Own k; value = Some value; answers = None }
+
+module _ {K V S A : Type 0} (eq : K → K → Bool) (hash : S → K → ℕ) (s : MapState K V S) (replace : Bool) (k : K) (value : V) where
+  -- Where an insertion is between two answers: it came there by steps of the core, what it read stands there still, and it has at hand what it has not stored.
+  pub record IsInserting (store : StoreState K V S) (r : Running K V A) : Type 0 where
+    pub steps : IsMade eq hash s (insertion replace k value) store (silent r)
+    pub silence : r.answers ≡ None
+    pub task : r.machine.task ≡ Insert replace
+    pub hash_is : r.machine.hash ≡ hash s.store.hasher k
+    pub standing : IsStanding r.machine
+    pub current : IsCurrent (words_of store) r.machine.state
+    pub no_next : (t : ℕ) → word_at store.words (Next t) ≡ 0
+    pub sizes : (n : ℕ) (t : TableWords) → table_of store.words.tables n ≡ Some t → IsSize (length t.slots) t.limit
+    pub hand : IsAtHand (hash s.store.hasher k) s.store value r.machine.made store.keys store.pairs r.key r.value
+    pub stage : IsStage (hash s.store.hasher k) s.store value store.words r.value r.machine.made r.machine.state
+
+-- the call of an insertion begins so
+begun_insertion : {K V : Type 0} (hash : K → ℕ) (mode : ResizeMode) (initial : ℕ) (replace : Bool) (k : K) (value : V) → begun hash mode initial (insertion replace k value) ≡ insertion_begun (hash k) mode initial replace k value
+begun_insertion hash mode initial true k value = refl
+begun_insertion hash mode initial false k value = refl
+
+-- its key
+key_of_insertion : {K V : Type 0} (replace : Bool) (k : K) (value : V) → key_of_call (insertion replace k value) ≡ k
+key_of_insertion true k value = refl
+key_of_insertion false k value = refl
+
+module _ {K V S : Type 0} (hash : ℕ) (s : StoreState K V S) (value : V) where
+  -- what is so where a machine has replied
+  end_in : (words : Tables) (left_is : Option V) (hashed : ℕ) (made : Made) (state : State) (reply : Reply) → asks made hashed state ≡ Ask_done reply → IsStage hash s value words left_is made state → IsEnd hash s value reply left_is
+  end_in words left_is hashed made (Ended told) reply e stage = subst (λ (x : Reply). IsEnd hash s value x left_is) (let f : told ≡ reply = cc in f) stage
+  end_in words left_is hashed made AtRoot reply e stage = absurd cc
+  end_in words left_is hashed made Making reply e stage = absurd cc
+  end_in words left_is hashed made (Opening t) reply e stage = absurd cc
+  end_in words left_is hashed made (Searching (Sizing t)) reply e stage = absurd cc
+  end_in words left_is hashed made (Searching (Looking at)) reply e stage = absurd cc
+  end_in words left_is hashed made (Searching (Comparing at word)) reply e stage = absurd cc
+  end_in words left_is hashed Nothing (Writing write) reply e stage = absurd cc
+  end_in words left_is hashed Key (Writing write) reply e stage = absurd cc
+  end_in words left_is hashed (Pair n) (Writing write) reply e stage = absurd cc
+  end_in words left_is hashed made (Showing removal) reply e stage = absurd stage
+  end_in words left_is hashed made (Burying removal) reply e stage = absurd stage
+  end_in words left_is hashed made (Counting n) reply e stage = absurd cc
+  end_in words left_is hashed made (Uncounting n) reply e stage = absurd stage
+  end_in words left_is hashed made (Leaving t) reply e stage = absurd stage
+  end_in words left_is hashed made (Growing t) reply e stage = absurd cc
+
+module _ {K V S A : Type 0} (eq : K → K → Bool) (hash : S → K → ℕ) (s : MapState K V S) (replace : Bool) (k : K) (value : V) (keys : IsLawfulKeys eq (hash s.store.hasher)) (lawful : IsLawfulMap eq (hash s.store.hasher) s.store s.mode) where
+  -- it begins
+  pub inserting_begin : (m : Machine) (hashed : ℕ) → m ≡ started (Insert replace) hashed s.mode s.initial → hashed ≡ hash s.store.hasher k → IsStanding m → IsInserting {A = A} eq hash s replace k value s.store (record { machine = m; key = Own k; value = Some value; answers = None })
+  inserting_begin m hashed is hash_same standing =
+      let machine : m ≡ started (Insert replace) (hash s.store.hasher k) s.mode s.initial = is ∙ ap (λ n. started (Insert replace) n s.mode s.initial) hash_same in
+      subst (λ (x : Machine). IsInserting {A = A} eq hash s replace k value s.store (record { machine = x; key = Own k; value = Some value; answers = None })) (sym machine) (record {
+        steps = subst (IsMade eq hash s (insertion replace k value) s.store) (begun_insertion (hash s.store.hasher) s.mode s.initial replace k value) (made_none eq hash s (insertion replace k value));
+        silence = refl;
+        task = refl;
+        hash_is = refl;
+        standing = subst IsStanding machine standing;
+        current = record { bare = bare eq (hash s.store.hasher) s.mode s.store lawful; read = tt };
+        no_next = single eq (hash s.store.hasher) s.mode s.store lawful;
+        sizes = sized eq (hash s.store.hasher) s.mode s.store lawful;
+        hand = ((k, refl), refl, refl, refl);
+        stage = (refl, refl);
+      })
+
+  module _ (says : Says K V A) (store : StoreState K V S) (r : Running K V A) (answer : Answer) (store' : StoreState K V S) (later : Running K V A) (ask : Ask) (is : ask ≡ ask_of r.machine) (open_still : (reply : Reply) → ask ≡ Ask_done reply → ⊥) (performed_is : Performs eq says false ask store r answer store' later) (same : later.machine ≡ r.machine) (now : IsInserting eq hash s replace k value store r) where
+    -- it has not replied
+    going : reply_in (ask_of r.machine) ≡ None
+    going = ap reply_in (sym is) ∙ unreplied ask open_still
+
+    -- its ask was answered
+    performs : Performs eq says false (ask_of r.machine) store r answer store' later
+    performs = subst (λ y. Performs eq says false y store r answer store' later) is performed_is
+
+    -- what it asks about is there
+    there : IsAnswerable store r (ask_of r.machine)
+    there =
+        answerable_in eq says s.store value replace store r now.task r.machine.made r.machine.state now.sizes
+        (subst (λ h. IsAtHand h s.store value r.machine.made store.keys store.pairs r.key r.value) (sym now.hash_is) now.hand)
+        (subst (λ h. IsStage h s.store value store.words r.value r.machine.made r.machine.state) (sym now.hash_is) now.stage) going
+
+    -- so it is answered by the words
+    told : IsPrompt (words_of store) (ask_of r.machine) answer (words_of store')
+    told = prompted eq says (ask_of r.machine) store r answer store' later there performs
+
+    -- the answer is within the limits
+    pub inserting_fit : IsFit answer
+    inserting_fit = (performed eq says false (ask_of r.machine) store r answer store' later (unnumbered store.words.tables now.sizes) (machine_ask_fits r.machine) performs).fit
+
+    -- less is left
+    pub inserting_nears : left (after r.machine answer) < left r.machine
+    inserting_nears = machine_nears (words_of store) (words_of store') r.machine answer now.current.read now.no_next told
+
+    -- and it goes on
+    pub inserting_more : IsInserting eq hash s replace k value store' (record later { machine = after r.machine answer })
+    inserting_more =
+        let quiet = silent_performs eq says false (ask_of r.machine) store r answer store' later now.silence performs in
+        let kept = performed eq says false (ask_of r.machine) store r answer store' later (unnumbered store.words.tables now.sizes) (machine_ask_fits r.machine) performs in
+        let plain : IsPlain r.machine.hash s.store value = λ t i. (unmarked eq (hash s.store.hasher) s.mode s.store keys lawful t i, uncopied eq (hash s.store.hasher) s.mode s.store keys lawful t i) in
+        let leads =
+        leads_in eq says s.store value replace store r now.task plain (rooted eq (hash s.store.hasher) s.mode s.store keys lawful) r.machine.made r.machine.state answer store' later now.current.read now.standing.state
+        (subst (λ h. IsAtHand h s.store value r.machine.made store.keys store.pairs r.key r.value) (sym now.hash_is) now.hand)
+        (subst (λ h. IsStage h s.store value store.words r.value r.machine.made r.machine.state) (sym now.hash_is) now.stage) going performs in
+        record {
+          steps = made_more eq hash s (insertion replace k value) store (silent r) answer store' (silent later) going quiet.0 same now.steps;
+          silence = quiet.1;
+          task = (same_task r.machine answer).0 ∙ now.task;
+          hash_is = (same_task r.machine answer).1 ∙ now.hash_is;
+          standing = machine_stands r.machine answer now.standing kept.fit;
+          current = machine_stays (words_of store) (words_of store') r.machine now.current.bare answer now.current.read told;
+          no_next = λ t. prompt_single (ask_of r.machine) store r answer (words_of store') there told t (now.no_next t);
+          sizes = numbered store'.words.tables kept.sized;
+          hand = subst (λ h. IsAtHand h s.store value (after r.machine answer).made store'.keys store'.pairs later.key later.value) now.hash_is leads.0;
+          stage = subst (λ h. IsStage h s.store value store'.words later.value (after r.machine answer).made (after r.machine answer).state) now.hash_is leads.1;
+        }
+
+  module _ (store : StoreState K V S) (r : Running K V A) (reply : Reply) (e : Ask_done reply ≡ ask_of r.machine) (now : IsInserting eq hash s replace k value store r) where
+    -- it has replied: it was made alone
+    pub inserting_alone : hash s.store.hasher k < 2 ^ 64 → RunsAlone eq hash (core_of s) (insertion replace k value) reply (seated store None s.mode s.initial)
+    inserting_alone fits = made_alone eq hash s (insertion replace k value) (subst (λ (x : K). hash s.store.hasher x < 2 ^ 64) (sym (key_of_insertion replace k value)) fits) store (silent r) reply (sym e) now.steps
+
+    -- what is so at its end
+    ends : IsEnd (hash s.store.hasher k) s.store value reply r.value
+    ends = end_in (hash s.store.hasher k) s.store value store.words r.value r.machine.hash r.machine.made r.machine.state reply (sym e) now.stage
+
+    -- a refusal has a cause
+    pub inserting_cause : (refused : Refused) → reply ≡ Reply_refused refused → IsCause (hash s.store.hasher k) s.store refused
+    inserting_cause = ends.0
+
+    -- where the key is in the map, the value is left
+    pub inserting_left : (n : ℕ) → reply ≡ Occupied n → r.value ≡ Some value
+    inserting_left = ends.1

@@ -1,0 +1,186 @@
+-- What is known of the words and the logs of a map that is in order.
+use Rattle.std.proofs.Common.{◌≡◌, ◌⊎◌, ⊎_elim, inl, inr, ℕ, zero, suc, ◌<◌, ◌≤◌, Bool, true, false, List, [], ◌∷◌, length, Option, Some, None, refl, sym, ◌∙◌, ap, subst, arith}
+use Rattle.std.proofs.lemmas.Bool.{cases_Bool, cases_lt, cond-true, cond-false}
+use Rattle.std.proofs.lemmas.Option.{slice_get_past}
+use Rattle.std.proofs.lemmas.List.Elements.{All-append, All-cons, All-nil}
+use Rattle.std.specs.Prelude.{slice_get, slice_index_or}
+use Rattle.std.specs.List.{All, Contains}
+use Rattle.papaya_words.specs.Table.{TableWords}
+use Rattle.papaya_words.specs.Word.{kind_of, pair_of as number_of}
+use Rattle.papaya_words.specs.declared.probe.ResizeMode.{ResizeMode}
+use Rattle.papaya_words.specs.declared.word.Kind.{Kind}
+use Rattle.papaya_words.specs.declared.word.Kind.TheVariants as kinds
+use Rattle.papaya_call.specs.Alone.{IsBare}
+use Rattle.papaya_call.specs.declared.ask.At.TheVariants.{Next, Root, Slot}
+use Rattle.papaya_call.specs.Law.Content.{lookup}
+use Rattle.papaya_call.specs.Law.Exchange.{Word, Empty, State, run, start}
+use Rattle.papaya_call.specs.Law.Code.{IsOfKind, code}
+use Rattle.papaya_call.specs.Search.{IsSize}
+use Rattle.papaya_call.specs.Law.Grows.{Comes}
+use Rattle.papaya_call.proofs.Law.CodeViews.{word_of_kind}
+use Rattle.papaya_call.proofs.Law.Logs.{on_comes}
+use Rattle.papaya_call.proofs.Law.OneMap.{sound}
+use Rattle.papaya_core.specs.Content.{content, listed, pairs_of_kind, pairs_of_slots, pairs_of_table}
+use Rattle.papaya_core.specs.Kept.{setting_of, coding_of, low}
+use Rattle.papaya_core.specs.Store.{StoreState, Stored, pair_of, stored_at, stored_in}
+use Rattle.papaya_core.specs.Tables.{table_of, word_at}
+use Rattle.papaya_core.proofs.KeptSettings.{IsLawfulKeys, tables_hashed}
+use Rattle.papaya_seq.specs.Map.{HasNone, Holds, IsLawfulMap}
+
+module _ {K V S : Type 0} (eq : K → K → Bool) (hash : K → ℕ) (mode : ResizeMode) (store : StoreState K V S) (lawful : IsLawfulMap eq hash store mode) where
+  -- no table has a next one
+  pub single : (t : ℕ) → word_at store.words (Next t) ≡ 0
+  single t = let (es, (tales, kept)) = lawful.lawful.law in sym (kept.coded (Next t)) ∙ kept.single t
+
+  -- the word of an empty slot is 0
+  pub bare : IsBare (λ at. word_at store.words at)
+  bare t i empty =
+      let (es, (tales, kept)) = lawful.lawful.law in
+      let g = setting_of {V = V} eq (low hash) mode store.words.tables in
+      let c = coding_of {V = V} (low hash) in
+      let w : Word (Stored K V) = (run es start).slot t i in
+      let is : w ≡ Empty = subst (λ kd. IsOfKind kd w) (ap kind_of (kept.coded (Slot t i)) ∙ empty) (word_of_kind g c w) in
+      sym (kept.coded (Slot t i)) ∙ ap (code g c) is
+
+  -- the table that the root names is there
+  pub root_there : IsLawfulKeys eq hash → (store.words.root ≡ 0 → ⊥) → (t : TableWords) × (table_of store.words.tables store.words.root ≡ Some t)
+  root_there keys some =
+      let (es, (tales, kept)) = lawful.lawful.law in
+      let hashed = tables_hashed {V = V} eq hash keys mode store.words.tables lawful.lawful.core.sizes in
+      let g = setting_of {V = V} eq (low hash) mode store.words.tables in
+      let now : State (Stored K V) = run es start in
+      let is : now.root ≡ store.words.root = kept.coded Root in
+      let comes : Comes now now.root = ⊎_elim (λ (none : (now.root ≡ 0) × (now.first ≡ 0)). absurd (some (sym is ∙ none.0))) (on_comes now now.root) (sound g hashed.lawful es kept.allowed).root in
+      subst (λ n. (t : TableWords) × (table_of store.words.tables n ≡ Some t)) is (kept.made now.root (⊎_elim (λ (positive : 0 < now.root). positive) (λ (least : now.root ≤ 0). absurd (some (sym is ∙ omega arith))) (cases_lt 0 now.root)) comes)
+
+  -- each table has the size of a table
+  pub sized : (n : ℕ) (t : TableWords) → table_of store.words.tables n ≡ Some t → IsSize (length t.slots) t.limit
+  sized = lawful.lawful.core.sizes
+
+module _ {K V : Type 0} where
+  -- a pair has the number by which it was found
+  stored_number : (n : ℕ) (v : V) (o : Option K) (p : Stored K V) → stored_at n v o ≡ Some p → p.number ≡ n
+  stored_number n v None p e = cc
+  stored_number n v (Some k) p e = let is : record { number = n; key = k; value = v } ≡ p = cc e in sym (ap (λ (q : Stored K V). q.number) is)
+
+module _ {K V S : Type 0} (store : StoreState K V S) where
+  pub number_is : (n : ℕ) (p : Stored K V) → pair_of store n ≡ Some p → p.number ≡ n
+  number_is n p e = go (slice_get store.pairs n) refl
+    where
+      go : (o : Option _) → slice_get store.pairs n ≡ o → p.number ≡ n
+      go None is = let f : None ≡ Some p = sym (ap (stored_in store.keys n) is) ∙ e in cc
+      go (Some q) is = stored_number n q.value (slice_get store.keys q.key) p (sym (ap (stored_in store.keys n) is) ∙ e)
+
+  -- a number that names a pair is within the log
+  pub number_within : (n : ℕ) (p : Stored K V) → pair_of store n ≡ Some p → n < length store.pairs
+  number_within n p e =
+      ⊎_elim
+      (λ (less : n < length store.pairs). less)
+      (λ (least : length store.pairs ≤ n). let f : None ≡ Some p = sym (ap (stored_in store.keys n) (slice_get_past store.pairs n least)) ∙ e in absurd cc)
+      (cases_lt n (length store.pairs))
+
+  -- a pair that was found by a number is logged under its own
+  pub logged_itself : (n : ℕ) (p : Stored K V) → pair_of store n ≡ Some p → pair_of store p.number ≡ Some p
+  logged_itself n p e = ap (pair_of store) (number_is n p e) ∙ e
+
+  -- each pair of these words' is logged
+  abbrev AreLogged : List (Stored K V) → Type 0
+  AreLogged ps = All (λ p. pair_of store p.number ≡ Some p) ps
+
+  listed_logged : (n : ℕ) (o : Option (Stored K V)) → pair_of store n ≡ o → AreLogged (listed o)
+  listed_logged n None is = All-nil (λ p. pair_of store p.number ≡ Some p)
+  listed_logged n (Some p) is = All-cons (λ p. pair_of store p.number ≡ Some p) p [] (logged_itself n p is) (All-nil (λ p. pair_of store p.number ≡ Some p))
+
+  kind_logged : (kd : Kind) (n : ℕ) → AreLogged (pairs_of_kind store kd n)
+  kind_logged kinds.Live n = listed_logged n (pair_of store n) refl
+  kind_logged kinds.Marked n = listed_logged n (pair_of store n) refl
+  kind_logged kinds.Empty n = All-nil (λ p. pair_of store p.number ≡ Some p)
+  kind_logged kinds.Copied n = All-nil (λ p. pair_of store p.number ≡ Some p)
+  kind_logged kinds.Buried n = All-nil (λ p. pair_of store p.number ≡ Some p)
+  kind_logged kinds.Closed n = All-nil (λ p. pair_of store p.number ≡ Some p)
+
+  slots_logged : (words : List ℕ) → AreLogged (pairs_of_slots store words)
+  slots_logged [] = All-nil (λ p. pair_of store p.number ≡ Some p)
+  slots_logged (word ∷ words) = All-append (λ p. pair_of store p.number ≡ Some p) (pairs_of_kind store (kind_of word) (number_of word)) (pairs_of_slots store words) (kind_logged (kind_of word) (number_of word)) (slots_logged words)
+
+  table_logged : (o : Option TableWords) → AreLogged (pairs_of_table store o)
+  table_logged None = All-nil (λ p. pair_of store p.number ≡ Some p)
+  table_logged (Some t) = slots_logged t.slots
+
+  -- the content's pairs are logged
+  pub all_logged : All (λ p. pair_of store p.number ≡ Some p) (content store)
+  all_logged = table_logged (table_of store.words.tables store.words.root)
+
+  pub logged_content : (p : Stored K V) → Contains (content store) p → pair_of store p.number ≡ Some p
+  logged_content p (k, within, is) = subst (λ q. pair_of store q.number ≡ Some q) is (all_logged k p within)
+
+  module _ (matches : K → Bool) where
+    -- a pair of the log that matches
+    pub record IsMatched : Type 0 where
+      pub pair : Stored K V
+      pub there : pair_of store pair.number ≡ Some pair
+      pub matched : matches pair.key ≡ true
+
+    -- no pair of the log matches
+    abbrev pub MatchesNone : Type 0
+    MatchesNone = (n : ℕ) (p : Stored K V) → pair_of store n ≡ Some p → matches p.key ≡ false
+
+    -- the same of the pairs below a number
+    abbrev MatchesBelow : ℕ → Type 0
+    MatchesBelow m = (n : ℕ) (p : Stored K V) → n < m → pair_of store n ≡ Some p → matches p.key ≡ false
+
+    below_more : (m : ℕ) → MatchesBelow m → ((p : Stored K V) → pair_of store m ≡ Some p → matches p.key ≡ false) → MatchesBelow (suc m)
+    below_more m none here n p below e =
+        ⊎_elim
+        (λ (less : n < m). none n p less e)
+        (λ (least : m ≤ n). let is : n ≡ m = omega arith in here p (subst (λ i. pair_of store i ≡ Some p) is e))
+        (cases_lt n m)
+
+    decided_at : (m : ℕ) (o : Option (Stored K V)) → pair_of store m ≡ o → MatchesBelow m → IsMatched ⊎ MatchesBelow (suc m)
+    decided_at m None is none = inr (below_more m none (λ p e. let f : None ≡ Some p = sym is ∙ e in cc))
+    decided_at m (Some q) is none =
+        ⊎_elim
+        (λ (y : matches q.key ≡ true). inl (record { pair = q; there = logged_itself m q is; matched = y }))
+        (λ (n : matches q.key ≡ false). inr (below_more m none (λ p e. let f : Some q ≡ Some p = sym is ∙ e in let same : q ≡ p = cc f in subst (λ (x : Stored K V). matches x.key ≡ false) same n)))
+        (cases_Bool (matches q.key))
+
+    decided_below : (m : ℕ) → IsMatched ⊎ MatchesBelow m
+    decided_below zero = inr (λ n p below e. absurd (omega arith))
+    decided_below (suc m) = ⊎_elim (λ (one : IsMatched). inl one) (λ (none : MatchesBelow m). decided_at m (pair_of store m) refl none) (decided_below m)
+
+    -- a pair of the log matches, or none does
+    pub decided : IsMatched ⊎ MatchesNone
+    decided = ⊎_elim (λ (one : IsMatched). inl one) (λ (none : MatchesBelow (length store.pairs)). inr (λ n p e. none n p (number_within n p e) e)) (decided_below (length store.pairs))
+
+    -- where no pair of the log matches, none of the map's does
+    pub none_held : MatchesNone → HasNone matches store
+    none_held none k d within = none (slice_index_or (content store) k d).number (slice_index_or (content store) k d) (all_logged k d within)
+
+-- a key that isn't found in a list is equal to none of its keys
+pub lookup_none : {K V : Type 0} (eq : K → K → Bool) (ps : List (Stored K V)) (k : K) → lookup eq (λ p. p.key) ps k ≡ None → All (λ p. eq k p.key ≡ false) ps
+lookup_none eq [] k e = All-nil (λ p. eq k p.key ≡ false)
+lookup_none {K} {V} eq (q ∷ ps) k e =
+    ⊎_elim
+    (λ (y : eq k q.key ≡ true). let s = cond-true (eq k q.key) (Some q) (lookup eq (λ (p : Stored K V). p.key) ps k) y in absurd cc)
+    (λ (n : eq k q.key ≡ false). All-cons (λ (p : Stored K V). eq k p.key ≡ false) q ps n (lookup_none eq ps k (sym (cond-false (eq k q.key) (Some q) (lookup eq (λ (p : Stored K V). p.key) ps k) n) ∙ e)))
+    (cases_Bool (eq k q.key))
+
+-- what is found in a list stands in it, and its key is equal
+pub lookup_some : {K V : Type 0} (eq : K → K → Bool) (ps : List (Stored K V)) (k : K) (p : Stored K V) → lookup eq (λ q. q.key) ps k ≡ Some p → Contains ps p × (eq k p.key ≡ true)
+lookup_some eq [] k p e = let f : None ≡ Some p = e in cc
+lookup_some {K} {V} eq (q ∷ ps) k p e =
+    ⊎_elim
+    (λ (y : eq k q.key ≡ true). let s = cond-true (eq k q.key) (Some q) (lookup eq (λ (r : Stored K V). r.key) ps k) y in let is : q ≡ p = cc (s, e) in ((0, omega arith, is), subst (λ (r : Stored K V). eq k r.key ≡ true) is y))
+    (λ (n : eq k q.key ≡ false).
+    let rest = lookup_some eq ps k p (sym (cond-false (eq k q.key) (Some q) (lookup eq (λ (r : Stored K V). r.key) ps k) n) ∙ e) in
+    ((suc rest.0.0, let within = rest.0.1 in omega (arith, within), rest.0.2), rest.1))
+    (cases_Bool (eq k q.key))
+
+module _ {K V S : Type 0} (eq : K → K → Bool) (matches : K → Bool) (k : K) (alike : (l : K) → matches l ≡ eq k l) (store : StoreState K V S) where
+  -- a key that the finite map doesn't have matches none of its pairs
+  pub lookup_has_none : lookup eq (λ p. p.key) (content store) k ≡ None → HasNone matches store
+  lookup_has_none e i d within = alike (slice_index_or (content store) i d).key ∙ lookup_none eq (content store) k e i d within
+
+  -- and one that it has matches the pair that it has there
+  pub lookup_holds : (p : Stored K V) → lookup eq (λ q. q.key) (content store) k ≡ Some p → Holds matches store p
+  lookup_holds p e = let r = lookup_some eq (content store) k p e in record { there = r.0; key = alike p.key ∙ r.1 }

@@ -1,0 +1,128 @@
+-- A lookup whose asks are answered by what stands in the tables is the whole of one call of the core.
+use Rattle.std.proofs.Common.{◌≡◌, ℕ, suc, ◌<◌, ◌^◌, Bool, false, List, [], ◌∷◌, Option, Some, None, inl, refl, sym, ◌∙◌, ap, subst}
+use Rattle.papaya_words.specs.declared.probe.Refused.{Refused}
+use Rattle.papaya_call.specs.declared.ask.Answer.{Answer}
+use Rattle.papaya_call.specs.declared.ask.Answer.TheVariants.{Yes}
+use Rattle.papaya_call.specs.declared.ask.Ask.{Ask}
+use Rattle.papaya_call.specs.declared.ask.Ask.TheVariants.{Load, Exchange, SameKey, ShowPair, SizeOf, MakeKey, MakePair, MakeTable, AddToShard, Done as Ask_done}
+use Rattle.papaya_call.specs.declared.call.Call.TheVariants.{Get}
+use Rattle.papaya_call.specs.declared.call.Task.TheVariants.{Get as Get_task}
+use Rattle.papaya_call.specs.declared.call.Reply.{Reply}
+use Rattle.papaya_call.specs.declared.call.Reply.TheVariants.{Refused as Reply_refused}
+use Rattle.papaya_call.specs.declared.machine.Machine.{Machine}
+use Rattle.papaya_call.specs.Machine.{after, ask_of, kind_of_ask, started}
+use Rattle.papaya_core.specs.declared.pairs.KeyOf.TheVariants.{Own}
+use Rattle.papaya_core.specs.declared.pairs.Running.{Running}
+use Rattle.papaya_core.specs.declared.trace.Entry.{Entry}
+use Rattle.papaya_core.specs.declared.trace.Event.{Event}
+use Rattle.papaya_core.specs.declared.trace.Event.TheVariants.{Begun, Replied}
+use Rattle.papaya_core.specs.declared.trace.Turn.TheVariants.{Begin, Finish}
+use Rattle.papaya_core.specs.Advances.{Advances, event_of, goes_on, reply_in}
+use Rattle.papaya_core.specs.Core.{CoreState}
+use Rattle.papaya_core.specs.Performs.{Performs, same_stored}
+use Rattle.papaya_core.specs.Runs.{History, StepsRun, with_event}
+use Rattle.papaya_core.specs.Solo.{RunsAlone, whatever}
+use Rattle.papaya_core.specs.Store.{Stored, pair_of}
+use Rattle.papaya_core.proofs.KeptSettings.{IsLawfulKeys}
+use Rattle.papaya_seq.specs.Looks.{IsToldBy, Replies, matches_in}
+use Rattle.papaya_seq.specs.Map.{IsLawfulMap, MapState, core_of}
+use Rattle.papaya_seq.proofs.LookSteps.{IsLooking, IsLookReply, look_replies, lookup_looks, same_task}
+
+module _ {K V S : Type 0} (eq : K → K → Bool) (hash : S → K → ℕ) (s : MapState K V S) (lawful : IsLawfulMap eq (hash s.store.hasher) s.store s.mode) (keys : IsLawfulKeys eq (hash s.store.hasher))
+    (k : K) (matches : K → Bool) (alike : (l : K) → matches l ≡ eq k l) where
+  -- the call under way, with its machine here
+  abbrev pub getting : Machine → Running K V (Unit {0})
+  getting m = record { machine = m; key = Own k; value = None; answers = None }
+
+  -- the map as a core whose one caller is in this call, or in none
+  abbrev pub core_in : Option (Running K V (Unit {0})) → CoreState K V S (Unit {0})
+  core_in call = record { store = s.store; callers = record { caller = 0; call = call } ∷ []; mode = s.mode; initial = s.initial }
+
+  -- the key matches what the query matches
+  matches_same : (o : Option (Stored K V)) → matches_in matches o ≡ same_stored eq k o
+  matches_same None = refl
+  matches_same (Some p) = alike p.key
+
+  -- what is told of the tables is what the core answers
+  told_performs : (m : Machine) (ask : Ask) (answer : Answer) → IsToldBy matches s.store ask answer → Performs eq whatever false ask s.store (getting m) answer s.store (getting m)
+  told_performs m (Load at) answer told = (told, (refl, refl))
+  told_performs m (SameKey n) answer told = (told ∙ ap Yes (matches_same (pair_of s.store n)), (refl, refl))
+  told_performs m (SizeOf t) answer told = (told, (refl, refl))
+  told_performs m (Exchange at old new) answer told = absurd told
+  told_performs m (ShowPair n) answer told = absurd told
+  told_performs m MakeKey answer told = absurd told
+  told_performs m MakePair answer told = absurd told
+  told_performs m (MakeTable slots limit) answer told = absurd told
+  told_performs m (AddToShard by) answer told = absurd told
+  told_performs m (Ask_done reply) answer told = absurd told
+
+  -- what is still answered is no reply
+  told_goes : (ask : Ask) (answer : Answer) → IsToldBy matches s.store ask answer → reply_in ask ≡ None
+  told_goes (Load at) answer told = refl
+  told_goes (SameKey n) answer told = refl
+  told_goes (SizeOf t) answer told = refl
+  told_goes (Exchange at old new) answer told = absurd told
+  told_goes (ShowPair n) answer told = absurd told
+  told_goes MakeKey answer told = absurd told
+  told_goes MakePair answer told = absurd told
+  told_goes (MakeTable slots limit) answer told = absurd told
+  told_goes (AddToShard by) answer told = absurd told
+  told_goes (Ask_done reply) answer told = absurd told
+
+  -- a step of the core, after which the call goes on or has replied
+  told_steps : (m : Machine) (answer : Answer) (reply : Option Reply) → IsToldBy matches s.store (ask_of m) answer → reply ≡ reply_in (ask_of (after m answer)) → ((refused : Refused) → reply ≡ Some (Reply_refused refused) → ⊥)
+      → Advances eq whatever false (core_in (Some (getting m))) 0 (core_in (goes_on reply (getting (after m answer)))) (event_of (kind_of_ask m) (ask_of m) answer) reply
+  told_steps m answer reply told is unrefused =
+      record {
+        before = getting m;
+        was = refl;
+        answer = answer;
+        later = getting m;
+        performs = told_performs m (ask_of m) answer told;
+        machine = refl;
+        event_is = refl;
+        reply_is = is;
+        callers = refl;
+        mode = refl;
+        initial = refl;
+        cause = λ refused e. absurd (unrefused refused e);
+      }
+
+  -- the steps from the begin on led to an entry of this reply
+  pub record IsRun (begun : Machine) (reply : Reply) : Type 0 where
+    pub steps : ℕ
+    pub last : Entry
+    pub before : History
+    pub runs : StepsRun eq whatever hash 1 0 steps (core_in (Some (getting begun))) (with_event 0 0 Begun []) (core_in None) (last ∷ before)
+    pub replied : last.event ≡ Replied reply
+
+  -- from the machine on the rest of the answers leads there
+  run_rest : (begun m : Machine) (so_far : History) (steps : ℕ) (answer : Answer) (rest : List Answer) (reply : Reply) → m.task ≡ Get_task → IsLooking s.store m.state
+      → StepsRun eq whatever hash 1 0 steps (core_in (Some (getting begun))) (with_event 0 0 Begun []) (core_in (Some (getting m))) so_far
+      → Replies matches s.store m (answer ∷ rest) reply → IsRun begun reply
+  run_rest begun m so_far steps answer [] reply is_get looking run (told, done) =
+      let event : Event = event_of (kind_of_ask m) (ask_of m) answer in
+      let looks : IsLooking s.store (after m answer).state = lookup_looks eq (hash s.store.hasher) s.mode s.store lawful keys matches m is_get looking answer told in
+      let fit : IsLookReply reply = look_replies s.store (after m answer).made (after m answer).hash (after m answer).state reply looks done in
+      let step = told_steps m answer (Some reply) told (sym (ap reply_in done)) (λ refused e. let is : reply ≡ Reply_refused refused = cc e in subst IsLookReply is fit) in
+      record { steps = suc steps; last = record { turn = 1; caller = 0; event = Replied reply }; before = with_event 1 0 event so_far; runs = (core_in (Some (getting m)), so_far, run, inl (event, Some reply, step, refl)); replied = refl }
+  run_rest begun m so_far steps answer (next ∷ rest) reply is_get looking run (told, more) =
+      let event : Event = event_of (kind_of_ask m) (ask_of m) answer in
+      let looks : IsLooking s.store (after m answer).state = lookup_looks eq (hash s.store.hasher) s.mode s.store lawful keys matches m is_get looking answer told in
+      let step = told_steps m answer None told (sym (told_goes (ask_of (after m answer)) next more.0)) (λ refused e. absurd cc) in
+      run_rest begun (after m answer) (with_event 1 0 event so_far) (suc steps) next rest reply (same_task m answer ∙ is_get) looks (core_in (Some (getting m)), so_far, run, inl (event, None, step, refl)) more
+
+  -- the whole call
+  pub look_alone : hash s.store.hasher k < 2 ^ 64 → (answers : List Answer) (reply : Reply) → Replies matches s.store (started Get_task (hash s.store.hasher k) s.mode s.initial) answers reply → RunsAlone eq hash (core_of s) (Get k) reply (core_in None)
+  look_alone fits [] reply replies = absurd cc
+  look_alone fits (answer ∷ rest) reply replies =
+      let m : Machine = started Get_task (hash s.store.hasher k) s.mode s.initial in
+      let run : IsRun m reply = run_rest m m (with_event 0 0 Begun []) 0 answer rest reply refl tt (refl, refl) replies in
+      record {
+        idle = refl;
+        steps = run.steps;
+        last = run.last;
+        before = run.before;
+        runs = (Finish 0 run.steps, core_in (Some (getting m)), with_event 0 0 Begun [], refl, (Begin 0 (Get k), core_of s, [], refl, (refl, refl), inl (refl, record { store = refl; callers = refl; mode = refl; initial = refl; fits = fits }, refl)), run.runs);
+        replied = run.replied;
+      }

@@ -1,0 +1,265 @@
+-- The call of a map for one caller as the steps of a core with one seat.
+use Rattle.std.proofs.Common.{◌≡◌, ℕ, suc, ◌+◌, ◌^◌, ◌<◌, ◌==◌, Bool, true, false, Option, None, Some, List, [], ◌∷◌, length, inl, inr, refl, sym, ◌∙◌, ap, subst}
+use Rattle.std.specs.Prelude.{MatchBool}
+use Rattle.papaya_words.specs.Table.{TableWords}
+use Rattle.papaya_words.specs.declared.probe.Refused.TheVariants.{Memory, Capacity}
+use Rattle.papaya_words.specs.declared.probe.ResizeMode.{ResizeMode}
+use Rattle.papaya_call.specs.Alone.{IsMaking, IsPrompt, IsPut, IsSame}
+use Rattle.papaya_call.specs.Answers.{Says}
+use Rattle.papaya_call.specs.declared.ask.Ask.{Ask}
+use Rattle.papaya_call.specs.declared.ask.Ask.TheVariants.{Load, Exchange, SameKey, ShowPair, SizeOf, MakeKey, MakePair, MakeTable, AddToShard, Done as Ask_done}
+use Rattle.papaya_call.specs.declared.ask.Answer.{Answer}
+use Rattle.papaya_call.specs.declared.ask.Answer.TheVariants.{Word as Word_read, Exchanged, Found as Found_instead, Yes, Size, Made as Made_number, Ok as Ok_done, Refused as Was_refused}
+use Rattle.papaya_call.specs.declared.machine.Machine.{Machine}
+use Rattle.papaya_call.specs.declared.ask.At.{At}
+use Rattle.papaya_call.specs.declared.ask.At.TheVariants.{Root, Next, Aborted, Done, Slot}
+use Rattle.papaya_call.specs.declared.call.Call.{Call}
+use Rattle.papaya_call.specs.declared.call.Reply.{Reply}
+use Rattle.papaya_call.specs.Machine.{after, ask_of, kind_of_ask}
+use Rattle.papaya_call.specs.Search.{IsSize}
+use Rattle.papaya_core.specs.declared.pairs.KeyOf.TheVariants.{Own, Logged}
+use Rattle.papaya_core.specs.declared.pairs.Running.{Running}
+use Rattle.papaya_core.specs.declared.trace.Entry.{Entry}
+use Rattle.papaya_core.specs.declared.trace.Event.{Event}
+use Rattle.papaya_core.specs.declared.trace.Event.TheVariants.{Begun, Replied}
+use Rattle.papaya_core.specs.declared.trace.Turn.TheVariants.{Begin, Finish}
+use Rattle.papaya_core.specs.Advances.{Advances, event_of, goes_on, reply_in}
+use Rattle.papaya_core.specs.Begins.{begun, key_of_call}
+use Rattle.papaya_core.specs.Core.{CoreState}
+use Rattle.papaya_core.specs.Performs.{Performs, Refuses, size_of}
+use Rattle.papaya_core.specs.Runs.{History, StepsRun, with_event, with_step}
+use Rattle.papaya_core.specs.Solo.{RunsAlone, whatever}
+use Rattle.papaya_core.specs.Store.{StoreState, Stored, pair_of}
+use Rattle.papaya_core.specs.Tables.{Tables, put, table_of, word_at}
+use Rattle.papaya_core.proofs.CoreLemmas.{caused, still_going}
+use Rattle.papaya_core.proofs.KeptTables.{word-here, word-made, word-other}
+use Rattle.papaya_seq.specs.Map.{MapState, core_of}
+
+-- a core whose one seat has this call
+abbrev pub seated : {K V S A : Type 0} → StoreState K V S → Option (Running K V A) → ResizeMode → ℕ → CoreState K V S A
+seated store call mode initial = record { store = store; callers = record { caller = 0; call = call } ∷ []; mode = mode; initial = initial }
+
+-- a call under way, until it has replied
+abbrev pub still : {K V A : Type 0} → Running K V A → Option (Running K V A)
+still r = goes_on (reply_in (ask_of r.machine)) r
+
+module _ {K V S A : Type 0} (eq : K → K → Bool) (hash : S → K → ℕ) (s : MapState K V S) (call : Call K V A) where
+  -- The call came to this by steps of the core; where it has replied, the last of them gave the reply.
+  pub record IsMade (store : StoreState K V S) (r : Running K V A) : Type 0 where
+    pub steps : ℕ
+    pub history : History
+    pub runs : StepsRun eq whatever hash 1 0 steps (seated s.store (Some (begun (hash s.store.hasher) s.mode s.initial call)) s.mode s.initial) (with_event 0 0 Begun []) (seated store (still r) s.mode s.initial) history
+    pub replied : (reply : Reply) → reply_in (ask_of r.machine) ≡ Some reply → (last : Entry) × (before : History) × (history ≡ last ∷ before) × (last.event ≡ Replied reply)
+
+  -- a call that begins
+  pub made_none : IsMade s.store (begun (hash s.store.hasher) s.mode s.initial call)
+  made_none = record { steps = 0; history = with_event 0 0 Begun []; runs = (refl, refl); replied = λ reply e. let f : None ≡ Some reply = e in absurd cc }
+
+  -- the last of a step's entries is its reply
+  last_entry : (event : Event) (o : Option Reply) (before : History) (reply : Reply) → o ≡ Some reply → (last : Entry) × (rest : History) × (with_step 1 0 event o before ≡ last ∷ rest) × (last.event ≡ Replied reply)
+  last_entry event None before reply e = let f : None ≡ Some reply = e in absurd cc
+  last_entry event (Some told) before reply e =
+      let same : told ≡ reply = cc in
+      (record { turn = 1; caller = 0; event = Replied told }, with_event 1 0 event before, refl, ap Replied same)
+
+  -- one more ask is answered
+  pub made_more : (store : StoreState K V S) (r : Running K V A) (answer : Answer) (store' : StoreState K V S) (later : Running K V A) → reply_in (ask_of r.machine) ≡ None → Performs eq whatever false (ask_of r.machine) store r answer store' later → later.machine ≡ r.machine → IsMade store r → IsMade store' (record later { machine = after r.machine answer })
+  made_more store r answer store' later going performs same made =
+      let m = after r.machine answer in
+      let reply = reply_in (ask_of m) in
+      let event = event_of (kind_of_ask r.machine) (ask_of r.machine) answer in
+      let now = seated store (still r) s.mode s.initial in
+      let next = seated store' (still (record later { machine = m })) s.mode s.initial in
+      let advances : Advances eq whatever false now 0 next event reply = record {
+        before = r;
+        was = ap (λ o. goes_on o r) going;
+        answer = answer;
+        later = later;
+        performs = performs;
+        machine = same;
+        event_is = refl;
+        reply_is = refl;
+        callers = refl;
+        mode = refl;
+        initial = refl;
+        cause = λ refused e. caused r.machine answer refused (still_going r.machine going) e;
+      } in
+      record {
+        steps = suc made.steps;
+        history = with_step 1 0 event reply made.history;
+        runs = (now, made.history, made.runs, inl (event, reply, advances, refl));
+        replied = λ told e. last_entry event reply made.history told e;
+      }
+
+  -- the call has replied: it was made alone
+  pub made_alone : hash s.store.hasher (key_of_call call) < 2 ^ 64 → (store : StoreState K V S) (r : Running K V A) (reply : Reply) → ask_of r.machine ≡ Ask_done reply → IsMade store r → RunsAlone eq hash (core_of s) call reply (seated store None s.mode s.initial)
+  made_alone fits store r reply e made =
+      let told : reply_in (ask_of r.machine) ≡ Some reply = ap reply_in e in
+      let ends = made.replied reply told in
+      let start = seated s.store (Some (begun (hash s.store.hasher) s.mode s.initial call)) s.mode s.initial in
+      let over = subst (λ (o : Option Reply). StepsRun eq whatever hash 1 0 made.steps start (with_event 0 0 Begun []) (seated store (goes_on o r) s.mode s.initial) made.history) told made.runs in
+      let begins = inl (refl, record { store = refl; callers = refl; mode = refl; initial = refl; fits = fits }, refl) in
+      record {
+        idle = refl;
+        steps = made.steps;
+        last = ends.0;
+        before = ends.1;
+        runs = (
+          Finish 0 made.steps,
+          start,
+          with_event 0 0 Begun [],
+          refl,
+          (Begin 0 call, core_of s, [], refl, (refl, refl), begins),
+          subst (λ (h : History). StepsRun eq whatever hash 1 0 made.steps start (with_event 0 0 Begun []) (seated store None s.mode s.initial) h) ends.2 over,
+        );
+        replied = ends.3;
+      }
+
+-- the same call, with no answers of a closure
+abbrev pub silent : {K V A : Type 0} → Running K V A → Running K V (Unit {0})
+silent r = record { machine = r.machine; key = r.key; value = r.value; answers = None }
+
+module _ {K V S A : Type 0} (eq : K → K → Bool) (says : Says K V A) where
+  -- a call whose closure gives no answers: what they are makes no difference
+  pub silent_performs : (refuse : Bool) (ask : Ask) (store : StoreState K V S) (r : Running K V A) (answer : Answer) (store' : StoreState K V S) (later : Running K V A) → r.answers ≡ None → Performs eq says refuse ask store r answer store' later → Performs eq whatever refuse ask store (silent r) answer store' (silent later) × (later.answers ≡ None)
+  silent_performs refuse (Load at) store r answer store' later none (e, (same, stays)) = ((e, (same, ap silent stays)), ap (λ q. q.answers) stays ∙ none)
+  silent_performs refuse (Exchange at old new) store r answer store' later none (made, stays) = ((made, ap silent stays), ap (λ q. q.answers) stays ∙ none)
+  silent_performs refuse (SameKey n) store r answer store' later none (e, (same, stays)) = ((e, (same, ap silent stays)), ap (λ q. q.answers) stays ∙ none)
+  silent_performs refuse (ShowPair n) store r answer store' later none (inl (gone, e, (same, stays))) = (inl (inl refl, e, (same, ap silent stays)), ap (λ q. q.answers) stays ∙ none)
+  silent_performs refuse (ShowPair n) store r answer store' later none (inr shown) = let f : None ≡ Some shown.0 = sym none ∙ shown.4 in absurd cc
+  silent_performs refuse (SizeOf n) store r answer store' later none (e, (same, stays)) = ((e, (same, ap silent stays)), ap (λ q. q.answers) stays ∙ none)
+  silent_performs true MakeKey store r answer store' later none (e, (same, stays)) = ((e, (same, ap silent stays)), ap (λ q. q.answers) stays ∙ none)
+  silent_performs true MakePair store r answer store' later none (e, (same, stays)) = ((e, (same, ap silent stays)), ap (λ q. q.answers) stays ∙ none)
+  silent_performs true (MakeTable slots limit) store r answer store' later none (e, (same, stays)) = ((e, (same, ap silent stays)), ap (λ q. q.answers) stays ∙ none)
+  silent_performs false MakeKey store r answer store' later none (inl (refused, (same, stays))) = (inl (refused, (same, ap silent stays)), ap (λ q. q.answers) stays ∙ none)
+  silent_performs false MakeKey store r answer store' later none (inr (inl (has, (same, stays)))) = (inr (inl (has, (same, ap silent stays))), ap (λ q. q.answers) stays ∙ none)
+  silent_performs false MakeKey store r answer store' later none (inr (inr (k, own, e, few, same, goes))) = (inr (inr (k, own, e, few, same, ap silent goes)), ap (λ q. q.answers) goes ∙ none)
+  silent_performs false MakePair store r answer store' later none (inl (refused, (same, stays))) = (inl (refused, (same, ap silent stays)), ap (λ q. q.answers) stays ∙ none)
+  silent_performs false MakePair store r answer store' later none (inr (inl (has, (same, stays)))) = (inr (inl (has, (same, ap silent stays))), ap (λ q. q.answers) stays ∙ none)
+  silent_performs false MakePair store r answer store' later none (inr (inr (n, v, key, value, e, few, same, goes))) = (inr (inr (n, v, key, value, e, few, same, ap silent goes)), ap (λ q. q.answers) goes ∙ none)
+  silent_performs false (MakeTable slots limit) store r answer store' later none (made, stays) = ((made, ap silent stays), ap (λ q. q.answers) stays ∙ none)
+  silent_performs refuse (AddToShard by) store r answer store' later none (e, same, stays) = ((e, same, ap silent stays), ap (λ q. q.answers) stays ∙ none)
+  silent_performs refuse (Ask_done reply) store r answer store' later none (e, (same, stays)) = ((e, (same, ap silent stays)), ap (λ q. q.answers) stays ∙ none)
+
+-- the words of a store
+abbrev pub words_of : {K V S : Type 0} → StoreState K V S → At → ℕ
+words_of store at = word_at store.words at
+
+-- an exchange is of the root, or of a slot that is there
+abbrev pub IsPlaced : List TableWords → At → Type 0
+IsPlaced tables Root = Unit {0}
+IsPlaced tables (Slot t i) = (table : TableWords) × (table_of tables t ≡ Some table) × (i < length table.slots)
+IsPlaced tables (Next t) = ⊥
+IsPlaced tables (Aborted t) = ⊥
+IsPlaced tables (Done t) = ⊥
+
+-- what was to be made was refused
+refused_making : (most count : ℕ) (answer : Answer) → Refuses most count answer → IsMaking answer
+refused_making most count answer (inl e) = inr (Memory, e)
+refused_making most count answer (inr (e, full)) = inr (Capacity, e)
+
+-- an exchange that is made puts just that word
+placed_put : (w : Tables) (at : At) (new : ℕ) → IsPlaced w.tables at → IsPut (word_at w) at new (word_at (put w at new))
+placed_put w Root new placed = record { here = refl; others = λ other differ. root_others w new other differ }
+  where
+    root_others : (w : Tables) (new : ℕ) (other : At) → (other ≡ Root → ⊥) → word_at (put w Root new) other ≡ word_at w other
+    root_others w new Root differ = absurd (differ refl)
+    root_others w new (Next t) differ = refl
+    root_others w new (Aborted t) differ = refl
+    root_others w new (Done t) differ = refl
+    root_others w new (Slot t i) differ = refl
+placed_put w (Slot t i) new (table, there, lt) = record { here = word-here w t i new table there lt; others = word-other w t i new table there lt }
+placed_put w (Next t) new placed = absurd placed
+placed_put w (Aborted t) new placed = absurd placed
+placed_put w (Done t) new placed = absurd placed
+
+-- where the store stays, so do its words
+same_words : {K V S : Type 0} (store store' : StoreState K V S) → store' ≡ store → IsSame (words_of store) (words_of store')
+same_words store store' same at = ap (λ y. words_of y at) same
+
+module _ {K V S A : Type 0} where
+  -- what an ask is about is there: the slot, the table, the key and the value that are to be logged, and the pair that is to be shown
+  abbrev pub IsAnswerable : StoreState K V S → Running K V A → Ask → Type 0
+  IsAnswerable store r (Load at) = Unit {0}
+  IsAnswerable store r (Exchange at old new) = IsPlaced store.words.tables at
+  IsAnswerable store r (SameKey n) = Unit {0}
+  IsAnswerable store r (ShowPair n) = (a : A) × (p : Stored K V) × (r.answers ≡ Some a) × (pair_of store n ≡ Some p)
+  IsAnswerable store r (SizeOf t) = (table : TableWords) × (table_of store.words.tables t ≡ Some table) × IsSize (length table.slots) table.limit
+  IsAnswerable store r MakeKey = (k : K) × (r.key ≡ Own k)
+  IsAnswerable store r MakePair = (n : ℕ) × (v : V) × (r.key ≡ Logged n) × (r.value ≡ Some v)
+  IsAnswerable store r (MakeTable slots limit) = Unit {0}
+  IsAnswerable store r (AddToShard by) = Unit {0}
+  IsAnswerable store r (Ask_done reply) = ⊥
+
+  -- an ask about what is there is answered by the words
+  pub prompted : (eq : K → K → Bool) (says : Says K V A) (ask : Ask) (store : StoreState K V S) (r : Running K V A) (answer : Answer) (store' : StoreState K V S) (later : Running K V A) → IsAnswerable store r ask → Performs eq says false ask store r answer store' later → IsPrompt (words_of store) ask answer (words_of store')
+  prompted eq says (Load at) store r answer store' later there (e, (same, stays)) = (e, same_words store store' same)
+  prompted eq says (Exchange at old new) store r answer store' later there (made, stays) = by_word (word_at store.words at == old) made
+    where
+      by_word : (b : Bool)
+          → MatchBool b ((answer ≡ Exchanged) × (store' ≡ record store { words = put store.words at new })) ((answer ≡ Found_instead (word_at store.words at)) × (store' ≡ store))
+          → MatchBool b ((answer ≡ Exchanged) × IsPut (words_of store) at new (words_of store')) ((answer ≡ Found_instead (word_at store.words at)) × IsSame (words_of store) (words_of store'))
+      by_word true (e, same) = (e, subst (λ (y : StoreState K V S). IsPut (words_of store) at new (words_of y)) (sym same) (placed_put store.words at new there))
+      by_word false (e, same) = (e, same_words store store' same)
+  prompted eq says (SameKey n) store r answer store' later there (e, (same, stays)) = ((_, e), same_words store store' same)
+  prompted eq says (ShowPair n) store r answer store' later (a, p, answers, logged) (inl (inl none, e, (same, stays))) = let f : None ≡ Some a = sym none ∙ answers in absurd cc
+  prompted eq says (ShowPair n) store r answer store' later (a, p, answers, logged) (inl (inr none, e, (same, stays))) = let f : None ≡ Some p = sym none ∙ logged in absurd cc
+  prompted eq says (ShowPair n) store r answer store' later there (inr (a, p, agrees, a', was, logged, said, e, same, goes)) = ((agrees, e), same_words store store' same)
+  prompted eq says (SizeOf t) store r answer store' later (table, there, size) (e, (same, stays)) = ((length table.slots, table.limit, size, e ∙ ap size_of there), same_words store store' same)
+  prompted eq says MakeKey store r answer store' later (k, own) (inl (refused, (same, stays))) = (refused_making _ _ answer refused, same_words store store' same)
+  prompted eq says MakeKey store r answer store' later (k, own) (inr (inl ((e, n, logged), stays))) = let f : Own k ≡ Logged n = sym own ∙ logged in absurd cc
+  prompted eq says MakeKey store r answer store' later there (inr (inr (k, own, e, few, same, goes))) = (inl (_, e), λ at. ap (λ (y : StoreState K V S). words_of y at) same)
+  prompted eq says MakePair store r answer store' later (n, v, key, value) (inl (refused, (same, stays))) = (refused_making _ _ answer refused, same_words store store' same)
+  prompted eq says MakePair store r answer store' later (n, v, key, value) (inr (inl ((e, inl (k, own)), stays))) = let f : Own k ≡ Logged n = sym own ∙ key in absurd cc
+  prompted eq says MakePair store r answer store' later (n, v, key, value) (inr (inl ((e, inr none), stays))) = let f : None ≡ Some v = sym none ∙ value in absurd cc
+  prompted eq says MakePair store r answer store' later there (inr (inr (n, v, key, value, e, few, same, goes))) = (inl (_, e), λ at. ap (λ (y : StoreState K V S). words_of y at) same)
+  prompted eq says (MakeTable slots limit) store r answer store' later there (inl (refused, same), stays) = (refused_making _ _ answer refused, same_words store store' same)
+  prompted eq says (MakeTable slots limit) store r answer store' later there (inr (e, few, same), stays) = (inl (_, e), λ at. ap (λ (y : StoreState K V S). words_of y at) same ∙ word-made store.words (length store.words.tables + 1) slots limit at)
+  prompted eq says (AddToShard by) store r answer store' later there (e, same, stays) = (e, λ at. ap (λ (y : StoreState K V S). words_of y at) same)
+  prompted eq says (Ask_done reply) store r answer store' later there performs = absurd there
+
+-- an exchange leaves the words at other places
+exchange_other : (words words' : At → ℕ) (at other : At) (new : ℕ) (answer : Answer) (b : Bool) → (other ≡ at → ⊥) → MatchBool b ((answer ≡ Exchanged) × IsPut words at new words') ((answer ≡ Found_instead (words at)) × IsSame words words') → words' other ≡ words other
+exchange_other words words' at other new answer true differ told = told.1.others other differ
+exchange_other words words' at other new answer false differ told = told.1 other
+
+-- an exchange of the root or of a slot gives no table a next one
+pub prompt_single : {K V S A : Type 0} (ask : Ask) (store : StoreState K V S) (r : Running K V A) (answer : Answer) (words' : At → ℕ) → IsAnswerable store r ask → IsPrompt (words_of store) ask answer words' → (t : ℕ) → word_at store.words (Next t) ≡ 0 → words' (Next t) ≡ 0
+prompt_single (Load at) store r answer words' there told t last = told.1 (Next t) ∙ last
+prompt_single (Exchange Root old new) store r answer words' there told t last = exchange_other (words_of store) words' Root (Next t) new answer (word_at store.words Root == old) (λ f. absurd cc) told ∙ last
+prompt_single (Exchange (Slot u i) old new) store r answer words' there told t last = exchange_other (words_of store) words' (Slot u i) (Next t) new answer (word_at store.words (Slot u i) == old) (λ f. absurd cc) told ∙ last
+prompt_single (Exchange (Next u) old new) store r answer words' there told t last = absurd there
+prompt_single (Exchange (Aborted u) old new) store r answer words' there told t last = absurd there
+prompt_single (Exchange (Done u) old new) store r answer words' there told t last = absurd there
+prompt_single (SameKey n) store r answer words' there told t last = told.1 (Next t) ∙ last
+prompt_single (ShowPair n) store r answer words' there told t last = told.1 (Next t) ∙ last
+prompt_single (SizeOf n) store r answer words' there told t last = told.1 (Next t) ∙ last
+prompt_single MakeKey store r answer words' there told t last = told.1 (Next t) ∙ last
+prompt_single MakePair store r answer words' there told t last = told.1 (Next t) ∙ last
+prompt_single (MakeTable slots limit) store r answer words' there told t last = told.1 (Next t) ∙ last
+prompt_single (AddToShard by) store r answer words' there told t last = told.1 (Next t) ∙ last
+prompt_single (Ask_done reply) store r answer words' there told t last = absurd there
+
+-- a machine's task and hash stay
+pub same_task : (m : Machine) (answer : Answer) → ((after m answer).task ≡ m.task) × ((after m answer).hash ≡ m.hash)
+same_task m (Word_read word) = (refl, refl)
+same_task m Exchanged = (refl, refl)
+same_task m (Found_instead word) = (refl, refl)
+same_task m (Yes same) = (refl, refl)
+same_task m (Size slots limit) = (refl, refl)
+same_task m (Made_number n) = (refl, refl)
+same_task m Ok_done = (refl, refl)
+same_task m (Was_refused refused) = (refl, refl)
+
+-- an ask that is no reply has none in it
+pub unreplied : (ask : Ask) → ((reply : Reply) → ask ≡ Ask_done reply → ⊥) → reply_in ask ≡ None
+unreplied (Load at) still_open = refl
+unreplied (Exchange at old new) still_open = refl
+unreplied (SameKey n) still_open = refl
+unreplied (ShowPair n) still_open = refl
+unreplied (SizeOf n) still_open = refl
+unreplied MakeKey still_open = refl
+unreplied MakePair still_open = refl
+unreplied (MakeTable slots limit) still_open = refl
+unreplied (AddToShard by) still_open = refl
+unreplied (Ask_done reply) still_open = absurd (still_open reply refl)

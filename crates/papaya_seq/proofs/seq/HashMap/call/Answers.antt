@@ -1,0 +1,55 @@
+use Rattle.std.proofs.Common.{rules, ◌≡◌, ℕ, Bool, Option, None, Some, option_map, refl, sym, ◌∙◌, subst}
+use Rattle.papaya_call.specs.Law.Content.{AreApart}
+use Rattle.papaya_core.specs.Content.{content}
+use Rattle.papaya_core.specs.Store.{StoreState, Stored, hash_of}
+use Rattle.papaya_call.specs.declared.call.Reply.TheVariants.{Absent, Found}
+use Rattle.papaya_core.proofs.CountedCore.{lawful_apart}
+use Rattle.papaya_seq.specs.Calls.{IsCalled}
+use Rattle.papaya_seq.specs.Map.{HasNone, Holds, IsLawfulMap, core_of}
+use Rattle.papaya_seq.specs.Looks.{IsFound}
+use Rattle.papaya_seq.proofs.CallsDone.{get_absent, get_found, remove_called}
+use Rattle.papaya_seq.proofs.seq.HashMap.call.Goals as goal
+
+-- a lookup's pair and the number that is replied
+looked_up : {K V S : Type 0} (eq : K → K → Bool) (s : StoreState K V S) (k : K) (found : Option (Stored K V)) (n : ℕ) → IsFound (eq k) s found → option_map (λ p. p.number) found ≡ Some n → (p : Stored K V) × Holds (eq k) s p × (p.number ≡ n)
+looked_up eq s k None n is e = let f : None ≡ Some n = e in absurd cc
+looked_up eq s k (Some p) n is e = (p, is.0, cc)
+
+-- and none
+looked_none : {K V S : Type 0} (eq : K → K → Bool) (s : StoreState K V S) (k : K) (found : Option (Stored K V)) → IsFound (eq k) s found → option_map (λ p. p.number) found ≡ None → HasNone (eq k) s
+looked_none eq s k None is e = is
+looked_none eq s k (Some p) is e = let f : Some p.number ≡ None = e in absurd cc
+
+pub returns-in-Some : goal.returns-in-Some
+returns-in-Some g c =
+    let lawful = subst (λ s. IsLawfulMap g.K.PartialEq.eq (hash_of g.K.Hash.hash_input g.S.BuildHasher.build_hasher g.S.Hasher.Hasher.write g.S.Hasher.Hasher.finish s.store.hasher) s.store s.mode) c.self.view_is c.self.invariant in
+    let apart : AreApart g.K.PartialEq.eq (λ p. p.key) (content c.args.self.now.store) =
+    lawful_apart g.K.PartialEq.eq g.K.Hash.hash_input g.S.BuildHasher.build_hasher g.S.Hasher.Hasher.write g.S.Hasher.Hasher.finish g.met.K.Eq.laws g.met.K.Hash.respects_eq (core_of c.args.self.now) lawful.lawful in
+    let (p, holds, number) = looked_up g.K.PartialEq.eq c.args.self.now.store c.in-Get.key c.look_up.ensures.0 c.in-Some.pair c.look_up.ensures.1.0 (sym c.look_up.ensures.2 ∙ c.in-Some.is) in
+    subst (λ call. IsCalled g.K.PartialEq.eq (record { op = g.A.Answers.op_gives; yes = g.A.Answers.yes_gives }) c.args.self.now call (Found c.in-Some.pair) c.args.self.now) (sym c.in-Get.is) (record {
+      answered = get_found g.K.PartialEq.eq g.met.K.Eq.laws c.args.self.now.store apart c.in-Get.key g.row.A.Denot p c.in-Some.pair holds number;
+      fresh = tt;
+      said = tt;
+      keeps = record { hasher = refl; mode = refl; initial = refl; pairs = λ n p e. e };
+    })
+
+pub returns-in-Get : goal.returns-in-Get
+returns-in-Get g c =
+    let lawful = subst (λ s. IsLawfulMap g.K.PartialEq.eq (hash_of g.K.Hash.hash_input g.S.BuildHasher.build_hasher g.S.Hasher.Hasher.write g.S.Hasher.Hasher.finish s.store.hasher) s.store s.mode) c.self.view_is c.self.invariant in
+    let apart : AreApart g.K.PartialEq.eq (λ p. p.key) (content c.args.self.now.store) =
+    lawful_apart g.K.PartialEq.eq g.K.Hash.hash_input g.S.BuildHasher.build_hasher g.S.Hasher.Hasher.write g.S.Hasher.Hasher.finish g.met.K.Eq.laws g.met.K.Hash.respects_eq (core_of c.args.self.now) lawful.lawful in
+    let none = looked_none g.K.PartialEq.eq c.args.self.now.store c.in-Get.key c.look_up.ensures.0 c.look_up.ensures.1.0 (sym c.look_up.ensures.2 ∙ c.in-None.is) in
+    subst (λ call. IsCalled g.K.PartialEq.eq (record { op = g.A.Answers.op_gives; yes = g.A.Answers.yes_gives }) c.args.self.now call Absent c.args.self.now) (sym c.in-Get.is) (record {
+      answered = get_absent g.K.PartialEq.eq g.met.K.Eq.laws c.args.self.now.store apart c.in-Get.key g.row.A.Denot none;
+      fresh = tt;
+      said = tt;
+      keeps = record { hasher = refl; mode = refl; initial = refl; pairs = λ n p e. e };
+    })
+
+pub returns : goal.returns
+returns g c =
+    let lawful = subst (λ s. IsLawfulMap g.K.PartialEq.eq (hash_of g.K.Hash.hash_input g.S.BuildHasher.build_hasher g.S.Hasher.Hasher.write g.S.Hasher.Hasher.finish s.store.hasher) s.store s.mode) c.self.view_is c.self.invariant in
+    let apart : AreApart g.K.PartialEq.eq (λ p. p.key) (content c.args.self.now.store) =
+    lawful_apart g.K.PartialEq.eq g.K.Hash.hash_input g.S.BuildHasher.build_hasher g.S.Hasher.Hasher.write g.S.Hasher.Hasher.finish g.met.K.Eq.laws g.met.K.Hash.respects_eq (core_of c.args.self.now) lawful.lawful in
+    subst (λ call. IsCalled g.K.PartialEq.eq (record { op = g.A.Answers.op_gives; yes = g.A.Answers.yes_gives }) c.args.self.now call c.remove_by.result c.remove_by.new.self) (sym c.in-RemoveIf.is)
+    (remove_called g.K.PartialEq.eq g.met.K.Eq.laws c.args.self.now apart c.in-RemoveIf.key c.in-RemoveIf.answers (record { op = g.A.Answers.op_gives; yes = g.A.Answers.yes_gives }) c.remove_by.result c.remove_by.new.self c.remove_by.ensures.whole c.remove_by.ensures.keeps (λ p agrees judges. (judges.2.0.now, subst (λ k. g.A.Answers.yes_gives c.in-RemoveIf.answers k p.value agrees judges.2.0.now) judges.3 (subst (λ v. g.A.Answers.yes_gives c.in-RemoveIf.answers judges.0.now v agrees judges.2.0.now) judges.4 (let met = judges.5.met in search rules)))))

@@ -1,0 +1,64 @@
+-- A lookup by the words that stand in the tables.
+use Rattle.std.specs.Prelude.{◌≡◌, ℕ, Bool, false, Option, Some, None, List, [], ◌∷◌}
+use Rattle.papaya_call.specs.declared.ask.Ask.{Ask}
+use Rattle.papaya_call.specs.declared.ask.Ask.TheVariants.{Load, Exchange, SameKey, ShowPair, SizeOf, MakeKey, MakePair, MakeTable, AddToShard, Done}
+use Rattle.papaya_call.specs.declared.ask.Answer.{Answer}
+use Rattle.papaya_call.specs.declared.ask.Answer.TheVariants.{Word, Yes}
+use Rattle.papaya_call.specs.declared.call.Reply.{Reply}
+use Rattle.papaya_call.specs.declared.call.Reply.TheVariants.{Absent, Found, Inserted, Replaced, Occupied, Removed, Kept, Refused}
+use Rattle.papaya_call.specs.declared.machine.Machine.{Machine}
+use Rattle.papaya_call.specs.Machine.{after, ask_of}
+use Rattle.papaya_core.specs.Performs.{size_of}
+use Rattle.papaya_core.specs.Store.{StoreState, Stored, pair_of}
+use Rattle.papaya_core.specs.Tables.{table_of, word_at}
+use Rattle.papaya_seq.specs.Map.{HasNone, Holds}
+
+-- does the key that is looked for match the pair's, where there is one
+abbrev pub matches_in : {K V : Type 0} → (K → Bool) → Option (Stored K V) → Bool
+matches_in matches None = false
+matches_in matches (Some p) = matches p.key
+
+module _ {K V S : Type 0} (matches : K → Bool) (store : StoreState K V S) where
+  -- a load is answered by the word that stands there, a size by the table, a comparison by the pair
+  abbrev pub IsToldBy : Ask → Answer → Type 0
+  IsToldBy (Load at) answer = answer ≡ Word (word_at store.words at)
+  IsToldBy (SameKey n) answer = answer ≡ Yes (matches_in matches (pair_of store n))
+  IsToldBy (SizeOf t) answer = answer ≡ size_of (table_of store.words.tables t)
+  IsToldBy (Exchange at old new) answer = ⊥
+  IsToldBy (ShowPair n) answer = ⊥
+  IsToldBy MakeKey answer = ⊥
+  IsToldBy MakePair answer = ⊥
+  IsToldBy (MakeTable slots limit) answer = ⊥
+  IsToldBy (AddToShard by) answer = ⊥
+  IsToldBy (Done reply) answer = ⊥
+
+  -- the machine replies this when each of its asks is answered so
+  abbrev pub Replies : Machine → List Answer → Reply → Type 0
+  Replies m [] reply = ask_of m ≡ Done reply
+  Replies m (answer ∷ rest) reply = IsToldBy (ask_of m) answer × Replies (after m answer) rest reply
+
+-- the reply that names the pair that was found
+abbrev pub reply_of : {K V : Type 0} → Option (Stored K V) → Reply
+reply_of None = Absent
+reply_of (Some p) = Found p.number
+
+-- the number in a reply that names a pair that was found
+abbrev pub found_number : Reply → Option ℕ
+found_number Absent = None
+found_number (Found n) = Some n
+found_number (Inserted n) = None
+found_number (Replaced o n) = None
+found_number (Occupied n) = None
+found_number (Removed n) = None
+found_number (Kept n) = None
+found_number (Refused refused) = None
+
+module _ {K V S : Type 0} (matches : K → Bool) (store : StoreState K V S) where
+  -- the pair that was found is the map's, or there is none
+  abbrev pub IsFound : Option (Stored K V) → Type 0
+  IsFound None = HasNone matches store
+  IsFound (Some p) = Holds matches store p × (pair_of store p.number ≡ Some p)
+
+  -- A lookup by this machine finds the map's pair, or that there is none, and this is what the machine replies when each of its asks is answered by what stands in the tables.
+  abbrev pub LooksUp : Machine → Option (Stored K V) → Type 0
+  LooksUp m found = IsFound found × ((answers : List Answer) × Replies matches store m answers (reply_of found))

@@ -1,0 +1,49 @@
+//! Insertions: their machine, answered by the store.
+ghost use Rattle.std.specs.Prelude.{◌≡◌, ℕ, Bool, Option, Some, None, cond};
+ghost use Rattle.papaya_words.specs.declared.probe.Refused.{Refused};
+ghost use Rattle.papaya_core.specs.Solo.{IsAnswered, IsNewIn};
+ghost use Rattle.papaya_core.specs.Store.{hash_of};
+ghost use Rattle.papaya_seq.specs.Map.{IsCause, Keeps, insertion, map_of};
+
+use crate::seq::HashMap;
+use papaya_call::answers::Listed;
+use papaya_call::ask::Ask;
+use papaya_call::call::{Reply, Task};
+use papaya_call::machine::Machine;
+use papaya_core::pairs::{KeyOf, Running};
+use std::hash::{BuildHasher, Hash};
+
+/// The value that a call was handed and has not logged.
+fn value_left<K: Drop, V, A: Drop>(running: Running<K, V, A>) -> Option<V>
+    ensures { result ≡ running.value }
+{
+    let Running { value, .. } = running;
+    value
+}
+
+impl<K: Hash + Eq + Drop, V: Drop, S: BuildHasher> HashMap<K, V, S> {
+    /// Inserts a pair: what the machine replies, and the value where it was not logged.
+    pub(crate) fn insert_by(&mut self, key: K, value: V, replace: bool) -> (Reply, Option<V>)
+        ensures answers { IsAnswered K.eq (insertion replace key value) (map_of K.eq self.old.store) result.0 (map_of K.eq self.new.store) }
+        ensures fresh { IsNewIn self.old.store result.0 }
+        ensures cause { (refused : Refused) → result.0 ≡ Reply.Refused refused → IsCause (hash_of K.hash_input S.build_hasher S.Hasher.write S.Hasher.finish self.old.store.hasher key) self.old.store refused }
+        ensures left { (n : ℕ) → result.0 ≡ Reply.Occupied n → result.1 ≡ Some value }
+        ensures keeps { Keeps self.old self.new }
+    {
+        let hash = self.store.hash(&key);
+        let mut running: Running<K, V, Listed<V>> = Running {
+            machine: Machine::new(Task::Insert { replace }, hash, self.mode, self.initial),
+            key: KeyOf::Own(key),
+            value: Some(value),
+            answers: None,
+        };
+        loop {
+            let ask = running.machine.ask();
+            if let Ask::Done(reply) = ask {
+                return (reply, value_left(running));
+            }
+            let answer = self.store.perform(self.alloc, 0, &mut running, ask, false);
+            running.machine.answer(answer);
+        }
+    }
+}

@@ -1,0 +1,394 @@
+//! The map for one caller.
+ghost use Rattle.std.specs.Prelude.{◌≡◌, ◌≢◌, ℕ, ◌<◌, Bool, true, false, Option, Some, None, List, [], ◌∷◌, ◌++◌, ◌≤◌, length, vec_len, vec_capacity, IfOk, IfErr, IsOk, IsSome, MatchOption, MatchBool, option_map};
+ghost use Rattle.std.specs.Borrow.{sem};
+ghost use Rattle.papaya_words.specs.declared.limits.TheConstants.{DEFAULT_CHUNK};
+ghost use Rattle.papaya_call.specs.Machine.{started};
+ghost use Rattle.papaya_call.specs.declared.call.Task.TheVariants.{Get};
+ghost use Rattle.papaya_core.specs.Content.{content};
+ghost use Rattle.papaya_core.specs.New.{IsAllowed, IsNew, IsRefused};
+ghost use Rattle.papaya_core.specs.Store.{hash_of, pair_of};
+ghost use Rattle.papaya_seq.specs.Answered.{entry_answered, judged_answered, old_answered, value_answered};
+ghost use Rattle.papaya_seq.specs.Calls.{AreCalled, IsCalled};
+ghost use Rattle.papaya_seq.specs.Looks.{LooksUp};
+ghost use Rattle.papaya_seq.specs.Removes.{IsJudged, Judges};
+ghost use Rattle.papaya_seq.specs.Map.{HasNone, HasValue, Holds, IsCause, IsInserted, IsRemoved, IsTried, core_of, deref_pair, map_of, next_of, slots_of, value_of, entry_of};
+
+use crate::guard::Equivalent;
+use crate::occupied::{NotInserted, OccupiedError};
+use papaya_call::answers::Answers;
+use papaya_call::call::{Call, Reply};
+use papaya_core::store::Store;
+use papaya_words::probe::{Refused, ResizeMode};
+use std::alloc::Global;
+use std::hash::{BuildHasher, BuildHasherDefault, FoldHasher, Hash};
+use std::marker::Model;
+
+/// Adds a reply, for which there is room.
+fn push_within(replies: &mut Vec<Reply>, reply: Reply)
+    requires { vec_len replies.old < vec_capacity replies.old }
+    ensures items { replies.new.items ≡ replies.old.items ++ reply ∷ [] }
+    ensures capacity { vec_capacity replies.old ≤ vec_capacity replies.new }
+{
+    let _ = replies.push(reply);
+}
+
+/// A hash map for one caller: the machines of the shared map, on plain words.
+///
+/// It ports `papaya::HashMap` for where a `&mut` will do: no guard, no atomic, and what is answered
+/// borrows the map. Contracts see its words and logs, and by `map_of` the finite map that they mean.
+///
+/// Pairs that were replaced or removed stay in the log, until the map is dropped.
+#[derive(Drop)]
+pub struct HashMap<K: Hash + Eq, V, S: BuildHasher = BuildHasherDefault<FoldHasher>> {
+    pub(crate) alloc: Global,
+    pub(crate) store: Store<K, V, S>,
+    pub(crate) mode: ResizeMode,
+    pub(crate) initial: usize,
+}
+
+impl<K: Hash + Eq, V, S: BuildHasher> Model for HashMap<K, V, S> {
+    ghost use Rattle.papaya_core.specs.Store.{hash_of};
+    ghost use Rattle.papaya_seq.specs.Map.{IsLawfulMap, MapState};
+
+    ghost Value = { MapState K V S };
+
+    ghost view = { λ m. record { store = m.store; mode = m.mode; initial = m.initial } };
+
+    ghost invariant = { λ m. IsLawfulMap K.eq (hash_of K.hash_input S.build_hasher S.Hasher.write S.Hasher.finish m.store.hasher) m.store m.mode };
+}
+
+impl<K: Hash + Eq + Drop, V: Drop, S: BuildHasher + Drop> HashMap<K, V, S> {
+    /// A map of all its parts. `capacity` is for how many pairs its first table is made at once;
+    /// with 0 the first change makes one. `shards` is rounded up to a power of two.
+    ///
+    /// `Refused::ZeroChunk` for chunks of no slots. `Refused::Capacity` for more shards than
+    /// [`papaya_words::limits::MAX_SHARDS`], and for a table past
+    /// [`papaya_words::limits::MAX_TABLE_LEN`]. `Refused::Memory` where a growth was refused.
+    pub fn with_parts(
+        alloc: Global,
+        mode: ResizeMode,
+        capacity: usize,
+        shards: usize,
+        hasher: S,
+    ) -> Result<HashMap<K, V, S>, Refused>
+        ensures ok { IfOk result (λ map. IsAllowed mode capacity shards × IsNew {A = Unit {0}} mode capacity shards hasher (core_of map)) }
+        ensures empty { IfOk result (λ map. content map.store ≡ []) }
+        ensures err { IfErr result (λ e. IsRefused mode capacity shards e) }
+    {
+        let (store, initial) = Store::with_parts(alloc, mode, capacity, shards, hasher)?;
+        Ok(HashMap {
+            alloc,
+            store,
+            mode,
+            initial,
+        })
+    }
+
+    /// A map for so many pairs, with this hasher: `with_capacity_and_hasher` of 0.2.5.
+    pub fn with_capacity_and_hasher(
+        alloc: Global,
+        capacity: usize,
+        hasher: S,
+    ) -> Result<HashMap<K, V, S>, Refused>
+        ensures ok { IfOk result (λ map. IsNew {A = Unit {0}} (ResizeMode.Incremental DEFAULT_CHUNK) capacity 1 hasher (core_of map)) }
+        ensures empty { IfOk result (λ map. content map.store ≡ []) }
+        ensures err { IfErr result (λ e. IsRefused (ResizeMode.Incremental DEFAULT_CHUNK) capacity 1 e) }
+    {
+        HashMap::with_parts(alloc, ResizeMode::default(), capacity, 1, hasher)
+    }
+
+    /// A map with this hasher: `with_hasher` of 0.2.5. The first change makes its first table.
+    pub fn with_hasher(alloc: Global, hasher: S) -> Result<HashMap<K, V, S>, Refused>
+        ensures ok { IfOk result (λ map. IsNew {A = Unit {0}} (ResizeMode.Incremental DEFAULT_CHUNK) 0 1 hasher (core_of map)) }
+        ensures empty { IfOk result (λ map. content map.store ≡ []) }
+        ensures err { IfErr result (λ e. e ≡ Refused.Memory) }
+    {
+        HashMap::with_capacity_and_hasher(alloc, 0, hasher)
+    }
+}
+
+impl<K: Hash + Eq + Drop, V: Drop> HashMap<K, V, BuildHasherDefault<FoldHasher>> {
+    /// A map that makes its first table at its first change: `new` of 0.2.5, but for the hasher,
+    /// which is the same in each run.
+    pub fn new(alloc: Global) -> Result<HashMap<K, V, BuildHasherDefault<FoldHasher>>, Refused>
+        ensures new { IfOk result (λ map. IsNew {A = Unit {0}} (ResizeMode.Incremental DEFAULT_CHUNK) 0 1 map.store.hasher (core_of map)) }
+        ensures empty { IfOk result (λ map. (content map.store ≡ []) × (slots_of map.store ≡ 0)) }
+        ensures err { IfErr result (λ e. e ≡ Refused.Memory) }
+    {
+        HashMap::with_hasher(alloc, BuildHasherDefault::new())
+    }
+
+    /// A map for so many pairs: `with_capacity` of 0.2.5.
+    pub fn with_capacity(
+        alloc: Global,
+        capacity: usize,
+    ) -> Result<HashMap<K, V, BuildHasherDefault<FoldHasher>>, Refused>
+        ensures new { IfOk result (λ map. IsNew {A = Unit {0}} (ResizeMode.Incremental DEFAULT_CHUNK) capacity 1 map.store.hasher (core_of map)) }
+        ensures empty { IfOk result (λ map. content map.store ≡ []) }
+        ensures err { IfErr result (λ e. IsRefused (ResizeMode.Incremental DEFAULT_CHUNK) capacity 1 e) }
+    {
+        HashMap::with_capacity_and_hasher(alloc, capacity, BuildHasherDefault::new())
+    }
+
+    /// The same as [`HashMap::new`]: what the trait `Default` gives in 0.2.5.
+    pub fn default(alloc: Global) -> Result<HashMap<K, V, BuildHasherDefault<FoldHasher>>, Refused>
+        ensures new { IfOk result (λ map. IsNew {A = Unit {0}} (ResizeMode.Incremental DEFAULT_CHUNK) 0 1 map.store.hasher (core_of map)) }
+        ensures empty { IfOk result (λ map. (content map.store ≡ []) × (slots_of map.store ≡ 0)) }
+        ensures err { IfErr result (λ e. e ≡ Refused.Memory) }
+    {
+        HashMap::new(alloc)
+    }
+}
+
+impl<K: Hash + Eq, V, S: BuildHasher> HashMap<K, V, S> {
+    /// How many pairs the map has.
+    pub fn len(&self) -> usize
+        ensures { result ≡ length (content self.now.store) }
+    {
+        self.store.count()
+    }
+
+    /// Has the map no pair?
+    pub fn is_empty(&self) -> bool
+        ensures { MatchBool result (content self.now.store ≡ []) (content self.now.store ≢ []) }
+    {
+        self.len() == 0
+    }
+
+    /// How many slots the root table has; 0 where there is none yet.
+    pub fn slots(&self) -> usize
+        ensures { result ≡ slots_of self.now.store }
+    {
+        self.store.root().map_or(0, |table| table.len())
+    }
+
+    /// Are pairs being moved to a further table? While they are not, a removal takes no memory and
+    /// is never refused.
+    pub fn resizing(&self) -> bool
+        ensures { MatchBool result (next_of self.now.store ≢ 0) (next_of self.now.store ≡ 0) }
+    {
+        self.store.root().map_or(0, |table| table.next()) != 0
+    }
+
+    /// The key and the value of a pair, by its number in the log, also of one that was replaced or
+    /// removed.
+    pub fn pair(&self, n: u64) -> Option<(&K, &V)>
+        ensures { MatchOption result (pair_of self.now.store n ≡ None) (λ p. pair_of self.now.store n ≡ Some (record { number = n; key = p.0.now; value = p.1.now })) }
+    {
+        self.store.pair(n)
+    }
+
+    /// The value of a key: `get` of 0.2.5. It takes no memory and is never refused.
+    ///
+    /// The answer is what the machine of a lookup replies where each of its loads is answered by the
+    /// word that stands in the tables.
+    #[inline(always)]
+    pub fn get<Q: Equivalent<K>>(&self, key: &Q) -> Option<&V>
+        ensures answer { MatchOption result (HasNone (Q.matches key.now) self.now.store) (λ v. (p : _) × Holds (Q.matches key.now) self.now.store p × (p.value ≡ v.now)) }
+        ensures machine { (found : _) × LooksUp (Q.matches key.now) self.now.store (started Get (hash_of Q.hash_input S.build_hasher S.Hasher.write S.Hasher.finish self.now.store.hasher key.now) self.now.mode self.now.initial) found × (option_map (λ v. v.now) result ≡ value_of found) }
+    {
+        match self.get_key_value(key) {
+            Some((_, value)) => Some(value),
+            None => None,
+        }
+    }
+
+    /// The stored key and the value of a key: `get_key_value` of 0.2.5.
+    #[inline(always)]
+    pub fn get_key_value<Q: Equivalent<K>>(&self, key: &Q) -> Option<(&K, &V)>
+        ensures answer { MatchOption result (HasNone (Q.matches key.now) self.now.store) (λ found. (p : _) × Holds (Q.matches key.now) self.now.store p × (p.key ≡ found.0.now) × (p.value ≡ found.1.now)) }
+        ensures machine { (found : _) × LooksUp (Q.matches key.now) self.now.store (started Get (hash_of Q.hash_input S.build_hasher S.Hasher.write S.Hasher.finish self.now.store.hasher key.now) self.now.mode self.now.initial) found × (option_map deref_pair result ≡ option_map entry_of found) }
+    {
+        match self.look_up(key) {
+            Some(pair) => self.store.pair(pair),
+            None => None,
+        }
+    }
+
+    /// Is the key in the map? `contains_key` of 0.2.5.
+    #[inline(always)]
+    pub fn contains_key<Q: Equivalent<K>>(&self, key: &Q) -> bool
+        ensures { MatchBool result ((p : _) × Holds (Q.matches key.now) self.now.store p) (HasNone (Q.matches key.now) self.now.store) }
+    {
+        self.look_up(key).is_some()
+    }
+}
+
+impl<K: Hash + Eq, V, S: BuildHasher> HashMap<K, V, S> {
+    /// The value of a pair that is in the log.
+    #[inline(always)]
+    fn logged(&self, n: u64) -> &V
+        requires { IsSome (pair_of self.now.store n) }
+        ensures { (p : _) → pair_of self.now.store n ≡ Some p → result.now ≡ p.value }
+    {
+        match self.store.pair(n) {
+            Some((_, value)) => value,
+            None => unreachable!(),
+        }
+    }
+}
+
+impl<K: Hash + Eq + Drop, V: Drop, S: BuildHasher> HashMap<K, V, S> {
+    ghost use Rattle.papaya_seq.specs.Ends.{ends_so};
+
+    /// Stores a pair, and answers the value that its key had: `insert` of 0.2.5. As there, the new
+    /// key takes the old one's place too.
+    ///
+    /// `Refused::Memory` where a growth was refused. `Refused::Capacity` where the log of keys or of
+    /// pairs is full, and where the key has no place left in the table. The map is as it was then,
+    /// and what was handed in is dropped, at once or with the map.
+    pub fn insert(&mut self, key: K, value: V) -> Result<Option<&V>, Refused>
+        ensures* inserts { sem 𝓛 (ends_so K.row V.row S.row S.Hasher.row K.Hash S.BuildHasher S.Hasher.Hasher self.entry (IsInserted K.eq (hash_of K.hash_input S.build_hasher S.Hasher.write S.Hasher.finish self.old.store.hasher key) key value self.old (old_answered result))) }
+        ensures old { IfOk result (λ old. option_map (λ v. v.now) old ≡ value_of (map_of K.eq self.old.store key)) }
+        ensures err { IfErr result (IsCause (hash_of K.hash_input S.build_hasher S.Hasher.write S.Hasher.finish self.old.store.hasher key) self.old.store) }
+    {
+        let (reply, _) = self.insert_by(key, value, true);
+        match reply {
+            Reply::Replaced { old, .. } => Ok(Some(self.logged(old))),
+            Reply::Refused(refused) => Err(refused),
+            _ => Ok(None),
+        }
+    }
+
+    /// Stores a pair where the key is absent: the number of the pair that the key has then, and the
+    /// value that was handed in, where the key was in the map and it was not stored.
+    ///
+    /// It is [`HashMap::try_insert`] with a number in place of a reference. Refused as
+    /// [`HashMap::insert`].
+    pub fn insert_absent(&mut self, key: K, value: V) -> Result<(u64, Option<V>), Refused>
+        ensures { IsTried K.eq (hash_of K.hash_input S.build_hasher S.Hasher.write S.Hasher.finish self.old.store.hasher key) key value self.old result self.new }
+    {
+        let (reply, left) = self.insert_by(key, value, false);
+        match reply {
+            Reply::Inserted(pair) => Ok((pair, None)),
+            Reply::Occupied(pair) => Ok((pair, left)),
+            Reply::Refused(refused) => Err(refused),
+            _ => unreachable!(),
+        }
+    }
+
+    /// Stores a pair where the key is absent, and answers its value: `try_insert` of 0.2.5. Where
+    /// the key is in the map, what is there stays, and the value that was handed in is given back.
+    ///
+    /// Refused as [`HashMap::insert`]. No clause says here what the map is after it, since the answer
+    /// may own a value: [`HashMap::insert_absent`] says it.
+    pub fn try_insert(
+        &mut self,
+        key: K,
+        value: V,
+    ) -> Result<Result<&V, OccupiedError<'_, V>>, Refused>
+        ensures stored { IfOk result (λ tried. IfOk tried (λ v. (v.now ≡ value) × (map_of K.eq self.old.store key ≡ None))) }
+        ensures occupied { IfOk result (λ tried. IfErr tried (λ e. (value_of (map_of K.eq self.old.store key) ≡ Some e.current.now) × (e.not_inserted ≡ NotInserted.Value value))) }
+        ensures err { IfErr result (IsCause (hash_of K.hash_input S.build_hasher S.Hasher.write S.Hasher.finish self.old.store.hasher key) self.old.store) }
+    {
+        let (pair, left) = self.insert_absent(key, value)?;
+        match left {
+            None => Ok(Ok(self.logged(pair))),
+            Some(value) => Ok(Err(OccupiedError {
+                current: self.logged(pair),
+                not_inserted: NotInserted::Value(value),
+            })),
+        }
+    }
+
+    /// The value of a key, which is stored where the key is absent: `get_or_insert` of 0.2.5.
+    ///
+    /// Refused as [`HashMap::insert`].
+    pub fn get_or_insert(&mut self, key: K, value: V) -> Result<&V, Refused>
+        ensures* inserts { sem 𝓛 (ends_so K.row V.row S.row S.Hasher.row K.Hash S.BuildHasher S.Hasher.Hasher self.entry (HasValue K.eq (hash_of K.hash_input S.build_hasher S.Hasher.write S.Hasher.finish self.old.store.hasher key) key value self.old (value_answered result))) }
+        ensures value { IfOk result (λ v. MatchOption (value_of (map_of K.eq self.old.store key)) (v.now ≡ value) (λ current. v.now ≡ current)) }
+        ensures err { IfErr result (IsCause (hash_of K.hash_input S.build_hasher S.Hasher.write S.Hasher.finish self.old.store.hasher key) self.old.store) }
+    {
+        let (pair, _) = self.insert_absent(key, value)?;
+        Ok(self.logged(pair))
+    }
+
+    /// Removes a key's pair, and answers its value: `remove` of 0.2.5. It takes no memory.
+    pub fn remove<Q: Equivalent<K>>(&mut self, key: &Q) -> Result<Option<&V>, Refused>
+        ensures* removes { sem 𝓛 (ends_so K.row V.row S.row S.Hasher.row K.Hash S.BuildHasher S.Hasher.Hasher self.entry (IsRemoved K.eq (Q.matches key.now) (λ p. p.value) self.old (old_answered result))) }
+        ensures removed { IfOk result (λ removed. MatchOption removed (HasNone (Q.matches key.now) self.old.store) (λ v. (p : _) × Holds (Q.matches key.now) self.old.store p × (p.value ≡ v.now))) }
+        ensures never { next_of self.old.store ≡ 0 → IsOk result }
+    {
+        match self.remove_entry(key)? {
+            Some((_, value)) => Ok(Some(value)),
+            None => Ok(None),
+        }
+    }
+
+    /// Removes a key's pair, and answers the stored key and the value: `remove_entry` of 0.2.5.
+    pub fn remove_entry<Q: Equivalent<K>>(&mut self, key: &Q) -> Result<Option<(&K, &V)>, Refused>
+        ensures* removes { sem 𝓛 (ends_so K.row V.row S.row S.Hasher.row K.Hash S.BuildHasher S.Hasher.Hasher self.entry (IsRemoved K.eq (Q.matches key.now) entry_of self.old (entry_answered result))) }
+        ensures removed { IfOk result (λ removed. MatchOption removed (HasNone (Q.matches key.now) self.old.store) (λ found. (p : _) × Holds (Q.matches key.now) self.old.store p × (p.key ≡ found.0.now) × (p.value ≡ found.1.now))) }
+        ensures never { next_of self.old.store ≡ 0 → IsOk result }
+    {
+        match self.remove_by(key, |_, _| true) {
+            Reply::Removed(pair) => Ok(self.pair(pair)),
+            Reply::Refused(refused) => Err(refused),
+            _ => Ok(None),
+        }
+    }
+
+    /// Removes a key's pair if the closure, which is shown it, answers true: `remove_if` of 0.2.5.
+    ///
+    /// `Ok(None)` where the key is absent, `Ok(Some(pair))` where that very pair was removed, and
+    /// `Err(pair)` where the closure answered false for it. It takes no memory.
+    pub fn remove_if<Q: Equivalent<K>, F: FnMut(&K, &V) -> bool>(
+        &mut self,
+        key: &Q,
+        agrees: F,
+    ) -> Result<Result<Option<(&K, &V)>, (&K, &V)>, Refused>
+        requires { F.IsAlwaysCallable agrees }
+        ensures* removes { sem 𝓛 (ends_so K.row V.row S.row S.Hasher.row K.Hash S.BuildHasher S.Hasher.Hasher self.entry (IsJudged K.eq (Q.matches key.now) (Judges F.FnMut agrees) self.old (judged_answered result))) }
+        ensures removed { IfOk result (λ answered. IfOk answered (λ removed. MatchOption removed (HasNone (Q.matches key.now) self.old.store) (λ found. (p : _) × Holds (Q.matches key.now) self.old.store p × Judges F.FnMut agrees p true × (p.key ≡ found.0.now) × (p.value ≡ found.1.now)))) }
+        ensures kept { IfOk result (λ answered. IfErr answered (λ found. (p : _) × Holds (Q.matches key.now) self.old.store p × Judges F.FnMut agrees p false × (p.key ≡ found.0.now) × (p.value ≡ found.1.now))) }
+        ensures never { next_of self.old.store ≡ 0 → IsOk result }
+    {
+        match self.remove_by(key, agrees) {
+            Reply::Removed(pair) => Ok(Ok(self.pair(pair))),
+            Reply::Kept(pair) => match self.pair(pair) {
+                Some(kept) => Ok(Err(kept)),
+                None => unreachable!(),
+            },
+            Reply::Refused(refused) => Err(refused),
+            _ => Ok(Ok(None)),
+        }
+    }
+
+    /// Makes one call that was handed in as a value.
+    fn call<A: Answers<K, V> + Drop>(&mut self, call: Call<K, V, A>) -> Reply
+        ensures { IsCalled K.eq (record { op = A.op_gives; yes = A.yes_gives }) self.old call result self.new }
+    {
+        // The proof reads the map's invariant here.
+        let _ = &self.store;
+        match call {
+            Call::Get(key) => match self.look_up(&key) {
+                Some(pair) => Reply::Found(pair),
+                None => Reply::Absent,
+            },
+            Call::Insert(key, value) => self.insert_by(key, value, true).0,
+            Call::TryInsert(key, value) => self.insert_by(key, value, false).0,
+            Call::RemoveIf(key, mut answers) => {
+                self.remove_by(&key, |key, value| answers.yes(key, value))
+            }
+        }
+    }
+
+    /// Makes calls, one after the other, and answers their replies, one a call. A call that is
+    /// refused has its refusal for a reply, and the next one is made.
+    ///
+    /// `Refused::Memory` where there is no room for the replies: no call is made then.
+    pub fn run<A: Answers<K, V> + Drop>(
+        &mut self,
+        calls: Vec<Call<K, V, A>>,
+    ) -> Result<Vec<Reply>, Refused>
+        ensures ok { IfOk result (λ replies. AreCalled K.eq (record { op = A.op_gives; yes = A.yes_gives }) self.old calls.items replies.items self.new) }
+        ensures err { IfErr result (λ e. (e ≡ Refused.Memory) × (self.new ≡ self.old)) }
+    {
+        let mut replies = Vec::with_capacity(self.alloc, calls.len()).map_err(|_| Refused::Memory)?;
+        for call in calls {
+            let reply = self.call(call);
+            push_within(&mut replies, reply);
+        }
+        Ok(replies)
+    }
+}

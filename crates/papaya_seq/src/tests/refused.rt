@@ -1,0 +1,67 @@
+// A growth that is refused leaves the map as it was. Where the tests run with a failing allocation,
+// as by `rt try --test --fail-alloc N`, a call here meets it.
+use crate::seq::HashMap;
+use crate::tests::hashers::Zero;
+use papaya_words::probe::Refused;
+use std::test::Fail;
+
+type Numbers = HashMap<u64, u64, Zero>;
+
+/// Has the map the keys below this one, each with ten times itself, and no other?
+fn has_below(map: &Numbers, end: u64) -> bool {
+    for key in 0..end {
+        if map.get(&key) != Some(&(key.wrapping_mul(10))) {
+            return false;
+        }
+    }
+    map.get(&end).is_none() && map.len() as u64 == end
+}
+
+/// The calls that insert.
+#[derive(Clone, Copy)]
+enum Insertion {
+    Insert,
+    TryInsert,
+    GetOrInsert,
+}
+
+/// Inserts a key by this call, and again where it was refused for want of memory. What is told is
+/// whether the map was as it was after a refusal.
+fn insert_again(map: &mut Numbers, key: u64, by: Insertion) -> Result<bool, Refused> {
+    let value = key.wrapping_mul(10);
+    let first = match by {
+        Insertion::Insert => map.insert(key, value).map(|_| ()),
+        Insertion::TryInsert => map.try_insert(key, value).map(|_| ()),
+        Insertion::GetOrInsert => map.get_or_insert(key, value).map(|_| ()),
+    };
+    match first {
+        Ok(()) => Ok(true),
+        Err(Refused::Memory) => {
+            let kept = has_below(map, key);
+            let _ = map.insert(key, value)?;
+            Ok(kept)
+        }
+        Err(refused) => Err(refused),
+    }
+}
+
+#[test]
+fn refused_growth_leaves_the_map(rt: HostRuntime) -> Result<(), Fail> {
+    let mut map = match HashMap::with_hasher(rt.alloc(), Zero) {
+        Err(Refused::Memory) => HashMap::with_hasher(rt.alloc(), Zero)?,
+        made => made?,
+    };
+    for key in 0..20u64 {
+        let by = match key % 3 {
+            0 => Insertion::Insert,
+            1 => Insertion::TryInsert,
+            _ => Insertion::GetOrInsert,
+        };
+        assert!(rt; insert_again(&mut map, key, by)?, "at key {key}");
+        assert!(rt; has_below(&map, key + 1), "at key {key}");
+    }
+    // A removal takes no memory.
+    assert_eq!(rt; map.remove(&19), Ok(Some(&190)));
+    assert!(rt; has_below(&map, 19));
+    Ok(())
+}
