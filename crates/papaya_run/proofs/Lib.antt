@@ -1,2 +1,5 @@
+pub mod CommandLemmas
 pub mod NumberLemmas
+pub mod OneCallerLemmas
+pub mod PartLemmas
 pub mod ScriptLemmas

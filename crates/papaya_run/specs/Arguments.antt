@@ -12,6 +12,7 @@ use Rattle.papaya_run.specs.Numbers.{WritesNumber}
 -- the word of a backend
 abbrev pub backend_word : Backend → List ℕ
 backend_word backend.Core = codes "core"
+backend_word backend.Seq = codes "seq"
 
 -- the word of a way to hash
 abbrev pub hashing_word : Hashing → List ℕ

@@ -1,6 +1,11 @@
+pub mod Answering
 pub mod Arguments
+pub mod Commands
 pub mod Failure
 pub mod Hashers
 pub mod Lines
 pub mod Numbers
+pub mod OneCaller
+pub mod Printed
+pub mod Replies
 pub mod Script

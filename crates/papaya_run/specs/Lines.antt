@@ -2,24 +2,25 @@
 use Rattle.std.specs.Prelude.{◌≡◌, ℕ, List, [], ◌∷◌, ◌++◌, true, false, Some, ◌⊎◌}
 use Rattle.papaya_core.specs.declared.trace.Turn.{Turn}
 use Rattle.papaya_core.specs.declared.trace.Turn.TheVariants.{Begin, Step, Finish}
+use Rattle.papaya_run.specs.declared.answering.Answering.{Answering}
 use Rattle.papaya_run.specs.declared.input.Line.{Line}
 use Rattle.papaya_run.specs.declared.input.Script.{Script}
 use Rattle.papaya_run.specs.Script.{WritesTurn}
 
 -- the line of this number that asks for the turn
-abbrev pub line_of : ℕ → Turn ℕ ℕ → Line
+abbrev pub line_of : ℕ → Turn ℕ ℕ Answering → Line
 line_of number (Begin c what) = record { number = number; caller = c; is_finish = false }
 line_of number (Step c refused) = record { number = number; caller = c; is_finish = false }
 line_of number (Finish c most) = record { number = number; caller = c; is_finish = true }
 
 -- the turn that the line asks for is the script's last
-abbrev pub AddsTurn : Script → ℕ → List ℕ → Script → Turn ℕ ℕ → Type 0
+abbrev pub AddsTurn : Script → ℕ → List ℕ → Script → Turn ℕ ℕ Answering → Type 0
 AddsTurn old number line new turn = WritesTurn line turn × (new.turns.items ≡ old.turns.items ++ turn ∷ []) × (new.lines.items ≡ old.lines.items ++ line_of number turn ∷ []) × (new.bad_line ≡ old.bad_line)
 
 -- the line asks for no turn, and the script says so by its number
 abbrev pub NotesBad : Script → ℕ → List ℕ → Script → Type 0
-NotesBad old number line new = ((turn : Turn ℕ ℕ) → ¬ (WritesTurn line turn)) × (new.turns.items ≡ old.turns.items) × (new.lines.items ≡ old.lines.items) × (new.bad_line ≡ Some number)
+NotesBad old number line new = ((turn : Turn ℕ ℕ Answering) → ¬ (WritesTurn line turn)) × (new.turns.items ≡ old.turns.items) × (new.lines.items ≡ old.lines.items) × (new.bad_line ≡ Some number)
 
 -- the script is added the line of this number
 abbrev pub Adds : Script → ℕ → List ℕ → Script → Type 0
-Adds old number line new = ((turn : Turn ℕ ℕ) × AddsTurn old number line new turn) ⊎ NotesBad old number line new
+Adds old number line new = ((turn : Turn ℕ ℕ Answering) × AddsTurn old number line new turn) ⊎ NotesBad old number line new

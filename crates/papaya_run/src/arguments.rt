@@ -14,6 +14,8 @@ use papaya_words::probe::ResizeMode;
 pub enum Backend {
     /// Any number of callers on one map, a step at a time.
     Core,
+    /// One caller, a whole call at a time.
+    Seq,
 }
 
 /// How keys are hashed.
@@ -39,6 +41,7 @@ fn backend_of(word: &str) -> Option<Backend>
 {
     match word {
         "core" => Some(Backend::Core),
+        "seq" => Some(Backend::Seq),
         _ => None,
     }
 }

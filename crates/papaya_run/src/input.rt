@@ -2,6 +2,7 @@
 ghost use Rattle.std.specs.Prelude.{◌≡◌, OnOk};
 ghost use Rattle.papaya_run.specs.Lines.{Adds, line_of};
 
+use crate::answering::Answering;
 use crate::failure::Failure;
 use crate::script::turn_of;
 use papaya_core::trace::Turn;
@@ -11,7 +12,7 @@ use std::io::{BufRead, ErrorKind};
 
 /// Reads a line into `line`, without its line end, or answers false at the input's end. The last
 /// line may lack its line end. Interrupted reads are made again, as std does.
-fn next_line<R: BufRead>(input: &mut R, line: &mut Vec<u8>) -> Result<bool, Failure> {
+pub fn next_line<R: BufRead>(input: &mut R, line: &mut Vec<u8>) -> Result<bool, Failure> {
     line.clear();
     for _ in 0..u64::MAX {
         let available = match input.fill_buf() {
@@ -45,7 +46,7 @@ pub struct Line {
 }
 
 /// The line of this number, which asks for this turn.
-fn line_of(number: u64, turn: &Turn<u64, u64>) -> Line
+fn line_of(number: u64, turn: &Turn<u64, u64, Answering>) -> Line
     ensures { result ≡ line_of number turn.now }
 {
     let (caller, is_finish) = match turn {
@@ -62,7 +63,7 @@ fn line_of(number: u64, turn: &Turn<u64, u64>) -> Line
 /// A whole script, up to its first line of bad form.
 #[derive(Drop)]
 pub struct Script {
-    pub turns: Vec<Turn<u64, u64>>,
+    pub turns: Vec<Turn<u64, u64, Answering>>,
     /// The line of each turn, in order.
     pub lines: Vec<Line>,
     /// The number of the first line of bad form.

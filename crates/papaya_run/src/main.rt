@@ -1,11 +1,15 @@
 //! `papaya-run`: runs lines of commands on a map, and prints a line for each reply.
 #![tactic(auto)]
 
+mod answering;
 mod arguments;
+mod commands;
 mod failure;
 mod hashers;
 mod input;
 mod numbers;
+mod one_caller;
+mod printed;
 mod replies;
 pub mod run;
 mod script;

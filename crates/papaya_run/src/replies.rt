@@ -1,5 +1,10 @@
-//! What the program prints.
+//! What the program prints of a core's trace.
+ghost use Rattle.std.specs.Prelude.{◌≡◌};
+ghost use Rattle.papaya_run.specs.Replies.{printed_of, value_in};
+
+use crate::answering::Answering;
 use crate::input::Line;
+use crate::printed::Printed;
 use papaya_call::call::Reply;
 use papaya_core::schedule::Core;
 use papaya_core::trace::{Entry, Event, Trace};
@@ -7,44 +12,34 @@ use std::hash::BuildHasher;
 use std::io;
 use std::io::Write;
 
-/// Prints a word and the value of a pair. A reply names a pair that the core has stored, so there
-/// always is one.
-fn print_value<S: BuildHasher + Drop, W: Write>(
-    core: &Core<u64, u64, S>,
-    caller: usize,
-    word: &str,
-    pair: u64,
-    output: &mut W,
-) -> io::Result<()> {
-    match core.pair(pair) {
-        Some((_, value)) => writeln!(output, "{caller}: {word} {value}"),
-        None => Ok(()),
-    }
+/// The value of a pair that was stored.
+fn value_of<S: BuildHasher + Drop>(core: &Core<u64, u64, S, Answering>, pair: u64) -> Option<u64>
+    ensures { result ≡ value_in core.now.store pair }
+{
+    let (_, value) = core.pair(pair)?;
+    Some(*value)
 }
 
-/// Prints the line of a reply.
-fn print_reply<S: BuildHasher + Drop, W: Write>(
-    core: &Core<u64, u64, S>,
-    caller: usize,
+/// What is printed of a reply. A reply names a pair that the core has stored, so there always is
+/// something.
+fn printed_of<S: BuildHasher + Drop>(
+    core: &Core<u64, u64, S, Answering>,
     reply: Reply,
-    output: &mut W,
-) -> io::Result<()> {
+) -> Option<Printed>
+    ensures { result ≡ printed_of core.now.store reply }
+{
     match reply {
-        Reply::Absent | Reply::Inserted(_) => writeln!(output, "{caller}: none"),
-        Reply::Found(pair) | Reply::Occupied(pair) => print_value(
-            core, caller, "some", pair, output,
-        ),
-        Reply::Replaced { old, .. } => print_value(core, caller, "old", old, output),
-        Reply::Refused(refused) => {
-            let number = refused.number();
-            writeln!(output, "{caller}: refused {number} {refused}")
-        }
+        Reply::Absent | Reply::Inserted(_) | Reply::Kept(_) => Some(Printed::Absent),
+        Reply::Found(pair) | Reply::Occupied(pair) => Some(Printed::Found(value_of(core, pair)?)),
+        Reply::Replaced { old, .. } => Some(Printed::Old(value_of(core, old)?)),
+        Reply::Removed(pair) => Some(Printed::Removed(value_of(core, pair)?)),
+        Reply::Refused(refused) => Some(Printed::Refused(refused)),
     }
 }
 
 /// Prints what a line prints, whose entries these are: its reply, or that its call is running still.
 fn print_line<S: BuildHasher + Drop, W: Write>(
-    core: &Core<u64, u64, S>,
+    core: &Core<u64, u64, S, Answering>,
     line: Line,
     entries: &[Entry],
     output: &mut W,
@@ -52,7 +47,10 @@ fn print_line<S: BuildHasher + Drop, W: Write>(
     let caller = line.caller;
     for entry in entries {
         if let Event::Replied(reply) = entry.event {
-            return print_reply(core, caller, reply, output);
+            return match printed_of(core, reply) {
+                Some(printed) => writeln!(output, "{caller}: {printed}"),
+                None => Ok(()),
+            };
         }
     }
     if line.is_finish {
@@ -64,7 +62,7 @@ fn print_line<S: BuildHasher + Drop, W: Write>(
 /// Prints what the lines print, and answers the number of the first line whose turn was passed
 /// over, if there is one. Such a turn has no entry in the trace; no line behind it prints.
 pub fn print_trace<S: BuildHasher + Drop, W: Write>(
-    core: &Core<u64, u64, S>,
+    core: &Core<u64, u64, S, Answering>,
     lines: &[Line],
     trace: &Trace,
     output: &mut W,

@@ -3,10 +3,12 @@ ghost use Rattle.std.specs.Prelude.{◌≡◌, ◌≤◌, map, string_bytes};
 ghost use Rattle.papaya_run.specs.declared.arguments.Arguments.{Arguments};
 ghost use Rattle.papaya_run.specs.Arguments.{WritesArguments};
 
+use crate::answering::Answering;
 use crate::arguments::{Arguments, Backend, Hashing};
 use crate::failure::Failure;
 use crate::hashers::{Identity, Zero};
 use crate::input::Script;
+use crate::one_caller::run_one_caller;
 use crate::replies::print_trace;
 use papaya_core::schedule::Core;
 use papaya_words::probe::{Refused, ResizeMode};
@@ -25,7 +27,7 @@ fn run_core<S: BuildHasher + Drop, R: Read, W: Write>(
     input: &mut R,
     output: &mut W,
 ) -> Result<(), Failure> {
-    let mut core: Core<u64, u64, S> = Core::new(alloc, mode, 0, 1, hasher).map_err(
+    let mut core: Core<u64, u64, S, Answering> = Core::new(alloc, mode, 0, 1, hasher).map_err(
         Failure::Refused,
     )?;
     let mut reader = BufReader::new(alloc, input).map_err(|_| Failure::Refused(Refused::Memory))?;
@@ -61,6 +63,8 @@ fn run<R: Read, W: Write>(
     match (arguments.backend, arguments.hashing) {
         (Backend::Core, Hashing::Identity) => run_core(alloc, mode, Identity, input, output),
         (Backend::Core, Hashing::Zero) => run_core(alloc, mode, Zero, input, output),
+        (Backend::Seq, Hashing::Identity) => run_one_caller(alloc, mode, Identity, input, output),
+        (Backend::Seq, Hashing::Zero) => run_one_caller(alloc, mode, Zero, input, output),
     }
 }
 

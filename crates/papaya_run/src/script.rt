@@ -1,11 +1,13 @@
 //! The lines of a script, which are turns of callers.
-ghost use Rattle.std.specs.Prelude.{◌≡◌, ◌≢◌, ℕ, List, ◌∷◌, ◌++◌, Contains, MatchOption};
-ghost use Rattle.papaya_run.specs.Script.{Parts, WritesCaller, WritesCall, WritesTurn, call_word, verb_word};
-ghost use Rattle.papaya_run.specs.declared.script.CallName.{CallName};
-ghost use Rattle.papaya_run.specs.declared.script.Verb.{Verb};
+ghost use Rattle.std.specs.Prelude.{◌≡◌, ◌≢◌, ℕ, List, MatchOption};
 ghost use Rattle.papaya_call.specs.declared.call.Call.{Call};
 ghost use Rattle.papaya_core.specs.declared.trace.Turn.{Turn};
+ghost use Rattle.papaya_run.specs.Script.{WritesCaller, WritesCall, WritesTurn, verb_word};
+ghost use Rattle.papaya_run.specs.declared.answering.Answering.{Answering};
+ghost use Rattle.papaya_run.specs.declared.script.Verb.{Verb};
 
+use crate::answering::Answering;
+use crate::commands::{Command, command_of, parted};
 use crate::numbers::number_of;
 use papaya_call::call::Call;
 use papaya_core::trace::Turn;
@@ -15,18 +17,6 @@ const CALLERS: u64 = 64;
 
 /// How many steps `finish` makes at most.
 const MOST_STEPS: usize = 1_000_000;
-
-/// What stands before the first space, and what after it.
-fn parted(text: &[u8]) -> Option<(&[u8], &[u8])>
-    ensures { MatchOption result (¬ (Contains text.now 32)) (λ p. Parts text.now p.0.now p.1.now) }
-{
-    for (place, byte) in text.iter().enumerate() {
-        if *byte == b' ' {
-            return Some((&text[..place], &text[place + 1..]));
-        }
-    }
-    None
-}
 
 /// The caller of this number.
 fn caller_of(text: &[u8]) -> Option<usize>
@@ -40,34 +30,15 @@ fn caller_of(text: &[u8]) -> Option<usize>
     }
 }
 
-/// What a call is named.
-enum CallName {
-    Get,
-    Insert,
-}
-
-/// The call of this name.
-fn call_name(word: &[u8]) -> Option<CallName>
-    ensures { MatchOption result ((name : CallName) → word.now ≢ call_word name) (λ name. word.now ≡ call_word name) }
+/// The call that this text writes. A question is none.
+fn call_of(text: &[u8]) -> Option<Call<u64, u64, Answering>>
+    ensures { MatchOption result ((call : Call ℕ ℕ Answering) → ¬ (WritesCall text.now call)) (WritesCall text.now) }
 {
-    match word {
-        b"g" => Some(CallName::Get),
-        b"i" => Some(CallName::Insert),
-        _ => None,
-    }
-}
-
-/// The call that these words name.
-fn call_of(text: &[u8]) -> Option<Call<u64, u64>>
-    ensures { MatchOption result ((call : Call ℕ ℕ) → ¬ (WritesCall text.now call)) (WritesCall text.now) }
-{
-    let (name, rest) = parted(text)?;
-    match call_name(name)? {
-        CallName::Get => Some(Call::Get(number_of(rest)?)),
-        CallName::Insert => {
-            let (key, value) = parted(rest)?;
-            Some(Call::Insert(number_of(key)?, number_of(value)?))
-        }
+    match command_of(text)? {
+        Command::Get(key) => Some(Call::Get(key)),
+        Command::Insert(key, value) => Some(Call::Insert(key, value)),
+        Command::Remove(key) => Some(Call::RemoveIf(key, Answering)),
+        Command::Len | Command::Slots => None,
     }
 }
 
@@ -94,8 +65,8 @@ fn verb_of(word: &[u8]) -> Option<Verb>
 
 /// The turn that a line asks for, or None where the line is of bad form. An empty line asks for
 /// none: a script passes over it.
-pub fn turn_of(line: &[u8]) -> Option<Turn<u64, u64>>
-    ensures { MatchOption result ((turn : Turn ℕ ℕ) → ¬ (WritesTurn line.now turn)) (WritesTurn line.now) }
+pub fn turn_of(line: &[u8]) -> Option<Turn<u64, u64, Answering>>
+    ensures { MatchOption result ((turn : Turn ℕ ℕ Answering) → ¬ (WritesTurn line.now turn)) (WritesTurn line.now) }
 {
     let (verb, rest) = parted(line)?;
     match verb_of(verb)? {

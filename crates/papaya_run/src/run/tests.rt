@@ -5,6 +5,9 @@ use std::io::{Read, Write};
 use std::process::Abort;
 use std::test::Fail;
 
+mod faults;
+mod one_caller;
+
 /// A reader that gives a few bytes at a time, and may fail when it has given all of them.
 #[derive(Drop)]
 struct Source<'a> {
@@ -129,6 +132,18 @@ fn replies(rt: HostRuntime) -> Result<(), Fail> {
 }
 
 #[test]
+fn removals(rt: HostRuntime) -> Result<(), Fail> {
+    // Of a key that is absent, of one that is there, and of one that is there no longer.
+    let script =
+        b"begin 0 r 7\nfinish 0\nbegin 0 i 7 1\nfinish 0\nbegin 0 r 7\nbegin 1 g 7\nfinish 1\nfinish 0\nbegin 1 g 7\nfinish 1\nbegin 0 r 7\nfinish 0\n";
+    let output = "0: none\n0: none\n1: some 1\n0: removed 1\n1: none\n0: none\n";
+    for args in ["core inc:64 id", "core block zero"] {
+        expect(&rt, rt.alloc(), args, script, output, "", 0)?;
+    }
+    Ok(())
+}
+
+#[test]
 fn bad_arguments(rt: HostRuntime) -> Result<(), Fail> {
     for args in [
         "",
@@ -137,7 +152,13 @@ fn bad_arguments(rt: HostRuntime) -> Result<(), Fail> {
         "core inc:64 id ",
         "core inc:64 id id",
         " core inc:64 id",
-        "seq inc:64 id",
+        "seq",
+        "seq inc:64",
+        "seq inc:64 id id",
+        "Seq inc:64 id",
+        "sequence inc:64 id",
+        "seq inc:18446744073709551616 id",
+        "seq block ident",
         "shared inc:64 id",
         "Core inc:64 id",
         "core inc: id",
@@ -178,7 +199,12 @@ fn bad_arguments(rt: HostRuntime) -> Result<(), Fail> {
 
 #[test]
 fn a_chunk_of_nought(rt: HostRuntime) -> Result<(), Fail> {
-    for args in ["core inc:0 id", "core inc:000 zero"] {
+    for args in [
+        "core inc:0 id",
+        "core inc:000 zero",
+        "seq inc:0 id",
+        "seq inc:0 zero",
+    ] {
         expect(
             &rt,
             rt.alloc(),
@@ -194,7 +220,7 @@ fn a_chunk_of_nought(rt: HostRuntime) -> Result<(), Fail> {
 
 #[test]
 fn bad_lines(rt: HostRuntime) -> Result<(), Fail> {
-    let lines: [&[u8]; 44] = [
+    let lines: [&[u8]; 49] = [
         b" ",
         b"x",
         b"begin",
@@ -227,7 +253,12 @@ fn bad_lines(rt: HostRuntime) -> Result<(), Fail> {
         b"begin 64 g 1",
         b"begin 18446744073709551616 g 1",
         b"begin -1 g 1",
-        b"begin 0 r 1",
+        b"begin 0 r",
+        b"begin 0 r ",
+        b"begin 0 r 1 2",
+        b"begin 0 R 1",
+        b"begin 0 len",
+        b"begin 0 slots",
         b"begin 0 u 1",
         b"begin 0 clear",
         b"begin 0 walk",
@@ -298,76 +329,4 @@ fn refused_steps(rt: HostRuntime) -> Result<(), Fail> {
         "",
         0,
     )
-}
-
-#[test]
-fn faults_of_the_input(rt: HostRuntime) -> Result<(), Fail> {
-    let args = words(rt.alloc(), "core inc:64 id")?;
-    // Also behind a bad line.
-    let scripts: [&[u8]; 3] = [b"", FIRST, b"x\nbegin 0 g 1\nfin"];
-    for text in scripts {
-        let mut source = Source {
-            text,
-            step: 7,
-            fails: true,
-        };
-        let mut printed = Vec::new(rt.alloc());
-        let mut said = Vec::new(rt.alloc());
-        assert_eq!(rt;
-            run_on(
-                rt.alloc(),
-                args.as_slice(),
-                &mut source,
-                &mut printed,
-                &mut said
-            ),
-            1
-        );
-        assert!(rt; printed.is_empty());
-        assert_eq!(rt; said.as_slice(), b"papaya-run: input failed\n".as_slice());
-    }
-    Ok(())
-}
-
-#[test]
-fn faults_of_the_output(rt: HostRuntime) -> Result<(), Fail> {
-    let args = words(rt.alloc(), "core inc:64 id")?;
-    // The first write fails, one in the middle of a line, and one of a later line.
-    for (room, kept) in [(0, ""), (4, "1: n"), (16, "1: none\n0: none\n")] {
-        let mut output = Sink {
-            text: Vec::new(rt.alloc()),
-            room,
-        };
-        let mut said = Vec::new(rt.alloc());
-        let mut source = FIRST;
-        assert_eq!(rt;
-            run_on(
-                rt.alloc(),
-                args.as_slice(),
-                &mut source,
-                &mut output,
-                &mut said
-            ),
-            1
-        );
-        assert_eq!(rt; output.text.as_slice(), kept.as_bytes());
-        assert_eq!(rt; said.as_slice(), b"papaya-run: output failed\n".as_slice());
-    }
-    Ok(())
-}
-
-#[test]
-fn faults_of_the_errors(rt: HostRuntime) -> Result<(), Fail> {
-    let mut errors = Sink {
-        text: Vec::new(rt.alloc()),
-        room: 3,
-    };
-    let mut printed = Vec::new(rt.alloc());
-    let mut source = FIRST;
-    assert_eq!(rt;
-        run_on(rt.alloc(), &[], &mut source, &mut printed, &mut errors),
-        2
-    );
-    assert_eq!(rt; errors.text.as_slice(), b"pap".as_slice());
-    Ok(())
 }

@@ -5,3 +5,9 @@ returns-in-Core-Identity g c h = absurd (h c.in-Some.arguments c.in-Some.ensures
 
 pub returns-in-Core-Zero : goal.returns-in-Core-Zero
 returns-in-Core-Zero g c h = absurd (h c.in-Some.arguments c.in-Some.ensures)
+
+pub returns-in-Seq-Identity : goal.returns-in-Seq-Identity
+returns-in-Seq-Identity g c h = absurd (h c.in-Some.arguments c.in-Some.ensures)
+
+pub returns-in-Seq-Zero : goal.returns-in-Seq-Zero
+returns-in-Seq-Zero g c h = absurd (h c.in-Some.arguments c.in-Some.ensures)

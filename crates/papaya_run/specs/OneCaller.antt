@@ -1,0 +1,40 @@
+-- What a command does to a map for one caller, and what is printed of it.
+use Rattle.std.specs.Prelude.{◌≡◌, ◌==◌, ℕ, Option, Some, None, Result, Ok, Err, IsOk, MatchOption, length}
+use Rattle.papaya_words.specs.declared.probe.Refused.{Refused}
+use Rattle.papaya_core.specs.Content.{content}
+use Rattle.papaya_core.specs.Store.{Stored}
+use Rattle.papaya_seq.specs.Map.{HasNone, Holds, IsInserted, IsRemoved, MapState, next_of, slots_of}
+use Rattle.papaya_run.specs.declared.commands.Command.{Command}
+use Rattle.papaya_run.specs.declared.commands.Command.TheVariants as command
+use Rattle.papaya_run.specs.declared.printed.Printed.{Printed}
+use Rattle.papaya_run.specs.declared.printed.Printed.TheVariants as printed
+
+-- what is printed of an insertion: the value that the key had, if it had one, or the refusal
+abbrev pub of_insertion : Result (Option ℕ) Refused → Printed
+of_insertion (Ok None) = printed.Absent
+of_insertion (Ok (Some value)) = printed.Old value
+of_insertion (Err refused) = printed.Refused refused
+
+-- what is printed of a lookup: the value that the key has, if it has one
+abbrev pub of_lookup : Option ℕ → Printed
+of_lookup None = printed.Absent
+of_lookup (Some value) = printed.Found value
+
+-- what is printed of a removal: the value that the key had, if it had one, or the refusal
+abbrev pub of_removal : Result (Option ℕ) Refused → Printed
+of_removal (Ok None) = printed.Absent
+of_removal (Ok (Some value)) = printed.Removed value
+of_removal (Err refused) = printed.Refused refused
+
+module _ {S : Type 0} where
+  -- the map has this value at the key, or has not the key
+  abbrev pub HasAt : MapState ℕ ℕ S → ℕ → Option ℕ → Type 0
+  HasAt s k found = MatchOption found (HasNone (λ key. k == key) s.store) (λ value. (p : Stored ℕ ℕ) × Holds (λ key. k == key) s.store p × (p.value ≡ value))
+
+  -- The command makes of the one map the other, and this is printed; keys are hashed so. A removal is refused only where the root table has a next one.
+  abbrev pub Obeys : (ℕ → ℕ) → Command → MapState ℕ ℕ S → Printed → MapState ℕ ℕ S → Type 0
+  Obeys hash (command.Insert k v) s text s' = (answer : Result (Option ℕ) Refused) × (text ≡ of_insertion answer) × IsInserted (λ a b. a == b) (hash k) k v s answer s'
+  Obeys hash (command.Get k) s text s' = (found : Option ℕ) × (text ≡ of_lookup found) × HasAt s k found × (s' ≡ s)
+  Obeys hash (command.Remove k) s text s' = (answer : Result (Option ℕ) Refused) × (text ≡ of_removal answer) × IsRemoved (λ a b. a == b) (λ key. k == key) (λ p. p.value) s answer s' × (next_of s.store ≡ 0 → IsOk answer)
+  Obeys hash command.Len s text s' = (text ≡ printed.Length (length (content s.store))) × (s' ≡ s)
+  Obeys hash command.Slots s text s' = (text ≡ printed.Slots (slots_of s.store)) × (s' ≡ s)

@@ -1,0 +1,82 @@
+//! The lines on a map for one caller: each is read, done and printed before the next is read.
+ghost use Rattle.std.specs.Prelude.{◌≡◌, MatchResult};
+ghost use Rattle.std.specs.Hash as fed;
+ghost use Rattle.papaya_core.specs.Store.{hash_of};
+ghost use Rattle.papaya_run.specs.Commands.{WritesCommand};
+ghost use Rattle.papaya_run.specs.OneCaller.{Obeys};
+ghost use Rattle.papaya_run.specs.declared.commands.Command.{Command};
+
+use crate::commands::{Command, command_of};
+use crate::failure::Failure;
+use crate::input::next_line;
+use crate::printed::Printed;
+use papaya_seq::seq::HashMap;
+use papaya_words::probe::{Refused, ResizeMode};
+use std::alloc::Global;
+use std::hash::BuildHasher;
+use std::io::{BufReader, Read, Write};
+
+/// Does what a command asks for, and answers what is printed of it.
+fn obey<S: BuildHasher + Drop>(map: &mut HashMap<u64, u64, S>, command: Command) -> Printed
+    ensures { Obeys (hash_of fed.u64 S.build_hasher S.Hasher.write S.Hasher.finish map.old.store.hasher) command map.old result map.new }
+{
+    match command {
+        Command::Insert(key, value) => match map.insert(key, value) {
+            Ok(Some(old)) => Printed::Old(*old),
+            Ok(None) => Printed::Absent,
+            Err(refused) => Printed::Refused(refused),
+        },
+        Command::Get(key) => match map.get(&key) {
+            Some(value) => Printed::Found(*value),
+            None => Printed::Absent,
+        },
+        Command::Remove(key) => match map.remove(&key) {
+            Ok(Some(value)) => Printed::Removed(*value),
+            Ok(None) => Printed::Absent,
+            Err(refused) => Printed::Refused(refused),
+        },
+        Command::Len => Printed::Length(map.len()),
+        Command::Slots => Printed::Slots(map.slots()),
+    }
+}
+
+/// Does what the line of this number asks for. A line of bad form does nothing to the map.
+fn obey_line<S: BuildHasher + Drop>(
+    map: &mut HashMap<u64, u64, S>,
+    number: u64,
+    line: &[u8],
+) -> Result<Printed, Failure>
+    ensures { MatchResult result (λ printed. (command : Command) × WritesCommand line.now command × Obeys (hash_of fed.u64 S.build_hasher S.Hasher.write S.Hasher.finish map.old.store.hasher) command map.old printed map.new) (λ failure. ((command : Command) → ¬ (WritesCommand line.now command)) × (failure ≡ Failure.Line number) × (map.new ≡ map.old)) }
+{
+    match command_of(line) {
+        Some(command) => Ok(obey(map, command)),
+        None => Err(Failure::Line(number)),
+    }
+}
+
+/// Runs the lines of the input one by one on a new map, and prints each reply at once. The first
+/// line of bad form ends the run.
+pub fn run_one_caller<S: BuildHasher + Drop, R: Read, W: Write>(
+    alloc: Global,
+    mode: ResizeMode,
+    hasher: S,
+    input: &mut R,
+    output: &mut W,
+) -> Result<(), Failure> {
+    let mut map: HashMap<u64, u64, S> = HashMap::with_parts(alloc, mode, 0, 1, hasher).map_err(
+        Failure::Refused,
+    )?;
+    let mut reader = BufReader::new(alloc, input).map_err(|_| Failure::Refused(Refused::Memory))?;
+    let mut line = Vec::new(alloc);
+    for number in 1..u64::MAX {
+        if !next_line(&mut reader, &mut line)? {
+            return Ok(());
+        }
+        if !line.is_empty() {
+            let printed = obey_line(&mut map, number, &line)?;
+            writeln!(output, "{printed}").map_err(|_| Failure::Output)?;
+            output.flush().map_err(|_| Failure::Output)?;
+        }
+    }
+    Err(Failure::Input)
+}
