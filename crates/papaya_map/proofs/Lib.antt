@@ -1,0 +1,34 @@
+-- tokens of boxcar logs
+mod Retyped
+pub mod Made
+-- offers that hand tokens to the book
+pub mod Trades
+-- longer logs
+pub mod Logs
+pub mod Names
+-- what steps keep and tell
+pub mod Cells
+pub mod Loads
+pub mod Grown
+pub mod Exchanges
+pub mod Makers
+pub mod Comes
+pub mod Brings
+pub mod Opening
+pub mod Making
+-- what machines are told
+pub mod Driving
+pub mod Replies
+pub mod Settings
+pub mod Tellings
+pub mod Found
+pub mod Tables
+pub mod Loaded
+-- lookups
+pub mod Lookups
+pub mod Histories
+pub mod TableSizes
+pub mod Readings
+pub mod Answering
+pub mod Comparing
+pub mod LookupReplies

@@ -1,0 +1,128 @@
+-- What a lookup replies is the answer of a history between the two that its pass has seen.
+use Rattle.std.proofs.Common.{◌≡◌, ℕ, Bool, true, Option, None, Some, List, ◌++◌, append_assoc, refl, sym, ap, ◌∙◌, subst}
+use Rattle.std.specs.Cmp.{IsEquivalence}
+use mathlib.Core.List.{IsPrefix}
+use denote.Bor.{Bor}
+use Rattle.papaya_call.specs.declared.ask.Ask.TheVariants.{Done}
+use Rattle.papaya_call.specs.declared.call.Reply.{Reply}
+use Rattle.papaya_call.specs.declared.call.Reply.TheVariants.{Absent, Found, Inserted, Replaced, Occupied, Removed, Kept, Refused}
+use Rattle.papaya_call.specs.declared.call.Task.TheVariants.{Get}
+use Rattle.papaya_call.specs.declared.machine.Machine.{Machine}
+use Rattle.papaya_call.specs.declared.machine.State.{State as Stage}
+use Rattle.papaya_call.specs.declared.machine.State.TheVariants.{AtRoot, Making, Opening, Searching, Writing, Showing, Burying, Counting, Uncounting, Leaving, Growing, Ended}
+use Rattle.papaya_call.specs.declared.search.Search.TheVariants.{Sizing, Looking, Comparing}
+use Rattle.papaya_call.specs.declared.write.Made.{Made}
+use Rattle.papaya_call.specs.Law.Allows.{AllAllowed}
+use Rattle.papaya_call.specs.Law.Code.{Coding}
+use Rattle.papaya_call.specs.Law.Exchange.{Exchange, Setting, start}
+use Rattle.papaya_call.specs.Law.Further.{IsMatchedAtMoment}
+use Rattle.papaya_call.specs.Law.Meaning.{map_left}
+use Rattle.papaya_call.specs.Machine.{IsStanding, IsStandingState, ask_of, asks}
+use Rattle.papaya_call.specs.Rests.{IsReply, RestsStage, WasAtMoment}
+use Rattle.papaya_call.specs.Told.{Hands}
+use Rattle.papaya_call.proofs.Law.FurtherMap.{key_moment}
+use Rattle.papaya_call.proofs.Law.Moments.{map_of-append}
+use Rattle.papaya_map.specs.Sheets.{Sheet}
+use Rattle.papaya_map.specs.declared.event.Begun.{Begun}
+use Rattle.papaya_map.specs.declared.event.Event.{Event}
+use Rattle.papaya_map.specs.declared.event.Pair.{Pair}
+use Rattle.papaya_map.specs.Hashes.{hash_of}
+use Rattle.papaya_map.specs.History.{Change, changes_of, history_of, replay}
+use Rattle.papaya_map.specs.Logs.{Stored, coding_of, exchanges_of, setting_of}
+use Rattle.papaya_map.specs.Readers.{HoldsPair, IsAnsweredBetween}
+use Rattle.papaya_map.proofs.Answering.{Reading, stands_get}
+use Rattle.papaya_map.proofs.Histories.{changes_begin, replay_left}
+use Rattle.papaya_map.proofs.Logs.{exchanges_of-append}
+use Rattle.papaya_map.proofs.Readings.{IsQuery, coding, fed, key_form, setting}
+
+-- a machine that has replied is at its end
+done_state : (made : Made) (hash : ℕ) (s : Stage) → IsStandingState Get s → (reply : Reply) → asks made hash s ≡ Done reply → s ≡ Ended reply
+done_state made hash AtRoot stands reply e = absurd cc
+done_state made hash Making stands reply e = absurd stands
+done_state made hash (Opening u) stands reply e = absurd stands
+done_state made hash (Searching (Sizing u)) stands reply e = absurd cc
+done_state made hash (Searching (Looking at)) stands reply e = absurd cc
+done_state made hash (Searching (Comparing at word)) stands reply e = absurd cc
+done_state made hash (Writing write) stands reply e = absurd stands.0
+done_state made hash (Showing removal) stands reply e = absurd stands.0
+done_state made hash (Burying removal) stands reply e = absurd stands.0
+done_state made hash (Counting n) stands reply e = absurd stands
+done_state made hash (Uncounting n) stands reply e = absurd stands
+done_state made hash (Leaving u) stands reply e = absurd cc
+done_state made hash (Growing u) stands reply e = absurd stands
+done_state made hash (Ended other) stands reply e = let is : other ≡ reply = cc e in ap Ended is
+
+module _ {K P : Type 0} (g : Setting K P) (c : Coding K P) (begun since : List (Exchange P)) (k : K) (hands : Hands P) where
+  -- a lookup replies that its key was absent at a moment, or that it found a pair
+  get_reply : (reply : Reply) → IsReply g c begun since k hands Get reply → ((n : ℕ) → reply ≡ Found n → ⊥) → WasAtMoment g c begun since k None
+  get_reply Absent r none = r
+  get_reply (Found n) r none = absurd (none n refl)
+  get_reply (Inserted n) r none = absurd r
+  get_reply (Replaced m n) r none = absurd r
+  get_reply (Occupied n) r none = absurd r
+  get_reply (Removed n) r none = absurd r
+  get_reply (Kept n) r none = absurd r
+  get_reply (Refused refused) r none = absurd r
+
+module _ {K V S H : Type 0} (eq : K → K → Bool) (input : K → List (List ℕ)) (build : S → H) (write : H → List ℕ → H) (finish : H → ℕ) (classes : IsEquivalence eq) (respects : (x y : K) → eq x y ≡ true → input x ≡ input y)
+    (b : Begun K V S) (matches : K → Bool) (query : List (List ℕ)) (lawful : IsQuery eq input matches query) (old began : List (Event K V S)) (pre : IsPrefix old began)
+    (log : List (Event K V S)) (m : Machine) (table : Option (Bor Sheet)) (pair : Option (Bor (Pair K V))) (r : Reading eq input build write finish classes respects b matches query lawful (exchanges_of began) log m table pair) (stands : IsStanding m) where
+  abbrev hash : S → K → ℕ
+  hash = hash_of input build write finish
+
+  -- the setting without the further key
+  abbrev plain : Setting K (Stored K V)
+  plain = setting_of eq (hash b.hasher) b.mode log
+
+  abbrev begun : List (Exchange (Stored K V))
+  begun = exchanges_of began
+
+  abbrev Was : Option (Stored K V) → Type 0
+  Was value = WasAtMoment (setting eq input build write finish classes respects b matches query lawful log) (coding eq input build write finish classes respects b matches query lawful) begun r.since None value
+
+  -- the history at a moment of the call, where the keys that match had this pair
+  record IsHistory (value : Option (Stored K V)) : Type 0 where
+    pub seen : List (Change K (Stored K V))
+    pub since : IsPrefix (history_of old) seen
+    pub until : IsPrefix seen (history_of log)
+    pub had : (k : K) → matches k ≡ true → replay eq seen k ≡ value
+    pub found : (p : Stored K V) → value ≡ Some p → matches p.value.key.value ≡ true
+
+  history_then : (value : Option (Stored K V)) → Was value → IsHistory value
+  history_then value was =
+      let may : AllAllowed plain start (begun ++ r.since) = subst (AllAllowed plain start) (sym r.is) r.lawful.allowed in
+      let f = fed eq input build write finish classes respects b matches query lawful in
+      let moment : IsMatchedAtMoment plain matches (map_left plain begun) r.since value = key_moment plain matches f (coding_of (hash b.hasher)) (key_form eq input build write finish classes respects b matches query lawful log) begun r.since may value was in
+      let es = begun ++ moment.so_far in
+      let early : exchanges_of old ++ (exchanges_of pre.0 ++ moment.so_far) ≡ es = sym (append_assoc (exchanges_of old) (exchanges_of pre.0) moment.so_far) ∙ ap (λ (z : List (Exchange (Stored K V))). z ++ moment.so_far) (sym (exchanges_of-append old pre.0) ∙ ap exchanges_of pre.1) in
+      let late : es ++ moment.rest ≡ exchanges_of log = append_assoc begun moment.so_far moment.rest ∙ (ap (λ (z : List (Exchange (Stored K V))). begun ++ z) moment.is ∙ r.is) in record {
+        seen = changes_of plain.key es;
+        since = changes_begin plain.key (exchanges_of old) (exchanges_of pre.0 ++ moment.so_far) es early;
+        until = changes_begin plain.key es moment.rest (exchanges_of log) late;
+        had = λ k h. ap (λ (z : K → Option (Stored K V)). z k) (replay_left plain es ∙ map_of-append plain begun moment.so_far (λ k. None)) ∙ moment.value_is k h;
+        found = moment.found;
+      }
+
+  -- a pair was found, and is the one that is held
+  pub found_answer : (n : ℕ) → ask_of m ≡ Done (Found n) → (lent : Bor (Pair K V)) → pair ≡ Some lent → (value : Bor V) → value.now ≡ lent.now.value → IsAnsweredBetween {V = V} eq matches (history_of old) (history_of log) (Some value)
+  found_answer n e lent has value is =
+      let last = r.found n (done_state m.made m.hash m.state (stands_get m r.task_is stands) (Found n) e) in
+      let p = last.0 in
+      let h = history_then (Some p) last.2 in
+      let match' = h.found p refl in
+      let holds : HoldsPair b (Some p) (Some lent) = subst (λ o. HoldsPair b (Some p) o) has (subst (λ o. HoldsPair b o pair) last.1 r.holds_pair) in
+      record { seen = h.seen; since = h.since; until = h.until; is = (p, match', h.had p.value.key.value match', is ∙ ap (λ (z : Pair K V). z.value) holds.0) }
+
+  -- a pair that was found is held
+  pub found_held : (n : ℕ) → ask_of m ≡ Done (Found n) → pair ≡ None → ⊥
+  found_held n e none =
+      let last = r.found n (done_state m.made m.hash m.state (stands_get m r.task_is stands) (Found n) e) in
+      subst (λ o. HoldsPair b (Some last.0) o) none (subst (λ o. HoldsPair b o pair) last.1 r.holds_pair)
+
+  -- none was found
+  pub absent_answer : (reply : Reply) → ask_of m ≡ Done reply → ((n : ℕ) → reply ≡ Found n → ⊥) → IsAnsweredBetween {V = V} eq matches (history_of old) (history_of log) None
+  absent_answer reply e none =
+      let g = setting eq input build write finish classes respects b matches query lawful log in let c = coding eq input build write finish classes respects b matches query lawful in
+      let ended = done_state m.made m.hash m.state (stands_get m r.task_is stands) reply e in
+      let stage : RestsStage g c begun r.since None r.hands Get (Ended reply) = subst (λ z. RestsStage g c begun r.since None r.hands Get z) ended (subst (λ t. RestsStage g c begun r.since None r.hands t m.state) r.task_is r.rests.stage) in
+      let h = history_then None (get_reply g c begun r.since None r.hands reply stage none) in record { seen = h.seen; since = h.since; until = h.until; is = h.had }

@@ -1,0 +1,15 @@
+-- what a clause sees of a table, of a token, and of a key's hash
+pub mod Sheets
+pub mod Tokens
+pub mod Hashes
+-- the log, the rule of the book, and what the book keeps beside the log
+pub mod Logs
+pub mod Rule
+pub mod Plays
+pub mod Makers
+pub mod Trade
+pub mod Parts
+pub mod Calls
+-- histories, and what lookups answer of them
+pub mod History
+pub mod Readers
