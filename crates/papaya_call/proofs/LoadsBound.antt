@@ -1,5 +1,5 @@
 -- A lookup's loads are bounded: by induction over the answers.
-use Rattle.std.proofs.Common.{◌≡◌, ⊎_elim, ℕ, ◌≤◌, List, [], ◌∷◌, sym, subst, refl, arith}
+use Rattle.std.proofs.Common.{◌≡◌, ⊎_elim, ℕ, ◌≤◌, None, List, [], ◌∷◌, sym, subst, refl, arith}
 use Rattle.std.specs.List.{All}
 use Rattle.std.proofs.lemmas.List.Elements.{All-cons, All-nil}
 use Rattle.papaya_words.specs.Word.{kind_of}
@@ -12,8 +12,9 @@ use Rattle.papaya_call.specs.declared.search.Search.TheVariants.{Sizing, Looking
 use Rattle.papaya_call.specs.declared.write.Made.{Made}
 use Rattle.papaya_call.specs.declared.write.Made.TheVariants.{Nothing}
 use Rattle.papaya_call.specs.declared.machine.State.{State}
-use Rattle.papaya_call.specs.declared.machine.State.TheVariants.{AtRoot, Making, Opening, Searching, Writing, Showing, Burying, Counting, Uncounting, Leaving, Growing, Ended}
+use Rattle.papaya_call.specs.declared.machine.State.TheVariants.{AtRoot, Making, Opening, Searching, Writing, Offering, Showing, Pairing, Putting, Burying, Counting, Uncounting, Leaving, Growing, Ended}
 use Rattle.papaya_call.specs.declared.machine.Machine.{Machine}
+use Rattle.papaya_call.specs.Compute.{nothing}
 use Rattle.papaya_call.specs.Machine.{IsLookup, ask_of, after, started, at_root, left as state_left, goes_as}
 use Rattle.papaya_call.specs.Search.{first_place, look_at, at_yes as search_compared}
 use Rattle.papaya_call.specs.Loads.{IsAnswer, AreAnswers, IsBounded, asked, tables_entered, tables_loaded}
@@ -34,17 +35,17 @@ module _ (limit : ℕ → ℕ) (hash initial : ℕ) (mode : ResizeMode) where
 
   step_by : (made : Made) (s : State) (answer : Answer) → IsReader s → IsAnswer limit (ask_of (standing made s)) answer → IsStepBy made s answer
   step_by made AtRoot answer reader (word, e, _) =
-      subst (IsStepBy made AtRoot) (sym e) (record { then_made = made; to = at_root Get word; is = refl; step = step_root limit word })
+      subst (IsStepBy made AtRoot) (sym e) (record { then_made = made; to = at_root Get None word; is = refl; step = step_root limit word })
   step_by made (Searching (Sizing u)) answer reader (slots, e) =
       subst (IsStepBy made (Searching (Sizing u))) (sym e) (record { then_made = made; to = Searching (Looking (first_place hash u slots (limit u))); is = refl; step = step_size limit hash u slots })
   step_by made (Searching (Looking at)) answer reader (word, e, _) =
       subst (IsStepBy made (Searching (Looking at))) (sym e)
-      (record { then_made = made; to = goes_as Get mode (look_at (kind_of word) at hash word); is = refl; step = step_load limit at (goes_as Get mode (look_at (kind_of word) at hash word)) reader (leads_look limit mode at reader (kind_of word) hash word) })
+      (record { then_made = made; to = goes_as Get mode nothing (look_at (kind_of word) at hash word); is = refl; step = step_load limit at (goes_as Get mode nothing (look_at (kind_of word) at hash word)) reader (leads_look limit mode at reader (kind_of word) hash word) })
   step_by made (Searching (Comparing at found)) answer reader (same, e) =
       subst (IsStepBy made (Searching (Comparing at found))) (sym e)
-      (record { then_made = made; to = goes_as Get mode (search_compared (Comparing at found) same); is = refl; step = step_compare limit at found (goes_as Get mode (search_compared (Comparing at found) same)) (leads_compared limit mode at reader found same) })
+      (record { then_made = made; to = goes_as Get mode nothing (search_compared (Comparing at found) same); is = refl; step = step_compare limit at found (goes_as Get mode nothing (search_compared (Comparing at found) same)) (leads_compared limit mode at reader found same) })
   step_by made (Leaving u) answer reader (word, e, rises) =
-      subst (IsStepBy made (Leaving u)) (sym e) (record { then_made = made; to = state_left word; is = refl; step = step_next limit u word rises })
+      subst (IsStepBy made (Leaving u)) (sym e) (record { then_made = made; to = state_left Get None u word; is = refl; step = step_next limit u word rises })
   step_by made (Ended reply) answer reader fits = record { then_made = made; to = Ended reply; is = stays answer; step = step_ended limit reply }
     where
       stays : (answer : Answer) → after (standing made (Ended reply)) answer ≡ standing made (Ended reply)
@@ -52,6 +53,7 @@ module _ (limit : ℕ → ℕ) (hash initial : ℕ) (mode : ResizeMode) where
       stays answers.Exchanged = refl
       stays (answers.Found word) = refl
       stays (answers.Yes same) = refl
+      stays (answers.Op kind) = refl
       stays (answers.Size slots last) = refl
       stays (answers.Made n) = refl
       stays answers.Ok = refl
@@ -59,7 +61,10 @@ module _ (limit : ℕ → ℕ) (hash initial : ℕ) (mode : ResizeMode) where
   step_by made Making answer reader fits = absurd reader
   step_by made (Opening u) answer reader fits = absurd reader
   step_by made (Writing write) answer reader fits = absurd reader
+  step_by made (Offering gap) answer reader fits = absurd reader
   step_by made (Showing removal) answer reader fits = absurd reader
+  step_by made (Pairing purpose) answer reader fits = absurd reader
+  step_by made (Putting put) answer reader fits = absurd reader
   step_by made (Burying removal) answer reader fits = absurd reader
   step_by made (Counting pair) answer reader fits = absurd reader
   step_by made (Uncounting pair) answer reader fits = absurd reader

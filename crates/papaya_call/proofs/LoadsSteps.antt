@@ -20,9 +20,10 @@ use Rattle.papaya_call.specs.declared.search.Seen.{Seen}
 use Rattle.papaya_call.specs.declared.search.Seen.TheVariants.{On, Over}
 use Rattle.papaya_call.specs.declared.write.Made.{Made}
 use Rattle.papaya_call.specs.declared.machine.State.{State}
-use Rattle.papaya_call.specs.declared.machine.State.TheVariants.{AtRoot, Making, Opening, Searching, Writing, Showing, Burying, Counting, Uncounting, Leaving, Growing, Ended}
+use Rattle.papaya_call.specs.declared.machine.State.TheVariants.{AtRoot, Making, Opening, Searching, Writing, Offering, Showing, Pairing, Putting, Burying, Counting, Uncounting, Leaving, Growing, Ended}
 use Rattle.papaya_call.specs.declared.machine.Machine.{Machine}
 use Rattle.papaya_call.specs.Search.{first_place, next_place, go_on, compare_byte, look_at, match_at, at_yes as search_compared}
+use Rattle.papaya_call.specs.Compute.{nothing}
 use Rattle.papaya_call.specs.Machine.{IsLookup, at_root, left as state_left, passes, goes_as}
 use Rattle.papaya_call.specs.Loads.{table_entered, table_loaded}
 use Rattle.papaya_call.proofs.LoadsLists.{count, count-cons, IsFrom, from_lower, from_cons, contains_first, contains_more}
@@ -30,7 +31,7 @@ use Rattle.papaya_call.proofs.LoadsLeft.{chosen, left_in, left_most, left_less, 
 
 -- a lookup that stands here
 abbrev pub lookup : (hash initial : ℕ) → ResizeMode → Made → State → Machine
-lookup hash initial mode made s = record { task = Get; hash = hash; mode = mode; initial = initial; made = made; state = s }
+lookup hash initial mode made s = record { task = Get; hash = hash; mode = mode; initial = initial; made = made; remembered = nothing; state = s }
 
 -- where a lookup may stand: within the limit of its table
 abbrev pub IsReader : State → Type 0
@@ -43,7 +44,10 @@ IsReader (Ended reply) = Unit {0}
 IsReader Making = ⊥
 IsReader (Opening u) = ⊥
 IsReader (Writing write) = ⊥
+IsReader (Offering gap) = ⊥
 IsReader (Showing removal) = ⊥
+IsReader (Pairing purpose) = ⊥
+IsReader (Putting put) = ⊥
 IsReader (Burying removal) = ⊥
 IsReader (Counting pair) = ⊥
 IsReader (Uncounting pair) = ⊥
@@ -98,14 +102,14 @@ module _ (limit : ℕ → ℕ) where
   follows_comparing : (at : Place) (word : ℕ) → at.probe.len ≤ at.limit → Follows at.table (at.limit - at.probe.len) (Searching (Comparing at word))
   follows_comparing at word le = record { reader = le; fewer = λ t. left_less limit t at.table (at.limit - at.probe.len) (at.limit - at.probe.len) (λ e. omega arith); above = omega arith; same = λ v h. h }
 
-  follows_passes : (mode : ResizeMode) (u more : ℕ) → Follows u more (passes mode u)
+  follows_passes : (mode : ResizeMode) (u more : ℕ) → Follows u more (passes Get mode None u)
   follows_passes (Incremental chunk) u more = follows_leaving u more
   follows_passes Blocking u more = follows_ended u more Absent
 
   module _ (mode : ResizeMode) (at : Place) (le : at.probe.len ≤ at.limit) where
     -- what a search saw at a place leads to such a state
     abbrev pub Leads : Seen → Type 0
-    Leads seen = Follows at.table (at.limit - at.probe.len) (goes_as Get mode seen)
+    Leads seen = Follows at.table (at.limit - at.probe.len) (goes_as Get mode nothing seen)
 
     leads_on : Leads (go_on at)
     leads_on =
@@ -160,14 +164,14 @@ module _ (limit : ℕ → ℕ) where
   }
 
   -- the root was loaded
-  pub step_root : (word : ℕ) → IsStep AtRoot (at_root Get word) (Load Root)
+  pub step_root : (word : ℕ) → IsStep AtRoot (at_root Get None word) (Load Root)
   step_root word =
       chosen (λ s. IsStep AtRoot s (Load Root)) (word == 0) (Ended Absent) (Searching (Sizing word))
       (λ e. step_aside AtRoot (Ended Absent) (Load Root) refl refl tt tt (λ t. omega arith) (λ n b. (n, omega arith, tt)) (λ u i. absurd i))
       (λ e. step_aside AtRoot (Searching (Sizing word)) (Load Root) refl refl tt tt (λ t. left_most limit t word (limit t + 1) (λ q. omega arith)) (λ n b. (n, omega arith, omega (arith, b))) (λ u i. absurd i))
 
   -- a next table's number was loaded
-  pub step_next : (u word : ℕ) → (word ≡ 0) ⊎ (u < word) → IsStep (Leaving u) (state_left word) (Load (Next u))
+  pub step_next : (u word : ℕ) → (word ≡ 0) ⊎ (u < word) → IsStep (Leaving u) (state_left Get None u word) (Load (Next u))
   step_next u word rises =
       chosen (λ s. IsStep (Leaving u) s (Load (Next u))) (word == 0) (Ended Absent) (Searching (Sizing word))
       (λ e. step_aside (Leaving u) (Ended Absent) (Load (Next u)) refl refl tt tt (λ t. omega arith) (λ n b. (n, omega arith, tt)) (λ v i. absurd i))

@@ -1,6 +1,6 @@
 -- The exchange that a machine asks for: where its old word stands there it may be made, and it writes just its word.
-use Rattle.std.proofs.Common.{◌≡◌, ⊎_elim, ℕ, ◌<◌, ◌==◌, eqb-true, eq-eqb, Bool, true, false, cond, Option, Some, List, ◌++◌, refl, sym, ap, ◌∙◌, subst}
-use Rattle.papaya_words.specs.Word.{byte_of, kind_of, live_word, buried_word, top_byte}
+use Rattle.std.proofs.Common.{◌≡◌, ⊎_elim, ℕ, ◌<◌, ◌^◌, ◌==◌, eqb-true, eq-eqb, Bool, true, false, cond, Option, Some, List, ◌++◌, refl, sym, ap, ◌∙◌, subst}
+use Rattle.papaya_words.specs.Word.{byte_of, kind_of, pair_of, live_word, buried_word, top_byte}
 use Rattle.papaya_words.specs.declared.word.Kind.TheVariants as word_kinds
 use Rattle.papaya_call.specs.declared.ask.Ask.TheVariants.{Exchange as Ask_exchange}
 use Rattle.papaya_call.specs.declared.ask.At.{At}
@@ -8,7 +8,8 @@ use Rattle.papaya_call.specs.declared.ask.At.TheVariants.{Root, Next, Aborted, D
 use Rattle.papaya_call.specs.declared.ask.StepKind.{StepKind}
 use Rattle.papaya_call.specs.declared.ask.StepKind.TheVariants as kinds
 use Rattle.papaya_call.specs.declared.call.Task.{Task}
-use Rattle.papaya_call.specs.declared.call.Task.TheVariants.{Get, Insert, RemoveIf}
+use Rattle.papaya_call.specs.declared.call.Task.TheVariants.{Get, Insert, RemoveIf, Compute}
+use Rattle.papaya_call.specs.declared.compute.Put.{Put}
 use Rattle.papaya_call.specs.declared.remove.Removal.{Removal}
 use Rattle.papaya_call.specs.declared.search.Place.{Place}
 use Rattle.papaya_call.specs.declared.search.Search.TheVariants.{Sizing, Looking, Comparing}
@@ -17,7 +18,7 @@ use Rattle.papaya_call.specs.declared.write.Made.TheVariants.{Nothing, Key, Pair
 use Rattle.papaya_call.specs.declared.write.Write.{Write}
 use Rattle.papaya_call.specs.declared.machine.Machine.{Machine}
 use Rattle.papaya_call.specs.declared.machine.State.{State as Stage}
-use Rattle.papaya_call.specs.declared.machine.State.TheVariants.{AtRoot, Making, Opening, Searching, Writing, Showing, Burying, Counting, Uncounting, Leaving, Growing, Ended}
+use Rattle.papaya_call.specs.declared.machine.State.TheVariants.{AtRoot, Making, Opening, Searching, Writing, Offering, Showing, Pairing, Putting, Burying, Counting, Uncounting, Leaving, Growing, Ended}
 use Rattle.papaya_call.specs.Law.Exchange.{Word, Live, Buried, Setting, State, Exchange, Open, Claim, Replace, Bury, after, run, slot_put, start, walk}
 use Rattle.papaya_call.specs.Law.View.{Foreign, Here, look, own, beyond, IsPassed, IsReached}
 use Rattle.papaya_call.specs.Law.Allows.{AllAllowed, Allows, MayClaim, MayReplace, MayBury}
@@ -25,13 +26,14 @@ use Rattle.papaya_call.specs.Law.Code.{Coding, IsOfKind, code}
 use Rattle.papaya_call.specs.Law.Invariant.{named}
 use Rattle.papaya_call.specs.Law.Later.{Becomes}
 use Rattle.papaya_call.specs.Machine.{asks, kind_asked}
-use Rattle.papaya_call.specs.Told.{IsHashed, IsAsked, IsWritten, Hands, word_of}
+use Rattle.papaya_call.specs.Told.{IsHashed, IsAsked, IsOneOf, IsWritten, Hands, word_of}
 use Rattle.papaya_call.specs.Remove.{grave_word}
-use Rattle.papaya_call.specs.Rests.{IsAt, MayRemove, MayWrite, Rests, RestsMade, RestsStage, RestsWriting}
+use Rattle.papaya_call.specs.Rests.{IsAt, IsOwnPair, MayRemove, MayWrite, Rests, RestsMade, RestsStage, RestsWriting}
 use Rattle.papaya_call.specs.Write.{new_word}
 use Rattle.papaya_call.proofs.Law.Code.{code_empty, code_pair}
 use Rattle.papaya_call.proofs.Law.CodeViews.{word_of_kind}
 use Rattle.papaya_call.proofs.Law.Slots.{look_same, put_there, put_elsewhere}
+use Rattle.papaya_call.proofs.NewWords.{pair_of-new_word}
 use Rattle.papaya_call.proofs.RestsLearnMoments.{come_reached}
 use Rattle.papaya_call.proofs.RestsLearnPlaces.{sees}
 
@@ -95,7 +97,7 @@ module _ {K P : Type 0} (g : Setting K P) (c : Coding K P) (hashed : IsHashed g 
 
   -- the exchange of this kind at this place may be made, and writes just the new word
   abbrev pub MayDo : Option StepKind → Hands P → At → (old new : ℕ) → Type 0
-  MayDo kind hands at old new = word_of g c now at ≡ old → (e : Exchange P) × IsAsked kind at new now hands e × Allows g now e × IsWritten g c now at new (after now e)
+  MayDo kind hands at old new = word_of g c now at ≡ old → (e : Exchange P) × IsAsked c kind at new now hands e × Allows g now e × IsWritten g c now at new (after now e)
 
   -- what an ask says is one thing
   same_ask : (kind : Option StepKind) (hands : Hands P) (at at' : At) (old old' new new' : ℕ) → Ask_exchange at old new ≡ Ask_exchange at' old' new' → MayDo kind hands at old new → MayDo kind hands at' old' new'
@@ -134,39 +136,53 @@ module _ {K P : Type 0} (g : Setting K P) (c : Coding K P) (hashed : IsHashed g 
       ∙ ap (λ h. live_word (top_byte h) (c.number q)) (sym same)
       ∙ ap (live_word (top_byte hash)) is
 
-  -- a pair is written: claimed where there was none, or put in place of another
-  writes : (hands : Hands P) (hash n : ℕ) → hash ≡ c.hash k → RestsMade g c begun since k hands (Pair n) → (replace : Bool) (write : Write) → MayWrite g c begun since k replace write → (b : Bool) → (write.old == 0) ≡ b
-      → MayDo (Some (cond b kinds.Claim kinds.Replace)) hands (Slot write.place.table write.place.probe.i) write.old (new_word hash n)
-  writes hands hash n same m replace write r true e old =
-      let t : ℕ = write.place.table in
-      let x : ℕ = write.place.probe.i in
-      let q : P = m.0 in (
-        Claim t x q,
-        (q, m.1, refl),
-        may_claim write.place r.stands q m.3 (old ∙ eqb-true write.old 0 e),
-        subst (λ y. IsWritten g c now (Slot t x) y (slot_put now t x (Live q))) (new_code hash n q same m.3 m.2) (slot_written t x (Live q)),
-      )
-  writes hands hash n same m replace write r false e old =
-      let t : ℕ = write.place.table in
-      let x : ℕ = write.place.probe.i in
-      let q : P = m.0 in
-      ⊎_elim
-      (λ none. absurd (let some = eq-eqb write.old 0 none in cc (some, e)))
-      (λ h.
-      let live : IsOfKind word_kinds.Live (now.slot t x) = subst (λ y. IsOfKind y (now.slot t x)) (ap kind_of old ∙ h.1) (word_of_kind g c (now.slot t x)) in (
-        Replace t x live.0 q,
-        (live.0, q, live.1, m.1, refl),
-        may_replace write.place r.stands q m.3 live.0 live.1 h.2,
-        subst (λ y. IsWritten g c now (Slot t x) y (slot_put now t x (Live q))) (new_code hash n q same m.3 m.2) (slot_written t x (Live q)),
-      ))
-      r.old
+  -- the word of an insertion names its pair
+  new_pair : (hash n : ℕ) → hash ≡ c.hash k → pair_of (new_word hash n) ≡ n
+  new_pair hash n same = pair_of-new_word hash n (subst (λ h. h < 2 ^ 64) (sym same) (hashed.coding.hash_fits k))
 
-  -- only an insertion writes
-  writing : (hands : Hands P) (hash n : ℕ) → hash ≡ c.hash k → RestsMade g c begun since k hands (Pair n) → (task : Task) (write : Write) → RestsWriting g c begun since k task write
-      → MayDo (Some (cond (write.old == 0) kinds.Claim kinds.Replace)) hands (Slot write.place.table write.place.probe.i) write.old (new_word hash n)
-  writing hands hash n same m Get write r = absurd r
-  writing hands hash n same m RemoveIf write r = absurd r
-  writing hands hash n same m (Insert replace) write r = writes hands hash n same m replace write r (write.old == 0) refl
+  -- a call that made pairs of its key
+  module _ (hands : Hands P) (keys : (q : P) → IsOneOf hands.made q → g.key q ≡ k) (hash : ℕ) (same : hash ≡ c.hash k) where
+    -- writes one: it is claimed where there was none, or put in place of another
+    writes : (n : ℕ) → IsOwnPair g c begun since k hands n → (replace : Bool) (write : Write) → MayWrite g c begun since k replace write → (b : Bool) → (write.old == 0) ≡ b
+        → MayDo (Some (cond b kinds.Claim kinds.Replace)) hands (Slot write.place.table write.place.probe.i) write.old (new_word hash n)
+    writes n m replace write r true e old =
+        let t : ℕ = write.place.table in
+        let x : ℕ = write.place.probe.i in
+        let q : P = m.0 in
+        let mine : g.key q ≡ k = keys q m.1 in (
+          Claim t x q,
+          (q, record { made = m.1; named = m.2 ∙ sym (new_pair hash n same) }, refl),
+          may_claim write.place r.stands q mine (old ∙ eqb-true write.old 0 e),
+          subst (λ y. IsWritten g c now (Slot t x) y (slot_put now t x (Live q))) (new_code hash n q same mine m.2) (slot_written t x (Live q)),
+        )
+    writes n m replace write r false e old =
+        let t : ℕ = write.place.table in
+        let x : ℕ = write.place.probe.i in
+        let q : P = m.0 in
+        let mine : g.key q ≡ k = keys q m.1 in
+        ⊎_elim
+        (λ none. absurd (let some = eq-eqb write.old 0 none in cc (some, e)))
+        (λ h.
+        let live : IsOfKind word_kinds.Live (now.slot t x) = subst (λ y. IsOfKind y (now.slot t x)) (ap kind_of old ∙ h.1) (word_of_kind g c (now.slot t x)) in (
+          Replace t x live.0 q,
+          (live.0, q, live.1, record { made = m.1; named = m.2 ∙ sym (new_pair hash n same) }, refl),
+          may_replace write.place r.stands q mine live.0 live.1 h.2,
+          subst (λ y. IsWritten g c now (Slot t x) y (slot_put now t x (Live q))) (new_code hash n q same mine m.2) (slot_written t x (Live q)),
+        ))
+        r.old
+
+    -- an insertion writes
+    writing : (n : ℕ) → IsOwnPair g c begun since k hands n → (task : Task) (write : Write) → RestsWriting g c begun since k task write
+        → MayDo (Some (cond (write.old == 0) kinds.Claim kinds.Replace)) hands (Slot write.place.table write.place.probe.i) write.old (new_word hash n)
+    writing n m Get write r = absurd r
+    writing n m RemoveIf write r = absurd r
+    writing n m Compute write r = absurd r
+    writing n m (Insert replace) write r = writes n m replace write r (write.old == 0) refl
+
+    -- and so does a compute
+    puts : (put : Put) → MayWrite g c begun since k true put.write → IsOwnPair g c begun since k hands put.pair
+        → MayDo (Some (cond (put.write.old == 0) kinds.Claim kinds.Replace)) hands (Slot put.write.place.table put.write.place.probe.i) put.write.old (new_word hash put.pair)
+    puts put r m = writes put.pair m true put.write r (put.write.old == 0) refl
 
   -- a Live word that came of one of the key is of the key
   still_own : (was : Word P) (p q : P) → IsOfKind word_kinds.Live was → named was ≡ Some p → Becomes g was (Live q) → g.same k (g.key p) ≡ true → g.same k (g.key q) ≡ true
@@ -196,28 +212,36 @@ module _ {K P : Type 0} (g : Setting K P) (c : Coding K P) (hashed : IsHashed g 
         subst (λ y. IsWritten g c now (Slot t x) y (slot_put now t x (Buried q))) (grave_code q removal.word (ap (code g c) (sym live.1) ∙ stands_there)) (slot_written t x (Buried q)),
       )
 
-  -- what a machine asks for may be made
-  may_do : (hands : Hands P) (hash : ℕ) → hash ≡ c.hash k → (task : Task) (made : Made) → RestsMade g c begun since k hands made → (stage : Stage) → RestsStage g c begun since k hands task stage
-      → (at : At) (old new : ℕ) → asks made hash stage ≡ Ask_exchange at old new → MayDo (kind_asked made stage) hands at old new
-  may_do hands hash same task made m AtRoot r at old new e = absurd cc
-  may_do hands hash same task made m Making r at old new e = absurd cc
-  may_do hands hash same task made m (Opening t) r at old new e = same_ask (Some kinds.Open) hands Root at 0 old t new e (opens hands t r.1)
-  may_do hands hash same task made m (Searching (Sizing t)) r at old new e = absurd cc
-  may_do hands hash same task made m (Searching (Looking place)) r at old new e = absurd cc
-  may_do hands hash same task made m (Searching (Comparing place word)) r at old new e = absurd cc
-  may_do hands hash same task Nothing m (Writing write) r at old new e = absurd cc
-  may_do hands hash same task Key m (Writing write) r at old new e = absurd cc
-  may_do hands hash same task (Pair n) m (Writing write) r at old new e =
-      same_ask (Some (cond (write.old == 0) kinds.Claim kinds.Replace)) hands (Slot write.place.table write.place.probe.i) at write.old old (new_word hash n) new e (writing hands hash n same m task write r)
-  may_do hands hash same task made m (Showing removal) r at old new e = absurd cc
-  may_do hands hash same task made m (Burying removal) r at old new e =
-      same_ask (Some kinds.Bury) hands (Slot removal.place.table removal.place.probe.i) at removal.word old (grave_word removal.word) new e (buries hands removal r.1)
-  may_do hands hash same task made m (Counting n) r at old new e = absurd cc
-  may_do hands hash same task made m (Uncounting n) r at old new e = absurd cc
-  may_do hands hash same task made m (Leaving t) r at old new e = absurd cc
-  may_do hands hash same task made m (Growing t) r at old new e = absurd cc
-  may_do hands hash same task made m (Ended reply) r at old new e = absurd cc
+  module _ (hands : Hands P) (keys : (q : P) → IsOneOf hands.made q → g.key q ≡ k) (hash : ℕ) (same : hash ≡ c.hash k) (task : Task) where
+    -- what a machine asks for may be made
+    may_do : (made : Made) → RestsMade g c begun since k hands made → (stage : Stage) → RestsStage g c begun since k hands task stage
+        → (at : At) (old new : ℕ) → asks made hash stage ≡ Ask_exchange at old new → MayDo (kind_asked made stage) hands at old new
+    may_do made m AtRoot r at old new e = absurd cc
+    may_do made m Making r at old new e = absurd cc
+    may_do made m (Opening t) r at old new e = same_ask (Some kinds.Open) hands Root at 0 old t new e (opens hands t r.1)
+    may_do made m (Searching (Sizing t)) r at old new e = absurd cc
+    may_do made m (Searching (Looking place)) r at old new e = absurd cc
+    may_do made m (Searching (Comparing place word)) r at old new e = absurd cc
+    may_do Nothing m (Writing write) r at old new e = absurd cc
+    may_do Key m (Writing write) r at old new e = absurd cc
+    may_do (Pair n) m (Writing write) r at old new e =
+        same_ask (Some (cond (write.old == 0) kinds.Claim kinds.Replace)) hands (Slot write.place.table write.place.probe.i) at write.old old (new_word hash n) new e (writing hands keys hash same n m task write r)
+    may_do made m (Offering gap) r at old new e = absurd cc
+    may_do made m (Showing removal) r at old new e = absurd cc
+    may_do Nothing m (Pairing purpose) r at old new e = absurd cc
+    may_do Key m (Pairing purpose) r at old new e = absurd cc
+    may_do (Pair n) m (Pairing purpose) r at old new e = absurd cc
+    may_do made m (Putting put) r at old new e =
+        let write : Write = put.write in
+        same_ask (Some (cond (write.old == 0) kinds.Claim kinds.Replace)) hands (Slot write.place.table write.place.probe.i) at write.old old (new_word hash put.pair) new e (puts hands keys hash same put r.1 r.2)
+    may_do made m (Burying removal) r at old new e =
+        same_ask (Some kinds.Bury) hands (Slot removal.place.table removal.place.probe.i) at removal.word old (grave_word removal.word) new e (buries hands removal r.1)
+    may_do made m (Counting n) r at old new e = absurd cc
+    may_do made m (Uncounting n) r at old new e = absurd cc
+    may_do made m (Leaving t) r at old new e = absurd cc
+    may_do made m (Growing t) r at old new e = absurd cc
+    may_do made m (Ended reply) r at old new e = absurd cc
 
   -- the same of the machine
   pub machine_may : (m : Machine) (hands : Hands P) → Rests g c begun since k m hands → (at : At) (old new : ℕ) → asks m.made m.hash m.state ≡ Ask_exchange at old new → MayDo (kind_asked m.made m.state) hands at old new
-  machine_may m hands r at old new e = may_do hands m.hash r.hash m.task m.made r.made m.state r.stage at old new e
+  machine_may m hands r at old new e = let own = r.made in may_do hands own.keys m.hash r.hash m.task m.made own.made_is m.state r.stage at old new e

@@ -5,7 +5,9 @@ use Rattle.papaya_words.specs.declared.word.Kind.TheVariants as kinds
 use Rattle.papaya_words.specs.declared.probe.ResizeMode.{ResizeMode}
 use Rattle.papaya_words.specs.declared.probe.ResizeMode.TheVariants.{Incremental, Blocking}
 use Rattle.papaya_call.specs.declared.call.Task.{Task}
-use Rattle.papaya_call.specs.declared.call.Task.TheVariants.{Get, Insert, RemoveIf}
+use Rattle.papaya_call.specs.declared.call.Task.TheVariants.{Get, Insert, RemoveIf, Compute}
+use Rattle.papaya_call.specs.declared.compute.Gap.TheVariants.{At, After}
+use Rattle.papaya_call.specs.declared.compute.Remembered.{Remembered}
 use Rattle.papaya_call.specs.declared.search.Place.{Place}
 use Rattle.papaya_call.specs.declared.search.Seen.{Seen}
 use Rattle.papaya_call.specs.declared.search.Seen.TheVariants as seen
@@ -13,11 +15,12 @@ use Rattle.papaya_call.specs.Law.Exchange.{Word, Live, Marked, Copied, Setting, 
 use Rattle.papaya_call.specs.Law.View.{Foreign, Here, Leaving, Gone, look, own, held, view}
 use Rattle.papaya_call.specs.Law.Allows.{AllAllowed}
 use Rattle.papaya_call.specs.Law.Code.{Coding, code}
-use Rattle.papaya_call.specs.Machine.{goes_as, found, removes, replaces}
+use Rattle.papaya_call.specs.Machine.{goes_as, computes, found, removes, replaces}
 use Rattle.papaya_call.specs.Told.{IsHashed, Hands}
-use Rattle.papaya_call.specs.Rests.{HadPair, HasMet, IsAt, IsMovingFrom, IsModeOf, RestsStage, WasAtMoment}
+use Rattle.papaya_call.specs.Rests.{HadPair, HasMet, IsAt, IsMovingFrom, IsModeOf, MayRemove, MayWrite, RestsChoice, RestsFill, RestsStage, WasAtMoment}
 use Rattle.papaya_call.proofs.Law.Code.{code_kind, code_pair}
 use Rattle.papaya_call.proofs.Law.Later.{own_sees, sees_later}
+use Rattle.papaya_call.proofs.RestsLearnComputes.{lacks_rests, recalls_rests}
 use Rattle.papaya_call.proofs.RestsLearnMoments.{empty_here, over_blocking}
 use Rattle.papaya_call.proofs.RestsLearnPlaces.{RestsSeen, sees}
 use Rattle.papaya_call.proofs.RestsLearnLook.{became_of}
@@ -67,40 +70,61 @@ module _ {K P : Type 0} (g : Setting K P) (c : Coding K P) (hashed : IsHashed g 
     marked_kind : h.was ≡ Marked p → kind_of word ≡ kinds.Marked
     marked_kind e = ap kind_of (h.loaded ∙ ap (code g c) e) ∙ code_kind g c (Marked p)
 
+    -- the key's word may be replaced
+    pub replaceable : h.was ≡ Live p → MayWrite g c begun since k true (record { place = at; old = word })
+    replaceable e = record { stands = h.stands; old = inr (refl, live_kind e, own_now e) }
+
+    -- its pair may be removed
+    removable : (hands : Hands P) → hands.last ≡ Some p → h.was ≡ Live p → MayRemove g c begun since k hands (record { place = at; word = word })
+    removable hands last e = record { pair = p; last = last; met = h; live = live_kind e; same = same }
+
     -- an insertion that replaces
     replacing : (hands : Hands P) → (h.was ≡ Live p) ⊎ (h.was ≡ Marked p) → RestsStage g c begun since k hands (Insert true) (replaces (kind_of word) at word)
-    replacing hands (inl e) =
-        subst (λ y. RestsStage g c begun since k hands (Insert true) (replaces y at word)) (sym (live_kind e)) (record { stands = h.stands; old = inr (refl, live_kind e, own_now e) })
+    replacing hands (inl e) = subst (λ y. RestsStage g c begun since k hands (Insert true) (replaces y at word)) (sym (live_kind e)) (replaceable e)
     replacing hands (inr e) =
         subst (λ y. RestsStage g c begun since k hands (Insert true) (replaces y at word)) (sym (marked_kind e)) (h.stands.come, inr (moving e))
 
     -- a removal
     removing : (hands : Hands P) → hands.last ≡ Some p → (h.was ≡ Live p) ⊎ (h.was ≡ Marked p) → RestsStage g c begun since k hands RemoveIf (removes (kind_of word) at word)
-    removing hands last (inl e) =
-        subst (λ y. RestsStage g c begun since k hands RemoveIf (removes y at word)) (sym (live_kind e)) (tt, record { pair = p; last = last; met = h; live = live_kind e; same = same })
+    removing hands last (inl e) = subst (λ y. RestsStage g c begun since k hands RemoveIf (removes y at word)) (sym (live_kind e)) (tt, removable hands last e)
     removing hands last (inr e) =
         subst (λ y. RestsStage g c begun since k hands RemoveIf (removes y at word)) (sym (marked_kind e)) (h.stands.come, moving e)
 
+    -- a compute
+    computing : (hands : Hands P) → hands.last ≡ Some p → (held : Remembered) → RestsChoice g c begun since k hands held.choice → (h.was ≡ Live p) ⊎ (h.was ≡ Marked p)
+        → RestsStage g c begun since k hands Compute (computes (kind_of word) held at word)
+    computing hands last held own (inl e) =
+        subst (λ y. RestsStage g c begun since k hands Compute (computes y held at word)) (sym (live_kind e))
+        (recalls_rests g c begun since k hands at word (replaceable e) (removable hands last e) held.choice own (pair_of word))
+    computing hands last held own (inr e) =
+        subst (λ y. RestsStage g c begun since k hands Compute (computes y held at word)) (sym (marked_kind e)) (h.stands.come, inr (moving e))
+
     -- each task
-    finds : (hands : Hands P) → hands.last ≡ Some p → (task : Task) → (h.was ≡ Live p) ⊎ (h.was ≡ Marked p) → RestsStage g c begun since k hands task (found task at word)
-    finds hands last Get e = had_pair e
-    finds hands last (Insert false) e = had_pair e
-    finds hands last (Insert true) e = replacing hands e
-    finds hands last RemoveIf e = removing hands last e
+    finds : (hands : Hands P) → hands.last ≡ Some p → (held : Remembered) → RestsChoice g c begun since k hands held.choice → (task : Task) → (h.was ≡ Live p) ⊎ (h.was ≡ Marked p)
+        → RestsStage g c begun since k hands task (found task held at word)
+    finds hands last held own Get e = had_pair e
+    finds hands last held own (Insert false) e = had_pair e
+    finds hands last held own (Insert true) e = replacing hands e
+    finds hands last held own RemoveIf e = removing hands last e
+    finds hands last held own Compute e = computing hands last held own e
 
   -- a call that looks for its key comes to an Empty place
   empty_rests : (at : Place) → IsAt g c begun since k at → now.slot at.table at.probe.i ≡ Word.Empty → WasAtMoment g c begun since k None
   empty_rests at r e = empty_here g c hashed.lawful begun since may k at.table at.probe.len r.come r.within r.before (sees g c hashed begun since k at r Word.Empty e)
 
-  -- what the search saw leads where the machine rests
-  pub goes_rests : (hands : Hands P) (task : Task) (mode : ResizeMode) → IsModeOf mode g.blocking → (s : Seen) → RestsSeen g c hashed begun since k hands s → RestsStage g c begun since k hands task (goes_as task mode s)
-  goes_rests hands task mode is (seen.On search) r = r
-  goes_rests hands task mode is (seen.Here at word) r = finds at word r.0 r.2 r.3 hands r.1 task r.4
-  goes_rests hands Get mode is (seen.Empty at) r = empty_rests at r.0 r.1
-  goes_rests hands RemoveIf mode is (seen.Empty at) r = empty_rests at r.0 r.1
-  goes_rests hands (Insert replace) mode is (seen.Empty at) r = record { stands = r.0; old = inl refl }
-  goes_rests hands Get (Incremental chunk) is (seen.Over t) r = (is, r.0, r.1)
-  goes_rests hands Get Blocking is (seen.Over t) r = over_blocking g c hashed.lawful begun since may k t r.0 is r.1
-  goes_rests hands RemoveIf (Incremental chunk) is (seen.Over t) r = (is, r.0, r.1)
-  goes_rests hands RemoveIf Blocking is (seen.Over t) r = over_blocking g c hashed.lawful begun since may k t r.0 is r.1
-  goes_rests hands (Insert replace) mode is (seen.Over t) r = (r.0, inl r.1)
+  module _ (hands : Hands P) (held : Remembered) (fill : RestsFill g c begun since k hands held.fill) (choice : RestsChoice g c begun since k hands held.choice) where
+    -- what the search saw leads where the machine rests
+    pub goes_rests : (task : Task) (mode : ResizeMode) → IsModeOf mode g.blocking → (s : Seen) → RestsSeen g c hashed begun since k hands s → RestsStage g c begun since k hands task (goes_as task mode held s)
+    goes_rests task mode is (seen.On _) r = r
+    goes_rests task mode is (seen.Here at word) r = finds at word r.0 r.2 r.3 hands r.1 held choice task r.4
+    goes_rests Get mode is (seen.Empty at) r = empty_rests at r.0 r.1
+    goes_rests RemoveIf mode is (seen.Empty at) r = empty_rests at r.0 r.1
+    goes_rests Compute mode is (seen.Empty at) r = lacks_rests g c begun since k hands held.fill fill (At at) r.0 (empty_rests at r.0 r.1)
+    goes_rests (Insert replace) mode is (seen.Empty at) r = record { stands = r.0; old = inl refl }
+    goes_rests Get (Incremental chunk) is (seen.Over t) r = (is, r.0, r.1)
+    goes_rests Get Blocking is (seen.Over t) r = over_blocking g c hashed.lawful begun since may k t r.0 is r.1
+    goes_rests RemoveIf (Incremental chunk) is (seen.Over t) r = (is, r.0, r.1)
+    goes_rests RemoveIf Blocking is (seen.Over t) r = over_blocking g c hashed.lawful begun since may k t r.0 is r.1
+    goes_rests Compute (Incremental chunk) is (seen.Over t) r = (is, r.0, r.1)
+    goes_rests Compute Blocking is (seen.Over t) r = lacks_rests g c begun since k hands held.fill fill (After t) r (over_blocking g c hashed.lawful begun since may k t r.0 is r.1)
+    goes_rests (Insert replace) mode is (seen.Over t) r = (r.0, inl r.1)

@@ -4,14 +4,14 @@ use Rattle.papaya_call.specs.declared.ask.At.TheVariants.{Next, Slot}
 use Rattle.papaya_call.specs.declared.ask.Ask.{Ask}
 use Rattle.papaya_call.specs.declared.ask.Ask.TheVariants.{Load, Exchange as Ask_exchange, SizeOf}
 use Rattle.papaya_call.specs.declared.call.Task.{Task}
-use Rattle.papaya_call.specs.declared.call.Task.TheVariants.{Get, Insert, RemoveIf}
+use Rattle.papaya_call.specs.declared.call.Task.TheVariants.{Get, Insert, RemoveIf, Compute}
 use Rattle.papaya_call.specs.declared.search.Place.{Place}
 use Rattle.papaya_call.specs.declared.search.Search.TheVariants.{Sizing, Looking, Comparing}
 use Rattle.papaya_call.specs.declared.write.Made.{Made}
 use Rattle.papaya_call.specs.declared.write.Made.TheVariants.{Nothing, Key, Pair}
 use Rattle.papaya_call.specs.declared.write.Write.{Write}
 use Rattle.papaya_call.specs.declared.machine.State.{State as Stage}
-use Rattle.papaya_call.specs.declared.machine.State.TheVariants.{AtRoot, Making, Opening, Searching, Writing, Showing, Burying, Counting, Uncounting, Leaving, Growing, Ended}
+use Rattle.papaya_call.specs.declared.machine.State.TheVariants.{AtRoot, Making, Opening, Searching, Writing, Offering, Showing, Pairing, Putting, Burying, Counting, Uncounting, Leaving, Growing, Ended}
 use Rattle.papaya_call.specs.Law.Exchange.{Setting, Exchange, run, start}
 use Rattle.papaya_call.specs.Law.View.{IsReached}
 use Rattle.papaya_call.specs.Law.Class.{IsOn}
@@ -56,12 +56,14 @@ module _ {K P : Type 0} (g : Setting K P) (c : Coding K P) (h : IsHashed g c) (b
   leaving_on Get t r = come_on t r.1
   leaving_on (Insert replace) t r = absurd r
   leaving_on RemoveIf t r = come_on t r.1
+  leaving_on Compute t r = come_on t r.1
 
   -- and what it is to grow from
   growing_on : (task : Task) (t : ℕ) → RestsGrowing g c begun since k task t → OnChain t
   growing_on Get t r = absurd r
   growing_on (Insert replace) t r = come_on t r.0
   growing_on RemoveIf t r = come_on t r.0
+  growing_on Compute t r = come_on t r.0
 
   -- the table is on the chain, and has the slot
   abbrev pub HasSlot : ℕ → ℕ → Type 0
@@ -84,6 +86,7 @@ module _ {K P : Type 0} (g : Setting K P) (c : Coding K P) (h : IsHashed g c) (b
   write_within Get write r = absurd r
   write_within (Insert replace) write r = place_within write.place r.stands
   write_within RemoveIf write r = absurd r
+  write_within Compute write r = absurd r
 
   module _ (hands : Hands P) (task : Task) (hash : ℕ) where
     -- of each stage's ask
@@ -97,7 +100,12 @@ module _ {K P : Type 0} (g : Setting K P) (c : Coding K P) (h : IsHashed g c) (b
     ask_named Nothing (Writing write) r = tt
     ask_named Key (Writing write) r = tt
     ask_named (Pair n) (Writing write) r = write_within task write r
+    ask_named made (Offering gap) r = tt
     ask_named made (Showing removal) r = tt
+    ask_named Nothing (Pairing purpose) r = tt
+    ask_named Key (Pairing purpose) r = tt
+    ask_named (Pair n) (Pairing purpose) r = tt
+    ask_named made (Putting put) r = place_within put.write.place (r.1).stands
     ask_named made (Burying removal) r = place_within removal.place (r.1).met.stands
     ask_named made (Counting n) r = tt
     ask_named made (Uncounting n) r = tt

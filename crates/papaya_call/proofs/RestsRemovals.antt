@@ -1,14 +1,18 @@
 -- While no table has a next one, a removal is never refused: it makes nothing, and it needs no further table.
 use Rattle.std.proofs.Common.{◌≡◌, ⊎_elim, ℕ, ◌<◌, List, ◌++◌, subst, arith}
 use Rattle.papaya_words.specs.declared.probe.Refused.{Refused}
+use Rattle.papaya_words.specs.declared.probe.Refused.TheVariants.{Capacity, RemoveNothing}
 use Rattle.papaya_call.specs.declared.ask.Answer.{Answer}
+use Rattle.papaya_call.specs.declared.ask.Answer.TheVariants.{Op}
 use Rattle.papaya_call.specs.declared.ask.Ask.TheVariants.{Done as Ask_done}
+use Rattle.papaya_call.specs.declared.ask.OpKind.TheVariants as ops
 use Rattle.papaya_call.specs.declared.call.Reply.{Reply}
 use Rattle.papaya_call.specs.declared.call.Reply.TheVariants.{Refused as Reply_refused}
 use Rattle.papaya_call.specs.declared.call.Task.TheVariants.{RemoveIf}
+use Rattle.papaya_call.specs.declared.compute.Gap.{Gap}
 use Rattle.papaya_call.specs.declared.machine.Machine.{Machine}
 use Rattle.papaya_call.specs.declared.machine.State.{State as Stage}
-use Rattle.papaya_call.specs.declared.machine.State.TheVariants.{AtRoot, Making, Opening, Searching, Writing, Showing, Burying, Counting, Uncounting, Leaving, Growing, Ended}
+use Rattle.papaya_call.specs.declared.machine.State.TheVariants.{AtRoot, Making, Opening, Searching, Writing, Offering, Showing, Pairing, Putting, Burying, Counting, Uncounting, Leaving, Growing, Ended}
 use Rattle.papaya_call.specs.Law.Exchange.{Setting, State, Exchange, run, start}
 use Rattle.papaya_call.specs.Law.Allows.{AllAllowed}
 use Rattle.papaya_call.specs.Law.Code.{Coding}
@@ -43,7 +47,10 @@ module _ {K P : Type 0} (g : Setting K P) (c : Coding K P) (law : IsLawful g) (b
     nothing_made (Opening t) r making = making
     nothing_made (Searching place) r making = making
     nothing_made (Writing write) r making = r
+    nothing_made (Offering gap) r making = making
     nothing_made (Showing removal) r making = making
+    nothing_made (Pairing purpose) r making = r.0
+    nothing_made (Putting put) r making = making
     nothing_made (Burying removal) r making = making
     nothing_made (Counting n) r making = making
     nothing_made (Uncounting n) r making = making
@@ -51,16 +58,24 @@ module _ {K P : Type 0} (g : Setting K P) (c : Coding K P) (law : IsLawful g) (b
     nothing_made (Growing t) r making = making
     nothing_made (Ended reply) r making = making
 
+    -- and shows no closure that its key is absent
+    nothing_offered : (gap : Gap) → RestsStage g c begun since k hands RemoveIf (Offering gap) → ⊥
+    nothing_offered gap r = r.0
+
     module _ (alone : (t : ℕ) → now.next t ≡ 0) where
       -- and needs a further table only where there is one
       nothing_needed : (t : ℕ) → RestsStage g c begun since k hands RemoveIf (Growing t) → ⊥
       nothing_needed t r = let some = moving_further t r.1 in let none = alone t in omega (arith, some, none)
 
-      -- so neither reason for a refusal is there
+      -- so no reason for a refusal is there
       pub removal_unrefused : (m : Machine) → Rests g c begun since k m hands → m.task ≡ RemoveIf → ((reply : Reply) → ask_of m ≡ Ask_done reply → ⊥) → (answer : Answer) (refused : Refused) → ask_of (after m answer) ≡ Ask_done (Reply_refused refused) → ⊥
       removal_unrefused m r task open_still answer refused e =
           let stage : RestsStage g c begun since k hands RemoveIf m.state = subst (λ a. RestsStage g c begun since k hands a m.state) task r.stage in
           ⊎_elim
           (λ made. nothing_made m.state stage made.1)
-          (λ grows. let last = grows.1 in nothing_needed last.0 (subst (RestsStage g c begun since k hands RemoveIf) last.1 stage))
+          (λ rest.
+          ⊎_elim
+          (λ (grows : (refused ≡ Capacity) × ((t : ℕ) × (m.state ≡ Growing t))). let last = grows.1 in nothing_needed last.0 (subst (RestsStage g c begun since k hands RemoveIf) last.1 stage))
+          (λ (offers : (refused ≡ RemoveNothing) × ((gap : Gap) × (m.state ≡ Offering gap)) × (answer ≡ Op ops.Remove)). let last = offers.1 in nothing_offered last.0 (subst (RestsStage g c begun since k hands RemoveIf) last.1 stage))
+          rest)
           (machine_reason m refused answer open_still e)

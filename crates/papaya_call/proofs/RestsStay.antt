@@ -1,7 +1,7 @@
 -- What a machine rests on stays so, whatever others exchange.
 use Rattle.std.proofs.Common.{◌≡◌, inl, inr, ⊎_elim, ℕ, Bool, true, Option, Some, List, ◌++◌, append_assoc, refl, sym, ap, ◌∙◌, subst}
 use Rattle.papaya_call.specs.declared.call.Task.{Task}
-use Rattle.papaya_call.specs.declared.call.Task.TheVariants.{Get, Insert, RemoveIf}
+use Rattle.papaya_call.specs.declared.call.Task.TheVariants.{Get, Insert, RemoveIf, Compute}
 use Rattle.papaya_call.specs.declared.search.Place.{Place}
 use Rattle.papaya_call.specs.declared.write.Write.{Write}
 use Rattle.papaya_call.specs.declared.machine.Machine.{Machine}
@@ -104,16 +104,18 @@ module _ {K P : Type 0} (g : Setting K P) (c : Coding K P) (h : IsHashed g c) (b
   leaving_stays Get t r = (r.0, come_stays t r.1, state_lasts.passed k t r.2)
   leaving_stays (Insert replace) t r = r
   leaving_stays RemoveIf t r = (r.0, come_stays t r.1, state_lasts.passed k t r.2)
+  leaving_stays Compute t r = (r.0, come_stays t r.1, state_lasts.passed k t r.2)
 
   -- where it needs a further table
   growing_stays : (task : Task) (t : ℕ) → RestsGrowing g c begun since k task t → RestsGrowing g c begun (since ++ es) k task t
   growing_stays Get t r = r
   growing_stays (Insert replace) t r = (come_stays t r.0, ⊎_elim (λ pass. inl (state_lasts.passed k t pass)) (λ moving. inr (moving_stays t moving)) r.1)
   growing_stays RemoveIf t r = (come_stays t r.0, moving_stays t r.1)
+  growing_stays Compute t r = (come_stays t r.0, ⊎_elim (λ pass. inl (state_lasts.passed k t pass)) (λ moving. inr (moving_stays t moving)) r.1)
 
   -- the machine rests on what it rested on
   pub rests_stays : (m : Machine) (hands : Hands P) → Rests g c begun since k m hands → Rests g c begun (since ++ es) k m hands
   rests_stays m hands r =
       rests_carried g g c begun since (since ++ es) k
-      (record { mode = refl; key = λ p. refl; same = λ l l'. refl; moment = moment_stays; come = come_stays; stands = at_stays; met = met_stays; write = write_stays; leaving = leaving_stays; growing = growing_stays })
+      (record { mode = refl; key = λ p. refl; same = λ l l'. refl; moment = moment_stays; come = come_stays; stands = at_stays; met = met_stays; write = write_stays; passed = λ t r. state_lasts.passed k t; leaving = leaving_stays; growing = growing_stays })
       hands m r

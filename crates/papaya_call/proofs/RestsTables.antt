@@ -2,7 +2,7 @@
 use Rattle.std.proofs.Common.{◌≡◌, ◌⊎◌, inl, inr, ⊎_elim, ℕ, ◌<◌, Bool, Option, None, Some, List, ◌++◌, refl, sym, ap, ◌∙◌, subst}
 use Rattle.papaya_words.specs.Word.{top_byte, live_word, marked_word, copied_word, buried_word}
 use Rattle.papaya_call.specs.declared.call.Task.{Task}
-use Rattle.papaya_call.specs.declared.call.Task.TheVariants.{Get, Insert, RemoveIf}
+use Rattle.papaya_call.specs.declared.call.Task.TheVariants.{Get, Insert, RemoveIf, Compute}
 use Rattle.papaya_call.specs.declared.search.Place.{Place}
 use Rattle.papaya_call.specs.declared.write.Write.{Write}
 use Rattle.papaya_call.specs.declared.machine.Machine.{Machine}
@@ -115,17 +115,19 @@ module _ {K P : Type 0} (g g' : Setting K P) (c : Coding K P) (h : IsHashed g c)
   leaving_carries : (task : Task) (t : ℕ) → RestsLeaving g c begun since k task t → RestsLeaving g' c begun since k task t
   leaving_carries Get t r = (agrees.blocking ∙ r.0, come_carries t r.1, table_passed t r.1 r.2)
   leaving_carries RemoveIf t r = (agrees.blocking ∙ r.0, come_carries t r.1, table_passed t r.1 r.2)
+  leaving_carries Compute t r = (agrees.blocking ∙ r.0, come_carries t r.1, table_passed t r.1 r.2)
   leaving_carries (Insert replace) t r = absurd r
 
   -- what a call that needs a further table leaves
   growing_carries : (task : Task) (t : ℕ) → RestsGrowing g c begun since k task t → RestsGrowing g' c begun since k task t
   growing_carries Get t r = absurd r
   growing_carries RemoveIf t r = (come_carries t r.0, moving_carries t r.0 r.1)
+  growing_carries Compute t r = (come_carries t r.0, ⊎_elim (λ pass. inl (table_passed t r.0 pass)) (λ moving. inr (moving_carries t r.0 moving)) r.1)
   growing_carries (Insert replace) t r = (come_carries t r.0, ⊎_elim (λ pass. inl (table_passed t r.0 pass)) (λ moving. inr (moving_carries t r.0 moving)) r.1)
 
   -- the machine rests on what it rested on
   pub rests_carries : (m : Machine) (hands : Hands P) → Rests g c begun since k m hands → Rests g' c begun since k m hands
   rests_carries m hands r =
       rests_carried g g' c begun since since k
-      (record { mode = agrees.blocking; key = agrees.key; same = agrees.same; moment = moment_carries; come = come_carries; stands = at_carries; met = met_carries; write = write_carries; leaving = leaving_carries; growing = growing_carries })
+      (record { mode = agrees.blocking; key = agrees.key; same = agrees.same; moment = moment_carries; come = come_carries; stands = at_carries; met = met_carries; write = write_carries; passed = table_passed; leaving = leaving_carries; growing = growing_carries })
       hands m r

@@ -1,19 +1,28 @@
 -- A machine that stands within its table does so after each answer within the limits, and asks for tables of sizes of tables.
-use Rattle.std.proofs.Common.{ℕ, ◌+◌, ◌==◌, ◌<◌, ◌^◌, nat_lt, Bool, true, false, refl, arith}
+use Rattle.std.proofs.Common.{ℕ, ◌+◌, ◌==◌, ◌<◌, ◌^◌, nat_lt, Bool, true, false, Option, None, Some, refl, arith}
 use Rattle.std.proofs.Math.Nat.{mod-lt}
 use Rattle.std.proofs.lemmas.Bool.{cond_both, ltb-true}
 use Rattle.std.proofs.lemmas.Nat.{pow_pos}
-use Rattle.papaya_words.specs.Word.{kind_of, byte_of, top_byte}
+use Rattle.papaya_words.specs.Word.{kind_of, byte_of, pair_of, top_byte}
 use Rattle.papaya_words.specs.Probe.{triangular}
 use Rattle.papaya_words.specs.declared.word.Kind.{Kind}
 use Rattle.papaya_words.specs.declared.word.Kind.TheVariants as word_kinds
 use Rattle.papaya_words.specs.declared.probe.ResizeMode.{ResizeMode}
 use Rattle.papaya_words.specs.declared.probe.ResizeMode.TheVariants.{Incremental, Blocking}
 use Rattle.papaya_call.specs.declared.ask.Answer.{Answer}
-use Rattle.papaya_call.specs.declared.ask.Answer.TheVariants.{Word as Word_read, Exchanged, Found as Found_instead, Yes, Size, Made as Made_number, Ok as Ok_done, Refused as Was_refused}
+use Rattle.papaya_call.specs.declared.ask.Answer.TheVariants.{Word as Word_read, Exchanged, Found as Found_instead, Yes, Op, Size, Made as Made_number, Ok as Ok_done, Refused as Was_refused}
+use Rattle.papaya_call.specs.declared.ask.OpKind.{OpKind}
+use Rattle.papaya_call.specs.declared.ask.OpKind.TheVariants as ops
 use Rattle.papaya_call.specs.declared.call.Reply.TheVariants.{Absent, Replaced}
 use Rattle.papaya_call.specs.declared.call.Task.{Task}
-use Rattle.papaya_call.specs.declared.call.Task.TheVariants.{Get, Insert, RemoveIf}
+use Rattle.papaya_call.specs.declared.call.Task.TheVariants.{Get, Insert, RemoveIf, Compute}
+use Rattle.papaya_call.specs.declared.compute.Choice.{Choice}
+use Rattle.papaya_call.specs.declared.compute.Choice.TheVariants.{Replace as To_replace, Remove as To_remove}
+use Rattle.papaya_call.specs.declared.compute.Gap.{Gap}
+use Rattle.papaya_call.specs.declared.compute.Gap.TheVariants.{NoRoot, At, After}
+use Rattle.papaya_call.specs.declared.compute.Purpose.{Purpose}
+use Rattle.papaya_call.specs.declared.compute.Purpose.TheVariants.{Fill, Replace}
+use Rattle.papaya_call.specs.declared.compute.Remembered.{Remembered}
 use Rattle.papaya_call.specs.declared.remove.Removal.{Removal}
 use Rattle.papaya_call.specs.declared.search.Place.{Place}
 use Rattle.papaya_call.specs.declared.search.Search.{Search}
@@ -24,10 +33,11 @@ use Rattle.papaya_call.specs.declared.write.Made.{Made}
 use Rattle.papaya_call.specs.declared.write.Made.TheVariants.{Nothing, Key, Pair}
 use Rattle.papaya_call.specs.declared.machine.Machine.{Machine}
 use Rattle.papaya_call.specs.declared.machine.State.{State}
-use Rattle.papaya_call.specs.declared.machine.State.TheVariants.{AtRoot, Making, Opening, Searching, Writing, Showing, Burying, Counting, Uncounting, Leaving, Growing, Ended}
+use Rattle.papaya_call.specs.declared.machine.State.TheVariants.{AtRoot, Making, Opening, Searching, Writing, Offering, Showing, Pairing, Putting, Burying, Counting, Uncounting, Leaving, Growing, Ended}
 use Rattle.papaya_call.specs.Search.{IsSize, IsWithin, IsSearching, IsSeen, next_place, go_on, look_at, look, match_at, at_word as search_loaded, at_yes as search_compared}
 use Rattle.papaya_call.specs.Write.{IsMade}
-use Rattle.papaya_call.specs.Machine.{IsStanding, IsStandingState, IsFit, IsFitAsk, ask_of, asks, after, at_root, beaten_by, left, removes, replaces, goes_as, made_in, state_in, at_word, at_exchanged, at_found, at_yes, at_size, at_ok, at_refused}
+use Rattle.papaya_call.specs.Compute.{IsChoice, IsFill, IsGap, IsPurpose, IsRemembered, chosen, fills, lacks, offered, provides, recalls, with_choice, with_pair}
+use Rattle.papaya_call.specs.Machine.{IsComputer, IsStanding, IsStandingState, IsWriter, MayInsert, IsFit, IsFitAsk, ask_of, asks, after, absent, at_root, beaten_as, beaten_by, computes, decided, decided_held, held_at_op, held_in, judged, left, paired, paired_held, passes, removes, replaces, goes_as, made_in, state_in, at_op, at_word, at_exchanged, at_found, at_yes, at_size, at_ok, at_refused, written}
 
 -- a table with a size has a slot
 some_slots : (slots last : ℕ) → IsSize slots last → 0 < slots
@@ -89,34 +99,111 @@ removes_stands word_kinds.Copied at word within = tt
 removes_stands word_kinds.Buried at word within = tt
 removes_stands word_kinds.Closed at word within = tt
 
-goes_stands : (task : Task) (mode : ResizeMode) (s : Seen) → IsSeen s → IsStandingState task (goes_as task mode s)
-goes_stands task mode (seen.On search) within = within
-goes_stands Get mode (seen.Here at word) within = tt
-goes_stands (Insert false) mode (seen.Here at word) within = tt
-goes_stands (Insert true) mode (seen.Here at word) within = replaces_stands (kind_of word) at word within
-goes_stands RemoveIf mode (seen.Here at word) within = removes_stands (kind_of word) at word within
-goes_stands Get mode (seen.Empty at) within = tt
-goes_stands RemoveIf mode (seen.Empty at) within = tt
-goes_stands (Insert replace) mode (seen.Empty at) within = (tt, within)
-goes_stands Get (Incremental chunk) (seen.Over t) within = tt
-goes_stands Get Blocking (seen.Over t) within = tt
-goes_stands RemoveIf (Incremental chunk) (seen.Over t) within = tt
-goes_stands RemoveIf Blocking (seen.Over t) within = tt
-goes_stands (Insert replace) mode (seen.Over t) within = tt
+-- a pair goes where its key is absent
+fills_stands : (gap : Gap) (n : ℕ) → IsGap gap → n < 2 ^ 48 → IsStandingState Compute (fills gap n)
+fills_stands NoRoot n gap fit = tt
+fills_stands (At place) n gap fit = (tt, record { within = gap; pair = fit })
+fills_stands (After table) n gap fit = tt
 
-root_stands : (task : Task) (word : ℕ) → IsStandingState task (at_root task word)
-root_stands Get word = cond_both (word == 0) (Ended Absent) (Searching (Sizing word)) (IsStandingState Get) (λ _. tt) (λ _. tt)
-root_stands RemoveIf word = cond_both (word == 0) (Ended Absent) (Searching (Sizing word)) (IsStandingState RemoveIf) (λ _. tt) (λ _. tt)
-root_stands (Insert replace) word = cond_both (word == 0) Making (Searching (Sizing word)) (IsStandingState (Insert replace)) (λ _. tt) (λ _. tt)
+lacks_stands : (fill : Option ℕ) (gap : Gap) → IsFill fill → IsGap gap → IsStandingState Compute (lacks fill gap)
+lacks_stands None gap held is = (tt, is)
+lacks_stands (Some n) gap held is = fills_stands gap n is held
 
-next_stands : (task : Task) (word : ℕ) → IsStandingState task (left word)
-next_stands task word = cond_both (word == 0) (Ended Absent) (Searching (Sizing word)) (IsStandingState task) (λ _. tt) (λ _. tt)
+-- a remembered answer is acted on
+recalls_stands : (choice : Option Choice) (at : Place) (word n : ℕ) → IsChoice choice → IsWithin at → IsStandingState Compute (recalls choice at word n)
+recalls_stands None at word n held within = (tt, within)
+recalls_stands (Some (To_replace old new)) at word n held within = cond_both (old == n) (Putting (record { write = record { place = at; old = word }; pair = new })) (Showing (record { place = at; word = word })) (IsStandingState Compute) (λ _. (tt, record { within = within; pair = held })) (λ _. (tt, within))
+recalls_stands (Some (To_remove old)) at word n held within = cond_both (old == n) (Burying (record { place = at; word = word })) (Showing (record { place = at; word = word })) (IsStandingState Compute) (λ _. (tt, within)) (λ _. (tt, within))
 
-module _ (m : Machine) where
+computes_stands : (kind : Kind) (held : Remembered) (at : Place) (word : ℕ) → IsRemembered held → IsWithin at → IsStandingState Compute (computes kind held at word)
+computes_stands word_kinds.Empty held at word is within = tt
+computes_stands word_kinds.Live held at word is within = recalls_stands held.choice at word (pair_of word) is.choice within
+computes_stands word_kinds.Marked held at word is within = tt
+computes_stands word_kinds.Copied held at word is within = tt
+computes_stands word_kinds.Buried held at word is within = tt
+computes_stands word_kinds.Closed held at word is within = tt
+
+absent_stands : (task : Task) (fill : Option ℕ) (gap : Gap) → IsFill fill → IsGap gap → IsStandingState task (absent task fill gap)
+absent_stands Get fill gap held is = tt
+absent_stands (Insert replace) fill gap held is = tt
+absent_stands RemoveIf fill gap held is = tt
+absent_stands Compute fill gap held is = lacks_stands fill gap held is
+
+passes_stands : (task : Task) (mode : ResizeMode) (fill : Option ℕ) (t : ℕ) → IsFill fill → IsStandingState task (passes task mode fill t)
+passes_stands task (Incremental chunk) fill t held = tt
+passes_stands task Blocking fill t held = absent_stands task fill (After t) held tt
+
+goes_stands : (task : Task) (mode : ResizeMode) (held : Remembered) (s : Seen) → IsRemembered held → IsSeen s → IsStandingState task (goes_as task mode held s)
+goes_stands task mode held (seen.On search) is within = within
+goes_stands Get mode held (seen.Here at word) is within = tt
+goes_stands (Insert false) mode held (seen.Here at word) is within = tt
+goes_stands (Insert true) mode held (seen.Here at word) is within = replaces_stands (kind_of word) at word within
+goes_stands RemoveIf mode held (seen.Here at word) is within = removes_stands (kind_of word) at word within
+goes_stands Compute mode held (seen.Here at word) is within = computes_stands (kind_of word) held at word is within
+goes_stands Get mode held (seen.Empty at) is within = tt
+goes_stands RemoveIf mode held (seen.Empty at) is within = tt
+goes_stands Compute mode held (seen.Empty at) is within = lacks_stands held.fill (At at) is.fill within
+goes_stands (Insert replace) mode held (seen.Empty at) is within = (tt, within)
+goes_stands Get mode held (seen.Over t) is within = passes_stands Get mode held.fill t is.fill
+goes_stands RemoveIf mode held (seen.Over t) is within = passes_stands RemoveIf mode held.fill t is.fill
+goes_stands Compute mode held (seen.Over t) is within = passes_stands Compute mode held.fill t is.fill
+goes_stands (Insert replace) mode held (seen.Over t) is within = tt
+
+root_stands : (task : Task) (fill : Option ℕ) (word : ℕ) → IsFill fill → IsStandingState task (at_root task fill word)
+root_stands Get fill word held = cond_both (word == 0) (Ended Absent) (Searching (Sizing word)) (IsStandingState Get) (λ _. tt) (λ _. tt)
+root_stands RemoveIf fill word held = cond_both (word == 0) (Ended Absent) (Searching (Sizing word)) (IsStandingState RemoveIf) (λ _. tt) (λ _. tt)
+root_stands Compute fill word held = cond_both (word == 0) (lacks fill NoRoot) (Searching (Sizing word)) (IsStandingState Compute) (λ _. lacks_stands fill NoRoot held tt) (λ _. tt)
+root_stands (Insert replace) fill word held = cond_both (word == 0) Making (Searching (Sizing word)) (IsStandingState (Insert replace)) (λ _. tt) (λ _. tt)
+
+next_stands : (task : Task) (fill : Option ℕ) (table word : ℕ) → IsFill fill → IsStandingState task (left task fill table word)
+next_stands task fill table word held = cond_both (word == 0) (absent task fill (After table)) (Searching (Sizing word)) (IsStandingState task) (λ _. absent_stands task fill (After table) held tt) (λ _. tt)
+
+-- the closure of a compute leads it on, and what it answered is remembered
+offered_stands : (gap : Gap) (kind : OpKind) → IsGap gap → IsStandingState Compute (offered gap kind)
+offered_stands gap ops.Insert is = (tt, is)
+offered_stands gap ops.Remove is = tt
+offered_stands gap (ops.Abort t) is = tt
+
+chosen_stands : (shown : Removal) (kind : OpKind) → IsWithin shown.place → IsStandingState Compute (chosen shown kind)
+chosen_stands shown ops.Insert within = (tt, within)
+chosen_stands shown ops.Remove within = (tt, within)
+chosen_stands shown (ops.Abort t) within = tt
+
+choice_stands : (held : Remembered) (shown : Removal) (kind : OpKind) → IsRemembered held → IsRemembered (with_choice held shown kind)
+choice_stands held shown ops.Insert is = is
+choice_stands held shown ops.Remove is = record { fill = is.fill; choice = tt }
+choice_stands held shown (ops.Abort t) is = is
+
+provides_stands : (purpose : Purpose) (n : ℕ) → IsPurpose purpose → n < 2 ^ 48 → IsStandingState Compute (provides purpose n)
+provides_stands (Fill gap) n is fit = fills_stands gap n is fit
+provides_stands (Replace write) n is fit = (tt, record { within = is; pair = fit })
+
+pair_stands : (held : Remembered) (purpose : Purpose) (n : ℕ) → IsRemembered held → n < 2 ^ 48 → IsRemembered (with_pair held purpose n)
+pair_stands held (Fill gap) n is fit = record { fill = fit; choice = is.choice }
+pair_stands held (Replace write) n is fit = record { fill = is.fill; choice = fit }
+
+-- a write that was made is counted, or was the whole
+written_stands : (task : Task) (write : _) (n : ℕ) → MayInsert task → IsStandingState task (written write n)
+written_stands task write n may = cond_both (write.old == 0) (Counting n) (Ended (Replaced _ n)) (IsStandingState task) (λ _. may) (λ _. tt)
+
+-- an insertion may insert
+pub writer_inserts : (task : Task) → IsWriter task → MayInsert task
+writer_inserts Get is = is
+writer_inserts (Insert replace) is = is
+writer_inserts RemoveIf is = is
+writer_inserts Compute is = absurd is
+
+pub computer_inserts : (task : Task) → IsComputer task → MayInsert task
+computer_inserts Get is = is
+computer_inserts (Insert replace) is = absurd is
+computer_inserts RemoveIf is = is
+computer_inserts Compute is = is
+
+module _ (m : Machine) (held : IsRemembered m.remembered) where
   word_stands : (word : ℕ) (state : State) → IsStandingState m.task state → IsStandingState m.task (at_word m word state)
-  word_stands word AtRoot stands = root_stands m.task word
-  word_stands word (Searching search) stands = goes_stands m.task m.mode (search_loaded search m.hash word) (loaded_seen search m.hash word stands)
-  word_stands word (Leaving table) stands = next_stands m.task word
+  word_stands word AtRoot stands = root_stands m.task m.remembered.fill word held.fill
+  word_stands word (Searching search) stands = goes_stands m.task m.mode m.remembered (search_loaded search m.hash word) held (loaded_seen search m.hash word stands)
+  word_stands word (Leaving table) stands = next_stands m.task m.remembered.fill table word held.fill
   word_stands word (Growing table) stands = tt
   word_stands word Making stands = stands
   word_stands word (Opening table) stands = stands
@@ -125,13 +212,17 @@ module _ (m : Machine) where
   word_stands word (Showing removal) stands = stands
   word_stands word (Burying removal) stands = stands
   word_stands word (Uncounting pair) stands = stands
+  word_stands word (Offering gap) stands = stands
+  word_stands word (Pairing purpose) stands = stands
+  word_stands word (Putting put) stands = stands
   word_stands word (Ended reply) stands = stands
 
   exchanged_stands : (made : Made) (state : State) → IsStandingState m.task state → IsStandingState m.task (at_exchanged made state)
   exchanged_stands made (Opening table) stands = tt
   exchanged_stands Nothing (Writing write) stands = stands
   exchanged_stands Key (Writing write) stands = stands
-  exchanged_stands (Pair n) (Writing write) stands = cond_both (write.old == 0) (Counting n) (Ended (Replaced _ n)) (IsStandingState m.task) (λ _. stands.0) (λ _. tt)
+  exchanged_stands (Pair n) (Writing write) stands = written_stands m.task write n (writer_inserts m.task stands.0)
+  exchanged_stands made (Putting put) stands = written_stands m.task put.write put.pair (computer_inserts m.task stands.0)
   exchanged_stands made (Burying removal) stands = stands.0
   exchanged_stands made AtRoot stands = stands
   exchanged_stands made Making stands = stands
@@ -140,12 +231,14 @@ module _ (m : Machine) where
   exchanged_stands made (Leaving table) stands = stands
   exchanged_stands made (Showing removal) stands = stands
   exchanged_stands made (Uncounting pair) stands = stands
+  exchanged_stands made (Offering gap) stands = stands
+  exchanged_stands made (Pairing purpose) stands = stands
   exchanged_stands made (Growing table) stands = stands
   exchanged_stands made (Ended reply) stands = stands
 
   -- a call that lost an exchange goes on from its place
-  look_goes : (at : Place) (word : ℕ) → IsWithin at → IsStandingState m.task (goes_as m.task m.mode (look at m.hash word))
-  look_goes at word within = goes_stands m.task m.mode (look at m.hash word) (look_seen (kind_of word) at m.hash word within)
+  look_goes : (at : Place) (word : ℕ) → IsWithin at → IsStandingState m.task (goes_as m.task m.mode m.remembered (look at m.hash word))
+  look_goes at word within = goes_stands m.task m.mode m.remembered (look at m.hash word) held (look_seen (kind_of word) at m.hash word within)
 
   -- a removal that was beaten goes on from its place, or has ended
   beaten_stands : (kind : Kind) (removal : Removal) (word : ℕ) → IsWithin removal.place → IsStandingState m.task (beaten_by kind m removal.place word)
@@ -156,10 +249,17 @@ module _ (m : Machine) where
   beaten_stands word_kinds.Copied removal word within = look_goes removal.place word within
   beaten_stands word_kinds.Closed removal word within = look_goes removal.place word within
 
+  beaten_stands_as : (task : Task) (removal : Removal) (word : ℕ) → IsWithin removal.place → IsStandingState m.task (beaten_as task m removal.place word)
+  beaten_stands_as Get removal word within = beaten_stands (kind_of word) removal word within
+  beaten_stands_as (Insert replace) removal word within = beaten_stands (kind_of word) removal word within
+  beaten_stands_as RemoveIf removal word within = beaten_stands (kind_of word) removal word within
+  beaten_stands_as Compute removal word within = look_goes removal.place word within
+
   found_stands : (word : ℕ) (state : State) → IsStandingState m.task state → IsStandingState m.task (at_found m word state)
   found_stands word (Opening table) stands = tt
   found_stands word (Writing write) stands = look_goes write.place word stands.1
-  found_stands word (Burying removal) stands = beaten_stands (kind_of word) removal word stands.1
+  found_stands word (Putting put) stands = look_goes put.write.place word stands.1.within
+  found_stands word (Burying removal) stands = beaten_stands_as m.task removal word stands.1
   found_stands word AtRoot stands = stands
   found_stands word Making stands = stands
   found_stands word (Searching search) stands = stands
@@ -167,13 +267,49 @@ module _ (m : Machine) where
   found_stands word (Leaving table) stands = stands
   found_stands word (Showing removal) stands = stands
   found_stands word (Uncounting pair) stands = stands
+  found_stands word (Offering gap) stands = stands
+  found_stands word (Pairing purpose) stands = stands
   found_stands word (Growing table) stands = stands
   found_stands word (Ended reply) stands = stands
 
+  judged_stands : (task : Task) (removal : Removal) (agrees : Bool) → IsStandingState task (Showing removal) → IsStandingState task (judged task removal agrees)
+  judged_stands Get removal agrees stands = stands
+  judged_stands (Insert replace) removal agrees stands = stands
+  judged_stands RemoveIf removal true stands = stands
+  judged_stands RemoveIf removal false stands = tt
+  judged_stands Compute removal agrees stands = stands
+
+  decided_stands : (task : Task) (removal : Removal) (kind : OpKind) → IsStandingState task (Showing removal) → IsStandingState task (decided task removal kind)
+  decided_stands Get removal kind stands = stands
+  decided_stands (Insert replace) removal kind stands = stands
+  decided_stands RemoveIf removal kind stands = stands
+  decided_stands Compute removal kind stands = chosen_stands removal kind stands.1
+
+  offering_stands : (task : Task) (gap : Gap) (kind : OpKind) → IsComputer task → IsGap gap → IsStandingState task (offered gap kind)
+  offering_stands Get gap kind is within = absurd is
+  offering_stands (Insert replace) gap kind is within = absurd is
+  offering_stands RemoveIf gap kind is within = absurd is
+  offering_stands Compute gap kind is within = offered_stands gap kind within
+
+  providing_stands : (task : Task) (purpose : Purpose) (n : ℕ) → IsComputer task → IsPurpose purpose → n < 2 ^ 48 → IsStandingState task (provides purpose n)
+  providing_stands Get purpose n is within fit = absurd is
+  providing_stands (Insert replace) purpose n is within fit = absurd is
+  providing_stands RemoveIf purpose n is within fit = absurd is
+  providing_stands Compute purpose n is within fit = provides_stands purpose n within fit
+
+  paired_stands : (made : Made) (purpose : Purpose) (n : ℕ) → n < 2 ^ 48 → IsStandingState m.task (Pairing purpose) → IsStandingState m.task (paired made purpose n)
+  paired_stands Nothing purpose n fit stands = stands
+  paired_stands Key purpose n fit stands = providing_stands m.task purpose n stands.0 stands.1 fit
+  paired_stands (Pair i) purpose n fit stands = providing_stands m.task purpose n stands.0 stands.1 fit
+
+  paired_fits : (made : Made) (purpose : Purpose) (n : ℕ) → n < 2 ^ 48 → IsRemembered (paired_held made m.remembered purpose n)
+  paired_fits Nothing purpose n fit = held
+  paired_fits Key purpose n fit = pair_stands m.remembered purpose n held fit
+  paired_fits (Pair i) purpose n fit = pair_stands m.remembered purpose n held fit
+
   yes_stands : (same : Bool) (state : State) → IsStandingState m.task state → IsStandingState m.task (at_yes m same state)
-  yes_stands same (Searching search) stands = goes_stands m.task m.mode (search_compared search same) (compared_seen search same stands)
-  yes_stands true (Showing removal) stands = stands
-  yes_stands false (Showing removal) stands = tt
+  yes_stands same (Searching search) stands = goes_stands m.task m.mode m.remembered (search_compared search same) held (compared_seen search same stands)
+  yes_stands same (Showing removal) stands = judged_stands m.task removal same stands
   yes_stands same AtRoot stands = stands
   yes_stands same Making stands = stands
   yes_stands same (Opening table) stands = stands
@@ -182,6 +318,9 @@ module _ (m : Machine) where
   yes_stands same (Leaving table) stands = stands
   yes_stands same (Burying removal) stands = stands
   yes_stands same (Uncounting pair) stands = stands
+  yes_stands same (Offering gap) stands = stands
+  yes_stands same (Pairing purpose) stands = stands
+  yes_stands same (Putting put) stands = stands
   yes_stands same (Growing table) stands = stands
   yes_stands same (Ended reply) stands = stands
 
@@ -198,12 +337,18 @@ module _ (m : Machine) where
   size_stands slots limit size (Showing removal) stands = stands
   size_stands slots limit size (Burying removal) stands = stands
   size_stands slots limit size (Uncounting pair) stands = stands
+  size_stands slots limit size (Offering gap) stands = stands
+  size_stands slots limit size (Pairing purpose) stands = stands
+  size_stands slots limit size (Putting put) stands = stands
   size_stands slots limit size (Growing table) stands = stands
   size_stands slots limit size (Ended reply) stands = stands
 
   ok_stands : (state : State) → IsStandingState m.task state → IsStandingState m.task (at_ok state)
   ok_stands (Counting pair) stands = tt
   ok_stands (Uncounting pair) stands = tt
+  ok_stands (Offering gap) stands = stands
+  ok_stands (Pairing purpose) stands = stands
+  ok_stands (Putting put) stands = stands
   ok_stands AtRoot stands = stands
   ok_stands Making stands = stands
   ok_stands (Opening table) stands = stands
@@ -228,6 +373,9 @@ module _ (m : Machine) where
   refused_stands made refused (Showing removal) stands = stands
   refused_stands made refused (Burying removal) stands = stands
   refused_stands made refused (Uncounting pair) stands = stands
+  refused_stands made refused (Offering gap) stands = stands
+  refused_stands made refused (Pairing purpose) stands = tt
+  refused_stands made refused (Putting put) stands = stands
   refused_stands made refused (Growing table) stands = stands
   refused_stands made refused (Ended reply) stands = stands
 
@@ -245,33 +393,99 @@ module _ (m : Machine) where
   made_fits made n (Showing removal) fit is = is
   made_fits made n (Burying removal) fit is = is
   made_fits made n (Uncounting pair) fit is = is
+  made_fits made n (Offering gap) fit is = is
+  made_fits Nothing n (Pairing purpose) fit is = tt
+  made_fits Key n (Pairing purpose) fit is = tt
+  made_fits (Pair i) n (Pairing purpose) fit is = is
+  made_fits made n (Putting put) fit is = is
   made_fits made n (Growing table) fit is = is
   made_fits made n (Ended reply) fit is = is
 
-  made_stands : (n : ℕ) (state : State) → IsStandingState m.task state → IsStandingState m.task (state_in n state)
-  made_stands n Making stands = stands
-  made_stands n AtRoot stands = stands
-  made_stands n (Opening table) stands = stands
-  made_stands n (Searching search) stands = stands
-  made_stands n (Writing write) stands = stands
-  made_stands n (Counting pair) stands = stands
-  made_stands n (Leaving table) stands = stands
-  made_stands n (Showing removal) stands = stands
-  made_stands n (Burying removal) stands = stands
-  made_stands n (Uncounting pair) stands = stands
-  made_stands n (Growing table) stands = stands
-  made_stands n (Ended reply) stands = stands
+  made_stands : (n : ℕ) → n < 2 ^ 48 → (state : State) → IsStandingState m.task state → IsStandingState m.task (state_in m.made n state)
+  made_stands n fit Making stands = stands
+  made_stands n fit AtRoot stands = stands
+  made_stands n fit (Opening table) stands = stands
+  made_stands n fit (Searching search) stands = stands
+  made_stands n fit (Writing write) stands = stands
+  made_stands n fit (Counting pair) stands = stands
+  made_stands n fit (Leaving table) stands = stands
+  made_stands n fit (Showing removal) stands = stands
+  made_stands n fit (Burying removal) stands = stands
+  made_stands n fit (Uncounting pair) stands = stands
+  made_stands n fit (Offering gap) stands = stands
+  made_stands n fit (Pairing purpose) stands = paired_stands m.made purpose n fit stands
+  made_stands n fit (Putting put) stands = stands
+  made_stands n fit (Growing table) stands = stands
+  made_stands n fit (Ended reply) stands = stands
 
-  -- after each answer
-  pub machine_stands : (answer : Answer) → IsStanding m → IsFit answer → IsStanding (after m answer)
-  machine_stands (Word_read word) stands fit = record { made = stands.made; state = word_stands word m.state stands.state }
-  machine_stands Exchanged stands fit = record { made = stands.made; state = exchanged_stands m.made m.state stands.state }
-  machine_stands (Found_instead word) stands fit = record { made = stands.made; state = found_stands word m.state stands.state }
-  machine_stands (Yes same) stands fit = record { made = stands.made; state = yes_stands same m.state stands.state }
-  machine_stands (Size slots limit) stands fit = record { made = stands.made; state = size_stands slots limit fit m.state stands.state }
-  machine_stands (Made_number n) stands fit = record { made = made_fits m.made n m.state fit stands.made; state = made_stands n m.state stands.state }
-  machine_stands Ok_done stands fit = record { made = stands.made; state = ok_stands m.state stands.state }
-  machine_stands (Was_refused refused) stands fit = record { made = stands.made; state = refused_stands m.made refused m.state stands.state }
+  op_stands : (kind : OpKind) (state : State) → IsStandingState m.task state → IsStandingState m.task (at_op m.task kind state)
+  op_stands kind AtRoot stands = stands
+  op_stands kind Making stands = stands
+  op_stands kind (Opening table) stands = stands
+  op_stands kind (Searching search) stands = stands
+  op_stands kind (Writing write) stands = stands
+  op_stands kind (Offering gap) stands = offering_stands m.task gap kind stands.0 stands.1
+  op_stands kind (Showing removal) stands = decided_stands m.task removal kind stands
+  op_stands kind (Pairing purpose) stands = stands
+  op_stands kind (Putting put) stands = stands
+  op_stands kind (Burying removal) stands = stands
+  op_stands kind (Counting pair) stands = stands
+  op_stands kind (Uncounting pair) stands = stands
+  op_stands kind (Leaving table) stands = stands
+  op_stands kind (Growing table) stands = stands
+  op_stands kind (Ended reply) stands = stands
+
+  decided_fits : (task : Task) (removal : Removal) (kind : OpKind) → IsRemembered (decided_held task m.remembered removal kind)
+  decided_fits Get removal kind = held
+  decided_fits (Insert replace) removal kind = held
+  decided_fits RemoveIf removal kind = held
+  decided_fits Compute removal kind = choice_stands m.remembered removal kind held
+
+  op_fits : (kind : OpKind) (state : State) → IsRemembered (held_at_op m.task m.remembered kind state)
+  op_fits kind AtRoot = held
+  op_fits kind Making = held
+  op_fits kind (Opening table) = held
+  op_fits kind (Searching search) = held
+  op_fits kind (Writing write) = held
+  op_fits kind (Offering gap) = held
+  op_fits kind (Showing removal) = decided_fits m.task removal kind
+  op_fits kind (Pairing purpose) = held
+  op_fits kind (Putting put) = held
+  op_fits kind (Burying removal) = held
+  op_fits kind (Counting pair) = held
+  op_fits kind (Uncounting pair) = held
+  op_fits kind (Leaving table) = held
+  op_fits kind (Growing table) = held
+  op_fits kind (Ended reply) = held
+
+  held_fits : (n : ℕ) → n < 2 ^ 48 → (state : State) → IsRemembered (held_in m.made m.remembered n state)
+  held_fits n fit AtRoot = held
+  held_fits n fit Making = held
+  held_fits n fit (Opening table) = held
+  held_fits n fit (Searching search) = held
+  held_fits n fit (Writing write) = held
+  held_fits n fit (Offering gap) = held
+  held_fits n fit (Showing removal) = held
+  held_fits n fit (Pairing purpose) = paired_fits m.made purpose n fit
+  held_fits n fit (Putting put) = held
+  held_fits n fit (Burying removal) = held
+  held_fits n fit (Counting pair) = held
+  held_fits n fit (Uncounting pair) = held
+  held_fits n fit (Leaving table) = held
+  held_fits n fit (Growing table) = held
+  held_fits n fit (Ended reply) = held
+
+-- after each answer
+pub machine_stands : (m : Machine) (answer : Answer) → IsStanding m → IsFit answer → IsStanding (after m answer)
+machine_stands m (Word_read word) stands fit = record { made = stands.made; remembered = stands.remembered; state = word_stands m stands.remembered word m.state stands.state }
+machine_stands m Exchanged stands fit = record { made = stands.made; remembered = stands.remembered; state = exchanged_stands m stands.remembered m.made m.state stands.state }
+machine_stands m (Found_instead word) stands fit = record { made = stands.made; remembered = stands.remembered; state = found_stands m stands.remembered word m.state stands.state }
+machine_stands m (Yes same) stands fit = record { made = stands.made; remembered = stands.remembered; state = yes_stands m stands.remembered same m.state stands.state }
+machine_stands m (Op kind) stands fit = record { made = stands.made; remembered = op_fits m stands.remembered kind m.state; state = op_stands m stands.remembered kind m.state stands.state }
+machine_stands m (Size slots limit) stands fit = record { made = stands.made; remembered = stands.remembered; state = size_stands m stands.remembered slots limit fit m.state stands.state }
+machine_stands m (Made_number n) stands fit = record { made = made_fits m stands.remembered m.made n m.state fit stands.made; remembered = held_fits m stands.remembered n fit m.state; state = made_stands m stands.remembered n fit m.state stands.state }
+machine_stands m Ok_done stands fit = record { made = stands.made; remembered = stands.remembered; state = ok_stands m stands.remembered m.state stands.state }
+machine_stands m (Was_refused refused) stands fit = record { made = stands.made; remembered = stands.remembered; state = refused_stands m stands.remembered m.made refused m.state stands.state }
 
 -- what a machine asks for has a size of tables
 asks_fit : (made : Made) (hash : ℕ) (state : State) → IsFitAsk (asks made hash state)
@@ -286,7 +500,12 @@ asks_fit Key hash (Writing write) = tt
 asks_fit (Pair n) hash (Writing write) = tt
 asks_fit made hash (Counting pair) = tt
 asks_fit made hash (Leaving table) = tt
+asks_fit made hash (Offering gap) = tt
 asks_fit made hash (Showing removal) = tt
+asks_fit Nothing hash (Pairing purpose) = tt
+asks_fit Key hash (Pairing purpose) = tt
+asks_fit (Pair n) hash (Pairing purpose) = tt
+asks_fit made hash (Putting put) = tt
 asks_fit made hash (Burying removal) = tt
 asks_fit made hash (Uncounting pair) = tt
 asks_fit made hash (Growing table) = tt

@@ -1,6 +1,9 @@
 -- The answers of closures, as values.
 use Rattle.std.specs.Prelude.{ℕ, Bool, Option, List, [], ◌∷◌}
 use Rattle.papaya_call.specs.declared.answers.Operation.{Operation}
+use Rattle.papaya_call.specs.declared.answers.Operation.TheVariants.{Insert, Remove, Abort}
+use Rattle.papaya_call.specs.declared.ask.OpKind.{OpKind}
+use Rattle.papaya_call.specs.declared.ask.OpKind.TheVariants as kinds
 
 -- What a type of answers gives: for what is shown, which answer, and which answers are left.
 pub record Says (K V A : Type 0) : Type 1 where
@@ -16,3 +19,9 @@ first_or default (x ∷ rest) = x
 abbrev pub rest_of : {A : Type 0} → List A → List A
 rest_of [] = []
 rest_of (x ∷ rest) = rest
+
+-- what a closure answered, without the value
+abbrev pub op_kind : {V : Type 0} → Operation V ℕ → OpKind
+op_kind (Insert v) = kinds.Insert
+op_kind Remove = kinds.Remove
+op_kind (Abort t) = kinds.Abort t

@@ -11,14 +11,19 @@ use Rattle.papaya_words.specs.declared.word.Kind.{Kind}
 use Rattle.papaya_words.specs.declared.word.Kind.TheVariants.{Empty as Is_empty, Live, Marked, Copied, Buried, Closed}
 use Rattle.papaya_call.specs.declared.ask.At.TheVariants.{Root, Next}
 use Rattle.papaya_call.specs.declared.ask.Ask.{Ask}
-use Rattle.papaya_call.specs.declared.ask.Ask.TheVariants.{Load, Exchange, SameKey, ShowPair, SizeOf, MakeKey, MakePair, MakeTable, AddToShard, Done}
+use Rattle.papaya_call.specs.declared.ask.Ask.TheVariants.{Load, Exchange, SameKey, ShowNone, ShowPair, SizeOf, MakeKey, MakePair, MakeTable, AddToShard, Done}
 use Rattle.papaya_call.specs.declared.ask.Answer.{Answer}
-use Rattle.papaya_call.specs.declared.ask.Answer.TheVariants.{Word as Word_read, Exchanged, Found as Found_instead, Yes, Size, Made as Made_number, Ok as Ok_done, Refused as Was_refused}
+use Rattle.papaya_call.specs.declared.ask.Answer.TheVariants.{Word as Word_read, Exchanged, Found as Found_instead, Yes, Op, Size, Made as Made_number, Ok as Ok_done, Refused as Was_refused}
+use Rattle.papaya_call.specs.declared.ask.OpKind.{OpKind}
 use Rattle.papaya_call.specs.declared.ask.StepKind.{StepKind}
 use Rattle.papaya_call.specs.declared.ask.StepKind.TheVariants.{Open, Bury}
 use Rattle.papaya_call.specs.declared.call.Reply.TheVariants.{Absent, Found, Inserted, Replaced, Occupied, Removed, Kept, Refused as Reply_refused}
 use Rattle.papaya_call.specs.declared.call.Task.{Task}
-use Rattle.papaya_call.specs.declared.call.Task.TheVariants.{Get, Insert, RemoveIf}
+use Rattle.papaya_call.specs.declared.call.Task.TheVariants.{Get, Insert, RemoveIf, Compute}
+use Rattle.papaya_call.specs.declared.compute.Gap.{Gap}
+use Rattle.papaya_call.specs.declared.compute.Gap.TheVariants.{NoRoot, At, After}
+use Rattle.papaya_call.specs.declared.compute.Purpose.{Purpose}
+use Rattle.papaya_call.specs.declared.compute.Remembered.{Remembered}
 use Rattle.papaya_call.specs.declared.remove.Removal.{Removal}
 use Rattle.papaya_call.specs.declared.search.Place.{Place}
 use Rattle.papaya_call.specs.declared.search.Search.TheVariants.{Sizing}
@@ -28,10 +33,11 @@ use Rattle.papaya_call.specs.declared.write.Made.{Made}
 use Rattle.papaya_call.specs.declared.write.Made.TheVariants.{Nothing, Key, Pair}
 use Rattle.papaya_call.specs.declared.write.Write.{Write}
 use Rattle.papaya_call.specs.declared.machine.State.{State}
-use Rattle.papaya_call.specs.declared.machine.State.TheVariants.{AtRoot, Making, Opening, Searching, Writing, Showing, Burying, Counting, Uncounting, Leaving, Growing, Ended}
+use Rattle.papaya_call.specs.declared.machine.State.TheVariants.{AtRoot, Making, Opening, Searching, Writing, Offering, Showing, Pairing, Putting, Burying, Counting, Uncounting, Leaving, Growing, Ended}
 use Rattle.papaya_call.specs.declared.machine.Machine.{Machine}
 use Rattle.papaya_call.specs.Search.{IsSize, IsWithin, IsSearching, look}
 use Rattle.papaya_call.specs.Search.{ask_of as search_ask, at_size as search_sized, at_word as search_loaded, at_yes as search_compared}
+use Rattle.papaya_call.specs.Compute.{IsGap, IsPurpose, IsPut, IsRemembered, chosen, lacks, meets, nothing, offered, provides, with_choice, with_pair}
 use Rattle.papaya_call.specs.Remove.{removal_ask, show_ask}
 use Rattle.papaya_call.specs.Write.{IsMade, write_ask, write_kind}
 
@@ -42,7 +48,13 @@ IsChunked Blocking = Unit {0}
 
 -- a call that begins
 abbrev pub started : Task → ℕ → ResizeMode → ℕ → Machine
-started task hash mode initial = record { task = task; hash = hash; mode = mode; initial = initial; made = Nothing; state = AtRoot }
+started task hash mode initial = record { task = task; hash = hash; mode = mode; initial = initial; made = Nothing; remembered = nothing; state = AtRoot }
+
+-- a pair of a value that the closure answered: the key is made first, once a call
+abbrev pub pairing_ask : Made → Ask
+pairing_ask Nothing = MakeKey
+pairing_ask Key = MakePair
+pairing_ask (Pair n) = MakePair
 
 -- what a machine asks
 abbrev pub asks : Made → ℕ → State → Ask
@@ -51,7 +63,10 @@ asks made hash Making = MakeTable FIRST_TABLE_LEN FIRST_TABLE_LIMIT
 asks made hash (Opening table) = Exchange Root 0 table
 asks made hash (Searching search) = search_ask search
 asks made hash (Writing write) = write_ask write made hash
+asks made hash (Offering gap) = ShowNone
 asks made hash (Showing removal) = show_ask removal
+asks made hash (Pairing purpose) = pairing_ask made
+asks made hash (Putting put) = write_ask put.write (Pair put.pair) hash
 asks made hash (Burying removal) = removal_ask removal
 asks made hash (Counting pair) = AddToShard (pos 1)
 asks made hash (Uncounting pair) = AddToShard (negsuc 0)
@@ -74,7 +89,10 @@ kind_asked made Making = None
 kind_asked made (Opening table) = Some Open
 kind_asked made (Searching search) = None
 kind_asked made (Writing write) = write_kind_of made write
+kind_asked made (Offering gap) = None
 kind_asked made (Showing removal) = None
+kind_asked made (Pairing purpose) = None
+kind_asked made (Putting put) = Some (write_kind put.write)
 kind_asked made (Burying removal) = Some Bury
 kind_asked made (Counting pair) = None
 kind_asked made (Uncounting pair) = None
@@ -85,20 +103,28 @@ kind_asked made (Ended reply) = None
 abbrev pub kind_of_ask : Machine → Option StepKind
 kind_of_ask m = kind_asked m.made m.state
 
+-- the key is absent, and a pair of it would stand there
+abbrev pub absent : Task → Option ℕ → Gap → State
+absent Get fill gap = Ended Absent
+absent (Insert replace) fill gap = Ended Absent
+absent RemoveIf fill gap = Ended Absent
+absent Compute fill gap = lacks fill gap
+
 -- the root is this table, or there is none
-abbrev pub at_root : Task → ℕ → State
-at_root Get word = if word == 0 then Ended Absent else Searching (Sizing word)
-at_root RemoveIf word = if word == 0 then Ended Absent else Searching (Sizing word)
-at_root (Insert replace) word = if word == 0 then Making else Searching (Sizing word)
+abbrev pub at_root : Task → Option ℕ → ℕ → State
+at_root Get fill word = if word == 0 then absent Get fill NoRoot else Searching (Sizing word)
+at_root RemoveIf fill word = if word == 0 then absent RemoveIf fill NoRoot else Searching (Sizing word)
+at_root Compute fill word = if word == 0 then absent Compute fill NoRoot else Searching (Sizing word)
+at_root (Insert replace) fill word = if word == 0 then Making else Searching (Sizing word)
 
 -- the next table has this number, or there is none
-abbrev pub left : ℕ → State
-left word = if word == 0 then Ended Absent else Searching (Sizing word)
+abbrev pub left : Task → Option ℕ → (table word : ℕ) → State
+left task fill table word = if word == 0 then absent task fill (After table) else Searching (Sizing word)
 
 -- a call that looks for its key goes past a table
-abbrev pub passes : ResizeMode → ℕ → State
-passes (Incremental chunk) table = Leaving table
-passes Blocking table = Ended Absent
+abbrev pub passes : Task → ResizeMode → Option ℕ → ℕ → State
+passes task (Incremental chunk) fill table = Leaving table
+passes task Blocking fill table = absent task fill (After table)
 
 -- a pair with a matching key is replaced where its word is Live; one that is marked can't be changed here
 abbrev pub replaces : Kind → Place → ℕ → State
@@ -118,25 +144,37 @@ removes Copied at word = Growing at.table
 removes Buried at word = Growing at.table
 removes Closed at word = Growing at.table
 
-abbrev pub found : Task → Place → ℕ → State
-found Get at word = Ended (Found (pair_of word))
-found (Insert false) at word = Ended (Occupied (pair_of word))
-found (Insert true) at word = replaces (kind_of word) at word
-found RemoveIf at word = removes (kind_of word) at word
+-- and to the closure of a compute, or acted on as it answered before
+abbrev pub computes : Kind → Remembered → Place → ℕ → State
+computes Live held at word = meets held.choice at word
+computes Is_empty held at word = Growing at.table
+computes Marked held at word = Growing at.table
+computes Copied held at word = Growing at.table
+computes Buried held at word = Growing at.table
+computes Closed held at word = Growing at.table
+
+abbrev pub found : Task → Remembered → Place → ℕ → State
+found Get held at word = Ended (Found (pair_of word))
+found (Insert false) held at word = Ended (Occupied (pair_of word))
+found (Insert true) held at word = replaces (kind_of word) at word
+found RemoveIf held at word = removes (kind_of word) at word
+found Compute held at word = computes (kind_of word) held at word
 
 -- what a search saw leads here
-abbrev pub goes_as : Task → ResizeMode → Seen → State
-goes_as task mode (On search) = Searching search
-goes_as task mode (Here at word) = found task at word
-goes_as Get mode (Empty at) = Ended Absent
-goes_as Get mode (Over table) = passes mode table
-goes_as RemoveIf mode (Empty at) = Ended Absent
-goes_as RemoveIf mode (Over table) = passes mode table
-goes_as (Insert replace) mode (Empty at) = Writing (record { place = at; old = 0 })
-goes_as (Insert replace) mode (Over table) = Growing table
+abbrev pub goes_as : Task → ResizeMode → Remembered → Seen → State
+goes_as task mode held (On search) = Searching search
+goes_as task mode held (Here at word) = found task held at word
+goes_as Get mode held (Empty at) = absent Get held.fill (At at)
+goes_as Get mode held (Over table) = passes Get mode held.fill table
+goes_as RemoveIf mode held (Empty at) = absent RemoveIf held.fill (At at)
+goes_as RemoveIf mode held (Over table) = passes RemoveIf mode held.fill table
+goes_as Compute mode held (Empty at) = absent Compute held.fill (At at)
+goes_as Compute mode held (Over table) = passes Compute mode held.fill table
+goes_as (Insert replace) mode held (Empty at) = Writing (record { place = at; old = 0 })
+goes_as (Insert replace) mode held (Over table) = Growing table
 
 abbrev pub goes : Machine → Seen → State
-goes m seen = goes_as m.task m.mode seen
+goes m seen = goes_as m.task m.mode m.remembered seen
 
 -- the pair of this number was written: it was claimed, or took the place of another
 abbrev pub written : Write → ℕ → State
@@ -147,7 +185,7 @@ exchanged Nothing write = Writing write
 exchanged Key write = Writing write
 exchanged (Pair n) write = written write n
 
--- a removal found this word in the place of its own; the pair is gone where another call buried it
+-- a burial found this word in the place of its own; for a removal the key was absent where another call buried its pair
 abbrev pub beaten_by : Kind → Machine → Place → ℕ → State
 beaten_by Buried m at word = Ended Absent
 beaten_by Is_empty m at word = goes m (look at m.hash word)
@@ -156,24 +194,52 @@ beaten_by Marked m at word = goes m (look at m.hash word)
 beaten_by Copied m at word = goes m (look at m.hash word)
 beaten_by Closed m at word = goes m (look at m.hash word)
 
-abbrev pub beaten : Machine → Removal → ℕ → State
-beaten m removal word = beaten_by (kind_of word) m removal.place word
+abbrev pub beaten_as : Task → Machine → Place → ℕ → State
+beaten_as Get m at word = beaten_by (kind_of word) m at word
+beaten_as (Insert replace) m at word = beaten_by (kind_of word) m at word
+beaten_as RemoveIf m at word = beaten_by (kind_of word) m at word
+beaten_as Compute m at word = goes m (look at m.hash word)
 
--- the closure agrees to the removal of the pair, or it doesn't
+abbrev pub beaten : Machine → Removal → ℕ → State
+beaten m removal word = beaten_as m.task m removal.place word
+
+-- the closure of a removal agrees to the removal of the pair, or it doesn't
 abbrev pub agreed : Removal → Bool → State
 agreed removal true = Burying removal
 agreed removal false = Ended (Kept (pair_of removal.word))
 
+abbrev pub judged : Task → Removal → Bool → State
+judged Get removal agrees = Showing removal
+judged (Insert replace) removal agrees = Showing removal
+judged RemoveIf removal agrees = agreed removal agrees
+judged Compute removal agrees = Showing removal
+
+-- the closure of a compute answered so
+abbrev pub decided : Task → Removal → OpKind → State
+decided Get removal kind = Showing removal
+decided (Insert replace) removal kind = Showing removal
+decided RemoveIf removal kind = Showing removal
+decided Compute removal kind = chosen removal kind
+
+abbrev pub decided_held : Task → Remembered → Removal → OpKind → Remembered
+decided_held Get held removal kind = held
+decided_held (Insert replace) held removal kind = held
+decided_held RemoveIf held removal kind = held
+decided_held Compute held removal kind = with_choice held removal kind
+
 -- where an answer leads; one that was not asked for leads nowhere
 abbrev pub at_word : Machine → ℕ → State → State
-at_word m word AtRoot = at_root m.task word
+at_word m word AtRoot = at_root m.task m.remembered.fill word
 at_word m word (Searching search) = goes m (search_loaded search m.hash word)
-at_word m word (Leaving table) = left word
+at_word m word (Leaving table) = left m.task m.remembered.fill table word
 at_word m word (Growing table) = Ended (Reply_refused Capacity)
 at_word m word Making = Making
 at_word m word (Opening table) = Opening table
 at_word m word (Writing write) = Writing write
 at_word m word (Showing removal) = Showing removal
+at_word m word (Offering gap) = Offering gap
+at_word m word (Pairing purpose) = Pairing purpose
+at_word m word (Putting put) = Putting put
 at_word m word (Burying removal) = Burying removal
 at_word m word (Counting pair) = Counting pair
 at_word m word (Uncounting pair) = Uncounting pair
@@ -183,6 +249,9 @@ abbrev pub at_exchanged : Made → State → State
 at_exchanged made (Opening table) = Searching (Sizing table)
 at_exchanged made (Writing write) = exchanged made write
 at_exchanged made (Showing removal) = Showing removal
+at_exchanged made (Offering gap) = Offering gap
+at_exchanged made (Pairing purpose) = Pairing purpose
+at_exchanged made (Putting put) = written put.write put.pair
 at_exchanged made (Burying removal) = Uncounting (pair_of removal.word)
 at_exchanged made AtRoot = AtRoot
 at_exchanged made Making = Making
@@ -198,6 +267,9 @@ abbrev pub at_found : Machine → ℕ → State → State
 at_found m word (Opening table) = Searching (Sizing word)
 at_found m word (Writing write) = goes m (look write.place m.hash word)
 at_found m word (Showing removal) = Showing removal
+at_found m word (Offering gap) = Offering gap
+at_found m word (Pairing purpose) = Pairing purpose
+at_found m word (Putting put) = goes m (look put.write.place m.hash word)
 at_found m word (Burying removal) = beaten m removal word
 at_found m word AtRoot = AtRoot
 at_found m word Making = Making
@@ -214,7 +286,10 @@ at_yes m same AtRoot = AtRoot
 at_yes m same Making = Making
 at_yes m same (Opening table) = Opening table
 at_yes m same (Writing write) = Writing write
-at_yes m same (Showing removal) = agreed removal same
+at_yes m same (Showing removal) = judged m.task removal same
+at_yes m same (Offering gap) = Offering gap
+at_yes m same (Pairing purpose) = Pairing purpose
+at_yes m same (Putting put) = Putting put
 at_yes m same (Burying removal) = Burying removal
 at_yes m same (Counting pair) = Counting pair
 at_yes m same (Uncounting pair) = Uncounting pair
@@ -229,6 +304,9 @@ at_size hash slots limit Making = Making
 at_size hash slots limit (Opening table) = Opening table
 at_size hash slots limit (Writing write) = Writing write
 at_size hash slots limit (Showing removal) = Showing removal
+at_size hash slots limit (Offering gap) = Offering gap
+at_size hash slots limit (Pairing purpose) = Pairing purpose
+at_size hash slots limit (Putting put) = Putting put
 at_size hash slots limit (Burying removal) = Burying removal
 at_size hash slots limit (Counting pair) = Counting pair
 at_size hash slots limit (Uncounting pair) = Uncounting pair
@@ -245,6 +323,9 @@ at_ok (Opening table) = Opening table
 at_ok (Searching search) = Searching search
 at_ok (Writing write) = Writing write
 at_ok (Showing removal) = Showing removal
+at_ok (Offering gap) = Offering gap
+at_ok (Pairing purpose) = Pairing purpose
+at_ok (Putting put) = Putting put
 at_ok (Burying removal) = Burying removal
 at_ok (Leaving table) = Leaving table
 at_ok (Growing table) = Growing table
@@ -260,6 +341,9 @@ abbrev pub at_refused : Made → Refused → State → State
 at_refused made refused Making = Ended (Reply_refused refused)
 at_refused made refused (Writing write) = refuses made refused write
 at_refused made refused (Showing removal) = Showing removal
+at_refused made refused (Offering gap) = Offering gap
+at_refused made refused (Pairing purpose) = Ended (Reply_refused refused)
+at_refused made refused (Putting put) = Putting put
 at_refused made refused (Burying removal) = Burying removal
 at_refused made refused AtRoot = AtRoot
 at_refused made refused (Opening table) = Opening table
@@ -276,9 +360,18 @@ made_then Nothing n = Key
 made_then Key n = Pair n
 made_then (Pair m) n = Pair m
 
+-- the key is made once
+abbrev pub keyed : Made → Made
+keyed Nothing = Key
+keyed Key = Key
+keyed (Pair m) = Pair m
+
 abbrev pub made_in : Made → ℕ → State → Made
 made_in made n (Writing write) = made_then made n
 made_in made n (Showing removal) = made
+made_in made n (Offering gap) = made
+made_in made n (Pairing purpose) = keyed made
+made_in made n (Putting put) = made
 made_in made n (Burying removal) = made
 made_in made n AtRoot = made
 made_in made n Making = made
@@ -290,22 +383,92 @@ made_in made n (Leaving table) = made
 made_in made n (Growing table) = made
 made_in made n (Ended reply) = made
 
-abbrev pub state_in : ℕ → State → State
-state_in n Making = Opening n
-state_in n AtRoot = AtRoot
-state_in n (Opening table) = Opening table
-state_in n (Searching search) = Searching search
-state_in n (Writing write) = Writing write
-state_in n (Showing removal) = Showing removal
-state_in n (Burying removal) = Burying removal
-state_in n (Counting pair) = Counting pair
-state_in n (Uncounting pair) = Uncounting pair
-state_in n (Leaving table) = Leaving table
-state_in n (Growing table) = Growing table
-state_in n (Ended reply) = Ended reply
+-- a pair that was made for a compute leads on, and is remembered
+abbrev pub paired : Made → Purpose → ℕ → State
+paired Nothing purpose n = Pairing purpose
+paired Key purpose n = provides purpose n
+paired (Pair m) purpose n = provides purpose n
+
+abbrev pub paired_held : Made → Remembered → Purpose → ℕ → Remembered
+paired_held Nothing held purpose n = held
+paired_held Key held purpose n = with_pair held purpose n
+paired_held (Pair m) held purpose n = with_pair held purpose n
+
+abbrev pub state_in : Made → ℕ → State → State
+state_in made n Making = Opening n
+state_in made n AtRoot = AtRoot
+state_in made n (Opening table) = Opening table
+state_in made n (Searching search) = Searching search
+state_in made n (Writing write) = Writing write
+state_in made n (Showing removal) = Showing removal
+state_in made n (Offering gap) = Offering gap
+state_in made n (Pairing purpose) = paired made purpose n
+state_in made n (Putting put) = Putting put
+state_in made n (Burying removal) = Burying removal
+state_in made n (Counting pair) = Counting pair
+state_in made n (Uncounting pair) = Uncounting pair
+state_in made n (Leaving table) = Leaving table
+state_in made n (Growing table) = Growing table
+state_in made n (Ended reply) = Ended reply
+
+-- what is remembered after a pair was made
+abbrev pub held_in : Made → Remembered → ℕ → State → Remembered
+held_in made held n AtRoot = held
+held_in made held n Making = held
+held_in made held n (Opening table) = held
+held_in made held n (Searching search) = held
+held_in made held n (Writing write) = held
+held_in made held n (Offering gap) = held
+held_in made held n (Showing removal) = held
+held_in made held n (Pairing purpose) = paired_held made held purpose n
+held_in made held n (Putting put) = held
+held_in made held n (Burying removal) = held
+held_in made held n (Counting pair) = held
+held_in made held n (Uncounting pair) = held
+held_in made held n (Leaving table) = held
+held_in made held n (Growing table) = held
+held_in made held n (Ended reply) = held
 
 abbrev pub state_made : Machine → ℕ → Machine
-state_made m n = record m { made = made_in m.made n m.state; state = state_in n m.state }
+state_made m n = record m { made = made_in m.made n m.state; remembered = held_in m.made m.remembered n m.state; state = state_in m.made n m.state }
+
+-- where the closure of a compute leads it, and what is remembered then
+abbrev pub at_op : Task → OpKind → State → State
+at_op task kind AtRoot = AtRoot
+at_op task kind Making = Making
+at_op task kind (Opening table) = Opening table
+at_op task kind (Searching search) = Searching search
+at_op task kind (Writing write) = Writing write
+at_op task kind (Offering gap) = offered gap kind
+at_op task kind (Showing removal) = decided task removal kind
+at_op task kind (Pairing purpose) = Pairing purpose
+at_op task kind (Putting put) = Putting put
+at_op task kind (Burying removal) = Burying removal
+at_op task kind (Counting pair) = Counting pair
+at_op task kind (Uncounting pair) = Uncounting pair
+at_op task kind (Leaving table) = Leaving table
+at_op task kind (Growing table) = Growing table
+at_op task kind (Ended reply) = Ended reply
+
+abbrev pub held_at_op : Task → Remembered → OpKind → State → Remembered
+held_at_op task held kind AtRoot = held
+held_at_op task held kind Making = held
+held_at_op task held kind (Opening table) = held
+held_at_op task held kind (Searching search) = held
+held_at_op task held kind (Writing write) = held
+held_at_op task held kind (Offering gap) = held
+held_at_op task held kind (Showing removal) = decided_held task held removal kind
+held_at_op task held kind (Pairing purpose) = held
+held_at_op task held kind (Putting put) = held
+held_at_op task held kind (Burying removal) = held
+held_at_op task held kind (Counting pair) = held
+held_at_op task held kind (Uncounting pair) = held
+held_at_op task held kind (Leaving table) = held
+held_at_op task held kind (Growing table) = held
+held_at_op task held kind (Ended reply) = held
+
+abbrev pub state_op : Machine → OpKind → Machine
+state_op m kind = record m { remembered = held_at_op m.task m.remembered kind m.state; state = at_op m.task kind m.state }
 
 -- the machine after an answer
 abbrev pub after : Machine → Answer → Machine
@@ -313,6 +476,7 @@ after m (Word_read word) = record m { state = at_word m word m.state }
 after m Exchanged = record m { state = at_exchanged m.made m.state }
 after m (Found_instead word) = record m { state = at_found m word m.state }
 after m (Yes same) = record m { state = at_yes m same m.state }
+after m (Op kind) = state_op m kind
 after m (Size slots limit) = record m { state = at_size m.hash slots limit m.state }
 after m (Made_number n) = state_made m n
 after m Ok_done = record m { state = at_ok m.state }
@@ -323,36 +487,64 @@ abbrev pub IsWriter : Task → Type 0
 IsWriter Get = ⊥
 IsWriter (Insert replace) = Unit {0}
 IsWriter RemoveIf = ⊥
+IsWriter Compute = ⊥
 
 -- a removal
 abbrev pub IsRemover : Task → Type 0
 IsRemover Get = ⊥
 IsRemover (Insert replace) = ⊥
 IsRemover RemoveIf = Unit {0}
+IsRemover Compute = ⊥
+
+-- a compute
+abbrev pub IsComputer : Task → Type 0
+IsComputer Get = ⊥
+IsComputer (Insert replace) = ⊥
+IsComputer RemoveIf = ⊥
+IsComputer Compute = Unit {0}
+
+-- a call that may insert
+abbrev pub MayInsert : Task → Type 0
+MayInsert Get = ⊥
+MayInsert (Insert replace) = Unit {0}
+MayInsert RemoveIf = ⊥
+MayInsert Compute = Unit {0}
+
+-- a call that has a closure, which may have a pair removed
+abbrev pub HasClosure : Task → Type 0
+HasClosure Get = ⊥
+HasClosure (Insert replace) = ⊥
+HasClosure RemoveIf = Unit {0}
+HasClosure Compute = Unit {0}
 
 -- a call that may change the map
 abbrev pub IsChanger : Task → Type 0
 IsChanger Get = ⊥
 IsChanger (Insert replace) = Unit {0}
 IsChanger RemoveIf = Unit {0}
+IsChanger Compute = Unit {0}
 
--- the machine's search stands within its table, only an insertion makes and writes, and only a removal shows and buries
+-- the machine's search stands within its table, and each state is of a task that comes to it
 abbrev pub IsStandingState : Task → State → Type 0
 IsStandingState task AtRoot = Unit {0}
-IsStandingState task Making = IsWriter task
-IsStandingState task (Opening table) = IsWriter task
+IsStandingState task Making = MayInsert task
+IsStandingState task (Opening table) = MayInsert task
 IsStandingState task (Searching search) = IsSearching search
 IsStandingState task (Writing write) = IsWriter task × IsWithin write.place
-IsStandingState task (Showing removal) = IsRemover task × IsWithin removal.place
-IsStandingState task (Burying removal) = IsRemover task × IsWithin removal.place
-IsStandingState task (Counting pair) = IsWriter task
-IsStandingState task (Uncounting pair) = IsRemover task
+IsStandingState task (Offering gap) = IsComputer task × IsGap gap
+IsStandingState task (Showing removal) = HasClosure task × IsWithin removal.place
+IsStandingState task (Pairing purpose) = IsComputer task × IsPurpose purpose
+IsStandingState task (Putting put) = IsComputer task × IsPut put
+IsStandingState task (Burying removal) = HasClosure task × IsWithin removal.place
+IsStandingState task (Counting pair) = MayInsert task
+IsStandingState task (Uncounting pair) = HasClosure task
 IsStandingState task (Leaving table) = Unit {0}
 IsStandingState task (Growing table) = IsChanger task
 IsStandingState task (Ended reply) = Unit {0}
 
 pub record IsStanding (m : Machine) : Type 0 where
   pub made : IsMade m.made
+  pub remembered : IsRemembered m.remembered
   pub state : IsStandingState m.task m.state
 
 -- an answer within the limits of tables and numbers
@@ -361,6 +553,7 @@ IsFit (Word_read word) = Unit {0}
 IsFit Exchanged = Unit {0}
 IsFit (Found_instead word) = Unit {0}
 IsFit (Yes same) = Unit {0}
+IsFit (Op kind) = Unit {0}
 IsFit (Size slots limit) = IsSize slots limit
 IsFit (Made_number n) = n < 2 ^ 48
 IsFit Ok_done = Unit {0}
@@ -371,6 +564,7 @@ abbrev pub IsFitAsk : Ask → Type 0
 IsFitAsk (Load at) = Unit {0}
 IsFitAsk (Exchange at old new) = Unit {0}
 IsFitAsk (SameKey n) = Unit {0}
+IsFitAsk ShowNone = Unit {0}
 IsFitAsk (ShowPair n) = Unit {0}
 IsFitAsk (SizeOf n) = Unit {0}
 IsFitAsk MakeKey = Unit {0}
@@ -384,6 +578,7 @@ abbrev pub IsLookup : Ask → Type 0
 IsLookup (Load at) = Unit {0}
 IsLookup (Exchange at old new) = ⊥
 IsLookup (SameKey n) = Unit {0}
+IsLookup ShowNone = ⊥
 IsLookup (ShowPair n) = ⊥
 IsLookup (SizeOf n) = Unit {0}
 IsLookup MakeKey = ⊥

@@ -1,7 +1,7 @@
 -- What a call that changed the map has yet to add to the count of pairs.
 use Rattle.std.specs.Prelude.{ℤ, pos, negsuc, Option, Some}
 use Rattle.papaya_call.specs.declared.ask.Ask.{Ask}
-use Rattle.papaya_call.specs.declared.ask.Ask.TheVariants.{Load, Exchange, SameKey, ShowPair, SizeOf, MakeKey, MakePair, MakeTable, AddToShard, Done}
+use Rattle.papaya_call.specs.declared.ask.Ask.TheVariants.{Load, Exchange, SameKey, ShowNone, ShowPair, SizeOf, MakeKey, MakePair, MakeTable, AddToShard, Done}
 use Rattle.papaya_call.specs.declared.ask.Answer.{Answer}
 use Rattle.papaya_call.specs.declared.ask.Answer.TheVariants.{Exchanged}
 use Rattle.papaya_call.specs.declared.ask.StepKind.{StepKind}
@@ -13,6 +13,7 @@ owed_by (AddToShard by) = by
 owed_by (Load at) = pos 0
 owed_by (Exchange at old new) = pos 0
 owed_by (SameKey n) = pos 0
+owed_by ShowNone = pos 0
 owed_by (ShowPair n) = pos 0
 owed_by (SizeOf n) = pos 0
 owed_by MakeKey = pos 0

@@ -11,9 +11,16 @@ use Rattle.papaya_call.specs.declared.ask.Answer.TheVariants.{Exchanged}
 use Rattle.papaya_call.specs.declared.ask.StepKind.{StepKind}
 use Rattle.papaya_call.specs.declared.ask.StepKind.TheVariants as kinds
 use Rattle.papaya_call.specs.declared.call.Reply.{Reply}
-use Rattle.papaya_call.specs.declared.call.Reply.TheVariants.{Absent, Found, Inserted, Replaced, Occupied, Removed, Kept, Refused as Reply_refused}
+use Rattle.papaya_call.specs.declared.call.Reply.TheVariants.{Absent, Found, Inserted, Replaced, Occupied, Removed, Kept, Aborted, Refused as Reply_refused}
 use Rattle.papaya_call.specs.declared.call.Task.{Task}
-use Rattle.papaya_call.specs.declared.call.Task.TheVariants.{Get, Insert, RemoveIf}
+use Rattle.papaya_call.specs.declared.call.Task.TheVariants.{Get, Insert, RemoveIf, Compute}
+use Rattle.papaya_call.specs.declared.compute.Choice.{Choice}
+use Rattle.papaya_call.specs.declared.compute.Choice.TheVariants.{Replace as To_replace, Remove as To_remove}
+use Rattle.papaya_call.specs.declared.compute.Gap.{Gap}
+use Rattle.papaya_call.specs.declared.compute.Gap.TheVariants.{NoRoot, At as At_place, After}
+use Rattle.papaya_call.specs.declared.compute.Purpose.{Purpose}
+use Rattle.papaya_call.specs.declared.compute.Purpose.TheVariants.{Fill, Replace as For_replace}
+use Rattle.papaya_call.specs.declared.compute.Remembered.{Remembered}
 use Rattle.papaya_call.specs.declared.remove.Removal.{Removal}
 use Rattle.papaya_call.specs.declared.search.Place.{Place}
 use Rattle.papaya_call.specs.declared.search.Search.{Search}
@@ -22,7 +29,7 @@ use Rattle.papaya_call.specs.declared.write.Made.{Made}
 use Rattle.papaya_call.specs.declared.write.Made.TheVariants.{Nothing, Key, Pair}
 use Rattle.papaya_call.specs.declared.write.Write.{Write}
 use Rattle.papaya_call.specs.declared.machine.State.{State as Stage}
-use Rattle.papaya_call.specs.declared.machine.State.TheVariants.{AtRoot, Making, Opening, Searching, Writing, Showing, Burying, Counting, Uncounting, Leaving, Growing, Ended}
+use Rattle.papaya_call.specs.declared.machine.State.TheVariants.{AtRoot, Making, Opening, Searching, Writing, Offering, Showing, Pairing, Putting, Burying, Counting, Uncounting, Leaving, Growing, Ended}
 use Rattle.papaya_call.specs.declared.machine.Machine.{Machine}
 use Rattle.papaya_call.specs.Law.Exchange.{Word, Setting, State, Exchange, run, start}
 use Rattle.papaya_call.specs.Law.View.{Leaving as View_leaving, Gone, view, look, own, held, beyond, IsPassed, IsReached}
@@ -30,8 +37,8 @@ use Rattle.papaya_call.specs.Law.Meaning.{IsAtMoment, map_left}
 use Rattle.papaya_call.specs.Law.Invariant.{named}
 use Rattle.papaya_call.specs.Law.Later.{Becomes}
 use Rattle.papaya_call.specs.Law.Code.{Coding, code}
-use Rattle.papaya_call.specs.Machine.{IsRemover, IsWriter}
-use Rattle.papaya_call.specs.Told.{Hands}
+use Rattle.papaya_call.specs.Machine.{HasClosure, IsComputer, MayInsert}
+use Rattle.papaya_call.specs.Told.{Hands, IsOneOf}
 
 -- the machine resizes as the setting does
 abbrev pub IsModeOf : ResizeMode → Bool → Type 0
@@ -87,6 +94,7 @@ module _ {K P : Type 0} (g : Setting K P) (c : Coding K P) (begun since : List (
   RestsWriting Get write = ⊥
   RestsWriting (Insert replace) write = MayWrite replace write
   RestsWriting RemoveIf write = ⊥
+  RestsWriting Compute write = ⊥
 
   -- the pair last told of is the key's, and was Live at the removal's place
   pub record MayRemove (hands : Hands P) (removal : Removal) : Type 0 where
@@ -96,15 +104,31 @@ module _ {K P : Type 0} (g : Setting K P) (c : Coding K P) (begun since : List (
     pub live : kind_of removal.word ≡ word_kinds.Live
     pub same : g.same k (g.key pair) ≡ true
 
-  -- the pair of this number is the one that the call made
+  -- the pair of this number is one that the call made
   abbrev pub IsOwnPair : Hands P → ℕ → Type 0
-  IsOwnPair hands n = (q : P) × (hands.made ≡ Some q) × (c.number q ≡ n)
+  IsOwnPair hands n = (q : P) × IsOneOf hands.made q × (c.number q ≡ n)
 
-  -- what the call has made: a pair of its key
   abbrev pub RestsMade : Hands P → Made → Type 0
-  RestsMade hands Nothing = hands.made ≡ None
-  RestsMade hands Key = hands.made ≡ None
-  RestsMade hands (Pair n) = (q : P) × (hands.made ≡ Some q) × (c.number q ≡ n) × (g.key q ≡ k)
+  RestsMade hands Nothing = Unit {0}
+  RestsMade hands Key = Unit {0}
+  RestsMade hands (Pair n) = IsOwnPair hands n
+
+  -- what a compute remembers is pairs that it made
+  abbrev pub RestsFill : Hands P → Option ℕ → Type 0
+  RestsFill hands None = Unit {0}
+  RestsFill hands (Some n) = IsOwnPair hands n
+
+  abbrev pub RestsChoice : Hands P → Option Choice → Type 0
+  RestsChoice hands None = Unit {0}
+  RestsChoice hands (Some (To_replace old new)) = IsOwnPair hands new
+  RestsChoice hands (Some (To_remove old)) = Unit {0}
+
+  -- what the call has made: pairs of its key
+  pub record RestsHands (hands : Hands P) (made : Made) (held : Remembered) : Type 0 where
+    pub keys : (q : P) → IsOneOf hands.made q → g.key q ≡ k
+    pub made_is : RestsMade hands made
+    pub fill_is : RestsFill hands held.fill
+    pub choice_is : RestsChoice hands held.choice
 
   abbrev pub RestsSearch : Hands P → Search → Type 0
   RestsSearch hands (Sizing t) = HasComeTo t
@@ -120,12 +144,24 @@ module _ {K P : Type 0} (g : Setting K P) (c : Coding K P) (begun since : List (
   RestsLeaving (Insert replace) t = ⊥
   RestsLeaving Get t = (g.blocking ≡ false) × HasComeTo t × IsPassed g.places (look g now k) t
   RestsLeaving RemoveIf t = (g.blocking ≡ false) × HasComeTo t × IsPassed g.places (look g now k) t
+  RestsLeaving Compute t = (g.blocking ≡ false) × HasComeTo t × IsPassed g.places (look g now k) t
 
-  -- an insertion needs a further table where its key has no place in this one or its pair is being copied, and a removal only where its pair is
+  -- a call that inserts needs a further table where its key has no place in this one or its pair is being copied, and a removal only where its pair is
   abbrev pub RestsGrowing : Task → ℕ → Type 0
   RestsGrowing Get t = ⊥
   RestsGrowing (Insert replace) t = HasComeTo t × (IsPassed g.places (look g now k) t ⊎ IsMovingFrom t)
   RestsGrowing RemoveIf t = HasComeTo t × IsMovingFrom t
+  RestsGrowing Compute t = HasComeTo t × (IsPassed g.places (look g now k) t ⊎ IsMovingFrom t)
+
+  -- where a compute would put a pair of an absent key
+  abbrev pub RestsGap : Gap → Type 0
+  RestsGap NoRoot = Unit {0}
+  RestsGap (At_place at) = IsAt at
+  RestsGap (After t) = HasComeTo t × IsPassed g.places (look g now k) t
+
+  abbrev pub RestsPurpose : Purpose → Type 0
+  RestsPurpose (Fill gap) = RestsGap gap
+  RestsPurpose (For_replace write) = MayWrite true write
 
   -- some pair of this number was the key's at a moment of the call
   abbrev pub HadPair : ℕ → Type 0
@@ -143,18 +179,26 @@ module _ {K P : Type 0} (g : Setting K P) (c : Coding K P) (begun since : List (
   IsReply hands RemoveIf (Kept n) = HadPair n
   IsReply hands RemoveIf (Removed n) = Unit {0}
   IsReply hands RemoveIf (Reply_refused refused) = Unit {0}
+  IsReply hands Compute (Inserted n) = IsOwnPair hands n
+  IsReply hands Compute (Replaced m n) = IsOwnPair hands n
+  IsReply hands Compute (Removed n) = Unit {0}
+  IsReply hands Compute (Aborted t) = Unit {0}
+  IsReply hands Compute (Reply_refused refused) = Unit {0}
   IsReply hands _ _ = ⊥
 
   abbrev pub RestsStage : Hands P → Task → Stage → Type 0
   RestsStage hands task AtRoot = Unit {0}
-  RestsStage hands task Making = IsWriter task
-  RestsStage hands task (Opening t) = IsWriter task × (0 < t)
+  RestsStage hands task Making = MayInsert task
+  RestsStage hands task (Opening t) = MayInsert task × (0 < t)
   RestsStage hands task (Searching search) = RestsSearch hands search
   RestsStage hands task (Writing write) = RestsWriting task write
-  RestsStage hands task (Showing removal) = IsRemover task × MayRemove hands removal
-  RestsStage hands task (Burying removal) = IsRemover task × MayRemove hands removal
-  RestsStage hands task (Counting n) = IsWriter task × IsOwnPair hands n
-  RestsStage hands task (Uncounting n) = IsRemover task
+  RestsStage hands task (Offering gap) = IsComputer task × RestsGap gap × WasAtMoment None
+  RestsStage hands task (Showing removal) = HasClosure task × MayRemove hands removal
+  RestsStage hands task (Pairing purpose) = IsComputer task × RestsPurpose purpose
+  RestsStage hands task (Putting put) = IsComputer task × MayWrite true put.write × IsOwnPair hands put.pair
+  RestsStage hands task (Burying removal) = HasClosure task × MayRemove hands removal
+  RestsStage hands task (Counting n) = MayInsert task × IsOwnPair hands n
+  RestsStage hands task (Uncounting n) = HasClosure task
   RestsStage hands task (Leaving t) = RestsLeaving task t
   RestsStage hands task (Growing t) = RestsGrowing task t
   RestsStage hands task (Ended reply) = IsReply hands task reply
@@ -163,7 +207,7 @@ module _ {K P : Type 0} (g : Setting K P) (c : Coding K P) (begun since : List (
   pub record Rests (m : Machine) (hands : Hands P) : Type 0 where
     pub hash : m.hash ≡ c.hash k
     pub mode : IsModeOf m.mode g.blocking
-    pub made : RestsMade hands m.made
+    pub made : RestsHands hands m.made m.remembered
     pub stage : RestsStage hands m.task m.state
 
 -- a change of the map: the pair that went, and the one that came
@@ -179,6 +223,7 @@ change_of_reply (Found n) = None
 change_of_reply (Occupied n) = None
 change_of_reply (Removed n) = Some (Some n, None)
 change_of_reply (Kept n) = None
+change_of_reply (Aborted t) = None
 change_of_reply (Reply_refused refused) = None
 
 -- the change that a machine in this stage has made
@@ -191,7 +236,10 @@ change_in Making = None
 change_in (Opening t) = None
 change_in (Searching search) = None
 change_in (Writing write) = None
+change_in (Offering gap) = None
 change_in (Showing removal) = None
+change_in (Pairing purpose) = None
+change_in (Putting put) = None
 change_in (Burying removal) = None
 change_in (Leaving t) = None
 change_in (Growing t) = None
@@ -207,32 +255,3 @@ change_of_kind _ old new = None
 abbrev pub change_after : Option StepKind → Ask → Answer → Change → Change
 change_after kind (Ask_exchange at old new) Exchanged before = change_of_kind kind old new
 change_after kind _ _ before = before
-
--- what a closure answered of the pair that it was shown: the pair's number, and whether it agreed to its removal
-abbrev pub Said : Type 0
-Said = Option (ℕ × Bool)
-
--- what the closure answered, on which the rest of a machine in this stage stands
-abbrev pub said_in_reply : Reply → Said
-said_in_reply (Removed n) = Some (n, true)
-said_in_reply (Kept n) = Some (n, false)
-said_in_reply Absent = None
-said_in_reply (Found n) = None
-said_in_reply (Inserted n) = None
-said_in_reply (Replaced m n) = None
-said_in_reply (Occupied n) = None
-said_in_reply (Reply_refused refused) = None
-
-abbrev pub said_in : Stage → Said
-said_in (Burying removal) = Some (pair_of removal.word, true)
-said_in (Uncounting n) = Some (n, true)
-said_in (Ended reply) = said_in_reply reply
-said_in AtRoot = None
-said_in Making = None
-said_in (Opening t) = None
-said_in (Searching search) = None
-said_in (Writing write) = None
-said_in (Showing removal) = None
-said_in (Counting n) = None
-said_in (Leaving t) = None
-said_in (Growing t) = None

@@ -3,7 +3,7 @@
 //! The functions do nothing: their contracts are laws, on which a backend with one caller rests.
 ghost use Rattle.std.specs.Prelude.{◌≡◌, ℕ, ◌<◌};
 ghost use Rattle.papaya_call.specs.Alone.{HasMetNone, IsCurrent, IsPrompt, IsSeeker, IsUnmatched, left};
-ghost use Rattle.papaya_call.specs.Machine.{IsLookup, IsStanding, after, ask_of};
+ghost use Rattle.papaya_call.specs.Machine.{IsLookup, after, ask_of};
 ghost use Rattle.papaya_call.specs.declared.call.Reply.TheVariants.{Absent};
 
 use crate::ask::{Answer, Ask, At};
@@ -13,9 +13,9 @@ use crate::machine::Machine;
 /// Each answer brings a call nearer its end, while no table has a next one: what it has read stands
 /// there still, so no exchange is lost.
 pub fn calls_end()
-    ensures nearer { (words words' : At → ℕ) (m : Machine) (answer : Answer) → IsStanding m → IsCurrent words m.state → ((t : ℕ) → words (At.Next t) ≡ 0) → IsPrompt words (ask_of m) answer words' → left (after m answer) < left m }
-    ensures current { (words words' : At → ℕ) (m : Machine) (answer : Answer) → IsStanding m → IsCurrent words m.state → IsPrompt words (ask_of m) answer words' → IsCurrent words' (after m answer).state }
-    ensures single { (words words' : At → ℕ) (m : Machine) (answer : Answer) → ((t : ℕ) → words (At.Next t) ≡ 0) → IsPrompt words (ask_of m) answer words' → (t : ℕ) → words' (At.Next t) ≡ 0 }
+    ensures nearer { (words words' : At → ℕ) (m : Machine) (answer : Answer) → IsCurrent words m.state → ((t : ℕ) → words (At.Next t) ≡ 0) → IsPrompt m.task words (ask_of m) answer words' → left (after m answer) < left m }
+    ensures current { (words words' : At → ℕ) (m : Machine) (answer : Answer) → IsCurrent words m.state → IsPrompt m.task words (ask_of m) answer words' → IsCurrent words' (after m answer).state }
+    ensures single { (words words' : At → ℕ) (m : Machine) (answer : Answer) → ((t : ℕ) → words (At.Next t) ≡ 0) → IsPrompt m.task words (ask_of m) answer words' → (t : ℕ) → words' (At.Next t) ≡ 0 }
 {}
 
 /// A call that looks for its key, and is told of no pair with it, only loads, and finds nothing.

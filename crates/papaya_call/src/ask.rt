@@ -30,14 +30,17 @@ pub enum Ask {
     Exchange(At, u64, u64),
     /// Has the pair of this number a key that equals the call's? Answered by `Yes`.
     SameKey(u64),
-    /// Is the pair of this number, which the call's closure is shown, to be removed? Answered by
-    /// `Yes`.
+    /// The call's closure is shown that its key is absent. Answered by `Op`.
+    ShowNone,
+    /// The call's closure is shown the pair of this number. Answered by `Yes` for a removal, and by
+    /// `Op` for a compute.
     ShowPair(u64),
     /// The size of a table, which never changes. Answered by `Size`.
     SizeOf(u64),
     /// Log the call's key. Answered by `Made` or `Refused`, as all that is to be made.
     MakeKey,
-    /// Log a pair of the call's key and value. Only then does a word name it.
+    /// Log a pair of the call's key and its value, or the value that its closure answered last.
+    /// Only then does a word name it.
     MakePair,
     /// Make a table of so many slots, all empty, which a search looks at in `limit + 1` places.
     MakeTable { len: usize, limit: usize },
@@ -56,8 +59,10 @@ pub enum Answer {
     Exchanged,
     /// The exchange was not made: this word stands there.
     Found(u64),
-    /// Whether the keys match, or what the closure answered.
+    /// Whether the keys match, or whether the closure of a removal agrees.
     Yes(bool),
+    /// What the closure of a compute answered. The backend keeps the value of an insertion.
+    Op(OpKind),
     /// How many slots a table has, and how many places after the first a search of it looks at.
     Size { len: usize, limit: usize },
     /// The number of what was made.

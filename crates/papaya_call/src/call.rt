@@ -14,6 +14,9 @@ pub enum Call<K, V, A> {
     TryInsert(K, V),
     /// Removes the key's pair if the closure, which is shown it, answers yes: `remove_if` of 0.2.5.
     RemoveIf(K, A),
+    /// Stores, removes or leaves the key's pair, as the closure answers that is shown it, or that
+    /// there is none: `compute` of 0.2.5. Where nothing is there to be removed, 0.2.5 panics.
+    Compute(K, A),
 }
 
 /// What a machine does: the call without what was handed in, which the backend keeps.
@@ -26,6 +29,9 @@ pub enum Task {
     Insert { replace: bool },
     /// A removal of a pair that its closure agrees to: `remove_if` of 0.2.5.
     RemoveIf,
+    /// What a closure answers that is shown the key's pair, or that there is none: `compute` of
+    /// 0.2.5.
+    Compute,
 }
 
 /// What a call replies. Pairs are named by their numbers in the log.
@@ -45,6 +51,9 @@ pub enum Reply {
     Removed(u64),
     /// The closure answered no for this pair, and it stays.
     Kept(u64),
-    /// The call changed nothing: what it was to make was refused, or there is no room for it.
+    /// The closure ended the call so, and changed nothing.
+    Aborted(u64),
+    /// The call changed nothing: what it was to make was refused, there is no room for it, or the
+    /// closure would remove where nothing is.
     Refused(Refused),
 }

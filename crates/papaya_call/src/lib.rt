@@ -9,6 +9,7 @@ pub mod alone;
 pub mod answers;
 pub mod ask;
 pub mod call;
+pub mod compute;
 pub mod exchanges;
 pub mod loads;
 pub mod machine;

@@ -2,10 +2,12 @@
 ghost use Rattle.std.specs.Prelude.{◌≡◌, ◌<◌, ◌≤◌, ◌^◌};
 ghost use Rattle.papaya_call.specs.Search.{IsSize, IsSeen, IsWithin};
 ghost use Rattle.papaya_call.specs.declared.call.Task.{Task};
-ghost use Rattle.papaya_call.specs.Machine.{IsChunked, IsFit, IsFitAsk, IsStanding, IsStandingState, IsLookup, IsWriter, IsRemover, started, ask_of, kind_of_ask, after, at_root, goes, found, passes, left, beaten, written, at_word, at_exchanged, at_found, at_yes, at_size, state_made, at_ok, at_refused};
+ghost use Rattle.papaya_call.specs.Compute.{IsGap};
+ghost use Rattle.papaya_call.specs.Machine.{IsChunked, IsFit, IsFitAsk, IsStanding, IsStandingState, IsLookup, MayInsert, IsComputer, started, ask_of, kind_of_ask, after, absent, at_root, goes, found, passes, left, beaten, written, at_word, at_exchanged, at_found, at_yes, at_op, state_op, at_size, state_made, at_ok, at_refused};
 
-use crate::ask::{Answer, Ask, At, StepKind};
+use crate::ask::{Answer, Ask, At, OpKind, StepKind};
 use crate::call::{Reply, Task};
+use crate::compute::{Gap, Purpose, Put, Remembered};
 use crate::remove::Removal;
 use crate::search::{Place, Search, Seen};
 use crate::write::{Made, Write};
@@ -26,9 +28,15 @@ pub enum State {
     Searching(Search),
     /// It writes its pair.
     Writing(Write),
-    /// It asks its closure whether this pair is to be removed.
+    /// It shows its closure that its key is absent.
+    Offering(Gap),
+    /// It shows its closure this pair.
     Showing(Removal),
-    /// Its closure agreed to the removal of this pair, and it removes it.
+    /// It makes a pair of the value that its closure answered.
+    Pairing(Purpose),
+    /// It writes the pair that it made so.
+    Putting(Put),
+    /// Its closure would have this pair removed, and it removes it.
     Burying(Removal),
     /// Its pair of this number was claimed, and is to be counted.
     Counting(u64),
@@ -53,6 +61,8 @@ pub struct Machine {
     /// The initial capacity of the map in slots: no table is made shorter.
     pub initial: usize,
     pub made: Made,
+    /// What a compute remembers.
+    pub remembered: Remembered,
     pub state: State,
 }
 
@@ -72,6 +82,7 @@ impl Machine {
             mode,
             initial,
             made: Made::Nothing,
+            remembered: Remembered::nothing(),
             state: State::AtRoot,
         }
     }
@@ -93,7 +104,10 @@ impl Machine {
             State::Opening(table) => Ask::Exchange(At::Root, 0, table),
             State::Searching(search) => search.ask(),
             State::Writing(write) => write.ask(self.made, self.hash),
+            State::Offering(_) => Ask::ShowNone,
             State::Showing(removal) => removal.show(),
+            State::Pairing(_) => self.made.pairing_ask(),
+            State::Putting(put) => put.write.ask(Made::Pair(put.pair), self.hash),
             State::Burying(removal) => removal.ask(),
             State::Counting(_) => Ask::AddToShard(1),
             State::Uncounting(_) => Ask::AddToShard(-1),
@@ -114,6 +128,7 @@ impl Machine {
                 Made::Pair(_) => Some(write.kind()),
                 _ => None,
             },
+            State::Putting(put) => Some(put.write.kind()),
             State::Burying(_) => Some(StepKind::Bury),
             _ => None,
         }
@@ -132,6 +147,7 @@ impl Machine {
             Answer::Exchanged => self.state = self.at_exchanged(),
             Answer::Found(word) => self.state = self.at_found(word),
             Answer::Yes(yes) => self.state = self.at_yes(yes),
+            Answer::Op(kind) => self.at_op(kind),
             Answer::Size { len, limit } => self.state = self.at_size(len, limit),
             Answer::Made(number) => self.at_made(number),
             Answer::Ok => self.state = self.at_ok(),
@@ -150,7 +166,7 @@ impl Machine {
         match self.state {
             State::AtRoot => self.at_root(word),
             State::Searching(search) => self.goes(search.at_word(self.hash, word)),
-            State::Leaving(_) => State::left(word),
+            State::Leaving(table) => self.left(table, word),
             State::Growing(_) => State::Ended(Reply::Refused(Refused::Capacity)),
             state => state,
         }
@@ -168,6 +184,7 @@ impl Machine {
                 Made::Pair(pair) => self.written(write, pair),
                 _ => State::Writing(write),
             },
+            State::Putting(put) => self.written(put.write, put.pair),
             State::Burying(removal) => State::Uncounting(removal.pair()),
             state => state,
         }
@@ -176,7 +193,7 @@ impl Machine {
     /// The pair of this number was written.
     #[inline(always)]
     fn written(&self, write: Write, pair: u64) -> State
-        requires { IsWriter self.now.task }
+        requires { MayInsert self.now.task }
         ensures value { result ≡ written write pair }
         ensures standing { IsStandingState self.now.task result }
     {
@@ -199,23 +216,25 @@ impl Machine {
         match self.state {
             State::Opening(_) => State::Searching(Search::Sizing(word)),
             State::Writing(write) => self.goes(write.place.look(self.hash, word)),
+            State::Putting(put) => self.goes(put.write.place.look(self.hash, word)),
             State::Burying(removal) => self.beaten(removal, word),
             state => state,
         }
     }
 
-    /// A removal found this word in the place of its own. Where the pair was buried by another
-    /// call, the key was absent then.
+    /// A burial found this word in the place of its own. Where another call buried the pair of a
+    /// removal, the key was absent then.
     #[inline(always)]
     fn beaten(&self, removal: Removal, word: u64) -> State
-        requires { IsWithin removal.place }
+        requires within { IsWithin removal.place }
+        requires standing { IsStanding self.now }
         ensures value { result ≡ beaten self.now removal word }
         ensures standing { IsStandingState self.now.task result }
     {
-        match Word(word).kind() {
-            Kind::Buried => State::Ended(Reply::Absent),
-            _ => self.goes(removal.place.look(self.hash, word)),
+        if Word(word).kind() == Kind::Buried && self.task != Task::Compute {
+            return State::Ended(Reply::Absent);
         }
+        self.goes(removal.place.look(self.hash, word))
     }
 
     #[inline(always)]
@@ -226,7 +245,7 @@ impl Machine {
     {
         match self.state {
             State::Searching(search) => self.goes(search.at_yes(yes)),
-            State::Showing(removal) => {
+            State::Showing(removal) if self.task == Task::RemoveIf => {
                 if yes {
                     State::Burying(removal)
                 } else {
@@ -234,6 +253,22 @@ impl Machine {
                 }
             }
             state => state,
+        }
+    }
+
+    #[inline(always)]
+    fn at_op(&mut self, kind: OpKind)
+        requires { IsStanding self.old }
+        ensures after { self.new ≡ state_op self.old kind }
+        ensures standing { IsStanding self.new }
+    {
+        match self.state {
+            State::Offering(gap) => self.state = State::offered(gap, kind),
+            State::Showing(shown) if self.task == Task::Compute => {
+                self.state = State::chosen(shown, kind);
+                self.remembered = self.remembered.with_choice(shown, kind);
+            }
+            _ => {}
         }
     }
 
@@ -263,6 +298,13 @@ impl Machine {
                 Made::Nothing => self.made = Made::Key,
                 Made::Key => self.made = Made::Pair(number),
                 Made::Pair(_) => {}
+            },
+            State::Pairing(purpose) => match self.made {
+                Made::Nothing => self.made = Made::Key,
+                _ => {
+                    self.state = State::provides(purpose, number);
+                    self.remembered = self.remembered.with_pair(purpose, number);
+                }
             },
             _ => {}
         }
@@ -294,6 +336,7 @@ impl Machine {
                 Made::Pair(_) => State::Writing(write),
                 _ => State::Ended(Reply::Refused(refused)),
             },
+            State::Pairing(_) => State::Ended(Reply::Refused(refused)),
             state => state,
         }
     }
@@ -301,35 +344,37 @@ impl Machine {
     /// The root is this table, or there is none.
     #[inline(always)]
     fn at_root(&self, word: u64) -> State
-        ensures value { result ≡ at_root self.now.task word }
+        requires { IsStanding self.now }
+        ensures value { result ≡ at_root self.now.task self.now.remembered.fill word }
         ensures standing { IsStandingState self.now.task result }
     {
         if word != 0 {
             return State::Searching(Search::Sizing(word));
         }
         match self.task {
-            Task::Get | Task::RemoveIf => State::Ended(Reply::Absent),
             Task::Insert { .. } => State::Making,
+            Task::Get | Task::RemoveIf | Task::Compute => self.absent(Gap::NoRoot),
         }
     }
 
     /// What the search saw leads here.
     #[inline(always)]
     fn goes(&self, seen: Seen) -> State
-        requires { IsSeen seen }
+        requires seen { IsSeen seen }
+        requires standing { IsStanding self.now }
         ensures value { result ≡ goes self.now seen }
         ensures standing { IsStandingState self.now.task result }
     {
         match seen {
             Seen::On(search) => State::Searching(search),
             Seen::Empty(place) => match self.task {
-                Task::Get | Task::RemoveIf => State::Ended(Reply::Absent),
                 Task::Insert { .. } => State::Writing(Write { place, old: 0 }),
+                Task::Get | Task::RemoveIf | Task::Compute => self.absent(Gap::At(place)),
             },
             Seen::Here(place, word) => self.found(place, word),
             Seen::Over(table) => match self.task {
-                Task::Get | Task::RemoveIf => self.passes(table),
                 Task::Insert { .. } => State::Growing(table),
+                Task::Get | Task::RemoveIf | Task::Compute => self.passes(table),
             },
         }
     }
@@ -337,28 +382,25 @@ impl Machine {
     /// A word at this place names a pair with a matching key. One that is marked can't be changed here.
     #[inline(always)]
     fn found(&self, place: Place, word: u64) -> State
-        requires { IsWithin place }
-        ensures value { result ≡ found self.now.task place word }
+        requires within { IsWithin place }
+        requires standing { IsStanding self.now }
+        ensures value { result ≡ found self.now.task self.now.remembered place word }
         ensures standing { IsStandingState self.now.task result }
     {
         match self.task {
-            Task::Get => State::Ended(Reply::Found(Word(word).pair())),
-            Task::Insert { replace } => {
-                if !replace {
-                    State::Ended(Reply::Occupied(Word(word).pair()))
-                } else if Word(word).kind() == Kind::Live {
-                    State::Writing(Write { place, old: word })
-                } else {
-                    State::Growing(place.table)
-                }
+            Task::Get => return State::Ended(Reply::Found(Word(word).pair())),
+            Task::Insert { replace: false } => {
+                return State::Ended(Reply::Occupied(Word(word).pair()));
             }
-            Task::RemoveIf => {
-                if Word(word).kind() == Kind::Live {
-                    State::Showing(Removal { place, word })
-                } else {
-                    State::Growing(place.table)
-                }
-            }
+            _ => {}
+        }
+        if Word(word).kind() != Kind::Live {
+            return State::Growing(place.table);
+        }
+        match self.task {
+            Task::RemoveIf => State::Showing(Removal { place, word }),
+            Task::Compute => self.remembered.meets(place, word),
+            _ => State::Writing(Write { place, old: word }),
         }
     }
 
@@ -366,27 +408,44 @@ impl Machine {
     /// in a later one.
     #[inline(always)]
     fn passes(&self, table: u64) -> State
-        ensures value { result ≡ passes self.now.mode table }
+        requires { IsStanding self.now }
+        ensures value { result ≡ passes self.now.task self.now.mode self.now.remembered.fill table }
         ensures standing { IsStandingState self.now.task result }
     {
         match self.mode {
             ResizeMode::Incremental(_) => State::Leaving(table),
-            ResizeMode::Blocking => State::Ended(Reply::Absent),
+            ResizeMode::Blocking => self.absent(Gap::After(table)),
         }
     }
-}
 
-impl State {
     /// The next table has this number, or there is none.
     #[inline(always)]
-    fn left(word: u64) -> State
-        ensures value { result ≡ left word }
-        ensures standing { (task : Task) → IsStandingState task result }
+    fn left(&self, table: u64, word: u64) -> State
+        requires { IsStanding self.now }
+        ensures value { result ≡ left self.now.task self.now.remembered.fill table word }
+        ensures standing { IsStandingState self.now.task result }
     {
         if word == 0 {
-            State::Ended(Reply::Absent)
+            self.absent(Gap::After(table))
         } else {
             State::Searching(Search::Sizing(word))
+        }
+    }
+
+    /// The key is absent, and a pair of it would stand there.
+    #[inline(always)]
+    fn absent(&self, gap: Gap) -> State
+        requires gap { IsGap gap }
+        requires standing { IsStanding self.now }
+        ensures value { result ≡ absent self.now.task self.now.remembered.fill gap }
+        ensures standing { IsStandingState self.now.task result }
+    {
+        if self.task != Task::Compute {
+            return State::Ended(Reply::Absent);
+        }
+        match self.remembered.fill {
+            None => State::Offering(gap),
+            Some(pair) => State::fills(gap, pair),
         }
     }
 }

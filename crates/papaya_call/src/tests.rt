@@ -2,10 +2,10 @@
 //! code might agree and both be wrong.
 ghost use Rattle.papaya_call.specs.Machine.{IsChunked, IsFit, IsStanding};
 
-use crate::ask::{Answer, Ask, At, StepKind};
+use crate::ask::{Answer, Ask, At, OpKind, StepKind};
 use crate::call::{Reply, Task};
 use crate::machine::Machine;
-use papaya_words::probe::ResizeMode;
+use papaya_words::probe::{Refused, ResizeMode};
 use std::process::Abort;
 
 /// A key whose hash byte is 5 and whose places in 8 slots are 2, 3, 5, 0, 4, 1, 7, 6.
@@ -17,6 +17,8 @@ const LIVE_OF_ANOTHER_BYTE: u64 = 9265;
 const LIVE: u64 = 3113;
 
 const BURIED: u64 = 3116;
+
+const COPIED_3: u64 = 3115;
 /// The pair 4.
 const COPIED: u64 = 4139;
 /// The pair 7.
@@ -27,7 +29,11 @@ const CLOSED: u64 = 5;
 const EMPTY: u64 = 0;
 /// What an insertion puts where its pair has the number 12.
 const LIVE_12: u64 = 12_329;
-/// What a removal of that pair leaves.
+/// The pairs 4 and 13.
+const LIVE_4: u64 = 4137;
+
+const LIVE_13: u64 = 13_353;
+/// What a removal of the pair 12 leaves.
 const BURIED_12: u64 = 12_332;
 
 /// The machine asks this, and is answered.
@@ -340,4 +346,202 @@ fn removal_of_an_absent_key(rt: HostRuntime) {
     loads(&rt, &mut removal, 2, 2, BURIED);
     loads(&rt, &mut removal, 2, 3, EMPTY);
     replies(&rt, &removal, Reply::Absent);
+}
+
+/// The machine shows its closure that its key is absent.
+fn shows_none(rt: &impl Abort, machine: &mut Machine, kind: OpKind)
+    requires { IsStanding machine.old }
+    ensures { IsStanding machine.new }
+{
+    assert_eq!(rt; machine.kind(), None);
+    told(rt, machine, Ask::ShowNone, Answer::Op(kind));
+}
+
+/// The machine shows its closure a pair, and is told what to do with it.
+fn decides(rt: &impl Abort, machine: &mut Machine, pair: u64, kind: OpKind)
+    requires { IsStanding machine.old }
+    ensures { IsStanding machine.new }
+{
+    assert_eq!(rt; machine.kind(), None);
+    told(rt, machine, Ask::ShowPair(pair), Answer::Op(kind));
+}
+
+/// The machine makes its key and the pair 12 of what its closure answered.
+fn makes_12(rt: &impl Abort, machine: &mut Machine)
+    requires { IsStanding machine.old }
+    ensures { IsStanding machine.new }
+{
+    assert_eq!(rt; machine.kind(), None);
+    told(rt, machine, Ask::MakeKey, Answer::Made(11));
+    told(rt, machine, Ask::MakePair, Answer::Made(12));
+}
+
+/// The machine tries to put a pair into an empty slot of table 1.
+fn claims(rt: &impl Abort, machine: &mut Machine, slot: usize, new: u64, answer: Answer)
+    requires standing { IsStanding machine.old }
+    requires fit { IsFit answer }
+    ensures { IsStanding machine.new }
+{
+    assert_eq!(rt; machine.kind(), Some(StepKind::Claim));
+    let ask = Ask::Exchange(At::Slot(1, slot), EMPTY, new);
+    told(rt, machine, ask, answer);
+}
+
+/// The machine tries to put a pair in place of the one at the first place of table 1.
+fn replaces(rt: &impl Abort, machine: &mut Machine, old: u64, new: u64, answer: Answer)
+    requires standing { IsStanding machine.old }
+    requires fit { IsFit answer }
+    ensures { IsStanding machine.new }
+{
+    assert_eq!(rt; machine.kind(), Some(StepKind::Replace));
+    told(rt, machine, Ask::Exchange(At::Slot(1, 2), old, new), answer);
+}
+
+/// A compute that found no root.
+fn compute_of_no_table(rt: &impl Abort) -> Machine
+    ensures { IsStanding result }
+{
+    let mut compute = Machine::new(Task::Compute, HASH, ResizeMode::Blocking, 1);
+    told(rt, &mut compute, Ask::Load(At::Root), Answer::Word(0));
+    compute
+}
+
+#[test]
+fn compute_of_an_absent_key_changes_nothing(rt: HostRuntime) {
+    let mut compute = compute_of_no_table(&rt);
+    shows_none(&rt, &mut compute, OpKind::Abort(9));
+    replies(&rt, &compute, Reply::Aborted(9));
+    let mut compute = compute_of_no_table(&rt);
+    shows_none(&rt, &mut compute, OpKind::Remove);
+    replies(&rt, &compute, Reply::Refused(Refused::RemoveNothing));
+}
+
+/// The first table, which has 32 slots.
+fn enters_first(rt: &impl Abort, machine: &mut Machine)
+    requires { IsStanding machine.old }
+    ensures { IsStanding machine.new }
+{
+    let size = Answer::Size { len: 32, limit: 25 };
+    told(rt, machine, Ask::SizeOf(1), size);
+}
+
+#[test]
+fn compute_inserts_over_no_root(rt: HostRuntime) {
+    let mut compute = compute_of_no_table(&rt);
+    shows_none(&rt, &mut compute, OpKind::Insert);
+    makes_12(&rt, &mut compute);
+    let first = Ask::MakeTable { len: 32, limit: 25 };
+    told(&rt, &mut compute, first, Answer::Made(1));
+    let opens = Ask::Exchange(At::Root, 0, 1);
+    told(&rt, &mut compute, opens, Answer::Exchanged);
+    enters_first(&rt, &mut compute);
+    loads(&rt, &mut compute, 1, 2, EMPTY);
+    claims(&rt, &mut compute, 2, LIVE_12, Answer::Exchanged);
+    told(&rt, &mut compute, Ask::AddToShard(1), Answer::Ok);
+    replies(&rt, &compute, Reply::Inserted(12));
+}
+
+/// A compute that found the pair 3 of its key at the first place of table 1.
+fn compute(rt: &impl Abort) -> Machine
+    ensures { IsStanding result }
+{
+    let mut compute = Machine::new(Task::Compute, HASH, ResizeMode::Blocking, 1);
+    enters_root(rt, &mut compute, 1);
+    loads(rt, &mut compute, 1, 2, LIVE);
+    compares(rt, &mut compute, 3, true);
+    compute
+}
+
+#[test]
+fn compute_does_as_its_closure_answers(rt: HostRuntime) {
+    let mut aborted = compute(&rt);
+    decides(&rt, &mut aborted, 3, OpKind::Abort(9));
+    replies(&rt, &aborted, Reply::Aborted(9));
+    let mut replaced = compute(&rt);
+    decides(&rt, &mut replaced, 3, OpKind::Insert);
+    makes_12(&rt, &mut replaced);
+    replaces(&rt, &mut replaced, LIVE, LIVE_12, Answer::Exchanged);
+    replies(&rt, &replaced, Reply::Replaced { old: 3, new: 12 });
+    let mut removed = compute(&rt);
+    decides(&rt, &mut removed, 3, OpKind::Remove);
+    buries(&rt, &mut removed, LIVE, BURIED, Answer::Exchanged);
+    told(&rt, &mut removed, Ask::AddToShard(-1), Answer::Ok);
+    replies(&rt, &removed, Reply::Removed(3));
+}
+
+/// The claim is lost to a pair, and that one to another removal: the closure, which had answered
+/// what to insert, is not shown again that its key is absent.
+#[test]
+fn compute_remembers_what_it_inserts(rt: HostRuntime) {
+    let mut compute = Machine::new(Task::Compute, HASH, ResizeMode::Blocking, 1);
+    enters_root(&rt, &mut compute, 1);
+    loads(&rt, &mut compute, 1, 2, EMPTY);
+    shows_none(&rt, &mut compute, OpKind::Insert);
+    makes_12(&rt, &mut compute);
+    claims(&rt, &mut compute, 2, LIVE_12, Answer::Found(LIVE));
+    compares(&rt, &mut compute, 3, true);
+    decides(&rt, &mut compute, 3, OpKind::Remove);
+    buries(&rt, &mut compute, LIVE, BURIED, Answer::Found(BURIED));
+    loads(&rt, &mut compute, 1, 3, EMPTY);
+    claims(&rt, &mut compute, 3, LIVE_12, Answer::Exchanged);
+    told(&rt, &mut compute, Ask::AddToShard(1), Answer::Ok);
+    replies(&rt, &compute, Reply::Inserted(12));
+}
+
+/// A compute whose pair 12 was to take the place of the pair 3, and lost it.
+fn lost_to(rt: &impl Abort, word: u64) -> Machine
+    ensures { IsStanding result }
+{
+    let mut compute = compute(rt);
+    decides(rt, &mut compute, 3, OpKind::Insert);
+    makes_12(rt, &mut compute);
+    replaces(rt, &mut compute, LIVE, LIVE_12, Answer::Found(word));
+    compute
+}
+
+#[test]
+fn compute_asks_again_of_another_pair(rt: HostRuntime) {
+    let mut compute = lost_to(&rt, LIVE_4);
+    compares(&rt, &mut compute, 4, true);
+    decides(&rt, &mut compute, 4, OpKind::Insert);
+    told(&rt, &mut compute, Ask::MakePair, Answer::Made(13));
+    replaces(&rt, &mut compute, LIVE_4, LIVE_13, Answer::Exchanged);
+    replies(&rt, &compute, Reply::Replaced { old: 4, new: 13 });
+}
+
+#[test]
+fn compute_loses_its_pair_to_a_removal(rt: HostRuntime) {
+    let mut compute = lost_to(&rt, BURIED);
+    loads(&rt, &mut compute, 1, 3, EMPTY);
+    shows_none(&rt, &mut compute, OpKind::Insert);
+    told(&rt, &mut compute, Ask::MakePair, Answer::Made(13));
+    claims(&rt, &mut compute, 3, LIVE_13, Answer::Exchanged);
+    told(&rt, &mut compute, Ask::AddToShard(1), Answer::Ok);
+    replies(&rt, &compute, Reply::Inserted(13));
+}
+
+/// The pair 3 was copied meanwhile: in the next table the closure is not shown it again.
+#[test]
+fn compute_remembers_what_it_answered_to_a_pair(rt: HostRuntime) {
+    let mut compute = Machine::new(Task::Compute, HASH, ResizeMode::Incremental(64), 1);
+    enters_root(&rt, &mut compute, 1);
+    loads(&rt, &mut compute, 1, 2, LIVE);
+    compares(&rt, &mut compute, 3, true);
+    decides(&rt, &mut compute, 3, OpKind::Insert);
+    makes_12(&rt, &mut compute);
+    replaces(&rt, &mut compute, LIVE, LIVE_12, Answer::Found(COPIED_3));
+    compares(&rt, &mut compute, 3, true);
+    told(&rt, &mut compute, Ask::Load(At::Next(1)), Answer::Word(2));
+    enters(&rt, &mut compute, 2);
+    loads(&rt, &mut compute, 2, 2, LIVE);
+    compares(&rt, &mut compute, 3, true);
+    tries(
+        &rt,
+        &mut compute,
+        2,
+        LIVE,
+        StepKind::Replace,
+        Answer::Exchanged,
+    );
+    replies(&rt, &compute, Reply::Replaced { old: 3, new: 12 });
 }

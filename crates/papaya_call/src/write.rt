@@ -1,5 +1,6 @@
 //! The write of an insertion at one place.
 ghost use Rattle.std.specs.Prelude.{◌≡◌};
+ghost use Rattle.papaya_call.specs.Machine.{pairing_ask};
 ghost use Rattle.papaya_call.specs.Write.{IsMade, write_ask, write_kind};
 
 use crate::ask::{Ask, At, StepKind};
@@ -16,6 +17,19 @@ pub enum Made {
     Key,
     /// The pair of this number is logged.
     Pair(u64),
+}
+
+impl Made {
+    /// What is asked next for a pair of a value that a closure answered: the key, then the pair.
+    #[inline]
+    pub fn pairing_ask(self) -> Ask
+        ensures { result ≡ pairing_ask self }
+    {
+        match self {
+            Made::Nothing => Ask::MakeKey,
+            Made::Key | Made::Pair(_) => Ask::MakePair,
+        }
+    }
 }
 
 /// A pair is to stand at this place, in place of the word that was found there.

@@ -1,0 +1,101 @@
+-- A compute: where the answers of its closure lead it.
+use Rattle.std.specs.Prelude.{ℕ, ◌<◌, ◌^◌, ◌==◌, if◌then◌else◌, Option, Some, None}
+use Rattle.papaya_words.specs.Word.{pair_of}
+use Rattle.papaya_words.specs.declared.probe.Refused.TheVariants.{RemoveNothing}
+use Rattle.papaya_call.specs.declared.ask.OpKind.{OpKind}
+use Rattle.papaya_call.specs.declared.ask.OpKind.TheVariants.{Insert, Remove, Abort}
+use Rattle.papaya_call.specs.declared.call.Reply.TheVariants.{Aborted, Refused as Reply_refused}
+use Rattle.papaya_call.specs.declared.compute.Choice.{Choice}
+use Rattle.papaya_call.specs.declared.compute.Choice.TheVariants.{Replace as To_replace, Remove as To_remove}
+use Rattle.papaya_call.specs.declared.compute.Gap.{Gap}
+use Rattle.papaya_call.specs.declared.compute.Gap.TheVariants.{NoRoot, At, After}
+use Rattle.papaya_call.specs.declared.compute.Purpose.{Purpose}
+use Rattle.papaya_call.specs.declared.compute.Purpose.TheVariants.{Fill, Replace}
+use Rattle.papaya_call.specs.declared.compute.Put.{Put}
+use Rattle.papaya_call.specs.declared.compute.Remembered.{Remembered}
+use Rattle.papaya_call.specs.declared.machine.State.{State}
+use Rattle.papaya_call.specs.declared.machine.State.TheVariants.{Making, Offering, Pairing, Putting, Showing, Burying, Growing, Ended}
+use Rattle.papaya_call.specs.declared.remove.Removal.{Removal}
+use Rattle.papaya_call.specs.declared.search.Place.{Place}
+use Rattle.papaya_call.specs.Search.{IsWithin}
+
+-- nothing was answered yet
+abbrev pub nothing : Remembered
+nothing = record { fill = None; choice = None }
+
+-- the pair of this number goes where its key is absent: into a first table, an empty place, or a further table
+abbrev pub fills : Gap → ℕ → State
+fills NoRoot n = Making
+fills (At place) n = Putting (record { write = record { place = place; old = 0 }; pair = n })
+fills (After table) n = Growing table
+
+-- the key is absent: the closure is shown so, unless its insertion is remembered
+abbrev pub lacks : Option ℕ → Gap → State
+lacks None gap = Offering gap
+lacks (Some n) gap = fills gap n
+
+-- what the closure answered where it was shown that the key is absent
+abbrev pub offered : Gap → OpKind → State
+offered gap Insert = Pairing (Fill gap)
+offered gap Remove = Ended (Reply_refused RemoveNothing)
+offered gap (Abort t) = Ended (Aborted t)
+
+-- what it answered where it was shown a pair
+abbrev pub chosen : Removal → OpKind → State
+chosen shown Insert = Pairing (Replace (record { place = shown.place; old = shown.word }))
+chosen shown Remove = Burying shown
+chosen shown (Abort t) = Ended (Aborted t)
+
+-- a pair was made of the value that the closure answered
+abbrev pub provides : Purpose → ℕ → State
+provides (Fill gap) n = fills gap n
+provides (Replace write) n = Putting (record { write = write; pair = n })
+
+-- a remembered answer was given to the pair of this number, or not
+abbrev pub recalls : Option Choice → Place → (word pair : ℕ) → State
+recalls None at word n = Showing (record { place = at; word = word })
+recalls (Some (To_replace old new)) at word n = if old == n then Putting (record { write = record { place = at; old = word }; pair = new }) else Showing (record { place = at; word = word })
+recalls (Some (To_remove old)) at word n = if old == n then Burying (record { place = at; word = word }) else Showing (record { place = at; word = word })
+
+-- a Live word names a pair with the key: the closure is shown it, unless what it answered to it is remembered
+abbrev pub meets : Option Choice → Place → ℕ → State
+meets choice at word = recalls choice at word (pair_of word)
+
+-- what is remembered after the closure was shown a pair
+abbrev pub with_choice : Remembered → Removal → OpKind → Remembered
+with_choice held shown Insert = held
+with_choice held shown Remove = record held { choice = Some (To_remove (pair_of shown.word)) }
+with_choice held shown (Abort t) = held
+
+-- and after the pair of this number was made
+abbrev pub with_pair : Remembered → Purpose → ℕ → Remembered
+with_pair held (Fill gap) n = record held { fill = Some n }
+with_pair held (Replace write) n = record held { choice = Some (To_replace (pair_of write.old) n) }
+
+-- a gap, a purpose and a put within their table; the number of a pair fits a word
+abbrev pub IsGap : Gap → Type 0
+IsGap NoRoot = Unit {0}
+IsGap (At place) = IsWithin place
+IsGap (After table) = Unit {0}
+
+abbrev pub IsPurpose : Purpose → Type 0
+IsPurpose (Fill gap) = IsGap gap
+IsPurpose (Replace write) = IsWithin write.place
+
+pub record IsPut (put : Put) : Type 0 where
+  pub within : IsWithin put.write.place
+  pub pair : put.pair < 2 ^ 48
+
+-- the pairs that are remembered have numbers of pairs
+abbrev pub IsFill : Option ℕ → Type 0
+IsFill None = Unit {0}
+IsFill (Some n) = n < 2 ^ 48
+
+abbrev pub IsChoice : Option Choice → Type 0
+IsChoice None = Unit {0}
+IsChoice (Some (To_replace old new)) = new < 2 ^ 48
+IsChoice (Some (To_remove old)) = Unit {0}
+
+pub record IsRemembered (held : Remembered) : Type 0 where
+  pub fill : IsFill held.fill
+  pub choice : IsChoice held.choice

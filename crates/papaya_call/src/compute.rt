@@ -1,0 +1,198 @@
+//! What a compute holds between its closure's answers and its change.
+ghost use Rattle.std.specs.Prelude.{◌≡◌, ◌<◌, ◌^◌};
+ghost use Rattle.papaya_call.specs.declared.call.Task.{Task};
+ghost use Rattle.papaya_call.specs.declared.call.Task.TheVariants.{Compute};
+ghost use Rattle.papaya_call.specs.Compute.{IsGap, IsPurpose, IsRemembered, chosen, fills, meets, nothing, offered, provides, with_choice, with_pair};
+ghost use Rattle.papaya_call.specs.Machine.{IsStandingState};
+ghost use Rattle.papaya_call.specs.Search.{IsWithin};
+
+use crate::ask::OpKind;
+use crate::call::Reply;
+use crate::machine::State;
+use crate::remove::Removal;
+use crate::search::Place;
+use crate::write::Write;
+use papaya_words::probe::Refused;
+use papaya_words::word::Word;
+
+/// Where the key was found to be absent, and so where its pair is to stand.
+#[derive(Clone, Copy, Debug, PartialEq, Eq)]
+pub enum Gap {
+    /// There is no root.
+    NoRoot,
+    /// This place is empty.
+    At(Place),
+    /// The key is in no place of this table, and it has no next one.
+    After(u64),
+}
+
+/// What a pair is made for, with a value that the closure answered.
+#[derive(Clone, Copy, Debug, PartialEq, Eq)]
+pub enum Purpose {
+    /// The closure was shown that the key is absent.
+    Fill(Gap),
+    /// It was shown the pair that the old word of this write names.
+    Replace(Write),
+}
+
+/// A pair that was made, and where it is to stand.
+#[derive(Clone, Copy, Debug, PartialEq, Eq)]
+pub struct Put {
+    pub write: Write,
+    /// The pair's number.
+    pub pair: u64,
+}
+
+/// What the closure answered of a pair.
+#[derive(Clone, Copy, Debug, PartialEq, Eq)]
+pub enum Choice {
+    /// The new pair, which was made of what it answered, is to take the place of the old one.
+    Replace { old: u64, new: u64 },
+    /// This pair is to be removed.
+    Remove(u64),
+}
+
+/// What a compute remembers of its closure's answers, so that a change that another call was
+/// first to make does not show the closure the same again.
+#[derive(Clone, Copy, Debug, PartialEq, Eq)]
+pub struct Remembered {
+    /// The pair that is to stand where the key is absent.
+    pub fill: Option<u64>,
+    /// What was answered of the pair last shown.
+    pub choice: Option<Choice>,
+}
+
+impl Remembered {
+    /// The closure has answered nothing yet.
+    #[inline(always)]
+    pub fn nothing() -> Remembered
+        ensures value { result ≡ nothing }
+        ensures remembered { IsRemembered result }
+    {
+        Remembered {
+            fill: None,
+            choice: None,
+        }
+    }
+
+    /// A Live word names a pair with the key: the closure is shown it, unless what it answered of
+    /// it is remembered.
+    pub fn meets(self, place: Place, word: u64) -> State
+        requires within { IsWithin place }
+        requires remembered { IsRemembered self }
+        ensures value { result ≡ meets self.choice place word }
+        ensures standing { IsStandingState Compute result }
+    {
+        let pair = Word(word).pair();
+        match self.choice {
+            Some(Choice::Replace { old, new }) if old == pair => {
+                let write = Write { place, old: word };
+                State::Putting(Put { write, pair: new })
+            }
+            Some(Choice::Remove(old)) if old == pair => State::Burying(Removal { place, word }),
+            _ => State::Showing(Removal { place, word }),
+        }
+    }
+
+    /// What is remembered after the closure was shown a pair. An insertion is remembered once its
+    /// pair is made.
+    pub fn with_choice(self, shown: Removal, kind: OpKind) -> Remembered
+        requires { IsRemembered self }
+        ensures value { result ≡ with_choice self shown kind }
+        ensures remembered { IsRemembered result }
+    {
+        match kind {
+            OpKind::Remove => Remembered {
+                choice: Some(Choice::Remove(shown.pair())),
+                ..self
+            },
+            OpKind::Insert | OpKind::Abort(_) => self,
+        }
+    }
+
+    /// What is remembered after the pair of this number was made.
+    pub fn with_pair(self, purpose: Purpose, pair: u64) -> Remembered
+        requires remembered { IsRemembered self }
+        requires pair { pair < 2 ^ 48 }
+        ensures value { result ≡ with_pair self purpose pair }
+        ensures remembered { IsRemembered result }
+    {
+        match purpose {
+            Purpose::Fill(_) => Remembered {
+                fill: Some(pair),
+                ..self
+            },
+            Purpose::Replace(write) => {
+                let old = Word(write.old).pair();
+                Remembered {
+                    choice: Some(Choice::Replace { old, new: pair }),
+                    ..self
+                }
+            }
+        }
+    }
+}
+
+impl State {
+    /// The pair of this number goes where its key is absent.
+    pub(crate) fn fills(gap: Gap, pair: u64) -> State
+        requires gap { IsGap gap }
+        requires pair { pair < 2 ^ 48 }
+        ensures value { result ≡ fills gap pair }
+        ensures standing { IsStandingState Compute result }
+    {
+        match gap {
+            Gap::NoRoot => State::Making,
+            Gap::At(place) => {
+                let write = Write { place, old: 0 };
+                State::Putting(Put { write, pair })
+            }
+            Gap::After(table) => State::Growing(table),
+        }
+    }
+
+    /// What the closure answered where it was shown that the key is absent.
+    pub(crate) fn offered(gap: Gap, kind: OpKind) -> State
+        requires { IsGap gap }
+        ensures value { result ≡ offered gap kind }
+        ensures standing { IsStandingState Compute result }
+    {
+        match kind {
+            OpKind::Insert => State::Pairing(Purpose::Fill(gap)),
+            OpKind::Remove => State::Ended(Reply::Refused(Refused::RemoveNothing)),
+            OpKind::Abort(with) => State::Ended(Reply::Aborted(with)),
+        }
+    }
+
+    /// What the closure answered where it was shown a pair.
+    pub(crate) fn chosen(shown: Removal, kind: OpKind) -> State
+        requires { IsWithin shown.place }
+        ensures value { result ≡ chosen shown kind }
+        ensures standing { IsStandingState Compute result }
+    {
+        match kind {
+            OpKind::Insert => {
+                let write = Write {
+                    place: shown.place,
+                    old: shown.word,
+                };
+                State::Pairing(Purpose::Replace(write))
+            }
+            OpKind::Remove => State::Burying(shown),
+            OpKind::Abort(with) => State::Ended(Reply::Aborted(with)),
+        }
+    }
+
+    /// A pair was made of the value that the closure answered.
+    pub(crate) fn provides(purpose: Purpose, pair: u64) -> State
+        requires purpose { IsPurpose purpose }
+        requires pair { pair < 2 ^ 48 }
+        ensures value { result ≡ provides purpose pair }
+        ensures standing { IsStandingState Compute result }
+    {
+        match purpose {
+            Purpose::Fill(gap) => State::fills(gap, pair),
+            Purpose::Replace(write) => State::Putting(Put { write, pair }),
+        }
+    }
+}
