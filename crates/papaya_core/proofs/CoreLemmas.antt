@@ -10,7 +10,7 @@ use Rattle.papaya_call.specs.declared.ask.Answer.{Answer}
 use Rattle.papaya_call.specs.Search.{IsSize}
 use Rattle.papaya_words.specs.declared.probe.Refused.{Refused}
 use Rattle.papaya_call.specs.declared.ask.Ask.{Ask}
-use Rattle.papaya_call.specs.declared.ask.Ask.TheVariants.{Load, Exchange, SameKey, ShowPair, SizeOf, MakeKey, MakePair, MakeTable, AddToShard, Done as Ask_done}
+use Rattle.papaya_call.specs.declared.ask.Ask.TheVariants.{Load, Exchange, SameKey, ShowNone, ShowPair, SizeOf, MakeKey, MakePair, MakeTable, AddToShard, Done as Ask_done}
 use Rattle.papaya_call.specs.declared.call.Reply.{Reply}
 use Rattle.papaya_call.specs.declared.call.Reply.TheVariants.{Refused as Reply_refused}
 use Rattle.papaya_call.specs.declared.machine.Machine.{Machine}
@@ -44,6 +44,7 @@ reply_asked (Ask_done r) reply e = let same : r ≡ reply = cc in ap Ask_done sa
 reply_asked (Load at) reply e = absurd cc
 reply_asked (Exchange at old new) reply e = absurd cc
 reply_asked (SameKey n) reply e = absurd cc
+reply_asked ShowNone reply e = absurd cc
 reply_asked (ShowPair n) reply e = absurd cc
 reply_asked (SizeOf n) reply e = absurd cc
 reply_asked MakeKey reply e = absurd cc

@@ -2,7 +2,7 @@
 use Rattle.std.proofs.Common.{◌≡◌, ℕ, pos, ◌+ℤ◌, ◌==◌, Bool, true, false, cond, List, [], ◌∷◌, Option, Some, None, refl, sym, ◌∙◌, ap, arith, eq-eqb}
 use Rattle.std.proofs.lemmas.Int.{ints}
 use Rattle.papaya_call.specs.declared.ask.Ask.{Ask}
-use Rattle.papaya_call.specs.declared.ask.Ask.TheVariants.{Load, Exchange, SameKey, ShowPair, SizeOf, MakeKey, MakePair, MakeTable, AddToShard, Done}
+use Rattle.papaya_call.specs.declared.ask.Ask.TheVariants.{Load, Exchange, SameKey, ShowNone, ShowPair, SizeOf, MakeKey, MakePair, MakeTable, AddToShard, Done}
 use Rattle.papaya_call.specs.Machine.{ask_of}
 use Rattle.papaya_call.specs.Owed.{owed_by}
 use Rattle.papaya_core.specs.declared.pairs.Running.{Running}
@@ -18,6 +18,7 @@ module _ {K V A : Type 0} where
   owed-goes_on (Load at) r e = e
   owed-goes_on (Exchange at old new) r e = e
   owed-goes_on (SameKey n) r e = e
+  owed-goes_on ShowNone r e = e
   owed-goes_on (ShowPair n) r e = e
   owed-goes_on (SizeOf n) r e = e
   owed-goes_on MakeKey r e = e

@@ -7,7 +7,7 @@ use Rattle.papaya_call.specs.Answers.{Says}
 use Rattle.papaya_call.specs.declared.ask.At.{At}
 use Rattle.papaya_call.specs.declared.ask.At.TheVariants.{Root, Slot}
 use Rattle.papaya_call.specs.declared.ask.Ask.{Ask}
-use Rattle.papaya_call.specs.declared.ask.Ask.TheVariants.{Load, Exchange as Ask_exchange, SameKey, ShowPair, SizeOf, MakeKey, MakePair, MakeTable, AddToShard, Done as Ask_done}
+use Rattle.papaya_call.specs.declared.ask.Ask.TheVariants.{Load, Exchange as Ask_exchange, SameKey, ShowNone, ShowPair, SizeOf, MakeKey, MakePair, MakeTable, AddToShard, Done as Ask_done}
 use Rattle.papaya_call.specs.declared.ask.Answer.{Answer}
 use Rattle.papaya_call.specs.declared.ask.StepKind.{StepKind}
 use Rattle.papaya_call.specs.declared.ask.StepKind.TheVariants as kinds
@@ -20,6 +20,7 @@ use Rattle.papaya_core.specs.declared.pairs.Running.{Running}
 use Rattle.papaya_core.specs.Performs.{Performs, Stays, LogsKey, LogsPair, MakesTable}
 use Rattle.papaya_core.specs.Store.{StoreState}
 use Rattle.papaya_core.specs.Tables.{word_at}
+use Rattle.papaya_core.proofs.ShowLemmas.{none_shown, pair_shown}
 use Rattle.papaya_core.proofs.StoreLemmas.{matched}
 
 module _ {K V S : Type 0} where
@@ -59,8 +60,8 @@ module _ {K V S A : Type 0} (eq : K → K → Bool) (says : Says K V A) where
       (λ _ done. same_count s s' (ap (λ (y : StoreState K V S). y.count.sum) done.1))
       (λ _ lost. quiet s s' lost.1)
   sum_performed refuse (SameKey n) s r a s' r' h = quiet s s' h.1.0
-  sum_performed refuse (ShowPair n) s r a s' r' (inl h) = quiet s s' h.2.0
-  sum_performed refuse (ShowPair n) s r a s' r' (inr (x, p, agrees, y, _, _, _, e, same, _)) = quiet s s' same
+  sum_performed refuse ShowNone s r a s' r' h = quiet s s' (none_shown says s r a s' r' h).store
+  sum_performed refuse (ShowPair n) s r a s' r' h = quiet s s' (pair_shown says r.machine.task n s r a s' r' h).store
   sum_performed refuse (SizeOf n) s r a s' r' h = quiet s s' h.1.0
   sum_performed refuse MakeKey s r a s' r' h = matched (Adds (pos 0) s s') refuse _ _ h (λ _ none. quiet s s' none.1.0) (λ _ makes. key_made s r a s' r' _ _ makes)
   sum_performed refuse MakePair s r a s' r' h = matched (Adds (pos 0) s s') refuse _ _ h (λ _ none. quiet s s' none.1.0) (λ _ makes. pair_made s r a s' r' _ _ makes)
@@ -74,13 +75,13 @@ module _ {K V S A : Type 0} (eq : K → K → Bool) (says : Says K V A) where
 abbrev pub Grows : {P : Type 0} → ℤ → Exchange P → Type 0
 Grows by e = (before now : ℕ) → IsCountAfter e before now → pos now ≡ pos before +ℤ by
 
-module _ {P : Type 0} (s : State P) (hands : Hands P) (new : ℕ) where
+module _ {K P : Type 0} (c : Coding K P) (s : State P) (hands : Hands P) (new : ℕ) where
   -- by the kind of the exchange
-  asked_grows : (kind : Option StepKind) (at : At) (e : Exchange P) → IsAsked kind at new s hands e → Grows (grows_of kind) e
-  asked_grows (Some kinds.Open) Root e is = subst (Grows (pos 0)) (sym is) (λ before now c. omega (arith, ints, c))
-  asked_grows (Some kinds.Claim) (Slot t x) e (q, made, is) = subst (Grows (pos 1)) (sym is) (λ before now c. omega (arith, ints, c))
-  asked_grows (Some kinds.Replace) (Slot t x) e (p, q, live, made, is) = subst (Grows (pos 0)) (sym is) (λ before now c. omega (arith, ints, c))
-  asked_grows (Some kinds.Bury) (Slot t x) e (q, live, is) = subst (Grows (negsuc 0)) (sym is) (λ before now c. omega (arith, ints, c))
+  asked_grows : (kind : Option StepKind) (at : At) (e : Exchange P) → IsAsked c kind at new s hands e → Grows (grows_of kind) e
+  asked_grows (Some kinds.Open) Root e is = subst (Grows (pos 0)) (sym is) (λ before now count. omega (arith, ints, count))
+  asked_grows (Some kinds.Claim) (Slot t x) e (q, own, is) = subst (Grows (pos 1)) (sym is) (λ before now count. omega (arith, ints, count))
+  asked_grows (Some kinds.Replace) (Slot t x) e (p, q, live, own, is) = subst (Grows (pos 0)) (sym is) (λ before now count. omega (arith, ints, count))
+  asked_grows (Some kinds.Bury) (Slot t x) e (q, live, is) = subst (Grows (negsuc 0)) (sym is) (λ before now count. omega (arith, ints, count))
   asked_grows _ _ e h = absurd h
 
 module _ {K P : Type 0} (g : Setting K P) (c : Coding K P) (k : K) (s : State P) (kind : Option StepKind) (hands : Hands P) where
@@ -91,10 +92,11 @@ module _ {K P : Type 0} (g : Setting K P) (c : Coding K P) (k : K) (s : State P)
   pub told_grows : (ask : Ask) (a : Answer) (es : List (Exchange P)) (hands' : Hands P) → IsTold g c k s kind hands ask a es hands' → IsGrowth (grows_by kind ask a) es
   told_grows (Ask_exchange at old new) a es hands' h =
       matched (IsGrowth (grows_by kind (Ask_exchange at old new) a) es) (word_of g c s at == old) _ _ h
-      (λ _ done. inr (let asked = done.1 in (asked.0, asked.2, subst (λ y. Grows (grows_by kind (Ask_exchange at old new) y) asked.0) (sym done.0) (asked_grows s hands new kind at asked.0 asked.1))))
+      (λ _ done. inr (let asked = done.1 in (asked.0, asked.2, subst (λ y. Grows (grows_by kind (Ask_exchange at old new) y) asked.0) (sym done.0) (asked_grows c s hands new kind at asked.0 asked.1))))
       (λ _ lost. inl (lost.1, ap (grows_by kind (Ask_exchange at old new)) lost.0))
   told_grows (Load at) a es hands' h = inl (h.1, refl)
   told_grows (SameKey n) a es hands' h = inl (h.1.0, refl)
+  told_grows ShowNone a es hands' h = inl (h.1.0, refl)
   told_grows (ShowPair n) a es hands' h = inl (h.1.0, refl)
   told_grows (SizeOf t) a es hands' h = inl (h.1.0, refl)
   told_grows MakeKey a es hands' h = inl (h.1.0, refl)

@@ -1,8 +1,10 @@
 -- The turns of a schedule keep a good history, and so a run has a timeline.
 use Rattle.std.proofs.Common.{◌≡◌, inl, inr, ℕ, zero, suc, Bool, true, false, Option, None, Some, List, [], slice_get, refl, sym, ◌∙◌, ap, subst}
 use Rattle.std.specs.Cmp.{IsEquivalence}
+use Rattle.papaya_call.specs.declared.ask.Ask.TheVariants.{ShowNone}
 use Rattle.papaya_call.specs.declared.call.Call.{Call}
 use Rattle.papaya_call.specs.declared.call.Reply.{Reply}
+use Rattle.papaya_call.specs.declared.call.Task.TheVariants.{Compute}
 use Rattle.papaya_call.specs.Answers.{Says}
 use Rattle.papaya_call.specs.Law.Exchange.{Exchange}
 use Rattle.papaya_call.specs.Machine.{IsStanding, ask_of, after}
@@ -18,7 +20,7 @@ use Rattle.papaya_core.specs.Callers.{with_call, with_seat}
 use Rattle.papaya_core.specs.Content.{map_of}
 use Rattle.papaya_core.specs.Core.{IsGoing, CoreState, IsCore}
 use Rattle.papaya_core.specs.Headline.{HasTimeline}
-use Rattle.papaya_core.specs.Kept.{IsKept, IsLawfulCore, Tale}
+use Rattle.papaya_core.specs.Kept.{IsKept, IsLawfulCore, Tale, setting_of, coding_of, low}
 use Rattle.papaya_core.specs.Maps.{Map}
 use Rattle.papaya_core.specs.Moves.{MovesMap}
 use Rattle.papaya_core.specs.Runs.{History, StepRuns, BeginRuns, StepsRun, TurnRuns, TurnsRun}
@@ -30,6 +32,7 @@ use Rattle.papaya_core.proofs.GoodLemmas.{good_start, good_begin, good_step, goo
 use Rattle.papaya_core.proofs.AdvanceLemmas.{advance_moves}
 use Rattle.papaya_core.proofs.KeptCore.{keys_lawful}
 use Rattle.papaya_core.proofs.KeptLemmas.{IsLawfulKeys, kept_step}
+use Rattle.papaya_core.proofs.MachineLemmas.{machine_offers}
 use Rattle.papaya_core.proofs.StoreLemmas.{performed, unnumbered}
 use Rattle.papaya_core.proofs.TiedLemmas.{grown}
 
@@ -57,7 +60,7 @@ module _ {K V S A : Type 0} where
       subst (λ y. IsCore s'.store s'.callers y) (sym x.mode)
       (subst (λ (y : List (Seat K V A)). IsCore s'.store y s.mode) (sym x.callers)
       (subst (λ (y : StoreState K V S). IsCore y (with_call (with_seat s.callers caller) caller (Some r)) s.mode) (sym x.store)
-      (begun-core s.store s.callers s.mode caller r core (record { made = tt; state = tt }) (still_going r.machine refl))))
+      (begun-core s.store s.callers s.mode caller r core (record { made = tt; remembered = record { fill = tt; choice = tt }; state = tt }) (still_going r.machine refl))))
 
 module _ {K V S A : Type 0} (eq : K → K → Bool) (says : Says K V A) (hash : S → K → ℕ) (hasher : S) (law : IsLawfulKeys eq (hash hasher)) (schedule : List (Turn K V A)) (start : Map K V) where
   -- a good history of a core with this hasher
@@ -70,10 +73,17 @@ module _ {K V S A : Type 0} (eq : K → K → Bool) (says : Says K V A) (hash : 
 
   step_runs : (turn caller : ℕ) (refuse : Bool) (s s' : CoreState K V S A) (before after : History) → StepRuns eq says hash turn caller refuse s before s' after → Good s before → Good s' after
   step_runs turn caller refuse s s' before after (inl (event, reply, x, is)) (same, good) = (
-    ap (λ (y : S). y) (grown eq says refuse (ask_of x.before.machine) s.store x.before x.answer s'.store x.later x.performs).hasher_is ∙ same,
+    ap (λ (y : S). y) (grown eq says refuse (ask_of x.before.machine) s.store x.before x.answer s'.store x.later x.performs offers).hasher_is ∙ same,
     subst (λ y. IsGood eq (hash hasher) schedule start s' y) (sym is)
         (good_step eq (hash hasher) law refuse schedule start s s' before turn caller event reply x (advance-core eq says refuse s caller s' event reply x good.core) good),
   )
+    where
+      -- only a compute shows its closure that there is none
+      offers : ask_of x.before.machine ≡ ShowNone → x.before.machine.task ≡ Compute
+      offers asks =
+          let call = good.kept.calls caller x.before x.was in
+          let tale = good.tales caller in
+          machine_offers (setting_of eq (low (hash hasher)) s.mode s.store.words.tables) (coding_of (low (hash hasher))) tale.begun tale.since call.key x.before.machine tale.hands call.rests asks
   step_runs turn caller refuse s s' before after (inr (idle, passed)) good = passes s s' before after passed.0 passed.1 good
 
   begin_runs : (turn caller : ℕ) (call : Call K V A) (s s' : CoreState K V S A) (before after : History) → slice_get schedule turn ≡ Some (Begin caller call) → BeginRuns eq says hash turn caller call s before s' after → Good s before → Good s' after

@@ -15,7 +15,7 @@ use Rattle.papaya_call.specs.Law.Grows.{Comes}
 use Rattle.papaya_call.specs.Law.Invariant.{named}
 use Rattle.papaya_call.specs.Machine.{ask_of, kind_of_ask, after}
 use Rattle.papaya_call.specs.Rests.{change_in, change_after}
-use Rattle.papaya_call.specs.Told.{Hands, IsTold, IsHashed, told_of, or_last, word_of}
+use Rattle.papaya_call.specs.Told.{Hands, IsOneOf, IsTold, IsHashed, told_of, or_last, word_of}
 use Rattle.papaya_call.proofs.RestsReply.{machine_changes}
 use Rattle.papaya_core.specs.declared.pairs.KeyOf.{KeyOf}
 use Rattle.papaya_core.specs.declared.pairs.Running.{Running}
@@ -51,12 +51,12 @@ module _ {K V S A : Type 0} (eq : K → K → Bool) (hash : K → ℕ) (mode : R
     pub coded : (at : At) → word_of law_setting law_coding (run (es ++ made) start) at ≡ word_at store'.words at
     pub single : (t : ℕ) → (run (es ++ made) start).next t ≡ 0
     pub there : (t : ℕ) → 0 < t → Comes (run (es ++ made) start) t → (words : TableWords) × (table_of store.words.tables t ≡ Some words)
-    -- a pair that a slot names stood there before, or is the one that the call made
-    pub slots : (t x : ℕ) (p : Stored K V) → named ((run (es ++ made) start).slot t x) ≡ Some p → (named (words_now.slot t x) ≡ Some p) ⊎ (tale.hands.made ≡ Some p)
+    -- a pair that a slot names stood there before, or is one that the call made
+    pub slots : (t x : ℕ) (p : Stored K V) → named ((run (es ++ made) start).slot t x) ≡ Some p → (named (words_now.slot t x) ≡ Some p) ⊎ IsOneOf tale.hands.made p
     pub unchanged : change_in (after r.machine a).state ≡ None → (change_in r.machine.state ≡ None) × ((t x : ℕ) (p : Stored K V) → named ((run (es ++ made) start).slot t x) ≡ Some p → named (words_now.slot t x) ≡ Some p)
     -- the pairs that the machine was told of
     pub last : (p : Stored K V) → hands.last ≡ Some p → (tale.hands.last ≡ Some p) ⊎ ((t : ℕ) × (x : ℕ) × (named (words_now.slot t x) ≡ Some p))
-    pub new : (q : Stored K V) → hands.made ≡ Some q → (tale.hands.made ≡ Some q) ⊎ ((q.number ≡ length store.pairs) × (r.value ≡ Some q.value) × (pair_of store' q.number ≡ Some q))
+    pub new : (q : Stored K V) → IsOneOf hands.made q → IsOneOf tale.hands.made q ⊎ ((q.number ≡ length store.pairs) × (r.value ≡ Some q.value) × (pair_of store' q.number ≡ Some q))
     -- a table that was made is there
     pub opens : (t slots limit : ℕ) → a ≡ Made_number t → ask ≡ MakeTable slots limit → (words : TableWords) × (table_of store'.words.tables t ≡ Some words)
 
@@ -86,7 +86,7 @@ module _ {K V S A : Type 0} (eq : K → K → Bool) (hash : K → ℕ) (mode : R
         → IsGrown store.words.tables store'.words.tables
         → ((at : At) → word_at store'.words at ≡ word_at store.words at)
         → ((p : Stored K V) → hands.last ≡ Some p → (tale.hands.last ≡ Some p) ⊎ ((t : ℕ) × (x : ℕ) × (named (words_now.slot t x) ≡ Some p)))
-        → ((q : Stored K V) → hands.made ≡ Some q → (tale.hands.made ≡ Some q) ⊎ ((q.number ≡ length store.pairs) × (r.value ≡ Some q.value) × (pair_of store' q.number ≡ Some q)))
+        → ((q : Stored K V) → IsOneOf hands.made q → IsOneOf tale.hands.made q ⊎ ((q.number ≡ length store.pairs) × (r.value ≡ Some q.value) × (pair_of store' q.number ≡ Some q)))
         → ((t slots limit : ℕ) → a ≡ Made_number t → ask ≡ MakeTable slots limit → (words : TableWords) × (table_of store'.words.tables t ≡ Some words))
         → IsAnswered key ask a store' later
     unexchanged ask e a store' later hands told still keys own logged longer grown words last new opens = record {
@@ -118,7 +118,7 @@ module _ {K V S A : Type 0} (eq : K → K → Bool) (hash : K → ℕ) (mode : R
         → IsAnswered key ask a store' later
     quiet own ask e a store' later hands count same_store same_call told still last made never =
         subst (λ y. IsAnswered key ask a y later) (sym same_store) (subst (IsAnswered key ask a (record store { count = count })) (sym same_call)
-        (unexchanged ask e a (record store { count = count }) r hands told still (λ at k h. h) own (λ n p h. h) (omega arith) (grown-same store.words.tables) (λ at. refl) last (λ q h. inl (sym made ∙ h)) (λ t slots limit is asks. absurd (never t slots limit is asks))))
+        (unexchanged ask e a (record store { count = count }) r hands told still (λ at k h. h) own (λ n p h. h) (omega arith) (grown-same store.words.tables) (λ at. refl) last (λ q h. inl (subst (λ l. IsOneOf l q) made h)) (λ t slots limit is asks. absurd (never t slots limit is asks))))
 
     -- the pair that the word at a place names
     named_last : (last : Option (Stored K V)) (t x : ℕ) (p : Stored K V) (o : Option (Stored K V)) → named (words_now.slot t x) ≡ o → or_last o last ≡ Some p → (last ≡ Some p) ⊎ ((t : ℕ) × (x : ℕ) × (named (words_now.slot t x) ≡ Some p))

@@ -8,7 +8,7 @@ use Rattle.papaya_call.specs.declared.ask.At.TheVariants.{Root, Next, Aborted, D
 use Rattle.papaya_call.specs.declared.call.Call.{Call}
 use Rattle.papaya_call.specs.Law.Exchange.{Exchange, Open, run, start}
 use Rattle.papaya_call.specs.Rests.{IsModeOf}
-use Rattle.papaya_call.specs.Told.{no_hands, word_of}
+use Rattle.papaya_call.specs.Told.{IsOneOf, no_hands, word_of}
 use Rattle.papaya_core.specs.declared.pairs.Running.{Running}
 use Rattle.papaya_core.specs.declared.callers.Seat.{Seat}
 use Rattle.papaya_core.specs.Begins.{begun, key_of_call}
@@ -61,11 +61,11 @@ module _ {K V S A : Type 0} (eq : K → K → Bool) (hash : K → ℕ) where
       own = refl;
       answers = begun_answers call;
       split = append-nil es;
-      rests = record { hash = sym (mod-eq_of_lt fits); mode = mode_of s.mode; made = refl; stage = tt };
+      rests = record { hash = sym (mod-eq_of_lt fits); mode = mode_of s.mode; made = record { keys = λ q l. absurd l; made_is = tt; fill_is = tt; choice_is = tt }; stage = tt };
       last = λ p l. absurd cc;
-      made = λ p l. absurd cc;
+      made = λ p l. absurd l;
       opens = λ t l. absurd cc;
-      unwritten = λ p l. absurd cc;
+      unwritten = λ p l. absurd l;
     }
 
     -- its tale is the new one
@@ -91,12 +91,12 @@ module _ {K V S A : Type 0} (eq : K → K → Bool) (hash : K → ℕ) where
     ]
 
     -- no two calls have made one pair
-    apart : (d e : ℕ) (q q' : Running K V A) → running callers' d ≡ Some q → running callers' e ≡ Some q' → d ≢ e → (p p' : Stored K V) → (tales' d).hands.made ≡ Some p → (tales' e).hands.made ≡ Some p' → p.number ≢ p'.number
+    apart : (d e : ℕ) (q q' : Running K V A) → running callers' d ≡ Some q → running callers' e ≡ Some q' → d ≢ e → (p p' : Stored K V) → IsOneOf (tales' d).hands.made p → IsOneOf (tales' e).hands.made p' → p.number ≢ p'.number
     apart d e q q' runs_d runs_e differ p p' made_d made_e = elim (cases_same d caller) [
-      | inl begins ↦ let f : None ≡ Some p = ap (λ (y : Tale K V). y.hands.made) (new_is d begins) ∙ made_d in absurd cc
+      | inl begins ↦ absurd (subst (λ (y : Tale K V). IsOneOf y.hands.made p) (sym (new_is d begins)) made_d)
       | inr d_not ↦ elim (cases_same e caller) [
-        | inl begins ↦ let f : None ≡ Some p' = ap (λ (y : Tale K V). y.hands.made) (new_is e begins) ∙ made_e in absurd cc
-        | inr e_not ↦ kept.apart d e q q' (other_runs d q d_not runs_d) (other_runs e q' e_not runs_e) differ p p' (ap (λ (y : Tale K V). y.hands.made) (other_is d d_not) ∙ made_d) (ap (λ (y : Tale K V). y.hands.made) (other_is e e_not) ∙ made_e)
+        | inl begins ↦ absurd (subst (λ (y : Tale K V). IsOneOf y.hands.made p') (sym (new_is e begins)) made_e)
+        | inr e_not ↦ kept.apart d e q q' (other_runs d q d_not runs_d) (other_runs e q' e_not runs_e) differ p p' (subst (λ (y : Tale K V). IsOneOf y.hands.made p) (sym (other_is d d_not)) made_d) (subst (λ (y : Tale K V). IsOneOf y.hands.made p') (sym (other_is e e_not)) made_e)
       ]
     ]
 

@@ -4,7 +4,7 @@ use Rattle.std.specs.Cmp.{IsEquivalence}
 use Rattle.papaya_words.specs.declared.probe.ResizeMode.{ResizeMode}
 use Rattle.papaya_call.specs.Answers.{Says}
 use Rattle.papaya_call.specs.declared.ask.Ask.{Ask}
-use Rattle.papaya_call.specs.declared.ask.Ask.TheVariants.{Load, Exchange as Ask_exchange, SameKey, ShowPair, SizeOf, MakeKey, MakePair, MakeTable, AddToShard, Done as Ask_done}
+use Rattle.papaya_call.specs.declared.ask.Ask.TheVariants.{Load, Exchange as Ask_exchange, SameKey, ShowNone, ShowPair, SizeOf, MakeKey, MakePair, MakeTable, AddToShard, Done as Ask_done}
 use Rattle.papaya_call.specs.declared.ask.Answer.{Answer}
 use Rattle.papaya_call.specs.declared.ask.Answer.TheVariants.{Exchanged, Found as Found_instead}
 use Rattle.papaya_call.specs.declared.call.Call.{Call}
@@ -25,6 +25,7 @@ use Rattle.papaya_core.specs.Store.{StoreState, hash_of}
 use Rattle.papaya_core.specs.Tables.{put, word_at}
 use Rattle.papaya_core.proofs.CoreLemmas.{caused}
 use Rattle.papaya_core.proofs.KeptLemmas.{IsLawfulKeys, kept_begin, kept_new, kept_step}
+use Rattle.papaya_core.proofs.ShowLemmas.{none_shown, pair_shown}
 use Rattle.papaya_core.proofs.StoreLemmas.{matched}
 
 module _ {K V S A : Type 0} (eq : K → K → Bool) (says : Says K V A) where
@@ -39,8 +40,8 @@ module _ {K V S A : Type 0} (eq : K → K → Bool) (says : Says K V A) where
       matched (s'.hasher ≡ s.hasher) (word_at s.words at == old) ((a ≡ Exchanged) × (s' ≡ record s { words = put s.words at new })) ((a ≡ Found_instead (word_at s.words at)) × (s' ≡ s)) h
       (λ _ done. ap (λ (y : StoreState K V S). y.hasher) done.1) (λ _ lost. ap (λ (y : StoreState K V S). y.hasher) lost.1)
   performs-hasher refuse (SameKey n) s r a s' r' (e, stays) = stays-hasher s r s' r' stays
-  performs-hasher refuse (ShowPair n) s r a s' r' (inl (none, e, stays)) = stays-hasher s r s' r' stays
-  performs-hasher refuse (ShowPair n) s r a s' r' (inr (x, p, agrees, y, _, _, _, e, same, _)) = ap (λ (y : StoreState K V S). y.hasher) same
+  performs-hasher refuse ShowNone s r a s' r' h = ap (λ (y : StoreState K V S). y.hasher) (none_shown says s r a s' r' h).store
+  performs-hasher refuse (ShowPair n) s r a s' r' h = ap (λ (y : StoreState K V S). y.hasher) (pair_shown says r.machine.task n s r a s' r' h).store
   performs-hasher refuse (SizeOf n) s r a s' r' (e, stays) = stays-hasher s r s' r' stays
   performs-hasher refuse MakeKey s r a s' r' h =
       matched (s'.hasher ≡ s.hasher) refuse _ _ h (λ _ none. stays-hasher s r s' r' none.1)

@@ -5,11 +5,12 @@ use Rattle.papaya_call.specs.declared.ask.At.TheVariants.{Root, Slot}
 use Rattle.papaya_call.specs.declared.ask.StepKind.{StepKind}
 use Rattle.papaya_call.specs.declared.ask.StepKind.TheVariants as kinds
 use Rattle.papaya_call.specs.Law.Allows.{Allows}
+use Rattle.papaya_call.specs.Law.Code.{Coding}
 use Rattle.papaya_call.specs.Law.Exchange.{Setting, Word, Live, Buried, State, Exchange, Open, after}
 use Rattle.papaya_call.specs.Law.Grows.{Comes}
 use Rattle.papaya_call.specs.Law.Invariant.{named}
 use Rattle.papaya_call.specs.Rests.{change_of_kind}
-use Rattle.papaya_call.specs.Told.{Hands, IsAsked}
+use Rattle.papaya_call.specs.Told.{Hands, IsAsked, IsOneOf}
 
 -- two tests are both met
 both : (a b : Bool) → (a && b) ≡ true → (a ≡ true) × (b ≡ true)
@@ -17,22 +18,22 @@ both true b h = (refl, h)
 both false b h = absurd cc
 
 -- the root is exchanged where there is none yet
-pub root_empty : {K P : Type 0} (g : Setting K P) (s : State P) (hands : Hands P) (new : ℕ) (kind : Option StepKind) (e : Exchange P) → IsAsked kind Root new s hands e → Allows g s e → s.root ≡ 0
-root_empty g s hands new (Some kinds.Open) e is allows = (subst (Allows g s) is allows).0
-root_empty g s hands new _ e h allows = absurd h
+pub root_empty : {K P : Type 0} (g : Setting K P) (c : Coding K P) (s : State P) (hands : Hands P) (new : ℕ) (kind : Option StepKind) (e : Exchange P) → IsAsked c kind Root new s hands e → Allows g s e → s.root ≡ 0
+root_empty g c s hands new (Some kinds.Open) e is allows = (subst (Allows g s) is allows).0
+root_empty g c s hands new _ e h allows = absurd h
 
 module _ {P : Type 0} (s : State P) (hands : Hands P) (new : ℕ) where
-  -- The tables that have come are those of before, and the one that was opened; a pair that a slot names stood there before, or is the one that the call made. Where it changes no pair of the map, each slot names what it named.
+  -- The tables that have come are those of before, and the one that was opened; a pair that a slot names stood there before, or is one that the call made. Where it changes no pair of the map, each slot names what it named.
   pub record IsChanged (kind : Option StepKind) (at : At) (e : Exchange P) : Type 0 where
     pub place : (at ≡ Root) ⊎ ((t : ℕ) × (x : ℕ) × (at ≡ Slot t x))
     pub next : (t : ℕ) → (after s e).next t ≡ s.next t
     pub comes : (t : ℕ) → Comes (after s e) t → Comes s t ⊎ ((at ≡ Root) × (new ≡ t))
-    pub slots : (t x : ℕ) (p : P) → named ((after s e).slot t x) ≡ Some p → (named (s.slot t x) ≡ Some p) ⊎ (hands.made ≡ Some p)
+    pub slots : (t x : ℕ) (p : P) → named ((after s e).slot t x) ≡ Some p → (named (s.slot t x) ≡ Some p) ⊎ IsOneOf hands.made p
     pub unchanged : (old word : ℕ) → change_of_kind kind old word ≡ None → (t x : ℕ) (p : P) → named ((after s e).slot t x) ≡ Some p → named (s.slot t x) ≡ Some p
 
   -- a slot after the call's pair was put into one
-  put_made : (q : P) → hands.made ≡ Some q → (w : Word P) (p : P) (b : Bool) → named (cond b (Live q) w) ≡ Some p → (named w ≡ Some p) ⊎ (hands.made ≡ Some p)
-  put_made q made w p true e = inr (made ∙ e)
+  put_made : (q : P) → IsOneOf hands.made q → (w : Word P) (p : P) (b : Bool) → named (cond b (Live q) w) ≡ Some p → (named w ≡ Some p) ⊎ IsOneOf hands.made p
+  put_made q made w p true e = let f : Some q ≡ Some p = e in let is : q ≡ p = cc in inr (subst (IsOneOf hands.made) is made)
   put_made q made w p false e = inl e
 
   -- a slot after a pair was buried in one
@@ -52,27 +53,27 @@ module _ {P : Type 0} (s : State P) (hands : Hands P) (new : ℕ) where
       comes t (inr linked) = inl (inr linked)
 
   -- what an asked exchange changes
-  pub changes : (kind : Option StepKind) (at : At) (e : Exchange P) → IsAsked kind at new s hands e → IsChanged kind at e
-  changes (Some kinds.Open) Root e is = subst (IsChanged (Some kinds.Open) Root) (sym is) opened
-  changes (Some kinds.Claim) (Slot t x) e (q, made, is) = subst (IsChanged (Some kinds.Claim) (Slot t x)) (sym is) (record {
+  pub changes : {K : Type 0} (c : Coding K P) (kind : Option StepKind) (at : At) (e : Exchange P) → IsAsked c kind at new s hands e → IsChanged kind at e
+  changes c (Some kinds.Open) Root e is = subst (IsChanged (Some kinds.Open) Root) (sym is) opened
+  changes c (Some kinds.Claim) (Slot t x) e (q, own, is) = subst (IsChanged (Some kinds.Claim) (Slot t x)) (sym is) (record {
     place = inr (t, x, refl);
     next = λ u. refl;
     comes = λ u h. inl h;
-    slots = λ u y p h. put_made q made (s.slot u y) p ((u == t) && (y == x)) h;
+    slots = λ u y p h. put_made q own.made (s.slot u y) p ((u == t) && (y == x)) h;
     unchanged = λ old word none. absurd cc;
   })
-  changes (Some kinds.Replace) (Slot t x) e (p, q, live, made, is) = subst (IsChanged (Some kinds.Replace) (Slot t x)) (sym is) (record {
+  changes c (Some kinds.Replace) (Slot t x) e (p, q, live, own, is) = subst (IsChanged (Some kinds.Replace) (Slot t x)) (sym is) (record {
     place = inr (t, x, refl);
     next = λ u. refl;
     comes = λ u h. inl h;
-    slots = λ u y p' h. put_made q made (s.slot u y) p' ((u == t) && (y == x)) h;
+    slots = λ u y p' h. put_made q own.made (s.slot u y) p' ((u == t) && (y == x)) h;
     unchanged = λ old word none. absurd cc;
   })
-  changes (Some kinds.Bury) (Slot t x) e (q, live, is) = subst (IsChanged (Some kinds.Bury) (Slot t x)) (sym is) (record {
+  changes c (Some kinds.Bury) (Slot t x) e (q, live, is) = subst (IsChanged (Some kinds.Bury) (Slot t x)) (sym is) (record {
     place = inr (t, x, refl);
     next = λ u. refl;
     comes = λ u h. inl h;
     slots = λ u y p h. inl (put_buried t x q live u y p ((u == t) && (y == x)) refl h);
     unchanged = λ old word none. absurd cc;
   })
-  changes _ _ e h = absurd h
+  changes c _ _ e h = absurd h

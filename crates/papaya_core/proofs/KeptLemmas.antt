@@ -1,12 +1,12 @@
 -- A core's words keep to the law of exchanges: the statements that the timeline rests on.
-use Rattle.std.proofs.Common.{◌≡◌, ℕ, ◌<◌, ◌^◌, Bool, Option, None, Some, List, [], ◌++◌, length, ◌≤◌, ◌⊎◌, inl, inr, refl, sym, subst}
+use Rattle.std.proofs.Common.{◌≡◌, ℕ, ◌<◌, ◌^◌, Bool, Option, None, Some, List, [], ◌++◌, length, ◌≤◌, ◌⊎◌, refl, sym, subst}
 use Rattle.papaya_words.specs.declared.probe.ResizeMode.{ResizeMode}
 use Rattle.papaya_call.specs.Answers.{Says}
 use Rattle.papaya_call.specs.declared.call.Call.{Call}
 use Rattle.papaya_call.specs.Law.Exchange.{Exchange, run, start}
 use Rattle.papaya_call.specs.Law.Meaning.{map_left}
 use Rattle.papaya_call.specs.Machine.{ask_of, kind_of_ask, after}
-use Rattle.papaya_call.specs.Told.{Hands, IsTold, IsHashed}
+use Rattle.papaya_call.specs.Told.{Hands, IsOneOf, IsTold, IsHashed}
 use Rattle.papaya_core.specs.declared.pairs.Running.{Running}
 use Rattle.papaya_core.specs.declared.callers.Seat.{Seat}
 use Rattle.papaya_core.specs.Advances.{Advances, goes_on}
@@ -49,8 +49,8 @@ module _ {K V S A : Type 0} (eq : K → K → Bool) (hash : K → ℕ) (law : Is
     -- longer logs keep their pairs
     pub logged : (p : Stored K V) → pair_of s.store p.number ≡ Some p → pair_of s'.store p.number ≡ Some p
     pub longer : length s.store.pairs ≤ length s'.store.pairs
-    -- a pair that was made in this step has the number after all others, and the value that was handed in
-    pub new : (q : Stored K V) → hands.made ≡ Some q → ((tales caller).hands.made ≡ Some q) ⊎ ((q.number ≡ length s.store.pairs) × (a.before.value ≡ Some q.value))
+    -- a pair that was made in this step has the number after all others, and the value that was at hand, and is logged
+    pub new : (q : Stored K V) → IsOneOf hands.made q → IsOneOf (tales caller).hands.made q ⊎ ((q.number ≡ length s.store.pairs) × (a.before.value ≡ Some q.value) × (pair_of s'.store q.number ≡ Some q))
 
   -- a step keeps a core to the law
   pub kept_step : {says : Says K V A} (refuse : Bool) (s : CoreState K V S A) (caller : ℕ) (s' : CoreState K V S A) (event : Event) (reply : Option Reply) (a : Advances eq says refuse s caller s' event reply) (es : List (Exchange (Stored K V))) (tales : ℕ → Tale K V) → IsCore s.store s.callers s.mode → IsKept eq hash s.mode s.store s.callers es tales → IsStep refuse s caller s' event reply a es tales
@@ -70,7 +70,7 @@ module _ {K V S A : Type 0} (eq : K → K → Bool) (hash : K → ℕ) (law : Is
         map_same = step.same_map eq hash law says refuse s caller s' a.before a.answer a.later a.was a.performs a.mode es tales core kept;
         logged = λ p h. left.logged p.number p h;
         longer = left.longer;
-        new = λ q h. elim (left.new q h) [ inl old ↦ inl old | inr (number, value, there) ↦ inr (number, value) ];
+        new = λ q h. left.new q h;
       }
 
   -- a begin leaves the words, and its call rests on the exchanges as they are

@@ -71,11 +71,11 @@ module _ {K V S A : Type 0} (eq : K → K → Bool) (hash : K → ℕ) (mode : R
       let mine : slice_get store.keys n ≡ Some key = sym (ap (key_at store.keys) was) ∙ own in
       let stored : Stored K V = record { number = length store.pairs; key = key; value = v } in
       let there' : pair_of longer (length store.pairs) ≡ Some stored = ap (stored_in store.keys (length store.pairs)) (get-append_last store.pairs pair) ∙ ap (stored_at (length store.pairs) v) mine in
-      let hands : Hands (Stored K V) = record tale.hands { made = Some stored } in
+      let hands : Hands (Stored K V) = record tale.hands { made = stored ∷ tale.hands.made } in
       subst (λ y. Leaves MakePair a y later) (sym grown) (subst (Leaves MakePair a longer) (sym moved)
       (unexchanged eq hash mode store r es tale hashed key same_hash coded single there MakePair e a longer call hands (inr (stored, refl, is, refl, refl)) refl
       (λ at j h. h) own (λ m p h. pair-more_pairs store (pair ∷ []) m p h) (let more : length (store.pairs ++ pair ∷ []) ≡ length store.pairs + 1 = length-append store.pairs (pair ∷ []) in omega arith) (grown-same store.words.tables) (λ at. refl)
-      (λ p h. inl h) (λ q h. let f : stored ≡ q = cc in inr (ap (λ (y : Stored K V). y.number) (sym f), value ∙ ap (λ (y : Stored K V). Some y.value) f, subst (λ (y : Stored K V). pair_of longer y.number ≡ Some y) f there'))
+      (λ p h. inl h) (λ q h. elim h [ inl f ↦ inr (ap (λ (y : Stored K V). y.number) f, value ∙ ap (λ (y : Stored K V). Some y.value) (sym f), subst (λ (y : Stored K V). pair_of longer y.number ≡ Some y) (sym f) there') | inr old ↦ inl old ])
       (λ t slots limit is' asks. absurd cc)))
 
   -- a table

@@ -7,19 +7,20 @@ use Rattle.papaya_call.specs.Answers.{Says}
 use Rattle.papaya_call.specs.declared.ask.At.{At}
 use Rattle.papaya_call.specs.declared.ask.At.TheVariants.{Root}
 use Rattle.papaya_call.specs.declared.ask.Ask.{Ask}
-use Rattle.papaya_call.specs.declared.ask.Ask.TheVariants.{Load, Exchange as Ask_exchange, SameKey, ShowPair, SizeOf, MakeKey, MakePair, MakeTable, AddToShard, Done as Ask_done}
+use Rattle.papaya_call.specs.declared.ask.Ask.TheVariants.{Load, Exchange as Ask_exchange, SameKey, ShowNone, ShowPair, SizeOf, MakeKey, MakePair, MakeTable, AddToShard, Done as Ask_done}
 use Rattle.papaya_call.specs.declared.ask.Answer.{Answer}
-use Rattle.papaya_call.specs.declared.ask.Answer.TheVariants.{Word as Word_read, Exchanged, Found as Found_instead, Yes, Size}
+use Rattle.papaya_call.specs.declared.ask.Answer.TheVariants.{Word as Word_read, Exchanged, Found as Found_instead, Yes, Size, Made as Made_number}
 use Rattle.papaya_call.specs.Law.Exchange.{Exchange, run, start}
 use Rattle.papaya_call.specs.Law.Grows.{Comes}
 use Rattle.papaya_call.specs.Machine.{ask_of, kind_of_ask}
 use Rattle.papaya_call.specs.Rests.{Rests, change_in, change_after}
-use Rattle.papaya_call.specs.Told.{Hands, IsHashed, IsAsked, told_of, word_of}
+use Rattle.papaya_call.specs.Told.{Hands, IsTold, IsHashed, IsAsked, told_of, word_of}
 use Rattle.papaya_core.specs.declared.pairs.Running.{Running}
 use Rattle.papaya_core.specs.Kept.{Tale, slots_in, places_in}
 use Rattle.papaya_core.specs.Performs.{Performs, own_key, same, size_of}
 use Rattle.papaya_core.specs.Store.{StoreState, Stored, pair_of}
 use Rattle.papaya_core.specs.Tables.{table_of, word_at, put}
+use Rattle.papaya_core.proofs.ShowLemmas.{IsShowing, none_shown, pair_shown}
 use Rattle.papaya_core.proofs.StoreLemmas.{matched}
 use Rattle.papaya_core.proofs.KeptAnswer.{law_setting, law_coding, words_now, IsAnswered, quiet, unexchanged, told_last, told_made}
 use Rattle.papaya_call.specs.Law.Allows.{AllAllowed}
@@ -44,6 +45,20 @@ module _ {K V S A : Type 0} (eq : K → K → Bool) (says : Says K V A) (hash : 
   abbrev Leaves : Ask → Answer → StoreState K V S → Running K V A → Type 0
   Leaves ask a store' later = IsAnswered eq hash mode store r es tale key ask a store' later
 
+  -- a showing
+  shown : (ask : Ask) → ask_of r.machine ≡ ask → (a : Answer) (store' : StoreState K V S) (later : Running K V A) → IsShowing store r a store' later
+      → IsTold (law_setting eq hash mode store r es tale) (law_coding eq hash mode store r es tale) key (words_now eq hash mode store r es tale) (kind_of_ask r.machine) tale.hands ask a [] tale.hands
+      → change_after (kind_of_ask r.machine) ask a (change_in r.machine.state) ≡ change_in r.machine.state → ((t slots limit : ℕ) → a ≡ Made_number t → ask ≡ MakeTable slots limit → ⊥) → Leaves ask a store' later
+  shown ask e a store' later showing told still never = elim showing.call [
+    | inl same ↦ quiet eq hash mode store r es tale hashed key rests.hash coded single there own ask e a store' later tale.hands store.count showing.store same told still (λ p h. inl h) refl never
+    | inr (v, x, other) ↦
+        let call : Running K V A = record r { value = v; answers = Some x } in
+        subst (λ z. Leaves ask a z later) (sym showing.store) (subst (Leaves ask a store) (sym other)
+        (unexchanged eq hash mode store r es tale hashed key rests.hash coded single there ask e a store call tale.hands told still
+        (λ at j h. h) own (λ m q h. h) (omega arith) (grown-same store.words.tables) (λ at. refl) (λ q h. inl h) (λ q h. inl h)
+        (λ t slots limit f asks. absurd (never t slots limit f asks))))
+  ]
+
   -- an exchange, made or lost
   exchanged : (at : At) (old new : ℕ) → ask_of r.machine ≡ Ask_exchange at old new → (a : Answer) (store' : StoreState K V S) (later : Running K V A) → Exchanges (word_at store.words at) old (put store.words at new) a store store' → later ≡ r → Leaves (Ask_exchange at old new) a store' later
   exchanged at old new e a store' later h same_call =
@@ -59,7 +74,7 @@ module _ {K V S A : Type 0} (eq : K → K → Bool) (says : Says K V A) (hash : 
       let is : a ≡ Found_instead (word_of g c now at) = lost.0 ∙ ap Found_instead (sym (coded at)) in
       quiet eq hash mode store r es tale hashed key rests.hash coded single there own (Ask_exchange at old new) e a store' later hands store.count lost.1 same_call
       (subst (λ b. MatchBool b
-      ((a ≡ Exchanged) × ((y : Exchange (Stored K V)) × IsAsked (kind_of_ask r.machine) at new now tale.hands y × (nothing ≡ y ∷ [])) × (hands ≡ tale.hands))
+      ((a ≡ Exchanged) × ((y : Exchange (Stored K V)) × IsAsked c (kind_of_ask r.machine) at new now tale.hands y × (nothing ≡ y ∷ [])) × (hands ≡ tale.hands))
       ((a ≡ Found_instead (word_of g c now at)) × (nothing ≡ nothing) × (hands ≡ hands)))
       (sym (ap (λ y. y == old) (coded at) ∙ miss)) (is, refl, refl))
       (ap (λ y. change_after (kind_of_ask r.machine) (Ask_exchange at old new) y (change_in r.machine.state)) is)
@@ -79,16 +94,10 @@ module _ {K V S A : Type 0} (eq : K → K → Bool) (says : Says K V A) (hash : 
       ((λ p l number. is ∙ ap (λ o. Yes (same eq o (pair_of store n))) own ∙ ap (λ o. Yes (same eq (Some key) o)) (subst (λ m. pair_of store m ≡ Some p) number (last p l))), (refl, refl)) refl
       (λ p h. inl h) refl
       (λ t slots limit f asks. absurd cc)
-  answered refuse (ShowPair n) e a store' later (inl (none, is, stays)) =
-      quiet eq hash mode store r es tale hashed key rests.hash coded single there own (ShowPair n) e a store' later tale.hands store.count stays.0 stays.1
-      (inr is, (refl, refl)) refl (λ p h. inl h) refl
-      (λ t slots limit f asks. absurd cc)
-  answered refuse (ShowPair n) e a store' later (inr (x, p, agrees, y, _, _, _, is, same_store, shown)) =
-      let call : Running K V A = record r { answers = Some y } in
-      subst (λ z. Leaves (ShowPair n) a z later) (sym same_store) (subst (Leaves (ShowPair n) a store) (sym shown)
-      (unexchanged eq hash mode store r es tale hashed key rests.hash coded single there (ShowPair n) e a store call tale.hands (inl (agrees, is), (refl, refl)) refl
-      (λ at j h. h) own (λ m q h. h) (omega arith) (grown-same store.words.tables) (λ at. refl) (λ q h. inl h) (λ q h. inl h)
-      (λ t slots limit f asks. absurd cc)))
+  answered refuse ShowNone e a store' later h =
+      let showing = none_shown says store r a store' later h in shown ShowNone e a store' later showing (showing.says, (refl, refl)) refl (λ t slots limit f asks. absurd cc)
+  answered refuse (ShowPair n) e a store' later h =
+      let showing = pair_shown says r.machine.task n store r a store' later h in shown (ShowPair n) e a store' later showing (showing.says, (refl, refl)) refl (λ t slots limit f asks. absurd cc)
   answered refuse (SizeOf n) e a store' later (is, stays) =
       let g = law_setting eq hash mode store r es tale in
       let c = law_coding eq hash mode store r es tale in

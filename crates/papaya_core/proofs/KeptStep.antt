@@ -12,9 +12,9 @@ use Rattle.papaya_call.specs.Law.Exchange.{Setting, Exchange, run, start}
 use Rattle.papaya_call.specs.Law.Grows.{Agrees}
 use Rattle.papaya_call.specs.Law.Invariant.{named}
 use Rattle.papaya_call.specs.Law.Meaning.{map_left}
-use Rattle.papaya_call.specs.Machine.{IsRemover, ask_of, kind_of_ask, after}
+use Rattle.papaya_call.specs.Machine.{HasClosure, ask_of, kind_of_ask, after}
 use Rattle.papaya_call.specs.Rests.{Rests, change_in}
-use Rattle.papaya_call.specs.Told.{Hands, IsTold, IsHashed}
+use Rattle.papaya_call.specs.Told.{Hands, IsOneOf, IsTold, IsHashed}
 use Rattle.papaya_call.proofs.Law.Grows.{all_carries, map_of_carries}
 use Rattle.papaya_call.proofs.Law.Logs.{on_comes}
 use Rattle.papaya_call.proofs.Law.OneMap.{start_keeps}
@@ -113,8 +113,8 @@ module _ {K V S A : Type 0} (eq : K → K → Bool) (hash : K → ℕ) (law : Is
   own_last p (inl old) = left.logged p.number p (call.last p old)
   own_last p (inr (t, x, names)) = left.logged p.number p (kept.logged t x p names)
 
-  -- the pair that it made is logged
-  own_made : (p : Stored K V) → (((tales caller).hands.made ≡ Some p) ⊎ ((p.number ≡ length s.store.pairs) × (before.value ≡ Some p.value) × (pair_of s'.store p.number ≡ Some p))) → IsLogged s'.store p
+  -- each pair that it made is logged
+  own_made : (p : Stored K V) → (IsOneOf (tales caller).hands.made p ⊎ ((p.number ≡ length s.store.pairs) × (before.value ≡ Some p.value) × (pair_of s'.store p.number ≡ Some p))) → IsLogged s'.store p
   own_made p (inl old) = left.logged p.number p (call.made p old)
   own_made p (inr (number, value, there)) = there
 
@@ -123,7 +123,7 @@ module _ {K V S A : Type 0} (eq : K → K → Bool) (hash : K → ℕ) (law : Is
   own_opens t opening = elim (machine_opens before.machine a t opening) [ inl old ↦ still_there t (call.opens t old) | inr (is, slots, limit, making) ↦ left.opens t slots limit is making ]
 
   -- a pair that it made and did not write stands in no slot
-  own_unwritten : (p : Stored K V) → left.hands.made ≡ Some p → change_in (after before.machine a).state ≡ None → (t x : ℕ) (q : Stored K V) → named ((run es' start).slot t x) ≡ Some q → q.number ≢ p.number
+  own_unwritten : (p : Stored K V) → IsOneOf left.hands.made p → change_in (after before.machine a).state ≡ None → (t x : ℕ) (q : Stored K V) → named ((run es' start).slot t x) ≡ Some q → q.number ≢ p.number
   own_unwritten p made none t x q names =
       let u = left.unchanged none in
       let stood : named ((run es start).slot t x) ≡ Some q = u.1 t x q names in
@@ -137,13 +137,13 @@ module _ {K V S A : Type 0} (eq : K → K → Bool) (hash : K → ℕ) (law : Is
   own_call hands e = record {
     key = call.key;
     own = left.own;
-    answers = λ removes. answers_performed eq says refuse (ask_of before.machine) s.store before a s'.store later performs (call.answers (subst IsRemover (machine_task before.machine a) removes));
+    answers = λ asks. answers_performed eq says refuse (ask_of before.machine) s.store before a s'.store later performs (call.answers (subst HasClosure (machine_task before.machine a) asks));
     split = longer_split (tales caller) call.split;
     rests = subst (Rests g' c (tales caller).begun ((tales caller).since ++ left.made) call.key (after before.machine a)) e (grown_rests (tales caller) call.split call.key (after before.machine a) left.hands learnt.1);
     last = λ p l. own_last p (left.last p (ap (λ (y : Hands (Stored K V)). y.last) e ∙ l));
-    made = λ p l. own_made p (left.new p (ap (λ (y : Hands (Stored K V)). y.made) e ∙ l));
+    made = λ p l. own_made p (left.new p (subst (λ (y : Hands (Stored K V)). IsOneOf y.made p) (sym e) l));
     opens = own_opens;
-    unwritten = λ p l. own_unwritten p (ap (λ (y : Hands (Stored K V)). y.made) e ∙ l);
+    unwritten = λ p l. own_unwritten p (subst (λ (y : Hands (Stored K V)). IsOneOf y.made p) (sym e) l);
   }
 
   -- with the key that it had
@@ -152,7 +152,7 @@ module _ {K V S A : Type 0} (eq : K → K → Bool) (hash : K → ℕ) (law : Is
   own_call-key hands e = refl
 
   -- another call's facts
-  other_unwritten : (d : ℕ) (r : Running K V A) → running s.callers d ≡ Some r → d ≢ caller → (p : Stored K V) → (tales d).hands.made ≡ Some p → change_in r.machine.state ≡ None → (t x : ℕ) (q : Stored K V) → named ((run es' start).slot t x) ≡ Some q → q.number ≢ p.number
+  other_unwritten : (d : ℕ) (r : Running K V A) → running s.callers d ≡ Some r → d ≢ caller → (p : Stored K V) → IsOneOf (tales d).hands.made p → change_in r.machine.state ≡ None → (t x : ℕ) (q : Stored K V) → named ((run es' start).slot t x) ≡ Some q → q.number ≢ p.number
   other_unwritten d r runs differ p made none t x q names = elim (left.slots t x q names) [
     | inl stood ↦ (kept.calls d r runs).unwritten p made none t x q stood
     | inr mine ↦ kept.apart caller d before r was runs (λ same. differ (sym same)) q p mine made
@@ -172,9 +172,9 @@ module _ {K V S A : Type 0} (eq : K → K → Bool) (hash : K → ℕ) (law : Is
         split = longer_split tale o.split;
         rests = subst (Rests g' c tale.begun (tale.since ++ left.made) o.key r.machine) e (grown_rests tale o.split o.key r.machine tale.hands stays);
         last = λ p l. left.logged p.number p (o.last p (ap (λ (y : Hands (Stored K V)). y.last) e ∙ l));
-        made = λ p l. left.logged p.number p (o.made p (ap (λ (y : Hands (Stored K V)). y.made) e ∙ l));
+        made = λ p l. left.logged p.number p (o.made p (subst (λ (y : Hands (Stored K V)). IsOneOf y.made p) (sym e) l));
         opens = λ t opening. still_there t (o.opens t opening);
-        unwritten = λ p l. other_unwritten d r runs differ p (ap (λ (y : Hands (Stored K V)). y.made) e ∙ l);
+        unwritten = λ p l. other_unwritten d r runs differ p (subst (λ (y : Hands (Stored K V)). IsOneOf y.made p) (sym e) l);
       }
 
   -- the tales after the step
@@ -206,23 +206,23 @@ module _ {K V S A : Type 0} (eq : K → K → Bool) (hash : K → ℕ) (law : Is
       | inr differ ↦ other_call d r (other_runs d r differ runs) differ (tales' d).hands (other_hands d differ)
     ]
 
-    -- the stepping call's pair is not another's
-    own_apart : (d : ℕ) (r : Running K V A) → running s.callers d ≡ Some r → d ≢ caller → (p p' : Stored K V) → left.hands.made ≡ Some p → (tales d).hands.made ≡ Some p' → p.number ≢ p'.number
+    -- the stepping call's pairs are not another's
+    own_apart : (d : ℕ) (r : Running K V A) → running s.callers d ≡ Some r → d ≢ caller → (p p' : Stored K V) → IsOneOf left.hands.made p → IsOneOf (tales d).hands.made p' → p.number ≢ p'.number
     own_apart d r runs differ p p' mine other = elim (left.new p mine) [
       | inl old ↦ kept.apart caller d before r was runs (λ same. differ (sym same)) p p' old other
       | inr (number, value, there) ↦ (λ same. let lt : p'.number < length s.store.pairs = below p' ((kept.calls d r runs).made p' other) in omega arith)
     ]
 
     -- no two calls have made one pair
-    apart : (d e : ℕ) (r q : Running K V A) → running s'.callers d ≡ Some r → running s'.callers e ≡ Some q → d ≢ e → (p p' : Stored K V) → (tales' d).hands.made ≡ Some p → (tales' e).hands.made ≡ Some p' → p.number ≢ p'.number
+    apart : (d e : ℕ) (r q : Running K V A) → running s'.callers d ≡ Some r → running s'.callers e ≡ Some q → d ≢ e → (p p' : Stored K V) → IsOneOf (tales' d).hands.made p → IsOneOf (tales' e).hands.made p' → p.number ≢ p'.number
     apart d e r q runs_d runs_e differ p p' made_d made_e = elim (cases_same d caller) [
       | inl d_steps ↦ elim (cases_same e caller) [
         | inl e_steps ↦ absurd (differ (d_steps ∙ sym e_steps))
-        | inr e_not ↦ own_apart e q (other_runs e q e_not runs_e) e_not p p' (ap (λ (y : Hands (Stored K V)). y.made) (own_hands d d_steps) ∙ made_d) (ap (λ (y : Hands (Stored K V)). y.made) (other_hands e e_not) ∙ made_e)
+        | inr e_not ↦ own_apart e q (other_runs e q e_not runs_e) e_not p p' (subst (λ (y : Hands (Stored K V)). IsOneOf y.made p) (sym (own_hands d d_steps)) made_d) (subst (λ (y : Hands (Stored K V)). IsOneOf y.made p') (sym (other_hands e e_not)) made_e)
       ]
       | inr d_not ↦ elim (cases_same e caller) [
-        | inl e_steps ↦ (λ same. own_apart d r (other_runs d r d_not runs_d) d_not p' p (ap (λ (y : Hands (Stored K V)). y.made) (own_hands e e_steps) ∙ made_e) (ap (λ (y : Hands (Stored K V)). y.made) (other_hands d d_not) ∙ made_d) (sym same))
-        | inr e_not ↦ kept.apart d e r q (other_runs d r d_not runs_d) (other_runs e q e_not runs_e) differ p p' (ap (λ (y : Hands (Stored K V)). y.made) (other_hands d d_not) ∙ made_d) (ap (λ (y : Hands (Stored K V)). y.made) (other_hands e e_not) ∙ made_e)
+        | inl e_steps ↦ (λ same. own_apart d r (other_runs d r d_not runs_d) d_not p' p (subst (λ (y : Hands (Stored K V)). IsOneOf y.made p') (sym (own_hands e e_steps)) made_e) (subst (λ (y : Hands (Stored K V)). IsOneOf y.made p) (sym (other_hands d d_not)) made_d) (sym same))
+        | inr e_not ↦ kept.apart d e r q (other_runs d r d_not runs_d) (other_runs e q e_not runs_e) differ p p' (subst (λ (y : Hands (Stored K V)). IsOneOf y.made p) (sym (other_hands d d_not)) made_d) (subst (λ (y : Hands (Stored K V)). IsOneOf y.made p') (sym (other_hands e e_not)) made_e)
       ]
     ]
 

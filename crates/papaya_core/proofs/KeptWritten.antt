@@ -119,15 +119,15 @@ module _ {K V S A : Type 0} (eq : K → K → Bool) (hash : K → ℕ) (mode : R
 
   -- the exchange of the law that was made
   asked : (at : At) (old new : ℕ) → ask_of r.machine ≡ Ask_exchange at old new → word_of g (law_coding eq hash mode store r es tale) now at ≡ old
-      → (e : Exchange (Stored K V)) × IsAsked (kind_of_ask r.machine) at new now tale.hands e × Allows g now e × IsWritten g (law_coding eq hash mode store r es tale) now at new (state_after now e)
+      → (e : Exchange (Stored K V)) × IsAsked (law_coding eq hash mode store r es tale) (kind_of_ask r.machine) at new now tale.hands e × Allows g now e × IsWritten g (law_coding eq hash mode store r es tale) now at new (state_after now e)
   asked at old new e = subst (λ l. word_of g (law_coding eq hash mode store r es tale) (run l start) at ≡ old
-      → (e : Exchange (Stored K V)) × IsAsked (kind_of_ask r.machine) at new (run l start) tale.hands e × Allows g (run l start) e × IsWritten g (law_coding eq hash mode store r es tale) (run l start) at new (state_after (run l start) e))
+      → (e : Exchange (Stored K V)) × IsAsked (law_coding eq hash mode store r es tale) (kind_of_ask r.machine) at new (run l start) tale.hands e × Allows g (run l start) e × IsWritten g (law_coding eq hash mode store r es tale) (run l start) at new (state_after (run l start) e))
       split (machine_may g (law_coding eq hash mode store r es tale) hashed tale.begun tale.since may key r.machine tale.hands rests at old new e)
 
   -- an exchange of the root finds none and opens a table
-  opening : (at : At) (old new : ℕ) (e : Exchange (Stored K V)) → IsAsked (kind_of_ask r.machine) at new now tale.hands e → Allows g now e → word_of g (law_coding eq hash mode store r es tale) now at ≡ old → at ≡ Root → Ask_exchange at old new ≡ Ask_exchange Root 0 new
+  opening : (at : At) (old new : ℕ) (e : Exchange (Stored K V)) → IsAsked (law_coding eq hash mode store r es tale) (kind_of_ask r.machine) at new now tale.hands e → Allows g now e → word_of g (law_coding eq hash mode store r es tale) now at ≡ old → at ≡ Root → Ask_exchange at old new ≡ Ask_exchange Root 0 new
   opening at old new e asks allows stands root =
-      let none : now.root ≡ 0 = root_empty g now tale.hands new (kind_of_ask r.machine) e (subst (λ y. IsAsked (kind_of_ask r.machine) y new now tale.hands e) root asks) allows in
+      let none : now.root ≡ 0 = root_empty g (law_coding eq hash mode store r es tale) now tale.hands new (kind_of_ask r.machine) e (subst (λ y. IsAsked (law_coding eq hash mode store r es tale) (kind_of_ask r.machine) y new now tale.hands e) root asks) allows in
       let zero : old ≡ 0 = sym stands ∙ ap (word_of g (law_coding eq hash mode store r es tale) now) root ∙ none in
       ap (λ y. Ask_exchange y old new) root ∙ ap (λ y. Ask_exchange Root y new) zero
 
@@ -137,12 +137,12 @@ module _ {K V S A : Type 0} (eq : K → K → Bool) (hash : K → ℕ) (mode : R
       let c = law_coding eq hash mode store r es tale in
       let stands : word_of g c now at ≡ old = coded at ∙ eqb-true (word_at store.words at) old hit in
       let x = asked at old new e stands in
-      let changed_by : IsChanged now tale.hands new (kind_of_ask r.machine) at x.0 = changes now tale.hands new (kind_of_ask r.machine) at x.0 x.1 in
+      let changed_by : IsChanged now tale.hands new (kind_of_ask r.machine) at x.0 = changes now tale.hands new c (kind_of_ask r.machine) at x.0 x.1 in
       let place : IsPlaced store.words.tables at = placed at old new e changed_by.place in
       let to : run (es ++ x.0 ∷ []) start ≡ state_after now x.0 = run-append es (x.0 ∷ []) start in
       let told : IsTold g c key now (kind_of_ask r.machine) tale.hands (Ask_exchange at old new) a (x.0 ∷ []) tale.hands =
       subst (λ b. MatchBool b
-      ((a ≡ Exchanged) × ((y : Exchange (Stored K V)) × IsAsked (kind_of_ask r.machine) at new now tale.hands y × (x.0 ∷ [] ≡ y ∷ [])) × (tale.hands ≡ tale.hands))
+      ((a ≡ Exchanged) × ((y : Exchange (Stored K V)) × IsAsked c (kind_of_ask r.machine) at new now tale.hands y × (x.0 ∷ [] ≡ y ∷ [])) × (tale.hands ≡ tale.hands))
       ((a ≡ Found_instead (word_of g c now at)) × (x.0 ∷ [] ≡ []) × (tale.hands ≡ told_of now at tale.hands)))
       (sym (ap (λ y. y == old) (coded at) ∙ hit)) (is, (x.0, x.1, refl), refl) in
       record {

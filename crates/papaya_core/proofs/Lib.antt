@@ -6,6 +6,7 @@ pub mod CountedCore
 pub mod CountedLemmas
 pub mod CountedSeats
 pub mod CountedStep
+pub mod EndingLemmas
 pub mod EventLemmas
 pub mod Good
 pub mod GoodLemmas
@@ -28,9 +29,12 @@ pub mod LegalLemmas
 pub mod MachineLemmas
 pub mod ReplayLemmas
 pub mod RunLemmas
+pub mod ShowLemmas
+pub mod SaidLemmas
 pub mod SoloLaw
 pub mod SoloRun
 pub mod SoloTimeline
 pub mod StoreLemmas
+pub mod TellLemmas
 pub mod TiedLemmas
 pub mod TimelineLemmas

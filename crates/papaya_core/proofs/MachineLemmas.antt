@@ -1,26 +1,27 @@
 -- What every machine keeps to, of those laws of machines that stand on no words.
-use Rattle.std.proofs.Common.{arith, rules, ◌≡◌, ◌⊎◌, ℕ, Bool, true, Option, None, Some, refl, sym, ◌∙◌, ap, subst, List}
-use Rattle.std.proofs.lemmas.Grind.{common_steps}
+use Rattle.std.proofs.Common.{arith, rules, ◌≡◌, ◌⊎◌, inl, inr, ℕ, Bool, true, Option, None, Some, refl, sym, ◌∙◌, ap, subst, List}
 use Rattle.papaya_words.specs.Word.{pair_of}
 use Rattle.papaya_call.specs.declared.ask.At.{At}
 use Rattle.papaya_call.specs.declared.ask.At.TheVariants.{Root}
-use Rattle.papaya_call.specs.declared.ask.Ask.TheVariants.{Exchange as Ask_exchange, ShowPair, MakeTable, Done as Ask_done}
+use Rattle.papaya_call.specs.declared.ask.Ask.TheVariants.{Exchange as Ask_exchange, ShowNone, ShowPair, MakeTable, Done as Ask_done}
 use Rattle.papaya_call.specs.declared.ask.Answer.{Answer}
-use Rattle.papaya_call.specs.declared.ask.Answer.TheVariants.{Word as Word_read, Exchanged, Found as Found_instead, Yes, Size, Made as Made_number, Ok as Ok_done, Refused as Was_refused}
+use Rattle.papaya_call.specs.declared.ask.Answer.TheVariants.{Word as Word_read, Exchanged, Found as Found_instead, Yes, Op, Size, Made as Made_number, Ok as Ok_done, Refused as Was_refused}
 use Rattle.papaya_call.specs.declared.ask.StepKind.{StepKind}
 use Rattle.papaya_call.specs.declared.ask.StepKind.TheVariants as kinds
 use Rattle.papaya_call.specs.declared.call.Reply.{Reply}
 use Rattle.papaya_call.specs.declared.call.Task.{Task}
-use Rattle.papaya_call.specs.declared.call.Task.TheVariants.{Get, Insert, RemoveIf}
+use Rattle.papaya_call.specs.declared.call.Task.TheVariants.{Get, Insert, RemoveIf, Compute}
 use Rattle.papaya_call.specs.declared.machine.Machine.{Machine}
 use Rattle.papaya_call.specs.declared.remove.Removal.{Removal}
 use Rattle.papaya_call.specs.declared.machine.State.TheVariants.{Burying}
 use Rattle.papaya_call.specs.Law.Exchange.{Setting, Exchange}
 use Rattle.papaya_call.specs.Law.Code.{Coding, IsLawfulCoding}
-use Rattle.papaya_call.specs.Machine.{IsStanding, IsChanger, IsRemover, ask_of, kind_of_ask, after}
-use Rattle.papaya_call.specs.Rests.{Rests, RestsStage, IsReply, WasAtMoment, change_in, change_of_reply, said_in, said_in_reply}
-use Rattle.papaya_call.specs.Told.{Hands, IsHashed}
+use Rattle.papaya_call.specs.Machine.{HasClosure, IsStanding, IsChanger, ask_of, kind_of_ask, after}
+use Rattle.papaya_call.specs.Rests.{Rests, RestsStage, IsReply, WasAtMoment, change_in, change_of_reply}
+use Rattle.papaya_call.specs.Says.{said_in, said_in_reply, said_to_remove}
+use Rattle.papaya_call.specs.Told.{Hands, IsHashed, IsOneOf}
 use Rattle.papaya_call.proofs.Law.Code.{code_pair}
+use Rattle.papaya_call.proofs.RestsOpened.{machine_opened}
 use Rattle.papaya_core.specs.declared.trace.Event.TheVariants.{Changed}
 use Rattle.papaya_core.specs.Advances.{event_of}
 
@@ -30,22 +31,19 @@ machine_once m at old new e = search rules
 
 -- a machine that asks to open a table asked so before, or the table that it asked for was just made
 pub machine_opens : (m : Machine) (answer : Answer) (t : ℕ) → ask_of (after m answer) ≡ Ask_exchange Root 0 t → (ask_of m ≡ Ask_exchange Root 0 t) ⊎ ((answer ≡ Made_number t) × (slots : ℕ) × (limit : ℕ) × (ask_of m ≡ MakeTable slots limit))
-machine_opens m answer t e = search rules
-
--- what a machine stands on was said before, or its closure said it just now
-pub machine_said : (m : Machine) (answer : Answer) (n : ℕ) (agrees : Bool) → said_in (after m answer).state ≡ Some (n, agrees) → (said_in m.state ≡ Some (n, agrees)) ⊎ ((ask_of m ≡ ShowPair n) × (answer ≡ Yes agrees))
-machine_said m answer n agrees e = grind (arith, common_steps)
+machine_opens m answer t e = swapped (machine_opened m t answer e)
+  where
+    swapped : ((answer ≡ Made_number t) × ((slots : ℕ) × (limit : ℕ) × (ask_of m ≡ MakeTable slots limit))) ⊎ (ask_of m ≡ Ask_exchange Root 0 t)
+        → (ask_of m ≡ Ask_exchange Root 0 t) ⊎ ((answer ≡ Made_number t) × (slots : ℕ) × (limit : ℕ) × (ask_of m ≡ MakeTable slots limit))
+    swapped (inl (is, (slots, limit, making))) = inr (is, slots, limit, making)
+    swapped (inr opens) = inl opens
 
 -- a burial is asked for where the closure agreed
 machine_burying : (m : Machine) (at : At) (old new : ℕ) → kind_of_ask m ≡ Some kinds.Bury → ask_of m ≡ Ask_exchange at old new → (removal : Removal) × (m.state ≡ Burying removal) × (removal.word ≡ old)
 machine_burying m at old new kind e = search rules
 
--- a burial stands on the closure's agreement
-pub machine_buries : (m : Machine) (at : At) (old new : ℕ) → ask_of m ≡ Ask_exchange at old new → kind_of_ask m ≡ Some kinds.Bury → said_in m.state ≡ Some (pair_of old, true)
-machine_buries m at old new e kind = search rules
-
--- and a reply on what the closure said, where it tells of that
-pub machine_says : (m : Machine) (reply : Reply) → ask_of m ≡ Ask_done reply → said_in m.state ≡ said_in_reply reply
+-- a reply stands on what the closure said, where it tells of that
+pub machine_says : (m : Machine) (reply : Reply) → ask_of m ≡ Ask_done reply → said_in m.task m.state ≡ said_in_reply m.task reply
 machine_says m reply e = search rules
 
 -- an answer leaves the task
@@ -54,16 +52,13 @@ machine_task m (Word_read word) = refl
 machine_task m Exchanged = refl
 machine_task m (Found_instead word) = refl
 machine_task m (Yes same) = refl
+machine_task m (Op kind) = refl
 machine_task m (Size slots limit) = refl
 machine_task m (Made_number n) = refl
 machine_task m Ok_done = refl
 machine_task m (Was_refused refused) = refl
 
 module _ {K P : Type 0} (g : Setting K P) (c : Coding K P) (begun since : List (Exchange P)) (k : K) where
-  -- a pair that the call made has its key
-  pub made_key : (m : Machine) (hands : Hands P) (q : P) → Rests g c begun since k m hands → hands.made ≡ Some q → g.key q ≡ k
-  made_key m hands q rests e = search rules
-
   -- where a machine asks no more, the reply is that of its task
   pub machine_replies : (m : Machine) (hands : Hands P) → Rests g c begun since k m hands → (reply : Reply) → ask_of m ≡ Ask_done reply → IsReply g c begun since k hands m.task reply × (change_in m.state ≡ change_of_reply reply)
   machine_replies m hands rests reply e = search rules
@@ -72,13 +67,21 @@ module _ {K P : Type 0} (g : Setting K P) (c : Coding K P) (begun since : List (
   pub machine_shows : (hashed : IsHashed g c) (m : Machine) (hands : Hands P) → Rests g c begun since k m hands → (n : ℕ) → ask_of m ≡ ShowPair n → (p : P) × (hands.last ≡ Some p) × (c.number p ≡ n) × (g.same k (g.key p) ≡ true) × WasAtMoment g c begun since k (Some p)
   machine_shows hashed m hands rests n e = search rules
 
-  -- only an insertion that replaces asks to put a pair in place of another
-  pub machine_replaces : (m : Machine) (hands : Hands P) → Rests g c begun since k m hands → kind_of_ask m ≡ Some kinds.Replace → m.task ≡ Insert true
+  -- that there is none it is shown where that was so at a moment of the call
+  pub machine_shows_none : (m : Machine) (hands : Hands P) → Rests g c begun since k m hands → ask_of m ≡ ShowNone → WasAtMoment g c begun since k None
+  machine_shows_none m hands rests e = search rules
+
+  -- and only the closure of a compute
+  pub machine_offers : (m : Machine) (hands : Hands P) → Rests g c begun since k m hands → ask_of m ≡ ShowNone → m.task ≡ Compute
+  machine_offers m hands rests e = search rules
+
+  -- only an insertion that replaces and a compute ask to put a pair in place of another
+  pub machine_replaces : (m : Machine) (hands : Hands P) → Rests g c begun since k m hands → kind_of_ask m ≡ Some kinds.Replace → (m.task ≡ Insert true) ⊎ (m.task ≡ Compute)
   machine_replaces m hands rests e = search rules
 
-  -- only a removal asks to bury a pair, and that is its key's
+  -- only a removal and a compute ask to bury a pair, and that is their key's
   pub record IsTaken (hands : Hands P) (task : Task) (old : ℕ) : Type 0 where
-    pub removes : IsRemover task
+    pub removes : HasClosure task
     pub pair : P
     pub last : hands.last ≡ Some pair
     pub number : c.number pair ≡ pair_of old
@@ -96,12 +99,6 @@ module _ {K P : Type 0} (g : Setting K P) (c : Coding K P) (begun since : List (
         same = r.same;
       }
 
--- a removal may change the map
-pub remover_changes : (task : Task) → IsRemover task → IsChanger task
-remover_changes Get removes = removes
-remover_changes (Insert replace) removes = absurd removes
-remover_changes RemoveIf removes = tt
-
--- an exchange that changes the map is that of such a call
+-- an exchange that changes the map is that of a call that may
 pub machine_changes : (m : Machine) → IsStanding m → (kind : StepKind) (old new : Option ℕ) (answer : Answer) → event_of (kind_of_ask m) (ask_of m) answer ≡ Changed kind old new → IsChanger m.task
 machine_changes m stands kind old new answer e = search rules

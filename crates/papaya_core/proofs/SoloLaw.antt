@@ -32,8 +32,8 @@ module _ {K V S A H : Type 0} (eq : K → K → Bool) (input : K → List (List 
   -- it did what the finite map does
   pub alone_answered : IsAnswered eq call (map_of eq s) reply (map_of eq s')
   alone_answered =
-      timeline_answered eq call alone.steps (map_of eq s) (lookup_alike eq classes (λ (p : Stored K V). p.key) (content s.store)) over.events over.of_steps reply timeline.last (map_of eq s') timeline.maps
-      (subst (λ (h : History). Timeline eq (Begin 0 call ∷ Finish 0 alone.steps ∷ []) (map_of eq s) h (timeline.last ∷ timeline.maps)) over.history timeline.timeline)
+      timeline_answered eq call alone.steps (map_of eq s) (lookup_alike eq classes (λ (p : Stored K V). p.key) (content s.store)) over.events over.of_steps reply timeline.last (map_of eq s') timeline.maps timeline.said
+      (subst (λ (h : History). Timeline eq (Begin 0 call ∷ Finish 0 alone.steps ∷ []) (map_of eq s) h (timeline.last ∷ timeline.maps) timeline.said) over.history timeline.timeline)
       (λ j. sym (timeline.is_last j))
 
   -- it logged a new pair, and no pair is gone from the log

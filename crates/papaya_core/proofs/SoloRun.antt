@@ -5,13 +5,13 @@ use Rattle.papaya_call.specs.Answers.{Says}
 use Rattle.papaya_call.specs.declared.ask.Ask.TheVariants.{Done as Ask_done}
 use Rattle.papaya_call.specs.declared.call.Call.{Call}
 use Rattle.papaya_call.specs.declared.call.Reply.{Reply}
-use Rattle.papaya_call.specs.declared.call.Reply.TheVariants.{Absent, Found, Inserted, Replaced, Occupied, Removed, Kept, Refused}
+use Rattle.papaya_call.specs.declared.call.Reply.TheVariants.{Absent, Found, Inserted, Replaced, Occupied, Removed, Kept, Aborted, Refused}
 use Rattle.papaya_call.specs.declared.call.Task.{Task}
-use Rattle.papaya_call.specs.declared.call.Task.TheVariants.{Insert}
+use Rattle.papaya_call.specs.declared.call.Task.TheVariants.{Insert, Compute}
 use Rattle.papaya_call.specs.Law.Exchange.{Exchange, Setting}
 use Rattle.papaya_call.specs.Machine.{after, ask_of, kind_of_ask}
 use Rattle.papaya_call.specs.Rests.{IsOwnPair, IsReply}
-use Rattle.papaya_call.specs.Told.{Hands}
+use Rattle.papaya_call.specs.Told.{Hands, IsOneOf}
 use Rattle.papaya_core.specs.declared.callers.Seat.{Seat}
 use Rattle.papaya_core.specs.declared.pairs.Pair.{Pair}
 use Rattle.papaya_core.specs.declared.pairs.Running.{Running}
@@ -90,8 +90,8 @@ module _ {K V S A : Type 0} (eq : K → K → Bool) (hash : S → K → ℕ) (s 
     pub initial_is : s'.initial ≡ s.initial
     pub keeps : KeepsPairs s.store s'.store
     pub longer : length s.store.pairs ≤ length s'.store.pairs
-    -- the pair that the call made was not logged at the begin
-    pub new : (q : Stored K V) → (tales 0).hands.made ≡ Some q → length s.store.pairs ≤ q.number
+    -- the pairs that the call made were not logged at the begin
+    pub new : (q : Stored K V) → IsOneOf (tales 0).hands.made q → length s.store.pairs ≤ q.number
 
   -- after the begin
   follows_begin : (call : Call K V A) (s' : CoreState K V S A) → s.callers ≡ [] → IsCore s.store s.callers s.mode → (es : List (Exchange (Stored K V))) (tales : ℕ → Tale K V) → IsKept eq (hash s.store.hasher) s.mode s.store s.callers es tales → Begins (hash s.store.hasher) s 0 call s' → Follows s'
@@ -106,7 +106,7 @@ module _ {K V S A : Type 0} (eq : K → K → Bool) (hash : S → K → ℕ) (s 
     initial_is = x.initial;
     keeps = λ n p e. ap (λ (y : StoreState K V S). pair_of y n) x.store ∙ e;
     longer = let same : length s'.store.pairs ≡ length s.store.pairs = ap (λ (y : StoreState K V S). length y.pairs) x.store in omega arith;
-    new = λ q e. let f : None ≡ Some q = e in absurd cc;
+    new = λ q one. elim one [ ];
   }
 
   -- the step that is told of a core
@@ -114,10 +114,10 @@ module _ {K V S A : Type 0} (eq : K → K → Bool) (hash : S → K → ℕ) (s 
   step_of now s' event reply f x = kept_step eq (hash s.store.hasher) law false now 0 s' event reply x f.es f.tales f.core f.kept
 
   -- a pair that the call has made after a step
-  new_after : (now s' : CoreState K V S A) (event : Event) (reply : Option Reply) (f : Follows now) (x : Advances eq says false now 0 s' event reply) → (q : Stored K V) → (step_of now s' event reply f x).hands.made ≡ Some q → length s.store.pairs ≤ q.number
+  new_after : (now s' : CoreState K V S A) (event : Event) (reply : Option Reply) (f : Follows now) (x : Advances eq says false now 0 s' event reply) → (q : Stored K V) → IsOneOf (step_of now s' event reply f x).hands.made q → length s.store.pairs ≤ q.number
   new_after now s' event reply f x q made = elim ((step_of now s' event reply f x).new q made) [
     | inl old ↦ f.new q old
-    | inr (number, value) ↦ let more = f.longer in omega arith
+    | inr (number, value, there) ↦ let more = f.longer in omega arith
   ]
 
   -- after a step
@@ -142,18 +142,21 @@ module _ {K V S A : Type 0} (eq : K → K → Bool) (hash : S → K → ℕ) (s 
       }
 
   -- the pair that a call replies that it made was not logged at the begin
-  owned : (g : Setting K (Stored K V)) (first since : List (Exchange (Stored K V))) (k : K) (hands : Hands (Stored K V)) (n : ℕ) → ((q : Stored K V) → hands.made ≡ Some q → length s.store.pairs ≤ q.number) → IsOwnPair g (coding_of (low (hash s.store.hasher))) first since k hands n → pair_of s.store n ≡ None
+  owned : (g : Setting K (Stored K V)) (first since : List (Exchange (Stored K V))) (k : K) (hands : Hands (Stored K V)) (n : ℕ) → ((q : Stored K V) → IsOneOf hands.made q → length s.store.pairs ≤ q.number) → IsOwnPair g (coding_of (low (hash s.store.hasher))) first since k hands n → pair_of s.store n ≡ None
   owned g first since k hands n new (q, made, number) = past_log s.store n (let most = new q made in let same : q.number ≡ n = number in omega arith)
 
   -- whatever it replies
-  unlogged_by : (g : Setting K (Stored K V)) (first since : List (Exchange (Stored K V))) (k : K) (hands : Hands (Stored K V)) (task : Task) (reply : Reply) → ((q : Stored K V) → hands.made ≡ Some q → length s.store.pairs ≤ q.number) → IsReply g (coding_of (low (hash s.store.hasher))) first since k hands task reply → IsNewIn s.store reply
+  unlogged_by : (g : Setting K (Stored K V)) (first since : List (Exchange (Stored K V))) (k : K) (hands : Hands (Stored K V)) (task : Task) (reply : Reply) → ((q : Stored K V) → IsOneOf hands.made q → length s.store.pairs ≤ q.number) → IsReply g (coding_of (low (hash s.store.hasher))) first since k hands task reply → IsNewIn s.store reply
   unlogged_by g first since k hands (Insert replace) (Inserted n) new own = owned g first since k hands n new own
   unlogged_by g first since k hands (Insert true) (Replaced o n) new own = owned g first since k hands n new own
+  unlogged_by g first since k hands Compute (Inserted n) new own = owned g first since k hands n new own
+  unlogged_by g first since k hands Compute (Replaced o n) new own = owned g first since k hands n new own
   unlogged_by g first since k hands task Absent new own = tt
   unlogged_by g first since k hands task (Found n) new own = tt
   unlogged_by g first since k hands task (Occupied n) new own = tt
   unlogged_by g first since k hands task (Removed n) new own = tt
   unlogged_by g first since k hands task (Kept n) new own = tt
+  unlogged_by g first since k hands task (Aborted t) new own = tt
   unlogged_by g first since k hands task (Refused refused) new own = tt
   unlogged_by g first since k hands _ _ new own = absurd own
 

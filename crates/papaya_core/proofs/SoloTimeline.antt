@@ -3,9 +3,12 @@ use Rattle.std.proofs.Common.{◌≡◌, ◌⊎◌, inl, inr, ℕ, Bool, true, c
 use Rattle.std.specs.Cmp.{IsEquivalence}
 use Rattle.papaya_call.specs.Law.Content.{lookup}
 use Rattle.papaya_call.specs.Rests.{Change, change_of_reply}
+use Rattle.papaya_words.specs.declared.probe.Refused.TheVariants.{RemoveNothing}
+use Rattle.papaya_call.specs.declared.ask.OpKind.{OpKind}
+use Rattle.papaya_call.specs.declared.ask.OpKind.TheVariants as kinds
 use Rattle.papaya_call.specs.declared.call.Call.{Call}
 use Rattle.papaya_call.specs.declared.call.Reply.{Reply}
-use Rattle.papaya_call.specs.declared.call.Reply.TheVariants.{Absent, Found, Inserted, Replaced, Occupied, Removed, Kept, Refused}
+use Rattle.papaya_call.specs.declared.call.Reply.TheVariants.{Absent, Found, Inserted, Replaced, Occupied, Removed, Kept, Aborted, Refused}
 use Rattle.papaya_core.specs.declared.trace.Turn.{Turn}
 use Rattle.papaya_core.specs.declared.trace.Turn.TheVariants.{Begin, Finish}
 use Rattle.papaya_core.specs.declared.trace.Event.{Event}
@@ -14,7 +17,7 @@ use Rattle.papaya_core.specs.Maps.{Map, Does, IsUpdate, Same, key_of}
 use Rattle.papaya_core.specs.Runs.{History, with_event}
 use Rattle.papaya_core.specs.Solo.{CallDoes, IsAnswered}
 use Rattle.papaya_core.specs.Store.{Stored}
-use Rattle.papaya_core.specs.Timeline.{AtSomeMoment, Fits, FitsOpen, IsChange, IsLegal, MayChange, Timeline, change_of, number_in, open_call}
+use Rattle.papaya_core.specs.Timeline.{Answered, AtSomeMoment, Fits, FitsOpen, IsChange, IsLegal, MayChange, Timeline, WasLastShown, change_of, number_in, open_call}
 
 -- equal keys have one pair in a list
 pub lookup_alike : {K P : Type 0} (eq : K → K → Bool) (classes : IsEquivalence eq) (key : P → K) (ps : List P) (j k : K) → eq j k ≡ true → lookup eq key ps j ≡ lookup eq key ps k
@@ -62,6 +65,7 @@ by_change Absent x e = absurd cc
 by_change (Found n) x e = absurd cc
 by_change (Occupied n) x e = absurd cc
 by_change (Kept n) x e = absurd cc
+by_change (Aborted t) x e = absurd cc
 by_change (Refused refused) x e = absurd cc
 
 module _ {K V : Type 0} where
@@ -118,8 +122,8 @@ module _ {K V A : Type 0} (eq : K → K → Bool) (call : Call K V A) (steps : �
   })
 
   -- a change is the only one
-  changes_once : (caller : ℕ) (h : History) (made : Change) (m' m : Map K V) (maps : List (Map K V)) (old new : Option ℕ) → open_call schedule caller h ≡ Some call → change_of caller h ≡ made → IsChange eq schedule caller h m maps m' old new → Stands made m maps → Stands (Some (old, new)) m' (m ∷ maps)
-  changes_once caller h made m' m maps old new opened is x stands =
+  changes_once : (caller : ℕ) (h : History) (made : Change) (m' m : Map K V) (maps : List (Map K V)) (said : Answered V) (old new : Option ℕ) → open_call schedule caller h ≡ Some call → change_of caller h ≡ made → IsChange eq schedule caller h m maps m' said old new → Stands made m maps → Stands (Some (old, new)) m' (m ∷ maps)
+  changes_once caller h made m' m maps said old new opened is x stands =
       let (key, none, (reply, does, changes)) : MayChange eq (Some call) (change_of caller h) x.key x.went x.came = subst (λ o. MayChange eq o (change_of caller h) x.key x.went x.came) opened x.may in
       elim stands [
         | inl (unmade, all) ↦ inr (record {
@@ -146,21 +150,24 @@ module _ {K V A : Type 0} (eq : K → K → Bool) (call : Call K V A) (steps : �
   opened (Replied reply ∷ events) are = absurd are.0
 
   -- how it stands after each of them
-  stands : (events : List Event) → AreOfSteps events → (m : Map K V) (maps : List (Map K V)) → Timeline eq schedule start (open_history events) (m ∷ maps) → Stands (change_of 0 (open_history events)) m maps
-  stands [] are m [] x = elim x [ ]
-  stands [] are m (m0 ∷ []) x = inl (refl, (λ j. x.0 j ∙ x.1 j, (x.1, tt)))
-  stands [] are m (m0 ∷ m1 ∷ maps) x = elim x.1 [ ]
-  stands (event ∷ events) are m [] x = elim x [ ]
-  stands (event ∷ events) are m (m0 ∷ maps) x = after event are.0 x.0 (stands events are.1 m0 maps x.1)
+  stands : (events : List Event) → AreOfSteps events → (m : Map K V) (maps : List (Map K V)) (said : Answered V) → Timeline eq schedule start (open_history events) (m ∷ maps) said → Stands (change_of 0 (open_history events)) m maps
+  stands [] are m [] said x = elim x [ ]
+  stands [] are m (m0 ∷ maps) [] x = elim x [ ]
+  stands [] are m (m0 ∷ []) (answered ∷ []) x = inl (refl, (λ j. x.0 j ∙ x.2 j, (x.2, tt)))
+  stands [] are m (m0 ∷ []) (answered ∷ o ∷ said) x = elim x.2 [ ]
+  stands [] are m (m0 ∷ m1 ∷ maps) (answered ∷ said) x = elim x.2 [ ]
+  stands (event ∷ events) are m [] said x = elim x [ ]
+  stands (event ∷ events) are m (m0 ∷ maps) [] x = elim x [ ]
+  stands (event ∷ events) are m (m0 ∷ maps) (answered ∷ said) x = after event are.0 said x.0 (stands events are.1 m0 maps said x.2)
     where
-      after : (event : Event) → IsOfStep event → IsLegal eq event schedule 0 (open_history events) m0 maps m → Stands (change_of 0 (open_history events)) m0 maps → Stands (change_of 0 (open_history (event ∷ events))) m (m0 ∷ maps)
-      after Begun of_step legal so_far = absurd of_step
-      after (Changed kind old new) of_step legal so_far = changes_once 0 (open_history events) (change_of 0 (open_history events)) m m0 maps old new (opened events are.1) refl legal so_far
-      after (Moved kind) of_step legal so_far = stays (change_of 0 (open_history events)) m m0 maps legal so_far
-      after (Asked n agrees) of_step legal so_far = stays (change_of 0 (open_history events)) m m0 maps legal.0 so_far
-      after (Shown n kind) of_step legal so_far = stays (change_of 0 (open_history events)) m m0 maps legal.0 so_far
-      after Other of_step legal so_far = stays (change_of 0 (open_history events)) m m0 maps legal so_far
-      after (Replied reply) of_step legal so_far = absurd of_step
+      after : (event : Event) → IsOfStep event → (said : Answered V) → IsLegal eq event schedule 0 (open_history events) m0 maps m said → Stands (change_of 0 (open_history events)) m0 maps → Stands (change_of 0 (open_history (event ∷ events))) m (m0 ∷ maps)
+      after Begun of_step said legal so_far = absurd of_step
+      after (Changed kind old new) of_step said legal so_far = changes_once 0 (open_history events) (change_of 0 (open_history events)) m m0 maps said old new (opened events are.1) refl legal so_far
+      after (Moved kind) of_step said legal so_far = stays (change_of 0 (open_history events)) m m0 maps legal so_far
+      after (Asked n agrees) of_step said legal so_far = stays (change_of 0 (open_history events)) m m0 maps legal.0 so_far
+      after (Shown n kind) of_step said legal so_far = stays (change_of 0 (open_history events)) m m0 maps legal.0 so_far
+      after Other of_step said legal so_far = stays (change_of 0 (open_history events)) m m0 maps legal so_far
+      after (Replied reply) of_step said legal so_far = absurd of_step
 
   module _ (alike : (j k : K) → eq j k ≡ true → start j ≡ start k) (h : History) (m m' : Map K V) (maps : List (Map K V)) (stood : Stands (change_of 0 h) m maps) (same : Same m m') where
     -- a reply with a change is the change's
@@ -189,20 +196,41 @@ module _ {K V A : Type 0} (eq : K → K → Bool) (call : Call K V A) (steps : �
       | inr once ↦ absurd (some_change (number_in once.went, number_in once.came) (change_of 0 h) none once.made_is)
     ]
 
+    -- what the map had at some moment of a call that changed nothing, it had at the start
+    at_start : (P : Map K V → Type 0) → change_of 0 h ≡ None → AtSomeMoment P 0 h (m ∷ maps) → (m0 : Map K V) × Same start m0 × P m0
+    at_start P none at = at_same start P 0 h (m ∷ maps) (all_same none) at
+
+    -- what the call does where the class of its key has this, it does at the start
+    does_at_start : (reply : Reply) (m0 : Map K V) → Same start m0 → Does call (m0 (key_of call)) reply (m0 (key_of call)) → Does call (start (key_of call)) reply (start (key_of call))
+    does_at_start reply m0 first does = subst (λ o. Does call o reply o) (first (key_of call)) does
+
+    -- a reply for which the map stays is the map's
+    kept : (reply : Reply) → change_of 0 h ≡ None → Does call (start (key_of call)) reply (start (key_of call)) → CallDoes eq call start reply m'
+    kept reply none does = record {
+      went = start (key_of call);
+      came = start (key_of call);
+      update = record { before = refl; class = λ j e. unchanged none j ∙ alike j (key_of call) e; others = λ j e. unchanged none j };
+      does = does;
+    }
+
     -- a reply without a change is the map's
     answered : (reply : Reply) → change_of 0 h ≡ None → AtSomeMoment (λ m. Does call (m (key_of call)) reply (m (key_of call))) 0 h (m ∷ maps) → CallDoes eq call start reply m'
     answered reply none at =
-        let (m0, first, does) = at_same start (λ m. Does call (m (key_of call)) reply (m (key_of call))) 0 h (m ∷ maps) (all_same none) at in
-        record {
-          went = start (key_of call);
-          came = start (key_of call);
-          update = record { before = refl; class = λ j e. unchanged none j ∙ alike j (key_of call) e; others = λ j e. unchanged none j };
-          does = subst (λ o. Does call o reply o) (first (key_of call)) does;
-        }
+        let (m0, first, does) = at_start (λ m. Does call (m (key_of call)) reply (m (key_of call))) none at in
+        kept reply none (does_at_start reply m0 first does)
+
+    -- what a closure ends when it is shown what stands there, the call does where that stands
+    does_as_shown : (reply : Reply) (shown : Option ℕ) (kind : OpKind) → change_of 0 h ≡ None → WasLastShown eq call reply shown kind 0 h (m ∷ maps) → Does call (start (key_of call)) reply (start (key_of call))
+    does_as_shown reply shown kind none last =
+        let (m0, first, (is, does)) = at_start (λ m. (number_in (m (key_of call)) ≡ shown) × Does call (m (key_of call)) reply (m (key_of call))) none last.1 in
+        does_at_start reply m0 first does
 
     -- a reply that fits is the finite map's
     fits_answered : (reply : Reply) → Fits eq call reply 0 h (m ∷ maps) → IsAnswered eq call start reply m'
-    fits_answered (Refused refused) fits = unchanged fits
+    fits_answered (Refused refused) fits = (unchanged fits.0, λ e. does_as_shown (Refused RemoveNothing) None kinds.Remove fits.0 (fits.1 e))
+    fits_answered (Aborted t) fits =
+        let (none, (shown, last)) = fits in
+        kept (Aborted t) none (does_as_shown (Aborted t) shown (kinds.Abort t) none last)
     fits_answered Absent fits = answered Absent fits.0 fits.1
     fits_answered (Found n) fits = answered (Found n) fits.0 fits.1
     fits_answered (Inserted n) fits = changed (Inserted n) (None, Some n) refl fits
@@ -212,8 +240,9 @@ module _ {K V A : Type 0} (eq : K → K → Bool) (call : Call K V A) (steps : �
     fits_answered (Kept n) fits = answered (Kept n) fits.0.0 fits.0.1
 
   -- the timeline of the whole call says so
-  pub timeline_answered : ((j k : K) → eq j k ≡ true → start j ≡ start k) → (events : List Event) → AreOfSteps events → (reply : Reply) (last m' : Map K V) (maps : List (Map K V)) → Timeline eq schedule start (with_event 1 0 (Replied reply) (open_history events)) (last ∷ maps) → Same last m' → IsAnswered eq call start reply m'
-  timeline_answered alike events are reply last m' [] x same = elim x [ ]
-  timeline_answered alike events are reply last m' (m ∷ maps) x same =
-      fits_answered alike (open_history events) m m' maps (stands events are m maps x.1) (λ j. same j ∙ x.0.0 j) reply
+  pub timeline_answered : ((j k : K) → eq j k ≡ true → start j ≡ start k) → (events : List Event) → AreOfSteps events → (reply : Reply) (last m' : Map K V) (maps : List (Map K V)) (said : Answered V) → Timeline eq schedule start (with_event 1 0 (Replied reply) (open_history events)) (last ∷ maps) said → Same last m' → IsAnswered eq call start reply m'
+  timeline_answered alike events are reply last m' [] said x same = elim x [ ]
+  timeline_answered alike events are reply last m' (m ∷ maps) [] x same = elim x [ ]
+  timeline_answered alike events are reply last m' (m ∷ maps) (o ∷ said) x same =
+      fits_answered alike (open_history events) m m' maps (stands events are m maps said x.2) (λ j. same j ∙ x.0.0 j) reply
       (subst (λ o. FitsOpen eq o reply 0 (open_history events) (m ∷ maps)) (opened events are) x.0.1)

@@ -2,12 +2,13 @@
 use Rattle.std.proofs.Common.{◌≡◌, ℕ, zero, suc, ◌-◌, ◌==◌, ◌<◌, ◌^◌, Bool, true, false, cond, nat_lt, List, [], ◌∷◌, ◌++◌, length, slice_get, slice_set, Option, Some, None, ◌⊎◌, ⊎_elim, inl, inr, refl, sym, ◌∙◌, ap, subst, arith, length-set, MatchBool}
 use Rattle.std.proofs.lemmas.List.{length-replicate}
 use Rattle.papaya_core.proofs.CallersLemmas.{differs}
+use Rattle.papaya_core.proofs.ShowLemmas.{IsShowing, none_shown, pair_shown}
 use Rattle.papaya_words.specs.Table.{TableWords, new_table}
 use Rattle.papaya_call.specs.Answers.{Says}
 use Rattle.papaya_call.specs.declared.ask.At.{At}
 use Rattle.papaya_call.specs.declared.ask.At.TheVariants.{Root, Next, Aborted, Done, Slot}
 use Rattle.papaya_call.specs.declared.ask.Ask.{Ask}
-use Rattle.papaya_call.specs.declared.ask.Ask.TheVariants.{Load, Exchange, SameKey, ShowPair, SizeOf, MakeKey, MakePair, MakeTable, AddToShard, Done as Ask_done}
+use Rattle.papaya_call.specs.declared.ask.Ask.TheVariants.{Load, Exchange, SameKey, ShowNone, ShowPair, SizeOf, MakeKey, MakePair, MakeTable, AddToShard, Done as Ask_done}
 use Rattle.papaya_call.specs.declared.ask.Answer.{Answer}
 use Rattle.papaya_call.specs.Search.{IsSize}
 use Rattle.papaya_call.specs.Machine.{IsFit, IsFitAsk}
@@ -109,6 +110,10 @@ module _ {K V S : Type 0} where
   quiet : (a : Answer) (s s' : StoreState K V S) → IsFit a → s' ≡ s → AllSized s.words.tables → IsKept a s'
   quiet a s s' fit same all = record { fit = fit; sized = subst (λ (y : StoreState K V S). AllSized y.words.tables) (sym same) all }
 
+  -- what a closure says is within the limits
+  said_fit : {A : Type 0} (s : StoreState K V S) (r : Running K V A) (a : Answer) (s' : StoreState K V S) (r' : Running K V A) → IsShowing s r a s' r' → AllSized s.words.tables → IsKept a s'
+  said_fit s r a s' r' shown all = quiet a s s' (elim shown.says [ inl agrees ↦ said a _ agrees.1 tt | inr others ↦ elim others [ inl op ↦ said a _ op.1 tt | inr none ↦ said a _ none tt ] ]) shown.store all
+
   refused : (most count : ℕ) (a : Answer) (s s' : StoreState K V S) → Refuses most count a → s' ≡ s → AllSized s.words.tables → IsKept a s'
   refused most count a s s' (inl e) same all = quiet a s s' (said a _ e tt) same all
   refused most count a s s' (inr (e, full)) same all = quiet a s s' (said a _ e tt) same all
@@ -122,8 +127,8 @@ module _ {K V S A : Type 0} (eq : K → K → Bool) (says : Says K V A) where
       (λ _ done. record { fit = said a _ done.0 tt; sized = subst (λ (y : StoreState K V S). AllSized y.words.tables) (sym done.1) (put-sized s.words at new all) })
       (λ _ lost. quiet a s s' (said a _ lost.0 tt) lost.1 all)
   performed refuse (SameKey n) s r a s' r' all fit (e, stays) = quiet a s s' (said a _ e tt) stays.0 all
-  performed refuse (ShowPair n) s r a s' r' all fit (inl (none, e, stays)) = quiet a s s' (said a _ e tt) stays.0 all
-  performed refuse (ShowPair n) s r a s' r' all fit (inr (x, p, agrees, y, _, _, _, e, same, _)) = quiet a s s' (said a _ e tt) same all
+  performed refuse ShowNone s r a s' r' all fit h = said_fit s r a s' r' (none_shown says s r a s' r' h) all
+  performed refuse (ShowPair n) s r a s' r' all fit h = said_fit s r a s' r' (pair_shown says r.machine.task n s r a s' r' h) all
   performed refuse (SizeOf n) s r a s' r' all fit (e, stays) = quiet a s s' (sized_answer (table_of s.words.tables n) refl) stays.0 all
     where
       sized_answer : (o : Option TableWords) → table_of s.words.tables n ≡ o → IsFit a

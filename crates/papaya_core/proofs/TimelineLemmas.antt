@@ -1,13 +1,16 @@
 -- One entry more in a history, and one map more in a timeline.
-use Rattle.std.proofs.Common.{◌≡◌, ◌≢◌, ℕ, Bool, ◌<◌, ◌≤◌, ◌==◌, false, cond, List, [], ◌∷◌, slice_get, inl, inr, refl, ◌∙◌, ap, arith, eq-eqb}
+use Rattle.std.proofs.Common.{◌≡◌, ◌≢◌, ℕ, Bool, ◌<◌, ◌≤◌, ◌==◌, false, cond, Option, Some, List, [], ◌∷◌, slice_get, inl, inr, refl, ◌∙◌, ap, arith, eq-eqb}
 use Rattle.std.proofs.lemmas.Bool.{cases_Bool}
+use Rattle.papaya_call.specs.Answers.{op_kind}
+use Rattle.papaya_call.specs.declared.answers.Operation.{Operation}
+use Rattle.papaya_call.specs.declared.ask.OpKind.{OpKind}
 use Rattle.papaya_core.specs.declared.trace.Turn.{Turn}
 use Rattle.papaya_core.specs.declared.trace.Entry.{Entry}
 use Rattle.papaya_core.specs.declared.trace.Event.{Event}
-use Rattle.papaya_core.specs.declared.trace.Event.TheVariants.{Asked}
+use Rattle.papaya_core.specs.declared.trace.Event.TheVariants.{Asked, Shown}
 use Rattle.papaya_core.specs.Maps.{Map}
 use Rattle.papaya_core.specs.Runs.{History}
-use Rattle.papaya_core.specs.Timeline.{begun_by, open_call, open_after, change_of, change_by, is_begin, begins, WasAsked, AtSomeMoment, IsUnused}
+use Rattle.papaya_core.specs.Timeline.{Answered, begun_by, open_call, open_after, change_of, change_by, is_begin, begins, last_shown, shown_by, was_shown_none, none_by, WasAnswered, WasAsked, WasShown, AtSomeMoment, IsUnused}
 use Rattle.papaya_core.proofs.CallersLemmas.{differs}
 use Rattle.papaya_core.proofs.Good.{AllBelow}
 
@@ -52,6 +55,40 @@ asked-own c d turn n agrees event before no_begin was = inr (not_begin-own c d t
 -- it was just now
 pub asked-now : (c turn n : ℕ) (agrees : Bool) (event : Event) (before : History) → event ≡ Asked n agrees → WasAsked c n agrees (entry turn c event ∷ before)
 asked-now c turn n agrees event before is = inl (refl, is)
+
+-- what a closure was last shown stays, whatever another caller does
+pub last_shown-other : (c d turn : ℕ) (event : Event) (before : History) → c ≢ d → last_shown d (entry turn c event ∷ before) ≡ last_shown d before
+last_shown-other c d turn event before h = ap (λ b. cond b (shown_by event (last_shown d before)) (last_shown d before)) (differs c d h)
+
+pub last_shown-own : (c turn : ℕ) (event : Event) (before : History) → last_shown c (entry turn c event ∷ before) ≡ shown_by event (last_shown c before)
+last_shown-own c turn event before = ap (λ b. cond b (shown_by event (last_shown c before)) (last_shown c before)) (eq-eqb c c refl)
+
+-- and so does whether it was shown that there is none
+pub was_shown_none-other : (c d turn : ℕ) (event : Event) (before : History) → c ≢ d → was_shown_none d (entry turn c event ∷ before) ≡ was_shown_none d before
+was_shown_none-other c d turn event before h = ap (λ b. cond b (none_by event (was_shown_none d before)) (was_shown_none d before)) (differs c d h)
+
+pub was_shown_none-own : (c turn : ℕ) (event : Event) (before : History) → was_shown_none c (entry turn c event ∷ before) ≡ none_by event (was_shown_none c before)
+was_shown_none-own c turn event before = ap (λ b. cond b (none_by event (was_shown_none c before)) (was_shown_none c before)) (eq-eqb c c refl)
+
+module _ {V : Type 0} where
+  -- what a closure answered stays, whatever another caller does
+  pub answered-other : (c d turn : ℕ) (shown : Option ℕ) (op : Operation V ℕ) (event : Event) (before : History) (o : Option (Operation V ℕ)) (said : Answered V) → c ≢ d → WasAnswered d shown op before said → WasAnswered d shown op (entry turn c event ∷ before) (o ∷ said)
+  answered-other c d turn shown op event before o said differ was = inr (not_begin-other c d turn event differ, was)
+
+  -- and whatever its own caller does but begin a call
+  pub answered-own : (c d turn : ℕ) (shown : Option ℕ) (op : Operation V ℕ) (event : Event) (before : History) (o : Option (Operation V ℕ)) (said : Answered V) → begins event ≡ false → WasAnswered d shown op before said → WasAnswered d shown op (entry turn c event ∷ before) (o ∷ said)
+  answered-own c d turn shown op event before o said no_begin was = inr (not_begin-own c d turn event no_begin, was)
+
+  -- it did just now
+  pub answered-now : (c turn : ℕ) (shown : Option ℕ) (op : Operation V ℕ) (event : Event) (before : History) (o : Option (Operation V ℕ)) (said : Answered V) → event ≡ Shown shown (op_kind op) → o ≡ Some op → WasAnswered c shown op (entry turn c event ∷ before) (o ∷ said)
+  answered-now c turn shown op event before o said is given = inl (refl, is, given)
+
+  -- what it answered it was shown
+  pub answered_shown : (c : ℕ) (shown : Option ℕ) (op : Operation V ℕ) (h : History) (said : Answered V) → WasAnswered c shown op h said → WasShown c shown (op_kind op) h
+  answered_shown c shown op [] said was = elim was [ ]
+  answered_shown c shown op (e ∷ h) [] was = elim was [ ]
+  answered_shown c shown op (e ∷ h) (o ∷ said) (inl (own, is, given)) = inl (own, is)
+  answered_shown c shown op (e ∷ h) (o ∷ said) (inr (no_begin, was)) = inr (no_begin, answered_shown c shown op h said was)
 
 module _ {K V : Type 0} where
   -- what held at a moment, and what follows from it

@@ -3,13 +3,14 @@ use Rattle.std.specs.Prelude.{◌≡◌, ◌⊎◌, ℕ, Bool, Option, Some, Non
 use Rattle.papaya_call.specs.Answers.{Says}
 use Rattle.papaya_words.specs.Word.{pair_of}
 use Rattle.papaya_call.specs.declared.ask.Ask.{Ask}
-use Rattle.papaya_call.specs.declared.ask.Ask.TheVariants.{Load, Exchange, SameKey, ShowPair, SizeOf, MakeKey, MakePair, MakeTable, AddToShard, Done as Ask_done}
+use Rattle.papaya_call.specs.declared.ask.Ask.TheVariants.{Load, Exchange, SameKey, ShowNone, ShowPair, SizeOf, MakeKey, MakePair, MakeTable, AddToShard, Done as Ask_done}
 use Rattle.papaya_call.specs.declared.ask.Answer.{Answer}
-use Rattle.papaya_call.specs.declared.ask.Answer.TheVariants.{Word as Word_read, Exchanged, Found as Found_instead, Yes, Size, Made as Made_number, Ok as Ok_done, Refused as Was_refused}
+use Rattle.papaya_call.specs.declared.ask.Answer.TheVariants.{Word as Word_read, Exchanged, Found as Found_instead, Yes, Op, Size, Made as Made_number, Ok as Ok_done, Refused as Was_refused}
+use Rattle.papaya_call.specs.declared.ask.OpKind.TheVariants as kinds
 use Rattle.papaya_call.specs.declared.ask.StepKind.{StepKind}
 use Rattle.papaya_call.specs.declared.ask.StepKind.TheVariants.{Open, Claim, Replace, Bury, Link, Mark, Close, Place, Finish, Advance, Promote, Abort}
 use Rattle.papaya_words.specs.declared.probe.Refused.{Refused}
-use Rattle.papaya_words.specs.declared.probe.Refused.TheVariants.{Capacity}
+use Rattle.papaya_words.specs.declared.probe.Refused.TheVariants.{Capacity, RemoveNothing}
 use Rattle.papaya_call.specs.declared.ask.At.TheVariants.{Next}
 use Rattle.papaya_call.specs.declared.call.Reply.{Reply}
 use Rattle.papaya_call.specs.declared.call.Reply.TheVariants.{Refused as Reply_refused}
@@ -17,7 +18,7 @@ use Rattle.papaya_call.specs.declared.machine.Machine.{Machine}
 use Rattle.papaya_call.specs.Machine.{ask_of, kind_of_ask, after}
 use Rattle.papaya_core.specs.declared.pairs.Running.{Running}
 use Rattle.papaya_core.specs.declared.trace.Event.{Event}
-use Rattle.papaya_core.specs.declared.trace.Event.TheVariants.{Changed, Moved, Asked, Other}
+use Rattle.papaya_core.specs.declared.trace.Event.TheVariants.{Changed, Moved, Asked, Shown, Other}
 use Rattle.papaya_core.specs.Callers.{with_call}
 use Rattle.papaya_core.specs.Performs.{Performs}
 use Rattle.papaya_core.specs.Core.{CoreState, call_of}
@@ -47,28 +48,36 @@ answered_event kind old new Exchanged = kind_event kind old new
 answered_event kind old new (Word_read word) = Other
 answered_event kind old new (Found_instead word) = Other
 answered_event kind old new (Yes same) = Other
+answered_event kind old new (Op op) = Other
 answered_event kind old new (Size slots limit) = Other
 answered_event kind old new (Made_number n) = Other
 answered_event kind old new Ok_done = Other
 answered_event kind old new (Was_refused refused) = Other
 
+-- whether a pair is to be removed is asked of a pair alone
+abbrev pub asked_event : Option ℕ → Bool → Event
+asked_event None agrees = Other
+asked_event (Some n) agrees = Asked n agrees
+
 -- the event of a showing: what the closure answered
-abbrev pub shown_event : ℕ → Answer → Event
-shown_event n (Yes agrees) = Asked n agrees
-shown_event n (Word_read word) = Other
-shown_event n Exchanged = Other
-shown_event n (Found_instead word) = Other
-shown_event n (Size slots limit) = Other
-shown_event n (Made_number m) = Other
-shown_event n Ok_done = Other
-shown_event n (Was_refused refused) = Other
+abbrev pub shown_event : Option ℕ → Answer → Event
+shown_event shown (Op kind) = Shown shown kind
+shown_event shown (Yes agrees) = asked_event shown agrees
+shown_event shown (Word_read word) = Other
+shown_event shown Exchanged = Other
+shown_event shown (Found_instead word) = Other
+shown_event shown (Size slots limit) = Other
+shown_event shown (Made_number m) = Other
+shown_event shown Ok_done = Other
+shown_event shown (Was_refused refused) = Other
 
 -- the event of an ask that was answered so
 abbrev pub event_of : Option StepKind → Ask → Answer → Event
 event_of kind (Exchange at old new) answer = answered_event kind old new answer
 event_of kind (Load at) answer = Other
 event_of kind (SameKey n) answer = Other
-event_of kind (ShowPair n) answer = shown_event n answer
+event_of kind ShowNone answer = shown_event None answer
+event_of kind (ShowPair n) answer = shown_event (Some n) answer
 event_of kind (SizeOf n) answer = Other
 event_of kind MakeKey answer = Other
 event_of kind MakePair answer = Other
@@ -82,6 +91,7 @@ reply_in (Ask_done reply) = Some reply
 reply_in (Load at) = None
 reply_in (Exchange at old new) = None
 reply_in (SameKey n) = None
+reply_in ShowNone = None
 reply_in (ShowPair n) = None
 reply_in (SizeOf n) = None
 reply_in MakeKey = None
@@ -94,9 +104,9 @@ abbrev pub goes_on : {A : Type 0} → Option Reply → A → Option A
 goes_on None r = Some r
 goes_on (Some reply) r = None
 
--- why a call is refused: what it asked to be made was refused so, or it goes on to a next table, of which there is none yet
+-- why a call is refused: what it asked to be made was refused so, it goes on to a next table, of which there is none yet, or its closure would remove where it was shown that nothing is
 abbrev pub IsCause : Machine → Answer → Refused → Type 0
-IsCause m answer refused = (answer ≡ Was_refused refused) ⊎ ((refused ≡ Capacity) × ((t : ℕ) × (ask_of m ≡ Load (Next t))))
+IsCause m answer refused = (answer ≡ Was_refused refused) ⊎ ((refused ≡ Capacity) × ((t : ℕ) × (ask_of m ≡ Load (Next t)))) ⊎ ((refused ≡ RemoveNothing) × (ask_of m ≡ ShowNone) × (answer ≡ Op kinds.Remove))
 
 -- Just one ask of the caller's machine is answered, a load or an exchange by the word that stands there. A reply is the one in the machine's Done. No other caller's call changes.
 pub record Advances {K V S A : Type 0} (eq : K → K → Bool) (says : Says K V A) (refuse : Bool) (s : CoreState K V S A) (caller : ℕ) (s' : CoreState K V S A) (event : Event) (reply : Option Reply) : Type 0 where

@@ -2,9 +2,9 @@
 use Rattle.std.specs.Prelude.{◌≡◌, ℕ, ◌<◌, ◌^◌, true, false, Option, Some, None}
 use Rattle.papaya_words.specs.declared.probe.ResizeMode.{ResizeMode}
 use Rattle.papaya_call.specs.declared.call.Call.{Call}
-use Rattle.papaya_call.specs.declared.call.Call.TheVariants.{Get, Insert, TryInsert, RemoveIf}
+use Rattle.papaya_call.specs.declared.call.Call.TheVariants.{Get, Insert, TryInsert, RemoveIf, Compute}
 use Rattle.papaya_call.specs.declared.call.Task.{Task}
-use Rattle.papaya_call.specs.declared.call.Task.TheVariants.{Get as Get_task, Insert as Insert_task, RemoveIf as RemoveIf_task}
+use Rattle.papaya_call.specs.declared.call.Task.TheVariants.{Get as Get_task, Insert as Insert_task, RemoveIf as RemoveIf_task, Compute as Compute_task}
 use Rattle.papaya_call.specs.Machine.{started}
 use Rattle.papaya_core.specs.declared.pairs.KeyOf.TheVariants.{Own}
 use Rattle.papaya_core.specs.declared.pairs.Running.{Running}
@@ -17,24 +17,28 @@ key_of_call (Get k) = k
 key_of_call (Insert k v) = k
 key_of_call (TryInsert k v) = k
 key_of_call (RemoveIf k a) = k
+key_of_call (Compute k a) = k
 
 abbrev pub value_of_call : {K V A : Type 0} → Call K V A → Option V
 value_of_call (Get k) = None
 value_of_call (Insert k v) = Some v
 value_of_call (TryInsert k v) = Some v
 value_of_call (RemoveIf k a) = None
+value_of_call (Compute k a) = None
 
 abbrev pub answers_of_call : {K V A : Type 0} → Call K V A → Option A
 answers_of_call (Get k) = None
 answers_of_call (Insert k v) = None
 answers_of_call (TryInsert k v) = None
 answers_of_call (RemoveIf k a) = Some a
+answers_of_call (Compute k a) = Some a
 
 abbrev pub task_of_call : {K V A : Type 0} → Call K V A → Task
 task_of_call (Get k) = Get_task
 task_of_call (Insert k v) = Insert_task true
 task_of_call (TryInsert k v) = Insert_task false
 task_of_call (RemoveIf k a) = RemoveIf_task
+task_of_call (Compute k a) = Compute_task
 
 -- a call as it begins
 abbrev pub begun : {K V A : Type 0} → (K → ℕ) → ResizeMode → ℕ → Call K V A → Running K V A

@@ -38,6 +38,10 @@ module _ {K V S : Type 0} (store : StoreState K V S) where
   abbrev pub content : List (Stored K V)
   content = pairs_of_table (table_of store.words.tables store.words.root)
 
--- the map that a core means: its content's pair of each class
+-- the finite map that a store means: its content's pair of each class
+abbrev pub map_in : {K V S : Type 0} → (K → K → Bool) → StoreState K V S → Map K V
+map_in eq store = lookup eq (λ p. p.key) (content store)
+
+-- and so a core
 abbrev pub map_of : {K V S A : Type 0} → (K → K → Bool) → CoreState K V S A → Map K V
-map_of eq s = lookup eq (λ p. p.key) (content s.store)
+map_of eq s = map_in eq s.store

@@ -6,7 +6,7 @@ use Rattle.papaya_words.specs.declared.probe.ResizeMode.TheVariants.{Incremental
 use Rattle.papaya_call.specs.declared.ask.At.{At}
 use Rattle.papaya_call.specs.declared.ask.At.TheVariants.{Root}
 use Rattle.papaya_call.specs.declared.ask.Ask.TheVariants.{Exchange as Asks_exchange}
-use Rattle.papaya_call.specs.Machine.{IsRemover, ask_of}
+use Rattle.papaya_call.specs.Machine.{HasClosure, ask_of}
 use Rattle.papaya_call.specs.Law.Allows.{AllAllowed}
 use Rattle.papaya_call.specs.Law.Code.{Coding}
 use Rattle.papaya_call.specs.Law.Exchange.{Setting, Exchange, run, start}
@@ -14,7 +14,7 @@ use Rattle.papaya_call.specs.Law.Grows.{Comes, planned}
 use Rattle.papaya_call.specs.Law.Hashing.{hashed}
 use Rattle.papaya_call.specs.Law.Invariant.{named}
 use Rattle.papaya_call.specs.Rests.{Rests, change_in}
-use Rattle.papaya_call.specs.Told.{Hands, no_hands, word_of}
+use Rattle.papaya_call.specs.Told.{Hands, IsOneOf, no_hands, word_of}
 use Rattle.papaya_core.specs.declared.pairs.Running.{Running}
 use Rattle.papaya_core.specs.declared.callers.Seat.{Seat}
 use Rattle.papaya_core.specs.Callers.{running}
@@ -66,16 +66,16 @@ module _ {K V S A : Type 0} (eq : K → K → Bool) (hash : K → ℕ) (mode : R
   pub record IsCall (r : Running K V A) (es : List (Exchange (Stored K V))) (tale : Tale K V) : Type 0 where
     pub key : K
     pub own : own_key store r ≡ Some key
-    -- a removal has its closure's answers
-    pub answers : IsRemover r.machine.task → (a : A) × (r.answers ≡ Some a)
+    -- a call with a closure has its answers
+    pub answers : HasClosure r.machine.task → (a : A) × (r.answers ≡ Some a)
     pub split : tale.begun ++ tale.since ≡ es
     pub rests : Rests (setting_of eq (low hash) mode store.words.tables) (coding_of (low hash)) tale.begun tale.since key r.machine tale.hands
     pub last : (p : Stored K V) → tale.hands.last ≡ Some p → IsLogged store p
-    pub made : (p : Stored K V) → tale.hands.made ≡ Some p → IsLogged store p
+    pub made : (p : Stored K V) → IsOneOf tale.hands.made p → IsLogged store p
     -- the table that a call is about to open was made
     pub opens : (t : ℕ) → ask_of r.machine ≡ Asks_exchange Root 0 t → (words : TableWords) × (table_of store.words.tables t ≡ Some words)
     -- a pair that was made and is not written yet stands in no slot
-    pub unwritten : (p : Stored K V) → tale.hands.made ≡ Some p → change_in r.machine.state ≡ None → (t x : ℕ) (q : Stored K V) → named ((run es start).slot t x) ≡ Some q → q.number ≢ p.number
+    pub unwritten : (p : Stored K V) → IsOneOf tale.hands.made p → change_in r.machine.state ≡ None → (t x : ℕ) (q : Stored K V) → named ((run es start).slot t x) ≡ Some q → q.number ≢ p.number
 
   -- The words are those that the exchanges es leave, which were allowed, and each call under way rests on what is told of it.
   pub record IsKept (callers : List (Seat K V A)) (es : List (Exchange (Stored K V))) (tales : ℕ → Tale K V) : Type 0 where
@@ -86,7 +86,7 @@ module _ {K V S A : Type 0} (eq : K → K → Bool) (hash : K → ℕ) (mode : R
     pub logged : (t x : ℕ) (p : Stored K V) → named ((run es start).slot t x) ≡ Some p → IsLogged store p
     pub calls : (caller : ℕ) (r : Running K V A) → running callers caller ≡ Some r → IsCall r es (tales caller)
     -- two calls make two pairs
-    pub apart : (c d : ℕ) (r q : Running K V A) → running callers c ≡ Some r → running callers d ≡ Some q → c ≢ d → (p p' : Stored K V) → (tales c).hands.made ≡ Some p → (tales d).hands.made ≡ Some p' → p.number ≢ p'.number
+    pub apart : (c d : ℕ) (r q : Running K V A) → running callers c ≡ Some r → running callers d ≡ Some q → c ≢ d → (p p' : Stored K V) → IsOneOf (tales c).hands.made p → IsOneOf (tales d).hands.made p' → p.number ≢ p'.number
 
 -- What always holds of a core: its tables and machines are in order, and there are exchanges by which its words keep to the law.
 pub record IsLawfulCore {K V S A : Type 0} (eq : K → K → Bool) (hash : K → ℕ) (store : StoreState K V S) (callers : List (Seat K V A)) (mode : ResizeMode) : Type 0 where

@@ -1,9 +1,10 @@
 -- Stored pairs, finite maps, and what each call on one key replies and changes.
 use Rattle.std.specs.Prelude.{◌≡◌, ℕ, Bool, true, false, Option, None, Some}
 use Rattle.papaya_call.specs.declared.call.Call.{Call}
-use Rattle.papaya_call.specs.declared.call.Call.TheVariants.{Get, Insert, TryInsert, RemoveIf}
+use Rattle.papaya_call.specs.declared.call.Call.TheVariants.{Get, Insert, TryInsert, RemoveIf, Compute}
 use Rattle.papaya_call.specs.declared.call.Reply.{Reply}
-use Rattle.papaya_call.specs.declared.call.Reply.TheVariants.{Absent, Found, Inserted, Replaced, Occupied, Removed, Kept}
+use Rattle.papaya_call.specs.declared.call.Reply.TheVariants.{Absent, Found, Inserted, Replaced, Occupied, Removed, Kept, Aborted, Refused}
+use Rattle.papaya_words.specs.declared.probe.Refused.TheVariants.{RemoveNothing}
 use Rattle.papaya_core.specs.Store.{Stored}
 
 -- a map gives to each class of equal keys one stored pair, or none
@@ -16,6 +17,7 @@ key_of (Get k) = k
 key_of (Insert k v) = k
 key_of (TryInsert k v) = k
 key_of (RemoveIf k a) = k
+key_of (Compute k a) = k
 
 module _ {K V : Type 0} where
   -- a pair of this number that was made of the key and the value that the call was handed
@@ -23,6 +25,10 @@ module _ {K V : Type 0} where
     pub number : q.number ≡ n
     pub key : q.key ≡ k
     pub value : q.value ≡ v
+
+  -- and one of a value that the call's closure answered
+  abbrev pub IsMadeWith : K → ℕ → Stored K V → Type 0
+  IsMadeWith k n q = (v : V) × IsMadeOf k v n q
 
 module _ {K V A : Type 0} where
   -- What a call on one key does where the class of its key has `here`: what it replies, and which pair the class has next.
@@ -36,6 +42,12 @@ module _ {K V A : Type 0} where
   Does (RemoveIf k a) None Absent next = next ≡ None
   Does (RemoveIf k a) (Some p) (Kept n) next = (p.number ≡ n) × (next ≡ Some p)
   Does (RemoveIf k a) (Some p) (Removed n) next = (p.number ≡ n) × (next ≡ None)
+  Does (Compute k a) None (Inserted n) next = (q : Stored K V) × IsMadeWith k n q × (next ≡ Some q)
+  Does (Compute k a) None (Aborted t) next = next ≡ None
+  Does (Compute k a) None (Refused RemoveNothing) next = next ≡ None
+  Does (Compute k a) (Some p) (Replaced m n) next = (p.number ≡ m) × ((q : Stored K V) × IsMadeWith k n q × (next ≡ Some q))
+  Does (Compute k a) (Some p) (Removed n) next = (p.number ≡ n) × (next ≡ None)
+  Does (Compute k a) (Some p) (Aborted t) next = next ≡ Some p
   Does _ _ _ _ = ⊥
 
 -- two maps are one

@@ -5,10 +5,14 @@ use Rattle.papaya_words.specs.Table.{TableWords, new_table}
 use Rattle.papaya_words.specs.declared.limits.TheConstants.{MAX_TABLES, MAX_LOG_LEN}
 use Rattle.papaya_words.specs.declared.probe.Refused.TheVariants.{Memory, Capacity}
 use Rattle.papaya_call.specs.declared.ask.Ask.{Ask}
-use Rattle.papaya_call.specs.declared.ask.Ask.TheVariants.{Load, Exchange, SameKey, ShowPair, SizeOf, MakeKey, MakePair, MakeTable, AddToShard, Done as Ask_done}
+use Rattle.papaya_call.specs.declared.ask.Ask.TheVariants.{Load, Exchange, SameKey, ShowNone, ShowPair, SizeOf, MakeKey, MakePair, MakeTable, AddToShard, Done as Ask_done}
 use Rattle.papaya_call.specs.declared.ask.Answer.{Answer}
-use Rattle.papaya_call.specs.declared.ask.Answer.TheVariants.{Word as Word_read, Exchanged, Found as Found_instead, Yes, Size, Made as Made_number, Ok as Ok_done, Refused as Was_refused}
-use Rattle.papaya_call.specs.Answers.{Says}
+use Rattle.papaya_call.specs.declared.ask.Answer.TheVariants.{Word as Word_read, Exchanged, Found as Found_instead, Yes, Op, Size, Made as Made_number, Ok as Ok_done, Refused as Was_refused}
+use Rattle.papaya_call.specs.Answers.{Says, op_kind}
+use Rattle.papaya_call.specs.declared.answers.Operation.{Operation}
+use Rattle.papaya_call.specs.declared.answers.Operation.TheVariants as ops
+use Rattle.papaya_call.specs.declared.call.Task.{Task}
+use Rattle.papaya_call.specs.declared.call.Task.TheVariants as tasks
 use Rattle.papaya_core.specs.declared.pairs.KeyOf.{KeyOf}
 use Rattle.papaya_core.specs.declared.pairs.KeyOf.TheVariants.{Own, Logged}
 use Rattle.papaya_core.specs.declared.pairs.Running.{Running}
@@ -63,6 +67,12 @@ module _ {K V S : Type 0} where
       (answer ≡ Made_number n) × (length s.words.tables < MAX_TABLES)
       × (s' ≡ record s { words = record s.words { tables = s.words.tables ++ new_table n slots limit ∷ [] } })
 
+-- the value of an insertion that a closure answered
+abbrev pub value_answered : {V : Type 0} → Operation V ℕ → Option V → Option V
+value_answered (ops.Insert v) before = Some v
+value_answered ops.Remove before = before
+value_answered (ops.Abort t) before = before
+
 module _ {K V S A : Type 0} where
   -- nothing but the machine's state changes
   abbrev pub Stays : StoreState K V S → Running K V A → StoreState K V S → Running K V A → Type 0
@@ -80,12 +90,37 @@ module _ {K V S A : Type 0} where
       (n : ℕ) × (v : V) × (r.key ≡ Logged n) × (r.value ≡ Some v) × (answer ≡ Made_number (length s.pairs)) × (length s.pairs < MAX_LOG_LEN)
       × (s' ≡ record s { pairs = s.pairs ++ record { key = n; value = v } ∷ [] }) × (r' ≡ record r { value = None })
 
-  -- the closure's answers are asked of the pair; where there are none, or no such pair, nothing is answered, and no machine asks then
-  abbrev pub Shows : Says K V A → ℕ → StoreState K V S → Running K V A → Answer → StoreState K V S → Running K V A → Type 0
-  Shows says n s r answer s' r' =
-      (((r.answers ≡ None) ⊎ (pair_of s n ≡ None)) × (answer ≡ Ok_done) × Stays s r s' r')
+  -- nothing is answered where there is no closure, or no such pair; no machine asks then
+  abbrev pub ShowsNothing : Answer → StoreState K V S → Running K V A → StoreState K V S → Running K V A → Type 0
+  ShowsNothing answer s r s' r' = (answer ≡ Ok_done) × Stays s r s' r'
+
+  -- the closure of a removal is asked of the pair
+  abbrev pub Judges : Says K V A → ℕ → StoreState K V S → Running K V A → Answer → StoreState K V S → Running K V A → Type 0
+  Judges says n s r answer s' r' =
+      (((r.answers ≡ None) ⊎ (pair_of s n ≡ None)) × ShowsNothing answer s r s' r')
       ⊎ ((a : A) × (p : Stored K V) × (agrees : Bool) × (a' : A) × (r.answers ≡ Some a) × (pair_of s n ≡ Some p) × says.yes a p.key p.value agrees a'
       × (answer ≡ Yes agrees) × (s' ≡ s) × (r' ≡ record r { answers = Some a' }))
+
+  -- the closure of a compute is shown the key and the value of a pair, or that there is none, and an insertion's value is kept
+  abbrev pub Decides : Says K V A → Option (K × V) → StoreState K V S → Running K V A → Answer → StoreState K V S → Running K V A → Type 0
+  Decides says shown s r answer s' r' =
+      (a : A) × (op : Operation V ℕ) × (a' : A) × (r.answers ≡ Some a) × says.op a shown op a'
+      × (answer ≡ Op (op_kind op)) × (s' ≡ s) × (r' ≡ record r { value = value_answered op r.value; answers = Some a' })
+
+  abbrev pub DecidesNone : Says K V A → StoreState K V S → Running K V A → Answer → StoreState K V S → Running K V A → Type 0
+  DecidesNone says s r answer s' r' = ((r.answers ≡ None) × ShowsNothing answer s r s' r') ⊎ Decides says None s r answer s' r'
+
+  abbrev pub DecidesPair : Says K V A → ℕ → StoreState K V S → Running K V A → Answer → StoreState K V S → Running K V A → Type 0
+  DecidesPair says n s r answer s' r' =
+      (((r.answers ≡ None) ⊎ (pair_of s n ≡ None)) × ShowsNothing answer s r s' r')
+      ⊎ ((p : Stored K V) × (pair_of s n ≡ Some p) × Decides says (Some (p.key, p.value)) s r answer s' r')
+
+  -- which of them depends on the call
+  abbrev pub ShowsPair : Task → Says K V A → ℕ → StoreState K V S → Running K V A → Answer → StoreState K V S → Running K V A → Type 0
+  ShowsPair tasks.RemoveIf says n s r answer s' r' = Judges says n s r answer s' r'
+  ShowsPair tasks.Compute says n s r answer s' r' = DecidesPair says n s r answer s' r'
+  ShowsPair tasks.Get says n s r answer s' r' = ShowsNothing answer s r s' r'
+  ShowsPair (tasks.Insert replace) says n s r answer s' r' = ShowsNothing answer s r s' r'
 
   -- a growth is refused where the step has no memory
   abbrev pub MakesOr : Bool → Answer → StoreState K V S → Running K V A → StoreState K V S → Running K V A → Type 0 → Type 0
@@ -96,7 +131,8 @@ module _ {K V S A : Type 0} where
   Performs eq says refuse (Load at) s r answer s' r' = (answer ≡ Word_read (word_at s.words at)) × Stays s r s' r'
   Performs eq says refuse (Exchange at old new) s r answer s' r' = Exchanges (word_at s.words at) old (put s.words at new) answer s s' × (r' ≡ r)
   Performs eq says refuse (SameKey n) s r answer s' r' = (answer ≡ Yes (same eq (own_key s r) (pair_of s n))) × Stays s r s' r'
-  Performs eq says refuse (ShowPair n) s r answer s' r' = Shows says n s r answer s' r'
+  Performs eq says refuse ShowNone s r answer s' r' = DecidesNone says s r answer s' r'
+  Performs eq says refuse (ShowPair n) s r answer s' r' = ShowsPair r.machine.task says n s r answer s' r'
   Performs eq says refuse (SizeOf n) s r answer s' r' = (answer ≡ size_of (table_of s.words.tables n)) × Stays s r s' r'
   Performs eq says refuse MakeKey s r answer s' r' =
       MakesOr refuse answer s r s' r'
@@ -115,6 +151,7 @@ abbrev pub IsMake : Ask → Type 0
 IsMake (Load at) = ⊥
 IsMake (Exchange at old new) = ⊥
 IsMake (SameKey n) = ⊥
+IsMake ShowNone = ⊥
 IsMake (ShowPair n) = ⊥
 IsMake (SizeOf n) = ⊥
 IsMake MakeKey = Unit {0}

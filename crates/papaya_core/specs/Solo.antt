@@ -3,7 +3,8 @@ use Rattle.std.specs.Prelude.{◌≡◌, ℕ, Bool, [], ◌∷◌, Option, Some,
 use Rattle.papaya_call.specs.Answers.{Says}
 use Rattle.papaya_call.specs.declared.call.Call.{Call}
 use Rattle.papaya_call.specs.declared.call.Reply.{Reply}
-use Rattle.papaya_call.specs.declared.call.Reply.TheVariants.{Absent, Found, Inserted, Replaced, Occupied, Removed, Kept, Refused}
+use Rattle.papaya_call.specs.declared.call.Reply.TheVariants.{Absent, Found, Inserted, Replaced, Occupied, Removed, Kept, Aborted, Refused}
+use Rattle.papaya_words.specs.declared.probe.Refused.TheVariants.{RemoveNothing}
 use Rattle.papaya_core.specs.declared.trace.Turn.TheVariants.{Begin, Finish}
 use Rattle.papaya_core.specs.declared.trace.Entry.{Entry}
 use Rattle.papaya_core.specs.declared.trace.Event.TheVariants.{Replied}
@@ -19,9 +20,10 @@ pub record CallDoes {K V A : Type 0} (eq : K → K → Bool) (call : Call K V A)
   pub update : IsUpdate eq (key_of call) went came m m'
   pub does : Does call went reply came
 
--- a call that is refused leaves the map, and every other does what the finite map does
+-- a call that is refused leaves the map, and every other does what the finite map does; a removal of nothing is refused where nothing is
 abbrev pub IsAnswered : {K V A : Type 0} → (K → K → Bool) → Call K V A → Map K V → Reply → Map K V → Type 0
-IsAnswered eq call m (Refused refused) m' = Same m m'
+IsAnswered eq call m (Refused refused) m' = Same m m' × (refused ≡ RemoveNothing → Does call (m (key_of call)) (Refused RemoveNothing) (m (key_of call)))
+IsAnswered eq call m (Aborted t) m' = CallDoes eq call m (Aborted t) m'
 IsAnswered eq call m Absent m' = CallDoes eq call m Absent m'
 IsAnswered eq call m (Found n) m' = CallDoes eq call m (Found n) m'
 IsAnswered eq call m (Inserted n) m' = CallDoes eq call m (Inserted n) m'
@@ -39,6 +41,7 @@ IsNewIn store (Found n) = Unit {0}
 IsNewIn store (Occupied n) = Unit {0}
 IsNewIn store (Removed n) = Unit {0}
 IsNewIn store (Kept n) = Unit {0}
+IsNewIn store (Aborted t) = Unit {0}
 IsNewIn store (Refused refused) = Unit {0}
 
 -- each pair of the one log stands in the other, under its number

@@ -1,6 +1,6 @@
 //! The entries of a trace.
 ghost use Rattle.std.specs.Prelude.{◌≡◌, ◌+◌, ◌<◌, ◌≤◌, ◌∷◌, reverse, OnOk, IfErr, vec_len, vec_capacity};
-ghost use Rattle.papaya_core.specs.Advances.{event_of, exchange_event};
+ghost use Rattle.papaya_core.specs.Advances.{event_of, exchange_event, shown_event};
 ghost use Rattle.papaya_core.specs.Runs.{with_step};
 
 use crate::trace::{Entry, Event};
@@ -22,6 +22,20 @@ fn exchange_event(kind: StepKind, old: u64, new: u64) -> Event
     }
 }
 
+/// The event of a showing to a closure.
+fn shown_event(shown: Option<u64>, answer: Answer) -> Event
+    ensures { result ≡ shown_event shown answer }
+{
+    match answer {
+        Answer::Op(kind) => Event::Shown(shown, kind),
+        Answer::Yes(agrees) => match shown {
+            Some(pair) => Event::Asked(pair, agrees),
+            None => Event::Other,
+        },
+        _ => Event::Other,
+    }
+}
+
 /// The event of an ask that was answered.
 pub(crate) fn event_of(kind: Option<StepKind>, ask: Ask, answer: Answer) -> Event
     ensures { result ≡ event_of kind ask answer }
@@ -34,10 +48,8 @@ pub(crate) fn event_of(kind: Option<StepKind>, ask: Ask, answer: Answer) -> Even
             },
             _ => Event::Other,
         },
-        Ask::ShowPair(pair) => match answer {
-            Answer::Yes(agrees) => Event::Asked(pair, agrees),
-            _ => Event::Other,
-        },
+        Ask::ShowNone => shown_event(None, answer),
+        Ask::ShowPair(pair) => shown_event(Some(pair), answer),
         _ => Event::Other,
     }
 }

@@ -4,9 +4,10 @@
 // one replied before the other began. Of calls that overlap each of both orders has to be met.
 //
 // Two callers make one call each, on the keys 0 and 1. Their first turns come in every order: ten
-// of an insertion, which is the whole of one that meets nobody, and seven of a lookup, which is the
-// whole of any. Then at most one of them has not replied, and it goes on alone.
-ghost use Rattle.std.specs.Prelude.{◌≤◌, ◌<◌};
+// of an insertion and eleven of a compute, which is the whole of one that meets nobody, and seven of
+// a lookup, which is the whole of any. Then at most one of them has not replied, and it goes on
+// alone.
+ghost use Rattle.std.specs.Prelude.{◌≡◌, ◌≤◌, ◌<◌};
 
 use crate::schedule::Core;
 use crate::trace::{Event, Trace, Turn};
@@ -14,7 +15,7 @@ use crate::trace::{Event, Trace, Turn};
 mod hashing;
 
 use hashing::{APART, TOGETHER, Times};
-use papaya_call::answers::Listed;
+use papaya_call::answers::{Answers, Operation};
 use papaya_call::call::{Call, Reply};
 use papaya_words::probe::ResizeMode;
 use std::alloc::Global;
@@ -22,7 +23,7 @@ use std::mem;
 use std::process::Abort;
 use std::test::Fail;
 
-type Numbers = Core<u64, u64, Times, Listed<u64>>;
+type Numbers = Core<u64, u64, Times, Closure>;
 
 /// The value of key 0 in a map that has it from the start.
 const FIRST_VALUE: u64 = 10;
@@ -30,36 +31,79 @@ const FIRST_VALUE: u64 = 10;
 /// More steps than any call here needs.
 const WHOLE: usize = 100;
 
+/// What the closure of a compute answers. Where there is none, it stores its own value.
+#[derive(Clone, Copy, Debug)]
+enum Closure {
+    /// It adds its value to the one that is there.
+    Adds(u64),
+    /// It removes what is there.
+    Removes(u64),
+}
+
+impl Closure {
+    /// The value that it leaves where there was this one, or none.
+    fn leaves(self, shown: Option<u64>) -> Option<u64> {
+        match (self, shown) {
+            (Closure::Adds(own), Some(value)) => Some(value.wrapping_add(own)),
+            (Closure::Removes(_), Some(_)) => None,
+            (Closure::Adds(own) | Closure::Removes(own), None) => Some(own),
+        }
+    }
+}
+
+impl Answers<u64, u64> for Closure {
+    ghost op_gives = { λ s shown answer t. t ≡ s };
+
+    ghost yes_gives = { λ s key value answer t. t ≡ s };
+
+    fn op(&mut self, shown: Option<(&u64, &u64)>) -> Operation<u64, u64> {
+        match self.leaves(shown.map(|(_, value)| *value)) {
+            Some(value) => Operation::Insert(value),
+            None => Operation::Remove,
+        }
+    }
+
+    fn yes(&mut self, _key: &u64, _value: &u64) -> bool {
+        false
+    }
+}
+
 /// A call on a key.
 #[derive(Clone, Copy, Debug)]
 enum Asked {
     Get(u64),
     Insert(u64, u64),
     TryInsert(u64, u64),
+    Compute(u64, Closure),
 }
 
 impl Asked {
     fn key(self) -> u64 {
         match self {
-            Asked::Get(key) | Asked::Insert(key, _) | Asked::TryInsert(key, _) => key,
+            Asked::Get(key)
+            | Asked::Insert(key, _)
+            | Asked::TryInsert(key, _)
+            | Asked::Compute(key, _) => key,
         }
     }
 
-    fn call(self) -> Call<u64, u64, Listed<u64>> {
+    fn call(self) -> Call<u64, u64, Closure> {
         match self {
             Asked::Get(key) => Call::Get(key),
             Asked::Insert(key, value) => Call::Insert(key, value),
             Asked::TryInsert(key, value) => Call::TryInsert(key, value),
+            Asked::Compute(key, closure) => Call::Compute(key, closure),
         }
     }
 
     /// How many of its turns come in every order.
     fn turns(self) -> u32
-        ensures { result ≤ 10 }
+        ensures { result ≤ 11 }
     {
         match self {
             Asked::Get(_) => 7,
             Asked::Insert(..) | Asked::TryInsert(..) => 10,
+            Asked::Compute(..) => 11,
         }
     }
 }
@@ -85,24 +129,38 @@ struct Outcome {
 
 /// Makes a call whole, on a list of pairs in which no key stands twice.
 fn call_whole(pairs: &mut Vec<(u64, u64)>, call: Asked) -> Result<Reply, Fail> {
-    for (key, value) in pairs.iter_mut() {
+    for (place, (key, value)) in pairs.iter_mut().enumerate() {
         if *key == call.key() {
-            return Ok(match call {
-                Asked::Get(_) => Reply::Found(*value),
-                Asked::Insert(_, new) => Reply::Replaced {
-                    old: mem::replace(value, new),
-                    new,
-                },
-                Asked::TryInsert(..) => Reply::Occupied(*value),
+            let old = *value;
+            let new = match call {
+                Asked::Get(_) => return Ok(Reply::Found(old)),
+                Asked::TryInsert(..) => return Ok(Reply::Occupied(old)),
+                Asked::Insert(_, new) => Some(new),
+                Asked::Compute(_, closure) => closure.leaves(Some(old)),
+            };
+            return Ok(match new {
+                Some(new) => {
+                    *value = new;
+                    Reply::Replaced { old, new }
+                }
+                None => {
+                    let _ = pairs.swap_remove(place);
+                    Reply::Removed(old)
+                }
             });
         }
     }
-    Ok(match call {
-        Asked::Get(_) => Reply::Absent,
-        Asked::Insert(key, value) | Asked::TryInsert(key, value) => {
-            pairs.push((key, value))?;
+    let new = match call {
+        Asked::Get(_) => None,
+        Asked::Insert(_, value) | Asked::TryInsert(_, value) => Some(value),
+        Asked::Compute(_, closure) => closure.leaves(None),
+    };
+    Ok(match new {
+        Some(value) => {
+            pairs.push((call.key(), value))?;
             Reply::Inserted(value)
         }
+        None => Reply::Absent,
     })
 }
 
@@ -149,7 +207,7 @@ fn schedule_of(
     alloc: Global,
     case: Case,
     order: u32,
-) -> Result<Vec<Turn<u64, u64, Listed<u64>>>, Fail> {
+) -> Result<Vec<Turn<u64, u64, Closure>>, Fail> {
     let mut schedule = Vec::with_capacity(alloc, 32)?;
     let (mut first_begun, mut second_begun) = (false, false);
     for turn in 0..case.first.turns() + case.second.turns() {
@@ -211,6 +269,7 @@ fn reply_by_value(core: &Numbers, trace: &Trace, caller: usize, key: u64) -> Opt
         Reply::Found(number) => Reply::Found(value_of(core, key, number)?),
         Reply::Inserted(number) => Reply::Inserted(value_of(core, key, number)?),
         Reply::Occupied(number) => Reply::Occupied(value_of(core, key, number)?),
+        Reply::Removed(number) => Reply::Removed(value_of(core, key, number)?),
         Reply::Replaced { old, new } => Reply::Replaced {
             old: value_of(core, key, old)?,
             new: value_of(core, key, new)?,
@@ -231,7 +290,7 @@ fn core_outcome(core: &Numbers, trace: &Trace, case: Case) -> Option<Outcome> {
 
 /// Has the trace one step or begin for each turn of a caller that had not replied before?
 fn has_every_good_turn(trace: &Trace, order: u32, turns: u32) -> bool
-    requires { turns ≤ 20 }
+    requires { turns ≤ 22 }
 {
     let last_turns = (reply_of(trace, 0), reply_of(trace, 1));
     let mut entries = trace
@@ -353,4 +412,36 @@ fn insertion_and_lookup_in_every_order(rt: HostRuntime) -> Result<(), Fail> {
         compare_on_each_map(&rt, rt.alloc(), calls, 19_448)?;
     }
     Ok(())
+}
+
+#[test]
+fn compute_and_lookup_in_every_order(rt: HostRuntime) -> Result<(), Fail> {
+    for closure in [Closure::Adds(20), Closure::Removes(20)] {
+        for first in [0, 1] {
+            let calls = (Asked::Compute(first, closure), Asked::Get(0));
+            // The first caller has 11 of 18 turns.
+            compare_on_each_map(&rt, rt.alloc(), calls, 31_824)?;
+        }
+    }
+    Ok(())
+}
+
+#[test]
+fn compute_and_insertion_in_every_order(rt: HostRuntime) -> Result<(), Fail> {
+    for closure in [Closure::Adds(20), Closure::Removes(20)] {
+        let calls = (Asked::Compute(0, closure), Asked::Insert(0, 300));
+        // The first caller has 11 of 21 turns.
+        compare_on_each_map(&rt, rt.alloc(), calls, 352_716)?;
+    }
+    Ok(())
+}
+
+#[test]
+fn two_computes_in_every_order(rt: HostRuntime) -> Result<(), Fail> {
+    let calls = (
+        Asked::Compute(0, Closure::Adds(20)),
+        Asked::Compute(0, Closure::Removes(300)),
+    );
+    // The first caller has 11 of 22 turns.
+    compare_on_each_map(&rt, rt.alloc(), calls, 705_432)
 }

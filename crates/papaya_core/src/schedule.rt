@@ -73,6 +73,7 @@ fn begin_call<K: Hash + Eq, V: Drop, S: BuildHasher, A>(
         Call::Insert(key, value) => (Task::Insert { replace: true }, key, Some(value), None),
         Call::TryInsert(key, value) => (Task::Insert { replace: false }, key, Some(value), None),
         Call::RemoveIf(key, answers) => (Task::RemoveIf, key, None, Some(answers)),
+        Call::Compute(key, answers) => (Task::Compute, key, None, Some(answers)),
     };
     Running {
         machine: Machine::new(task, store.hash(&key), mode, initial),

@@ -4,15 +4,17 @@ ghost use Rattle.std.specs.Int.{w64, int_wrap};
 ghost use Rattle.papaya_words.specs.Counter.{count_of};
 ghost use Rattle.papaya_words.specs.declared.limits.TheConstants.{MAX_TABLE_LEN};
 ghost use Rattle.papaya_words.specs.Probe.{IsEntriesFor};
+ghost use Rattle.papaya_call.specs.Answers.{op_kind};
 ghost use Rattle.papaya_call.specs.Machine.{IsChunked};
 ghost use Rattle.papaya_core.specs.New.{HasCapacity, IsAllowed, IsNewStore, IsRefused, IsTooMuch};
 ghost use Rattle.papaya_core.specs.Tables.{table_of, word_at, put, put_in, written};
 ghost use Rattle.papaya_core.specs.Store.{pair_of, hash_of};
-ghost use Rattle.papaya_core.specs.Performs.{Exchanges, size_of, Performs, IsMake, Shows, Stays, Refuses, LogsKey, LogsPair, MakesTable, HasKey, HasNoPair, key_at, same};
+ghost use Rattle.papaya_core.specs.Performs.{Exchanges, size_of, Performs, IsMake, Judges, DecidesPair, DecidesNone, ShowsPair, value_answered, Stays, Refuses, LogsKey, LogsPair, MakesTable, HasKey, HasNoPair, key_at, same};
 
 use crate::pairs::{KeyOf, Pair, Running};
-use papaya_call::answers::Answers;
-use papaya_call::ask::{Answer, Ask, At};
+use papaya_call::answers::{Answers, Operation};
+use papaya_call::ask::{Answer, Ask, At, OpKind};
+use papaya_call::call::Task;
 use papaya_words::counter::Counter;
 use papaya_words::limits::{MAX_LOG_LEN, MAX_TABLE_LEN, MAX_TABLES};
 use papaya_words::probe::{Refused, ResizeMode, entries_for, limit};
@@ -57,6 +59,21 @@ fn push_within<T: Drop>(items: &mut Vec<T>, item: T)
     ensures { items.new.items ≡ items.old.items ++ item ∷ [] }
 {
     let _ = items.push(item);
+}
+
+/// Keeps the value of an insertion that a closure answered, until a pair is made of it.
+fn keep_value<V: Drop>(operation: Operation<V, u64>, value: &mut Option<V>) -> Answer
+    ensures answer { result ≡ Answer.Op (op_kind operation) }
+    ensures value { value.new ≡ value_answered operation value.old }
+{
+    match operation {
+        Operation::Insert(answered) => {
+            *value = Some(answered);
+            Answer::Op(OpKind::Insert)
+        }
+        Operation::Remove => Answer::Op(OpKind::Remove),
+        Operation::Abort(with) => Answer::Op(OpKind::Abort(with)),
+    }
 }
 
 /// Refuses a chunk of no slots.
@@ -363,10 +380,10 @@ impl<K: Hash + Eq + Drop, V: Drop, S: BuildHasher> Store<K, V, S> {
         }
     }
 
-    /// Shows pair `n` to the closure of a call, which answers whether it agrees.
-    fn show<A: Answers<K, V>>(&self, n: u64, running: &mut Running<K, V, A>) -> Answer
+    /// Asks the closure of a removal whether it agrees to the removal of pair `n`.
+    fn judge<A: Answers<K, V>>(&self, n: u64, running: &mut Running<K, V, A>) -> Answer
         ensures machine { running.new.machine ≡ running.old.machine }
-        ensures shows { Shows (record { op = A.op_gives; yes = A.yes_gives }) n self.now running.old result self.now running.new }
+        ensures judges { Judges (record { op = A.op_gives; yes = A.yes_gives }) n self.now running.old result self.now running.new }
     {
         let Some(answers) = running.answers.as_mut() else {
             return Answer::Ok;
@@ -374,6 +391,56 @@ impl<K: Hash + Eq + Drop, V: Drop, S: BuildHasher> Store<K, V, S> {
         match self.pair(n) {
             Some((key, value)) => Answer::Yes(answers.yes(key, value)),
             None => Answer::Ok,
+        }
+    }
+
+    /// Shows pair `n` to the closure of a compute.
+    fn decide<A: Answers<K, V>>(&self, n: u64, running: &mut Running<K, V, A>) -> Answer
+        ensures machine { running.new.machine ≡ running.old.machine }
+        ensures decides { DecidesPair (record { op = A.op_gives; yes = A.yes_gives }) n self.now running.old result self.now running.new }
+    {
+        let Some(answers) = running.answers.as_mut() else {
+            return Answer::Ok;
+        };
+        match self.pair(n) {
+            Some(pair) => {
+                let operation = answers.op(Some(pair));
+                keep_value(operation, &mut running.value)
+            }
+            None => Answer::Ok,
+        }
+    }
+
+    /// What a closure is shown where there is no pair: like a pair it borrows the store.
+    fn no_pair(&self) -> Option<(&K, &V)>
+        ensures { result ≡ None }
+    {
+        None
+    }
+
+    /// Shows the closure of a compute that its key is absent.
+    fn decide_none<A: Answers<K, V>>(&self, running: &mut Running<K, V, A>) -> Answer
+        ensures machine { running.new.machine ≡ running.old.machine }
+        ensures decides { DecidesNone (record { op = A.op_gives; yes = A.yes_gives }) self.now running.old result self.now running.new }
+    {
+        match running.answers.as_mut() {
+            Some(answers) => {
+                let operation = answers.op(self.no_pair());
+                keep_value(operation, &mut running.value)
+            }
+            None => Answer::Ok,
+        }
+    }
+
+    /// Shows pair `n` to the closure of a call.
+    fn show<A: Answers<K, V>>(&self, n: u64, running: &mut Running<K, V, A>) -> Answer
+        ensures machine { running.new.machine ≡ running.old.machine }
+        ensures shows { ShowsPair running.old.machine.task (record { op = A.op_gives; yes = A.yes_gives }) n self.now running.old result self.now running.new }
+    {
+        match running.machine.task {
+            Task::RemoveIf => self.judge(n, running),
+            Task::Compute => self.decide(n, running),
+            Task::Get | Task::Insert { .. } => Answer::Ok,
         }
     }
 
@@ -418,6 +485,7 @@ impl<K: Hash + Eq + Drop, V: Drop, S: BuildHasher> Store<K, V, S> {
             Ask::Load(at) => Answer::Word(self.word(at)),
             Ask::Exchange(at, old, new) => self.exchange(at, old, new),
             Ask::SameKey(n) => Answer::Yes(self.same_key(n, &running.key)),
+            Ask::ShowNone => self.decide_none(running),
             Ask::ShowPair(n) => self.show(n, running),
             Ask::SizeOf(n) => self.size_of(n),
             Ask::MakeKey | Ask::MakePair | Ask::MakeTable { .. } => {

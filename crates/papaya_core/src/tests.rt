@@ -1,6 +1,6 @@
 use crate::schedule::Core;
 use crate::trace::{Entry, Event, Trace, Turn};
-use papaya_call::answers::Listed;
+use papaya_call::answers::{Answers, Listed, Operation};
 use papaya_call::ask::StepKind;
 use papaya_call::call::{Call, Reply};
 use papaya_words::probe::{Refused, ResizeMode};
@@ -8,7 +8,39 @@ use std::alloc::Global;
 use std::hash::{BuildHasherDefault, FoldHasher};
 use std::test::Fail;
 
-type Numbers = Core<u64, u64, BuildHasherDefault<FoldHasher>, Listed<u64>>;
+type Numbers = Core<u64, u64, BuildHasherDefault<FoldHasher>, Closure>;
+
+/// What the closures of the calls here answer.
+#[derive(Debug, Drop)]
+enum Closure {
+    /// These in turn, whatever they are shown.
+    InTurn(Listed<u64>),
+    /// 1 more than the value that it is shown, where 0 follows the greatest.
+    AddsOne,
+}
+
+impl Answers<u64, u64> for Closure {
+    ghost op_gives = { λ s shown answer t. Unit {0} };
+
+    ghost yes_gives = { λ s key value answer t. Unit {0} };
+
+    fn op(&mut self, shown: Option<(&u64, &u64)>) -> Operation<u64, u64> {
+        match self {
+            Closure::InTurn(listed) => listed.op(shown),
+            Closure::AddsOne => match shown {
+                Some((_, value)) => Operation::Insert(value.wrapping_add(1)),
+                None => Operation::Abort(0),
+            },
+        }
+    }
+
+    fn yes(&mut self, key: &u64, value: &u64) -> bool {
+        match self {
+            Closure::InTurn(listed) => listed.yes(key, value),
+            Closure::AddsOne => false,
+        }
+    }
+}
 
 /// More steps than any call here needs.
 const WHOLE: usize = 1000;
@@ -24,6 +56,16 @@ const STEPS_OF_REMOVAL: usize = 7;
 /// A lookup of a pair that the map has makes so many steps: it loads the root, learns its size,
 /// loads the slot, and compares the key.
 const STEPS_OF_LOOKUP: usize = 4;
+
+/// A compute of a pair that the map has, whose closure answers an insertion, makes so many steps:
+/// it loads the root, learns its size, loads the slot, compares the key, shows the pair, makes the
+/// key and the new pair, and replaces the old one.
+const STEPS_OF_UPDATE: usize = 8;
+
+/// A compute in a new map, whose closure answers an insertion, makes so many steps: it loads the
+/// root, shows that there is none, makes the key, the pair and a table, opens that, learns its
+/// size, loads a slot, claims it, and counts.
+const STEPS_OF_FILL: usize = 10;
 
 /// What a schedule of callers 0 and 1 led to.
 #[derive(Clone, Copy, Debug, PartialEq, Eq)]
@@ -73,7 +115,7 @@ fn look_up(alloc: Global, core: &mut Numbers) -> Result<Option<Reply>, Fail> {
 }
 
 /// Runs a schedule on a new map.
-fn outcome_of(alloc: Global, schedule: Vec<Turn<u64, u64, Listed<u64>>>) -> Result<Outcome, Fail> {
+fn outcome_of(alloc: Global, schedule: Vec<Turn<u64, u64, Closure>>) -> Result<Outcome, Fail> {
     let mut core = numbers(alloc)?;
     let trace = core.run(schedule)?;
     let found = look_up(alloc, &mut core)?;
@@ -173,24 +215,35 @@ fn stopped_insertion_that_never_replaces(rt: HostRuntime) -> Result<(), Fail> {
 }
 
 /// A removal of key 7, whose closure answers this in turn, and then false.
-fn removal(alloc: Global, first: bool) -> Result<Call<u64, u64, Listed<u64>>, Fail> {
+fn removal(alloc: Global, first: bool) -> Result<Call<u64, u64, Closure>, Fail> {
     let answers = Listed {
         ops: Vec::new(alloc),
         yes: vec![in alloc; first]?,
     };
-    Ok(Call::RemoveIf(7, answers))
+    Ok(Call::RemoveIf(7, Closure::InTurn(answers)))
 }
 
 /// A schedule that first puts 1 in for key 7, then stops one call of caller 0 after some steps, in
 /// which caller 1 makes another whole, and then lets it go on.
 fn stopped(
     alloc: Global,
-    call: Call<u64, u64, Listed<u64>>,
+    call: Call<u64, u64, Closure>,
     steps: usize,
-    other: Call<u64, u64, Listed<u64>>,
-) -> Result<Vec<Turn<u64, u64, Listed<u64>>>, Fail> {
+    other: Call<u64, u64, Closure>,
+) -> Result<Vec<Turn<u64, u64, Closure>>, Fail> {
+    stopped_beside(alloc, 7, call, steps, other)
+}
+
+/// The same with another key that 1 is put in for.
+fn stopped_beside(
+    alloc: Global,
+    held: u64,
+    call: Call<u64, u64, Closure>,
+    steps: usize,
+    other: Call<u64, u64, Closure>,
+) -> Result<Vec<Turn<u64, u64, Closure>>, Fail> {
     Ok(vec![in alloc;
-        Turn::Begin(3, Call::Insert(7, 1)),
+        Turn::Begin(3, Call::Insert(held, 1)),
         Turn::Finish(3, WHOLE),
         Turn::Begin(0, call),
         Turn::Finish(0, steps),
@@ -392,7 +445,7 @@ fn finish_ends_with_the_reply_or_its_steps(rt: HostRuntime) -> Result<(), Fail> 
 
 /// Begins an insertion and makes its steps.
 fn step_insert(alloc: Global, caller: usize) -> Result<Option<Reply>, Fail> {
-    let mut core = numbers(alloc)?;
+    let mut core: Numbers = numbers(alloc)?;
     if !core.running(caller) {
         core.begin(caller, Call::Insert(7, 100))?;
     }
@@ -408,5 +461,202 @@ fn step_insert(alloc: Global, caller: usize) -> Result<Option<Reply>, Fail> {
 #[test]
 fn calls_are_stepped_by_hand(rt: HostRuntime) -> Result<(), Fail> {
     assert_eq!(rt; step_insert(rt.alloc(), 3)?, Some(Reply::Inserted(0)));
+    Ok(())
+}
+
+/// What a schedule of callers 0 and 1 led to. Pairs are told by their values.
+#[derive(Clone, Copy, Debug, PartialEq, Eq)]
+struct Told {
+    /// The last reply of each caller.
+    replies: (Option<Reply>, Option<Reply>),
+    /// How often the closure of caller 0 was shown that there is none.
+    nones: usize,
+    /// What a lookup of 7 replies after it.
+    found: Option<Reply>,
+}
+
+/// A reply that tells pairs by their values.
+fn by_value(core: &Numbers, reply: Option<Reply>) -> Option<Reply> {
+    Some(match reply? {
+        Reply::Found(pair) => Reply::Found(value(core, pair)?),
+        Reply::Inserted(pair) => Reply::Inserted(value(core, pair)?),
+        Reply::Removed(pair) => Reply::Removed(value(core, pair)?),
+        Reply::Replaced { old, new } => Reply::Replaced {
+            old: value(core, old)?,
+            new: value(core, new)?,
+        },
+        other => other,
+    })
+}
+
+/// How often the closure of caller 0 was shown that there is none.
+fn nones_shown(trace: &Trace) -> usize {
+    let shown = |entry: &&Entry| entry.caller == 0 && matches!(entry.event, Event::Shown(None, _));
+    trace.entries.iter().filter(shown).count()
+}
+
+/// Runs a schedule on a new map.
+fn told_of(alloc: Global, schedule: Vec<Turn<u64, u64, Closure>>) -> Result<Told, Fail> {
+    let mut core = numbers(alloc)?;
+    let trace = core.run(schedule)?;
+    let found = look_up(alloc, &mut core)?;
+    Ok(Told {
+        replies: (
+            by_value(&core, reply_to(&trace, 0)),
+            by_value(&core, reply_to(&trace, 1)),
+        ),
+        nones: nones_shown(&trace),
+        found: by_value(&core, found),
+    })
+}
+
+#[test]
+fn stopped_update_beside_a_replacement(rt: HostRuntime) -> Result<(), Fail> {
+    for steps in 0..STEPS_OF_UPDATE + 1 {
+        let call = Call::Compute(7, Closure::AddsOne);
+        let schedule = stopped(rt.alloc(), call, steps, Call::Insert(7, 5))?;
+        // The update replaces the pair in its eighth step. Until then the closure is shown 5, if
+        // perhaps after 1, and adds to that.
+        let (own, other, last) = if steps < 8 {
+            let own = Reply::Replaced { old: 5, new: 6 };
+            (own, Reply::Replaced { old: 1, new: 5 }, 6)
+        } else {
+            let own = Reply::Replaced { old: 1, new: 2 };
+            (own, Reply::Replaced { old: 2, new: 5 }, 5)
+        };
+        let expected = Told {
+            replies: (Some(own), Some(other)),
+            nones: 0,
+            found: Some(Reply::Found(last)),
+        };
+        assert_eq!(rt;
+            told_of(rt.alloc(), schedule)?,
+            expected,
+            "after {steps} steps"
+        );
+    }
+    Ok(())
+}
+
+/// A compute of key 7, whose closure answers these in turn, and then `Abort(0)`.
+fn compute(alloc: Global, ops: Vec<Operation<u64, u64>>) -> Call<u64, u64, Closure> {
+    let yes = Vec::new(alloc);
+    Call::Compute(7, Closure::InTurn(Listed { ops, yes }))
+}
+
+#[test]
+fn stopped_fill_beside_an_insertion_and_a_removal(rt: HostRuntime) -> Result<(), Fail> {
+    for steps in 0..STEPS_OF_FILL + 1 {
+        let ops = vec![in rt.alloc(); Operation::Insert(10)]?;
+        let schedule = vec![in rt.alloc();
+            Turn::Begin(0, compute(rt.alloc(), ops)),
+            Turn::Finish(0, steps),
+            Turn::Begin(1, Call::Insert(7, 1)),
+            Turn::Finish(1, WHOLE),
+            Turn::Begin(1, removal(rt.alloc(), true)?),
+            Turn::Finish(1, WHOLE),
+            Turn::Finish(0, WHOLE),
+        ]?;
+        // The compute claims a slot in its ninth step. Where 1 came and went before, its closure
+        // is shown only once that there is none, before or after that.
+        let found = if steps < 9 {
+            Reply::Found(10)
+        } else {
+            Reply::Absent
+        };
+        let expected = Told {
+            replies: (Some(Reply::Inserted(10)), Some(Reply::Removed(1))),
+            nones: 1,
+            found: Some(found),
+        };
+        assert_eq!(rt;
+            told_of(rt.alloc(), schedule)?,
+            expected,
+            "after {steps} steps"
+        );
+    }
+    Ok(())
+}
+
+#[test]
+fn stopped_compute_is_shown_what_came_between(rt: HostRuntime) -> Result<(), Fail> {
+    for steps in 0..STEPS_OF_UPDATE + 1 {
+        let ops = vec![in rt.alloc(); Operation::Insert(10), Operation::Remove]?;
+        let call = compute(rt.alloc(), ops);
+        let schedule = stopped(rt.alloc(), call, steps, Call::Insert(7, 2))?;
+        let replaced = Reply::Replaced { old: 1, new: 2 };
+        // The compute loads the slot in its third step, and replaces the pair in its eighth. Where
+        // 2 came between, its closure is shown first 1 and then 2, which it has removed.
+        let (own, other, found) = match steps {
+            0..3 => {
+                let own = Reply::Replaced { old: 2, new: 10 };
+                (own, replaced, Reply::Found(10))
+            }
+            3..8 => (Reply::Removed(2), replaced, Reply::Absent),
+            _ => {
+                let own = Reply::Replaced { old: 1, new: 10 };
+                (own, Reply::Replaced { old: 10, new: 2 }, Reply::Found(2))
+            }
+        };
+        let expected = Told {
+            replies: (Some(own), Some(other)),
+            nones: 0,
+            found: Some(found),
+        };
+        assert_eq!(rt;
+            told_of(rt.alloc(), schedule)?,
+            expected,
+            "after {steps} steps"
+        );
+    }
+    Ok(())
+}
+
+/// A compute of key 7 in a map that has 1 for this key alone. It is stopped after some steps, in
+/// which that pair is looked up.
+fn told_of_one(
+    alloc: Global,
+    held: u64,
+    op: Operation<u64, u64>,
+    steps: usize,
+) -> Result<Told, Fail> {
+    let call = compute(alloc, vec![in alloc; op]?);
+    told_of(
+        alloc,
+        stopped_beside(alloc, held, call, steps, Call::Get(held))?,
+    )
+}
+
+#[test]
+fn compute_that_changes_nothing(rt: HostRuntime) -> Result<(), Fail> {
+    for steps in 0..STEPS_OF_UPDATE + 1 {
+        let refused = Reply::Refused(Refused::RemoveNothing);
+        let seen = Some(Reply::Found(1));
+        let absent = |reply| Told {
+            replies: (Some(reply), seen),
+            nones: 1,
+            found: Some(Reply::Absent),
+        };
+        assert_eq!(rt;
+            told_of_one(rt.alloc(), 8, Operation::Remove, steps)?,
+            absent(refused),
+            "after {steps} steps"
+        );
+        assert_eq!(rt;
+            told_of_one(rt.alloc(), 8, Operation::Abort(3), steps)?,
+            absent(Reply::Aborted(3)),
+            "after {steps} steps"
+        );
+        let there = Told {
+            replies: (Some(Reply::Aborted(4)), seen),
+            nones: 0,
+            found: seen,
+        };
+        assert_eq!(rt;
+            told_of_one(rt.alloc(), 7, Operation::Abort(4), steps)?,
+            there,
+            "after {steps} steps"
+        );
+    }
     Ok(())
 }

@@ -15,6 +15,7 @@ use Rattle.papaya_core.specs.Advances.{Advances, event_of, reply_in, goes_on}
 use Rattle.papaya_core.proofs.CallersLemmas.{with_call-twice}
 use Rattle.papaya_core.proofs.CoreLemmas.{caused, still_going, with_call-core, performed-core}
 use Rattle.papaya_core.proofs.HeadlineLemmas.{lawful_moves}
+use Rattle.papaya_core.proofs.StoreLemmas.{performed, unnumbered}
 use Rattle.papaya_core.proofs.CountedCore.{stepped_sound}
 use Rattle.papaya_core.proofs.schedule.Core.advance.Goals as goal
 use Rattle.papaya_core.proofs.schedule.Core.advance.Goals.{After-perform-answer, After-put}
@@ -27,6 +28,16 @@ says g = record { op = g.A.Answers.op_gives; yes = g.A.Answers.yes_gives }
 -- the ask of the caller's machine was answered
 asked : (g : Over) (c : After-perform-answer g) → Performs g.K.PartialEq.eq (says g) c.args.refuse (ask_of c.take-running.result.machine) c.self.inside.store c.take-running.result c.perform-answer.result c.perform-answer.new.self c.perform-answer.new.running
 asked g c = subst (λ y. Performs g.K.PartialEq.eq (says g) c.args.refuse y c.self.inside.store c.take-running.result c.perform-answer.result c.perform-answer.new.self c.perform-answer.new.running) c.ask-ask.ensures.value c.perform-answer.ensures.performs
+
+-- the machine stands as it stood
+pub answer-requires-clause-standing : goal.answer-requires-clause-standing
+answer-requires-clause-standing g c = subst IsStanding (sym c.perform-answer.ensures.machine) (c.self.invariant.0.core.standing c.args.caller c.take-running.result c.take-running.ensures.call)
+
+-- the answer is within the limits
+pub answer-requires-clause-fit : goal.answer-requires-clause-fit
+answer-requires-clause-fit g c =
+    (performed g.K.PartialEq.eq (says g) c.args.refuse (ask_of c.take-running.result.machine) c.self.inside.store c.take-running.result c.perform-answer.result c.perform-answer.new.self c.perform-answer.new.running
+    (unnumbered c.self.inside.store.words.tables c.self.invariant.0.core.sizes) (subst IsFitAsk c.ask-ask.ensures.value c.ask-ask.ensures.size) (asked g (goal.at.answer-requires-clause-fit g c).After-perform-answer)).fit
 
 -- the core without the caller's call
 taken : (g : Over) (c : After-perform-answer g) → IsCore c.perform-answer.new.self c.take-running.new.self c.self.inside.mode
