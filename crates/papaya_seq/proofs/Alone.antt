@@ -3,17 +3,18 @@ use Rattle.std.proofs.Common.{◌≡◌, ℕ, Bool, true, List, None}
 use Rattle.std.specs.Cmp.{IsEquivalence}
 use Rattle.papaya_call.specs.declared.call.Call.{Call}
 use Rattle.papaya_call.specs.declared.call.Reply.{Reply}
+use Rattle.papaya_core.specs.Content.{map_in}
 use Rattle.papaya_core.specs.Solo.{IsAnswered, IsNewIn, KeepsPairs, RunsAlone}
 use Rattle.papaya_core.specs.Store.{StoreState, hash_of}
 use Rattle.papaya_core.proofs.SoloLaw.{alone_answered, alone_lawful, alone_logged}
-use Rattle.papaya_seq.specs.Map.{IsLawfulMap, MapState, core_of, map_of}
+use Rattle.papaya_seq.specs.Map.{IsLawfulMap, MapState, core_of}
 use Rattle.papaya_seq.proofs.Steps.{seated}
 
 module _ {K V S H : Type 0} (eq : K → K → Bool) (input : K → List (List ℕ)) (build : S → H) (write : H → List ℕ → H) (finish : H → ℕ) (classes : IsEquivalence eq) (respects : (x y : K) → eq x y ≡ true → input x ≡ input y)
     (s : MapState K V S) (call : Call K V (Unit {0})) (reply : Reply) (store : StoreState K V S)
     (lawful : IsLawfulMap eq (hash_of input build write finish s.store.hasher) s.store s.mode) (alone : RunsAlone eq (hash_of input build write finish) (core_of s) call reply (seated store None s.mode s.initial)) where
   -- the finite map
-  pub map_answered : IsAnswered eq call (map_of eq s.store) reply (map_of eq store)
+  pub map_answered : IsAnswered eq call (map_in eq s.store) reply (map_in eq store)
   map_answered = alone_answered eq input build write finish classes respects (core_of s) (seated store None s.mode s.initial) call reply lawful.lawful alone
 
   -- the logs

@@ -5,11 +5,11 @@ use Rattle.std.specs.Cmp.{IsEquivalence}
 use Rattle.papaya_call.specs.Law.Content.{lookup}
 use Rattle.papaya_call.specs.declared.call.Call.TheVariants.{Insert, TryInsert}
 use Rattle.papaya_call.specs.declared.call.Reply.TheVariants as replies
-use Rattle.papaya_core.specs.Content.{content}
+use Rattle.papaya_core.specs.Content.{content, map_in}
 use Rattle.papaya_core.specs.Maps.{Does, IsMadeOf, IsUpdate, Same, key_of}
 use Rattle.papaya_core.specs.Solo.{IsAnswered, IsNewIn}
 use Rattle.papaya_core.specs.Store.{StoreState, Stored, pair_of}
-use Rattle.papaya_seq.specs.Map.{Inserts, IsOccupied, insertion, map_of, value_of}
+use Rattle.papaya_seq.specs.Map.{Inserts, IsOccupied, insertion, value_of}
 use Rattle.papaya_seq.proofs.Lawful.{logged_content, lookup_some}
 
 -- equal keys have one pair in a list
@@ -21,11 +21,11 @@ lookup_alike {V = V} eq law (p ∷ ps) j k e =
 
 module _ {K V S : Type 0} (eq : K → K → Bool) (law : IsEquivalence eq) where
   -- the pair that the finite map has at a key is logged under its number
-  pub logged_there : (s : StoreState K V S) (k : K) (n : ℕ) (p : Stored K V) → map_of eq s k ≡ Some p → p.number ≡ n → pair_of s n ≡ Some p
+  pub logged_there : (s : StoreState K V S) (k : K) (n : ℕ) (p : Stored K V) → map_in eq s k ≡ Some p → p.number ≡ n → pair_of s n ≡ Some p
   logged_there s k n p there is = subst (λ m. pair_of s m ≡ Some p) is (logged_content s p (lookup_some eq (content s) k p there).0)
 
   -- an update that puts the pair of before in its place leaves the map
-  update_leaves : (s : StoreState K V S) (s' : StoreState K V S) (k : K) (o : Option (Stored K V)) → IsUpdate eq k o o (map_of eq s) (map_of eq s') → Same (map_of eq s) (map_of eq s')
+  pub update_leaves : (s : StoreState K V S) (s' : StoreState K V S) (k : K) (o : Option (Stored K V)) → IsUpdate eq k o o (map_in eq s) (map_in eq s') → Same (map_in eq s) (map_in eq s')
   update_leaves s s' k o u j =
       ⊎_elim
       (λ (y : eq j k ≡ true). u.class j y ∙ sym (lookup_alike eq law (content s) j k y ∙ u.before))
@@ -40,9 +40,9 @@ module _ {K V S : Type 0} (eq : K → K → Bool) (law : IsEquivalence eq) where
       pub value : pair.value ≡ v
       pub inserts : Inserts eq k v s went s'
 
-    made : (old came : Option (Stored K V)) (n : ℕ) (q : Stored K V) → IsMadeOf k v n q → came ≡ Some q → pair_of s n ≡ None → IsUpdate eq k old came (map_of eq s) (map_of eq s') → IsMade (value_of old) n
+    made : (old came : Option (Stored K V)) (n : ℕ) (q : Stored K V) → IsMadeOf k v n q → came ≡ Some q → pair_of s n ≡ None → IsUpdate eq k old came (map_in eq s) (map_in eq s') → IsMade (value_of old) n
     made old came n q is comes fresh u =
-        let update : IsUpdate eq k old (Some q) (map_of eq s) (map_of eq s') = subst (λ c. IsUpdate eq k old c (map_of eq s) (map_of eq s')) comes u in
+        let update : IsUpdate eq k old (Some q) (map_in eq s) (map_in eq s') = subst (λ c. IsUpdate eq k old c (map_in eq s) (map_in eq s')) comes u in
         record {
           pair = q;
           logged = logged_there s' k n q (update.class k (law.refl k)) is.number;
@@ -51,14 +51,14 @@ module _ {K V S : Type 0} (eq : K → K → Bool) (law : IsEquivalence eq) where
         }
 
     -- a key that was absent has a new pair
-    pub inserted_made : (replace : Bool) (n : ℕ) → IsAnswered eq (insertion replace k v) (map_of eq s) (replies.Inserted n) (map_of eq s') → IsNewIn s (replies.Inserted n) → IsMade None n
-    inserted_made replace n d fresh = from replace d.went d.came (subst (λ j. IsUpdate eq j d.went d.came (map_of eq s) (map_of eq s')) (key_is replace) d.update) d.does
+    pub inserted_made : (replace : Bool) (n : ℕ) → IsAnswered eq (insertion replace k v) (map_in eq s) (replies.Inserted n) (map_in eq s') → IsNewIn s (replies.Inserted n) → IsMade None n
+    inserted_made replace n d fresh = from replace d.went d.came (subst (λ j. IsUpdate eq j d.went d.came (map_in eq s) (map_in eq s')) (key_is replace) d.update) d.does
       where
         key_is : (b : Bool) → key_of (insertion b k v) ≡ k
         key_is true = refl
         key_is false = refl
 
-        from : (b : Bool) (went came : Option (Stored K V)) → IsUpdate eq k went came (map_of eq s) (map_of eq s') → Does (insertion b k v) went (replies.Inserted n) came → IsMade None n
+        from : (b : Bool) (went came : Option (Stored K V)) → IsUpdate eq k went came (map_in eq s) (map_in eq s') → Does (insertion b k v) went (replies.Inserted n) came → IsMade None n
         from true None came u does = made None came n does.0 does.1 does.2 fresh u
         from false None came u does = made None came n does.0 does.1 does.2 fresh u
         from true (Some p) came u does = absurd does
@@ -68,13 +68,13 @@ module _ {K V S : Type 0} (eq : K → K → Bool) (law : IsEquivalence eq) where
     pub record IsReplaced (m n : ℕ) : Type 0 where
       pub old : Stored K V
       pub logged : pair_of s m ≡ Some old
-      pub here : map_of eq s k ≡ Some old
+      pub here : map_in eq s k ≡ Some old
       pub made : IsMade (Some old.value) n
 
-    pub replaced_made : (m n : ℕ) → IsAnswered {A = Unit {0}} eq (Insert k v) (map_of eq s) (replies.Replaced m n) (map_of eq s') → IsNewIn s (replies.Replaced m n) → IsReplaced m n
+    pub replaced_made : (m n : ℕ) → IsAnswered {A = Unit {0}} eq (Insert k v) (map_in eq s) (replies.Replaced m n) (map_in eq s') → IsNewIn s (replies.Replaced m n) → IsReplaced m n
     replaced_made m n d fresh = from d.went d.came d.update d.does
       where
-        from : (went came : Option (Stored K V)) → IsUpdate eq k went came (map_of eq s) (map_of eq s') → Does {A = Unit {0}} (Insert k v) went (replies.Replaced m n) came → IsReplaced m n
+        from : (went came : Option (Stored K V)) → IsUpdate eq k went came (map_in eq s) (map_in eq s') → Does {A = Unit {0}} (Insert k v) went (replies.Replaced m n) came → IsReplaced m n
         from None came u does = absurd does
         from (Some p) came u does = record { old = p; logged = logged_there s k m p u.before does.0; here = u.before; made = made (Some p) came n does.1.0 does.1.1 does.1.2 fresh u }
 
@@ -84,17 +84,17 @@ module _ {K V S : Type 0} (eq : K → K → Bool) (law : IsEquivalence eq) where
       pub logged : pair_of s n ≡ Some pair
       pub occupied : IsOccupied eq k s pair.value s'
 
-    pub occupied_there : (n : ℕ) → IsAnswered {A = Unit {0}} eq (TryInsert k v) (map_of eq s) (replies.Occupied n) (map_of eq s') → IsThere n
+    pub occupied_there : (n : ℕ) → IsAnswered {A = Unit {0}} eq (TryInsert k v) (map_in eq s) (replies.Occupied n) (map_in eq s') → IsThere n
     occupied_there n d = from d.went d.came d.update d.does
       where
-        from : (went came : Option (Stored K V)) → IsUpdate eq k went came (map_of eq s) (map_of eq s') → Does {A = Unit {0}} (TryInsert k v) went (replies.Occupied n) came → IsThere n
+        from : (went came : Option (Stored K V)) → IsUpdate eq k went came (map_in eq s) (map_in eq s') → Does {A = Unit {0}} (TryInsert k v) went (replies.Occupied n) came → IsThere n
         from None came u does = absurd does
         from (Some p) came u does =
-            let kept : IsUpdate eq k (Some p) (Some p) (map_of eq s) (map_of eq s') = subst (λ c. IsUpdate eq k (Some p) c (map_of eq s) (map_of eq s')) does.1 u in
+            let kept : IsUpdate eq k (Some p) (Some p) (map_in eq s) (map_in eq s') = subst (λ c. IsUpdate eq k (Some p) c (map_in eq s) (map_in eq s')) does.1 u in
             record { pair = p; logged = logged_there s k n p u.before does.0; occupied = record { pair = p; there = u.before; value = refl; unchanged = update_leaves s s' k (Some p) kept } }
 
     -- an insertion that replaced nothing and was not refused put its pair at an absent key
-    pub neither_made : (reply : _) → IsAnswered {A = Unit {0}} eq (Insert k v) (map_of eq s) reply (map_of eq s') → IsNewIn s reply
+    pub neither_made : (reply : _) → IsAnswered {A = Unit {0}} eq (Insert k v) (map_in eq s) reply (map_in eq s') → IsNewIn s reply
         → ((m n : ℕ) → reply ≡ replies.Replaced m n → ⊥) → ((refused : _) → reply ≡ replies.Refused refused → ⊥) → (n : ℕ) × IsMade None n
     neither_made (replies.Inserted n) d fresh replaced refused = (n, inserted_made true n d fresh)
     neither_made (replies.Replaced m n) d fresh replaced refused = absurd (replaced m n refl)
@@ -119,6 +119,11 @@ module _ {K V S : Type 0} (eq : K → K → Bool) (law : IsEquivalence eq) where
         none : (went : Option (Stored K V)) → Does {A = Unit {0}} (Insert k v) went (replies.Removed n) d.came → ⊥
         none None does = does
         none (Some p) does = does
+    neither_made (replies.Aborted t) d fresh replaced refused = absurd (none d.went d.does)
+      where
+        none : (went : Option (Stored K V)) → Does {A = Unit {0}} (Insert k v) went (replies.Aborted t) d.came → ⊥
+        none None does = does
+        none (Some p) does = does
     neither_made (replies.Kept n) d fresh replaced refused = absurd (none d.went d.does)
       where
         none : (went : Option (Stored K V)) → Does {A = Unit {0}} (Insert k v) went (replies.Kept n) d.came → ⊥
@@ -126,11 +131,11 @@ module _ {K V S : Type 0} (eq : K → K → Bool) (law : IsEquivalence eq) where
         none (Some p) does = does
 
     -- the same of a reply that is known to be this one
-    pub inserted_by : (replace : Bool) (reply : _) (n : ℕ) → reply ≡ replies.Inserted n → IsAnswered eq (insertion replace k v) (map_of eq s) reply (map_of eq s') → IsNewIn s reply → IsMade None n
-    inserted_by replace reply n is d fresh = inserted_made replace n (subst (λ r. IsAnswered eq (insertion replace k v) (map_of eq s) r (map_of eq s')) is d) (subst (λ r. IsNewIn s r) is fresh)
+    pub inserted_by : (replace : Bool) (reply : _) (n : ℕ) → reply ≡ replies.Inserted n → IsAnswered eq (insertion replace k v) (map_in eq s) reply (map_in eq s') → IsNewIn s reply → IsMade None n
+    inserted_by replace reply n is d fresh = inserted_made replace n (subst (λ r. IsAnswered eq (insertion replace k v) (map_in eq s) r (map_in eq s')) is d) (subst (λ r. IsNewIn s r) is fresh)
 
-    pub replaced_by : (reply : _) (m n : ℕ) → reply ≡ replies.Replaced m n → IsAnswered {A = Unit {0}} eq (Insert k v) (map_of eq s) reply (map_of eq s') → IsNewIn s reply → IsReplaced m n
-    replaced_by reply m n is d fresh = replaced_made m n (subst (λ r. IsAnswered {A = Unit {0}} eq (Insert k v) (map_of eq s) r (map_of eq s')) is d) (subst (λ r. IsNewIn s r) is fresh)
+    pub replaced_by : (reply : _) (m n : ℕ) → reply ≡ replies.Replaced m n → IsAnswered {A = Unit {0}} eq (Insert k v) (map_in eq s) reply (map_in eq s') → IsNewIn s reply → IsReplaced m n
+    replaced_by reply m n is d fresh = replaced_made m n (subst (λ r. IsAnswered {A = Unit {0}} eq (Insert k v) (map_in eq s) r (map_in eq s')) is d) (subst (λ r. IsNewIn s r) is fresh)
 
-    pub occupied_by : (reply : _) (n : ℕ) → reply ≡ replies.Occupied n → IsAnswered {A = Unit {0}} eq (TryInsert k v) (map_of eq s) reply (map_of eq s') → IsThere n
-    occupied_by reply n is d = occupied_there n (subst (λ r. IsAnswered {A = Unit {0}} eq (TryInsert k v) (map_of eq s) r (map_of eq s')) is d)
+    pub occupied_by : (reply : _) (n : ℕ) → reply ≡ replies.Occupied n → IsAnswered {A = Unit {0}} eq (TryInsert k v) (map_in eq s) reply (map_in eq s') → IsThere n
+    occupied_by reply n is d = occupied_there n (subst (λ r. IsAnswered {A = Unit {0}} eq (TryInsert k v) (map_in eq s) r (map_in eq s')) is d)

@@ -3,19 +3,20 @@ use Rattle.std.proofs.Common.{◌≡◌, ⊎_elim, ℕ, zero, suc, Bool, true, f
 use Rattle.std.proofs.lemmas.Bool.{cases_Bool, cond-true, cond-false}
 use Rattle.std.specs.Cmp.{IsEquivalence}
 use Rattle.std.specs.List.{All, Contains}
+use Rattle.papaya_words.specs.declared.probe.Refused as words
 use Rattle.papaya_call.specs.Answers.{Says}
 use Rattle.papaya_call.specs.Law.Content.{AreApart, lookup}
 use Rattle.papaya_call.specs.declared.call.Call.{Call}
 use Rattle.papaya_call.specs.declared.call.Call.TheVariants.{Get, RemoveIf}
 use Rattle.papaya_call.specs.declared.call.Reply.{Reply}
-use Rattle.papaya_call.specs.declared.call.Reply.TheVariants.{Absent, Found, Inserted, Replaced, Occupied, Removed, Kept, Refused}
-use Rattle.papaya_core.specs.Content.{content}
+use Rattle.papaya_call.specs.declared.call.Reply.TheVariants.{Absent, Found, Inserted, Replaced, Occupied, Removed, Kept, Aborted, Refused}
+use Rattle.papaya_core.specs.Content.{content, map_in}
 use Rattle.papaya_core.specs.Maps.{IsUpdate}
 use Rattle.papaya_core.specs.Solo.{IsAnswered, IsNewIn}
 use Rattle.papaya_core.specs.Store.{StoreState, Stored}
 use Rattle.papaya_core.proofs.SoloTimeline.{lookup_alike}
 use Rattle.papaya_seq.specs.Calls.{AreCalled, IsCalled, IsSaid}
-use Rattle.papaya_seq.specs.Map.{HasNone, Holds, Keeps, MapState, Unchanged, map_of}
+use Rattle.papaya_seq.specs.Map.{HasNone, Holds, Keeps, MapState, Unchanged, next_of}
 use Rattle.papaya_seq.specs.Removes.{IsRemoval, IsRemovalBy}
 use Rattle.papaya_seq.proofs.Lawful.{number_is}
 
@@ -40,7 +41,7 @@ module _ {K V : Type 0} (eq : K → K → Bool) (classes : IsEquivalence eq) whe
 
 module _ {K V S : Type 0} (eq : K → K → Bool) (classes : IsEquivalence eq) (s : StoreState K V S) (apart : AreApart eq (λ p. p.key) (content s)) (k : K) where
   -- a class that has what it had
-  stays : (s' : StoreState K V S) → Unchanged eq s s' → (o : Option (Stored K V)) → map_of eq s k ≡ o → IsUpdate eq k o o (map_of eq s) (map_of eq s')
+  stays : (s' : StoreState K V S) → Unchanged eq s s' → (o : Option (Stored K V)) → map_in eq s k ≡ o → IsUpdate eq k o o (map_in eq s) (map_in eq s')
   stays s' unchanged o here = record {
     before = here;
     class = λ j e. unchanged j ∙ lookup_alike eq classes (λ (p : Stored K V). p.key) (content s) j k e ∙ here;
@@ -48,23 +49,23 @@ module _ {K V S : Type 0} (eq : K → K → Bool) (classes : IsEquivalence eq) (
   }
 
   -- the class of a key that holds a pair
-  held_here : (p : Stored K V) → Holds (eq k) s p → map_of eq s k ≡ Some p
+  held_here : (p : Stored K V) → Holds (eq k) s p → map_in eq s k ≡ Some p
   held_here p holds = found_apart eq classes (content s) apart k p holds.there holds.key
 
-  none_here : HasNone (eq k) s → map_of eq s k ≡ None
+  none_here : HasNone (eq k) s → map_in eq s k ≡ None
   none_here none = found_none eq classes (content s) k none
 
   -- a lookup that found a pair
-  pub get_found : (A : Type 0) (p : Stored K V) (n : ℕ) → Holds (eq k) s p → p.number ≡ n → IsAnswered {A = A} eq (Get k) (map_of eq s) (Found n) (map_of eq s)
+  pub get_found : (A : Type 0) (p : Stored K V) (n : ℕ) → Holds (eq k) s p → p.number ≡ n → IsAnswered {A = A} eq (Get k) (map_in eq s) (Found n) (map_in eq s)
   get_found A p n holds number = record { went = Some p; came = Some p; update = stays s (λ j. refl) (Some p) (held_here p holds); does = (number, refl) }
 
   -- and one that found none
-  pub get_absent : (A : Type 0) → HasNone (eq k) s → IsAnswered {A = A} eq (Get k) (map_of eq s) Absent (map_of eq s)
+  pub get_absent : (A : Type 0) → HasNone (eq k) s → IsAnswered {A = A} eq (Get k) (map_in eq s) Absent (map_in eq s)
   get_absent A none = record { went = None; came = None; update = stays s (λ j. refl) None (none_here none); does = refl }
 
   module _ (said : Stored K V → Bool → Type 0) (s' : StoreState K V S) where
     -- the pair of another equal key went
-    went : (p : Stored K V) → eq k p.key ≡ true → IsUpdate eq p.key (Some p) None (map_of eq s) (map_of eq s') → IsUpdate eq k (Some p) None (map_of eq s) (map_of eq s')
+    went : (p : Stored K V) → eq k p.key ≡ true → IsUpdate eq p.key (Some p) None (map_in eq s) (map_in eq s') → IsUpdate eq k (Some p) None (map_in eq s) (map_in eq s')
     went p same update = record {
       before = lookup_alike eq classes (λ (q : Stored K V). q.key) (content s) k p.key same ∙ update.before;
       class = λ j e. update.class j (classes.congr j k p.key e ∙ same);
@@ -79,15 +80,16 @@ module _ {K V S : Type 0} (eq : K → K → Bool) (classes : IsEquivalence eq) (
             (cases_Bool (eq j p.key))
 
     -- a removal does what the finite map does
-    pub remove_answered : {A : Type 0} (a : A) (reply : Reply) → IsRemoval eq (eq k) said s reply s' → IsAnswered eq (RemoveIf k a) (map_of eq s) reply (map_of eq s')
-    remove_answered a Absent (none, unchanged) = record { went = None; came = None; update = stays s' unchanged None (none_here none); does = refl }
-    remove_answered a (Removed n) (p, holds, removes, judged) = record { went = Some p; came = None; update = went p holds.held.key removes.update; does = (number_is s n p holds.logged, refl) }
-    remove_answered a (Kept n) (p, holds, unchanged, judged) = record { went = Some p; came = Some p; update = stays s' unchanged (Some p) (held_here p holds.held); does = (number_is s n p holds.logged, refl) }
-    remove_answered a (Refused refused) unchanged = unchanged
-    remove_answered a (Found n) removal = absurd removal
-    remove_answered a (Inserted n) removal = absurd removal
-    remove_answered a (Replaced m n) removal = absurd removal
-    remove_answered a (Occupied n) removal = absurd removal
+    pub remove_answered : {A : Type 0} (a : A) (reply : Reply) → ((refused : words.Refused) → reply ≡ Refused refused → ⊥) → IsRemoval eq (eq k) said s reply s' → IsAnswered eq (RemoveIf k a) (map_in eq s) reply (map_in eq s')
+    remove_answered a Absent never (none, unchanged) = record { went = None; came = None; update = stays s' unchanged None (none_here none); does = refl }
+    remove_answered a (Removed n) never (p, holds, removes, judged) = record { went = Some p; came = None; update = went p holds.held.key removes.update; does = (number_is s n p holds.logged, refl) }
+    remove_answered a (Kept n) never (p, holds, unchanged, judged) = record { went = Some p; came = Some p; update = stays s' unchanged (Some p) (held_here p holds.held); does = (number_is s n p holds.logged, refl) }
+    remove_answered a (Refused refused) never unchanged = absurd (never refused refl)
+    remove_answered a (Aborted t) never removal = absurd removal
+    remove_answered a (Found n) never removal = absurd removal
+    remove_answered a (Inserted n) never removal = absurd removal
+    remove_answered a (Replaced m n) never removal = absurd removal
+    remove_answered a (Occupied n) never removal = absurd removal
 
     -- it makes no pair
     pub remove_fresh : (reply : Reply) → IsRemoval eq (eq k) said s reply s' → IsNewIn s reply
@@ -95,36 +97,39 @@ module _ {K V S : Type 0} (eq : K → K → Bool) (classes : IsEquivalence eq) (
     remove_fresh (Removed n) removal = tt
     remove_fresh (Kept n) removal = tt
     remove_fresh (Refused refused) removal = tt
+    remove_fresh (Aborted t) removal = absurd removal
     remove_fresh (Found n) removal = absurd removal
     remove_fresh (Inserted n) removal = absurd removal
     remove_fresh (Replaced m n) removal = absurd removal
     remove_fresh (Occupied n) removal = absurd removal
 
     -- and its closure's answers said so
-    pub remove_said : {A : Type 0} (says : Says K V A) (a : A) → ((p : Stored K V) (agrees : Bool) → said p agrees → (a' : A) × says.yes a p.key p.value agrees a') → (reply : Reply) → IsRemoval eq (eq k) said s reply s' → IsSaid says (RemoveIf k a) reply s
+    pub remove_said : {A : Type 0} (says : Says K V A) (a : A) → ((p : Stored K V) (agrees : Bool) → said p agrees → (a' : A) × says.yes a p.key p.value agrees a') → (reply : Reply) → IsRemoval eq (eq k) said s reply s' → IsSaid eq says (RemoveIf k a) s reply s'
     remove_said says a gives Absent removal = tt
     remove_said says a gives (Removed n) (p, holds, removes, judged) = let answers = gives p true judged in (p, answers.0, holds.logged, answers.1)
     remove_said says a gives (Kept n) (p, holds, unchanged, judged) = let answers = gives p false judged in (p, answers.0, holds.logged, answers.1)
     remove_said says a gives (Refused refused) removal = tt
+    remove_said says a gives (Aborted t) removal = absurd removal
     remove_said says a gives (Found n) removal = absurd removal
     remove_said says a gives (Inserted n) removal = absurd removal
     remove_said says a gives (Replaced m n) removal = absurd removal
     remove_said says a gives (Occupied n) removal = absurd removal
 
-module _ {K V S A : Type 0} (eq : K → K → Bool) (classes : IsEquivalence eq) (s : MapState K V S) (apart : AreApart eq (λ p. p.key) (content s.store)) (k : K) (a : A) (says : Says K V A) where
+module _ {K V S A : Type 0} (eq : K → K → Bool) (hash : S → K → ℕ) (classes : IsEquivalence eq) (s : MapState K V S) (apart : AreApart eq (λ p. p.key) (content s.store)) (k : K) (a : A) (says : Says K V A) where
   -- a removal by an owned key is a call
-  pub remove_called : {said : Stored K V → Bool → Type 0} (reply : Reply) (s' : MapState K V S) → IsRemovalBy eq (eq k) said s.store reply s'.store → Keeps s s' → ((p : Stored K V) (agrees : Bool) → said p agrees → (a' : A) × says.yes a p.key p.value agrees a') → IsCalled eq says s (RemoveIf k a) reply s'
-  remove_called {said} reply s' whole keeps gives = record {
-    answered = remove_answered eq classes s.store apart k said s'.store a reply whole.removal;
+  pub remove_called : {said : Stored K V → Bool → Type 0} (reply : Reply) (s' : MapState K V S) → IsRemovalBy eq (eq k) said s.store reply s'.store → (next_of s.store ≡ 0 → (refused : words.Refused) → reply ≡ Refused refused → ⊥) → next_of s.store ≡ 0 → Keeps s s' → ((p : Stored K V) (agrees : Bool) → said p agrees → (a' : A) × says.yes a p.key p.value agrees a') → IsCalled eq hash says s (RemoveIf k a) reply s'
+  remove_called {said} reply s' whole never settled keeps gives = record {
+    answered = remove_answered eq classes s.store apart k said s'.store a reply (never settled) whole.removal;
     fresh = remove_fresh eq classes s.store apart k said s'.store reply whole.removal;
     said = remove_said eq classes s.store apart k said s'.store says a gives reply whole.removal;
+    cause = λ refused is unresized. never unresized refused is;
     keeps = keeps;
   }
 
-module _ {K V S A : Type 0} (eq : K → K → Bool) (says : Says K V A) (reply : Reply) (call : Call K V A) (now s' : MapState K V S) (called : IsCalled eq says now call reply s') where
+module _ {K V S A : Type 0} (eq : K → K → Bool) (hash : S → K → ℕ) (says : Says K V A) (reply : Reply) (call : Call K V A) (now s' : MapState K V S) (called : IsCalled eq hash says now call reply s') where
   -- one more call is made
-  pub called_more : (s : MapState K V S) (calls : List (Call K V A)) (replies : List Reply) → AreCalled eq says s calls replies now → AreCalled eq says s (calls ++ call ∷ []) (replies ++ reply ∷ []) s'
-  called_more s [] [] e = (s', subst (λ (y : MapState K V S). IsCalled eq says y call reply s') e called, refl)
+  pub called_more : (s : MapState K V S) (calls : List (Call K V A)) (replies : List Reply) → AreCalled eq hash says s calls replies now → AreCalled eq hash says s (calls ++ call ∷ []) (replies ++ reply ∷ []) s'
+  called_more s [] [] e = (s', subst (λ (y : MapState K V S). IsCalled eq hash says y call reply s') e called, refl)
   called_more s [] (r ∷ replies) e = absurd e
   called_more s (c ∷ calls) [] e = absurd e
   called_more s (c ∷ calls) (r ∷ replies) (middle, first, rest) = (middle, first, called_more middle calls replies rest)

@@ -1,21 +1,20 @@
 -- An insertion of a map for one caller, between two answers: what stands in the words where it is, and what it has at hand.
-use Rattle.std.proofs.Common.{◌≡◌, ⊎_elim, ℕ, ◌+◌, ◌%◌, ◌<◌, ◌≤◌, ◌==◌, nat_lt, Bool, true, false, Option, Some, List, length, slice_index, ◌⊎◌, inl, refl, sym, ◌∙◌, ap, subst, arith}
-use Rattle.std.proofs.lemmas.Bool.{cases_lt, cond_both, eq-eqb, ltb-false}
-use Rattle.papaya_words.specs.Probe.{place}
+use Rattle.std.proofs.Common.{◌≡◌, ℕ, ◌<◌, ◌==◌, Bool, true, false, Option, Some, List, length, ◌⊎◌, inl, refl, sym, ◌∙◌, ap, subst, arith}
+use Rattle.std.proofs.lemmas.Bool.{cond_both, eq-eqb}
 use Rattle.papaya_words.specs.Table.{TableWords}
 use Rattle.papaya_words.specs.Word.{byte_of, kind_of, pair_of, top_byte}
 use Rattle.papaya_words.specs.declared.probe.Refused.{Refused}
 use Rattle.papaya_words.specs.declared.probe.ResizeMode.{ResizeMode}
 use Rattle.papaya_words.specs.declared.word.Kind.{Kind}
 use Rattle.papaya_words.specs.declared.word.Kind.TheVariants as kinds
-use Rattle.papaya_words.proofs.Places.{place-next}
 use Rattle.papaya_call.specs.declared.ask.At.TheVariants.{Slot}
 use Rattle.papaya_call.specs.declared.call.Reply.{Reply}
 use Rattle.papaya_call.specs.declared.call.Reply.TheVariants.{Occupied, Replaced, Refused as Reply_refused}
 use Rattle.papaya_call.specs.declared.call.Task.{Task}
 use Rattle.papaya_call.specs.declared.call.Task.TheVariants.{Insert}
+use Rattle.papaya_call.specs.declared.compute.Remembered.{Remembered}
 use Rattle.papaya_call.specs.declared.machine.State.{State}
-use Rattle.papaya_call.specs.declared.machine.State.TheVariants.{AtRoot, Making, Opening, Searching, Writing, Showing, Burying, Counting, Uncounting, Leaving, Growing, Ended}
+use Rattle.papaya_call.specs.declared.machine.State.TheVariants.{AtRoot, Making, Opening, Searching, Writing, Offering, Showing, Pairing, Putting, Burying, Counting, Uncounting, Leaving, Growing, Ended}
 use Rattle.papaya_call.specs.declared.search.Place.{Place}
 use Rattle.papaya_call.specs.declared.search.Search.TheVariants.{Sizing, Looking, Comparing}
 use Rattle.papaya_call.specs.declared.search.Seen.{Seen}
@@ -24,40 +23,14 @@ use Rattle.papaya_call.specs.declared.write.Made.{Made}
 use Rattle.papaya_call.specs.declared.write.Made.TheVariants.{Nothing, Key, Pair}
 use Rattle.papaya_call.specs.declared.write.Write.{Write}
 use Rattle.papaya_call.specs.Machine.{at_root, goes_as, replaces, written}
-use Rattle.papaya_call.specs.Search.{IsWithin, go_on, look_at, match_at, next_place, at_yes as search_compared}
+use Rattle.papaya_call.specs.Search.{IsWithin, go_on, look_at, match_at, at_yes as search_compared}
 use Rattle.papaya_core.specs.declared.pairs.KeyOf.{KeyOf}
 use Rattle.papaya_core.specs.declared.pairs.Pair.{Pair as LoggedPair}
 use Rattle.papaya_core.specs.declared.pairs.KeyOf.TheVariants.{Own, Logged}
 use Rattle.papaya_core.specs.Store.{StoreState}
-use Rattle.papaya_core.specs.Tables.{Tables, table_of, word_at, word_in}
+use Rattle.papaya_core.specs.Tables.{Tables, table_of, word_at}
 use Rattle.papaya_seq.specs.Map.{IsCause, IsFull}
-
--- the search is at this place of the root table, and each place of the key before it is filled
-pub record IsPast (hash : ℕ) (words : Tables) (at : Place) : Type 0 where
-  pub table : TableWords
-  pub root : at.table ≡ words.root
-  pub there : table_of words.tables at.table ≡ Some table
-  pub len : at.len ≡ length table.slots
-  pub limit : at.limit ≡ table.limit
-  pub place_is : at.probe.i ≡ place hash at.len at.probe.len
-  pub filled : (j : ℕ) → j < at.probe.len → slice_index table.slots (place hash at.len j) ≡ 0 → ⊥
-
--- a table of empty slots
-pub record IsBlank (tables : List TableWords) (t : ℕ) : Type 0 where
-  pub table : TableWords
-  pub there : table_of tables t ≡ Some table
-  pub blank : (i : ℕ) → slice_index table.slots i ≡ 0
-
--- the search is at a place of a table of empty slots
-pub record IsFirst (tables : List TableWords) (at : Place) : Type 0 where
-  pub is_blank : IsBlank tables at.table
-  pub len : at.len ≡ length is_blank.table.slots
-
--- the slot of this place is there
-pub record IsSlotThere (tables : List TableWords) (at : Place) : Type 0 where
-  pub table : TableWords
-  pub there : table_of tables at.table ≡ Some table
-  pub within : at.probe.i < length table.slots
+use Rattle.papaya_seq.proofs.Past.{IsBlank, IsFirst, IsPast, IsSlotThere, blank_word, gone_past, not_zero, slot_there}
 
 module _ {K V S : Type 0} (hash : ℕ) (s : StoreState K V S) (value : V) where
   -- The root table as it was when the call began, or the one that the call made.
@@ -78,6 +51,9 @@ module _ {K V S : Type 0} (hash : ℕ) (s : StoreState K V S) (value : V) where
   IsStage words left made (Searching (Comparing at word)) = (made ≡ Nothing) × (words ≡ s.words) × IsPast hash words at × (kind_of word ≡ kinds.Live)
   IsStage words left made (Writing write) = IsSlotThere words.tables write.place
   IsStage words left made (Showing removal) = ⊥
+  IsStage words left made (Offering gap) = ⊥
+  IsStage words left made (Pairing purpose) = ⊥
+  IsStage words left made (Putting put) = ⊥
   IsStage words left made (Burying removal) = ⊥
   IsStage words left made (Counting n) = Unit {0}
   IsStage words left made (Uncounting n) = ⊥
@@ -101,60 +77,18 @@ module _ {K V S : Type 0} (hash : ℕ) (s : StoreState K V S) (value : V) where
   abbrev pub IsPlain : Type 0
   IsPlain = (t i : ℕ) → (kind_of (word_at s.words (Slot t i)) ≡ kinds.Marked → ⊥) × (kind_of (word_at s.words (Slot t i)) ≡ kinds.Copied → ⊥)
 
-  module _ (left : Option V) (replace : Bool) (mode : ResizeMode) where
+  module _ (left : Option V) (replace : Bool) (mode : ResizeMode) (held : Remembered) where
     -- what a search of the root saw
     abbrev IsSeenStage : Seen → Type 0
-    IsSeenStage seen = IsStage s.words left Nothing (goes_as (Insert replace) mode seen)
-
-    -- the slot of a place
-    pub slot_there : (at : Place) → IsPast hash s.words at → IsWithin at → IsSlotThere s.words.tables at
-    slot_there at past within = let i : at.probe.i < at.len = within.i in let len = past.len in record { table = past.table; there = past.there; within = omega arith }
-
-    -- the word of this place is filled too
-    filled_here : (at : Place) (past : IsPast hash s.words at) → (word_at s.words (Slot at.table at.probe.i) ≡ 0 → ⊥) → (j : ℕ) → j < at.probe.len + 1 → slice_index past.table.slots (place hash at.len j) ≡ 0 → ⊥
-    filled_here at past filled j lt empty =
-        ⊎_elim
-        (λ (before : j < at.probe.len). past.filled j before empty)
-        (λ (least : at.probe.len ≤ j).
-        let is : j ≡ at.probe.len = omega arith in
-        filled (ap (word_in (λ t. slice_index t.slots at.probe.i)) past.there ∙ ap (slice_index past.table.slots) (past.place_is ∙ ap (place hash at.len) (sym is)) ∙ empty))
-        (cases_lt j at.probe.len)
+    IsSeenStage seen = IsStage s.words left Nothing (goes_as (Insert replace) mode held seen)
 
     -- a search goes past a place that is filled
     pub go_on_stage : (at : Place) → IsPast hash s.words at → IsWithin at → (word_at s.words (Slot at.table at.probe.i) ≡ 0 → ⊥) → IsSeenStage (go_on at)
-    go_on_stage at past within filled =
-        cond_both (nat_lt at.probe.len at.limit) (seen.On (Looking (next_place at))) (seen.Over at.table) IsSeenStage
-        (λ more. (
-          refl,
-          inl (
-            refl,
-            record {
-              table = past.table;
-              root = past.root;
-              there = past.there;
-              len = past.len;
-              limit = past.limit;
-              place_is = ap (λ i. (i + at.probe.len + 1) % at.len) past.place_is ∙ place-next hash at.len at.probe.len;
-              filled = filled_here at past filled;
-            },
-          ),
-        ))
-        (λ over. record {
-          table = past.table;
-          root = ap (table_of s.words.tables) (sym past.root) ∙ past.there;
-          filled = λ j most empty.
-              let last : at.limit ≤ at.probe.len = ltb-false at.probe.len at.limit over in
-              let same : at.limit ≡ past.table.limit = past.limit in
-              filled_here at past filled j (omega arith) (ap (λ n. slice_index past.table.slots (place hash n j)) past.len ∙ empty);
-        })
-
-    -- a word of a kind that is not Empty is not 0
-    not_zero : (word : ℕ) → (kind_of word ≡ kinds.Empty → ⊥) → word ≡ 0 → ⊥
-    not_zero word filled e = filled (ap kind_of e)
+    go_on_stage at past within filled = gone_past hash s IsSeenStage at past filled (λ next. (refl, inl (refl, next))) (λ full. full)
 
     -- a place whose word is of this kind was looked at
     pub looked_stage : (kind : Kind) (at : Place) (past : IsPast hash s.words at) → IsWithin at → IsPlain → kind_of (word_at s.words (Slot at.table at.probe.i)) ≡ kind → IsSeenStage (look_at kind at hash (word_at s.words (Slot at.table at.probe.i)))
-    looked_stage kinds.Empty at past within plain e = slot_there at past within
+    looked_stage kinds.Empty at past within plain e = slot_there hash s at past within
     looked_stage kinds.Live at past within plain e =
         cond_both (byte_of (word_at s.words (Slot at.table at.probe.i)) == top_byte hash) (seen.On (Comparing at (word_at s.words (Slot at.table at.probe.i)))) (go_on at) IsSeenStage
         (λ _. (refl, refl, past, e))
@@ -164,10 +98,10 @@ module _ {K V S : Type 0} (hash : ℕ) (s : StoreState K V S) (value : V) where
     looked_stage kinds.Buried at past within plain e = go_on_stage at past within (not_zero (word_at s.words (Slot at.table at.probe.i)) (λ f. cc))
     looked_stage kinds.Closed at past within plain e = go_on_stage at past within (not_zero (word_at s.words (Slot at.table at.probe.i)) (λ f. cc))
 
-  module _ (left : Option V) (mode : ResizeMode) (has : left ≡ Some value) where
+  module _ (left : Option V) (mode : ResizeMode) (held : Remembered) (has : left ≡ Some value) where
     -- a pair with the key was found
-    found_stage : (replace : Bool) (kind : Kind) (at : Place) (word : ℕ) → IsPast hash s.words at → IsWithin at → kind_of word ≡ kind → kind ≡ kinds.Live → IsSeenStage left replace mode (match_at kind at word)
-    found_stage true kinds.Live at word past within e live = subst (λ k. IsStage s.words left Nothing (replaces k at word)) (sym e) (slot_there left true mode at past within)
+    found_stage : (replace : Bool) (kind : Kind) (at : Place) (word : ℕ) → IsPast hash s.words at → IsWithin at → kind_of word ≡ kind → kind ≡ kinds.Live → IsSeenStage left replace mode held (match_at kind at word)
+    found_stage true kinds.Live at word past within e live = subst (λ k. IsStage s.words left Nothing (replaces k at word)) (sym e) (slot_there hash s at past within)
     found_stage false kinds.Live at word past within e live = (λ refused f. absurd cc, λ n f. has)
     found_stage replace kinds.Empty at word past within e live = absurd cc
     found_stage replace kinds.Marked at word past within e live = absurd cc
@@ -176,35 +110,35 @@ module _ {K V S : Type 0} (hash : ℕ) (s : StoreState K V S) (value : V) where
     found_stage replace kinds.Closed at word past within e live = absurd cc
 
     -- the key of a place's pair was compared
-    pub compared_stage : (replace : Bool) (at : Place) (word : ℕ) (same : Bool) → IsPast hash s.words at → IsWithin at → word_at s.words (Slot at.table at.probe.i) ≡ word → kind_of word ≡ kinds.Live → IsSeenStage left replace mode (search_compared (Comparing at word) same)
+    pub compared_stage : (replace : Bool) (at : Place) (word : ℕ) (same : Bool) → IsPast hash s.words at → IsWithin at → word_at s.words (Slot at.table at.probe.i) ≡ word → kind_of word ≡ kinds.Live → IsSeenStage left replace mode held (search_compared (Comparing at word) same)
     compared_stage replace at word true past within read live = found_stage replace (kind_of word) at word past within refl live
-    compared_stage replace at word false past within read live = go_on_stage left replace mode at past within (λ e. not_zero left replace mode word (λ f. cc) (sym read ∙ e))
+    compared_stage replace at word false past within read live = go_on_stage left replace mode held at past within (λ e. not_zero word (λ f. cc) (sym read ∙ e))
 
-  module _ (left : Option V) (replace : Bool) (mode : ResizeMode) where
+  module _ (left : Option V) (replace : Bool) (mode : ResizeMode) (held : Remembered) where
     -- the same of a machine that goes on so
-    pub carried : (words : Tables) (left' : Option V) (made : Made) (task : Task) (saw : Seen) → words ≡ s.words → left' ≡ left → made ≡ Nothing → task ≡ Insert replace → IsSeenStage left replace mode saw → IsStage words left' made (goes_as task mode saw)
+    pub carried : (words : Tables) (left' : Option V) (made : Made) (task : Task) (saw : Seen) → words ≡ s.words → left' ≡ left → made ≡ Nothing → task ≡ Insert replace → IsSeenStage left replace mode held saw → IsStage words left' made (goes_as task mode held saw)
     carried words left' made task saw words_is left_is made_is task_is stage =
-        subst (λ (w : Tables). IsStage w left' made (goes_as task mode saw)) (sym words_is)
-        (subst (λ (o : Option V). IsStage s.words o made (goes_as task mode saw)) (sym left_is)
-        (subst (λ m. IsStage s.words left m (goes_as task mode saw)) (sym made_is)
-        (subst (λ t. IsStage s.words left Nothing (goes_as t mode saw)) (sym task_is) stage)))
+        subst (λ (w : Tables). IsStage w left' made (goes_as task mode held saw)) (sym words_is)
+        (subst (λ (o : Option V). IsStage s.words o made (goes_as task mode held saw)) (sym left_is)
+        (subst (λ m. IsStage s.words left m (goes_as task mode held saw)) (sym made_is)
+        (subst (λ t. IsStage s.words left Nothing (goes_as t mode held saw)) (sym task_is) stage)))
 
     -- an empty table's first place was looked at
-    pub blank_stage : (words : Tables) (made : Made) (task : Task) (at : Place) → task ≡ Insert replace → IsFirst words.tables at → IsWithin at → IsStage words left made (goes_as task mode (look_at (kind_of (word_at words (Slot at.table at.probe.i))) at hash (word_at words (Slot at.table at.probe.i))))
+    pub blank_stage : (words : Tables) (made : Made) (task : Task) (at : Place) → task ≡ Insert replace → IsFirst words.tables at → IsWithin at → IsStage words left made (goes_as task mode held (look_at (kind_of (word_at words (Slot at.table at.probe.i))) at hash (word_at words (Slot at.table at.probe.i))))
     blank_stage words made task at task_is first within =
         let table = first.is_blank.table in
         let word : ℕ = word_at words (Slot at.table at.probe.i) in
-        let zero_word : word ≡ 0 = ap (word_in (λ t. slice_index t.slots at.probe.i)) first.is_blank.there ∙ first.is_blank.blank at.probe.i in
+        let zero_word : word ≡ 0 = blank_word words at first in
         let i : at.probe.i < at.len = within.i in
         let len : at.len ≡ length table.slots = first.len in
         let there : IsSlotThere words.tables at = record { table = table; there = first.is_blank.there; within = omega arith } in
-        subst (λ k. IsStage words left made (goes_as task mode (look_at k at hash word))) (sym (ap kind_of zero_word))
-        (subst (λ t. IsStage words left made (goes_as t mode (seen.Empty at))) (sym task_is) there)
+        subst (λ k. IsStage words left made (goes_as task mode held (look_at k at hash word))) (sym (ap kind_of zero_word))
+        (subst (λ t. IsStage words left made (goes_as t mode held (seen.Empty at))) (sym task_is) there)
 
     -- the root was loaded
-    pub root_stage : (words : Tables) (made : Made) (task : Task) (word : ℕ) → made ≡ Nothing → task ≡ Insert replace → words ≡ s.words → word ≡ words.root → ((words.root ≡ 0 → ⊥) → (table : TableWords) × (table_of words.tables words.root ≡ Some table)) → IsStage words left made (at_root task word)
+    pub root_stage : (words : Tables) (made : Made) (task : Task) (word : ℕ) → made ≡ Nothing → task ≡ Insert replace → words ≡ s.words → word ≡ words.root → ((words.root ≡ 0 → ⊥) → (table : TableWords) × (table_of words.tables words.root ≡ Some table)) → IsStage words left made (at_root task held.fill word)
     root_stage words made task word none task_is same is rooted =
-        subst (λ t. IsStage words left made (at_root t word)) (sym task_is)
+        subst (λ t. IsStage words left made (at_root t held.fill word)) (sym task_is)
         (cond_both (word == 0) Making (Searching (Sizing word)) (IsStage words left made)
         (λ _. (none, same))
         (λ some. (none, inl (same, is, subst (λ t. (table : TableWords) × (table_of words.tables t ≡ Some table)) (sym is) (rooted (λ z. let f : word ≡ 0 = is ∙ z in let g : (word == 0) ≡ true = eq-eqb word 0 f in cc))))))

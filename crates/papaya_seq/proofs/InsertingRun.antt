@@ -14,7 +14,7 @@ use Rattle.papaya_call.specs.declared.call.Reply.TheVariants.{Occupied, Refused 
 use Rattle.papaya_call.specs.declared.call.Task.TheVariants.{Insert}
 use Rattle.papaya_call.specs.declared.machine.Machine.{Machine}
 use Rattle.papaya_call.specs.declared.machine.State.{State}
-use Rattle.papaya_call.specs.declared.machine.State.TheVariants.{AtRoot, Making, Opening, Searching, Writing, Showing, Burying, Counting, Uncounting, Leaving, Growing, Ended}
+use Rattle.papaya_call.specs.declared.machine.State.TheVariants.{AtRoot, Making, Opening, Searching, Writing, Offering, Showing, Pairing, Putting, Burying, Counting, Uncounting, Leaving, Growing, Ended}
 use Rattle.papaya_call.specs.declared.search.Search.TheVariants.{Sizing, Looking, Comparing}
 use Rattle.papaya_call.specs.declared.write.Made.{Made}
 use Rattle.papaya_call.specs.declared.write.Made.TheVariants.{Nothing, Key, Pair}
@@ -37,7 +37,7 @@ use Rattle.papaya_seq.specs.Map.{IsCause, IsLawfulMap, MapState, core_of, insert
 use Rattle.papaya_seq.proofs.Inserting.{IsAtHand, IsEnd, IsPlain, IsStage}
 use Rattle.papaya_seq.proofs.InsertingSteps.{answerable_in, leads_in}
 use Rattle.papaya_seq.proofs.Lawful.{bare, single, sized}
-use Rattle.papaya_seq.proofs.Steps.{IsAnswerable, IsMade, made_alone, made_more, made_none, prompt_single, prompted, same_task, seated, silent, silent_performs, unreplied, words_of}
+use Rattle.papaya_seq.proofs.Steps.{IsAnswerable, IsMade, answering, answering_performs, made_alone, made_more, made_none, prompt_single, prompted, same_task, seated, unreplied, words_of}
 use Rattle.papaya_seq.proofs.Words.{rooted, uncopied, unmarked}
 
 -- an insertion as it begins
@@ -47,7 +47,7 @@ insertion_begun hash mode initial replace k value = record { machine = started (
 module _ {K V S A : Type 0} (eq : K → K → Bool) (hash : S → K → ℕ) (s : MapState K V S) (replace : Bool) (k : K) (value : V) where
   -- Where an insertion is between two answers: it came there by steps of the core, what it read stands there still, and it has at hand what it has not stored.
   pub record IsInserting (store : StoreState K V S) (r : Running K V A) : Type 0 where
-    pub steps : IsMade eq hash s (insertion replace k value) store (silent r)
+    pub steps : IsMade eq hash s (insertion replace k value) store (answering None r)
     pub silence : r.answers ≡ None
     pub task : r.machine.task ≡ Insert replace
     pub hash_is : r.machine.hash ≡ hash s.store.hasher k
@@ -82,6 +82,9 @@ module _ {K V S : Type 0} (hash : ℕ) (s : StoreState K V S) (value : V) where
   end_in words left_is hashed Key (Writing write) reply e stage = absurd cc
   end_in words left_is hashed (Pair n) (Writing write) reply e stage = absurd cc
   end_in words left_is hashed made (Showing removal) reply e stage = absurd stage
+  end_in words left_is hashed made (Offering gap) reply e stage = absurd stage
+  end_in words left_is hashed made (Pairing purpose) reply e stage = absurd stage
+  end_in words left_is hashed made (Putting put) reply e stage = absurd stage
   end_in words left_is hashed made (Burying removal) reply e stage = absurd stage
   end_in words left_is hashed made (Counting n) reply e stage = absurd cc
   end_in words left_is hashed made (Uncounting n) reply e stage = absurd stage
@@ -123,7 +126,7 @@ module _ {K V S A : Type 0} (eq : K → K → Bool) (hash : S → K → ℕ) (s 
         (subst (λ h. IsStage h s.store value store.words r.value r.machine.made r.machine.state) (sym now.hash_is) now.stage) going
 
     -- so it is answered by the words
-    told : IsPrompt (words_of store) (ask_of r.machine) answer (words_of store')
+    told : IsPrompt r.machine.task (words_of store) (ask_of r.machine) answer (words_of store')
     told = prompted eq says (ask_of r.machine) store r answer store' later there performs
 
     -- the answer is within the limits
@@ -137,7 +140,7 @@ module _ {K V S A : Type 0} (eq : K → K → Bool) (hash : S → K → ℕ) (s 
     -- and it goes on
     pub inserting_more : IsInserting eq hash s replace k value store' (record later { machine = after r.machine answer })
     inserting_more =
-        let quiet = silent_performs eq says false (ask_of r.machine) store r answer store' later now.silence performs in
+        let quiet = answering_performs eq says None false (ask_of r.machine) store r answer store' later there performs in
         let kept = performed eq says false (ask_of r.machine) store r answer store' later (unnumbered store.words.tables now.sizes) (machine_ask_fits r.machine) performs in
         let plain : IsPlain r.machine.hash s.store value = λ t i. (unmarked eq (hash s.store.hasher) s.mode s.store keys lawful t i, uncopied eq (hash s.store.hasher) s.mode s.store keys lawful t i) in
         let leads =
@@ -145,8 +148,8 @@ module _ {K V S A : Type 0} (eq : K → K → Bool) (hash : S → K → ℕ) (s 
         (subst (λ h. IsAtHand h s.store value r.machine.made store.keys store.pairs r.key r.value) (sym now.hash_is) now.hand)
         (subst (λ h. IsStage h s.store value store.words r.value r.machine.made r.machine.state) (sym now.hash_is) now.stage) going performs in
         record {
-          steps = made_more eq hash s (insertion replace k value) store (silent r) answer store' (silent later) going quiet.0 same now.steps;
-          silence = quiet.1;
+          steps = made_more eq hash s (insertion replace k value) store (answering None r) answer store' (answering None later) going quiet.0 same now.steps;
+          silence = quiet.1 ∙ now.silence;
           task = (same_task r.machine answer).0 ∙ now.task;
           hash_is = (same_task r.machine answer).1 ∙ now.hash_is;
           standing = machine_stands r.machine answer now.standing kept.fit;
@@ -160,7 +163,7 @@ module _ {K V S A : Type 0} (eq : K → K → Bool) (hash : S → K → ℕ) (s 
   module _ (store : StoreState K V S) (r : Running K V A) (reply : Reply) (e : Ask_done reply ≡ ask_of r.machine) (now : IsInserting eq hash s replace k value store r) where
     -- it has replied: it was made alone
     pub inserting_alone : hash s.store.hasher k < 2 ^ 64 → RunsAlone eq hash (core_of s) (insertion replace k value) reply (seated store None s.mode s.initial)
-    inserting_alone fits = made_alone eq hash s (insertion replace k value) (subst (λ (x : K). hash s.store.hasher x < 2 ^ 64) (sym (key_of_insertion replace k value)) fits) store (silent r) reply (sym e) now.steps
+    inserting_alone fits = made_alone eq hash s (insertion replace k value) (subst (λ (x : K). hash s.store.hasher x < 2 ^ 64) (sym (key_of_insertion replace k value)) fits) store (answering None r) reply (sym e) now.steps
 
     -- what is so at its end
     ends : IsEnd (hash s.store.hasher k) s.store value reply r.value

@@ -12,7 +12,7 @@ use Rattle.papaya_call.specs.declared.ask.At.TheVariants.{Root, Slot}
 use Rattle.papaya_call.specs.declared.call.Reply.TheVariants.{Refused as Reply_refused}
 use Rattle.papaya_call.specs.declared.call.Task.TheVariants.{Insert}
 use Rattle.papaya_call.specs.declared.machine.State.{State}
-use Rattle.papaya_call.specs.declared.machine.State.TheVariants.{AtRoot, Making, Opening, Searching, Writing, Showing, Burying, Counting, Uncounting, Leaving, Growing, Ended}
+use Rattle.papaya_call.specs.declared.machine.State.TheVariants.{AtRoot, Making, Opening, Searching, Writing, Offering, Showing, Pairing, Putting, Burying, Counting, Uncounting, Leaving, Growing, Ended}
 use Rattle.papaya_call.specs.declared.search.Place.{Place}
 use Rattle.papaya_call.specs.declared.search.Search.TheVariants.{Sizing, Looking, Comparing}
 use Rattle.papaya_call.specs.declared.write.Made.{Made}
@@ -30,7 +30,8 @@ use Rattle.papaya_core.specs.Store.{StoreState, pair_of}
 use Rattle.papaya_core.specs.Tables.{Tables, table_of, word_at}
 use Rattle.papaya_core.proofs.KeptTables.{index-zeros, made-there}
 use Rattle.papaya_seq.specs.Map.{IsCause}
-use Rattle.papaya_seq.proofs.Inserting.{IsAtHand, IsEnd, IsFirst, IsPast, IsPlain, IsSized, IsStage, blank_stage, carried, compared_stage, looked_stage, root_stage, value_at_hand, written_stage}
+use Rattle.papaya_seq.proofs.Inserting.{IsAtHand, IsEnd, IsPlain, IsSized, IsStage, blank_stage, carried, compared_stage, looked_stage, root_stage, value_at_hand, written_stage}
+use Rattle.papaya_seq.proofs.Past.{IsFirst, IsPast}
 use Rattle.papaya_seq.proofs.Steps.{IsAnswerable, words_of}
 
 module _ {K V S : Type 0} (s : StoreState K V S) (value : V) where
@@ -77,7 +78,7 @@ module _ {K V S A : Type 0} (eq : K → K → Bool) (says : Says K V A) (s : Sto
   writing_leads Key write answer store' later read hand stage (inr (inr (n, v, logged, has, e, few, same, goes))) = leads_by Key (Writing write) answer _ store' _ later _ e same goes (tt, stage)
   writing_leads (Pair n) write answer store' later read hand stage (made, stays) =
       let done = exchange_done _ _ (word_at store.words (Slot write.place.table write.place.probe.i)) write.old read made in
-      leads_by (Pair n) (Writing write) answer _ store' _ later _ done.0 done.1 stays (tt, written_stage r.machine.hash s value r.value replace r.machine.mode _ (Pair n) write n)
+      leads_by (Pair n) (Writing write) answer _ store' _ later _ done.0 done.1 stays (tt, written_stage r.machine.hash s value r.value replace r.machine.mode r.machine.remembered _ (Pair n) write n)
 
   module _ (plain : IsPlain r.machine.hash s value) (rooted : (s.words.root ≡ 0 → ⊥) → (table : TableWords) × (table_of s.words.tables s.words.root ≡ Some table)) where
     -- the first table is made
@@ -105,14 +106,14 @@ module _ {K V S A : Type 0} (eq : K → K → Bool) (says : Says K V A) (s : Sto
     looking_leads made place answer store' later within hand none (inl (same_words, past)) (e, (same, stays)) =
         leads_by made (Searching (Looking place)) answer _ store' store later _ e same stays (
           hand,
-          subst (λ (w : Tables). IsStage r.machine.hash s value w r.value made (goes_as r.machine.task r.machine.mode (look place r.machine.hash (word_at w (Slot place.table place.probe.i))))) (sym same_words)
-              (carried r.machine.hash s value r.value replace r.machine.mode s.words r.value made r.machine.task (look place r.machine.hash (word_at s.words (Slot place.table place.probe.i))) refl refl none task_is
-              (looked_stage r.machine.hash s value r.value replace r.machine.mode (kind_of (word_at s.words (Slot place.table place.probe.i))) place (subst (λ (w : Tables). IsPast r.machine.hash w place) same_words past) within plain refl)),
+          subst (λ (w : Tables). IsStage r.machine.hash s value w r.value made (goes_as r.machine.task r.machine.mode r.machine.remembered (look place r.machine.hash (word_at w (Slot place.table place.probe.i))))) (sym same_words)
+              (carried r.machine.hash s value r.value replace r.machine.mode r.machine.remembered s.words r.value made r.machine.task (look place r.machine.hash (word_at s.words (Slot place.table place.probe.i))) refl refl none task_is
+              (looked_stage r.machine.hash s value r.value replace r.machine.mode r.machine.remembered (kind_of (word_at s.words (Slot place.table place.probe.i))) place (subst (λ (w : Tables). IsPast r.machine.hash w place) same_words past) within plain refl)),
         )
     looking_leads made place answer store' later within hand none (inr first) (e, (same, stays)) =
         leads_by made (Searching (Looking place)) answer _ store' store later _ e same stays (
           hand,
-          blank_stage r.machine.hash s value r.value replace r.machine.mode store.words made r.machine.task place task_is first within,
+          blank_stage r.machine.hash s value r.value replace r.machine.mode r.machine.remembered store.words made r.machine.task place task_is first within,
         )
 
     -- in each state
@@ -120,7 +121,7 @@ module _ {K V S A : Type 0} (eq : K → K → Bool) (says : Says K V A) (s : Sto
     leads_in made AtRoot answer store' later read stands hand stage going (e, (same, stays)) =
         leads_by made AtRoot answer _ store' store later _ e same stays (
           hand,
-          root_stage r.machine.hash s value r.value replace r.machine.mode store.words made r.machine.task store.words.root stage.0 task_is stage.1 refl
+          root_stage r.machine.hash s value r.value replace r.machine.mode r.machine.remembered store.words made r.machine.task store.words.root stage.0 task_is stage.1 refl
               (subst (λ (w : Tables). (w.root ≡ 0 → ⊥) → (table : TableWords) × (table_of w.tables w.root ≡ Some table)) (sym stage.1) rooted),
         )
     leads_in made Making answer store' later read stands hand stage going performs = making_leads made answer store' later hand stage performs
@@ -133,12 +134,15 @@ module _ {K V S A : Type 0} (eq : K → K → Bool) (says : Says K V A) (s : Sto
         let same_key = same_keys eq (own_key store r) (pair_of store (pair_number word)) in
         leads_by made (Searching (Comparing place word)) answer (Yes same_key) store' store later _ e same_store stays (
           hand,
-          carried r.machine.hash s value r.value replace r.machine.mode store.words r.value made r.machine.task (search_compared (Comparing place word) same_key) same_words refl none task_is
-              (compared_stage r.machine.hash s value r.value r.machine.mode (value_at_hand r.machine.hash s value made store.keys store.pairs r.key r.value none hand) replace place word same_key (subst (λ (w : Tables). IsPast r.machine.hash w place) same_words past) stands
+          carried r.machine.hash s value r.value replace r.machine.mode r.machine.remembered store.words r.value made r.machine.task (search_compared (Comparing place word) same_key) same_words refl none task_is
+              (compared_stage r.machine.hash s value r.value r.machine.mode r.machine.remembered (value_at_hand r.machine.hash s value made store.keys store.pairs r.key r.value none hand) replace place word same_key (subst (λ (w : Tables). IsPast r.machine.hash w place) same_words past) stands
               (sym (ap (λ (w : Tables). word_at w (Slot place.table place.probe.i)) same_words) ∙ read) live),
         )
     leads_in made (Writing write) answer store' later read stands hand stage going performs = writing_leads made write answer store' later read hand stage performs
     leads_in made (Showing removal) answer store' later read stands hand stage going performs = absurd stage
+    leads_in made (Offering gap) answer store' later read stands hand stage going performs = absurd stage
+    leads_in made (Pairing purpose) answer store' later read stands hand stage going performs = absurd stage
+    leads_in made (Putting put) answer store' later read stands hand stage going performs = absurd stage
     leads_in made (Burying removal) answer store' later read stands hand stage going performs = absurd stage
     leads_in made (Counting n) answer store' later read stands hand stage going (e, same, stays) =
         leads_by made (Counting n) answer _ store' _ later _ e same stays (hand, (λ refused f. absurd cc, λ m f. absurd cc))
@@ -161,6 +165,9 @@ module _ {K V S A : Type 0} (eq : K → K → Bool) (says : Says K V A) (s : Sto
   answerable_in Key (Writing write) sized hand stage going = (hand.0.0, value, hand.0.1, hand.1)
   answerable_in (Pair n) (Writing write) sized hand stage going = (stage.table, stage.there, stage.within)
   answerable_in made (Showing removal) sized hand stage going = absurd stage
+  answerable_in made (Offering gap) sized hand stage going = absurd stage
+  answerable_in made (Pairing purpose) sized hand stage going = absurd stage
+  answerable_in made (Putting put) sized hand stage going = absurd stage
   answerable_in made (Burying removal) sized hand stage going = absurd stage
   answerable_in made (Counting n) sized hand stage going = tt
   answerable_in made (Uncounting n) sized hand stage going = absurd stage

@@ -1,6 +1,14 @@
 pub mod Alone
 pub mod Answered
 pub mod CallsDone
+pub mod ComputeCalled
+pub mod ComputeStages
+pub mod ComputeAsked
+pub mod ComputeReply
+pub mod ComputeRun
+pub mod ComputeShown
+pub mod ComputeSteps
+pub mod ComputesDone
 pub mod Counting
 pub mod Inserting
 pub mod InsertingRun
@@ -10,10 +18,12 @@ pub mod LookFinds
 pub mod LookResults
 pub mod LookRun
 pub mod LookSteps
+pub mod Past
 pub mod RemovalReply
 pub mod RemovalRun
 pub mod RemovalTurns
 pub mod Removed
 pub mod Removing
 pub mod Steps
+pub mod UpdatesDone
 pub mod Words

@@ -4,7 +4,7 @@ use Rattle.papaya_words.specs.declared.probe.Refused.{Refused}
 use Rattle.papaya_call.specs.declared.ask.Answer.{Answer}
 use Rattle.papaya_call.specs.declared.ask.Answer.TheVariants.{Yes}
 use Rattle.papaya_call.specs.declared.ask.Ask.{Ask}
-use Rattle.papaya_call.specs.declared.ask.Ask.TheVariants.{Load, Exchange, SameKey, ShowPair, SizeOf, MakeKey, MakePair, MakeTable, AddToShard, Done as Ask_done}
+use Rattle.papaya_call.specs.declared.ask.Ask.TheVariants.{Load, Exchange, SameKey, ShowNone, ShowPair, SizeOf, MakeKey, MakePair, MakeTable, AddToShard, Done as Ask_done}
 use Rattle.papaya_call.specs.declared.call.Call.TheVariants.{Get}
 use Rattle.papaya_call.specs.declared.call.Task.TheVariants.{Get as Get_task}
 use Rattle.papaya_call.specs.declared.call.Reply.{Reply}
@@ -51,6 +51,7 @@ module _ {K V S : Type 0} (eq : K → K → Bool) (hash : S → K → ℕ) (s : 
   told_performs m (Exchange at old new) answer told = absurd told
   told_performs m (ShowPair n) answer told = absurd told
   told_performs m MakeKey answer told = absurd told
+  told_performs m ShowNone answer told = absurd told
   told_performs m MakePair answer told = absurd told
   told_performs m (MakeTable slots limit) answer told = absurd told
   told_performs m (AddToShard by) answer told = absurd told
@@ -64,6 +65,7 @@ module _ {K V S : Type 0} (eq : K → K → Bool) (hash : S → K → ℕ) (s : 
   told_goes (Exchange at old new) answer told = absurd told
   told_goes (ShowPair n) answer told = absurd told
   told_goes MakeKey answer told = absurd told
+  told_goes ShowNone answer told = absurd told
   told_goes MakePair answer told = absurd told
   told_goes (MakeTable slots limit) answer told = absurd told
   told_goes (AddToShard by) answer told = absurd told

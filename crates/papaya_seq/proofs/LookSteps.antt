@@ -8,15 +8,17 @@ use Rattle.papaya_words.specs.declared.probe.ResizeMode.TheVariants.{Incremental
 use Rattle.papaya_words.specs.declared.word.Kind.{Kind}
 use Rattle.papaya_words.specs.declared.word.Kind.TheVariants as word_kinds
 use Rattle.papaya_call.specs.declared.ask.Answer.{Answer}
-use Rattle.papaya_call.specs.declared.ask.Answer.TheVariants.{Word as Word_read, Exchanged, Found as Found_instead, Yes, Size, Made as Made_number, Ok as Ok_done, Refused as Was_refused}
+use Rattle.papaya_call.specs.declared.ask.Answer.TheVariants.{Word as Word_read, Exchanged, Found as Found_instead, Yes, Op, Size, Made as Made_number, Ok as Ok_done, Refused as Was_refused}
 use Rattle.papaya_call.specs.declared.ask.Ask.TheVariants.{Done as Ask_done}
 use Rattle.papaya_call.specs.declared.ask.At.TheVariants.{Next, Slot}
 use Rattle.papaya_call.specs.declared.call.Reply.{Reply}
-use Rattle.papaya_call.specs.declared.call.Reply.TheVariants.{Absent, Found, Inserted, Replaced, Occupied, Removed, Kept, Refused}
+use Rattle.papaya_call.specs.declared.call.Reply.TheVariants.{Absent, Found, Inserted, Replaced, Occupied, Removed, Kept, Aborted, Refused}
+use Rattle.papaya_call.specs.declared.call.Task.{Task}
 use Rattle.papaya_call.specs.declared.call.Task.TheVariants.{Get}
+use Rattle.papaya_call.specs.declared.compute.Remembered.{Remembered}
 use Rattle.papaya_call.specs.declared.machine.Machine.{Machine}
 use Rattle.papaya_call.specs.declared.machine.State.{State}
-use Rattle.papaya_call.specs.declared.machine.State.TheVariants.{AtRoot, Making, Opening, Searching, Writing, Showing, Burying, Counting, Uncounting, Leaving, Growing, Ended}
+use Rattle.papaya_call.specs.declared.machine.State.TheVariants.{AtRoot, Making, Opening, Searching, Writing, Offering, Showing, Pairing, Putting, Burying, Counting, Uncounting, Leaving, Growing, Ended}
 use Rattle.papaya_call.specs.declared.search.Place.{Place}
 use Rattle.papaya_call.specs.declared.search.Search.TheVariants.{Sizing, Looking, Comparing}
 use Rattle.papaya_call.specs.declared.search.Seen.{Seen}
@@ -45,6 +47,7 @@ IsLookReply (Replaced o n) = ⊥
 IsLookReply (Occupied n) = ⊥
 IsLookReply (Removed n) = ⊥
 IsLookReply (Kept n) = ⊥
+IsLookReply (Aborted t) = ⊥
 IsLookReply (Refused refused) = ⊥
 
 -- a search that saw this asks for no table's size next
@@ -95,23 +98,26 @@ module _ {K V S : Type 0} (store : StoreState K V S) where
   IsLooking (Opening t) = ⊥
   IsLooking (Writing write) = ⊥
   IsLooking (Showing removal) = ⊥
+  IsLooking (Offering gap) = ⊥
+  IsLooking (Pairing purpose) = ⊥
+  IsLooking (Putting put) = ⊥
   IsLooking (Burying removal) = ⊥
   IsLooking (Counting n) = ⊥
   IsLooking (Uncounting n) = ⊥
   IsLooking (Growing t) = ⊥
 
-  passes_looking : (mode : ResizeMode) (t : ℕ) → IsLooking (passes mode t)
-  passes_looking (Incremental chunk) t = tt
-  passes_looking Blocking t = tt
+  passes_looking : (mode : ResizeMode) (fill : Option ℕ) (t : ℕ) → IsLooking (passes Get mode fill t)
+  passes_looking (Incremental chunk) fill t = tt
+  passes_looking Blocking fill t = tt
 
   -- where a search leads that asks for no table's size next
-  goes_looking : (mode : ResizeMode) (s : Seen) → SeesPlace s → IsLooking (goes_as Get mode s)
-  goes_looking mode (seen.On (Sizing t)) place = absurd place
-  goes_looking mode (seen.On (Looking at)) place = tt
-  goes_looking mode (seen.On (Comparing at word)) place = tt
-  goes_looking mode (seen.Here at word) place = tt
-  goes_looking mode (seen.Empty at) place = tt
-  goes_looking mode (seen.Over t) place = passes_looking mode t
+  goes_looking : (mode : ResizeMode) (held : Remembered) (s : Seen) → SeesPlace s → IsLooking (goes_as Get mode held s)
+  goes_looking mode held (seen.On (Sizing t)) place = absurd place
+  goes_looking mode held (seen.On (Looking at)) place = tt
+  goes_looking mode held (seen.On (Comparing at word)) place = tt
+  goes_looking mode held (seen.Here at word) place = tt
+  goes_looking mode held (seen.Empty at) place = tt
+  goes_looking mode held (seen.Over t) place = passes_looking mode held.fill t
 
   -- a reply of a lookup
   pub look_replies : (made : Made) (hash : ℕ) (s : State) (reply : Reply) → IsLooking s → asks made hash s ≡ Ask_done reply → IsLookReply reply
@@ -125,16 +131,19 @@ module _ {K V S : Type 0} (store : StoreState K V S) where
   look_replies made hash (Opening t) reply looking e = absurd looking
   look_replies made hash (Writing write) reply looking e = absurd looking
   look_replies made hash (Showing removal) reply looking e = absurd looking
+  look_replies made hash (Offering gap) reply looking e = absurd looking
+  look_replies made hash (Pairing purpose) reply looking e = absurd looking
+  look_replies made hash (Putting put) reply looking e = absurd looking
   look_replies made hash (Burying removal) reply looking e = absurd looking
   look_replies made hash (Counting n) reply looking e = absurd looking
   look_replies made hash (Uncounting n) reply looking e = absurd looking
   look_replies made hash (Growing t) reply looking e = absurd looking
 
   module _ (matches : K → Bool) (root_there : (store.words.root ≡ 0 → ⊥) → (t : TableWords) × (table_of store.words.tables store.words.root ≡ Some t)) (single : (t : ℕ) → word_at store.words (Next t) ≡ 0)
-      (made : Made) (hash : ℕ) (mode : ResizeMode) (initial : ℕ) where
+      (made : Made) (held : Remembered) (hash : ℕ) (mode : ResizeMode) (initial : ℕ) where
     -- the machine in this state
     abbrev at_state : State → Machine
-    at_state s = record { task = Get; hash = hash; mode = mode; initial = initial; made = made; state = s }
+    at_state s = record { task = Get; hash = hash; mode = mode; initial = initial; made = made; remembered = held; state = s }
 
     -- after each answer the lookup goes on, or has replied
     looks_in : (s : State) (answer : Answer) → IsLooking s → IsToldBy matches store (asks made hash s) answer → IsLooking (after (at_state s) answer).state
@@ -144,9 +153,9 @@ module _ {K V S : Type 0} (store : StoreState K V S) where
     looks_in (Searching (Sizing t)) answer (table, there) told =
         subst (λ a. IsLooking (after (at_state (Searching (Sizing t))) a).state) (sym (told ∙ ap size_of there)) tt
     looks_in (Searching (Looking at)) answer looking told =
-        subst (λ a. IsLooking (after (at_state (Searching (Looking at))) a).state) (sym told) (goes_looking mode (look at hash (word_at store.words (Slot at.table at.probe.i))) (look_place (kind_of (word_at store.words (Slot at.table at.probe.i))) at hash (word_at store.words (Slot at.table at.probe.i))))
+        subst (λ a. IsLooking (after (at_state (Searching (Looking at))) a).state) (sym told) (goes_looking mode held (look at hash (word_at store.words (Slot at.table at.probe.i))) (look_place (kind_of (word_at store.words (Slot at.table at.probe.i))) at hash (word_at store.words (Slot at.table at.probe.i))))
     looks_in (Searching (Comparing at word)) answer looking told =
-        subst (λ a. IsLooking (after (at_state (Searching (Comparing at word))) a).state) (sym told) (goes_looking mode (search_compared (Comparing at word) (matches_in matches (pair_of store (number_of word)))) (compared_place at word (matches_in matches (pair_of store (number_of word)))))
+        subst (λ a. IsLooking (after (at_state (Searching (Comparing at word))) a).state) (sym told) (goes_looking mode held (search_compared (Comparing at word) (matches_in matches (pair_of store (number_of word)))) (compared_place at word (matches_in matches (pair_of store (number_of word)))))
     looks_in (Leaving t) answer looking told =
         subst (λ a. IsLooking (after (at_state (Leaving t)) a).state) (sym (told ∙ ap Word_read (single t))) tt
     looks_in (Ended reply) answer looking told = absurd told
@@ -154,6 +163,9 @@ module _ {K V S : Type 0} (store : StoreState K V S) where
     looks_in (Opening t) answer looking told = absurd looking
     looks_in (Writing write) answer looking told = absurd looking
     looks_in (Showing removal) answer looking told = absurd looking
+    looks_in (Offering gap) answer looking told = absurd looking
+    looks_in (Pairing purpose) answer looking told = absurd looking
+    looks_in (Putting put) answer looking told = absurd looking
     looks_in (Burying removal) answer looking told = absurd looking
     looks_in (Counting n) answer looking told = absurd looking
     looks_in (Uncounting n) answer looking told = absurd looking
@@ -161,21 +173,24 @@ module _ {K V S : Type 0} (store : StoreState K V S) where
 
   module _ (matches : K → Bool) (made : Made) (hash : ℕ) where
     -- the words that it is told stand in the tables
-    prompt_in : (sized : (n : ℕ) (t : TableWords) → table_of store.words.tables n ≡ Some t → IsSize (length t.slots) t.limit) → (s : State) (answer : Answer) → IsLooking s → IsToldBy matches store (asks made hash s) answer → IsPrompt (λ at. word_at store.words at) (asks made hash s) answer (λ at. word_at store.words at)
-    prompt_in sized AtRoot answer looking told = (told, λ at. refl)
-    prompt_in sized (Searching (Sizing t)) answer (table, there) told = ((length table.slots, table.limit, sized t table there, told ∙ ap size_of there), λ at. refl)
-    prompt_in sized (Searching (Looking at)) answer looking told = (told, λ at. refl)
-    prompt_in sized (Searching (Comparing at word)) answer looking told = ((matches_in matches (pair_of store (number_of word)), told), λ at. refl)
-    prompt_in sized (Leaving t) answer looking told = (told, λ at. refl)
-    prompt_in sized (Ended reply) answer looking told = absurd told
-    prompt_in sized Making answer looking told = absurd looking
-    prompt_in sized (Opening t) answer looking told = absurd looking
-    prompt_in sized (Writing write) answer looking told = absurd looking
-    prompt_in sized (Showing removal) answer looking told = absurd looking
-    prompt_in sized (Burying removal) answer looking told = absurd looking
-    prompt_in sized (Counting n) answer looking told = absurd looking
-    prompt_in sized (Uncounting n) answer looking told = absurd looking
-    prompt_in sized (Growing t) answer looking told = absurd looking
+    prompt_in : (task : Task) (sized : (n : ℕ) (t : TableWords) → table_of store.words.tables n ≡ Some t → IsSize (length t.slots) t.limit) → (s : State) (answer : Answer) → IsLooking s → IsToldBy matches store (asks made hash s) answer → IsPrompt task (λ at. word_at store.words at) (asks made hash s) answer (λ at. word_at store.words at)
+    prompt_in task sized AtRoot answer looking told = (told, λ at. refl)
+    prompt_in task sized (Searching (Sizing t)) answer (table, there) told = ((length table.slots, table.limit, sized t table there, told ∙ ap size_of there), λ at. refl)
+    prompt_in task sized (Searching (Looking at)) answer looking told = (told, λ at. refl)
+    prompt_in task sized (Searching (Comparing at word)) answer looking told = ((matches_in matches (pair_of store (number_of word)), told), λ at. refl)
+    prompt_in task sized (Leaving t) answer looking told = (told, λ at. refl)
+    prompt_in task sized (Ended reply) answer looking told = absurd told
+    prompt_in task sized Making answer looking told = absurd looking
+    prompt_in task sized (Opening t) answer looking told = absurd looking
+    prompt_in task sized (Writing write) answer looking told = absurd looking
+    prompt_in task sized (Showing removal) answer looking told = absurd looking
+    prompt_in task sized (Offering gap) answer looking told = absurd looking
+    prompt_in task sized (Pairing purpose) answer looking told = absurd looking
+    prompt_in task sized (Putting put) answer looking told = absurd looking
+    prompt_in task sized (Burying removal) answer looking told = absurd looking
+    prompt_in task sized (Counting n) answer looking told = absurd looking
+    prompt_in task sized (Uncounting n) answer looking told = absurd looking
+    prompt_in task sized (Growing t) answer looking told = absurd looking
 
     -- no pair of the log matches, nor one that isn't there
     none_matches : MatchesNone store matches → (n : ℕ) → matches_in matches (pair_of store n) ≡ false
@@ -197,6 +212,9 @@ module _ {K V S : Type 0} (store : StoreState K V S) where
     unmatched_in none (Opening t) answer looking told = absurd looking
     unmatched_in none (Writing write) answer looking told = absurd looking
     unmatched_in none (Showing removal) answer looking told = absurd looking
+    unmatched_in none (Offering gap) answer looking told = absurd looking
+    unmatched_in none (Pairing purpose) answer looking told = absurd looking
+    unmatched_in none (Putting put) answer looking told = absurd looking
     unmatched_in none (Burying removal) answer looking told = absurd looking
     unmatched_in none (Counting n) answer looking told = absurd looking
     unmatched_in none (Uncounting n) answer looking told = absurd looking
@@ -208,6 +226,7 @@ same_task m (Word_read word) = refl
 same_task m Exchanged = refl
 same_task m (Found_instead word) = refl
 same_task m (Yes same) = refl
+same_task m (Op kind) = refl
 same_task m (Size slots limit) = refl
 same_task m (Made_number n) = refl
 same_task m Ok_done = refl
@@ -225,6 +244,9 @@ none_replies made hash Making reply none e = absurd none
 none_replies made hash (Opening t) reply none e = absurd none
 none_replies made hash (Writing write) reply none e = absurd none
 none_replies made hash (Showing removal) reply none e = absurd none
+none_replies made hash (Offering gap) reply none e = absurd none
+none_replies made hash (Pairing purpose) reply none e = absurd none
+none_replies made hash (Putting put) reply none e = absurd none
 none_replies made hash (Burying removal) reply none e = absurd none
 none_replies made hash (Counting n) reply none e = absurd none
 none_replies made hash (Uncounting n) reply none e = absurd none
@@ -245,19 +267,19 @@ module _ {K V S : Type 0} (eq : K → K → Bool) (hash : K → ℕ) (mode : Res
   pub lookup_looks : IsLooking store (after m answer).state
   lookup_looks =
       subst (λ task. IsLooking store (after (record m { task = task }) answer).state) (sym getting)
-      (looks_in store matches (root_there eq hash mode store lawful keys) (single eq hash mode store lawful) m.made m.hash m.mode m.initial m.state answer looking told)
+      (looks_in store matches (root_there eq hash mode store lawful keys) (single eq hash mode store lawful) m.made m.remembered m.hash m.mode m.initial m.state answer looking told)
 
   -- it is nearer its end
   pub lookup_nears : IsCurrent (λ at. word_at store.words at) m.state → left (after m answer) < left m
   lookup_nears current =
       machine_nears (λ at. word_at store.words at) (λ at. word_at store.words at) m answer current.read (single eq hash mode store lawful)
-      (prompt_in store matches m.made m.hash (sized eq hash mode store lawful) m.state answer looking told)
+      (prompt_in store matches m.made m.hash m.task (sized eq hash mode store lawful) m.state answer looking told)
 
   -- and what it has read stands there still
   pub lookup_current : IsCurrent (λ at. word_at store.words at) m.state → IsCurrent (λ at. word_at store.words at) (after m answer).state
   lookup_current current =
       machine_stays (λ at. word_at store.words at) (λ at. word_at store.words at) m current.bare answer current.read
-      (prompt_in store matches m.made m.hash (sized eq hash mode store lawful) m.state answer looking told)
+      (prompt_in store matches m.made m.hash m.task (sized eq hash mode store lawful) m.state answer looking told)
 
   -- where no pair of the log matches, it meets none
   pub lookup_meets_none : MatchesNone store matches → HasMetNone m.state → HasMetNone (after m answer).state

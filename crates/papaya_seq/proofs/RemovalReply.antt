@@ -4,15 +4,15 @@ use denote.Ref.{Bor}
 use Rattle.std.proofs.lemmas.Bool.{cases_Bool}
 use Rattle.std.specs.Cmp.{IsEquivalence}
 use Rattle.std.specs.Fn.{Mut}
-use Rattle.papaya_call.specs.Rests.{said_in_reply}
+use Rattle.papaya_call.specs.Says.{Agrees, said_of_removal}
 use Rattle.papaya_call.specs.declared.call.Reply.{Reply}
-use Rattle.papaya_call.specs.declared.call.Reply.TheVariants.{Absent, Found, Inserted, Replaced, Occupied, Removed, Kept, Refused}
-use Rattle.papaya_core.specs.Content.{content}
+use Rattle.papaya_call.specs.declared.call.Reply.TheVariants.{Absent, Found, Inserted, Replaced, Occupied, Removed, Kept, Aborted, Refused}
+use Rattle.papaya_core.specs.Content.{content, map_in}
 use Rattle.papaya_core.specs.Maps.{Does, IsUpdate}
 use Rattle.papaya_core.specs.Solo.{IsAnswered}
 use Rattle.papaya_core.specs.Store.{StoreState, Stored, pair_of}
 use Rattle.papaya_core.proofs.SoloTimeline.{lookup_alike}
-use Rattle.papaya_seq.specs.Map.{Removes, Unchanged, map_of}
+use Rattle.papaya_seq.specs.Map.{Removes, Unchanged}
 use Rattle.papaya_seq.specs.Removes.{IsHeld, IsRemoval, Judges}
 use Rattle.papaya_seq.proofs.Lawful.{MatchesNone, logged_content, lookup_has_none, lookup_holds, none_held}
 use Rattle.papaya_seq.proofs.RemovalTurns.{IsJudged}
@@ -25,11 +25,11 @@ removal_none {K} {V} {S} eq matches said s s' reply none absent same =
 
 module _ {K V S F : Type 0} (g : Mut F (Bor K × (Bor V × Unit {0})) Bool) (eq : K → K → Bool) (classes : IsEquivalence eq) (matches : K → Bool) (k : K) (alike : (l : K) → matches l ≡ eq k l) (s s' : StoreState K V S) (agrees f : F) where
   -- equal keys have one pair
-  one_pair : (i j : K) → eq i j ≡ true → map_of eq s i ≡ map_of eq s j
+  one_pair : (i j : K) → eq i j ≡ true → map_in eq s i ≡ map_in eq s j
   one_pair i j = lookup_alike eq classes (λ (p : Stored K V). p.key) (content s) i j
 
   -- a class that has what it had
-  unchanged : (o : Option (Stored K V)) → IsUpdate eq k o o (map_of eq s) (map_of eq s') → Unchanged eq s s'
+  unchanged : (o : Option (Stored K V)) → IsUpdate eq k o o (map_in eq s) (map_in eq s') → Unchanged eq s s'
   unchanged o update j =
       ⊎_elim
       (λ (y : eq j k ≡ true). update.class j y ∙ sym (one_pair j k y ∙ update.before))
@@ -37,17 +37,17 @@ module _ {K V S F : Type 0} (g : Mut F (Bor K × (Bor V × Unit {0})) Bool) (eq 
       (cases_Bool (eq j k))
 
   -- the pair that the key has
-  held : (p : Stored K V) (n : ℕ) → map_of eq s k ≡ Some p → p.number ≡ n → IsHeld eq matches n s p
+  held : (p : Stored K V) (n : ℕ) → map_in eq s k ≡ Some p → p.number ≡ n → IsHeld eq matches n s p
   held p n here number =
       let holds = lookup_holds eq matches k alike s p here in
       record { held = holds; logged = ap (pair_of s) (sym number) ∙ logged_content s p holds.there }
 
   -- the closure judged that very pair
-  said : (p : Stored K V) (n : ℕ) (answered : Bool) → pair_of s n ≡ Some p → IsJudged g matches s agrees (Some (n, answered)) f → Judges g agrees p answered
+  said : (p : Stored K V) (n : ℕ) (answered : Bool) → pair_of s n ≡ Some p → IsJudged g matches s agrees (Some (Agrees n answered)) f → Judges g agrees p answered
   said p n answered logged (q, there, judges) = let is : Some q ≡ Some p = sym there ∙ logged in let same : q ≡ p = cc in subst (λ (y : Stored K V). Judges g agrees y answered) same judges
 
   -- it went
-  removes : (p : Stored K V) → IsUpdate eq k (Some p) None (map_of eq s) (map_of eq s') → Removes eq matches s p s'
+  removes : (p : Stored K V) → IsUpdate eq k (Some p) None (map_in eq s) (map_in eq s') → Removes eq matches s p s'
   removes p update =
       let holds = lookup_holds eq matches k alike s p update.before in
       let same : eq k p.key ≡ true = sym (alike p.key) ∙ holds.key in
@@ -97,23 +97,28 @@ module _ {K V S F : Type 0} (g : Mut F (Bor K × (Bor V × Unit {0})) Bool) (eq 
   occupied_not n None came does = does
   occupied_not n (Some p) came does = does
 
+  aborted_not : (t : ℕ) (went came : Option (Stored K V)) → Does (removal_by k) went (Aborted t) came → ⊥
+  aborted_not t None came does = does
+  aborted_not t (Some p) came does = does
+
   -- what the finite map does in the removal of an owned key
-  pub removal_done : (reply : Reply) → IsAnswered eq (removal_by k) (map_of eq s) reply (map_of eq s') → IsJudged g matches s agrees (said_in_reply reply) f → IsRemoval eq matches (Judges g agrees) s reply s'
+  pub removal_done : (reply : Reply) → IsAnswered eq (removal_by k) (map_in eq s) reply (map_in eq s') → IsJudged g matches s agrees (said_of_removal reply) f → IsRemoval eq matches (Judges g agrees) s reply s'
   removal_done Absent answered judged =
       let none = absent answered.went answered.came answered.does in
-      let update = subst (λ o. IsUpdate eq k o answered.came (map_of eq s) (map_of eq s')) none.0 answered.update in
-      (lookup_has_none eq matches k alike s update.before, unchanged None (subst (λ o. IsUpdate eq k None o (map_of eq s) (map_of eq s')) none.1 update))
+      let update = subst (λ o. IsUpdate eq k o answered.came (map_in eq s) (map_in eq s')) none.0 answered.update in
+      (lookup_has_none eq matches k alike s update.before, unchanged None (subst (λ o. IsUpdate eq k None o (map_in eq s) (map_in eq s')) none.1 update))
   removal_done (Removed n) answered judged =
       let (p, went, number, came) = removed n answered.went answered.came answered.does in
-      let update = subst (λ o. IsUpdate eq k o answered.came (map_of eq s) (map_of eq s')) went answered.update in
+      let update = subst (λ o. IsUpdate eq k o answered.came (map_in eq s) (map_in eq s')) went answered.update in
       let holds = held p n update.before number in
-      (p, holds, removes p (subst (λ o. IsUpdate eq k (Some p) o (map_of eq s) (map_of eq s')) came update), said p n true holds.logged judged)
+      (p, holds, removes p (subst (λ o. IsUpdate eq k (Some p) o (map_in eq s) (map_in eq s')) came update), said p n true holds.logged judged)
   removal_done (Kept n) answered judged =
       let (p, went, number, came) = kept n answered.went answered.came answered.does in
-      let update = subst (λ o. IsUpdate eq k o answered.came (map_of eq s) (map_of eq s')) went answered.update in
+      let update = subst (λ o. IsUpdate eq k o answered.came (map_in eq s) (map_in eq s')) went answered.update in
       let holds = held p n update.before number in
-      (p, holds, unchanged (Some p) (subst (λ o. IsUpdate eq k (Some p) o (map_of eq s) (map_of eq s')) came update), said p n false holds.logged judged)
-  removal_done (Refused refused) answered judged = answered
+      (p, holds, unchanged (Some p) (subst (λ o. IsUpdate eq k (Some p) o (map_in eq s) (map_in eq s')) came update), said p n false holds.logged judged)
+  removal_done (Refused refused) answered judged = answered.0
+  removal_done (Aborted t) answered judged = absurd (aborted_not t answered.went answered.came answered.does)
   removal_done (Found n) answered judged = absurd (found_not n answered.went answered.came answered.does)
   removal_done (Inserted n) answered judged = absurd (inserted_not n answered.went answered.came answered.does)
   removal_done (Replaced m n) answered judged = absurd (replaced_not m n answered.went answered.came answered.does)

@@ -4,7 +4,7 @@ use denote.Ref.{Bor}
 use Rattle.std.specs.Fn.{Mut}
 use Rattle.papaya_call.specs.Alone.{HasMetNone, IsRead}
 use Rattle.papaya_call.specs.Machine.{after, ask_of, asks, started}
-use Rattle.papaya_call.specs.Rests.{said_in, said_in_reply}
+use Rattle.papaya_call.specs.Says.{said_in, said_of_removal}
 use Rattle.papaya_call.specs.declared.ask.Answer.{Answer}
 use Rattle.papaya_call.specs.declared.ask.Ask.TheVariants.{AddToShard, Done as Ask_done}
 use Rattle.papaya_call.specs.declared.call.Reply.{Reply}
@@ -12,7 +12,7 @@ use Rattle.papaya_call.specs.declared.call.Reply.TheVariants.{Absent}
 use Rattle.papaya_call.specs.declared.call.Task.TheVariants.{RemoveIf}
 use Rattle.papaya_call.specs.declared.machine.Machine.{Machine}
 use Rattle.papaya_call.specs.declared.machine.State.{State}
-use Rattle.papaya_call.specs.declared.machine.State.TheVariants.{AtRoot, Making, Opening, Searching, Writing, Showing, Burying, Counting, Uncounting, Leaving, Growing, Ended}
+use Rattle.papaya_call.specs.declared.machine.State.TheVariants.{AtRoot, Making, Opening, Searching, Writing, Offering, Showing, Pairing, Putting, Burying, Counting, Uncounting, Leaving, Growing, Ended}
 use Rattle.papaya_call.specs.declared.search.Search.TheVariants.{Sizing, Looking, Comparing}
 use Rattle.papaya_call.specs.declared.write.Made.{Made}
 use Rattle.papaya_core.specs.Solo.{RunsAlone}
@@ -29,7 +29,7 @@ module _ {K V S F : Type 0} (g : Mut F (Bor K × (Bor V × Unit {0})) Bool) (eq 
     pub task : m.task ≡ RemoveIf
     pub stage : IsStage map.store m.state s
     pub read : IsRead (words_of s) m.state
-    pub judged : IsJudged g matches map.store agrees (said_in m.state) f
+    pub judged : IsJudged g matches map.store agrees (said_in RemoveIf m.state) f
     pub matched : (k : K) → ((l : K) → matches l ≡ eq k l) → hash map.store.hasher k ≡ hashed → IsMade eq hash map (removal_by k) s (removing m k)
     pub unmatched : MatchesNone map.store matches → HasMetNone m.state × (s ≡ map.store)
 
@@ -57,7 +57,7 @@ module _ {K V S F : Type 0} (g : Mut F (Bor K × (Bor V × Unit {0})) Bool) (eq 
       read = next_turn.read;
       judged = next_turn.judged;
       matched = λ k alike same. made_more eq hash map (removal_by k) s (removing m k) answer s' (removing m k)
-          (answered_going g matches (ask_of m) s f answer s' f' told) (performed g matches eq k alike m (ask_of m) s f answer s' f' told) refl (now.matched k alike same);
+          (answered_going g matches (ask_of m) s f answer s' f' told) (performed g matches eq k alike m now.task (ask_of m) s f answer s' f' told) refl (now.matched k alike same);
       unmatched = λ none. next_turn.unmet none (now.unmatched none).0;
     }
 
@@ -75,6 +75,9 @@ module _ {K V S F : Type 0} (g : Mut F (Bor K × (Bor V × Unit {0})) Bool) (eq 
   ended made h Making s reply stage e = absurd stage
   ended made h (Opening t) s reply stage e = absurd stage
   ended made h (Writing write) s reply stage e = absurd stage
+  ended made h (Offering gap) s reply stage e = absurd stage
+  ended made h (Pairing purpose) s reply stage e = absurd stage
+  ended made h (Putting put) s reply stage e = absurd stage
   ended made h (Counting n) s reply stage e = absurd stage
   ended made h (Growing t) s reply stage e = absurd stage
 
@@ -92,6 +95,9 @@ module _ {K V S F : Type 0} (g : Mut F (Bor K × (Bor V × Unit {0})) Bool) (eq 
   counts made h Making s by stage e = absurd stage
   counts made h (Opening t) s by stage e = absurd stage
   counts made h (Writing write) s by stage e = absurd stage
+  counts made h (Offering gap) s by stage e = absurd stage
+  counts made h (Pairing purpose) s by stage e = absurd stage
+  counts made h (Putting put) s by stage e = absurd stage
   counts made h (Counting n) s by stage e = absurd stage
   counts made h (Growing t) s by stage e = absurd stage
 
@@ -107,8 +113,8 @@ module _ {K V S F : Type 0} (g : Mut F (Bor K × (Bor V × Unit {0})) Bool) (eq 
     ends = subst (λ st. IsStage map.store st s) state_is now.stage
 
     -- its reply is what its closure said
-    pub judged_reply : IsJudged g matches map.store agrees (said_in_reply reply) f
-    judged_reply = subst (λ st. IsJudged g matches map.store agrees (said_in st) f) state_is now.judged
+    pub judged_reply : IsJudged g matches map.store agrees (said_of_removal reply) f
+    judged_reply = subst (λ st. IsJudged g matches map.store agrees (said_in RemoveIf st) f) state_is now.judged
 
     -- by an owned key it is a call made alone
     pub alone : (k : K) → ((l : K) → matches l ≡ eq k l) → hash map.store.hasher k ≡ hashed → hash map.store.hasher k < 2 ^ 64 → RunsAlone eq hash (core_of map) (removal_by k) reply (seated s None map.mode map.initial)

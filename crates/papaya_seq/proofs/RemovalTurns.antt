@@ -10,7 +10,7 @@ use Rattle.papaya_words.specs.declared.word.Kind.TheVariants as kinds
 use Rattle.papaya_call.specs.Alone.{HasMetNone, IsBare, IsPrompt, IsRead, IsUnmatched, left, word_of_place}
 use Rattle.papaya_call.specs.Machine.{IsFit, after, agreed, ask_of}
 use Rattle.papaya_call.specs.Remove.{grave_word}
-use Rattle.papaya_call.specs.Rests.{Said, said_in}
+use Rattle.papaya_call.specs.Says.{Said, Agrees, Inserts, Makes, Removes, said_in}
 use Rattle.papaya_call.specs.Search.{IsSize, look}
 use Rattle.papaya_call.specs.declared.ask.Answer.{Answer}
 use Rattle.papaya_call.specs.declared.ask.Answer.TheVariants.{Word as Word_read, Exchanged, Yes, Size, Ok as Ok_done}
@@ -18,9 +18,10 @@ use Rattle.papaya_call.specs.declared.ask.At.{At}
 use Rattle.papaya_call.specs.declared.ask.At.TheVariants.{Root, Next, Slot}
 use Rattle.papaya_call.specs.declared.call.Reply.TheVariants.{Absent}
 use Rattle.papaya_call.specs.declared.call.Task.TheVariants.{RemoveIf}
+use Rattle.papaya_call.specs.declared.compute.Remembered.{Remembered}
 use Rattle.papaya_call.specs.declared.machine.Machine.{Machine}
 use Rattle.papaya_call.specs.declared.machine.State.{State}
-use Rattle.papaya_call.specs.declared.machine.State.TheVariants.{AtRoot, Making, Opening, Searching, Writing, Showing, Burying, Counting, Uncounting, Leaving, Growing, Ended}
+use Rattle.papaya_call.specs.declared.machine.State.TheVariants.{AtRoot, Making, Opening, Searching, Writing, Offering, Showing, Pairing, Putting, Burying, Counting, Uncounting, Leaving, Growing, Ended}
 use Rattle.papaya_call.specs.declared.remove.Removal.{Removal}
 use Rattle.papaya_call.specs.declared.search.Place.{Place}
 use Rattle.papaya_call.specs.declared.search.Search.TheVariants.{Sizing, Looking, Comparing}
@@ -47,9 +48,12 @@ pub record IsFound {K V S : Type 0} (first : StoreState K V S) : Type 0 where
 
 module _ {K V S F : Type 0} (g : Mut F (Bor K × (Bor V × Unit {0})) Bool) (matches : K → Bool) (first : StoreState K V S) (agrees : F) where
   -- the closure is as it was handed in, or was called once, at the pair that it answered for
-  abbrev pub IsJudged : Said → F → Type 0
+  abbrev pub IsJudged : Option Said → F → Type 0
   IsJudged None f = f ≡ agrees
-  IsJudged (Some (n, answered)) f = (p : Stored K V) × (pair_of first n ≡ Some p) × Judges g agrees p answered
+  IsJudged (Some (Agrees n answered)) f = (p : Stored K V) × (pair_of first n ≡ Some p) × Judges g agrees p answered
+  IsJudged (Some (Inserts shown)) f = ⊥
+  IsJudged (Some (Makes shown n)) f = ⊥
+  IsJudged (Some (Removes n)) f = ⊥
 
   -- an answer leaves a removal in order, and nearer its end
   pub record Turns (m : Machine) (answer : Answer) (s' : StoreState K V S) (f' : F) : Type 0 where
@@ -58,7 +62,7 @@ module _ {K V S F : Type 0} (g : Mut F (Bor K × (Bor V × Unit {0})) Bool) (mat
     pub nearer : left (after m answer) < left m
     pub stage : IsStage first (after m answer).state s'
     pub read : IsRead (words_of s') (after m answer).state
-    pub judged : IsJudged (said_in (after m answer).state) f'
+    pub judged : IsJudged (said_in RemoveIf (after m answer).state) f'
     pub unmet : MatchesNone first matches → HasMetNone m.state → HasMetNone (after m answer).state × (s' ≡ first)
 
   turned : (m : Machine) (told answer : Answer) (s s' : StoreState K V S) (f f' : F) → answer ≡ told → s' ≡ s → f' ≡ f → Turns m told s f → Turns m answer s' f'
@@ -70,13 +74,13 @@ module _ {K V S F : Type 0} (g : Mut F (Bor K × (Bor V × Unit {0})) Bool) (mat
   none_in none n None is = refl
   none_in none n (Some p) is = none n p is
 
-  module _ (found : IsFound first) (made : Made) (hash : ℕ) (mode : ResizeMode) (initial : ℕ) where
+  module _ (found : IsFound first) (made : Made) (hash : ℕ) (mode : ResizeMode) (initial : ℕ) (held : Remembered) where
     -- the removal in a state
     abbrev at : State → Machine
-    at st = record { task = RemoveIf; hash = hash; mode = mode; initial = initial; made = made; state = st }
+    at st = record { task = RemoveIf; hash = hash; mode = mode; initial = initial; made = made; remembered = held; state = st }
 
     -- a turn in which no word is changed and the closure is not asked
-    quiet : (st : State) (told : Answer) → (after (at st) told).task ≡ RemoveIf → IsFit told → IsRead (words_of first) st → IsPrompt (words_of first) (ask_of (at st)) told (words_of first) → IsUnasked first (after (at st) told).state → (MatchesNone first matches → IsUnmatched (ask_of (at st)) told) → Turns (at st) told first agrees
+    quiet : (st : State) (told : Answer) → (after (at st) told).task ≡ RemoveIf → IsFit told → IsRead (words_of first) st → IsPrompt RemoveIf (words_of first) (ask_of (at st)) told (words_of first) → IsUnasked first (after (at st) told).state → (MatchesNone first matches → IsUnmatched (ask_of (at st)) told) → Turns (at st) told first agrees
     quiet st told task fit read prompt stage unmatched = record {
       task = task;
       fit = fit;
@@ -103,13 +107,13 @@ module _ {K V S F : Type 0} (g : Mut F (Bor K × (Bor V × Unit {0})) Bool) (mat
     looking_turn place =
         let word = word_of_place (words_of first) place in
         quiet (Searching (Looking place)) (Word_read word) refl tt tt (refl, λ at. refl)
-        (goes_stage first mode (look place hash word) (look_sight first (kind_of word) place hash word refl (found.unshut place.table place.probe.i)))
+        (goes_stage first mode held (look place hash word) (look_sight first (kind_of word) place hash word refl (found.unshut place.table place.probe.i)))
         (λ none. (word, refl))
 
     comparing_turn : (place : Place) (word : ℕ) → word_of_place (words_of first) place ≡ word → kind_of word ≡ kinds.Live → Turns (at (Searching (Comparing place word))) (Yes (matches_in matches (pair_of first (number_of word)))) first agrees
     comparing_turn place word read live =
         quiet (Searching (Comparing place word)) (Yes (matches_in matches (pair_of first (number_of word)))) refl tt read ((_, refl), λ at. refl)
-        (goes_stage first mode _ (compared_sight first place word live matches (pair_of first (number_of word)) refl))
+        (goes_stage first mode held _ (compared_sight first place word live matches (pair_of first (number_of word)) refl))
         (λ none. ap Yes (none_in none (number_of word) (pair_of first (number_of word)) refl))
 
     -- no table has a next one
@@ -118,7 +122,7 @@ module _ {K V S F : Type 0} (g : Mut F (Bor K × (Bor V × Unit {0})) Bool) (mat
 
     showing_turn : (removal : Removal) → word_of_place (words_of first) removal.place ≡ removal.word → kind_of removal.word ≡ kinds.Live → (p : Stored K V) → pair_of first (number_of removal.word) ≡ Some p → (answered : Bool) (f' : F) → Judges g agrees p answered → Turns (at (Showing removal)) (Yes answered) first f'
     showing_turn removal read live p logged answered f' judges =
-        let prompt : IsPrompt (words_of first) (ask_of (at (Showing removal))) (Yes answered) (words_of first) = ((answered, refl), λ at. refl) in
+        let prompt : IsPrompt RemoveIf (words_of first) (ask_of (at (Showing removal))) (Yes answered) (words_of first) = ((answered, refl), λ at. refl) in
         record {
           task = refl;
           fit = tt;
@@ -129,11 +133,11 @@ module _ {K V S F : Type 0} (g : Mut F (Bor K × (Bor V × Unit {0})) Bool) (mat
           unmet = λ none met. absurd met;
         }
       where
-        agreed_so : (b : Bool) → IsStage first (agreed removal b) first × (said_in (agreed removal b) ≡ Some (number_of removal.word, b))
+        agreed_so : (b : Bool) → IsStage first (agreed removal b) first × (said_in RemoveIf (agreed removal b) ≡ Some (Agrees (number_of removal.word) b))
         agreed_so true = ((refl, live), refl)
         agreed_so false = ((tt, same_log first), refl)
 
-    burying_turn : (removal : Removal) → (f : F) → IsJudged (Some (number_of removal.word, true)) f → Turns (at (Burying removal)) Exchanged (record first { words = put first.words (Slot removal.place.table removal.place.probe.i) (grave_word removal.word) }) f
+    burying_turn : (removal : Removal) → (f : F) → IsJudged (Some (Agrees (number_of removal.word) true)) f → Turns (at (Burying removal)) Exchanged (record first { words = put first.words (Slot removal.place.table removal.place.probe.i) (grave_word removal.word) }) f
     burying_turn removal f judged = record {
       task = refl;
       fit = tt;
@@ -144,7 +148,7 @@ module _ {K V S F : Type 0} (g : Mut F (Bor K × (Bor V × Unit {0})) Bool) (mat
       unmet = λ none met. absurd met;
     }
 
-    uncounting_turn : (n : ℕ) (s s' : StoreState K V S) (f : F) → IsLogOf first s → s'.keys ≡ s.keys → s'.pairs ≡ s.pairs → s'.hasher ≡ s.hasher → IsJudged (Some (n, true)) f → Turns (at (Uncounting n)) Ok_done s' f
+    uncounting_turn : (n : ℕ) (s s' : StoreState K V S) (f : F) → IsLogOf first s → s'.keys ≡ s.keys → s'.pairs ≡ s.pairs → s'.hasher ≡ s.hasher → IsJudged (Some (Agrees n true)) f → Turns (at (Uncounting n)) Ok_done s' f
     uncounting_turn n s s' f log keys pairs hasher judged = record {
       task = refl;
       fit = tt;
@@ -156,7 +160,7 @@ module _ {K V S F : Type 0} (g : Mut F (Bor K × (Bor V × Unit {0})) Bool) (mat
     }
 
     -- in each state
-    turn_in : (st : State) (s : StoreState K V S) (f : F) (answer : Answer) (s' : StoreState K V S) (f' : F) → IsStage first st s → IsRead (words_of s) st → IsJudged (said_in st) f → IsAnswer g matches (ask_of (at st)) s f answer s' f' → Turns (at st) answer s' f'
+    turn_in : (st : State) (s : StoreState K V S) (f : F) (answer : Answer) (s' : StoreState K V S) (f' : F) → IsStage first st s → IsRead (words_of s) st → IsJudged (said_in RemoveIf st) f → IsAnswer g matches (ask_of (at st)) s f answer s' f' → Turns (at st) answer s' f'
     turn_in AtRoot s f answer s' f' was read alike (e, stays, kept) = turned (at AtRoot) _ answer first s' agrees f' (e ∙ ap (λ (y : StoreState K V S). Word_read (word_at y.words Root)) was) (stays ∙ was) (kept ∙ alike) root_turn
     turn_in (Searching (Sizing t)) s f answer s' f' (was, (table, there)) read alike (e, stays, kept) =
         turned (at (Searching (Sizing t))) _ answer first s' agrees f' (e ∙ ap (λ (y : StoreState K V S). size_of (table_of y.words.tables t)) was ∙ ap size_of there) (stays ∙ was) (kept ∙ alike) (sizing_turn t table there)
@@ -183,11 +187,14 @@ module _ {K V S F : Type 0} (g : Mut F (Bor K × (Bor V × Unit {0})) Bool) (mat
     turn_in Making s f answer s' f' stage read judged told = absurd stage
     turn_in (Opening t) s f answer s' f' stage read judged told = absurd stage
     turn_in (Writing write) s f answer s' f' stage read judged told = absurd stage
+    turn_in (Offering gap) s f answer s' f' stage read judged told = absurd stage
+    turn_in (Pairing purpose) s f answer s' f' stage read judged told = absurd stage
+    turn_in (Putting put) s f answer s' f' stage read judged told = absurd stage
     turn_in (Counting n) s f answer s' f' stage read judged told = absurd stage
     turn_in (Growing t) s f answer s' f' stage read judged told = absurd stage
 
   -- of a removal's machine
-  pub machine_turns : IsFound first → (m : Machine) → m.task ≡ RemoveIf → (s : StoreState K V S) (f : F) (answer : Answer) (s' : StoreState K V S) (f' : F) → IsStage first m.state s → IsRead (words_of s) m.state → IsJudged (said_in m.state) f → IsAnswer g matches (ask_of m) s f answer s' f' → Turns m answer s' f'
+  pub machine_turns : IsFound first → (m : Machine) → m.task ≡ RemoveIf → (s : StoreState K V S) (f : F) (answer : Answer) (s' : StoreState K V S) (f' : F) → IsStage first m.state s → IsRead (words_of s) m.state → IsJudged (said_in RemoveIf m.state) f → IsAnswer g matches (ask_of m) s f answer s' f' → Turns m answer s' f'
   machine_turns found m task s f answer s' f' stage read judged told =
-      let is : m ≡ at found m.made m.hash m.mode m.initial m.state = ap (λ t. record m { task = t }) task in
-      subst (λ y. Turns y answer s' f') (sym is) (turn_in found m.made m.hash m.mode m.initial m.state s f answer s' f' stage read judged told)
+      let is : m ≡ at found m.made m.hash m.mode m.initial m.remembered m.state = ap (λ t. record m { task = t }) task in
+      subst (λ y. Turns y answer s' f') (sym is) (turn_in found m.made m.hash m.mode m.initial m.remembered m.state s f answer s' f' stage read judged told)

@@ -11,25 +11,26 @@ use Rattle.papaya_words.specs.declared.probe.ResizeMode.TheVariants.{Incremental
 use Rattle.papaya_words.specs.declared.word.Kind.{Kind}
 use Rattle.papaya_words.specs.declared.word.Kind.TheVariants as kinds
 use Rattle.papaya_call.specs.Machine.{goes_as, passes, removes}
-use Rattle.papaya_call.specs.Rests.{said_in}
+use Rattle.papaya_call.specs.Says.{said_in}
 use Rattle.papaya_call.specs.Search.{at_yes as search_compared, go_on, look_at, match_at, next_place}
 use Rattle.papaya_call.specs.declared.ask.Answer.{Answer}
 use Rattle.papaya_call.specs.declared.ask.Answer.TheVariants.{Word as Word_read, Yes, Ok as Ok_done}
 use Rattle.papaya_call.specs.declared.ask.Ask.{Ask}
-use Rattle.papaya_call.specs.declared.ask.Ask.TheVariants.{Load, Exchange, SameKey, ShowPair, SizeOf, MakeKey, MakePair, MakeTable, AddToShard, Done as Ask_done}
+use Rattle.papaya_call.specs.declared.ask.Ask.TheVariants.{Load, Exchange, SameKey, ShowNone, ShowPair, SizeOf, MakeKey, MakePair, MakeTable, AddToShard, Done as Ask_done}
 use Rattle.papaya_call.specs.declared.call.Call.{Call}
 use Rattle.papaya_call.specs.declared.call.Call.TheVariants.{RemoveIf as RemoveIf_call}
 use Rattle.papaya_call.specs.declared.call.Reply.{Reply}
-use Rattle.papaya_call.specs.declared.call.Reply.TheVariants.{Absent, Found, Inserted, Replaced, Occupied, Removed, Kept, Refused as Reply_refused}
+use Rattle.papaya_call.specs.declared.call.Reply.TheVariants.{Absent, Found, Inserted, Replaced, Occupied, Removed, Kept, Aborted, Refused as Reply_refused}
 use Rattle.papaya_call.specs.declared.call.Task.TheVariants.{RemoveIf}
+use Rattle.papaya_call.specs.declared.compute.Remembered.{Remembered}
 use Rattle.papaya_call.specs.declared.machine.Machine.{Machine}
 use Rattle.papaya_call.specs.declared.machine.State.{State}
-use Rattle.papaya_call.specs.declared.machine.State.TheVariants.{AtRoot, Making, Opening, Searching, Writing, Showing, Burying, Counting, Uncounting, Leaving, Growing, Ended}
+use Rattle.papaya_call.specs.declared.machine.State.TheVariants.{AtRoot, Making, Opening, Searching, Writing, Offering, Showing, Pairing, Putting, Burying, Counting, Uncounting, Leaving, Growing, Ended}
 use Rattle.papaya_call.specs.declared.search.Place.{Place}
 use Rattle.papaya_call.specs.declared.search.Search.TheVariants.{Sizing, Looking, Comparing}
 use Rattle.papaya_call.specs.declared.search.Seen.{Seen}
 use Rattle.papaya_call.specs.declared.search.Seen.TheVariants as seen
-use Rattle.papaya_core.specs.Performs.{Exchanges, Performs, Shows, same, size_of}
+use Rattle.papaya_core.specs.Performs.{Exchanges, Judges, Performs, ShowsPair, same, size_of}
 use Rattle.papaya_core.specs.Solo.{whatever}
 use Rattle.papaya_core.specs.Store.{StoreState, Stored, pair_of}
 use Rattle.papaya_core.specs.Tables.{put, table_of, word_at}
@@ -71,6 +72,7 @@ module _ {K V S F : Type 0} (g : Mut F (Bor K × (Bor V × Unit {0})) Bool) (mat
   IsAnswer (SizeOf t) s f answer s' f' = (answer ≡ size_of (table_of s.words.tables t)) × (s' ≡ s) × (f' ≡ f)
   IsAnswer (AddToShard by) s f answer s' f' = (answer ≡ Ok_done) × (s' ≡ record s { count = record s.count { sum = int_wrap w64 (s.count.sum +ℤ by) } }) × (f' ≡ f)
   IsAnswer MakeKey s f answer s' f' = ⊥
+  IsAnswer ShowNone s f answer s' f' = ⊥
   IsAnswer MakePair s f answer s' f' = ⊥
   IsAnswer (MakeTable slots limit) s f answer s' f' = ⊥
   IsAnswer (Ask_done reply) s f answer s' f' = ⊥
@@ -84,26 +86,28 @@ module _ {K V S F : Type 0} (g : Mut F (Bor K × (Bor V × Unit {0})) Bool) (mat
   answered_going (SizeOf t) s f answer s' f' told = refl
   answered_going (AddToShard by) s f answer s' f' told = refl
   answered_going MakeKey s f answer s' f' told = absurd told
+  answered_going ShowNone s f answer s' f' told = absurd told
   answered_going MakePair s f answer s' f' told = absurd told
   answered_going (MakeTable slots limit) s f answer s' f' told = absurd told
   answered_going (Ask_done reply) s f answer s' f' told = absurd told
 
   -- and a core with the owned key answers so too
-  pub performed : (eq : K → K → Bool) (k : K) → ((l : K) → matches l ≡ eq k l) → (m : Machine) (ask : Ask) (s : StoreState K V S) (f : F) (answer : Answer) (s' : StoreState K V S) (f' : F) → IsAnswer ask s f answer s' f' → Performs eq whatever false ask s (removing m k) answer s' (removing m k)
-  performed eq k alike m (Load at) s f answer s' f' (e, stays, _) = (e, (stays, refl))
-  performed eq k alike m (Exchange at old new) s f answer s' f' (done, _) = (done, refl)
-  performed eq k alike m (SameKey n) s f answer s' f' (e, stays, _) = (e ∙ ap Yes (same_matches eq matches k alike (pair_of s n)), (stays, refl))
-  performed eq k alike m (ShowPair n) s f answer s' f' (shown, stays) = shows (pair_of s n) refl shown
+  pub performed : (eq : K → K → Bool) (k : K) → ((l : K) → matches l ≡ eq k l) → (m : Machine) → m.task ≡ RemoveIf → (ask : Ask) (s : StoreState K V S) (f : F) (answer : Answer) (s' : StoreState K V S) (f' : F) → IsAnswer ask s f answer s' f' → Performs eq whatever false ask s (removing m k) answer s' (removing m k)
+  performed eq k alike m is_removal (Load at) s f answer s' f' (e, stays, _) = (e, (stays, refl))
+  performed eq k alike m is_removal (Exchange at old new) s f answer s' f' (done, _) = (done, refl)
+  performed eq k alike m is_removal (SameKey n) s f answer s' f' (e, stays, _) = (e ∙ ap Yes (same_matches eq matches k alike (pair_of s n)), (stays, refl))
+  performed eq k alike m is_removal (ShowPair n) s f answer s' f' (shown, stays) = subst (λ task. ShowsPair task whatever n s (removing m k) answer s' (removing m k)) (sym is_removal) (shows (pair_of s n) refl shown)
     where
-      shows : (o : Option (Stored K V)) → pair_of s n ≡ o → IsShown g o f answer f' → Shows whatever n s (removing m k) answer s' (removing m k)
-      shows None is (e, _) = inl (inr is, e, (stays, refl))
+      shows : (o : Option (Stored K V)) → pair_of s n ≡ o → IsShown g o f answer f' → Judges whatever n s (removing m k) answer s' (removing m k)
+      shows None is (e, _) = inl (inr is, (e, (stays, refl)))
       shows (Some p) is (key, value, agrees, _, _, e, _) = inr (tt, p, agrees, tt, refl, is, tt, e, stays, refl)
-  performed eq k alike m (SizeOf t) s f answer s' f' (e, stays, _) = (e, (stays, refl))
-  performed eq k alike m (AddToShard by) s f answer s' f' (e, added, _) = (e, added, refl)
-  performed eq k alike m MakeKey s f answer s' f' told = absurd told
-  performed eq k alike m MakePair s f answer s' f' told = absurd told
-  performed eq k alike m (MakeTable slots limit) s f answer s' f' told = absurd told
-  performed eq k alike m (Ask_done reply) s f answer s' f' told = absurd told
+  performed eq k alike m is_removal (SizeOf t) s f answer s' f' (e, stays, _) = (e, (stays, refl))
+  performed eq k alike m is_removal (AddToShard by) s f answer s' f' (e, added, _) = (e, added, refl)
+  performed eq k alike m is_removal MakeKey s f answer s' f' told = absurd told
+  performed eq k alike m is_removal ShowNone s f answer s' f' told = absurd told
+  performed eq k alike m is_removal MakePair s f answer s' f' told = absurd told
+  performed eq k alike m is_removal (MakeTable slots limit) s f answer s' f' told = absurd told
+  performed eq k alike m is_removal (Ask_done reply) s f answer s' f' told = absurd told
 
 -- a word of this kind is not being copied, and was not
 abbrev pub IsOpen : Kind → Type 0
@@ -132,6 +136,7 @@ IsEnd (Replaced o n) = Unit {0}
 IsEnd (Occupied n) = Unit {0}
 IsEnd (Removed n) = Unit {0}
 IsEnd (Kept n) = Unit {0}
+IsEnd (Aborted t) = Unit {0}
 
 module _ {K V S : Type 0} (first : StoreState K V S) where
   -- the store between two asks of a removal that found `first`: no word was changed before the pair is buried
@@ -148,6 +153,9 @@ module _ {K V S : Type 0} (first : StoreState K V S) where
   IsStage Making s = ⊥
   IsStage (Opening t) s = ⊥
   IsStage (Writing write) s = ⊥
+  IsStage (Offering gap) s = ⊥
+  IsStage (Pairing purpose) s = ⊥
+  IsStage (Putting put) s = ⊥
   IsStage (Counting n) s = ⊥
   IsStage (Growing t) s = ⊥
 
@@ -183,17 +191,17 @@ module _ {K V S : Type 0} (first : StoreState K V S) where
 
   -- a stage that the closure was not asked in
   abbrev pub IsUnasked : State → Type 0
-  IsUnasked st = IsStage st first × (said_in st ≡ None)
+  IsUnasked st = IsStage st first × (said_in RemoveIf st ≡ None)
 
-  passes_stage : (mode : ResizeMode) (t : ℕ) → IsUnasked (passes mode t)
-  passes_stage (Incremental chunk) t = (refl, refl)
-  passes_stage Blocking t = ((tt, same_log first), refl)
+  passes_stage : (mode : ResizeMode) (fill : Option ℕ) (t : ℕ) → IsUnasked (passes RemoveIf mode fill t)
+  passes_stage (Incremental chunk) fill t = (refl, refl)
+  passes_stage Blocking fill t = ((tt, same_log first), refl)
 
   -- where a search leads
-  pub goes_stage : (mode : ResizeMode) (sight : Seen) → IsSight sight → IsUnasked (goes_as RemoveIf mode sight)
-  goes_stage mode (seen.On (Sizing t)) is = absurd is
-  goes_stage mode (seen.On (Looking at)) is = (refl, refl)
-  goes_stage mode (seen.On (Comparing at word)) is = ((refl, is), refl)
-  goes_stage mode (seen.Empty at) is = ((tt, same_log first), refl)
-  goes_stage mode (seen.Here at word) (live, logged) = subst (λ kind. IsUnasked (removes kind at word)) (sym live) ((refl, live, logged), refl)
-  goes_stage mode (seen.Over t) is = passes_stage mode t
+  pub goes_stage : (mode : ResizeMode) (held : Remembered) (sight : Seen) → IsSight sight → IsUnasked (goes_as RemoveIf mode held sight)
+  goes_stage mode held (seen.On (Sizing t)) is = absurd is
+  goes_stage mode held (seen.On (Looking at)) is = (refl, refl)
+  goes_stage mode held (seen.On (Comparing at word)) is = ((refl, is), refl)
+  goes_stage mode held (seen.Empty at) is = ((tt, same_log first), refl)
+  goes_stage mode held (seen.Here at word) (live, logged) = subst (λ kind. IsUnasked (removes kind at word)) (sym live) ((refl, live, logged), refl)
+  goes_stage mode held (seen.Over t) is = passes_stage mode held.fill t

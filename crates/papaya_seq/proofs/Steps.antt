@@ -7,9 +7,9 @@ use Rattle.papaya_words.specs.declared.probe.ResizeMode.{ResizeMode}
 use Rattle.papaya_call.specs.Alone.{IsMaking, IsPrompt, IsPut, IsSame}
 use Rattle.papaya_call.specs.Answers.{Says}
 use Rattle.papaya_call.specs.declared.ask.Ask.{Ask}
-use Rattle.papaya_call.specs.declared.ask.Ask.TheVariants.{Load, Exchange, SameKey, ShowPair, SizeOf, MakeKey, MakePair, MakeTable, AddToShard, Done as Ask_done}
+use Rattle.papaya_call.specs.declared.ask.Ask.TheVariants.{Load, Exchange, SameKey, ShowNone, ShowPair, SizeOf, MakeKey, MakePair, MakeTable, AddToShard, Done as Ask_done}
 use Rattle.papaya_call.specs.declared.ask.Answer.{Answer}
-use Rattle.papaya_call.specs.declared.ask.Answer.TheVariants.{Word as Word_read, Exchanged, Found as Found_instead, Yes, Size, Made as Made_number, Ok as Ok_done, Refused as Was_refused}
+use Rattle.papaya_call.specs.declared.ask.Answer.TheVariants.{Word as Word_read, Exchanged, Found as Found_instead, Yes, Op, Size, Made as Made_number, Ok as Ok_done, Refused as Was_refused}
 use Rattle.papaya_call.specs.declared.machine.Machine.{Machine}
 use Rattle.papaya_call.specs.declared.ask.At.{At}
 use Rattle.papaya_call.specs.declared.ask.At.TheVariants.{Root, Next, Aborted, Done, Slot}
@@ -29,7 +29,7 @@ use Rattle.papaya_core.specs.Core.{CoreState}
 use Rattle.papaya_core.specs.Performs.{Performs, Refuses, size_of}
 use Rattle.papaya_core.specs.Runs.{History, StepsRun, with_event, with_step}
 use Rattle.papaya_core.specs.Solo.{RunsAlone, whatever}
-use Rattle.papaya_core.specs.Store.{StoreState, Stored, pair_of}
+use Rattle.papaya_core.specs.Store.{StoreState}
 use Rattle.papaya_core.specs.Tables.{Tables, put, table_of, word_at}
 use Rattle.papaya_core.proofs.CoreLemmas.{caused, still_going}
 use Rattle.papaya_core.proofs.KeptTables.{word-here, word-made, word-other}
@@ -115,32 +115,6 @@ module _ {K V S A : Type 0} (eq : K → K → Bool) (hash : S → K → ℕ) (s 
         replied = ends.3;
       }
 
--- the same call, with no answers of a closure
-abbrev pub silent : {K V A : Type 0} → Running K V A → Running K V (Unit {0})
-silent r = record { machine = r.machine; key = r.key; value = r.value; answers = None }
-
-module _ {K V S A : Type 0} (eq : K → K → Bool) (says : Says K V A) where
-  -- a call whose closure gives no answers: what they are makes no difference
-  pub silent_performs : (refuse : Bool) (ask : Ask) (store : StoreState K V S) (r : Running K V A) (answer : Answer) (store' : StoreState K V S) (later : Running K V A) → r.answers ≡ None → Performs eq says refuse ask store r answer store' later → Performs eq whatever refuse ask store (silent r) answer store' (silent later) × (later.answers ≡ None)
-  silent_performs refuse (Load at) store r answer store' later none (e, (same, stays)) = ((e, (same, ap silent stays)), ap (λ q. q.answers) stays ∙ none)
-  silent_performs refuse (Exchange at old new) store r answer store' later none (made, stays) = ((made, ap silent stays), ap (λ q. q.answers) stays ∙ none)
-  silent_performs refuse (SameKey n) store r answer store' later none (e, (same, stays)) = ((e, (same, ap silent stays)), ap (λ q. q.answers) stays ∙ none)
-  silent_performs refuse (ShowPair n) store r answer store' later none (inl (gone, e, (same, stays))) = (inl (inl refl, e, (same, ap silent stays)), ap (λ q. q.answers) stays ∙ none)
-  silent_performs refuse (ShowPair n) store r answer store' later none (inr shown) = let f : None ≡ Some shown.0 = sym none ∙ shown.4 in absurd cc
-  silent_performs refuse (SizeOf n) store r answer store' later none (e, (same, stays)) = ((e, (same, ap silent stays)), ap (λ q. q.answers) stays ∙ none)
-  silent_performs true MakeKey store r answer store' later none (e, (same, stays)) = ((e, (same, ap silent stays)), ap (λ q. q.answers) stays ∙ none)
-  silent_performs true MakePair store r answer store' later none (e, (same, stays)) = ((e, (same, ap silent stays)), ap (λ q. q.answers) stays ∙ none)
-  silent_performs true (MakeTable slots limit) store r answer store' later none (e, (same, stays)) = ((e, (same, ap silent stays)), ap (λ q. q.answers) stays ∙ none)
-  silent_performs false MakeKey store r answer store' later none (inl (refused, (same, stays))) = (inl (refused, (same, ap silent stays)), ap (λ q. q.answers) stays ∙ none)
-  silent_performs false MakeKey store r answer store' later none (inr (inl (has, (same, stays)))) = (inr (inl (has, (same, ap silent stays))), ap (λ q. q.answers) stays ∙ none)
-  silent_performs false MakeKey store r answer store' later none (inr (inr (k, own, e, few, same, goes))) = (inr (inr (k, own, e, few, same, ap silent goes)), ap (λ q. q.answers) goes ∙ none)
-  silent_performs false MakePair store r answer store' later none (inl (refused, (same, stays))) = (inl (refused, (same, ap silent stays)), ap (λ q. q.answers) stays ∙ none)
-  silent_performs false MakePair store r answer store' later none (inr (inl (has, (same, stays)))) = (inr (inl (has, (same, ap silent stays))), ap (λ q. q.answers) stays ∙ none)
-  silent_performs false MakePair store r answer store' later none (inr (inr (n, v, key, value, e, few, same, goes))) = (inr (inr (n, v, key, value, e, few, same, ap silent goes)), ap (λ q. q.answers) goes ∙ none)
-  silent_performs false (MakeTable slots limit) store r answer store' later none (made, stays) = ((made, ap silent stays), ap (λ q. q.answers) stays ∙ none)
-  silent_performs refuse (AddToShard by) store r answer store' later none (e, same, stays) = ((e, same, ap silent stays), ap (λ q. q.answers) stays ∙ none)
-  silent_performs refuse (Ask_done reply) store r answer store' later none (e, (same, stays)) = ((e, (same, ap silent stays)), ap (λ q. q.answers) stays ∙ none)
-
 -- the words of a store
 abbrev pub words_of : {K V S : Type 0} → StoreState K V S → At → ℕ
 words_of store at = word_at store.words at
@@ -178,12 +152,13 @@ same_words : {K V S : Type 0} (store store' : StoreState K V S) → store' ≡ s
 same_words store store' same at = ap (λ y. words_of y at) same
 
 module _ {K V S A : Type 0} where
-  -- what an ask is about is there: the slot, the table, the key and the value that are to be logged, and the pair that is to be shown
+  -- what an ask is about is there: the slot, the table, the key and the value that are to be logged; nothing is to be shown
   abbrev pub IsAnswerable : StoreState K V S → Running K V A → Ask → Type 0
   IsAnswerable store r (Load at) = Unit {0}
   IsAnswerable store r (Exchange at old new) = IsPlaced store.words.tables at
   IsAnswerable store r (SameKey n) = Unit {0}
-  IsAnswerable store r (ShowPair n) = (a : A) × (p : Stored K V) × (r.answers ≡ Some a) × (pair_of store n ≡ Some p)
+  IsAnswerable store r ShowNone = ⊥
+  IsAnswerable store r (ShowPair n) = ⊥
   IsAnswerable store r (SizeOf t) = (table : TableWords) × (table_of store.words.tables t ≡ Some table) × IsSize (length table.slots) table.limit
   IsAnswerable store r MakeKey = (k : K) × (r.key ≡ Own k)
   IsAnswerable store r MakePair = (n : ℕ) × (v : V) × (r.key ≡ Logged n) × (r.value ≡ Some v)
@@ -192,7 +167,7 @@ module _ {K V S A : Type 0} where
   IsAnswerable store r (Ask_done reply) = ⊥
 
   -- an ask about what is there is answered by the words
-  pub prompted : (eq : K → K → Bool) (says : Says K V A) (ask : Ask) (store : StoreState K V S) (r : Running K V A) (answer : Answer) (store' : StoreState K V S) (later : Running K V A) → IsAnswerable store r ask → Performs eq says false ask store r answer store' later → IsPrompt (words_of store) ask answer (words_of store')
+  pub prompted : (eq : K → K → Bool) (says : Says K V A) (ask : Ask) (store : StoreState K V S) (r : Running K V A) (answer : Answer) (store' : StoreState K V S) (later : Running K V A) → IsAnswerable store r ask → Performs eq says false ask store r answer store' later → IsPrompt r.machine.task (words_of store) ask answer (words_of store')
   prompted eq says (Load at) store r answer store' later there (e, (same, stays)) = (e, same_words store store' same)
   prompted eq says (Exchange at old new) store r answer store' later there (made, stays) = by_word (word_at store.words at == old) made
     where
@@ -202,9 +177,8 @@ module _ {K V S A : Type 0} where
       by_word true (e, same) = (e, subst (λ (y : StoreState K V S). IsPut (words_of store) at new (words_of y)) (sym same) (placed_put store.words at new there))
       by_word false (e, same) = (e, same_words store store' same)
   prompted eq says (SameKey n) store r answer store' later there (e, (same, stays)) = ((_, e), same_words store store' same)
-  prompted eq says (ShowPair n) store r answer store' later (a, p, answers, logged) (inl (inl none, e, (same, stays))) = let f : None ≡ Some a = sym none ∙ answers in absurd cc
-  prompted eq says (ShowPair n) store r answer store' later (a, p, answers, logged) (inl (inr none, e, (same, stays))) = let f : None ≡ Some p = sym none ∙ logged in absurd cc
-  prompted eq says (ShowPair n) store r answer store' later there (inr (a, p, agrees, a', was, logged, said, e, same, goes)) = ((agrees, e), same_words store store' same)
+  prompted eq says ShowNone store r answer store' later there performs = absurd there
+  prompted eq says (ShowPair n) store r answer store' later there performs = absurd there
   prompted eq says (SizeOf t) store r answer store' later (table, there, size) (e, (same, stays)) = ((length table.slots, table.limit, size, e ∙ ap size_of there), same_words store store' same)
   prompted eq says MakeKey store r answer store' later (k, own) (inl (refused, (same, stays))) = (refused_making _ _ answer refused, same_words store store' same)
   prompted eq says MakeKey store r answer store' later (k, own) (inr (inl ((e, n, logged), stays))) = let f : Own k ≡ Logged n = sym own ∙ logged in absurd cc
@@ -218,13 +192,39 @@ module _ {K V S A : Type 0} where
   prompted eq says (AddToShard by) store r answer store' later there (e, same, stays) = (e, λ at. ap (λ (y : StoreState K V S). words_of y at) same)
   prompted eq says (Ask_done reply) store r answer store' later there performs = absurd there
 
+-- the same call, with these answers of a closure
+abbrev pub answering : {K V A B : Type 0} → Option B → Running K V A → Running K V B
+answering o r = record { machine = r.machine; key = r.key; value = r.value; answers = o }
+
+module _ {K V S A : Type 0} (eq : K → K → Bool) (says : Says K V A) (o : Option (Unit {0})) where
+  -- where nothing is shown, a closure's answers make no difference
+  pub answering_performs : (refuse : Bool) (ask : Ask) (store : StoreState K V S) (r : Running K V A) (answer : Answer) (store' : StoreState K V S) (later : Running K V A) → IsAnswerable store r ask → Performs eq says refuse ask store r answer store' later → Performs eq whatever refuse ask store (answering o r) answer store' (answering o later) × (later.answers ≡ r.answers)
+  answering_performs refuse (Load at) store r answer store' later there (e, (same, stays)) = ((e, (same, ap (answering o) stays)), ap (λ q. q.answers) stays)
+  answering_performs refuse (Exchange at old new) store r answer store' later there (made, stays) = ((made, ap (answering o) stays), ap (λ q. q.answers) stays)
+  answering_performs refuse (SameKey n) store r answer store' later there (e, (same, stays)) = ((e, (same, ap (answering o) stays)), ap (λ q. q.answers) stays)
+  answering_performs refuse ShowNone store r answer store' later there performs = absurd there
+  answering_performs refuse (ShowPair n) store r answer store' later there performs = absurd there
+  answering_performs refuse (SizeOf n) store r answer store' later there (e, (same, stays)) = ((e, (same, ap (answering o) stays)), ap (λ q. q.answers) stays)
+  answering_performs true MakeKey store r answer store' later there (e, (same, stays)) = ((e, (same, ap (answering o) stays)), ap (λ q. q.answers) stays)
+  answering_performs true MakePair store r answer store' later there (e, (same, stays)) = ((e, (same, ap (answering o) stays)), ap (λ q. q.answers) stays)
+  answering_performs true (MakeTable slots limit) store r answer store' later there (e, (same, stays)) = ((e, (same, ap (answering o) stays)), ap (λ q. q.answers) stays)
+  answering_performs false MakeKey store r answer store' later there (inl (refused, (same, stays))) = (inl (refused, (same, ap (answering o) stays)), ap (λ q. q.answers) stays)
+  answering_performs false MakeKey store r answer store' later there (inr (inl (has, (same, stays)))) = (inr (inl (has, (same, ap (answering o) stays))), ap (λ q. q.answers) stays)
+  answering_performs false MakeKey store r answer store' later there (inr (inr (k, own, e, few, same, goes))) = (inr (inr (k, own, e, few, same, ap (answering o) goes)), ap (λ q. q.answers) goes)
+  answering_performs false MakePair store r answer store' later there (inl (refused, (same, stays))) = (inl (refused, (same, ap (answering o) stays)), ap (λ q. q.answers) stays)
+  answering_performs false MakePair store r answer store' later there (inr (inl (has, (same, stays)))) = (inr (inl (has, (same, ap (answering o) stays))), ap (λ q. q.answers) stays)
+  answering_performs false MakePair store r answer store' later there (inr (inr (n, v, key, value, e, few, same, goes))) = (inr (inr (n, v, key, value, e, few, same, ap (answering o) goes)), ap (λ q. q.answers) goes)
+  answering_performs false (MakeTable slots limit) store r answer store' later there (made, stays) = ((made, ap (answering o) stays), ap (λ q. q.answers) stays)
+  answering_performs refuse (AddToShard by) store r answer store' later there (e, same, stays) = ((e, same, ap (answering o) stays), ap (λ q. q.answers) stays)
+  answering_performs refuse (Ask_done reply) store r answer store' later there (e, (same, stays)) = ((e, (same, ap (answering o) stays)), ap (λ q. q.answers) stays)
+
 -- an exchange leaves the words at other places
 exchange_other : (words words' : At → ℕ) (at other : At) (new : ℕ) (answer : Answer) (b : Bool) → (other ≡ at → ⊥) → MatchBool b ((answer ≡ Exchanged) × IsPut words at new words') ((answer ≡ Found_instead (words at)) × IsSame words words') → words' other ≡ words other
 exchange_other words words' at other new answer true differ told = told.1.others other differ
 exchange_other words words' at other new answer false differ told = told.1 other
 
 -- an exchange of the root or of a slot gives no table a next one
-pub prompt_single : {K V S A : Type 0} (ask : Ask) (store : StoreState K V S) (r : Running K V A) (answer : Answer) (words' : At → ℕ) → IsAnswerable store r ask → IsPrompt (words_of store) ask answer words' → (t : ℕ) → word_at store.words (Next t) ≡ 0 → words' (Next t) ≡ 0
+pub prompt_single : {K V S A : Type 0} (ask : Ask) (store : StoreState K V S) (r : Running K V A) (answer : Answer) (words' : At → ℕ) → IsAnswerable store r ask → IsPrompt r.machine.task (words_of store) ask answer words' → (t : ℕ) → word_at store.words (Next t) ≡ 0 → words' (Next t) ≡ 0
 prompt_single (Load at) store r answer words' there told t last = told.1 (Next t) ∙ last
 prompt_single (Exchange Root old new) store r answer words' there told t last = exchange_other (words_of store) words' Root (Next t) new answer (word_at store.words Root == old) (λ f. absurd cc) told ∙ last
 prompt_single (Exchange (Slot u i) old new) store r answer words' there told t last = exchange_other (words_of store) words' (Slot u i) (Next t) new answer (word_at store.words (Slot u i) == old) (λ f. absurd cc) told ∙ last
@@ -232,7 +232,8 @@ prompt_single (Exchange (Next u) old new) store r answer words' there told t las
 prompt_single (Exchange (Aborted u) old new) store r answer words' there told t last = absurd there
 prompt_single (Exchange (Done u) old new) store r answer words' there told t last = absurd there
 prompt_single (SameKey n) store r answer words' there told t last = told.1 (Next t) ∙ last
-prompt_single (ShowPair n) store r answer words' there told t last = told.1 (Next t) ∙ last
+prompt_single ShowNone store r answer words' there told t last = absurd there
+prompt_single (ShowPair n) store r answer words' there told t last = absurd there
 prompt_single (SizeOf n) store r answer words' there told t last = told.1 (Next t) ∙ last
 prompt_single MakeKey store r answer words' there told t last = told.1 (Next t) ∙ last
 prompt_single MakePair store r answer words' there told t last = told.1 (Next t) ∙ last
@@ -246,6 +247,7 @@ same_task m (Word_read word) = (refl, refl)
 same_task m Exchanged = (refl, refl)
 same_task m (Found_instead word) = (refl, refl)
 same_task m (Yes same) = (refl, refl)
+same_task m (Op kind) = (refl, refl)
 same_task m (Size slots limit) = (refl, refl)
 same_task m (Made_number n) = (refl, refl)
 same_task m Ok_done = (refl, refl)
@@ -256,6 +258,7 @@ pub unreplied : (ask : Ask) → ((reply : Reply) → ask ≡ Ask_done reply → 
 unreplied (Load at) still_open = refl
 unreplied (Exchange at old new) still_open = refl
 unreplied (SameKey n) still_open = refl
+unreplied ShowNone still_open = refl
 unreplied (ShowPair n) still_open = refl
 unreplied (SizeOf n) still_open = refl
 unreplied MakeKey still_open = refl

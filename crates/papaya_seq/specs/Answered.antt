@@ -1,8 +1,10 @@
 -- What a call answers that borrows the map, with values in the place of references.
-use Rattle.std.specs.Prelude.{Option, Result, Ok, Err, option_map}
+use Rattle.std.specs.Prelude.{◌≡◌, Option, Some, Result, Ok, Err, option_map}
 use Rattle.std.specs.Borrow.{Bor}
 use Rattle.papaya_words.specs.declared.probe.Refused.{Refused}
 use Rattle.papaya_seq.specs.Map.{deref_pair}
+use Rattle.papaya_seq.specs.declared.compute.Computed.{Computed}
+use Rattle.papaya_seq.specs.declared.compute.Computed.TheVariants.{Inserted, Updated, Removed, Aborted}
 
 -- the value that is shown, or a refusal
 abbrev pub value_answered : {V : Type 0} → Result (Bor V) Refused → Result V Refused
@@ -24,3 +26,23 @@ abbrev pub judged_answered : {K V : Type 0} → Result (Result (Option (Bor K ×
 judged_answered (Ok (Ok removed)) = Ok (Ok (option_map deref_pair removed))
 judged_answered (Ok (Err kept)) = Ok (Err (deref_pair kept))
 judged_answered (Err refused) = Err refused
+
+-- what a compute did, without what its closure aborted with, or a refusal
+abbrev pub answer_without : {R T : Type 0} → Result (Computed R T) Refused → Result (Computed R (Unit {0})) Refused
+answer_without (Ok (Inserted q)) = Ok (Inserted q)
+answer_without (Ok (Updated p q)) = Ok (Updated p q)
+answer_without (Ok (Removed p)) = Ok (Removed p)
+answer_without (Ok (Aborted t)) = Ok (Aborted tt)
+answer_without (Err refused) = Err refused
+
+-- what stands where a compute puts what its closure aborts with
+abbrev pub left_in : {R T : Type 0} → Result (Computed R T) Refused → Option T → Option T
+left_in (Ok (Inserted q)) was = was
+left_in (Ok (Updated p q)) was = was
+left_in (Ok (Removed p)) was = was
+left_in (Ok (Aborted t)) was = Some t
+left_in (Err refused) was = was
+
+-- a compute's answer, parted into what is shown of it and what is left of an abort
+abbrev pub IsParted : {R T : Type 0} → Result (Computed R T) Refused → Result (Computed R (Unit {0})) Refused → Option T → Option T → Type 0
+IsParted answer shown was now = (shown ≡ answer_without answer) × (now ≡ left_in answer was)

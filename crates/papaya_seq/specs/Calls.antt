@@ -1,38 +1,80 @@
 -- Calls that are handed in as values, one after the other.
-use Rattle.std.specs.Prelude.{◌≡◌, ℕ, Bool, true, false, Some, List, [], ◌∷◌}
+use Rattle.std.specs.Prelude.{◌≡◌, ◌⊎◌, ℕ, Bool, true, false, Option, Some, List, [], ◌∷◌, option_map}
+use Rattle.papaya_words.specs.declared.probe.Refused as words
+use Rattle.papaya_words.specs.declared.probe.Refused.TheVariants as refusals
 use Rattle.papaya_call.specs.Answers.{Says}
+use Rattle.papaya_call.specs.declared.answers.Operation.{Operation}
+use Rattle.papaya_call.specs.declared.answers.Operation.TheVariants as ops
 use Rattle.papaya_call.specs.declared.call.Call.{Call}
-use Rattle.papaya_call.specs.declared.call.Call.TheVariants.{Get, Insert, TryInsert, RemoveIf}
+use Rattle.papaya_call.specs.declared.call.Call.TheVariants.{Get, Insert, TryInsert, RemoveIf, Compute}
 use Rattle.papaya_call.specs.declared.call.Reply.{Reply}
-use Rattle.papaya_call.specs.declared.call.Reply.TheVariants.{Absent, Found, Inserted, Replaced, Occupied, Removed, Kept, Refused}
+use Rattle.papaya_call.specs.declared.call.Reply.TheVariants.{Absent, Found, Inserted, Replaced, Occupied, Removed, Kept, Aborted, Refused}
+use Rattle.papaya_core.specs.Content.{map_in}
 use Rattle.papaya_core.specs.Solo.{IsAnswered, IsNewIn}
 use Rattle.papaya_core.specs.Store.{StoreState, Stored, pair_of}
-use Rattle.papaya_seq.specs.Map.{Keeps, MapState, map_of}
+use Rattle.papaya_seq.specs.Map.{IsCause, Keeps, MapState, entry_of, next_of}
 
 -- what the closure's answers give of the pair of this number
 abbrev pub Gives : {K V S A : Type 0} → Says K V A → A → StoreState K V S → ℕ → Bool → Type 0
 Gives {K = K} {V = V} {A = A} says a s n agrees = (p : Stored K V) × (a' : A) × (pair_of s n ≡ Some p) × says.yes a p.key p.value agrees a'
 
--- a removal's reply is what its closure's answers gave
-abbrev pub IsSaid : {K V S A : Type 0} → Says K V A → Call K V A → Reply → StoreState K V S → Type 0
-IsSaid says (RemoveIf k a) (Removed n) s = Gives says a s n true
-IsSaid says (RemoveIf k a) (Kept n) s = Gives says a s n false
-IsSaid says (RemoveIf k a) Absent s = Unit {0}
-IsSaid says (RemoveIf k a) (Found n) s = Unit {0}
-IsSaid says (RemoveIf k a) (Inserted n) s = Unit {0}
-IsSaid says (RemoveIf k a) (Replaced o n) s = Unit {0}
-IsSaid says (RemoveIf k a) (Occupied n) s = Unit {0}
-IsSaid says (RemoveIf k a) (Refused refused) s = Unit {0}
-IsSaid says (Get k) reply s = Unit {0}
-IsSaid says (Insert k v) reply s = Unit {0}
-IsSaid says (TryInsert k v) reply s = Unit {0}
+-- what they give where they are shown this pair, or that there is none
+abbrev pub Answers : {K V A : Type 0} → Says K V A → A → Option (Stored K V) → Operation V ℕ → Type 0
+Answers {A = A} says a held operation = (a' : A) × says.op a (option_map entry_of held) operation a'
 
-module _ {K V S A : Type 0} (eq : K → K → Bool) (says : Says K V A) where
-  -- a call does what the finite map does, and is refused or not
+module _ {K V S A : Type 0} (says : Says K V A) (a : A) (held : Option (Stored K V)) (s' : StoreState K V S) where
+  -- they gave the value of the pair of this number
+  abbrev GivesValue : ℕ → Type 0
+  GivesValue n = (q : Stored K V) × (pair_of s' n ≡ Some q) × Answers says a held (ops.Insert q.value)
+
+  -- a compute's reply is what its closure's answers gave where they were shown what the class of its key has
+  abbrev pub IsOperated : Reply → Type 0
+  IsOperated (Inserted n) = GivesValue n
+  IsOperated (Replaced m n) = GivesValue n
+  IsOperated (Removed n) = Answers says a held ops.Remove
+  IsOperated (Aborted t) = Answers says a held (ops.Abort t)
+  IsOperated (Refused refusals.RemoveNothing) = Answers says a held ops.Remove
+  IsOperated (Refused refused) = (v : V) × Answers says a held (ops.Insert v)
+  IsOperated Absent = ⊥
+  IsOperated (Found n) = ⊥
+  IsOperated (Occupied n) = ⊥
+  IsOperated (Kept n) = ⊥
+
+-- a removal's reply is what its closure's answers gave
+abbrev pub IsJudged : {K V S A : Type 0} → Says K V A → A → Reply → StoreState K V S → Type 0
+IsJudged says a (Removed n) s = Gives says a s n true
+IsJudged says a (Kept n) s = Gives says a s n false
+IsJudged says a Absent s = Unit {0}
+IsJudged says a (Found n) s = Unit {0}
+IsJudged says a (Inserted n) s = Unit {0}
+IsJudged says a (Replaced o n) s = Unit {0}
+IsJudged says a (Occupied n) s = Unit {0}
+IsJudged says a (Aborted t) s = Unit {0}
+IsJudged says a (Refused refused) s = Unit {0}
+
+-- the reply of a call that has a closure is what its answers gave
+abbrev pub IsSaid : {K V S A : Type 0} → (K → K → Bool) → Says K V A → Call K V A → StoreState K V S → Reply → StoreState K V S → Type 0
+IsSaid eq says (RemoveIf k a) s reply s' = IsJudged says a reply s
+IsSaid eq says (Compute k a) s reply s' = IsOperated says a (map_in eq s k) s' reply
+IsSaid eq says (Get k) s reply s' = Unit {0}
+IsSaid eq says (Insert k v) s reply s' = Unit {0}
+IsSaid eq says (TryInsert k v) s reply s' = Unit {0}
+
+-- A lookup is never refused, an insertion for a cause, a removal only while the root table has a next one, and a compute as an insertion, or where its closure would remove what isn't there.
+abbrev pub MayRefuse : {K V S A : Type 0} → (K → ℕ) → StoreState K V S → Call K V A → words.Refused → Type 0
+MayRefuse hash s (Get k) refused = ⊥
+MayRefuse hash s (Insert k v) refused = IsCause (hash k) s refused
+MayRefuse hash s (TryInsert k v) refused = IsCause (hash k) s refused
+MayRefuse hash s (RemoveIf k a) refused = next_of s ≡ 0 → ⊥
+MayRefuse hash s (Compute k a) refused = IsCause (hash k) s refused ⊎ (refused ≡ refusals.RemoveNothing)
+
+module _ {K V S A : Type 0} (eq : K → K → Bool) (hash : S → K → ℕ) (says : Says K V A) where
+  -- a call does what the finite map does, or is refused where it may be
   pub record IsCalled (s : MapState K V S) (call : Call K V A) (reply : Reply) (s' : MapState K V S) : Type 0 where
-    pub answered : IsAnswered eq call (map_of eq s.store) reply (map_of eq s'.store)
+    pub answered : IsAnswered eq call (map_in eq s.store) reply (map_in eq s'.store)
     pub fresh : IsNewIn s.store reply
-    pub said : IsSaid says call reply s.store
+    pub said : IsSaid eq says call s.store reply s'.store
+    pub cause : (refused : words.Refused) → reply ≡ Refused refused → MayRefuse (hash s.store.hasher) s.store call refused
     pub keeps : Keeps s s'
 
   -- one reply a call

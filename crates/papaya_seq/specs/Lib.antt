@@ -1,5 +1,7 @@
 pub mod Answered
 pub mod Calls
+pub mod Computes
+pub mod Computing
 pub mod Ends
 pub mod Guards
 pub mod Looks

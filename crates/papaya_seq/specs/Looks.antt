@@ -1,11 +1,11 @@
 -- A lookup by the words that stand in the tables.
 use Rattle.std.specs.Prelude.{◌≡◌, ℕ, Bool, false, Option, Some, None, List, [], ◌∷◌}
 use Rattle.papaya_call.specs.declared.ask.Ask.{Ask}
-use Rattle.papaya_call.specs.declared.ask.Ask.TheVariants.{Load, Exchange, SameKey, ShowPair, SizeOf, MakeKey, MakePair, MakeTable, AddToShard, Done}
+use Rattle.papaya_call.specs.declared.ask.Ask.TheVariants.{Load, Exchange, SameKey, ShowNone, ShowPair, SizeOf, MakeKey, MakePair, MakeTable, AddToShard, Done}
 use Rattle.papaya_call.specs.declared.ask.Answer.{Answer}
 use Rattle.papaya_call.specs.declared.ask.Answer.TheVariants.{Word, Yes}
 use Rattle.papaya_call.specs.declared.call.Reply.{Reply}
-use Rattle.papaya_call.specs.declared.call.Reply.TheVariants.{Absent, Found, Inserted, Replaced, Occupied, Removed, Kept, Refused}
+use Rattle.papaya_call.specs.declared.call.Reply.TheVariants.{Absent, Found, Inserted, Replaced, Occupied, Removed, Kept, Aborted, Refused}
 use Rattle.papaya_call.specs.declared.machine.Machine.{Machine}
 use Rattle.papaya_call.specs.Machine.{after, ask_of}
 use Rattle.papaya_core.specs.Performs.{size_of}
@@ -27,6 +27,7 @@ module _ {K V S : Type 0} (matches : K → Bool) (store : StoreState K V S) wher
   IsToldBy (Exchange at old new) answer = ⊥
   IsToldBy (ShowPair n) answer = ⊥
   IsToldBy MakeKey answer = ⊥
+  IsToldBy ShowNone answer = ⊥
   IsToldBy MakePair answer = ⊥
   IsToldBy (MakeTable slots limit) answer = ⊥
   IsToldBy (AddToShard by) answer = ⊥
@@ -51,6 +52,7 @@ found_number (Replaced o n) = None
 found_number (Occupied n) = None
 found_number (Removed n) = None
 found_number (Kept n) = None
+found_number (Aborted t) = None
 found_number (Refused refused) = None
 
 module _ {K V S : Type 0} (matches : K → Bool) (store : StoreState K V S) where

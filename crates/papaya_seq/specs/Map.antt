@@ -10,12 +10,11 @@ use Rattle.papaya_words.specs.declared.probe.Refused.TheVariants.{Memory, Capaci
 use Rattle.papaya_words.specs.declared.probe.ResizeMode.{ResizeMode}
 use Rattle.papaya_call.specs.declared.call.Call.{Call}
 use Rattle.papaya_call.specs.declared.call.Call.TheVariants.{Insert, TryInsert}
-use Rattle.papaya_call.specs.Law.Content.{lookup}
-use Rattle.papaya_core.specs.Content.{content}
+use Rattle.papaya_core.specs.Content.{content, map_in}
 use Rattle.papaya_core.specs.Counted.{IsCounted}
 use Rattle.papaya_core.specs.Core.{CoreState}
 use Rattle.papaya_core.specs.Kept.{IsLawfulCore}
-use Rattle.papaya_core.specs.Maps.{Map, IsUpdate, Same}
+use Rattle.papaya_core.specs.Maps.{IsUpdate, Same}
 use Rattle.papaya_core.specs.Store.{StoreState, Stored, pair_of}
 use Rattle.papaya_core.specs.Tables.{table_of}
 
@@ -33,10 +32,6 @@ core_of s = record { store = s.store; callers = []; mode = s.mode; initial = s.i
 pub record IsLawfulMap {K V S : Type 0} (eq : K → K → Bool) (hash : K → ℕ) (store : StoreState K V S) (mode : ResizeMode) : Type 0 where
   pub lawful : IsLawfulCore {A = Unit {0}} eq hash store [] mode
   pub counted : IsCounted {A = Unit {0}} store []
-
--- the finite map: the stored pair of each class of equal keys
-abbrev pub map_of : {K V S : Type 0} → (K → K → Bool) → StoreState K V S → Map K V
-map_of eq store = lookup eq (λ p. p.key) (content store)
 
 abbrev pub value_of : {K V : Type 0} → Option (Stored K V) → Option V
 value_of went = option_map (λ p. p.value) went
@@ -66,16 +61,16 @@ pub record Inserts {K V S : Type 0} (eq : K → K → Bool) (k : K) (v : V) (s :
   pub value : new.value ≡ v
   -- its number was never used before
   pub fresh : pair_of s new.number ≡ None
-  pub update : IsUpdate eq k old (Some new) (map_of eq s) (map_of eq s')
+  pub update : IsUpdate eq k old (Some new) (map_in eq s) (map_in eq s')
 
 -- the map's pair whose key matches went, and no other class changes
 pub record Removes {K V S : Type 0} (eq : K → K → Bool) (matches : K → Bool) (s : StoreState K V S) (p : Stored K V) (s' : StoreState K V S) : Type 0 where
   pub held : Holds matches s p
-  pub update : IsUpdate eq p.key (Some p) None (map_of eq s) (map_of eq s')
+  pub update : IsUpdate eq p.key (Some p) None (map_in eq s) (map_in eq s')
 
 -- the map is as it was
 abbrev pub Unchanged : {K V S : Type 0} → (K → K → Bool) → StoreState K V S → StoreState K V S → Type 0
-Unchanged eq s s' = Same (map_of eq s) (map_of eq s')
+Unchanged eq s s' = Same (map_in eq s) (map_in eq s')
 
 -- each place of the key in the root table is filled
 pub record IsFull {K V S : Type 0} (hash : ℕ) (s : StoreState K V S) : Type 0 where
@@ -115,7 +110,7 @@ pub record Keeps {K V S : Type 0} (s s' : MapState K V S) : Type 0 where
 -- the key is in the map, which stays as it is, with this value
 pub record IsOccupied {K V S : Type 0} (eq : K → K → Bool) (k : K) (s : StoreState K V S) (current : V) (s' : StoreState K V S) : Type 0 where
   pub pair : Stored K V
-  pub there : map_of eq s k ≡ Some pair
+  pub there : map_in eq s k ≡ Some pair
   pub value : pair.value ≡ current
   pub unchanged : Unchanged eq s s'
 

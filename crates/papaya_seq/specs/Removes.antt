@@ -6,7 +6,7 @@ use Rattle.papaya_words.specs.declared.probe.Refused as words
 use Rattle.papaya_call.specs.declared.ask.Answer.{Answer}
 use Rattle.papaya_call.specs.declared.ask.Answer.TheVariants.{Yes, Ok as Ok_done}
 use Rattle.papaya_call.specs.declared.call.Reply.{Reply}
-use Rattle.papaya_call.specs.declared.call.Reply.TheVariants.{Absent, Found, Inserted, Replaced, Occupied, Removed, Kept, Refused}
+use Rattle.papaya_call.specs.declared.call.Reply.TheVariants.{Absent, Found, Inserted, Replaced, Occupied, Removed, Kept, Aborted, Refused}
 use Rattle.papaya_core.specs.Store.{StoreState, Stored, pair_of}
 use Rattle.papaya_seq.specs.Map.{HasNone, Holds, Keeps, MapState, Removes, Unchanged, entry_of}
 
@@ -35,6 +35,7 @@ module _ {K V S : Type 0} (eq : K → K → Bool) (matches : K → Bool) where
   IsRemoval said s (Inserted n) s' = ⊥
   IsRemoval said s (Replaced o n) s' = ⊥
   IsRemoval said s (Occupied n) s' = ⊥
+  IsRemoval said s (Aborted t) s' = ⊥
 
 -- the same as one fact, of which a proof can read what the closure may answer
 pub record IsRemovalBy {K V S : Type 0} (eq : K → K → Bool) (matches : K → Bool) (said : Stored K V → Bool → Type 0) (s : StoreState K V S) (reply : Reply) (s' : StoreState K V S) : Type 0 where

@@ -1,9 +1,10 @@
 //! Insertions: their machine, answered by the store.
 ghost use Rattle.std.specs.Prelude.{◌≡◌, ℕ, Bool, Option, Some, None, cond};
 ghost use Rattle.papaya_words.specs.declared.probe.Refused.{Refused};
+ghost use Rattle.papaya_core.specs.Content.{map_in};
 ghost use Rattle.papaya_core.specs.Solo.{IsAnswered, IsNewIn};
 ghost use Rattle.papaya_core.specs.Store.{hash_of};
-ghost use Rattle.papaya_seq.specs.Map.{IsCause, Keeps, insertion, map_of};
+ghost use Rattle.papaya_seq.specs.Map.{IsCause, Keeps, insertion};
 
 use crate::seq::HashMap;
 use papaya_call::answers::Listed;
@@ -24,7 +25,7 @@ fn value_left<K: Drop, V, A: Drop>(running: Running<K, V, A>) -> Option<V>
 impl<K: Hash + Eq + Drop, V: Drop, S: BuildHasher> HashMap<K, V, S> {
     /// Inserts a pair: what the machine replies, and the value where it was not logged.
     pub(crate) fn insert_by(&mut self, key: K, value: V, replace: bool) -> (Reply, Option<V>)
-        ensures answers { IsAnswered K.eq (insertion replace key value) (map_of K.eq self.old.store) result.0 (map_of K.eq self.new.store) }
+        ensures answers { IsAnswered K.eq (insertion replace key value) (map_in K.eq self.old.store) result.0 (map_in K.eq self.new.store) }
         ensures fresh { IsNewIn self.old.store result.0 }
         ensures cause { (refused : Refused) → result.0 ≡ Reply.Refused refused → IsCause (hash_of K.hash_input S.build_hasher S.Hasher.write S.Hasher.finish self.old.store.hasher key) self.old.store refused }
         ensures left { (n : ℕ) → result.0 ≡ Reply.Occupied n → result.1 ≡ Some value }

@@ -40,14 +40,6 @@ fn found_in(reply: Reply) -> Option<u64>
 }
 
 impl<K: Hash + Eq, V, S: BuildHasher> HashMap<K, V, S> {
-    /// Does the key of this pair match?
-    #[inline(always)]
-    fn matches<Q: Equivalent<K>>(&self, pair: u64, key: &Q) -> bool
-        ensures { result ≡ matches_in (Q.matches key.now) (pair_of self.now.store pair) }
-    {
-        matches(&self.store, pair, key)
-    }
-
     /// The number of a key's pair.
     #[inline(always)]
     pub(crate) fn look_up<Q: Equivalent<K>>(&self, key: &Q) -> Option<u64>
@@ -57,7 +49,7 @@ impl<K: Hash + Eq, V, S: BuildHasher> HashMap<K, V, S> {
         loop {
             let answer = match machine.ask() {
                 Ask::Load(at) => Answer::Word(self.store.word(at)),
-                Ask::SameKey(pair) => Answer::Yes(self.matches(pair, key)),
+                Ask::SameKey(pair) => Answer::Yes(matches(&self.store, pair, key)),
                 Ask::SizeOf(table) => self.store.size_of(table),
                 Ask::Done(reply) => return found_in(reply),
                 // A lookup asks for nothing else.

@@ -2,8 +2,8 @@
 ghost use Rattle.std.specs.Prelude.{◌≡◌, ℕ, Option, Some, None};
 ghost use Rattle.papaya_words.specs.declared.probe.Refused.{Refused};
 ghost use Rattle.papaya_core.specs.Store.{hash_of, pair_of};
-ghost use Rattle.papaya_seq.specs.Map.{Keeps, map_of, next_of};
-ghost use Rattle.papaya_seq.specs.Removes.{IsRemoval, IsRemovalBy, IsShown, Judges};
+ghost use Rattle.papaya_seq.specs.Map.{Keeps, next_of};
+ghost use Rattle.papaya_seq.specs.Removes.{IsRemovalBy, IsShown, Judges};
 
 use crate::guard::Equivalent;
 use crate::lookup::matches;
@@ -39,7 +39,6 @@ impl<K: Hash + Eq, V, S: BuildHasher> HashMap<K, V, S> {
         mut agrees: F,
     ) -> Reply
         requires { F.IsAlwaysCallable agrees }
-        ensures removal { IsRemoval K.eq (Q.matches key.now) (Judges F.FnMut agrees) self.old.store result self.new.store }
         ensures whole { IsRemovalBy K.eq (Q.matches key.now) (Judges F.FnMut agrees) self.old.store result self.new.store }
         ensures never { next_of self.old.store ≡ 0 → (refused : Refused) → result ≡ Reply.Refused refused → ⊥ }
         ensures keeps { Keeps self.old self.new }
@@ -58,8 +57,10 @@ impl<K: Hash + Eq, V, S: BuildHasher> HashMap<K, V, S> {
                     Answer::Ok
                 }
                 Ask::Done(reply) => return reply,
-                // A removal makes nothing.
-                Ask::MakeKey | Ask::MakePair | Ask::MakeTable { .. } => unreachable!(),
+                // A removal shows only a pair, and makes nothing.
+                Ask::ShowNone | Ask::MakeKey | Ask::MakePair | Ask::MakeTable { .. } => {
+                    unreachable!()
+                }
             };
             machine.answer(answer);
         }

@@ -4,15 +4,17 @@ ghost use Rattle.std.specs.Borrow.{sem};
 ghost use Rattle.papaya_words.specs.declared.limits.TheConstants.{DEFAULT_CHUNK};
 ghost use Rattle.papaya_call.specs.Machine.{started};
 ghost use Rattle.papaya_call.specs.declared.call.Task.TheVariants.{Get};
-ghost use Rattle.papaya_core.specs.Content.{content};
+ghost use Rattle.papaya_core.specs.Content.{content, map_in};
 ghost use Rattle.papaya_core.specs.New.{IsAllowed, IsNew, IsRefused};
 ghost use Rattle.papaya_core.specs.Store.{hash_of, pair_of};
 ghost use Rattle.papaya_seq.specs.Answered.{entry_answered, judged_answered, old_answered, value_answered};
 ghost use Rattle.papaya_seq.specs.Calls.{AreCalled, IsCalled};
+ghost use Rattle.papaya_seq.specs.Computing.{reply_of};
 ghost use Rattle.papaya_seq.specs.Looks.{LooksUp};
 ghost use Rattle.papaya_seq.specs.Removes.{IsJudged, Judges};
-ghost use Rattle.papaya_seq.specs.Map.{HasNone, HasValue, Holds, IsCause, IsInserted, IsRemoved, IsTried, core_of, deref_pair, map_of, next_of, slots_of, value_of, entry_of};
+ghost use Rattle.papaya_seq.specs.Map.{HasNone, HasValue, Holds, IsCause, IsInserted, IsRemoved, IsTried, core_of, deref_pair, next_of, slots_of, value_of, entry_of};
 
+use crate::compute::Computed;
 use crate::guard::Equivalent;
 use crate::occupied::{NotInserted, OccupiedError};
 use papaya_call::answers::Answers;
@@ -32,10 +34,23 @@ fn push_within(replies: &mut Vec<Reply>, reply: Reply)
     let _ = replies.push(reply);
 }
 
+/// What a compute did, as a reply.
+fn replied(computed: Result<Computed<u64, u64>, Refused>) -> Reply
+    ensures { result ≡ reply_of computed }
+{
+    match computed {
+        Ok(Computed::Inserted(pair)) => Reply::Inserted(pair),
+        Ok(Computed::Updated { old, new }) => Reply::Replaced { old, new },
+        Ok(Computed::Removed(pair)) => Reply::Removed(pair),
+        Ok(Computed::Aborted(with)) => Reply::Aborted(with),
+        Err(refused) => Reply::Refused(refused),
+    }
+}
+
 /// A hash map for one caller: the machines of the shared map, on plain words.
 ///
 /// It ports `papaya::HashMap` for where a `&mut` will do: no guard, no atomic, and what is answered
-/// borrows the map. Contracts see its words and logs, and by `map_of` the finite map that they mean.
+/// borrows the map. Contracts see its words and logs, and by `map_in` the finite map that they mean.
 ///
 /// Pairs that were replaced or removed stay in the log, until the map is dropped.
 #[derive(Drop)]
@@ -217,7 +232,7 @@ impl<K: Hash + Eq, V, S: BuildHasher> HashMap<K, V, S> {
 impl<K: Hash + Eq, V, S: BuildHasher> HashMap<K, V, S> {
     /// The value of a pair that is in the log.
     #[inline(always)]
-    fn logged(&self, n: u64) -> &V
+    pub(crate) fn logged(&self, n: u64) -> &V
         requires { IsSome (pair_of self.now.store n) }
         ensures { (p : _) → pair_of self.now.store n ≡ Some p → result.now ≡ p.value }
     {
@@ -239,7 +254,7 @@ impl<K: Hash + Eq + Drop, V: Drop, S: BuildHasher> HashMap<K, V, S> {
     /// and what was handed in is dropped, at once or with the map.
     pub fn insert(&mut self, key: K, value: V) -> Result<Option<&V>, Refused>
         ensures* inserts { sem 𝓛 (ends_so K.row V.row S.row S.Hasher.row K.Hash S.BuildHasher S.Hasher.Hasher self.entry (IsInserted K.eq (hash_of K.hash_input S.build_hasher S.Hasher.write S.Hasher.finish self.old.store.hasher key) key value self.old (old_answered result))) }
-        ensures old { IfOk result (λ old. option_map (λ v. v.now) old ≡ value_of (map_of K.eq self.old.store key)) }
+        ensures old { IfOk result (λ old. option_map (λ v. v.now) old ≡ value_of (map_in K.eq self.old.store key)) }
         ensures err { IfErr result (IsCause (hash_of K.hash_input S.build_hasher S.Hasher.write S.Hasher.finish self.old.store.hasher key) self.old.store) }
     {
         let (reply, _) = self.insert_by(key, value, true);
@@ -277,8 +292,8 @@ impl<K: Hash + Eq + Drop, V: Drop, S: BuildHasher> HashMap<K, V, S> {
         key: K,
         value: V,
     ) -> Result<Result<&V, OccupiedError<'_, V>>, Refused>
-        ensures stored { IfOk result (λ tried. IfOk tried (λ v. (v.now ≡ value) × (map_of K.eq self.old.store key ≡ None))) }
-        ensures occupied { IfOk result (λ tried. IfErr tried (λ e. (value_of (map_of K.eq self.old.store key) ≡ Some e.current.now) × (e.not_inserted ≡ NotInserted.Value value))) }
+        ensures stored { IfOk result (λ tried. IfOk tried (λ v. (v.now ≡ value) × (map_in K.eq self.old.store key ≡ None))) }
+        ensures occupied { IfOk result (λ tried. IfErr tried (λ e. (value_of (map_in K.eq self.old.store key) ≡ Some e.current.now) × (e.not_inserted ≡ NotInserted.Value value))) }
         ensures err { IfErr result (IsCause (hash_of K.hash_input S.build_hasher S.Hasher.write S.Hasher.finish self.old.store.hasher key) self.old.store) }
     {
         let (pair, left) = self.insert_absent(key, value)?;
@@ -296,7 +311,7 @@ impl<K: Hash + Eq + Drop, V: Drop, S: BuildHasher> HashMap<K, V, S> {
     /// Refused as [`HashMap::insert`].
     pub fn get_or_insert(&mut self, key: K, value: V) -> Result<&V, Refused>
         ensures* inserts { sem 𝓛 (ends_so K.row V.row S.row S.Hasher.row K.Hash S.BuildHasher S.Hasher.Hasher self.entry (HasValue K.eq (hash_of K.hash_input S.build_hasher S.Hasher.write S.Hasher.finish self.old.store.hasher key) key value self.old (value_answered result))) }
-        ensures value { IfOk result (λ v. MatchOption (value_of (map_of K.eq self.old.store key)) (v.now ≡ value) (λ current. v.now ≡ current)) }
+        ensures value { IfOk result (λ v. MatchOption (value_of (map_in K.eq self.old.store key)) (v.now ≡ value) (λ current. v.now ≡ current)) }
         ensures err { IfErr result (IsCause (hash_of K.hash_input S.build_hasher S.Hasher.write S.Hasher.finish self.old.store.hasher key) self.old.store) }
     {
         let (pair, _) = self.insert_absent(key, value)?;
@@ -356,7 +371,7 @@ impl<K: Hash + Eq + Drop, V: Drop, S: BuildHasher> HashMap<K, V, S> {
 
     /// Makes one call that was handed in as a value.
     fn call<A: Answers<K, V> + Drop>(&mut self, call: Call<K, V, A>) -> Reply
-        ensures { IsCalled K.eq (record { op = A.op_gives; yes = A.yes_gives }) self.old call result self.new }
+        ensures { IsCalled K.eq (hash_of K.hash_input S.build_hasher S.Hasher.write S.Hasher.finish) (record { op = A.op_gives; yes = A.yes_gives }) self.old call result self.new }
     {
         // The proof reads the map's invariant here.
         let _ = &self.store;
@@ -370,6 +385,9 @@ impl<K: Hash + Eq + Drop, V: Drop, S: BuildHasher> HashMap<K, V, S> {
             Call::RemoveIf(key, mut answers) => {
                 self.remove_by(&key, |key, value| answers.yes(key, value))
             }
+            Call::Compute(key, mut answers) => {
+                replied(self.compute_by(key, |shown| answers.op(shown)).1)
+            }
         }
     }
 
@@ -381,7 +399,7 @@ impl<K: Hash + Eq + Drop, V: Drop, S: BuildHasher> HashMap<K, V, S> {
         &mut self,
         calls: Vec<Call<K, V, A>>,
     ) -> Result<Vec<Reply>, Refused>
-        ensures ok { IfOk result (λ replies. AreCalled K.eq (record { op = A.op_gives; yes = A.yes_gives }) self.old calls.items replies.items self.new) }
+        ensures ok { IfOk result (λ replies. AreCalled K.eq (hash_of K.hash_input S.build_hasher S.Hasher.write S.Hasher.finish) (record { op = A.op_gives; yes = A.yes_gives }) self.old calls.items replies.items self.new) }
         ensures err { IfErr result (λ e. (e ≡ Refused.Memory) × (self.new ≡ self.old)) }
     {
         let mut replies = Vec::with_capacity(self.alloc, calls.len()).map_err(|_| Refused::Memory)?;

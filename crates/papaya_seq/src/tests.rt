@@ -2,6 +2,7 @@
 ghost use Rattle.std.specs.Prelude.{◌≡◌, IfOk, IfErr, MatchBool, is_some};
 ghost use Rattle.papaya_seq.specs.Map.{Inserts, Removes, Unchanged};
 
+mod computes;
 mod hashers;
 mod refused;
 

@@ -2,7 +2,9 @@
 // as by `rt try --test --fail-alloc N`, a call here meets it.
 use crate::seq::HashMap;
 use crate::tests::hashers::Zero;
+use papaya_call::answers::Operation;
 use papaya_words::probe::Refused;
+use std::alloc::Global;
 use std::test::Fail;
 
 type Numbers = HashMap<u64, u64, Zero>;
@@ -23,6 +25,11 @@ enum Insertion {
     Insert,
     TryInsert,
     GetOrInsert,
+    TryInsertWith,
+    GetOrInsertWith,
+    UpdateOrInsert,
+    UpdateOrInsertWith,
+    Compute,
 }
 
 /// Inserts a key by this call, and again where it was refused for want of memory. What is told is
@@ -33,6 +40,15 @@ fn insert_again(map: &mut Numbers, key: u64, by: Insertion) -> Result<bool, Refu
         Insertion::Insert => map.insert(key, value).map(|_| ()),
         Insertion::TryInsert => map.try_insert(key, value).map(|_| ()),
         Insertion::GetOrInsert => map.get_or_insert(key, value).map(|_| ()),
+        Insertion::TryInsertWith => map.try_insert_with(key, || value).map(|_| ()),
+        Insertion::GetOrInsertWith => map.get_or_insert_with(key, || value).map(|_| ()),
+        Insertion::UpdateOrInsert => map.update_or_insert(key, |v| *v, value).map(|_| ()),
+        Insertion::UpdateOrInsertWith => map
+            .update_or_insert_with(key, |v| *v, || value)
+            .map(|_| ()),
+        Insertion::Compute => map
+            .compute(key, |_| Operation::<u64, ()>::Insert(value))
+            .map(|_| ()),
     };
     match first {
         Ok(()) => Ok(true),
@@ -63,5 +79,54 @@ fn refused_growth_leaves_the_map(rt: HostRuntime) -> Result<(), Fail> {
     // A removal takes no memory.
     assert_eq!(rt; map.remove(&19), Ok(Some(&190)));
     assert!(rt; has_below(&map, 19));
+    Ok(())
+}
+
+/// A map, also where memory was refused for it at first.
+fn made(alloc: Global) -> Result<Numbers, Refused> {
+    match HashMap::with_hasher(alloc, Zero) {
+        Err(Refused::Memory) => HashMap::with_hasher(alloc, Zero),
+        made => made,
+    }
+}
+
+/// Fills a map by this call: was it as it should be after each key?
+fn fills(alloc: Global, by: Insertion) -> Result<bool, Refused> {
+    let mut map = made(alloc)?;
+    for key in 0..20u64 {
+        let kept = insert_again(&mut map, key, by)?;
+        if !kept || !has_below(&map, key + 1) {
+            return Ok(false);
+        }
+    }
+    Ok(true)
+}
+
+#[test]
+fn refused_computes_leave_the_map(rt: HostRuntime) -> Result<(), Fail> {
+    assert!(rt; fills(rt.alloc(), Insertion::TryInsertWith)?);
+    assert!(rt; fills(rt.alloc(), Insertion::GetOrInsertWith)?);
+    assert!(rt; fills(rt.alloc(), Insertion::UpdateOrInsert)?);
+    assert!(rt; fills(rt.alloc(), Insertion::UpdateOrInsertWith)?);
+    assert!(rt; fills(rt.alloc(), Insertion::Compute)?);
+    Ok(())
+}
+
+/// Updates a key's value to itself: was the map as it should be, also where that was refused?
+fn updates(map: &mut Numbers, key: u64) -> Result<bool, Refused> {
+    match map.update(key, |v| *v) {
+        Ok(None) => Ok(false),
+        Ok(Some(_)) | Err(Refused::Memory) => Ok(has_below(map, 1)),
+        Err(refused) => Err(refused),
+    }
+}
+
+#[test]
+fn refused_update_leaves_the_map(rt: HostRuntime) -> Result<(), Fail> {
+    let mut map = made(rt.alloc())?;
+    assert!(rt; insert_again(&mut map, 0, Insertion::Insert)?);
+    for _ in 0..20u64 {
+        assert!(rt; updates(&mut map, 0)?);
+    }
     Ok(())
 }

@@ -1,5 +1,7 @@
 use Rattle.std.proofs.Common.{◌≡◌, ℕ, ◌^◌, ◌<◌, Some, None, refl, sym, ◌∙◌, ap, subst}
 use Rattle.papaya_call.specs.Alone.{left}
+use Rattle.papaya_call.specs.Answers.{first_or, rest_of}
+use Rattle.papaya_call.specs.declared.answers.Operation.TheVariants.{Abort}
 use Rattle.papaya_call.specs.Machine.{IsStanding, after}
 use Rattle.papaya_call.specs.declared.machine.Machine.{Machine}
 use Rattle.papaya_core.specs.declared.pairs.KeyOf.TheVariants.{Own}
@@ -43,7 +45,7 @@ ask-ask-requires g c = c.loop-reply.invariant.0.standing
 pub answer-requires : goal.answer-requires
 answer-requires g c = record {
   standing = subst IsStanding (sym c.perform-answer.ensures.machine) c.loop-reply.invariant.0.standing;
-  fit = inserting_fit g.K.PartialEq.eq (hash g) c.args.self.now c.args.replace c.args.key c.args.value (keys g c.args.self.now.store.hasher) (lawful g (goal.at.answer-requires g c).After-new) (record { op = λ a shown told a'. Unit {0}; yes = _ })
+  fit = inserting_fit g.K.PartialEq.eq (hash g) c.args.self.now c.args.replace c.args.key c.args.value (keys g c.args.self.now.store.hasher) (lawful g (goal.at.answer-requires g c).After-new) (record { op = λ a shown told a'. (told ≡ first_or (Abort 0) a.ops.items) × (a'.ops.items ≡ rest_of a.ops.items) × (a'.yes ≡ a.yes); yes = _ })
       c.loop-reply.self-inside.store c.loop-reply.running c.perform-answer.result c.perform-answer.new.self c.perform-answer.new.running c.ask-ask.result c.ask-ask.ensures.value c.in_default.not-Done c.perform-answer.ensures.performs c.perform-answer.ensures.machine c.loop-reply.invariant.0;
 }
 
@@ -54,13 +56,13 @@ answered g c = sym (c.answer.ensures.after ∙ ap (λ m. after m c.perform-answe
 pub loop-reply-smaller : goal.loop-reply-smaller
 loop-reply-smaller g c =
     subst (λ (m : Machine). left m < left c.loop-reply.running.machine) (answered g (goal.at.loop-reply-smaller g c).After-answer)
-    (inserting_nears g.K.PartialEq.eq (hash g) c.args.self.now c.args.replace c.args.key c.args.value (keys g c.args.self.now.store.hasher) (lawful g (goal.at.loop-reply-smaller g c).After-new) (record { op = λ a shown told a'. Unit {0}; yes = _ })
+    (inserting_nears g.K.PartialEq.eq (hash g) c.args.self.now c.args.replace c.args.key c.args.value (keys g c.args.self.now.store.hasher) (lawful g (goal.at.loop-reply-smaller g c).After-new) (record { op = λ a shown told a'. (told ≡ first_or (Abort 0) a.ops.items) × (a'.ops.items ≡ rest_of a.ops.items) × (a'.yes ≡ a.yes); yes = _ })
     c.loop-reply.self-inside.store c.loop-reply.running c.perform-answer.result c.perform-answer.new.self c.perform-answer.new.running c.ask-ask.result c.ask-ask.ensures.value c.in_default.not-Done c.perform-answer.ensures.performs c.perform-answer.ensures.machine c.loop-reply.invariant.0)
 
 pub loop-reply-preserved : goal.loop-reply-preserved
 loop-reply-preserved g c = (
   subst (λ (m : Machine). IsInserting g.K.PartialEq.eq (hash g) c.args.self.now c.args.replace c.args.key c.args.value c.perform-answer.new.self (record c.perform-answer.new.running { machine = m })) (answered g (goal.at.loop-reply-preserved g c).After-answer)
-      (inserting_more g.K.PartialEq.eq (hash g) c.args.self.now c.args.replace c.args.key c.args.value (keys g c.args.self.now.store.hasher) (lawful g (goal.at.loop-reply-preserved g c).After-new) (record { op = λ a shown told a'. Unit {0}; yes = _ })
+      (inserting_more g.K.PartialEq.eq (hash g) c.args.self.now c.args.replace c.args.key c.args.value (keys g c.args.self.now.store.hasher) (lawful g (goal.at.loop-reply-preserved g c).After-new) (record { op = λ a shown told a'. (told ≡ first_or (Abort 0) a.ops.items) × (a'.ops.items ≡ rest_of a.ops.items) × (a'.yes ≡ a.yes); yes = _ })
       c.loop-reply.self-inside.store c.loop-reply.running c.perform-answer.result c.perform-answer.new.self c.perform-answer.new.running c.ask-ask.result c.ask-ask.ensures.value c.in_default.not-Done c.perform-answer.ensures.performs c.perform-answer.ensures.machine c.loop-reply.invariant.0),
   c.loop-reply.invariant.1,
   c.loop-reply.invariant.2,

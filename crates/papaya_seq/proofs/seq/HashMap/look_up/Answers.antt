@@ -5,11 +5,11 @@ use Rattle.papaya_call.specs.declared.call.Task.TheVariants.{Get}
 use Rattle.papaya_call.specs.Alone.{left}
 use Rattle.papaya_call.specs.Machine.{IsStanding, ask_of, started}
 use Rattle.papaya_core.specs.Performs.{size_of}
-use Rattle.papaya_core.specs.Store.{hash_of}
+use Rattle.papaya_core.specs.Store.{hash_of, pair_of}
 use Rattle.papaya_core.specs.Tables.{table_of, word_at}
 use Rattle.papaya_core.proofs.KeptCore.{keys_lawful}
 use Rattle.papaya_core.proofs.KeptSettings.{IsLawfulKeys}
-use Rattle.papaya_seq.specs.Looks.{IsToldBy, found_number}
+use Rattle.papaya_seq.specs.Looks.{IsToldBy, found_number, matches_in}
 use Rattle.papaya_seq.specs.Map.{IsLawfulMap, MapState}
 use Rattle.papaya_seq.proofs.LookFinds.{look_up_finds, number_found}
 use Rattle.papaya_seq.proofs.LookSteps.{IsLookUp, look_up_begins, look_up_goes, lookup_nears}
@@ -38,7 +38,7 @@ module _ (g : Over) where
       let by = λ (ask : Ask). IsToldBy (g.Q.Equivalent.matches c.args.key.now) c.args.self.now.store ask c.match-ask.answer in
       elim c.match-ask.branch [
         | in-Load w ↦ subst by w.in-Load.ensures.value (w.answer-is ∙ ap Word (w.word.ensures ∙ ap (λ (s : MapState g.row.K.Denot g.row.V.Denot g.row.S.Denot). word_at s.store.words w.in-Load.at) c.self.view_is))
-        | in-SameKey w ↦ subst by w.in-SameKey.ensures.value (w.answer-is ∙ ap Yes w.matches.ensures)
+        | in-SameKey w ↦ subst by w.in-SameKey.ensures.value (w.answer-is ∙ ap Yes (w.matches.ensures ∙ ap (λ (s : MapState g.row.K.Denot g.row.V.Denot g.row.S.Denot). matches_in (g.Q.Equivalent.matches c.args.key.now) (pair_of s.store w.in-SameKey.pair)) c.self.view_is))
         | in-SizeOf w ↦ subst by w.in-SizeOf.ensures.value (w.answer-is ∙ w.size_of-answer.ensures ∙ ap (λ (s : MapState g.row.K.Denot g.row.V.Denot g.row.S.Denot). size_of (table_of s.store.words.tables w.in-SizeOf.table)) c.self.view_is)
       ]
 

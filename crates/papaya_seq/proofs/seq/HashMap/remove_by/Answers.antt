@@ -139,22 +139,24 @@ made g c m =
     alone g.F.FnMut g.K.PartialEq.eq (hash_of g.K.Hash.hash_input g.S.BuildHasher.build_hasher g.S.Hasher.Hasher.write g.S.Hasher.Hasher.finish) (g.Q.Equivalent.matches c.args.key.now) c.hash-hash.result c.args.self.now c.args.agrees
     c.loop-at.self-inside.store c.loop-at.agrees c.loop-at.machine c.loop-at.invariant.4 c.in-Done.reply (ends_with g c) m.pair.key (alike g c m) (hashed g c m) (subst (λ n. n < 2 ^ 64) (sym (hashed g c m)) c.hash-hash.ensures.fits)
 
-pub returns-in-Done-clause-removal : goal.returns-in-Done-clause-removal
-returns-in-Done-clause-removal g c =
+pub returns-in-Done-clause-whole : goal.returns-in-Done-clause-whole
+returns-in-Done-clause-whole g c =
     let hash = hash_of g.K.Hash.hash_input g.S.BuildHasher.build_hasher g.S.Hasher.Hasher.write g.S.Hasher.Hasher.finish in
     let matches = g.Q.Equivalent.matches c.args.key.now in
     let map = c.args.self.now in
     let later = c.loop-at.self-inside.store in
-    ⊎_elim
-    (λ (m : IsMatched map.store matches).
-    removal_done g.F.FnMut g.K.PartialEq.eq g.met.K.Eq.laws matches m.pair.key (alike g c m) map.store later c.args.agrees c.loop-at.agrees c.in-Done.reply
-    (alone_answered g.K.PartialEq.eq g.K.Hash.hash_input g.S.BuildHasher.build_hasher g.S.Hasher.Hasher.write g.S.Hasher.Hasher.finish g.met.K.Eq.laws g.met.K.Hash.respects_eq
-    (core_of map) (seated later None map.mode map.initial) (removal_by m.pair.key) c.in-Done.reply (lawful g (goal.at.returns-in-Done-clause-removal g c).After-new-machine).lawful (made g c m))
-    (judged_reply g.F.FnMut g.K.PartialEq.eq hash matches c.hash-hash.result map c.args.agrees later c.loop-at.agrees c.loop-at.machine c.loop-at.invariant.4 c.in-Done.reply (ends_with g c)))
-    (λ (none : MatchesNone map.store matches).
-    let nothing = unmet g.F.FnMut g.K.PartialEq.eq hash matches c.hash-hash.result map c.args.agrees later c.loop-at.agrees c.loop-at.machine c.loop-at.invariant.4 c.in-Done.reply (ends_with g c) none in
-    removal_none g.K.PartialEq.eq matches (Judges g.F.FnMut c.args.agrees) map.store later c.in-Done.reply none nothing.0 nothing.1)
-    (decided map.store matches)
+    record {
+      removal = ⊎_elim
+          (λ (m : IsMatched map.store matches).
+          removal_done g.F.FnMut g.K.PartialEq.eq g.met.K.Eq.laws matches m.pair.key (alike g c m) map.store later c.args.agrees c.loop-at.agrees c.in-Done.reply
+          (alone_answered g.K.PartialEq.eq g.K.Hash.hash_input g.S.BuildHasher.build_hasher g.S.Hasher.Hasher.write g.S.Hasher.Hasher.finish g.met.K.Eq.laws g.met.K.Hash.respects_eq
+          (core_of map) (seated later None map.mode map.initial) (removal_by m.pair.key) c.in-Done.reply (lawful g (goal.at.returns-in-Done-clause-whole g c).After-new-machine).lawful (made g c m))
+          (judged_reply g.F.FnMut g.K.PartialEq.eq hash matches c.hash-hash.result map c.args.agrees later c.loop-at.agrees c.loop-at.machine c.loop-at.invariant.4 c.in-Done.reply (ends_with g c)))
+          (λ (none : MatchesNone map.store matches).
+          let nothing = unmet g.F.FnMut g.K.PartialEq.eq hash matches c.hash-hash.result map c.args.agrees later c.loop-at.agrees c.loop-at.machine c.loop-at.invariant.4 c.in-Done.reply (ends_with g c) none in
+          removal_none g.K.PartialEq.eq matches (Judges g.F.FnMut c.args.agrees) map.store later c.in-Done.reply none nothing.0 nothing.1)
+          (decided map.store matches);
+    }
 
 pub invariant_of-self : goal.invariant_of-self
 invariant_of-self g c =
@@ -191,6 +193,3 @@ returns-in-Done-clause-keeps g c =
       initial = c.loop-at.invariant.3;
       pairs = λ n p e. log_kept g.F.FnMut g.K.PartialEq.eq hash matches c.hash-hash.result c.args.self.now c.args.agrees c.loop-at.self-inside.store c.loop-at.agrees c.loop-at.machine c.loop-at.invariant.4 c.in-Done.reply (ends_with g c) n ∙ e;
     }
-
-pub returns-in-Done-clause-whole : goal.returns-in-Done-clause-whole
-returns-in-Done-clause-whole g c = record { removal = returns-in-Done-clause-removal g c }

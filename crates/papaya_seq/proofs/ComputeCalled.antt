@@ -1,0 +1,128 @@
+-- A compute of a list of calls.
+use Rattle.std.proofs.Common.{◌≡◌, ℕ, Bool, Option, None, Some, Result, Ok, Err, option_map, inl, inr, refl, sym, ◌∙◌, ap, subst}
+use denote.Ref.{Bor}
+use Rattle.std.specs.Cmp.{IsEquivalence}
+use Rattle.papaya_words.specs.declared.probe.Refused.{Refused}
+use Rattle.papaya_words.specs.declared.probe.Refused.TheVariants.{Memory, Capacity, RemoveNothing}
+use Rattle.papaya_call.specs.Answers.{Says as Answers_say}
+use Rattle.papaya_call.specs.declared.answers.Operation.{Operation}
+use Rattle.papaya_call.specs.declared.answers.Operation.TheVariants as ops
+use Rattle.papaya_call.specs.declared.call.Call.TheVariants.{Compute}
+use Rattle.papaya_call.specs.declared.call.Reply.{Reply}
+use Rattle.papaya_call.specs.declared.call.Reply.TheVariants as replies
+use Rattle.papaya_core.specs.Content.{map_in}
+use Rattle.papaya_core.specs.Maps.{Does, IsUpdate}
+use Rattle.papaya_core.specs.Store.{Stored}
+use Rattle.papaya_seq.specs.Calls.{Answers, IsCalled, IsOperated}
+use Rattle.papaya_seq.specs.Computes.{ComputesBy, Operates, Says, answer_map}
+use Rattle.papaya_seq.specs.Computing.{reply_of}
+use Rattle.papaya_seq.specs.Map.{IsCause, Keeps, MapState, deref_pair}
+use Rattle.papaya_seq.specs.declared.compute.Computed.{Computed}
+use Rattle.papaya_seq.specs.declared.compute.Computed.TheVariants.{Inserted, Updated, Removed, Aborted}
+use Rattle.papaya_seq.proofs.Answered.{update_leaves}
+
+module _ {K V S A : Type 0} (eq : K → K → Bool) (hash : S → K → ℕ) (classes : IsEquivalence eq) (s s' : MapState K V S) (k : K) (a : A) (says : Answers_say K V A) (keeps : Keeps s s') where
+  -- what is replied of a compute that did this
+  abbrev Called : Reply → Type 0
+  Called reply = IsCalled eq hash says s (Compute k a) reply s'
+
+  -- a cause is no want of a pair to be removed
+  caused : (refused : Refused) → IsCause (hash s.store.hasher k) s.store refused → refused ≡ RemoveNothing → ⊥
+  caused refused (inl e) f = let g : Memory ≡ RemoveNothing = sym e ∙ f in cc
+  caused refused (inr (e, full)) f = let g : Capacity ≡ RemoveNothing = sym e ∙ f in cc
+
+  -- and an insertion was answered then
+  insertion_said : (held : Option (Stored K V)) (v : V) (refused : Refused) → IsCause (hash s.store.hasher k) s.store refused → Answers says a held (ops.Insert v) → IsOperated says a held s'.store (replies.Refused refused)
+  insertion_said held v refused (inl e) answers = subst (λ r. IsOperated says a held s'.store (replies.Refused r)) (sym e) (v, answers)
+  insertion_said held v refused (inr (e, full)) answers = subst (λ r. IsOperated says a held s'.store (replies.Refused r)) (sym e) (v, answers)
+
+  -- in each case
+  called : (held : Option (Stored K V)) (operation : Operation V ℕ) (done : Result (Computed (Stored K V) ℕ) Refused) (next : Option (Stored K V)) → Answers says a held operation → Operates (hash s.store.hasher k) k s.store s'.store held operation done next → IsUpdate eq k held next (map_in eq s.store) (map_in eq s'.store) → Called (reply_of (answer_map (λ p. p.number) done))
+  called None (ops.Insert v) (Ok (Inserted q)) next answers (new, is) update = record {
+    answered = record { went = None; came = next; update = update; does = (q, (v, record { number = refl; key = new.key; value = new.value }), is) };
+    fresh = new.fresh;
+    said = (q, new.logged, subst (λ o. Answers says a o (ops.Insert q.value)) (sym update.before) (subst (λ w. Answers says a None (ops.Insert w)) (sym new.value) answers));
+    cause = λ refused e. let f : replies.Inserted q.number ≡ replies.Refused refused = e in absurd cc;
+    keeps = keeps;
+  }
+  called (Some p) (ops.Insert v) (Ok (Updated old q)) next answers (same, new, is) update = record {
+    answered = record { went = Some p; came = next; update = update; does = (ap (λ (x : Stored K V). x.number) (sym same), (q, (v, record { number = refl; key = new.key; value = new.value }), is)) };
+    fresh = new.fresh;
+    said = (q, new.logged, subst (λ o. Answers says a o (ops.Insert q.value)) (sym update.before) (subst (λ w. Answers says a (Some p) (ops.Insert w)) (sym new.value) answers));
+    cause = λ refused e. let f : replies.Replaced old.number q.number ≡ replies.Refused refused = e in absurd cc;
+    keeps = keeps;
+  }
+  called None (ops.Insert v) (Err refused) next answers (cause, is) update = record {
+    answered = (update_leaves eq classes s.store s'.store k None (subst (λ o. IsUpdate eq k None o (map_in eq s.store) (map_in eq s'.store)) is update), λ e. absurd (caused refused cause e));
+    fresh = tt;
+    said = subst (λ o. IsOperated says a o s'.store (replies.Refused refused)) (sym update.before) (insertion_said None v refused cause answers);
+    cause = λ other e. inl (subst (IsCause (hash s.store.hasher k) s.store) (let f : replies.Refused refused ≡ replies.Refused other = e in cc) cause);
+    keeps = keeps;
+  }
+  called (Some p) (ops.Insert v) (Err refused) next answers (cause, is) update = record {
+    answered = (update_leaves eq classes s.store s'.store k (Some p) (subst (λ o. IsUpdate eq k (Some p) o (map_in eq s.store) (map_in eq s'.store)) is update), λ e. absurd (caused refused cause e));
+    fresh = tt;
+    said = subst (λ o. IsOperated says a o s'.store (replies.Refused refused)) (sym update.before) (insertion_said (Some p) v refused cause answers);
+    cause = λ other e. inl (subst (IsCause (hash s.store.hasher k) s.store) (let f : replies.Refused refused ≡ replies.Refused other = e in cc) cause);
+    keeps = keeps;
+  }
+  called None ops.Remove (Err refused) next answers (nothing_there, is) update =
+      subst (λ r. Called (replies.Refused r)) (sym nothing_there) (record {
+        answered = (
+          update_leaves eq classes s.store s'.store k None (subst (λ o. IsUpdate eq k None o (map_in eq s.store) (map_in eq s'.store)) is update),
+          λ e. subst (λ o. Does (Compute k a) o (replies.Refused RemoveNothing) o) (sym update.before) refl,
+        );
+        fresh = tt;
+        said = subst (λ o. Answers says a o ops.Remove) (sym update.before) answers;
+        cause = λ other e. inr (let f : replies.Refused RemoveNothing ≡ replies.Refused other = e in cc);
+        keeps = keeps;
+      })
+  called (Some p) ops.Remove (Ok (Removed old)) next answers (same, is) update = record {
+    answered = record { went = Some p; came = next; update = update; does = (ap (λ (x : Stored K V). x.number) (sym same), is) };
+    fresh = tt;
+    said = subst (λ o. Answers says a o ops.Remove) (sym update.before) answers;
+    cause = λ refused e. let f : replies.Removed old.number ≡ replies.Refused refused = e in absurd cc;
+    keeps = keeps;
+  }
+  called None (ops.Abort t) (Ok (Aborted u)) next answers (same, is) update = record {
+    answered = record { went = None; came = next; update = update; does = is };
+    fresh = tt;
+    said = subst (λ o. Answers says a o (ops.Abort u)) (sym update.before) (subst (λ w. Answers says a None (ops.Abort w)) (sym same) answers);
+    cause = λ refused e. let f : replies.Aborted u ≡ replies.Refused refused = e in absurd cc;
+    keeps = keeps;
+  }
+  called (Some p) (ops.Abort t) (Ok (Aborted u)) next answers (same, is) update = record {
+    answered = record { went = Some p; came = next; update = update; does = is };
+    fresh = tt;
+    said = subst (λ o. Answers says a o (ops.Abort u)) (sym update.before) (subst (λ w. Answers says a (Some p) (ops.Abort w)) (sym same) answers);
+    cause = λ refused e. let f : replies.Aborted u ≡ replies.Refused refused = e in absurd cc;
+    keeps = keeps;
+  }
+  called None (ops.Insert v) (Ok (Updated old q)) next answers o update = absurd o
+  called None (ops.Insert v) (Ok (Removed old)) next answers o update = absurd o
+  called None (ops.Insert v) (Ok (Aborted u)) next answers o update = absurd o
+  called (Some p) (ops.Insert v) (Ok (Inserted q)) next answers o update = absurd o
+  called (Some p) (ops.Insert v) (Ok (Removed old)) next answers o update = absurd o
+  called (Some p) (ops.Insert v) (Ok (Aborted u)) next answers o update = absurd o
+  called None ops.Remove (Ok done) next answers o update = absurd o
+  called (Some p) ops.Remove (Ok (Inserted q)) next answers o update = absurd o
+  called (Some p) ops.Remove (Ok (Updated old q)) next answers o update = absurd o
+  called (Some p) ops.Remove (Ok (Aborted u)) next answers o update = absurd o
+  called (Some p) ops.Remove (Err refused) next answers o update = absurd o
+  called None (ops.Abort t) (Ok (Inserted q)) next answers o update = absurd o
+  called None (ops.Abort t) (Ok (Updated old q)) next answers o update = absurd o
+  called None (ops.Abort t) (Ok (Removed old)) next answers o update = absurd o
+  called None (ops.Abort t) (Err refused) next answers o update = absurd o
+  called (Some p) (ops.Abort t) (Ok (Inserted q)) next answers o update = absurd o
+  called (Some p) (ops.Abort t) (Ok (Updated old q)) next answers o update = absurd o
+  called (Some p) (ops.Abort t) (Ok (Removed old)) next answers o update = absurd o
+  called (Some p) (ops.Abort t) (Err refused) next answers o update = absurd o
+
+-- a compute by a closure that gives a call's answers
+pub compute_called : {K V S A : Type 0} (eq : K → K → Bool) (hash : S → K → ℕ) (classes : IsEquivalence eq) (s s' : MapState K V S) (k : K) (a : A) (says : Answers_say K V A) {post : Option (Bor K × Bor V) → Operation V ℕ → Type 0} → ((shown : Option (Bor K × Bor V)) (operation : Operation V ℕ) → post shown operation → (a' : A) × says.op a (option_map deref_pair shown) operation a')
+    → (answer : Result (Computed ℕ ℕ) Refused) (reply : Reply) → reply ≡ reply_of answer → ComputesBy eq (hash s.store.hasher k) k (λ p. p.number) (Says post) s answer s' → IsCalled eq hash says s (Compute k a) reply s'
+compute_called eq hash classes s s' k a says gives answer reply is (done, answer_is, computes) =
+    let (shown, are, said) = computes.answered in
+    let (a', given) = gives shown computes.operation said in
+    subst (λ r. IsCalled eq hash says s (Compute k a) r s') (sym (is ∙ ap reply_of answer_is))
+    (called eq hash classes s s' k a says computes.keeps computes.held computes.operation done computes.next (a', subst (λ o. says.op a o computes.operation a') are given) computes.operates computes.update)

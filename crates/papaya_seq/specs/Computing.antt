@@ -1,0 +1,50 @@
+-- How a compute goes: what is kept of its closure's answer, and what is answered of its machine's reply.
+use Rattle.std.specs.Prelude.{◌≡◌, ℕ, Option, Some, Result, Ok, Err}
+use Rattle.papaya_words.specs.declared.probe.Refused.{Refused}
+use Rattle.papaya_call.specs.declared.answers.Operation.{Operation}
+use Rattle.papaya_call.specs.declared.answers.Operation.TheVariants.{Insert, Remove, Abort}
+use Rattle.papaya_call.specs.declared.ask.Answer.{Answer}
+use Rattle.papaya_call.specs.declared.ask.Answer.TheVariants.{Op}
+use Rattle.papaya_call.specs.declared.ask.OpKind.TheVariants as kinds
+use Rattle.papaya_call.specs.declared.call.Reply.{Reply}
+use Rattle.papaya_call.specs.declared.call.Reply.TheVariants as replies
+use Rattle.papaya_seq.specs.declared.compute.Computed.{Computed}
+use Rattle.papaya_seq.specs.declared.compute.Computed.TheVariants.{Inserted, Updated, Removed, Aborted}
+
+-- a closure's answer is told without what it owns, and that is kept: the value of an insertion, and what the call is ended with
+abbrev pub IsKept : {V T : Type 0} → Operation V T → Answer → Option V → Option V → Option T → Option T → Type 0
+IsKept (Insert v) answer value value' aborted aborted' = (answer ≡ Op kinds.Insert) × (value' ≡ Some v) × (aborted' ≡ aborted)
+IsKept Remove answer value value' aborted aborted' = (answer ≡ Op kinds.Remove) × (value' ≡ value) × (aborted' ≡ aborted)
+IsKept (Abort t) answer value value' aborted aborted' = (answer ≡ Op (kinds.Abort 0)) × (value' ≡ value) × (aborted' ≡ Some t)
+
+-- a compute replies so: where its closure ended it, what it ended it with was kept
+abbrev pub Replies : {T : Type 0} → Reply → Option T → Type 0
+Replies (replies.Inserted n) aborted = Unit {0}
+Replies (replies.Replaced m n) aborted = Unit {0}
+Replies (replies.Removed n) aborted = Unit {0}
+Replies {T = T} (replies.Aborted u) aborted = (t : T) × (aborted ≡ Some t)
+Replies (replies.Refused refused) aborted = Unit {0}
+Replies replies.Absent aborted = ⊥
+Replies (replies.Found n) aborted = ⊥
+Replies (replies.Occupied n) aborted = ⊥
+Replies (replies.Kept n) aborted = ⊥
+
+-- and this is answered of it
+abbrev pub IsComputed : {T : Type 0} → Reply → Option T → Result (Computed ℕ T) Refused → Type 0
+IsComputed (replies.Inserted n) aborted answer = answer ≡ Ok (Inserted n)
+IsComputed (replies.Replaced m n) aborted answer = answer ≡ Ok (Updated m n)
+IsComputed (replies.Removed n) aborted answer = answer ≡ Ok (Removed n)
+IsComputed {T = T} (replies.Aborted u) aborted answer = (t : T) × (aborted ≡ Some t) × (answer ≡ Ok (Aborted t))
+IsComputed (replies.Refused refused) aborted answer = answer ≡ Err refused
+IsComputed replies.Absent aborted answer = ⊥
+IsComputed (replies.Found n) aborted answer = ⊥
+IsComputed (replies.Occupied n) aborted answer = ⊥
+IsComputed (replies.Kept n) aborted answer = ⊥
+
+-- the reply that says what a compute did
+abbrev pub reply_of : Result (Computed ℕ ℕ) Refused → Reply
+reply_of (Ok (Inserted n)) = replies.Inserted n
+reply_of (Ok (Updated m n)) = replies.Replaced m n
+reply_of (Ok (Removed n)) = replies.Removed n
+reply_of (Ok (Aborted t)) = replies.Aborted t
+reply_of (Err refused) = replies.Refused refused
