@@ -4,7 +4,7 @@ use Rattle.std.specs.Prelude.{◌⊎◌, Option, None, Some, MatchOption}
 use Rattle.papaya_run.specs.Commands.{Parts, WritesBare, WritesCommand, keyed_word}
 use Rattle.papaya_run.specs.Numbers.{WritesNumber}
 use Rattle.papaya_run.specs.declared.commands.Command.{Command}
-use Rattle.papaya_run.specs.declared.commands.Command.TheVariants.{Insert, Get, Remove, Len, Slots}
+use Rattle.papaya_run.specs.declared.commands.Command.TheVariants.{Insert, Get, Remove, Update, Len, Slots}
 use Rattle.papaya_run.specs.declared.commands.Keyed.{Keyed}
 use Rattle.papaya_run.specs.declared.commands.Keyed.TheVariants as keyed
 use Rattle.papaya_run.proofs.PartLemmas.{above_no_space, cut_once, first, has_cut, number_no_space}
@@ -19,6 +19,9 @@ i_no_space = above_no_space (codes "i") (omega arith, tt)
 r_no_space : ¬ (Contains (codes "r") 32)
 r_no_space = above_no_space (codes "r") (omega arith, tt)
 
+u_no_space : ¬ (Contains (codes "u") 32)
+u_no_space = above_no_space (codes "u") (omega arith, tt)
+
 len_no_space : ¬ (Contains (codes "len") 32)
 len_no_space = above_no_space (codes "len") (omega arith, (omega arith, (omega arith, tt)))
 
@@ -30,6 +33,7 @@ abbrev CommandParts : List ℕ → List ℕ → Command → Type 0
 CommandParts name rest (Insert k v) = (codes "i" ≡ name) × (key value : List ℕ) × WritesNumber key k × WritesNumber value v × (rest ≡ key ++ 32 ∷ value)
 CommandParts name rest (Get k) = (codes "g" ≡ name) × WritesNumber rest k
 CommandParts name rest (Remove k) = (codes "r" ≡ name) × WritesNumber rest k
+CommandParts name rest (Update k) = (codes "u" ≡ name) × WritesNumber rest k
 CommandParts name rest Len = ⊥
 CommandParts name rest Slots = ⊥
 
@@ -50,6 +54,7 @@ command_parts text name rest (Insert k v) parts (key, value, w, u, e) =
     (cut.0, key, value, w, u, sym cut.1)
 command_parts text name rest (Get k) parts w = keyed_parts text (codes "g") name rest k g_no_space parts w
 command_parts text name rest (Remove k) parts w = keyed_parts text (codes "r") name rest k r_no_space parts w
+command_parts text name rest (Update k) parts w = keyed_parts text (codes "u") name rest k u_no_space parts w
 command_parts text name rest Len parts w = no_parts text (codes "len") name rest len_no_space parts w
 command_parts text name rest Slots parts w = no_parts text (codes "slots") name rest slots_no_space parts w
 
@@ -58,6 +63,7 @@ no_bare : (text : List ℕ) → ¬ (Contains text 32) → ((command : Command) �
 no_bare text none other (Insert k v) (key, value, w, u, e) = none (has_cut text (codes "i") (key ++ 32 ∷ value) e)
 no_bare text none other (Get k) (key, w, e) = none (has_cut text (codes "g") key e)
 no_bare text none other (Remove k) (key, w, e) = none (has_cut text (codes "r") key e)
+no_bare text none other (Update k) (key, w, e) = none (has_cut text (codes "u") key e)
 no_bare text none other Len w = other Len w
 no_bare text none other Slots w = other Slots w
 
@@ -66,6 +72,7 @@ bare_command : (text : List ℕ) (command : Command) → WritesBare text command
 bare_command text (Insert k v) w = absurd w
 bare_command text (Get k) w = absurd w
 bare_command text (Remove k) w = absurd w
+bare_command text (Update k) w = absurd w
 bare_command text Len w = w
 bare_command text Slots w = w
 
@@ -79,6 +86,7 @@ pub no_name : (text name rest : List ℕ) → Parts text name rest → ((called 
 no_name text name rest parts none (Insert k v) w = none keyed.Insert (sym (command_parts text name rest (Insert k v) parts w).0)
 no_name text name rest parts none (Get k) w = none keyed.Get (sym (command_parts text name rest (Get k) parts w).0)
 no_name text name rest parts none (Remove k) w = none keyed.Remove (sym (command_parts text name rest (Remove k) parts w).0)
+no_name text name rest parts none (Update k) w = none keyed.Update (sym (command_parts text name rest (Update k) parts w).0)
 no_name text name rest parts none Len w = command_parts text name rest Len parts w
 no_name text name rest parts none Slots w = command_parts text name rest Slots parts w
 
@@ -89,6 +97,7 @@ inserts text name rest parts named (Insert k v) w then =
     then k v p.1 p.2 p.3 p.4 p.5
 inserts text name rest parts named (Get k) w then = let h : 103 ≡ 105 = ap first ((command_parts text name rest (Get k) parts w).0 ∙ named) in omega (arith, h)
 inserts text name rest parts named (Remove k) w then = let h : 114 ≡ 105 = ap first ((command_parts text name rest (Remove k) parts w).0 ∙ named) in omega (arith, h)
+inserts text name rest parts named (Update k) w then = let h : 117 ≡ 105 = ap first ((command_parts text name rest (Update k) parts w).0 ∙ named) in omega (arith, h)
 inserts text name rest parts named Len w then = command_parts text name rest Len parts w
 inserts text name rest parts named Slots w then = command_parts text name rest Slots parts w
 

@@ -2,7 +2,7 @@
 use Rattle.std.specs.Prelude.{◌≡◌, ℕ, List, [], ◌∷◌, ◌++◌, Contains, codes}
 use Rattle.papaya_run.specs.Numbers.{WritesNumber}
 use Rattle.papaya_run.specs.declared.commands.Command.{Command}
-use Rattle.papaya_run.specs.declared.commands.Command.TheVariants.{Insert, Get, Remove, Len, Slots}
+use Rattle.papaya_run.specs.declared.commands.Command.TheVariants.{Insert, Get, Remove, Update, Len, Slots}
 use Rattle.papaya_run.specs.declared.commands.Keyed.{Keyed}
 use Rattle.papaya_run.specs.declared.commands.Keyed.TheVariants as keyed
 
@@ -21,6 +21,7 @@ abbrev pub keyed_word : Keyed → List ℕ
 keyed_word keyed.Get = codes "g"
 keyed_word keyed.Insert = codes "i"
 keyed_word keyed.Remove = codes "r"
+keyed_word keyed.Update = codes "u"
 
 -- the text is the command's word
 abbrev pub WritesBare : List ℕ → Command → Type 0
@@ -29,6 +30,7 @@ WritesBare text Slots = text ≡ codes "slots"
 WritesBare text (Insert k v) = ⊥
 WritesBare text (Get k) = ⊥
 WritesBare text (Remove k) = ⊥
+WritesBare text (Update k) = ⊥
 
 -- the text is this word and a number
 abbrev pub WritesKeyed : List ℕ → List ℕ → ℕ → Type 0
@@ -39,5 +41,6 @@ abbrev pub WritesCommand : List ℕ → Command → Type 0
 WritesCommand text (Insert k v) = (key value : List ℕ) × WritesNumber key k × WritesNumber value v × (text ≡ spaced (codes "i" ∷ key ∷ value ∷ []))
 WritesCommand text (Get k) = WritesKeyed text (codes "g") k
 WritesCommand text (Remove k) = WritesKeyed text (codes "r") k
+WritesCommand text (Update k) = WritesKeyed text (codes "u") k
 WritesCommand text Len = text ≡ codes "len"
 WritesCommand text Slots = text ≡ codes "slots"

@@ -3,15 +3,27 @@ use Rattle.std.specs.Prelude.{◌≡◌, ℕ, List, [], ◌∷◌, ◌++◌, tru
 use Rattle.papaya_core.specs.declared.trace.Turn.{Turn}
 use Rattle.papaya_core.specs.declared.trace.Turn.TheVariants.{Begin, Step, Finish}
 use Rattle.papaya_run.specs.declared.answering.Answering.{Answering}
+use Rattle.papaya_call.specs.declared.call.Call.{Call}
+use Rattle.papaya_call.specs.declared.call.Call.TheVariants.{Get, Insert, TryInsert, RemoveIf, Compute}
 use Rattle.papaya_run.specs.declared.input.Line.{Line}
+use Rattle.papaya_run.specs.declared.input.Part.{Part}
+use Rattle.papaya_run.specs.declared.input.Part.TheVariants as part
 use Rattle.papaya_run.specs.declared.input.Script.{Script}
 use Rattle.papaya_run.specs.Script.{WritesTurn}
 
+-- what the begin of a call is
+abbrev pub part_of : Call ℕ ℕ Answering → Part
+part_of (Compute k answers) = part.Update
+part_of (Get k) = part.Call
+part_of (Insert k v) = part.Call
+part_of (TryInsert k v) = part.Call
+part_of (RemoveIf k answers) = part.Call
+
 -- the line of this number that asks for the turn
 abbrev pub line_of : ℕ → Turn ℕ ℕ Answering → Line
-line_of number (Begin c what) = record { number = number; caller = c; is_finish = false }
-line_of number (Step c refused) = record { number = number; caller = c; is_finish = false }
-line_of number (Finish c most) = record { number = number; caller = c; is_finish = true }
+line_of number (Begin c what) = record { number = number; caller = c; part = part_of what }
+line_of number (Step c refused) = record { number = number; caller = c; part = part.Step }
+line_of number (Finish c most) = record { number = number; caller = c; part = part.Finish }
 
 -- the turn that the line asks for is the script's last
 abbrev pub AddsTurn : Script → ℕ → List ℕ → Script → Turn ℕ ℕ Answering → Type 0

@@ -3,6 +3,8 @@ use Rattle.std.specs.Prelude.{◌≡◌, ◌==◌, ℕ, Option, Some, None, Resu
 use Rattle.papaya_words.specs.declared.probe.Refused.{Refused}
 use Rattle.papaya_core.specs.Content.{content}
 use Rattle.papaya_core.specs.Store.{Stored}
+use Rattle.papaya_seq.specs.Computes.{IsUpdated}
+use Rattle.papaya_run.specs.Answering.{follower}
 use Rattle.papaya_seq.specs.Map.{HasNone, Holds, IsInserted, IsRemoved, MapState, next_of, slots_of}
 use Rattle.papaya_run.specs.declared.commands.Command.{Command}
 use Rattle.papaya_run.specs.declared.commands.Command.TheVariants as command
@@ -26,6 +28,12 @@ of_removal (Ok None) = printed.Absent
 of_removal (Ok (Some value)) = printed.Removed value
 of_removal (Err refused) = printed.Refused refused
 
+-- what is printed of an update: the value that it stored, if the key was there, or the refusal
+abbrev pub of_update : Result (Option ℕ) Refused → Printed
+of_update (Ok None) = printed.Absent
+of_update (Ok (Some value)) = printed.New value
+of_update (Err refused) = printed.Refused refused
+
 module _ {S : Type 0} where
   -- the map has this value at the key, or has not the key
   abbrev pub HasAt : MapState ℕ ℕ S → ℕ → Option ℕ → Type 0
@@ -36,5 +44,6 @@ module _ {S : Type 0} where
   Obeys hash (command.Insert k v) s text s' = (answer : Result (Option ℕ) Refused) × (text ≡ of_insertion answer) × IsInserted (λ a b. a == b) (hash k) k v s answer s'
   Obeys hash (command.Get k) s text s' = (found : Option ℕ) × (text ≡ of_lookup found) × HasAt s k found × (s' ≡ s)
   Obeys hash (command.Remove k) s text s' = (answer : Result (Option ℕ) Refused) × (text ≡ of_removal answer) × IsRemoved (λ a b. a == b) (λ key. k == key) (λ p. p.value) s answer s' × (next_of s.store ≡ 0 → IsOk answer)
+  Obeys hash (command.Update k) s text s' = (answer : Result (Option ℕ) Refused) × (text ≡ of_update answer) × IsUpdated (λ a b. a == b) (hash k) k (λ old new. new ≡ follower old) s answer s'
   Obeys hash command.Len s text s' = (text ≡ printed.Length (length (content s.store))) × (s' ≡ s)
   Obeys hash command.Slots s text s' = (text ≡ printed.Slots (slots_of s.store)) × (s' ≡ s)

@@ -10,6 +10,7 @@ abbrev pub text_of : Printed → List ℕ
 text_of printed.Absent = codes "none"
 text_of (printed.Found value) = codes "some " ++ decimal value
 text_of (printed.Old value) = codes "old " ++ decimal value
+text_of (printed.New value) = codes "new " ++ decimal value
 text_of (printed.Removed value) = codes "removed " ++ decimal value
 text_of (printed.Length count) = codes "len " ++ decimal count
 text_of (printed.Slots count) = codes "slots " ++ decimal count

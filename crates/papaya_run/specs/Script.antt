@@ -1,7 +1,7 @@
 -- What the lines of a script say.
 use Rattle.std.specs.Prelude.{◌≡◌, ℕ, ◌<◌, true, false, List, [], ◌∷◌, codes}
 use Rattle.papaya_call.specs.declared.call.Call.{Call}
-use Rattle.papaya_call.specs.declared.call.Call.TheVariants.{Get, Insert, TryInsert, RemoveIf}
+use Rattle.papaya_call.specs.declared.call.Call.TheVariants.{Get, Insert, TryInsert, RemoveIf, Compute}
 use Rattle.papaya_core.specs.declared.trace.Turn.{Turn}
 use Rattle.papaya_core.specs.declared.trace.Turn.TheVariants.{Begin, Step, Finish}
 use Rattle.papaya_run.specs.Commands.{WritesCommand, spaced}
@@ -20,6 +20,7 @@ abbrev pub WritesCall : List ℕ → Call ℕ ℕ Answering → Type 0
 WritesCall text (Get k) = WritesCommand text (command.Get k)
 WritesCall text (Insert k v) = WritesCommand text (command.Insert k v)
 WritesCall text (RemoveIf k agrees) = WritesCommand text (command.Remove k)
+WritesCall text (Compute k answers) = WritesCommand text (command.Update k)
 WritesCall text (TryInsert k v) = ⊥
 
 -- the word of a verb

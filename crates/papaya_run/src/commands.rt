@@ -15,6 +15,8 @@ pub enum Command {
     Get(u64),
     /// Removes a key.
     Remove(u64),
+    /// Adds 1 to the value of a key; 0 follows the greatest.
+    Update(u64),
     /// How many pairs there are.
     Len,
     /// How many slots the root table has.
@@ -38,6 +40,7 @@ enum Keyed {
     Get,
     Insert,
     Remove,
+    Update,
 }
 
 /// The command of this name that has a key.
@@ -48,6 +51,7 @@ fn keyed_of(word: &[u8]) -> Option<Keyed>
         b"g" => Some(Keyed::Get),
         b"i" => Some(Keyed::Insert),
         b"r" => Some(Keyed::Remove),
+        b"u" => Some(Keyed::Update),
         _ => None,
     }
 }
@@ -73,6 +77,7 @@ pub fn command_of(text: &[u8]) -> Option<Command>
     match keyed_of(name)? {
         Keyed::Get => Some(Command::Get(number_of(rest)?)),
         Keyed::Remove => Some(Command::Remove(number_of(rest)?)),
+        Keyed::Update => Some(Command::Update(number_of(rest)?)),
         Keyed::Insert => {
             let (key, value) = parted(rest)?;
             Some(Command::Insert(number_of(key)?, number_of(value)?))

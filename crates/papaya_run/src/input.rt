@@ -5,6 +5,7 @@ ghost use Rattle.papaya_run.specs.Lines.{Adds, line_of};
 use crate::answering::Answering;
 use crate::failure::Failure;
 use crate::script::turn_of;
+use papaya_call::call::Call;
 use papaya_core::trace::Turn;
 use papaya_words::probe::Refused;
 use std::alloc::Global;
@@ -35,28 +36,41 @@ pub fn next_line<R: BufRead>(input: &mut R, line: &mut Vec<u8>) -> Result<bool, 
     Err(Failure::Input)
 }
 
+/// What a line has its caller do, as far as what is printed hangs on it.
+#[derive(Clone, Copy, Debug, PartialEq, Eq)]
+pub enum Part {
+    /// It begins an update, of whose reply the new value is printed.
+    Update,
+    /// It begins another call.
+    Call,
+    Step,
+    /// It says so where its call is still running.
+    Finish,
+}
+
 /// The line that a turn was read from.
 #[derive(Clone, Copy, Debug)]
 pub struct Line {
     /// Counted from 1, empty lines among them.
     pub number: u64,
     pub caller: usize,
-    /// Is it a `finish`, which says so where its call is still running?
-    pub is_finish: bool,
+    pub part: Part,
 }
 
 /// The line of this number, which asks for this turn.
 fn line_of(number: u64, turn: &Turn<u64, u64, Answering>) -> Line
     ensures { result ≡ line_of number turn.now }
 {
-    let (caller, is_finish) = match turn {
-        Turn::Begin(caller, _) | Turn::Step(caller, _) => (*caller, false),
-        Turn::Finish(caller, _) => (*caller, true),
+    let (caller, part) = match turn {
+        Turn::Begin(caller, Call::Compute(..)) => (*caller, Part::Update),
+        Turn::Begin(caller, _) => (*caller, Part::Call),
+        Turn::Step(caller, _) => (*caller, Part::Step),
+        Turn::Finish(caller, _) => (*caller, Part::Finish),
     };
     Line {
         number,
         caller,
-        is_finish,
+        part,
     }
 }
 

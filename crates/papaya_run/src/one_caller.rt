@@ -2,6 +2,7 @@
 ghost use Rattle.std.specs.Prelude.{◌≡◌, MatchResult};
 ghost use Rattle.std.specs.Hash as fed;
 ghost use Rattle.papaya_core.specs.Store.{hash_of};
+ghost use Rattle.papaya_run.specs.Answering.{follower};
 ghost use Rattle.papaya_run.specs.Commands.{WritesCommand};
 ghost use Rattle.papaya_run.specs.OneCaller.{Obeys};
 ghost use Rattle.papaya_run.specs.declared.commands.Command.{Command};
@@ -15,6 +16,13 @@ use papaya_words::probe::{Refused, ResizeMode};
 use std::alloc::Global;
 use std::hash::BuildHasher;
 use std::io::{BufReader, Read, Write};
+
+/// The number after this one; 0 follows the greatest.
+fn follower(value: &u64) -> u64
+    ensures { result ≡ follower value.now }
+{
+    value.wrapping_add(1)
+}
 
 /// Does what a command asks for, and answers what is printed of it.
 fn obey<S: BuildHasher + Drop>(map: &mut HashMap<u64, u64, S>, command: Command) -> Printed
@@ -32,6 +40,11 @@ fn obey<S: BuildHasher + Drop>(map: &mut HashMap<u64, u64, S>, command: Command)
         },
         Command::Remove(key) => match map.remove(&key) {
             Ok(Some(value)) => Printed::Removed(*value),
+            Ok(None) => Printed::Absent,
+            Err(refused) => Printed::Refused(refused),
+        },
+        Command::Update(key) => match map.update(key, follower) {
+            Ok(Some(value)) => Printed::New(*value),
             Ok(None) => Printed::Absent,
             Err(refused) => Printed::Refused(refused),
         },

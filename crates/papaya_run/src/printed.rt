@@ -11,6 +11,8 @@ pub enum Printed {
     Found(u64),
     /// The value that an insertion replaced.
     Old(u64),
+    /// The value that an update stored.
+    New(u64),
     /// The value that a removal took out.
     Removed(u64),
     /// How many pairs there are.
@@ -32,6 +34,7 @@ impl fmt::Display for Printed {
             Printed::Absent => f.write_str("none"),
             Printed::Found(value) => write!(f, "some {value}"),
             Printed::Old(value) => write!(f, "old {value}"),
+            Printed::New(value) => write!(f, "new {value}"),
             Printed::Removed(value) => write!(f, "removed {value}"),
             Printed::Length(count) => write!(f, "len {count}"),
             Printed::Slots(count) => write!(f, "slots {count}"),

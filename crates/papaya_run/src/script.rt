@@ -13,7 +13,7 @@ use papaya_call::call::Call;
 use papaya_core::trace::Turn;
 
 /// How many callers a script may name.
-const CALLERS: u64 = 64;
+pub(crate) const CALLERS: u64 = 64;
 
 /// How many steps `finish` makes at most.
 const MOST_STEPS: usize = 1_000_000;
@@ -38,6 +38,7 @@ fn call_of(text: &[u8]) -> Option<Call<u64, u64, Answering>>
         Command::Get(key) => Some(Call::Get(key)),
         Command::Insert(key, value) => Some(Call::Insert(key, value)),
         Command::Remove(key) => Some(Call::RemoveIf(key, Answering)),
+        Command::Update(key) => Some(Call::Compute(key, Answering)),
         Command::Len | Command::Slots => None,
     }
 }

@@ -144,6 +144,32 @@ fn removals(rt: HostRuntime) -> Result<(), Fail> {
 }
 
 #[test]
+fn updates(rt: HostRuntime) -> Result<(), Fail> {
+    // Of a key that is absent, of one that is there, and past the greatest value; an insertion of
+    // the same caller afterwards prints the old value again.
+    let script =
+        b"begin 0 u 7\nfinish 0\nbegin 0 i 7 1\nfinish 0\nbegin 0 u 7\nbegin 1 g 7\nfinish 1\nfinish 0\nbegin 1 g 7\nfinish 1\nbegin 0 i 7 18446744073709551615\nfinish 0\nbegin 0 u 7\nfinish 0\n";
+    let output = "0: none\n0: none\n1: some 1\n0: new 2\n1: some 2\n0: old 2\n0: new 0\n";
+    for args in ["core inc:64 id", "core block zero"] {
+        expect(&rt, rt.alloc(), args, script, output, "", 0)?;
+    }
+    Ok(())
+}
+
+#[test]
+fn an_update_beside_an_insertion(rt: HostRuntime) -> Result<(), Fail> {
+    // The update is stopped before its first step, and after it was shown the pair: its closure is
+    // shown the pair that took that one's place.
+    let whole =
+        b"begin 0 i 7 1\nfinish 0\nbegin 0 u 7\nbegin 1 i 7 5\nfinish 1\nfinish 0\nbegin 1 g 7\nfinish 1\n";
+    let shown =
+        b"begin 0 i 7 1\nfinish 0\nbegin 0 u 7\nstep 0\nstep 0\nstep 0\nstep 0\nstep 0\nbegin 1 i 7 5\nfinish 1\nfinish 0\nbegin 1 g 7\nfinish 1\n";
+    let output = "0: none\n1: old 1\n0: new 6\n1: some 6\n";
+    expect(&rt, rt.alloc(), "core inc:64 id", whole, output, "", 0)?;
+    expect(&rt, rt.alloc(), "core inc:64 id", shown, output, "", 0)
+}
+
+#[test]
 fn bad_arguments(rt: HostRuntime) -> Result<(), Fail> {
     for args in [
         "",
@@ -259,7 +285,7 @@ fn bad_lines(rt: HostRuntime) -> Result<(), Fail> {
         b"begin 0 R 1",
         b"begin 0 len",
         b"begin 0 slots",
-        b"begin 0 u 1",
+        b"begin 0 u",
         b"begin 0 clear",
         b"begin 0 walk",
         b"step",

@@ -16,6 +16,29 @@ fn a_pair_comes_and_goes(rt: HostRuntime) -> Result<(), Fail> {
 }
 
 #[test]
+fn updates(rt: HostRuntime) -> Result<(), Fail> {
+    expect(
+        &rt,
+        rt.alloc(),
+        "seq inc:64 id",
+        b"g 7\ni 7 1\ni 7 2\nu 7\nr 7\nr 7\nlen\n",
+        "none\nnone\nold 1\nnew 3\nremoved 3\nnone\nlen 0\n",
+        "",
+        0,
+    )?;
+    // Of an absent key, and past the greatest value.
+    expect(
+        &rt,
+        rt.alloc(),
+        "seq block zero",
+        b"u 1\nslots\ni 1 18446744073709551615\nu 1\ng 1\n",
+        "none\nslots 0\nnone\nnew 0\nsome 0\n",
+        "",
+        0,
+    )
+}
+
+#[test]
 fn a_full_table(rt: HostRuntime) -> Result<(), Fail> {
     let mut script = Vec::new(rt.alloc());
     let mut output = String::new(rt.alloc());
@@ -61,7 +84,7 @@ fn bad_lines(rt: HostRuntime) -> Result<(), Fail> {
     let lines: [&[u8]; 38] = [
         b" ",
         b"x",
-        b"u 1",
+        b"u",
         b"clear",
         b"walk",
         b"len 1",
