@@ -40,7 +40,7 @@ use Rattle.papaya_map.proofs.Readings.{IsQuery, RestsOn, coding, fed, learned, l
 use Rattle.papaya_map.proofs.Settings.{is_hashed}
 
 -- a machine of a lookup
-pub of_get : (m : Machine) → m.task ≡ Get → m ≡ lookup m.hash m.initial m.mode m.made m.state
+pub of_get : (m : Machine) → m.task ≡ Get → m ≡ lookup m.hash m.initial m.mode m.made m.remembered m.state
 of_get m e = ap (λ (t : Task). record m { task = t }) e
 
 -- that stands as one
@@ -99,9 +99,9 @@ module _ {K V S H : Type 0} (eq : K → K → Bool) (input : K → List (List �
         → ((last : Option (Stored K V)) → HoldsPair b last pair → HoldsPair b (or_last stored last) pair') → IsGoing log' m (Word word) table pair'
     slot_read t x word stored pair' asks is names holds =
         let on = loaded (Slot t x) word asks is in
-        let all = slot_step m.hash m.initial m.mode m.made m.state (stands_get m r.task_is stands) t x word asks in
+        let all = slot_step m.hash m.initial m.mode m.made m.remembered m.state (stands_get m r.task_is stands) t x word asks in
         let get = of_get m r.task_is in
-        let to : (after m (Word word)).state ≡ (after (lookup m.hash m.initial m.mode m.made m.state) (Word word)).state = ap (λ (z : Machine). (after z (Word word)).state) get in
+        let to : (after m (Word word)).state ≡ (after (lookup m.hash m.initial m.mode m.made m.remembered m.state) (Word word)).state = ap (λ (z : Machine). (after z (Word word)).state) get in
         let step : IsStepIn t m.state (after m (Word word)).state = subst (IsStepIn t m.state) (sym to) all.0 in record {
           reading = record {
             lawful = l';
@@ -121,9 +121,9 @@ module _ {K V S H : Type 0} (eq : K → K → Bool) (input : K → List (List �
     pub root_read : (name : Book) (word : ℕ) (table' : Option (Bor Sheet)) → ask_of m ≡ Load Root → IsRoot eq hash b name word log' table' → IsGoing log' m (Word word) table' pair
     root_read name word table' asks is =
         let on = loaded Root word asks is.is in
-        let all = root_step m.hash m.initial m.mode m.made m.state (stands_get m r.task_is stands) word asks in
+        let all = root_step m.hash m.initial m.mode m.made m.remembered m.state (stands_get m r.task_is stands) word asks in
         let get = of_get m r.task_is in
-        let to : (after m (Word word)).state ≡ (after (lookup m.hash m.initial m.mode m.made m.state) (Word word)).state = ap (λ (z : Machine). (after z (Word word)).state) get in
+        let to : (after m (Word word)).state ≡ (after (lookup m.hash m.initial m.mode m.made m.remembered m.state) (Word word)).state = ap (λ (z : Machine). (after z (Word word)).state) get in
         let step : IsStepTo word m.state (after m (Word word)).state = subst (IsStepTo word m.state) (sym to) all in record {
           reading = record {
             lawful = l';
@@ -155,9 +155,9 @@ module _ {K V S H : Type 0} (eq : K → K → Bool) (input : K → List (List �
         let hashed = is_hashed eq input build write finish classes respects b log' l' in
         let rises = (sound (setting_of eq (hash b.hasher) b.mode log') hashed.lawful (exchanges_of log') l'.allowed).rises t in
         let up : (word ≡ 0 → ⊥) → t < word = λ some. ⊎_elim (λ z. absurd (some (sym is.is ∙ z))) (λ h. subst (λ y. t < y) is.is h.1) rises in
-        let all = next_step m.hash m.initial m.mode m.made m.state (stands_get m r.task_is stands) t word (λ some. (up some, fits word name table' is.names some)) asks in
+        let all = next_step m.hash m.initial m.mode m.made m.remembered m.state (stands_get m r.task_is stands) t word (λ some. (up some, fits word name table' is.names some)) asks in
         let get = of_get m r.task_is in
-        let to : (after m (Word word)).state ≡ (after (lookup m.hash m.initial m.mode m.made m.state) (Word word)).state = ap (λ (z : Machine). (after z (Word word)).state) get in
+        let to : (after m (Word word)).state ≡ (after (lookup m.hash m.initial m.mode m.made m.remembered m.state) (Word word)).state = ap (λ (z : Machine). (after z (Word word)).state) get in
         let step : IsStepTo word m.state (after m (Word word)).state = subst (IsStepTo word m.state) (sym to) all.1 in record {
           reading = record {
             lawful = l';
@@ -188,7 +188,7 @@ begins eq hash b matches fed log l m e =
       is = append-nil (exchanges_of log);
       hands = no_hands;
       task_is = refl;
-      rests = record { hash = refl; mode = mode_of b.mode; made = refl; stage = tt };
+      rests = record { hash = refl; mode = mode_of b.mode; made = record { keys = λ q none. absurd none; made_is = tt; fill_is = tt; choice_is = tt }; stage = tt };
       holds_table = tt;
       holds_pair = tt;
       found = λ n h. cc h;

@@ -13,7 +13,8 @@ use Rattle.papaya_call.specs.declared.call.Reply.TheVariants.{Found}
 use Rattle.papaya_call.specs.declared.call.Task.TheVariants.{Get}
 use Rattle.papaya_call.specs.declared.machine.Machine.{Machine}
 use Rattle.papaya_call.specs.declared.machine.State.{State as Stage}
-use Rattle.papaya_call.specs.declared.machine.State.TheVariants.{AtRoot, Making, Opening, Searching, Writing, Showing, Burying, Counting, Uncounting, Leaving, Growing, Ended}
+use Rattle.papaya_call.specs.declared.machine.State.TheVariants.{AtRoot, Making, Opening, Searching, Writing, Offering, Showing, Pairing, Putting, Burying, Counting, Uncounting, Leaving, Growing, Ended}
+use Rattle.papaya_call.specs.declared.compute.Remembered.{Remembered}
 use Rattle.papaya_call.specs.declared.search.Search.TheVariants.{Sizing, Looking, Comparing}
 use Rattle.papaya_call.specs.declared.search.Seen.{Seen}
 use Rattle.papaya_call.specs.declared.search.Seen.TheVariants as seen
@@ -43,9 +44,9 @@ use Rattle.papaya_map.proofs.Readings.{IsQuery, RestsOn, allowed_with, coding, h
 use Rattle.papaya_map.proofs.TableSizes.{sizes}
 
 -- a lookup doesn't find a pair where it passes a table
-passes_unfound : (mode : ResizeMode) (t n : ℕ) → passes mode t ≡ Ended (Found n) → ⊥
-passes_unfound (Incremental chunk) t n e = cc e
-passes_unfound Blocking t n e = cc e
+passes_unfound : (mode : ResizeMode) (fill : Option ℕ) (t n : ℕ) → passes Get mode fill t ≡ Ended (Found n) → ⊥
+passes_unfound (Incremental chunk) fill t n e = cc e
+passes_unfound Blocking fill t n e = cc e
 
 module _ {K P : Type 0} (g : Setting K P) (c : Coding K P) (hashed : IsHashed g c) (begun since : List (Exchange P)) (may : AllAllowed g start (begun ++ since)) (k : K) (hands : Hands P) where
   -- the pair last told of was the key's at a moment of the call
@@ -53,26 +54,29 @@ module _ {K P : Type 0} (g : Setting K P) (c : Coding K P) (hashed : IsHashed g 
   WasLast = (p : P) × (hands.last ≡ Some p) × WasAtMoment g c begun since k (Some p)
 
   -- what a search found is the pair last told of
-  found_last : (mode : ResizeMode) (s : Seen) → RestsSeen g c hashed begun since k hands s → (n : ℕ) → goes_as Get mode s ≡ Ended (Found n) → WasLast
-  found_last mode (seen.On search) r n e = absurd (cc e)
-  found_last mode (seen.Empty at) r n e = absurd (cc e)
-  found_last mode (seen.Over t) r n e = absurd (passes_unfound mode t n e)
-  found_last mode (seen.Here at word) r n e =
+  found_last : (mode : ResizeMode) (remembered : Remembered) (s : Seen) → RestsSeen g c hashed begun since k hands s → (n : ℕ) → goes_as Get mode remembered s ≡ Ended (Found n) → WasLast
+  found_last mode remembered (seen.On search) r n e = absurd (cc e)
+  found_last mode remembered (seen.Empty at) r n e = absurd (cc e)
+  found_last mode remembered (seen.Over t) r n e = absurd (passes_unfound mode remembered.fill t n e)
+  found_last mode remembered (seen.Here at word) r n e =
       let p : P = r.0 in
       let shows : held (view g k r.2.was) ≡ true = ⊎_elim (λ l. ap (λ w. held (view g k w)) l ∙ ap (λ b. held (Rattle.std.specs.Prelude.cond b (Here p) Foreign)) r.3) (λ l. ap (λ w. held (view g k w)) l ∙ ap (λ b. held (Rattle.std.specs.Prelude.cond b (View_leaving p) Foreign)) r.3) r.4 in
       (p, r.1, r.2.had shows)
 
-  module _ (hash initial : ℕ) (mode : ResizeMode) (made : Made) where
+  module _ (hash initial : ℕ) (mode : ResizeMode) (made : Made) (remembered : Remembered) where
     -- the lookup stands where it compares; the pair is the one that it was told of last
-    pub yes_found : (s : Stage) → IsStandingState Get s → RestsStage g c begun since k hands Get s → (n : ℕ) (same : Bool) → ((p : P) → hands.last ≡ Some p → same ≡ g.same k (g.key p)) → asks made hash s ≡ SameKey n → (m : ℕ) → (after (lookup hash initial mode made s) (Yes same)).state ≡ Ended (Found m) → WasLast
+    pub yes_found : (s : Stage) → IsStandingState Get s → RestsStage g c begun since k hands Get s → (n : ℕ) (same : Bool) → ((p : P) → hands.last ≡ Some p → same ≡ g.same k (g.key p)) → asks made hash s ≡ SameKey n → (m : ℕ) → (after (lookup hash initial mode made remembered s) (Yes same)).state ≡ Ended (Found m) → WasLast
     yes_found AtRoot stands r n same is e m f = absurd cc
     yes_found Making stands r n same is e m f = absurd stands
     yes_found (Opening u) stands r n same is e m f = absurd stands
     yes_found (Searching (Sizing u)) stands r n same is e m f = absurd cc
     yes_found (Searching (Looking at)) stands r n same is e m f = absurd cc
-    yes_found (Searching (Comparing at word)) stands r n same is e m f = found_last mode (at_yes (Comparing at word) same) (compared g c hashed begun since may k at word r.0 r.2 hands r.1 same (sym (is r.0 r.1))) m f
+    yes_found (Searching (Comparing at word)) stands r n same is e m f = found_last mode remembered (at_yes (Comparing at word) same) (compared g c hashed begun since may k at word r.0 r.2 hands r.1 same (sym (is r.0 r.1))) m f
     yes_found (Writing write) stands r n same is e m f = absurd stands.0
+    yes_found (Offering gap) stands r n same is e m f = absurd stands.0
     yes_found (Showing removal) stands r n same is e m f = absurd stands.0
+    yes_found (Pairing purpose) stands r n same is e m f = absurd stands.0
+    yes_found (Putting put) stands r n same is e m f = absurd stands.0
     yes_found (Burying removal) stands r n same is e m f = absurd stands.0
     yes_found (Counting j) stands r n same is e m f = absurd stands
     yes_found (Uncounting j) stands r n same is e m f = absurd stands
@@ -108,7 +112,7 @@ module _ {K V S H : Type 0} (eq : K → K → Bool) (input : K → List (List �
   -- a slot that is named is one of the table that is held
   pub slot_held : (t x : ℕ) (lent : Bor Sheet) → table ≡ Some lent → ask_of m ≡ Load (Slot t x) → IsTable log t lent.now × (x < length lent.now.slots)
   slot_held t x lent has e =
-      let step = slot_step m.hash m.initial m.mode m.made m.state (stands_get m r.task_is stands) t x 0 e in
+      let step = slot_step m.hash m.initial m.mode m.made m.remembered m.state (stands_get m r.task_is stands) t x 0 e in
       let came = table_held t step.0.names lent has in
       let may = subst (AllAllowed g start) (sym r.is) (allowed_with eq input build write finish classes respects b matches query lawful log r.lawful) in
       let hashed = hashed_with eq input build write finish classes respects b matches query lawful log r.lawful in
@@ -117,7 +121,7 @@ module _ {K V S H : Type 0} (eq : K → K → Bool) (input : K → List (List �
 
   -- so is a table whose size is asked for
   pub size_held : (t : ℕ) (lent : Bor Sheet) → table ≡ Some lent → ask_of m ≡ SizeOf t → IsTable log t lent.now
-  size_held t lent has e = table_held t (size_step m.hash m.initial m.mode m.made m.state (stands_get m r.task_is stands) t 0 0 (omega arith) e).0.names lent has
+  size_held t lent has e = table_held t (size_step m.hash m.initial m.mode m.made m.remembered m.state (stands_get m r.task_is stands) t 0 0 (omega arith) e).0.names lent has
 
   -- the table has the size that it says
   pub size_read : (t : ℕ) (sheet : Sheet) → IsTable log t sheet → (slots limit : ℕ) → slots ≡ length sheet.slots → limit ≡ sheet.limit → IsSize slots limit → ask_of m ≡ SizeOf t
@@ -130,9 +134,9 @@ module _ {K V S H : Type 0} (eq : K → K → Bool) (input : K → List (List �
       let told : IsTold g c None (state_of log) (kind_of_ask m) r.hands (SizeOf t) (Size slots limit) [] r.hands = ((limit, places, ap (λ n. Size n limit) many), (refl, refl)) in
       let further = learned eq input build write finish classes respects b matches query lawful begun log r.lawful m r.hands on (Size slots limit) r.hands
       (subst (λ (a : Ask). IsTold g c None (state_of log) (kind_of_ask m) r.hands a (Size slots limit) [] r.hands) (sym e) told) in
-      let step = size_step m.hash m.initial m.mode m.made m.state (stands_get m r.task_is stands) t slots limit size.few e in
+      let step = size_step m.hash m.initial m.mode m.made m.remembered m.state (stands_get m r.task_is stands) t slots limit size.few e in
       let get = of_get m r.task_is in
-      let to : (after m (Size slots limit)).state ≡ (after (lookup m.hash m.initial m.mode m.made m.state) (Size slots limit)).state = ap (λ (z : Machine). (after z (Size slots limit)).state) get in
+      let to : (after m (Size slots limit)).state ≡ (after (lookup m.hash m.initial m.mode m.made m.remembered m.state) (Size slots limit)).state = ap (λ (z : Machine). (after z (Size slots limit)).state) get in
       let in_it : IsStepIn t m.state (after m (Size slots limit)).state = subst (IsStepIn t m.state) (sym to) step.0 in record {
         reading = record {
           lawful = r.lawful;
@@ -161,10 +165,10 @@ module _ {K V S H : Type 0} (eq : K → K → Bool) (input : K → List (List �
       let told : IsTold g c None (state_of log) (kind_of_ask m) r.hands (SameKey n) (Yes same) [] r.hands = (λ p e' f. ap Yes (matched p e'), (refl, refl)) in
       let further = learned eq input build write finish classes respects b matches query lawful begun log r.lawful m r.hands on (Yes same) r.hands
       (subst (λ (a : Ask). IsTold g c None (state_of log) (kind_of_ask m) r.hands a (Yes same) [] r.hands) (sym e) told) in
-      let step = yes_step m.hash m.initial m.mode m.made m.state (stands_get m r.task_is stands) n same e in
+      let step = yes_step m.hash m.initial m.mode m.made m.remembered m.state (stands_get m r.task_is stands) n same e in
       let t = step.0 in
       let get = of_get m r.task_is in
-      let to : (after m (Yes same)).state ≡ (after (lookup m.hash m.initial m.mode m.made m.state) (Yes same)).state = ap (λ (z : Machine). (after z (Yes same)).state) get in
+      let to : (after m (Yes same)).state ≡ (after (lookup m.hash m.initial m.mode m.made m.remembered m.state) (Yes same)).state = ap (λ (z : Machine). (after z (Yes same)).state) get in
       let in_it : IsStepIn t m.state (after m (Yes same)).state = subst (IsStepIn t m.state) (sym to) step.1 in record {
         reading = record {
           lawful = r.lawful;
@@ -177,7 +181,7 @@ module _ {K V S H : Type 0} (eq : K → K → Bool) (input : K → List (List �
           holds_pair = r.holds_pair;
           found = λ j f.
               yes_found g c (hashed_with eq input build write finish classes respects b matches query lawful log r.lawful) begun r.since
-              (subst (AllAllowed g start) (sym r.is) (allowed_with eq input build write finish classes respects b matches query lawful log r.lawful)) None r.hands m.hash m.initial m.mode m.made m.state (stands_get m r.task_is stands)
+              (subst (AllAllowed g start) (sym r.is) (allowed_with eq input build write finish classes respects b matches query lawful log r.lawful)) None r.hands m.hash m.initial m.mode m.made m.remembered m.state (stands_get m r.task_is stands)
               (subst (λ t. RestsStage g c begun r.since None r.hands t m.state) r.task_is r.rests.stage) n same matched e j (sym to ∙ f);
         };
         fewer = in_it.fewer;

@@ -1,5 +1,6 @@
 -- What a machine rests on makes its exchanges possible, and what the calls of a book tell is what machines are to be told.
-use Rattle.std.proofs.Common.{◌≡◌, ℕ, ◌==◌, Bool, true, false, MatchBool, Option, None, Some, List, [], ◌∷◌, ◌++◌, refl, sym, ap, ◌∙◌, subst, append_assoc}
+use Rattle.std.proofs.Common.{◌≡◌, inl, inr, ℕ, ◌==◌, Bool, true, false, MatchBool, Option, None, Some, List, [], ◌∷◌, ◌++◌, refl, sym, ap, ◌∙◌, subst, append_assoc}
+use Rattle.papaya_words.specs.Word.{live_word, marked_word, copied_word, buried_word, top_byte}
 use Rattle.std.specs.Cmp.{IsEquivalence}
 use mathlib.Core.List.{IsPrefix}
 use Rattle.papaya_call.specs.declared.ask.At.{At}
@@ -10,15 +11,20 @@ use Rattle.papaya_call.specs.declared.ask.Answer.TheVariants.{Word as Word_read,
 use Rattle.papaya_call.specs.declared.ask.StepKind.{StepKind}
 use Rattle.papaya_call.specs.declared.ask.StepKind.TheVariants as kinds
 use Rattle.papaya_call.specs.declared.machine.Machine.{Machine}
-use Rattle.papaya_call.specs.Machine.{ask_of, kind_of_ask}
+use Rattle.papaya_call.specs.Machine.{after, ask_of, kind_of_ask}
 use Rattle.papaya_call.specs.Law.Allows.{AllAllowed, Allows}
 use Rattle.papaya_call.specs.Law.Class.{IsOn}
 use Rattle.papaya_call.specs.Law.Exchange as law
-use Rattle.papaya_call.specs.Law.Exchange.{Exchange, Setting, State, after, run, start}
+use Rattle.papaya_call.specs.Law.Exchange.{Exchange, Setting, State, Word, Empty, Closed, Live, Marked, Copied, Buried, after as after_exchange, run, start}
+use Rattle.papaya_call.specs.Law.Code.{Coding, byte_of_pair, code}
 use Rattle.papaya_call.specs.Law.Grows.{Agrees}
 use Rattle.papaya_call.specs.Rests.{Rests}
-use Rattle.papaya_call.specs.Told.{Hands, IsAsked, IsTold, IsWritten, told_of, word_of}
+use Rattle.papaya_call.specs.Told.{Hands, IsAsked, IsOneOf, IsOwnWord, IsTold, IsWritten, told_of, word_of}
+use Rattle.papaya_call.proofs.Law.Alike.{alike_back, allows_alike}
+use Rattle.papaya_call.proofs.Law.Further.{key_agrees, key_alike, key_word}
+use Rattle.papaya_call.proofs.Law.Moments.{allowed_first}
 use Rattle.papaya_call.proofs.RestsExchange.{machine_may}
+use Rattle.papaya_call.proofs.RestsLearn.{machine_learns}
 use Rattle.papaya_call.proofs.RestsStay.{rests_stays}
 use Rattle.papaya_call.proofs.RestsTables.{rests_carries}
 use Rattle.papaya_map.specs.declared.event.Begun.{Begun}
@@ -30,42 +36,53 @@ use Rattle.papaya_map.specs.declared.event.Event.{Event}
 use Rattle.papaya_map.specs.Calls.{IsRead, IsTried}
 use Rattle.papaya_map.specs.Hashes.{hash_of}
 use Rattle.papaya_map.specs.Logs.{Stored, coding_of, comes, exchange_of, exchanges_of, setting_of, state_of}
-use Rattle.papaya_map.specs.Plays.{CanExchange, IsMeant, hands_of}
+use Rattle.papaya_map.specs.Plays.{CanExchange, IsMeant, Numbered, hands_of, made_list}
 use Rattle.papaya_map.specs.Rule.{IsLawfulLog, word_in}
 use Rattle.papaya_map.proofs.Logs.{exchanges_of-append}
-use Rattle.papaya_map.proofs.Settings.{agrees_later, is_hashed}
+use Rattle.papaya_map.proofs.Readings.{IsQuery, allowed_with, coding, fed, hashed_with, setting}
+use Rattle.papaya_map.proofs.Settings.{agrees_later}
 
--- what a machine asks for depends on the pair that it made, and not on the one last loaded
-pub asked_by_made : {P : Type 0} (kind : Option StepKind) (at : At) (new : ℕ) (s : State P) (hands hands' : Hands P) (e : Exchange P) → hands.made ≡ hands'.made → IsAsked kind at new s hands e → IsAsked kind at new s hands' e
-asked_by_made None at new s hands hands' e m a = absurd a
-asked_by_made (Some kinds.Open) Root new s hands hands' e m a = a
-asked_by_made (Some kinds.Open) (Next t) new s hands hands' e m a = absurd a
-asked_by_made (Some kinds.Open) (Aborted t) new s hands hands' e m a = absurd a
-asked_by_made (Some kinds.Open) (Done t) new s hands hands' e m a = absurd a
-asked_by_made (Some kinds.Open) (Slot t x) new s hands hands' e m a = absurd a
-asked_by_made (Some kinds.Claim) Root new s hands hands' e m a = absurd a
-asked_by_made (Some kinds.Claim) (Next t) new s hands hands' e m a = absurd a
-asked_by_made (Some kinds.Claim) (Aborted t) new s hands hands' e m a = absurd a
-asked_by_made (Some kinds.Claim) (Done t) new s hands hands' e m a = absurd a
-asked_by_made (Some kinds.Claim) (Slot t x) new s hands hands' e m a = (a.0, sym m ∙ a.1, a.2)
-asked_by_made (Some kinds.Replace) Root new s hands hands' e m a = absurd a
-asked_by_made (Some kinds.Replace) (Next t) new s hands hands' e m a = absurd a
-asked_by_made (Some kinds.Replace) (Aborted t) new s hands hands' e m a = absurd a
-asked_by_made (Some kinds.Replace) (Done t) new s hands hands' e m a = absurd a
-asked_by_made (Some kinds.Replace) (Slot t x) new s hands hands' e m a = (a.0, a.1, a.2, sym m ∙ a.3, a.4)
-asked_by_made (Some kinds.Bury) Root new s hands hands' e m a = absurd a
-asked_by_made (Some kinds.Bury) (Next t) new s hands hands' e m a = absurd a
-asked_by_made (Some kinds.Bury) (Aborted t) new s hands hands' e m a = absurd a
-asked_by_made (Some kinds.Bury) (Done t) new s hands hands' e m a = absurd a
-asked_by_made (Some kinds.Bury) (Slot t x) new s hands hands' e m a = a
-asked_by_made (Some kinds.Link) at new s hands hands' e m a = absurd a
-asked_by_made (Some kinds.Mark) at new s hands hands' e m a = absurd a
-asked_by_made (Some kinds.Close) at new s hands hands' e m a = absurd a
-asked_by_made (Some kinds.Place) at new s hands hands' e m a = absurd a
-asked_by_made (Some kinds.Finish) at new s hands hands' e m a = absurd a
-asked_by_made (Some kinds.Advance) at new s hands hands' e m a = absurd a
-asked_by_made (Some kinds.Promote) at new s hands hands' e m a = absurd a
-asked_by_made (Some kinds.Abort) at new s hands hands' e m a = absurd a
+-- the one pair that a call made
+pub one_made : {P : Type 0} (made : Option P) (q : P) → IsOneOf (made_list made) q → made ≡ Some q
+one_made None q one = absurd one
+one_made (Some p) q (inl is) = ap Some (sym is)
+one_made (Some p) q (inr one) = absurd one
+
+module _ {K K' P : Type 0} (c : Coding K P) (c' : Coding K' P) (numbers : (p : P) → c.number p ≡ c'.number p) (hands hands' : Hands P) (made : (q : P) → IsOneOf hands.made q → IsOneOf hands'.made q) where
+  own_word : (new : ℕ) (q : P) → IsOwnWord c hands new q → IsOwnWord c' hands' new q
+  own_word new q own = record { made = made q own.made; named = sym (numbers q) ∙ own.named }
+
+  -- what a machine asks for depends on the pairs that it made and on their numbers, and not on the pair last loaded
+  pub asked_by_made : (kind : Option StepKind) (at : At) (new : ℕ) (s : State P) (e : Exchange P) → IsAsked c kind at new s hands e → IsAsked c' kind at new s hands' e
+  asked_by_made None at new s e a = absurd a
+  asked_by_made (Some kinds.Open) Root new s e a = a
+  asked_by_made (Some kinds.Open) (Next t) new s e a = absurd a
+  asked_by_made (Some kinds.Open) (Aborted t) new s e a = absurd a
+  asked_by_made (Some kinds.Open) (Done t) new s e a = absurd a
+  asked_by_made (Some kinds.Open) (Slot t x) new s e a = absurd a
+  asked_by_made (Some kinds.Claim) Root new s e a = absurd a
+  asked_by_made (Some kinds.Claim) (Next t) new s e a = absurd a
+  asked_by_made (Some kinds.Claim) (Aborted t) new s e a = absurd a
+  asked_by_made (Some kinds.Claim) (Done t) new s e a = absurd a
+  asked_by_made (Some kinds.Claim) (Slot t x) new s e a = (a.0, own_word new a.0 a.1, a.2)
+  asked_by_made (Some kinds.Replace) Root new s e a = absurd a
+  asked_by_made (Some kinds.Replace) (Next t) new s e a = absurd a
+  asked_by_made (Some kinds.Replace) (Aborted t) new s e a = absurd a
+  asked_by_made (Some kinds.Replace) (Done t) new s e a = absurd a
+  asked_by_made (Some kinds.Replace) (Slot t x) new s e a = (a.0, a.1, a.2, own_word new a.1 a.3, a.4)
+  asked_by_made (Some kinds.Bury) Root new s e a = absurd a
+  asked_by_made (Some kinds.Bury) (Next t) new s e a = absurd a
+  asked_by_made (Some kinds.Bury) (Aborted t) new s e a = absurd a
+  asked_by_made (Some kinds.Bury) (Done t) new s e a = absurd a
+  asked_by_made (Some kinds.Bury) (Slot t x) new s e a = a
+  asked_by_made (Some kinds.Link) at new s e a = absurd a
+  asked_by_made (Some kinds.Mark) at new s e a = absurd a
+  asked_by_made (Some kinds.Close) at new s e a = absurd a
+  asked_by_made (Some kinds.Place) at new s e a = absurd a
+  asked_by_made (Some kinds.Finish) at new s e a = absurd a
+  asked_by_made (Some kinds.Advance) at new s e a = absurd a
+  asked_by_made (Some kinds.Promote) at new s e a = absurd a
+  asked_by_made (Some kinds.Abort) at new s e a = absurd a
 
 -- the pair that comes with an exchange of the law; of a table that comes it says nothing
 abbrev pub coming : {K V : Type 0} → Exchange (Stored K V) → Named K V
@@ -112,119 +129,121 @@ step_for (law.Advance t x y) n = (steps.Advance t x y, refl, refl)
 step_for (law.Promote t m) n = (steps.Promote t m, refl, refl)
 step_for (law.Abort t) n = (steps.Abort t, refl, refl)
 
-module _ {K V S H : Type 0} (eq : K → K → Bool) (input : K → List (List ℕ)) (build : S → H) (write : H → List ℕ → H) (finish : H → ℕ) (classes : IsEquivalence eq) (respects : (x y : K) → eq x y ≡ true → input x ≡ input y) (b : Begun K V S) where
+-- the word that stands at a place is the same in all settings whose pairs have the same keys
+word_same : {K P : Type 0} (g g' : Setting K P) (c : Coding K P) → ((p : P) → g'.key p ≡ g.key p) → (s : State P) (at : At) → word_of g' c s at ≡ word_of g c s at
+word_same g g' c same s Root = refl
+word_same g g' c same s (Next t) = refl
+word_same g g' c same s (Aborted t) = refl
+word_same g g' c same s (Done t) = refl
+word_same g g' c same s (Slot t x) = code_same g g' c same (s.slot t x)
+  where
+    byte_same : {K P : Type 0} (g g' : Setting K P) (c : Coding K P) → ((p : P) → g'.key p ≡ g.key p) → (p : P) → byte_of_pair g' c p ≡ byte_of_pair g c p
+    byte_same g g' c same p = ap (λ z. top_byte (c.hash z)) (same p)
+
+    code_same : {K P : Type 0} (g g' : Setting K P) (c : Coding K P) → ((p : P) → g'.key p ≡ g.key p) → (w : Word P) → code g' c w ≡ code g c w
+    code_same g g' c same Empty = refl
+    code_same g g' c same Closed = refl
+    code_same g g' c same (Live p) = ap (λ z. live_word z (c.number p)) (byte_same g g' c same p)
+    code_same g g' c same (Marked p) = ap (λ z. marked_word z (c.number p)) (byte_same g g' c same p)
+    code_same g g' c same (Copied p) = ap (λ z. copied_word z (c.number p)) (byte_same g g' c same p)
+    code_same g g' c same (Buried p) = ap (λ z. buried_word z (c.number p)) (byte_same g g' c same p)
+
+module _ {K V S H : Type 0} (eq : K → K → Bool) (input : K → List (List ℕ)) (build : S → H) (write : H → List ℕ → H) (finish : H → ℕ) (classes : IsEquivalence eq) (respects : (x y : K) → eq x y ≡ true → input x ≡ input y)
+    (b : Begun K V S) (matches : K → Bool) (query : List (List ℕ)) (lawful : IsQuery eq input matches query) (k : Option K) (begun : List (Exchange (Stored K V))) where
   abbrev hash : S → K → ℕ
   hash = hash_of input build write finish
 
-  abbrev c : Rattle.papaya_call.specs.Law.Code.Coding K (Stored K V)
+  abbrev fed_to : ℕ
+  fed_to = fed eq input build write finish classes respects b matches query lawful
+
+  -- the settings of a log, with what is called by as a further key and without it
+  abbrev pub wide : List (Event K V S) → Setting (Option K) (Stored K V)
+  wide log = setting eq input build write finish classes respects b matches query lawful log
+
+  abbrev plain : List (Event K V S) → Setting K (Stored K V)
+  plain log = setting_of eq (hash b.hasher) b.mode log
+
+  abbrev pub coded : Coding (Option K) (Stored K V)
+  coded = coding eq input build write finish classes respects b matches query lawful
+
+  abbrev c : Coding K (Stored K V)
   c = coding_of (hash b.hasher)
 
-  -- the exchange of a machine that rests on a log may be made after each longer one, where its old word stands there
-  pub record IsPossible (at : At) (kind : Option StepKind) (new : ℕ) (hands : Hands (Stored K V)) (es : List (Exchange (Stored K V))) (g : Setting K (Stored K V)) : Type 0 where
-    pub by : Exchange (Stored K V)
-    pub asked : IsAsked kind at new (run es start) hands by
-    pub allowed : Allows g (run es start) by
-    pub written : IsWritten g c (run es start) at new (after (run es start) by)
+  -- a machine rests on the exchanges of a log, since its call began
+  pub record IsResting (log : List (Event K V S)) (m : Machine) (hands : Hands (Stored K V)) : Type 0 where
+    pub since : List (Exchange (Stored K V))
+    pub is : begun ++ since ≡ exchanges_of log
+    pub rests : Rests (wide log) coded begun since k m hands
 
-  module _ (v : List (Event K V S)) (l : IsLawfulLog eq hash b v) (begun since : List (Exchange (Stored K V))) (split : exchanges_of v ≡ begun ++ since) (k : K) (m : Machine) (hands : Hands (Stored K V))
-      (rests : Rests (setting_of eq (hash b.hasher) b.mode v) c begun since k m hands) (log : List (Event K V S)) (pre : IsPrefix v log) (l' : IsLawfulLog eq hash b log) where
-    abbrev g : Setting K (Stored K V)
-    g = setting_of eq (hash b.hasher) b.mode v
+  -- the word that stands at a place, in the wide setting of any log
+  pub word_wide : (log log' : List (Event K V S)) (at : At) → word_of (wide log') coded (state_of log) at ≡ word_in eq hash b log at
+  word_wide log log' at = key_word (plain log') matches fed_to c (state_of log) at ∙ word_same (plain log) (plain log') c (λ p. refl) (state_of log) at
 
-    abbrev g' : Setting K (Stored K V)
-    g' = setting_of eq (hash b.hasher) b.mode log
-
-    -- the exchanges since what was seen
+  module _ (log : List (Event K V S)) (l : IsLawfulLog eq hash b log) (m : Machine) (hands : Hands (Stored K V)) (r : IsResting log m hands) (log' : List (Event K V S)) (l' : IsLawfulLog eq hash b log') (pre : IsPrefix log log') where
+    -- what has come since
     abbrev more : List (Exchange (Stored K V))
     more = exchanges_of pre.0
 
-    pub longer : exchanges_of log ≡ begun ++ (since ++ more)
-    longer = ap exchanges_of (sym pre.1) ∙ (exchanges_of-append v pre.0 ∙ (ap (λ (es : List (Exchange (Stored K V))). es ++ more) split ∙ append_assoc begun since more))
+    longer : begun ++ (r.since ++ more) ≡ exchanges_of log'
+    longer = sym (append_assoc begun r.since more) ∙ (ap (λ (z : List (Exchange (Stored K V))). z ++ more) r.is ∙ (sym (exchanges_of-append log pre.0) ∙ ap exchanges_of pre.1))
 
-    -- it rests on the longer log too, with the tables that came since
-    pub rests_longer : Rests g' c begun (since ++ more) k m hands
-    rests_longer =
-        let hashed = is_hashed eq input build write finish classes respects b v l in
-        let hashed' = is_hashed eq input build write finish classes respects b log l' in
-        let agrees : Agrees (IsOn (run (begun ++ since) start).first (run (begun ++ since) start).next) g g' =
-        subst (λ (es : List (Exchange (Stored K V))). Agrees (IsOn (run es start).first (run es start).next) g g') split (agrees_later eq input build write finish classes respects b v l log pre) in
-        let carried = rests_carries g g' c hashed begun since (subst (AllAllowed g start) split l.allowed) k agrees m hands rests in
-        rests_stays g' c hashed' begun since more (subst (AllAllowed g' start) longer l'.allowed) k m hands carried
+    -- the longer log's tables are no matter
+    carried : Rests (wide log') coded begun r.since k m hands
+    carried =
+        let On = IsOn (state_of log).first (state_of log).next in
+        let agree : Agrees On (wide log) (wide log') = key_agrees On (plain log) (plain log') (agrees_later eq input build write finish classes respects b log l log' pre) matches fed_to in
+        let agree' : Agrees (IsOn (run (begun ++ r.since) start).first (run (begun ++ r.since) start).next) (wide log) (wide log') =
+        subst (λ (z : List (Exchange (Stored K V))). Agrees (IsOn (run z start).first (run z start).next) (wide log) (wide log')) (sym r.is) agree in
+        rests_carries (wide log) (wide log') coded (hashed_with eq input build write finish classes respects b matches query lawful log l) begun r.since
+        (subst (AllAllowed (wide log) start) (sym r.is) (allowed_with eq input build write finish classes respects b matches query lawful log l)) k agree' m hands r.rests
 
-    pub possible : (at : At) (old new : ℕ) → ask_of m ≡ Ask_exchange at old new → word_in eq hash b log at ≡ old → IsPossible at (kind_of_ask m) new hands (exchanges_of log) g'
-    possible at old new asks stands =
-        let hashed' = is_hashed eq input build write finish classes respects b log l' in
-        let stands' : word_of g' c (run (begun ++ (since ++ more)) start) at ≡ old = subst (λ (es : List (Exchange (Stored K V))). word_of g' c (run es start) at ≡ old) longer stands in
-        let r = machine_may g' c hashed' begun (since ++ more) (subst (AllAllowed g' start) longer l'.allowed) k m hands rests_longer at old new asks stands' in
-        subst (λ (es : List (Exchange (Stored K V))). IsPossible at (kind_of_ask m) new hands es g') (sym longer) (record { by = r.0; asked = r.1; allowed = r.2; written = r.3 })
+    may_longer : AllAllowed (wide log') start (begun ++ (r.since ++ more))
+    may_longer = subst (AllAllowed (wide log') start) (sym longer) (allowed_with eq input build write finish classes respects b matches query lawful log' l')
 
-  -- so a call of a book may try it, where no table comes with it
-  pub can_exchange : (v : List (Event K V S)) → IsLawfulLog eq hash b v → (begun since : List (Exchange (Stored K V))) → exchanges_of v ≡ begun ++ since → (k : K) (m : Machine) (hands : Hands (Stored K V)) → Rests (setting_of eq (hash b.hasher) b.mode v) c begun since k m hands
-      → (at : At) (old new : ℕ) → ask_of m ≡ Ask_exchange at old new → (brings : Named K V) → ((s : State (Stored K V)) (e : Exchange (Stored K V)) → IsAsked (kind_of_ask m) at new s hands e → IsTableless e × (coming e ≡ brings))
-      → CanExchange eq hash b at (kind_of_ask m) old new hands.made brings v
-  can_exchange v l begun since split k m hands rests at old new asks brings which log pre l' stands =
-      let p = possible v l begun since split k m hands rests log pre l' at old new asks stands in
-      let w = which (state_of log) p.by p.asked in
-      let s = step_for p.by w.0 in
-      let e : p.by ≡ exchange_of s.0 = sym s.1 in record {
+    -- it rests on the longer log too
+    pub resting_later : IsResting log' m hands
+    resting_later = record {
+      since = r.since ++ more;
+      is = longer;
+      rests = rests_stays (wide log') coded (hashed_with eq input build write finish classes respects b matches query lawful log' l') begun r.since more may_longer k m hands carried;
+    }
+
+    -- it is told of the log's words, with which the log grew
+    pub resting_told : (answer : Answer) (hands' : Hands (Stored K V)) → IsTold (wide log') coded k (state_of log) (kind_of_ask m) hands (ask_of m) answer more hands' → IsResting log' (after m answer) hands'
+    resting_told answer hands' told =
+        let first : AllAllowed (wide log') start (begun ++ r.since) = allowed_first (wide log') (begun ++ r.since) more start (subst (AllAllowed (wide log') start) (sym (append_assoc begun r.since more)) may_longer) in
+        let told' : IsTold (wide log') coded k (run (begun ++ r.since) start) (kind_of_ask m) hands (ask_of m) answer more hands' =
+        subst (λ (z : List (Exchange (Stored K V))). IsTold (wide log') coded k (run z start) (kind_of_ask m) hands (ask_of m) answer more hands') (sym r.is) told in
+        let all = machine_learns (wide log') coded (hashed_with eq input build write finish classes respects b matches query lawful log' l') begun r.since first k m hands carried answer more hands' told' in
+        record { since = r.since ++ more; is = longer; rests = all.1 }
+
+  -- an exchange that a machine asks for may be tried with the pair that it made, where no table comes with it
+  pub can_exchange : (v : List (Event K V S)) → IsLawfulLog eq hash b v → (m : Machine) (hands : Hands (Stored K V)) → IsResting v m hands → (made : Option (Stored K V)) → hands.made ≡ made_list made → (at : At) (old new : ℕ) → ask_of m ≡ Ask_exchange at old new
+      → (brings : Named K V) → ((s : State (Stored K V)) (e : Exchange (Stored K V)) → IsAsked coded (kind_of_ask m) at new s hands e → IsTableless e × (coming e ≡ brings))
+      → CanExchange eq hash b at (kind_of_ask m) old new made brings v
+  can_exchange v l m hands r made made_is at old new asks brings which log pre l' stands =
+      let now = resting_later v l m hands r log l' pre in
+      let hashed = hashed_with eq input build write finish classes respects b matches query lawful log l' in
+      let may = subst (AllAllowed (wide log) start) (sym now.is) (allowed_with eq input build write finish classes respects b matches query lawful log l') in
+      let there : word_of (wide log) coded (run (begun ++ now.since) start) at ≡ old =
+      subst (λ (z : List (Exchange (Stored K V))). word_of (wide log) coded (run z start) at ≡ old) (sym now.is) (word_wide log log at ∙ stands) in
+      let done = machine_may (wide log) coded hashed begun now.since may k m hands now.rests at old new asks there in
+      let by = done.0 in
+      let asked : IsAsked coded (kind_of_ask m) at new (state_of log) hands by = subst (λ (z : List (Exchange (Stored K V))). IsAsked coded (kind_of_ask m) at new (run z start) hands by) now.is done.1 in
+      let wide_allows : Allows (wide log) (state_of log) by = subst (λ (z : List (Exchange (Stored K V))). Allows (wide log) (run z start) by) now.is done.2 in
+      let written : IsWritten (wide log) coded (state_of log) at new (after_exchange (state_of log) by) = subst (λ (z : List (Exchange (Stored K V))). IsWritten (wide log) coded (run z start) at new (after_exchange (run z start) by)) now.is done.3 in
+      let same = λ (s : State (Stored K V)). λ (at' : At). key_word (plain log) matches fed_to c s at' in
+      let w = which (state_of log) by asked in
+      let s = step_for by w.0 in
+      let e : by ≡ exchange_of s.0 = sym s.1 in record {
         step = s.0;
         meant = record {
-          asked = subst (λ (x : Exchange (Stored K V)). IsAsked (kind_of_ask m) at new (state_of log) (hands_of hands.made) x) e (asked_by_made (kind_of_ask m) at new (state_of log) hands (hands_of hands.made) p.by refl p.asked);
+          asked = subst (λ (x : Exchange (Stored K V)). IsAsked Numbered (kind_of_ask m) at new (state_of log) (hands_of made) x) e (asked_by_made coded Numbered (λ p. refl) hands (hands_of made) (λ q one. subst (λ (z : List (Stored K V)). IsOneOf z q) made_is one) (kind_of_ask m) at new (state_of log) by asked);
           with_it = s.2 ∙ w.1;
         };
-        allowed = subst (Allows (setting_of eq (hash b.hasher) b.mode log) (state_of log)) e p.allowed;
-        written = subst (λ (x : Exchange (Stored K V)). IsWritten (setting_of eq (hash b.hasher) b.mode log) c (state_of log) at new (after (state_of log) x)) e p.written;
+        allowed = subst (Allows (plain log) (state_of log)) e (allows_alike (wide log) (plain log) (alike_back (plain log) (wide log) (key_alike (plain log) matches fed_to)) (state_of log) by wide_allows);
+        written = subst (λ (x : Exchange (Stored K V)). IsWritten (plain log) c (state_of log) at new (after_exchange (state_of log) x)) e (record {
+          here = sym (same (after_exchange (state_of log) by) at) ∙ written.here;
+          others = λ other differs. sym (same (after_exchange (state_of log) by) other) ∙ (written.others other differs ∙ same (state_of log) other);
+        });
       }
-
-  -- a load is answered by the word that stands there
-  pub load_told : (at : At) (found : ℕ) (log : List (Event K V S)) (state : Option (Named K V)) → IsRead eq hash b at found log state → (k : K) (kind : Option StepKind) (hands : Hands (Stored K V))
-      → IsTold (setting_of eq (hash b.hasher) b.mode log) c k (state_of log) kind hands (Load at) (Word_read found) [] (told_of (state_of log) at hands)
-  load_told at found log state r k kind hands = (ap Word_read (sym r.is), refl, refl)
-
-  -- what an exchange is answered, the exchanges that were made, and the hands after it
-  pub record IsAnswered (at : At) (kind : Option StepKind) (old new found : ℕ) (seen log : List (Event K V S)) (k : K) (hands : Hands (Stored K V)) : Type 0 where
-    pub before : List (Event K V S)
-    pub since : IsPrefix seen before
-    pub lawful : IsLawfulLog eq hash b before
-    pub now : IsLawfulLog eq hash b log
-    pub answer : Answer
-    pub made : List (Exchange (Stored K V))
-    pub after : Hands (Stored K V)
-    pub grown : exchanges_of log ≡ exchanges_of before ++ made
-    pub is : MatchBool (found == old) (answer ≡ Exchanged) (answer ≡ Found_instead found)
-    pub told : IsTold (setting_of eq (hash b.hasher) b.mode before) c k (state_of before) kind hands (Ask_exchange at old new) answer made after
-
-  answered_by : (at : At) (kind : Option StepKind) (old new found : ℕ) (brings : Named K V) (seen log : List (Event K V S)) (state : Option (Named K V)) (k : K) (hands : Hands (Stored K V)) (t : IsTried eq hash b at kind old new hands.made brings seen found log state) (r : Bool)
-      → (found == old) ≡ r → IsAnswered at kind old new found seen log k hands
-  answered_by at kind old new found brings seen log state k hands t true is =
-      let a = subst (λ (z : Bool). MatchBool z ((e : Step K V) × IsMeant eq hash at kind new hands.made brings t.before e × (log ≡ t.before ++ Rattle.papaya_map.specs.declared.event.Event.TheVariants.Stepped e ∷ [])) (log ≡ t.before)) is t.after in
-      let here : (word_in eq hash b t.before at == old) ≡ true = ap (λ (n : ℕ). n == old) t.is ∙ is in record {
-        before = t.before;
-        since = t.since;
-        lawful = t.lawful;
-        now = t.now;
-        answer = Exchanged;
-        made = exchange_of a.0 ∷ [];
-        after = hands;
-        grown = ap exchanges_of a.2 ∙ exchanges_of-append t.before (Rattle.papaya_map.specs.declared.event.Event.TheVariants.Stepped a.0 ∷ []);
-        is = rw is refl;
-        told = rw here (refl, (exchange_of a.0, asked_by_made kind at new (state_of t.before) (hands_of hands.made) hands (exchange_of a.0) refl a.1.asked, refl), refl);
-      }
-  answered_by at kind old new found brings seen log state k hands t false is =
-      let a = subst (λ (z : Bool). MatchBool z ((e : Step K V) × IsMeant eq hash at kind new hands.made brings t.before e × (log ≡ t.before ++ Rattle.papaya_map.specs.declared.event.Event.TheVariants.Stepped e ∷ [])) (log ≡ t.before)) is t.after in
-      let here : (word_in eq hash b t.before at == old) ≡ false = ap (λ (n : ℕ). n == old) t.is ∙ is in record {
-        before = t.before;
-        since = t.since;
-        lawful = t.lawful;
-        now = t.now;
-        answer = Found_instead found;
-        made = [];
-        after = told_of (state_of t.before) at hands;
-        grown = ap exchanges_of a ∙ sym (Rattle.std.proofs.lemmas.List.append-nil (exchanges_of t.before));
-        is = rw is refl;
-        told = rw here (ap Found_instead (sym t.is), refl, refl);
-      }
-
-  -- an exchange is answered by the word that stands there
-  pub answered : (at : At) (kind : Option StepKind) (old new found : ℕ) (brings : Named K V) (seen log : List (Event K V S)) (state : Option (Named K V)) (k : K) (hands : Hands (Stored K V)) → IsTried eq hash b at kind old new hands.made brings seen found log state → IsAnswered at kind old new found seen log k hands
-  answered at kind old new found brings seen log state k hands t = answered_by at kind old new found brings seen log state k hands t (found == old) refl

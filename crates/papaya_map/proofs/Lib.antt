@@ -32,3 +32,10 @@ pub mod Readings
 pub mod Answering
 pub mod Comparing
 pub mod LookupReplies
+-- changing calls
+pub mod Changing
+pub mod Exchanging
+pub mod OnePair
+pub mod Opened
+pub mod Inserting
+pub mod InsertingSteps

@@ -5,11 +5,11 @@ use mathlib.Core.List.{IsPrefix}
 use denote.Bor.{Bor}
 use Rattle.papaya_call.specs.declared.ask.Ask.TheVariants.{Done}
 use Rattle.papaya_call.specs.declared.call.Reply.{Reply}
-use Rattle.papaya_call.specs.declared.call.Reply.TheVariants.{Absent, Found, Inserted, Replaced, Occupied, Removed, Kept, Refused}
+use Rattle.papaya_call.specs.declared.call.Reply.TheVariants.{Absent, Found, Inserted, Replaced, Occupied, Removed, Kept, Aborted, Refused}
 use Rattle.papaya_call.specs.declared.call.Task.TheVariants.{Get}
 use Rattle.papaya_call.specs.declared.machine.Machine.{Machine}
 use Rattle.papaya_call.specs.declared.machine.State.{State as Stage}
-use Rattle.papaya_call.specs.declared.machine.State.TheVariants.{AtRoot, Making, Opening, Searching, Writing, Showing, Burying, Counting, Uncounting, Leaving, Growing, Ended}
+use Rattle.papaya_call.specs.declared.machine.State.TheVariants.{AtRoot, Making, Opening, Searching, Writing, Offering, Showing, Pairing, Putting, Burying, Counting, Uncounting, Leaving, Growing, Ended}
 use Rattle.papaya_call.specs.declared.search.Search.TheVariants.{Sizing, Looking, Comparing}
 use Rattle.papaya_call.specs.declared.write.Made.{Made}
 use Rattle.papaya_call.specs.Law.Allows.{AllAllowed}
@@ -44,7 +44,10 @@ done_state made hash (Searching (Sizing u)) stands reply e = absurd cc
 done_state made hash (Searching (Looking at)) stands reply e = absurd cc
 done_state made hash (Searching (Comparing at word)) stands reply e = absurd cc
 done_state made hash (Writing write) stands reply e = absurd stands.0
+done_state made hash (Offering gap) stands reply e = absurd stands.0
 done_state made hash (Showing removal) stands reply e = absurd stands.0
+done_state made hash (Pairing purpose) stands reply e = absurd stands.0
+done_state made hash (Putting put) stands reply e = absurd stands.0
 done_state made hash (Burying removal) stands reply e = absurd stands.0
 done_state made hash (Counting n) stands reply e = absurd stands
 done_state made hash (Uncounting n) stands reply e = absurd stands
@@ -62,6 +65,7 @@ module _ {K P : Type 0} (g : Setting K P) (c : Coding K P) (begun since : List (
   get_reply (Occupied n) r none = absurd r
   get_reply (Removed n) r none = absurd r
   get_reply (Kept n) r none = absurd r
+  get_reply (Aborted t) r none = absurd r
   get_reply (Refused refused) r none = absurd r
 
 module _ {K V S H : Type 0} (eq : K → K → Bool) (input : K → List (List ℕ)) (build : S → H) (write : H → List ℕ → H) (finish : H → ℕ) (classes : IsEquivalence eq) (respects : (x y : K) → eq x y ≡ true → input x ≡ input y)

@@ -13,3 +13,8 @@ pub mod Calls
 -- histories, and what lookups answer of them
 pub mod History
 pub mod Readers
+-- what changing calls do
+pub mod Changing
+pub mod Inserting
+-- why a map is not made
+pub mod Asked

@@ -5,6 +5,7 @@ use Rattle.logbook.specs.Pages.{View, Step as Book_step}
 use Rattle.papaya_call.specs.declared.ask.At.{At}
 use Rattle.papaya_call.specs.declared.ask.StepKind.{StepKind}
 use Rattle.papaya_call.specs.Law.Allows.{Allows}
+use Rattle.papaya_call.specs.Law.Code.{Coding}
 use Rattle.papaya_call.specs.Law.Exchange.{after}
 use Rattle.papaya_call.specs.Told.{IsAsked, IsWritten, Hands}
 use Rattle.papaya_map.specs.declared.event.Named.{Named}
@@ -15,9 +16,18 @@ use Rattle.papaya_map.specs.declared.event.Event.TheVariants.{Stepped}
 use Rattle.papaya_map.specs.Logs.{Stored, brought, coding_of, comes, exchange_of, kind_of, made_of, place_of, setting_of, state_of, steps_of, word_names}
 use Rattle.papaya_map.specs.Rule.{IsLawfulLog, word_in}
 
+-- the pair that a call made, where it made one
+abbrev pub made_list : {P : Type 0} → Option P → List P
+made_list None = []
+made_list (Some q) = q ∷ []
+
 -- the hands of a call that has made this pair
 abbrev pub hands_of : {P : Type 0} → Option P → Hands P
-hands_of made = record { last = None; made = made }
+hands_of made = record { last = None; made = made_list made }
+
+-- pairs are named by their numbers
+abbrev pub Numbered : {K V : Type 0} → Coding K (Stored K V)
+Numbered = coding_of (λ k. 0)
 
 module _ {K V S : Type 0} (eq : K → K → Bool) (hash : S → K → ℕ) where
   -- a load tells the word that stands at the place, and what it names
@@ -32,7 +42,7 @@ module _ {K V S : Type 0} (eq : K → K → Bool) (hash : S → K → ℕ) where
 
   -- the exchange is of the kind that was asked for, with the pair that the call made, and what comes with it was handed over
   pub record IsMeant (at : At) (kind : Option StepKind) (new : ℕ) (made : Option (Stored K V)) (brings : Named K V) (before : List (Event K V S)) (e : Step K V) : Type 0 where
-    pub asked : IsAsked kind at new (state_of before) (hands_of made) (exchange_of e)
+    pub asked : IsAsked Numbered kind at new (state_of before) (hands_of made) (exchange_of e)
     pub with_it : comes e ≡ brings
 
   -- An exchange that may be made at any time when its old word stands there: there is one of the law, allowed, which writes just this word.

@@ -8,7 +8,7 @@ use Rattle.papaya_call.specs.declared.call.Reply.TheVariants.{Found}
 use Rattle.papaya_call.specs.declared.call.Task.TheVariants.{Get}
 use Rattle.papaya_call.specs.declared.machine.Machine.{Machine}
 use Rattle.papaya_call.specs.declared.machine.State.{State as Stage}
-use Rattle.papaya_call.specs.declared.machine.State.TheVariants.{AtRoot, Making, Opening, Searching, Writing, Showing, Burying, Counting, Uncounting, Leaving, Growing, Ended}
+use Rattle.papaya_call.specs.declared.machine.State.TheVariants.{AtRoot, Making, Opening, Searching, Writing, Offering, Showing, Pairing, Putting, Burying, Counting, Uncounting, Leaving, Growing, Ended}
 use Rattle.papaya_call.specs.declared.search.Search.TheVariants.{Sizing, Looking, Comparing}
 use Rattle.papaya_call.specs.Law.Exchange.{Exchange, Setting}
 use Rattle.papaya_call.specs.Law.Code.{Coding}
@@ -37,7 +37,10 @@ table_of AtRoot = None
 table_of Making = None
 table_of (Opening t) = None
 table_of (Writing write) = None
+table_of (Offering gap) = None
 table_of (Showing removal) = None
+table_of (Pairing purpose) = None
+table_of (Putting put) = None
 table_of (Burying removal) = None
 table_of (Counting n) = None
 table_of (Uncounting n) = None
@@ -58,7 +61,10 @@ left_of (Leaving t) = left_in t 1
 left_of Making = 0
 left_of (Opening t) = 0
 left_of (Writing write) = 0
+left_of (Offering gap) = 0
 left_of (Showing removal) = 0
+left_of (Pairing purpose) = 0
+left_of (Putting put) = 0
 left_of (Burying removal) = 0
 left_of (Counting n) = 0
 left_of (Uncounting n) = 0

@@ -10,9 +10,13 @@
 //! old word stands there; the machines' laws say just that.
 #![tactic(auto)]
 
+mod asked;
 pub mod book;
+mod caller;
+mod count;
 pub mod event;
 pub mod history;
+mod insertion;
 pub mod law;
 pub mod layer;
 pub mod maker;

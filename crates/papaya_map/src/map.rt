@@ -1,20 +1,34 @@
 //! The map that threads share, and the passes of its callers.
-ghost use Rattle.std.specs.Prelude.{◌≡◌};
+ghost use Rattle.std.specs.Prelude.{◌≡◌, IfErr, IfOk};
 ghost use mathlib.Core.List.{IsPrefix};
 ghost use Rattle.logbook.specs.Pages.{Book as BookName};
+ghost use Rattle.papaya_core.specs.New.{IsAllowed};
+ghost use Rattle.papaya_map.specs.Asked.{IsRefused};
+ghost use Rattle.papaya_map.specs.Changing.{IsPut};
 ghost use Rattle.papaya_map.specs.History.{IsLegalHistory, Past, history_of, key_of};
 ghost use Rattle.papaya_map.specs.Readers.{IsAnsweredBetween};
 
+use crate::asked::{check_chunk, initial_len};
 use crate::book::Book;
+use crate::count::Count;
+use crate::insertion::insert;
+use crate::parts::Parts;
 use crate::reader::look_up;
 use crate::trade::Sight;
-use papaya_seq::guard::Equivalent;
-use std::hash::{BuildHasher, Hash};
+use papaya_seq::guard::{Collector, Equivalent, Guard};
+use papaya_words::probe::{Refused, ResizeMode};
+use std::alloc::Global;
+use std::hash::{BuildHasher, BuildHasherDefault, FoldHasher, Hash};
 use std::marker::Model;
+use std::sync::Wait;
 
 /// A map that threads share. Contracts see which book it has.
 #[derive(Drop)]
-pub struct HashMap<K: Hash + Eq, V, S: BuildHasher> {
+pub struct HashMap<K: Hash + Eq, V, S: BuildHasher = BuildHasherDefault<FoldHasher>> {
+    alloc: Global,
+    initial: usize,
+    count: Count,
+    collector: Collector,
     pub(crate) book: Book<K, V, S>,
 }
 
@@ -46,6 +60,7 @@ impl<K: Hash + Eq, V, S: BuildHasher> Model for Pass<K, V, S> {
 #[derive(Drop)]
 pub struct HashMapRef<'a, K: Hash + Eq, V, S: BuildHasher> {
     map: &'a HashMap<K, V, S>,
+    guard: u64,
 }
 
 impl<'a, K: Hash + Eq, V, S: BuildHasher> Model for HashMapRef<'a, K, V, S> {
@@ -54,13 +69,64 @@ impl<'a, K: Hash + Eq, V, S: BuildHasher> Model for HashMapRef<'a, K, V, S> {
     ghost view = { λ r. r.map.now };
 }
 
+impl<K: Hash + Eq + Drop, V: Drop, S: BuildHasher + Drop> HashMap<K, V, S> {
+    /// A map of all its parts. `capacity` is for how many pairs its first table is made at once; with
+    /// 0 the first change makes one. `shards` is rounded up to a power of two.
+    ///
+    /// `Refused::ZeroChunk` for chunks of no slots. `Refused::Capacity` for more shards than
+    /// [`papaya_words::limits::MAX_SHARDS`], and for a table past
+    /// [`papaya_words::limits::MAX_TABLE_LEN`]. `Refused::Memory` where a growth was refused.
+    pub fn with_parts<R: Wait>(
+        rt: &R,
+        alloc: Global,
+        mode: ResizeMode,
+        capacity: usize,
+        shards: usize,
+        hasher: S,
+    ) -> Result<HashMap<K, V, S>, Refused>
+        ensures ok { IfOk result (λ map. IsAllowed mode capacity shards) }
+        ensures err { IfErr result (λ e. IsRefused mode capacity shards e) }
+    {
+        check_chunk(mode)?;
+        let initial = initial_len(capacity)?;
+        let count = Count::new(alloc, shards)?;
+        let Ok(parts) = Parts::new(alloc, mode, hasher) else {
+            return Err(Refused::Memory);
+        };
+        let book = Book::opened(rt, parts);
+        if capacity > 0 {
+            book.open_first(rt, alloc, capacity, initial)?;
+        }
+        Ok(HashMap {
+            alloc,
+            initial,
+            count,
+            collector: Collector::new(0),
+            book,
+        })
+    }
+}
+
 impl<K: Hash + Eq, V, S: BuildHasher> HashMap<K, V, S> {
     /// The map, as calls take it.
     #[inline]
     pub fn pin(&self) -> HashMapRef<'_, K, V, S>
         ensures { result ≡ self.now }
     {
-        HashMapRef { map: self }
+        HashMapRef {
+            map: self,
+            guard: self.collector.enter().number(),
+        }
+    }
+
+    /// How many pairs were counted. A change is counted a step after it was made.
+    pub fn len(&self) -> usize {
+        self.count.sum()
+    }
+
+    /// Were no pairs counted?
+    pub fn is_empty(&self) -> bool {
+        self.len() == 0
     }
 
     /// A pass of one's own.
@@ -85,5 +151,38 @@ impl<'a, K: Hash + Eq, V, S: BuildHasher> HashMapRef<'a, K, V, S> {
     {
         let map: &'a HashMap<K, V, S> = self.map;
         look_up(&map.book, key, &mut pass.sight)
+    }
+}
+
+impl<'a, K: Hash + Eq + Drop, V: Drop, S: BuildHasher> HashMapRef<'a, K, V, S> {
+    /// Stores a pair, and answers the value that its key had: `insert` of 0.2.5. As there, the new
+    /// key takes the old one's place too.
+    ///
+    /// `Refused::Memory` where a growth was refused. `Refused::Capacity` where the log of keys, of
+    /// pairs or of tables is full, and where the key has no place left in the table.
+    pub fn insert_as<R: Wait>(
+        &self,
+        rt: &R,
+        key: K,
+        value: V,
+        pass: &mut Pass<K, V, S>,
+    ) -> Result<Option<&'a V>, Refused>
+        requires { pass.old.book ≡ self.now }
+        ensures book { pass.new.book ≡ pass.old.book }
+        ensures seen { IsPrefix pass.old.history pass.new.history }
+        ensures put { IfOk result (λ answer. IsPut K.eq key value pass.old.history pass.new.history answer) }
+    {
+        let map: &'a HashMap<K, V, S> = self.map;
+        let shard = map.count.shard(self.guard);
+        insert(
+            rt,
+            map.alloc,
+            map.initial,
+            &shard,
+            &map.book,
+            key,
+            value,
+            &mut pass.sight,
+        )
     }
 }

@@ -16,6 +16,7 @@ use crate::table::Table;
 use crate::trade::Sight;
 use papaya_call::ask::{Answer, Ask, At};
 use papaya_call::call::{Reply, Task};
+use papaya_call::compute::Remembered;
 use papaya_call::machine::{Machine, State};
 use papaya_call::write::Made;
 use papaya_seq::guard::Equivalent;
@@ -46,6 +47,7 @@ impl<'a, K: Hash + Eq, V, S: BuildHasher> Reader<'a, K, V, S> {
                 mode,
                 initial: 0,
                 made: Made::Nothing,
+                remembered: Remembered::nothing(),
                 state: State::AtRoot,
             },
             table: None,
@@ -136,7 +138,7 @@ pub(crate) fn look_up<'a, K: Hash + Eq, V, S: BuildHasher, Q: Equivalent<K>>(
 }
 
 /// The hash of what a key is looked up by.
-fn hash<S: BuildHasher, Q: Hash>(hasher: &S, key: &Q) -> u64
+pub(crate) fn hash<S: BuildHasher, Q: Hash>(hasher: &S, key: &Q) -> u64
     ensures { result ≡ hash_of Q.hash_input S.build_hasher S.Hasher.write S.Hasher.finish hasher.now key.now }
 {
     let mut state = hasher.build_hasher();

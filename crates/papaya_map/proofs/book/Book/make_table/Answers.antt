@@ -1,5 +1,6 @@
 use Rattle.std.proofs.Common.{◌≡◌, ℕ, Some, ◌∷◌, length, map, sym, ap, ◌∙◌, subst, arith}
 use Rattle.std.proofs.lemmas.List.{length-map}
+use Rattle.std.proofs.lemmas.Nat.{pow_pos}
 use Rattle.logbook.specs.Pages.{Named, Nib}
 use Rattle.papaya_map.specs.Logs.{owner}
 use Rattle.papaya_map.specs.Makers.{AreMade, IsMade}
@@ -16,7 +17,7 @@ returns-clause-made g c =
     let sheet : Sheet = record { book = c.seal-done.result.0.book; limit = c.args.limit; next = n; aborted = a; seal = s; slots = map (λ (w : Named). w.key) slots } in
     let pen : c.seal-done.result.1.nib.key ≡ s = ap (λ (p : Nib). p.key) seal.pen.1 in
     let many : length (map (λ (w : Named). w.key) slots) ≡ c.args.len = length-map slots (λ (w : Named). w.key) ∙ row.len in
-    let some = c.requires.some in
+    let power = c.requires.size.power in let above = pow_pos power.0 in let is = power.1 in
     let own_next : owner n two ≡ Some s = next.owner ∙ ap (λ z. Some z) pen in
     let own_aborted : owner a three ≡ Some s = aborted.owner ∙ ap (λ z. Some z) pen in
     let below_seal = below one s s seal.owner in let below_next = below two n s own_next in let below_aborted = below three a s own_aborted in

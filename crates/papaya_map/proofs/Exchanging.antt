@@ -1,0 +1,209 @@
+-- After an exchange that it asked for a changing call rests again, and its change ends the log.
+use Rattle.std.proofs.Common.{◌≡◌, ◌⊎◌, inl, inr, ⊎_elim, ℕ, ◌==◌, Bool, true, false, MatchBool, MatchOption, Option, None, Some, List, [], ◌∷◌, ◌++◌, append-nil, refl, sym, ap, ◌∙◌, subst}
+use Rattle.std.proofs.lemmas.Bool.{eqb-true}
+use Rattle.std.specs.Cmp.{IsEquivalence}
+use mathlib.Core.List.{IsPrefix}
+use denote.Bor.{Bor}
+use Rattle.logbook.specs.Pages.{Book}
+use Rattle.papaya_words.specs.Word.{pair_of}
+use Rattle.papaya_call.specs.declared.ask.At.{At}
+use Rattle.papaya_call.specs.declared.ask.At.TheVariants.{Root, Slot}
+use Rattle.papaya_call.specs.declared.ask.Ask.{Ask}
+use Rattle.papaya_call.specs.declared.ask.Ask.TheVariants.{Exchange as Ask_exchange}
+use Rattle.papaya_call.specs.declared.ask.Answer.{Answer}
+use Rattle.papaya_call.specs.declared.ask.Answer.TheVariants.{Exchanged, Found as Found_instead}
+use Rattle.papaya_call.specs.declared.ask.StepKind.{StepKind}
+use Rattle.papaya_call.specs.declared.ask.StepKind.TheVariants as kinds
+use Rattle.papaya_call.specs.declared.machine.Machine.{Machine}
+use Rattle.papaya_call.specs.Followed.{IsAtTable, IsCounting, told_table}
+use Rattle.papaya_call.specs.Law.Allows.{AllAllowed, Allows}
+use Rattle.papaya_call.specs.Law.Code.{Coding, code}
+use Rattle.papaya_call.specs.Law.Exchange.{Exchange, Setting, State, Word, Empty, Live, Open, Claim, Replace, Bury, run, start}
+use Rattle.papaya_call.specs.Law.Invariant.{named}
+use Rattle.papaya_call.specs.Machine.{after, ask_of, kind_of_ask}
+use Rattle.papaya_call.specs.Rests.{change_after, change_in, change_of_kind}
+use Rattle.papaya_call.specs.Told.{Hands, IsAsked, IsTold, or_last, told_of, word_of}
+use Rattle.papaya_call.proofs.Followed.{counts_after, table_told}
+use Rattle.papaya_call.proofs.Law.Code.{code_pair}
+use Rattle.papaya_call.proofs.Law.Moments.{allowed_rest}
+use Rattle.papaya_call.proofs.RestsReply.{machine_changes}
+use Rattle.papaya_map.specs.Sheets.{Sheet}
+use Rattle.papaya_map.specs.declared.event.Begun.{Begun}
+use Rattle.papaya_map.specs.declared.event.Event.{Event}
+use Rattle.papaya_map.specs.declared.event.Event.TheVariants.{Stepped}
+use Rattle.papaya_map.specs.declared.event.Named.{Named}
+use Rattle.papaya_map.specs.declared.event.Step.{Step}
+use Rattle.papaya_map.specs.Calls.{IsSlotTried, IsTable}
+use Rattle.papaya_map.specs.Changing.{HasChanged, IsCalling, hands_with, put_by}
+use Rattle.papaya_map.specs.Hashes.{hash_of}
+use Rattle.papaya_map.specs.History.{Change, change_of, key_of}
+use Rattle.papaya_map.specs.Logs.{Stored, coding_of, exchange_of, exchanges_of, pair_named, setting_of, state_of}
+use Rattle.papaya_map.specs.Plays.{IsMeant, Numbered, hands_of}
+use Rattle.papaya_map.specs.Rule.{IsLawfulLog, IsPlaced, word_in}
+use Rattle.papaya_map.proofs.Changing.{Calling, Coded, Resting, Wide, held_later, placed_last, quiet, rests_of}
+use Rattle.papaya_map.proofs.Driving.{asked_by_made, one_made, resting_later, resting_told, word_wide}
+use Rattle.papaya_map.proofs.Logs.{exchanges_of-append, prefix_trans}
+use Rattle.papaya_map.proofs.Readings.{IsQuery, fed, hashed_with}
+use Rattle.papaya_map.proofs.Settings.{is_hashed}
+
+module _ {K V S H : Type 0} (eq : K → K → Bool) (input : K → List (List ℕ)) (build : S → H) (write : H → List ℕ → H) (finish : H → ℕ) (classes : IsEquivalence eq) (respects : (x y : K) → eq x y ≡ true → input x ≡ input y)
+    (b : Begun K V S) where
+  abbrev hash : S → K → ℕ
+  hash = hash_of input build write finish
+
+  abbrev plain : List (Event K V S) → Setting K (Stored K V)
+  plain log = setting_of eq (hash b.hasher) b.mode log
+
+  abbrev c : Coding K (Stored K V)
+  c = coding_of (hash b.hasher)
+
+  module _ (begun before log : List (Event K V S)) (since : IsPrefix begun before) (l : IsLawfulLog eq hash b before) (l' : IsLawfulLog eq hash b log) (e : Exchange (Stored K V)) (grown : exchanges_of log ≡ exchanges_of before ++ e ∷ [])
+      (t x old new : ℕ) (stood : word_in eq hash b before (Slot t x) ≡ old) (made pair : Option (Stored K V)) (names : named ((state_of before).slot t x) ≡ pair) where
+    -- the last exchange of a lawful log was allowed
+    allowed : Allows (plain log) (state_of before) e
+    allowed = (allowed_rest (plain log) (exchanges_of before) (e ∷ []) start (subst (AllAllowed (plain log) start) grown l'.allowed)).0
+
+    -- the number of the pair that stood there
+    numbered : (w : Word (Stored K V)) → (state_of before).slot t x ≡ w → (p : Stored K V) → named w ≡ Some p → pair_of old ≡ p.index
+    numbered w is p has =
+        let coding = (is_hashed eq input build write finish classes respects b before l).coding in
+        let there : code (plain before) c w ≡ old = ap (code (plain before) c) (sym is) ∙ stood in
+        ap pair_of (sym there) ∙ (code_pair (plain before) c coding w p has).0
+
+    taken_of : (change : Option ℕ × Option ℕ) (class : K) (p : Stored K V) → pair ≡ Some p → change.0 ≡ Some p.index → class ≡ key_of p → MatchOption pair (change.0 ≡ None) (λ p. (change.0 ≡ Some p.index) × (class ≡ key_of p))
+    taken_of change class p is number of = subst (λ (o : Option (Stored K V)). MatchOption o (change.0 ≡ None) (λ p. (change.0 ≡ Some p.index) × (class ≡ key_of p))) (sym is) (number, of)
+
+    none_taken : (change : Option ℕ × Option ℕ) (class : K) → pair ≡ None → change.0 ≡ None → MatchOption pair (change.0 ≡ None) (λ p. (change.0 ≡ Some p.index) × (class ≡ key_of p))
+    none_taken change class is none = subst (λ (o : Option (Stored K V)). MatchOption o (change.0 ≡ None) (λ p. (change.0 ≡ Some p.index) × (class ≡ key_of p))) (sym is) none
+
+    -- an exchange that was asked for as a change of this kind is one
+    pub changes : (kind : Option StepKind) → IsAsked Numbered kind (Slot t x) new (state_of before) (hands_of made) e → (change : Option ℕ × Option ℕ) → change_of_kind kind old new ≡ Some change → HasChanged eq begun log made pair change
+    changes (Some kinds.Claim) (q, own, is) change said =
+        let has : made ≡ Some q = one_made made q own.made in
+        let may = subst (Allows (plain log) (state_of before)) is allowed in
+        let none : pair ≡ None = sym names ∙ ap named may.empty in
+        let two : (None, Some (pair_of new)) ≡ change = cc said in record {
+          before = before;
+          since = since;
+          by = e;
+          is = grown;
+          class = key_of q;
+          change_is = subst (λ (z : Exchange (Stored K V)). change_of key_of z ≡ record { class = key_of q; taken = pair; put = put_by change.1 made } ∷ []) (sym is)
+              (λ i. record { class = key_of q; taken = sym none i; put = (ap (λ (z : Option ℕ × Option ℕ). put_by z.1 (Some q)) two ∙ ap (put_by change.1) (sym has)) i } ∷ []);
+          taken_is = none_taken change (key_of q) none (sym (ap (λ (z : Option ℕ × Option ℕ). z.0) two));
+          put_is = λ n e'. (q, has, classes.refl (key_of q));
+        }
+    changes (Some kinds.Replace) (p, q, live, own, is) change said =
+        let has : made ≡ Some q = one_made made q own.made in
+        let may = subst (Allows (plain log) (state_of before)) is allowed in
+        let some : pair ≡ Some p = sym names ∙ ap named live in
+        let two : (Some (pair_of old), Some (pair_of new)) ≡ change = cc said in record {
+          before = before;
+          since = since;
+          by = e;
+          is = grown;
+          class = key_of p;
+          change_is = subst (λ (z : Exchange (Stored K V)). change_of key_of z ≡ record { class = key_of p; taken = pair; put = put_by change.1 made } ∷ []) (sym is)
+              (λ i. record { class = key_of p; taken = sym some i; put = (ap (λ (z : Option ℕ × Option ℕ). put_by z.1 (Some q)) two ∙ ap (put_by change.1) (sym has)) i } ∷ []);
+          taken_is = taken_of change (key_of p) p some (sym (ap (λ (z : Option ℕ × Option ℕ). z.0) two) ∙ ap (λ n. Some n) (numbered (Live p) live p refl)) refl;
+          put_is = λ n e'. (q, has, may.same);
+        }
+    changes (Some kinds.Bury) (p, live, is) change said =
+        let some : pair ≡ Some p = sym names ∙ ap named live in
+        let two : (Some (pair_of old), None) ≡ change = cc said in record {
+          before = before;
+          since = since;
+          by = e;
+          is = grown;
+          class = key_of p;
+          change_is = subst (λ (z : Exchange (Stored K V)). change_of key_of z ≡ record { class = key_of p; taken = pair; put = put_by change.1 made } ∷ []) (sym is)
+              (λ i. record { class = key_of p; taken = sym some i; put = ap (λ (z : Option ℕ × Option ℕ). put_by z.1 made) two i } ∷ []);
+          taken_is = taken_of change (key_of p) p some (sym (ap (λ (z : Option ℕ × Option ℕ). z.0) two) ∙ ap (λ n. Some n) (numbered (Live p) live p refl)) refl;
+          put_is = λ n e'. let none : None ≡ Some n = ap (λ (z : Option ℕ × Option ℕ). z.1) two ∙ e' in absurd (cc none);
+        }
+    changes None asked change said = absurd asked
+    changes (Some kinds.Open) asked change said = absurd asked
+    changes (Some kinds.Link) asked change said = absurd asked
+    changes (Some kinds.Mark) asked change said = absurd asked
+    changes (Some kinds.Close) asked change said = absurd asked
+    changes (Some kinds.Place) asked change said = absurd asked
+    changes (Some kinds.Finish) asked change said = absurd asked
+    changes (Some kinds.Advance) asked change said = absurd asked
+    changes (Some kinds.Promote) asked change said = absurd asked
+    changes (Some kinds.Abort) asked change said = absurd asked
+
+module _ {K V S H : Type 0} (eq : K → K → Bool) (input : K → List (List ℕ)) (build : S → H) (write : H → List ℕ → H) (finish : H → ℕ) (classes : IsEquivalence eq) (respects : (x y : K) → eq x y ≡ true → input x ≡ input y)
+    (b : Begun K V S) (matches : K → Bool) (query : List (List ℕ)) (lawful : IsQuery eq input matches query) (k : Option K) (name : Book) (begun : List (Event K V S)) where
+  abbrev hash' : S → K → ℕ
+  hash' = hash_of input build write finish
+
+  abbrev Call : List (Event K V S) → Machine → Option (Bor Sheet) → (last made taken : Option (Stored K V)) → Type 0
+  Call log m table last made taken = Calling eq input build write finish classes respects b matches query lawful k name begun log m table last made taken
+
+  abbrev G : List (Event K V S) → Setting (Option K) (Stored K V)
+  G log = Wide eq input build write finish classes respects b matches query lawful k name begun log
+
+  abbrev C : Coding (Option K) (Stored K V)
+  C = Coded eq input build write finish classes respects b matches query lawful k name begun
+
+  abbrev hashed : (log : List (Event K V S)) → IsLawfulLog eq hash' b log → Rattle.papaya_call.specs.Told.IsHashed (G log) C
+  hashed log l = hashed_with eq input build write finish classes respects b matches query lawful log l
+
+  -- the word there, in the wide setting
+  word_there : (log log' : List (Event K V S)) (at : At) → word_of (G log') C (state_of log) at ≡ word_in eq hash' b log at
+  word_there log log' at = word_wide eq input build write finish classes respects b matches query lawful k (exchanges_of begun) log log' at
+
+  module _ (v log : List (Event K V S)) (m : Machine) (table : Option (Bor Sheet)) (last made taken : Option (Stored K V)) (r : Call v m table last made taken) (t x old new found : ℕ) (brings : Named K V) (pair : Option (Stored K V)) (asks : ask_of m ≡ Ask_exchange (Slot t x) old new)
+      (s : IsSlotTried eq hash' b name t x (kind_of_ask m) old new made brings v found log pair) where
+    abbrev After : Bool → Type 0
+    After z = MatchBool z ((e : Step K V) × IsMeant eq hash' (Slot t x) (kind_of_ask m) new made brings s.tried.before e × (log ≡ s.tried.before ++ Stepped e ∷ [])) (log ≡ s.tried.before)
+
+    -- it was made
+    pub exchanged : (found == old) ≡ true → Call log (after m Exchanged) table last made pair
+    exchanged is =
+        let done = subst After is s.tried.after in
+        let e = exchange_of done.0 in
+        let before = s.tried.before in
+        let grown : exchanges_of log ≡ exchanges_of before ++ e ∷ [] = ap exchanges_of done.2 ∙ exchanges_of-append before (Stepped done.0 ∷ []) in
+        let pre : IsPrefix before log = (Stepped done.0 ∷ [], sym done.2) in
+        let found_is : found ≡ old = eqb-true found old is in
+        let here : (word_of (G log) C (state_of before) (Slot t x) == old) ≡ true = ap (λ (n : ℕ). n == old) (word_there before log (Slot t x) ∙ s.tried.is) ∙ is in
+        let hands = hands_with last made in
+        let asked : IsAsked C (kind_of_ask m) (Slot t x) new (state_of before) hands e = asked_by_made Numbered C (λ p. refl) (hands_of made) hands (λ q one. one) (kind_of_ask m) (Slot t x) new (state_of before) e done.1.asked in
+        let told' : IsTold (G log) C k (state_of before) (kind_of_ask m) hands (Ask_exchange (Slot t x) old new) Exchanged (e ∷ []) hands = rw here (refl, (e, asked, refl), refl) in
+        let told = subst (λ (a : Ask). IsTold (G log) C k (state_of before) (kind_of_ask m) hands a Exchanged (e ∷ []) hands) (sym asks) told' in
+        let mid = resting_later eq input build write finish classes respects b matches query lawful k (exchanges_of begun) v r.lawful m hands (rests_of eq input build write finish classes respects b matches query lawful k name begun v m table last made taken r) before s.tried.lawful s.tried.since in
+        let on = resting_told eq input build write finish classes respects b matches query lawful k (exchanges_of begun) before s.tried.lawful m hands mid log s.tried.now pre Exchanged hands told in
+        let changes_to : change_in (after m Exchanged).state ≡ change_of_kind (kind_of_ask m) old new =
+        machine_changes (G log) C (hashed log s.tried.now) k (state_of before) m r.rests.hash hands (e ∷ []) hands Exchanged told
+        ∙ ap (λ (a : Ask). change_after (kind_of_ask m) a Exchanged (change_in m.state)) asks in
+        let since = prefix_trans v before log s.tried.since pre in record {
+          lawful = s.tried.now;
+          seen = prefix_trans begun v log r.seen since;
+          since = on.since;
+          is = on.is;
+          rests = on.rests;
+          number = r.number;
+          at_table = subst (λ (n : ℕ). IsAtTable n (after m Exchanged).state) (ap (λ (a : Ask). told_table a Exchanged r.number) asks) (table_told m Exchanged r.number r.at_table);
+          holds_table = held_later v log since r.number table r.holds_table;
+          last_placed = r.last_placed;
+          made_placed = r.made_placed;
+          taken_placed = s.placed;
+          changed = λ change f. changes eq input build write finish classes respects b begun before log (prefix_trans begun v before r.seen s.tried.since) s.tried.lawful s.tried.now e grown t x old new (s.tried.is ∙ found_is) made pair s.names (kind_of_ask m) done.1.asked change (sym changes_to ∙ f);
+        }
+
+    -- it was lost
+    pub lost : (found == old) ≡ false → Call log (after m (Found_instead found)) table (or_last pair last) made taken
+    lost is =
+        let same = subst After is s.tried.after in
+        let before = s.tried.before in
+        let word : word_in eq hash' b log (Slot t x) ≡ found = ap (λ (z : List (Event K V S)). word_in eq hash' b z (Slot t x)) same ∙ s.tried.is in
+        let pre : IsPrefix v log = subst (IsPrefix v) (sym same) s.tried.since in
+        let here : word_of (G log) C (state_of log) (Slot t x) ≡ found = word_there log log (Slot t x) ∙ word in
+        let differs : (word_of (G log) C (state_of log) (Slot t x) == old) ≡ false = ap (λ (n : ℕ). n == old) here ∙ is in
+        let hands = hands_with last made in
+        let hands_is : hands_with (or_last pair last) made ≡ told_of (state_of log) (Slot t x) hands =
+        ap (λ (z : Option (Stored K V)). hands_with (or_last z last) made) (sym s.names ∙ ap (λ (z : List (Event K V S)). named ((state_of z).slot t x)) (sym same)) in
+        let told : IsTold (G log) C k (state_of log) (kind_of_ask m) hands (Ask_exchange (Slot t x) old new) (Found_instead found) [] (hands_with (or_last pair last) made) = rw differs (ap Found_instead (sym here), refl, hands_is) in
+        quiet eq input build write finish classes respects b matches query lawful k name begun v log pre s.tried.now m table last made taken r (Ask_exchange (Slot t x) old new) asks (Found_instead found) (or_last pair last) made table r.number
+        (record { told = told; number_is = refl; same = refl; busy = λ z. z }) (held_later v log pre r.number table r.holds_table) (placed_last b name pair last s.placed r.last_placed) r.made_placed

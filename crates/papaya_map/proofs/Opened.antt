@@ -1,0 +1,131 @@
+-- After it tried to open a table a call rests again, and holds the root's table.
+use Rattle.std.proofs.Common.{◌≡◌, ◌⊎◌, inl, inr, ⊎_elim, ℕ, ◌==◌, Bool, true, false, cond, MatchBool, MatchOption, Option, None, Some, List, [], ◌∷◌, ◌++◌, append-nil, refl, sym, ap, ◌∙◌, subst, arith}
+use Rattle.std.proofs.lemmas.Bool.{cases_Bool, cond-true, cond-false, eqb-true, eqb-false}
+use Rattle.std.specs.Cmp.{IsEquivalence}
+use mathlib.Core.List.{IsPrefix}
+use denote.Bor.{Bor}
+use Rattle.boxcar.specs.Table.{Where}
+use Rattle.logbook.specs.Pages.{Book}
+use Rattle.papaya_call.specs.declared.ask.At.TheVariants.{Root}
+use Rattle.papaya_call.specs.declared.ask.Ask.{Ask}
+use Rattle.papaya_call.specs.declared.ask.Ask.TheVariants.{Exchange as Ask_exchange}
+use Rattle.papaya_call.specs.declared.ask.Answer.TheVariants.{Exchanged, Found as Found_instead}
+use Rattle.papaya_call.specs.declared.ask.StepKind.{StepKind}
+use Rattle.papaya_call.specs.declared.ask.StepKind.TheVariants as kinds
+use Rattle.papaya_call.specs.declared.machine.Machine.{Machine}
+use Rattle.papaya_call.specs.Followed.{IsAtTable, told_table}
+use Rattle.papaya_call.specs.Law.Exchange.{Exchange, Open}
+use Rattle.papaya_call.specs.Machine.{after, ask_of, kind_of_ask}
+use Rattle.papaya_call.specs.Rests.{change_after, change_in, change_of_kind}
+use Rattle.papaya_call.specs.Told.{Hands, IsAsked, IsTold, word_of}
+use Rattle.papaya_call.proofs.Followed.{table_told}
+use Rattle.papaya_call.proofs.RestsReply.{machine_changes}
+use Rattle.papaya_map.specs.Sheets.{Sheet}
+use Rattle.papaya_map.specs.declared.event.Begun.{Begun}
+use Rattle.papaya_map.specs.declared.event.Event.{Event}
+use Rattle.papaya_map.specs.declared.event.Event.TheVariants.{Stepped}
+use Rattle.papaya_map.specs.declared.event.Named.{Named}
+use Rattle.papaya_map.specs.declared.event.Named.TheVariants as names
+use Rattle.papaya_map.specs.declared.event.Step.{Step}
+use Rattle.papaya_map.specs.Calls.{IsTable, IsTried}
+use Rattle.papaya_map.specs.Changing.{IsCalling, hands_with}
+use Rattle.papaya_map.specs.Hashes.{hash_of}
+use Rattle.papaya_map.specs.Logs.{Stored, comes, exchange_of, exchanges_of, number_of, or_else, state_of, steps_of, table_if, table_in}
+use Rattle.papaya_map.specs.Plays.{IsMeant}
+use Rattle.papaya_map.specs.Rule.{IsLawfulLog}
+use Rattle.papaya_map.proofs.Changing.{Calling, Coded, Wide, quiet, rests_of}
+use Rattle.papaya_map.proofs.Driving.{resting_later, resting_told, word_wide}
+use Rattle.papaya_map.proofs.Logs.{exchanges_of-append, or_nothing, prefix_trans, steps-append, table_append}
+use Rattle.papaya_map.proofs.Readings.{IsQuery, hashed_with}
+
+-- a number equals itself, as the test says it
+same_number : (n : ℕ) → (n == n) ≡ true
+same_number n = ⊎_elim (λ h. h) (λ h. absurd (eqb-false n n h refl)) (cases_Bool (n == n))
+
+-- a number that is not 0, as the test says it
+pub not_zero : (n : ℕ) → (n ≡ 0 → ⊥) → (n == 0) ≡ false
+not_zero n some = ⊎_elim (λ h. absurd (some (eqb-true n 0 h))) (λ h. h) (cases_Bool (n == 0))
+
+module _ {K V S : Type 0} (eq : K → K → Bool) (hash : S → K → ℕ) (b : Begun K V S) (n : ℕ) (w : Where Sheet) (v : List (Event K V S)) (found : ℕ) (log : List (Event K V S)) (state : Option (Named K V)) (t : IsTried eq hash b Root (Some kinds.Open) 0 n None (names.Table w) v found log state) where
+  abbrev After : Bool → Type 0
+  After z = MatchBool z ((e : Step K V) × IsMeant eq hash Root (Some kinds.Open) n None (names.Table w) t.before e × (log ≡ t.before ++ Stepped e ∷ [])) (log ≡ t.before)
+
+  -- the table that was opened has come
+  pub opened_here : (found == 0) ≡ true → n ≡ number_of w → IsTable log n w.value
+  opened_here is number =
+      let done = subst After is t.after in
+      let root : (state_of t.before).root ≡ 0 = t.is ∙ eqb-true found 0 is in
+      let none : table_in (steps_of t.before) n ≡ None = t.lawful.unopened root n in
+      let here : table_if (comes done.0) n ≡ Some w =
+      ap (λ (z : Named K V). table_if z n) done.1.with_it ∙ cond-true (number_of w == n) (Some w) None (subst (λ (z : ℕ). (number_of w == z) ≡ true) (sym number) (same_number (number_of w))) in
+      let there : table_in (steps_of log) n ≡ Some w =
+      ap (λ (z : List (Event K V S)). table_in (steps_of z) n) done.2
+      ∙ (ap (λ (z : List (Step K V)). table_in z n) (steps-append t.before (Stepped done.0 ∷ []))
+      ∙ (table_append (steps_of t.before) (done.0 ∷ []) n ∙ (ap (λ (z : Option (Where Sheet)). or_else z (table_in (done.0 ∷ []) n)) none ∙ (ap (λ (z : Option (Where Sheet)). or_else z None) here)))) in
+      (w, there, refl)
+
+  -- where it was lost nothing has come
+  pub opened_lost : (found == 0) ≡ false → log ≡ t.before
+  opened_lost is = subst After is t.after
+
+module _ {K V S H : Type 0} (eq : K → K → Bool) (input : K → List (List ℕ)) (build : S → H) (write : H → List ℕ → H) (finish : H → ℕ) (classes : IsEquivalence eq) (respects : (x y : K) → eq x y ≡ true → input x ≡ input y)
+    (b : Begun K V S) (matches : K → Bool) (query : List (List ℕ)) (lawful : IsQuery eq input matches query) (k : Option K) (name : Book) (begun : List (Event K V S)) where
+  abbrev hash' : S → K → ℕ
+  hash' = hash_of input build write finish
+
+  abbrev Call : List (Event K V S) → Machine → Option (Bor Sheet) → (last made taken : Option (Stored K V)) → Type 0
+  Call log m table last made taken = Calling eq input build write finish classes respects b matches query lawful k name begun log m table last made taken
+
+  module _ (v log : List (Event K V S)) (m : Machine) (table : Option (Bor Sheet)) (last made taken : Option (Stored K V)) (r : Call v m table last made taken) (n found : ℕ) (w : Where Sheet) (state : Option (Named K V)) (asks : ask_of m ≡ Ask_exchange Root 0 n) (kind : kind_of_ask m ≡ Some kinds.Open)
+      (t : IsTried eq hash' b Root (Some kinds.Open) 0 n None (names.Table w) v found log state) (lent : Bor Sheet) where
+    abbrev G : Rattle.papaya_call.specs.Law.Exchange.Setting (Option K) (Stored K V)
+    G = Wide eq input build write finish classes respects b matches query lawful k name begun log
+
+    abbrev C : Rattle.papaya_call.specs.Law.Code.Coding (Option K) (Stored K V)
+    C = Coded eq input build write finish classes respects b matches query lawful k name begun
+
+    abbrev hands : Hands (Stored K V)
+    hands = hands_with last made
+
+    -- it was opened
+    pub opened : (found == 0) ≡ true → IsTable log n lent.now → Call log (after m Exchanged) (Some lent) last made taken
+    opened is holds =
+        let done = subst (After eq hash' b n w v found log state t) is t.after in
+        let e = exchange_of done.0 in
+        let before = t.before in
+        let grown : exchanges_of log ≡ exchanges_of before ++ e ∷ [] = ap exchanges_of done.2 ∙ exchanges_of-append before (Stepped done.0 ∷ []) in
+        let pre : IsPrefix before log = (Stepped done.0 ∷ [], sym done.2) in
+        let here : (word_of G C (state_of before) Root == 0) ≡ true = ap (λ (i : ℕ). i == 0) (word_wide eq input build write finish classes respects b matches query lawful k (exchanges_of begun) before log Root ∙ t.is) ∙ is in
+        let asked : IsAsked C (kind_of_ask m) Root n (state_of before) hands e = subst (λ (z : Option StepKind). IsAsked C z Root n (state_of before) hands e) (sym kind) done.1.asked in
+        let told' : IsTold G C k (state_of before) (kind_of_ask m) hands (Ask_exchange Root 0 n) Exchanged (e ∷ []) hands = rw here (refl, (e, asked, refl), refl) in
+        let told = subst (λ (a : Ask). IsTold G C k (state_of before) (kind_of_ask m) hands a Exchanged (e ∷ []) hands) (sym asks) told' in
+        let mid = resting_later eq input build write finish classes respects b matches query lawful k (exchanges_of begun) v r.lawful m hands (rests_of eq input build write finish classes respects b matches query lawful k name begun v m table last made taken r) before t.lawful t.since in
+        let on = resting_told eq input build write finish classes respects b matches query lawful k (exchanges_of begun) before t.lawful m hands mid log t.now pre Exchanged hands told in
+        let changes_to : change_in (after m Exchanged).state ≡ None =
+        machine_changes G C (hashed_with eq input build write finish classes respects b matches query lawful log t.now) k (state_of before) m r.rests.hash hands (e ∷ []) hands Exchanged told
+        ∙ (ap (λ (a : Ask). change_after (kind_of_ask m) a Exchanged (change_in m.state)) asks ∙ ap (λ (z : Option StepKind). change_of_kind z 0 n) kind) in
+        let since = prefix_trans v before log t.since pre in record {
+          lawful = t.now;
+          seen = prefix_trans begun v log r.seen since;
+          since = on.since;
+          is = on.is;
+          rests = on.rests;
+          number = n;
+          at_table = subst (λ (i : ℕ). IsAtTable i (after m Exchanged).state) (ap (λ (a : Ask). told_table a Exchanged r.number) asks) (table_told m Exchanged r.number r.at_table);
+          holds_table = holds;
+          last_placed = r.last_placed;
+          made_placed = r.made_placed;
+          taken_placed = r.taken_placed;
+          changed = λ change f. let none : None ≡ Some change = sym changes_to ∙ f in absurd (cc none);
+        }
+
+    -- it was lost: another one is the root
+    pub beaten : (found == 0) ≡ false → IsTable log found lent.now → Call log (after m (Found_instead found)) (Some lent) last made taken
+    beaten is holds =
+        let same = opened_lost eq hash' b n w v found log state t is in
+        let pre : IsPrefix v log = subst (IsPrefix v) (sym same) t.since in
+        let here : word_of G C (state_of log) Root ≡ found = word_wide eq input build write finish classes respects b matches query lawful k (exchanges_of begun) log log Root ∙ (ap (λ (z : List (Event K V S)). (state_of z).root) same ∙ t.is) in
+        let differs : (word_of G C (state_of log) Root == 0) ≡ false = ap (λ (i : ℕ). i == 0) here ∙ is in
+        let told : IsTold G C k (state_of log) (kind_of_ask m) hands (Ask_exchange Root 0 n) (Found_instead found) [] hands = rw differs (ap Found_instead (sym here), refl, refl) in
+        quiet eq input build write finish classes respects b matches query lawful k name begun v log pre t.now m table last made taken r (Ask_exchange Root 0 n) asks (Found_instead found) last made (Some lent) found
+        (record { told = told; number_is = refl; same = refl; busy = λ z. z }) holds r.last_placed r.made_placed
