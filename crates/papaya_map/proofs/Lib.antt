@@ -17,6 +17,8 @@ pub mod Brings
 pub mod Opening
 pub mod Making
 -- what machines are told
+pub mod AskedPairs
+pub mod Namesakes
 pub mod Driving
 pub mod Replies
 pub mod Settings
@@ -31,6 +33,7 @@ pub mod TableSizes
 pub mod Readings
 pub mod Answering
 pub mod Comparing
+pub mod Moments
 pub mod LookupReplies
 -- changing calls
 pub mod Changing
