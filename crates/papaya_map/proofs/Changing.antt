@@ -1,5 +1,5 @@
 -- After each answer a changing call rests again, and holds what it was told of last.
-use Rattle.std.proofs.Common.{◌≡◌, ◌⊎◌, inl, inr, ⊎_elim, ℕ, ◌+◌, ◌<◌, ◌==◌, Bool, true, false, if◌then◌else◌, MatchBool, MatchOption, Option, None, Some, List, [], ◌∷◌, ◌++◌, length, append-nil, append_assoc, refl, sym, ap, ◌∙◌, subst, arith}
+use Rattle.std.proofs.Common.{◌≡◌, ◌⊎◌, inl, ⊎_elim, ℕ, ◌+◌, ◌<◌, ◌==◌, Bool, true, false, if◌then◌else◌, MatchOption, Option, None, Some, List, [], ◌++◌, length, append-nil, refl, sym, ap, ◌∙◌, subst, arith}
 use Rattle.std.proofs.lemmas.Bool.{eq-eqb, ne_eqb}
 use Rattle.std.specs.Cmp.{IsEquivalence}
 use mathlib.Core.List.{IsPrefix}
@@ -15,8 +15,7 @@ use Rattle.papaya_call.specs.declared.machine.Machine.{Machine}
 use Rattle.papaya_call.specs.Followed.{IsAtTable, IsCounting, table_asked, told_table}
 use Rattle.papaya_call.specs.Law.Allows.{AllAllowed}
 use Rattle.papaya_call.specs.Law.Class.{IsOn}
-use Rattle.papaya_call.specs.Law.Exchange.{Exchange, Setting, State, run, start}
-use Rattle.papaya_call.specs.Law.Invariant.{named}
+use Rattle.papaya_call.specs.Law.Exchange.{Setting, run, start}
 use Rattle.papaya_call.specs.Machine.{after, ask_of, kind_of_ask}
 use Rattle.papaya_call.specs.Rests.{change_after, change_in}
 use Rattle.papaya_call.specs.Told.{Hands, IsOneOf, IsTold, or_last, told_of, word_of}
@@ -27,10 +26,10 @@ use Rattle.papaya_map.specs.Sheets.{Sheet}
 use Rattle.papaya_map.specs.declared.event.Begun.{Begun}
 use Rattle.papaya_map.specs.declared.event.Event.{Event}
 use Rattle.papaya_map.specs.Calls.{IsTable}
-use Rattle.papaya_map.specs.Changing.{HasChanged, IsCalling, IsHeldAt, IsLoaded, hands_with}
+use Rattle.papaya_map.specs.Changing.{IsCalling, IsHeldAt, IsLoaded, hands_with}
 use Rattle.papaya_map.specs.Hashes.{hash_of}
 use Rattle.papaya_map.specs.Logs.{Stored, exchanges_of, pair_named, state_of, steps_of}
-use Rattle.papaya_map.specs.Rule.{IsLawfulLog, IsPlaced, word_in}
+use Rattle.papaya_map.specs.Rule.{IsLawfulLog, IsPlaced}
 use Rattle.papaya_map.proofs.Driving.{IsResting, coded, resting_later, resting_told, wide, word_wide}
 use Rattle.papaya_map.proofs.Loaded.{table_since}
 use Rattle.papaya_map.proofs.Logs.{prefix_trans, table_came}

@@ -1,25 +1,23 @@
 -- What a machine rests on makes its exchanges possible, and what the calls of a book tell is what machines are to be told.
-use Rattle.std.proofs.Common.{◌≡◌, inl, inr, ℕ, ◌==◌, Bool, true, false, MatchBool, Option, None, Some, List, [], ◌∷◌, ◌++◌, refl, sym, ap, ◌∙◌, subst, append_assoc}
+use Rattle.std.proofs.Common.{◌≡◌, inl, inr, ℕ, Bool, true, Option, None, Some, List, ◌++◌, refl, sym, ap, ◌∙◌, subst, append_assoc}
 use Rattle.papaya_words.specs.Word.{pair_of, live_word, marked_word, copied_word, buried_word, top_byte}
 use Rattle.std.specs.Cmp.{IsEquivalence}
 use mathlib.Core.List.{IsPrefix}
 use Rattle.papaya_call.specs.declared.ask.At.{At}
 use Rattle.papaya_call.specs.declared.ask.At.TheVariants.{Root, Next, Aborted, Done, Slot}
-use Rattle.papaya_call.specs.declared.ask.Ask.TheVariants.{Load, Exchange as Ask_exchange}
+use Rattle.papaya_call.specs.declared.ask.Ask.TheVariants.{Exchange as Ask_exchange}
 use Rattle.papaya_call.specs.declared.ask.Answer.{Answer}
-use Rattle.papaya_call.specs.declared.ask.Answer.TheVariants.{Word as Word_read, Exchanged, Found as Found_instead}
 use Rattle.papaya_call.specs.declared.ask.StepKind.{StepKind}
 use Rattle.papaya_call.specs.declared.ask.StepKind.TheVariants as kinds
 use Rattle.papaya_call.specs.declared.machine.Machine.{Machine}
 use Rattle.papaya_call.specs.Machine.{after, ask_of, kind_of_ask}
 use Rattle.papaya_call.specs.Law.Allows.{AllAllowed, Allows}
 use Rattle.papaya_call.specs.Law.Class.{IsOn}
-use Rattle.papaya_call.specs.Law.Exchange as law
 use Rattle.papaya_call.specs.Law.Exchange.{Exchange, Setting, State, Word, Empty, Closed, Live, Marked, Copied, Buried, after as after_exchange, run, start}
 use Rattle.papaya_call.specs.Law.Code.{Coding, byte_of_pair, code}
 use Rattle.papaya_call.specs.Law.Grows.{Agrees}
 use Rattle.papaya_call.specs.Rests.{Rests}
-use Rattle.papaya_call.specs.Told.{Hands, IsAsked, IsOneOf, IsOwnWord, IsTold, IsWritten, told_of, word_of}
+use Rattle.papaya_call.specs.Told.{Hands, IsAsked, IsOneOf, IsOwnWord, IsTold, IsWritten, word_of}
 use Rattle.papaya_call.proofs.Law.Alike.{alike_back, allows_alike}
 use Rattle.papaya_call.proofs.Law.Further.{key_agrees, key_alike, key_word}
 use Rattle.papaya_call.proofs.Law.Moments.{allowed_first}
@@ -28,16 +26,13 @@ use Rattle.papaya_call.proofs.RestsLearn.{machine_learns}
 use Rattle.papaya_call.proofs.RestsStay.{rests_stays}
 use Rattle.papaya_call.proofs.RestsTables.{rests_carries}
 use Rattle.papaya_map.specs.declared.event.Begun.{Begun}
-use Rattle.papaya_map.specs.declared.event.Named.{Named}
 use Rattle.papaya_map.specs.declared.event.Named.TheVariants as names
-use Rattle.papaya_map.specs.declared.event.Step.{Step}
 use Rattle.papaya_map.specs.declared.event.Step.TheVariants as steps
 use Rattle.papaya_map.specs.declared.event.Event.{Event}
-use Rattle.papaya_map.specs.Calls.{IsRead, IsTried}
 use Rattle.papaya_map.specs.Hashes.{hash_of}
 use Rattle.papaya_map.specs.History.{key_of}
-use Rattle.papaya_map.specs.Logs.{Stored, coding_of, comes, exchange_of, exchanges_of, setting_of, state_of}
-use Rattle.papaya_map.specs.Plays.{CanExchange, IsMeant, MayStep, Numbered, hands_of, made_list}
+use Rattle.papaya_map.specs.Logs.{Stored, coding_of, exchanges_of, setting_of, state_of}
+use Rattle.papaya_map.specs.Plays.{CanExchange, MayStep, made_list}
 use Rattle.papaya_map.specs.Rule.{IsLawfulLog, word_in}
 use Rattle.papaya_map.proofs.AskedPairs.{IsPutting}
 use Rattle.papaya_map.proofs.Logs.{exchanges_of-append}

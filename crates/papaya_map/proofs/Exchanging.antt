@@ -1,5 +1,5 @@
 -- After an exchange that it asked for a changing call rests again, and its change ends the log.
-use Rattle.std.proofs.Common.{◌≡◌, ◌⊎◌, inl, inr, ⊎_elim, ℕ, ◌==◌, Bool, true, false, MatchBool, MatchOption, Option, None, Some, List, [], ◌∷◌, ◌++◌, append-nil, refl, sym, ap, ◌∙◌, subst}
+use Rattle.std.proofs.Common.{◌≡◌, ℕ, ◌==◌, Bool, true, false, MatchBool, MatchOption, Option, None, Some, List, [], ◌∷◌, ◌++◌, refl, sym, ap, ◌∙◌, subst}
 use Rattle.std.proofs.lemmas.Bool.{eqb-true}
 use Rattle.std.specs.Cmp.{IsEquivalence}
 use mathlib.Core.List.{IsPrefix}
@@ -7,23 +7,22 @@ use denote.Bor.{Bor}
 use Rattle.logbook.specs.Pages.{Book}
 use Rattle.papaya_words.specs.Word.{pair_of}
 use Rattle.papaya_call.specs.declared.ask.At.{At}
-use Rattle.papaya_call.specs.declared.ask.At.TheVariants.{Root, Slot}
+use Rattle.papaya_call.specs.declared.ask.At.TheVariants.{Slot}
 use Rattle.papaya_call.specs.declared.ask.Ask.{Ask}
 use Rattle.papaya_call.specs.declared.ask.Ask.TheVariants.{Exchange as Ask_exchange}
-use Rattle.papaya_call.specs.declared.ask.Answer.{Answer}
 use Rattle.papaya_call.specs.declared.ask.Answer.TheVariants.{Exchanged, Found as Found_instead}
 use Rattle.papaya_call.specs.declared.ask.StepKind.{StepKind}
 use Rattle.papaya_call.specs.declared.ask.StepKind.TheVariants as kinds
 use Rattle.papaya_call.specs.declared.machine.Machine.{Machine}
-use Rattle.papaya_call.specs.Followed.{IsAtTable, IsCounting, told_table}
+use Rattle.papaya_call.specs.Followed.{IsAtTable, told_table}
 use Rattle.papaya_call.specs.Law.Allows.{AllAllowed, Allows}
 use Rattle.papaya_call.specs.Law.Code.{Coding, code}
-use Rattle.papaya_call.specs.Law.Exchange.{Exchange, Setting, State, Word, Empty, Live, Open, Claim, Replace, Bury, run, start}
+use Rattle.papaya_call.specs.Law.Exchange.{Exchange, Setting, Word, Live, Bury, start}
 use Rattle.papaya_call.specs.Law.Invariant.{named}
 use Rattle.papaya_call.specs.Machine.{after, ask_of, kind_of_ask}
 use Rattle.papaya_call.specs.Rests.{change_after, change_in, change_of_kind}
 use Rattle.papaya_call.specs.Told.{Hands, IsAsked, IsOneOf, IsTold, or_last, told_of, word_of}
-use Rattle.papaya_call.proofs.Followed.{counts_after, table_told}
+use Rattle.papaya_call.proofs.Followed.{table_told}
 use Rattle.papaya_call.proofs.Law.Code.{code_pair}
 use Rattle.papaya_call.proofs.Law.Moments.{allowed_rest}
 use Rattle.papaya_call.proofs.RestsReply.{machine_changes}
@@ -31,21 +30,20 @@ use Rattle.papaya_map.specs.Sheets.{Sheet}
 use Rattle.papaya_map.specs.declared.event.Begun.{Begun}
 use Rattle.papaya_map.specs.declared.event.Event.{Event}
 use Rattle.papaya_map.specs.declared.event.Event.TheVariants.{Stepped}
-use Rattle.papaya_map.specs.declared.event.Named.{Named}
 use Rattle.papaya_map.specs.declared.event.Named.TheVariants as names
 use Rattle.papaya_map.specs.declared.event.Step.{Step}
 use Rattle.papaya_map.specs.declared.event.Step.TheVariants as steps
-use Rattle.papaya_map.specs.Calls.{IsSlotTried, IsTable}
-use Rattle.papaya_map.specs.Changing.{HasChanged, IsCalling, hands_with}
+use Rattle.papaya_map.specs.Calls.{IsSlotTried}
+use Rattle.papaya_map.specs.Changing.{HasChanged, hands_with}
 use Rattle.papaya_map.specs.Hashes.{hash_of}
-use Rattle.papaya_map.specs.History.{Change, change_of, key_of}
+use Rattle.papaya_map.specs.History.{change_of, key_of}
 use Rattle.papaya_map.specs.Logs.{Stored, coding_of, comes, exchange_of, exchanges_of, pair_named, setting_of, state_of}
 use Rattle.papaya_map.specs.Plays.{IsMeant, Numbered, hands_of}
-use Rattle.papaya_map.specs.Rule.{IsLawfulLog, IsPlaced, word_in}
-use Rattle.papaya_map.proofs.Changing.{Calling, Coded, Resting, Wide, held_later, placed_last, quiet, rests_of}
+use Rattle.papaya_map.specs.Rule.{IsLawfulLog, word_in}
+use Rattle.papaya_map.proofs.Changing.{Calling, Coded, Wide, held_later, placed_last, quiet, rests_of}
 use Rattle.papaya_map.proofs.Driving.{asked_by_made, one_made, resting_later, resting_told, word_wide}
 use Rattle.papaya_map.proofs.Logs.{exchanges_of-append, prefix_trans}
-use Rattle.papaya_map.proofs.Readings.{IsQuery, fed, hashed_with}
+use Rattle.papaya_map.proofs.Readings.{IsQuery, hashed_with}
 use Rattle.papaya_map.proofs.Settings.{is_hashed}
 
 -- nothing comes with a burial

@@ -1,40 +1,35 @@
 -- After each answer an insertion rests again, and holds what it was handed or has logged.
-use Rattle.std.proofs.Common.{◌≡◌, ◌≢◌, ◌⊎◌, inl, inr, ⊎_elim, ℕ, ◌+◌, ◌<◌, ◌==◌, ◌^◌, Bool, true, false, cond, MatchBool, MatchOption, Option, None, Some, List, [], ◌∷◌, ◌++◌, length, append-nil, refl, sym, ap, ◌∙◌, subst, arith}
-use Rattle.std.proofs.lemmas.Bool.{eqb-true, eqb-false, cond-true}
+use Rattle.std.proofs.Common.{◌≡◌, ◌⊎◌, inl, inr, ⊎_elim, ℕ, ◌<◌, ◌^◌, Bool, true, Option, None, Some, List, [], ◌∷◌, append-nil, refl, sym, ap, ◌∙◌, subst, arith}
 use Rattle.std.specs.Cmp.{IsEquivalence}
 use mathlib.Core.List.{IsPrefix}
-use denote.Bor.{Bor}
 use Rattle.boxcar.specs.Table.{Shows, Where}
 use Rattle.logbook.specs.Pages.{Book, nib, may_write}
 use Rattle.logbook.specs.declared.tokens.Pen.{Pen}
 use Rattle.papaya_words.specs.declared.probe.Refused.{Refused}
-use Rattle.papaya_call.specs.declared.ask.At.TheVariants.{Root, Slot}
-use Rattle.papaya_call.specs.declared.ask.Ask.{Ask}
-use Rattle.papaya_call.specs.declared.ask.Ask.TheVariants.{Load, Exchange as Ask_exchange, SameKey, SizeOf, MakeKey, MakePair, MakeTable, AddToShard}
+use Rattle.papaya_call.specs.declared.ask.At.TheVariants.{Root}
+use Rattle.papaya_call.specs.declared.ask.Ask.TheVariants.{Exchange as Ask_exchange, SameKey, MakeKey, MakePair, MakeTable}
 use Rattle.papaya_call.specs.declared.ask.Answer.{Answer}
 use Rattle.papaya_call.specs.declared.ask.Answer.TheVariants.{Word as Word_read, Exchanged, Found as Found_instead, Yes, Op, Size, Made as Made_number, Ok as Ok_done, Refused as Was_refused}
 use Rattle.papaya_call.specs.declared.call.Task.{Task}
-use Rattle.papaya_call.specs.declared.call.Task.TheVariants.{Insert}
 use Rattle.papaya_call.specs.declared.write.Made.TheVariants.{Pair}
 use Rattle.papaya_call.specs.declared.machine.Machine.{Machine}
-use Rattle.papaya_call.specs.Law.Exchange.{Exchange}
-use Rattle.papaya_call.specs.Machine.{IsFit, after, ask_of, kind_of_ask, made_in}
+use Rattle.papaya_call.specs.Machine.{IsFit, after, ask_of, made_in}
 use Rattle.papaya_call.specs.Rests.{RestsStage}
-use Rattle.papaya_call.specs.Told.{Hands, IsTold, IsUnmade}
+use Rattle.papaya_call.specs.Told.{Hands}
 use Rattle.papaya_call.proofs.RestsOpened.{machine_opened}
 use Rattle.papaya_map.specs.Sheets.{Sheet}
 use Rattle.papaya_map.specs.declared.event.Begun.{Begun}
 use Rattle.papaya_map.specs.declared.event.Event.{Event}
 use Rattle.papaya_map.specs.declared.event.Named.TheVariants as names
 use Rattle.papaya_map.specs.declared.insertion.Insertion.{Insertion}
-use Rattle.papaya_map.specs.Changing.{IsCalling, hands_with}
+use Rattle.papaya_map.specs.Changing.{hands_with}
 use Rattle.papaya_map.specs.Hashes.{hash_of}
 use Rattle.papaya_map.specs.History.{key_of}
-use Rattle.papaya_map.specs.Inserting.{IsInserting, IsInsertingOn, IsOpening, IsUnpaired, answered}
-use Rattle.papaya_map.specs.Logs.{Stored, exchanges_of, number_of, pair_named, state_of}
+use Rattle.papaya_map.specs.Inserting.{IsInserting, IsInsertingOn, IsOpening, IsUnpaired}
+use Rattle.papaya_map.specs.Logs.{Stored, exchanges_of, number_of}
 use Rattle.papaya_map.specs.Makers.{IsMade}
 use Rattle.papaya_map.specs.Rule.{IsLawfulLog, IsPlaced}
-use Rattle.papaya_map.proofs.Changing.{Coded, Wide, compared, held_later, quiet}
+use Rattle.papaya_map.proofs.Changing.{compared, held_later, quiet}
 use Rattle.papaya_map.specs.Plays.{made_list}
 use Rattle.papaya_map.specs.Readers.{coding_for, setting_for}
 use Rattle.papaya_map.proofs.OnePair.{pairs_once, unpaired_before}

@@ -1,5 +1,5 @@
 -- An insertion after loads, exchanges and its count, and what it has put in when it replies.
-use Rattle.std.proofs.Common.{◌≡◌, ◌⊎◌, inl, inr, ⊎_elim, ℕ, ◌<◌, ◌==◌, Bool, true, false, MatchBool, MatchOption, Option, None, Some, List, [], ◌∷◌, ◌++◌, length, append-nil, refl, sym, ap, ◌∙◌, subst}
+use Rattle.std.proofs.Common.{◌≡◌, ◌⊎◌, inl, inr, ⊎_elim, ℕ, ◌==◌, Bool, true, false, MatchBool, MatchOption, Option, None, Some, List, [], ◌∷◌, ◌++◌, length, append-nil, refl, sym, ap, ◌∙◌, subst}
 use Rattle.std.proofs.lemmas.Bool.{cases_Bool}
 use Rattle.std.specs.Cmp.{IsEquivalence}
 use mathlib.Core.List.{IsPrefix}
@@ -13,7 +13,6 @@ use Rattle.papaya_call.specs.declared.ask.Ask.{Ask}
 use Rattle.papaya_call.specs.declared.ask.Ask.TheVariants.{Load, Exchange as Ask_exchange, SizeOf, MakeTable, AddToShard, Done}
 use Rattle.papaya_call.specs.declared.ask.Answer.{Answer}
 use Rattle.papaya_call.specs.declared.ask.Answer.TheVariants.{Word as Word_read, Exchanged, Found as Found_instead, Size, Ok as Ok_done}
-use Rattle.papaya_call.specs.declared.ask.StepKind.{StepKind}
 use Rattle.papaya_call.specs.declared.ask.StepKind.TheVariants as kinds
 use Rattle.papaya_call.specs.declared.call.Reply.{Reply}
 use Rattle.papaya_call.specs.declared.call.Reply.TheVariants.{Absent, Found, Inserted, Replaced, Occupied, Removed, Kept, Aborted, Refused}
@@ -22,14 +21,13 @@ use Rattle.papaya_call.specs.declared.call.Task.TheVariants.{Insert}
 use Rattle.papaya_call.specs.declared.machine.Machine.{Machine}
 use Rattle.papaya_call.specs.Followed.{MayAsk}
 use Rattle.papaya_call.specs.Law.Code.{Coding}
-use Rattle.papaya_call.specs.Law.Exchange.{Exchange, State}
-use Rattle.papaya_call.specs.Machine.{IsFit, IsStanding, IsWriter, after, ask_of, kind_of_ask, started}
+use Rattle.papaya_call.specs.Machine.{IsFit, IsStanding, after, ask_of, kind_of_ask, started}
 use Rattle.papaya_call.specs.Rests.{IsModeOf, IsReply, change_in, change_of_reply}
 use Rattle.papaya_words.specs.Word.{pair_of}
 use Rattle.papaya_words.specs.declared.probe.ResizeMode.{ResizeMode}
 use Rattle.papaya_words.specs.declared.probe.ResizeMode.TheVariants.{Incremental, Blocking}
 use Rattle.papaya_call.specs.Search.{IsSize}
-use Rattle.papaya_call.specs.Told.{Hands, IsAsked, or_last}
+use Rattle.papaya_call.specs.Told.{or_last}
 use Rattle.papaya_call.proofs.Followed.{asked_of_task, opens_once}
 use Rattle.papaya_call.proofs.RestsOpened.{machine_opened}
 use Rattle.papaya_call.proofs.RestsHeld.{machine_replies}
@@ -43,12 +41,11 @@ use Rattle.papaya_map.specs.Calls.{IsSlotTried, IsTable, IsTried}
 use Rattle.papaya_map.specs.Changing.{IsCalling, IsHeldAt, IsLoaded, IsPut, hands_with}
 use Rattle.papaya_map.specs.Hashes.{hash_of}
 use Rattle.papaya_map.specs.History.{Change, changes_of, history_of, key_of}
-use Rattle.papaya_map.specs.Inserting.{IsInserting, IsInsertingOn, IsOpening}
+use Rattle.papaya_map.specs.Inserting.{IsInserting, IsOpening}
 use Rattle.papaya_map.specs.Logs.{Stored, exchanges_of, is_blocking}
 use Rattle.papaya_map.specs.Plays.{CanExchange, made_list}
 use Rattle.papaya_map.specs.Rule.{IsLawfulLog}
 use Rattle.papaya_map.proofs.AskedPairs.{IsPutting, asked_pair}
-use Rattle.papaya_map.proofs.Brings.{made_since}
 use Rattle.papaya_map.proofs.Changing.{Coded, Wide, counted, load_table, loads, rests_of, size_table, sized, slot_table}
 use Rattle.papaya_map.proofs.Driving.{can_put, is_made, one_made}
 use Rattle.papaya_map.proofs.Exchanging.{exchanged, lost}

@@ -1,5 +1,5 @@
 -- What a lookup replies is the answer of a history between the two that its pass has seen.
-use Rattle.std.proofs.Common.{◌≡◌, ℕ, Bool, true, Option, None, Some, List, ◌++◌, append_assoc, refl, sym, ap, ◌∙◌, subst}
+use Rattle.std.proofs.Common.{◌≡◌, ℕ, Bool, true, Option, None, Some, List, refl, ap, ◌∙◌, subst}
 use Rattle.std.specs.Cmp.{IsEquivalence}
 use mathlib.Core.List.{IsPrefix}
 use denote.Bor.{Bor}
@@ -12,28 +12,22 @@ use Rattle.papaya_call.specs.declared.machine.State.{State as Stage}
 use Rattle.papaya_call.specs.declared.machine.State.TheVariants.{AtRoot, Making, Opening, Searching, Writing, Offering, Showing, Pairing, Putting, Burying, Counting, Uncounting, Leaving, Growing, Ended}
 use Rattle.papaya_call.specs.declared.search.Search.TheVariants.{Sizing, Looking, Comparing}
 use Rattle.papaya_call.specs.declared.write.Made.{Made}
-use Rattle.papaya_call.specs.Law.Allows.{AllAllowed}
 use Rattle.papaya_call.specs.Law.Code.{Coding}
-use Rattle.papaya_call.specs.Law.Exchange.{Exchange, Setting, start}
-use Rattle.papaya_call.specs.Law.Further.{IsMatchedAtMoment}
-use Rattle.papaya_call.specs.Law.Meaning.{map_left}
+use Rattle.papaya_call.specs.Law.Exchange.{Exchange, Setting}
 use Rattle.papaya_call.specs.Machine.{IsStanding, IsStandingState, ask_of, asks}
 use Rattle.papaya_call.specs.Rests.{IsReply, RestsStage, WasAtMoment}
 use Rattle.papaya_call.specs.Told.{Hands}
-use Rattle.papaya_call.proofs.Law.FurtherMap.{key_moment}
-use Rattle.papaya_call.proofs.Law.Moments.{map_of-append}
 use Rattle.papaya_map.specs.Sheets.{Sheet}
 use Rattle.papaya_map.specs.declared.event.Begun.{Begun}
 use Rattle.papaya_map.specs.declared.event.Event.{Event}
 use Rattle.papaya_map.specs.declared.event.Pair.{Pair}
 use Rattle.papaya_map.specs.Hashes.{hash_of}
-use Rattle.papaya_map.specs.History.{Change, changes_of, history_of, replay}
-use Rattle.papaya_map.specs.Logs.{Stored, coding_of, exchanges_of, setting_of}
+use Rattle.papaya_map.specs.History.{history_of}
+use Rattle.papaya_map.specs.Logs.{Stored, exchanges_of}
 use Rattle.papaya_map.specs.Readers.{HoldsPair, IsAnsweredBetween}
 use Rattle.papaya_map.proofs.Answering.{Reading, stands_get}
-use Rattle.papaya_map.proofs.Histories.{changes_begin, replay_left}
 use Rattle.papaya_map.proofs.Moments.{IsHistory, matched_history}
-use Rattle.papaya_map.proofs.Readings.{IsQuery, coding, fed, key_form, setting}
+use Rattle.papaya_map.proofs.Readings.{IsQuery, coding, setting}
 
 -- a machine that has replied is at its end
 done_state : (made : Made) (hash : ℕ) (s : Stage) → IsStandingState Get s → (reply : Reply) → asks made hash s ≡ Done reply → s ≡ Ended reply

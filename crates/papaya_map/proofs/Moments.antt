@@ -1,16 +1,15 @@
 -- What the map had at a moment of a call is what a history has between the two that the call's pass has seen.
-use Rattle.std.proofs.Common.{◌≡◌, ℕ, Bool, true, Option, None, Some, List, ◌++◌, append_assoc, refl, sym, ap, ◌∙◌, subst}
+use Rattle.std.proofs.Common.{◌≡◌, ℕ, Bool, true, Option, None, Some, List, ◌++◌, append_assoc, sym, ap, ◌∙◌, subst}
 use Rattle.std.specs.Cmp.{IsEquivalence}
 use mathlib.Core.List.{IsPrefix}
 use Rattle.papaya_call.specs.Law.Allows.{AllAllowed}
-use Rattle.papaya_call.specs.Law.Code.{Coding}
-use Rattle.papaya_call.specs.Law.Exchange.{Exchange, Setting, run, start}
+use Rattle.papaya_call.specs.Law.Exchange.{Exchange, Setting, start}
 use Rattle.papaya_call.specs.Law.Further.{IsMapWith, IsMatchedAtMoment, with_key}
-use Rattle.papaya_call.specs.Law.Meaning.{IsAtMoment, map_left, map_of}
+use Rattle.papaya_call.specs.Law.Meaning.{map_left, map_of}
 use Rattle.papaya_call.specs.Rests.{WasAtMoment}
 use Rattle.papaya_call.proofs.Law.Further.{own_key_lawful}
-use Rattle.papaya_call.proofs.Law.FurtherMap.{key_left, key_map, key_moment}
-use Rattle.papaya_call.proofs.Law.Moments.{allowed_first, allowed_rest, map_of-append}
+use Rattle.papaya_call.proofs.Law.FurtherMap.{key_left, key_moment}
+use Rattle.papaya_call.proofs.Law.Moments.{allowed_first, map_of-append}
 use Rattle.papaya_map.specs.declared.event.Begun.{Begun}
 use Rattle.papaya_map.specs.declared.event.Event.{Event}
 use Rattle.papaya_map.specs.Hashes.{hash_of}

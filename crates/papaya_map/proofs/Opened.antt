@@ -1,6 +1,6 @@
 -- After it tried to open a table a call rests again, and holds the root's table.
-use Rattle.std.proofs.Common.{◌≡◌, ◌⊎◌, inl, inr, ⊎_elim, ℕ, ◌==◌, Bool, true, false, cond, MatchBool, MatchOption, Option, None, Some, List, [], ◌∷◌, ◌++◌, append-nil, refl, sym, ap, ◌∙◌, subst, arith}
-use Rattle.std.proofs.lemmas.Bool.{cases_Bool, cond-true, cond-false, eqb-true, eqb-false}
+use Rattle.std.proofs.Common.{◌≡◌, ⊎_elim, ℕ, ◌==◌, Bool, true, false, MatchBool, Option, None, Some, List, [], ◌∷◌, ◌++◌, refl, sym, ap, ◌∙◌, subst}
+use Rattle.std.proofs.lemmas.Bool.{cases_Bool, cond-true, eqb-true, eqb-false}
 use Rattle.std.specs.Cmp.{IsEquivalence}
 use mathlib.Core.List.{IsPrefix}
 use denote.Bor.{Bor}
@@ -28,14 +28,13 @@ use Rattle.papaya_map.specs.declared.event.Named.{Named}
 use Rattle.papaya_map.specs.declared.event.Named.TheVariants as names
 use Rattle.papaya_map.specs.declared.event.Step.{Step}
 use Rattle.papaya_map.specs.Calls.{IsTable, IsTried}
-use Rattle.papaya_map.specs.Changing.{IsCalling, hands_with}
+use Rattle.papaya_map.specs.Changing.{hands_with}
 use Rattle.papaya_map.specs.Hashes.{hash_of}
 use Rattle.papaya_map.specs.Logs.{Stored, comes, exchange_of, exchanges_of, number_of, or_else, state_of, steps_of, table_if, table_in}
 use Rattle.papaya_map.specs.Plays.{IsMeant}
-use Rattle.papaya_map.specs.Rule.{IsLawfulLog}
 use Rattle.papaya_map.proofs.Changing.{Calling, Coded, Wide, quiet, rests_of}
 use Rattle.papaya_map.proofs.Driving.{resting_later, resting_told, word_wide}
-use Rattle.papaya_map.proofs.Logs.{exchanges_of-append, or_nothing, prefix_trans, steps-append, table_append}
+use Rattle.papaya_map.proofs.Logs.{exchanges_of-append, prefix_trans, steps-append, table_append}
 use Rattle.papaya_map.proofs.Readings.{IsQuery, hashed_with}
 
 -- a number equals itself, as the test says it
