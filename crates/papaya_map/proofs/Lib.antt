@@ -42,3 +42,8 @@ pub mod OnePair
 pub mod Opened
 pub mod Inserting
 pub mod InsertingSteps
+-- what closures are shown
+pub mod Showings
+-- removals
+pub mod Removing
+pub mod RemovingReplies
