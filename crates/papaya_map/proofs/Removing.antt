@@ -1,5 +1,6 @@
 -- After each answer a removal rests again, and what its machine stands on was said of the pair shown last.
-use Rattle.std.proofs.Common.{◌≡◌, ◌⊎◌, inl, inr, ⊎_elim, ℕ, Bool, true, MatchOption, Option, None, Some, List, [], ◌∷◌, ◌++◌, length, append-nil, refl, sym, ap, ◌∙◌, subst}
+use Rattle.std.proofs.Common.{◌≡◌, inl, inr, ⊎_elim, ℕ, ◌==◌, Bool, true, false, MatchBool, MatchOption, Option, None, Some, List, [], ◌∷◌, length, append-nil, refl, sym, ap, ◌∙◌, subst}
+use Rattle.std.proofs.lemmas.Bool.{cases_Bool}
 use Rattle.std.specs.Cmp.{IsEquivalence}
 use mathlib.Core.List.{IsPrefix}
 use denote.Bor.{Bor}
@@ -7,9 +8,10 @@ use Rattle.logbook.specs.Pages.{Book}
 use Rattle.papaya_call.specs.declared.ask.At.{At}
 use Rattle.papaya_call.specs.declared.ask.At.TheVariants.{Root, Next, Aborted, Done, Slot}
 use Rattle.papaya_call.specs.declared.ask.Ask.{Ask}
-use Rattle.papaya_call.specs.declared.ask.Ask.TheVariants.{Load, SizeOf, SameKey, ShowPair, AddToShard}
+use Rattle.papaya_call.specs.declared.ask.Ask.TheVariants.{Load, Exchange as Ask_exchange, SizeOf, SameKey, ShowPair, AddToShard}
+use Rattle.papaya_call.specs.declared.ask.StepKind.TheVariants as kinds
 use Rattle.papaya_call.specs.declared.ask.Answer.{Answer}
-use Rattle.papaya_call.specs.declared.ask.Answer.TheVariants.{Word as Word_read, Size, Yes, Ok as Ok_done}
+use Rattle.papaya_call.specs.declared.ask.Answer.TheVariants.{Word as Word_read, Exchanged, Found as Found_instead, Size, Yes, Ok as Ok_done}
 use Rattle.papaya_call.specs.declared.call.Task.{Task}
 use Rattle.papaya_call.specs.declared.call.Task.TheVariants.{RemoveIf}
 use Rattle.papaya_call.specs.declared.machine.Machine.{Machine}
@@ -23,12 +25,12 @@ use Rattle.papaya_call.specs.declared.write.Made.{Made}
 use Rattle.papaya_call.specs.declared.write.Made.TheVariants.{Nothing, Key, Pair}
 use Rattle.papaya_call.specs.Machine.{IsFit, IsStanding, after, ask_of, asks, kind_of_ask}
 use Rattle.papaya_call.specs.Rests.{WasAtMoment}
+use Rattle.papaya_call.specs.Told.{or_last}
 use Rattle.papaya_call.specs.Says.{Agrees, ShowsPairs, StandsOn, said_in, said_to_choose, said_to_fill}
 use Rattle.papaya_call.specs.Search.{IsSize}
 use Rattle.papaya_call.proofs.RestsHeld as held
 use Rattle.papaya_call.proofs.RestsHeld.{IsShowing}
 use Rattle.papaya_call.proofs.Followed.{asked_of_task}
-use Rattle.papaya_call.proofs.RestsReply.{machine_changes}
 use Rattle.papaya_call.proofs.SaysSaid.{machine_said}
 use Rattle.papaya_call.proofs.SaysWords.{machine_shows}
 use Rattle.papaya_map.specs.Sheets.{Sheet}
@@ -36,15 +38,19 @@ use Rattle.papaya_map.specs.declared.event.Begun.{Begun}
 use Rattle.papaya_map.specs.declared.event.Event.{Event}
 use Rattle.papaya_map.specs.declared.caller.Caller.{Caller}
 use Rattle.papaya_map.specs.declared.removal.Removal.{Removal}
-use Rattle.papaya_map.specs.Calls.{IsTable}
+use Rattle.papaya_map.specs.Calls.{IsSlotTried, IsTable}
 use Rattle.papaya_map.specs.Changing.{IsCalling, IsHeldAt, IsLoaded, hands_with}
 use Rattle.papaya_map.specs.Hashes.{hash_of}
 use Rattle.papaya_map.specs.History.{history_of, key_of}
+use Rattle.papaya_map.specs.declared.event.Named.TheVariants as names
+use Rattle.papaya_map.specs.Plays.{CanExchange}
 use Rattle.papaya_map.specs.Logs.{Stored, exchanges_of, pair_named}
 use Rattle.papaya_map.specs.Removing.{IsRemoving, IsRemovingOn}
 use Rattle.papaya_map.specs.Rule.{IsLawfulLog, IsPlaced}
 use Rattle.papaya_map.specs.Showings.{WasHeld}
-use Rattle.papaya_map.proofs.Changing.{Coded, Wide, counted, compared, load_table, loads, quiet, size_table, sized}
+use Rattle.papaya_map.proofs.Changing.{Coded, Wide, counted, compared, load_table, loads, quiet, rests_of, size_table, sized, slot_table}
+use Rattle.papaya_map.proofs.Driving.{can_bury}
+use Rattle.papaya_map.proofs.Exchanging.{exchanged, lost}
 use Rattle.papaya_map.proofs.Histories.{history_since}
 use Rattle.papaya_map.proofs.Readings.{IsQuery, fed, hashed_with}
 use Rattle.papaya_map.proofs.Showings.{all_shown, held_then, held_wider}
@@ -207,3 +213,37 @@ module _ {K V S H F : Type 0} (eq : K → K → Bool) (input : K → List (List 
             },
             tt,
           )
+
+      module _ (t i old new : ℕ) (tries : ask_of m ≡ Ask_exchange (Slot t i) old new) where
+        -- the slot is one of the table that is held
+        pub bury_held : IsHeldAt (Slot t i) log x.call.table
+        bury_held = slot_table eq input build write finish classes respects b matches query lawful None name begun log m x.call.table x.call.last [] x.call.taken x.call.put r.calling t i (inr (old, new, tries))
+
+        -- a removal's exchange of a slot buries
+        bury_kind : kind_of_ask m ≡ Some kinds.Bury
+        bury_kind = ⊎_elim (λ h. absurd (h.0)) (λ h. h.1) (subst (λ (a : Ask). MayAsk RemoveIf (kind_of_ask m) a) tries (subst (λ (z : Task). MayAsk z (kind_of_ask m) (ask_of m)) r.task_is (asked_of_task m standing)))
+
+        pub bury_can : CanExchange eq hash b (Slot t i) (kind_of_ask m) old new None names.Nothing log
+        bury_can = can_bury eq input build write finish classes respects b matches query lawful None (exchanges_of begun) log r.calling.lawful m (hands_with x.call.last []) (rests_of eq input build write finish classes respects b matches query lawful None name begun log m x.call.table x.call.last [] x.call.taken x.call.put r.calling) t i old new tries bury_kind
+
+        module _ (log' : List (Event K V S)) (pre : IsPrefix log log') (found : ℕ) (pair : Option (Stored K V)) (s : IsSlotTried eq hash b name t i (kind_of_ask m) old new None names.Nothing log found log' pair) where
+          -- it was buried
+          buried : (found == old) ≡ true → RemovingOn log' (record x { call = record x.call { taken = pair; put = None } }) f (Some Exchanged)
+          buried is = goes_on log' pre (record x.call { taken = pair; put = None }) Exchanged refl tt refl (λ n h. let e = sym tries ∙ h in cc e)
+              (exchanged eq input build write finish classes respects b matches query lawful None name begun log log' m x.call.table x.call.last [] x.call.taken x.call.put r.calling t i old new found None pair tries s (λ q none. absurd (cc none)) is)
+
+          -- it was not
+          not_buried : (found == old) ≡ false → RemovingOn log' (record x { call = record x.call { last = or_last pair x.call.last } }) f (Some (Found_instead found))
+          not_buried is = goes_on log' pre (record x.call { last = or_last pair x.call.last }) (Found_instead found) refl tt refl (λ n h. let e = sym tries ∙ h in cc e)
+              (lost eq input build write finish classes respects b matches query lawful None name begun log log' m x.call.table x.call.last [] x.call.taken x.call.put r.calling t i old new found None pair tries s is)
+
+          -- as the call holds it afterwards
+          abbrev AfterBury : Bool → Caller K V S H → Answer → Type 0
+          AfterBury z y answer = MatchBool z ((answer ≡ Exchanged) × (y ≡ record x.call { taken = pair; put = None })) ((answer ≡ Found_instead found) × (y ≡ record x.call { last = or_last pair x.call.last }))
+
+          pub bury_on : (y : Caller K V S H) (answer : Answer) → AfterBury (found == old) y answer → RemovingOn log' (record x { call = y }) f (Some answer)
+          bury_on y answer h =
+              ⊎_elim
+              (λ is. let g = subst (λ (z : Bool). AfterBury z y answer) is h in subst (λ (z : Caller K V S H × Answer). RemovingOn log' (record x { call = z.0 }) f (Some z.1)) (λ j. (sym g.1 j, sym g.0 j)) (buried is))
+              (λ is. let g = subst (λ (z : Bool). AfterBury z y answer) is h in subst (λ (z : Caller K V S H × Answer). RemovingOn log' (record x { call = z.0 }) f (Some z.1)) (λ j. (sym g.1 j, sym g.0 j)) (not_buried is))
+              (cases_Bool (found == old))

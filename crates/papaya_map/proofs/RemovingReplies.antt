@@ -1,5 +1,5 @@
 -- What a removal that has replied answers: what its closure said of the pair, and the change that it made.
-use Rattle.std.proofs.Common.{◌≡◌, ◌⊎◌, inl, inr, ⊎_elim, ℕ, Bool, true, false, MatchOption, Option, None, Some, Result, Ok, Err, List, [], ◌∷◌, ◌++◌, append-nil, refl, sym, ap, ◌∙◌, subst}
+use Rattle.std.proofs.Common.{◌≡◌, inl, inr, ℕ, Bool, true, false, MatchOption, Option, None, Some, Result, Ok, Err, List, [], ◌∷◌, ◌++◌, append-nil, refl, sym, ap, ◌∙◌, subst}
 use Rattle.std.specs.Cmp.{IsEquivalence}
 use mathlib.Core.List.{IsPrefix}
 use denote.Bor.{Bor}
@@ -14,25 +14,24 @@ use Rattle.papaya_call.specs.declared.machine.Machine.{Machine}
 use Rattle.papaya_words.specs.declared.probe.ResizeMode.{ResizeMode}
 use Rattle.papaya_words.specs.declared.probe.ResizeMode.TheVariants.{Incremental, Blocking}
 use Rattle.papaya_call.specs.Machine.{ask_of, started}
-use Rattle.papaya_call.specs.Rests.{IsModeOf, IsReply, WasAtMoment, change_in, change_of_reply}
+use Rattle.papaya_call.specs.Rests.{IsModeOf, IsReply, change_in, change_of_reply}
 use Rattle.papaya_call.specs.Says.{Agrees, Said, StandsOn, said_in, said_of_removal}
 use Rattle.papaya_call.proofs.RestsHeld.{ended_in, machine_replies}
 use Rattle.papaya_map.specs.declared.event.Begun.{Begun}
 use Rattle.papaya_map.specs.declared.event.Event.{Event}
 use Rattle.papaya_map.specs.declared.removal.Removal.{Removal}
 use Rattle.papaya_map.specs.Changing.{HasChanged, hands_with}
-use Rattle.papaya_map.specs.Hashes.{hash_of}
 use Rattle.papaya_map.specs.History.{Change, changes_of, history_of, key_of}
 use Rattle.papaya_map.specs.Logs.{Member, Stored, exchanges_of, is_blocking}
 use Rattle.papaya_map.specs.Rule.{IsLawfulLog}
 use Rattle.papaya_map.specs.Removing.{IsJudged, IsRemovalBy, IsRemoving, IsTaken}
-use Rattle.papaya_map.specs.Showings.{AllShown, AreOf, WasHeld, WasSaid}
+use Rattle.papaya_map.specs.Showings.{AllShown, AreOf, WasHeld}
 use Rattle.papaya_map.proofs.Changing.{Coded, Wide}
 use Rattle.papaya_map.proofs.Histories.{changes-append, history_since}
 use Rattle.papaya_map.proofs.Logs.{prefix_trans}
 use Rattle.papaya_map.proofs.Readings.{IsQuery}
 use Rattle.papaya_map.proofs.Removing.{Removing}
-use Rattle.papaya_map.proofs.Showings.{all_shown, held_then, held_wider}
+use Rattle.papaya_map.proofs.Showings.{all_shown, held_then, held_wider, said_only}
 
 -- no removal replies this
 abbrev pub IsNoRemoval : Reply → Type 0
@@ -189,6 +188,15 @@ module _ {K V : Type 0} (eq : K → K → Bool) (matches : K → Bool) (older ol
     held = all_shown (λ p. WasHeld eq matches old new (Some p)) (λ p. WasHeld eq matches older new (Some p)) (λ p h. wider (Some p) h) r.said r.held;
     answered = judged_since r.said answer r.answered;
   }
+
+module _ {K V F : Type 0} (eq : K → K → Bool) (matches : K → Bool) (old new : List (Change K (Stored K V))) (judges : F → Stored K V → Bool → F → Type 0) (first : F) (answer : Result (Result (Option (Bor K × Bor V)) (Bor K × Bor V)) Cause) (entry : Bor K × Bor V) (r : IsRemovalBy eq matches old new judges first answer) where
+  -- the value of the pair that went
+  pub value_removed : answer ≡ Ok (Ok (Some entry)) → (p : Stored K V) × IsTaken eq matches old new p × (entry.1.now ≡ p.value.value)
+  value_removed is = let h = subst (IsJudged eq matches old new r.said) is r.answered in (h.0, h.1, h.3.1)
+
+  -- where the closure always agrees, no pair stays
+  pub none_stays : ((f : F) (p : Stored K V) (agrees : Bool) (g : F) → judges f p agrees g → agrees ≡ true) → answer ≡ Ok (Err entry) → ⊥
+  none_stays always is = let h = subst (IsJudged eq matches old new r.said) is r.answered in let agreed : false ≡ true = said_only judges (λ a. a ≡ true) always first r.said r.left r.has_said h.0 false h.1 in cc agreed
 
 -- the map resizes as its setting says
 mode_is : (mode : ResizeMode) → IsModeOf mode (is_blocking mode)

@@ -22,6 +22,7 @@ loop-init g c =
       c.new.ensures.standing,
       c.learn.ensures.book,
       c.learn.ensures.seen,
+      c.requires.callable,
     )
 
 pub answer-requires-in-Some-answer-clause-fit : goal.answer-requires-in-Some-answer-clause-fit
@@ -34,6 +35,7 @@ loop-preserved g c =
       c.answer-in-Some-answer.ensures.standing,
       c.answer.ensures.book ∙ c.loop.invariant.2,
       prefix_trans c.args.pass.now.log c.loop.pass.log c.answer.new.pass.log c.loop.invariant.3 c.answer.ensures.seen,
+      c.answer.ensures.callable,
     )
 
 pub replied-requires-clause-can : goal.replied-requires-clause-can

@@ -1,5 +1,6 @@
 use Rattle.std.proofs.Common.{◌≡◌}
 use mathlib.Core.List.{IsPrefix}
+use denote.Param.Always.{always_mut}
 use Rattle.papaya_call.specs.Machine.{IsStanding}
 use Rattle.papaya_map.specs.Hashes.{hash_of}
 use Rattle.papaya_map.specs.Parts.{begun_of}
@@ -14,3 +15,4 @@ invariant-loop g l =
     × IsStanding l.removal.call.machine
     × (l.pass.book ≡ l.fn.pass.book)
     × IsPrefix l.fn.pass.log l.pass.log
+    × always_mut g.F.FnMut l.agrees

@@ -1,4 +1,3 @@
-use Rattle.std.proofs.Common.{◌≡◌, ap, ◌∙◌}
 use Rattle.papaya_map.specs.Parts.{begun_of}
 use Rattle.papaya_map.specs.Showings.{Judges}
 use Rattle.papaya_map.proofs.Readings.{IsQuery}
