@@ -75,3 +75,13 @@ pub record IsPut {K V : Type 0} (eq : K → K → Bool) (key : K) (value : V) (o
   pub class_is : eq change.class key ≡ true
   pub put_is : (q : Stored K V) × (change.put ≡ Some q) × (key_of q ≡ key) × (q.value.value ≡ value)
   pub taken_is : MatchOption answer (change.taken ≡ None) (λ r. (p : Stored K V) × (change.taken ≡ Some p) × (r.now ≡ p.value.value))
+
+-- The call's change is the last that was seen of the history: of a class of a matching key it took out the one pair and put in the other.
+pub record IsChangeOf {K V : Type 0} (matches : K → Bool) (old new : List (Change K (Stored K V))) (taken put : Option (Stored K V)) : Type 0 where
+  pub before : List (Change K (Stored K V))
+  pub change : Change K (Stored K V)
+  pub since : IsPrefix old before
+  pub is : new ≡ before ++ change ∷ []
+  pub class_is : matches change.class ≡ true
+  pub taken_is : change.taken ≡ taken
+  pub put_is : change.put ≡ put

@@ -1,5 +1,5 @@
 -- What a removal on the shared map holds and rests on, and what it answers.
-use Rattle.std.specs.Prelude.{◌≡◌, ℕ, Bool, true, false, Option, None, Some, Result, Ok, Err, List, [], ◌∷◌, ◌++◌}
+use Rattle.std.specs.Prelude.{◌≡◌, ℕ, Bool, true, false, Option, None, Some, Result, Ok, Err, List}
 use mathlib.Core.List.{IsPrefix}
 use denote.Bor.{Bor}
 use Rattle.logbook.specs.Pages.{Book}
@@ -13,22 +13,16 @@ use Rattle.papaya_call.specs.Says.{Agrees, ShowsPairs, StandsOn}
 use Rattle.papaya_map.specs.declared.event.Begun.{Begun}
 use Rattle.papaya_map.specs.declared.event.Event.{Event}
 use Rattle.papaya_map.specs.declared.removal.Removal.{Removal}
-use Rattle.papaya_map.specs.Changing.{IsCalling}
+use Rattle.papaya_map.specs.Changing.{IsCalling, IsChangeOf}
 use Rattle.papaya_map.specs.History.{Change, history_of}
 use Rattle.papaya_map.specs.Logs.{Member, Stored, pair_named}
 use Rattle.papaya_map.specs.Rule.{IsPlaced}
 use Rattle.papaya_map.specs.Showings.{AllShown, AreOf, HasSaid, WasHeld, WasSaid}
 
 module _ {K V : Type 0} (eq : K → K → Bool) (matches : K → Bool) (old new : List (Change K (Stored K V))) where
-  -- The call's change is the last that was seen of the history: it took out this pair, which had a matching key.
-  pub record IsTaken (p : Stored K V) : Type 0 where
-    pub before : List (Change K (Stored K V))
-    pub change : Change K (Stored K V)
-    pub since : IsPrefix old before
-    pub is : new ≡ before ++ change ∷ []
-    pub class_is : matches change.class ≡ true
-    pub taken_is : change.taken ≡ Some p
-    pub put_is : change.put ≡ None
+  -- the call's change took out this pair
+  abbrev pub IsTaken : Stored K V → Type 0
+  IsTaken p = IsChangeOf matches old new (Some p) None
 
   -- What a removal answers, by what its closure was shown and answered: the pair that it agreed to and that went, or that there was none, or the pair that stays.
   abbrev pub IsJudged : List (Stored K V × Bool) → Result (Result (Option (Bor K × Bor V)) (Bor K × Bor V)) Refused → Type 0

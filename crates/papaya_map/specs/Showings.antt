@@ -3,6 +3,7 @@ use Rattle.std.specs.Prelude.{◌≡◌, Bool, true, MatchOption, Option, None, 
 use Rattle.std.specs.Fn.{Called, Mut}
 use mathlib.Core.List.{IsPrefix}
 use denote.Bor.{Bor}
+use Rattle.papaya_call.specs.declared.answers.Operation.{Operation}
 use Rattle.papaya_map.specs.History.{Change, key_of, replay}
 use Rattle.papaya_map.specs.Logs.{Member, Stored}
 
@@ -41,3 +42,29 @@ module _ {K V : Type 0} where
 -- the closure is shown a pair's key and value, answers this, and is g then
 abbrev pub Judges : {F K V : Type 0} → Mut F (Bor K × (Bor V × Unit {0})) Bool → F → Stored K V → Bool → F → Type 0
 Judges {K = K} {V = V} called f p agrees g = (key : Bor K) × (value : Bor V) × AreOf (key, value) p × Called called f (key, (value, tt)) agrees g
+
+-- these are references to the key and the value of the pair, or both are none
+abbrev pub AreShown : {K V : Type 0} → Option (Bor K × Bor V) → Option (Stored K V) → Type 0
+AreShown None None = Unit {0}
+AreShown (Some entry) (Some p) = AreOf entry p
+AreShown None (Some p) = ⊥
+AreShown (Some entry) None = ⊥
+
+-- the closure is shown a pair, or that there is none, answers this operation, and is g then
+abbrev pub Operates : {F K V T : Type 0} → Mut F (Option (Bor K × Bor V) × Unit {0}) (Operation V T) → F → Option (Stored K V) → Operation V T → F → Type 0
+Operates {K = K} {V = V} called f held operation g = (shown : Option (Bor K × Bor V)) × AreShown shown held × Called called f (shown, tt) operation g
+
+-- this was shown last, and answered so
+abbrev pub WasLast : {X A : Type 0} → X → A → List (X × A) → Type 0
+WasLast x a [] = ⊥
+WasLast x a (last ∷ before) = last ≡ (x, a)
+
+-- it was never shown that there is none
+abbrev pub HasNoNone : {P A : Type 0} → List (Option P × A) → Type 0
+HasNoNone [] = Unit {0}
+HasNoNone (last ∷ before) = MatchOption last.0 ⊥ (λ p. HasNoNone before)
+
+-- it was shown at most once
+abbrev pub IsNoneOnce : {P A : Type 0} → List (Option P × A) → Type 0
+IsNoneOnce [] = Unit {0}
+IsNoneOnce (last ∷ before) = MatchOption last.0 (HasNoNone before) (λ p. IsNoneOnce before)

@@ -1,0 +1,109 @@
+-- What a compute on the shared map holds and rests on, and what it answers.
+use Rattle.std.specs.Prelude.{◌≡◌, ◌⊎◌, ℕ, Bool, Option, None, Some, Result, Ok, Err, List}
+use mathlib.Core.List.{IsPrefix}
+use denote.Bor.{Bor}
+use Rattle.logbook.specs.Pages.{Book}
+use Rattle.papaya_words.specs.declared.probe.Refused.{Refused}
+use Rattle.papaya_words.specs.declared.probe.Refused.TheVariants.{RemoveNothing}
+use Rattle.papaya_call.specs.declared.answers.Operation.{Operation}
+use Rattle.papaya_call.specs.declared.answers.Operation.TheVariants as operation
+use Rattle.papaya_call.specs.declared.ask.Answer.{Answer}
+use Rattle.papaya_call.specs.declared.ask.Ask.TheVariants.{Done}
+use Rattle.papaya_call.specs.declared.call.Reply.{Reply}
+use Rattle.papaya_call.specs.declared.call.Reply.TheVariants as reply
+use Rattle.papaya_call.specs.declared.call.Task.TheVariants.{Compute}
+use Rattle.papaya_call.specs.Machine.{IsFit, after, ask_of}
+use Rattle.papaya_call.specs.Says.{Agrees, HasShownNone, Inserts, Makes, Removes, Said, ShowsPairs, StandsOn}
+use Rattle.papaya_call.specs.Told.{IsOneOf}
+use Rattle.papaya_seq.specs.declared.compute.Compute.{Compute as Computed}
+use Rattle.papaya_seq.specs.declared.compute.Compute.TheVariants.{Inserted, Updated, Removed, Aborted}
+use Rattle.papaya_map.specs.declared.computing.Computing.{Computing}
+use Rattle.papaya_map.specs.declared.event.Begun.{Begun}
+use Rattle.papaya_map.specs.declared.event.Event.{Event}
+use Rattle.papaya_map.specs.Changing.{IsChangeOf}
+use Rattle.papaya_map.specs.History.{Change, history_of, key_of}
+use Rattle.papaya_map.specs.Logs.{Member, Stored, pair_named}
+use Rattle.papaya_map.specs.Rule.{IsPlaced}
+use Rattle.papaya_map.specs.Showings.{AllShown, AreOf, HasNoNone, HasSaid, IsNoneOnce, IsSamePair, WasHeld, WasLast}
+use Rattle.papaya_map.specs.Writing.{IsWriting}
+
+module _ {K V T : Type 0} (eq : K → K → Bool) (key : K) (old new : List (Change K (Stored K V))) where
+  -- the closure was shown this very pair, and answered this
+  abbrev pub WasOperated : Stored K V → Operation V T → List (Option (Stored K V) × Operation V T) → Type 0
+  WasOperated p done said = (shown : Stored K V) × IsSamePair shown p × Member (Some shown, done) said
+
+  -- What a compute answers, by what its closure was shown and answered. A new pair has the key that was handed in, and the value of the closure's answer to just what it takes the place of.
+  abbrev pub IsOperated : List (Option (Stored K V) × Operation V T) → Result (Computed K V T) Refused → Type 0
+  IsOperated said (Ok (Inserted k v)) = (q : Stored K V) × IsChangeOf (eq key) old new None (Some q) × (key_of q ≡ key) × Member (None, operation.Insert q.value.value) said × AreOf (k, v) q
+  IsOperated said (Ok (Updated before after)) = (p : Stored K V) × (q : Stored K V) × IsChangeOf (eq key) old new (Some p) (Some q) × (key_of q ≡ key) × WasOperated p (operation.Insert q.value.value) said × AreOf before p × AreOf after q
+  IsOperated said (Ok (Removed k v)) = (p : Stored K V) × IsChangeOf (eq key) old new (Some p) None × WasOperated p operation.Remove said × AreOf (k, v) p
+  IsOperated said (Ok (Aborted t)) = (held : Option (Stored K V)) × WasLast held (operation.Abort t) said
+  IsOperated said (Err refused) = refused ≡ RemoveNothing → WasLast None operation.Remove said
+
+  -- A compute whose closure was `first`. What it was shown was the map's between the two histories, and at most once that there is none.
+  pub record IsComputeBy {F : Type 0} (operates : F → Option (Stored K V) → Operation V T → F → Type 0) (first : F) (answer : Result (Computed K V T) Refused) : Type 0 where
+    pub said : List (Option (Stored K V) × Operation V T)
+    pub left : F
+    pub has_said : HasSaid operates first said left
+    pub held : AllShown (WasHeld eq (eq key) old new) said
+    pub none_once : IsNoneOnce said
+    pub operated : IsOperated said answer
+
+module _ {K V S H T : Type 0} (key : K) (made : List (Stored K V)) (said : List (Option (Stored K V) × Operation V T)) (x : Computing K V S H T) where
+  -- a pair that was made of a value that the closure answered
+  pub record IsMadeOf (held : Option (Stored K V)) (n : ℕ) (q : Stored K V) : Type 0 where
+    pub number : q.index ≡ n
+    pub made_is : IsOneOf made q
+    pub key_is : key_of q ≡ key
+    pub said_is : Member (held, operation.Insert q.value.value) said
+
+  -- What the machine stands on, the closure answered; what was made of it, and the pairs that it was shown, are at hand.
+  abbrev pub Holds : Said → Type 0
+  Holds (Agrees n agrees) = ⊥
+  Holds (Inserts None) = (x.shown ≡ None) × ((v : V) × (x.writer.value ≡ Some v) × Member (None, operation.Insert v) said)
+  Holds (Inserts (Some n)) = (p : Stored K V) × (x.shown ≡ Some p) × (p.index ≡ n) × ((v : V) × (x.writer.value ≡ Some v) × Member (Some p, operation.Insert v) said)
+  Holds (Makes None n) = (q : Stored K V) × (x.fill ≡ Some q) × IsMadeOf None n q
+  Holds (Makes (Some m) n) = (p : Stored K V) × (q : Stored K V) × (x.chosen ≡ Some p) × (p.index ≡ m) × (x.made ≡ Some q) × IsMadeOf (Some p) n q
+  Holds (Removes n) = (p : Stored K V) × (x.chosen ≡ Some p) × (p.index ≡ n) × Member (Some p, operation.Remove) said
+
+module _ {K V S H T F : Type 0} (eq : K → K → Bool) (hash : S → K → ℕ) (b : Begun K V S) (name : Book) (operates : F → Option (Stored K V) → Operation V T → F → Type 0) where
+  -- A compute whose closure was `first` and is f now.
+  pub record IsComputing (key : K) (first : F) (begun log : List (Event K V S)) (x : Computing K V S H T) (f : F) : Type 0 where
+    pub made : List (Stored K V)
+    pub writing : IsWriting eq hash b name key made begun log x.writer
+    pub task_is : x.writer.call.machine.task ≡ Compute
+    pub words : ShowsPairs x.writer.call.machine.state
+    pub shown_placed : IsPlaced b (Some name) (pair_named x.shown)
+    pub chosen_placed : IsPlaced b (Some name) (pair_named x.chosen)
+    pub said : List (Option (Stored K V) × Operation V T)
+    pub has_said : HasSaid operates first said f
+    pub held : AllShown (WasHeld eq (eq key) (history_of begun) (history_of log)) said
+    pub none_once : IsNoneOnce said
+    pub none_shown : HasNoNone said ⊎ HasShownNone x.writer.call.machine.remembered.fill x.writer.call.machine.state
+    pub stood : (stands : Said) → StandsOn x.writer.call.machine stands → Holds key made said x stands
+    pub aborts : (with : ℕ) → ask_of x.writer.call.machine ≡ Done (reply.Aborted with) → (t : T) × (x.aborted ≡ Some t) × ((held : Option (Stored K V)) × WasLast held (operation.Abort t) said)
+    pub refuses : ask_of x.writer.call.machine ≡ Done (reply.Refused RemoveNothing) → WasLast None operation.Remove said
+
+  -- the compute after its machine was answered
+  abbrev pub answered : Computing K V S H T → Answer → Computing K V S H T
+  answered x answer = record x { writer = record x.writer { call = record x.writer.call { machine = after x.writer.call.machine answer } } }
+
+  -- it has replied, or this is an answer to what it asks
+  abbrev pub IsComputingOn : K → F → List (Event K V S) → List (Event K V S) → Computing K V S H T → F → Option Answer → Type 0
+  IsComputingOn key first begun log x f None = IsComputing key first begun log x f × ((done : Reply) × (ask_of x.writer.call.machine ≡ Done done))
+  IsComputingOn key first begun log x f (Some answer) = IsComputing key first begun log (answered x answer) f × IsFit answer
+
+  -- some compute is under way, and each that is goes on so
+  abbrev pub CanCompute : List (Event K V S) → Computing K V S H T → F → Type 0
+  CanCompute log x f = (key : K) × (first : F) × (begun : List (Event K V S)) × IsComputing key first begun log x f
+
+  abbrev pub Computes : List (Event K V S) → Computing K V S H T → F → List (Event K V S) → Computing K V S H T → F → Option Answer → Type 0
+  Computes log x f log' x' f' answer = (key : K) (first : F) (begun : List (Event K V S)) → IsComputing key first begun log x f → IsComputingOn key first begun log' x' f' answer
+
+  -- what each compute that is under way answers
+  abbrev pub Replies : List (Event K V S) → Computing K V S H T → F → Result (Computed K V T) Refused → Type 0
+  Replies log x f answer = (key : K) (first : F) (begun : List (Event K V S)) → IsComputing key first begun log x f → IsComputeBy eq key (history_of begun) (history_of log) operates first answer
+
+  -- a compute that began after all that was seen of this log
+  abbrev pub IsUnderWay : K → F → List (Event K V S) → List (Event K V S) → Computing K V S H T → F → Type 0
+  IsUnderWay key first old log x f = (begun : List (Event K V S)) × IsPrefix old begun × IsComputing key first begun log x f
