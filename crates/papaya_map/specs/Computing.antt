@@ -8,7 +8,11 @@ use Rattle.papaya_words.specs.declared.probe.Refused.TheVariants.{RemoveNothing}
 use Rattle.papaya_call.specs.declared.answers.Operation.{Operation}
 use Rattle.papaya_call.specs.declared.answers.Operation.TheVariants as operation
 use Rattle.papaya_call.specs.declared.ask.Answer.{Answer}
-use Rattle.papaya_call.specs.declared.ask.Ask.TheVariants.{Done}
+use Rattle.papaya_call.specs.declared.ask.Answer.TheVariants.{Op}
+use Rattle.papaya_call.specs.declared.ask.Ask.{Ask}
+use Rattle.papaya_call.specs.declared.ask.Ask.TheVariants.{Done, Exchange, Load, MakeKey, MakeTable, SameKey, SizeOf}
+use Rattle.papaya_call.specs.declared.ask.At.TheVariants.{Root}
+use Rattle.papaya_call.specs.declared.ask.OpKind.TheVariants as kinds
 use Rattle.papaya_call.specs.declared.call.Reply.{Reply}
 use Rattle.papaya_call.specs.declared.call.Reply.TheVariants as reply
 use Rattle.papaya_call.specs.declared.call.Task.TheVariants.{Compute}
@@ -48,6 +52,22 @@ module _ {K V T : Type 0} (eq : K → K → Bool) (key : K) (old new : List (Cha
     pub held : AllShown (WasHeld eq (eq key) old new) said
     pub none_once : IsNoneOnce said
     pub operated : IsOperated said answer
+
+-- what an answer of the closure leaves: its value, or what it ended the call with, and the machine is told of its kind
+abbrev pub IsKept : {K V S H T : Type 0} → Operation V T → Answer → Computing K V S H T → Computing K V S H T → Type 0
+IsKept (operation.Insert v) answer x x' = (answer ≡ Op kinds.Insert) × (x' ≡ record x { writer = record x.writer { value = Some v } })
+IsKept operation.Remove answer x x' = (answer ≡ Op kinds.Remove) × (x' ≡ x)
+IsKept (operation.Abort t) answer x x' = (answer ≡ Op (kinds.Abort 0)) × (x' ≡ record x { aborted = Some t })
+
+-- what any call asks that inserts, but for its pair and the slots that it exchanges
+abbrev pub IsWriters : Ask → Type 0
+IsWriters (Load at) = Unit {0}
+IsWriters (SizeOf t) = Unit {0}
+IsWriters (SameKey n) = Unit {0}
+IsWriters MakeKey = Unit {0}
+IsWriters (MakeTable len limit) = Unit {0}
+IsWriters (Exchange Root old new) = Unit {0}
+IsWriters _ = ⊥
 
 module _ {K V S H T : Type 0} (key : K) (made : List (Stored K V)) (said : List (Option (Stored K V) × Operation V T)) (x : Computing K V S H T) where
   -- a pair that was made of a value that the closure answered

@@ -18,5 +18,6 @@ pub mod Changing
 pub mod Inserting
 pub mod Showings
 pub mod Removing
+pub mod Computing
 -- why a map is not made
 pub mod Asked

@@ -13,6 +13,7 @@
 mod asked;
 pub mod book;
 mod caller;
+mod computing;
 mod count;
 pub mod event;
 pub mod history;

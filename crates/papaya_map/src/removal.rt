@@ -34,7 +34,7 @@ pub(crate) struct Removal<'a, K: Hash + Eq, V, S: BuildHasher> {
 
 /// The key and the value of a pair.
 #[inline]
-fn entry<'a, K: Hash + Eq, V, S: BuildHasher>(
+pub(crate) fn entry<'a, K: Hash + Eq, V, S: BuildHasher>(
     book: &'a Book<K, V, S>,
     stored: &Stored<K, V>,
 ) -> (&'a K, &'a V)
