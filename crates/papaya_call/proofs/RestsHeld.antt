@@ -1,7 +1,7 @@
 -- What a call that exchanges a slot has made, and what a call that shows a pair was told of.
-use Rattle.std.proofs.Common.{◌≡◌, ℕ, Some, List}
+use Rattle.std.proofs.Common.{◌≡◌, ℕ, None, Some, List, refl}
 use Rattle.papaya_call.specs.declared.ask.At.TheVariants.{Slot}
-use Rattle.papaya_call.specs.declared.ask.Ask.TheVariants.{Exchange as Ask_exchange, SameKey, ShowPair}
+use Rattle.papaya_call.specs.declared.ask.Ask.TheVariants.{Exchange as Ask_exchange, SameKey, ShowNone, ShowPair}
 use Rattle.papaya_call.specs.declared.remove.Removal.{Removal}
 use Rattle.papaya_words.specs.Word.{kind_of, pair_of}
 use Rattle.papaya_words.specs.declared.word.Kind.TheVariants as word_kinds
@@ -27,7 +27,12 @@ use Rattle.papaya_call.specs.declared.call.Reply.{Reply}
 use Rattle.papaya_call.specs.declared.ask.Ask.TheVariants.{Done}
 use Rattle.papaya_call.specs.Rests.{IsReply, change_in, change_of_reply}
 use Rattle.papaya_call.specs.Law.Code.{Coding}
-use Rattle.papaya_call.specs.Machine.{HasClosure, IsComputer, IsWriter, ask_of, asks}
+use Rattle.papaya_call.specs.declared.ask.Answer.TheVariants.{Op}
+use Rattle.papaya_call.specs.declared.ask.OpKind.{OpKind}
+use Rattle.papaya_call.specs.declared.ask.OpKind.TheVariants as ops
+use Rattle.papaya_call.specs.declared.compute.Gap.{Gap}
+use Rattle.papaya_call.specs.Machine.{HasClosure, IsComputer, IsWriter, after, ask_of, asks}
+use Rattle.papaya_call.specs.Says.{HasShownNone}
 use Rattle.papaya_call.specs.Rests.{Rests, RestsHands, RestsStage}
 use Rattle.papaya_call.specs.declared.compute.Remembered.{Remembered}
 use Rattle.papaya_call.specs.Told.{Hands, IsOneOf}
@@ -176,3 +181,40 @@ ended_in made hash (Ended other) reply e = let is : other ≡ reply = cc e in ap
 pub machine_replies : {K P : Type 0} (g : Setting K P) (c : Coding K P) (begun since : List (Exchange P)) (k : K) (hands : Hands P) (m : Machine) → Rests g c begun since k m hands → (reply : Reply) → ask_of m ≡ Done reply → IsReply g c begun since k hands m.task reply × (change_in m.state ≡ change_of_reply reply)
 machine_replies g c begun since k hands m r reply e =
     let is = ended_in m.made m.hash m.state reply e in (subst (λ s. RestsStage g c begun since k hands m.task s) is r.stage, ap change_in is)
+
+-- a machine that shows that its key is absent has found where its pair would stand
+offering_in : (made : Made) (hash : ℕ) (s : Stage) → asks made hash s ≡ ShowNone → (gap : Gap) × (s ≡ Offering gap)
+offering_in made hash AtRoot e = absurd cc
+offering_in made hash Making e = absurd cc
+offering_in made hash (Opening u) e = absurd cc
+offering_in made hash (Searching (Sizing u)) e = absurd cc
+offering_in made hash (Searching (Looking at)) e = absurd cc
+offering_in made hash (Searching (Comparing at word)) e = absurd cc
+offering_in Nothing hash (Writing write) e = absurd cc
+offering_in Key hash (Writing write) e = absurd cc
+offering_in (Pair i) hash (Writing write) e = absurd cc
+offering_in made hash (Offering gap) e = (gap, refl)
+offering_in made hash (Showing removal) e = absurd cc
+offering_in Nothing hash (Pairing purpose) e = absurd cc
+offering_in Key hash (Pairing purpose) e = absurd cc
+offering_in (Pair i) hash (Pairing purpose) e = absurd cc
+offering_in made hash (Putting put) e = absurd cc
+offering_in made hash (Burying removal) e = absurd cc
+offering_in made hash (Counting i) e = absurd cc
+offering_in made hash (Uncounting i) e = absurd cc
+offering_in made hash (Leaving u) e = absurd cc
+offering_in made hash (Growing u) e = absurd cc
+offering_in made hash (Ended reply) e = absurd cc
+
+-- the map had none of its key at a moment of the call
+pub machine_offers : {K P : Type 0} (g : Setting K P) (c : Coding K P) (begun since : List (Exchange P)) (k : K) (hands : Hands P) (m : Machine) → Rests g c begun since k m hands → ask_of m ≡ ShowNone → WasAtMoment g c begun since k None
+machine_offers g c begun since k hands m r e = let at = offering_in m.made m.hash m.state e in (subst (λ s. RestsStage g c begun since k hands m.task s) at.1 r.stage).2
+
+offered_shown : (m : Machine) (gap : Gap) (kind : OpKind) → HasShownNone (after (record m { state = Offering gap }) (Op kind)).remembered.fill (after (record m { state = Offering gap }) (Op kind)).state
+offered_shown m gap ops.Insert = tt
+offered_shown m gap ops.Remove = tt
+offered_shown m gap (ops.Abort with) = tt
+
+-- and it never shows that again
+pub machine_offered : (m : Machine) (kind : OpKind) → ask_of m ≡ ShowNone → HasShownNone (after m (Op kind)).remembered.fill (after m (Op kind)).state
+machine_offered m kind e = let at = offering_in m.made m.hash m.state e in subst (λ s. HasShownNone (after (record m { state = s }) (Op kind)).remembered.fill (after (record m { state = s }) (Op kind)).state) (sym at.1) (offered_shown m at.0 kind)
