@@ -20,10 +20,7 @@ use Rattle.papaya_call.specs.Rests.{IsOwnPair, Rests, RestsMade, RestsStage}
 use Rattle.papaya_call.specs.Told.{Hands, IsHashed}
 use Rattle.papaya_call.specs.Write.{new_word}
 use Rattle.papaya_call.proofs.NewWords.{pair_of-new_word}
-
--- a pair is put in
-abbrev pub IsPutting : Option StepKind → Type 0
-IsPutting kind = (kind ≡ Some kinds.Claim) ⊎ (kind ≡ Some kinds.Replace)
+use Rattle.papaya_map.specs.Plays.{IsPutting}
 
 -- a burial puts none in
 not_buried : (kind : Option StepKind) → kind ≡ Some kinds.Bury → IsPutting kind → ⊥

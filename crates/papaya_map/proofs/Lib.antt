@@ -47,3 +47,5 @@ pub mod Showings
 -- removals
 pub mod Removing
 pub mod RemovingReplies
+-- computes
+pub mod ComputeGoes

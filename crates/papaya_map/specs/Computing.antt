@@ -12,6 +12,7 @@ use Rattle.papaya_call.specs.declared.ask.Answer.TheVariants.{Op}
 use Rattle.papaya_call.specs.declared.ask.Ask.{Ask}
 use Rattle.papaya_call.specs.declared.ask.Ask.TheVariants.{Done, Exchange, Load, MakeKey, MakeTable, SameKey, SizeOf}
 use Rattle.papaya_call.specs.declared.ask.At.TheVariants.{Root}
+use Rattle.papaya_call.specs.declared.ask.OpKind.{OpKind}
 use Rattle.papaya_call.specs.declared.ask.OpKind.TheVariants as kinds
 use Rattle.papaya_call.specs.declared.call.Reply.{Reply}
 use Rattle.papaya_call.specs.declared.call.Reply.TheVariants as reply
@@ -53,11 +54,20 @@ module _ {K V T : Type 0} (eq : K → K → Bool) (key : K) (old new : List (Cha
     pub none_once : IsNoneOnce said
     pub operated : IsOperated said answer
 
--- what an answer of the closure leaves: its value, or what it ended the call with, and the machine is told of its kind
-abbrev pub IsKept : {K V S H T : Type 0} → Operation V T → Answer → Computing K V S H T → Computing K V S H T → Type 0
-IsKept (operation.Insert v) answer x x' = (answer ≡ Op kinds.Insert) × (x' ≡ record x { writer = record x.writer { value = Some v } })
-IsKept operation.Remove answer x x' = (answer ≡ Op kinds.Remove) × (x' ≡ x)
-IsKept (operation.Abort t) answer x x' = (answer ≡ Op (kinds.Abort 0)) × (x' ≡ record x { aborted = Some t })
+-- what the machine is told of an answer of the closure
+abbrev pub kind_of : {V T : Type 0} → Operation V T → OpKind
+kind_of (operation.Insert v) = kinds.Insert
+kind_of operation.Remove = kinds.Remove
+kind_of (operation.Abort t) = kinds.Abort 0
+
+-- the compute that keeps it: the value of an insertion, or what the call is to end with
+abbrev pub keeping : {K V S H T : Type 0} → Operation V T → Computing K V S T H → Computing K V S T H
+keeping (operation.Insert v) x = record x { writer = record x.writer { value = Some v } }
+keeping operation.Remove x = x
+keeping (operation.Abort t) x = record x { aborted = Some t }
+
+abbrev pub IsKept : {K V S H T : Type 0} → Operation V T → Answer → Computing K V S T H → Computing K V S T H → Type 0
+IsKept done answer x x' = (answer ≡ Op (kind_of done)) × (x' ≡ keeping done x)
 
 -- what any call asks that inserts, but for its pair and the slots that it exchanges
 abbrev pub IsWriters : Ask → Type 0
@@ -69,7 +79,7 @@ IsWriters (MakeTable len limit) = Unit {0}
 IsWriters (Exchange Root old new) = Unit {0}
 IsWriters _ = ⊥
 
-module _ {K V S H T : Type 0} (key : K) (made : List (Stored K V)) (said : List (Option (Stored K V) × Operation V T)) (x : Computing K V S H T) where
+module _ {K V S H T : Type 0} (key : K) (made : List (Stored K V)) (said : List (Option (Stored K V) × Operation V T)) (x : Computing K V S T H) where
   -- a pair that was made of a value that the closure answered
   pub record IsMadeOf (held : Option (Stored K V)) (n : ℕ) (q : Stored K V) : Type 0 where
     pub number : q.index ≡ n
@@ -88,7 +98,7 @@ module _ {K V S H T : Type 0} (key : K) (made : List (Stored K V)) (said : List 
 
 module _ {K V S H T F : Type 0} (eq : K → K → Bool) (hash : S → K → ℕ) (b : Begun K V S) (name : Book) (operates : F → Option (Stored K V) → Operation V T → F → Type 0) where
   -- A compute whose closure was `first` and is f now.
-  pub record IsComputing (key : K) (first : F) (begun log : List (Event K V S)) (x : Computing K V S H T) (f : F) : Type 0 where
+  pub record IsComputing (key : K) (first : F) (begun log : List (Event K V S)) (x : Computing K V S T H) (f : F) : Type 0 where
     pub made : List (Stored K V)
     pub writing : IsWriting eq hash b name key made begun log x.writer
     pub task_is : x.writer.call.machine.task ≡ Compute
@@ -105,25 +115,25 @@ module _ {K V S H T F : Type 0} (eq : K → K → Bool) (hash : S → K → ℕ)
     pub refuses : ask_of x.writer.call.machine ≡ Done (reply.Refused RemoveNothing) → WasLast None operation.Remove said
 
   -- the compute after its machine was answered
-  abbrev pub answered : Computing K V S H T → Answer → Computing K V S H T
+  abbrev pub answered : Computing K V S T H → Answer → Computing K V S T H
   answered x answer = record x { writer = record x.writer { call = record x.writer.call { machine = after x.writer.call.machine answer } } }
 
   -- it has replied, or this is an answer to what it asks
-  abbrev pub IsComputingOn : K → F → List (Event K V S) → List (Event K V S) → Computing K V S H T → F → Option Answer → Type 0
+  abbrev pub IsComputingOn : K → F → List (Event K V S) → List (Event K V S) → Computing K V S T H → F → Option Answer → Type 0
   IsComputingOn key first begun log x f None = IsComputing key first begun log x f × ((done : Reply) × (ask_of x.writer.call.machine ≡ Done done))
   IsComputingOn key first begun log x f (Some answer) = IsComputing key first begun log (answered x answer) f × IsFit answer
 
   -- some compute is under way, and each that is goes on so
-  abbrev pub CanCompute : List (Event K V S) → Computing K V S H T → F → Type 0
+  abbrev pub CanCompute : List (Event K V S) → Computing K V S T H → F → Type 0
   CanCompute log x f = (key : K) × (first : F) × (begun : List (Event K V S)) × IsComputing key first begun log x f
 
-  abbrev pub Computes : List (Event K V S) → Computing K V S H T → F → List (Event K V S) → Computing K V S H T → F → Option Answer → Type 0
+  abbrev pub Computes : List (Event K V S) → Computing K V S T H → F → List (Event K V S) → Computing K V S T H → F → Option Answer → Type 0
   Computes log x f log' x' f' answer = (key : K) (first : F) (begun : List (Event K V S)) → IsComputing key first begun log x f → IsComputingOn key first begun log' x' f' answer
 
   -- what each compute that is under way answers
-  abbrev pub Replies : List (Event K V S) → Computing K V S H T → F → Result (Computed K V T) Refused → Type 0
+  abbrev pub Replies : List (Event K V S) → Computing K V S T H → F → Result (Computed K V T) Refused → Type 0
   Replies log x f answer = (key : K) (first : F) (begun : List (Event K V S)) → IsComputing key first begun log x f → IsComputeBy eq key (history_of begun) (history_of log) operates first answer
 
   -- a compute that began after all that was seen of this log
-  abbrev pub IsUnderWay : K → F → List (Event K V S) → List (Event K V S) → Computing K V S H T → F → Type 0
+  abbrev pub IsUnderWay : K → F → List (Event K V S) → List (Event K V S) → Computing K V S T H → F → Type 0
   IsUnderWay key first old log x f = (begun : List (Event K V S)) × IsPrefix old begun × IsComputing key first begun log x f

@@ -1,5 +1,5 @@
 //! Computes: their machine, answered by steps on the book and by a closure.
-ghost use Rattle.std.specs.Prelude.{◌≡◌, ◌⊎◌, ℕ, Bool, None, Some, Option, Ok};
+ghost use Rattle.std.specs.Prelude.{◌≡◌, ◌⊎◌, ℕ, Bool, cond, None, Some, Option, Ok};
 ghost use mathlib.Core.List.{IsPrefix};
 ghost use Rattle.papaya_call.specs.Machine.{IsStanding, ask_of, kind_of_ask};
 ghost use Rattle.papaya_call.specs.declared.ask.StepKind.TheVariants.{Claim, Replace};
@@ -48,6 +48,20 @@ fn no_entry<K: Hash + Eq, V, S: BuildHasher>(_book: &Book<K, V, S>) -> Option<(&
     ensures { result ≡ None }
 {
     None
+}
+
+/// A token of the first pair where it is wanted, or else of the second.
+fn chosen_of<K, V>(
+    first: bool,
+    fill: &Option<Stored<K, V>>,
+    made: &Option<Stored<K, V>>,
+) -> Option<Stored<K, V>>
+    ensures { result ≡ cond first fill.now made.now }
+{
+    match if first { fill } else { made } {
+        Some(pair) => Some(pair.again()),
+        None => None,
+    }
 }
 
 impl<'a, K: Hash + Eq + Drop, V: Drop, S: BuildHasher, T: Drop> Computing<'a, K, V, S, T> {
@@ -142,7 +156,7 @@ impl<'a, K: Hash + Eq + Drop, V: Drop, S: BuildHasher, T: Drop> Computing<'a, K,
     {
         let _ = compute;
         let _ = &pass;
-        let pair = match self.writer.log_pair(rt, book) {
+        let pair = match self.writer.log_pair(rt, book, pass) {
             Ok(pair) => pair,
             Err(answer) => return answer,
         };
@@ -178,12 +192,11 @@ impl<'a, K: Hash + Eq + Drop, V: Drop, S: BuildHasher, T: Drop> Computing<'a, K,
         ensures computes { Computes K.eq (hash_of K.hash_input S.build_hasher S.Hasher.write S.Hasher.finish) (begun_of book.now.parts) book.now.begun.book (Operates F.FnMut) pass.old.log self.old compute.now pass.new.log self.new compute.now (Some result) }
     {
         let _ = compute;
-        let pair = match self.writer.call.machine.kind() {
-            Some(StepKind::Claim) => &self.fill,
-            _ => &self.made,
+        let claims = matches!(self.writer.call.machine.kind(), Some(StepKind::Claim));
+        let Some(pair) = chosen_of(claims, &self.fill, &self.made) else {
+            unreachable!()
         };
-        let Some(pair) = pair else { unreachable!() };
-        self.writer.put(number, place, words, pair, book, pass)
+        self.writer.put(number, place, words, &pair, book, pass)
     }
 
     /// Tries an exchange of a slot.
@@ -359,15 +372,15 @@ impl<'a, K: Hash + Eq + Drop, V: Drop, S: BuildHasher, T: Drop> Computing<'a, K,
 
     /// What the compute answers that has replied.
     fn replied<F: FnMut(Option<(&'a K, &'a V)>) -> Operation<V, T>>(
-        self,
+        &mut self,
         compute: &F,
         book: &'a Book<K, V, S>,
         pass: &Sight<K, V, S>,
     ) -> Result<Compute<'a, K, V, T>, Refused>
-        requires standing { IsStanding self.writer.call.machine }
-        requires can { CanCompute K.eq (hash_of K.hash_input S.build_hasher S.Hasher.write S.Hasher.finish) (begun_of book.now.parts) book.now.begun.book (Operates F.FnMut) pass.now.log self compute.now }
-        requires done { (reply : _) × (ask_of self.writer.call.machine ≡ Done reply) }
-        ensures { Replies K.eq (hash_of K.hash_input S.build_hasher S.Hasher.write S.Hasher.finish) (begun_of book.now.parts) book.now.begun.book (Operates F.FnMut) pass.now.log self compute.now result }
+        requires standing { IsStanding self.old.writer.call.machine }
+        requires can { CanCompute K.eq (hash_of K.hash_input S.build_hasher S.Hasher.write S.Hasher.finish) (begun_of book.now.parts) book.now.begun.book (Operates F.FnMut) pass.now.log self.old compute.now }
+        requires done { (reply : _) × (ask_of self.old.writer.call.machine ≡ Done reply) }
+        ensures { Replies K.eq (hash_of K.hash_input S.build_hasher S.Hasher.write S.Hasher.finish) (begun_of book.now.parts) book.now.begun.book (Operates F.FnMut) pass.now.log self.old compute.now result }
     {
         let _ = compute;
         let _ = pass;
@@ -375,7 +388,7 @@ impl<'a, K: Hash + Eq + Drop, V: Drop, S: BuildHasher, T: Drop> Computing<'a, K,
             Ask::Done(Reply::Inserted(_)) => Ok(self.inserted(compute, book, pass)),
             Ask::Done(Reply::Replaced { .. }) => Ok(self.updated(compute, book, pass)),
             Ask::Done(Reply::Removed(_)) => Ok(self.removed(compute, book, pass)),
-            Ask::Done(Reply::Aborted(_)) => match self.aborted {
+            Ask::Done(Reply::Aborted(_)) => match self.aborted.take() {
                 Some(with) => Ok(Compute::Aborted(with)),
                 None => unreachable!(),
             },

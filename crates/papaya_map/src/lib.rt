@@ -33,3 +33,4 @@ pub mod table;
 mod tests;
 pub mod token;
 pub mod trade;
+mod writer;

@@ -1,0 +1,126 @@
+-- A compute goes on after an answer that neither shows its closure anything nor makes a pair.
+use Rattle.std.proofs.Common.{◌≡◌, ◌⊎◌, inl, inr, ⊎_elim, ℕ, Bool, true, Option, None, Some, List, [], ◌∷◌, append-nil, refl, sym, ap, ◌∙◌, subst}
+use Rattle.std.specs.Cmp.{IsEquivalence}
+use mathlib.Core.List.{IsPrefix}
+use Rattle.logbook.specs.Pages.{Book}
+use Rattle.papaya_words.specs.declared.probe.Refused.TheVariants.{Capacity, RemoveNothing}
+use Rattle.papaya_call.specs.declared.answers.Operation.{Operation}
+use Rattle.papaya_call.specs.declared.answers.Operation.TheVariants as operation
+use Rattle.papaya_call.specs.declared.ask.Ask.{Ask}
+use Rattle.papaya_call.specs.declared.ask.Ask.TheVariants.{Load, Exchange, SameKey, ShowNone, ShowPair, SizeOf, MakeKey, MakePair, MakeTable, AddToShard, Done}
+use Rattle.papaya_call.specs.declared.ask.Answer.{Answer}
+use Rattle.papaya_call.specs.declared.ask.Answer.TheVariants.{Refused as Was_refused}
+use Rattle.papaya_call.specs.declared.call.Reply.{Reply}
+use Rattle.papaya_call.specs.declared.call.Reply.TheVariants.{Aborted, Refused as Reply_refused}
+use Rattle.papaya_call.specs.declared.call.Task.{Task}
+use Rattle.papaya_call.specs.declared.call.Task.TheVariants.{Compute}
+use Rattle.papaya_call.specs.declared.machine.Machine.{Machine}
+use Rattle.papaya_call.specs.Machine.{IsStanding, after, ask_of}
+use Rattle.papaya_call.specs.Says.{Agrees, HasShownNone, Inserts, IsSaidBy, Makes, Removes, Said, ShowsPairs, StandsOn, show}
+use Rattle.papaya_call.proofs.SaysChanges.{machine_aborted}
+use Rattle.papaya_call.proofs.RestsReplyRefused.{machine_refused}
+use Rattle.papaya_call.proofs.SaysOnce.{machine_shown}
+use Rattle.papaya_call.proofs.SaysSaid.{machine_said}
+use Rattle.papaya_call.proofs.SaysWords.{machine_shows}
+use Rattle.papaya_map.specs.declared.computing.Computing.{Computing}
+use Rattle.papaya_map.specs.declared.event.Begun.{Begun}
+use Rattle.papaya_map.specs.declared.event.Event.{Event}
+use Rattle.papaya_map.specs.declared.writer.Writer.{Writer}
+use Rattle.papaya_map.specs.Computing.{Holds, IsComputing, IsComputingOn}
+use Rattle.papaya_map.specs.Hashes.{hash_of}
+use Rattle.papaya_map.specs.History.{history_of}
+use Rattle.papaya_map.specs.Logs.{Stored}
+use Rattle.papaya_map.specs.Showings.{HasNoNone, WasHeld}
+use Rattle.papaya_map.specs.Writing.{IsWriting, IsWritingOn}
+use Rattle.papaya_map.proofs.Histories.{history_since}
+use Rattle.papaya_map.proofs.Showings.{all_shown, held_wider}
+
+-- the closure says nothing with the answer to this ask, and no pair is made
+abbrev pub IsSilent : Ask → Type 0
+IsSilent ShowNone = ⊥
+IsSilent (ShowPair n) = ⊥
+IsSilent MakePair = ⊥
+IsSilent (Done reply) = ⊥
+IsSilent (Load at) = Unit {0}
+IsSilent (Exchange at old new) = Unit {0}
+IsSilent (SameKey n) = Unit {0}
+IsSilent (SizeOf t) = Unit {0}
+IsSilent MakeKey = Unit {0}
+IsSilent (MakeTable slots limit) = Unit {0}
+IsSilent (AddToShard by) = Unit {0}
+
+module _ (m : Machine) (answer : Answer) (silent : IsSilent (ask_of m)) where
+  not_done : (reply : Reply) → ask_of m ≡ Done reply → ⊥
+  not_done reply e = subst IsSilent e silent
+
+  not_show : (shown : Option ℕ) → ask_of m ≡ show shown → ⊥
+  not_show None e = subst IsSilent e silent
+  not_show (Some n) e = subst IsSilent e silent
+
+  -- nothing was said
+  unsaid_now : (said : Said) → IsSaidBy m answer said → ⊥
+  unsaid_now (Agrees n agrees) h = subst IsSilent h.0 silent
+  unsaid_now (Inserts shown) h = not_show shown h.0
+  unsaid_now (Makes shown n) h = subst IsSilent h.1 silent
+  unsaid_now (Removes n) h = subst IsSilent h.0 silent
+
+  -- what the machine stands on, it stood on before
+  pub stood_before : IsStanding m → ShowsPairs m.state → (said : Said) → StandsOn (after m answer) said → StandsOn m said
+  stood_before standing words said stands = ⊎_elim (λ h. h) (λ h. absurd (unsaid_now said h)) (machine_said m answer said standing words stands)
+
+module _ {K V S H T : Type 0} (key : K) (made : List (Stored K V)) (said : List (Option (Stored K V) × Operation V T)) (x : Computing K V S T H) where
+  -- what is at hand stays so, whatever else the writer does, while it keeps the value
+  pub holds_still : (w : Writer K V S H) → w.value ≡ x.writer.value → (stands : Said) → Holds key made said x stands → Holds key made said (record x { writer = w }) stands
+  holds_still w same (Agrees n agrees) h = h
+  holds_still w same (Inserts None) h = (h.0, (h.1.0, same ∙ h.1.1, h.1.2))
+  holds_still w same (Inserts (Some n)) h = (h.0, h.1, h.2, (h.3.0, same ∙ h.3.1, h.3.2))
+  holds_still w same (Makes None n) h = h
+  holds_still w same (Makes (Some m) n) h = h
+  holds_still w same (Removes n) h = h
+
+module _ {K V S H T F : Type 0} (eq : K → K → Bool) (hash : S → K → ℕ) (b : Begun K V S) (name : Book) (operates : F → Option (Stored K V) → Operation V T → F → Type 0) (key : K) (first : F) (begun : List (Event K V S)) where
+  abbrev pub Computing_at : List (Event K V S) → Computing K V S T H → F → Type 0
+  Computing_at log x f = IsComputing eq hash b name operates key first begun log x f
+
+  abbrev pub ComputingOn : List (Event K V S) → Computing K V S T H → F → Option Answer → Type 0
+  ComputingOn log x f answer = IsComputingOn eq hash b name operates key first begun log x f answer
+
+  module _ (log : List (Event K V S)) (x : Computing K V S T H) (f : F) (r : Computing_at log x f) where
+    abbrev pub m : Machine
+    m = x.writer.call.machine
+
+    -- what the closure was shown was held, over a longer log
+    abbrev pub HeldOn : List (Event K V S) → Option (Stored K V) → Type 0
+    HeldOn log' held = WasHeld eq (eq key) (history_of begun) (history_of log') held
+
+    pub held_later : (log' : List (Event K V S)) → IsPrefix log log' → (held : Option (Stored K V)) → HeldOn log held → HeldOn log' held
+    held_later log' pre held h = held_wider eq (eq key) (history_of begun) (history_of begun) (history_of log) (history_of log') ([], append-nil (history_of begun)) (history_since log log' pre) held h
+
+    -- whether it was shown that there is none
+    pub none_later : (answer : Answer) → HasNoNone r.said ⊎ HasShownNone m.remembered.fill m.state → HasNoNone r.said ⊎ HasShownNone (after m answer).remembered.fill (after m answer).state
+    none_later answer h = ⊎_elim (λ never. inl never) (λ shown. inr (machine_shown m answer shown).1) h
+
+    -- it goes on after an answer to a silent ask
+    pub goes_on : IsStanding m → IsSilent (ask_of m) → (log' : List (Event K V S)) → IsPrefix log log' → (w : Writer K V S H) (answer : Answer) → w.call.machine ≡ m → w.value ≡ x.writer.value → (answer ≡ Was_refused RemoveNothing → ⊥) → (after m answer).task ≡ m.task
+        → IsWritingOn eq hash b name key r.made begun log' w answer → ComputingOn log' (record x { writer = w }) f (Some answer)
+    goes_on standing silent log' pre w answer same value something task on =
+        let then : after w.call.machine answer ≡ after m answer = ap (λ (z : Machine). after z answer) same in
+        let w' : Writer K V S H = record w { call = record w.call { machine = after w.call.machine answer } } in (
+          record {
+            made = r.made;
+            writing = on.0;
+            task_is = ap (λ (z : Machine). z.task) then ∙ (task ∙ r.task_is);
+            words = subst (λ (z : Machine). ShowsPairs z.state) (sym then) (machine_shows m answer r.words);
+            shown_placed = r.shown_placed;
+            chosen_placed = r.chosen_placed;
+            said = r.said;
+            has_said = r.has_said;
+            held = all_shown (HeldOn log) (HeldOn log') (held_later log' pre) r.said r.held;
+            none_once = r.none_once;
+            none_shown = subst (λ (z : Machine). HasNoNone r.said ⊎ HasShownNone z.remembered.fill z.state) (sym then) (none_later answer r.none_shown);
+            stood = λ stands h. holds_still key r.made r.said x w' value stands (r.stood stands (stood_before m answer silent standing r.words stands (subst (λ (z : Machine). StandsOn z stands) then h)));
+            aborts = λ with e. let s = machine_aborted m answer with (not_done m answer silent) (ap ask_of (sym then) ∙ e) in absurd (not_show m answer silent s.0 s.1);
+            refuses = λ e. ⊎_elim (λ h. absurd (something h)) (λ h. ⊎_elim (λ a. let no : RemoveNothing ≡ Capacity = a.0 in absurd (cc no)) (λ a. absurd (not_show m answer silent None a.1)) h) (machine_refused m RemoveNothing answer (not_done m answer silent) (ap ask_of (sym then) ∙ e));
+          },
+          on.1,
+        )
