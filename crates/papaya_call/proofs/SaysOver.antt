@@ -56,7 +56,7 @@ fills_makes (At place) n said e = let is : Makes None n ≡ said = cc e in sym i
 fills_makes (After t) n said e = absurd cc
 
 module _ (n : ℕ) (agrees : Bool) where
-  -- the closure of a compute agrees to nothing: it tells no reply
+  -- no reply of a compute stands on an agreement
   agrees_no_reply : (reply : Reply) → said_in_reply Compute reply ≡ Some (Agrees n agrees) → ⊥
   agrees_no_reply Absent e = cc e
   agrees_no_reply (Found i) e = cc e
@@ -68,19 +68,19 @@ module _ (n : ℕ) (agrees : Bool) where
   agrees_no_reply (Aborted with) e = cc e
   agrees_no_reply (Reply_refused refused) e = cc e
 
-  -- nor a stage
+  -- nor does a state of it
   agrees_no_stage : (stage : Stage) → said_in Compute stage ≡ Some (Agrees n agrees) → ⊥
   agrees_no_stage (Pairing (Fill gap)) e = cc e
   agrees_no_stage (Pairing (Replace write)) e = cc e
   agrees_no_stage (Ended reply) e = agrees_no_reply reply e
   agrees_no_stage stage e = cc e
 
-  -- no call remembers that its closure agreed
+  -- no call remembers an agreement with the pair for an absent key
   agrees_no_fill : (fill : Option ℕ) → said_to_fill fill ≡ Some (Agrees n agrees) → ⊥
   agrees_no_fill None e = cc e
   agrees_no_fill (Some i) e = cc e
 
-  -- nor of the pair last shown
+  -- nor with the answer to the pair last shown
   agrees_no_choice : (choice : Option Choice) → said_to_choose choice ≡ Some (Agrees n agrees) → ⊥
   agrees_no_choice None e = cc e
   agrees_no_choice (Some (To_replace old new)) e = cc e
@@ -90,7 +90,7 @@ module _ (n : ℕ) (agrees : Bool) where
   stage_agrees : (m : Machine) → StandsOn m (Agrees n agrees) → said_in m.task m.state ≡ Some (Agrees n agrees)
   stage_agrees m stands = ⊎_elim (λ h. h) (λ o. absurd (⊎_elim (λ h. agrees_no_fill m.remembered.fill h) (λ h. agrees_no_choice m.remembered.choice h) o)) stands
 
-  -- one that shows a pair stands on nothing
+  -- nor does the state of one that shows a pair
   showing_unsaid : (task : Task) (made : Made) (hash : ℕ) (stage : Stage) (shown : ℕ) → asks made hash stage ≡ ShowPair shown → said_in task stage ≡ Some (Agrees n agrees) → ⊥
   showing_unsaid task made hash (Searching (Sizing t)) shown e said = cc e
   showing_unsaid task made hash (Searching (Looking at)) shown e said = cc e

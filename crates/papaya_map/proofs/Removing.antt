@@ -16,17 +16,10 @@ use Rattle.papaya_call.specs.declared.call.Task.{Task}
 use Rattle.papaya_call.specs.declared.call.Task.TheVariants.{RemoveIf}
 use Rattle.papaya_call.specs.declared.machine.Machine.{Machine}
 use Rattle.papaya_call.specs.Followed.{MayAsk}
-use Rattle.papaya_call.specs.declared.compute.Choice.{Choice}
-use Rattle.papaya_call.specs.declared.compute.Choice.TheVariants.{Replace as To_replace, Remove as To_remove}
-use Rattle.papaya_call.specs.declared.machine.State.{State as Stage}
-use Rattle.papaya_call.specs.declared.machine.State.TheVariants.{AtRoot, Making, Opening, Searching, Writing, Offering, Showing, Pairing, Putting, Burying, Counting, Uncounting, Leaving, Growing, Ended}
-use Rattle.papaya_call.specs.declared.search.Search.TheVariants.{Sizing, Looking, Comparing}
-use Rattle.papaya_call.specs.declared.write.Made.{Made}
-use Rattle.papaya_call.specs.declared.write.Made.TheVariants.{Nothing, Key, Pair}
 use Rattle.papaya_call.specs.Machine.{IsFit, IsStanding, after, ask_of, asks, kind_of_ask}
 use Rattle.papaya_call.specs.Rests.{WasAtMoment}
 use Rattle.papaya_call.specs.Told.{or_last}
-use Rattle.papaya_call.specs.Says.{Agrees, ShowsPairs, StandsOn, said_in, said_to_choose, said_to_fill}
+use Rattle.papaya_call.specs.Says.{Agrees, ShowsPairs, StandsOn}
 use Rattle.papaya_call.specs.Search.{IsSize}
 use Rattle.papaya_call.proofs.RestsHeld as held
 use Rattle.papaya_call.proofs.RestsHeld.{IsShowing}
