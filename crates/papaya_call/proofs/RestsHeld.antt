@@ -1,5 +1,5 @@
 -- What a call that exchanges a slot has made, and what a call that shows a pair was told of.
-use Rattle.std.proofs.Common.{◌≡◌, ℕ, None, Some, List, refl}
+use Rattle.std.proofs.Common.{◌≡◌, inl, inr, ℕ, Option, None, Some, List, refl}
 use Rattle.papaya_call.specs.declared.ask.At.TheVariants.{Slot}
 use Rattle.papaya_call.specs.declared.ask.Ask.TheVariants.{Exchange as Ask_exchange, SameKey, ShowNone, ShowPair}
 use Rattle.papaya_call.specs.declared.remove.Removal.{Removal}
@@ -32,7 +32,9 @@ use Rattle.papaya_call.specs.declared.ask.OpKind.{OpKind}
 use Rattle.papaya_call.specs.declared.ask.OpKind.TheVariants as ops
 use Rattle.papaya_call.specs.declared.compute.Gap.{Gap}
 use Rattle.papaya_call.specs.Machine.{HasClosure, IsComputer, IsWriter, after, ask_of, asks}
-use Rattle.papaya_call.specs.Says.{HasShownNone}
+use Rattle.papaya_call.specs.Says.{HasShownNone, Inserts, StandsOn, said_in, said_to_choose, said_to_fill, show}
+use Rattle.papaya_call.specs.declared.compute.Choice.{Choice}
+use Rattle.papaya_call.specs.declared.compute.Choice.TheVariants.{Replace as To_replace, Remove as To_remove}
 use Rattle.papaya_call.specs.Rests.{Rests, RestsHands, RestsStage}
 use Rattle.papaya_call.specs.declared.compute.Remembered.{Remembered}
 use Rattle.papaya_call.specs.Told.{Hands, IsOneOf}
@@ -218,3 +220,43 @@ offered_shown m gap (ops.Abort with) = tt
 -- and it never shows that again
 pub machine_offered : (m : Machine) (kind : OpKind) → ask_of m ≡ ShowNone → HasShownNone (after m (Op kind)).remembered.fill (after m (Op kind)).state
 machine_offered m kind e = let at = offering_in m.made m.hash m.state e in subst (λ s. HasShownNone (after (record m { state = s }) (Op kind)).remembered.fill (after (record m { state = s }) (Op kind)).state) (sym at.1) (offered_shown m at.0 kind)
+
+-- a machine that shows a pair has found it
+showing_in : (made : Made) (hash : ℕ) (s : Stage) (n : ℕ) → asks made hash s ≡ ShowPair n → (removal : Removal) × (s ≡ Showing removal)
+showing_in made hash AtRoot n e = absurd cc
+showing_in made hash Making n e = absurd cc
+showing_in made hash (Opening u) n e = absurd cc
+showing_in made hash (Searching (Sizing u)) n e = absurd cc
+showing_in made hash (Searching (Looking at)) n e = absurd cc
+showing_in made hash (Searching (Comparing at word)) n e = absurd cc
+showing_in Nothing hash (Writing write) n e = absurd cc
+showing_in Key hash (Writing write) n e = absurd cc
+showing_in (Pair i) hash (Writing write) n e = absurd cc
+showing_in made hash (Offering gap) n e = absurd cc
+showing_in made hash (Showing removal) n e = (removal, refl)
+showing_in Nothing hash (Pairing purpose) n e = absurd cc
+showing_in Key hash (Pairing purpose) n e = absurd cc
+showing_in (Pair i) hash (Pairing purpose) n e = absurd cc
+showing_in made hash (Putting put) n e = absurd cc
+showing_in made hash (Burying removal) n e = absurd cc
+showing_in made hash (Counting i) n e = absurd cc
+showing_in made hash (Uncounting i) n e = absurd cc
+showing_in made hash (Leaving u) n e = absurd cc
+showing_in made hash (Growing u) n e = absurd cc
+showing_in made hash (Ended reply) n e = absurd cc
+
+fill_is_made : (fill shown : Option ℕ) → said_to_fill fill ≡ Some (Inserts shown) → ⊥
+fill_is_made None shown e = cc e
+fill_is_made (Some n) shown e = cc e
+
+choice_is_made : (choice : Option Choice) (shown : Option ℕ) → said_to_choose choice ≡ Some (Inserts shown) → ⊥
+choice_is_made None shown e = cc e
+choice_is_made (Some (To_replace old new)) shown e = cc e
+choice_is_made (Some (To_remove old)) shown e = cc e
+
+-- so no value of its closure's waits to be made a pair of
+pub machine_unpaired : (m : Machine) (shown other : Option ℕ) → ask_of m ≡ show other → StandsOn m (Inserts shown) → ⊥
+machine_unpaired m shown other e (inr (inl h)) = fill_is_made m.remembered.fill shown h
+machine_unpaired m shown other e (inr (inr h)) = choice_is_made m.remembered.choice shown h
+machine_unpaired m shown None e (inl h) = let at = offering_in m.made m.hash m.state e in let none : None ≡ Some (Inserts shown) = ap (said_in m.task) (sym at.1) ∙ h in cc none
+machine_unpaired m shown (Some n) e (inl h) = let at = showing_in m.made m.hash m.state n e in let none : None ≡ Some (Inserts shown) = ap (said_in m.task) (sym at.1) ∙ h in cc none

@@ -49,3 +49,4 @@ pub mod Removing
 pub mod RemovingReplies
 -- computes
 pub mod ComputeGoes
+pub mod ComputeShows

@@ -60,11 +60,27 @@ kind_of (operation.Insert v) = kinds.Insert
 kind_of operation.Remove = kinds.Remove
 kind_of (operation.Abort t) = kinds.Abort 0
 
--- the compute that keeps it: the value of an insertion, or what the call is to end with
-abbrev pub keeping : {K V S H T : Type 0} → Operation V T → Computing K V S T H → Computing K V S T H
-keeping (operation.Insert v) x = record x { writer = record x.writer { value = Some v } }
-keeping operation.Remove x = x
-keeping (operation.Abort t) x = record x { aborted = Some t }
+-- the value of the next pair after it, and what the call is to end with
+abbrev pub value_after : {V T : Type 0} → Operation V T → Option V → Option V
+value_after (operation.Insert v) before = Some v
+value_after operation.Remove before = before
+value_after (operation.Abort t) before = before
+
+abbrev pub aborted_after : {V T : Type 0} → Operation V T → Option T → Option T
+aborted_after (operation.Insert v) before = before
+aborted_after operation.Remove before = before
+aborted_after (operation.Abort t) before = Some t
+
+-- the pair of which it was answered that it is to go, or the one of before
+abbrev pub chosen_after : {K V T : Type 0} → Option (Stored K V) → Operation V T → Option (Stored K V) → Option (Stored K V)
+chosen_after None done before = before
+chosen_after (Some p) (operation.Insert v) before = before
+chosen_after (Some p) operation.Remove before = Some p
+chosen_after (Some p) (operation.Abort t) before = before
+
+-- the compute that keeps it
+abbrev pub keeping : {K V S T H : Type 0} → Operation V T → Computing K V S T H → Computing K V S T H
+keeping done x = record x { writer = record x.writer { value = value_after done x.writer.value }; aborted = aborted_after done x.aborted }
 
 abbrev pub IsKept : {K V S H T : Type 0} → Operation V T → Answer → Computing K V S T H → Computing K V S T H → Type 0
 IsKept done answer x x' = (answer ≡ Op (kind_of done)) × (x' ≡ keeping done x)
@@ -79,21 +95,21 @@ IsWriters (MakeTable len limit) = Unit {0}
 IsWriters (Exchange Root old new) = Unit {0}
 IsWriters _ = ⊥
 
-module _ {K V S H T : Type 0} (key : K) (made : List (Stored K V)) (said : List (Option (Stored K V) × Operation V T)) (x : Computing K V S T H) where
-  -- a pair that was made of a value that the closure answered
-  pub record IsMadeOf (held : Option (Stored K V)) (n : ℕ) (q : Stored K V) : Type 0 where
-    pub number : q.index ≡ n
-    pub made_is : IsOneOf made q
-    pub key_is : key_of q ≡ key
-    pub said_is : Member (held, operation.Insert q.value.value) said
+-- a pair that was made of a value that the closure answered
+pub record IsMadeOf {K V T : Type 0} (key : K) (made : List (Stored K V)) (said : List (Option (Stored K V) × Operation V T)) (held : Option (Stored K V)) (n : ℕ) (q : Stored K V) : Type 0 where
+  pub number : q.index ≡ n
+  pub made_is : IsOneOf made q
+  pub key_is : key_of q ≡ key
+  pub said_is : Member (held, operation.Insert q.value.value) said
 
+module _ {K V S T H : Type 0} (key : K) (made : List (Stored K V)) (said : List (Option (Stored K V) × Operation V T)) (x : Computing K V S T H) where
   -- What the machine stands on, the closure answered; what was made of it, and the pairs that it was shown, are at hand.
   abbrev pub Holds : Said → Type 0
   Holds (Agrees n agrees) = ⊥
   Holds (Inserts None) = (x.shown ≡ None) × ((v : V) × (x.writer.value ≡ Some v) × Member (None, operation.Insert v) said)
   Holds (Inserts (Some n)) = (p : Stored K V) × (x.shown ≡ Some p) × (p.index ≡ n) × ((v : V) × (x.writer.value ≡ Some v) × Member (Some p, operation.Insert v) said)
-  Holds (Makes None n) = (q : Stored K V) × (x.fill ≡ Some q) × IsMadeOf None n q
-  Holds (Makes (Some m) n) = (p : Stored K V) × (q : Stored K V) × (x.chosen ≡ Some p) × (p.index ≡ m) × (x.made ≡ Some q) × IsMadeOf (Some p) n q
+  Holds (Makes None n) = (q : Stored K V) × (x.fill ≡ Some q) × IsMadeOf key made said None n q
+  Holds (Makes (Some m) n) = (p : Stored K V) × (q : Stored K V) × (x.chosen ≡ Some p) × (p.index ≡ m) × (x.made ≡ Some q) × IsMadeOf key made said (Some p) n q
   Holds (Removes n) = (p : Stored K V) × (x.chosen ≡ Some p) × (p.index ≡ n) × Member (Some p, operation.Remove) said
 
 module _ {K V S H T F : Type 0} (eq : K → K → Bool) (hash : S → K → ℕ) (b : Begun K V S) (name : Book) (operates : F → Option (Stored K V) → Operation V T → F → Type 0) where

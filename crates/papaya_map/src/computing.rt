@@ -6,7 +6,7 @@ ghost use Rattle.papaya_call.specs.declared.ask.StepKind.TheVariants.{Claim, Rep
 ghost use Rattle.papaya_call.specs.declared.call.Reply.TheVariants.{Inserted, Removed, Replaced};
 ghost use Rattle.papaya_call.specs.declared.ask.Ask.TheVariants.{Done, Exchange, MakePair, ShowNone, ShowPair};
 ghost use Rattle.papaya_call.specs.declared.ask.At.TheVariants.{Slot};
-ghost use Rattle.papaya_map.specs.Computing.{CanCompute, Computes, IsComputeBy, IsKept, IsWriters, Replies};
+ghost use Rattle.papaya_map.specs.Computing.{chosen_after, CanCompute, Computes, IsComputeBy, IsKept, IsWriters, Replies};
 ghost use Rattle.papaya_map.specs.Hashes.{hash_of};
 ghost use Rattle.papaya_map.specs.History.{history_of};
 ghost use Rattle.papaya_map.specs.Parts.{begun_of};
@@ -48,6 +48,20 @@ fn no_entry<K: Hash + Eq, V, S: BuildHasher>(_book: &Book<K, V, S>) -> Option<(&
     ensures { result ≡ None }
 {
     None
+}
+
+/// The pair of which it was answered that it is to go, or the one of before.
+fn chosen_after<K, V, T>(
+    shown: &Stored<K, V>,
+    operation: &Operation<V, T>,
+    before: Option<Stored<K, V>>,
+) -> Option<Stored<K, V>>
+    ensures { result ≡ chosen_after (Some shown.now) operation.now before }
+{
+    match operation {
+        Operation::Remove => Some(shown.again()),
+        Operation::Insert(_) | Operation::Abort(_) => before,
+    }
 }
 
 /// A token of the first pair where it is wanted, or else of the second.
@@ -130,9 +144,7 @@ impl<'a, K: Hash + Eq + Drop, V: Drop, S: BuildHasher, T: Drop> Computing<'a, K,
         };
         let shown = last.again();
         let operation = compute(Some(entry(book, &shown)));
-        if let Operation::Remove = &operation {
-            self.chosen = Some(shown.again());
-        }
+        self.chosen = chosen_after(&shown, &operation, self.chosen.take());
         self.shown = Some(shown);
         self.keep(operation)
     }

@@ -1,0 +1,292 @@
+-- A compute after its closure was shown a pair, or that there is none.
+use Rattle.std.proofs.Common.{◌≡◌, ◌⊎◌, inl, inr, ⊎_elim, ℕ, Bool, true, Option, None, Some, List, [], ◌∷◌, append-nil, refl, sym, ap, ◌∙◌, subst}
+use Rattle.std.specs.Cmp.{IsEquivalence}
+use mathlib.Core.List.{IsPrefix}
+use Rattle.logbook.specs.Pages.{Book}
+use Rattle.papaya_words.specs.declared.probe.Refused.TheVariants.{Capacity, RemoveNothing}
+use Rattle.papaya_call.specs.declared.answers.Operation.{Operation}
+use Rattle.papaya_call.specs.declared.answers.Operation.TheVariants as operation
+use Rattle.papaya_call.specs.declared.ask.Ask.{Ask}
+use Rattle.papaya_call.specs.declared.ask.Ask.TheVariants.{Exchange, Load, ShowNone, ShowPair, Done}
+use Rattle.papaya_call.specs.declared.ask.At.TheVariants.{Next, Root}
+use Rattle.papaya_call.specs.declared.ask.Answer.{Answer}
+use Rattle.papaya_call.specs.declared.ask.Answer.TheVariants.{Op}
+use Rattle.papaya_call.specs.declared.ask.OpKind.{OpKind}
+use Rattle.papaya_call.specs.declared.ask.OpKind.TheVariants as kinds
+use Rattle.papaya_call.specs.declared.call.Reply.{Reply}
+use Rattle.papaya_call.specs.declared.call.Reply.TheVariants.{Aborted, Refused as Reply_refused}
+use Rattle.papaya_call.specs.declared.machine.Machine.{Machine}
+use Rattle.papaya_call.specs.Machine.{IsStanding, after, ask_of}
+use Rattle.papaya_call.specs.Says.{Agrees, HasShownNone, Inserts, IsSaidBy, Makes, Removes, Said, StandsOn, show}
+use Rattle.papaya_call.specs.Law.Code.{Coding}
+use Rattle.papaya_call.specs.Law.Exchange.{Setting}
+use Rattle.papaya_call.specs.Rests.{WasAtMoment}
+use Rattle.papaya_call.specs.Told.{Hands}
+use Rattle.papaya_call.proofs.RestsHeld as held
+use Rattle.papaya_call.proofs.RestsHeld.{machine_offered, machine_offers, machine_unpaired}
+use Rattle.papaya_call.proofs.RestsOpened.{machine_opened}
+use Rattle.papaya_call.proofs.RestsReplyRefused.{machine_refused}
+use Rattle.papaya_call.proofs.SaysChanges.{machine_aborted}
+use Rattle.papaya_call.proofs.SaysOnce.{machine_shown}
+use Rattle.papaya_call.proofs.SaysOver.{machine_chosen}
+use Rattle.papaya_call.proofs.SaysSaid.{machine_said}
+use Rattle.papaya_call.proofs.SaysWords.{machine_shows}
+use Rattle.papaya_map.specs.declared.computing.Computing.{Computing}
+use Rattle.papaya_map.specs.declared.event.Begun.{Begun}
+use Rattle.papaya_map.specs.declared.event.Event.{Event}
+use Rattle.papaya_map.specs.declared.writer.Writer.{Writer}
+use Rattle.papaya_map.specs.Changing.{IsCalling, hands_with}
+use Rattle.papaya_map.specs.Computing.{Holds, IsComputing, IsMadeOf, aborted_after, chosen_after, keeping, kind_of, value_after}
+use Rattle.papaya_map.specs.Hashes.{hash_of}
+use Rattle.papaya_map.specs.History.{history_of}
+use Rattle.papaya_map.specs.Logs.{Member, Stored, exchanges_of, pair_named}
+use Rattle.papaya_map.specs.Rule.{IsPlaced}
+use Rattle.papaya_map.specs.Showings.{HasNoNone, IsNoneOnce, WasHeld, WasLast}
+use Rattle.papaya_map.specs.Writing.{IsWriting}
+use Rattle.papaya_map.proofs.Changing.{Coded, Wide, quiet}
+use Rattle.papaya_map.specs.Computing.{IsComputingOn}
+use Rattle.papaya_map.proofs.Readings.{IsQuery, hashed_with}
+use Rattle.papaya_map.proofs.Showings.{own_held_then}
+
+-- the number of what is shown
+abbrev pub number_of : {K V : Type 0} → Option (Stored K V) → Option ℕ
+number_of None = None
+number_of (Some p) = Some p.index
+
+-- what the machine is told tells what the closure answered
+module _ {V T : Type 0} where
+  inserts : (done : Operation V T) → kind_of done ≡ kinds.Insert → (v : V) × (done ≡ operation.Insert v) × ((before : Option V) → value_after done before ≡ Some v)
+  inserts (operation.Insert v) e = (v, refl, λ before. refl)
+  inserts operation.Remove e = absurd (cc e)
+  inserts (operation.Abort t) e = absurd (cc e)
+
+  removes : (done : Operation V T) → kind_of done ≡ kinds.Remove → done ≡ operation.Remove
+  removes (operation.Insert v) e = absurd (cc e)
+  removes operation.Remove e = refl
+  removes (operation.Abort t) e = absurd (cc e)
+
+  aborts_with : (done : Operation V T) (with : ℕ) → kind_of done ≡ kinds.Abort with → (t : T) × (done ≡ operation.Abort t) × ((before : Option T) → aborted_after done before ≡ Some t)
+  aborts_with (operation.Insert v) with e = absurd (cc e)
+  aborts_with operation.Remove with e = absurd (cc e)
+  aborts_with (operation.Abort t) with e = (t, refl, λ before. refl)
+
+op_is : {V T : Type 0} (done : Operation V T) (kind : OpKind) → Op (kind_of done) ≡ Op kind → kind_of done ≡ kind
+op_is done kind e = cc e
+
+-- what is shown has the number that was asked for
+module _ {K V : Type 0} (m : Machine) (held : Option (Stored K V)) (asks : ask_of m ≡ show (number_of held)) where
+  none_asked : ask_of m ≡ ShowNone → held ≡ None
+  none_asked e = by_held held (sym e ∙ asks)
+    where
+      by_held : (o : Option (Stored K V)) → ShowNone ≡ show (number_of o) → o ≡ None
+      by_held None f = refl
+      by_held (Some p) f = absurd (cc f)
+
+  pair_asked : (n : ℕ) → ask_of m ≡ ShowPair n → (p : Stored K V) × (held ≡ Some p) × (p.index ≡ n)
+  pair_asked n e = by_held held (sym e ∙ asks)
+    where
+      by_held : (o : Option (Stored K V)) → ShowPair n ≡ show (number_of o) → (p : Stored K V) × (o ≡ Some p) × (p.index ≡ n)
+      by_held None f = absurd (cc f)
+      by_held (Some p) f = (p, refl, let same : n ≡ p.index = cc f in sym same)
+
+module _ {K V S T H : Type 0} (key : K) (made : List (Stored K V)) (said : List (Option (Stored K V) × Operation V T)) (x : Computing K V S T H) (held : Option (Stored K V)) (done : Operation V T) where
+  -- the compute that was shown this and was answered so
+  abbrev pub shown_to : Computing K V S T H
+  shown_to = keeping done (record x { shown = held; chosen = chosen_after held done x.chosen })
+
+  abbrev now_said : List (Option (Stored K V) × Operation V T)
+  now_said = (held, done) ∷ said
+
+  abbrev Now : Said → Type 0
+  Now stands = Holds key made now_said shown_to stands
+
+  -- a pair that was made stays so
+  made_still : (shown : Option (Stored K V)) (n : ℕ) (q : Stored K V) → IsMadeOf key made said shown n q → IsMadeOf key made now_said shown n q
+  made_still shown n q h = record { number = h.number; made_is = h.made_is; key_is = h.key_is; said_is = inr h.said_is }
+
+  -- what fills stays at hand, and where the choice stays what was chosen does
+  fill_still : (n : ℕ) → Holds key made said x (Makes None n) → Now (Makes None n)
+  fill_still n h = (h.0, h.1, made_still None n h.0 h.2)
+
+  still : chosen_after held done x.chosen ≡ x.chosen → (stands : Said) → ((shown : Option ℕ) → stands ≡ Inserts shown → ⊥) → Holds key made said x stands → Now stands
+  still same (Agrees n agrees) never h = h
+  still same (Inserts shown) never h = absurd (never shown refl)
+  still same (Makes None n) never h = fill_still n h
+  still same (Makes (Some m) n) never h = (h.0, h.1, same ∙ h.2, h.3, h.4, made_still (Some h.0) n h.1 h.5)
+  still same (Removes n) never h = (h.0, same ∙ h.1, h.2, inr h.3)
+
+  -- what the closure said just now is at hand
+  now : (m : Machine) → ask_of m ≡ show (number_of held) → (stands : Said) → IsSaidBy m (Op (kind_of done)) stands → Now stands
+  now m asks (Agrees n agrees) h = let e = h.1 in absurd (cc e)
+  now m asks (Inserts None) h =
+      let none = none_asked m held asks h.0 in let i = inserts done (op_is done kinds.Insert h.1) in
+      (none, (i.0, i.2 x.writer.value, inl (λ j. (sym none j, sym i.1 j))))
+  now m asks (Inserts (Some n)) h =
+      let p = pair_asked m held asks n h.0 in let i = inserts done (op_is done kinds.Insert h.1) in
+      (p.0, p.1, p.2, (i.0, i.2 x.writer.value, inl (λ j. (sym p.1 j, sym i.1 j))))
+  now m asks (Makes shown n) h = let e = h.2 in absurd (cc e)
+  now m asks (Removes n) h =
+      let p = pair_asked m held asks n h.0 in let is = removes done (op_is done kinds.Remove h.1) in
+      (p.0, (λ j. chosen_after (p.1 j) (is j) x.chosen), p.2, inl (λ j. (sym p.1 j, sym is j)))
+
+  -- an answer that leaves the choice
+  chosen_same : kind_of done ≡ kinds.Remove ⊎ (chosen_after held done x.chosen ≡ x.chosen)
+  chosen_same = by_done done held
+    where
+      by_done : (o : Operation V T) (shown : Option (Stored K V)) → kind_of o ≡ kinds.Remove ⊎ (chosen_after shown o x.chosen ≡ x.chosen)
+      by_done o None = inr refl
+      by_done (operation.Insert v) (Some p) = inr refl
+      by_done operation.Remove (Some p) = inl refl
+      by_done (operation.Abort t) (Some p) = inr refl
+
+module _ {K V S T H F : Type 0} (eq : K → K → Bool) (input : K → List (List ℕ)) (build : S → H) (write : H → List ℕ → H) (finish : H → ℕ) (classes : IsEquivalence eq) (respects : (x y : K) → eq x y ≡ true → input x ≡ input y)
+    (b : Begun K V S) (name : Book) (operates : F → Option (Stored K V) → Operation V T → F → Type 0) (key : K) (first : F) (begun : List (Event K V S)) where
+  abbrev hash : S → K → ℕ
+  hash = hash_of input build write finish
+
+  -- a key is a form of itself
+  own : IsQuery eq input (eq key) (input key)
+  own = record { feeds = λ k h. respects key k h; class = λ k l h. classes.congr key k l h }
+
+  abbrev Comp : List (Event K V S) → Computing K V S T H → F → Type 0
+  Comp log x f = IsComputing eq hash b name operates key first begun log x f
+
+  abbrev On : List (Event K V S) → Computing K V S T H → F → Option Answer → Type 0
+  On log x f answer = IsComputingOn eq hash b name operates key first begun log x f answer
+
+  module _ (made : List (Stored K V)) (log : List (Event K V S)) (w : Writer K V S H) (r : IsWriting eq hash b name key made begun log w) (kind : OpKind) where
+    abbrev w' : Machine
+    w' = after w.call.machine (Op kind)
+
+    abbrev Called' : Type 0
+    Called' = IsCalling eq hash b name (eq key) (hash b.hasher key) (Some key) begun log w' w.call.table w.call.last made w.call.taken w.call.put
+
+    not_root : (shown : Option ℕ) → ask_of w.call.machine ≡ show shown → (n : ℕ) → ask_of w.call.machine ≡ Exchange Root 0 n → ⊥
+    not_root None e n h = let f = sym e ∙ h in cc f
+    not_root (Some i) e n h = let f = sym e ∙ h in cc f
+
+    called : (shown : Option ℕ) → ask_of w.call.machine ≡ show shown → Called'
+    called None e = quiet eq input build write finish classes respects b (eq key) (input key) own (Some key) name begun log log ([], append-nil log) r.calling.lawful w.call.machine w.call.table w.call.last made w.call.taken w.call.put r.calling
+        ShowNone e (Op kind) w.call.last made w.call.table r.calling.number (record { told = (inr (inl (kind, refl)), (refl, refl)); number_is = refl; same = refl; busy = λ z. z }) r.calling.holds_table r.calling.last_placed r.calling.made_placed
+    called (Some i) e = quiet eq input build write finish classes respects b (eq key) (input key) own (Some key) name begun log log ([], append-nil log) r.calling.lawful w.call.machine w.call.table w.call.last made w.call.taken w.call.put r.calling
+        (ShowPair i) e (Op kind) w.call.last made w.call.table r.calling.number (record { told = (inr (inl (kind, refl)), (refl, refl)); number_is = refl; same = refl; busy = λ z. z }) r.calling.holds_table r.calling.last_placed r.calling.made_placed
+
+    -- a writer whose closure was asked rests again, whatever value it keeps
+    asked : (shown : Option ℕ) (value : Option V) → ask_of w.call.machine ≡ show shown → IsWriting eq hash b name key made begun log (record w { call = record w.call { machine = w' }; value = value })
+    asked shown value asks = record {
+      calling = called shown asks;
+      own_is = r.own_is;
+      logged_is = r.logged_is;
+      some_key = r.some_key;
+      put_placed = r.put_placed;
+      opens = λ n e. ⊎_elim (λ h. let no = h.0 in absurd (cc no)) (λ h. absurd (not_root shown asks n h)) (machine_opened w.call.machine n (Op kind) e);
+    }
+
+  module _ (log : List (Event K V S)) (x : Computing K V S T H) (f : F) (r : Comp log x f) (standing : IsStanding x.writer.call.machine) (held : Option (Stored K V)) (done : Operation V T) (asks : ask_of x.writer.call.machine ≡ show (number_of held)) where
+    abbrev m : Machine
+    m = x.writer.call.machine
+
+    abbrev m' : Machine
+    m' = after m (Op (kind_of done))
+
+    abbrev HoldsNow : Said → Type 0
+    HoldsNow stands = Holds key r.made ((held, done) ∷ r.said) (shown_to key r.made r.said x held done) stands
+
+    unpaired : (stands : Said) → StandsOn m stands → (shown : Option ℕ) → stands ≡ Inserts shown → ⊥
+    unpaired stands before shown e = machine_unpaired m shown (number_of held) asks (subst (λ (s : Said). StandsOn m s) e before)
+
+    -- where the choice stays
+    stood_same : chosen_after held done x.chosen ≡ x.chosen → (stands : Said) → StandsOn m' stands → HoldsNow stands
+    stood_same same stands h =
+        ⊎_elim (λ before. still key r.made r.said x held done same stands (unpaired stands before) (r.stood stands before)) (now key r.made r.said x held done m asks stands)
+        (machine_said m (Op (kind_of done)) stands standing r.words h)
+
+    -- where the pair that was shown is to go
+    stood_removed : (p : Stored K V) → held ≡ Some p → kind_of done ≡ kinds.Remove → (stands : Said) → StandsOn m' stands → HoldsNow stands
+    stood_removed p e removes_it stands h =
+        let shows : ask_of m ≡ ShowPair p.index = asks ∙ ap (λ (o : Option (Stored K V)). show (number_of o)) e in
+        let removed : StandsOn (after m (Op kinds.Remove)) stands = subst (λ (k : OpKind). StandsOn (after m (Op k)) stands) removes_it h in
+        let is : done ≡ operation.Remove = removes done removes_it in
+        ⊎_elim
+        (λ s. subst HoldsNow (sym s) (p, (λ j. chosen_after (e j) (is j) x.chosen), refl, inl (λ j. (sym e j, sym is j))))
+        (λ k. subst HoldsNow (sym k.1) (fill_still key r.made r.said x held done k.0 (r.stood (Makes None k.0) (subst (λ (s : Said). StandsOn m s) k.1 k.2))))
+        (machine_chosen m p.index stands r.task_is shows removed)
+
+    -- what its machine stands on now is at hand
+    stood_by : (o : Option (Stored K V)) → held ≡ o → kind_of done ≡ kinds.Remove → (stands : Said) → StandsOn m' stands → HoldsNow stands
+    stood_by None e removes_it = stood_same (λ j. chosen_after (e j) done x.chosen)
+    stood_by (Some p) e removes_it = stood_removed p e removes_it
+
+    stood_now : (stands : Said) → StandsOn m' stands → HoldsNow stands
+    stood_now = ⊎_elim (stood_by held refl) stood_same (chosen_same key r.made r.said x held done)
+
+    -- whether it was shown that there is none, and how often
+    none_by : (o : Option (Stored K V)) → held ≡ o → (HasNoNone ((o, done) ∷ r.said) ⊎ HasShownNone m'.remembered.fill m'.state) × IsNoneOnce ((o, done) ∷ r.said)
+    none_by None e =
+        let shows : ask_of m ≡ ShowNone = asks ∙ ap (λ (o : Option (Stored K V)). show (number_of o)) e in
+        (inr (machine_offered m (kind_of done) shows), ⊎_elim (λ never. never) (λ shown. absurd ((machine_shown m (Op (kind_of done)) shown).0 shows)) r.none_shown)
+    none_by (Some p) e = (⊎_elim (λ never. inl never) (λ shown. inr (machine_shown m (Op (kind_of done)) shown).1) r.none_shown, r.none_once)
+
+    not_done : (shown : Option ℕ) → ask_of m ≡ show shown → (reply : Reply) → ask_of m ≡ Done reply → ⊥
+    not_done None e reply h = let g = sym e ∙ h in cc g
+    not_done (Some n) e reply h = let g = sym e ∙ h in cc g
+
+    not_load : (shown : Option ℕ) → ask_of m ≡ show shown → (t : ℕ) → ask_of m ≡ Load (Next t) → ⊥
+    not_load None e t h = let g = sym e ∙ h in cc g
+    not_load (Some n) e t h = let g = sym e ∙ h in cc g
+
+    chosen_in : (o : Operation V T) (shown : Option (Stored K V)) → IsPlaced b (Some name) (pair_named shown) → IsPlaced b (Some name) (pair_named (chosen_after shown o x.chosen))
+    chosen_in o None p = r.chosen_placed
+    chosen_in (operation.Insert v) (Some q) p = r.chosen_placed
+    chosen_in operation.Remove (Some q) p = p
+    chosen_in (operation.Abort t) (Some q) p = r.chosen_placed
+
+    -- it goes on, with what was said now
+    pub shows_on : (g : F) → operates f held done g → WasHeld eq (eq key) (history_of begun) (history_of log) held → IsPlaced b (Some name) (pair_named held) → On log (shown_to key r.made r.said x held done) g (Some (Op (kind_of done)))
+    shows_on g operated was placed = (
+      record {
+        made = r.made;
+        writing = asked r.made log x.writer r.writing (kind_of done) (number_of held) (value_after done x.writer.value) asks;
+        task_is = r.task_is;
+        words = machine_shows m (Op (kind_of done)) r.words;
+        shown_placed = placed;
+        chosen_placed = chosen_in done held placed;
+        said = (held, done) ∷ r.said;
+        has_said = (f, r.has_said, operated);
+        held = (was, r.held);
+        none_once = (none_by held refl).1;
+        none_shown = (none_by held refl).0;
+        stood = stood_now;
+        aborts = λ with e. let s = machine_aborted m (Op (kind_of done)) with (not_done (number_of held) asks) e in let a = aborts_with done with (op_is done (kinds.Abort with) s.2) in (a.0, a.2 x.aborted, (held, ap (λ (o : Operation V T). (held, o)) a.1));
+        refuses = λ e. ⊎_elim
+            (λ h. absurd (cc h))
+            (λ h. ⊎_elim (λ a. absurd (not_load (number_of held) asks a.1.0 a.1.1)) (λ a. (λ j. (none_asked m held asks a.1 j, removes done (op_is done kinds.Remove a.2) j))) h)
+            (machine_refused m RemoveNothing (Op (kind_of done)) (not_done (number_of held) asks) e);
+      },
+      tt,
+    )
+
+  module _ (log : List (Event K V S)) (x : Computing K V S T H) (f : F) (r : Comp log x f) where
+    abbrev G : Setting (Option K) (Stored K V)
+    G = Wide eq input build write finish classes respects b (eq key) (input key) own (Some key) name begun log
+
+    abbrev C : Coding (Option K) (Stored K V)
+    C = Coded eq input build write finish classes respects b (eq key) (input key) own (Some key) name begun
+
+    abbrev hands : Hands (Stored K V)
+    hands = hands_with x.writer.call.last r.made
+
+    was_held : (value : Option (Stored K V)) → WasAtMoment G C (exchanges_of begun) r.writing.calling.since (Some key) value → WasHeld eq (eq key) (history_of begun) (history_of log) value
+    was_held value was = own_held_then eq input build write finish classes respects b (eq key) (input key) own begun log r.writing.calling.lawful r.writing.calling.since r.writing.calling.is key value was
+
+    -- where it shows that its key is absent, it was
+    pub none_held : ask_of x.writer.call.machine ≡ ShowNone → WasHeld eq (eq key) (history_of begun) (history_of log) None
+    none_held e = was_held None (machine_offers G C (exchanges_of begun) r.writing.calling.since (Some key) hands x.writer.call.machine r.writing.calling.rests e)
+
+    -- where it shows the pair last told of, the key had it
+    pub pair_held : (n : ℕ) → ask_of x.writer.call.machine ≡ ShowPair n → (p : Stored K V) → x.writer.call.last ≡ Some p → WasHeld eq (eq key) (history_of begun) (history_of log) (Some p) × (p.index ≡ n)
+    pair_held n e p last =
+        let hashed = hashed_with eq input build write finish classes respects b (eq key) (input key) own log r.writing.calling.lawful in
+        let shown = held.machine_shows G C hashed (exchanges_of begun) r.writing.calling.since (Some key) hands x.writer.call.machine r.writing.calling.rests n e in
+        let one : shown.0 ≡ p = cc (shown.1, last) in
+        (was_held (Some p) (subst (λ (z : Stored K V). WasAtMoment G C (exchanges_of begun) r.writing.calling.since (Some key) (Some z)) one shown.4), ap (λ (z : Stored K V). z.index) (sym one) ∙ shown.2)
