@@ -25,7 +25,8 @@ use Rattle.papaya_map.specs.declared.insertion.Insertion.{Insertion}
 use Rattle.papaya_map.specs.Changing.{hands_with}
 use Rattle.papaya_map.specs.Hashes.{hash_of}
 use Rattle.papaya_map.specs.History.{key_of}
-use Rattle.papaya_map.specs.Inserting.{IsInserting, IsInsertingOn, IsOpening, IsUnpaired}
+use Rattle.papaya_map.specs.Inserting.{IsInserting, IsInsertingOn, IsUnpaired}
+use Rattle.papaya_map.specs.Writing.{IsOpening}
 use Rattle.papaya_map.specs.Logs.{Stored, exchanges_of, number_of}
 use Rattle.papaya_map.specs.Makers.{IsMade}
 use Rattle.papaya_map.specs.Rule.{IsLawfulLog, IsPlaced}

@@ -41,11 +41,12 @@ use Rattle.papaya_map.specs.Calls.{IsSlotTried, IsTable, IsTried}
 use Rattle.papaya_map.specs.Changing.{IsCalling, IsHeldAt, IsLoaded, IsPut, hands_with}
 use Rattle.papaya_map.specs.Hashes.{hash_of}
 use Rattle.papaya_map.specs.History.{Change, changes_of, history_of, key_of}
-use Rattle.papaya_map.specs.Inserting.{IsInserting, IsOpening}
+use Rattle.papaya_map.specs.Inserting.{IsInserting}
+use Rattle.papaya_map.specs.Writing.{IsOpening}
 use Rattle.papaya_map.specs.Logs.{Stored, exchanges_of, is_blocking}
-use Rattle.papaya_map.specs.Plays.{CanExchange, made_list}
+use Rattle.papaya_map.specs.Plays.{CanExchange, IsPutting, made_list}
 use Rattle.papaya_map.specs.Rule.{IsLawfulLog}
-use Rattle.papaya_map.proofs.AskedPairs.{IsPutting, asked_pair}
+use Rattle.papaya_map.proofs.AskedPairs.{asked_pair}
 use Rattle.papaya_map.proofs.Changing.{Coded, Wide, counted, load_table, loads, rests_of, size_table, sized, slot_table}
 use Rattle.papaya_map.proofs.Driving.{can_put, is_made, one_made}
 use Rattle.papaya_map.proofs.Exchanging.{exchanged, lost}

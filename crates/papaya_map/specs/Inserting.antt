@@ -1,8 +1,7 @@
 -- What an insertion on the shared map holds and rests on.
 use Rattle.std.specs.Prelude.{◌≡◌, ℕ, Bool, true, Option, None, Some, List}
 use Rattle.boxcar.specs.Table.{Shows, Where}
-use Rattle.logbook.specs.Pages.{Book, nib, may_write}
-use Rattle.logbook.specs.declared.tokens.Pen.{Pen}
+use Rattle.logbook.specs.Pages.{Book}
 use Rattle.papaya_call.specs.declared.ask.Answer.{Answer}
 use Rattle.papaya_call.specs.declared.ask.Ask.TheVariants.{Done, Exchange}
 use Rattle.papaya_call.specs.declared.ask.At.TheVariants.{Root}
@@ -11,36 +10,22 @@ use Rattle.papaya_call.specs.declared.call.Task.TheVariants.{Insert}
 use Rattle.papaya_call.specs.declared.write.Made.{Made}
 use Rattle.papaya_call.specs.declared.write.Made.TheVariants.{Nothing, Key, Pair}
 use Rattle.papaya_call.specs.Machine.{IsFit, after, ask_of}
-use Rattle.papaya_map.specs.Sheets.{Sheet}
 use Rattle.papaya_map.specs.declared.event.Begun.{Begun}
 use Rattle.papaya_map.specs.declared.event.Event.{Event}
-use Rattle.papaya_map.specs.declared.event.Named.TheVariants.{Table}
 use Rattle.papaya_map.specs.declared.insertion.Insertion.{Insertion}
 use denote.Bor.{Bor}
 use mathlib.Core.List.{IsPrefix}
 use Rattle.papaya_map.specs.Changing.{IsCalling, IsPut}
 use Rattle.papaya_map.specs.History.{history_of, key_of}
-use Rattle.papaya_map.specs.Logs.{Stored, number_of}
-use Rattle.papaya_map.specs.Makers.{IsMade}
+use Rattle.papaya_map.specs.Logs.{Stored}
 use Rattle.papaya_map.specs.Plays.{made_list}
-use Rattle.papaya_map.specs.Rule.{IsPlaced}
+use Rattle.papaya_map.specs.Writing.{IsOpening}
 
 -- no pair is made yet
 abbrev pub IsUnpaired : Made → Type 0
 IsUnpaired Nothing = Unit {0}
 IsUnpaired Key = Unit {0}
 IsUnpaired (Pair n) = ⊥
-
--- the table of this number was made, and its seal is at hand
-pub record IsOpening {K V S : Type 0} (b : Begun K V S) (name : Book) (log : List (Event K V S)) (n : ℕ) (opening : Option (Where Sheet × Pen)) : Type 0 where
-  pub table : Where Sheet
-  pub seal : Pen
-  pub is : opening ≡ Some (table, seal)
-  pub number_is : number_of table ≡ n
-  pub made : IsMade table.value log
-  pub placed : IsPlaced b (Some name) (Table table)
-  pub seal_book : seal.book ≡ name
-  pub seal_nib : seal.nib ≡ nib may_write table.value.seal 0
 
 module _ {K V S H : Type 0} (eq : K → K → Bool) (hash : S → K → ℕ) (b : Begun K V S) (name : Book) where
   -- An insertion of this key and value. It holds the key as it was handed in, or as it was logged, and the value until it is logged.
