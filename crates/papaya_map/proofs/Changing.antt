@@ -62,6 +62,15 @@ module _ {K V S : Type 0} where
   placed_last b name None last p q = q
   placed_last b name (Some z) last p q = p
 
+module _ {K V S : Type 0} (eq : K → K → Bool) (hash : S → K → ℕ) (b : Begun K V S) (name : Book) where
+  -- a load tells that the log is lawful
+  pub loaded_lawful : (log : List (Event K V S)) (at : At) (word : ℕ) (table table' : Option (Bor Sheet)) (last last' : Option (Stored K V)) → IsLoaded eq hash b name at word log table table' last last' → IsLawfulLog eq hash b log
+  loaded_lawful log Root word table table' last last' is = is.1.lawful
+  loaded_lawful log (Next t) word table table' last last' is = is.1.lawful
+  loaded_lawful log (Slot t i) word table table' last last' is = is.1.lawful
+  loaded_lawful log (Aborted t) word table table' last last' is = absurd is
+  loaded_lawful log (Done t) word table table' last last' is = absurd is
+
 module _ {K V S H : Type 0} (eq : K → K → Bool) (input : K → List (List ℕ)) (build : S → H) (write : H → List ℕ → H) (finish : H → ℕ) (classes : IsEquivalence eq) (respects : (x y : K) → eq x y ≡ true → input x ≡ input y)
     (b : Begun K V S) (matches : K → Bool) (query : List (List ℕ)) (lawful : IsQuery eq input matches query) (k : Option K) (name : Book) (begun : List (Event K V S)) where
   abbrev hash : S → K → ℕ

@@ -40,6 +40,8 @@ pub mod Changing
 pub mod Exchanging
 pub mod OnePair
 pub mod Opened
+pub mod Writing
+pub mod WritingSteps
 pub mod Inserting
 pub mod InsertingSteps
 -- what closures are shown

@@ -1,5 +1,5 @@
 //! Removals: their machine, answered by steps on the book and by a closure.
-ghost use Rattle.std.specs.Prelude.{◌≡◌, ℕ, None, Some};
+ghost use Rattle.std.specs.Prelude.{◌≡◌, ℕ, Some};
 ghost use mathlib.Core.List.{IsPrefix};
 ghost use Rattle.papaya_call.specs.Machine.{IsStanding, ask_of};
 ghost use Rattle.papaya_call.specs.declared.ask.Ask.TheVariants.{Done, Exchange, Load, SameKey, ShowPair, SizeOf};
@@ -13,7 +13,7 @@ ghost use Rattle.papaya_map.specs.Rule.{IsLawfulLog, IsPlaced};
 ghost use Rattle.papaya_map.specs.Showings.{AreOf, Judges};
 
 use crate::book::Book;
-use crate::caller::{nothing_made, Caller};
+use crate::caller::{Caller, nothing_made};
 use crate::count::Shard;
 use crate::event::Stored;
 use crate::reader::hash;

@@ -15,7 +15,7 @@ ghost use Rattle.papaya_map.specs.Writing.{CanPut, CanWrite, IsUnlogged, Pairs, 
 ghost use Rattle.papaya_map.specs.declared.event.Named.TheVariants.{Pair as PairNamed};
 
 use crate::book::Book;
-use crate::caller::{nothing_made, Caller};
+use crate::caller::{Caller, nothing_made};
 use crate::event::Stored;
 use crate::table::Table;
 use crate::trade::Sight;
@@ -170,7 +170,8 @@ impl<'a, K: Hash + Eq + Drop, V: Drop, S: BuildHasher> Writer<'a, K, V, S> {
         let Ok(pair) = book.log_pair(rt, key, value) else {
             return Err(Answer::Refused(Refused::Memory));
         };
-        if pair.index() >= MAX_LOG_LEN {
+        let number = pair.index();
+        if number >= MAX_LOG_LEN {
             return Err(Answer::Refused(Refused::Capacity));
         }
         Ok(pair)
@@ -263,7 +264,8 @@ impl<'a, K: Hash + Eq + Drop, V: Drop, S: BuildHasher> Writer<'a, K, V, S> {
         };
         let kind = self.call.machine.kind();
         let (found, before) = book.put_slot(table, number, place, kind, pair, words, pass);
-        self.call.tried(words.0, found, before, Some(pair.again()))
+        let put = pair.again();
+        self.call.tried(words.0, found, before, Some(put))
     }
 
     /// Tries to bury the pair that a slot holds.
