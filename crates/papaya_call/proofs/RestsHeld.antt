@@ -1,7 +1,7 @@
 -- What a call that exchanges a slot has made, and what a call that shows a pair was told of.
 use Rattle.std.proofs.Common.{◌≡◌, inl, inr, ℕ, Option, None, Some, List, refl}
 use Rattle.papaya_call.specs.declared.ask.At.TheVariants.{Slot}
-use Rattle.papaya_call.specs.declared.ask.Ask.TheVariants.{Exchange as Ask_exchange, SameKey, ShowNone, ShowPair}
+use Rattle.papaya_call.specs.declared.ask.Ask.TheVariants.{Exchange as Ask_exchange, MakePair, SameKey, ShowNone, ShowPair}
 use Rattle.papaya_call.specs.declared.remove.Removal.{Removal}
 use Rattle.papaya_words.specs.Word.{kind_of, pair_of}
 use Rattle.papaya_words.specs.declared.word.Kind.TheVariants as word_kinds
@@ -27,11 +27,14 @@ use Rattle.papaya_call.specs.declared.call.Reply.{Reply}
 use Rattle.papaya_call.specs.declared.ask.Ask.TheVariants.{Done}
 use Rattle.papaya_call.specs.Rests.{IsReply, change_in, change_of_reply}
 use Rattle.papaya_call.specs.Law.Code.{Coding}
-use Rattle.papaya_call.specs.declared.ask.Answer.TheVariants.{Op}
+use Rattle.papaya_call.specs.declared.ask.Answer.TheVariants.{Op, Refused as Was_refused}
 use Rattle.papaya_call.specs.declared.ask.OpKind.{OpKind}
 use Rattle.papaya_call.specs.declared.ask.OpKind.TheVariants as ops
+use Rattle.papaya_call.specs.declared.call.Reply.TheVariants.{Refused as Reply_refused}
 use Rattle.papaya_call.specs.declared.compute.Gap.{Gap}
-use Rattle.papaya_call.specs.Machine.{HasClosure, IsComputer, IsWriter, after, ask_of, asks}
+use Rattle.papaya_call.specs.declared.compute.Purpose.{Purpose}
+use Rattle.papaya_words.specs.declared.probe.Refused.{Refused as Cause}
+use Rattle.papaya_call.specs.Machine.{HasClosure, IsComputer, IsStanding, IsStandingState, IsWriter, after, ask_of, asks}
 use Rattle.papaya_call.specs.Says.{HasShownNone, Inserts, StandsOn, said_in, said_to_choose, said_to_fill, show}
 use Rattle.papaya_call.specs.declared.compute.Choice.{Choice}
 use Rattle.papaya_call.specs.declared.compute.Choice.TheVariants.{Replace as To_replace, Remove as To_remove}
@@ -260,3 +263,34 @@ machine_unpaired m shown other e (inr (inl h)) = fill_is_made m.remembered.fill 
 machine_unpaired m shown other e (inr (inr h)) = choice_is_made m.remembered.choice shown h
 machine_unpaired m shown None e (inl h) = let at = offering_in m.made m.hash m.state e in let none : None ≡ Some (Inserts shown) = ap (said_in m.task) (sym at.1) ∙ h in cc none
 machine_unpaired m shown (Some n) e (inl h) = let at = showing_in m.made m.hash m.state n e in let none : None ≡ Some (Inserts shown) = ap (said_in m.task) (sym at.1) ∙ h in cc none
+
+-- a compute that makes a pair makes it of its closure's value
+pairing_in : (made : Made) (hash : ℕ) (s : Stage) → IsStandingState Compute s → asks made hash s ≡ MakePair → (purpose : Purpose) × (s ≡ Pairing purpose)
+pairing_in made hash AtRoot stands e = absurd cc
+pairing_in made hash Making stands e = absurd cc
+pairing_in made hash (Opening u) stands e = absurd cc
+pairing_in made hash (Searching (Sizing u)) stands e = absurd cc
+pairing_in made hash (Searching (Looking at)) stands e = absurd cc
+pairing_in made hash (Searching (Comparing at word)) stands e = absurd cc
+pairing_in made hash (Writing write) stands e = absurd stands.0
+pairing_in made hash (Offering gap) stands e = absurd cc
+pairing_in made hash (Showing removal) stands e = absurd cc
+pairing_in made hash (Pairing purpose) stands e = (purpose, refl)
+pairing_in made hash (Putting put) stands e = absurd cc
+pairing_in made hash (Burying removal) stands e = absurd cc
+pairing_in made hash (Counting i) stands e = absurd cc
+pairing_in made hash (Uncounting i) stands e = absurd cc
+pairing_in made hash (Leaving u) stands e = absurd cc
+pairing_in made hash (Growing u) stands e = absurd cc
+pairing_in made hash (Ended reply) stands e = absurd cc
+
+refused_unpaired : (m : Machine) (purpose : Purpose) (cause : Cause) (shown : Option ℕ) → m.task ≡ Compute → StandsOn (after (record m { state = Pairing purpose }) (Was_refused cause)) (Inserts shown) → ⊥
+refused_unpaired m purpose cause shown task (inl h) = let none : None ≡ Some (Inserts shown) = ap (λ t. said_in t (Ended (Reply_refused cause))) (sym task) ∙ h in cc none
+refused_unpaired m purpose cause shown task (inr (inl h)) = fill_is_made m.remembered.fill shown h
+refused_unpaired m purpose cause shown task (inr (inr h)) = choice_is_made m.remembered.choice shown h
+
+-- where that was refused, no value waits any more
+pub machine_refused_pair : (m : Machine) (cause : Cause) (shown : Option ℕ) → m.task ≡ Compute → IsStanding m → ask_of m ≡ MakePair → StandsOn (after m (Was_refused cause)) (Inserts shown) → ⊥
+machine_refused_pair m cause shown task standing e h =
+    let at = pairing_in m.made m.hash m.state (subst (λ t. IsStandingState t m.state) task standing.state) e in
+    refused_unpaired m at.0 cause shown task (subst (λ s. StandsOn (after (record m { state = s }) (Was_refused cause)) (Inserts shown)) at.1 h)

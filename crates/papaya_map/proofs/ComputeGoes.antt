@@ -9,7 +9,8 @@ use Rattle.papaya_call.specs.declared.answers.Operation.TheVariants as operation
 use Rattle.papaya_call.specs.declared.ask.Ask.{Ask}
 use Rattle.papaya_call.specs.declared.ask.Ask.TheVariants.{Load, Exchange, SameKey, ShowNone, ShowPair, SizeOf, MakeKey, MakePair, MakeTable, AddToShard, Done}
 use Rattle.papaya_call.specs.declared.ask.Answer.{Answer}
-use Rattle.papaya_call.specs.declared.ask.Answer.TheVariants.{Refused as Was_refused}
+use Rattle.papaya_call.specs.declared.ask.Answer.TheVariants.{Word as Word_read, Exchanged, Found as Found_instead, Yes, Op, Size, Made as Made_number, Ok as Ok_done, Refused as Was_refused}
+use Rattle.papaya_call.specs.declared.ask.At.TheVariants.{Root, Next, Aborted as Aborted_word, Done as Done_word, Slot}
 use Rattle.papaya_call.specs.declared.call.Reply.{Reply}
 use Rattle.papaya_call.specs.declared.call.Reply.TheVariants.{Aborted, Refused as Reply_refused}
 use Rattle.papaya_call.specs.declared.call.Task.{Task}
@@ -26,7 +27,7 @@ use Rattle.papaya_map.specs.declared.computing.Computing.{Computing}
 use Rattle.papaya_map.specs.declared.event.Begun.{Begun}
 use Rattle.papaya_map.specs.declared.event.Event.{Event}
 use Rattle.papaya_map.specs.declared.writer.Writer.{Writer}
-use Rattle.papaya_map.specs.Computing.{Holds, IsComputing, IsComputingOn}
+use Rattle.papaya_map.specs.Computing.{Holds, IsComputing, IsComputingOn, IsWriters}
 use Rattle.papaya_map.specs.Hashes.{hash_of}
 use Rattle.papaya_map.specs.History.{history_of}
 use Rattle.papaya_map.specs.Logs.{Stored}
@@ -48,6 +49,36 @@ IsSilent (SizeOf t) = Unit {0}
 IsSilent MakeKey = Unit {0}
 IsSilent (MakeTable slots limit) = Unit {0}
 IsSilent (AddToShard by) = Unit {0}
+
+-- what any call asks that inserts is silent
+pub writers_silent : (ask : Ask) → IsWriters ask → IsSilent ask
+writers_silent (Load at) h = tt
+writers_silent (Exchange Root old new) h = tt
+writers_silent (Exchange (Next t) old new) h = absurd h
+writers_silent (Exchange (Aborted_word t) old new) h = absurd h
+writers_silent (Exchange (Done_word t) old new) h = absurd h
+writers_silent (Exchange (Slot t x) old new) h = absurd h
+writers_silent (SameKey n) h = tt
+writers_silent ShowNone h = absurd h
+writers_silent (ShowPair n) h = absurd h
+writers_silent (SizeOf t) h = tt
+writers_silent MakeKey h = tt
+writers_silent MakePair h = absurd h
+writers_silent (MakeTable slots limit) h = tt
+writers_silent (AddToShard by) h = absurd h
+writers_silent (Done reply) h = absurd h
+
+-- no answer changes the task
+task_after : (m : Machine) (answer : Answer) → (after m answer).task ≡ m.task
+task_after m (Word_read word) = refl
+task_after m Exchanged = refl
+task_after m (Found_instead word) = refl
+task_after m (Yes same) = refl
+task_after m (Op kind) = refl
+task_after m (Size slots limit) = refl
+task_after m (Made_number n) = refl
+task_after m Ok_done = refl
+task_after m (Was_refused refused) = refl
 
 module _ (m : Machine) (answer : Answer) (silent : IsSilent (ask_of m)) where
   not_done : (reply : Reply) → ask_of m ≡ Done reply → ⊥
@@ -79,7 +110,7 @@ module _ {K V S H T : Type 0} (key : K) (made : List (Stored K V)) (said : List 
   holds_still w same (Removes n) h = h
 
 module _ {K V S H T F : Type 0} (eq : K → K → Bool) (hash : S → K → ℕ) (b : Begun K V S) (name : Book) (operates : F → Option (Stored K V) → Operation V T → F → Type 0) (key : K) (first : F) (begun : List (Event K V S)) where
-  abbrev pub Computing_at : List (Event K V S) → Computing K V S T H → F → Type 0
+  abbrev Computing_at : List (Event K V S) → Computing K V S T H → F → Type 0
   Computing_at log x f = IsComputing eq hash b name operates key first begun log x f
 
   abbrev pub ComputingOn : List (Event K V S) → Computing K V S T H → F → Option Answer → Type 0
@@ -101,15 +132,15 @@ module _ {K V S H T F : Type 0} (eq : K → K → Bool) (hash : S → K → ℕ)
     none_later answer h = ⊎_elim (λ never. inl never) (λ shown. inr (machine_shown m answer shown).1) h
 
     -- it goes on after an answer to a silent ask
-    pub goes_on : IsStanding m → IsSilent (ask_of m) → (log' : List (Event K V S)) → IsPrefix log log' → (w : Writer K V S H) (answer : Answer) → w.call.machine ≡ m → w.value ≡ x.writer.value → (answer ≡ Was_refused RemoveNothing → ⊥) → (after m answer).task ≡ m.task
+    pub goes_on : IsStanding m → IsSilent (ask_of m) → (log' : List (Event K V S)) → IsPrefix log log' → (w : Writer K V S H) (answer : Answer) → w.call.machine ≡ m → w.value ≡ x.writer.value → (answer ≡ Was_refused RemoveNothing → ⊥)
         → IsWritingOn eq hash b name key r.made begun log' w answer → ComputingOn log' (record x { writer = w }) f (Some answer)
-    goes_on standing silent log' pre w answer same value something task on =
+    goes_on standing silent log' pre w answer same value something on =
         let then : after w.call.machine answer ≡ after m answer = ap (λ (z : Machine). after z answer) same in
         let w' : Writer K V S H = record w { call = record w.call { machine = after w.call.machine answer } } in (
           record {
             made = r.made;
             writing = on.0;
-            task_is = ap (λ (z : Machine). z.task) then ∙ (task ∙ r.task_is);
+            task_is = ap (λ (z : Machine). z.task) then ∙ (task_after m answer ∙ r.task_is);
             words = subst (λ (z : Machine). ShowsPairs z.state) (sym then) (machine_shows m answer r.words);
             shown_placed = r.shown_placed;
             chosen_placed = r.chosen_placed;

@@ -47,6 +47,7 @@ use Rattle.papaya_map.proofs.Changing.{Coded, Wide, quiet}
 use Rattle.papaya_map.specs.Computing.{IsComputingOn}
 use Rattle.papaya_map.proofs.Readings.{IsQuery, hashed_with}
 use Rattle.papaya_map.proofs.Showings.{own_held_then}
+use Rattle.papaya_map.proofs.Writing.{own_query}
 
 -- the number of what is shown
 abbrev pub number_of : {K V : Type 0} → Option (Stored K V) → Option ℕ
@@ -144,9 +145,8 @@ module _ {K V S T H F : Type 0} (eq : K → K → Bool) (input : K → List (Lis
   abbrev hash : S → K → ℕ
   hash = hash_of input build write finish
 
-  -- a key is a form of itself
   own : IsQuery eq input (eq key) (input key)
-  own = record { feeds = λ k h. respects key k h; class = λ k l h. classes.congr key k l h }
+  own = own_query eq input build write finish classes respects b name key
 
   abbrev Comp : List (Event K V S) → Computing K V S T H → F → Type 0
   Comp log x f = IsComputing eq hash b name operates key first begun log x f

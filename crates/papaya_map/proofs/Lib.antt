@@ -52,3 +52,6 @@ pub mod RemovingReplies
 -- computes
 pub mod ComputeGoes
 pub mod ComputeShows
+pub mod ComputePairs
+pub mod ComputePuts
+pub mod ComputeReplies

@@ -31,7 +31,7 @@ use Rattle.papaya_map.proofs.Histories.{changes-append, history_since}
 use Rattle.papaya_map.proofs.Logs.{prefix_trans}
 use Rattle.papaya_map.proofs.Readings.{IsQuery}
 use Rattle.papaya_map.proofs.Removing.{Removing}
-use Rattle.papaya_map.proofs.Showings.{all_shown, held_then, held_wider, said_only}
+use Rattle.papaya_map.proofs.Showings.{all_shown, held_then, held_wider, said_only, shown_each}
 
 -- no removal replies this
 abbrev pub IsNoRemoval : Reply → Type 0
@@ -44,12 +44,6 @@ IsNoRemoval (Removed n) = ⊥
 IsNoRemoval (Kept n) = ⊥
 IsNoRemoval (Aborted t) = Unit {0}
 IsNoRemoval (Refused cause) = ⊥
-
--- each of these was shown
-shown_each : {X A : Type 0} (P : X → Type 0) (said : List (X × A)) → AllShown P said → (x : X) (a : A) → Member (x, a) said → P x
-shown_each P [] all x a m = absurd m
-shown_each P (last ∷ before) all x a (inl is) = subst P (ap (λ z. z.0) (sym is)) all.0
-shown_each P (last ∷ before) all x a (inr m) = shown_each P before all.1 x a m
 
 -- where two are the same, both are there or neither is
 same_there : {P : Type 0} (holds : P → Type 0) (none : Type 0) (o : Option P) (p : P) → o ≡ Some p → MatchOption o none holds → holds p

@@ -48,3 +48,9 @@ pub said_only : {F X A : Type 0} (says : F → X → A → F → Type 0) (P : A 
 said_only says P each f [] g h x a m = absurd m
 said_only says P each f (last ∷ before) g h x a (inl is) = subst P (ap (λ z. z.1) (sym is)) (each h.0 last.0 last.1 g h.2)
 said_only says P each f (last ∷ before) g h x a (inr m) = said_only says P each f before h.0 h.1 x a m
+
+-- each of these was shown
+pub shown_each : {X A : Type 0} (P : X → Type 0) (said : List (X × A)) → AllShown P said → (x : X) (a : A) → Member (x, a) said → P x
+shown_each P [] all x a m = absurd m
+shown_each P (last ∷ before) all x a (inl is) = subst P (ap (λ z. z.0) (sym is)) all.0
+shown_each P (last ∷ before) all x a (inr m) = shown_each P before all.1 x a m

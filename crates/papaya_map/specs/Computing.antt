@@ -12,6 +12,8 @@ use Rattle.papaya_call.specs.declared.ask.Answer.TheVariants.{Op}
 use Rattle.papaya_call.specs.declared.ask.Ask.{Ask}
 use Rattle.papaya_call.specs.declared.ask.Ask.TheVariants.{Done, Exchange, Load, MakeKey, MakeTable, SameKey, SizeOf}
 use Rattle.papaya_call.specs.declared.ask.At.TheVariants.{Root}
+use Rattle.papaya_call.specs.declared.ask.StepKind.{StepKind}
+use Rattle.papaya_call.specs.declared.ask.StepKind.TheVariants.{Claim}
 use Rattle.papaya_call.specs.declared.ask.OpKind.{OpKind}
 use Rattle.papaya_call.specs.declared.ask.OpKind.TheVariants as kinds
 use Rattle.papaya_call.specs.declared.call.Reply.{Reply}
@@ -84,6 +86,11 @@ keeping done x = record x { writer = record x.writer { value = value_after done 
 
 abbrev pub IsKept : {K V S H T : Type 0} → Operation V T → Answer → Computing K V S T H → Computing K V S T H → Type 0
 IsKept done answer x x' = (answer ≡ Op (kind_of done)) × (x' ≡ keeping done x)
+
+-- the pair that an exchange of this kind puts in: a claim the one that fills, and any other the one of the choice
+abbrev pub pair_for : {P : Type 0} → Option StepKind → (fill made : Option P) → Option P
+pair_for (Some Claim) fill made = fill
+pair_for _ fill made = made
 
 -- what any call asks that inserts, but for its pair and the slots that it exchanges
 abbrev pub IsWriters : Ask → Type 0

@@ -3,7 +3,7 @@ use Rattle.std.specs.Prelude.{◌≡◌, ◌⊎◌, ℕ, Bool, Option, None, Som
 use Rattle.boxcar.specs.Table.{Shows, Where}
 use Rattle.logbook.specs.Pages.{Book, nib, may_write}
 use Rattle.logbook.specs.declared.tokens.Pen.{Pen}
-use Rattle.papaya_words.specs.declared.probe.Refused.TheVariants.{Capacity, Memory}
+use Rattle.papaya_words.specs.declared.probe.Refused.TheVariants.{Capacity, Memory, RemoveNothing}
 use Rattle.papaya_call.specs.declared.ask.Answer.{Answer}
 use Rattle.papaya_call.specs.declared.ask.Answer.TheVariants.{Made, Ok as Ok_done, Refused}
 use Rattle.papaya_call.specs.declared.ask.Ask.TheVariants.{Exchange}
@@ -35,6 +35,10 @@ pub record IsOpening {K V S : Type 0} (b : Begun K V S) (name : Book) (log : Lis
 -- no pair was logged: there was no memory or no number for it, or nothing to log
 abbrev pub IsUnlogged : Answer → Type 0
 IsUnlogged answer = ((answer ≡ Refused Memory) ⊎ (answer ≡ Refused Capacity)) ⊎ (answer ≡ Ok_done)
+
+-- no closure had a part in it: it is no refusal for want of something to remove
+abbrev pub IsUnsaid : Answer → Type 0
+IsUnsaid answer = answer ≡ Refused RemoveNothing → ⊥
 
 module _ {K V S H : Type 0} (eq : K → K → Bool) (hash : S → K → ℕ) (b : Begun K V S) (name : Book) where
   -- A call by this key that has made these pairs. It holds the key as it was handed in, or as it was logged.

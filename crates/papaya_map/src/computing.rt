@@ -1,12 +1,12 @@
 //! Computes: their machine, answered by steps on the book and by a closure.
-ghost use Rattle.std.specs.Prelude.{◌≡◌, ◌⊎◌, ℕ, Bool, cond, None, Some, Option, Ok};
+ghost use Rattle.std.specs.Prelude.{◌≡◌, ◌⊎◌, ℕ, Bool, None, Some, Option, Ok};
 ghost use mathlib.Core.List.{IsPrefix};
-ghost use Rattle.papaya_call.specs.Machine.{IsStanding, ask_of, kind_of_ask};
+ghost use Rattle.papaya_call.specs.Machine.{IsFitAsk, IsStanding, ask_of, kind_of_ask};
 ghost use Rattle.papaya_call.specs.declared.ask.StepKind.TheVariants.{Claim, Replace};
 ghost use Rattle.papaya_call.specs.declared.call.Reply.TheVariants.{Inserted, Removed, Replaced};
 ghost use Rattle.papaya_call.specs.declared.ask.Ask.TheVariants.{Done, Exchange, MakePair, ShowNone, ShowPair};
 ghost use Rattle.papaya_call.specs.declared.ask.At.TheVariants.{Slot};
-ghost use Rattle.papaya_map.specs.Computing.{chosen_after, CanCompute, Computes, IsComputeBy, IsKept, IsWriters, Replies};
+ghost use Rattle.papaya_map.specs.Computing.{CanCompute, Computes, IsComputeBy, IsKept, IsWriters, Replies, chosen_after, pair_for};
 ghost use Rattle.papaya_map.specs.Hashes.{hash_of};
 ghost use Rattle.papaya_map.specs.History.{history_of};
 ghost use Rattle.papaya_map.specs.Parts.{begun_of};
@@ -64,17 +64,19 @@ fn chosen_after<K, V, T>(
     }
 }
 
-/// A token of the first pair where it is wanted, or else of the second.
-fn chosen_of<K, V>(
-    first: bool,
+/// The pair that an exchange of this kind puts in: a claim the one that fills.
+fn pair_for<K, V>(
+    kind: Option<StepKind>,
     fill: &Option<Stored<K, V>>,
     made: &Option<Stored<K, V>>,
 ) -> Option<Stored<K, V>>
-    ensures { result ≡ cond first fill.now made.now }
+    ensures { result ≡ pair_for kind fill.now made.now }
 {
-    match if first { fill } else { made } {
-        Some(pair) => Some(pair.again()),
-        None => None,
+    match (kind, fill, made) {
+        (Some(StepKind::Claim), Some(pair), _) => Some(pair.again()),
+        (Some(StepKind::Claim), None, _) => None,
+        (_, _, Some(pair)) => Some(pair.again()),
+        (_, _, None) => None,
     }
 }
 
@@ -173,13 +175,12 @@ impl<'a, K: Hash + Eq + Drop, V: Drop, S: BuildHasher, T: Drop> Computing<'a, K,
             Err(answer) => return answer,
         };
         let number = pair.index() as u64;
-        match &self.shown {
-            None => self.fill = Some(pair),
-            Some(shown) => {
-                self.chosen = Some(shown.again());
-                self.made = Some(pair);
-            }
-        }
+        let Some(shown) = &self.shown else {
+            self.fill = Some(pair);
+            return Answer::Made(number);
+        };
+        self.chosen = Some(shown.again());
+        self.made = Some(pair);
         Answer::Made(number)
     }
 
@@ -204,8 +205,8 @@ impl<'a, K: Hash + Eq + Drop, V: Drop, S: BuildHasher, T: Drop> Computing<'a, K,
         ensures computes { Computes K.eq (hash_of K.hash_input S.build_hasher S.Hasher.write S.Hasher.finish) (begun_of book.now.parts) book.now.begun.book (Operates F.FnMut) pass.old.log self.old compute.now pass.new.log self.new compute.now (Some result) }
     {
         let _ = compute;
-        let claims = matches!(self.writer.call.machine.kind(), Some(StepKind::Claim));
-        let Some(pair) = chosen_of(claims, &self.fill, &self.made) else {
+        let kind = self.writer.call.machine.kind();
+        let Some(pair) = pair_for(kind, &self.fill, &self.made) else {
             unreachable!()
         };
         self.writer.put(number, place, words, &pair, book, pass)
@@ -250,6 +251,7 @@ impl<'a, K: Hash + Eq + Drop, V: Drop, S: BuildHasher, T: Drop> Computing<'a, K,
         requires can { CanCompute K.eq (hash_of K.hash_input S.build_hasher S.Hasher.write S.Hasher.finish) (begun_of book.now.parts) book.now.begun.book (Operates F.FnMut) pass.old.log self.old compute.now }
         requires standing { IsStanding self.old.writer.call.machine }
         requires asks { (ask_of self.old.writer.call.machine ≡ ask) × IsWriters ask }
+        requires fit { IsFitAsk ask }
         ensures book { pass.new.book ≡ pass.old.book }
         ensures seen { IsPrefix pass.old.log pass.new.log }
         ensures machine { self.new.writer.call.machine ≡ self.old.writer.call.machine }

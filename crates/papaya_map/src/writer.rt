@@ -11,7 +11,7 @@ ghost use Rattle.papaya_map.specs.Hashes.{hash_of};
 ghost use Rattle.papaya_map.specs.Parts.{begun_of};
 ghost use Rattle.papaya_map.specs.Plays.{IsPutting};
 ghost use Rattle.papaya_map.specs.Rule.{IsPlaced};
-ghost use Rattle.papaya_map.specs.Writing.{CanPut, CanWrite, IsUnlogged, Pairs, Puts, Writes};
+ghost use Rattle.papaya_map.specs.Writing.{CanPut, CanWrite, IsUnlogged, IsUnsaid, Pairs, Puts, Writes};
 ghost use Rattle.papaya_map.specs.declared.event.Named.TheVariants.{Pair as PairNamed};
 
 use crate::book::Book;
@@ -55,6 +55,7 @@ impl<'a, K: Hash + Eq + Drop, V: Drop, S: BuildHasher> Writer<'a, K, V, S> {
         ensures seen { IsPrefix pass.old.log pass.new.log }
         ensures machine { self.new.call.machine ≡ self.old.call.machine }
         ensures value { self.new.value ≡ self.old.value }
+        ensures unsaid { IsUnsaid result }
         ensures put { self.new.call.put ≡ self.old.call.put }
         ensures writes { Writes K.eq (hash_of K.hash_input S.build_hasher S.Hasher.write S.Hasher.finish) (begun_of book.now.parts) book.now.begun.book pass.old.log self.old pass.new.log self.new result }
     {
@@ -68,6 +69,7 @@ impl<'a, K: Hash + Eq + Drop, V: Drop, S: BuildHasher> Writer<'a, K, V, S> {
         requires standing { IsStanding self.old.call.machine }
         ensures machine { self.new.call.machine ≡ self.old.call.machine }
         ensures value { self.new.value ≡ self.old.value }
+        ensures unsaid { IsUnsaid result }
         ensures put { self.new.call.put ≡ self.old.call.put }
         ensures writes { Writes K.eq (hash_of K.hash_input S.build_hasher S.Hasher.write S.Hasher.finish) (begun_of book.now.parts) book.now.begun.book pass.now.log self.old pass.now.log self.new result }
     {
@@ -87,6 +89,7 @@ impl<'a, K: Hash + Eq + Drop, V: Drop, S: BuildHasher> Writer<'a, K, V, S> {
         requires standing { IsStanding self.old.call.machine }
         ensures machine { self.new.call.machine ≡ self.old.call.machine }
         ensures value { self.new.value ≡ self.old.value }
+        ensures unsaid { IsUnsaid result }
         ensures put { self.new.call.put ≡ self.old.call.put }
         ensures writes { Writes K.eq (hash_of K.hash_input S.build_hasher S.Hasher.write S.Hasher.finish) (begun_of book.now.parts) book.now.begun.book pass.now.log self.old pass.now.log self.new result }
     {
@@ -115,6 +118,7 @@ impl<'a, K: Hash + Eq + Drop, V: Drop, S: BuildHasher> Writer<'a, K, V, S> {
         requires standing { IsStanding self.old.call.machine }
         ensures machine { self.new.call.machine ≡ self.old.call.machine }
         ensures value { self.new.value ≡ self.old.value }
+        ensures unsaid { IsUnsaid result }
         ensures put { self.new.call.put ≡ self.old.call.put }
         ensures writes { Writes K.eq (hash_of K.hash_input S.build_hasher S.Hasher.write S.Hasher.finish) (begun_of book.now.parts) book.now.begun.book pass.now.log self.old pass.now.log self.new result }
     {
@@ -157,6 +161,7 @@ impl<'a, K: Hash + Eq + Drop, V: Drop, S: BuildHasher> Writer<'a, K, V, S> {
         ensures value { IfOk result (λ q. (self.old.value ≡ Some q.value.value) × (self.new.value ≡ None)) }
         ensures pairs { IfOk result (λ q. Pairs K.eq (hash_of K.hash_input S.build_hasher S.Hasher.write S.Hasher.finish) (begun_of book.now.parts) book.now.begun.book pass.now.log self.old self.new q) }
         ensures unlogged { IfErr result (λ answer. IsUnlogged answer) }
+        ensures kept { IfErr result (λ answer. answer ≡ Answer.Ok → self.new.value ≡ self.old.value) }
         ensures writes { IfErr result (λ answer. Writes K.eq (hash_of K.hash_input S.build_hasher S.Hasher.write S.Hasher.finish) (begun_of book.now.parts) book.now.begun.book pass.now.log self.old pass.now.log self.new answer) }
     {
         let _ = pass;
@@ -196,6 +201,7 @@ impl<'a, K: Hash + Eq + Drop, V: Drop, S: BuildHasher> Writer<'a, K, V, S> {
         ensures seen { IsPrefix pass.old.log pass.new.log }
         ensures machine { self.new.call.machine ≡ self.old.call.machine }
         ensures value { self.new.value ≡ self.old.value }
+        ensures unsaid { IsUnsaid result }
         ensures put { self.new.call.put ≡ self.old.call.put }
         ensures writes { Writes K.eq (hash_of K.hash_input S.build_hasher S.Hasher.write S.Hasher.finish) (begun_of book.now.parts) book.now.begun.book pass.old.log self.old pass.new.log self.new result }
     {
@@ -221,6 +227,7 @@ impl<'a, K: Hash + Eq + Drop, V: Drop, S: BuildHasher> Writer<'a, K, V, S> {
         ensures seen { IsPrefix pass.old.log pass.new.log }
         ensures machine { self.new.call.machine ≡ self.old.call.machine }
         ensures value { self.new.value ≡ self.old.value }
+        ensures unsaid { IsUnsaid result }
         ensures put { self.new.call.put ≡ self.old.call.put }
         ensures writes { Writes K.eq (hash_of K.hash_input S.build_hasher S.Hasher.write S.Hasher.finish) (begun_of book.now.parts) book.now.begun.book pass.old.log self.old pass.new.log self.new result }
     {
@@ -256,6 +263,7 @@ impl<'a, K: Hash + Eq + Drop, V: Drop, S: BuildHasher> Writer<'a, K, V, S> {
         ensures seen { IsPrefix pass.old.log pass.new.log }
         ensures machine { self.new.call.machine ≡ self.old.call.machine }
         ensures value { self.new.value ≡ self.old.value }
+        ensures unsaid { IsUnsaid result }
         ensures put { (self.new.call.put ≡ self.old.call.put) ⊎ (self.new.call.put ≡ Some pair.now) }
         ensures writes { Puts K.eq (hash_of K.hash_input S.build_hasher S.Hasher.write S.Hasher.finish) (begun_of book.now.parts) book.now.begun.book pass.old.log self.old pair.now pass.new.log self.new result }
     {
@@ -286,6 +294,7 @@ impl<'a, K: Hash + Eq + Drop, V: Drop, S: BuildHasher> Writer<'a, K, V, S> {
         ensures seen { IsPrefix pass.old.log pass.new.log }
         ensures machine { self.new.call.machine ≡ self.old.call.machine }
         ensures value { self.new.value ≡ self.old.value }
+        ensures unsaid { IsUnsaid result }
         ensures put { (self.new.call.put ≡ self.old.call.put) ⊎ (self.new.call.put ≡ None) }
         ensures writes { Writes K.eq (hash_of K.hash_input S.build_hasher S.Hasher.write S.Hasher.finish) (begun_of book.now.parts) book.now.begun.book pass.old.log self.old pass.new.log self.new result }
     {

@@ -1,0 +1,174 @@
+-- A compute after a pair was made of what its closure answered last, or was not.
+use Rattle.std.proofs.Common.{◌≡◌, ◌⊎◌, inl, inr, ⊎_elim, ℕ, Bool, Option, None, Some, List, [], ◌∷◌, refl, sym, ap, ◌∙◌, subst}
+use Rattle.logbook.specs.Pages.{Book}
+use Rattle.papaya_words.specs.declared.probe.Refused.{Refused as Cause}
+use Rattle.papaya_words.specs.declared.probe.Refused.TheVariants.{Capacity, Memory, RemoveNothing}
+use Rattle.papaya_call.specs.declared.answers.Operation.{Operation}
+use Rattle.papaya_call.specs.declared.answers.Operation.TheVariants as operation
+use Rattle.papaya_call.specs.declared.ask.Ask.TheVariants.{Load, ShowNone, MakePair, Done}
+use Rattle.papaya_call.specs.declared.ask.At.TheVariants.{Next}
+use Rattle.papaya_call.specs.declared.ask.Answer.{Answer}
+use Rattle.papaya_call.specs.declared.ask.Answer.TheVariants.{Made as Made_number, Ok as Ok_done, Refused as Was_refused}
+use Rattle.papaya_call.specs.declared.call.Reply.{Reply}
+use Rattle.papaya_call.specs.declared.call.Reply.TheVariants.{Aborted, Refused as Reply_refused}
+use Rattle.papaya_call.specs.declared.machine.Machine.{Machine}
+use Rattle.papaya_call.specs.Machine.{IsStanding, after, ask_of}
+use Rattle.papaya_call.specs.Says.{Agrees, HasShownNone, Inserts, IsFilledBy, IsReplacedBy, IsSaidBy, Makes, Removes, Said, ShowsPairs, StandsOn, show}
+use Rattle.papaya_call.specs.Told.{IsOneOf}
+use Rattle.papaya_call.proofs.RestsHeld.{machine_refused_pair}
+use Rattle.papaya_call.proofs.RestsReplyRefused.{machine_refused}
+use Rattle.papaya_call.proofs.SaysChanges.{machine_aborted}
+use Rattle.papaya_call.proofs.SaysOnce.{machine_shown}
+use Rattle.papaya_call.proofs.SaysOver.{machine_paired}
+use Rattle.papaya_call.proofs.SaysSaid.{machine_said}
+use Rattle.papaya_call.proofs.SaysWords.{machine_shows}
+use Rattle.papaya_map.specs.declared.computing.Computing.{Computing}
+use Rattle.papaya_map.specs.declared.event.Begun.{Begun}
+use Rattle.papaya_map.specs.declared.event.Event.{Event}
+use Rattle.papaya_map.specs.declared.writer.Writer.{Writer}
+use Rattle.papaya_map.specs.Computing.{Holds, IsComputing, IsComputingOn, IsMadeOf}
+use Rattle.papaya_map.specs.History.{key_of}
+use Rattle.papaya_map.specs.Logs.{Member, Stored, pair_named}
+use Rattle.papaya_map.specs.Rule.{IsPlaced}
+use Rattle.papaya_map.specs.Showings.{HasNoNone}
+use Rattle.papaya_map.specs.Writing.{IsUnlogged, IsWriting, IsWritingOn}
+
+-- a pair that was made stays so, when another is made
+made_still : {K V T : Type 0} (key : K) (made : List (Stored K V)) (said : List (Option (Stored K V) × Operation V T)) (q : Stored K V) (held : Option (Stored K V)) (n : ℕ) (p : Stored K V) → IsMadeOf key made said held n p → IsMadeOf key (q ∷ made) said held n p
+made_still key made said q held n p h = record { number = h.number; made_is = inr h.made_is; key_is = h.key_is; said_is = h.said_is }
+
+module _ (m : Machine) (answer : Answer) (asks : ask_of m ≡ MakePair) where
+  not_show : (shown : Option ℕ) → ask_of m ≡ show shown → ⊥
+  not_show None e = let f = sym asks ∙ e in cc f
+  not_show (Some n) e = let f = sym asks ∙ e in cc f
+
+  not_done : (reply : Reply) → ask_of m ≡ Done reply → ⊥
+  not_done reply e = let f = sym asks ∙ e in cc f
+
+  -- no call aborts here, and none is refused for want of something to remove
+  no_abort : (with : ℕ) → ask_of (after m answer) ≡ Done (Aborted with) → ⊥
+  no_abort with e = let s = machine_aborted m answer with not_done e in not_show s.0 s.1
+
+  not_nothing : (answer ≡ Was_refused RemoveNothing → ⊥) → ask_of (after m answer) ≡ Done (Reply_refused RemoveNothing) → ⊥
+  not_nothing never e = ⊎_elim never (λ h. ⊎_elim (λ a. let f = a.0 in cc f) (λ a. not_show None a.1) h) (machine_refused m RemoveNothing answer not_done e)
+
+module _ {K V S T H F : Type 0} (eq : K → K → Bool) (hash : S → K → ℕ) (b : Begun K V S) (name : Book) (operates : F → Option (Stored K V) → Operation V T → F → Type 0) (key : K) (first : F) (begun log : List (Event K V S)) (x : Computing K V S T H) (f : F) (r : IsComputing eq hash b name operates key first begun log x f)
+    (standing : IsStanding x.writer.call.machine) (asks : ask_of x.writer.call.machine ≡ MakePair) where
+  abbrev m : Machine
+  m = x.writer.call.machine
+
+  abbrev On : Computing K V S T H → Answer → Type 0
+  On y answer = IsComputingOn eq hash b name operates key first begun log y f (Some answer)
+
+  -- the compute with these tokens, after its machine was answered
+  abbrev with_pairs : Writer K V S H → (chosen fill made : Option (Stored K V)) → Computing K V S T H
+  with_pairs w chosen fill made = record x { writer = w; chosen = chosen; fill = fill; made = made }
+
+  goes_on : (made' : List (Stored K V)) (w : Writer K V S H) (chosen fill made : Option (Stored K V)) (answer : Answer) → w.call.machine ≡ m → (answer ≡ Was_refused RemoveNothing → ⊥) → (after m answer).task ≡ m.task → IsWritingOn eq hash b name key made' begun log w answer → IsPlaced b (Some name) (pair_named chosen)
+      → ((stands : Said) → StandsOn (after m answer) stands → Holds key made' r.said (with_pairs w chosen fill made) stands) → On (with_pairs w chosen fill made) answer
+  goes_on made' w chosen fill made answer same never task on placed stood =
+      let then : after w.call.machine answer ≡ after m answer = ap (λ (z : Machine). after z answer) same in (
+        record {
+          made = made';
+          writing = on.0;
+          task_is = ap (λ (z : Machine). z.task) then ∙ (task ∙ r.task_is);
+          words = subst (λ (z : Machine). ShowsPairs z.state) (sym then) (machine_shows m answer r.words);
+          shown_placed = r.shown_placed;
+          chosen_placed = placed;
+          said = r.said;
+          has_said = r.has_said;
+          held = r.held;
+          none_once = r.none_once;
+          none_shown = subst (λ (z : Machine). HasNoNone r.said ⊎ HasShownNone z.remembered.fill z.state) (sym then) (⊎_elim (λ none. inl none) (λ shown. inr (machine_shown m answer shown).1) r.none_shown);
+          stood = λ stands h. stood stands (subst (λ (z : Machine). StandsOn z stands) then h);
+          aborts = λ with e. absurd (no_abort m answer asks with (ap ask_of (sym then) ∙ e));
+          refuses = λ e. absurd (not_nothing m answer asks never (ap ask_of (sym then) ∙ e));
+        },
+        on.1,
+      )
+
+  module _ (w : Writer K V S H) (same : w.call.machine ≡ m) (q : Stored K V) (was : x.writer.value ≡ Some q.value.value) (key_is : key_of q ≡ key) (on : IsWritingOn eq hash b name key (q ∷ r.made) begun log w (Made_number q.index)) where
+    -- what the closure answered is the pair's value
+    value_is : (v : V) (held : Option (Stored K V)) → x.writer.value ≡ Some v → Member (held, operation.Insert v) r.said → Member (held, operation.Insert q.value.value) r.said
+    value_is v held e member = let is : v ≡ q.value.value = cc (e, was) in subst (λ (z : V). Member (held, operation.Insert z) r.said) is member
+
+    made_now : (held : Option (Stored K V)) → Member (held, operation.Insert q.value.value) r.said → IsMadeOf key (q ∷ r.made) r.said held q.index q
+    made_now held member = record { number = refl; made_is = inl refl; key_is = key_is; said_is = member }
+
+    -- the pair that fills stays at hand
+    fill_still : (chosen made : Option (Stored K V)) (j : ℕ) → Holds key r.made r.said x (Makes None j) → Holds key (q ∷ r.made) r.said (with_pairs w chosen x.fill made) (Makes None j)
+    fill_still chosen made j h = (h.0, h.1, made_still key r.made r.said q None j h.0 h.2)
+
+    -- and so does what was chosen
+    choice_still : (fill : Option (Stored K V)) (stands : Said) → ((j : ℕ) → stands ≡ Makes None j → ⊥) → ((shown : Option ℕ) → stands ≡ Inserts shown → ⊥) → Holds key r.made r.said x stands → Holds key (q ∷ r.made) r.said (with_pairs w x.chosen fill x.made) stands
+    choice_still fill (Agrees n agrees) none never h = h
+    choice_still fill (Inserts shown) none never h = absurd (never shown refl)
+    choice_still fill (Makes None n) none never h = absurd (none n refl)
+    choice_still fill (Makes (Some m) n) none never h = (h.0, h.1, h.2, h.3, h.4, made_still key r.made r.said q (Some h.0) n h.1 h.5)
+    choice_still fill (Removes n) none never h = h
+
+    -- it was made where none was shown
+    pub filled : x.shown ≡ None → On (with_pairs w x.chosen (Some q) x.made) (Made_number q.index)
+    filled none = goes_on (q ∷ r.made) w x.chosen (Some q) x.made (Made_number q.index) same (λ e. cc e) refl on r.chosen_placed (⊎_elim by_fill by_choice (machine_paired m q.index r.task_is standing r.words asks))
+      where
+        by_fill : IsFilledBy m q.index → (stands : Said) → StandsOn (after m (Made_number q.index)) stands → Holds key (q ∷ r.made) r.said (with_pairs w x.chosen (Some q) x.made) stands
+        by_fill p stands h =
+            let s = r.stood (Inserts None) p.0 in
+            ⊎_elim
+            (λ e. subst (λ (z : Said). Holds key (q ∷ r.made) r.said (with_pairs w x.chosen (Some q) x.made) z) (sym e) (q, refl, made_now None (value_is s.1.0 None s.1.1 s.1.2)))
+            (λ k. choice_still (Some q) stands k.1 k.2 (r.stood stands k.0))
+            (p.1 stands h)
+
+        by_choice : IsReplacedBy m q.index → (stands : Said) → StandsOn (after m (Made_number q.index)) stands → Holds key (q ∷ r.made) r.said (with_pairs w x.chosen (Some q) x.made) stands
+        by_choice p stands h = let s = r.stood (Inserts (Some p.0)) p.1 in let e = sym none ∙ s.1 in absurd (cc e)
+
+    -- it was made for what is to become of this pair
+    pub chosen : (p : Stored K V) → x.shown ≡ Some p → On (with_pairs w (Some p) x.fill (Some q)) (Made_number q.index)
+    chosen p has = goes_on (q ∷ r.made) w (Some p) x.fill (Some q) (Made_number q.index) same (λ e. cc e) refl on (subst (λ (o : Option (Stored K V)). IsPlaced b (Some name) (pair_named o)) has r.shown_placed) (⊎_elim by_fill by_choice (machine_paired m q.index r.task_is standing r.words asks))
+      where
+        by_fill : IsFilledBy m q.index → (stands : Said) → StandsOn (after m (Made_number q.index)) stands → Holds key (q ∷ r.made) r.said (with_pairs w (Some p) x.fill (Some q)) stands
+        by_fill k stands h = let s = r.stood (Inserts None) k.0 in let e = sym has ∙ s.0 in absurd (cc e)
+
+        by_choice : IsReplacedBy m q.index → (stands : Said) → StandsOn (after m (Made_number q.index)) stands → Holds key (q ∷ r.made) r.said (with_pairs w (Some p) x.fill (Some q)) stands
+        by_choice k stands h =
+            let s = r.stood (Inserts (Some k.0)) k.1 in
+            let one : s.0 ≡ p = cc (s.1, has) in
+            let member = subst (λ (z : Stored K V). Member (Some z, operation.Insert q.value.value) r.said) one (value_is s.3.0 (Some s.0) s.3.1 s.3.2) in
+            ⊎_elim
+            (λ e. subst (λ (z : Said). Holds key (q ∷ r.made) r.said (with_pairs w (Some p) x.fill (Some q)) z) (sym e) (p, q, refl, ap (λ (z : Stored K V). z.index) (sym one) ∙ s.2, refl, made_now (Some p) member))
+            (λ a. subst (λ (z : Said). Holds key (q ∷ r.made) r.said (with_pairs w (Some p) x.fill (Some q)) z) (sym a.1) (fill_still (Some p) (Some q) a.0 (r.stood (Makes None a.0) (subst (λ (z : Said). StandsOn m z) a.1 a.2))))
+            (k.2 stands h)
+
+  -- what is at hand stays so, whatever value is left, but for a value that waits
+  still : (w : Writer K V S H) (stands : Said) → ((shown : Option ℕ) → stands ≡ Inserts shown → ⊥) ⊎ (w.value ≡ x.writer.value) → Holds key r.made r.said x stands → Holds key r.made r.said (with_pairs w x.chosen x.fill x.made) stands
+  still w (Agrees n agrees) e h = h
+  still w (Inserts None) e h = ⊎_elim (λ never. absurd (never None refl)) (λ same. (h.0, (h.1.0, same ∙ h.1.1, h.1.2))) e
+  still w (Inserts (Some n)) e h = ⊎_elim (λ never. absurd (never (Some n) refl)) (λ same. (h.0, h.1, h.2, (h.3.0, same ∙ h.3.1, h.3.2))) e
+  still w (Makes None n) e h = h
+  still w (Makes (Some i) n) e h = h
+  still w (Removes n) e h = h
+
+  -- no pair was made
+  pub unmade : (w : Writer K V S H) (answer : Answer) → w.call.machine ≡ m → IsUnlogged answer → (answer ≡ Ok_done → w.value ≡ x.writer.value) → IsWritingOn eq hash b name key r.made begun log w answer → On (with_pairs w x.chosen x.fill x.made) answer
+  unmade w answer same unlogged kept on = goes_on r.made w x.chosen x.fill x.made answer same (never_for answer unlogged) (task_of answer unlogged) on r.chosen_placed stood
+    where
+      never_for : (a : Answer) → IsUnlogged a → a ≡ Was_refused RemoveNothing → ⊥
+      never_for a u e = ⊎_elim (λ k. ⊎_elim (λ i. let g = sym i ∙ e in cc g) (λ i. let g = sym i ∙ e in cc g) k) (λ i. let g = sym i ∙ e in cc g) u
+
+      task_of : (a : Answer) → IsUnlogged a → (after m a).task ≡ m.task
+      task_of a u = ⊎_elim (λ k. ⊎_elim (λ i. ap (λ (z : Answer). (after m z).task) i) (λ i. ap (λ (z : Answer). (after m z).task) i) k) (λ i. ap (λ (z : Answer). (after m z).task) i) u
+
+      unsaid_now : (stands : Said) → IsSaidBy m answer stands → ⊥
+      unsaid_now (Agrees n agrees) h = not_show m answer asks (Some n) h.0
+      unsaid_now (Inserts shown) h = not_show m answer asks shown h.0
+      unsaid_now (Makes shown n) h = ⊎_elim (λ k. ⊎_elim (λ i. let g = sym i ∙ h.2 in cc g) (λ i. let g = sym i ∙ h.2 in cc g) k) (λ i. let g = sym i ∙ h.2 in cc g) unlogged
+      unsaid_now (Removes n) h = not_show m answer asks (Some n) h.0
+
+      waits : (stands : Said) → StandsOn (after m answer) stands → ((shown : Option ℕ) → stands ≡ Inserts shown → ⊥) ⊎ (w.value ≡ x.writer.value)
+      waits stands h = ⊎_elim (λ k. inl (λ shown e. ⊎_elim (λ i. refused_for Memory i shown e) (λ i. refused_for Capacity i shown e) k)) (λ i. inr (kept i)) unlogged
+        where
+          refused_for : (cause : Cause) → answer ≡ Was_refused cause → (shown : Option ℕ) → stands ≡ Inserts shown → ⊥
+          refused_for cause i shown e = machine_refused_pair m cause shown r.task_is standing asks (subst (λ (z : Said). StandsOn (after m (Was_refused cause)) z) e (subst (λ (z : Answer). StandsOn (after m z) stands) i h))
+
+      stood : (stands : Said) → StandsOn (after m answer) stands → Holds key r.made r.said (with_pairs w x.chosen x.fill x.made) stands
+      stood stands h = still w stands (waits stands h) (r.stood stands (⊎_elim (λ k. k) (λ k. absurd (unsaid_now stands k)) (machine_said m answer stands standing r.words h)))

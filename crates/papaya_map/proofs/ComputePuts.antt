@@ -1,0 +1,61 @@
+-- The pair that a compute puts into a slot is at hand.
+use Rattle.std.proofs.Common.{◌≡◌, ◌⊎◌, inl, inr, ⊎_elim, ℕ, ◌<◌, ◌^◌, Bool, true, false, cond, Option, None, Some, List, refl, sym, ap, ◌∙◌, subst}
+use Rattle.std.proofs.lemmas.Bool.{cases_Bool}
+use Rattle.std.specs.Cmp.{IsEquivalence}
+use Rattle.logbook.specs.Pages.{Book}
+use Rattle.papaya_words.specs.Word.{pair_of}
+use Rattle.papaya_call.specs.declared.answers.Operation.{Operation}
+use Rattle.papaya_call.specs.declared.ask.Ask.TheVariants.{Exchange}
+use Rattle.papaya_call.specs.declared.ask.At.TheVariants.{Slot}
+use Rattle.papaya_call.specs.declared.ask.StepKind.{StepKind}
+use Rattle.papaya_call.specs.declared.ask.StepKind.TheVariants as kinds
+use Rattle.papaya_call.specs.declared.machine.Machine.{Machine}
+use Rattle.papaya_call.specs.Machine.{IsStanding, ask_of, kind_of_ask}
+use Rattle.papaya_call.specs.Says.{Makes}
+use Rattle.papaya_call.specs.Told.{IsOneOf}
+use Rattle.papaya_call.proofs.SaysOver.{machine_exchanges}
+use Rattle.papaya_map.specs.declared.computing.Computing.{Computing}
+use Rattle.papaya_map.specs.declared.event.Begun.{Begun}
+use Rattle.papaya_map.specs.declared.event.Event.{Event}
+use Rattle.papaya_map.specs.Computing.{IsComputing, pair_for}
+use Rattle.papaya_map.specs.Hashes.{hash_of}
+use Rattle.papaya_map.specs.Plays.{IsPutting}
+use Rattle.papaya_map.proofs.Readings.{hashed_with}
+use Rattle.papaya_map.proofs.Writing.{own_query}
+use Rattle.papaya_map.specs.Logs.{Stored}
+
+module _ {K V S T H F : Type 0} (eq : K → K → Bool) (input : K → List (List ℕ)) (build : S → H) (write : H → List ℕ → H) (finish : H → ℕ) (classes : IsEquivalence eq) (respects : (x y : K) → eq x y ≡ true → input x ≡ input y) (b : Begun K V S) (name : Book) (operates : F → Option (Stored K V) → Operation V T → F → Type 0) (key : K) (first : F) (begun log : List (Event K V S)) (x : Computing K V S T H) (f : F) (r : IsComputing eq (hash_of input build write finish) b name operates key first begun log x f)
+    (standing : IsStanding x.writer.call.machine) (t i old new : ℕ) (asks : ask_of x.writer.call.machine ≡ Exchange (Slot t i) old new) where
+  abbrev m : Machine
+  m = x.writer.call.machine
+
+  -- its hash is one of 64 bits
+  fits : m.hash < 2 ^ 64
+  fits = subst (λ n. n < 2 ^ 64) (sym r.writing.calling.rests.hash) ((hashed_with eq input build write finish classes respects b (eq key) (input key) (own_query eq input build write finish classes respects b name key) log r.writing.calling.lawful).coding.hash_fits (Some key))
+
+  -- a pair that the call made, of the number that the new word names
+  abbrev IsAtHand : Option (Stored K V) → Type 0
+  IsAtHand o = (q : Stored K V) × (o ≡ Some q) × (q.index ≡ pair_of new) × IsOneOf r.made q
+
+  claimed : kind_of_ask m ≡ Some kinds.Claim → IsAtHand x.fill
+  claimed kind =
+      ⊎_elim (λ h. let s = r.stood (Makes None (pair_of new)) h.1 in (s.0, s.1, s.2.number, s.2.made_is))
+      (λ o. ⊎_elim (λ h. let g = sym kind ∙ h.0 in absurd (cc g)) (λ h. let g = sym kind ∙ h.0 in absurd (cc g)) o)
+      (machine_exchanges m t i old new r.task_is fits standing asks)
+
+  replaced : kind_of_ask m ≡ Some kinds.Replace → IsAtHand x.made
+  replaced kind =
+      ⊎_elim (λ h. let g = sym kind ∙ h.0 in absurd (cc g))
+      (λ o. ⊎_elim (λ h. let s = r.stood (Makes (Some (pair_of old)) (pair_of new)) h.1 in (s.1, s.4, s.5.number, s.5.made_is)) (λ h. let g = sym kind ∙ h.0 in absurd (cc g)) o)
+      (machine_exchanges m t i old new r.task_is fits standing asks)
+
+  -- it is the one that the kind of the exchange names
+  pub at_hand : IsPutting (kind_of_ask m) → IsAtHand (pair_for (kind_of_ask m) x.fill x.made)
+  at_hand kind = ⊎_elim
+      (λ h. subst (λ (k : Option StepKind). IsAtHand (pair_for k x.fill x.made)) (sym h) (claimed h))
+      (λ h. subst (λ (k : Option StepKind). IsAtHand (pair_for k x.fill x.made)) (sym h) (replaced h))
+      kind
+
+  -- an exchange that does not bury puts a pair in
+  pub puts : (kind_of_ask m ≡ Some kinds.Bury → ⊥) → IsPutting (kind_of_ask m)
+  puts never = ⊎_elim (λ h. inl h.0) (λ o. ⊎_elim (λ h. inr h.0) (λ h. absurd (never h.0)) o) (machine_exchanges m t i old new r.task_is fits standing asks)

@@ -1,0 +1,11 @@
+use Rattle.std.proofs.Common.{sym, subst}
+use Rattle.papaya_map.specs.Hashes.{hash_of}
+use Rattle.papaya_map.specs.Parts.{begun_of}
+use Rattle.papaya_map.specs.Showings.{Operates}
+use Rattle.papaya_map.proofs.ComputeGoes.{IsSilent, goes_on}
+use Rattle.papaya_map.proofs.computing.Computing.exchange.Goals as goal
+
+pub returns-in-Some-Bury-clause-computes : goal.returns-in-Some-Bury-clause-computes
+returns-in-Some-Bury-clause-computes g c = λ key first begun r.
+    let e = c.bury.ensures in
+    goes_on g.K.PartialEq.eq (hash_of g.K.Hash.hash_input g.S.BuildHasher.build_hasher g.S.Hasher.Hasher.write g.S.Hasher.Hasher.finish) (begun_of c.args.book.now.parts) c.args.book.now.begun.book (Operates g.F.FnMut) key first begun c.args.pass.now.log c.args.self.now c.args.compute.now r c.requires.standing (subst IsSilent (sym c.requires.asks) tt) c.bury.new.pass.log e.seen c.bury.new.self c.bury.result e.machine e.value e.unsaid (e.writes key r.made begun r.writing)
