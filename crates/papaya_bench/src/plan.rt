@@ -1,0 +1,144 @@
+//! What is done to the maps, and how often.
+ghost use Rattle.std.specs.Prelude.{◌≡◌, ◌+◌, ◌*◌, ◌/◌, ◌%◌, ◌^◌};
+ghost use Rattle.std.specs.Int.{IsPowerOfTwo};
+
+/// How many threads work at once, where there are several.
+pub const THREADS: u64 = 4;
+
+/// What one step does to a map.
+#[derive(Clone, Copy, Debug, PartialEq, Eq)]
+pub enum Workload {
+    /// Looks up a key that the map has.
+    GetHit,
+    /// Looks up a key that it does not have.
+    GetMiss,
+    /// Inserts a key that it does not have.
+    InsertFresh,
+    /// Inserts a key that it has.
+    InsertReplace,
+    /// Removes a key that it has, and inserts it again.
+    RemoveInsert,
+}
+
+impl Workload {
+    pub const ALL: [Workload; 5] = [
+        Workload::GetHit,
+        Workload::GetMiss,
+        Workload::InsertFresh,
+        Workload::InsertReplace,
+        Workload::RemoveInsert,
+    ];
+
+    /// The name in what is printed.
+    pub fn name(self) -> &'static str {
+        match self {
+            Workload::GetHit => "get-hit",
+            Workload::GetMiss => "get-miss",
+            Workload::InsertFresh => "insert-fresh",
+            Workload::InsertReplace => "insert-replace",
+            Workload::RemoveInsert => "remove-insert",
+        }
+    }
+
+    /// Does a step leave the map with as many pairs and as many free slots as before? Else each
+    /// round needs a map of its own.
+    pub fn repeats(self) -> bool {
+        match self {
+            Workload::GetHit | Workload::GetMiss | Workload::InsertReplace => true,
+            // A removed pair keeps its slot.
+            Workload::InsertFresh | Workload::RemoveInsert => false,
+        }
+    }
+}
+
+/// A workload, and over how many keys how often. One round is a step at each key.
+#[derive(Clone, Copy, Debug, PartialEq, Eq)]
+pub struct Plan {
+    pub workload: Workload,
+    /// A power of two, so that each key has its turn in a round.
+    pub keys: u32,
+    pub rounds: u32,
+}
+
+impl Plan {
+    /// How many maps are made.
+    pub fn maps(self) -> u32 {
+        if self.workload.repeats() { 1 } else { self.rounds }
+    }
+
+    /// How many rounds each map has.
+    pub fn rounds_of_a_map(self) -> u32 {
+        if self.workload.repeats() { self.rounds } else { 1 }
+    }
+
+    /// How many pairs a map has before the first round.
+    pub fn filled(self) -> u32 {
+        match self.workload {
+            Workload::InsertFresh => 0,
+            _ => self.keys,
+        }
+    }
+
+    /// For how many pairs a map is made. A table does not grow yet, and a pair that was removed
+    /// keeps its slot.
+    pub fn capacity(self) -> usize {
+        match self.workload {
+            Workload::RemoveInsert => self.keys as usize * 2,
+            _ => self.keys as usize,
+        }
+    }
+
+    /// How many steps are made in all rounds.
+    pub fn steps(self) -> u64
+        ensures { result ≡ self.keys * self.rounds }
+    {
+        u64::from(self.keys) * u64::from(self.rounds)
+    }
+
+    /// The key whose turn it is, by its number: an order in which neighbours are far apart.
+    #[inline(always)]
+    pub fn number_at(self, turn: u64) -> u64
+        ensures { IsPowerOfTwo self.keys → result ≡ (turn * 2654435761) % self.keys }
+    {
+        turn.wrapping_mul(2_654_435_761) & u64::from(self.keys).wrapping_sub(1)
+    }
+}
+
+/// The key of a number. Different numbers have different keys, since the factor is odd.
+#[inline(always)]
+pub fn key_of(number: u64) -> u64
+    ensures { result ≡ (number * 3787392781) % 2 ^ 64 }
+{
+    number.wrapping_mul(3_787_392_781)
+}
+
+/// The turns of one of several parts of a round: from the first to below the second.
+#[derive(Clone, Copy, Debug, PartialEq, Eq)]
+pub struct Part {
+    pub start: u64,
+    pub end: u64,
+}
+
+impl Part {
+    /// The whole round.
+    pub fn whole(plan: Plan) -> Part
+        ensures { (result.start ≡ 0) × (result.end ≡ plan.keys) }
+    {
+        Part {
+            start: 0,
+            end: u64::from(plan.keys),
+        }
+    }
+
+    /// The part of this number of as many as there are threads. They follow one another.
+    pub fn of_thread(plan: Plan, thread: u32) -> Part
+        ensures { (result.start ≡ plan.keys * thread / THREADS) × (result.end ≡ plan.keys * (thread + 1) / THREADS) }
+    {
+        let keys = u64::from(plan.keys);
+        let thread = u64::from(thread);
+        Part {
+            start: keys * thread / THREADS,
+            end: keys * (thread + 1) / THREADS,
+        }
+    }
+}
