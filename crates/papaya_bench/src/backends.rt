@@ -1,9 +1,8 @@
 //! The maps that the workloads are run on.
 
 use crate::failure::Failure;
-use crate::one_caller;
 use crate::plan::{Part, Plan, Workload};
-use crate::shared;
+use crate::{one_caller, shared};
 use papaya_words::probe::Refused;
 use std::alloc::Global;
 use std::rt::Clock;
@@ -83,11 +82,7 @@ fn now<R: Clock>(rt: &R) -> Result<Instant, Failure> {
 }
 
 /// The measure of a run that began at `start` and has ended with this sum.
-fn ended<R: Clock>(
-    rt: &R,
-    start: Instant,
-    sum: Result<u64, Refused>,
-) -> Result<Measure, Failure> {
+fn ended<R: Clock>(rt: &R, start: Instant, sum: Result<u64, Refused>) -> Result<Measure, Failure> {
     let elapsed = start.elapsed(rt).map_err(|_| Failure::Clock)?;
     Ok(Measure {
         nanoseconds: elapsed.as_nanos(),

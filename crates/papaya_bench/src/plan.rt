@@ -1,5 +1,5 @@
 //! What is done to the maps, and how often.
-ghost use Rattle.std.specs.Prelude.{◌≡◌, ◌+◌, ◌*◌, ◌/◌, ◌%◌, ◌^◌};
+ghost use Rattle.std.specs.Prelude.{◌≡◌, ◌+◌, ◌*◌, ◌/◌, ◌%◌, ◌^◌, ◌<◌};
 ghost use Rattle.std.specs.Int.{IsPowerOfTwo};
 
 /// How many threads work at once, where there are several.
@@ -63,12 +63,20 @@ pub struct Plan {
 impl Plan {
     /// How many maps are made.
     pub fn maps(self) -> u32 {
-        if self.workload.repeats() { 1 } else { self.rounds }
+        if self.workload.repeats() {
+            1
+        } else {
+            self.rounds
+        }
     }
 
     /// How many rounds each map has.
     pub fn rounds_of_a_map(self) -> u32 {
-        if self.workload.repeats() { self.rounds } else { 1 }
+        if self.workload.repeats() {
+            self.rounds
+        } else {
+            1
+        }
     }
 
     /// How many pairs a map has before the first round.
@@ -95,19 +103,22 @@ impl Plan {
         u64::from(self.keys) * u64::from(self.rounds)
     }
 
-    /// The key whose turn it is, by its number: an order in which neighbours are far apart.
+    /// The number of the key whose turn it is, in an order in which neighbours are far apart. By
+    /// `back`, each number below `keys` has one turn in a round.
     #[inline(always)]
     pub fn number_at(self, turn: u64) -> u64
-        ensures { IsPowerOfTwo self.keys → result ≡ (turn * 2654435761) % self.keys }
+        ensures value { IsPowerOfTwo self.keys → result ≡ (turn * 2654435761) % self.keys }
+        ensures back { IsPowerOfTwo self.keys → turn < self.keys → (result * 14962265741255716689) % self.keys ≡ turn }
     {
         turn.wrapping_mul(2_654_435_761) & u64::from(self.keys).wrapping_sub(1)
     }
 }
 
-/// The key of a number. Different numbers have different keys, since the factor is odd.
+/// The key of a number. By `back`, different numbers have different keys.
 #[inline(always)]
 pub fn key_of(number: u64) -> u64
-    ensures { result ≡ (number * 3787392781) % 2 ^ 64 }
+    ensures value { result ≡ (number * 3787392781) % 2 ^ 64 }
+    ensures back { (result * 1847824006677864389) % 2 ^ 64 ≡ number }
 {
     number.wrapping_mul(3_787_392_781)
 }

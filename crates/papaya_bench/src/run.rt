@@ -3,7 +3,7 @@ ghost use Rattle.std.specs.Prelude.{◌≡◌, ◌≢◌, ◌≤◌, map, string
 ghost use Rattle.papaya_bench.specs.declared.arguments.Task.{Task};
 ghost use Rattle.papaya_bench.specs.Arguments.{words_of};
 
-use crate::answers::agree;
+use crate::answers::compare;
 use crate::arguments::Task;
 use crate::backends::Backend;
 use crate::failure::Failure;
@@ -52,11 +52,7 @@ fn check_workload<R: Clock + Threads + Wait + Sync, W: Write>(
         }
     }
     writeln!(output).map_err(|_| Failure::Output)?;
-    if agree(first, others.as_slice()) {
-        Ok(())
-    } else {
-        Err(Failure::Disagreement)
-    }
+    compare(first, others.as_slice())
 }
 
 /// Compares the backends' answers to each workload.
@@ -90,7 +86,8 @@ fn time_workload<R: Clock + Threads + Wait + Sync, W: Write>(
                 plan.steps(),
                 measure.nanoseconds,
                 measure.checksum
-            ).map_err(|_| Failure::Output)?;
+            )
+            .map_err(|_| Failure::Output)?;
             output.flush().map_err(|_| Failure::Output)?;
         }
     }

@@ -45,7 +45,8 @@ fn made<R: Wait>(rt: &R, alloc: Global, plan: Plan) -> Result<Map, Refused> {
 pub fn maps<R: Wait>(rt: &R, alloc: Global, plan: Plan) -> Result<Vec<Map>, Refused> {
     let mut maps = Vec::new(alloc);
     for _ in 0..plan.maps() {
-        maps.push(made(rt, alloc, plan)?).map_err(|_| Refused::Memory)?;
+        maps.push(made(rt, alloc, plan)?)
+            .map_err(|_| Refused::Memory)?;
     }
     Ok(maps)
 }
@@ -110,9 +111,13 @@ pub fn run_in_threads<R: Threads + Wait + Sync>(
     maps: &[Map],
     plan: Plan,
 ) -> Result<u64, Refused> {
-    let sums = thread::map_indices(rt, alloc, THREADS as usize, &|thread| {
-        run(rt, maps, plan, Part::of_thread(plan, thread as u32))
-    }).map_err(|_| Refused::Memory)?;
+    let sums = thread::map_indices(
+        rt,
+        alloc,
+        THREADS as usize,
+        &|thread| { run(rt, maps, plan, Part::of_thread(plan, thread as u32)) },
+    )
+    .map_err(|_| Refused::Memory)?;
     let mut sum: u64 = 0;
     for part in &sums {
         sum = sum.wrapping_add((*part)?);

@@ -1,14 +1,15 @@
-use Rattle.std.proofs.Common.{◌≡◌, ◌+◌, ◌*◌, ◌%◌, ◌<◌, ap, ◌∙◌, arith, subst, sym}
-use Rattle.std.proofs.lemmas.Nat.{pow_pos}
+use Rattle.std.proofs.Common.{◌*◌, ◌%◌, ap, ◌∙◌, arith, refl}
 use Rattle.std.specs.Int.{IsPowerOfTwo}
-use Rattle.papaya_words.proofs.Masks.{and_low_wrapped}
+use Rattle.papaya_bench.proofs.Factors.{brought_back, masked, still_inverse}
 use Rattle.papaya_bench.proofs.plan.Plan.number_at.Goals as goal
 
-pub returns : goal.returns
-returns c p =
+pub returns-clause-value : goal.returns-clause-value
+returns-clause-value c p =
     let keys = c.from.result in
     let power : IsPowerOfTwo keys = (p.0, c.from.ensures ∙ p.1) in
-    let some : 0 < keys = subst (λ x. 0 < x) (sym power.1) (pow_pos p.0) in
-    let mask : (keys + 18446744073709551615) % 18446744073709551616 + 1 ≡ keys = omega arith in
-    let low = and_low_wrapped (c.args.turn * 2654435761) ((keys + 18446744073709551615) % 18446744073709551616) (p.0, mask ∙ power.1) (omega arith) in
-    low ∙ ap (λ x. (c.args.turn * 2654435761) % x) (mask ∙ c.from.ensures)
+    masked keys (c.args.turn * 2654435761) power (omega arith) ∙ ap (λ x. (c.args.turn * 2654435761) % x) c.from.ensures
+
+pub returns-clause-back : goal.returns-clause-back
+returns-clause-back c p below =
+    ap (λ x. (x * 14962265741255716689) % c.args.self.keys) (returns-clause-value c p)
+    ∙ brought_back c.args.self.keys 2654435761 14962265741255716689 c.args.turn (still_inverse c.args.self.keys (2654435761 * 14962265741255716689) p (omega arith) refl) below
