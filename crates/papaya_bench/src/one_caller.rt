@@ -27,7 +27,8 @@ fn made(alloc: Global, plan: Plan) -> Result<Map, Refused> {
 /// The maps of a plan.
 pub fn maps(alloc: Global, plan: Plan) -> Result<Vec<Map>, Refused> {
     let mut maps = Vec::new(alloc);
-    for _ in 0..plan.maps() {
+    let (count, _) = plan.maps();
+    for _ in 0..count {
         maps.push(made(alloc, plan)?).map_err(|_| Refused::Memory)?;
     }
     Ok(maps)
@@ -58,7 +59,8 @@ fn step(map: &mut Map, plan: Plan, number: u64, round: u32) -> Result<u64, Refus
 /// The rounds of one map: the sum of what their steps answer.
 fn rounds(map: &mut Map, plan: Plan, part: Part) -> Result<u64, Refused> {
     let mut sum: u64 = 0;
-    for round in 0..plan.rounds_of_a_map() {
+    let (_, rounds) = plan.maps();
+    for round in 0..rounds {
         for turn in part.start..part.end {
             let number = plan.number_at(turn);
             sum = sum.wrapping_add(step(map, plan, number, round)?);

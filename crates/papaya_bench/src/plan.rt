@@ -1,5 +1,5 @@
 //! What is done to the maps, and how often.
-ghost use Rattle.std.specs.Prelude.{◌≡◌, ◌+◌, ◌*◌, ◌/◌, ◌%◌, ◌^◌, ◌<◌};
+ghost use Rattle.std.specs.Prelude.{◌≡◌, ◌+◌, ◌*◌, ◌/◌, ◌%◌, ◌^◌, ◌<◌, ◌≤◌};
 ghost use Rattle.std.specs.Int.{IsPowerOfTwo};
 
 /// How many threads work at once, where there are several.
@@ -39,16 +39,6 @@ impl Workload {
             Workload::RemoveInsert => "remove-insert",
         }
     }
-
-    /// Does a step leave the map with as many pairs and as many free slots as before? Else each
-    /// round needs a map of its own.
-    pub fn repeats(self) -> bool {
-        match self {
-            Workload::GetHit | Workload::GetMiss | Workload::InsertReplace => true,
-            // A removed pair keeps its slot.
-            Workload::InsertFresh | Workload::RemoveInsert => false,
-        }
-    }
 }
 
 /// A workload, and over how many keys how often. One round is a step at each key.
@@ -61,35 +51,32 @@ pub struct Plan {
 }
 
 impl Plan {
-    /// How many maps are made.
-    pub fn maps(self) -> u32 {
-        if self.workload.repeats() {
-            1
-        } else {
-            self.rounds
-        }
-    }
-
-    /// How many rounds each map has.
-    pub fn rounds_of_a_map(self) -> u32 {
-        if self.workload.repeats() {
-            self.rounds
-        } else {
-            1
+    /// How many maps are made, and how many rounds each of them has. Where a round leaves a map with
+    /// other keys or with fewer free slots, each round has a map of its own.
+    pub fn maps(self) -> (u32, u32)
+        ensures { result.0 * result.1 ≡ self.rounds }
+    {
+        match self.workload {
+            Workload::GetHit | Workload::GetMiss | Workload::InsertReplace => (1, self.rounds),
+            // A removed pair keeps its slot.
+            Workload::InsertFresh | Workload::RemoveInsert => (self.rounds, 1),
         }
     }
 
     /// How many pairs a map has before the first round.
-    pub fn filled(self) -> u32 {
+    pub fn filled(self) -> u32
+        ensures { result ≤ self.keys }
+    {
         match self.workload {
             Workload::InsertFresh => 0,
             _ => self.keys,
         }
     }
 
-    /// For how many pairs a map is made. A table does not grow yet, and a pair that was removed
-    /// keeps its slot.
-    pub fn capacity(self) -> usize {
+    /// For how many pairs a map is made. A table does not grow yet.
+    pub fn capacity(self) -> usize
+        ensures { self.keys ≤ result }
+    {
         match self.workload {
             Workload::RemoveInsert => self.keys as usize * 2,
             _ => self.keys as usize,

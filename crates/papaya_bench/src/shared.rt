@@ -44,7 +44,8 @@ fn made<R: Wait>(rt: &R, alloc: Global, plan: Plan) -> Result<Map, Refused> {
 /// The maps of a plan.
 pub fn maps<R: Wait>(rt: &R, alloc: Global, plan: Plan) -> Result<Vec<Map>, Refused> {
     let mut maps = Vec::new(alloc);
-    for _ in 0..plan.maps() {
+    let (count, _) = plan.maps();
+    for _ in 0..count {
         maps.push(made(rt, alloc, plan)?)
             .map_err(|_| Refused::Memory)?;
     }
@@ -85,7 +86,8 @@ fn rounds<R: Wait>(rt: &R, map: &Map, plan: Plan, part: Part) -> Result<u64, Ref
     let mut pass = map.pass();
     let pinned = map.pin();
     let mut sum: u64 = 0;
-    for round in 0..plan.rounds_of_a_map() {
+    let (_, rounds) = plan.maps();
+    for round in 0..rounds {
         for turn in part.start..part.end {
             let number = plan.number_at(turn);
             sum = sum.wrapping_add(step(rt, &pinned, &mut pass, plan, number, round)?);
