@@ -1,7 +1,7 @@
 //! The maps that the workloads are run on.
 
 use crate::failure::Failure;
-use crate::plan::{Part, Plan, Workload};
+use crate::plan::{Part, Plan};
 use crate::{one_caller, shared};
 use papaya_words::probe::Refused;
 use std::alloc::Global;
@@ -38,12 +38,6 @@ impl Backend {
             Backend::Shared => "shared",
             Backend::Threads => "threads",
         }
-    }
-
-    /// Has the backend the calls of a workload?
-    pub fn has(self, workload: Workload) -> bool {
-        // The shared map has no removal yet.
-        self == Backend::Seq || workload != Workload::RemoveInsert
     }
 
     /// Makes the maps of a plan, and then measures its rounds alone.

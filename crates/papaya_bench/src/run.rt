@@ -42,14 +42,12 @@ fn check_workload<R: Clock + Threads + Wait + Sync, W: Write>(
     write!(output, "{name}: seq {first}").map_err(|_| Failure::Output)?;
     let mut others = Vec::new(alloc);
     for backend in [Backend::Shared, Backend::Threads] {
-        if backend.has(workload) {
-            let sum = backend.measure(rt, alloc, plan)?.checksum;
-            let name = backend.name();
-            write!(output, " {name} {sum}").map_err(|_| Failure::Output)?;
-            others
-                .push(sum)
-                .map_err(|_| Failure::Refused(Refused::Memory))?;
-        }
+        let sum = backend.measure(rt, alloc, plan)?.checksum;
+        let name = backend.name();
+        write!(output, " {name} {sum}").map_err(|_| Failure::Output)?;
+        others
+            .push(sum)
+            .map_err(|_| Failure::Refused(Refused::Memory))?;
     }
     writeln!(output).map_err(|_| Failure::Output)?;
     compare(first, others.as_slice())
@@ -75,21 +73,19 @@ fn time_workload<R: Clock + Threads + Wait + Sync, W: Write>(
     output: &mut W,
 ) -> Result<(), Failure> {
     for backend in Backend::ALL {
-        if backend.has(plan.workload) {
-            let measure = backend.measure(rt, alloc, plan)?;
-            writeln!(
-                output,
-                "{}/{}/{} {} {} {}",
-                plan.workload.name(),
-                backend.name(),
-                plan.keys,
-                plan.steps(),
-                measure.nanoseconds,
-                measure.checksum
-            )
-            .map_err(|_| Failure::Output)?;
-            output.flush().map_err(|_| Failure::Output)?;
-        }
+        let measure = backend.measure(rt, alloc, plan)?;
+        writeln!(
+            output,
+            "{}/{}/{} {} {} {}",
+            plan.workload.name(),
+            backend.name(),
+            plan.keys,
+            plan.steps(),
+            measure.nanoseconds,
+            measure.checksum
+        )
+        .map_err(|_| Failure::Output)?;
+        output.flush().map_err(|_| Failure::Output)?;
     }
     Ok(())
 }

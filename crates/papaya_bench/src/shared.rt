@@ -77,7 +77,10 @@ fn step<R: Wait>(
             let value = number.wrapping_add(u64::from(round)).wrapping_add(1);
             Ok(weight(map.insert_as(rt, key, value, pass)?))
         }
-        Workload::RemoveInsert => Ok(0),
+        Workload::RemoveInsert => {
+            let removed = weight(map.remove_as(rt, &key, pass)?);
+            Ok(removed.wrapping_add(weight(map.insert_as(rt, key, number, pass)?)))
+        }
     }
 }
 

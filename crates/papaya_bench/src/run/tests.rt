@@ -41,7 +41,7 @@ fn words(alloc: Global, text: &str) -> Result<Vec<String>, Fail> {
 /// Two rounds at 64 keys. The values are the keys' numbers, which sum to 2016; what is not there
 /// counts 1; and the second round of replacements finds each value 1 greater.
 const CHECKED: &str =
-    "get-hit: seq 4032 shared 4032 threads 4032\nget-miss: seq 128 shared 128 threads 128\ninsert-fresh: seq 128 shared 128 threads 128\ninsert-replace: seq 4096 shared 4096 threads 4096\nremove-insert: seq 4160\n";
+    "get-hit: seq 4032 shared 4032 threads 4032\nget-miss: seq 128 shared 128 threads 128\ninsert-fresh: seq 128 shared 128 threads 128\ninsert-replace: seq 4096 shared 4096 threads 4096\nremove-insert: seq 4160 shared 4160 threads 4160\n";
 
 #[test]
 fn the_backends_agree(rt: HostRuntime) -> Result<(), Fail> {
