@@ -1,5 +1,4 @@
 //! The maps that the workloads are run on.
-
 use crate::failure::Failure;
 use crate::plan::{Part, Plan};
 use crate::{one_caller, shared};
@@ -21,7 +20,7 @@ pub enum Backend {
     Threads,
 }
 
-/// What a run of a plan gave.
+/// What a run of a plan gave: how long its rounds took, and the sum of their answers.
 #[derive(Clone, Copy, Debug, PartialEq, Eq)]
 pub struct Measure {
     pub nanoseconds: u128,
@@ -29,6 +28,7 @@ pub struct Measure {
 }
 
 impl Backend {
+    /// All backends, in the order in which they are run.
     pub const ALL: [Backend; 3] = [Backend::Seq, Backend::Shared, Backend::Threads];
 
     /// The name in what is printed.

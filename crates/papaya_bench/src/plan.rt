@@ -21,6 +21,7 @@ pub enum Workload {
 }
 
 impl Workload {
+    /// All workloads, in the order in which they are run.
     pub const ALL: [Workload; 5] = [
         Workload::GetHit,
         Workload::GetMiss,
