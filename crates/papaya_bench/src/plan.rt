@@ -1,6 +1,8 @@
 //! What is done to the maps, and how often.
-ghost use Rattle.std.specs.Prelude.{◌≡◌, ◌+◌, ◌*◌, ◌/◌, ◌%◌, ◌^◌, ◌<◌, ◌≤◌};
+ghost use Rattle.std.specs.Prelude.{◌≡◌, ◌≢◌, cond, ◌+◌, ◌*◌, ◌/◌, ◌%◌, ◌^◌, ◌<◌, ◌≤◌};
 ghost use Rattle.std.specs.Int.{IsPowerOfTwo};
+ghost use Rattle.papaya_bench.specs.declared.plan.Workload.TheVariants.{InsertFresh};
+ghost use Rattle.papaya_bench.specs.Plan.{uses_up};
 
 /// How many threads work at once, where there are several.
 pub const THREADS: u64 = 4;
@@ -52,10 +54,11 @@ pub struct Plan {
 }
 
 impl Plan {
-    /// How many maps are made, and how many rounds each of them has. Where a round leaves a map with
-    /// other keys or with fewer free slots, each round has a map of its own.
+    /// How many maps are made, and how many rounds each of them has. Where a round takes away what a
+    /// further round needs, each round has a map of its own.
     pub fn maps(self) -> (u32, u32)
-        ensures { result.0 * result.1 ≡ self.rounds }
+        ensures each { result ≡ cond (uses_up self.workload) (self.rounds, 1) (1, self.rounds) }
+        ensures all { result.0 * result.1 ≡ self.rounds }
     {
         match self.workload {
             Workload::GetHit | Workload::GetMiss | Workload::InsertReplace => (1, self.rounds),
@@ -66,7 +69,8 @@ impl Plan {
 
     /// How many pairs a map has before the first round.
     pub fn filled(self) -> u32
-        ensures { result ≤ self.keys }
+        ensures none { self.workload ≡ InsertFresh → result ≡ 0 }
+        ensures all { self.workload ≢ InsertFresh → result ≡ self.keys }
     {
         match self.workload {
             Workload::InsertFresh => 0,
