@@ -1,5 +1,5 @@
 -- The pair that a machine asks to put in is one that its call made.
-use Rattle.std.proofs.Common.{◌≡◌, ◌⊎◌, ⊎_elim, ℕ, ◌<◌, ◌^◌, Option, Some, List, sym, ap, ◌∙◌, subst, refl}
+use Rattle.std.proofs.Common.{◌≡◌, ⊎_elim, ℕ, ◌<◌, ◌^◌, Option, Some, List, sym, ap, ◌∙◌, subst, refl}
 use Rattle.papaya_words.specs.Word.{pair_of}
 use Rattle.papaya_call.specs.declared.ask.Ask.TheVariants.{Exchange as Ask_exchange}
 use Rattle.papaya_call.specs.declared.ask.At.{At}
@@ -20,10 +20,7 @@ use Rattle.papaya_call.specs.Rests.{IsOwnPair, Rests, RestsMade, RestsStage}
 use Rattle.papaya_call.specs.Told.{Hands, IsHashed}
 use Rattle.papaya_call.specs.Write.{new_word}
 use Rattle.papaya_call.proofs.NewWords.{pair_of-new_word}
-
--- a pair is put in
-abbrev pub IsPutting : Option StepKind → Type 0
-IsPutting kind = (kind ≡ Some kinds.Claim) ⊎ (kind ≡ Some kinds.Replace)
+use Rattle.papaya_map.specs.Plays.{IsPutting}
 
 -- a burial puts none in
 not_buried : (kind : Option StepKind) → kind ≡ Some kinds.Bury → IsPutting kind → ⊥

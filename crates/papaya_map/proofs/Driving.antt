@@ -32,9 +32,8 @@ use Rattle.papaya_map.specs.declared.event.Event.{Event}
 use Rattle.papaya_map.specs.Hashes.{hash_of}
 use Rattle.papaya_map.specs.History.{key_of}
 use Rattle.papaya_map.specs.Logs.{Stored, coding_of, exchanges_of, setting_of, state_of}
-use Rattle.papaya_map.specs.Plays.{CanExchange, MayStep, made_list}
+use Rattle.papaya_map.specs.Plays.{CanExchange, IsPutting, MayStep, made_list}
 use Rattle.papaya_map.specs.Rule.{IsLawfulLog, word_in}
-use Rattle.papaya_map.proofs.AskedPairs.{IsPutting}
 use Rattle.papaya_map.proofs.Logs.{exchanges_of-append}
 use Rattle.papaya_map.proofs.Namesakes.{claimed_instead, replaced_instead, written_instead}
 use Rattle.papaya_map.proofs.Readings.{IsQuery, allowed_with, coding, fed, hashed_with, setting}

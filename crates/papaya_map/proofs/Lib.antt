@@ -40,8 +40,10 @@ pub mod Changing
 pub mod Exchanging
 pub mod OnePair
 pub mod Opened
+pub mod Writing
+pub mod WritingSteps
 pub mod Inserting
-pub mod InsertingSteps
+pub mod InsertingReplies
 -- what closures are shown
 pub mod Showings
 -- removals

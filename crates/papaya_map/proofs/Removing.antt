@@ -6,7 +6,7 @@ use mathlib.Core.List.{IsPrefix}
 use denote.Bor.{Bor}
 use Rattle.logbook.specs.Pages.{Book}
 use Rattle.papaya_call.specs.declared.ask.At.{At}
-use Rattle.papaya_call.specs.declared.ask.At.TheVariants.{Root, Next, Aborted, Done, Slot}
+use Rattle.papaya_call.specs.declared.ask.At.TheVariants.{Slot}
 use Rattle.papaya_call.specs.declared.ask.Ask.{Ask}
 use Rattle.papaya_call.specs.declared.ask.Ask.TheVariants.{Load, Exchange as Ask_exchange, SizeOf, SameKey, ShowPair, AddToShard}
 use Rattle.papaya_call.specs.declared.ask.StepKind.TheVariants as kinds
@@ -40,9 +40,9 @@ use Rattle.papaya_map.specs.declared.event.Named.TheVariants as names
 use Rattle.papaya_map.specs.Plays.{CanExchange}
 use Rattle.papaya_map.specs.Logs.{Stored, exchanges_of, pair_named}
 use Rattle.papaya_map.specs.Removing.{IsRemoving, IsRemovingOn}
-use Rattle.papaya_map.specs.Rule.{IsLawfulLog, IsPlaced}
+use Rattle.papaya_map.specs.Rule.{IsPlaced}
 use Rattle.papaya_map.specs.Showings.{WasHeld}
-use Rattle.papaya_map.proofs.Changing.{Coded, Wide, counted, compared, load_table, loads, quiet, rests_of, size_table, sized, slot_table}
+use Rattle.papaya_map.proofs.Changing.{Coded, Wide, counted, compared, load_table, loaded_lawful, loads, quiet, rests_of, size_table, sized, slot_table}
 use Rattle.papaya_map.proofs.Driving.{can_bury}
 use Rattle.papaya_map.proofs.Exchanging.{exchanged, lost}
 use Rattle.papaya_map.proofs.Histories.{history_since}
@@ -52,15 +52,6 @@ use Rattle.papaya_map.proofs.Showings.{all_shown, held_then, held_wider}
 -- what a machine stands on that its closure agreed to, it stood on before an answer that shows nothing
 stood_before : (m : Machine) (answer : Answer) → IsStanding m → ShowsPairs m.state → ((n : ℕ) → ask_of m ≡ ShowPair n → ⊥) → (n : ℕ) (agrees : Bool) → StandsOn (after m answer) (Agrees n agrees) → StandsOn m (Agrees n agrees)
 stood_before m answer standing words silent n agrees stands = ⊎_elim (λ h. h) (λ h. absurd (silent n h.0)) (machine_said m answer (Agrees n agrees) standing words stands)
-
-module _ {K V S : Type 0} (eq : K → K → Bool) (hash : S → K → ℕ) (b : Begun K V S) (name : Book) where
-  -- a load tells that the log is lawful
-  pub loaded_lawful : (log : List (Event K V S)) (at : At) (word : ℕ) (table table' : Option (Bor Sheet)) (last last' : Option (Stored K V)) → IsLoaded eq hash b name at word log table table' last last' → IsLawfulLog eq hash b log
-  loaded_lawful log Root word table table' last last' is = is.1.lawful
-  loaded_lawful log (Next t) word table table' last last' is = is.1.lawful
-  loaded_lawful log (Slot t i) word table table' last last' is = is.1.lawful
-  loaded_lawful log (Aborted t) word table table' last last' is = absurd is
-  loaded_lawful log (Done t) word table table' last last' is = absurd is
 
 module _ {K V S H F : Type 0} (eq : K → K → Bool) (input : K → List (List ℕ)) (build : S → H) (write : H → List ℕ → H) (finish : H → ℕ) (classes : IsEquivalence eq) (respects : (x y : K) → eq x y ≡ true → input x ≡ input y)
     (b : Begun K V S) (name : Book) (matches : K → Bool) (query : List (List ℕ)) (lawful : IsQuery eq input matches query) (judges : F → Stored K V → Bool → F → Type 0) (first : F) (begun : List (Event K V S)) where

@@ -15,6 +15,7 @@ pub mod History
 pub mod Readers
 -- what changing calls do
 pub mod Changing
+pub mod Writing
 pub mod Inserting
 pub mod Showings
 pub mod Removing

@@ -1,9 +1,10 @@
 -- What the steps on words tell.
-use Rattle.std.specs.Prelude.{◌≡◌, ℕ, ◌==◌, Bool, MatchBool, Option, None, Some, List, [], ◌∷◌, ◌++◌}
+use Rattle.std.specs.Prelude.{◌≡◌, ◌⊎◌, ℕ, ◌==◌, Bool, MatchBool, Option, None, Some, List, [], ◌∷◌, ◌++◌}
 use mathlib.Core.List.{IsPrefix}
 use Rattle.logbook.specs.Pages.{View, Step as Book_step}
 use Rattle.papaya_call.specs.declared.ask.At.{At}
 use Rattle.papaya_call.specs.declared.ask.StepKind.{StepKind}
+use Rattle.papaya_call.specs.declared.ask.StepKind.TheVariants as kinds
 use Rattle.papaya_call.specs.Law.Allows.{Allows}
 use Rattle.papaya_call.specs.Law.Code.{Coding}
 use Rattle.papaya_call.specs.Law.Exchange.{after}
@@ -24,6 +25,10 @@ made_list (Some q) = q ∷ []
 -- the hands of a call that has made this pair
 abbrev pub hands_of : {P : Type 0} → Option P → Hands P
 hands_of made = record { last = None; made = made_list made }
+
+-- a pair is put in
+abbrev pub IsPutting : Option StepKind → Type 0
+IsPutting kind = (kind ≡ Some kinds.Claim) ⊎ (kind ≡ Some kinds.Replace)
 
 -- pairs are named by their numbers
 abbrev pub Numbered : {K V : Type 0} → Coding K (Stored K V)

@@ -32,6 +32,15 @@ pub(crate) struct Caller<'a, K: Hash + Eq, V, S: BuildHasher> {
     pub(crate) put: Option<Stored<K, V>>,
 }
 
+/// No pair of a call's. One that it had made would be borrowed like the book.
+pub(crate) fn nothing_made<K: Hash + Eq, V, S: BuildHasher>(
+    _book: &Book<K, V, S>,
+) -> Option<&Stored<K, V>>
+    ensures { result ≡ None }
+{
+    None
+}
+
 impl<'a, K: Hash + Eq, V, S: BuildHasher> Caller<'a, K, V, S> {
     /// A call that begins.
     #[inline(always)]

@@ -32,3 +32,4 @@ pub mod table;
 mod tests;
 pub mod token;
 pub mod trade;
+mod writer;

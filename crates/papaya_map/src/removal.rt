@@ -1,5 +1,5 @@
 //! Removals: their machine, answered by steps on the book and by a closure.
-ghost use Rattle.std.specs.Prelude.{◌≡◌, ℕ, None, Some};
+ghost use Rattle.std.specs.Prelude.{◌≡◌, ℕ, Some};
 ghost use mathlib.Core.List.{IsPrefix};
 ghost use Rattle.papaya_call.specs.Machine.{IsStanding, ask_of};
 ghost use Rattle.papaya_call.specs.declared.ask.Ask.TheVariants.{Done, Exchange, Load, SameKey, ShowPair, SizeOf};
@@ -13,7 +13,7 @@ ghost use Rattle.papaya_map.specs.Rule.{IsLawfulLog, IsPlaced};
 ghost use Rattle.papaya_map.specs.Showings.{AreOf, Judges};
 
 use crate::book::Book;
-use crate::caller::Caller;
+use crate::caller::{Caller, nothing_made};
 use crate::count::Shard;
 use crate::event::Stored;
 use crate::reader::hash;
@@ -43,13 +43,6 @@ fn entry<'a, K: Hash + Eq, V, S: BuildHasher>(
 {
     let pair = book.pair(stored);
     (book.key(pair), &pair.value)
-}
-
-/// A removal makes no pair. One that was made would be borrowed like the book.
-fn nothing_made<K: Hash + Eq, V, S: BuildHasher>(_book: &Book<K, V, S>) -> Option<&Stored<K, V>>
-    ensures { result ≡ None }
-{
-    None
 }
 
 impl<'a, K: Hash + Eq, V, S: BuildHasher> Removal<'a, K, V, S> {
