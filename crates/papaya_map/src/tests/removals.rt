@@ -1,12 +1,16 @@
 // Removals by one caller: what they answer, what they show their closure, and what is there after them.
-use crate::map::HashMap;
-use crate::tests::made;
+ghost use Rattle.std.specs.Prelude.{◌≡◌};
+
+use crate::map::{HashMap, Pass};
+use crate::tests::{Hasher, made};
 use papaya_seq::guard::TextKey;
 use papaya_words::probe::{Refused, ResizeMode};
 use std::alloc::Global;
-use std::hash::{BuildHasherDefault, FoldHasher};
+use std::hash::BuildHasherDefault;
 use std::sync::Wait;
 use std::test::Fail;
+
+type Numbers = HashMap<u64, u64, Hasher>;
 
 #[test]
 fn remove_answers_the_value_once(rt: HostRuntime) {
@@ -56,25 +60,79 @@ fn an_insertion_after_a_removal_finds_no_old_value(rt: HostRuntime) {
     assert!(rt; map.is_empty());
 }
 
+/// What a removal answered, with copies of the pair's key and value.
+#[derive(Clone, Copy, PartialEq, Debug)]
+enum Told {
+    Absent,
+    Removed(u64, u64),
+    Kept(u64, u64),
+    Refused,
+}
+
+/// Removes a key's pair if the closure agrees.
+fn remove_if<R: Wait, F: FnMut(&u64, &u64) -> bool>(
+    rt: &R,
+    map: &Numbers,
+    key: u64,
+    agrees: F,
+    pass: &mut Pass<u64, u64, Hasher>,
+) -> Told
+    requires book { pass.old.book ≡ map.now }
+    requires callable { F.IsAlwaysCallable agrees }
+    ensures { pass.new.book ≡ pass.old.book }
+{
+    match map.pin().remove_if_as(rt, &key, agrees, pass) {
+        Ok(Ok(None)) => Told::Absent,
+        Ok(Ok(Some((k, v)))) => Told::Removed(*k, *v),
+        Ok(Err((k, v))) => Told::Kept(*k, *v),
+        Err(_) => Told::Refused,
+    }
+}
+
 #[test]
 fn remove_if_asks_its_closure(rt: HostRuntime) {
     let map = made(&rt, rt.alloc(), ResizeMode::Blocking, 0, 4).expect(&rt, "a map");
     let mut pass = map.pass();
-    let pinned = map.pin();
-    assert_eq!(rt; pinned.insert_as(&rt, 1, 0, &mut pass), Ok(None));
-    let absent = pinned.remove_if_as(&rt, &0, |_, _| true, &mut pass);
-    assert_eq!(rt; absent, Ok(Ok(None)));
+    assert_eq!(rt; map.pin().insert_as(&rt, 1, 0, &mut pass), Ok(None));
+    let absent = remove_if(&rt, &map, 0, |_, _| true, &mut pass);
+    assert_eq!(rt; absent, Told::Absent);
+    let kept = remove_if(&rt, &map, 1, |_, _| false, &mut pass);
+    assert_eq!(rt; kept, Told::Kept(1, 0));
     assert_eq!(rt; map.len(), 1);
-    let kept = pinned.remove_if_as(&rt, &1, |_, _| false, &mut pass);
-    assert_eq!(rt; kept, Ok(Err((&1, &0))));
-    assert_eq!(rt; map.len(), 1);
-    assert_eq!(rt; pinned.get_as(&1, &mut pass), Some(&0));
-    let removed = pinned.remove_if_as(&rt, &1, |_, v| *v == 0, &mut pass);
-    assert_eq!(rt; removed, Ok(Ok(Some((&1, &0)))));
+    assert_eq!(rt; map.pin().get_as(&1, &mut pass), Some(&0));
+    let removed = remove_if(&rt, &map, 1, |_, v| *v == 0, &mut pass);
+    assert_eq!(rt; removed, Told::Removed(1, 0));
     assert_eq!(rt; map.len(), 0);
-    let again = pinned.remove_if_as(&rt, &1, |_, _| true, &mut pass);
-    assert_eq!(rt; again, Ok(Ok(None)));
+    let again = remove_if(&rt, &map, 1, |_, _| true, &mut pass);
+    assert_eq!(rt; again, Told::Absent);
     assert_eq!(rt; map.len(), 0);
+}
+
+/// How often the closure of a removal was shown a pair, and which it was shown last.
+fn shown_by<R: Wait>(
+    rt: &R,
+    map: &Numbers,
+    key: u64,
+    agrees: bool,
+) -> Option<(u64, Option<(u64, u64)>)> {
+    let mut times = 0u64;
+    let mut shown = None;
+    let mut pass = map.pass();
+    let removed = map.pin().remove_if_as(
+        rt,
+        &key,
+        |k, v| {
+            times = times.wrapping_add(1);
+            shown = Some((*k, *v));
+            agrees
+        },
+        &mut pass,
+    );
+    if removed.is_ok() {
+        Some((times, shown))
+    } else {
+        None
+    }
 }
 
 /// Where nobody else acts, a closure is shown the stored pair, once, and nothing for an absent key.
@@ -82,36 +140,15 @@ fn remove_if_asks_its_closure(rt: HostRuntime) {
 fn a_closure_is_shown_the_pair_once(rt: HostRuntime) {
     let map = made(&rt, rt.alloc(), ResizeMode::Blocking, 0, 4).expect(&rt, "a map");
     let mut pass = map.pass();
-    let pinned = map.pin();
-    assert_eq!(rt; pinned.insert_as(&rt, 7, 70, &mut pass), Ok(None));
-    assert_eq!(rt; pinned.insert_as(&rt, 8, 80, &mut pass), Ok(None));
-    for (key, agrees, times, pair) in [
-        (9u64, true, 0u64, None),
-        (7, false, 1, Some((7u64, 70u64))),
-        (7, true, 1, Some((7, 70))),
-        (7, true, 0, None),
-    ] {
-        let mut asked = 0u64;
-        let mut shown = None;
-        let removed = pinned.remove_if_as(
-            &rt,
-            &key,
-            |k, v| {
-                asked = asked.wrapping_add(1);
-                shown = Some((*k, *v));
-                agrees
-            },
-            &mut pass,
-        );
-        assert!(rt; removed.is_ok(), "at key {key}");
-        assert_eq!(rt; asked, times, "at key {key}");
-        assert_eq!(rt; shown, pair, "at key {key}");
-    }
-    assert_eq!(rt; pinned.get_as(&8, &mut pass), Some(&80));
+    assert_eq!(rt; map.pin().insert_as(&rt, 7, 70, &mut pass), Ok(None));
+    assert_eq!(rt; map.pin().insert_as(&rt, 8, 80, &mut pass), Ok(None));
+    assert_eq!(rt; shown_by(&rt, &map, 9, true), Some((0, None)));
+    assert_eq!(rt; shown_by(&rt, &map, 7, false), Some((1, Some((7, 70)))));
+    assert_eq!(rt; shown_by(&rt, &map, 7, true), Some((1, Some((7, 70)))));
+    assert_eq!(rt; shown_by(&rt, &map, 7, true), Some((0, None)));
+    assert_eq!(rt; map.pin().get_as(&8, &mut pass), Some(&80));
     assert_eq!(rt; map.len(), 1);
 }
-
-type Hasher = BuildHasherDefault<FoldHasher>;
 
 /// A map of texts.
 fn texts<R: Wait>(rt: &R, alloc: Global) -> Result<HashMap<String, u64, Hasher>, Refused> {
