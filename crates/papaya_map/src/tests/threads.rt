@@ -132,6 +132,19 @@ fn churn_both<R: Threads + Wait + Sync>(
     )
 }
 
+/// The values that are left, and how many they are.
+fn left_in(alloc: Global, map: &Numbers) -> Option<(Tally, usize)> {
+    let mut tally = Tally::new(alloc)?;
+    let mut left = 0usize;
+    let mut pass = map.pass();
+    for key in 0..KEYS {
+        let value = map.pin().get_as(&key, &mut pass);
+        left = left.wrapping_add(usize::from(value.is_some()));
+        tally.take(key, value);
+    }
+    Some((tally, left))
+}
+
 /// Each value is taken out once or is left, and none is lost or taken twice.
 #[test]
 fn each_value_is_taken_out_once(rt: HostRuntime) {
@@ -140,14 +153,7 @@ fn each_value_is_taken_out_once(rt: HostRuntime) {
     let first = first.expect(&rt, "a tally");
     let second = second.expect(&rt, "a tally");
     assert!(rt; first.legal && second.legal);
-    let mut pass = map.pass();
-    let mut last = Tally::new(rt.alloc()).expect(&rt, "a tally");
-    let mut left = 0usize;
-    for key in 0..KEYS {
-        let value = map.pin().get_as(&key, &mut pass);
-        left += usize::from(value.is_some());
-        last.take(key, value);
-    }
+    let (last, left) = left_in(rt.alloc(), &map).expect(&rt, "a tally");
     assert!(rt; last.legal);
     assert_eq!(rt; map.len(), left);
     for value in 0..VALUES {
