@@ -7,6 +7,7 @@ mod commands;
 mod failure;
 mod hashers;
 mod input;
+mod line_by_line;
 mod numbers;
 mod one_caller;
 mod printed;

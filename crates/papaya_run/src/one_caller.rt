@@ -9,13 +9,13 @@ ghost use Rattle.papaya_run.specs.declared.commands.Command.{Command};
 
 use crate::commands::{Command, command_of};
 use crate::failure::Failure;
-use crate::input::next_line;
+use crate::line_by_line::{Obey, run_lines};
 use crate::printed::Printed;
 use papaya_seq::seq::HashMap;
-use papaya_words::probe::{Refused, ResizeMode};
+use papaya_words::probe::ResizeMode;
 use std::alloc::Global;
 use std::hash::BuildHasher;
-use std::io::{BufReader, Read, Write};
+use std::io::{Read, Write};
 
 /// The number after this one; 0 follows the greatest.
 fn follower(value: &u64) -> u64
@@ -67,6 +67,12 @@ fn obey_line<S: BuildHasher + Drop>(
     }
 }
 
+impl<S: BuildHasher + Drop> Obey for HashMap<u64, u64, S> {
+    fn obey_line(&mut self, number: u64, line: &[u8]) -> Result<Printed, Failure> {
+        obey_line(self, number, line)
+    }
+}
+
 /// Runs the lines of the input one by one on a new map, and prints each reply at once. The first
 /// line of bad form ends the run.
 pub fn run_one_caller<S: BuildHasher + Drop, R: Read, W: Write>(
@@ -79,17 +85,5 @@ pub fn run_one_caller<S: BuildHasher + Drop, R: Read, W: Write>(
     let mut map: HashMap<u64, u64, S> = HashMap::with_parts(alloc, mode, 0, 1, hasher).map_err(
         Failure::Refused,
     )?;
-    let mut reader = BufReader::new(alloc, input).map_err(|_| Failure::Refused(Refused::Memory))?;
-    let mut line = Vec::new(alloc);
-    for number in 1..u64::MAX {
-        if !next_line(&mut reader, &mut line)? {
-            return Ok(());
-        }
-        if !line.is_empty() {
-            let printed = obey_line(&mut map, number, &line)?;
-            writeln!(output, "{printed}").map_err(|_| Failure::Output)?;
-            output.flush().map_err(|_| Failure::Output)?;
-        }
-    }
-    Err(Failure::Input)
+    run_lines(alloc, &mut map, input, output)
 }
