@@ -7,7 +7,7 @@ use Rattle.papaya_map.specs.Changing.{IsPut}
 use Rattle.papaya_map.specs.History.{Change}
 use Rattle.papaya_map.specs.Logs.{Stored}
 use Rattle.papaya_map.specs.Readers.{IsAnsweredBetween}
-use Rattle.papaya_run.specs.Commands.{WritesCommand}
+use Rattle.papaya_run.specs.Commands.{WritesCommand, WritesNone}
 use Rattle.papaya_run.specs.OneCaller.{of_insertion, of_lookup}
 use Rattle.papaya_run.specs.declared.commands.Command.{Command}
 use Rattle.papaya_run.specs.declared.commands.Command.TheVariants as command
@@ -36,6 +36,10 @@ Obeys (command.Update k) old text new = ⊥
 Obeys command.Len old text new = (count : ℕ) × (text ≡ printed.Length count) × (new ≡ old)
 Obeys command.Slots old text new = ⊥
 
+-- the line writes a command, and this does what it asks for
+abbrev pub ObeysLine : List ℕ → Seen → Printed → Seen → Type 0
+ObeysLine line old text new = (what : Command) × WritesCommand line what × Obeys what old text new
+
 -- the line writes no command, or one that the shared map has not
 abbrev pub IsBad : List ℕ → Type 0
-IsBad line = ((what : Command) → ¬ (WritesCommand line what)) ⊎ ((what : Command) × WritesCommand line what × IsMissing what)
+IsBad line = WritesNone line ⊎ ((what : Command) × WritesCommand line what × IsMissing what)

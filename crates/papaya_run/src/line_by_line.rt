@@ -1,4 +1,7 @@
 //! The lines of an input one by one: each is read, done and printed before the next is read.
+ghost use Rattle.std.specs.Prelude.{◌≡◌, ℕ, List, IfErr, IfOk};
+ghost use Rattle.papaya_run.specs.declared.printed.Printed.{Printed};
+
 use crate::failure::Failure;
 use crate::input::next_line;
 use crate::printed::Printed;
@@ -7,10 +10,19 @@ use std::alloc::Global;
 use std::io::{BufReader, Read, Write};
 
 /// What does lines, one at a time.
+///
+/// Each tells contracts what is printed of a line that it does from one state to another, and which
+/// lines are bad.
 pub trait Obey {
-    /// Does what the line of this number asks for, and answers what is printed of it. A line of bad
-    /// form does nothing.
-    fn obey_line(&mut self, number: u64, line: &[u8]) -> Result<Printed, Failure>;
+    ghost does: { Self → List ℕ → Printed → Self → Type 0 };
+
+    ghost is_bad: { List ℕ → Type 0 };
+
+    /// Does what the line of this number asks for, and answers what is printed of it. A bad line
+    /// does nothing.
+    fn obey_line(&mut self, number: u64, line: &[u8]) -> Result<Printed, Failure>
+        ensures done { IfOk result (λ printed. does self.old line.now printed self.new) }
+        ensures bad { IfErr result (λ failure. is_bad line.now × (failure ≡ Failure.Line number) × (self.new ≡ self.old)) };
 }
 
 /// Has each line of the input done, and prints the reply at once. Lines count from 1, and empty ones

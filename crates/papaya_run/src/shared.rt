@@ -1,10 +1,8 @@
 //! The lines on the map that threads share, by one pass: each is read, done and printed before the
 //! next is read.
-ghost use Rattle.std.specs.Prelude.{◌≡◌, MatchOption, MatchResult};
+ghost use Rattle.std.specs.Prelude.{◌≡◌, MatchOption};
 ghost use mathlib.Core.List.{IsPrefix};
-ghost use Rattle.papaya_run.specs.Commands.{WritesCommand};
-ghost use Rattle.papaya_run.specs.Shared.{IsBad, IsMissing, Obeys};
-ghost use Rattle.papaya_run.specs.declared.commands.Command.{Command};
+ghost use Rattle.papaya_run.specs.Shared.{IsBad, IsMissing, Obeys, ObeysLine};
 
 use crate::commands::{Command, command_of};
 use crate::failure::Failure;
@@ -32,7 +30,9 @@ struct Caller<'a, H: Wait, S: BuildHasher> {
 
 impl<'a, H: Wait, S: BuildHasher + Drop> Caller<'a, H, S> {
     /// A caller with a new pass.
-    fn new(rt: &'a H, map: &'a HashMap<u64, u64, S>) -> Caller<'a, H, S> {
+    fn new(rt: &'a H, map: &'a HashMap<u64, u64, S>) -> Caller<'a, H, S>
+        ensures { result.pinned ≡ map.now }
+    {
         Caller {
             rt,
             map,
@@ -44,8 +44,9 @@ impl<'a, H: Wait, S: BuildHasher + Drop> Caller<'a, H, S> {
     /// Does what a command asks for, and answers what is printed of it. None where the shared map
     /// has no such command.
     fn obey(&mut self, command: Command) -> Option<Printed>
+        ensures map { self.new.pinned ≡ self.old.pinned }
         ensures seen { IsPrefix self.old.pass.history self.new.pass.history }
-        ensures obeys { MatchOption result (IsMissing command × (self.new.pass.history ≡ self.old.pass.history)) (λ printed. Obeys command self.old.pass.history printed self.new.pass.history) }
+        ensures obeys { MatchOption result (IsMissing command × (self.new ≡ self.old)) (λ printed. Obeys command self.old.pass.history printed self.new.pass.history) }
     {
         match command {
             Command::Insert(key, value) => Some(
@@ -63,12 +64,14 @@ impl<'a, H: Wait, S: BuildHasher + Drop> Caller<'a, H, S> {
             Command::Remove(_) | Command::Update(_) | Command::Slots => None,
         }
     }
+}
 
-    /// Does what the line of this number asks for. A line of bad form does nothing to the map.
-    fn obey_line(&mut self, number: u64, line: &[u8]) -> Result<Printed, Failure>
-        ensures seen { IsPrefix self.old.pass.history self.new.pass.history }
-        ensures obeys { MatchResult result (λ printed. (command : Command) × WritesCommand line.now command × Obeys command self.old.pass.history printed self.new.pass.history) (λ failure. IsBad line.now × (failure ≡ Failure.Line number) × (self.new.pass.history ≡ self.old.pass.history)) }
-    {
+impl<H: Wait, S: BuildHasher + Drop> Obey for Caller<'_, H, S> {
+    ghost does = { λ old line printed new. (new.pinned ≡ old.pinned) × IsPrefix old.pass.history new.pass.history × ObeysLine line old.pass.history printed new.pass.history };
+
+    ghost is_bad = { IsBad };
+
+    fn obey_line(&mut self, number: u64, line: &[u8]) -> Result<Printed, Failure> {
         let Some(command) = command_of(line) else {
             return Err(Failure::Line(number));
         };
@@ -76,12 +79,6 @@ impl<'a, H: Wait, S: BuildHasher + Drop> Caller<'a, H, S> {
             Some(printed) => Ok(printed),
             None => Err(Failure::Line(number)),
         }
-    }
-}
-
-impl<H: Wait, S: BuildHasher + Drop> Obey for Caller<'_, H, S> {
-    fn obey_line(&mut self, number: u64, line: &[u8]) -> Result<Printed, Failure> {
-        Caller::obey_line(self, number, line)
     }
 }
 
