@@ -68,7 +68,9 @@ fn run<H: Wait, R: Read, W: Write>(
         (Backend::Core, Hashing::Zero) => run_core(alloc, mode, Zero, input, output),
         (Backend::Seq, Hashing::Identity) => run_one_caller(alloc, mode, Identity, input, output),
         (Backend::Seq, Hashing::Zero) => run_one_caller(alloc, mode, Zero, input, output),
-        (Backend::Shared, Hashing::Identity) => run_shared(rt, alloc, mode, Identity, input, output),
+        (Backend::Shared, Hashing::Identity) => run_shared(
+            rt, alloc, mode, Identity, input, output,
+        ),
         (Backend::Shared, Hashing::Zero) => run_shared(rt, alloc, mode, Zero, input, output),
     }
 }
