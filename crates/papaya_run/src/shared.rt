@@ -25,6 +25,7 @@ struct Caller<'a, H: Wait, S: BuildHasher> {
     map: &'a HashMap<u64, u64, S>,
     pinned: HashMapRef<'a, u64, u64, S>,
     pass: Pass<u64, u64, S>,
+    ghost of_map: { pinned ≡ map.now },
     ghost made_by: { pass.book ≡ pinned },
 }
 
