@@ -149,7 +149,7 @@ module _ {K P : Type 0} (g : Setting K P) (c : Coding K P) (hashed : IsHashed g 
   machine_shows m r n e = shows_in m.task m.hash m.made m.state r.stage n e
 
 -- a machine that replies is at its end
-ended_in : (made : Made) (hash : ℕ) (s : Stage) (reply : Reply) → asks made hash s ≡ Done reply → s ≡ Ended reply
+pub ended_in : (made : Made) (hash : ℕ) (s : Stage) (reply : Reply) → asks made hash s ≡ Done reply → s ≡ Ended reply
 ended_in made hash AtRoot reply e = absurd cc
 ended_in made hash Making reply e = absurd cc
 ended_in made hash (Opening u) reply e = absurd cc

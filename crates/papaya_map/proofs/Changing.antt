@@ -1,5 +1,5 @@
 -- After each answer a changing call rests again, and holds what it was told of last.
-use Rattle.std.proofs.Common.{◌≡◌, ◌⊎◌, inl, inr, ⊎_elim, ℕ, ◌+◌, ◌<◌, ◌==◌, Bool, true, false, if◌then◌else◌, MatchBool, MatchOption, Option, None, Some, List, [], ◌∷◌, ◌++◌, length, append-nil, append_assoc, refl, sym, ap, ◌∙◌, subst, arith}
+use Rattle.std.proofs.Common.{◌≡◌, ◌⊎◌, inl, ⊎_elim, ℕ, ◌+◌, ◌<◌, ◌==◌, Bool, true, false, if◌then◌else◌, MatchOption, Option, None, Some, List, [], ◌++◌, length, append-nil, refl, sym, ap, ◌∙◌, subst, arith}
 use Rattle.std.proofs.lemmas.Bool.{eq-eqb, ne_eqb}
 use Rattle.std.specs.Cmp.{IsEquivalence}
 use mathlib.Core.List.{IsPrefix}
@@ -15,11 +15,10 @@ use Rattle.papaya_call.specs.declared.machine.Machine.{Machine}
 use Rattle.papaya_call.specs.Followed.{IsAtTable, IsCounting, table_asked, told_table}
 use Rattle.papaya_call.specs.Law.Allows.{AllAllowed}
 use Rattle.papaya_call.specs.Law.Class.{IsOn}
-use Rattle.papaya_call.specs.Law.Exchange.{Exchange, Setting, State, run, start}
-use Rattle.papaya_call.specs.Law.Invariant.{named}
+use Rattle.papaya_call.specs.Law.Exchange.{Setting, run, start}
 use Rattle.papaya_call.specs.Machine.{after, ask_of, kind_of_ask}
 use Rattle.papaya_call.specs.Rests.{change_after, change_in}
-use Rattle.papaya_call.specs.Told.{Hands, IsTold, or_last, told_of, word_of}
+use Rattle.papaya_call.specs.Told.{Hands, IsOneOf, IsTold, or_last, told_of, word_of}
 use Rattle.papaya_call.proofs.Followed.{counts_after, table_named, table_told}
 use Rattle.papaya_call.proofs.RestsNames.{IsNamed, ask_named, slot_named}
 use Rattle.papaya_call.proofs.RestsReply.{machine_changes}
@@ -27,10 +26,10 @@ use Rattle.papaya_map.specs.Sheets.{Sheet}
 use Rattle.papaya_map.specs.declared.event.Begun.{Begun}
 use Rattle.papaya_map.specs.declared.event.Event.{Event}
 use Rattle.papaya_map.specs.Calls.{IsTable}
-use Rattle.papaya_map.specs.Changing.{HasChanged, IsCalling, IsHeldAt, IsLoaded, hands_with}
+use Rattle.papaya_map.specs.Changing.{IsCalling, IsHeldAt, IsLoaded, hands_with}
 use Rattle.papaya_map.specs.Hashes.{hash_of}
 use Rattle.papaya_map.specs.Logs.{Stored, exchanges_of, pair_named, state_of, steps_of}
-use Rattle.papaya_map.specs.Rule.{IsLawfulLog, IsPlaced, word_in}
+use Rattle.papaya_map.specs.Rule.{IsLawfulLog, IsPlaced}
 use Rattle.papaya_map.proofs.Driving.{IsResting, coded, resting_later, resting_told, wide, word_wide}
 use Rattle.papaya_map.proofs.Loaded.{table_since}
 use Rattle.papaya_map.proofs.Logs.{prefix_trans, table_came}
@@ -68,8 +67,8 @@ module _ {K V S H : Type 0} (eq : K → K → Bool) (input : K → List (List �
   abbrev hash : S → K → ℕ
   hash = hash_of input build write finish
 
-  abbrev pub Calling : List (Event K V S) → Machine → Option (Bor Sheet) → (last made taken : Option (Stored K V)) → Type 0
-  Calling log m table last made taken = IsCalling eq hash b name matches (fed eq input build write finish classes respects b matches query lawful) k begun log m table last made taken
+  abbrev pub Calling : List (Event K V S) → Machine → Option (Bor Sheet) → (last : Option (Stored K V)) → List (Stored K V) → (taken put : Option (Stored K V)) → Type 0
+  Calling log m table last made taken put = IsCalling eq hash b name matches (fed eq input build write finish classes respects b matches query lawful) k begun log m table last made taken put
 
   abbrev pub Resting : List (Event K V S) → Machine → Hands (Stored K V) → Type 0
   Resting log m hands = IsResting eq input build write finish classes respects b matches query lawful k (exchanges_of begun) log m hands
@@ -82,10 +81,10 @@ module _ {K V S H : Type 0} (eq : K → K → Bool) (input : K → List (List �
   Coded = coded eq input build write finish classes respects b matches query lawful k (exchanges_of begun)
 
   -- what a call rests on
-  pub rests_of : (log : List (Event K V S)) (m : Machine) (table : Option (Bor Sheet)) (last made taken : Option (Stored K V)) → Calling log m table last made taken → Resting log m (hands_with last made)
-  rests_of log m table last made taken r = record { since = r.since; is = r.is; rests = r.rests }
+  pub rests_of : (log : List (Event K V S)) (m : Machine) (table : Option (Bor Sheet)) (last : Option (Stored K V)) (made : List (Stored K V)) (taken put : Option (Stored K V)) → Calling log m table last made taken put → Resting log m (hands_with last made)
+  rests_of log m table last made taken put r = record { since = r.since; is = r.is; rests = r.rests }
 
-  module _ (log : List (Event K V S)) (m : Machine) (table : Option (Bor Sheet)) (last made taken : Option (Stored K V)) (r : Calling log m table last made taken) where
+  module _ (log : List (Event K V S)) (m : Machine) (table : Option (Bor Sheet)) (last : Option (Stored K V)) (made : List (Stored K V)) (taken put : Option (Stored K V)) (r : Calling log m table last made taken put) where
     abbrev may : AllAllowed (Wide log) start (exchanges_of begun ++ r.since)
     may = subst (AllAllowed (Wide log) start) (sym r.is) (allowed_with eq input build write finish classes respects b matches query lawful log r.lawful)
 
@@ -126,20 +125,20 @@ module _ {K V S H : Type 0} (eq : K → K → Bool) (input : K → List (List �
     load_table (Aborted t) e asks = asks
     load_table (Done t) e asks = asks
 
-  module _ (log log' : List (Event K V S)) (pre : IsPrefix log log') (l' : IsLawfulLog eq hash b log') (m : Machine) (table : Option (Bor Sheet)) (last made taken : Option (Stored K V)) (r : Calling log m table last made taken) where
+  module _ (log log' : List (Event K V S)) (pre : IsPrefix log log') (l' : IsLawfulLog eq hash b log') (m : Machine) (table : Option (Bor Sheet)) (last : Option (Stored K V)) (made : List (Stored K V)) (taken put : Option (Stored K V)) (r : Calling log m table last made taken put) where
     -- it rests on the longer log
     pub later : Resting log' m (hands_with last made)
-    later = resting_later eq input build write finish classes respects b matches query lawful k (exchanges_of begun) log r.lawful m (hands_with last made) (rests_of log m table last made taken r) log' l' pre
+    later = resting_later eq input build write finish classes respects b matches query lawful k (exchanges_of begun) log r.lawful m (hands_with last made) (rests_of log m table last made taken put r) log' l' pre
 
     -- An answer that is true of the log's words, with which nothing is exchanged and nothing was changed before.
-    pub record IsQuiet (ask : Ask) (answer : Answer) (last' made' : Option (Stored K V)) (number' : ℕ) : Type 0 where
+    pub record IsQuiet (ask : Ask) (answer : Answer) (last' : Option (Stored K V)) (made' : List (Stored K V)) (number' : ℕ) : Type 0 where
       pub told : IsTold (Wide log') Coded k (state_of log') (kind_of_ask m) (hands_with last made) ask answer [] (hands_with last' made')
       pub number_is : told_table ask answer r.number ≡ number'
       pub same : change_after (kind_of_ask m) ask answer (change_in m.state) ≡ change_in m.state
       pub busy : IsCounting ask → ⊥
 
-    pub quiet : (ask : Ask) → ask_of m ≡ ask → (answer : Answer) (last' made' : Option (Stored K V)) (table' : Option (Bor Sheet)) (number' : ℕ) → IsQuiet ask answer last' made' number'
-        → MatchOption table' (number' ≡ 0) (λ t. IsTable log' number' t.now) → IsPlaced b (Some name) (pair_named last') → IsPlaced b (Some name) (pair_named made') → Calling log' (after m answer) table' last' made' taken
+    pub quiet : (ask : Ask) → ask_of m ≡ ask → (answer : Answer) (last' : Option (Stored K V)) (made' : List (Stored K V)) (table' : Option (Bor Sheet)) (number' : ℕ) → IsQuiet ask answer last' made' number'
+        → MatchOption table' (number' ≡ 0) (λ t. IsTable log' number' t.now) → IsPlaced b (Some name) (pair_named last') → ((q : Stored K V) → IsOneOf made' q → IsPlaced b (Some name) (pair_named (Some q))) → Calling log' (after m answer) table' last' made' taken put
     quiet ask asks answer last' made' table' number' q holds placed placed' =
         let told = subst (λ (a : Ask). IsTold (Wide log') Coded k (state_of log') (kind_of_ask m) (hands_with last made) a answer [] (hands_with last' made')) (sym asks) q.told in
         let on = resting_told eq input build write finish classes respects b matches query lawful k (exchanges_of begun) log' l' m (hands_with last made) later log' l' ([], append-nil log') answer (hands_with last' made') told in
@@ -165,7 +164,7 @@ module _ {K V S H : Type 0} (eq : K → K → Bool) (input : K → List (List �
     still = held_later log log' pre r.number table r.holds_table
 
     -- a place was loaded
-    pub loads : (at : At) (word : ℕ) (table' : Option (Bor Sheet)) (last' : Option (Stored K V)) → ask_of m ≡ Load at → IsLoaded eq hash b name at word log' table table' last last' → Calling log' (after m (Word_read word)) table' last' made taken
+    pub loads : (at : At) (word : ℕ) (table' : Option (Bor Sheet)) (last' : Option (Stored K V)) → ask_of m ≡ Load at → IsLoaded eq hash b name at word log' table table' last last' → Calling log' (after m (Word_read word)) table' last' made taken put
     loads Root word table' last' asks (loaded, is, table_is, same) =
         let w : word_of (Wide log') Coded (state_of log') Root ≡ word = word_wide eq input build write finish classes respects b matches query lawful k (exchanges_of begun) log' log' Root ∙ is.is in
         quiet (Load Root) asks (Word_read word) last' made table' (if word == 0 then r.number else word) (record { told = (ap Word_read (sym w), refl, ap (λ (z : Option (Stored K V)). hands_with z made) same); number_is = refl; same = refl; busy = λ z. z })
@@ -183,31 +182,31 @@ module _ {K V S H : Type 0} (eq : K → K → Bool) (input : K → List (List �
     loads (Aborted t) word table' last' asks h = absurd h
     loads (Done t) word table' last' asks h = absurd h
 
-  module _ (log : List (Event K V S)) (m : Machine) (table : Option (Bor Sheet)) (last made taken : Option (Stored K V)) (r : Calling log m table last made taken) where
+  module _ (log : List (Event K V S)) (m : Machine) (table : Option (Bor Sheet)) (last : Option (Stored K V)) (made : List (Stored K V)) (taken put : Option (Stored K V)) (r : Calling log m table last made taken put) where
     abbrev same_log : IsPrefix log log
     same_log = ([], append-nil log)
 
     -- the size of the table was told
-    pub sized : (t : ℕ) (lent : Bor Sheet) → table ≡ Some lent → (slots limit : ℕ) → slots ≡ length lent.now.slots → limit ≡ lent.now.limit → ask_of m ≡ SizeOf t → Calling log (after m (Size slots limit)) table last made taken
+    pub sized : (t : ℕ) (lent : Bor Sheet) → table ≡ Some lent → (slots limit : ℕ) → slots ≡ length lent.now.slots → limit ≡ lent.now.limit → ask_of m ≡ SizeOf t → Calling log (after m (Size slots limit)) table last made taken put
     sized t lent has slots limit slots_is limit_is asks =
-        let came : IsTable log t lent.now = subst (λ (o : Option (Bor Sheet)). MatchOption o ⊥ (λ z. IsTable log t z.now)) has (size_table log m table last made taken r t asks) in
+        let came : IsTable log t lent.now = subst (λ (o : Option (Bor Sheet)). MatchOption o ⊥ (λ z. IsTable log t z.now)) has (size_table log m table last made taken put r t asks) in
         let all = sizes (steps_of log) t came.0 came.1 in
         let many : slots ≡ (Wide log).size t = slots_is ∙ sym (all.0 ∙ ap (λ (z : Sheet). length z.slots) came.2) in
         let places : limit + 1 ≡ (Wide log).places t = ap (λ n. n + 1) limit_is ∙ sym (all.1 ∙ ap (λ (z : Sheet). z.limit + 1) came.2) in
-        quiet log log same_log r.lawful m table last made taken r (SizeOf t) asks (Size slots limit) last made table r.number
+        quiet log log same_log r.lawful m table last made taken put r (SizeOf t) asks (Size slots limit) last made table r.number
         (record { told = ((limit, places, ap (λ n. Size n limit) many), (refl, refl)); number_is = refl; same = refl; busy = λ z. z }) r.holds_table r.last_placed r.made_placed
 
     -- the pair last told of was compared
-    pub compared : (n : ℕ) (same : Bool) → ((p : Stored K V) → last ≡ Some p → same ≡ (Wide log).same k ((Wide log).key p)) → ask_of m ≡ SameKey n → Calling log (after m (Yes same)) table last made taken
+    pub compared : (n : ℕ) (same : Bool) → ((p : Stored K V) → last ≡ Some p → same ≡ (Wide log).same k ((Wide log).key p)) → ask_of m ≡ SameKey n → Calling log (after m (Yes same)) table last made taken put
     compared n same is asks =
-        quiet log log same_log r.lawful m table last made taken r (SameKey n) asks (Yes same) last made table r.number
+        quiet log log same_log r.lawful m table last made taken put r (SameKey n) asks (Yes same) last made table r.number
         (record { told = (λ p e f. ap Yes (is p e), (refl, refl)); number_is = refl; same = refl; busy = λ z. z }) r.holds_table r.last_placed r.made_placed
 
     -- the change was counted
-    pub counted : (by : _) → ask_of m ≡ AddToShard by → Calling log (after m Ok_done) table last made taken
+    pub counted : (by : _) → ask_of m ≡ AddToShard by → Calling log (after m Ok_done) table last made taken put
     counted by asks =
         let told = subst (λ (a : Ask). IsTold (Wide log) Coded k (state_of log) (kind_of_ask m) (hands_with last made) a Ok_done [] (hands_with last made)) (sym asks) (refl, (refl, refl)) in
-        let on = resting_told eq input build write finish classes respects b matches query lawful k (exchanges_of begun) log r.lawful m (hands_with last made) (rests_of log m table last made taken r) log r.lawful same_log Ok_done (hands_with last made) told in
+        let on = resting_told eq input build write finish classes respects b matches query lawful k (exchanges_of begun) log r.lawful m (hands_with last made) (rests_of log m table last made taken put r) log r.lawful same_log Ok_done (hands_with last made) told in
         let changes : change_in (after m Ok_done).state ≡ change_in m.state =
         machine_changes (Wide log) Coded (hashed_with eq input build write finish classes respects b matches query lawful log r.lawful) k (state_of log) m r.rests.hash (hands_with last made) [] (hands_with last made) Ok_done told
         ∙ ap (λ (a : Ask). change_after (kind_of_ask m) a Ok_done (change_in m.state)) asks in record {

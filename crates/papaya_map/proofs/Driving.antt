@@ -1,25 +1,23 @@
 -- What a machine rests on makes its exchanges possible, and what the calls of a book tell is what machines are to be told.
-use Rattle.std.proofs.Common.{◌≡◌, inl, inr, ℕ, ◌==◌, Bool, true, false, MatchBool, Option, None, Some, List, [], ◌∷◌, ◌++◌, refl, sym, ap, ◌∙◌, subst, append_assoc}
-use Rattle.papaya_words.specs.Word.{live_word, marked_word, copied_word, buried_word, top_byte}
+use Rattle.std.proofs.Common.{◌≡◌, inl, inr, ℕ, Bool, true, Option, None, Some, List, ◌++◌, refl, sym, ap, ◌∙◌, subst, append_assoc}
+use Rattle.papaya_words.specs.Word.{pair_of, live_word, marked_word, copied_word, buried_word, top_byte}
 use Rattle.std.specs.Cmp.{IsEquivalence}
 use mathlib.Core.List.{IsPrefix}
 use Rattle.papaya_call.specs.declared.ask.At.{At}
 use Rattle.papaya_call.specs.declared.ask.At.TheVariants.{Root, Next, Aborted, Done, Slot}
-use Rattle.papaya_call.specs.declared.ask.Ask.TheVariants.{Load, Exchange as Ask_exchange}
+use Rattle.papaya_call.specs.declared.ask.Ask.TheVariants.{Exchange as Ask_exchange}
 use Rattle.papaya_call.specs.declared.ask.Answer.{Answer}
-use Rattle.papaya_call.specs.declared.ask.Answer.TheVariants.{Word as Word_read, Exchanged, Found as Found_instead}
 use Rattle.papaya_call.specs.declared.ask.StepKind.{StepKind}
 use Rattle.papaya_call.specs.declared.ask.StepKind.TheVariants as kinds
 use Rattle.papaya_call.specs.declared.machine.Machine.{Machine}
 use Rattle.papaya_call.specs.Machine.{after, ask_of, kind_of_ask}
 use Rattle.papaya_call.specs.Law.Allows.{AllAllowed, Allows}
 use Rattle.papaya_call.specs.Law.Class.{IsOn}
-use Rattle.papaya_call.specs.Law.Exchange as law
 use Rattle.papaya_call.specs.Law.Exchange.{Exchange, Setting, State, Word, Empty, Closed, Live, Marked, Copied, Buried, after as after_exchange, run, start}
 use Rattle.papaya_call.specs.Law.Code.{Coding, byte_of_pair, code}
 use Rattle.papaya_call.specs.Law.Grows.{Agrees}
 use Rattle.papaya_call.specs.Rests.{Rests}
-use Rattle.papaya_call.specs.Told.{Hands, IsAsked, IsOneOf, IsOwnWord, IsTold, IsWritten, told_of, word_of}
+use Rattle.papaya_call.specs.Told.{Hands, IsAsked, IsOneOf, IsOwnWord, IsTold, IsWritten, word_of}
 use Rattle.papaya_call.proofs.Law.Alike.{alike_back, allows_alike}
 use Rattle.papaya_call.proofs.Law.Further.{key_agrees, key_alike, key_word}
 use Rattle.papaya_call.proofs.Law.Moments.{allowed_first}
@@ -28,17 +26,17 @@ use Rattle.papaya_call.proofs.RestsLearn.{machine_learns}
 use Rattle.papaya_call.proofs.RestsStay.{rests_stays}
 use Rattle.papaya_call.proofs.RestsTables.{rests_carries}
 use Rattle.papaya_map.specs.declared.event.Begun.{Begun}
-use Rattle.papaya_map.specs.declared.event.Named.{Named}
 use Rattle.papaya_map.specs.declared.event.Named.TheVariants as names
-use Rattle.papaya_map.specs.declared.event.Step.{Step}
 use Rattle.papaya_map.specs.declared.event.Step.TheVariants as steps
 use Rattle.papaya_map.specs.declared.event.Event.{Event}
-use Rattle.papaya_map.specs.Calls.{IsRead, IsTried}
 use Rattle.papaya_map.specs.Hashes.{hash_of}
-use Rattle.papaya_map.specs.Logs.{Stored, coding_of, comes, exchange_of, exchanges_of, setting_of, state_of}
-use Rattle.papaya_map.specs.Plays.{CanExchange, IsMeant, Numbered, hands_of, made_list}
+use Rattle.papaya_map.specs.History.{key_of}
+use Rattle.papaya_map.specs.Logs.{Stored, coding_of, exchanges_of, setting_of, state_of}
+use Rattle.papaya_map.specs.Plays.{CanExchange, MayStep, made_list}
 use Rattle.papaya_map.specs.Rule.{IsLawfulLog, word_in}
+use Rattle.papaya_map.proofs.AskedPairs.{IsPutting}
 use Rattle.papaya_map.proofs.Logs.{exchanges_of-append}
+use Rattle.papaya_map.proofs.Namesakes.{claimed_instead, replaced_instead, written_instead}
 use Rattle.papaya_map.proofs.Readings.{IsQuery, allowed_with, coding, fed, hashed_with, setting}
 use Rattle.papaya_map.proofs.Settings.{agrees_later}
 
@@ -47,6 +45,10 @@ pub one_made : {P : Type 0} (made : Option P) (q : P) → IsOneOf (made_list mad
 one_made None q one = absurd one
 one_made (Some p) q (inl is) = ap Some (sym is)
 one_made (Some p) q (inr one) = absurd one
+
+-- and it is one of those made
+pub is_made : {P : Type 0} (made : Option P) (q : P) → made ≡ Some q → IsOneOf (made_list made) q
+is_made made q is = subst (λ o. IsOneOf (made_list o) q) (sym is) (inl refl)
 
 module _ {K K' P : Type 0} (c : Coding K P) (c' : Coding K' P) (numbers : (p : P) → c.number p ≡ c'.number p) (hands hands' : Hands P) (made : (q : P) → IsOneOf hands.made q → IsOneOf hands'.made q) where
   own_word : (new : ℕ) (q : P) → IsOwnWord c hands new q → IsOwnWord c' hands' new q
@@ -83,51 +85,6 @@ module _ {K K' P : Type 0} (c : Coding K P) (c' : Coding K' P) (numbers : (p : P
   asked_by_made (Some kinds.Advance) at new s e a = absurd a
   asked_by_made (Some kinds.Promote) at new s e a = absurd a
   asked_by_made (Some kinds.Abort) at new s e a = absurd a
-
--- the pair that comes with an exchange of the law; of a table that comes it says nothing
-abbrev pub coming : {K V : Type 0} → Exchange (Stored K V) → Named K V
-coming (law.Open t) = names.Nothing
-coming (law.Claim t x p) = names.Pair p
-coming (law.Replace t x p q) = names.Pair q
-coming (law.Bury t x p) = names.Nothing
-coming (law.Link t n) = names.Nothing
-coming (law.Mark t x p) = names.Nothing
-coming (law.Close t x) = names.Nothing
-coming (law.Place t x p) = names.Nothing
-coming (law.Finish t x p) = names.Nothing
-coming (law.Advance t x y) = names.Nothing
-coming (law.Promote t n) = names.Nothing
-coming (law.Abort t) = names.Nothing
-
--- no table comes with it
-abbrev pub IsTableless : {P : Type 0} → Exchange P → Type 0
-IsTableless (law.Open t) = ⊥
-IsTableless (law.Claim t x p) = Unit {0}
-IsTableless (law.Replace t x p q) = Unit {0}
-IsTableless (law.Bury t x p) = Unit {0}
-IsTableless (law.Link t n) = ⊥
-IsTableless (law.Mark t x p) = Unit {0}
-IsTableless (law.Close t x) = Unit {0}
-IsTableless (law.Place t x p) = Unit {0}
-IsTableless (law.Finish t x p) = Unit {0}
-IsTableless (law.Advance t x y) = Unit {0}
-IsTableless (law.Promote t n) = Unit {0}
-IsTableless (law.Abort t) = Unit {0}
-
--- an exchange of the law as the log has it
-step_for : {K V : Type 0} (e : Exchange (Stored K V)) → IsTableless e → (s : Step K V) × (exchange_of s ≡ e) × (comes s ≡ coming e)
-step_for (law.Open t) n = absurd n
-step_for (law.Claim t x p) n = (steps.Claim t x p, refl, refl)
-step_for (law.Replace t x p q) n = (steps.Replace t x p q, refl, refl)
-step_for (law.Bury t x p) n = (steps.Bury t x p, refl, refl)
-step_for (law.Link t m) n = absurd n
-step_for (law.Mark t x p) n = (steps.Mark t x p, refl, refl)
-step_for (law.Close t x) n = (steps.Close t x, refl, refl)
-step_for (law.Place t x p) n = (steps.Place t x p, refl, refl)
-step_for (law.Finish t x p) n = (steps.Finish t x p, refl, refl)
-step_for (law.Advance t x y) n = (steps.Advance t x y, refl, refl)
-step_for (law.Promote t m) n = (steps.Promote t m, refl, refl)
-step_for (law.Abort t) n = (steps.Abort t, refl, refl)
 
 -- the word that stands at a place is the same in all settings whose pairs have the same keys
 word_same : {K P : Type 0} (g g' : Setting K P) (c : Coding K P) → ((p : P) → g'.key p ≡ g.key p) → (s : State P) (at : At) → word_of g' c s at ≡ word_of g c s at
@@ -217,11 +174,17 @@ module _ {K V S H : Type 0} (eq : K → K → Bool) (input : K → List (List �
         let all = machine_learns (wide log') coded (hashed_with eq input build write finish classes respects b matches query lawful log' l') begun r.since first k m hands carried answer more hands' told' in
         record { since = r.since ++ more; is = longer; rests = all.1 }
 
-  -- an exchange that a machine asks for may be tried with the pair that it made, where no table comes with it
-  pub can_exchange : (v : List (Event K V S)) → IsLawfulLog eq hash b v → (m : Machine) (hands : Hands (Stored K V)) → IsResting v m hands → (made : Option (Stored K V)) → hands.made ≡ made_list made → (at : At) (old new : ℕ) → ask_of m ≡ Ask_exchange at old new
-      → (brings : Named K V) → ((s : State (Stored K V)) (e : Exchange (Stored K V)) → IsAsked coded (kind_of_ask m) at new s hands e → IsTableless e × (coming e ≡ brings))
-      → CanExchange eq hash b at (kind_of_ask m) old new made brings v
-  can_exchange v l m hands r made made_is at old new asks brings which log pre l' stands =
+  -- An exchange that a machine asked for may come next after this log, and writes the new word.
+  record IsGranted (log : List (Event K V S)) (kind : Option StepKind) (hands : Hands (Stored K V)) (at : At) (new : ℕ) : Type 0 where
+    pub by : Exchange (Stored K V)
+    pub asked : IsAsked coded kind at new (state_of log) hands by
+    pub allowed : Allows (plain log) (state_of log) by
+    pub written : IsWritten (plain log) c (state_of log) at new (after_exchange (state_of log) by)
+
+  -- so may what a machine asks for, whenever the old word stands there
+  can_exchange : (v : List (Event K V S)) → IsLawfulLog eq hash b v → (m : Machine) (hands : Hands (Stored K V)) → IsResting v m hands → (at : At) (old new : ℕ) → ask_of m ≡ Ask_exchange at old new
+      → (log : List (Event K V S)) → IsPrefix v log → IsLawfulLog eq hash b log → word_in eq hash b log at ≡ old → IsGranted log (kind_of_ask m) hands at new
+  can_exchange v l m hands r at old new asks log pre l' stands =
       let now = resting_later v l m hands r log l' pre in
       let hashed = hashed_with eq input build write finish classes respects b matches query lawful log l' in
       let may = subst (AllAllowed (wide log) start) (sym now.is) (allowed_with eq input build write finish classes respects b matches query lawful log l') in
@@ -229,21 +192,69 @@ module _ {K V S H : Type 0} (eq : K → K → Bool) (input : K → List (List �
       subst (λ (z : List (Exchange (Stored K V))). word_of (wide log) coded (run z start) at ≡ old) (sym now.is) (word_wide log log at ∙ stands) in
       let done = machine_may (wide log) coded hashed begun now.since may k m hands now.rests at old new asks there in
       let by = done.0 in
-      let asked : IsAsked coded (kind_of_ask m) at new (state_of log) hands by = subst (λ (z : List (Exchange (Stored K V))). IsAsked coded (kind_of_ask m) at new (run z start) hands by) now.is done.1 in
       let wide_allows : Allows (wide log) (state_of log) by = subst (λ (z : List (Exchange (Stored K V))). Allows (wide log) (run z start) by) now.is done.2 in
       let written : IsWritten (wide log) coded (state_of log) at new (after_exchange (state_of log) by) = subst (λ (z : List (Exchange (Stored K V))). IsWritten (wide log) coded (run z start) at new (after_exchange (run z start) by)) now.is done.3 in
-      let same = λ (s : State (Stored K V)). λ (at' : At). key_word (plain log) matches fed_to c s at' in
-      let w = which (state_of log) by asked in
-      let s = step_for by w.0 in
-      let e : by ≡ exchange_of s.0 = sym s.1 in record {
-        step = s.0;
-        meant = record {
-          asked = subst (λ (x : Exchange (Stored K V)). IsAsked Numbered (kind_of_ask m) at new (state_of log) (hands_of made) x) e (asked_by_made coded Numbered (λ p. refl) hands (hands_of made) (λ q one. subst (λ (z : List (Stored K V)). IsOneOf z q) made_is one) (kind_of_ask m) at new (state_of log) by asked);
-          with_it = s.2 ∙ w.1;
-        };
-        allowed = subst (Allows (plain log) (state_of log)) e (allows_alike (wide log) (plain log) (alike_back (plain log) (wide log) (key_alike (plain log) matches fed_to)) (state_of log) by wide_allows);
-        written = subst (λ (x : Exchange (Stored K V)). IsWritten (plain log) c (state_of log) at new (after_exchange (state_of log) x)) e (record {
+      let same = λ (s : State (Stored K V)). λ (at' : At). key_word (plain log) matches fed_to c s at' in record {
+        by = by;
+        asked = subst (λ (z : List (Exchange (Stored K V))). IsAsked coded (kind_of_ask m) at new (run z start) hands by) now.is done.1;
+        allowed = allows_alike (wide log) (plain log) (alike_back (plain log) (wide log) (key_alike (plain log) matches fed_to)) (state_of log) by wide_allows;
+        written = record {
           here = sym (same (after_exchange (state_of log) by) at) ∙ written.here;
           others = λ other differs. sym (same (after_exchange (state_of log) by) other) ∙ (written.others other differs ∙ same (state_of log) other);
-        });
+        };
       }
+
+  -- the pairs that a call made have one key
+  one_key : (log : List (Event K V S)) (m : Machine) (hands : Hands (Stored K V)) → IsResting log m hands → (p q : Stored K V) → IsOneOf hands.made p → IsOneOf hands.made q → key_of p ≡ key_of q
+  one_key log m hands r p q one other = let both : Some (key_of p) ≡ Some (key_of q) = r.rests.made.keys p one ∙ sym (r.rests.made.keys q other) in cc both
+
+  module _ (log : List (Event K V S)) (hands : Hands (Stored K V)) (t x new : ℕ) where
+    -- a pair that the call made is put in, where one of its number was asked for
+    module _ (q : Stored K V) (number : pair_of new ≡ q.index) (keys : (p : Stored K V) → IsOneOf hands.made p → key_of p ≡ key_of q) where
+      abbrev MayPut : Option StepKind → Type 0
+      MayPut kind = MayStep eq hash b (Slot t x) kind new (Some q) (names.Pair q) log
+
+      may_claim : IsGranted log (Some kinds.Claim) hands (Slot t x) new → MayPut (Some kinds.Claim)
+      may_claim g =
+          let p = g.asked.0 in let own = g.asked.1 in let is = g.asked.2 in let key = keys p own.made in record {
+            step = steps.Claim t x q;
+            meant = record { asked = (q, record { made = inl refl; named = sym number }, refl); with_it = refl };
+            allowed = claimed_instead (plain log) c p q key (own.named ∙ number) (state_of log) t x (subst (Allows (plain log) (state_of log)) is g.allowed);
+            written = written_instead (plain log) c p q key (own.named ∙ number) (state_of log) t x (Slot t x) new (subst (λ (e : Exchange (Stored K V)). IsWritten (plain log) c (state_of log) (Slot t x) new (after_exchange (state_of log) e)) is g.written);
+          }
+
+      may_replace : IsGranted log (Some kinds.Replace) hands (Slot t x) new → MayPut (Some kinds.Replace)
+      may_replace g =
+          let r = g.asked.0 in let p = g.asked.1 in let live = g.asked.2 in let own = g.asked.3 in let is = g.asked.4 in let key = keys p own.made in record {
+            step = steps.Replace t x r q;
+            meant = record { asked = (r, q, live, record { made = inl refl; named = sym number }, refl); with_it = refl };
+            allowed = replaced_instead (plain log) c p q key (own.named ∙ number) (state_of log) t x r (subst (Allows (plain log) (state_of log)) is g.allowed);
+            written = written_instead (plain log) c p q key (own.named ∙ number) (state_of log) t x (Slot t x) new (subst (λ (e : Exchange (Stored K V)). IsWritten (plain log) c (state_of log) (Slot t x) new (after_exchange (state_of log) e)) is g.written);
+          }
+
+      may_put : (kind : Option StepKind) → IsPutting kind → IsGranted log kind hands (Slot t x) new → MayPut kind
+      may_put kind (inl is) g = subst MayPut (sym is) (may_claim (subst (λ (z : Option StepKind). IsGranted log z hands (Slot t x) new) is g))
+      may_put kind (inr is) g = subst MayPut (sym is) (may_replace (subst (λ (z : Option StepKind). IsGranted log z hands (Slot t x) new) is g))
+
+    -- a pair is taken out
+    abbrev MayBury : Option StepKind → Type 0
+    MayBury kind = MayStep eq hash b (Slot t x) kind new None names.Nothing log
+
+    may_bury : (kind : Option StepKind) → kind ≡ Some kinds.Bury → IsGranted log kind hands (Slot t x) new → MayBury kind
+    may_bury kind is granted =
+        let g = subst (λ (z : Option StepKind). IsGranted log z hands (Slot t x) new) is granted in
+        let p = g.asked.0 in let by = g.asked.2 in subst MayBury (sym is) (record {
+          step = steps.Bury t x p;
+          meant = record { asked = (p, g.asked.1, refl); with_it = refl };
+          allowed = subst (Allows (plain log) (state_of log)) by g.allowed;
+          written = subst (λ (e : Exchange (Stored K V)). IsWritten (plain log) c (state_of log) (Slot t x) new (after_exchange (state_of log) e)) by g.written;
+        })
+
+  module _ (v : List (Event K V S)) (l : IsLawfulLog eq hash b v) (m : Machine) (hands : Hands (Stored K V)) (r : IsResting v m hands) (t x old new : ℕ) (asks : ask_of m ≡ Ask_exchange (Slot t x) old new) where
+    -- An exchange that puts a pair in may be tried with any pair that the call made and that has the number asked for.
+    pub can_put : IsPutting (kind_of_ask m) → (q : Stored K V) → IsOneOf hands.made q → pair_of new ≡ q.index → CanExchange eq hash b (Slot t x) (kind_of_ask m) old new (Some q) (names.Pair q) v
+    can_put kind q one number log pre l' stands = may_put log hands t x new q number (λ p own. one_key v m hands r p q own one) (kind_of_ask m) kind (can_exchange v l m hands r (Slot t x) old new asks log pre l' stands)
+
+    -- An exchange that takes a pair out may be tried with no pair, whatever the call has made.
+    pub can_bury : kind_of_ask m ≡ Some kinds.Bury → CanExchange eq hash b (Slot t x) (kind_of_ask m) old new None names.Nothing v
+    can_bury kind log pre l' stands = may_bury log hands t x new (kind_of_ask m) kind (can_exchange v l m hands r (Slot t x) old new asks log pre l' stands)

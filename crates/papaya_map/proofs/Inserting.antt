@@ -1,40 +1,35 @@
 -- After each answer an insertion rests again, and holds what it was handed or has logged.
-use Rattle.std.proofs.Common.{◌≡◌, ◌≢◌, ◌⊎◌, inl, inr, ⊎_elim, ℕ, ◌+◌, ◌<◌, ◌==◌, ◌^◌, Bool, true, false, cond, MatchBool, MatchOption, Option, None, Some, List, [], ◌∷◌, ◌++◌, length, append-nil, refl, sym, ap, ◌∙◌, subst, arith}
-use Rattle.std.proofs.lemmas.Bool.{eqb-true, eqb-false, cond-true}
+use Rattle.std.proofs.Common.{◌≡◌, ◌⊎◌, inl, inr, ⊎_elim, ℕ, ◌<◌, ◌^◌, Bool, true, Option, None, Some, List, [], ◌∷◌, append-nil, refl, sym, ap, ◌∙◌, subst, arith}
 use Rattle.std.specs.Cmp.{IsEquivalence}
 use mathlib.Core.List.{IsPrefix}
-use denote.Bor.{Bor}
 use Rattle.boxcar.specs.Table.{Shows, Where}
 use Rattle.logbook.specs.Pages.{Book, nib, may_write}
 use Rattle.logbook.specs.declared.tokens.Pen.{Pen}
 use Rattle.papaya_words.specs.declared.probe.Refused.{Refused}
-use Rattle.papaya_call.specs.declared.ask.At.TheVariants.{Root, Slot}
-use Rattle.papaya_call.specs.declared.ask.Ask.{Ask}
-use Rattle.papaya_call.specs.declared.ask.Ask.TheVariants.{Load, Exchange as Ask_exchange, SameKey, SizeOf, MakeKey, MakePair, MakeTable, AddToShard}
+use Rattle.papaya_call.specs.declared.ask.At.TheVariants.{Root}
+use Rattle.papaya_call.specs.declared.ask.Ask.TheVariants.{Exchange as Ask_exchange, SameKey, MakeKey, MakePair, MakeTable}
 use Rattle.papaya_call.specs.declared.ask.Answer.{Answer}
 use Rattle.papaya_call.specs.declared.ask.Answer.TheVariants.{Word as Word_read, Exchanged, Found as Found_instead, Yes, Op, Size, Made as Made_number, Ok as Ok_done, Refused as Was_refused}
 use Rattle.papaya_call.specs.declared.call.Task.{Task}
-use Rattle.papaya_call.specs.declared.call.Task.TheVariants.{Insert}
 use Rattle.papaya_call.specs.declared.write.Made.TheVariants.{Pair}
 use Rattle.papaya_call.specs.declared.machine.Machine.{Machine}
-use Rattle.papaya_call.specs.Law.Exchange.{Exchange}
-use Rattle.papaya_call.specs.Machine.{IsFit, after, ask_of, kind_of_ask, made_in}
+use Rattle.papaya_call.specs.Machine.{IsFit, after, ask_of, made_in}
 use Rattle.papaya_call.specs.Rests.{RestsStage}
-use Rattle.papaya_call.specs.Told.{Hands, IsTold, IsUnmade}
+use Rattle.papaya_call.specs.Told.{Hands}
 use Rattle.papaya_call.proofs.RestsOpened.{machine_opened}
 use Rattle.papaya_map.specs.Sheets.{Sheet}
 use Rattle.papaya_map.specs.declared.event.Begun.{Begun}
 use Rattle.papaya_map.specs.declared.event.Event.{Event}
 use Rattle.papaya_map.specs.declared.event.Named.TheVariants as names
 use Rattle.papaya_map.specs.declared.insertion.Insertion.{Insertion}
-use Rattle.papaya_map.specs.Changing.{IsCalling, hands_with}
+use Rattle.papaya_map.specs.Changing.{hands_with}
 use Rattle.papaya_map.specs.Hashes.{hash_of}
 use Rattle.papaya_map.specs.History.{key_of}
-use Rattle.papaya_map.specs.Inserting.{IsInserting, IsInsertingOn, IsOpening, IsUnpaired, answered}
-use Rattle.papaya_map.specs.Logs.{Stored, exchanges_of, number_of, pair_named, state_of}
+use Rattle.papaya_map.specs.Inserting.{IsInserting, IsInsertingOn, IsOpening, IsUnpaired}
+use Rattle.papaya_map.specs.Logs.{Stored, exchanges_of, number_of}
 use Rattle.papaya_map.specs.Makers.{IsMade}
 use Rattle.papaya_map.specs.Rule.{IsLawfulLog, IsPlaced}
-use Rattle.papaya_map.proofs.Changing.{Coded, Wide, compared, held_later, quiet}
+use Rattle.papaya_map.proofs.Changing.{compared, held_later, quiet}
 use Rattle.papaya_map.specs.Plays.{made_list}
 use Rattle.papaya_map.specs.Readers.{coding_for, setting_for}
 use Rattle.papaya_map.proofs.OnePair.{pairs_once, unpaired_before}
@@ -93,9 +88,6 @@ module _ {K V S H : Type 0} (eq : K → K → Bool) (input : K → List (List �
   pub own_query : IsQuery eq input (eq key) (input key)
   own_query = record { feeds = λ k h. respects key k h; class = λ k l h. classes.congr key k l h }
 
-  abbrev Call : List (Event K V S) → Machine → Option (Bor Sheet) → (last made taken : Option (Stored K V)) → Type 0
-  Call log m table last made taken = IsCalling eq hash b name (eq key) (hash b.hasher key) (Some key) begun log m table last made taken
-
   abbrev pub Inserting : List (Event K V S) → Insertion K V S H → Type 0
   Inserting log x = IsInserting eq hash b name key value begun log x
 
@@ -111,7 +103,7 @@ module _ {K V S H : Type 0} (eq : K → K → Bool) (input : K → List (List �
     once asks =
         let g = setting_for eq hash b (eq key) (hash b.hasher key) log in
         let c = coding_for hash b.hasher (hash b.hasher key) in
-        let hands = hands_with x.call.last x.call.made in
+        let hands = hands_with x.call.last (made_list x.made) in
         pairs_once g c (exchanges_of begun) r.calling.since (Some key) hands true m.hash m.made m.state (subst (λ (t : Task). RestsStage g c (exchanges_of begun) r.calling.since (Some key) hands t m.state) r.task_is r.calling.rests.stage) asks
 
     -- nothing is opened after an answer, unless a table was made or was to be opened
@@ -124,14 +116,15 @@ module _ {K V S H : Type 0} (eq : K → K → Bool) (input : K → List (List �
         → InsertingOn log (record x { key = own; logged = logged }) (Some answer)
     key_made own logged answer asks plain own_is logged_is some = (
       record {
-        calling = quiet eq input build write finish classes respects b (eq key) (input key) own_query (Some key) name begun log log ([], append-nil log) r.calling.lawful m x.call.table x.call.last x.call.made x.call.taken r.calling
-            MakeKey asks answer x.call.last x.call.made x.call.table r.calling.number (record { told = (make_answer answer plain, (refl, refl)); number_is = refl; same = refl; busy = λ z. z }) r.calling.holds_table r.calling.last_placed r.calling.made_placed;
+        calling = quiet eq input build write finish classes respects b (eq key) (input key) own_query (Some key) name begun log log ([], append-nil log) r.calling.lawful m x.call.table x.call.last (made_list x.made) x.call.taken x.call.put r.calling
+            MakeKey asks answer x.call.last (made_list x.made) x.call.table r.calling.number (record { told = (make_answer answer plain, (refl, refl)); number_is = refl; same = refl; busy = λ z. z }) r.calling.holds_table r.calling.last_placed r.calling.made_placed;
         task_is = plain_task m answer plain ∙ r.task_is;
         own_is = own_is;
         logged_is = logged_is;
         some_key = some;
         left_is = r.left_is;
         made_is = r.made_is;
+        put_is = r.put_is;
         unmade = λ u. r.unmade (unpaired_before m answer u);
         opens = unopened log answer x.opening (λ n h. let f = sym asks ∙ h in cc f) (λ s l h. let f = sym asks ∙ h in cc f);
       },
@@ -142,14 +135,15 @@ module _ {K V S H : Type 0} (eq : K → K → Bool) (input : K → List (List �
     pub pair_unmade : (left : Option V) (answer : Answer) → ask_of m ≡ MakePair → ((refused : Refused) × (answer ≡ Was_refused refused)) ⊎ (answer ≡ Ok_done) → IsPlainAnswer answer → ((v : V) → left ≡ Some v → v ≡ value) → InsertingOn log (record x { value = left }) (Some answer)
     pair_unmade left answer asks unmade plain left_is = (
       record {
-        calling = quiet eq input build write finish classes respects b (eq key) (input key) own_query (Some key) name begun log log ([], append-nil log) r.calling.lawful m x.call.table x.call.last x.call.made x.call.taken r.calling
-            MakePair asks answer x.call.last x.call.made x.call.table r.calling.number (record { told = inl (unmade, (refl, refl)); number_is = refl; same = refl; busy = λ z. z }) r.calling.holds_table r.calling.last_placed r.calling.made_placed;
+        calling = quiet eq input build write finish classes respects b (eq key) (input key) own_query (Some key) name begun log log ([], append-nil log) r.calling.lawful m x.call.table x.call.last (made_list x.made) x.call.taken x.call.put r.calling
+            MakePair asks answer x.call.last (made_list x.made) x.call.table r.calling.number (record { told = inl (unmade, (refl, refl)); number_is = refl; same = refl; busy = λ z. z }) r.calling.holds_table r.calling.last_placed r.calling.made_placed;
         task_is = plain_task m answer plain ∙ r.task_is;
         own_is = r.own_is;
         logged_is = r.logged_is;
         some_key = r.some_key;
         left_is = left_is;
         made_is = r.made_is;
+        put_is = r.put_is;
         unmade = λ u. r.unmade (unpaired_before m answer u);
         opens = unopened log answer x.opening (λ n h. let f = sym asks ∙ h in cc f) (λ s l h. let f = sym asks ∙ h in cc f);
       },
@@ -158,17 +152,18 @@ module _ {K V S H : Type 0} (eq : K → K → Bool) (input : K → List (List �
 
     -- the pair was logged
     pub pair_made : (q : Stored K V) (left : Option V) (n : ℕ) → n ≡ q.index → ask_of m ≡ MakePair → n < 2 ^ 48 → key_of q ≡ key → q.value.value ≡ value → IsPlaced b (Some name) (names.Pair q) → ((v : V) → left ≡ Some v → v ≡ value)
-        → InsertingOn log (record x { call = record x.call { made = Some q }; value = left }) (Some (Made_number n))
+        → InsertingOn log (record x { value = left; made = Some q }) (Some (Made_number n))
     pair_made q left n number asks low key_is value_is placed left_is = let one_more : Option (Stored K V) → Hands (Stored K V) = λ o. record { last = x.call.last; made = q ∷ made_list o } in (
       record {
-        calling = quiet eq input build write finish classes respects b (eq key) (input key) own_query (Some key) name begun log log ([], append-nil log) r.calling.lawful m x.call.table x.call.last x.call.made x.call.taken r.calling
-            MakePair asks (Made_number n) x.call.last (Some q) x.call.table r.calling.number (record { told = inr (q, ap (λ z. Some z) key_is, ap Made_number number, refl, ap one_more (sym (r.unmade (once asks).0))); number_is = refl; same = refl; busy = λ z. z }) r.calling.holds_table r.calling.last_placed placed;
+        calling = quiet eq input build write finish classes respects b (eq key) (input key) own_query (Some key) name begun log log ([], append-nil log) r.calling.lawful m x.call.table x.call.last (made_list x.made) x.call.taken x.call.put r.calling
+            MakePair asks (Made_number n) x.call.last (q ∷ []) x.call.table r.calling.number (record { told = inr (q, ap (λ z. Some z) key_is, ap Made_number number, refl, ap one_more (sym (r.unmade (once asks).0))); number_is = refl; same = refl; busy = λ z. z }) r.calling.holds_table r.calling.last_placed (λ p one. ⊎_elim (λ is. subst (λ (z : Stored K V). IsPlaced b (Some name) (names.Pair z)) (sym is) placed) (λ none. absurd none) one);
         task_is = r.task_is;
         own_is = r.own_is;
         logged_is = r.logged_is;
         some_key = r.some_key;
         left_is = left_is;
         made_is = λ p e. let is : q ≡ p = cc e in (ap key_of (sym is) ∙ key_is, ap (λ (z : Stored K V). z.value.value) (sym is) ∙ value_is);
+        put_is = r.put_is;
         unmade = λ u. absurd (subst IsUnpaired ((once asks).1 n) u);
         opens = unopened log (Made_number n) x.opening (λ i h. let f = sym asks ∙ h in cc f) (λ s l h. let f = sym asks ∙ h in cc f);
       },
@@ -179,13 +174,14 @@ module _ {K V S H : Type 0} (eq : K → K → Bool) (input : K → List (List �
     pub key_compared : (n : ℕ) (same : Bool) → ((p : Stored K V) → x.call.last ≡ Some p → same ≡ eq key (key_of p)) → ask_of m ≡ SameKey n → InsertingOn log x (Some (Yes same))
     key_compared n same is asks = (
       record {
-        calling = compared eq input build write finish classes respects b (eq key) (input key) own_query (Some key) name begun log m x.call.table x.call.last x.call.made x.call.taken r.calling n same is asks;
+        calling = compared eq input build write finish classes respects b (eq key) (input key) own_query (Some key) name begun log m x.call.table x.call.last (made_list x.made) x.call.taken x.call.put r.calling n same is asks;
         task_is = r.task_is;
         own_is = r.own_is;
         logged_is = r.logged_is;
         some_key = r.some_key;
         left_is = r.left_is;
         made_is = r.made_is;
+        put_is = r.put_is;
         unmade = λ u. r.unmade (unpaired_before m (Yes same) u);
         opens = unopened log (Yes same) x.opening (λ i h. let f = sym asks ∙ h in cc f) (λ s l h. let f = sym asks ∙ h in cc f);
       },
@@ -196,8 +192,8 @@ module _ {K V S H : Type 0} (eq : K → K → Bool) (input : K → List (List �
     pub table_unmade : (log' : List (Event K V S)) → IsPrefix log log' → IsLawfulLog eq hash b log' → (slots limit : ℕ) (refused : Refused) → ask_of m ≡ MakeTable slots limit → InsertingOn log' x (Some (Was_refused refused))
     table_unmade log' pre l' slots limit refused asks = (
       record {
-        calling = quiet eq input build write finish classes respects b (eq key) (input key) own_query (Some key) name begun log log' pre l' m x.call.table x.call.last x.call.made x.call.taken r.calling
-            (MakeTable slots limit) asks (Was_refused refused) x.call.last x.call.made x.call.table r.calling.number (record { told = (inl (inl (refused, refl)), (refl, refl)); number_is = refl; same = refl; busy = λ z. z })
+        calling = quiet eq input build write finish classes respects b (eq key) (input key) own_query (Some key) name begun log log' pre l' m x.call.table x.call.last (made_list x.made) x.call.taken x.call.put r.calling
+            (MakeTable slots limit) asks (Was_refused refused) x.call.last (made_list x.made) x.call.table r.calling.number (record { told = (inl (inl (refused, refl)), (refl, refl)); number_is = refl; same = refl; busy = λ z. z })
             (held_later log log' pre r.calling.number x.call.table r.calling.holds_table) r.calling.last_placed r.calling.made_placed;
         task_is = r.task_is;
         own_is = r.own_is;
@@ -205,6 +201,7 @@ module _ {K V S H : Type 0} (eq : K → K → Bool) (input : K → List (List �
         some_key = r.some_key;
         left_is = r.left_is;
         made_is = r.made_is;
+        put_is = r.put_is;
         unmade = λ u. r.unmade (unpaired_before m (Was_refused refused) u);
         opens = λ n e. ⊎_elim (λ h. absurd (let f = h.0 in cc f)) (λ h. let f = sym asks ∙ h in absurd (cc f)) (machine_opened m n (Was_refused refused) e);
       },
@@ -216,8 +213,8 @@ module _ {K V S H : Type 0} (eq : K → K → Bool) (input : K → List (List �
         → InsertingOn log' (record x { opening = Some (w, seal) }) (Some (Made_number i))
     table_made log' pre l' slots limit w seal i number_is asks made placed book is = (
       record {
-        calling = quiet eq input build write finish classes respects b (eq key) (input key) own_query (Some key) name begun log log' pre l' m x.call.table x.call.last x.call.made x.call.taken r.calling
-            (MakeTable slots limit) asks (Made_number i) x.call.last x.call.made x.call.table r.calling.number (record { told = (inr (i, omega arith, refl), (refl, refl)); number_is = refl; same = refl; busy = λ z. z })
+        calling = quiet eq input build write finish classes respects b (eq key) (input key) own_query (Some key) name begun log log' pre l' m x.call.table x.call.last (made_list x.made) x.call.taken x.call.put r.calling
+            (MakeTable slots limit) asks (Made_number i) x.call.last (made_list x.made) x.call.table r.calling.number (record { told = (inr (i, omega arith, refl), (refl, refl)); number_is = refl; same = refl; busy = λ z. z })
             (held_later log log' pre r.calling.number x.call.table r.calling.holds_table) r.calling.last_placed r.calling.made_placed;
         task_is = r.task_is;
         own_is = r.own_is;
@@ -225,6 +222,7 @@ module _ {K V S H : Type 0} (eq : K → K → Bool) (input : K → List (List �
         some_key = r.some_key;
         left_is = r.left_is;
         made_is = r.made_is;
+        put_is = r.put_is;
         unmade = λ u. r.unmade (unpaired_before m (Made_number i) u);
         opens = λ n e. ⊎_elim
             (λ h. let f = h.0 in let number : i ≡ n = cc f in record { table = w; seal = seal; is = refl; number_is = sym number_is ∙ number; made = made; placed = placed; seal_book = book; seal_nib = is })

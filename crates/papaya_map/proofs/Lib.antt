@@ -17,6 +17,8 @@ pub mod Brings
 pub mod Opening
 pub mod Making
 -- what machines are told
+pub mod AskedPairs
+pub mod Namesakes
 pub mod Driving
 pub mod Replies
 pub mod Settings
@@ -31,6 +33,7 @@ pub mod TableSizes
 pub mod Readings
 pub mod Answering
 pub mod Comparing
+pub mod Moments
 pub mod LookupReplies
 -- changing calls
 pub mod Changing
@@ -39,3 +42,8 @@ pub mod OnePair
 pub mod Opened
 pub mod Inserting
 pub mod InsertingSteps
+-- what closures are shown
+pub mod Showings
+-- removals
+pub mod Removing
+pub mod RemovingReplies

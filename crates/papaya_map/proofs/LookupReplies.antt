@@ -1,5 +1,5 @@
 -- What a lookup replies is the answer of a history between the two that its pass has seen.
-use Rattle.std.proofs.Common.{◌≡◌, ℕ, Bool, true, Option, None, Some, List, ◌++◌, append_assoc, refl, sym, ap, ◌∙◌, subst}
+use Rattle.std.proofs.Common.{◌≡◌, ℕ, Bool, true, Option, None, Some, List, refl, ap, ◌∙◌, subst}
 use Rattle.std.specs.Cmp.{IsEquivalence}
 use mathlib.Core.List.{IsPrefix}
 use denote.Bor.{Bor}
@@ -12,28 +12,22 @@ use Rattle.papaya_call.specs.declared.machine.State.{State as Stage}
 use Rattle.papaya_call.specs.declared.machine.State.TheVariants.{AtRoot, Making, Opening, Searching, Writing, Offering, Showing, Pairing, Putting, Burying, Counting, Uncounting, Leaving, Growing, Ended}
 use Rattle.papaya_call.specs.declared.search.Search.TheVariants.{Sizing, Looking, Comparing}
 use Rattle.papaya_call.specs.declared.write.Made.{Made}
-use Rattle.papaya_call.specs.Law.Allows.{AllAllowed}
 use Rattle.papaya_call.specs.Law.Code.{Coding}
-use Rattle.papaya_call.specs.Law.Exchange.{Exchange, Setting, start}
-use Rattle.papaya_call.specs.Law.Further.{IsMatchedAtMoment}
-use Rattle.papaya_call.specs.Law.Meaning.{map_left}
+use Rattle.papaya_call.specs.Law.Exchange.{Exchange, Setting}
 use Rattle.papaya_call.specs.Machine.{IsStanding, IsStandingState, ask_of, asks}
 use Rattle.papaya_call.specs.Rests.{IsReply, RestsStage, WasAtMoment}
 use Rattle.papaya_call.specs.Told.{Hands}
-use Rattle.papaya_call.proofs.Law.FurtherMap.{key_moment}
-use Rattle.papaya_call.proofs.Law.Moments.{map_of-append}
 use Rattle.papaya_map.specs.Sheets.{Sheet}
 use Rattle.papaya_map.specs.declared.event.Begun.{Begun}
 use Rattle.papaya_map.specs.declared.event.Event.{Event}
 use Rattle.papaya_map.specs.declared.event.Pair.{Pair}
 use Rattle.papaya_map.specs.Hashes.{hash_of}
-use Rattle.papaya_map.specs.History.{Change, changes_of, history_of, replay}
-use Rattle.papaya_map.specs.Logs.{Stored, coding_of, exchanges_of, setting_of}
+use Rattle.papaya_map.specs.History.{history_of}
+use Rattle.papaya_map.specs.Logs.{Stored, exchanges_of}
 use Rattle.papaya_map.specs.Readers.{HoldsPair, IsAnsweredBetween}
 use Rattle.papaya_map.proofs.Answering.{Reading, stands_get}
-use Rattle.papaya_map.proofs.Histories.{changes_begin, replay_left}
-use Rattle.papaya_map.proofs.Logs.{exchanges_of-append}
-use Rattle.papaya_map.proofs.Readings.{IsQuery, coding, fed, key_form, setting}
+use Rattle.papaya_map.proofs.Moments.{IsHistory, matched_history}
+use Rattle.papaya_map.proofs.Readings.{IsQuery, coding, setting}
 
 -- a machine that has replied is at its end
 done_state : (made : Made) (hash : ℕ) (s : Stage) → IsStandingState Get s → (reply : Reply) → asks made hash s ≡ Done reply → s ≡ Ended reply
@@ -74,38 +68,9 @@ module _ {K V S H : Type 0} (eq : K → K → Bool) (input : K → List (List �
   abbrev hash : S → K → ℕ
   hash = hash_of input build write finish
 
-  -- the setting without the further key
-  abbrev plain : Setting K (Stored K V)
-  plain = setting_of eq (hash b.hasher) b.mode log
-
-  abbrev begun : List (Exchange (Stored K V))
-  begun = exchanges_of began
-
-  abbrev Was : Option (Stored K V) → Type 0
-  Was value = WasAtMoment (setting eq input build write finish classes respects b matches query lawful log) (coding eq input build write finish classes respects b matches query lawful) begun r.since None value
-
-  -- the history at a moment of the call, where the keys that match had this pair
-  record IsHistory (value : Option (Stored K V)) : Type 0 where
-    pub seen : List (Change K (Stored K V))
-    pub since : IsPrefix (history_of old) seen
-    pub until : IsPrefix seen (history_of log)
-    pub had : (k : K) → matches k ≡ true → replay eq seen k ≡ value
-    pub found : (p : Stored K V) → value ≡ Some p → matches p.value.key.value ≡ true
-
-  history_then : (value : Option (Stored K V)) → Was value → IsHistory value
-  history_then value was =
-      let may : AllAllowed plain start (begun ++ r.since) = subst (AllAllowed plain start) (sym r.is) r.lawful.allowed in
-      let f = fed eq input build write finish classes respects b matches query lawful in
-      let moment : IsMatchedAtMoment plain matches (map_left plain begun) r.since value = key_moment plain matches f (coding_of (hash b.hasher)) (key_form eq input build write finish classes respects b matches query lawful log) begun r.since may value was in
-      let es = begun ++ moment.so_far in
-      let early : exchanges_of old ++ (exchanges_of pre.0 ++ moment.so_far) ≡ es = sym (append_assoc (exchanges_of old) (exchanges_of pre.0) moment.so_far) ∙ ap (λ (z : List (Exchange (Stored K V))). z ++ moment.so_far) (sym (exchanges_of-append old pre.0) ∙ ap exchanges_of pre.1) in
-      let late : es ++ moment.rest ≡ exchanges_of log = append_assoc begun moment.so_far moment.rest ∙ (ap (λ (z : List (Exchange (Stored K V))). begun ++ z) moment.is ∙ r.is) in record {
-        seen = changes_of plain.key es;
-        since = changes_begin plain.key (exchanges_of old) (exchanges_of pre.0 ++ moment.so_far) es early;
-        until = changes_begin plain.key es moment.rest (exchanges_of log) late;
-        had = λ k h. ap (λ (z : K → Option (Stored K V)). z k) (replay_left plain es ∙ map_of-append plain begun moment.so_far (λ k. None)) ∙ moment.value_is k h;
-        found = moment.found;
-      }
+  -- the history at a moment of the call
+  history_then : (value : Option (Stored K V)) → WasAtMoment (setting eq input build write finish classes respects b matches query lawful log) (coding eq input build write finish classes respects b matches query lawful) (exchanges_of began) r.since None value → IsHistory eq matches old log value
+  history_then value was = matched_history eq input build write finish classes respects b matches query lawful old began pre log r.lawful r.since r.is value was
 
   -- a pair was found, and is the one that is held
   pub found_answer : (n : ℕ) → ask_of m ≡ Done (Found n) → (lent : Bor (Pair K V)) → pair ≡ Some lent → (value : Bor V) → value.now ≡ lent.now.value → IsAnsweredBetween {V = V} eq matches (history_of old) (history_of log) (Some value)
@@ -128,5 +93,5 @@ module _ {K V S H : Type 0} (eq : K → K → Bool) (input : K → List (List �
   absent_answer reply e none =
       let g = setting eq input build write finish classes respects b matches query lawful log in let c = coding eq input build write finish classes respects b matches query lawful in
       let ended = done_state m.made m.hash m.state (stands_get m r.task_is stands) reply e in
-      let stage : RestsStage g c begun r.since None r.hands Get (Ended reply) = subst (λ z. RestsStage g c begun r.since None r.hands Get z) ended (subst (λ t. RestsStage g c begun r.since None r.hands t m.state) r.task_is r.rests.stage) in
-      let h = history_then None (get_reply g c begun r.since None r.hands reply stage none) in record { seen = h.seen; since = h.since; until = h.until; is = h.had }
+      let stage : RestsStage g c (exchanges_of began) r.since None r.hands Get (Ended reply) = subst (λ z. RestsStage g c (exchanges_of began) r.since None r.hands Get z) ended (subst (λ t. RestsStage g c (exchanges_of began) r.since None r.hands t m.state) r.task_is r.rests.stage) in
+      let h = history_then None (get_reply g c (exchanges_of began) r.since None r.hands reply stage none) in record { seen = h.seen; since = h.since; until = h.until; is = h.had }

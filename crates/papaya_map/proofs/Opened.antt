@@ -1,6 +1,6 @@
 -- After it tried to open a table a call rests again, and holds the root's table.
-use Rattle.std.proofs.Common.{◌≡◌, ◌⊎◌, inl, inr, ⊎_elim, ℕ, ◌==◌, Bool, true, false, cond, MatchBool, MatchOption, Option, None, Some, List, [], ◌∷◌, ◌++◌, append-nil, refl, sym, ap, ◌∙◌, subst, arith}
-use Rattle.std.proofs.lemmas.Bool.{cases_Bool, cond-true, cond-false, eqb-true, eqb-false}
+use Rattle.std.proofs.Common.{◌≡◌, ⊎_elim, ℕ, ◌==◌, Bool, true, false, MatchBool, Option, None, Some, List, [], ◌∷◌, ◌++◌, refl, sym, ap, ◌∙◌, subst}
+use Rattle.std.proofs.lemmas.Bool.{cases_Bool, cond-true, eqb-true, eqb-false}
 use Rattle.std.specs.Cmp.{IsEquivalence}
 use mathlib.Core.List.{IsPrefix}
 use denote.Bor.{Bor}
@@ -28,14 +28,13 @@ use Rattle.papaya_map.specs.declared.event.Named.{Named}
 use Rattle.papaya_map.specs.declared.event.Named.TheVariants as names
 use Rattle.papaya_map.specs.declared.event.Step.{Step}
 use Rattle.papaya_map.specs.Calls.{IsTable, IsTried}
-use Rattle.papaya_map.specs.Changing.{IsCalling, hands_with}
+use Rattle.papaya_map.specs.Changing.{hands_with}
 use Rattle.papaya_map.specs.Hashes.{hash_of}
 use Rattle.papaya_map.specs.Logs.{Stored, comes, exchange_of, exchanges_of, number_of, or_else, state_of, steps_of, table_if, table_in}
 use Rattle.papaya_map.specs.Plays.{IsMeant}
-use Rattle.papaya_map.specs.Rule.{IsLawfulLog}
 use Rattle.papaya_map.proofs.Changing.{Calling, Coded, Wide, quiet, rests_of}
 use Rattle.papaya_map.proofs.Driving.{resting_later, resting_told, word_wide}
-use Rattle.papaya_map.proofs.Logs.{exchanges_of-append, or_nothing, prefix_trans, steps-append, table_append}
+use Rattle.papaya_map.proofs.Logs.{exchanges_of-append, prefix_trans, steps-append, table_append}
 use Rattle.papaya_map.proofs.Readings.{IsQuery, hashed_with}
 
 -- a number equals itself, as the test says it
@@ -73,10 +72,10 @@ module _ {K V S H : Type 0} (eq : K → K → Bool) (input : K → List (List �
   abbrev hash' : S → K → ℕ
   hash' = hash_of input build write finish
 
-  abbrev Call : List (Event K V S) → Machine → Option (Bor Sheet) → (last made taken : Option (Stored K V)) → Type 0
-  Call log m table last made taken = Calling eq input build write finish classes respects b matches query lawful k name begun log m table last made taken
+  abbrev Call : List (Event K V S) → Machine → Option (Bor Sheet) → (last : Option (Stored K V)) → List (Stored K V) → (taken put : Option (Stored K V)) → Type 0
+  Call log m table last made taken put = Calling eq input build write finish classes respects b matches query lawful k name begun log m table last made taken put
 
-  module _ (v log : List (Event K V S)) (m : Machine) (table : Option (Bor Sheet)) (last made taken : Option (Stored K V)) (r : Call v m table last made taken) (n found : ℕ) (w : Where Sheet) (state : Option (Named K V)) (asks : ask_of m ≡ Ask_exchange Root 0 n) (kind : kind_of_ask m ≡ Some kinds.Open)
+  module _ (v log : List (Event K V S)) (m : Machine) (table : Option (Bor Sheet)) (last : Option (Stored K V)) (made : List (Stored K V)) (taken put : Option (Stored K V)) (r : Call v m table last made taken put) (n found : ℕ) (w : Where Sheet) (state : Option (Named K V)) (asks : ask_of m ≡ Ask_exchange Root 0 n) (kind : kind_of_ask m ≡ Some kinds.Open)
       (t : IsTried eq hash' b Root (Some kinds.Open) 0 n None (names.Table w) v found log state) (lent : Bor Sheet) where
     abbrev G : Rattle.papaya_call.specs.Law.Exchange.Setting (Option K) (Stored K V)
     G = Wide eq input build write finish classes respects b matches query lawful k name begun log
@@ -88,7 +87,7 @@ module _ {K V S H : Type 0} (eq : K → K → Bool) (input : K → List (List �
     hands = hands_with last made
 
     -- it was opened
-    pub opened : (found == 0) ≡ true → IsTable log n lent.now → Call log (after m Exchanged) (Some lent) last made taken
+    pub opened : (found == 0) ≡ true → IsTable log n lent.now → Call log (after m Exchanged) (Some lent) last made taken put
     opened is holds =
         let done = subst (After eq hash' b n w v found log state t) is t.after in
         let e = exchange_of done.0 in
@@ -99,7 +98,7 @@ module _ {K V S H : Type 0} (eq : K → K → Bool) (input : K → List (List �
         let asked : IsAsked C (kind_of_ask m) Root n (state_of before) hands e = subst (λ (z : Option StepKind). IsAsked C z Root n (state_of before) hands e) (sym kind) done.1.asked in
         let told' : IsTold G C k (state_of before) (kind_of_ask m) hands (Ask_exchange Root 0 n) Exchanged (e ∷ []) hands = rw here (refl, (e, asked, refl), refl) in
         let told = subst (λ (a : Ask). IsTold G C k (state_of before) (kind_of_ask m) hands a Exchanged (e ∷ []) hands) (sym asks) told' in
-        let mid = resting_later eq input build write finish classes respects b matches query lawful k (exchanges_of begun) v r.lawful m hands (rests_of eq input build write finish classes respects b matches query lawful k name begun v m table last made taken r) before t.lawful t.since in
+        let mid = resting_later eq input build write finish classes respects b matches query lawful k (exchanges_of begun) v r.lawful m hands (rests_of eq input build write finish classes respects b matches query lawful k name begun v m table last made taken put r) before t.lawful t.since in
         let on = resting_told eq input build write finish classes respects b matches query lawful k (exchanges_of begun) before t.lawful m hands mid log t.now pre Exchanged hands told in
         let changes_to : change_in (after m Exchanged).state ≡ None =
         machine_changes G C (hashed_with eq input build write finish classes respects b matches query lawful log t.now) k (state_of before) m r.rests.hash hands (e ∷ []) hands Exchanged told
@@ -120,12 +119,12 @@ module _ {K V S H : Type 0} (eq : K → K → Bool) (input : K → List (List �
         }
 
     -- it was lost: another one is the root
-    pub beaten : (found == 0) ≡ false → IsTable log found lent.now → Call log (after m (Found_instead found)) (Some lent) last made taken
+    pub beaten : (found == 0) ≡ false → IsTable log found lent.now → Call log (after m (Found_instead found)) (Some lent) last made taken put
     beaten is holds =
         let same = opened_lost eq hash' b n w v found log state t is in
         let pre : IsPrefix v log = subst (IsPrefix v) (sym same) t.since in
         let here : word_of G C (state_of log) Root ≡ found = word_wide eq input build write finish classes respects b matches query lawful k (exchanges_of begun) log log Root ∙ (ap (λ (z : List (Event K V S)). (state_of z).root) same ∙ t.is) in
         let differs : (word_of G C (state_of log) Root == 0) ≡ false = ap (λ (i : ℕ). i == 0) here ∙ is in
         let told : IsTold G C k (state_of log) (kind_of_ask m) hands (Ask_exchange Root 0 n) (Found_instead found) [] hands = rw differs (ap Found_instead (sym here), refl, refl) in
-        quiet eq input build write finish classes respects b matches query lawful k name begun v log pre t.now m table last made taken r (Ask_exchange Root 0 n) asks (Found_instead found) last made (Some lent) found
+        quiet eq input build write finish classes respects b matches query lawful k name begun v log pre t.now m table last made taken put r (Ask_exchange Root 0 n) asks (Found_instead found) last made (Some lent) found
         (record { told = told; number_is = refl; same = refl; busy = λ z. z }) holds r.last_placed r.made_placed

@@ -22,6 +22,7 @@ use Rattle.papaya_map.specs.Changing.{IsCalling, IsPut}
 use Rattle.papaya_map.specs.History.{history_of, key_of}
 use Rattle.papaya_map.specs.Logs.{Stored, number_of}
 use Rattle.papaya_map.specs.Makers.{IsMade}
+use Rattle.papaya_map.specs.Plays.{made_list}
 use Rattle.papaya_map.specs.Rule.{IsPlaced}
 
 -- no pair is made yet
@@ -44,14 +45,15 @@ pub record IsOpening {K V S : Type 0} (b : Begun K V S) (name : Book) (log : Lis
 module _ {K V S H : Type 0} (eq : K → K → Bool) (hash : S → K → ℕ) (b : Begun K V S) (name : Book) where
   -- An insertion of this key and value. It holds the key as it was handed in, or as it was logged, and the value until it is logged.
   pub record IsInserting (key : K) (value : V) (begun log : List (Event K V S)) (x : Insertion K V S H) : Type 0 where
-    pub calling : IsCalling eq hash b name (eq key) (hash b.hasher key) (Some key) begun log x.call.machine x.call.table x.call.last x.call.made x.call.taken
+    pub calling : IsCalling eq hash b name (eq key) (hash b.hasher key) (Some key) begun log x.call.machine x.call.table x.call.last (made_list x.made) x.call.taken x.call.put
     pub task_is : x.call.machine.task ≡ Insert true
     pub own_is : (k : K) → x.key ≡ Some k → k ≡ key
     pub logged_is : (p : Where K) → x.logged ≡ Some p → (p.value ≡ key) × Shows b.keys p
     pub some_key : x.key ≡ None → (p : Where K) × (x.logged ≡ Some p)
     pub left_is : (v : V) → x.value ≡ Some v → v ≡ value
-    pub made_is : (q : Stored K V) → x.call.made ≡ Some q → (key_of q ≡ key) × (q.value.value ≡ value)
-    pub unmade : IsUnpaired x.call.machine.made → x.call.made ≡ None
+    pub made_is : (q : Stored K V) → x.made ≡ Some q → (key_of q ≡ key) × (q.value.value ≡ value)
+    pub put_is : (q : Stored K V) → x.call.put ≡ Some q → (key_of q ≡ key) × (q.value.value ≡ value)
+    pub unmade : IsUnpaired x.call.machine.made → x.made ≡ None
     pub opens : (n : ℕ) → ask_of x.call.machine ≡ Exchange Root 0 n → IsOpening b name log n x.opening
 
   -- the insertion after its machine was answered

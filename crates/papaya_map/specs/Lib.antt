@@ -16,5 +16,7 @@ pub mod Readers
 -- what changing calls do
 pub mod Changing
 pub mod Inserting
+pub mod Showings
+pub mod Removing
 -- why a map is not made
 pub mod Asked

@@ -20,16 +20,16 @@ use papaya_call::write::Made;
 use papaya_words::probe::ResizeMode;
 use std::hash::{BuildHasher, Hash};
 
-/// A changing call under way: its machine, the table and the pair of which it was told last, the
-/// pair that it has made, and the one that its change took out. A machine names no others, so this
-/// takes no memory.
+/// A changing call under way: its machine, the table and the pair of which it was told last, and the
+/// pairs that its change took out and put in. A machine is told of no others but those that the call
+/// has made, so this takes no memory.
 #[derive(Drop)]
 pub(crate) struct Caller<'a, K: Hash + Eq, V, S: BuildHasher> {
     pub(crate) machine: Machine,
     pub(crate) table: Option<&'a Table<K, V, S>>,
     pub(crate) last: Option<Stored<K, V>>,
-    pub(crate) made: Option<Stored<K, V>>,
     pub(crate) taken: Option<Stored<K, V>>,
+    pub(crate) put: Option<Stored<K, V>>,
 }
 
 impl<'a, K: Hash + Eq, V, S: BuildHasher> Caller<'a, K, V, S> {
@@ -44,7 +44,7 @@ impl<'a, K: Hash + Eq, V, S: BuildHasher> Caller<'a, K, V, S> {
         ensures machine { result.machine ≡ started task hash mode initial }
         ensures standing { IsStanding result.machine }
         ensures table { result.table ≡ None }
-        ensures pairs { (result.last ≡ None) × (result.made ≡ None) × (result.taken ≡ None) }
+        ensures pairs { (result.last ≡ None) × (result.taken ≡ None) × (result.put ≡ None) }
     {
         Caller {
             machine: Machine {
@@ -58,8 +58,8 @@ impl<'a, K: Hash + Eq, V, S: BuildHasher> Caller<'a, K, V, S> {
             },
             table: None,
             last: None,
-            made: None,
             taken: None,
+            put: None,
         }
     }
 
@@ -71,7 +71,7 @@ impl<'a, K: Hash + Eq, V, S: BuildHasher> Caller<'a, K, V, S> {
         ensures book { pass.new.book ≡ pass.old.book }
         ensures seen { IsPrefix pass.old.log pass.new.log }
         ensures loaded { IsLoaded K.eq (hash_of K.hash_input S.build_hasher S.Hasher.write S.Hasher.finish) (begun_of book.now.parts) book.now.begun.book at result pass.new.log self.old.table self.new.table self.old.last self.new.last }
-        ensures rest { (self.new.machine ≡ self.old.machine) × (self.new.made ≡ self.old.made) × (self.new.taken ≡ self.old.taken) }
+        ensures rest { (self.new.machine ≡ self.old.machine) × (self.new.taken ≡ self.old.taken) × (self.new.put ≡ self.old.put) }
     {
         match (at, self.table) {
             (At::Root, _) => {
@@ -113,13 +113,21 @@ impl<'a, K: Hash + Eq, V, S: BuildHasher> Caller<'a, K, V, S> {
         }
     }
 
-    /// The call tried an exchange, and found this word and this pair.
+    /// The call tried an exchange with which the pair comes that is to be put in, if one is, and found
+    /// this word and this pair.
     #[inline(always)]
-    pub(crate) fn tried(&mut self, old: u64, found: u64, pair: Option<Stored<K, V>>) -> Answer
-        ensures { MatchBool (found == old) ((result ≡ Answer.Exchanged) × (self.new ≡ record self.old { taken = pair })) ((result ≡ Answer.Found found) × (self.new ≡ record self.old { last = or_last pair self.old.last })) }
+    pub(crate) fn tried(
+        &mut self,
+        old: u64,
+        found: u64,
+        pair: Option<Stored<K, V>>,
+        put: Option<Stored<K, V>>,
+    ) -> Answer
+        ensures { MatchBool (found == old) ((result ≡ Answer.Exchanged) × (self.new ≡ record self.old { taken = pair; put = put })) ((result ≡ Answer.Found found) × (self.new ≡ record self.old { last = or_last pair self.old.last })) }
     {
         if found == old {
             self.taken = pair;
+            self.put = put;
             Answer::Exchanged
         } else {
             self.tell(pair);

@@ -15,6 +15,7 @@ ghost use Rattle.papaya_map.specs.Parts.{begun_of};
 use crate::book::Book;
 use crate::caller::Caller;
 use crate::count::Shard;
+use crate::event::Stored;
 use crate::reader::hash;
 use crate::table::Table;
 use crate::trade::Sight;
@@ -29,13 +30,14 @@ use std::hash::{BuildHasher, Hash};
 use std::sync::Wait;
 
 /// An insertion under way, with what it was handed: its key until that is logged, and its value
-/// until that is. A table that it has made is opened by its next step.
+/// until that is. It makes one pair. A table that it has made is opened by its next step.
 #[derive(Drop)]
 pub(crate) struct Insertion<'a, K: Hash + Eq, V, S: BuildHasher> {
     call: Caller<'a, K, V, S>,
     key: Option<K>,
     logged: Option<Pushed<K>>,
     value: Option<V>,
+    made: Option<Stored<K, V>>,
     opening: Option<(Pushed<Table<K, V, S>>, Pen)>,
 }
 
@@ -105,7 +107,7 @@ impl<'a, K: Hash + Eq + Drop, V: Drop, S: BuildHasher> Insertion<'a, K, V, S> {
         if number >= MAX_LOG_LEN {
             return Answer::Refused(Refused::Capacity);
         }
-        self.call.made = Some(pair);
+        self.made = Some(pair);
         Answer::Made(number as u64)
     }
 
@@ -207,13 +209,13 @@ impl<'a, K: Hash + Eq + Drop, V: Drop, S: BuildHasher> Insertion<'a, K, V, S> {
         let Some(table) = self.call.table else {
             unreachable!()
         };
-        let Some(made) = self.call.made.take() else {
+        let Some(made) = &self.made else {
             unreachable!()
         };
         let kind = self.call.machine.kind();
-        let (found, pair) = book.put_slot(table, number, place, kind, &made, words, pass);
-        self.call.made = Some(made);
-        self.call.tried(words.0, found, pair)
+        let (found, pair) = book.put_slot(table, number, place, kind, made, words, pass);
+        let put = made.again();
+        self.call.tried(words.0, found, pair, Some(put))
     }
 
     /// Loads a word.
@@ -338,6 +340,7 @@ pub(crate) fn insert<'a, R: Wait, K: Hash + Eq + Drop, V: Drop, S: BuildHasher>(
         key: Some(key),
         logged: None,
         value: Some(value),
+        made: None,
         opening: None,
     };
     for _ in rt.forever() {

@@ -24,6 +24,7 @@ pub mod map;
 pub mod opens;
 pub mod parts;
 mod reader;
+mod removal;
 pub mod slots;
 pub mod steps;
 pub mod table;

@@ -1,5 +1,5 @@
 //! The map that threads share, and the passes of its callers.
-ghost use Rattle.std.specs.Prelude.{◌≡◌, IfErr, IfOk};
+ghost use Rattle.std.specs.Prelude.{◌≡◌, true, IfErr, IfOk};
 ghost use mathlib.Core.List.{IsPrefix};
 ghost use Rattle.logbook.specs.Pages.{Book as BookName};
 ghost use Rattle.papaya_core.specs.New.{IsAllowed};
@@ -7,6 +7,8 @@ ghost use Rattle.papaya_map.specs.Asked.{IsRefused};
 ghost use Rattle.papaya_map.specs.Changing.{IsPut};
 ghost use Rattle.papaya_map.specs.History.{IsLegalHistory, Past, history_of, key_of};
 ghost use Rattle.papaya_map.specs.Readers.{IsAnsweredBetween};
+ghost use Rattle.papaya_map.specs.Removing.{IsRemovalBy, IsRemoved};
+ghost use Rattle.papaya_map.specs.Showings.{Judges};
 
 use crate::asked::{check_chunk, initial_len};
 use crate::book::Book;
@@ -14,6 +16,7 @@ use crate::count::Count;
 use crate::insertion::insert;
 use crate::parts::Parts;
 use crate::reader::look_up;
+use crate::removal::remove;
 use crate::trade::Sight;
 use papaya_seq::guard::{Collector, Equivalent, Guard};
 use papaya_words::probe::{Refused, ResizeMode};
@@ -151,6 +154,59 @@ impl<'a, K: Hash + Eq, V, S: BuildHasher> HashMapRef<'a, K, V, S> {
     {
         let map: &'a HashMap<K, V, S> = self.map;
         look_up(&map.book, key, &mut pass.sight)
+    }
+
+    /// Removes a key's pair if the closure, which is shown it, answers true: `remove_if` of 0.2.5.
+    ///
+    /// `Ok(None)` where the key is absent, `Ok(Some(pair))` where that very pair was removed, and
+    /// `Err(pair)` where the closure answered false for it. The closure may be asked again, where
+    /// another call was first to replace or remove the pair that it was shown. A removal takes no
+    /// memory, and while the map has one table it is not refused.
+    pub fn remove_if_as<R: Wait, Q: Equivalent<K>, F: FnMut(&K, &V) -> bool>(
+        &self,
+        rt: &R,
+        key: &Q,
+        should_remove: F,
+        pass: &mut Pass<K, V, S>,
+    ) -> Result<Result<Option<(&'a K, &'a V)>, (&'a K, &'a V)>, Refused>
+        requires book { pass.old.book ≡ self.now }
+        requires callable { F.IsAlwaysCallable should_remove }
+        ensures book { pass.new.book ≡ pass.old.book }
+        ensures seen { IsPrefix pass.old.history pass.new.history }
+        ensures removed { IsRemovalBy K.eq (Q.matches key.now) pass.old.history pass.new.history (Judges F.FnMut) should_remove result }
+    {
+        let map: &'a HashMap<K, V, S> = self.map;
+        let shard = map.count.shard(self.guard);
+        remove(rt, &shard, &map.book, key, should_remove, &mut pass.sight)
+    }
+
+    /// Removes a key's pair, and answers its value: `remove` of 0.2.5. It takes no memory, and while
+    /// the map has one table it is not refused.
+    pub fn remove_as<R: Wait, Q: Equivalent<K>>(
+        &self,
+        rt: &R,
+        key: &Q,
+        pass: &mut Pass<K, V, S>,
+    ) -> Result<Option<&'a V>, Refused>
+        requires { pass.old.book ≡ self.now }
+        ensures book { pass.new.book ≡ pass.old.book }
+        ensures seen { IsPrefix pass.old.history pass.new.history }
+        ensures removed { IsRemoved K.eq (Q.matches key.now) pass.old.history pass.new.history result }
+    {
+        let removed = self.remove_if_as(
+            rt,
+            key,
+            |_, _|
+                ensures { result ≡ true }
+            { true },
+            pass,
+        );
+        match removed {
+            Ok(Ok(Some((_, value)))) => Ok(Some(value)),
+            Ok(Ok(None)) => Ok(None),
+            Ok(Err(_)) => unreachable!(),
+            Err(refused) => Err(refused),
+        }
     }
 }
 

@@ -18,7 +18,7 @@ loop-init g c =
       (
         log,
         c.learn.ensures.seen,
-        begins g.K.PartialEq.eq (hash_of g.K.Hash.hash_input g.S.BuildHasher.build_hasher g.S.Hasher.Hasher.write g.S.Hasher.Hasher.finish) (begun_of w.parts) w.begun.book c.args.key c.args.value log _ c.learn.ensures.lawful c.args.initial machine c.new.ensures.table pairs.0 pairs.1 pairs.2 refl refl refl,
+        begins g.K.PartialEq.eq (hash_of g.K.Hash.hash_input g.S.BuildHasher.build_hasher g.S.Hasher.Hasher.write g.S.Hasher.Hasher.finish) (begun_of w.parts) w.begun.book c.args.key c.args.value log _ c.learn.ensures.lawful c.args.initial machine c.new.ensures.table pairs.0 pairs.1 pairs.2 refl refl refl refl,
       ),
       c.new.ensures.standing,
       c.learn.ensures.book,

@@ -1,0 +1,13 @@
+use Rattle.std.proofs.Common.{◌≡◌, Ok, Err, Some, rules}
+use Rattle.papaya_map.proofs.RemovingReplies.{none_stays, value_removed}
+use Rattle.papaya_map.proofs.map.HashMapRef.remove_as.Goals as goal
+
+pub unreachable-requires : goal.unreachable-requires
+unreachable-requires g c =
+    let is : c.remove_if_as-removed.result ≡ Ok (Err c.in-Ok-Err.field-0-0) = search rules in
+    none_stays g.K.PartialEq.eq (g.Q.Equivalent.matches c.args.key.now) c.args.pass.now.history c.remove_if_as-removed.new.pass.history _ _ c.remove_if_as-removed.result c.in-Ok-Err.field-0-0 c.remove_if_as-removed.ensures.removed (λ f p agrees h judged. judged.3.met) is
+
+pub returns-in-Ok-Ok-Some-clause-removed : goal.returns-in-Ok-Ok-Some-clause-removed
+returns-in-Ok-Ok-Some-clause-removed g c =
+    let is : c.remove_if_as-removed.result ≡ Ok (Ok (Some (c.in-Ok-Ok-Some.field-0-0-0-0, c.in-Ok-Ok-Some.value))) = search rules in
+    value_removed g.K.PartialEq.eq (g.Q.Equivalent.matches c.args.key.now) c.args.pass.now.history c.remove_if_as-removed.new.pass.history _ _ c.remove_if_as-removed.result (c.in-Ok-Ok-Some.field-0-0-0-0, c.in-Ok-Ok-Some.value) c.remove_if_as-removed.ensures.removed is
