@@ -7,8 +7,9 @@ use Rattle.papaya_map.specs.Changing.{IsPut}
 use Rattle.papaya_map.specs.History.{Change}
 use Rattle.papaya_map.specs.Logs.{Stored}
 use Rattle.papaya_map.specs.Readers.{IsAnsweredBetween}
+use Rattle.papaya_map.specs.Removing.{IsRemoved}
 use Rattle.papaya_run.specs.Commands.{WritesCommand, WritesNone}
-use Rattle.papaya_run.specs.OneCaller.{of_insertion, of_lookup}
+use Rattle.papaya_run.specs.OneCaller.{of_insertion, of_lookup, of_removal}
 use Rattle.papaya_run.specs.declared.commands.Command.{Command}
 use Rattle.papaya_run.specs.declared.commands.Command.TheVariants as command
 use Rattle.papaya_run.specs.declared.printed.Printed.{Printed}
@@ -22,7 +23,7 @@ Seen = List (Change ℕ (Stored ℕ ℕ))
 abbrev pub IsMissing : Command → Type 0
 IsMissing (command.Insert k v) = ⊥
 IsMissing (command.Get k) = ⊥
-IsMissing (command.Remove k) = Unit {0}
+IsMissing (command.Remove k) = ⊥
 IsMissing (command.Update k) = Unit {0}
 IsMissing command.Len = ⊥
 IsMissing command.Slots = Unit {0}
@@ -31,7 +32,7 @@ IsMissing command.Slots = Unit {0}
 abbrev pub Obeys : Command → Seen → Printed → Seen → Type 0
 Obeys (command.Insert k v) old text new = (answer : Result (Option (Bor ℕ)) Refused) × (text ≡ of_insertion (old_answered answer)) × IfOk answer (IsPut (λ a b. a == b) k v old new)
 Obeys (command.Get k) old text new = (found : Option (Bor ℕ)) × (text ≡ of_lookup (option_map (λ v. v.now) found)) × IsAnsweredBetween (λ a b. a == b) (λ key. k == key) old new found
-Obeys (command.Remove k) old text new = ⊥
+Obeys (command.Remove k) old text new = (answer : Result (Option (Bor ℕ)) Refused) × (text ≡ of_removal (old_answered answer)) × IsRemoved (λ a b. a == b) (λ key. k == key) old new answer
 Obeys (command.Update k) old text new = ⊥
 Obeys command.Len old text new = (count : ℕ) × (text ≡ printed.Length count) × (new ≡ old)
 Obeys command.Slots old text new = ⊥

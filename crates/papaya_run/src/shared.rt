@@ -61,8 +61,15 @@ impl<'a, H: Wait, S: BuildHasher + Drop> Caller<'a, H, S> {
                 Some(value) => Printed::Found(*value),
                 None => Printed::Absent,
             }),
+            Command::Remove(key) => Some(
+                match self.pinned.remove_as(self.rt, &key, &mut self.pass) {
+                    Ok(Some(value)) => Printed::Removed(*value),
+                    Ok(None) => Printed::Absent,
+                    Err(refused) => Printed::Refused(refused),
+                },
+            ),
             Command::Len => Some(Printed::Length(self.map.len())),
-            Command::Remove(_) | Command::Update(_) | Command::Slots => None,
+            Command::Update(_) | Command::Slots => None,
         }
     }
 }

@@ -8,6 +8,57 @@ use std::test::Fail;
 /// The backends that have their lines done one by one.
 const BACKENDS: [&str; 2] = ["seq inc:64 id", "shared inc:64 id"];
 
+#[test]
+fn replies(rt: HostRuntime) -> Result<(), Fail> {
+    // Old values, absent keys, the greatest numbers, leading noughts, empty lines, no last line end.
+    let script =
+        b"\ng 1\nr 1\ni 1 10\ng 1\n\ni 01 11\ng 1\nr 2\nlen\nr 1\nr 1\ng 1\ni 1 12\ni 18446744073709551615 18446744073709551615\ng 0018446744073709551615\nr 18446744073709551615\nlen";
+    let output =
+        "none\nnone\nnone\nsome 10\nold 10\nsome 11\nnone\nlen 1\nremoved 11\nnone\nnone\nnone\nnone\nsome 18446744073709551615\nremoved 18446744073709551615\nlen 1\n";
+    for args in [
+        "seq inc:1 id",
+        "seq inc:64 zero",
+        "seq block id",
+        "seq block zero",
+        "shared inc:1 id",
+        "shared inc:64 zero",
+        "shared block id",
+        "shared block zero",
+    ] {
+        expect(&rt, rt.alloc(), args, script, output, "", 0)?;
+    }
+    for args in BACKENDS {
+        expect(&rt, rt.alloc(), args, b"", "", "", 0)?;
+        expect(&rt, rt.alloc(), args, b"\n\n", "", "", 0)?;
+    }
+    Ok(())
+}
+
+#[test]
+fn a_full_table(rt: HostRuntime) -> Result<(), Fail> {
+    let mut script = Vec::new(rt.alloc());
+    let mut output = String::new(rt.alloc());
+    for key in 0..32u64 {
+        let line = format!(in rt.alloc(); "i {key} 0\n")?;
+        script.extend_from_slice(line.as_bytes())?;
+        output.push_str("none\n")?;
+    }
+    script.extend_from_slice(b"i 32 1\nlen\n")?;
+    output.push_str("refused 2 Capacity\nlen 32\n")?;
+    for args in BACKENDS {
+        expect(
+            &rt,
+            rt.alloc(),
+            args,
+            script.as_slice(),
+            output.as_str(),
+            "",
+            0,
+        )?;
+    }
+    Ok(())
+}
+
 /// Asserts that each of these lines is bad behind good ones, whose replies are printed.
 pub(super) fn expect_bad<A: Abort + Wait>(
     rt: &A,

@@ -3,13 +3,13 @@ use super::line_by_line::expect_bad;
 use std::test::Fail;
 
 #[test]
-fn a_pair_is_found(rt: HostRuntime) -> Result<(), Fail> {
+fn a_pair_comes_and_goes(rt: HostRuntime) -> Result<(), Fail> {
     expect(
         &rt,
         rt.alloc(),
         "shared inc:64 id",
-        b"i 1 10\ng 1\n",
-        "none\nsome 10\n",
+        b"i 1 10\ng 1\nr 1\ng 1\n",
+        "none\nsome 10\nremoved 10\nnone\n",
         "",
         0,
     )
@@ -39,31 +39,11 @@ fn a_path_has_26_places(rt: HostRuntime) -> Result<(), Fail> {
 }
 
 #[test]
-fn replies(rt: HostRuntime) -> Result<(), Fail> {
-    // Old values, absent keys, the greatest numbers, leading noughts, empty lines, no last line end.
-    let script =
-        b"\ng 1\nlen\ni 1 10\ng 1\n\ni 01 11\ng 1\ng 2\nlen\ni 18446744073709551615 18446744073709551615\ng 0018446744073709551615\nlen";
-    let output =
-        "none\nlen 0\nnone\nsome 10\nold 10\nsome 11\nnone\nlen 1\nnone\nsome 18446744073709551615\nlen 2\n";
-    for args in [
-        "shared inc:1 id",
-        "shared inc:64 zero",
-        "shared block id",
-        "shared block zero",
-    ] {
-        expect(&rt, rt.alloc(), args, script, output, "", 0)?;
-    }
-    expect(&rt, rt.alloc(), "shared inc:64 id", b"", "", "", 0)?;
-    expect(&rt, rt.alloc(), "shared inc:64 id", b"\n\n", "", "", 0)
-}
-
-#[test]
 fn no_such_lines(rt: HostRuntime) -> Result<(), Fail> {
-    let lines: [&[u8]; 7] = [
+    let lines: [&[u8]; 6] = [
         b"clear",
         b"walk",
         b"slots",
-        b"r 7",
         b"u 7",
         b"begin 0 g 1",
         b"step 0",
