@@ -16,8 +16,11 @@ use Rattle.papaya_call.specs.Followed.{IsAtTable, IsCounting, table_asked, told_
 use Rattle.papaya_call.specs.Law.Allows.{AllAllowed}
 use Rattle.papaya_call.specs.Law.Class.{IsOn}
 use Rattle.papaya_call.specs.Law.Exchange.{Setting, run, start}
-use Rattle.papaya_call.specs.Machine.{after, ask_of, kind_of_ask}
-use Rattle.papaya_call.specs.Rests.{change_after, change_in}
+use Rattle.papaya_call.specs.declared.call.Task.{Task}
+use Rattle.papaya_call.specs.Machine.{after, ask_of, kind_of_ask, started}
+use Rattle.papaya_words.specs.declared.probe.ResizeMode.{ResizeMode}
+use Rattle.papaya_words.specs.declared.probe.ResizeMode.TheVariants.{Incremental, Blocking}
+use Rattle.papaya_call.specs.Rests.{IsModeOf, change_after, change_in}
 use Rattle.papaya_call.specs.Told.{Hands, IsOneOf, IsTold, or_last, told_of, word_of}
 use Rattle.papaya_call.proofs.Followed.{counts_after, table_named, table_told}
 use Rattle.papaya_call.proofs.RestsNames.{IsNamed, ask_named, slot_named}
@@ -28,13 +31,19 @@ use Rattle.papaya_map.specs.declared.event.Event.{Event}
 use Rattle.papaya_map.specs.Calls.{IsTable}
 use Rattle.papaya_map.specs.Changing.{IsCalling, IsHeldAt, IsLoaded, hands_with}
 use Rattle.papaya_map.specs.Hashes.{hash_of}
-use Rattle.papaya_map.specs.Logs.{Stored, exchanges_of, pair_named, state_of, steps_of}
+use Rattle.papaya_map.specs.Logs.{Stored, exchanges_of, is_blocking, pair_named, state_of, steps_of}
+use Rattle.papaya_map.specs.Readers.{coding_for}
 use Rattle.papaya_map.specs.Rule.{IsLawfulLog, IsPlaced}
 use Rattle.papaya_map.proofs.Driving.{IsResting, coded, resting_later, resting_told, wide, word_wide}
 use Rattle.papaya_map.proofs.Loaded.{table_since}
 use Rattle.papaya_map.proofs.Logs.{prefix_trans, table_came}
 use Rattle.papaya_map.proofs.Readings.{IsQuery, allowed_with, fed, hashed_with}
 use Rattle.papaya_map.proofs.TableSizes.{sizes}
+
+-- the map resizes as its setting says
+mode_is : (mode : ResizeMode) → IsModeOf mode (is_blocking mode)
+mode_is (Incremental chunk) = refl
+mode_is Blocking = refl
 
 module _ {K V S : Type 0} where
   -- a table that is held is held still, over a longer log
@@ -70,6 +79,23 @@ module _ {K V S : Type 0} (eq : K → K → Bool) (hash : S → K → ℕ) (b : 
   loaded_lawful log (Slot t i) word table table' last last' is = is.1.lawful
   loaded_lawful log (Aborted t) word table table' last last' is = absurd is
   loaded_lawful log (Done t) word table table' last last' is = absurd is
+
+  -- a call that begins
+  pub begins : (matches : K → Bool) (by : ℕ) (k : Option K) → by ≡ (coding_for {V = V} hash b.hasher by).hash k → (log : List (Event K V S)) → IsLawfulLog eq hash b log → (task : Task) (initial : ℕ) → IsCalling eq hash b name matches by k log log (started task by b.mode initial) None None [] None None
+  begins matches by k hash_is log l task initial = record {
+    lawful = l;
+    seen = ([], append-nil log);
+    since = [];
+    is = append-nil (exchanges_of log);
+    rests = record { hash = hash_is; mode = mode_is b.mode; made = record { keys = λ q none. absurd none; made_is = tt; fill_is = tt; choice_is = tt }; stage = tt };
+    number = 0;
+    at_table = tt;
+    holds_table = refl;
+    last_placed = tt;
+    made_placed = λ q none. absurd none;
+    taken_placed = tt;
+    changed = λ change e. absurd (cc e);
+  }
 
 module _ {K V S H : Type 0} (eq : K → K → Bool) (input : K → List (List ℕ)) (build : S → H) (write : H → List ℕ → H) (finish : H → ℕ) (classes : IsEquivalence eq) (respects : (x y : K) → eq x y ≡ true → input x ≡ input y)
     (b : Begun K V S) (matches : K → Bool) (query : List (List ℕ)) (lawful : IsQuery eq input matches query) (k : Option K) (name : Book) (begun : List (Event K V S)) where

@@ -1,234 +1,151 @@
--- After each answer an insertion rests again, and holds what it was handed or has logged.
-use Rattle.std.proofs.Common.{◌≡◌, ◌⊎◌, inl, inr, ⊎_elim, ℕ, ◌<◌, ◌^◌, Bool, true, Option, None, Some, List, [], ◌∷◌, append-nil, refl, sym, ap, ◌∙◌, subst, arith}
+-- After each answer an insertion rests again. It makes one pair, of what it was handed, and puts in no other.
+use Rattle.std.proofs.Common.{◌≡◌, ◌⊎◌, ⊎_elim, ℕ, Bool, true, Option, None, Some, List, [], ◌∷◌, refl, sym, ap, ◌∙◌, subst}
 use Rattle.std.specs.Cmp.{IsEquivalence}
-use mathlib.Core.List.{IsPrefix}
-use Rattle.boxcar.specs.Table.{Shows, Where}
-use Rattle.logbook.specs.Pages.{Book, nib, may_write}
-use Rattle.logbook.specs.declared.tokens.Pen.{Pen}
-use Rattle.papaya_words.specs.declared.probe.Refused.{Refused}
-use Rattle.papaya_call.specs.declared.ask.At.TheVariants.{Root}
-use Rattle.papaya_call.specs.declared.ask.Ask.TheVariants.{Exchange as Ask_exchange, SameKey, MakeKey, MakePair, MakeTable}
+use Rattle.logbook.specs.Pages.{Book}
+use Rattle.papaya_words.specs.Word.{pair_of}
+use Rattle.papaya_call.specs.declared.ask.At.TheVariants.{Slot}
+use Rattle.papaya_call.specs.declared.ask.Ask.{Ask}
+use Rattle.papaya_call.specs.declared.ask.Ask.TheVariants.{Exchange as Ask_exchange, MakePair}
 use Rattle.papaya_call.specs.declared.ask.Answer.{Answer}
 use Rattle.papaya_call.specs.declared.ask.Answer.TheVariants.{Word as Word_read, Exchanged, Found as Found_instead, Yes, Op, Size, Made as Made_number, Ok as Ok_done, Refused as Was_refused}
 use Rattle.papaya_call.specs.declared.call.Task.{Task}
+use Rattle.papaya_call.specs.declared.call.Task.TheVariants.{Insert}
 use Rattle.papaya_call.specs.declared.write.Made.TheVariants.{Pair}
 use Rattle.papaya_call.specs.declared.machine.Machine.{Machine}
-use Rattle.papaya_call.specs.Machine.{IsFit, after, ask_of, made_in}
+use Rattle.papaya_call.specs.Followed.{MayAsk}
+use Rattle.papaya_call.specs.Machine.{IsStanding, after, ask_of, kind_of_ask, made_in, started}
 use Rattle.papaya_call.specs.Rests.{RestsStage}
-use Rattle.papaya_call.specs.Told.{Hands}
-use Rattle.papaya_call.proofs.RestsOpened.{machine_opened}
-use Rattle.papaya_map.specs.Sheets.{Sheet}
+use Rattle.papaya_call.proofs.Followed.{asked_of_task}
 use Rattle.papaya_map.specs.declared.event.Begun.{Begun}
 use Rattle.papaya_map.specs.declared.event.Event.{Event}
-use Rattle.papaya_map.specs.declared.event.Named.TheVariants as names
 use Rattle.papaya_map.specs.declared.insertion.Insertion.{Insertion}
+use Rattle.papaya_map.specs.declared.writer.Writer.{Writer}
 use Rattle.papaya_map.specs.Changing.{hands_with}
 use Rattle.papaya_map.specs.Hashes.{hash_of}
 use Rattle.papaya_map.specs.History.{key_of}
 use Rattle.papaya_map.specs.Inserting.{IsInserting, IsInsertingOn, IsUnpaired}
-use Rattle.papaya_map.specs.Writing.{IsOpening}
-use Rattle.papaya_map.specs.Logs.{Stored, exchanges_of, number_of}
-use Rattle.papaya_map.specs.Makers.{IsMade}
-use Rattle.papaya_map.specs.Rule.{IsLawfulLog, IsPlaced}
-use Rattle.papaya_map.proofs.Changing.{compared, held_later, quiet}
-use Rattle.papaya_map.specs.Plays.{made_list}
+use Rattle.papaya_map.specs.Logs.{Stored, exchanges_of}
+use Rattle.papaya_map.specs.Plays.{IsPutting, made_list}
 use Rattle.papaya_map.specs.Readers.{coding_for, setting_for}
+use Rattle.papaya_map.specs.Rule.{IsLawfulLog}
+use Rattle.papaya_map.specs.Writing.{CanPut, IsWriting, IsWritingOn}
+use Rattle.papaya_map.proofs.AskedPairs.{asked_pair}
+use Rattle.papaya_map.proofs.Changing.{Coded, Wide}
+use Rattle.papaya_map.proofs.Driving.{is_made, one_made}
 use Rattle.papaya_map.proofs.OnePair.{pairs_once, unpaired_before}
-use Rattle.papaya_map.proofs.Readings.{IsQuery}
+use Rattle.papaya_map.proofs.Readings.{IsQuery, hashed_with}
+use Rattle.papaya_map.proofs.Writing.{own_query}
+use Rattle.papaya_map.proofs.WritingSteps.{begins as begins_writing}
 
--- an answer that leaves a call's task
-abbrev pub IsPlainAnswer : Answer → Type 0
-IsPlainAnswer (Made_number n) = n < 2 ^ 48
-IsPlainAnswer (Was_refused refused) = Unit {0}
-IsPlainAnswer Ok_done = Unit {0}
-IsPlainAnswer _ = ⊥
+-- a machine keeps its task
+task_stays : (m : Machine) (answer : Answer) → (after m answer).task ≡ m.task
+task_stays m (Word_read word) = refl
+task_stays m Exchanged = refl
+task_stays m (Found_instead word) = refl
+task_stays m (Yes same) = refl
+task_stays m (Op kind) = refl
+task_stays m (Size slots limit) = refl
+task_stays m (Made_number n) = refl
+task_stays m Ok_done = refl
+task_stays m (Was_refused refused) = refl
 
-plain_task : (m : Machine) (answer : Answer) → IsPlainAnswer answer → (after m answer).task ≡ m.task
-plain_task m (Word_read word) p = absurd p
-plain_task m Exchanged p = absurd p
-plain_task m (Found_instead word) p = absurd p
-plain_task m (Yes same) p = absurd p
-plain_task m (Op kind) p = absurd p
-plain_task m (Size slots limit) p = absurd p
-plain_task m (Made_number n) p = refl
-plain_task m Ok_done p = refl
-plain_task m (Was_refused refused) p = refl
-
-plain_fit : (answer : Answer) → IsPlainAnswer answer → IsFit answer
-plain_fit (Word_read word) p = absurd p
-plain_fit Exchanged p = absurd p
-plain_fit (Found_instead word) p = absurd p
-plain_fit (Yes same) p = absurd p
-plain_fit (Op kind) p = absurd p
-plain_fit (Size slots limit) p = absurd p
-plain_fit (Made_number n) p = p
-plain_fit Ok_done p = tt
-plain_fit (Was_refused refused) p = tt
-
--- such an answer says whether anything was made
-abbrev pub IsMakeAnswer : Answer → Type 0
-IsMakeAnswer answer = (((refused : Refused) × (answer ≡ Was_refused refused)) ⊎ (answer ≡ Ok_done)) ⊎ ((n : ℕ) × (answer ≡ Made_number n))
-
-make_answer : (answer : Answer) → IsPlainAnswer answer → IsMakeAnswer answer
-make_answer (Word_read word) p = absurd p
-make_answer Exchanged p = absurd p
-make_answer (Found_instead word) p = absurd p
-make_answer (Yes same) p = absurd p
-make_answer (Op kind) p = absurd p
-make_answer (Size slots limit) p = absurd p
-make_answer (Made_number n) p = inr (n, refl)
-make_answer Ok_done p = inl (inr refl)
-make_answer (Was_refused refused) p = inl (inl (refused, refl))
-
-module _ {K V S H : Type 0} (eq : K → K → Bool) (input : K → List (List ℕ)) (build : S → H) (write : H → List ℕ → H) (finish : H → ℕ) (classes : IsEquivalence eq) (respects : (x y : K) → eq x y ≡ true → input x ≡ input y)
-    (b : Begun K V S) (name : Book) (key : K) (value : V) (begun : List (Event K V S)) where
-  abbrev hash : S → K → ℕ
-  hash = hash_of input build write finish
-
-  -- a key is a form of itself
-  pub own_query : IsQuery eq input (eq key) (input key)
-  own_query = record { feeds = λ k h. respects key k h; class = λ k l h. classes.congr key k l h }
-
-  abbrev pub Inserting : List (Event K V S) → Insertion K V S H → Type 0
-  Inserting log x = IsInserting eq hash b name key value begun log x
-
-  abbrev pub InsertingOn : List (Event K V S) → Insertion K V S H → Option Answer → Type 0
-  InsertingOn log x answer = IsInsertingOn eq hash b name key value begun log x answer
-
-  module _ (log : List (Event K V S)) (x : Insertion K V S H) (r : Inserting log x) where
+module _ {K V S H : Type 0} (eq : K → K → Bool) (hash : S → K → ℕ) (b : Begun K V S) (name : Book) (key : K) (value : V) where
+  module _ (begun log : List (Event K V S)) (x : Insertion K V S H) (r : IsInserting eq hash b name key value begun log x) where
     abbrev m : Machine
-    m = x.call.machine
+    m = x.writer.call.machine
+
+    -- it goes on, where it puts in no other pair
+    kept : (log' : List (Event K V S)) (w : Writer K V S H) (answer : Answer) → w.call.machine ≡ m → ((v : V) → w.value ≡ Some v → x.writer.value ≡ Some v) → ((q : Stored K V) → w.call.put ≡ Some q → (key_of q ≡ key) × (q.value.value ≡ value))
+        → IsWritingOn eq hash b name key (made_list x.made) begun log' w answer → IsInsertingOn eq hash b name key value begun log' (record x { writer = w }) (Some answer)
+    kept log' w answer machine left put on = (
+      record {
+        writing = on.0;
+        task_is = task_stays w.call.machine answer ∙ (ap (λ (z : Machine). z.task) machine ∙ r.task_is);
+        left_is = λ v e. r.left_is v (left v e);
+        made_is = r.made_is;
+        put_is = put;
+        unmade = λ u. r.unmade (subst (λ (z : Machine). IsUnpaired z.made) machine (unpaired_before w.call.machine answer u));
+      },
+      on.1,
+    )
+
+    -- so it does after an answer that leaves its value and what it put in
+    pub goes_on : (log' : List (Event K V S)) (w : Writer K V S H) (answer : Answer) → w.call.machine ≡ m → w.value ≡ x.writer.value → w.call.put ≡ x.writer.call.put
+        → IsWritingOn eq hash b name key (made_list x.made) begun log' w answer → IsInsertingOn eq hash b name key value begun log' (record x { writer = w }) (Some answer)
+    goes_on log' w answer machine left put on = kept log' w answer machine (λ v e. sym left ∙ e) (λ q e. r.put_is q (sym put ∙ e)) on
+
+    -- the pair was not logged
+    pub pair_unmade : (w : Writer K V S H) (answer : Answer) → w.call.machine ≡ m → ((v : V) → w.value ≡ Some v → x.writer.value ≡ Some v) → w.call.put ≡ x.writer.call.put
+        → IsWritingOn eq hash b name key (made_list x.made) begun log w answer → IsInsertingOn eq hash b name key value begun log (record x { writer = w }) (Some answer)
+    pair_unmade w answer machine left put on = kept log w answer machine left (λ q e. r.put_is q (sym put ∙ e)) on
+
+    -- its pair was tried to be put in
+    pub pair_tried : (log' : List (Event K V S)) (w : Writer K V S H) (answer : Answer) (q : Stored K V) → x.made ≡ Some q → w.call.machine ≡ m → w.value ≡ x.writer.value → (w.call.put ≡ x.writer.call.put) ⊎ (w.call.put ≡ Some q)
+        → IsWritingOn eq hash b name key (made_list x.made) begun log' w answer → IsInsertingOn eq hash b name key value begun log' (record x { writer = w }) (Some answer)
+    pair_tried log' w answer q made machine left put on =
+        kept log' w answer machine (λ v e. sym left ∙ e) (λ p e. ⊎_elim (λ same. r.put_is p (sym same ∙ e)) (λ is. r.made_is p (made ∙ (sym is ∙ e))) put) on
 
     -- it makes its pair once
     once : ask_of m ≡ MakePair → IsUnpaired m.made × ((n : ℕ) → made_in m.made n m.state ≡ Pair n)
     once asks =
+        let s = r.writing.calling in
         let g = setting_for eq hash b (eq key) (hash b.hasher key) log in
         let c = coding_for hash b.hasher (hash b.hasher key) in
-        let hands = hands_with x.call.last (made_list x.made) in
-        pairs_once g c (exchanges_of begun) r.calling.since (Some key) hands true m.hash m.made m.state (subst (λ (t : Task). RestsStage g c (exchanges_of begun) r.calling.since (Some key) hands t m.state) r.task_is r.calling.rests.stage) asks
-
-    -- nothing is opened after an answer, unless a table was made or was to be opened
-    unopened : (log' : List (Event K V S)) (answer : Answer) (opening : Option (Where Sheet × Pen)) → ((n : ℕ) → ask_of m ≡ Ask_exchange Root 0 n → ⊥) → ((slots limit : ℕ) → ask_of m ≡ MakeTable slots limit → ⊥)
-        → (n : ℕ) → ask_of (after m answer) ≡ Ask_exchange Root 0 n → IsOpening b name log' n opening
-    unopened log' answer opening opens makes n e = ⊎_elim (λ h. absurd (makes h.1.0 h.1.1 h.1.2)) (λ h. absurd (opens n h)) (machine_opened m n answer e)
-
-    -- the key was logged, or not
-    pub key_made : (own : Option K) (logged : Option (Where K)) (answer : Answer) → ask_of m ≡ MakeKey → IsPlainAnswer answer → ((k : K) → own ≡ Some k → k ≡ key) → ((p : Where K) → logged ≡ Some p → (p.value ≡ key) × Shows b.keys p) → (own ≡ None → (p : Where K) × (logged ≡ Some p))
-        → InsertingOn log (record x { key = own; logged = logged }) (Some answer)
-    key_made own logged answer asks plain own_is logged_is some = (
-      record {
-        calling = quiet eq input build write finish classes respects b (eq key) (input key) own_query (Some key) name begun log log ([], append-nil log) r.calling.lawful m x.call.table x.call.last (made_list x.made) x.call.taken x.call.put r.calling
-            MakeKey asks answer x.call.last (made_list x.made) x.call.table r.calling.number (record { told = (make_answer answer plain, (refl, refl)); number_is = refl; same = refl; busy = λ z. z }) r.calling.holds_table r.calling.last_placed r.calling.made_placed;
-        task_is = plain_task m answer plain ∙ r.task_is;
-        own_is = own_is;
-        logged_is = logged_is;
-        some_key = some;
-        left_is = r.left_is;
-        made_is = r.made_is;
-        put_is = r.put_is;
-        unmade = λ u. r.unmade (unpaired_before m answer u);
-        opens = unopened log answer x.opening (λ n h. let f = sym asks ∙ h in cc f) (λ s l h. let f = sym asks ∙ h in cc f);
-      },
-      plain_fit answer plain,
-    )
-
-    -- the pair was not logged
-    pub pair_unmade : (left : Option V) (answer : Answer) → ask_of m ≡ MakePair → ((refused : Refused) × (answer ≡ Was_refused refused)) ⊎ (answer ≡ Ok_done) → IsPlainAnswer answer → ((v : V) → left ≡ Some v → v ≡ value) → InsertingOn log (record x { value = left }) (Some answer)
-    pair_unmade left answer asks unmade plain left_is = (
-      record {
-        calling = quiet eq input build write finish classes respects b (eq key) (input key) own_query (Some key) name begun log log ([], append-nil log) r.calling.lawful m x.call.table x.call.last (made_list x.made) x.call.taken x.call.put r.calling
-            MakePair asks answer x.call.last (made_list x.made) x.call.table r.calling.number (record { told = inl (unmade, (refl, refl)); number_is = refl; same = refl; busy = λ z. z }) r.calling.holds_table r.calling.last_placed r.calling.made_placed;
-        task_is = plain_task m answer plain ∙ r.task_is;
-        own_is = r.own_is;
-        logged_is = r.logged_is;
-        some_key = r.some_key;
-        left_is = left_is;
-        made_is = r.made_is;
-        put_is = r.put_is;
-        unmade = λ u. r.unmade (unpaired_before m answer u);
-        opens = unopened log answer x.opening (λ n h. let f = sym asks ∙ h in cc f) (λ s l h. let f = sym asks ∙ h in cc f);
-      },
-      plain_fit answer plain,
-    )
+        let hands = hands_with x.writer.call.last (made_list x.made) in
+        pairs_once g c (exchanges_of begun) s.since (Some key) hands true m.hash m.made m.state (subst (λ (t : Task). RestsStage g c (exchanges_of begun) s.since (Some key) hands t m.state) r.task_is s.rests.stage) asks
 
     -- the pair was logged
-    pub pair_made : (q : Stored K V) (left : Option V) (n : ℕ) → n ≡ q.index → ask_of m ≡ MakePair → n < 2 ^ 48 → key_of q ≡ key → q.value.value ≡ value → IsPlaced b (Some name) (names.Pair q) → ((v : V) → left ≡ Some v → v ≡ value)
-        → InsertingOn log (record x { value = left; made = Some q }) (Some (Made_number n))
-    pair_made q left n number asks low key_is value_is placed left_is = let one_more : Option (Stored K V) → Hands (Stored K V) = λ o. record { last = x.call.last; made = q ∷ made_list o } in (
-      record {
-        calling = quiet eq input build write finish classes respects b (eq key) (input key) own_query (Some key) name begun log log ([], append-nil log) r.calling.lawful m x.call.table x.call.last (made_list x.made) x.call.taken x.call.put r.calling
-            MakePair asks (Made_number n) x.call.last (q ∷ []) x.call.table r.calling.number (record { told = inr (q, ap (λ z. Some z) key_is, ap Made_number number, refl, ap one_more (sym (r.unmade (once asks).0))); number_is = refl; same = refl; busy = λ z. z }) r.calling.holds_table r.calling.last_placed (λ p one. ⊎_elim (λ is. subst (λ (z : Stored K V). IsPlaced b (Some name) (names.Pair z)) (sym is) placed) (λ none. absurd none) one);
-        task_is = r.task_is;
-        own_is = r.own_is;
-        logged_is = r.logged_is;
-        some_key = r.some_key;
-        left_is = left_is;
-        made_is = λ p e. let is : q ≡ p = cc e in (ap key_of (sym is) ∙ key_is, ap (λ (z : Stored K V). z.value.value) (sym is) ∙ value_is);
-        put_is = r.put_is;
-        unmade = λ u. absurd (subst IsUnpaired ((once asks).1 n) u);
-        opens = unopened log (Made_number n) x.opening (λ i h. let f = sym asks ∙ h in cc f) (λ s l h. let f = sym asks ∙ h in cc f);
-      },
-      low,
-    )
+    pub pair_made : (w : Writer K V S H) (q : Stored K V) (n : ℕ) → n ≡ q.index → ask_of m ≡ MakePair → w.call.machine ≡ m → x.writer.value ≡ Some q.value.value → w.value ≡ None → w.call.put ≡ x.writer.call.put → key_of q ≡ key
+        → IsWritingOn eq hash b name key (q ∷ made_list x.made) begun log w (Made_number q.index) → IsInsertingOn eq hash b name key value begun log (record x { writer = w; made = Some q }) (Some (Made_number n))
+    pair_made w q n number asks machine had left put key_is on =
+        let none : made_list x.made ≡ [] = ap made_list (r.unmade (once asks).0) in
+        let going = subst (λ (z : List (Stored K V) × ℕ). IsWritingOn eq hash b name key (q ∷ z.0) begun log w (Made_number z.1)) (λ i. (none i, sym number i)) on in (
+          record {
+            writing = going.0;
+            task_is = ap (λ (z : Machine). z.task) machine ∙ r.task_is;
+            left_is = λ v e. let no = sym left ∙ e in absurd (cc no);
+            made_is = λ p e. let is : q ≡ p = cc e in (ap key_of (sym is) ∙ key_is, ap (λ (z : Stored K V). z.value.value) (sym is) ∙ r.left_is q.value.value had);
+            put_is = λ p e. r.put_is p (sym put ∙ e);
+            unmade = λ u. absurd (subst IsUnpaired ((once asks).1 n) (subst (λ (z : Machine). IsUnpaired (made_in z.made n z.state)) machine u));
+          },
+          going.1,
+        )
 
-    -- the key was compared
-    pub key_compared : (n : ℕ) (same : Bool) → ((p : Stored K V) → x.call.last ≡ Some p → same ≡ eq key (key_of p)) → ask_of m ≡ SameKey n → InsertingOn log x (Some (Yes same))
-    key_compared n same is asks = (
-      record {
-        calling = compared eq input build write finish classes respects b (eq key) (input key) own_query (Some key) name begun log m x.call.table x.call.last (made_list x.made) x.call.taken x.call.put r.calling n same is asks;
-        task_is = r.task_is;
-        own_is = r.own_is;
-        logged_is = r.logged_is;
-        some_key = r.some_key;
-        left_is = r.left_is;
-        made_is = r.made_is;
-        put_is = r.put_is;
-        unmade = λ u. r.unmade (unpaired_before m (Yes same) u);
-        opens = unopened log (Yes same) x.opening (λ i h. let f = sym asks ∙ h in cc f) (λ s l h. let f = sym asks ∙ h in cc f);
-      },
-      tt,
-    )
+  -- an insertion that begins
+  pub begins : (log : List (Event K V S)) (x : Insertion K V S H) → IsLawfulLog eq hash b log → (initial : ℕ) → x.writer.call.machine ≡ started (Insert true) (hash b.hasher key) b.mode initial → x.writer.call.table ≡ None → x.writer.call.last ≡ None → x.writer.call.taken ≡ None → x.writer.call.put ≡ None
+      → x.made ≡ None → x.writer.key ≡ Some key → x.writer.logged ≡ None → x.writer.value ≡ Some value → IsInserting eq hash b name key value log log x
+  begins log x l initial machine table last taken put made own logged left = record {
+    writing = subst (λ (z : Option (Stored K V)). IsWriting eq hash b name key (made_list z) log log x.writer) (sym made) (begins_writing eq hash b name key log x.writer l (Insert true) initial machine table last taken put own logged);
+    task_is = ap (λ (z : Machine). z.task) machine;
+    left_is = λ v e. let f = sym left ∙ e in sym (cc f);
+    made_is = λ q e. let f = sym made ∙ e in absurd (cc f);
+    put_is = λ q e. let f = sym put ∙ e in absurd (cc f);
+    unmade = λ u. made;
+  }
 
-    -- no table was made
-    pub table_unmade : (log' : List (Event K V S)) → IsPrefix log log' → IsLawfulLog eq hash b log' → (slots limit : ℕ) (refused : Refused) → ask_of m ≡ MakeTable slots limit → InsertingOn log' x (Some (Was_refused refused))
-    table_unmade log' pre l' slots limit refused asks = (
-      record {
-        calling = quiet eq input build write finish classes respects b (eq key) (input key) own_query (Some key) name begun log log' pre l' m x.call.table x.call.last (made_list x.made) x.call.taken x.call.put r.calling
-            (MakeTable slots limit) asks (Was_refused refused) x.call.last (made_list x.made) x.call.table r.calling.number (record { told = (inl (inl (refused, refl)), (refl, refl)); number_is = refl; same = refl; busy = λ z. z })
-            (held_later log log' pre r.calling.number x.call.table r.calling.holds_table) r.calling.last_placed r.calling.made_placed;
-        task_is = r.task_is;
-        own_is = r.own_is;
-        logged_is = r.logged_is;
-        some_key = r.some_key;
-        left_is = r.left_is;
-        made_is = r.made_is;
-        put_is = r.put_is;
-        unmade = λ u. r.unmade (unpaired_before m (Was_refused refused) u);
-        opens = λ n e. ⊎_elim (λ h. absurd (let f = h.0 in cc f)) (λ h. let f = sym asks ∙ h in absurd (cc f)) (machine_opened m n (Was_refused refused) e);
-      },
-      tt,
-    )
+module _ {K V S H : Type 0} (eq : K → K → Bool) (input : K → List (List ℕ)) (build : S → H) (write : H → List ℕ → H) (finish : H → ℕ) (classes : IsEquivalence eq) (respects : (x y : K) → eq x y ≡ true → input x ≡ input y)
+    (b : Begun K V S) (name : Book) (key : K) (value : V) (begun log : List (Event K V S)) (x : Insertion K V S H) where
+  abbrev hash' : S → K → ℕ
+  hash' = hash_of input build write finish
 
-    -- a table was made
-    pub table_made : (log' : List (Event K V S)) → IsPrefix log log' → IsLawfulLog eq hash b log' → (slots limit : ℕ) (w : Where Sheet) (seal : Pen) (i : ℕ) → i ≡ number_of w → ask_of m ≡ MakeTable slots limit → IsMade w.value log' → IsPlaced b (Some name) (names.Table w) → seal.book ≡ name → seal.nib ≡ nib may_write w.value.seal 0
-        → InsertingOn log' (record x { opening = Some (w, seal) }) (Some (Made_number i))
-    table_made log' pre l' slots limit w seal i number_is asks made placed book is = (
-      record {
-        calling = quiet eq input build write finish classes respects b (eq key) (input key) own_query (Some key) name begun log log' pre l' m x.call.table x.call.last (made_list x.made) x.call.taken x.call.put r.calling
-            (MakeTable slots limit) asks (Made_number i) x.call.last (made_list x.made) x.call.table r.calling.number (record { told = (inr (i, omega arith, refl), (refl, refl)); number_is = refl; same = refl; busy = λ z. z })
-            (held_later log log' pre r.calling.number x.call.table r.calling.holds_table) r.calling.last_placed r.calling.made_placed;
-        task_is = r.task_is;
-        own_is = r.own_is;
-        logged_is = r.logged_is;
-        some_key = r.some_key;
-        left_is = r.left_is;
-        made_is = r.made_is;
-        put_is = r.put_is;
-        unmade = λ u. r.unmade (unpaired_before m (Made_number i) u);
-        opens = λ n e. ⊎_elim
-            (λ h. let f = h.0 in let number : i ≡ n = cc f in record { table = w; seal = seal; is = refl; number_is = sym number_is ∙ number; made = made; placed = placed; seal_book = book; seal_nib = is })
-            (λ h. let f = sym asks ∙ h in absurd (cc f))
-            (machine_opened m n (Made_number i) e);
-      },
-      let low = placed.1 in omega arith,
-    )
+  module _ (r : IsInserting eq hash' b name key value begun log x) (standing : IsStanding x.writer.call.machine) (t i old new : ℕ) (asks : ask_of x.writer.call.machine ≡ Ask_exchange (Slot t i) old new) where
+    -- an insertion's exchange of a slot puts a pair in
+    pub put_kind : IsPutting (kind_of_ask x.writer.call.machine)
+    put_kind =
+        ⊎_elim (λ h. h.1) (λ h. absurd h.0)
+        (subst (λ (a : Ask). MayAsk (Insert true) (kind_of_ask x.writer.call.machine) a) asks (subst (λ (z : Task). MayAsk z (kind_of_ask x.writer.call.machine) (ask_of x.writer.call.machine)) r.task_is (asked_of_task x.writer.call.machine standing)))
+
+    -- the pair that was made, which has the number that is written
+    pub put_pair : (q : Stored K V) × (x.made ≡ Some q) × (q.index ≡ pair_of new)
+    put_pair =
+        let s = r.writing.calling in
+        let query : IsQuery eq input (eq key) (input key) = own_query eq input build write finish classes respects b name key in
+        let h = asked_pair (Wide eq input build write finish classes respects b (eq key) (input key) query (Some key) name begun log) (Coded eq input build write finish classes respects b (eq key) (input key) query (Some key) name begun) (hashed_with eq input build write finish classes respects b (eq key) (input key) query log s.lawful)
+        (exchanges_of begun) s.since (Some key) (hands_with x.writer.call.last (made_list x.made)) x.writer.call.machine s.rests (Slot t i) old new asks put_kind in
+        (h.0, one_made x.made h.0 h.1, h.2)
+
+    pub put_number : (q : Stored K V) → x.made ≡ Some q → pair_of new ≡ q.index
+    put_number q made = let both : Some put_pair.0 ≡ Some q = sym put_pair.1 ∙ made in let is : put_pair.0 ≡ q = cc both in sym put_pair.2 ∙ ap (λ (p : Stored K V). p.index) is
+
+    pub put_can : (q : Stored K V) → x.made ≡ Some q → CanPut eq hash' b name log x.writer q
+    put_can q made = (key, made_list x.made, begun, r.writing, is_made x.made q made)

@@ -43,7 +43,7 @@ pub mod Opened
 pub mod Writing
 pub mod WritingSteps
 pub mod Inserting
-pub mod InsertingSteps
+pub mod InsertingReplies
 -- what closures are shown
 pub mod Showings
 -- removals

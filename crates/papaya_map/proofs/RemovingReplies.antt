@@ -11,10 +11,8 @@ use Rattle.papaya_call.specs.declared.call.Reply.TheVariants.{Absent, Found, Ins
 use Rattle.papaya_call.specs.declared.call.Task.{Task}
 use Rattle.papaya_call.specs.declared.call.Task.TheVariants.{RemoveIf}
 use Rattle.papaya_call.specs.declared.machine.Machine.{Machine}
-use Rattle.papaya_words.specs.declared.probe.ResizeMode.{ResizeMode}
-use Rattle.papaya_words.specs.declared.probe.ResizeMode.TheVariants.{Incremental, Blocking}
 use Rattle.papaya_call.specs.Machine.{ask_of, started}
-use Rattle.papaya_call.specs.Rests.{IsModeOf, IsReply, change_in, change_of_reply}
+use Rattle.papaya_call.specs.Rests.{IsReply, change_in, change_of_reply}
 use Rattle.papaya_call.specs.Says.{Agrees, Said, StandsOn, said_in, said_of_removal}
 use Rattle.papaya_call.proofs.RestsHeld.{ended_in, machine_replies}
 use Rattle.papaya_map.specs.declared.event.Begun.{Begun}
@@ -22,11 +20,11 @@ use Rattle.papaya_map.specs.declared.event.Event.{Event}
 use Rattle.papaya_map.specs.declared.removal.Removal.{Removal}
 use Rattle.papaya_map.specs.Changing.{HasChanged, hands_with}
 use Rattle.papaya_map.specs.History.{Change, changes_of, history_of, key_of}
-use Rattle.papaya_map.specs.Logs.{Member, Stored, exchanges_of, is_blocking}
+use Rattle.papaya_map.specs.Logs.{Member, Stored, exchanges_of}
 use Rattle.papaya_map.specs.Rule.{IsLawfulLog}
 use Rattle.papaya_map.specs.Removing.{IsJudged, IsRemovalBy, IsRemoving, IsTaken}
 use Rattle.papaya_map.specs.Showings.{AllShown, AreOf, WasHeld}
-use Rattle.papaya_map.proofs.Changing.{Coded, Wide}
+use Rattle.papaya_map.proofs.Changing.{begins as begins_calling, Coded, Wide}
 use Rattle.papaya_map.proofs.Histories.{changes-append, history_since}
 use Rattle.papaya_map.proofs.Logs.{prefix_trans}
 use Rattle.papaya_map.proofs.Readings.{IsQuery}
@@ -192,29 +190,11 @@ module _ {K V F : Type 0} (eq : K → K → Bool) (matches : K → Bool) (old ne
   pub none_stays : ((f : F) (p : Stored K V) (agrees : Bool) (g : F) → judges f p agrees g → agrees ≡ true) → answer ≡ Ok (Err entry) → ⊥
   none_stays always is = let h = subst (IsJudged eq matches old new r.said) is r.answered in let agreed : false ≡ true = said_only judges (λ a. a ≡ true) always first r.said r.left r.has_said h.0 false h.1 in cc agreed
 
--- the map resizes as its setting says
-mode_is : (mode : ResizeMode) → IsModeOf mode (is_blocking mode)
-mode_is (Incremental chunk) = refl
-mode_is Blocking = refl
-
 -- a removal that begins
 pub begins : {K V S H F : Type 0} (eq : K → K → Bool) (hash : S → K → ℕ) (b : Begun K V S) (name : Book) (matches : K → Bool) (fed : ℕ) (judges : F → Stored K V → Bool → F → Type 0) (first : F) (log : List (Event K V S)) (x : Removal K V S H) → IsLawfulLog eq hash b log
     → x.call.machine ≡ started RemoveIf fed b.mode 0 → x.call.table ≡ None → x.call.last ≡ None → x.call.taken ≡ None → x.call.put ≡ None → x.shown ≡ None → IsRemoving eq hash b name matches fed judges first log log x first
 begins eq hash b name matches fed judges first log x l machine table last taken put shown = record {
-  calling = rw (machine, table, last, taken, put) (record {
-    lawful = l;
-    seen = ([], append-nil log);
-    since = [];
-    is = append-nil (exchanges_of log);
-    rests = record { hash = refl; mode = mode_is b.mode; made = record { keys = λ q none. absurd none; made_is = tt; fill_is = tt; choice_is = tt }; stage = tt };
-    number = 0;
-    at_table = tt;
-    holds_table = refl;
-    last_placed = tt;
-    made_placed = λ q none. absurd none;
-    taken_placed = tt;
-    changed = λ change e. absurd (cc e);
-  });
+  calling = rw (machine, table, last, taken, put) (begins_calling eq hash b name matches fed None refl log l RemoveIf 0);
   task_is = ap (λ (z : Machine). z.task) machine;
   words = rw machine tt;
   shown_placed = rw shown tt;

@@ -1,5 +1,5 @@
 -- A call that inserts after its loads, its exchanges and its count.
-use Rattle.std.proofs.Common.{◌≡◌, inl, inr, ⊎_elim, ℕ, ◌==◌, Bool, true, false, MatchBool, MatchOption, Option, None, Some, List, length, refl, sym, ap, ◌∙◌, subst}
+use Rattle.std.proofs.Common.{◌≡◌, inl, inr, ⊎_elim, ℕ, ◌==◌, Bool, true, false, MatchBool, MatchOption, Option, None, Some, List, [], length, refl, sym, ap, ◌∙◌, subst}
 use Rattle.std.proofs.lemmas.Bool.{cases_Bool}
 use Rattle.std.specs.Cmp.{IsEquivalence}
 use mathlib.Core.List.{IsPrefix}
@@ -17,7 +17,8 @@ use Rattle.papaya_call.specs.declared.ask.Answer.TheVariants.{Word as Word_read,
 use Rattle.papaya_call.specs.declared.ask.StepKind.TheVariants as kinds
 use Rattle.papaya_call.specs.declared.machine.Machine.{Machine}
 use Rattle.papaya_call.specs.Followed.{MayAsk}
-use Rattle.papaya_call.specs.Machine.{IsStanding, ask_of, kind_of_ask}
+use Rattle.papaya_call.specs.declared.call.Task.{Task}
+use Rattle.papaya_call.specs.Machine.{IsStanding, ask_of, kind_of_ask, started}
 use Rattle.papaya_call.specs.Search.{IsSize}
 use Rattle.papaya_call.specs.Told.{IsOneOf, or_last}
 use Rattle.papaya_call.proofs.Followed.{asked_of_task, opens_once}
@@ -34,14 +35,26 @@ use Rattle.papaya_map.specs.Hashes.{hash_of}
 use Rattle.papaya_map.specs.Logs.{Stored, exchanges_of, number_of, pair_named}
 use Rattle.papaya_map.specs.Makers.{IsMade}
 use Rattle.papaya_map.specs.Plays.{CanExchange, IsPutting}
-use Rattle.papaya_map.specs.Rule.{IsPlaced}
-use Rattle.papaya_map.specs.Writing.{IsOpening}
-use Rattle.papaya_map.proofs.Changing.{counted, load_table, loaded_lawful, loads, rests_of, size_table, sized, slot_table}
+use Rattle.papaya_map.specs.Rule.{IsLawfulLog, IsPlaced}
+use Rattle.papaya_map.specs.Writing.{IsOpening, IsWriting}
+use Rattle.papaya_map.proofs.Changing.{begins as begins_calling, counted, load_table, loaded_lawful, loads, rests_of, size_table, sized, slot_table}
 use Rattle.papaya_map.proofs.Driving.{can_bury, can_put}
 use Rattle.papaya_map.proofs.Exchanging.{exchanged, lost}
 use Rattle.papaya_map.proofs.Opened.{beaten, opened}
 use Rattle.papaya_map.proofs.Readings.{IsQuery}
 use Rattle.papaya_map.proofs.Writing.{Writing, WritingOn, goes_on, own_query, unopened}
+
+-- such a call that begins
+pub begins : {K V S H : Type 0} (eq : K → K → Bool) (hash : S → K → ℕ) (b : Begun K V S) (name : Book) (key : K) (log : List (Event K V S)) (w : Writer K V S H) → IsLawfulLog eq hash b log → (task : Task) (initial : ℕ) → w.call.machine ≡ started task (hash b.hasher key) b.mode initial
+    → w.call.table ≡ None → w.call.last ≡ None → w.call.taken ≡ None → w.call.put ≡ None → w.key ≡ Some key → w.logged ≡ None → IsWriting eq hash b name key [] log log w
+begins eq hash b name key log w l task initial machine table last taken put own logged = record {
+  calling = rw (machine, table, last, taken, put) (begins_calling eq hash b name (eq key) (hash b.hasher key) (Some key) refl log l task initial);
+  own_is = λ k e. let f = sym own ∙ e in sym (cc f);
+  logged_is = λ p e. let f = sym logged ∙ e in absurd (cc f);
+  some_key = λ e. let f = sym own ∙ e in absurd (cc f);
+  put_placed = rw put tt;
+  opens = λ n e. let f = sym (ap ask_of machine) ∙ e in absurd (cc f);
+}
 
 module _ {K V S H : Type 0} (eq : K → K → Bool) (input : K → List (List ℕ)) (build : S → H) (write : H → List ℕ → H) (finish : H → ℕ) (classes : IsEquivalence eq) (respects : (x y : K) → eq x y ≡ true → input x ≡ input y)
     (b : Begun K V S) (name : Book) (key : K) (made : List (Stored K V)) (begun : List (Event K V S)) where

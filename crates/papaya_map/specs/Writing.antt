@@ -36,6 +36,10 @@ pub record IsOpening {K V S : Type 0} (b : Begun K V S) (name : Book) (log : Lis
 abbrev pub IsUnlogged : Answer → Type 0
 IsUnlogged answer = ((answer ≡ Refused Memory) ⊎ (answer ≡ Refused Capacity)) ⊎ (answer ≡ Ok_done)
 
+-- the call after its machine was answered
+abbrev pub answered : {K V S H : Type 0} → Writer K V S H → Answer → Writer K V S H
+answered w answer = record w { call = record w.call { machine = after w.call.machine answer } }
+
 -- no closure had a part in it: it is no refusal for want of something to remove
 abbrev pub IsUnsaid : Answer → Type 0
 IsUnsaid answer = answer ≡ Refused RemoveNothing → ⊥
@@ -49,10 +53,6 @@ module _ {K V S H : Type 0} (eq : K → K → Bool) (hash : S → K → ℕ) (b 
     pub some_key : w.key ≡ None → (p : Where K) × (w.logged ≡ Some p)
     pub put_placed : IsPlaced b (Some name) (pair_named w.call.put)
     pub opens : (n : ℕ) → ask_of w.call.machine ≡ Exchange Root 0 n → IsOpening b name log n w.opening
-
-  -- the call after its machine was answered
-  abbrev pub answered : Writer K V S H → Answer → Writer K V S H
-  answered w answer = record w { call = record w.call { machine = after w.call.machine answer } }
 
   -- this is an answer to what it asks
   abbrev pub IsWritingOn : K → List (Stored K V) → List (Event K V S) → List (Event K V S) → Writer K V S H → Answer → Type 0

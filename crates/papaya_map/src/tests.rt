@@ -1,4 +1,7 @@
 mod hashers;
+mod refused;
+mod removals;
+mod threads;
 
 use crate::book::Book;
 use crate::map::HashMap;

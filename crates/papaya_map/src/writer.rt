@@ -63,15 +63,12 @@ impl<'a, K: Hash + Eq + Drop, V: Drop, S: BuildHasher> Writer<'a, K, V, S> {
     }
 
     /// The size of the table.
-    pub(crate) fn size(&mut self, book: &'a Book<K, V, S>, pass: &Sight<K, V, S>) -> Answer
-        requires can { CanWrite K.eq (hash_of K.hash_input S.build_hasher S.Hasher.write S.Hasher.finish) (begun_of book.now.parts) book.now.begun.book pass.now.log self.old }
-        requires asks { (t : ℕ) × (ask_of self.old.call.machine ≡ SizeOf t) }
-        requires standing { IsStanding self.old.call.machine }
-        ensures machine { self.new.call.machine ≡ self.old.call.machine }
-        ensures value { self.new.value ≡ self.old.value }
+    pub(crate) fn size(&self, book: &'a Book<K, V, S>, pass: &Sight<K, V, S>) -> Answer
+        requires can { CanWrite K.eq (hash_of K.hash_input S.build_hasher S.Hasher.write S.Hasher.finish) (begun_of book.now.parts) book.now.begun.book pass.now.log self.now }
+        requires asks { (t : ℕ) × (ask_of self.now.call.machine ≡ SizeOf t) }
+        requires standing { IsStanding self.now.call.machine }
         ensures unsaid { IsUnsaid result }
-        ensures put { self.new.call.put ≡ self.old.call.put }
-        ensures writes { Writes K.eq (hash_of K.hash_input S.build_hasher S.Hasher.write S.Hasher.finish) (begun_of book.now.parts) book.now.begun.book pass.now.log self.old pass.now.log self.new result }
+        ensures writes { Writes K.eq (hash_of K.hash_input S.build_hasher S.Hasher.write S.Hasher.finish) (begun_of book.now.parts) book.now.begun.book pass.now.log self.now pass.now.log self.now result }
     {
         let _ = book;
         let _ = pass;
@@ -83,15 +80,12 @@ impl<'a, K: Hash + Eq + Drop, V: Drop, S: BuildHasher> Writer<'a, K, V, S> {
     }
 
     /// Has the pair last told of a key that equals the call's?
-    pub(crate) fn same(&mut self, book: &'a Book<K, V, S>, pass: &Sight<K, V, S>) -> Answer
-        requires can { CanWrite K.eq (hash_of K.hash_input S.build_hasher S.Hasher.write S.Hasher.finish) (begun_of book.now.parts) book.now.begun.book pass.now.log self.old }
-        requires asks { (n : ℕ) × (ask_of self.old.call.machine ≡ SameKey n) }
-        requires standing { IsStanding self.old.call.machine }
-        ensures machine { self.new.call.machine ≡ self.old.call.machine }
-        ensures value { self.new.value ≡ self.old.value }
+    pub(crate) fn same(&self, book: &'a Book<K, V, S>, pass: &Sight<K, V, S>) -> Answer
+        requires can { CanWrite K.eq (hash_of K.hash_input S.build_hasher S.Hasher.write S.Hasher.finish) (begun_of book.now.parts) book.now.begun.book pass.now.log self.now }
+        requires asks { (n : ℕ) × (ask_of self.now.call.machine ≡ SameKey n) }
+        requires standing { IsStanding self.now.call.machine }
         ensures unsaid { IsUnsaid result }
-        ensures put { self.new.call.put ≡ self.old.call.put }
-        ensures writes { Writes K.eq (hash_of K.hash_input S.build_hasher S.Hasher.write S.Hasher.finish) (begun_of book.now.parts) book.now.begun.book pass.now.log self.old pass.now.log self.new result }
+        ensures writes { Writes K.eq (hash_of K.hash_input S.build_hasher S.Hasher.write S.Hasher.finish) (begun_of book.now.parts) book.now.begun.book pass.now.log self.now pass.now.log self.now result }
     {
         let _ = pass;
         let Some(last) = &self.call.last else {

@@ -1,5 +1,5 @@
 -- Answers that borrow the map, with values in the place of references.
-use Rattle.std.proofs.Common.{◌≡◌, ◌==◌, ℕ, Bool, None, Some, Ok, Err, refl, ap, ◌∙◌}
+use Rattle.std.proofs.Common.{◌≡◌, ℕ, Bool, None, Some, Ok, Err, refl, ap, ◌∙◌}
 use Rattle.std.specs.Fn.{FnReturnsAt, Shared}
 use Rattle.std.specs.Prelude.{IsOk, Option, Result}
 use Rattle.std.specs.Borrow.{Bor}

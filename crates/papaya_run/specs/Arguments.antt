@@ -13,6 +13,7 @@ use Rattle.papaya_run.specs.Numbers.{WritesNumber}
 abbrev pub backend_word : Backend → List ℕ
 backend_word backend.Core = codes "core"
 backend_word backend.Seq = codes "seq"
+backend_word backend.Shared = codes "shared"
 
 -- the word of a way to hash
 abbrev pub hashing_word : Hashing → List ℕ

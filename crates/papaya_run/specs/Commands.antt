@@ -44,3 +44,7 @@ WritesCommand text (Remove k) = WritesKeyed text (codes "r") k
 WritesCommand text (Update k) = WritesKeyed text (codes "u") k
 WritesCommand text Len = text ≡ codes "len"
 WritesCommand text Slots = text ≡ codes "slots"
+
+-- the text is no command
+abbrev pub WritesNone : List ℕ → Type 0
+WritesNone text = (command : Command) → ¬ (WritesCommand text command)

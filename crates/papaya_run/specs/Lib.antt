@@ -9,3 +9,4 @@ pub mod OneCaller
 pub mod Printed
 pub mod Replies
 pub mod Script
+pub mod Shared

@@ -1,10 +1,11 @@
 -- What a command does to a map for one caller, and what is printed of it.
-use Rattle.std.specs.Prelude.{◌≡◌, ◌==◌, ℕ, Option, Some, None, Result, Ok, Err, IsOk, MatchOption, length}
+use Rattle.std.specs.Prelude.{◌≡◌, ◌==◌, ℕ, List, Option, Some, None, Result, Ok, Err, IsOk, MatchOption, length}
 use Rattle.papaya_words.specs.declared.probe.Refused.{Refused}
 use Rattle.papaya_core.specs.Content.{content}
 use Rattle.papaya_core.specs.Store.{Stored}
 use Rattle.papaya_seq.specs.Computes.{IsUpdated}
 use Rattle.papaya_run.specs.Answering.{follower}
+use Rattle.papaya_run.specs.Commands.{WritesCommand}
 use Rattle.papaya_seq.specs.Map.{HasNone, Holds, IsInserted, IsRemoved, MapState, next_of, slots_of}
 use Rattle.papaya_run.specs.declared.commands.Command.{Command}
 use Rattle.papaya_run.specs.declared.commands.Command.TheVariants as command
@@ -47,3 +48,7 @@ module _ {S : Type 0} where
   Obeys hash (command.Update k) s text s' = (answer : Result (Option ℕ) Refused) × (text ≡ of_update answer) × IsUpdated (λ a b. a == b) (hash k) k (λ old new. new ≡ follower old) s answer s'
   Obeys hash command.Len s text s' = (text ≡ printed.Length (length (content s.store))) × (s' ≡ s)
   Obeys hash command.Slots s text s' = (text ≡ printed.Slots (slots_of s.store)) × (s' ≡ s)
+
+  -- the line writes a command, and this does what it asks for
+  abbrev pub ObeysLine : (ℕ → ℕ) → List ℕ → MapState ℕ ℕ S → Printed → MapState ℕ ℕ S → Type 0
+  ObeysLine hash line s text s' = (what : Command) × WritesCommand line what × Obeys hash what s text s'

@@ -16,6 +16,8 @@ pub enum Backend {
     Core,
     /// One caller, a whole call at a time.
     Seq,
+    /// The map that threads share, by one pass, a whole call at a time.
+    Shared,
 }
 
 /// How keys are hashed.
@@ -42,6 +44,7 @@ fn backend_of(word: &str) -> Option<Backend>
     match word {
         "core" => Some(Backend::Core),
         "seq" => Some(Backend::Seq),
+        "shared" => Some(Backend::Shared),
         _ => None,
     }
 }

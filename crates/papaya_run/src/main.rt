@@ -7,12 +7,14 @@ mod commands;
 mod failure;
 mod hashers;
 mod input;
+mod line_by_line;
 mod numbers;
 mod one_caller;
 mod printed;
 mod replies;
 pub mod run;
 mod script;
+mod shared;
 
 use crate::failure::Failure;
 use papaya_words::probe::Refused;
@@ -40,6 +42,7 @@ fn main(rt: HostRuntime) -> ExitCode {
     let mut errors = rt.stderr();
     let status = match words(&rt) {
         Ok(words) => run::run_on(
+            &rt,
             rt.alloc(),
             words.as_slice(),
             &mut rt.stdin(),

@@ -1,21 +1,20 @@
 //! The lines on a map for one caller: each is read, done and printed before the next is read.
-ghost use Rattle.std.specs.Prelude.{◌≡◌, MatchResult};
+ghost use Rattle.std.specs.Prelude.{◌≡◌};
 ghost use Rattle.std.specs.Hash as fed;
 ghost use Rattle.papaya_core.specs.Store.{hash_of};
 ghost use Rattle.papaya_run.specs.Answering.{follower};
-ghost use Rattle.papaya_run.specs.Commands.{WritesCommand};
-ghost use Rattle.papaya_run.specs.OneCaller.{Obeys};
-ghost use Rattle.papaya_run.specs.declared.commands.Command.{Command};
+ghost use Rattle.papaya_run.specs.Commands.{WritesNone};
+ghost use Rattle.papaya_run.specs.OneCaller.{Obeys, ObeysLine};
 
 use crate::commands::{Command, command_of};
 use crate::failure::Failure;
-use crate::input::next_line;
+use crate::line_by_line::{Obey, run_lines};
 use crate::printed::Printed;
 use papaya_seq::seq::HashMap;
-use papaya_words::probe::{Refused, ResizeMode};
+use papaya_words::probe::ResizeMode;
 use std::alloc::Global;
 use std::hash::BuildHasher;
-use std::io::{BufReader, Read, Write};
+use std::io::{Read, Write};
 
 /// The number after this one; 0 follows the greatest.
 fn follower(value: &u64) -> u64
@@ -53,17 +52,16 @@ fn obey<S: BuildHasher + Drop>(map: &mut HashMap<u64, u64, S>, command: Command)
     }
 }
 
-/// Does what the line of this number asks for. A line of bad form does nothing to the map.
-fn obey_line<S: BuildHasher + Drop>(
-    map: &mut HashMap<u64, u64, S>,
-    number: u64,
-    line: &[u8],
-) -> Result<Printed, Failure>
-    ensures { MatchResult result (λ printed. (command : Command) × WritesCommand line.now command × Obeys (hash_of fed.u64 S.build_hasher S.Hasher.write S.Hasher.finish map.old.store.hasher) command map.old printed map.new) (λ failure. ((command : Command) → ¬ (WritesCommand line.now command)) × (failure ≡ Failure.Line number) × (map.new ≡ map.old)) }
-{
-    match command_of(line) {
-        Some(command) => Ok(obey(map, command)),
-        None => Err(Failure::Line(number)),
+impl<S: BuildHasher + Drop> Obey for HashMap<u64, u64, S> {
+    ghost does = { λ old line printed new. ObeysLine (hash_of fed.u64 S.build_hasher S.Hasher.write S.Hasher.finish old.store.hasher) line old printed new };
+
+    ghost is_bad = { WritesNone };
+
+    fn obey_line(&mut self, number: u64, line: &[u8]) -> Result<Printed, Failure> {
+        match command_of(line) {
+            Some(command) => Ok(obey(self, command)),
+            None => Err(Failure::Line(number)),
+        }
     }
 }
 
@@ -79,17 +77,5 @@ pub fn run_one_caller<S: BuildHasher + Drop, R: Read, W: Write>(
     let mut map: HashMap<u64, u64, S> = HashMap::with_parts(alloc, mode, 0, 1, hasher).map_err(
         Failure::Refused,
     )?;
-    let mut reader = BufReader::new(alloc, input).map_err(|_| Failure::Refused(Refused::Memory))?;
-    let mut line = Vec::new(alloc);
-    for number in 1..u64::MAX {
-        if !next_line(&mut reader, &mut line)? {
-            return Ok(());
-        }
-        if !line.is_empty() {
-            let printed = obey_line(&mut map, number, &line)?;
-            writeln!(output, "{printed}").map_err(|_| Failure::Output)?;
-            output.flush().map_err(|_| Failure::Output)?;
-        }
-    }
-    Err(Failure::Input)
+    run_lines(alloc, &mut map, input, output)
 }

@@ -10,11 +10,13 @@ use crate::hashers::{Identity, Zero};
 use crate::input::Script;
 use crate::one_caller::run_one_caller;
 use crate::replies::print_trace;
+use crate::shared::run_shared;
 use papaya_core::schedule::Core;
 use papaya_words::probe::{Refused, ResizeMode};
 use std::alloc::Global;
 use std::hash::BuildHasher;
 use std::io::{BufReader, Read, Write};
+use std::sync::Wait;
 
 #[cfg(test)]
 mod tests;
@@ -48,7 +50,8 @@ fn run_core<S: BuildHasher + Drop, R: Read, W: Write>(
 }
 
 /// Runs what the arguments ask for.
-fn run<R: Read, W: Write>(
+fn run<H: Wait, R: Read, W: Write>(
+    rt: &H,
     alloc: Global,
     args: &[String],
     input: &mut R,
@@ -65,13 +68,18 @@ fn run<R: Read, W: Write>(
         (Backend::Core, Hashing::Zero) => run_core(alloc, mode, Zero, input, output),
         (Backend::Seq, Hashing::Identity) => run_one_caller(alloc, mode, Identity, input, output),
         (Backend::Seq, Hashing::Zero) => run_one_caller(alloc, mode, Zero, input, output),
+        (Backend::Shared, Hashing::Identity) => run_shared(
+            rt, alloc, mode, Identity, input, output,
+        ),
+        (Backend::Shared, Hashing::Zero) => run_shared(rt, alloc, mode, Zero, input, output),
     }
 }
 
 /// Runs the program on the arguments behind its name, and answers its exit status: 0, or the
 /// failure's that it has printed on `errors`. The arguments are looked at first, then the map is
 /// made, then lines are read. A line's number counts from 1.
-pub fn run_on<R: Read, W: Write, E: Write>(
+pub fn run_on<H: Wait, R: Read, W: Write, E: Write>(
+    rt: &H,
     alloc: Global,
     args: &[String],
     input: &mut R,
@@ -81,7 +89,7 @@ pub fn run_on<R: Read, W: Write, E: Write>(
     ensures bad_arguments { ((arguments : Arguments) → ¬ (WritesArguments (map string_bytes args.now) arguments)) → result ≡ 2 }
     ensures bound { result ≤ 2 }
 {
-    match run(alloc, args, input, output) {
+    match run(rt, alloc, args, input, output) {
         Ok(()) => 0,
         Err(failure) => failure.report(errors),
     }

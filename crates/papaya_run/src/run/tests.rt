@@ -3,10 +3,13 @@ use std::alloc::Global;
 use std::io;
 use std::io::{Read, Write};
 use std::process::Abort;
+use std::sync::Wait;
 use std::test::Fail;
 
 mod faults;
+mod line_by_line;
 mod one_caller;
+mod shared;
 
 /// A reader that gives a few bytes at a time, and may fail when it has given all of them.
 #[derive(Drop)]
@@ -61,7 +64,7 @@ fn words(alloc: Global, text: &str) -> Result<Vec<String>, Fail> {
 }
 
 /// Runs a script, and asserts what it prints, what it says on standard error, and its status.
-fn expect<A: Abort>(
+fn expect<A: Abort + Wait>(
     rt: &A,
     alloc: Global,
     args: &str,
@@ -78,7 +81,14 @@ fn expect<A: Abort>(
     };
     let mut printed = Vec::new(alloc);
     let mut said = Vec::new(alloc);
-    let found = run_on(alloc, args.as_slice(), &mut source, &mut printed, &mut said);
+    let found = run_on(
+        rt,
+        alloc,
+        args.as_slice(),
+        &mut source,
+        &mut printed,
+        &mut said,
+    );
     assert_eq!(rt;
         std::str::from_utf8(printed.as_slice())?,
         output,
@@ -185,7 +195,11 @@ fn bad_arguments(rt: HostRuntime) -> Result<(), Fail> {
         "sequence inc:64 id",
         "seq inc:18446744073709551616 id",
         "seq block ident",
-        "shared inc:64 id",
+        "shared",
+        "shared inc:64",
+        "shared inc:64 id id",
+        "Shared inc:64 id",
+        "share inc:64 id",
         "Core inc:64 id",
         "core inc: id",
         "core inc:+1 id",
@@ -217,7 +231,7 @@ fn bad_arguments(rt: HostRuntime) -> Result<(), Fail> {
     let mut printed = Vec::new(rt.alloc());
     let mut said = Vec::new(rt.alloc());
     assert_eq!(rt;
-        run_on(rt.alloc(), &[], &mut source, &mut printed, &mut said),
+        run_on(&rt, rt.alloc(), &[], &mut source, &mut printed, &mut said),
         2
     );
     Ok(())
@@ -230,6 +244,8 @@ fn a_chunk_of_nought(rt: HostRuntime) -> Result<(), Fail> {
         "core inc:000 zero",
         "seq inc:0 id",
         "seq inc:0 zero",
+        "shared inc:0 id",
+        "shared inc:00 zero",
     ] {
         expect(
             &rt,

@@ -3,7 +3,8 @@ use Rattle.papaya_call.specs.declared.call.Task.TheVariants.{Insert}
 use Rattle.papaya_call.specs.Machine.{started}
 use Rattle.papaya_map.specs.Hashes.{hash_of}
 use Rattle.papaya_map.specs.Parts.{begun_of}
-use Rattle.papaya_map.proofs.InsertingSteps.{begins, put_since}
+use Rattle.papaya_map.proofs.Inserting.{begins}
+use Rattle.papaya_map.proofs.InsertingReplies.{put_since}
 use Rattle.papaya_map.proofs.Logs.{prefix_trans}
 use Rattle.papaya_map.proofs.insertion.insert.Goals as goal
 
@@ -44,7 +45,7 @@ pub replied-requires-clause-done : goal.replied-requires-clause-done
 replied-requires-clause-done g c = let u = c.loop.invariant.0 in (c.in-None-answer.ensures.inserts c.args.key c.args.value u.0 u.2).1
 
 pub returns-in-None-answer-clause-lawful : goal.returns-in-None-answer-clause-lawful
-returns-in-None-answer-clause-lawful g c = let u = c.loop.invariant.0 in (c.in-None-answer.ensures.inserts c.args.key c.args.value u.0 u.2).0.calling.lawful
+returns-in-None-answer-clause-lawful g c = let u = c.loop.invariant.0 in (c.in-None-answer.ensures.inserts c.args.key c.args.value u.0 u.2).0.writing.calling.lawful
 
 pub returns-in-None-answer-clause-put : goal.returns-in-None-answer-clause-put
 returns-in-None-answer-clause-put g c =

@@ -11,3 +11,9 @@ returns-in-Seq-Identity g c h = absurd (h c.in-Some.arguments c.in-Some.ensures)
 
 pub returns-in-Seq-Zero : goal.returns-in-Seq-Zero
 returns-in-Seq-Zero g c h = absurd (h c.in-Some.arguments c.in-Some.ensures)
+
+pub returns-in-Shared-Identity : goal.returns-in-Shared-Identity
+returns-in-Shared-Identity g c h = absurd (h c.in-Some.arguments c.in-Some.ensures)
+
+pub returns-in-Shared-Zero : goal.returns-in-Shared-Zero
+returns-in-Shared-Zero g c h = absurd (h c.in-Some.arguments c.in-Some.ensures)

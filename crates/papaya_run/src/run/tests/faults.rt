@@ -17,6 +17,7 @@ fn faults_of_the_input(rt: HostRuntime) -> Result<(), Fail> {
         let mut said = Vec::new(rt.alloc());
         assert_eq!(rt;
             run_on(
+                &rt,
                 rt.alloc(),
                 args.as_slice(),
                 &mut source,
@@ -44,6 +45,7 @@ fn faults_of_the_output(rt: HostRuntime) -> Result<(), Fail> {
         let mut source = FIRST;
         assert_eq!(rt;
             run_on(
+                &rt,
                 rt.alloc(),
                 args.as_slice(),
                 &mut source,
@@ -67,7 +69,7 @@ fn faults_of_the_errors(rt: HostRuntime) -> Result<(), Fail> {
     let mut printed = Vec::new(rt.alloc());
     let mut source = FIRST;
     assert_eq!(rt;
-        run_on(rt.alloc(), &[], &mut source, &mut printed, &mut errors),
+        run_on(&rt, rt.alloc(), &[], &mut source, &mut printed, &mut errors),
         2
     );
     assert_eq!(rt; errors.text.as_slice(), b"pap".as_slice());

@@ -1,5 +1,6 @@
-use Rattle.std.proofs.Common.{◌≡◌, [], append-nil, sym, subst}
+use Rattle.std.proofs.Common.{◌≡◌, [], append-nil, refl, sym, subst}
 use Rattle.papaya_call.specs.declared.ask.Ask.TheVariants.{AddToShard}
+use Rattle.papaya_call.specs.declared.ask.Answer.TheVariants.{Ok}
 use Rattle.papaya_call.specs.Machine.{ask_of}
 use Rattle.papaya_map.specs.Hashes.{hash_of}
 use Rattle.papaya_map.specs.Parts.{begun_of}
@@ -11,4 +12,5 @@ use Rattle.papaya_map.proofs.computing.Computing.answer.Goals as goal
 pub returns-in-AddToShard-clause-computes : goal.returns-in-AddToShard-clause-computes
 returns-in-AddToShard-clause-computes g c = λ key first begun r.
     let asks : ask_of c.args.self.now.writer.call.machine ≡ AddToShard c.in-AddToShard.by = sym c.in-AddToShard.ensures.value in
-    ?
+    let on = counted_on g.K.PartialEq.eq g.K.Hash.hash_input g.S.BuildHasher.build_hasher g.S.Hasher.Hasher.write g.S.Hasher.Hasher.finish g.met.K.Eq.laws g.met.K.Hash.respects_eq (begun_of c.args.book.now.parts) c.args.book.now.begun.book key r.made begun c.args.pass.now.log c.args.self.now.writer r.writing c.in-AddToShard.by asks in
+    goes_on g.K.PartialEq.eq (hash_of g.K.Hash.hash_input g.S.BuildHasher.build_hasher g.S.Hasher.Hasher.write g.S.Hasher.Hasher.finish) (begun_of c.args.book.now.parts) c.args.book.now.begun.book (Operates g.F.FnMut) key first begun c.args.pass.now.log c.args.self.now c.args.compute.now r c.requires.standing (subst IsSilent (sym asks) tt) c.args.pass.now.log ([], append-nil c.args.pass.now.log) c.args.self.now.writer Ok refl refl (λ e. cc e) on

@@ -1,4 +1,4 @@
-use Rattle.std.proofs.Common.{[], append-nil, sym, subst}
+use Rattle.std.proofs.Common.{[], append-nil, refl, sym, subst}
 use Rattle.papaya_map.specs.Hashes.{hash_of}
 use Rattle.papaya_map.specs.Parts.{begun_of}
 use Rattle.papaya_map.specs.Showings.{Operates}
@@ -13,12 +13,12 @@ returns-in-Load-clause-computes g c = λ key first begun r.
 pub returns-in-SizeOf-clause-computes : goal.returns-in-SizeOf-clause-computes
 returns-in-SizeOf-clause-computes g c = λ key first begun r.
     let e = c.size.ensures in
-    goes_on g.K.PartialEq.eq (hash_of g.K.Hash.hash_input g.S.BuildHasher.build_hasher g.S.Hasher.Hasher.write g.S.Hasher.Hasher.finish) (begun_of c.args.book.now.parts) c.args.book.now.begun.book (Operates g.F.FnMut) key first begun c.args.pass.now.log c.args.self.now c.args.compute.now r c.requires.standing (subst IsSilent (sym c.requires.asks.0) (writers_silent c.args.ask c.requires.asks.1)) c.args.pass.now.log ([], append-nil c.args.pass.now.log) c.size.new.self c.size.result e.machine e.value e.unsaid (e.writes key r.made begun r.writing)
+    goes_on g.K.PartialEq.eq (hash_of g.K.Hash.hash_input g.S.BuildHasher.build_hasher g.S.Hasher.Hasher.write g.S.Hasher.Hasher.finish) (begun_of c.args.book.now.parts) c.args.book.now.begun.book (Operates g.F.FnMut) key first begun c.args.pass.now.log c.args.self.now c.args.compute.now r c.requires.standing (subst IsSilent (sym c.requires.asks.0) (writers_silent c.args.ask c.requires.asks.1)) c.args.pass.now.log ([], append-nil c.args.pass.now.log) c.args.self.now.writer c.size.result refl refl e.unsaid (e.writes key r.made begun r.writing)
 
 pub returns-in-SameKey-clause-computes : goal.returns-in-SameKey-clause-computes
 returns-in-SameKey-clause-computes g c = λ key first begun r.
     let e = c.same.ensures in
-    goes_on g.K.PartialEq.eq (hash_of g.K.Hash.hash_input g.S.BuildHasher.build_hasher g.S.Hasher.Hasher.write g.S.Hasher.Hasher.finish) (begun_of c.args.book.now.parts) c.args.book.now.begun.book (Operates g.F.FnMut) key first begun c.args.pass.now.log c.args.self.now c.args.compute.now r c.requires.standing (subst IsSilent (sym c.requires.asks.0) (writers_silent c.args.ask c.requires.asks.1)) c.args.pass.now.log ([], append-nil c.args.pass.now.log) c.same.new.self c.same.result e.machine e.value e.unsaid (e.writes key r.made begun r.writing)
+    goes_on g.K.PartialEq.eq (hash_of g.K.Hash.hash_input g.S.BuildHasher.build_hasher g.S.Hasher.Hasher.write g.S.Hasher.Hasher.finish) (begun_of c.args.book.now.parts) c.args.book.now.begun.book (Operates g.F.FnMut) key first begun c.args.pass.now.log c.args.self.now c.args.compute.now r c.requires.standing (subst IsSilent (sym c.requires.asks.0) (writers_silent c.args.ask c.requires.asks.1)) c.args.pass.now.log ([], append-nil c.args.pass.now.log) c.args.self.now.writer c.same.result refl refl e.unsaid (e.writes key r.made begun r.writing)
 
 pub returns-in-MakeKey-clause-computes : goal.returns-in-MakeKey-clause-computes
 returns-in-MakeKey-clause-computes g c = λ key first begun r.

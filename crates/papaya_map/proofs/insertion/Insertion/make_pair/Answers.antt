@@ -1,12 +1,18 @@
-use Rattle.std.proofs.Common.{sym, ap, ◌∙◌}
+use Rattle.papaya_map.specs.Hashes.{hash_of}
 use Rattle.papaya_map.specs.Parts.{begun_of}
-use Rattle.papaya_map.proofs.Inserting.{pair_made}
+use Rattle.papaya_map.specs.Plays.{made_list}
+use Rattle.papaya_map.proofs.Inserting.{pair_made, pair_unmade}
 use Rattle.papaya_map.proofs.insertion.Insertion.make_pair.Goals as goal
 
-pub returns-clause-inserts : goal.returns-clause-inserts
-returns-clause-inserts g c = λ key value begun r.
-    let logged = r.logged_is c.in-Some.key c.in-Some.is in
-    let pair = c.in-Ok.ensures.ok in
-    pair_made g.K.PartialEq.eq g.K.Hash.hash_input g.S.BuildHasher.build_hasher g.S.Hasher.Hasher.write g.S.Hasher.Hasher.finish g.met.K.Eq.laws g.met.K.Hash.respects_eq (begun_of c.args.book.now.parts) c.args.book.now.begun.book key value begun c.args.pass.now.log c.args.self.now r
-    c.in-Ok.pair c.take.new.self c.index-number.result c.index-number.ensures c.requires.asks c.if-number-ge-MAX_LOG_LEN.false
-    (ap (λ z. z.value) (pair.0 ∙ c.again-key.ensures) ∙ logged.0) (pair.1 ∙ r.left_is c.in-Some-take.value (sym c.in-Some-take.ensures.value)) c.in-Ok.ensures.placed (λ v e. let f = sym c.take.ensures.after ∙ e in absurd (cc f))
+pub log_pair-requires-clause-can : goal.log_pair-requires-clause-can
+log_pair-requires-clause-can g c = (c.requires.can.0, made_list c.args.self.now.made, c.requires.can.2, c.requires.can.3.writing)
+
+pub returns-in-Ok-clause-inserts : goal.returns-in-Ok-clause-inserts
+returns-in-Ok-clause-inserts g c = λ key value begun r.
+    let logged = c.in-Ok.ensures in let on = logged.pairs key (made_list c.args.self.now.made) begun r.writing in
+    pair_made g.K.PartialEq.eq (hash_of g.K.Hash.hash_input g.S.BuildHasher.build_hasher g.S.Hasher.Hasher.write g.S.Hasher.Hasher.finish) (begun_of c.args.book.now.parts) c.args.book.now.begun.book key value begun c.args.pass.now.log c.args.self.now r c.log_pair.new.self c.in-Ok.pair c.index-number.result c.index-number.ensures c.requires.asks logged.machine logged.value.0 logged.value.1 logged.put on.0 on.1
+
+pub returns-in-Err-clause-inserts : goal.returns-in-Err-clause-inserts
+returns-in-Err-clause-inserts g c = λ key value begun r.
+    let same = c.log_pair.ensures in
+    pair_unmade g.K.PartialEq.eq (hash_of g.K.Hash.hash_input g.S.BuildHasher.build_hasher g.S.Hasher.Hasher.write g.S.Hasher.Hasher.finish) (begun_of c.args.book.now.parts) c.args.book.now.begun.book key value begun c.args.pass.now.log c.args.self.now r c.log_pair.new.self c.in-Err.answer same.machine same.left same.put (c.in-Err.ensures.writes key (made_list c.args.self.now.made) begun r.writing)

@@ -5,12 +5,12 @@ use Rattle.papaya_call.specs.declared.call.Reply.TheVariants.{Refused}
 use Rattle.papaya_map.specs.Logs.{pair_named}
 use Rattle.papaya_map.specs.Parts.{begun_of}
 use Rattle.papaya_map.specs.Rule.{IsPlaced}
-use Rattle.papaya_map.proofs.InsertingSteps.{inserted, replaced}
+use Rattle.papaya_map.proofs.InsertingReplies.{inserted, replaced}
 use Rattle.papaya_map.proofs.insertion.Insertion.replied.Goals.{in-Done+in-Absent-1, in-Load-1}
 use Rattle.papaya_map.proofs.insertion.Insertion.replied.Goals as goal
 
 pub pair-requires : goal.pair-requires
-pair-requires g c = subst (λ (o : _). IsPlaced (begun_of c.args.book.now.parts) (Some c.args.book.now.begun.book) (pair_named o)) c.in-Some.is c.requires.can.3.calling.taken_placed
+pair-requires g c = subst (λ (o : _). IsPlaced (begun_of c.args.book.now.parts) (Some c.args.book.now.begun.book) (pair_named o)) c.in-Some.is c.requires.can.3.writing.calling.taken_placed
 
 pub returns-in-Some : goal.returns-in-Some
 returns-in-Some g c = λ key value begun r.

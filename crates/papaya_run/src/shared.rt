@@ -1,0 +1,108 @@
+//! The lines on the map that threads share, by one pass: each is read, done and printed before the
+//! next is read.
+ghost use Rattle.std.specs.Prelude.{◌≡◌, MatchOption};
+ghost use mathlib.Core.List.{IsPrefix};
+ghost use Rattle.papaya_run.specs.Shared.{IsBad, IsMissing, Obeys, ObeysLine};
+
+use crate::commands::{Command, command_of};
+use crate::failure::Failure;
+use crate::line_by_line::{Obey, run_lines};
+use crate::printed::Printed;
+use papaya_map::map::{HashMap, HashMapRef, Pass};
+use papaya_words::probe::ResizeMode;
+use std::alloc::Global;
+use std::hash::BuildHasher;
+use std::io::{Read, Write};
+use std::sync::Wait;
+
+/// Over how many shards the pairs are counted.
+const SHARDS: usize = 16;
+
+/// One caller of the shared map, and its pass, which that map has made.
+#[derive(Drop)]
+struct Caller<'a, H: Wait, S: BuildHasher> {
+    rt: &'a H,
+    map: &'a HashMap<u64, u64, S>,
+    pinned: HashMapRef<'a, u64, u64, S>,
+    pass: Pass<u64, u64, S>,
+    ghost of_map: { pinned ≡ map.now },
+    ghost made_by: { pass.book ≡ pinned },
+}
+
+impl<'a, H: Wait, S: BuildHasher + Drop> Caller<'a, H, S> {
+    /// A caller with a new pass.
+    fn new(rt: &'a H, map: &'a HashMap<u64, u64, S>) -> Caller<'a, H, S>
+        ensures { result.pinned ≡ map.now }
+    {
+        Caller {
+            rt,
+            map,
+            pinned: map.pin(),
+            pass: map.pass(),
+        }
+    }
+
+    /// Does what a command asks for, and answers what is printed of it. None where the shared map
+    /// has no such command.
+    fn obey(&mut self, command: Command) -> Option<Printed>
+        ensures map { self.new.pinned ≡ self.old.pinned }
+        ensures seen { IsPrefix self.old.pass.history self.new.pass.history }
+        ensures obeys { MatchOption result (IsMissing command × (self.new ≡ self.old)) (λ printed. Obeys command self.old.pass.history printed self.new.pass.history) }
+    {
+        match command {
+            Command::Insert(key, value) => Some(
+                match self.pinned.insert_as(self.rt, key, value, &mut self.pass) {
+                    Ok(Some(old)) => Printed::Old(*old),
+                    Ok(None) => Printed::Absent,
+                    Err(refused) => Printed::Refused(refused),
+                },
+            ),
+            Command::Get(key) => Some(match self.pinned.get_as(&key, &mut self.pass) {
+                Some(value) => Printed::Found(*value),
+                None => Printed::Absent,
+            }),
+            Command::Remove(key) => Some(
+                match self.pinned.remove_as(self.rt, &key, &mut self.pass) {
+                    Ok(Some(value)) => Printed::Removed(*value),
+                    Ok(None) => Printed::Absent,
+                    Err(refused) => Printed::Refused(refused),
+                },
+            ),
+            Command::Len => Some(Printed::Length(self.map.len())),
+            Command::Update(_) | Command::Slots => None,
+        }
+    }
+}
+
+impl<H: Wait, S: BuildHasher + Drop> Obey for Caller<'_, H, S> {
+    ghost does = { λ old line printed new. (new.pinned ≡ old.pinned) × IsPrefix old.pass.history new.pass.history × ObeysLine line old.pass.history printed new.pass.history };
+
+    ghost is_bad = { IsBad };
+
+    fn obey_line(&mut self, number: u64, line: &[u8]) -> Result<Printed, Failure> {
+        let Some(command) = command_of(line) else {
+            return Err(Failure::Line(number));
+        };
+        match self.obey(command) {
+            Some(printed) => Ok(printed),
+            None => Err(Failure::Line(number)),
+        }
+    }
+}
+
+/// Runs the lines of the input one by one on a new map, and prints each reply at once. The first
+/// line of bad form ends the run, and so does one that the shared map has not.
+pub fn run_shared<H: Wait, S: BuildHasher + Drop, R: Read, W: Write>(
+    rt: &H,
+    alloc: Global,
+    mode: ResizeMode,
+    hasher: S,
+    input: &mut R,
+    output: &mut W,
+) -> Result<(), Failure> {
+    let map: HashMap<u64, u64, S> = HashMap::with_parts(rt, alloc, mode, 0, SHARDS, hasher).map_err(
+        Failure::Refused,
+    )?;
+    let mut caller = Caller::new(rt, &map);
+    run_lines(alloc, &mut caller, input, output)
+}
