@@ -1,12 +1,11 @@
 -- A compute after a pair was made of what its closure answered last, or was not.
-use Rattle.std.proofs.Common.{◌≡◌, ◌⊎◌, inl, inr, ⊎_elim, ℕ, Bool, Option, None, Some, List, [], ◌∷◌, refl, sym, ap, ◌∙◌, subst}
+use Rattle.std.proofs.Common.{◌≡◌, ◌⊎◌, inl, inr, ⊎_elim, ℕ, Bool, Option, None, Some, List, ◌∷◌, refl, sym, ap, ◌∙◌, subst}
 use Rattle.logbook.specs.Pages.{Book}
 use Rattle.papaya_words.specs.declared.probe.Refused.{Refused as Cause}
 use Rattle.papaya_words.specs.declared.probe.Refused.TheVariants.{Capacity, Memory, RemoveNothing}
 use Rattle.papaya_call.specs.declared.answers.Operation.{Operation}
 use Rattle.papaya_call.specs.declared.answers.Operation.TheVariants as operation
-use Rattle.papaya_call.specs.declared.ask.Ask.TheVariants.{Load, ShowNone, MakePair, Done}
-use Rattle.papaya_call.specs.declared.ask.At.TheVariants.{Next}
+use Rattle.papaya_call.specs.declared.ask.Ask.TheVariants.{MakePair, Done}
 use Rattle.papaya_call.specs.declared.ask.Answer.{Answer}
 use Rattle.papaya_call.specs.declared.ask.Answer.TheVariants.{Made as Made_number, Ok as Ok_done, Refused as Was_refused}
 use Rattle.papaya_call.specs.declared.call.Reply.{Reply}
@@ -14,7 +13,6 @@ use Rattle.papaya_call.specs.declared.call.Reply.TheVariants.{Aborted, Refused a
 use Rattle.papaya_call.specs.declared.machine.Machine.{Machine}
 use Rattle.papaya_call.specs.Machine.{IsStanding, after, ask_of}
 use Rattle.papaya_call.specs.Says.{Agrees, HasShownNone, Inserts, IsFilledBy, IsReplacedBy, IsSaidBy, Makes, Removes, Said, ShowsPairs, StandsOn, show}
-use Rattle.papaya_call.specs.Told.{IsOneOf}
 use Rattle.papaya_call.proofs.RestsHeld.{machine_refused_pair}
 use Rattle.papaya_call.proofs.RestsReplyRefused.{machine_refused}
 use Rattle.papaya_call.proofs.SaysChanges.{machine_aborted}
@@ -31,7 +29,7 @@ use Rattle.papaya_map.specs.History.{key_of}
 use Rattle.papaya_map.specs.Logs.{Member, Stored, pair_named}
 use Rattle.papaya_map.specs.Rule.{IsPlaced}
 use Rattle.papaya_map.specs.Showings.{HasNoNone}
-use Rattle.papaya_map.specs.Writing.{IsUnlogged, IsWriting, IsWritingOn}
+use Rattle.papaya_map.specs.Writing.{IsUnlogged, IsWritingOn}
 
 -- a pair that was made stays so, when another is made
 made_still : {K V T : Type 0} (key : K) (made : List (Stored K V)) (said : List (Option (Stored K V) × Operation V T)) (q : Stored K V) (held : Option (Stored K V)) (n : ℕ) (p : Stored K V) → IsMadeOf key made said held n p → IsMadeOf key (q ∷ made) said held n p

@@ -1,11 +1,10 @@
 -- What a compute that has replied answers: what its closure answered, and the change that it made.
-use Rattle.std.proofs.Common.{◌≡◌, ◌⊎◌, inl, inr, ⊎_elim, ℕ, Bool, true, MatchOption, Option, None, Some, Result, Ok, Err, List, [], ◌∷◌, ◌++◌, append-nil, refl, sym, ap, ◌∙◌, subst}
+use Rattle.std.proofs.Common.{◌≡◌, inl, inr, ℕ, Bool, true, MatchOption, Option, None, Some, Result, Ok, Err, List, [], ◌∷◌, ◌++◌, append-nil, refl, sym, ap, ◌∙◌, subst}
 use Rattle.std.specs.Cmp.{IsEquivalence}
 use mathlib.Core.List.{IsPrefix}
 use denote.Bor.{Bor}
 use Rattle.logbook.specs.Pages.{Book}
 use Rattle.papaya_words.specs.declared.probe.Refused.{Refused as Cause}
-use Rattle.papaya_words.specs.declared.probe.Refused.TheVariants.{RemoveNothing}
 use Rattle.papaya_call.specs.declared.answers.Operation.{Operation}
 use Rattle.papaya_call.specs.declared.answers.Operation.TheVariants as operation
 use Rattle.papaya_call.specs.declared.ask.Ask.TheVariants.{Done}
@@ -14,8 +13,8 @@ use Rattle.papaya_call.specs.declared.call.Reply.TheVariants.{Absent, Found, Ins
 use Rattle.papaya_call.specs.declared.call.Task.{Task}
 use Rattle.papaya_call.specs.declared.call.Task.TheVariants.{Compute}
 use Rattle.papaya_call.specs.declared.machine.Machine.{Machine}
-use Rattle.papaya_call.specs.Machine.{ask_of}
-use Rattle.papaya_call.specs.Rests.{IsReply, change_in, change_of_reply}
+use Rattle.papaya_call.specs.Machine.{ask_of, started}
+use Rattle.papaya_call.specs.Rests.{IsReply, change_of_reply}
 use Rattle.papaya_call.specs.Says.{Makes, Removes, Said, StandsOn, said_in, said_of_compute}
 use Rattle.papaya_call.proofs.RestsHeld.{ended_in, machine_replies}
 use Rattle.papaya_seq.specs.declared.compute.Compute.{Compute as Computed}
@@ -24,17 +23,18 @@ use Rattle.papaya_map.specs.declared.computing.Computing.{Computing}
 use Rattle.papaya_map.specs.declared.event.Begun.{Begun}
 use Rattle.papaya_map.specs.declared.event.Event.{Event}
 use Rattle.papaya_map.specs.Changing.{HasChanged, IsChangeOf, hands_with}
-use Rattle.papaya_map.specs.Computing.{Holds, IsComputeBy, IsComputing, IsMadeOf, IsOperated}
+use Rattle.papaya_map.specs.Computing.{Holds, IsComputeBy, IsComputing, IsOperated}
 use Rattle.papaya_map.specs.Hashes.{hash_of}
 use Rattle.papaya_map.specs.History.{Change, changes_of, history_of, key_of}
 use Rattle.papaya_map.specs.Logs.{Member, Stored, exchanges_of, pair_named}
-use Rattle.papaya_map.specs.Rule.{IsPlaced}
-use Rattle.papaya_map.specs.Showings.{AllShown, AreOf, IsSamePair, WasHeld, WasLast}
+use Rattle.papaya_map.specs.Rule.{IsLawfulLog, IsPlaced}
+use Rattle.papaya_map.specs.Showings.{AreOf, WasHeld, WasLast}
 use Rattle.papaya_map.proofs.Changing.{Coded, Wide}
 use Rattle.papaya_map.proofs.Histories.{changes-append, history_since}
 use Rattle.papaya_map.proofs.Logs.{prefix_trans}
 use Rattle.papaya_map.proofs.Showings.{all_shown, held_wider, shown_each}
 use Rattle.papaya_map.proofs.Writing.{own_query}
+use Rattle.papaya_map.proofs.WritingSteps.{begins as begins_writing}
 
 -- no compute replies this
 abbrev pub IsNoCompute : Reply → Type 0
@@ -282,3 +282,28 @@ module _ {K V T : Type 0} (eq : K → K → Bool) (key : K) (older old new : Lis
     none_once = r.none_once;
     operated = operated_since r.said answer r.operated;
   }
+
+-- a compute that begins
+pub begins : {K V S T H F : Type 0} (eq : K → K → Bool) (hash : S → K → ℕ) (b : Begun K V S) (name : Book) (operates : F → Option (Stored K V) → Operation V T → F → Type 0) (key : K) (first : F) (log : List (Event K V S)) (x : Computing K V S T H) → IsLawfulLog eq hash b log → (initial : ℕ) → x.writer.call.machine ≡ started Compute (hash b.hasher key) b.mode initial
+    → x.writer.call.table ≡ None → x.writer.call.last ≡ None → x.writer.call.taken ≡ None → x.writer.call.put ≡ None → x.writer.key ≡ Some key → x.writer.logged ≡ None → x.shown ≡ None → x.chosen ≡ None → IsComputing eq hash b name operates key first log log x first
+begins eq hash b name operates key first log x l initial machine table last taken put own logged shown chosen = record {
+  made = [];
+  writing = begins_writing eq hash b name key log x.writer l Compute initial machine table last taken put own logged;
+  task_is = ap (λ (z : Machine). z.task) machine;
+  words = rw machine tt;
+  shown_placed = rw shown tt;
+  chosen_placed = rw chosen tt;
+  said = [];
+  has_said = refl;
+  held = tt;
+  none_once = tt;
+  none_shown = inl tt;
+  stood = λ stands h. absurd (nothing_said (subst (λ (z : Machine). StandsOn z stands) machine h));
+  aborts = λ with e. let g = sym (ap ask_of machine) ∙ e in absurd (cc g);
+  refuses = λ e. let g = sym (ap ask_of machine) ∙ e in absurd (cc g);
+}
+  where
+    nothing_said : {stands : Said} → StandsOn (started Compute (hash b.hasher key) b.mode initial) stands → ⊥
+    nothing_said (inl e) = cc e
+    nothing_said (inr (inl e)) = cc e
+    nothing_said (inr (inr e)) = cc e

@@ -1,12 +1,10 @@
 -- A compute after its closure was shown a pair, or that there is none.
 use Rattle.std.proofs.Common.{◌≡◌, ◌⊎◌, inl, inr, ⊎_elim, ℕ, Bool, true, Option, None, Some, List, [], ◌∷◌, append-nil, refl, sym, ap, ◌∙◌, subst}
 use Rattle.std.specs.Cmp.{IsEquivalence}
-use mathlib.Core.List.{IsPrefix}
 use Rattle.logbook.specs.Pages.{Book}
-use Rattle.papaya_words.specs.declared.probe.Refused.TheVariants.{Capacity, RemoveNothing}
+use Rattle.papaya_words.specs.declared.probe.Refused.TheVariants.{RemoveNothing}
 use Rattle.papaya_call.specs.declared.answers.Operation.{Operation}
 use Rattle.papaya_call.specs.declared.answers.Operation.TheVariants as operation
-use Rattle.papaya_call.specs.declared.ask.Ask.{Ask}
 use Rattle.papaya_call.specs.declared.ask.Ask.TheVariants.{Exchange, Load, ShowNone, ShowPair, Done}
 use Rattle.papaya_call.specs.declared.ask.At.TheVariants.{Next, Root}
 use Rattle.papaya_call.specs.declared.ask.Answer.{Answer}
@@ -14,7 +12,6 @@ use Rattle.papaya_call.specs.declared.ask.Answer.TheVariants.{Op}
 use Rattle.papaya_call.specs.declared.ask.OpKind.{OpKind}
 use Rattle.papaya_call.specs.declared.ask.OpKind.TheVariants as kinds
 use Rattle.papaya_call.specs.declared.call.Reply.{Reply}
-use Rattle.papaya_call.specs.declared.call.Reply.TheVariants.{Aborted, Refused as Reply_refused}
 use Rattle.papaya_call.specs.declared.machine.Machine.{Machine}
 use Rattle.papaya_call.specs.Machine.{IsStanding, after, ask_of}
 use Rattle.papaya_call.specs.Says.{Agrees, HasShownNone, Inserts, IsSaidBy, Makes, Removes, Said, StandsOn, show}
@@ -39,9 +36,9 @@ use Rattle.papaya_map.specs.Changing.{IsCalling, hands_with}
 use Rattle.papaya_map.specs.Computing.{Holds, IsComputing, IsMadeOf, aborted_after, chosen_after, keeping, kind_of, value_after}
 use Rattle.papaya_map.specs.Hashes.{hash_of}
 use Rattle.papaya_map.specs.History.{history_of}
-use Rattle.papaya_map.specs.Logs.{Member, Stored, exchanges_of, pair_named}
+use Rattle.papaya_map.specs.Logs.{Stored, exchanges_of, pair_named}
 use Rattle.papaya_map.specs.Rule.{IsPlaced}
-use Rattle.papaya_map.specs.Showings.{HasNoNone, IsNoneOnce, WasHeld, WasLast}
+use Rattle.papaya_map.specs.Showings.{HasNoNone, IsNoneOnce, WasHeld}
 use Rattle.papaya_map.specs.Writing.{IsWriting}
 use Rattle.papaya_map.proofs.Changing.{Coded, Wide, quiet}
 use Rattle.papaya_map.specs.Computing.{IsComputingOn}

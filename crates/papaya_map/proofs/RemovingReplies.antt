@@ -23,7 +23,7 @@ use Rattle.papaya_map.specs.History.{Change, changes_of, history_of, key_of}
 use Rattle.papaya_map.specs.Logs.{Member, Stored, exchanges_of}
 use Rattle.papaya_map.specs.Rule.{IsLawfulLog}
 use Rattle.papaya_map.specs.Removing.{IsJudged, IsRemovalBy, IsRemoving, IsTaken}
-use Rattle.papaya_map.specs.Showings.{AllShown, AreOf, WasHeld}
+use Rattle.papaya_map.specs.Showings.{AreOf, WasHeld}
 use Rattle.papaya_map.proofs.Changing.{begins as begins_calling, Coded, Wide}
 use Rattle.papaya_map.proofs.Histories.{changes-append, history_since}
 use Rattle.papaya_map.proofs.Logs.{prefix_trans}

@@ -5,19 +5,23 @@ ghost use Rattle.logbook.specs.Pages.{Book as BookName};
 ghost use Rattle.papaya_core.specs.New.{IsAllowed};
 ghost use Rattle.papaya_map.specs.Asked.{IsRefused};
 ghost use Rattle.papaya_map.specs.Changing.{IsPut};
+ghost use Rattle.papaya_map.specs.Computing.{IsComputeBy};
 ghost use Rattle.papaya_map.specs.History.{IsLegalHistory, Past, history_of, key_of};
 ghost use Rattle.papaya_map.specs.Readers.{IsAnsweredBetween};
 ghost use Rattle.papaya_map.specs.Removing.{IsRemovalBy, IsRemoved};
-ghost use Rattle.papaya_map.specs.Showings.{Judges};
+ghost use Rattle.papaya_map.specs.Showings.{Judges, Operates};
 
 use crate::asked::{check_chunk, initial_len};
 use crate::book::Book;
+use crate::computing::compute;
 use crate::count::Count;
 use crate::insertion::insert;
 use crate::parts::Parts;
 use crate::reader::look_up;
 use crate::removal::remove;
 use crate::trade::Sight;
+use papaya_call::answers::Operation;
+use papaya_seq::compute::Compute;
 use papaya_seq::guard::{Collector, Equivalent, Guard};
 use papaya_words::probe::{Refused, ResizeMode};
 use std::alloc::Global;
@@ -238,6 +242,43 @@ impl<'a, K: Hash + Eq + Drop, V: Drop, S: BuildHasher> HashMapRef<'a, K, V, S> {
             &map.book,
             key,
             value,
+            &mut pass.sight,
+        )
+    }
+
+    /// What the closure makes of the key's pair, or of its absence: `compute` of 0.2.5. It is shown
+    /// the pair, if there is one, and answers what is stored, that the pair is removed, or that
+    /// nothing is changed.
+    ///
+    /// The closure may be asked again, where another call was first to replace or remove the pair
+    /// that it was shown: what it answered of one pair is done to that pair alone. That there is none
+    /// it is shown once at most, since its insertion is remembered.
+    ///
+    /// Refused as [`HashMapRef::insert_as`], and with `Refused::RemoveNothing` where the closure
+    /// would remove and there is no pair.
+    pub fn compute_as<R: Wait, T: Drop, F: FnMut(Option<(&'a K, &'a V)>) -> Operation<V, T>>(
+        &self,
+        rt: &R,
+        key: K,
+        f: F,
+        pass: &mut Pass<K, V, S>,
+    ) -> Result<Compute<'a, K, V, T>, Refused>
+        requires book { pass.old.book ≡ self.now }
+        requires callable { F.IsAlwaysCallable f }
+        ensures book { pass.new.book ≡ pass.old.book }
+        ensures seen { IsPrefix pass.old.history pass.new.history }
+        ensures computed { IsComputeBy K.eq key pass.old.history pass.new.history (Operates F.FnMut) f result }
+    {
+        let map: &'a HashMap<K, V, S> = self.map;
+        let shard = map.count.shard(self.guard);
+        compute(
+            rt,
+            map.alloc,
+            map.initial,
+            &shard,
+            &map.book,
+            key,
+            f,
             &mut pass.sight,
         )
     }

@@ -1,4 +1,4 @@
-use Rattle.std.proofs.Common.{◌≡◌, Some, sym, ap, subst}
+use Rattle.std.proofs.Common.{Some, subst}
 use Rattle.papaya_map.specs.Logs.{pair_named}
 use Rattle.papaya_map.specs.Parts.{begun_of}
 use Rattle.papaya_map.specs.Rule.{IsPlaced}
@@ -14,9 +14,9 @@ agrees-requires g c =
 
 pub unreachable-requires : goal.unreachable-requires
 unreachable-requires g c = elim c.in_default.branch [
-      in_default-via-in-Some+in_default w ↦ fill_put g.K.PartialEq.eq g.K.Hash.hash_input g.S.BuildHasher.build_hasher g.S.Hasher.Hasher.write g.S.Hasher.Hasher.finish g.met.K.Eq.laws g.met.K.Hash.respects_eq (begun_of c.args.book.now.parts) c.args.book.now.begun.book (Operates g.F.FnMut) c.requires.can.0 c.requires.can.1 c.requires.can.2 c.args.pass.now.log c.args.self.now c.args.compute.now c.requires.can.3 c.requires.done.0 c.requires.done.1 w.in_default.is-1
-    | in_default-via-in_default w ↦ fill_made g.K.PartialEq.eq g.K.Hash.hash_input g.S.BuildHasher.build_hasher g.S.Hasher.Hasher.write g.S.Hasher.Hasher.finish g.met.K.Eq.laws g.met.K.Hash.respects_eq (begun_of c.args.book.now.parts) c.args.book.now.begun.book (Operates g.F.FnMut) c.requires.can.0 c.requires.can.1 c.requires.can.2 c.args.pass.now.log c.args.self.now c.args.compute.now c.requires.can.3 c.requires.done.0 c.requires.done.1 w.in_default.is-0
-    ]
+  | in_default-via-in-Some+in_default w ↦ fill_put g.K.PartialEq.eq g.K.Hash.hash_input g.S.BuildHasher.build_hasher g.S.Hasher.Hasher.write g.S.Hasher.Hasher.finish g.met.K.Eq.laws g.met.K.Hash.respects_eq (begun_of c.args.book.now.parts) c.args.book.now.begun.book (Operates g.F.FnMut) c.requires.can.0 c.requires.can.1 c.requires.can.2 c.args.pass.now.log c.args.self.now c.args.compute.now c.requires.can.3 c.requires.done.0 c.requires.done.1 w.in_default.is-1
+  | in_default-via-in_default w ↦ fill_made g.K.PartialEq.eq g.K.Hash.hash_input g.S.BuildHasher.build_hasher g.S.Hasher.Hasher.write g.S.Hasher.Hasher.finish g.met.K.Eq.laws g.met.K.Hash.respects_eq (begun_of c.args.book.now.parts) c.args.book.now.begun.book (Operates g.F.FnMut) c.requires.can.0 c.requires.can.1 c.requires.can.2 c.args.pass.now.log c.args.self.now c.args.compute.now c.requires.can.3 c.requires.done.0 c.requires.done.1 w.in_default.is-0
+]
 
 pub returns : goal.returns
 returns g c = λ key first begun r.

@@ -1,9 +1,7 @@
-use Rattle.std.proofs.Common.{◌≡◌, Option, None, Some, sym, ap, ◌∙◌, subst}
-use Rattle.papaya_call.specs.declared.ask.StepKind.{StepKind}
+use Rattle.std.proofs.Common.{◌≡◌, None, Some, sym, ap, ◌∙◌, subst}
 use Rattle.papaya_call.specs.Machine.{kind_of_ask}
 use Rattle.papaya_map.specs.Computing.{pair_for}
 use Rattle.papaya_map.specs.Hashes.{hash_of}
-use Rattle.papaya_map.specs.Logs.{Stored}
 use Rattle.papaya_map.specs.Parts.{begun_of}
 use Rattle.papaya_map.specs.Showings.{Operates}
 use Rattle.papaya_map.proofs.ComputeGoes.{IsSilent, goes_on}

@@ -1,4 +1,4 @@
-use Rattle.std.proofs.Common.{None, sym, ap, refl}
+use Rattle.std.proofs.Common.{None, sym}
 use Rattle.papaya_map.specs.Parts.{begun_of}
 use Rattle.papaya_map.specs.Showings.{Operates}
 use Rattle.papaya_map.proofs.ComputeShows.{none_held, shows_on}

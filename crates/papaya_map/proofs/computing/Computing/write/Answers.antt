@@ -34,4 +34,3 @@ pub returns-in-Exchange-Root-default-default-clause-computes : goal.returns-in-E
 returns-in-Exchange-Root-default-default-clause-computes g c = λ key first begun r.
     let e = c.open.ensures in
     goes_on g.K.PartialEq.eq (hash_of g.K.Hash.hash_input g.S.BuildHasher.build_hasher g.S.Hasher.Hasher.write g.S.Hasher.Hasher.finish) (begun_of c.args.book.now.parts) c.args.book.now.begun.book (Operates g.F.FnMut) key first begun c.args.pass.now.log c.args.self.now c.args.compute.now r c.requires.standing (subst IsSilent (sym c.requires.asks.0) (writers_silent c.args.ask c.requires.asks.1)) c.open.new.pass.log e.seen c.open.new.self c.open.result e.machine e.value e.unsaid (e.writes key r.made begun r.writing)
-
