@@ -237,7 +237,7 @@ impl<'a, K: Hash + Eq + Drop, V: Drop, S: BuildHasher, T: Drop> Computing<'a, K,
         }
     }
 
-    /// The answer to what the machine asks that a call asks which inserts.
+    /// The answer to an ask that any call makes which inserts.
     fn write<R: Wait, F: FnMut(Option<(&'a K, &'a V)>) -> Operation<V, T>>(
         &mut self,
         rt: &R,
