@@ -27,7 +27,6 @@ use Rattle.papaya_map.specs.Sheets.{Sheet}
 use Rattle.papaya_map.specs.declared.event.Begun.{Begun}
 use Rattle.papaya_map.specs.declared.event.Event.{Event}
 use Rattle.papaya_map.specs.declared.event.Named.TheVariants as names
-use Rattle.papaya_map.specs.declared.event.Pair.{Pair}
 use Rattle.papaya_map.specs.Calls.{IsNext, IsRoot, IsTable}
 use Rattle.papaya_map.specs.Hashes.{hash_of}
 use Rattle.papaya_map.specs.Logs.{Stored, coding_of, exchanges_of, is_blocking, setting_of, state_of, steps_of}
@@ -65,22 +64,22 @@ module _ {K V S H : Type 0} (eq : K → K → Bool) (input : K → List (List �
   abbrev hash : S → K → ℕ
   hash = hash_of input build write finish
 
-  abbrev pub Reading : List (Event K V S) → Machine → Option (Bor Sheet) → Option (Bor (Pair K V)) → Type 0
+  abbrev pub Reading : List (Event K V S) → Machine → Option (Bor Sheet) → Option (Stored K V) → Type 0
   Reading log m table pair = IsReading eq hash b matches (fed eq input build write finish classes respects b matches query lawful) begun log m table pair
 
   abbrev On : List (Event K V S) → Machine → Hands (Stored K V) → Type 0
   On log m hands = RestsOn eq input build write finish classes respects b matches query lawful begun log m hands
 
   -- what a reading rests on
-  rests_on : (log : List (Event K V S)) (m : Machine) (table : Option (Bor Sheet)) (pair : Option (Bor (Pair K V))) → (r : Reading log m table pair) → On log m r.hands
+  rests_on : (log : List (Event K V S)) (m : Machine) (table : Option (Bor Sheet)) (pair : Option (Stored K V)) → (r : Reading log m table pair) → On log m r.hands
   rests_on log m table pair r = record { since = r.since; is = r.is; rests = r.rests }
 
   -- an answer that follows
-  pub record IsGoing (log' : List (Event K V S)) (m : Machine) (answer : Answer) (table : Option (Bor Sheet)) (pair : Option (Bor (Pair K V))) : Type 0 where
+  pub record IsGoing (log' : List (Event K V S)) (m : Machine) (answer : Answer) (table : Option (Bor Sheet)) (pair : Option (Stored K V)) : Type 0 where
     pub reading : Reading log' (after m answer) table pair
     pub fewer : left_of (after m answer).state < left_of m.state
 
-  module _ (log log' : List (Event K V S)) (pre : IsPrefix log log') (l' : IsLawfulLog eq hash b log') (m : Machine) (table : Option (Bor Sheet)) (pair : Option (Bor (Pair K V))) (r : Reading log m table pair) (stands : IsStanding m) where
+  module _ (log log' : List (Event K V S)) (pre : IsPrefix log log') (l' : IsLawfulLog eq hash b log') (m : Machine) (table : Option (Bor Sheet)) (pair : Option (Stored K V)) (r : Reading log m table pair) (stands : IsStanding m) where
     -- the word at a place was loaded
     loaded : (at : At) (word : ℕ) → ask_of m ≡ Load at → word_in eq hash b log' at ≡ word → On log' (after m (Word word)) (told_of (state_of log') at r.hands)
     loaded at word asks is =
@@ -95,7 +94,7 @@ module _ {K V S H : Type 0} (eq : K → K → Bool) (input : K → List (List �
         }
 
     -- a slot
-    pub slot_read : (t x word : ℕ) (stored : Option (Stored K V)) (pair' : Option (Bor (Pair K V))) → ask_of m ≡ Load (Slot t x) → word_in eq hash b log' (Slot t x) ≡ word → named ((state_of log').slot t x) ≡ stored
+    pub slot_read : (t x word : ℕ) (stored : Option (Stored K V)) (pair' : Option (Stored K V)) → ask_of m ≡ Load (Slot t x) → word_in eq hash b log' (Slot t x) ≡ word → named ((state_of log').slot t x) ≡ stored
         → ((last : Option (Stored K V)) → HoldsPair b last pair → HoldsPair b (or_last stored last) pair') → IsGoing log' m (Word word) table pair'
     slot_read t x word stored pair' asks is names holds =
         let on = loaded (Slot t x) word asks is in
@@ -190,6 +189,6 @@ begins eq hash b matches fed log l m e =
       task_is = refl;
       rests = record { hash = refl; mode = mode_of b.mode; made = record { keys = λ q none. absurd none; made_is = tt; fill_is = tt; choice_is = tt }; stage = tt };
       holds_table = tt;
-      holds_pair = tt;
+      holds_pair = (refl, tt);
       found = λ n h. cc h;
     })

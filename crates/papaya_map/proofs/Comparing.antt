@@ -33,11 +33,11 @@ use Rattle.papaya_call.proofs.RestsNames.{ask_named, slot_named}
 use Rattle.papaya_map.specs.Sheets.{Sheet}
 use Rattle.papaya_map.specs.declared.event.Begun.{Begun}
 use Rattle.papaya_map.specs.declared.event.Event.{Event}
-use Rattle.papaya_map.specs.declared.event.Pair.{Pair}
 use Rattle.papaya_map.specs.Calls.{IsTable}
 use Rattle.papaya_map.specs.Hashes.{hash_of}
+use Rattle.papaya_map.specs.History.{key_of}
 use Rattle.papaya_map.specs.Logs.{Stored, state_of, steps_of}
-use Rattle.papaya_map.specs.Readers.{HoldsPair, HoldsTable, table_of}
+use Rattle.papaya_map.specs.Readers.{HoldsTable, table_of}
 use Rattle.papaya_map.proofs.Answering.{IsGoing, Reading, held_on, of_get, stands_get}
 use Rattle.papaya_map.proofs.Lookups.{IsStepIn, lookup, size_step, slot_step, yes_step}
 use Rattle.papaya_map.proofs.Readings.{IsQuery, RestsOn, allowed_with, coding, hashed_with, learned, setting}
@@ -86,7 +86,7 @@ module _ {K P : Type 0} (g : Setting K P) (c : Coding K P) (hashed : IsHashed g 
 
 module _ {K V S H : Type 0} (eq : K → K → Bool) (input : K → List (List ℕ)) (build : S → H) (write : H → List ℕ → H) (finish : H → ℕ) (classes : IsEquivalence eq) (respects : (x y : K) → eq x y ≡ true → input x ≡ input y)
     (b : Begun K V S) (matches : K → Bool) (query : List (List ℕ)) (lawful : IsQuery eq input matches query) (begun : List (Exchange (Stored K V)))
-    (log : List (Event K V S)) (m : Machine) (table : Option (Bor Sheet)) (pair : Option (Bor (Pair K V))) (r : Reading eq input build write finish classes respects b matches query lawful begun log m table pair) (stands : IsStanding m) where
+    (log : List (Event K V S)) (m : Machine) (table : Option (Bor Sheet)) (pair : Option (Stored K V)) (r : Reading eq input build write finish classes respects b matches query lawful begun log m table pair) (stands : IsStanding m) where
   abbrev hash : S → K → ℕ
   hash = hash_of input build write finish
 
@@ -152,16 +152,11 @@ module _ {K V S H : Type 0} (eq : K → K → Bool) (input : K → List (List �
         fewer = in_it.fewer;
       }
 
-  -- the pair that is held is the one last told of
-  held_pair : (p : Stored K V) (last : Option (Stored K V)) → last ≡ Some p → (lent : Bor (Pair K V)) → HoldsPair b last (Some lent) → lent.now ≡ p.value
-  held_pair p None e lent h = absurd (cc e)
-  held_pair p (Some q) e lent h = h.0 ∙ ap (λ (z : Stored K V). z.value) (let is : q ≡ p = cc e in is)
-
   -- its key was compared
-  pub same_read : (n : ℕ) (lent : Bor (Pair K V)) (same : Bool) → pair ≡ Some lent → same ≡ matches lent.now.key.value → ask_of m ≡ SameKey n
+  pub same_read : (n : ℕ) (p : Stored K V) (same : Bool) → pair ≡ Some p → same ≡ matches (key_of p) → ask_of m ≡ SameKey n
       → IsGoing eq input build write finish classes respects b matches query lawful begun log m (Yes same) table pair
-  same_read n lent same has is e =
-      let matched : (p : Stored K V) → r.hands.last ≡ Some p → same ≡ g.same None (g.key p) = λ p e'. is ∙ ap (λ (z : Pair K V). matches z.key.value) (held_pair p r.hands.last e' lent (subst (HoldsPair b r.hands.last) has r.holds_pair)) in
+  same_read n p same has is e =
+      let matched : (q : Stored K V) → r.hands.last ≡ Some q → same ≡ g.same None (g.key q) = λ q e'. let one : p ≡ q = cc (has, r.holds_pair.0, e') in is ∙ ap (λ (z : Stored K V). matches (key_of z)) one in
       let told : IsTold g c None (state_of log) (kind_of_ask m) r.hands (SameKey n) (Yes same) [] r.hands = (λ p e' f. ap Yes (matched p e'), (refl, refl)) in
       let further = learned eq input build write finish classes respects b matches query lawful begun log r.lawful m r.hands on (Yes same) r.hands
       (subst (λ (a : Ask). IsTold g c None (state_of log) (kind_of_ask m) r.hands a (Yes same) [] r.hands) (sym e) told) in

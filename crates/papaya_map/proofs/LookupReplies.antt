@@ -20,11 +20,10 @@ use Rattle.papaya_call.specs.Told.{Hands}
 use Rattle.papaya_map.specs.Sheets.{Sheet}
 use Rattle.papaya_map.specs.declared.event.Begun.{Begun}
 use Rattle.papaya_map.specs.declared.event.Event.{Event}
-use Rattle.papaya_map.specs.declared.event.Pair.{Pair}
 use Rattle.papaya_map.specs.Hashes.{hash_of}
 use Rattle.papaya_map.specs.History.{history_of}
 use Rattle.papaya_map.specs.Logs.{Stored, exchanges_of}
-use Rattle.papaya_map.specs.Readers.{HoldsPair, IsAnsweredBetween}
+use Rattle.papaya_map.specs.Readers.{IsAnsweredBetween}
 use Rattle.papaya_map.proofs.Answering.{Reading, stands_get}
 use Rattle.papaya_map.proofs.Moments.{IsHistory, matched_history}
 use Rattle.papaya_map.proofs.Readings.{IsQuery, coding, setting}
@@ -64,7 +63,7 @@ module _ {K P : Type 0} (g : Setting K P) (c : Coding K P) (begun since : List (
 
 module _ {K V S H : Type 0} (eq : K → K → Bool) (input : K → List (List ℕ)) (build : S → H) (write : H → List ℕ → H) (finish : H → ℕ) (classes : IsEquivalence eq) (respects : (x y : K) → eq x y ≡ true → input x ≡ input y)
     (b : Begun K V S) (matches : K → Bool) (query : List (List ℕ)) (lawful : IsQuery eq input matches query) (old began : List (Event K V S)) (pre : IsPrefix old began)
-    (log : List (Event K V S)) (m : Machine) (table : Option (Bor Sheet)) (pair : Option (Bor (Pair K V))) (r : Reading eq input build write finish classes respects b matches query lawful (exchanges_of began) log m table pair) (stands : IsStanding m) where
+    (log : List (Event K V S)) (m : Machine) (table : Option (Bor Sheet)) (pair : Option (Stored K V)) (r : Reading eq input build write finish classes respects b matches query lawful (exchanges_of began) log m table pair) (stands : IsStanding m) where
   abbrev hash : S → K → ℕ
   hash = hash_of input build write finish
 
@@ -73,20 +72,20 @@ module _ {K V S H : Type 0} (eq : K → K → Bool) (input : K → List (List �
   history_then value was = matched_history eq input build write finish classes respects b matches query lawful old began pre log r.lawful r.since r.is value was
 
   -- a pair was found, and is the one that is held
-  pub found_answer : (n : ℕ) → ask_of m ≡ Done (Found n) → (lent : Bor (Pair K V)) → pair ≡ Some lent → (value : Bor V) → value.now ≡ lent.now.value → IsAnsweredBetween {V = V} eq matches (history_of old) (history_of log) (Some value)
-  found_answer n e lent has value is =
+  pub found_answer : (n : ℕ) → ask_of m ≡ Done (Found n) → (q : Stored K V) → pair ≡ Some q → (value : Bor V) → value.now ≡ q.value.value → IsAnsweredBetween {V = V} eq matches (history_of old) (history_of log) (Some value)
+  found_answer n e q has value is =
       let last = r.found n (done_state m.made m.hash m.state (stands_get m r.task_is stands) (Found n) e) in
       let p = last.0 in
       let h = history_then (Some p) last.2 in
       let match' = h.found p refl in
-      let holds : HoldsPair b (Some p) (Some lent) = subst (λ o. HoldsPair b (Some p) o) has (subst (λ o. HoldsPair b o pair) last.1 r.holds_pair) in
-      record { seen = h.seen; since = h.since; until = h.until; is = (p, match', h.had p.value.key.value match', is ∙ ap (λ (z : Pair K V). z.value) holds.0) }
+      let one : q ≡ p = cc (has, r.holds_pair.0, last.1) in
+      record { seen = h.seen; since = h.since; until = h.until; is = (p, match', h.had p.value.key.value match', is ∙ ap (λ (z : Stored K V). z.value.value) one) }
 
   -- a pair that was found is held
   pub found_held : (n : ℕ) → ask_of m ≡ Done (Found n) → pair ≡ None → ⊥
   found_held n e none =
       let last = r.found n (done_state m.made m.hash m.state (stands_get m r.task_is stands) (Found n) e) in
-      subst (λ o. HoldsPair b (Some last.0) o) none (subst (λ o. HoldsPair b o pair) last.1 r.holds_pair)
+      cc (none, r.holds_pair.0, last.1)
 
   -- none was found
   pub absent_answer : (reply : Reply) → ask_of m ≡ Done reply → ((n : ℕ) → reply ≡ Found n → ⊥) → IsAnsweredBetween {V = V} eq matches (history_of old) (history_of log) None

@@ -2,7 +2,6 @@
 use Rattle.std.specs.Prelude.{◌≡◌, ℕ, ◌+◌, ◌*◌, ◌-◌, ◌^◌, ◌<◌, Bool, true, MatchOption, Option, None, Some, List, ◌++◌}
 use mathlib.Core.List.{IsPrefix}
 use denote.Bor.{Bor}
-use Rattle.boxcar.specs.Table.{Shows}
 use Rattle.papaya_call.specs.declared.call.Reply.{Reply}
 use Rattle.papaya_call.specs.declared.call.Reply.TheVariants.{Found}
 use Rattle.papaya_call.specs.declared.call.Task.TheVariants.{Get}
@@ -21,11 +20,10 @@ use Rattle.papaya_call.specs.Told.{Hands}
 use Rattle.papaya_map.specs.Sheets.{Sheet}
 use Rattle.papaya_map.specs.declared.event.Begun.{Begun}
 use Rattle.papaya_map.specs.declared.event.Event.{Event}
-use Rattle.papaya_map.specs.declared.event.Pair.{Pair}
 use Rattle.papaya_map.specs.Calls.{IsTable}
 use Rattle.papaya_map.specs.History.{Change, key_of, replay}
-use Rattle.papaya_map.specs.Logs.{Stored, coding_of, exchanges_of, setting_of}
-use Rattle.papaya_map.specs.Rule.{IsLawfulLog}
+use Rattle.papaya_map.specs.Logs.{Stored, coding_of, exchanges_of, pair_named, setting_of}
+use Rattle.papaya_map.specs.Rule.{IsLawfulLog, IsPlaced}
 
 -- the table that a lookup searches or leaves
 abbrev pub table_of : Stage → Option ℕ
@@ -78,11 +76,9 @@ module _ {K V S : Type 0} where
   HoldsTable log (Some t) None = ⊥
   HoldsTable log (Some t) (Some r) = IsTable log t r.now
 
-  -- the pair is held, and its key is in the log of keys
-  abbrev pub HoldsPair : Begun K V S → Option (Stored K V) → Option (Bor (Pair K V)) → Type 0
-  HoldsPair b None pair = Unit {0}
-  HoldsPair b (Some p) None = ⊥
-  HoldsPair b (Some p) (Some r) = (r.now ≡ p.value) × Shows b.keys p.value.key
+  -- the pair that is held is the one last told of, and is in the logs
+  abbrev pub HoldsPair : Begun K V S → (last pair : Option (Stored K V)) → Type 0
+  HoldsPair b last pair = (pair ≡ last) × IsPlaced b None (pair_named pair)
 
   -- the setting of a log, with what is looked up as a further key
   abbrev pub setting_for : (K → K → Bool) → (S → K → ℕ) → Begun K V S → (K → Bool) → ℕ → List (Event K V S) → Setting (Option K) (Stored K V)
@@ -92,7 +88,7 @@ abbrev pub coding_for : {K V S : Type 0} → (S → K → ℕ) → S → ℕ →
 coding_for hash hasher fed = coding_with (coding_of (hash hasher)) fed
 
 -- A lookup of what matches these keys, and hashes so, rests on the log since its call began, and holds the table and the pair of which it was told last.
-pub record IsReading {K V S : Type 0} (eq : K → K → Bool) (hash : S → K → ℕ) (b : Begun K V S) (matches : K → Bool) (fed : ℕ) (begun : List (Exchange (Stored K V))) (log : List (Event K V S)) (m : Machine) (table : Option (Bor Sheet)) (pair : Option (Bor (Pair K V))) : Type 0 where
+pub record IsReading {K V S : Type 0} (eq : K → K → Bool) (hash : S → K → ℕ) (b : Begun K V S) (matches : K → Bool) (fed : ℕ) (begun : List (Exchange (Stored K V))) (log : List (Event K V S)) (m : Machine) (table : Option (Bor Sheet)) (pair : Option (Stored K V)) : Type 0 where
   pub lawful : IsLawfulLog eq hash b log
   pub since : List (Exchange (Stored K V))
   pub is : begun ++ since ≡ exchanges_of log
@@ -104,7 +100,7 @@ pub record IsReading {K V S : Type 0} (eq : K → K → Bool) (hash : S → K �
   pub found : (n : ℕ) → m.state ≡ Ended (Found n) → (p : Stored K V) × (hands.last ≡ Some p) × WasAtMoment (setting_for eq hash b matches fed log) (coding_for hash b.hasher fed) begun since None (Some p)
 
 -- The lookup has replied; or this is an answer to what it asks, after which it rests again and has less left to do.
-abbrev pub IsReadingOn : {K V S : Type 0} → (K → K → Bool) → (S → K → ℕ) → Begun K V S → (K → Bool) → ℕ → List (Exchange (Stored K V)) → List (Event K V S) → Machine → Option Answer → Option (Bor Sheet) → Option (Bor (Pair K V)) → Type 0
+abbrev pub IsReadingOn : {K V S : Type 0} → (K → K → Bool) → (S → K → ℕ) → Begun K V S → (K → Bool) → ℕ → List (Exchange (Stored K V)) → List (Event K V S) → Machine → Option Answer → Option (Bor Sheet) → Option (Stored K V) → Type 0
 IsReadingOn eq hash b matches fed begun log m None table pair = IsReading eq hash b matches fed begun log m table pair × ((reply : Reply) × (ask_of m ≡ Done reply))
 IsReadingOn eq hash b matches fed begun log m (Some answer) table pair = IsReading eq hash b matches fed begun log (after m answer) table pair × IsFit answer × (left_of (after m answer).state < left_of m.state)
 

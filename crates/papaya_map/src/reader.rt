@@ -11,7 +11,7 @@ ghost use Rattle.papaya_map.specs.Readers.{IsAnsweredBetween, IsReading, IsReadi
 ghost use Rattle.papaya_map.specs.Rule.{IsLawfulLog};
 
 use crate::book::Book;
-use crate::event::Pair;
+use crate::event::Stored;
 use crate::table::Table;
 use crate::trade::Sight;
 use papaya_call::ask::{Answer, Ask, At};
@@ -24,12 +24,13 @@ use papaya_words::probe::ResizeMode;
 use std::hash::{BuildHasher, Hash, Hasher};
 
 /// A lookup under way: its machine, and the table and the pair of which it was told last. A machine
-/// names no other, so this takes no memory.
+/// names no other, so this takes no memory. The pair is only read where its key is compared, and
+/// where it was found.
 #[derive(Drop)]
 struct Reader<'a, K: Hash + Eq, V, S: BuildHasher> {
     machine: Machine,
     table: Option<&'a Table<K, V, S>>,
-    pair: Option<&'a Pair<K, V>>,
+    pair: Option<Stored<K, V>>,
 }
 
 impl<'a, K: Hash + Eq, V, S: BuildHasher> Reader<'a, K, V, S> {
@@ -74,7 +75,7 @@ impl<'a, K: Hash + Eq, V, S: BuildHasher> Reader<'a, K, V, S> {
         ensures reading { IsReadingOn K.eq (hash_of K.hash_input S.build_hasher S.Hasher.write S.Hasher.finish) (begun_of book.now.parts) (Q.matches key.now) (hash_of Q.hash_input S.build_hasher S.Hasher.write S.Hasher.finish book.now.parts.hasher key.now) (exchanges_of began.now.log) pass.new.log self.old.machine result self.new.table self.new.pair }
     {
         let _ = began;
-        match (self.machine.ask(), self.table, self.pair) {
+        match (self.machine.ask(), self.table, &self.pair) {
             (Ask::Load(At::Root), _, _) => {
                 let (word, root) = book.root(pass);
                 self.table = root;
@@ -88,7 +89,7 @@ impl<'a, K: Hash + Eq, V, S: BuildHasher> Reader<'a, K, V, S> {
             (Ask::Load(At::Slot(number, place)), Some(table), _) => {
                 let (word, stored) = book.slot(table, number, place, pass);
                 if let Some(stored) = stored {
-                    self.pair = Some(book.parts.pairs.value(&stored));
+                    self.pair = Some(stored);
                 }
                 Some(Answer::Word(word))
             }
@@ -97,7 +98,7 @@ impl<'a, K: Hash + Eq, V, S: BuildHasher> Reader<'a, K, V, S> {
                 Some(Answer::Size { len, limit })
             }
             (Ask::SameKey(_), _, Some(pair)) => {
-                let same = key.equivalent(book.parts.keys.value(&pair.key));
+                let same = key.equivalent(book.key(book.pair(pair)));
                 Some(Answer::Yes(same))
             }
             _ => None,
@@ -129,8 +130,8 @@ pub(crate) fn look_up<'a, K: Hash + Eq, V, S: BuildHasher, Q: Equivalent<K>>(
         reader.machine.answer(answer);
     }
     match reader.machine.ask() {
-        Ask::Done(Reply::Found(_)) => match reader.pair {
-            Some(pair) => Some(&pair.value),
+        Ask::Done(Reply::Found(_)) => match &reader.pair {
+            Some(pair) => Some(&book.pair(pair).value),
             None => None,
         },
         _ => None,

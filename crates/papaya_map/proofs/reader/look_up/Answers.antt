@@ -1,4 +1,4 @@
-use Rattle.std.proofs.Common.{◌≡◌, ℕ, sym, ap, ◌∙◌, refl, rules, subst}
+use Rattle.std.proofs.Common.{◌≡◌, ℕ, sym, ap, ◌∙◌, rules, subst}
 use mathlib.Core.List.{IsPrefix}
 use Rattle.papaya_call.specs.Machine.{ask_of, started}
 use Rattle.papaya_call.specs.declared.ask.Ask.TheVariants.{Done}
@@ -30,7 +30,7 @@ returns-in-Some-pair-clause-answered g c =
     let pre : IsPrefix c.args.pass.now.log began = subst (λ (z : _). IsPrefix c.args.pass.now.log z.log) (sym c.again-began.ensures) c.learn.ensures.seen in
     let asks : ask_of m ≡ Done (Found c.in-Done-Found.field-0-0) = ap ask_of (sym c.answer.ensures.machine) ∙ (sym c.ask.ensures.value ∙ (c.in-Done-Found.is ∙ ap Done c.in-Done-Found.field-0-is)) in
     found_answer g.K.PartialEq.eq g.K.Hash.hash_input g.S.BuildHasher.build_hasher g.S.Hasher.Hasher.write g.S.Hasher.Hasher.finish g.met.K.Eq.laws g.met.K.Hash.respects_eq (begun_of w.parts) (g.Q.Equivalent.matches c.args.key.now) (g.Q.Hash.hash_input c.args.key.now) lawful
-    c.args.pass.now.log began pre c.answer.new.pass.log m c.answer.new.self.table c.answer.new.self.pair c.in_default.ensures.reading.0 c.loop-answer.invariant.1 c.in-Done-Found.field-0-0 asks c.in-Some-pair.pair c.in-Some-pair.is _ refl
+    c.args.pass.now.log began pre c.answer.new.pass.log m c.answer.new.self.table c.answer.new.self.pair c.in_default.ensures.reading.0 c.loop-answer.invariant.1 c.in-Done-Found.field-0-0 asks c.in-Some-pair.pair c.in-Some-pair.is _ (ap (λ z. z.value) c.pair.ensures)
 
 pub returns-clause-answered : goal.returns-clause-answered
 returns-clause-answered g c =

@@ -1,4 +1,4 @@
-use Rattle.std.proofs.Common.{◌≡◌, ℕ, ◌<◌, length, None, Some, sym, ap, ◌∙◌, rules, subst}
+use Rattle.std.proofs.Common.{◌≡◌, ℕ, ◌<◌, length, None, Some, refl, sym, ap, ◌∙◌, rules, subst}
 use Rattle.papaya_call.specs.Machine.{ask_of}
 use Rattle.papaya_call.specs.declared.ask.Ask.TheVariants.{Load, SizeOf, SameKey}
 use Rattle.papaya_call.specs.declared.ask.At.TheVariants.{Root, Next, Slot}
@@ -53,7 +53,7 @@ returns-in-Some-clause-reading g c =
     let told = subst (λ (z : ℕ × ℕ). IsSlot g.K.PartialEq.eq hash (begun_of w.parts) w.begun.book z.0 z.1 c.slot-word.result.0 c.slot-word.new.pass.log c.slot-word.result.1) (λ i. (c.in-Load-Slot-Some-default.number-is i, c.in-Load-Slot-Some-default.place-is i)) c.slot-word.ensures.slot in
     let placed = subst (λ (o : _). IsPlaced (begun_of w.parts) (Some w.begun.book) (pair_named o)) c.in-Some.is told.placed in
     let all = slot_read g.K.PartialEq.eq g.K.Hash.hash_input g.S.BuildHasher.build_hasher g.S.Hasher.Hasher.write g.S.Hasher.Hasher.finish g.met.K.Eq.laws g.met.K.Hash.respects_eq (begun_of w.parts) (g.Q.Equivalent.matches c.args.key.now) (g.Q.Hash.hash_input c.args.key.now) lawful (exchanges_of c.args.began.now.log)
-    c.args.pass.now.log c.slot-word.new.pass.log c.slot-word.ensures.seen c.slot-word.ensures.slot.lawful m c.args.self.now.table c.args.self.now.pair r c.requires.standing c.in-Load-Slot-Some-default.number c.in-Load-Slot-Some-default.place c.slot-word.result.0 (Some c.in-Some.stored) (Some c.value.result) asks told.is (told.names ∙ c.in-Some.is) (λ last h. (c.value.ensures, placed.1)) in
+    c.args.pass.now.log c.slot-word.new.pass.log c.slot-word.ensures.seen c.slot-word.ensures.slot.lawful m c.args.self.now.table c.args.self.now.pair r c.requires.standing c.in-Load-Slot-Some-default.number c.in-Load-Slot-Some-default.place c.slot-word.result.0 (Some c.in-Some.stored) (Some c.in-Some.stored) asks told.is (told.names ∙ c.in-Some.is) (λ last h. (refl, placed)) in
     (all.reading, tt, all.fewer)
 
 pub returns-in_default-stored-clause-reading : goal.returns-in_default-stored-clause-reading
@@ -87,6 +87,7 @@ returns-in-SameKey-default-Some-clause-reading g c =
     let r = c.requires.reading in let w = c.args.book.now in let m = c.args.self.now.machine in
     let at = c.in-SameKey-default-Some in
     let asks : ask_of m ≡ SameKey at.field-0-0 = search rules in
-    let same = c.equivalent-same.ensures ∙ ap (λ z. g.Q.Equivalent.matches c.args.key.now z) c.value-in-SameKey-default-Some.ensures in
+    let found = c.key.ensures ∙ ap (λ z. z.key.value) c.pair.ensures in
+    let same = c.equivalent-same.ensures ∙ ap (g.Q.Equivalent.matches c.args.key.now) found in
     let all = same_read g.K.PartialEq.eq g.K.Hash.hash_input g.S.BuildHasher.build_hasher g.S.Hasher.Hasher.write g.S.Hasher.Hasher.finish g.met.K.Eq.laws g.met.K.Hash.respects_eq (begun_of w.parts) (g.Q.Equivalent.matches c.args.key.now) (g.Q.Hash.hash_input c.args.key.now) lawful (exchanges_of c.args.began.now.log) c.args.pass.now.log m c.args.self.now.table c.args.self.now.pair r c.requires.standing at.field-0-0 at.pair c.equivalent-same.result at.is-2 same asks in
     (all.reading, tt, all.fewer)
