@@ -2,7 +2,6 @@
 use Rattle.std.proofs.Common.{◌≡◌, ◌⊎◌, inl, inr, ⊎_elim, ℕ, Bool, Option, None, Some, List, [], append-nil, refl, sym, ap, ◌∙◌, subst}
 use mathlib.Core.List.{IsPrefix}
 use Rattle.logbook.specs.Pages.{Book}
-use Rattle.papaya_words.specs.declared.probe.Refused.TheVariants.{Capacity, RemoveNothing}
 use Rattle.papaya_call.specs.declared.answers.Operation.{Operation}
 use Rattle.papaya_call.specs.declared.ask.Ask.{Ask}
 use Rattle.papaya_call.specs.declared.ask.Ask.TheVariants.{Load, Exchange, SameKey, ShowNone, ShowPair, SizeOf, MakeKey, MakePair, MakeTable, AddToShard, Done}
@@ -14,7 +13,6 @@ use Rattle.papaya_call.specs.declared.machine.Machine.{Machine}
 use Rattle.papaya_call.specs.Machine.{IsStanding, after, ask_of}
 use Rattle.papaya_call.specs.Says.{Agrees, HasShownNone, Inserts, IsSaidBy, Makes, Removes, Said, ShowsPairs, StandsOn, show}
 use Rattle.papaya_call.proofs.SaysChanges.{machine_aborted}
-use Rattle.papaya_call.proofs.RestsReplyRefused.{machine_refused}
 use Rattle.papaya_call.proofs.SaysOnce.{machine_shown}
 use Rattle.papaya_call.proofs.SaysSaid.{machine_said}
 use Rattle.papaya_call.proofs.SaysWords.{machine_shows}
@@ -26,8 +24,9 @@ use Rattle.papaya_map.specs.Computing.{Holds, IsComputing, IsComputingOn, IsWrit
 use Rattle.papaya_map.specs.History.{history_of}
 use Rattle.papaya_map.specs.Logs.{Stored}
 use Rattle.papaya_map.specs.Showings.{HasNoNone, WasHeld}
-use Rattle.papaya_map.specs.Writing.{IsWritingOn}
+use Rattle.papaya_map.specs.Writing.{IsCause, IsUnsaid, IsWritingOn}
 use Rattle.papaya_map.proofs.Histories.{history_since}
+use Rattle.papaya_map.proofs.Refusals.{refused_for}
 use Rattle.papaya_map.proofs.Showings.{all_shown, held_wider}
 
 -- the closure says nothing with the answer to this ask, and no pair is made
@@ -75,7 +74,7 @@ task_after m Ok_done = refl
 task_after m (Was_refused refused) = refl
 
 module _ (m : Machine) (answer : Answer) (silent : IsSilent (ask_of m)) where
-  not_done : (reply : Reply) → ask_of m ≡ Done reply → ⊥
+  pub not_done : (reply : Reply) → ask_of m ≡ Done reply → ⊥
   not_done reply e = subst IsSilent e silent
 
   not_show : (shown : Option ℕ) → ask_of m ≡ show shown → ⊥
@@ -126,9 +125,9 @@ module _ {K V S H T F : Type 0} (eq : K → K → Bool) (hash : S → K → ℕ)
     none_later answer h = ⊎_elim (λ never. inl never) (λ shown. inr (machine_shown m answer shown).1) h
 
     -- it goes on after an answer to a silent ask
-    pub goes_on : IsStanding m → IsSilent (ask_of m) → (log' : List (Event K V S)) → IsPrefix log log' → (w : Writer K V S H) (answer : Answer) → w.call.machine ≡ m → w.value ≡ x.writer.value → (answer ≡ Was_refused RemoveNothing → ⊥)
+    pub goes_on : IsStanding m → IsSilent (ask_of m) → (log' : List (Event K V S)) → IsPrefix log log' → (w : Writer K V S H) (answer : Answer) → w.call.machine ≡ m → w.value ≡ x.writer.value → IsUnsaid answer
         → IsWritingOn eq hash b name key r.made begun log' w answer → ComputingOn log' (record x { writer = w }) f (Some answer)
-    goes_on standing silent log' pre w answer same value something on =
+    goes_on standing silent log' pre w answer same value unsaid on =
         let then : after w.call.machine answer ≡ after m answer = ap (λ (z : Machine). after z answer) same in
         let w' : Writer K V S H = record w { call = record w.call { machine = after w.call.machine answer } } in (
           record {
@@ -145,7 +144,7 @@ module _ {K V S H T F : Type 0} (eq : K → K → Bool) (hash : S → K → ℕ)
             none_shown = subst (λ (z : Machine). HasNoNone r.said ⊎ HasShownNone z.remembered.fill z.state) (sym then) (none_later answer r.none_shown);
             stood = λ stands h. holds_still key r.made r.said x w' value stands (r.stood stands (stood_before m answer silent standing r.words stands (subst (λ (z : Machine). StandsOn z stands) then h)));
             aborts = λ with e. let s = machine_aborted m answer with (not_done m answer silent) (ap ask_of (sym then) ∙ e) in absurd (not_show m answer silent s.0 s.1);
-            refuses = λ e. ⊎_elim (λ h. absurd (something h)) (λ h. ⊎_elim (λ a. let no : RemoveNothing ≡ Capacity = a.0 in absurd (cc no)) (λ a. absurd (not_show m answer silent None a.1)) h) (machine_refused m RemoveNothing answer (not_done m answer silent) (ap ask_of (sym then) ∙ e));
+            refuses = λ cause e. inl (refused_for IsCause m answer (not_show m answer silent None) (not_done m answer silent) (inr refl) unsaid cause (ap ask_of (sym then) ∙ e));
           },
           on.1,
         )

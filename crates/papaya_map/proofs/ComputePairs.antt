@@ -2,7 +2,7 @@
 use Rattle.std.proofs.Common.{◌≡◌, ◌⊎◌, inl, inr, ⊎_elim, ℕ, Bool, Option, None, Some, List, ◌∷◌, refl, sym, ap, ◌∙◌, subst}
 use Rattle.logbook.specs.Pages.{Book}
 use Rattle.papaya_words.specs.declared.probe.Refused.{Refused as Cause}
-use Rattle.papaya_words.specs.declared.probe.Refused.TheVariants.{Capacity, Memory, RemoveNothing}
+use Rattle.papaya_words.specs.declared.probe.Refused.TheVariants.{Capacity, Memory}
 use Rattle.papaya_call.specs.declared.answers.Operation.{Operation}
 use Rattle.papaya_call.specs.declared.answers.Operation.TheVariants as operation
 use Rattle.papaya_call.specs.declared.ask.Ask.TheVariants.{MakePair, Done}
@@ -14,7 +14,6 @@ use Rattle.papaya_call.specs.declared.machine.Machine.{Machine}
 use Rattle.papaya_call.specs.Machine.{IsStanding, after, ask_of}
 use Rattle.papaya_call.specs.Says.{Agrees, HasShownNone, Inserts, IsFilledBy, IsReplacedBy, IsSaidBy, Makes, Removes, Said, ShowsPairs, StandsOn, show}
 use Rattle.papaya_call.proofs.RestsHeld.{machine_refused_pair}
-use Rattle.papaya_call.proofs.RestsReplyRefused.{machine_refused}
 use Rattle.papaya_call.proofs.SaysChanges.{machine_aborted}
 use Rattle.papaya_call.proofs.SaysOnce.{machine_shown}
 use Rattle.papaya_call.proofs.SaysOver.{machine_paired}
@@ -29,7 +28,8 @@ use Rattle.papaya_map.specs.History.{key_of}
 use Rattle.papaya_map.specs.Logs.{Member, Stored, pair_named}
 use Rattle.papaya_map.specs.Rule.{IsPlaced}
 use Rattle.papaya_map.specs.Showings.{HasNoNone}
-use Rattle.papaya_map.specs.Writing.{IsUnlogged, IsWritingOn}
+use Rattle.papaya_map.specs.Writing.{IsCause, IsUnlogged, IsUnsaid, IsWritingOn}
+use Rattle.papaya_map.proofs.Refusals.{refused_for, unlogged_unsaid}
 
 -- a pair that was made stays so, when another is made
 made_still : {K V T : Type 0} (key : K) (made : List (Stored K V)) (said : List (Option (Stored K V) × Operation V T)) (q : Stored K V) (held : Option (Stored K V)) (n : ℕ) (p : Stored K V) → IsMadeOf key made said held n p → IsMadeOf key (q ∷ made) said held n p
@@ -43,12 +43,13 @@ module _ (m : Machine) (answer : Answer) (asks : ask_of m ≡ MakePair) where
   not_done : (reply : Reply) → ask_of m ≡ Done reply → ⊥
   not_done reply e = let f = sym asks ∙ e in cc f
 
-  -- no call aborts here, and none is refused for want of something to remove
+  -- no call aborts here
   no_abort : (with : ℕ) → ask_of (after m answer) ≡ Done (Aborted with) → ⊥
   no_abort with e = let s = machine_aborted m answer with not_done e in not_show s.0 s.1
 
-  not_nothing : (answer ≡ Was_refused RemoveNothing → ⊥) → ask_of (after m answer) ≡ Done (Reply_refused RemoveNothing) → ⊥
-  not_nothing never e = ⊎_elim never (λ h. ⊎_elim (λ a. let f = a.0 in cc f) (λ a. not_show None a.1) h) (machine_refused m RemoveNothing answer not_done e)
+  -- and each is refused by itself
+  by_itself : IsUnsaid answer → (cause : Cause) → ask_of (after m answer) ≡ Done (Reply_refused cause) → IsCause cause
+  by_itself unsaid = refused_for IsCause m answer (not_show None) not_done (inr refl) unsaid
 
 module _ {K V S T H F : Type 0} (eq : K → K → Bool) (hash : S → K → ℕ) (b : Begun K V S) (name : Book) (operates : F → Option (Stored K V) → Operation V T → F → Type 0) (key : K) (first : F) (begun log : List (Event K V S)) (x : Computing K V S T H) (f : F) (r : IsComputing eq hash b name operates key first begun log x f)
     (standing : IsStanding x.writer.call.machine) (asks : ask_of x.writer.call.machine ≡ MakePair) where
@@ -62,9 +63,9 @@ module _ {K V S T H F : Type 0} (eq : K → K → Bool) (hash : S → K → ℕ)
   abbrev with_pairs : Writer K V S H → (chosen fill made : Option (Stored K V)) → Computing K V S T H
   with_pairs w chosen fill made = record x { writer = w; chosen = chosen; fill = fill; made = made }
 
-  goes_on : (made' : List (Stored K V)) (w : Writer K V S H) (chosen fill made : Option (Stored K V)) (answer : Answer) → w.call.machine ≡ m → (answer ≡ Was_refused RemoveNothing → ⊥) → (after m answer).task ≡ m.task → IsWritingOn eq hash b name key made' begun log w answer → IsPlaced b (Some name) (pair_named chosen)
+  goes_on : (made' : List (Stored K V)) (w : Writer K V S H) (chosen fill made : Option (Stored K V)) (answer : Answer) → w.call.machine ≡ m → IsUnsaid answer → (after m answer).task ≡ m.task → IsWritingOn eq hash b name key made' begun log w answer → IsPlaced b (Some name) (pair_named chosen)
       → ((stands : Said) → StandsOn (after m answer) stands → Holds key made' r.said (with_pairs w chosen fill made) stands) → On (with_pairs w chosen fill made) answer
-  goes_on made' w chosen fill made answer same never task on placed stood =
+  goes_on made' w chosen fill made answer same unsaid task on placed stood =
       let then : after w.call.machine answer ≡ after m answer = ap (λ (z : Machine). after z answer) same in (
         record {
           made = made';
@@ -80,7 +81,7 @@ module _ {K V S T H F : Type 0} (eq : K → K → Bool) (hash : S → K → ℕ)
           none_shown = subst (λ (z : Machine). HasNoNone r.said ⊎ HasShownNone z.remembered.fill z.state) (sym then) (⊎_elim (λ none. inl none) (λ shown. inr (machine_shown m answer shown).1) r.none_shown);
           stood = λ stands h. stood stands (subst (λ (z : Machine). StandsOn z stands) then h);
           aborts = λ with e. absurd (no_abort m answer asks with (ap ask_of (sym then) ∙ e));
-          refuses = λ e. absurd (not_nothing m answer asks never (ap ask_of (sym then) ∙ e));
+          refuses = λ cause e. inl (by_itself m answer asks unsaid cause (ap ask_of (sym then) ∙ e));
         },
         on.1,
       )
@@ -107,7 +108,7 @@ module _ {K V S T H F : Type 0} (eq : K → K → Bool) (hash : S → K → ℕ)
 
     -- it was made where none was shown
     pub filled : x.shown ≡ None → On (with_pairs w x.chosen (Some q) x.made) (Made_number q.index)
-    filled none = goes_on (q ∷ r.made) w x.chosen (Some q) x.made (Made_number q.index) same (λ e. cc e) refl on r.chosen_placed (⊎_elim by_fill by_choice (machine_paired m q.index r.task_is standing r.words asks))
+    filled none = goes_on (q ∷ r.made) w x.chosen (Some q) x.made (Made_number q.index) same (λ cause e. absurd (cc e)) refl on r.chosen_placed (⊎_elim by_fill by_choice (machine_paired m q.index r.task_is standing r.words asks))
       where
         by_fill : IsFilledBy m q.index → (stands : Said) → StandsOn (after m (Made_number q.index)) stands → Holds key (q ∷ r.made) r.said (with_pairs w x.chosen (Some q) x.made) stands
         by_fill p stands h =
@@ -122,7 +123,7 @@ module _ {K V S T H F : Type 0} (eq : K → K → Bool) (hash : S → K → ℕ)
 
     -- it was made for what is to become of this pair
     pub chosen : (p : Stored K V) → x.shown ≡ Some p → On (with_pairs w (Some p) x.fill (Some q)) (Made_number q.index)
-    chosen p has = goes_on (q ∷ r.made) w (Some p) x.fill (Some q) (Made_number q.index) same (λ e. cc e) refl on (subst (λ (o : Option (Stored K V)). IsPlaced b (Some name) (pair_named o)) has r.shown_placed) (⊎_elim by_fill by_choice (machine_paired m q.index r.task_is standing r.words asks))
+    chosen p has = goes_on (q ∷ r.made) w (Some p) x.fill (Some q) (Made_number q.index) same (λ cause e. absurd (cc e)) refl on (subst (λ (o : Option (Stored K V)). IsPlaced b (Some name) (pair_named o)) has r.shown_placed) (⊎_elim by_fill by_choice (machine_paired m q.index r.task_is standing r.words asks))
       where
         by_fill : IsFilledBy m q.index → (stands : Said) → StandsOn (after m (Made_number q.index)) stands → Holds key (q ∷ r.made) r.said (with_pairs w (Some p) x.fill (Some q)) stands
         by_fill k stands h = let s = r.stood (Inserts None) k.0 in let e = sym has ∙ s.0 in absurd (cc e)
@@ -148,11 +149,8 @@ module _ {K V S T H F : Type 0} (eq : K → K → Bool) (hash : S → K → ℕ)
 
   -- no pair was made
   pub unmade : (w : Writer K V S H) (answer : Answer) → w.call.machine ≡ m → IsUnlogged answer → (answer ≡ Ok_done → w.value ≡ x.writer.value) → IsWritingOn eq hash b name key r.made begun log w answer → On (with_pairs w x.chosen x.fill x.made) answer
-  unmade w answer same unlogged kept on = goes_on r.made w x.chosen x.fill x.made answer same (never_for answer unlogged) (task_of answer unlogged) on r.chosen_placed stood
+  unmade w answer same unlogged kept on = goes_on r.made w x.chosen x.fill x.made answer same (unlogged_unsaid answer unlogged) (task_of answer unlogged) on r.chosen_placed stood
     where
-      never_for : (a : Answer) → IsUnlogged a → a ≡ Was_refused RemoveNothing → ⊥
-      never_for a u e = ⊎_elim (λ k. ⊎_elim (λ i. let g = sym i ∙ e in cc g) (λ i. let g = sym i ∙ e in cc g) k) (λ i. let g = sym i ∙ e in cc g) u
-
       task_of : (a : Answer) → IsUnlogged a → (after m a).task ≡ m.task
       task_of a u = ⊎_elim (λ k. ⊎_elim (λ i. ap (λ (z : Answer). (after m z).task) i) (λ i. ap (λ (z : Answer). (after m z).task) i) k) (λ i. ap (λ (z : Answer). (after m z).task) i) u
 

@@ -239,7 +239,7 @@ module _ {K V S T H F : Type 0} (eq : K → K → Bool) (input : K → List (Lis
 
   -- it was refused
   pub refused : (cause : Cause) → ask_of m ≡ Done (Refused cause) → Answers (Err cause)
-  refused cause e = answers (Err cause) (λ is. r.refuses (e ∙ ap (λ (z : Cause). Done (Refused z)) is))
+  refused cause e = answers (Err cause) (r.refuses cause e)
 
   -- it replies nothing else
   replies_no_other : (reply : Reply) → IsNoCompute reply → IsReply (Wide eq input build write finish classes respects b (eq key) (input key) (own_query eq input build write finish classes respects b name key) (Some key) name begun log) (Coded eq input build write finish classes respects b (eq key) (input key) (own_query eq input build write finish classes respects b name key) (Some key) name begun) (exchanges_of begun) r.writing.calling.since (Some key) (hands_with x.writer.call.last r.made) Compute reply → ⊥
@@ -300,7 +300,7 @@ begins eq hash b name operates key first log x l initial machine table last take
   none_shown = inl tt;
   stood = λ stands h. absurd (nothing_said (subst (λ (z : Machine). StandsOn z stands) machine h));
   aborts = λ with e. let g = sym (ap ask_of machine) ∙ e in absurd (cc g);
-  refuses = λ e. let g = sym (ap ask_of machine) ∙ e in absurd (cc g);
+  refuses = λ cause e. let g = sym (ap ask_of machine) ∙ e in absurd (cc g);
 }
   where
     nothing_said : {stands : Said} → StandsOn (started Compute (hash b.hasher key) b.mode initial) stands → ⊥

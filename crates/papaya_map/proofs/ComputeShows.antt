@@ -2,7 +2,6 @@
 use Rattle.std.proofs.Common.{◌≡◌, ◌⊎◌, inl, inr, ⊎_elim, ℕ, Bool, true, Option, None, Some, List, [], ◌∷◌, append-nil, refl, sym, ap, ◌∙◌, subst}
 use Rattle.std.specs.Cmp.{IsEquivalence}
 use Rattle.logbook.specs.Pages.{Book}
-use Rattle.papaya_words.specs.declared.probe.Refused.TheVariants.{RemoveNothing}
 use Rattle.papaya_call.specs.declared.answers.Operation.{Operation}
 use Rattle.papaya_call.specs.declared.answers.Operation.TheVariants as operation
 use Rattle.papaya_call.specs.declared.ask.Ask.TheVariants.{Exchange, Load, ShowNone, ShowPair, Done}
@@ -255,10 +254,10 @@ module _ {K V S T H F : Type 0} (eq : K → K → Bool) (input : K → List (Lis
         none_shown = (none_by held refl).0;
         stood = stood_now;
         aborts = λ with e. let s = machine_aborted m (Op (kind_of done)) with (not_done (number_of held) asks) e in let a = aborts_with done with (op_is done (kinds.Abort with) s.2) in (a.0, a.2 x.aborted, (held, ap (λ (o : Operation V T). (held, o)) a.1));
-        refuses = λ e. ⊎_elim
+        refuses = λ cause e. ⊎_elim
             (λ h. absurd (cc h))
-            (λ h. ⊎_elim (λ a. absurd (not_load (number_of held) asks a.1.0 a.1.1)) (λ a. (λ j. (none_asked m held asks a.1 j, removes done (op_is done kinds.Remove a.2) j))) h)
-            (machine_refused m RemoveNothing (Op (kind_of done)) (not_done (number_of held) asks) e);
+            (λ h. ⊎_elim (λ a. absurd (not_load (number_of held) asks a.1.0 a.1.1)) (λ a. inr (a.0, (λ j. (none_asked m held asks a.1 j, removes done (op_is done kinds.Remove a.2) j)))) h)
+            (machine_refused m cause (Op (kind_of done)) (not_done (number_of held) asks) e);
       },
       tt,
     )

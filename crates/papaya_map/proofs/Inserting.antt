@@ -1,19 +1,22 @@
 -- After each answer an insertion rests again. It makes one pair, of what it was handed, and puts in no other.
-use Rattle.std.proofs.Common.{◌≡◌, ◌⊎◌, ⊎_elim, ℕ, Bool, true, Option, None, Some, List, [], ◌∷◌, refl, sym, ap, ◌∙◌, subst}
+use Rattle.std.proofs.Common.{◌≡◌, ◌⊎◌, inr, ⊎_elim, ℕ, Bool, true, Option, None, Some, List, [], ◌∷◌, refl, sym, ap, ◌∙◌, subst}
 use Rattle.std.specs.Cmp.{IsEquivalence}
 use Rattle.logbook.specs.Pages.{Book}
 use Rattle.papaya_words.specs.Word.{pair_of}
+use Rattle.papaya_words.specs.declared.probe.Refused.{Refused as Cause}
 use Rattle.papaya_call.specs.declared.ask.At.TheVariants.{Slot}
 use Rattle.papaya_call.specs.declared.ask.Ask.{Ask}
-use Rattle.papaya_call.specs.declared.ask.Ask.TheVariants.{Exchange as Ask_exchange, MakePair}
+use Rattle.papaya_call.specs.declared.ask.Ask.TheVariants.{Exchange as Ask_exchange, MakePair, Done}
 use Rattle.papaya_call.specs.declared.ask.Answer.{Answer}
 use Rattle.papaya_call.specs.declared.ask.Answer.TheVariants.{Word as Word_read, Exchanged, Found as Found_instead, Yes, Op, Size, Made as Made_number, Ok as Ok_done, Refused as Was_refused}
+use Rattle.papaya_call.specs.declared.call.Reply.{Reply}
+use Rattle.papaya_call.specs.declared.call.Reply.TheVariants.{Refused}
 use Rattle.papaya_call.specs.declared.call.Task.{Task}
 use Rattle.papaya_call.specs.declared.call.Task.TheVariants.{Insert}
 use Rattle.papaya_call.specs.declared.write.Made.TheVariants.{Pair}
 use Rattle.papaya_call.specs.declared.machine.Machine.{Machine}
 use Rattle.papaya_call.specs.Followed.{MayAsk}
-use Rattle.papaya_call.specs.Machine.{IsStanding, after, ask_of, kind_of_ask, made_in, started}
+use Rattle.papaya_call.specs.Machine.{IsComputer, IsStanding, after, ask_of, kind_of_ask, made_in, started}
 use Rattle.papaya_call.specs.Rests.{RestsStage}
 use Rattle.papaya_call.proofs.Followed.{asked_of_task}
 use Rattle.papaya_map.specs.declared.event.Begun.{Begun}
@@ -28,12 +31,13 @@ use Rattle.papaya_map.specs.Logs.{Stored, exchanges_of}
 use Rattle.papaya_map.specs.Plays.{IsPutting, made_list}
 use Rattle.papaya_map.specs.Readers.{coding_for, setting_for}
 use Rattle.papaya_map.specs.Rule.{IsLawfulLog}
-use Rattle.papaya_map.specs.Writing.{CanPut, IsWriting, IsWritingOn}
+use Rattle.papaya_map.specs.Writing.{CanPut, IsCause, IsUnlogged, IsUnsaid, IsWriting, IsWritingOn}
 use Rattle.papaya_map.proofs.AskedPairs.{asked_pair}
 use Rattle.papaya_map.proofs.Changing.{Coded, Wide}
 use Rattle.papaya_map.proofs.Driving.{is_made, one_made}
 use Rattle.papaya_map.proofs.OnePair.{pairs_once, unpaired_before}
 use Rattle.papaya_map.proofs.Readings.{IsQuery, hashed_with}
+use Rattle.papaya_map.proofs.Refusals.{refused_for, shows_none, unlogged_unsaid}
 use Rattle.papaya_map.proofs.Writing.{own_query}
 use Rattle.papaya_map.proofs.WritingSteps.{begins as begins_writing}
 
@@ -54,10 +58,18 @@ module _ {K V S H : Type 0} (eq : K → K → Bool) (hash : S → K → ℕ) (b 
     abbrev m : Machine
     m = x.writer.call.machine
 
+    -- it has not replied yet
+    abbrev pub IsOpen : Type 0
+    IsOpen = (reply : Reply) → ask_of m ≡ Done reply → ⊥
+
+    -- it is refused by itself
+    by_itself : (answer : Answer) → IsStanding m → IsOpen → IsUnsaid answer → (cause : Cause) → ask_of (after m answer) ≡ Done (Refused cause) → IsCause cause
+    by_itself answer standing open_still unsaid = refused_for IsCause m answer (λ e. subst IsComputer r.task_is (shows_none m standing e)) open_still (inr refl) unsaid
+
     -- it goes on, where it puts in no other pair
-    kept : (log' : List (Event K V S)) (w : Writer K V S H) (answer : Answer) → w.call.machine ≡ m → ((v : V) → w.value ≡ Some v → x.writer.value ≡ Some v) → ((q : Stored K V) → w.call.put ≡ Some q → (key_of q ≡ key) × (q.value.value ≡ value))
+    kept : (log' : List (Event K V S)) (w : Writer K V S H) (answer : Answer) → w.call.machine ≡ m → ((v : V) → w.value ≡ Some v → x.writer.value ≡ Some v) → ((q : Stored K V) → w.call.put ≡ Some q → (key_of q ≡ key) × (q.value.value ≡ value)) → IsStanding m → IsOpen → IsUnsaid answer
         → IsWritingOn eq hash b name key (made_list x.made) begun log' w answer → IsInsertingOn eq hash b name key value begun log' (record x { writer = w }) (Some answer)
-    kept log' w answer machine left put on = (
+    kept log' w answer machine left put standing open_still unsaid on = (
       record {
         writing = on.0;
         task_is = task_stays w.call.machine answer ∙ (ap (λ (z : Machine). z.task) machine ∙ r.task_is);
@@ -65,25 +77,26 @@ module _ {K V S H : Type 0} (eq : K → K → Bool) (hash : S → K → ℕ) (b 
         made_is = r.made_is;
         put_is = put;
         unmade = λ u. r.unmade (subst (λ (z : Machine). IsUnpaired z.made) machine (unpaired_before w.call.machine answer u));
+        refuses = λ cause e. by_itself answer standing open_still unsaid cause (ap (λ (z : Machine). ask_of (after z answer)) (sym machine) ∙ e);
       },
       on.1,
     )
 
     -- so it does after an answer that leaves its value and what it put in
-    pub goes_on : (log' : List (Event K V S)) (w : Writer K V S H) (answer : Answer) → w.call.machine ≡ m → w.value ≡ x.writer.value → w.call.put ≡ x.writer.call.put
+    pub goes_on : (log' : List (Event K V S)) (w : Writer K V S H) (answer : Answer) → w.call.machine ≡ m → w.value ≡ x.writer.value → w.call.put ≡ x.writer.call.put → IsStanding m → IsOpen → IsUnsaid answer
         → IsWritingOn eq hash b name key (made_list x.made) begun log' w answer → IsInsertingOn eq hash b name key value begun log' (record x { writer = w }) (Some answer)
-    goes_on log' w answer machine left put on = kept log' w answer machine (λ v e. sym left ∙ e) (λ q e. r.put_is q (sym put ∙ e)) on
+    goes_on log' w answer machine left put standing open_still unsaid on = kept log' w answer machine (λ v e. sym left ∙ e) (λ q e. r.put_is q (sym put ∙ e)) standing open_still unsaid on
 
     -- the pair was not logged
-    pub pair_unmade : (w : Writer K V S H) (answer : Answer) → w.call.machine ≡ m → ((v : V) → w.value ≡ Some v → x.writer.value ≡ Some v) → w.call.put ≡ x.writer.call.put
+    pub pair_unmade : (w : Writer K V S H) (answer : Answer) → w.call.machine ≡ m → ((v : V) → w.value ≡ Some v → x.writer.value ≡ Some v) → w.call.put ≡ x.writer.call.put → IsStanding m → IsOpen → IsUnlogged answer
         → IsWritingOn eq hash b name key (made_list x.made) begun log w answer → IsInsertingOn eq hash b name key value begun log (record x { writer = w }) (Some answer)
-    pair_unmade w answer machine left put on = kept log w answer machine left (λ q e. r.put_is q (sym put ∙ e)) on
+    pair_unmade w answer machine left put standing open_still unlogged on = kept log w answer machine left (λ q e. r.put_is q (sym put ∙ e)) standing open_still (unlogged_unsaid answer unlogged) on
 
     -- its pair was tried to be put in
-    pub pair_tried : (log' : List (Event K V S)) (w : Writer K V S H) (answer : Answer) (q : Stored K V) → x.made ≡ Some q → w.call.machine ≡ m → w.value ≡ x.writer.value → (w.call.put ≡ x.writer.call.put) ⊎ (w.call.put ≡ Some q)
+    pub pair_tried : (log' : List (Event K V S)) (w : Writer K V S H) (answer : Answer) (q : Stored K V) → x.made ≡ Some q → w.call.machine ≡ m → w.value ≡ x.writer.value → (w.call.put ≡ x.writer.call.put) ⊎ (w.call.put ≡ Some q) → IsStanding m → IsOpen → IsUnsaid answer
         → IsWritingOn eq hash b name key (made_list x.made) begun log' w answer → IsInsertingOn eq hash b name key value begun log' (record x { writer = w }) (Some answer)
-    pair_tried log' w answer q made machine left put on =
-        kept log' w answer machine (λ v e. sym left ∙ e) (λ p e. ⊎_elim (λ same. r.put_is p (sym same ∙ e)) (λ is. r.made_is p (made ∙ (sym is ∙ e))) put) on
+    pair_tried log' w answer q made machine left put standing open_still unsaid on =
+        kept log' w answer machine (λ v e. sym left ∙ e) (λ p e. ⊎_elim (λ same. r.put_is p (sym same ∙ e)) (λ is. r.made_is p (made ∙ (sym is ∙ e))) put) standing open_still unsaid on
 
     -- it makes its pair once
     once : ask_of m ≡ MakePair → IsUnpaired m.made × ((n : ℕ) → made_in m.made n m.state ≡ Pair n)
@@ -95,9 +108,9 @@ module _ {K V S H : Type 0} (eq : K → K → Bool) (hash : S → K → ℕ) (b 
         pairs_once g c (exchanges_of begun) s.since (Some key) hands true m.hash m.made m.state (subst (λ (t : Task). RestsStage g c (exchanges_of begun) s.since (Some key) hands t m.state) r.task_is s.rests.stage) asks
 
     -- the pair was logged
-    pub pair_made : (w : Writer K V S H) (q : Stored K V) (n : ℕ) → n ≡ q.index → ask_of m ≡ MakePair → w.call.machine ≡ m → x.writer.value ≡ Some q.value.value → w.value ≡ None → w.call.put ≡ x.writer.call.put → key_of q ≡ key
+    pub pair_made : (w : Writer K V S H) (q : Stored K V) (n : ℕ) → n ≡ q.index → ask_of m ≡ MakePair → w.call.machine ≡ m → x.writer.value ≡ Some q.value.value → w.value ≡ None → w.call.put ≡ x.writer.call.put → key_of q ≡ key → IsStanding m
         → IsWritingOn eq hash b name key (q ∷ made_list x.made) begun log w (Made_number q.index) → IsInsertingOn eq hash b name key value begun log (record x { writer = w; made = Some q }) (Some (Made_number n))
-    pair_made w q n number asks machine had left put key_is on =
+    pair_made w q n number asks machine had left put key_is standing on =
         let none : made_list x.made ≡ [] = ap made_list (r.unmade (once asks).0) in
         let going = subst (λ (z : List (Stored K V) × ℕ). IsWritingOn eq hash b name key (q ∷ z.0) begun log w (Made_number z.1)) (λ i. (none i, sym number i)) on in (
           record {
@@ -107,6 +120,7 @@ module _ {K V S H : Type 0} (eq : K → K → Bool) (hash : S → K → ℕ) (b 
             made_is = λ p e. let is : q ≡ p = cc e in (ap key_of (sym is) ∙ key_is, ap (λ (z : Stored K V). z.value.value) (sym is) ∙ r.left_is q.value.value had);
             put_is = λ p e. r.put_is p (sym put ∙ e);
             unmade = λ u. absurd (subst IsUnpaired ((once asks).1 n) (subst (λ (z : Machine). IsUnpaired (made_in z.made n z.state)) machine u));
+            refuses = λ cause e. by_itself (Made_number n) standing (λ reply h. let f = sym asks ∙ h in cc f) (λ c h. absurd (cc h)) cause (ap (λ (z : Machine). ask_of (after z (Made_number n))) (sym machine) ∙ e);
           },
           going.1,
         )
@@ -121,6 +135,7 @@ module _ {K V S H : Type 0} (eq : K → K → Bool) (hash : S → K → ℕ) (b 
     made_is = λ q e. let f = sym made ∙ e in absurd (cc f);
     put_is = λ q e. let f = sym put ∙ e in absurd (cc f);
     unmade = λ u. made;
+    refuses = λ cause e. let f = sym (ap ask_of machine) ∙ e in absurd (cc f);
   }
 
 module _ {K V S H : Type 0} (eq : K → K → Bool) (input : K → List (List ℕ)) (build : S → H) (write : H → List ℕ → H) (finish : H → ℕ) (classes : IsEquivalence eq) (respects : (x y : K) → eq x y ≡ true → input x ≡ input y)

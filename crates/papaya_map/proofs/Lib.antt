@@ -42,6 +42,7 @@ pub mod OnePair
 pub mod Opened
 pub mod Writing
 pub mod WritingSteps
+pub mod Refusals
 pub mod Inserting
 pub mod InsertingReplies
 -- what closures are shown

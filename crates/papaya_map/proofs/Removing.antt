@@ -5,18 +5,22 @@ use Rattle.std.specs.Cmp.{IsEquivalence}
 use mathlib.Core.List.{IsPrefix}
 use denote.Bor.{Bor}
 use Rattle.logbook.specs.Pages.{Book}
+use Rattle.papaya_words.specs.declared.probe.Refused.{Refused as Cause}
+use Rattle.papaya_words.specs.declared.probe.Refused.TheVariants.{Capacity}
 use Rattle.papaya_call.specs.declared.ask.At.{At}
 use Rattle.papaya_call.specs.declared.ask.At.TheVariants.{Slot}
 use Rattle.papaya_call.specs.declared.ask.Ask.{Ask}
-use Rattle.papaya_call.specs.declared.ask.Ask.TheVariants.{Load, Exchange as Ask_exchange, SizeOf, SameKey, ShowPair, AddToShard}
+use Rattle.papaya_call.specs.declared.ask.Ask.TheVariants.{Load, Exchange as Ask_exchange, SizeOf, SameKey, ShowPair, AddToShard, Done}
 use Rattle.papaya_call.specs.declared.ask.StepKind.TheVariants as kinds
 use Rattle.papaya_call.specs.declared.ask.Answer.{Answer}
-use Rattle.papaya_call.specs.declared.ask.Answer.TheVariants.{Word as Word_read, Exchanged, Found as Found_instead, Size, Yes, Ok as Ok_done}
+use Rattle.papaya_call.specs.declared.ask.Answer.TheVariants.{Word as Word_read, Exchanged, Found as Found_instead, Size, Yes, Ok as Ok_done, Refused as Was_refused}
+use Rattle.papaya_call.specs.declared.call.Reply.{Reply}
+use Rattle.papaya_call.specs.declared.call.Reply.TheVariants.{Refused}
 use Rattle.papaya_call.specs.declared.call.Task.{Task}
 use Rattle.papaya_call.specs.declared.call.Task.TheVariants.{RemoveIf}
 use Rattle.papaya_call.specs.declared.machine.Machine.{Machine}
 use Rattle.papaya_call.specs.Followed.{MayAsk}
-use Rattle.papaya_call.specs.Machine.{IsFit, IsStanding, after, ask_of, asks, kind_of_ask}
+use Rattle.papaya_call.specs.Machine.{IsComputer, IsFit, IsStanding, after, ask_of, asks, kind_of_ask}
 use Rattle.papaya_call.specs.Rests.{WasAtMoment}
 use Rattle.papaya_call.specs.Told.{or_last}
 use Rattle.papaya_call.specs.Says.{Agrees, ShowsPairs, StandsOn}
@@ -43,15 +47,21 @@ use Rattle.papaya_map.specs.Removing.{IsRemoving, IsRemovingOn}
 use Rattle.papaya_map.specs.Rule.{IsPlaced}
 use Rattle.papaya_map.specs.Showings.{WasHeld}
 use Rattle.papaya_map.proofs.Changing.{Coded, Wide, counted, compared, load_table, loaded_lawful, loads, quiet, rests_of, size_table, sized, slot_table}
+use Rattle.papaya_map.proofs.ComputeGoes.{IsSilent, not_done, stood_before}
 use Rattle.papaya_map.proofs.Driving.{can_bury}
 use Rattle.papaya_map.proofs.Exchanging.{exchanged, lost}
 use Rattle.papaya_map.proofs.Histories.{history_since}
 use Rattle.papaya_map.proofs.Readings.{IsQuery, fed, hashed_with}
+use Rattle.papaya_map.proofs.Refusals.{refused_for, shows_none}
 use Rattle.papaya_map.proofs.Showings.{all_shown, held_then, held_wider}
 
--- what a machine stands on that its closure agreed to, it stood on before an answer that shows nothing
-stood_before : (m : Machine) (answer : Answer) → IsStanding m → ShowsPairs m.state → ((n : ℕ) → ask_of m ≡ ShowPair n → ⊥) → (n : ℕ) (agrees : Bool) → StandsOn (after m answer) (Agrees n agrees) → StandsOn m (Agrees n agrees)
-stood_before m answer standing words silent n agrees stands = ⊎_elim (λ h. h) (λ h. absurd (silent n h.0)) (machine_said m answer (Agrees n agrees) standing words stands)
+-- the answer isn't that something was refused
+abbrev IsGiven : Answer → Type 0
+IsGiven answer = (cause : Cause) → answer ≡ Was_refused cause → ⊥
+
+-- a removal to which nothing is refused is itself refused only where it needs a further table
+refused_full : (m : Machine) (answer : Answer) → IsStanding m → m.task ≡ RemoveIf → ((reply : Reply) → ask_of m ≡ Done reply → ⊥) → IsGiven answer → (cause : Cause) → ask_of (after m answer) ≡ Done (Refused cause) → cause ≡ Capacity
+refused_full m answer standing task_is open_still given = refused_for (λ cause. cause ≡ Capacity) m answer (λ e. subst IsComputer task_is (shows_none m standing e)) open_still refl (λ cause e. absurd (given cause e))
 
 module _ {K V S H F : Type 0} (eq : K → K → Bool) (input : K → List (List ℕ)) (build : S → H) (write : H → List ℕ → H) (finish : H → ℕ) (classes : IsEquivalence eq) (respects : (x y : K) → eq x y ≡ true → input x ≡ input y)
     (b : Begun K V S) (name : Book) (matches : K → Bool) (query : List (List ℕ)) (lawful : IsQuery eq input matches query) (judges : F → Stored K V → Bool → F → Type 0) (first : F) (begun : List (Event K V S)) where
@@ -80,9 +90,9 @@ module _ {K V S H F : Type 0} (eq : K → K → Bool) (input : K → List (List 
 
     module _ (standing : IsStanding m) where
       -- it goes on after an answer that shows nothing
-      pub goes_on : (log' : List (Event K V S)) → IsPrefix log log' → (y : Caller K V S H) (answer : Answer) → y.machine ≡ m → IsFit answer → (after m answer).task ≡ m.task → ((n : ℕ) → ask_of m ≡ ShowPair n → ⊥)
+      pub goes_on : (log' : List (Event K V S)) → IsPrefix log log' → (y : Caller K V S H) (answer : Answer) → y.machine ≡ m → IsFit answer → (after m answer).task ≡ m.task → IsSilent (ask_of m) → IsGiven answer
           → IsCalling eq hash b name matches fed_to None begun log' (after m answer) y.table y.last [] y.taken y.put → RemovingOn log' (record x { call = y }) f (Some answer)
-      goes_on log' pre y answer machine fit task silent calling =
+      goes_on log' pre y answer machine fit task silent given calling =
           let same : after m answer ≡ after y.machine answer = ap (λ (z : Machine). after z answer) (sym machine) in (
             record {
               calling = subst (λ (z : Machine). IsCalling eq hash b name matches fed_to None begun log' z y.table y.last [] y.taken y.put) same calling;
@@ -92,7 +102,8 @@ module _ {K V S H F : Type 0} (eq : K → K → Bool) (input : K → List (List 
               said = r.said;
               has_said = r.has_said;
               held = all_shown (HeldOn log) (HeldOn log') (held_later log' pre) r.said r.held;
-              stood = λ n agrees stands. r.stood n agrees (stood_before m answer standing r.words silent n agrees (subst (λ (z : Machine). StandsOn z (Agrees n agrees)) (sym same) stands));
+              stood = λ n agrees stands. r.stood n agrees (stood_before m answer silent standing r.words (Agrees n agrees) (subst (λ (z : Machine). StandsOn z (Agrees n agrees)) (sym same) stands));
+              refuses = λ cause e. refused_full m answer standing r.task_is (not_done m answer silent) given cause (ap ask_of same ∙ e);
             },
             fit,
           )
@@ -107,7 +118,7 @@ module _ {K V S H F : Type 0} (eq : K → K → Bool) (input : K → List (List 
       pub loaded_as : (log' : List (Event K V S)) → IsPrefix log log' → (at : At) (word : ℕ) (y : Caller K V S H) → y.machine ≡ m → y.taken ≡ x.call.taken → y.put ≡ x.call.put → ask_of m ≡ Load at → IsLoaded eq hash b name at word log' x.call.table y.table x.call.last y.last → RemovingOn log' (record x { call = y }) f (Some (Word_read word))
       loaded_as log' pre at word y machine taken put asks is =
           let calling = loads eq input build write finish classes respects b matches query lawful None name begun log log' pre (loaded_lawful eq hash b name log' at word x.call.table y.table x.call.last y.last is) m x.call.table x.call.last [] x.call.taken x.call.put r.calling at word y.table y.last asks is in
-          goes_on log' pre y (Word_read word) machine tt refl (λ n h. let e = sym asks ∙ h in cc e)
+          goes_on log' pre y (Word_read word) machine tt refl (subst IsSilent (sym asks) tt) (λ cause h. absurd (cc h))
           (subst (λ (o : Option (Stored K V) × Option (Stored K V)). IsCalling eq hash b name matches fed_to None begun log' (after m (Word_read word)) y.table y.last [] o.0 o.1) (λ i. (sym taken i, sym put i)) calling)
 
       -- a table whose size is asked for is held
@@ -117,19 +128,19 @@ module _ {K V S H F : Type 0} (eq : K → K → Bool) (input : K → List (List 
       -- its size was told
       pub sized_on : (t : ℕ) (lent : Bor Sheet) → x.call.table ≡ Some lent → (slots limit : ℕ) → slots ≡ length lent.now.slots → limit ≡ lent.now.limit → IsSize slots limit → ask_of m ≡ SizeOf t → RemovingOn log x f (Some (Size slots limit))
       sized_on t lent has slots limit slots_is limit_is size asks =
-          goes_on log ([], append-nil log) x.call (Size slots limit) refl size refl (λ n h. let e = sym asks ∙ h in cc e)
+          goes_on log ([], append-nil log) x.call (Size slots limit) refl size refl (subst IsSilent (sym asks) tt) (λ cause h. absurd (cc h))
           (sized eq input build write finish classes respects b matches query lawful None name begun log m x.call.table x.call.last [] x.call.taken x.call.put r.calling t lent has slots limit slots_is limit_is asks)
 
       -- the pair last told of was compared
       pub compared_on : (n : ℕ) (same : Bool) → ((p : Stored K V) → x.call.last ≡ Some p → same ≡ matches (key_of p)) → ask_of m ≡ SameKey n → RemovingOn log x f (Some (Yes same))
       compared_on n same is asks =
-          goes_on log ([], append-nil log) x.call (Yes same) refl tt refl (λ n h. let e = sym asks ∙ h in cc e)
+          goes_on log ([], append-nil log) x.call (Yes same) refl tt refl (subst IsSilent (sym asks) tt) (λ cause h. absurd (cc h))
           (compared eq input build write finish classes respects b matches query lawful None name begun log m x.call.table x.call.last [] x.call.taken x.call.put r.calling n same is asks)
 
       -- the change was counted
       pub counted_on : (by : _) → ask_of m ≡ AddToShard by → RemovingOn log x f (Some Ok_done)
       counted_on by asks =
-          goes_on log ([], append-nil log) x.call Ok_done refl tt refl (λ n h. let e = sym asks ∙ h in cc e)
+          goes_on log ([], append-nil log) x.call Ok_done refl tt refl (subst IsSilent (sym asks) tt) (λ cause h. absurd (cc h))
           (counted eq input build write finish classes respects b matches query lawful None name begun log m x.call.table x.call.last [] x.call.taken x.call.put r.calling by asks)
 
       -- the pair last told of was shown
@@ -155,6 +166,7 @@ module _ {K V S H F : Type 0} (eq : K → K → Bool) (input : K → List (List 
                   (λ h. absurd (unsaid m n i agrees showing h))
                   (λ h. let e = h.1 in let same : agreed ≡ agrees = cc e in (p, refl, is i h.0, inl (ap (λ (z : Bool). (p, z)) (sym same))))
                   (machine_said m (Yes agreed) (Agrees i agrees) standing r.words stands);
+              refuses = refused_full m (Yes agreed) standing r.task_is (λ reply h. let e = sym showing ∙ h in cc e) (λ cause h. absurd (cc h));
             },
             tt,
           )
@@ -174,12 +186,12 @@ module _ {K V S H F : Type 0} (eq : K → K → Bool) (input : K → List (List 
         module _ (log' : List (Event K V S)) (pre : IsPrefix log log') (found : ℕ) (pair : Option (Stored K V)) (s : IsSlotTried eq hash b name t i (kind_of_ask m) old new None names.Nothing log found log' pair) where
           -- it was buried
           buried : (found == old) ≡ true → RemovingOn log' (record x { call = record x.call { taken = pair; put = None } }) f (Some Exchanged)
-          buried is = goes_on log' pre (record x.call { taken = pair; put = None }) Exchanged refl tt refl (λ n h. let e = sym tries ∙ h in cc e)
+          buried is = goes_on log' pre (record x.call { taken = pair; put = None }) Exchanged refl tt refl (subst IsSilent (sym tries) tt) (λ cause h. absurd (cc h))
               (exchanged eq input build write finish classes respects b matches query lawful None name begun log log' m x.call.table x.call.last [] x.call.taken x.call.put r.calling t i old new found None pair tries s (λ q none. absurd (cc none)) is)
 
           -- it was not
           not_buried : (found == old) ≡ false → RemovingOn log' (record x { call = record x.call { last = or_last pair x.call.last } }) f (Some (Found_instead found))
-          not_buried is = goes_on log' pre (record x.call { last = or_last pair x.call.last }) (Found_instead found) refl tt refl (λ n h. let e = sym tries ∙ h in cc e)
+          not_buried is = goes_on log' pre (record x.call { last = or_last pair x.call.last }) (Found_instead found) refl tt refl (subst IsSilent (sym tries) tt) (λ cause h. absurd (cc h))
               (lost eq input build write finish classes respects b matches query lawful None name begun log log' m x.call.table x.call.last [] x.call.taken x.call.put r.calling t i old new found None pair tries s is)
 
           -- as the call holds it afterwards

@@ -5,6 +5,7 @@ use mathlib.Core.List.{IsPrefix}
 use denote.Bor.{Bor}
 use Rattle.logbook.specs.Pages.{Book}
 use Rattle.papaya_words.specs.declared.probe.Refused.{Refused as Cause}
+use Rattle.papaya_words.specs.declared.probe.Refused.TheVariants.{Capacity}
 use Rattle.papaya_call.specs.declared.ask.Ask.TheVariants.{Done}
 use Rattle.papaya_call.specs.declared.call.Reply.{Reply}
 use Rattle.papaya_call.specs.declared.call.Reply.TheVariants.{Absent, Found, Inserted, Replaced, Occupied, Removed, Kept, Aborted, Refused}
@@ -78,8 +79,8 @@ module _ {K V S H F : Type 0} (eq : K → K → Bool) (input : K → List (List 
   absent e = answers (Ok (Ok None)) (held_then eq input build write finish classes respects b matches query lawful begun log r.calling.lawful r.calling.since r.calling.is None (replies Absent e).0)
 
   -- it was refused
-  pub refused : (cause : Cause) → IsRemovalBy eq matches (history_of begun) (history_of log) judges first (Err cause)
-  refused cause = answers (Err cause) tt
+  pub refused : (cause : Cause) → ask_of m ≡ Done (Refused cause) → IsRemovalBy eq matches (history_of begun) (history_of log) judges first (Err cause)
+  refused cause e = answers (Err cause) (r.refuses cause e)
 
   -- the pair stays
   pub kept : (n : ℕ) → ask_of m ≡ Done (Kept n) → (p : Stored K V) → x.shown ≡ Some p → (entry : Bor K × Bor V) → AreOf entry p → IsRemovalBy eq matches (history_of begun) (history_of log) judges first (Ok (Err entry))
@@ -170,7 +171,7 @@ module _ {K V : Type 0} (eq : K → K → Bool) (matches : K → Bool) (older ol
   judged_since said (Ok (Ok None)) h = wider None h
   judged_since said (Ok (Ok (Some entry))) h = (h.0, taken_since h.0 h.1, h.2, h.3)
   judged_since said (Ok (Err entry)) h = h
-  judged_since said (Err cause) h = tt
+  judged_since said (Err cause) h = h
 
   pub removal_since : {F : Type 0} (judges : F → Stored K V → Bool → F → Type 0) (first : F) (answer : Result (Result (Option (Bor K × Bor V)) (Bor K × Bor V)) Cause) → IsRemovalBy eq matches old new judges first answer → IsRemovalBy eq matches older new judges first answer
   removal_since judges first answer r = record {
@@ -180,6 +181,10 @@ module _ {K V : Type 0} (eq : K → K → Bool) (matches : K → Bool) (older ol
     held = all_shown (λ p. WasHeld eq matches old new (Some p)) (λ p. WasHeld eq matches older new (Some p)) (λ p h. wider (Some p) h) r.said r.held;
     answered = judged_since r.said answer r.answered;
   }
+
+-- why a removal was refused
+pub refused_removed : {K V F : Type 0} (eq : K → K → Bool) (matches : K → Bool) (old new : List (Change K (Stored K V))) (judges : F → Stored K V → Bool → F → Type 0) (first : F) (answer : Result (Result (Option (Bor K × Bor V)) (Bor K × Bor V)) Cause) → IsRemovalBy eq matches old new judges first answer → (cause : Cause) → answer ≡ Err cause → cause ≡ Capacity
+refused_removed eq matches old new judges first answer r cause is = subst (IsJudged eq matches old new r.said) is r.answered
 
 module _ {K V F : Type 0} (eq : K → K → Bool) (matches : K → Bool) (old new : List (Change K (Stored K V))) (judges : F → Stored K V → Bool → F → Type 0) (first : F) (answer : Result (Result (Option (Bor K × Bor V)) (Bor K × Bor V)) Cause) (entry : Bor K × Bor V) (r : IsRemovalBy eq matches old new judges first answer) where
   -- the value of the pair that went
@@ -202,6 +207,7 @@ begins eq hash b name matches fed judges first log x l machine table last taken 
   has_said = refl;
   held = tt;
   stood = λ n agrees stands. absurd (nothing_said (subst (λ (z : Machine). StandsOn z (Agrees n agrees)) machine stands));
+  refuses = λ cause e. let f = sym (ap ask_of machine) ∙ e in absurd (cc f);
 }
   where
     nothing_said : {n : ℕ} {agrees : Bool} → StandsOn (started RemoveIf fed b.mode 0) (Agrees n agrees) → ⊥

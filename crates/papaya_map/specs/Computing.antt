@@ -31,7 +31,11 @@ use Rattle.papaya_map.specs.History.{Change, history_of, key_of}
 use Rattle.papaya_map.specs.Logs.{Member, Stored, pair_named}
 use Rattle.papaya_map.specs.Rule.{IsPlaced}
 use Rattle.papaya_map.specs.Showings.{AllShown, AreOf, HasNoNone, HasSaid, IsNoneOnce, IsSamePair, WasHeld, WasLast}
-use Rattle.papaya_map.specs.Writing.{IsWriting}
+use Rattle.papaya_map.specs.Writing.{IsCause, IsWriting}
+
+-- A compute is refused as an insertion is, or since its closure last would remove where there is nothing.
+abbrev pub IsRefusedBy : {K V T : Type 0} → List (Option (Stored K V) × Operation V T) → Refused → Type 0
+IsRefusedBy said refused = IsCause refused ⊎ ((refused ≡ RemoveNothing) × WasLast None operation.Remove said)
 
 module _ {K V T : Type 0} (eq : K → K → Bool) (key : K) (old new : List (Change K (Stored K V))) where
   -- the closure was shown this very pair, and answered this
@@ -44,7 +48,7 @@ module _ {K V T : Type 0} (eq : K → K → Bool) (key : K) (old new : List (Cha
   IsOperated said (Ok (Updated before after)) = (p : Stored K V) × (q : Stored K V) × IsChangeOf (eq key) old new (Some p) (Some q) × (key_of q ≡ key) × WasOperated p (operation.Insert q.value.value) said × AreOf before p × AreOf after q
   IsOperated said (Ok (Removed k v)) = (p : Stored K V) × IsChangeOf (eq key) old new (Some p) None × WasOperated p operation.Remove said × AreOf (k, v) p
   IsOperated said (Ok (Aborted t)) = (held : Option (Stored K V)) × WasLast held (operation.Abort t) said
-  IsOperated said (Err refused) = refused ≡ RemoveNothing → WasLast None operation.Remove said
+  IsOperated said (Err refused) = IsRefusedBy said refused
 
   -- A compute whose closure was `first`. What it was shown was the map's between the two histories, and at most once that there is none.
   pub record IsComputeBy {F : Type 0} (operates : F → Option (Stored K V) → Operation V T → F → Type 0) (first : F) (answer : Result (Computed K V T) Refused) : Type 0 where
@@ -134,7 +138,7 @@ module _ {K V S H T F : Type 0} (eq : K → K → Bool) (hash : S → K → ℕ)
     pub none_shown : HasNoNone said ⊎ HasShownNone x.writer.call.machine.remembered.fill x.writer.call.machine.state
     pub stood : (stands : Said) → StandsOn x.writer.call.machine stands → Holds key made said x stands
     pub aborts : (with : ℕ) → ask_of x.writer.call.machine ≡ Done (reply.Aborted with) → (t : T) × (x.aborted ≡ Some t) × ((held : Option (Stored K V)) × WasLast held (operation.Abort t) said)
-    pub refuses : ask_of x.writer.call.machine ≡ Done (reply.Refused RemoveNothing) → WasLast None operation.Remove said
+    pub refuses : (refused : Refused) → ask_of x.writer.call.machine ≡ Done (reply.Refused refused) → IsRefusedBy said refused
 
   -- the compute after its machine was answered
   abbrev pub answered : Computing K V S T H → Answer → Computing K V S T H

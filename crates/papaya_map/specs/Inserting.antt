@@ -1,9 +1,11 @@
 -- What an insertion on the shared map holds and rests on.
 use Rattle.std.specs.Prelude.{◌≡◌, ℕ, Bool, true, Option, None, Some, List}
 use Rattle.logbook.specs.Pages.{Book}
+use Rattle.papaya_words.specs.declared.probe.Refused.{Refused as Cause}
 use Rattle.papaya_call.specs.declared.ask.Answer.{Answer}
 use Rattle.papaya_call.specs.declared.ask.Ask.TheVariants.{Done}
 use Rattle.papaya_call.specs.declared.call.Reply.{Reply}
+use Rattle.papaya_call.specs.declared.call.Reply.TheVariants.{Refused}
 use Rattle.papaya_call.specs.declared.call.Task.TheVariants.{Insert}
 use Rattle.papaya_call.specs.declared.write.Made.{Made}
 use Rattle.papaya_call.specs.declared.write.Made.TheVariants.{Nothing, Key, Pair}
@@ -17,7 +19,7 @@ use Rattle.papaya_map.specs.Changing.{IsPut}
 use Rattle.papaya_map.specs.History.{history_of, key_of}
 use Rattle.papaya_map.specs.Logs.{Stored}
 use Rattle.papaya_map.specs.Plays.{made_list}
-use Rattle.papaya_map.specs.Writing.{IsWriting, answered as answered_writer}
+use Rattle.papaya_map.specs.Writing.{IsCause, IsWriting, answered as answered_writer}
 
 -- no pair is made yet
 abbrev pub IsUnpaired : Made → Type 0
@@ -34,6 +36,7 @@ module _ {K V S H : Type 0} (eq : K → K → Bool) (hash : S → K → ℕ) (b 
     pub made_is : (q : Stored K V) → x.made ≡ Some q → (key_of q ≡ key) × (q.value.value ≡ value)
     pub put_is : (q : Stored K V) → x.writer.call.put ≡ Some q → (key_of q ≡ key) × (q.value.value ≡ value)
     pub unmade : IsUnpaired x.writer.call.machine.made → x.made ≡ None
+    pub refuses : (cause : Cause) → ask_of x.writer.call.machine ≡ Done (Refused cause) → IsCause cause
 
   -- the insertion after its machine was answered
   abbrev pub answered : Insertion K V S H → Answer → Insertion K V S H

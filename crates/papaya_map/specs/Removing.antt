@@ -4,9 +4,11 @@ use mathlib.Core.List.{IsPrefix}
 use denote.Bor.{Bor}
 use Rattle.logbook.specs.Pages.{Book}
 use Rattle.papaya_words.specs.declared.probe.Refused.{Refused}
+use Rattle.papaya_words.specs.declared.probe.Refused.TheVariants.{Capacity}
 use Rattle.papaya_call.specs.declared.ask.Answer.{Answer}
 use Rattle.papaya_call.specs.declared.ask.Ask.TheVariants.{Done}
 use Rattle.papaya_call.specs.declared.call.Reply.{Reply}
+use Rattle.papaya_call.specs.declared.call.Reply.TheVariants as reply
 use Rattle.papaya_call.specs.declared.call.Task.TheVariants.{RemoveIf}
 use Rattle.papaya_call.specs.Machine.{IsFit, after, ask_of}
 use Rattle.papaya_call.specs.Says.{Agrees, ShowsPairs, StandsOn}
@@ -24,12 +26,12 @@ module _ {K V : Type 0} (eq : K → K → Bool) (matches : K → Bool) (old new 
   abbrev pub IsTaken : Stored K V → Type 0
   IsTaken p = IsChangeOf matches old new (Some p) None
 
-  -- What a removal answers, by what its closure was shown and answered: the pair that it agreed to and that went, or that there was none, or the pair that stays.
+  -- What a removal answers, by what its closure was shown and answered: the pair that it agreed to and that went, or that there was none, or the pair that stays. It makes nothing, so the one refusal is that of a search that would go on to a table which cannot be had; whether that was so isn't said here.
   abbrev pub IsJudged : List (Stored K V × Bool) → Result (Result (Option (Bor K × Bor V)) (Bor K × Bor V)) Refused → Type 0
   IsJudged said (Ok (Ok None)) = WasHeld eq matches old new None
   IsJudged said (Ok (Ok (Some entry))) = (p : Stored K V) × IsTaken p × WasSaid p true said × AreOf entry p
   IsJudged said (Ok (Err entry)) = (p : Stored K V) × Member (p, false) said × AreOf entry p
-  IsJudged said (Err refused) = Unit {0}
+  IsJudged said (Err refused) = refused ≡ Capacity
 
   -- A removal whose closure was `first`. Each pair that it was shown was the map's between the two histories.
   pub record IsRemovalBy {F : Type 0} (judges : F → Stored K V → Bool → F → Type 0) (first : F) (answer : Result (Result (Option (Bor K × Bor V)) (Bor K × Bor V)) Refused) : Type 0 where
@@ -39,11 +41,11 @@ module _ {K V : Type 0} (eq : K → K → Bool) (matches : K → Bool) (old new 
     pub held : AllShown (λ p. WasHeld eq matches old new (Some p)) said
     pub answered : IsJudged said answer
 
-  -- what a removal answers that asks no closure: the value of the pair that went, or that there was none
+  -- what a removal answers that asks no closure: the value of the pair that went, or that there was none, or the one refusal
   abbrev pub IsRemoved : Result (Option (Bor V)) Refused → Type 0
   IsRemoved (Ok None) = WasHeld eq matches old new None
   IsRemoved (Ok (Some value)) = (p : Stored K V) × IsTaken p × (value.now ≡ p.value.value)
-  IsRemoved (Err refused) = Unit {0}
+  IsRemoved (Err refused) = refused ≡ Capacity
 
 module _ {K V S H F : Type 0} (eq : K → K → Bool) (hash : S → K → ℕ) (b : Begun K V S) (name : Book) (matches : K → Bool) (fed : ℕ) (judges : F → Stored K V → Bool → F → Type 0) where
   -- A removal whose closure was `first` and is f now. What its machine stands on, the closure answered of the pair that it was shown last.
@@ -56,6 +58,7 @@ module _ {K V S H F : Type 0} (eq : K → K → Bool) (hash : S → K → ℕ) (
     pub has_said : HasSaid judges first said f
     pub held : AllShown (λ p. WasHeld eq matches (history_of begun) (history_of log) (Some p)) said
     pub stood : (n : ℕ) (agrees : Bool) → StandsOn x.call.machine (Agrees n agrees) → (p : Stored K V) × (x.shown ≡ Some p) × (p.index ≡ n) × Member (p, agrees) said
+    pub refuses : (refused : Refused) → ask_of x.call.machine ≡ Done (reply.Refused refused) → refused ≡ Capacity
 
   -- the removal after its machine was answered
   abbrev pub answered : Removal K V S H → Answer → Removal K V S H

@@ -3,7 +3,8 @@ use Rattle.std.specs.Prelude.{◌≡◌, ◌⊎◌, ℕ, Bool, Option, None, Som
 use Rattle.boxcar.specs.Table.{Shows, Where}
 use Rattle.logbook.specs.Pages.{Book, nib, may_write}
 use Rattle.logbook.specs.declared.tokens.Pen.{Pen}
-use Rattle.papaya_words.specs.declared.probe.Refused.TheVariants.{Capacity, Memory, RemoveNothing}
+use Rattle.papaya_words.specs.declared.probe.Refused.{Refused as Cause}
+use Rattle.papaya_words.specs.declared.probe.Refused.TheVariants.{Capacity, Memory}
 use Rattle.papaya_call.specs.declared.ask.Answer.{Answer}
 use Rattle.papaya_call.specs.declared.ask.Answer.TheVariants.{Made, Ok as Ok_done, Refused}
 use Rattle.papaya_call.specs.declared.ask.Ask.TheVariants.{Exchange}
@@ -40,9 +41,13 @@ IsUnlogged answer = ((answer ≡ Refused Memory) ⊎ (answer ≡ Refused Capacit
 abbrev pub answered : {K V S H : Type 0} → Writer K V S H → Answer → Writer K V S H
 answered w answer = record w { call = record w.call { machine = after w.call.machine answer } }
 
--- no closure had a part in it: it is no refusal for want of something to remove
+-- as a call that inserts is refused by itself: there was no memory, or no number or place left
+abbrev pub IsCause : Cause → Type 0
+IsCause cause = (cause ≡ Memory) ⊎ (cause ≡ Capacity)
+
+-- no closure had a part in it: where it is a refusal, it is one of the call by itself
 abbrev pub IsUnsaid : Answer → Type 0
-IsUnsaid answer = answer ≡ Refused RemoveNothing → ⊥
+IsUnsaid answer = (cause : Cause) → answer ≡ Refused cause → IsCause cause
 
 module _ {K V S H : Type 0} (eq : K → K → Bool) (hash : S → K → ℕ) (b : Begun K V S) (name : Book) where
   -- A call by this key that has made these pairs. It holds the key as it was handed in, or as it was logged.

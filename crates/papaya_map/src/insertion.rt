@@ -1,5 +1,5 @@
 //! Insertions: their machine, answered by steps on the book.
-ghost use Rattle.std.specs.Prelude.{◌≡◌, Some, IfOk};
+ghost use Rattle.std.specs.Prelude.{◌≡◌, Some, IfErr, IfOk};
 ghost use mathlib.Core.List.{IsPrefix};
 ghost use Rattle.papaya_call.specs.Machine.{IsStanding, ask_of};
 ghost use Rattle.papaya_call.specs.declared.ask.Ask.TheVariants.{Done, Exchange, MakePair};
@@ -10,6 +10,7 @@ ghost use Rattle.papaya_map.specs.History.{history_of};
 ghost use Rattle.papaya_map.specs.Rule.{IsLawfulLog};
 ghost use Rattle.papaya_map.specs.Inserting.{CanInsert, HasPut, Inserts};
 ghost use Rattle.papaya_map.specs.Parts.{begun_of};
+ghost use Rattle.papaya_map.specs.Writing.{IsCause};
 
 use crate::book::Book;
 use crate::caller::Caller;
@@ -128,7 +129,8 @@ impl<'a, K: Hash + Eq + Drop, V: Drop, S: BuildHasher> Insertion<'a, K, V, S> {
         requires standing { IsStanding self.now.writer.call.machine }
         requires can { CanInsert K.eq (hash_of K.hash_input S.build_hasher S.Hasher.write S.Hasher.finish) (begun_of book.now.parts) book.now.begun.book pass.now.log self.now }
         requires done { (reply : _) × (ask_of self.now.writer.call.machine ≡ Done reply) }
-        ensures { IfOk result (λ answer. HasPut K.eq (hash_of K.hash_input S.build_hasher S.Hasher.write S.Hasher.finish) (begun_of book.now.parts) book.now.begun.book pass.now.log self.now answer) }
+        ensures put { IfOk result (λ answer. HasPut K.eq (hash_of K.hash_input S.build_hasher S.Hasher.write S.Hasher.finish) (begun_of book.now.parts) book.now.begun.book pass.now.log self.now answer) }
+        ensures refused { IfErr result (λ refused. IsCause refused) }
     {
         let _ = &pass;
         if let Ask::Done(Reply::Refused(refused)) = self.writer.call.machine.ask() {
@@ -157,6 +159,7 @@ pub(crate) fn insert<'a, R: Wait, K: Hash + Eq + Drop, V: Drop, S: BuildHasher>(
     ensures seen { IsPrefix pass.old.log pass.new.log }
     ensures lawful { IsLawfulLog K.eq (hash_of K.hash_input S.build_hasher S.Hasher.write S.Hasher.finish) (begun_of book.now.parts) pass.new.log }
     ensures put { IfOk result (λ answer. IsPut K.eq key value (history_of pass.old.log) (history_of pass.new.log) answer) }
+    ensures refused { IfErr result (λ refused. IsCause refused) }
 {
     book.learn(pass);
     let hash = hash(&book.parts.hasher, &key);

@@ -1,5 +1,5 @@
 //! The map that threads share, and the passes of its callers.
-ghost use Rattle.std.specs.Prelude.{◌≡◌, true, IfErr, IfOk};
+ghost use Rattle.std.specs.Prelude.{◌≡◌, ◌⊎◌, true, IfErr, IfOk};
 ghost use mathlib.Core.List.{IsPrefix};
 ghost use Rattle.logbook.specs.Pages.{Book as BookName};
 ghost use Rattle.papaya_core.specs.New.{IsAllowed};
@@ -165,7 +165,8 @@ impl<'a, K: Hash + Eq, V, S: BuildHasher> HashMapRef<'a, K, V, S> {
     /// `Ok(None)` where the key is absent, `Ok(Some(pair))` where that very pair was removed, and
     /// `Err(pair)` where the closure answered false for it. The closure may be asked again, where
     /// another call was first to replace or remove the pair that it was shown. A removal takes no
-    /// memory, and while the map has one table it is not refused.
+    /// memory, and while the map has one table it is not refused; else `Refused::Capacity`, where its
+    /// search would go on to a table that cannot be had.
     pub fn remove_if_as<R: Wait, Q: Equivalent<K>, F: FnMut(&K, &V) -> bool>(
         &self,
         rt: &R,
@@ -184,8 +185,8 @@ impl<'a, K: Hash + Eq, V, S: BuildHasher> HashMapRef<'a, K, V, S> {
         remove(rt, &shard, &map.book, key, should_remove, &mut pass.sight)
     }
 
-    /// Removes a key's pair, and answers its value: `remove` of 0.2.5. It takes no memory, and while
-    /// the map has one table it is not refused.
+    /// Removes a key's pair, and answers its value: `remove` of 0.2.5. It takes no memory, and is
+    /// refused as [`HashMapRef::remove_if_as`].
     pub fn remove_as<R: Wait, Q: Equivalent<K>>(
         &self,
         rt: &R,
@@ -231,6 +232,7 @@ impl<'a, K: Hash + Eq + Drop, V: Drop, S: BuildHasher> HashMapRef<'a, K, V, S> {
         ensures book { pass.new.book ≡ pass.old.book }
         ensures seen { IsPrefix pass.old.history pass.new.history }
         ensures put { IfOk result (λ answer. IsPut K.eq key value pass.old.history pass.new.history answer) }
+        ensures refused { IfErr result (λ refused. (refused ≡ Refused.Memory) ⊎ (refused ≡ Refused.Capacity)) }
     {
         let map: &'a HashMap<K, V, S> = self.map;
         let shard = map.count.shard(self.guard);

@@ -50,4 +50,4 @@ returns-in-None-answer-clause-lawful g c = let u = c.loop.invariant.0 in (c.in-N
 pub returns-in-None-answer-clause-put : goal.returns-in-None-answer-clause-put
 returns-in-None-answer-clause-put g c =
     let u = c.loop.invariant.0 in let r = (c.in-None-answer.ensures.inserts c.args.key c.args.value u.0 u.2).0 in
-    if_ok _ _ c.replied.result c.replied.ensures (λ a h. put_since g.K.PartialEq.eq c.args.key c.args.value c.args.pass.now.log u.0 c.answer.new.pass.log a u.1 (h c.args.key c.args.value u.0 r))
+    if_ok _ _ c.replied.result c.replied.ensures.put (λ a h. put_since g.K.PartialEq.eq c.args.key c.args.value c.args.pass.now.log u.0 c.answer.new.pass.log a u.1 (h c.args.key c.args.value u.0 r))

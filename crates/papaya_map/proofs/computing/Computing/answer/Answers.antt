@@ -13,4 +13,4 @@ pub returns-in-AddToShard-clause-computes : goal.returns-in-AddToShard-clause-co
 returns-in-AddToShard-clause-computes g c = λ key first begun r.
     let asks : ask_of c.args.self.now.writer.call.machine ≡ AddToShard c.in-AddToShard.by = sym c.in-AddToShard.ensures.value in
     let on = counted_on g.K.PartialEq.eq g.K.Hash.hash_input g.S.BuildHasher.build_hasher g.S.Hasher.Hasher.write g.S.Hasher.Hasher.finish g.met.K.Eq.laws g.met.K.Hash.respects_eq (begun_of c.args.book.now.parts) c.args.book.now.begun.book key r.made begun c.args.pass.now.log c.args.self.now.writer r.writing c.in-AddToShard.by asks in
-    goes_on g.K.PartialEq.eq (hash_of g.K.Hash.hash_input g.S.BuildHasher.build_hasher g.S.Hasher.Hasher.write g.S.Hasher.Hasher.finish) (begun_of c.args.book.now.parts) c.args.book.now.begun.book (Operates g.F.FnMut) key first begun c.args.pass.now.log c.args.self.now c.args.compute.now r c.requires.standing (subst IsSilent (sym asks) tt) c.args.pass.now.log ([], append-nil c.args.pass.now.log) c.args.self.now.writer Ok refl refl (λ e. cc e) on
+    goes_on g.K.PartialEq.eq (hash_of g.K.Hash.hash_input g.S.BuildHasher.build_hasher g.S.Hasher.Hasher.write g.S.Hasher.Hasher.finish) (begun_of c.args.book.now.parts) c.args.book.now.begun.book (Operates g.F.FnMut) key first begun c.args.pass.now.log c.args.self.now c.args.compute.now r c.requires.standing (subst IsSilent (sym asks) tt) c.args.pass.now.log ([], append-nil c.args.pass.now.log) c.args.self.now.writer Ok refl refl (λ cause e. absurd (cc e)) on

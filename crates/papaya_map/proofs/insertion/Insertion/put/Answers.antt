@@ -21,5 +21,5 @@ put-requires-clause-kind g c = put_kind g.K.PartialEq.eq g.K.Hash.hash_input g.S
 pub returns-clause-inserts : goal.returns-clause-inserts
 returns-clause-inserts g c = λ key value begun r.
     let on = c.put.ensures in let q = c.in-Some.made in
-    pair_tried g.K.PartialEq.eq (hash_of g.K.Hash.hash_input g.S.BuildHasher.build_hasher g.S.Hasher.Hasher.write g.S.Hasher.Hasher.finish) (begun_of c.args.book.now.parts) c.args.book.now.begun.book key value begun c.args.pass.now.log c.args.self.now r c.put.new.pass.log c.put.new.self c.put.result q c.in-Some.is on.machine on.value on.put
+    pair_tried g.K.PartialEq.eq (hash_of g.K.Hash.hash_input g.S.BuildHasher.build_hasher g.S.Hasher.Hasher.write g.S.Hasher.Hasher.finish) (begun_of c.args.book.now.parts) c.args.book.now.begun.book key value begun c.args.pass.now.log c.args.self.now r c.put.new.pass.log c.put.new.self c.put.result q c.in-Some.is on.machine on.value on.put c.requires.standing (λ reply h. let f = sym c.requires.asks ∙ h in cc f) on.unsaid
     (on.writes key (made_list c.args.self.now.made) begun r.writing (is_made c.args.self.now.made q c.in-Some.is))

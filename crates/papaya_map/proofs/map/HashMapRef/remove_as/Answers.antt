@@ -1,5 +1,5 @@
 use Rattle.std.proofs.Common.{◌≡◌, Ok, Err, Some, rules}
-use Rattle.papaya_map.proofs.RemovingReplies.{none_stays, value_removed}
+use Rattle.papaya_map.proofs.RemovingReplies.{none_stays, refused_removed, value_removed}
 use Rattle.papaya_map.proofs.map.HashMapRef.remove_as.Goals as goal
 
 pub unreachable-requires : goal.unreachable-requires
@@ -11,3 +11,8 @@ pub returns-in-Ok-Ok-Some-clause-removed : goal.returns-in-Ok-Ok-Some-clause-rem
 returns-in-Ok-Ok-Some-clause-removed g c =
     let is : c.remove_if_as-removed.result ≡ Ok (Ok (Some (c.in-Ok-Ok-Some.field-0-0-0-0, c.in-Ok-Ok-Some.value))) = search rules in
     value_removed g.K.PartialEq.eq (g.Q.Equivalent.matches c.args.key.now) c.args.pass.now.history c.remove_if_as-removed.new.pass.history _ _ c.remove_if_as-removed.result (c.in-Ok-Ok-Some.field-0-0-0-0, c.in-Ok-Ok-Some.value) c.remove_if_as-removed.ensures.removed is
+
+pub returns-in-Err-clause-removed : goal.returns-in-Err-clause-removed
+returns-in-Err-clause-removed g c =
+    let is : c.remove_if_as-removed.result ≡ Err c.in-Err.refused = search rules in
+    refused_removed g.K.PartialEq.eq (g.Q.Equivalent.matches c.args.key.now) c.args.pass.now.history c.remove_if_as-removed.new.pass.history _ _ c.remove_if_as-removed.result c.remove_if_as-removed.ensures.removed c.in-Err.refused is

@@ -1,14 +1,14 @@
 use Rattle.std.proofs.Common.{◌≡◌, ℕ, Some, ◌∙◌, rules, subst}
 use Rattle.papaya_call.specs.declared.ask.Ask.TheVariants.{Done}
 use Rattle.papaya_call.specs.declared.call.Reply.{Reply}
-use Rattle.papaya_call.specs.declared.call.Reply.TheVariants.{Absent, Kept, Removed}
+use Rattle.papaya_call.specs.declared.call.Reply.TheVariants.{Absent, Kept, Refused, Removed}
 use Rattle.papaya_call.specs.Machine.{ask_of}
 use Rattle.papaya_map.specs.Logs.{pair_named}
 use Rattle.papaya_map.specs.Parts.{begun_of}
 use Rattle.papaya_map.specs.Rule.{IsPlaced}
 use Rattle.papaya_map.specs.Showings.{Judges}
 use Rattle.papaya_map.proofs.Readings.{IsQuery}
-use Rattle.papaya_map.proofs.RemovingReplies.{IsNoRemoval, absent, kept, kept_shown, no_other, same_number, was_shown, was_taken, went}
+use Rattle.papaya_map.proofs.RemovingReplies.{IsNoRemoval, absent, kept, kept_shown, no_other, refused, same_number, was_shown, was_taken, went}
 use Rattle.papaya_map.proofs.removal.Removal.replied.Goals.{in_default-via-in-Done+in-Removed+in-Some+in_default, in_default-via-in-Done+in-Removed+in_default, in_default-via-in-Done+in-Kept+in_default, in_default-via-in-Done+in_default, in_default-via-in_default}
 use Rattle.papaya_map.proofs.removal.Removal.replied.Goals as goal
 
@@ -52,3 +52,9 @@ returns-in-Done-Absent-default-default g c = λ first begun r.
     let lawful : IsQuery g.K.PartialEq.eq g.K.Hash.hash_input (g.Q.Equivalent.matches c.args.key.now) (g.Q.Hash.hash_input c.args.key.now) = record { feeds = g.met.Q.Equivalent.hashes_as_key c.args.key.now; class = λ k l. g.met.Q.Equivalent.matches_equal_keys c.args.key.now k l } in
     let asks : ask_of c.args.self.now.call.machine ≡ Done Absent = search rules in
     absent g.K.PartialEq.eq g.K.Hash.hash_input g.S.BuildHasher.build_hasher g.S.Hasher.Hasher.write g.S.Hasher.Hasher.finish g.met.K.Eq.laws g.met.K.Hash.respects_eq (begun_of c.args.book.now.parts) c.args.book.now.begun.book (g.Q.Equivalent.matches c.args.key.now) (g.Q.Hash.hash_input c.args.key.now) lawful (Judges g.F.FnMut) first begun c.args.pass.now.log c.args.self.now c.args.agrees.now r asks
+
+pub returns-in-Done-Refused-default-default : goal.returns-in-Done-Refused-default-default
+returns-in-Done-Refused-default-default g c = λ first begun r.
+    let lawful : IsQuery g.K.PartialEq.eq g.K.Hash.hash_input (g.Q.Equivalent.matches c.args.key.now) (g.Q.Hash.hash_input c.args.key.now) = record { feeds = g.met.Q.Equivalent.hashes_as_key c.args.key.now; class = λ k l. g.met.Q.Equivalent.matches_equal_keys c.args.key.now k l } in
+    let asks : ask_of c.args.self.now.call.machine ≡ Done (Refused c.in-Done-Refused-default-default.refused) = search rules in
+    refused g.K.PartialEq.eq g.K.Hash.hash_input g.S.BuildHasher.build_hasher g.S.Hasher.Hasher.write g.S.Hasher.Hasher.finish g.met.K.Eq.laws g.met.K.Hash.respects_eq (begun_of c.args.book.now.parts) c.args.book.now.begun.book (g.Q.Equivalent.matches c.args.key.now) (g.Q.Hash.hash_input c.args.key.now) lawful (Judges g.F.FnMut) first begun c.args.pass.now.log c.args.self.now c.args.agrees.now r c.in-Done-Refused-default-default.refused asks

@@ -6,7 +6,7 @@ use Rattle.papaya_map.proofs.writer.Writer.same.Goals as goal
 
 pub returns-in-Some-default : goal.returns-in-Some-default
 returns-in-Some-default g c = record {
-  unsaid = λ e. cc e;
+  unsaid = λ cause e. absurd (cc e);
   writes = λ key made begun r.
       let own = r.own_is c.in-Some-default.key c.in-Some-default.is-0 in
       let found = c.key-found.ensures ∙ ap (λ z. z.key.value) c.pair.ensures in
@@ -17,7 +17,7 @@ returns-in-Some-default g c = record {
 
 pub returns-in-None-Some : goal.returns-in-None-Some
 returns-in-None-Some g c = record {
-  unsaid = λ e. cc e;
+  unsaid = λ cause e. absurd (cc e);
   writes = λ key made begun r.
       let own = c.value.ensures ∙ (r.logged_is c.in-None-Some.token c.in-None-Some.is-1).0 in
       let found = c.key-found.ensures ∙ ap (λ z. z.key.value) c.pair.ensures in
