@@ -1,3 +1,4 @@
+mod computes;
 mod hashers;
 mod refused;
 mod removals;

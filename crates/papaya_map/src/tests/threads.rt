@@ -70,7 +70,7 @@ impl Tally {
 }
 
 /// Waits until the flag is set, if it ever is.
-fn turn_until(flag: &AtomicBool) -> bool {
+pub(crate) fn turn_until(flag: &AtomicBool) -> bool {
     for _ in 0..100_000_000u64 {
         if flag.load(Ordering::SeqCst) {
             return true;
@@ -81,7 +81,7 @@ fn turn_until(flag: &AtomicBool) -> bool {
 }
 
 /// Waits until both threads are here, if they ever are.
-fn meet(here: &AtomicU64) {
+pub(crate) fn meet(here: &AtomicU64) {
     here.fetch_add(1, Ordering::SeqCst);
     for _ in 0..1_000_000u64 {
         if here.load(Ordering::SeqCst) >= 2 {
