@@ -37,7 +37,7 @@ use Rattle.papaya_call.specs.declared.machine.State.{State}
 use Rattle.papaya_call.specs.declared.machine.State.TheVariants.{AtRoot, Making, Opening, Searching, Writing, Offering, Showing, Pairing, Putting, Burying, Counting, Uncounting, Leaving, Growing, Ended}
 use Rattle.papaya_call.specs.Compute.{chosen, fills, lacks, offered, provides, recalls}
 use Rattle.papaya_call.specs.Followed.{IsAtTable, IsCounting, IsGapAt, IsPurposeAt, MayAsk, table_asked, table_of, told_table}
-use Rattle.papaya_call.specs.Machine.{HasClosure, IsChanger, IsComputer, IsStanding, IsStandingState, IsWriter, MayInsert, after, absent, ask_of, asks, at_root, beaten_as, beaten_by, computes, decided, goes_as, judged, kind_asked, kind_of_ask, left, paired, passes, removes, replaces, written}
+use Rattle.papaya_call.specs.Machine.{HasClosure, IsChanger, IsStanding, IsStandingState, MayInsert, after, absent, ask_of, asks, at_root, beaten_as, beaten_by, computes, decided, goes_as, judged, kind_asked, kind_of_ask, left, paired, passes, removes, replaces, written}
 use Rattle.papaya_call.specs.Rests.{change_in}
 use Rattle.papaya_call.specs.Search.{at_size, at_word, at_yes, go_on, look, look_at, match_at, compare_byte, next_place}
 use Rattle.papaya_call.proofs.Standing.{computer_inserts, writer_inserts}

@@ -30,6 +30,7 @@ pub mod SaysWords
 pub mod SaysSaid
 pub mod SaysChanges
 pub mod SaysOnce
+pub mod SaysOver
 -- how much a lookup loads
 pub mod LoadsBound
 pub mod LoadsLeft

@@ -41,7 +41,7 @@ use Rattle.papaya_call.specs.Says.{IsSaidBy, Said, Agrees, Inserts, Makes, Remov
 use Rattle.papaya_call.proofs.SaysWords.{live_is_some}
 
 -- a word that is not 0 names a pair
-shown_pair : (word : ℕ) → 0 < word → shown_by word ≡ Some (pair_of word)
+pub shown_pair : (word : ℕ) → 0 < word → shown_by word ≡ Some (pair_of word)
 shown_pair word some = cond_both (word == 0) None (Some (pair_of word)) (λ o. o ≡ Some (pair_of word)) (λ none. let zero : word ≡ 0 = eqb-true word 0 none in absurd (omega (arith, zero, some))) (λ _. refl)
 
 -- it is remembered

@@ -3,7 +3,8 @@
 //! A backend answers what machines ask, and keeps for each call the exchanges that there were when
 //! it began, those since then, and the pairs that it was told of. By the laws below it need not
 //! look into a machine. The functions do nothing: their contracts are the laws.
-ghost use Rattle.std.specs.Prelude.{◌≡◌, ◌⊎◌, ℕ, true, ◌<◌, ◌++◌, List, [], Option, None, Some};
+ghost use Rattle.std.specs.Prelude.{◌≡◌, ◌⊎◌, ℕ, Bool, true, ◌<◌, ◌^◌, ◌++◌, List, [], Option, None, Some};
+ghost use Rattle.papaya_words.specs.Word.{pair_of};
 ghost use Rattle.papaya_words.specs.declared.probe.Refused.{Refused};
 ghost use Rattle.papaya_words.specs.declared.probe.ResizeMode.{ResizeMode};
 ghost use Rattle.papaya_call.specs.Followed.{IsAtTable, IsCounting, MayAsk, table_asked, told_table};
@@ -15,7 +16,7 @@ ghost use Rattle.papaya_call.specs.Law.Grows.{Agrees};
 ghost use Rattle.papaya_call.specs.Machine.{IsStanding, IsWriter, ask_of, kind_of_ask, after, started};
 ghost use Rattle.papaya_call.specs.Owed.{owed_by, grows_by};
 ghost use Rattle.papaya_call.specs.Rests.{Rests, IsModeOf, IsReply, WasAtMoment, change_in, change_of_reply, change_after};
-ghost use Rattle.papaya_call.specs.Says.{HasShownNone, Inserts, IsSaidBy, IsSaidChange, Said, ShowsPairs, StandsOn, said_in, said_in_reply, show};
+ghost use Rattle.papaya_call.specs.Says.{Agrees as Said_agrees, HasShownNone, Inserts, IsPaired, IsSaidBy, IsSaidChange, IsSaidExchange, KeepsFill, Removes, Said, ShowsPairs, StandsOn, said_in, said_in_reply, show};
 ghost use Rattle.papaya_call.specs.Told.{IsHashed, IsOneOf, IsAsked, IsTold, IsWritten, Hands, no_hands, word_of};
 
 use crate::ask::{Answer, Ask, At, OpKind, StepKind};
@@ -67,6 +68,10 @@ pub fn shows<K, P>()
 /// pair only where it was made of the value that its closure answered to what the pair takes the
 /// place of, and its closure is shown once at most that there is none. What a closure is shown has
 /// a word that is not 0: a call that begins shows nothing, and so it stays with each answer.
+///
+/// A compute stands on one pair for an absent key, and on one answer of a pair: a newer answer of
+/// a pair takes the older one's place, and leaves the pair for an absent key. What it exchanges in
+/// a slot is what it stands on.
 pub fn says()
     ensures begins { (task : Task) (hash : ℕ) (mode : ResizeMode) (initial : ℕ) (said : Said) → StandsOn (started task hash mode initial) said → ⊥ }
     ensures words { (m : Machine) (answer : Answer) → ShowsPairs m.state → ShowsPairs (after m answer).state }
@@ -74,6 +79,11 @@ pub fn says()
     ensures pairs { (m : Machine) (n : ℕ) (shown : Option ℕ) → ask_of m ≡ Ask.MakePair → StandsOn (after m (Answer.Made n)) (Inserts shown) → ⊥ }
     ensures one { (m : Machine) (shown other : Option ℕ) → StandsOn m (Inserts shown) → StandsOn m (Inserts other) → shown ≡ other }
     ensures silent { (m : Machine) (shown other : Option ℕ) → StandsOn m (Inserts shown) → ask_of m ≡ show other → ⊥ }
+    ensures chosen { (m : Machine) (n : ℕ) (said : Said) → m.task ≡ Task.Compute → ask_of m ≡ Ask.ShowPair n → StandsOn (after m (Answer.Op OpKind.Remove)) said → (said ≡ Removes n) ⊎ KeepsFill m said }
+    ensures paired { (m : Machine) (n : ℕ) → m.task ≡ Task.Compute → IsStanding m → ShowsPairs m.state → ask_of m ≡ Ask.MakePair → IsPaired m n }
+    ensures exchanges { (m : Machine) (t x old new : ℕ) → m.task ≡ Task.Compute → m.hash < 2 ^ 64 → IsStanding m → ask_of m ≡ Ask.Exchange (At.Slot t x) old new → IsSaidExchange m (pair_of old) (pair_of new) }
+    ensures computes { (m : Machine) (n : ℕ) (agrees : Bool) → m.task ≡ Task.Compute → StandsOn m (Said_agrees n agrees) → ⊥ }
+    ensures fresh { (m : Machine) (shown n : ℕ) (agrees : Bool) → ask_of m ≡ Ask.ShowPair shown → StandsOn m (Said_agrees n agrees) → ⊥ }
     ensures changes { (m : Machine) (answer : Answer) (old new : Option ℕ) → IsStanding m → change_in m.state ≡ None → change_in (after m answer).state ≡ Some (old, new) → IsSaidChange m.task m old new }
     ensures replies { (m : Machine) (reply : Reply) → ask_of m ≡ Ask.Done reply → said_in m.task m.state ≡ said_in_reply m.task reply }
     ensures aborts { (m : Machine) (answer : Answer) (with : ℕ) → ((reply : Reply) → ask_of m ≡ Ask.Done reply → ⊥) → ask_of (after m answer) ≡ Ask.Done (Reply.Aborted with) → (shown : Option ℕ) × (ask_of m ≡ show shown) × (answer ≡ Answer.Op (OpKind.Abort with)) }

@@ -16,21 +16,15 @@ use Rattle.papaya_call.specs.declared.call.Task.{Task}
 use Rattle.papaya_call.specs.declared.call.Task.TheVariants.{RemoveIf}
 use Rattle.papaya_call.specs.declared.machine.Machine.{Machine}
 use Rattle.papaya_call.specs.Followed.{MayAsk}
-use Rattle.papaya_call.specs.declared.compute.Choice.{Choice}
-use Rattle.papaya_call.specs.declared.compute.Choice.TheVariants.{Replace as To_replace, Remove as To_remove}
-use Rattle.papaya_call.specs.declared.machine.State.{State as Stage}
-use Rattle.papaya_call.specs.declared.machine.State.TheVariants.{AtRoot, Making, Opening, Searching, Writing, Offering, Showing, Pairing, Putting, Burying, Counting, Uncounting, Leaving, Growing, Ended}
-use Rattle.papaya_call.specs.declared.search.Search.TheVariants.{Sizing, Looking, Comparing}
-use Rattle.papaya_call.specs.declared.write.Made.{Made}
-use Rattle.papaya_call.specs.declared.write.Made.TheVariants.{Nothing, Key, Pair}
 use Rattle.papaya_call.specs.Machine.{IsFit, IsStanding, after, ask_of, asks, kind_of_ask}
 use Rattle.papaya_call.specs.Rests.{WasAtMoment}
 use Rattle.papaya_call.specs.Told.{or_last}
-use Rattle.papaya_call.specs.Says.{Agrees, ShowsPairs, StandsOn, said_in, said_to_choose, said_to_fill}
+use Rattle.papaya_call.specs.Says.{Agrees, ShowsPairs, StandsOn}
 use Rattle.papaya_call.specs.Search.{IsSize}
 use Rattle.papaya_call.proofs.RestsHeld as held
 use Rattle.papaya_call.proofs.RestsHeld.{IsShowing}
 use Rattle.papaya_call.proofs.Followed.{asked_of_task}
+use Rattle.papaya_call.proofs.SaysOver.{unsaid}
 use Rattle.papaya_call.proofs.SaysSaid.{machine_said}
 use Rattle.papaya_call.proofs.SaysWords.{machine_shows}
 use Rattle.papaya_map.specs.Sheets.{Sheet}
@@ -54,46 +48,6 @@ use Rattle.papaya_map.proofs.Exchanging.{exchanged, lost}
 use Rattle.papaya_map.proofs.Histories.{history_since}
 use Rattle.papaya_map.proofs.Readings.{IsQuery, fed, hashed_with}
 use Rattle.papaya_map.proofs.Showings.{all_shown, held_then, held_wider}
-
--- a machine that shows a pair stands on no answer of a closure's to a pair
-module _ (n : ℕ) (agrees : Bool) where
-  not_to_fill : (held : Option ℕ) → said_to_fill held ≡ Some (Agrees n agrees) → ⊥
-  not_to_fill None e = cc e
-  not_to_fill (Some i) e = cc e
-
-  not_to_choose : (held : Option Choice) → said_to_choose held ≡ Some (Agrees n agrees) → ⊥
-  not_to_choose None e = cc e
-  not_to_choose (Some (To_replace old new)) e = cc e
-  not_to_choose (Some (To_remove old)) e = cc e
-
-  unsaid_in : (task : Task) (made : Made) (hash : ℕ) (s : Stage) (shown : ℕ) → asks made hash s ≡ ShowPair shown → said_in task s ≡ Some (Agrees n agrees) → ⊥
-  unsaid_in task made hash AtRoot shown e said = cc e
-  unsaid_in task made hash Making shown e said = cc e
-  unsaid_in task made hash (Opening t) shown e said = cc e
-  unsaid_in task made hash (Searching (Sizing t)) shown e said = cc e
-  unsaid_in task made hash (Searching (Looking at)) shown e said = cc e
-  unsaid_in task made hash (Searching (Comparing at word)) shown e said = cc e
-  unsaid_in task Nothing hash (Writing write) shown e said = cc e
-  unsaid_in task Key hash (Writing write) shown e said = cc e
-  unsaid_in task (Pair i) hash (Writing write) shown e said = cc e
-  unsaid_in task made hash (Offering gap) shown e said = cc e
-  unsaid_in task made hash (Showing removal) shown e said = cc said
-  unsaid_in task Nothing hash (Pairing purpose) shown e said = cc e
-  unsaid_in task Key hash (Pairing purpose) shown e said = cc e
-  unsaid_in task (Pair i) hash (Pairing purpose) shown e said = cc e
-  unsaid_in task made hash (Putting put) shown e said = cc e
-  unsaid_in task made hash (Burying removal) shown e said = cc e
-  unsaid_in task made hash (Counting i) shown e said = cc e
-  unsaid_in task made hash (Uncounting i) shown e said = cc e
-  unsaid_in task made hash (Leaving t) shown e said = cc e
-  unsaid_in task made hash (Growing t) shown e said = cc e
-  unsaid_in task made hash (Ended reply) shown e said = cc e
-
-unsaid : (m : Machine) (shown n : ℕ) (agrees : Bool) → ask_of m ≡ ShowPair shown → StandsOn m (Agrees n agrees) → ⊥
-unsaid m shown n agrees e stands =
-    ⊎_elim (λ h. unsaid_in n agrees m.task m.made m.hash m.state shown e h)
-    (λ o. ⊎_elim (λ h. not_to_fill n agrees m.remembered.fill h) (λ h. not_to_choose n agrees m.remembered.choice h) o)
-    stands
 
 -- what a machine stands on that its closure agreed to, it stood on before an answer that shows nothing
 stood_before : (m : Machine) (answer : Answer) → IsStanding m → ShowsPairs m.state → ((n : ℕ) → ask_of m ≡ ShowPair n → ⊥) → (n : ℕ) (agrees : Bool) → StandsOn (after m answer) (Agrees n agrees) → StandsOn m (Agrees n agrees)

@@ -1,0 +1,85 @@
+//! The maps that the workloads are run on.
+use crate::failure::Failure;
+use crate::plan::{Part, Plan};
+use crate::{one_caller, shared};
+use papaya_words::probe::Refused;
+use std::alloc::Global;
+use std::rt::Clock;
+use std::sync::Wait;
+use std::thread::Threads;
+use std::time::Instant;
+
+/// What a workload is run on.
+#[derive(Clone, Copy, Debug, PartialEq, Eq)]
+pub enum Backend {
+    /// The map for one caller.
+    Seq,
+    /// The shared map, by one thread.
+    Shared,
+    /// The shared map, by several threads.
+    Threads,
+}
+
+/// What a run of a plan gave: how long its rounds took, and the sum of their answers.
+#[derive(Clone, Copy, Debug, PartialEq, Eq)]
+pub struct Measure {
+    pub nanoseconds: u128,
+    pub checksum: u64,
+}
+
+impl Backend {
+    /// All backends, in the order in which they are run.
+    pub const ALL: [Backend; 3] = [Backend::Seq, Backend::Shared, Backend::Threads];
+
+    /// The name in what is printed.
+    pub fn name(self) -> &'static str {
+        match self {
+            Backend::Seq => "seq",
+            Backend::Shared => "shared",
+            Backend::Threads => "threads",
+        }
+    }
+
+    /// Makes the maps of a plan, and then measures its rounds alone.
+    pub fn measure<R: Clock + Threads + Wait + Sync>(
+        self,
+        rt: &R,
+        alloc: Global,
+        plan: Plan,
+    ) -> Result<Measure, Failure> {
+        match self {
+            Backend::Seq => {
+                let mut maps = one_caller::maps(alloc, plan).map_err(Failure::Refused)?;
+                let start = now(rt)?;
+                let sum = one_caller::run(maps.as_mut_slice(), plan);
+                ended(rt, start, sum)
+            }
+            Backend::Shared => {
+                let maps = shared::maps(rt, alloc, plan).map_err(Failure::Refused)?;
+                let start = now(rt)?;
+                let sum = shared::run(rt, maps.as_slice(), plan, Part::whole(plan));
+                ended(rt, start, sum)
+            }
+            Backend::Threads => {
+                let maps = shared::maps(rt, alloc, plan).map_err(Failure::Refused)?;
+                let start = now(rt)?;
+                let sum = shared::run_in_threads(rt, alloc, maps.as_slice(), plan);
+                ended(rt, start, sum)
+            }
+        }
+    }
+}
+
+/// The moment.
+fn now<R: Clock>(rt: &R) -> Result<Instant, Failure> {
+    Instant::now(rt).map_err(|_| Failure::Clock)
+}
+
+/// The measure of a run that began at `start` and has ended with this sum.
+fn ended<R: Clock>(rt: &R, start: Instant, sum: Result<u64, Refused>) -> Result<Measure, Failure> {
+    let elapsed = start.elapsed(rt).map_err(|_| Failure::Clock)?;
+    Ok(Measure {
+        nanoseconds: elapsed.as_nanos(),
+        checksum: sum.map_err(Failure::Refused)?,
+    })
+}

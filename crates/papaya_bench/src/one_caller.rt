@@ -1,0 +1,79 @@
+//! The workloads on the map for one caller.
+use crate::answers::weight;
+use crate::plan::{Part, Plan, Workload, key_of};
+use papaya_seq::seq::HashMap;
+use papaya_words::probe::{Refused, ResizeMode};
+use std::alloc::Global;
+use std::hash::{BuildHasherDefault, FoldHasher};
+
+/// The map that is measured.
+pub type Map = HashMap<u64, u64, BuildHasherDefault<FoldHasher>>;
+
+/// A map with the pairs that it has before the first round.
+fn made(alloc: Global, plan: Plan) -> Result<Map, Refused> {
+    let mut map = HashMap::with_parts(
+        alloc,
+        ResizeMode::default(),
+        plan.capacity(),
+        1,
+        BuildHasherDefault::new(),
+    )?;
+    for number in 0..u64::from(plan.filled()) {
+        map.insert(key_of(number), number)?;
+    }
+    Ok(map)
+}
+
+/// The maps of a plan.
+pub fn maps(alloc: Global, plan: Plan) -> Result<Vec<Map>, Refused> {
+    let mut maps = Vec::new(alloc);
+    let (count, _) = plan.maps();
+    for _ in 0..count {
+        maps.push(made(alloc, plan)?).map_err(|_| Refused::Memory)?;
+    }
+    Ok(maps)
+}
+
+/// One step, at the key of this number: what it answers.
+#[inline(always)]
+fn step(map: &mut Map, plan: Plan, number: u64, round: u32) -> Result<u64, Refused> {
+    let key = key_of(number);
+    match plan.workload {
+        Workload::GetHit => Ok(weight(map.get(&key))),
+        Workload::GetMiss => {
+            let absent = key_of(number.wrapping_add(u64::from(plan.keys)));
+            Ok(weight(map.get(&absent)))
+        }
+        Workload::InsertFresh => Ok(weight(map.insert(key, number)?)),
+        Workload::InsertReplace => {
+            let value = number.wrapping_add(u64::from(round)).wrapping_add(1);
+            Ok(weight(map.insert(key, value)?))
+        }
+        Workload::RemoveInsert => {
+            let removed = weight(map.remove(&key)?);
+            Ok(removed.wrapping_add(weight(map.insert(key, number)?)))
+        }
+    }
+}
+
+/// The rounds of one map: the sum of what their steps answer.
+fn rounds(map: &mut Map, plan: Plan, part: Part) -> Result<u64, Refused> {
+    let mut sum: u64 = 0;
+    let (_, rounds) = plan.maps();
+    for round in 0..rounds {
+        for turn in part.start..part.end {
+            let number = plan.number_at(turn);
+            sum = sum.wrapping_add(step(map, plan, number, round)?);
+        }
+    }
+    Ok(sum)
+}
+
+/// The rounds of all maps: the sum of what their steps answer.
+pub fn run(maps: &mut [Map], plan: Plan) -> Result<u64, Refused> {
+    let mut sum: u64 = 0;
+    for map in maps {
+        sum = sum.wrapping_add(rounds(map, plan, Part::whole(plan))?);
+    }
+    Ok(sum)
+}

@@ -1,0 +1,144 @@
+//! The whole program, over any runtime and writers.
+ghost use Rattle.std.specs.Prelude.{◌≡◌, ◌≢◌, ◌≤◌, map, string_bytes};
+ghost use Rattle.papaya_bench.specs.declared.arguments.Task.{Task};
+ghost use Rattle.papaya_bench.specs.Arguments.{words_of};
+
+use crate::answers::compare;
+use crate::arguments::Task;
+use crate::backends::Backend;
+use crate::failure::Failure;
+use crate::plan::{Plan, Workload};
+use papaya_words::probe::Refused;
+use std::alloc::Global;
+use std::io::Write;
+use std::rt::Clock;
+use std::sync::Wait;
+use std::thread::Threads;
+
+#[cfg(test)]
+mod tests;
+
+/// How many keys a map has where answers are compared, and in how many rounds.
+const CHECKED: (u32, u32) = (64, 2);
+
+/// How many keys a map has where it is timed, and in how many rounds.
+const TIMED: [(u32, u32); 2] = [(0x1000, 64), (0x1_0000, 4)];
+
+/// Prints what each backend's answers to one workload sum to. The sums are equal, or it fails.
+fn check_workload<R: Clock + Threads + Wait + Sync, W: Write>(
+    rt: &R,
+    alloc: Global,
+    workload: Workload,
+    output: &mut W,
+) -> Result<(), Failure> {
+    let (keys, rounds) = CHECKED;
+    let plan = Plan {
+        workload,
+        keys,
+        rounds,
+    };
+    let first = Backend::Seq.measure(rt, alloc, plan)?.checksum;
+    let name = workload.name();
+    write!(output, "{name}: seq {first}").map_err(|_| Failure::Output)?;
+    let mut others = Vec::new(alloc);
+    for backend in [Backend::Shared, Backend::Threads] {
+        let sum = backend.measure(rt, alloc, plan)?.checksum;
+        let name = backend.name();
+        write!(output, " {name} {sum}").map_err(|_| Failure::Output)?;
+        others
+            .push(sum)
+            .map_err(|_| Failure::Refused(Refused::Memory))?;
+    }
+    writeln!(output).map_err(|_| Failure::Output)?;
+    compare(first, others.as_slice())
+}
+
+/// Compares the backends' answers to each workload.
+fn check<R: Clock + Threads + Wait + Sync, W: Write>(
+    rt: &R,
+    alloc: Global,
+    output: &mut W,
+) -> Result<(), Failure> {
+    for workload in Workload::ALL {
+        check_workload(rt, alloc, workload, output)?;
+    }
+    output.flush().map_err(|_| Failure::Output)
+}
+
+/// Prints a line of the time that each backend takes for one workload.
+fn time_workload<R: Clock + Threads + Wait + Sync, W: Write>(
+    rt: &R,
+    alloc: Global,
+    plan: Plan,
+    output: &mut W,
+) -> Result<(), Failure> {
+    for backend in Backend::ALL {
+        let measure = backend.measure(rt, alloc, plan)?;
+        writeln!(
+            output,
+            "{}/{}/{} {} {} {}",
+            plan.workload.name(),
+            backend.name(),
+            plan.keys,
+            plan.steps(),
+            measure.nanoseconds,
+            measure.checksum
+        )
+        .map_err(|_| Failure::Output)?;
+        output.flush().map_err(|_| Failure::Output)?;
+    }
+    Ok(())
+}
+
+/// Times each workload.
+fn time<R: Clock + Threads + Wait + Sync, W: Write>(
+    rt: &R,
+    alloc: Global,
+    output: &mut W,
+) -> Result<(), Failure> {
+    for (keys, rounds) in TIMED {
+        for workload in Workload::ALL {
+            let plan = Plan {
+                workload,
+                keys,
+                rounds,
+            };
+            time_workload(rt, alloc, plan, output)?;
+        }
+    }
+    Ok(())
+}
+
+/// Does what the arguments ask for.
+fn run<R: Clock + Threads + Wait + Sync, W: Write>(
+    rt: &R,
+    alloc: Global,
+    args: &[String],
+    output: &mut W,
+) -> Result<(), Failure>
+    ensures { ((task : Task) → map string_bytes args.now ≢ words_of task) → result ≡ Err Failure.Arguments }
+{
+    match Task::from_words(args) {
+        None => Err(Failure::Arguments),
+        Some(Task::Check) => check(rt, alloc, output),
+        Some(Task::Time) => time(rt, alloc, output),
+    }
+}
+
+/// Runs the program on the arguments behind its name, and answers its exit status: 0, or the
+/// failure's that it has printed on `errors`.
+pub fn run_on<R: Clock + Threads + Wait + Sync, W: Write, E: Write>(
+    rt: &R,
+    alloc: Global,
+    args: &[String],
+    output: &mut W,
+    errors: &mut E,
+) -> u8
+    ensures bad_arguments { ((task : Task) → map string_bytes args.now ≢ words_of task) → result ≡ 2 }
+    ensures bound { result ≤ 2 }
+{
+    match run(rt, alloc, args, output) {
+        Ok(()) => 0,
+        Err(failure) => failure.report(errors),
+    }
+}
