@@ -3,3 +3,4 @@ pub mod NumberLemmas
 pub mod OneCallerLemmas
 pub mod PartLemmas
 pub mod ScriptLemmas
+pub mod SharedLemmas

@@ -1,15 +1,17 @@
 -- What a command does to a shared map by a pass, and what is printed of it.
-use Rattle.std.specs.Prelude.{◌≡◌, ◌==◌, ℕ, List, Option, Result, IfOk, option_map, ◌⊎◌}
+use Rattle.std.specs.Prelude.{◌≡◌, ◌==◌, ℕ, List, Option, None, Some, Result, Ok, Err, IfOk, option_map, ◌⊎◌}
 use Rattle.std.specs.Borrow.{Bor}
 use Rattle.papaya_words.specs.declared.probe.Refused.{Refused}
 use Rattle.papaya_seq.specs.Answered.{old_answered}
-use Rattle.papaya_map.specs.Changing.{IsPut}
-use Rattle.papaya_map.specs.History.{Change}
+use Rattle.papaya_map.specs.Changing.{IsChangeOf, IsPut}
+use Rattle.papaya_map.specs.History.{Change, key_of}
 use Rattle.papaya_map.specs.Logs.{Stored}
 use Rattle.papaya_map.specs.Readers.{IsAnsweredBetween}
 use Rattle.papaya_map.specs.Removing.{IsRemoved}
+use Rattle.papaya_map.specs.Showings.{WasHeld}
+use Rattle.papaya_run.specs.Answering.{follower}
 use Rattle.papaya_run.specs.Commands.{WritesCommand, WritesNone}
-use Rattle.papaya_run.specs.OneCaller.{of_insertion, of_lookup, of_removal}
+use Rattle.papaya_run.specs.OneCaller.{of_insertion, of_lookup, of_removal, of_update}
 use Rattle.papaya_run.specs.declared.commands.Command.{Command}
 use Rattle.papaya_run.specs.declared.commands.Command.TheVariants as command
 use Rattle.papaya_run.specs.declared.printed.Printed.{Printed}
@@ -24,16 +26,22 @@ abbrev pub IsMissing : Command → Type 0
 IsMissing (command.Insert k v) = ⊥
 IsMissing (command.Get k) = ⊥
 IsMissing (command.Remove k) = ⊥
-IsMissing (command.Update k) = Unit {0}
+IsMissing (command.Update k) = ⊥
 IsMissing command.Len = ⊥
 IsMissing command.Slots = Unit {0}
+
+-- An update of the key k: its change, the last that was seen, put in a pair of the key whose value, which is the answer, follows that of the pair that it took out. Or the key was absent at a moment between the two.
+abbrev pub IsFollowed : ℕ → Seen → Seen → Result (Option ℕ) Refused → Type 0
+IsFollowed k old new (Ok None) = WasHeld (λ a b. a == b) (λ key. k == key) old new None
+IsFollowed k old new (Ok (Some value)) = (p q : Stored ℕ ℕ) × IsChangeOf (λ key. k == key) old new (Some p) (Some q) × (key_of q ≡ k) × (q.value.value ≡ value) × (value ≡ follower p.value.value)
+IsFollowed k old new (Err refused) = Unit {0}
 
 -- The command was done by a pass that had seen the one history before and has seen the other then, and this is printed. What was counted is no part of a history.
 abbrev pub Obeys : Command → Seen → Printed → Seen → Type 0
 Obeys (command.Insert k v) old text new = (answer : Result (Option (Bor ℕ)) Refused) × (text ≡ of_insertion (old_answered answer)) × IfOk answer (IsPut (λ a b. a == b) k v old new)
 Obeys (command.Get k) old text new = (found : Option (Bor ℕ)) × (text ≡ of_lookup (option_map (λ v. v.now) found)) × IsAnsweredBetween (λ a b. a == b) (λ key. k == key) old new found
 Obeys (command.Remove k) old text new = (answer : Result (Option (Bor ℕ)) Refused) × (text ≡ of_removal (old_answered answer)) × IsRemoved (λ a b. a == b) (λ key. k == key) old new answer
-Obeys (command.Update k) old text new = ⊥
+Obeys (command.Update k) old text new = (answer : Result (Option ℕ) Refused) × (text ≡ of_update answer) × IsFollowed k old new answer
 Obeys command.Len old text new = (count : ℕ) × (text ≡ printed.Length count) × (new ≡ old)
 Obeys command.Slots old text new = ⊥
 

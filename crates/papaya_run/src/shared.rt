@@ -1,15 +1,19 @@
 //! The lines on the map that threads share, by one pass: each is read, done and printed before the
 //! next is read.
-ghost use Rattle.std.specs.Prelude.{◌≡◌, MatchOption};
+ghost use Rattle.std.specs.Prelude.{◌≡◌, MatchOption, option_map};
 ghost use mathlib.Core.List.{IsPrefix};
-ghost use Rattle.papaya_run.specs.Shared.{IsBad, IsMissing, Obeys, ObeysLine};
+ghost use Rattle.papaya_run.specs.Answering.{operation_of};
+ghost use Rattle.papaya_run.specs.Shared.{IsBad, IsFollowed, IsMissing, Obeys, ObeysLine};
 
+use crate::answering::Answering;
 use crate::commands::{Command, command_of};
 use crate::failure::Failure;
 use crate::line_by_line::{Obey, run_lines};
 use crate::printed::Printed;
+use papaya_call::answers::Answers;
 use papaya_map::map::{HashMap, HashMapRef, Pass};
-use papaya_words::probe::ResizeMode;
+use papaya_seq::compute::Compute;
+use papaya_words::probe::{Refused, ResizeMode};
 use std::alloc::Global;
 use std::hash::BuildHasher;
 use std::io::{Read, Write};
@@ -42,6 +46,35 @@ impl<'a, H: Wait, S: BuildHasher + Drop> Caller<'a, H, S> {
         }
     }
 
+    /// Puts the number after a key's value in its place, where 0 follows the greatest, and answers
+    /// it. None where the key is absent.
+    fn update(&mut self, key: u64) -> Result<Option<u64>, Refused>
+        ensures map { self.new.pinned ≡ self.old.pinned }
+        ensures seen { IsPrefix self.old.pass.history self.new.pass.history }
+        ensures updated { IsFollowed key self.old.pass.history self.new.pass.history result }
+    {
+        let computed = self.pinned.compute_as(
+            self.rt,
+            key,
+            |shown|
+                ensures { result ≡ operation_of (option_map (λ p. (p.0.now, p.1.now)) shown.entry) }
+            { Answering.op(shown) },
+            &mut self.pass,
+        );
+        match computed {
+            Ok(
+                Compute::Updated {
+                    new: (_, value),
+                    ..
+                },
+            ) => Ok(Some(*value)),
+            Ok(Compute::Aborted(_)) => Ok(None),
+            Ok(Compute::Inserted(..)) => unreachable!(),
+            Ok(Compute::Removed(..)) => unreachable!(),
+            Err(refused) => Err(refused),
+        }
+    }
+
     /// Does what a command asks for, and answers what is printed of it. None where the shared map
     /// has no such command.
     fn obey(&mut self, command: Command) -> Option<Printed>
@@ -69,7 +102,12 @@ impl<'a, H: Wait, S: BuildHasher + Drop> Caller<'a, H, S> {
                 },
             ),
             Command::Len => Some(Printed::Length(self.map.len())),
-            Command::Update(_) | Command::Slots => None,
+            Command::Update(key) => Some(match self.update(key) {
+                Ok(Some(value)) => Printed::New(value),
+                Ok(None) => Printed::Absent,
+                Err(refused) => Printed::Refused(refused),
+            }),
+            Command::Slots => None,
         }
     }
 }

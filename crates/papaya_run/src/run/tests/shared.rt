@@ -16,6 +16,29 @@ fn a_pair_comes_and_goes(rt: HostRuntime) -> Result<(), Fail> {
 }
 
 #[test]
+fn updates(rt: HostRuntime) -> Result<(), Fail> {
+    expect(
+        &rt,
+        rt.alloc(),
+        "shared inc:64 id",
+        b"g 7\ni 7 1\ni 7 2\nu 7\nr 7\nr 7\nlen\n",
+        "none\nnone\nold 1\nnew 3\nremoved 3\nnone\nlen 0\n",
+        "",
+        0,
+    )?;
+    // Of an absent key, and past the greatest value.
+    expect(
+        &rt,
+        rt.alloc(),
+        "shared block zero",
+        b"u 1\nlen\ni 1 18446744073709551615\nu 1\ng 1\n",
+        "none\nlen 0\nnone\nnew 0\nsome 0\n",
+        "",
+        0,
+    )
+}
+
+#[test]
 fn a_path_has_26_places(rt: HostRuntime) -> Result<(), Fail> {
     // All keys take one path, which in a table of 32 slots ends after 26.
     let mut script = Vec::new(rt.alloc());
@@ -40,13 +63,6 @@ fn a_path_has_26_places(rt: HostRuntime) -> Result<(), Fail> {
 
 #[test]
 fn no_such_lines(rt: HostRuntime) -> Result<(), Fail> {
-    let lines: [&[u8]; 6] = [
-        b"clear",
-        b"walk",
-        b"slots",
-        b"u 7",
-        b"begin 0 g 1",
-        b"step 0",
-    ];
+    let lines: [&[u8]; 5] = [b"clear", b"walk", b"slots", b"begin 0 g 1", b"step 0"];
     expect_bad(&rt, rt.alloc(), "shared inc:64 id", &lines)
 }
