@@ -1,8 +1,7 @@
 //! The maps that the workloads are run on.
-use crate::failure::Failure;
-use crate::plan::{Part, Plan};
 use crate::{one_caller, shared};
-use papaya_words::probe::Refused;
+use papaya_plan::plan::{Part, Plan};
+use papaya_shell::failure::Failure;
 use std::alloc::Global;
 use std::rt::Clock;
 use std::sync::Wait;
@@ -49,19 +48,19 @@ impl Backend {
     ) -> Result<Measure, Failure> {
         match self {
             Backend::Seq => {
-                let mut maps = one_caller::maps(alloc, plan).map_err(Failure::Refused)?;
+                let mut maps = one_caller::maps(alloc, plan)?;
                 let start = now(rt)?;
                 let sum = one_caller::run(maps.as_mut_slice(), plan);
                 ended(rt, start, sum)
             }
             Backend::Shared => {
-                let maps = shared::maps(rt, alloc, plan).map_err(Failure::Refused)?;
+                let maps = shared::maps(rt, alloc, plan)?;
                 let start = now(rt)?;
                 let sum = shared::run(rt, maps.as_slice(), plan, Part::whole(plan));
                 ended(rt, start, sum)
             }
             Backend::Threads => {
-                let maps = shared::maps(rt, alloc, plan).map_err(Failure::Refused)?;
+                let maps = shared::maps(rt, alloc, plan)?;
                 let start = now(rt)?;
                 let sum = shared::run_in_threads(rt, alloc, maps.as_slice(), plan);
                 ended(rt, start, sum)
@@ -76,10 +75,10 @@ fn now<R: Clock>(rt: &R) -> Result<Instant, Failure> {
 }
 
 /// The measure of a run that began at `start` and has ended with this sum.
-fn ended<R: Clock>(rt: &R, start: Instant, sum: Result<u64, Refused>) -> Result<Measure, Failure> {
+fn ended<R: Clock>(rt: &R, start: Instant, sum: Result<u64, Failure>) -> Result<Measure, Failure> {
     let elapsed = start.elapsed(rt).map_err(|_| Failure::Clock)?;
     Ok(Measure {
         nanoseconds: elapsed.as_nanos(),
-        checksum: sum.map_err(Failure::Refused)?,
+        checksum: sum?,
     })
 }

@@ -1,7 +1,8 @@
 //! The workloads on the map for one caller.
-use crate::answers::weight;
-use crate::plan::{Part, Plan, Workload, key_of};
+use papaya_plan::answers::weight;
+use papaya_plan::plan::{Part, Plan, Workload, key_of};
 use papaya_seq::seq::HashMap;
+use papaya_shell::failure::Failure;
 use papaya_words::probe::{Refused, ResizeMode};
 use std::alloc::Global;
 use std::hash::{BuildHasherDefault, FoldHasher};
@@ -25,11 +26,11 @@ fn made(alloc: Global, plan: Plan) -> Result<Map, Refused> {
 }
 
 /// The maps of a plan.
-pub fn maps(alloc: Global, plan: Plan) -> Result<Vec<Map>, Refused> {
+pub fn maps(alloc: Global, plan: Plan) -> Result<Vec<Map>, Failure> {
     let mut maps = Vec::new(alloc);
     let (count, _) = plan.maps();
     for _ in 0..count {
-        maps.push(made(alloc, plan)?).map_err(|_| Refused::Memory)?;
+        maps.push(made(alloc, plan)?)?;
     }
     Ok(maps)
 }
@@ -70,7 +71,7 @@ fn rounds(map: &mut Map, plan: Plan, part: Part) -> Result<u64, Refused> {
 }
 
 /// The rounds of all maps: the sum of what their steps answer.
-pub fn run(maps: &mut [Map], plan: Plan) -> Result<u64, Refused> {
+pub fn run(maps: &mut [Map], plan: Plan) -> Result<u64, Failure> {
     let mut sum: u64 = 0;
     for map in maps {
         sum = sum.wrapping_add(rounds(map, plan, Part::whole(plan))?);

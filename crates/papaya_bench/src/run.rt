@@ -1,14 +1,13 @@
 //! The whole program, over any runtime and writers.
 ghost use Rattle.std.specs.Prelude.{◌≡◌, ◌≢◌, ◌≤◌, map, string_bytes};
-ghost use Rattle.papaya_bench.specs.declared.arguments.Task.{Task};
-ghost use Rattle.papaya_bench.specs.Arguments.{words_of};
+ghost use Rattle.papaya_plan.specs.declared.arguments.Task.{Task};
+ghost use Rattle.papaya_plan.specs.Arguments.{words_of};
 
-use crate::answers::compare;
-use crate::arguments::Task;
 use crate::backends::Backend;
-use crate::failure::Failure;
-use crate::plan::{Plan, Workload};
-use papaya_words::probe::Refused;
+use papaya_plan::answers::compare;
+use papaya_plan::arguments::Task;
+use papaya_plan::plan::{Plan, Workload};
+use papaya_shell::failure::{Failure, ended};
 use std::alloc::Global;
 use std::io::Write;
 use std::rt::Clock;
@@ -17,6 +16,9 @@ use std::thread::Threads;
 
 #[cfg(test)]
 mod tests;
+
+/// The name of the program in what it prints on standard error.
+pub const PROGRAM: &str = "papaya-bench";
 
 /// How many keys a map has where answers are compared, and in how many rounds.
 const CHECKED: (u32, u32) = (64, 2);
@@ -45,9 +47,7 @@ fn check_workload<R: Clock + Threads + Wait + Sync, W: Write>(
         let sum = backend.measure(rt, alloc, plan)?.checksum;
         let name = backend.name();
         write!(output, " {name} {sum}").map_err(|_| Failure::Output)?;
-        others
-            .push(sum)
-            .map_err(|_| Failure::Refused(Refused::Memory))?;
+        others.push(sum)?;
     }
     writeln!(output).map_err(|_| Failure::Output)?;
     compare(first, others.as_slice())
@@ -137,8 +137,5 @@ pub fn run_on<R: Clock + Threads + Wait + Sync, W: Write, E: Write>(
     ensures bad_arguments { ((task : Task) → map string_bytes args.now ≢ words_of task) → result ≡ 2 }
     ensures bound { result ≤ 2 }
 {
-    match run(rt, alloc, args, output) {
-        Ok(()) => 0,
-        Err(failure) => failure.report(errors),
-    }
+    ended(run(rt, alloc, args, output), PROGRAM, errors)
 }

@@ -1,9 +1,10 @@
 //! The workloads on the shared map, by one thread and by several.
 ghost use Rattle.std.specs.Prelude.{◌≡◌};
 
-use crate::answers::weight;
-use crate::plan::{Part, Plan, THREADS, Workload, key_of};
 use papaya_map::map::{HashMap, HashMapRef, Pass};
+use papaya_plan::answers::weight;
+use papaya_plan::plan::{Part, Plan, THREADS, Workload, key_of};
+use papaya_shell::failure::Failure;
 use papaya_words::limits::DEFAULT_SHARDS;
 use papaya_words::probe::{Refused, ResizeMode};
 use std::alloc::Global;
@@ -42,12 +43,11 @@ fn made<R: Wait>(rt: &R, alloc: Global, plan: Plan) -> Result<Map, Refused> {
 }
 
 /// The maps of a plan.
-pub fn maps<R: Wait>(rt: &R, alloc: Global, plan: Plan) -> Result<Vec<Map>, Refused> {
+pub fn maps<R: Wait>(rt: &R, alloc: Global, plan: Plan) -> Result<Vec<Map>, Failure> {
     let mut maps = Vec::new(alloc);
     let (count, _) = plan.maps();
     for _ in 0..count {
-        maps.push(made(rt, alloc, plan)?)
-            .map_err(|_| Refused::Memory)?;
+        maps.push(made(rt, alloc, plan)?)?;
     }
     Ok(maps)
 }
@@ -100,7 +100,7 @@ fn rounds<R: Wait>(rt: &R, map: &Map, plan: Plan, part: Part) -> Result<u64, Ref
 }
 
 /// The part of one thread in the rounds of all maps: the sum of what its steps answer.
-pub fn run<R: Wait>(rt: &R, maps: &[Map], plan: Plan, part: Part) -> Result<u64, Refused> {
+pub fn run<R: Wait>(rt: &R, maps: &[Map], plan: Plan, part: Part) -> Result<u64, Failure> {
     let mut sum: u64 = 0;
     for map in maps {
         sum = sum.wrapping_add(rounds(rt, map, plan, part)?);
@@ -115,14 +115,13 @@ pub fn run_in_threads<R: Threads + Wait + Sync>(
     alloc: Global,
     maps: &[Map],
     plan: Plan,
-) -> Result<u64, Refused> {
+) -> Result<u64, Failure> {
     let sums = thread::map_indices(
         rt,
         alloc,
         THREADS as usize,
         &|thread| { run(rt, maps, plan, Part::of_thread(plan, thread as u32)) },
-    )
-    .map_err(|_| Refused::Memory)?;
+    )?;
     let mut sum: u64 = 0;
     for part in &sums {
         sum = sum.wrapping_add((*part)?);

@@ -1,14 +1,6 @@
-pub mod Alone
 pub mod Answers
 pub mod Compute
-pub mod Followed
-pub mod Law
-pub mod Loads
 pub mod Machine
-pub mod Owed
 pub mod Remove
-pub mod Rests
-pub mod Says
 pub mod Search
-pub mod Told
 pub mod Write

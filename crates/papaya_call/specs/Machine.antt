@@ -84,31 +84,19 @@ write_kind_of Key write = None
 write_kind_of (Pair n) write = Some (write_kind write)
 
 abbrev pub kind_asked : Made → State → Option StepKind
-kind_asked made AtRoot = None
-kind_asked made Making = None
 kind_asked made (Opening table) = Some Open
-kind_asked made (Searching search) = None
 kind_asked made (Writing write) = write_kind_of made write
-kind_asked made (Offering gap) = None
-kind_asked made (Showing removal) = None
-kind_asked made (Pairing purpose) = None
 kind_asked made (Putting put) = Some (write_kind put.write)
 kind_asked made (Burying removal) = Some Bury
-kind_asked made (Counting pair) = None
-kind_asked made (Uncounting pair) = None
-kind_asked made (Leaving table) = None
-kind_asked made (Growing table) = None
-kind_asked made (Ended reply) = None
+kind_asked made _ = None
 
 abbrev pub kind_of_ask : Machine → Option StepKind
 kind_of_ask m = kind_asked m.made m.state
 
 -- the key is absent, and a pair of it would stand there
 abbrev pub absent : Task → Option ℕ → Gap → State
-absent Get fill gap = Ended Absent
-absent (Insert replace) fill gap = Ended Absent
-absent RemoveIf fill gap = Ended Absent
 absent Compute fill gap = lacks fill gap
+absent _ fill gap = Ended Absent
 
 -- the root is this table, or there is none
 abbrev pub at_root : Task → Option ℕ → ℕ → State
@@ -129,29 +117,17 @@ passes task Blocking fill table = absent task fill (After table)
 -- a pair with a matching key is replaced where its word is Live; one that is marked can't be changed here
 abbrev pub replaces : Kind → Place → ℕ → State
 replaces Live at word = Writing (record { place = at; old = word })
-replaces Is_empty at word = Growing at.table
-replaces Marked at word = Growing at.table
-replaces Copied at word = Growing at.table
-replaces Buried at word = Growing at.table
-replaces Closed at word = Growing at.table
+replaces _ at word = Growing at.table
 
 -- and is shown to the closure of a removal there
 abbrev pub removes : Kind → Place → ℕ → State
 removes Live at word = Showing (record { place = at; word = word })
-removes Is_empty at word = Growing at.table
-removes Marked at word = Growing at.table
-removes Copied at word = Growing at.table
-removes Buried at word = Growing at.table
-removes Closed at word = Growing at.table
+removes _ at word = Growing at.table
 
 -- and to the closure of a compute, or acted on as it answered before
 abbrev pub computes : Kind → Remembered → Place → ℕ → State
 computes Live held at word = meets held.choice at word
-computes Is_empty held at word = Growing at.table
-computes Marked held at word = Growing at.table
-computes Copied held at word = Growing at.table
-computes Buried held at word = Growing at.table
-computes Closed held at word = Growing at.table
+computes _ held at word = Growing at.table
 
 abbrev pub found : Task → Remembered → Place → ℕ → State
 found Get held at word = Ended (Found (pair_of word))
@@ -188,17 +164,11 @@ exchanged (Pair n) write = written write n
 -- a burial found this word in the place of its own; for a removal the key was absent where another call buried its pair
 abbrev pub beaten_by : Kind → Machine → Place → ℕ → State
 beaten_by Buried m at word = Ended Absent
-beaten_by Is_empty m at word = goes m (look at m.hash word)
-beaten_by Live m at word = goes m (look at m.hash word)
-beaten_by Marked m at word = goes m (look at m.hash word)
-beaten_by Copied m at word = goes m (look at m.hash word)
-beaten_by Closed m at word = goes m (look at m.hash word)
+beaten_by _ m at word = goes m (look at m.hash word)
 
 abbrev pub beaten_as : Task → Machine → Place → ℕ → State
-beaten_as Get m at word = beaten_by (kind_of word) m at word
-beaten_as (Insert replace) m at word = beaten_by (kind_of word) m at word
-beaten_as RemoveIf m at word = beaten_by (kind_of word) m at word
 beaten_as Compute m at word = goes m (look at m.hash word)
+beaten_as _ m at word = beaten_by (kind_of word) m at word
 
 abbrev pub beaten : Machine → Removal → ℕ → State
 beaten m removal word = beaten_as m.task m removal.place word
@@ -209,23 +179,17 @@ agreed removal true = Burying removal
 agreed removal false = Ended (Kept (pair_of removal.word))
 
 abbrev pub judged : Task → Removal → Bool → State
-judged Get removal agrees = Showing removal
-judged (Insert replace) removal agrees = Showing removal
 judged RemoveIf removal agrees = agreed removal agrees
-judged Compute removal agrees = Showing removal
+judged _ removal agrees = Showing removal
 
 -- the closure of a compute answered so
 abbrev pub decided : Task → Removal → OpKind → State
-decided Get removal kind = Showing removal
-decided (Insert replace) removal kind = Showing removal
-decided RemoveIf removal kind = Showing removal
 decided Compute removal kind = chosen removal kind
+decided _ removal kind = Showing removal
 
 abbrev pub decided_held : Task → Remembered → Removal → OpKind → Remembered
-decided_held Get held removal kind = held
-decided_held (Insert replace) held removal kind = held
-decided_held RemoveIf held removal kind = held
 decided_held Compute held removal kind = with_choice held removal kind
+decided_held _ held removal kind = held
 
 -- where an answer leads; one that was not asked for leads nowhere
 abbrev pub at_word : Machine → ℕ → State → State
@@ -233,103 +197,36 @@ at_word m word AtRoot = at_root m.task m.remembered.fill word
 at_word m word (Searching search) = goes m (search_loaded search m.hash word)
 at_word m word (Leaving table) = left m.task m.remembered.fill table word
 at_word m word (Growing table) = Ended (Reply_refused Capacity)
-at_word m word Making = Making
-at_word m word (Opening table) = Opening table
-at_word m word (Writing write) = Writing write
-at_word m word (Showing removal) = Showing removal
-at_word m word (Offering gap) = Offering gap
-at_word m word (Pairing purpose) = Pairing purpose
-at_word m word (Putting put) = Putting put
-at_word m word (Burying removal) = Burying removal
-at_word m word (Counting pair) = Counting pair
-at_word m word (Uncounting pair) = Uncounting pair
-at_word m word (Ended reply) = Ended reply
+at_word m word state = state
 
 abbrev pub at_exchanged : Made → State → State
 at_exchanged made (Opening table) = Searching (Sizing table)
 at_exchanged made (Writing write) = exchanged made write
-at_exchanged made (Showing removal) = Showing removal
-at_exchanged made (Offering gap) = Offering gap
-at_exchanged made (Pairing purpose) = Pairing purpose
 at_exchanged made (Putting put) = written put.write put.pair
 at_exchanged made (Burying removal) = Uncounting (pair_of removal.word)
-at_exchanged made AtRoot = AtRoot
-at_exchanged made Making = Making
-at_exchanged made (Searching search) = Searching search
-at_exchanged made (Counting pair) = Counting pair
-at_exchanged made (Uncounting pair) = Uncounting pair
-at_exchanged made (Leaving table) = Leaving table
-at_exchanged made (Growing table) = Growing table
-at_exchanged made (Ended reply) = Ended reply
+at_exchanged made state = state
 
 -- a lost exchange of a slot goes on with the word that was found there
 abbrev pub at_found : Machine → ℕ → State → State
 at_found m word (Opening table) = Searching (Sizing word)
 at_found m word (Writing write) = goes m (look write.place m.hash word)
-at_found m word (Showing removal) = Showing removal
-at_found m word (Offering gap) = Offering gap
-at_found m word (Pairing purpose) = Pairing purpose
 at_found m word (Putting put) = goes m (look put.write.place m.hash word)
 at_found m word (Burying removal) = beaten m removal word
-at_found m word AtRoot = AtRoot
-at_found m word Making = Making
-at_found m word (Searching search) = Searching search
-at_found m word (Counting pair) = Counting pair
-at_found m word (Uncounting pair) = Uncounting pair
-at_found m word (Leaving table) = Leaving table
-at_found m word (Growing table) = Growing table
-at_found m word (Ended reply) = Ended reply
+at_found m word state = state
 
 abbrev pub at_yes : Machine → Bool → State → State
 at_yes m same (Searching search) = goes m (search_compared search same)
-at_yes m same AtRoot = AtRoot
-at_yes m same Making = Making
-at_yes m same (Opening table) = Opening table
-at_yes m same (Writing write) = Writing write
 at_yes m same (Showing removal) = judged m.task removal same
-at_yes m same (Offering gap) = Offering gap
-at_yes m same (Pairing purpose) = Pairing purpose
-at_yes m same (Putting put) = Putting put
-at_yes m same (Burying removal) = Burying removal
-at_yes m same (Counting pair) = Counting pair
-at_yes m same (Uncounting pair) = Uncounting pair
-at_yes m same (Leaving table) = Leaving table
-at_yes m same (Growing table) = Growing table
-at_yes m same (Ended reply) = Ended reply
+at_yes m same state = state
 
 abbrev pub at_size : ℕ → (slots limit : ℕ) → State → State
 at_size hash slots limit (Searching search) = Searching (search_sized search hash slots limit)
-at_size hash slots limit AtRoot = AtRoot
-at_size hash slots limit Making = Making
-at_size hash slots limit (Opening table) = Opening table
-at_size hash slots limit (Writing write) = Writing write
-at_size hash slots limit (Showing removal) = Showing removal
-at_size hash slots limit (Offering gap) = Offering gap
-at_size hash slots limit (Pairing purpose) = Pairing purpose
-at_size hash slots limit (Putting put) = Putting put
-at_size hash slots limit (Burying removal) = Burying removal
-at_size hash slots limit (Counting pair) = Counting pair
-at_size hash slots limit (Uncounting pair) = Uncounting pair
-at_size hash slots limit (Leaving table) = Leaving table
-at_size hash slots limit (Growing table) = Growing table
-at_size hash slots limit (Ended reply) = Ended reply
+at_size hash slots limit state = state
 
 abbrev pub at_ok : State → State
 at_ok (Counting pair) = Ended (Inserted pair)
 at_ok (Uncounting pair) = Ended (Removed pair)
-at_ok AtRoot = AtRoot
-at_ok Making = Making
-at_ok (Opening table) = Opening table
-at_ok (Searching search) = Searching search
-at_ok (Writing write) = Writing write
-at_ok (Showing removal) = Showing removal
-at_ok (Offering gap) = Offering gap
-at_ok (Pairing purpose) = Pairing purpose
-at_ok (Putting put) = Putting put
-at_ok (Burying removal) = Burying removal
-at_ok (Leaving table) = Leaving table
-at_ok (Growing table) = Growing table
-at_ok (Ended reply) = Ended reply
+at_ok state = state
 
 -- only what was to be made can be refused
 abbrev pub refuses : Made → Refused → Write → State
@@ -340,19 +237,8 @@ refuses (Pair n) refused write = Writing write
 abbrev pub at_refused : Made → Refused → State → State
 at_refused made refused Making = Ended (Reply_refused refused)
 at_refused made refused (Writing write) = refuses made refused write
-at_refused made refused (Showing removal) = Showing removal
-at_refused made refused (Offering gap) = Offering gap
 at_refused made refused (Pairing purpose) = Ended (Reply_refused refused)
-at_refused made refused (Putting put) = Putting put
-at_refused made refused (Burying removal) = Burying removal
-at_refused made refused AtRoot = AtRoot
-at_refused made refused (Opening table) = Opening table
-at_refused made refused (Searching search) = Searching search
-at_refused made refused (Counting pair) = Counting pair
-at_refused made refused (Uncounting pair) = Uncounting pair
-at_refused made refused (Leaving table) = Leaving table
-at_refused made refused (Growing table) = Growing table
-at_refused made refused (Ended reply) = Ended reply
+at_refused made refused state = state
 
 -- what was made: a table, the key, or the pair
 abbrev pub made_then : Made → ℕ → Made
@@ -368,20 +254,8 @@ keyed (Pair m) = Pair m
 
 abbrev pub made_in : Made → ℕ → State → Made
 made_in made n (Writing write) = made_then made n
-made_in made n (Showing removal) = made
-made_in made n (Offering gap) = made
 made_in made n (Pairing purpose) = keyed made
-made_in made n (Putting put) = made
-made_in made n (Burying removal) = made
-made_in made n AtRoot = made
-made_in made n Making = made
-made_in made n (Opening table) = made
-made_in made n (Searching search) = made
-made_in made n (Counting pair) = made
-made_in made n (Uncounting pair) = made
-made_in made n (Leaving table) = made
-made_in made n (Growing table) = made
-made_in made n (Ended reply) = made
+made_in made n _ = made
 
 -- a pair that was made for a compute leads on, and is remembered
 abbrev pub paired : Made → Purpose → ℕ → State
@@ -396,76 +270,26 @@ paired_held (Pair m) held purpose n = with_pair held purpose n
 
 abbrev pub state_in : Made → ℕ → State → State
 state_in made n Making = Opening n
-state_in made n AtRoot = AtRoot
-state_in made n (Opening table) = Opening table
-state_in made n (Searching search) = Searching search
-state_in made n (Writing write) = Writing write
-state_in made n (Showing removal) = Showing removal
-state_in made n (Offering gap) = Offering gap
 state_in made n (Pairing purpose) = paired made purpose n
-state_in made n (Putting put) = Putting put
-state_in made n (Burying removal) = Burying removal
-state_in made n (Counting pair) = Counting pair
-state_in made n (Uncounting pair) = Uncounting pair
-state_in made n (Leaving table) = Leaving table
-state_in made n (Growing table) = Growing table
-state_in made n (Ended reply) = Ended reply
+state_in made n state = state
 
 -- what is remembered after a pair was made
 abbrev pub held_in : Made → Remembered → ℕ → State → Remembered
-held_in made held n AtRoot = held
-held_in made held n Making = held
-held_in made held n (Opening table) = held
-held_in made held n (Searching search) = held
-held_in made held n (Writing write) = held
-held_in made held n (Offering gap) = held
-held_in made held n (Showing removal) = held
 held_in made held n (Pairing purpose) = paired_held made held purpose n
-held_in made held n (Putting put) = held
-held_in made held n (Burying removal) = held
-held_in made held n (Counting pair) = held
-held_in made held n (Uncounting pair) = held
-held_in made held n (Leaving table) = held
-held_in made held n (Growing table) = held
-held_in made held n (Ended reply) = held
+held_in made held n _ = held
 
 abbrev pub state_made : Machine → ℕ → Machine
 state_made m n = record m { made = made_in m.made n m.state; remembered = held_in m.made m.remembered n m.state; state = state_in m.made n m.state }
 
 -- where the closure of a compute leads it, and what is remembered then
 abbrev pub at_op : Task → OpKind → State → State
-at_op task kind AtRoot = AtRoot
-at_op task kind Making = Making
-at_op task kind (Opening table) = Opening table
-at_op task kind (Searching search) = Searching search
-at_op task kind (Writing write) = Writing write
 at_op task kind (Offering gap) = offered gap kind
 at_op task kind (Showing removal) = decided task removal kind
-at_op task kind (Pairing purpose) = Pairing purpose
-at_op task kind (Putting put) = Putting put
-at_op task kind (Burying removal) = Burying removal
-at_op task kind (Counting pair) = Counting pair
-at_op task kind (Uncounting pair) = Uncounting pair
-at_op task kind (Leaving table) = Leaving table
-at_op task kind (Growing table) = Growing table
-at_op task kind (Ended reply) = Ended reply
+at_op task kind state = state
 
 abbrev pub held_at_op : Task → Remembered → OpKind → State → Remembered
-held_at_op task held kind AtRoot = held
-held_at_op task held kind Making = held
-held_at_op task held kind (Opening table) = held
-held_at_op task held kind (Searching search) = held
-held_at_op task held kind (Writing write) = held
-held_at_op task held kind (Offering gap) = held
 held_at_op task held kind (Showing removal) = decided_held task held removal kind
-held_at_op task held kind (Pairing purpose) = held
-held_at_op task held kind (Putting put) = held
-held_at_op task held kind (Burying removal) = held
-held_at_op task held kind (Counting pair) = held
-held_at_op task held kind (Uncounting pair) = held
-held_at_op task held kind (Leaving table) = held
-held_at_op task held kind (Growing table) = held
-held_at_op task held kind (Ended reply) = held
+held_at_op task held kind _ = held
 
 abbrev pub state_op : Machine → OpKind → Machine
 state_op m kind = record m { remembered = held_at_op m.task m.remembered kind m.state; state = at_op m.task kind m.state }
@@ -484,24 +308,18 @@ after m (Was_refused refused) = record m { state = at_refused m.made refused m.s
 
 -- an insertion
 abbrev pub IsWriter : Task → Type 0
-IsWriter Get = ⊥
 IsWriter (Insert replace) = Unit {0}
-IsWriter RemoveIf = ⊥
-IsWriter Compute = ⊥
+IsWriter _ = ⊥
 
 -- a removal
 abbrev pub IsRemover : Task → Type 0
-IsRemover Get = ⊥
-IsRemover (Insert replace) = ⊥
 IsRemover RemoveIf = Unit {0}
-IsRemover Compute = ⊥
+IsRemover _ = ⊥
 
 -- a compute
 abbrev pub IsComputer : Task → Type 0
-IsComputer Get = ⊥
-IsComputer (Insert replace) = ⊥
-IsComputer RemoveIf = ⊥
 IsComputer Compute = Unit {0}
+IsComputer _ = ⊥
 
 -- a call that may insert
 abbrev pub MayInsert : Task → Type 0
@@ -520,13 +338,10 @@ HasClosure Compute = Unit {0}
 -- a call that may change the map
 abbrev pub IsChanger : Task → Type 0
 IsChanger Get = ⊥
-IsChanger (Insert replace) = Unit {0}
-IsChanger RemoveIf = Unit {0}
-IsChanger Compute = Unit {0}
+IsChanger _ = Unit {0}
 
 -- the machine's search stands within its table, and each state is of a task that comes to it
 abbrev pub IsStandingState : Task → State → Type 0
-IsStandingState task AtRoot = Unit {0}
 IsStandingState task Making = MayInsert task
 IsStandingState task (Opening table) = MayInsert task
 IsStandingState task (Searching search) = IsSearching search
@@ -538,9 +353,8 @@ IsStandingState task (Putting put) = IsComputer task × IsPut put
 IsStandingState task (Burying removal) = HasClosure task × IsWithin removal.place
 IsStandingState task (Counting pair) = MayInsert task
 IsStandingState task (Uncounting pair) = HasClosure task
-IsStandingState task (Leaving table) = Unit {0}
 IsStandingState task (Growing table) = IsChanger task
-IsStandingState task (Ended reply) = Unit {0}
+IsStandingState task _ = Unit {0}
 
 pub record IsStanding (m : Machine) : Type 0 where
   pub made : IsMade m.made
@@ -549,40 +363,19 @@ pub record IsStanding (m : Machine) : Type 0 where
 
 -- an answer within the limits of tables and numbers
 abbrev pub IsFit : Answer → Type 0
-IsFit (Word_read word) = Unit {0}
-IsFit Exchanged = Unit {0}
-IsFit (Found_instead word) = Unit {0}
-IsFit (Yes same) = Unit {0}
-IsFit (Op kind) = Unit {0}
 IsFit (Size slots limit) = IsSize slots limit
 IsFit (Made_number n) = n < 2 ^ 48
-IsFit Ok_done = Unit {0}
-IsFit (Was_refused refused) = Unit {0}
+IsFit _ = Unit {0}
 
 -- a table that is asked for has a size of tables
 abbrev pub IsFitAsk : Ask → Type 0
-IsFitAsk (Load at) = Unit {0}
-IsFitAsk (Exchange at old new) = Unit {0}
-IsFitAsk (SameKey n) = Unit {0}
-IsFitAsk ShowNone = Unit {0}
-IsFitAsk (ShowPair n) = Unit {0}
-IsFitAsk (SizeOf n) = Unit {0}
-IsFitAsk MakeKey = Unit {0}
-IsFitAsk MakePair = Unit {0}
 IsFitAsk (MakeTable slots limit) = IsSize slots limit
-IsFitAsk (AddToShard by) = Unit {0}
-IsFitAsk (Done reply) = Unit {0}
+IsFitAsk _ = Unit {0}
 
 -- what a lookup asks: it changes nothing and makes nothing
 abbrev pub IsLookup : Ask → Type 0
 IsLookup (Load at) = Unit {0}
-IsLookup (Exchange at old new) = ⊥
 IsLookup (SameKey n) = Unit {0}
-IsLookup ShowNone = ⊥
-IsLookup (ShowPair n) = ⊥
 IsLookup (SizeOf n) = Unit {0}
-IsLookup MakeKey = ⊥
-IsLookup MakePair = ⊥
-IsLookup (MakeTable slots limit) = ⊥
-IsLookup (AddToShard by) = ⊥
 IsLookup (Done reply) = Unit {0}
+IsLookup _ = ⊥

@@ -63,11 +63,9 @@ compare_byte at hash word = if byte_of word == top_byte hash then On (Comparing 
 -- what a word of this kind tells
 abbrev pub look_at : Kind → Place → (hash word : ℕ) → Seen
 look_at Is_empty at hash word = Empty at
-look_at Live at hash word = compare_byte at hash word
-look_at Marked at hash word = compare_byte at hash word
-look_at Copied at hash word = compare_byte at hash word
 look_at Buried at hash word = go_on at
 look_at Closed at hash word = go_on at
+look_at _ at hash word = compare_byte at hash word
 
 -- what the word that stands at a place tells
 abbrev pub look : Place → (hash word : ℕ) → Seen
@@ -75,12 +73,8 @@ look at hash word = look_at (kind_of word) at hash word
 
 -- a matching key of a pair in a word of this kind: a pair that was copied is looked for further on
 abbrev pub match_at : Kind → Place → ℕ → Seen
-match_at Is_empty at word = Here at word
-match_at Live at word = Here at word
-match_at Marked at word = Here at word
 match_at Copied at word = Over at.table
-match_at Buried at word = Here at word
-match_at Closed at word = Here at word
+match_at _ at word = Here at word
 
 -- where an answer leads; one that was not asked for leads nowhere
 abbrev pub at_size : Search → (hash slots limit : ℕ) → Search

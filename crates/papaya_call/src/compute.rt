@@ -16,7 +16,7 @@ use papaya_words::probe::Refused;
 use papaya_words::word::Word;
 
 /// Where the key was found to be absent, and so where its pair is to stand.
-#[derive(Clone, Copy, Debug, PartialEq, Eq)]
+#[derive(Clone, Copy)]
 pub enum Gap {
     /// There is no root.
     NoRoot,
@@ -27,7 +27,7 @@ pub enum Gap {
 }
 
 /// What a pair is made for, with a value that the closure answered.
-#[derive(Clone, Copy, Debug, PartialEq, Eq)]
+#[derive(Clone, Copy)]
 pub enum Purpose {
     /// The closure was shown that the key is absent.
     Fill(Gap),
@@ -36,7 +36,7 @@ pub enum Purpose {
 }
 
 /// A pair that was made, and where it is to stand.
-#[derive(Clone, Copy, Debug, PartialEq, Eq)]
+#[derive(Clone, Copy)]
 pub struct Put {
     pub write: Write,
     /// The pair's number.
@@ -44,7 +44,7 @@ pub struct Put {
 }
 
 /// What the closure answered of a pair.
-#[derive(Clone, Copy, Debug, PartialEq, Eq)]
+#[derive(Clone, Copy)]
 pub enum Choice {
     /// The new pair, which was made of what it answered, is to take the place of the old one.
     Replace { old: u64, new: u64 },
@@ -54,7 +54,7 @@ pub enum Choice {
 
 /// What a compute remembers of its closure's answers, so that a change that another call was
 /// first to make does not show the closure the same again.
-#[derive(Clone, Copy, Debug, PartialEq, Eq)]
+#[derive(Clone, Copy)]
 pub struct Remembered {
     /// The pair that is to stand where the key is absent.
     pub fill: Option<u64>,

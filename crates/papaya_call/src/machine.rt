@@ -16,7 +16,7 @@ use papaya_words::probe::{Refused, ResizeMode};
 use papaya_words::word::{Kind, Word};
 
 /// Where a call stands, between two answers.
-#[derive(Clone, Copy, Debug, PartialEq, Eq)]
+#[derive(Clone, Copy)]
 pub enum State {
     /// It loads the root.
     AtRoot,
@@ -52,7 +52,7 @@ pub enum State {
 
 /// A call under way. It is plain data and holds no key, value or memory: what it asks is all that
 /// a backend does for it.
-#[derive(Clone, Copy, Debug, PartialEq, Eq)]
+#[derive(Clone, Copy)]
 pub struct Machine {
     pub task: Task,
     /// The hash of the call's key.

@@ -9,7 +9,7 @@ use papaya_words::word::Word;
 
 /// A pair that is to be removed if the call's closure agrees: the word that names it, and where
 /// that was found.
-#[derive(Clone, Copy, Debug, PartialEq, Eq)]
+#[derive(Clone, Copy)]
 pub struct Removal {
     /// Where the word stands, or stood when it was loaded.
     pub place: Place,

@@ -8,7 +8,7 @@ use papaya_words::word::{Kind, Word, h1, h2};
 
 /// A place of a key in a table. A search carries its table's size along, which never changes, so
 /// that the size is asked for once a table.
-#[derive(Clone, Copy, Debug, PartialEq, Eq)]
+#[derive(Clone, Copy)]
 pub struct Place {
     /// The table's number.
     pub table: u64,
@@ -21,7 +21,7 @@ pub struct Place {
 }
 
 /// A search of one table, between two answers.
-#[derive(Clone, Copy, Debug, PartialEq, Eq)]
+#[derive(Clone, Copy)]
 pub enum Search {
     /// It asks for the size of this table.
     Sizing(u64),
@@ -32,7 +32,7 @@ pub enum Search {
 }
 
 /// Where an answer led a search.
-#[derive(Clone, Copy, Debug, PartialEq, Eq)]
+#[derive(Clone, Copy)]
 pub enum Seen {
     /// The search goes on.
     On(Search),

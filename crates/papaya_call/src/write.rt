@@ -9,7 +9,7 @@ use papaya_words::word::{Word, h2};
 
 /// What a call has made so far. A key and a pair are made once a call, before the first word that
 /// names the pair, and serve each exchange that it tries.
-#[derive(Clone, Copy, Debug, PartialEq, Eq)]
+#[derive(Clone, Copy)]
 pub enum Made {
     /// Neither a key nor a pair.
     Nothing,
@@ -33,7 +33,7 @@ impl Made {
 }
 
 /// A pair is to stand at this place, in place of the word that was found there.
-#[derive(Clone, Copy, Debug, PartialEq, Eq)]
+#[derive(Clone, Copy)]
 pub struct Write {
     /// Where the pair is to stand.
     pub place: Place,

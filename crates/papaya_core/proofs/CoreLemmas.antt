@@ -1,23 +1,17 @@
 -- What always holds of the core, over its making, a begin and a step.
-use Rattle.std.proofs.Common.{◌≡◌, ◌≢◌, ℕ, zero, suc, ◌==◌, ◌≤◌, ◌^◌, max, Bool, List, [], slice_get, Option, Some, None, ◌⊎◌, inl, inr, refl, sym, ◌∙◌, ap, subst, arith}
-use Rattle.std.proofs.lemmas.Bool.{cases_Bool, cases_lt, eqb-true, eqb-false}
-use Rattle.std.proofs.Math.Pow.{pow_mono}
+use Rattle.std.proofs.Common.{◌≡◌, ◌≢◌, ℕ, zero, suc, ◌==◌, ◌≤◌, ◌^◌, max, Bool, List, [], slice_get, Option, Some, None, ◌⊎◌, inl, inr, refl, sym, ◌∙◌, ap, subst}
+use Rattle.std.proofs.lemmas.Bool.{cases_Bool, eqb-true, eqb-false}
 use Rattle.std.specs.Int.{IsPowerOfTwo}
-use Rattle.papaya_words.specs.Probe.{IsLimit}
 use Rattle.papaya_words.specs.declared.probe.ResizeMode.{ResizeMode}
 use Rattle.papaya_call.specs.Answers.{Says}
 use Rattle.papaya_call.specs.declared.ask.Answer.{Answer}
-use Rattle.papaya_call.specs.Search.{IsSize}
-use Rattle.papaya_words.specs.declared.probe.Refused.{Refused}
 use Rattle.papaya_call.specs.declared.ask.Ask.{Ask}
 use Rattle.papaya_call.specs.declared.ask.Ask.TheVariants.{Load, Exchange, SameKey, ShowNone, ShowPair, SizeOf, MakeKey, MakePair, MakeTable, AddToShard, Done as Ask_done}
 use Rattle.papaya_call.specs.declared.call.Reply.{Reply}
-use Rattle.papaya_call.specs.declared.call.Reply.TheVariants.{Refused as Reply_refused}
 use Rattle.papaya_call.specs.declared.machine.Machine.{Machine}
-use Rattle.papaya_call.specs.Machine.{IsChunked, IsStanding, IsFitAsk, ask_of, after}
-use Rattle.papaya_call.proofs.RestsReplyRefused.{machine_refused}
+use Rattle.papaya_call.specs.Machine.{IsChunked, IsStanding, IsFitAsk, ask_of}
 use Rattle.papaya_call.specs.declared.call.Call.{Call}
-use Rattle.papaya_core.specs.Advances.{IsCause, reply_in}
+use Rattle.papaya_core.specs.Advances.{reply_in}
 use Rattle.papaya_core.specs.Begins.{begun}
 use Rattle.papaya_core.specs.declared.pairs.Running.{Running}
 use Rattle.papaya_core.specs.declared.callers.Seat.{Seat}
@@ -27,6 +21,7 @@ use Rattle.papaya_core.specs.Store.{StoreState}
 use Rattle.papaya_core.specs.Performs.{Performs}
 use Rattle.papaya_core.specs.Core.{IsCore, IsGoing}
 use Rattle.papaya_core.specs.New.{HasCapacity}
+use Rattle.papaya_keys.proofs.TableSizes.{table_size}
 use Rattle.papaya_core.proofs.CallersLemmas.{running-with_seat, running-other, running-same}
 use Rattle.papaya_core.proofs.StoreLemmas.{AllSized, numbered, unnumbered, performed, append-sized}
 
@@ -51,10 +46,6 @@ reply_asked MakeKey reply e = absurd cc
 reply_asked MakePair reply e = absurd cc
 reply_asked (MakeTable slots limit) reply e = absurd cc
 reply_asked (AddToShard by) reply e = absurd cc
-
--- a call that goes on is refused for a cause
-pub caused : (m : Machine) (answer : Answer) (refused : Refused) → IsGoing m → reply_in (ask_of (after m answer)) ≡ Some (Reply_refused refused) → IsCause m answer refused
-caused m answer refused going e = machine_refused m refused answer going (reply_asked (ask_of (after m answer)) (Reply_refused refused) e)
 
 -- a call that begins has not replied
 pub begun-going : {K V A : Type 0} (hash : K → ℕ) (mode : ResizeMode) (initial : ℕ) (call : Call K V A) → IsGoing (begun hash mode initial call).machine
@@ -100,20 +91,6 @@ module _ {K V S A : Type 0} where
     going = core.going;
   }
 
--- a length that was asked for is one of tables
-pub table-size : (initial limit : ℕ) → IsPowerOfTwo initial → initial ≤ 2 ^ 32 → IsLimit (max initial 8) limit → IsSize (max initial 8) limit
-table-size initial limit power most (log, low, high, is) = record {
-  power = elim (cases_lt initial 8) [
-    | inl short ↦ let e : max initial 8 ≡ 8 = omega arith in (3, e)
-    | inr long ↦ let e : max initial 8 ≡ initial = omega arith in (power.0, e ∙ power.1)
-  ];
-  most = omega arith;
-  few = elim (cases_lt log 33) [
-    | inl small ↦ omega arith
-    | inr large ↦ let above : 8589934592 ≤ 2 ^ log = pow_mono large in let below : max initial 8 ≤ 4294967296 = omega arith in absurd (omega arith)
-  ];
-}
-
 no-tables : (words : Tables) → words ≡ record { root = 0; tables = [] } → AllSized words.tables
 no-tables words e i t there = let f : None ≡ Some t = sym (ap (λ (w : Tables). slice_get w.tables i) e) ∙ there in cc
 
@@ -121,7 +98,7 @@ no-tables words e i t there = let f : None ≡ Some t = sym (ap (λ (w : Tables)
 pub new-sized : (capacity initial : ℕ) (words : Tables) → IsPowerOfTwo initial → initial ≤ 2 ^ 32 → HasCapacity capacity initial words → AllSized words.tables
 new-sized zero initial words power most e = no-tables words e
 new-sized (suc n) initial words power most (limit, is, e) =
-    subst (λ (w : Tables). AllSized w.tables) (sym e) (append-sized [] 1 (max initial 8) limit (table-size initial limit power most is) (no-tables (record { root = 0; tables = [] }) refl))
+    subst (λ (w : Tables). AllSized w.tables) (sym e) (append-sized [] 1 (max initial 8) limit (table_size initial limit power most is) (no-tables (record { root = 0; tables = [] }) refl))
 
 pub new-core : {K V S A : Type 0} (store : StoreState K V S) (callers : List (Seat K V A)) (mode : ResizeMode) (capacity initial : ℕ) → IsChunked mode → IsPowerOfTwo initial → initial ≤ 2 ^ 32 → HasCapacity capacity initial store.words → callers ≡ [] → IsCore store callers mode
 new-core store callers mode capacity initial chunked power most words none = record {

@@ -6,14 +6,14 @@ use Rattle.papaya_words.specs.declared.probe.ResizeMode.{ResizeMode}
 use Rattle.papaya_words.specs.declared.word.Kind.{Kind}
 use Rattle.papaya_words.specs.declared.word.Kind.TheVariants as kinds
 use Rattle.papaya_call.specs.declared.ask.At.TheVariants.{Root}
-use Rattle.papaya_call.specs.Law.Code.{Coding}
-use Rattle.papaya_call.specs.Law.Content.{AreApart}
-use Rattle.papaya_call.specs.Law.Exchange.{Setting, State, Exchange, run, start}
-use Rattle.papaya_call.specs.Law.Meaning.{map_left}
+use Rattle.papaya_law.specs.Code.{Coding}
+use Rattle.papaya_law.specs.Content.{AreApart}
+use Rattle.papaya_law.specs.Exchange.{Setting, State, Exchange, run, start}
+use Rattle.papaya_law.specs.Meaning.{map_left}
 use Rattle.papaya_call.specs.Search.{IsSize}
-use Rattle.papaya_call.specs.Told.{IsHashed}
-use Rattle.papaya_call.proofs.Law.Content.{apart_in}
-use Rattle.papaya_call.proofs.Law.OneMap.{keeping}
+use Rattle.papaya_law.specs.Code.{IsHashed}
+use Rattle.papaya_law.proofs.Content.{apart_in}
+use Rattle.papaya_law.proofs.OneMap.{keeping}
 use Rattle.papaya_core.specs.declared.callers.Seat.{Seat}
 use Rattle.papaya_core.specs.Content.{content, listed, pairs_of_kind, pairs_of_slots, pairs_of_table}
 use Rattle.papaya_core.specs.Kept.{IsKept, Tale, setting_of, coding_of, low}

@@ -3,7 +3,7 @@ use Rattle.std.proofs.Common.{◌≡◌, Bool, ℕ, true, List, Some, refl}
 use Rattle.std.specs.Cmp.{IsEquivalence}
 use Rattle.papaya_call.specs.Answers.{Says}
 use Rattle.papaya_call.specs.declared.ask.Answer.{Answer}
-use Rattle.papaya_call.specs.Law.Content.{AreApart}
+use Rattle.papaya_law.specs.Content.{AreApart}
 use Rattle.papaya_call.specs.Machine.{after, ask_of, kind_of_ask}
 use Rattle.papaya_core.specs.declared.callers.Seat.{Seat}
 use Rattle.papaya_core.specs.declared.pairs.Running.{Running}
@@ -14,12 +14,12 @@ use Rattle.papaya_core.specs.Core.{CoreState, IsCore}
 use Rattle.papaya_core.specs.Counted.{IsCounted}
 use Rattle.papaya_core.specs.Kept.{IsLawfulCore}
 use Rattle.papaya_core.specs.Performs.{Performs}
-use Rattle.papaya_core.specs.Store.{StoreState, hash_of}
-use Rattle.papaya_core.proofs.CoreLemmas.{caused}
+use Rattle.papaya_core.specs.Store.{StoreState}
+use Rattle.papaya_keys.specs.Hashes.{hash_of}
 use Rattle.papaya_core.proofs.CountedContent.{content_apart}
 use Rattle.papaya_core.proofs.CountedLemmas.{counted_step}
 use Rattle.papaya_core.proofs.KeptLemmas.{hashed_setting}
-use Rattle.papaya_core.proofs.KeptCore.{Lawful, keys_lawful, stepped_lawful}
+use Rattle.papaya_core.proofs.KeptCore.{Lawful, keys_lawful, lawful_caused, stepped_lawful}
 
 module _ {K V S A H : Type 0} (eq : K → K → Bool) (input : K → List (List ℕ)) (build : S → H) (write : H → List ℕ → H) (finish : H → ℕ) (classes : IsEquivalence eq) (respects : (x y : K) → eq x y ≡ true → input x ≡ input y) where
   -- after a step
@@ -30,7 +30,7 @@ module _ {K V S A H : Type 0} (eq : K → K → Bool) (input : K → List (List 
         stepped_lawful eq input build write finish classes respects says refuse s caller store' callers' before a later was performs machine callers core lawful,
         counted_step eq (hash_of input build write finish s.store.hasher) (keys_lawful eq input build write finish classes respects s.store.hasher) {says = says} refuse s caller (record { store = store'; callers = callers'; mode = s.mode; initial = s.initial })
             (event_of (kind_of_ask before.machine) (ask_of before.machine) a) (reply_in (ask_of (after before.machine a)))
-            (record { before = before; was = was; answer = a; later = later; performs = performs; machine = machine; event_is = refl; reply_is = refl; callers = callers; mode = refl; initial = refl; cause = λ refused e. caused before.machine a refused (lawful.core.going caller before was) e })
+            (record { before = before; was = was; answer = a; later = later; performs = performs; machine = machine; event_is = refl; reply_is = refl; callers = callers; mode = refl; initial = refl; cause = λ refused e. lawful_caused eq input build write finish classes respects s lawful caller before was a refused e })
             es tales lawful.core core kept counted,
       )
 

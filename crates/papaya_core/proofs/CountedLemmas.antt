@@ -9,16 +9,16 @@ use Rattle.papaya_words.specs.declared.word.Kind.TheVariants as kinds
 use Rattle.papaya_call.specs.Answers.{Says}
 use Rattle.papaya_call.specs.declared.call.Call.{Call}
 use Rattle.papaya_call.specs.declared.call.Reply.{Reply}
-use Rattle.papaya_call.specs.Law.Allows.{AllAllowed}
-use Rattle.papaya_call.specs.Law.Content.{AreApart, lookup}
-use Rattle.papaya_call.specs.Law.Exchange.{Setting, Exchange, run, start}
-use Rattle.papaya_call.specs.Law.Meaning.{map_left, map_of as law_map}
+use Rattle.papaya_law.specs.Allows.{AllAllowed}
+use Rattle.papaya_law.specs.Content.{AreApart, lookup}
+use Rattle.papaya_law.specs.Exchange.{Setting, Exchange, run, start}
+use Rattle.papaya_law.specs.Meaning.{map_left, map_of as law_map}
 use Rattle.papaya_call.specs.Machine.{ask_of, kind_of_ask, after}
-use Rattle.papaya_call.specs.Owed.{owed_by, grows_by}
-use Rattle.papaya_call.proofs.Law.FiniteMaps.{length_after, one_length}
-use Rattle.papaya_call.proofs.Law.Moments.{allowed_first, allowed_rest, map_of-append}
-use Rattle.papaya_call.proofs.Law.OneMap.{keeping, step_keeps}
-use Rattle.papaya_call.proofs.RestsCount.{machine_owes}
+use Rattle.papaya_rests.specs.Owed.{owed_by, grows_by}
+use Rattle.papaya_law.proofs.FiniteMaps.{length_after, one_length}
+use Rattle.papaya_law.proofs.Moments.{allowed_first, allowed_rest, map_of-append}
+use Rattle.papaya_law.proofs.OneMap.{keeping, step_keeps}
+use Rattle.papaya_rests.proofs.RestsCount.{machine_owes}
 use Rattle.papaya_core.specs.declared.pairs.Running.{Running}
 use Rattle.papaya_core.specs.declared.callers.Seat.{Seat}
 use Rattle.papaya_core.specs.declared.trace.Event.{Event}
@@ -56,6 +56,10 @@ module _ {K V S : Type 0} (store : StoreState K V S) (none : store.pairs ≡ [])
   no_table : (o : Option TableWords) → pairs_of_table store o ≡ []
   no_table None = refl
   no_table (Some t) = no_slots t.slots
+
+  -- a log of no pairs leaves none to any word
+  pub new_content : content store ≡ []
+  new_content = no_table (table_of store.words.tables store.words.root)
 
   -- a core as it is made: a sum of 0, no callers and no pairs
   pub counted_new : {A : Type 0} (callers : List (Seat K V A)) → store.count.sum ≡ pos 0 → callers ≡ [] → IsCounted store callers

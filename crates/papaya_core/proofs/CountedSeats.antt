@@ -4,7 +4,7 @@ use Rattle.std.proofs.lemmas.Int.{ints}
 use Rattle.papaya_call.specs.declared.ask.Ask.{Ask}
 use Rattle.papaya_call.specs.declared.ask.Ask.TheVariants.{Load, Exchange, SameKey, ShowNone, ShowPair, SizeOf, MakeKey, MakePair, MakeTable, AddToShard, Done}
 use Rattle.papaya_call.specs.Machine.{ask_of}
-use Rattle.papaya_call.specs.Owed.{owed_by}
+use Rattle.papaya_rests.specs.Owed.{owed_by}
 use Rattle.papaya_core.specs.declared.pairs.Running.{Running}
 use Rattle.papaya_core.specs.declared.callers.Seat.{Seat}
 use Rattle.papaya_core.specs.Advances.{goes_on, reply_in}

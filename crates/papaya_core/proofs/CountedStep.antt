@@ -11,11 +11,11 @@ use Rattle.papaya_call.specs.declared.ask.Ask.TheVariants.{Load, Exchange as Ask
 use Rattle.papaya_call.specs.declared.ask.Answer.{Answer}
 use Rattle.papaya_call.specs.declared.ask.StepKind.{StepKind}
 use Rattle.papaya_call.specs.declared.ask.StepKind.TheVariants as kinds
-use Rattle.papaya_call.specs.Law.Code.{Coding}
-use Rattle.papaya_call.specs.Law.Content.{IsCountAfter}
-use Rattle.papaya_call.specs.Law.Exchange.{Setting, State, Exchange}
-use Rattle.papaya_call.specs.Owed.{owed_by, grows_of, grows_by}
-use Rattle.papaya_call.specs.Told.{Hands, IsAsked, IsTold, word_of}
+use Rattle.papaya_law.specs.Code.{Coding}
+use Rattle.papaya_law.specs.Content.{IsCountAfter}
+use Rattle.papaya_law.specs.Exchange.{Setting, State, Exchange}
+use Rattle.papaya_rests.specs.Owed.{owed_by, grows_of, grows_by}
+use Rattle.papaya_rests.specs.Told.{Hands, IsAsked, IsTold, word_of}
 use Rattle.papaya_core.specs.declared.pairs.Running.{Running}
 use Rattle.papaya_core.specs.Performs.{Performs, Stays, LogsKey, LogsPair, MakesTable}
 use Rattle.papaya_core.specs.Store.{StoreState}

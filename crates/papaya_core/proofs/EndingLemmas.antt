@@ -1,9 +1,8 @@
 -- What ends a call of which the closure has the last word: an abort, and a removal where it was shown that there is none.
-use Rattle.std.proofs.Common.{◌≡◌, ◌⊎◌, inl, inr, ⊎_elim, ℕ, ◌==◌, Bool, false, Option, None, Some, List, ◌∷◌, length, refl, sym, ◌∙◌, ap}
+use Rattle.std.proofs.Common.{◌≡◌, ◌⊎◌, inl, inr, ⊎_elim, ℕ, ◌==◌, Bool, Option, None, Some, List, ◌∷◌, length, sym, ◌∙◌, ap}
 use Rattle.papaya_words.specs.Table.{TableWords}
-use Rattle.papaya_words.specs.declared.limits.TheConstants.{MAX_LOG_LEN, MAX_TABLES}
-use Rattle.papaya_words.specs.declared.probe.Refused.{Refused as Refusal}
-use Rattle.papaya_words.specs.declared.probe.Refused.TheVariants.{Memory, Capacity, RemoveNothing}
+use Rattle.papaya_words.specs.declared.limits.TheConstants.{MAX_LOG_LEN}
+use Rattle.papaya_words.specs.declared.probe.Refused.TheVariants.{Capacity, RemoveNothing}
 use Rattle.papaya_call.specs.Answers.{Says}
 use Rattle.papaya_call.specs.declared.ask.Ask.{Ask}
 use Rattle.papaya_call.specs.declared.ask.Ask.TheVariants.{Load, Exchange as Ask_exchange, SameKey, ShowNone, ShowPair, SizeOf, MakeKey, MakePair, MakeTable, AddToShard, Done as Ask_done}
@@ -13,16 +12,16 @@ use Rattle.papaya_call.specs.declared.ask.OpKind.{OpKind}
 use Rattle.papaya_call.specs.declared.ask.OpKind.TheVariants as op_kinds
 use Rattle.papaya_call.specs.declared.call.Call.{Call}
 use Rattle.papaya_call.specs.declared.call.Reply.{Reply}
-use Rattle.papaya_call.specs.declared.call.Reply.TheVariants.{Aborted, Refused}
+use Rattle.papaya_call.specs.declared.call.Reply.TheVariants.{Refused}
 use Rattle.papaya_call.specs.declared.call.Task.{Task}
 use Rattle.papaya_call.specs.declared.call.Task.TheVariants as tasks
 use Rattle.papaya_call.specs.declared.machine.Machine.{Machine}
 use Rattle.papaya_call.specs.Machine.{ask_of, kind_of_ask, after}
-use Rattle.papaya_call.specs.Says.{show}
-use Rattle.papaya_call.proofs.SaysChanges.{machine_aborted}
+use Rattle.papaya_rests.specs.Says.{show}
+use Rattle.papaya_rests.proofs.SaysChanges.{machine_aborted}
+use Rattle.papaya_rests.proofs.Tasks.{same_task}
 use Rattle.papaya_core.specs.declared.pairs.Running.{Running}
 use Rattle.papaya_core.specs.declared.trace.Event.{Event}
-use Rattle.papaya_core.specs.declared.trace.Event.TheVariants.{Shown}
 use Rattle.papaya_core.specs.Advances.{IsCause, event_of}
 use Rattle.papaya_core.specs.Maps.{Map, key_of}
 use Rattle.papaya_core.specs.Performs.{Performs, HasKey, HasNoPair, LogsKey, LogsPair, Refuses, ShowsPair, Stays, size_of}
@@ -31,7 +30,6 @@ use Rattle.papaya_core.specs.Store.{StoreState}
 use Rattle.papaya_core.specs.Tables.{table_of, word_at}
 use Rattle.papaya_core.specs.Timeline.{begins, last_shown, number_in, shown_by, AtSomeMoment}
 use Rattle.papaya_core.proofs.EventLemmas.{event_begins, event_shown}
-use Rattle.papaya_core.proofs.MachineLemmas.{machine_task}
 use Rattle.papaya_core.proofs.StoreLemmas.{matched}
 use Rattle.papaya_core.proofs.TiedLemmas.{IsEnding, WasShownLast}
 use Rattle.papaya_core.proofs.TimelineLemmas.{entry, last_shown-own, not_begin-own}
@@ -95,10 +93,10 @@ module _ {K V S A : Type 0} (eq : K → K → Bool) (says : Says K V A) (refuse 
   unrefused (Ask_done reply) (e, stays) is = cc
 
 -- why a call is refused that would remove nothing: its closure was just shown that there is none
-removes_nothing : (m : Machine) (a : Answer) → (a ≡ Was_refused RemoveNothing → ⊥) → IsCause m a RemoveNothing → (ask_of m ≡ ShowNone) × (a ≡ Op op_kinds.Remove)
-removes_nothing m a never (inl refuses) = absurd (never refuses)
-removes_nothing m a never (inr (inl (full, asks))) = let f : RemoveNothing ≡ Capacity = full in absurd cc
-removes_nothing m a never (inr (inr (same, asks, is))) = (asks, is)
+pub removes_nothing : {K V S A : Type 0} (eq : K → K → Bool) (s : StoreState K V S) (r : Running K V A) (a : Answer) → (a ≡ Was_refused RemoveNothing → ⊥) → IsCause eq s r a RemoveNothing → (ask_of r.machine ≡ ShowNone) × (a ≡ Op op_kinds.Remove)
+removes_nothing eq s r a never (inl refuses) = absurd (never refuses)
+removes_nothing eq s r a never (inr (inl (full, (t, place)))) = let f : RemoveNothing ≡ Capacity = full in absurd cc
+removes_nothing eq s r a never (inr (inr (same, asks, is))) = (asks, is)
 
 module _ {K V A : Type 0} (call : Call K V A) (m : Machine) (a : Answer) (c turn : ℕ) (event : Event) (h : History) (now : Map K V) (maps : List (Map K V)) (event_is : event ≡ event_of (kind_of_ask m) (ask_of m) a) where
   -- what is shown in a step was last shown after it
@@ -109,10 +107,10 @@ module _ {K V A : Type 0} (call : Call K V A) (m : Machine) (a : Answer) (c turn
   )
 
   -- so where a step ends the call, its closure was shown in it what the key had at a moment of the call
-  pub step_ending : ((reply : Reply) → ask_of m ≡ Ask_done reply → ⊥) → (a ≡ Was_refused RemoveNothing → ⊥) → (ask_of m ≡ ShowNone → m.task ≡ tasks.Compute)
+  pub step_ending : ((reply : Reply) → ask_of m ≡ Ask_done reply → ⊥) → (ask_of m ≡ ShowNone → m.task ≡ tasks.Compute)
       → ((shown : Option ℕ) → ask_of m ≡ show shown → AtSomeMoment (λ m. number_in (m (key_of call)) ≡ shown) c h maps)
-      → (reply : Reply) → ((refused : Refusal) → reply ≡ Refused refused → IsCause m a refused) → ask_of (after m a) ≡ Ask_done reply → IsEnding (after m a).task call reply c (entry turn c event ∷ h) (now ∷ maps)
-  step_ending open_still never offers showing reply cause done = record {
+      → (reply : Reply) → (reply ≡ Refused RemoveNothing → (ask_of m ≡ ShowNone) × (a ≡ Op op_kinds.Remove)) → ask_of (after m a) ≡ Ask_done reply → IsEnding (after m a).task call reply c (entry turn c event ∷ h) (now ∷ maps)
+  step_ending open_still offers showing reply removes done = record {
     aborts = λ t is. let (shown, asks, answers) = machine_aborted m a t open_still (done ∙ ap Ask_done is) in (shown, shown_last shown (op_kinds.Abort t) asks answers (showing shown asks));
-    nothing = λ is. let (asks, answers) = removes_nothing m a never (cause RemoveNothing is) in (machine_task m a ∙ offers asks, shown_last None op_kinds.Remove asks answers (showing None asks));
+    nothing = λ is. let (asks, answers) = removes is in ((same_task m a).0 ∙ offers asks, shown_last None op_kinds.Remove asks answers (showing None asks));
   }

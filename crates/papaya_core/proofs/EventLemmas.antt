@@ -10,11 +10,11 @@ use Rattle.papaya_call.specs.declared.ask.Answer.TheVariants.{Word as Word_read,
 use Rattle.papaya_call.specs.declared.ask.OpKind.{OpKind}
 use Rattle.papaya_call.specs.declared.ask.StepKind.{StepKind}
 use Rattle.papaya_call.specs.declared.ask.StepKind.TheVariants as kinds
-use Rattle.papaya_call.specs.Law.Exchange.{Setting, State, Exchange}
-use Rattle.papaya_call.specs.Law.Code.{Coding}
-use Rattle.papaya_call.specs.Rests.{Change, change_after, change_of_kind}
-use Rattle.papaya_call.specs.Says.{show}
-use Rattle.papaya_call.specs.Told.{IsTold, IsAsked, Hands, word_of}
+use Rattle.papaya_law.specs.Exchange.{Setting, State, Exchange}
+use Rattle.papaya_law.specs.Code.{Coding}
+use Rattle.papaya_rests.specs.Rests.{Change, change_after, change_of_kind}
+use Rattle.papaya_rests.specs.Says.{show}
+use Rattle.papaya_rests.specs.Told.{IsTold, IsAsked, Hands, word_of}
 use Rattle.papaya_core.specs.declared.trace.Event.{Event}
 use Rattle.papaya_core.specs.declared.trace.Event.TheVariants.{Changed, Moved, Asked, Shown, Other}
 use Rattle.papaya_core.specs.Advances.{event_of, answered_event, kind_event, shown_event}

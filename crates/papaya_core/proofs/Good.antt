@@ -1,30 +1,28 @@
 -- A history with its maps, and how the calls under way stand to it.
-use Rattle.std.proofs.Common.{◌≡◌, ℕ, ◌<◌, Bool, true, Option, None, Some, List, [], ◌∷◌, ◌++◌, length}
+use Rattle.std.proofs.Common.{◌≡◌, ℕ, Bool, true, None, Some, List, [], ◌∷◌, ◌++◌}
 use Rattle.papaya_words.specs.declared.probe.ResizeMode.TheVariants.{Blocking}
 use Rattle.papaya_call.specs.declared.call.Call.{Call}
-use Rattle.papaya_call.specs.Law.Exchange.{Exchange}
-use Rattle.papaya_call.specs.Law.Meaning.{map_of}
+use Rattle.papaya_call.specs.Answers.{Says}
+use Rattle.papaya_law.specs.Exchange.{Exchange}
+use Rattle.papaya_law.specs.Meaning.{map_of}
 use Rattle.papaya_call.specs.declared.answers.Operation.TheVariants as ops
 use Rattle.papaya_call.specs.declared.call.Call.TheVariants.{Get, Insert, TryInsert, RemoveIf, Compute}
-use Rattle.papaya_call.specs.Rests.{change_in}
-use Rattle.papaya_call.specs.Says.{HasShownNone, Said, Agrees, Inserts, Makes, Removes, ShowsPairs, StandsOn}
-use Rattle.papaya_call.specs.Told.{IsOneOf}
+use Rattle.papaya_rests.specs.Rests.{change_in}
+use Rattle.papaya_rests.specs.Says.{HasShownNone, Said, Agrees, Inserts, Makes, Removes, ShowsPairs, StandsOn}
+use Rattle.papaya_rests.specs.Told.{IsOneOf}
 use Rattle.papaya_core.specs.declared.pairs.Running.{Running}
 use Rattle.papaya_core.specs.declared.trace.Turn.{Turn}
 use Rattle.papaya_core.specs.Begins.{task_of_call}
 use Rattle.papaya_core.specs.Callers.{running}
 use Rattle.papaya_core.specs.Core.{CoreState, IsCore}
+use Rattle.papaya_core.specs.Given.{AreGiven, HasLeft}
+use Rattle.papaya_core.specs.Headline.{AreLogged, AreNew}
 use Rattle.papaya_core.specs.Kept.{IsKept, Tale, setting_of}
 use Rattle.papaya_core.specs.Maps.{Map, key_of}
 use Rattle.papaya_core.specs.Performs.{own_key}
-use Rattle.papaya_core.specs.Store.{StoreState, Stored, pair_of}
+use Rattle.papaya_core.specs.Store.{KeepsPairs, StoreState, Stored, pair_of}
 use Rattle.papaya_core.specs.Runs.{History}
 use Rattle.papaya_core.specs.Timeline.{Answered, open_call, change_of, was_shown_none, AtSomeMoment, WasAnswered, WasAsked, IsUnused, Timeline}
-
--- each pair of each map has a number below n
-abbrev pub AllBelow : {K V : Type 0} → ℕ → List (Map K V) → Type 0
-AllBelow n [] = Unit {0}
-AllBelow {K = K} {V = V} n (m ∷ maps) = ((j : K) (p : Stored K V) → m j ≡ Some p → p.number < n) × AllBelow n maps
 
 -- a pair of the call has the value that it was handed; that of a compute has one that its closure answered
 abbrev pub IsValueOf : {K V A : Type 0} → Call K V A → V → Type 0
@@ -68,7 +66,7 @@ module _ {K V : Type 0} (eq : K → K → Bool) where
       pub moments : (so_far rest : List (Exchange (Stored K V))) → so_far ++ rest ≡ tale.since → AtSomeMoment (λ m. m (key_of call) ≡ replayed (replay tale.begun) so_far (key_of call)) caller h maps
 
     -- The history has a timeline of maps, the newest of which is the replay of all exchanges; and the calls under way stand to it as they should.
-    pub record IsGood (hash : K → ℕ) (schedule : List (Turn K V A)) (start : Map K V) (s : CoreState K V S A) (h : History) : Type 0 where
+    pub record IsGood (says : Says K V A) (hash : K → ℕ) (schedule : List (Turn K V A)) (first : StoreState K V S) (start : Map K V) (s : CoreState K V S A) (h : History) : Type 0 where
       pub es : List (Exchange (Stored K V))
       pub tales : ℕ → Tale K V
       pub maps : List (Map K V)
@@ -76,7 +74,14 @@ module _ {K V : Type 0} (eq : K → K → Bool) where
       pub core : IsCore s.store s.callers s.mode
       pub kept : IsKept eq hash s.mode s.store s.callers es tales
       pub timeline : Timeline eq schedule start h (replay es ∷ maps) answers
-      pub below : AllBelow (length s.store.pairs) (replay es ∷ maps)
+      pub logged : AreLogged s.store (replay es ∷ maps)
+      pub given : AreGiven says s.store schedule h answers
+      -- what the closures of the calls under way have left
+      pub left : (caller : ℕ) (r : Running K V A) (call : Call K V A) → running s.callers caller ≡ Some r → open_call schedule caller h ≡ Some call → (a : A) → r.answers ≡ Some a → HasLeft says s.store schedule a caller h answers
+      -- the pairs of the log where the run began are there, and those that came since, or were made by calls that began since, are new
+      pub kept_pairs : KeepsPairs first s.store
+      pub fresh : AreNew first schedule h
+      pub made_new : (caller : ℕ) (r : Running K V A) (call : Call K V A) → running s.callers caller ≡ Some r → open_call schedule caller h ≡ Some call → (q : Stored K V) → IsOneOf (tales caller).hands.made q → pair_of first q.number ≡ None
       -- a pair that was made and is not written yet was in no map
       pub unused : (caller : ℕ) (r : Running K V A) → running s.callers caller ≡ Some r → (q : Stored K V) → IsOneOf (tales caller).hands.made q → change_in r.machine.state ≡ None → IsUnused q.number (replay es ∷ maps)
       pub tied : (caller : ℕ) (r : Running K V A) (call : Call K V A) → running s.callers caller ≡ Some r → open_call schedule caller h ≡ Some call → IsTied s.store r call caller (tales caller) h (replay es ∷ maps) answers

@@ -2,6 +2,7 @@
 use Rattle.std.proofs.Common.{rules, arith, ◌≡◌, ◌≢◌, ◌⊎◌, inl, inr, ⊎_elim, ℕ, ◌<◌, ◌^◌, Bool, true, false, cond, Option, None, Some, List, [], ◌∷◌, ◌++◌, length, slice_get, refl, sym, ◌∙◌, ap, subst, eq-eqb}
 use Rattle.std.proofs.lemmas.Bool.{cases_Bool}
 use Rattle.papaya_words.specs.declared.probe.ResizeMode.{ResizeMode}
+use Rattle.papaya_words.specs.declared.probe.Refused.TheVariants.{RemoveNothing}
 use Rattle.papaya_call.specs.declared.ask.Ask.{Ask}
 use Rattle.papaya_call.specs.declared.ask.Ask.TheVariants.{ShowNone, MakePair, Done as Ask_done}
 use Rattle.papaya_call.specs.declared.ask.Answer.TheVariants.{Op, Made as Made_number}
@@ -13,16 +14,18 @@ use Rattle.papaya_call.specs.declared.call.Reply.{Reply}
 use Rattle.papaya_call.specs.declared.call.Task.{Task}
 use Rattle.papaya_call.specs.declared.call.Task.TheVariants as tasks
 use Rattle.papaya_call.specs.Answers.{Says}
-use Rattle.papaya_call.specs.Law.Exchange.{Exchange, run, start as first_state}
-use Rattle.papaya_call.specs.Law.Invariant.{named}
+use Rattle.papaya_law.specs.Exchange.{Exchange, run, start as first_state}
+use Rattle.papaya_law.specs.Invariant.{named}
 use Rattle.papaya_call.specs.Machine.{HasClosure, ask_of, kind_of_ask, after, started}
-use Rattle.papaya_call.specs.Rests.{change_in, change_after, change_of_reply}
-use Rattle.papaya_call.specs.Says.{HasShownNone, IsSaidChange, Said, StandsOn, show}
-use Rattle.papaya_call.specs.Told.{Hands, IsHashed, IsOneOf, no_hands}
-use Rattle.papaya_call.proofs.RestsReply.{machine_changes}
-use Rattle.papaya_call.proofs.SaysChanges.{machine_changed}
-use Rattle.papaya_call.proofs.SaysOnce.{machine_shown}
-use Rattle.papaya_call.proofs.SaysWords.{machine_shows as shown_pairs}
+use Rattle.papaya_rests.specs.Rests.{change_in, change_after, change_of_reply}
+use Rattle.papaya_rests.specs.Says.{HasShownNone, IsSaidChange, Said, StandsOn, show}
+use Rattle.papaya_rests.specs.Told.{Hands, IsOneOf, no_hands}
+use Rattle.papaya_law.specs.Code.{IsHashed}
+use Rattle.papaya_rests.proofs.RestsReply.{machine_changes}
+use Rattle.papaya_rests.proofs.SaysChanges.{machine_changed}
+use Rattle.papaya_rests.proofs.SaysOnce.{machine_shown}
+use Rattle.papaya_rests.proofs.SaysWords.{machine_shows as shown_pairs}
+use Rattle.papaya_rests.proofs.Tasks.{same_task}
 use Rattle.papaya_core.specs.declared.pairs.Running.{Running}
 use Rattle.papaya_core.specs.declared.callers.Seat.{Seat}
 use Rattle.papaya_core.specs.declared.trace.Turn.{Turn}
@@ -34,28 +37,30 @@ use Rattle.papaya_core.specs.Begins.{Begins, begun, key_of_call, task_of_call, v
 use Rattle.papaya_core.specs.Callers.{running, with_seat}
 use Rattle.papaya_core.specs.Content.{map_of}
 use Rattle.papaya_core.specs.Core.{CoreState, IsCore}
-use Rattle.papaya_core.specs.Headline.{HasTimeline}
+use Rattle.papaya_core.specs.Given.{AreGiven, GivesIn, HasLeft, begun_answers}
+use Rattle.papaya_core.specs.Headline.{AreLogged, AreNew, ComesNew, HasTimeline}
 use Rattle.papaya_core.specs.Kept.{IsKept, Tale, setting_of, coding_of, low, told_tales, begun_tales}
 use Rattle.papaya_core.specs.Maps.{Map, Does, key_of}
 use Rattle.papaya_core.specs.Performs.{Performs}
 use Rattle.papaya_core.specs.Runs.{History, with_step}
-use Rattle.papaya_core.specs.Store.{StoreState, Stored, pair_of}
+use Rattle.papaya_core.specs.Store.{KeepsPairs, StoreState, Stored, pair_of}
 use Rattle.papaya_core.specs.Timeline.{Answered, Timeline, IsLegal, MayChange, FitsOpen, FitsShown, IsAgreed, IsUnused, change_of, change_by, none_by, number_in, open_call, open_after, begun_by, begins, is_begin, was_shown_none, AtSomeMoment}
 use Rattle.papaya_core.proofs.CallersLemmas.{running-same, running-other, running-with_seat, same_item, differs}
 use Rattle.papaya_core.proofs.CoreLemmas.{cases_same}
-use Rattle.papaya_core.proofs.EndingLemmas.{step_ending, unrefused}
+use Rattle.papaya_core.proofs.EndingLemmas.{removes_nothing, step_ending, unrefused}
 use Rattle.papaya_core.proofs.EventLemmas.{one_exchange, event_begins, event_none, event_open, event_change, unchanged_before}
-use Rattle.papaya_core.proofs.Good.{AllBelow, IsGood, IsTied, IsValueOf, replay, replayed}
+use Rattle.papaya_core.proofs.GivenLemmas.{given_more, left_more}
+use Rattle.papaya_core.proofs.Good.{IsGood, IsTied, IsValueOf, replay, replayed}
 use Rattle.papaya_core.proofs.KeptLemmas.{IsLawfulKeys, IsStep, kept_step, kept_begin, map_kept, hashed_setting}
 use Rattle.papaya_core.proofs.KeptLogs.{pair_below}
-use Rattle.papaya_core.proofs.AdvanceLemmas.{advance_legal}
-use Rattle.papaya_core.proofs.LegalLemmas.{MayPut, MayReplace, MayTell, insertion_does, removal_does}
-use Rattle.papaya_core.proofs.MachineLemmas.{machine_offers, machine_once, machine_shows, machine_shows_none, machine_task}
+use Rattle.papaya_core.proofs.AdvanceLemmas.{advance_legal, moved as advance_moved}
+use Rattle.papaya_core.proofs.LegalLemmas.{IsMoved, MayPut, MayReplace, MayTell, Moves, insertion_does, removal_does}
+use Rattle.papaya_core.proofs.MachineLemmas.{machine_offers, machine_once, machine_shows, machine_shows_none}
 use Rattle.papaya_core.proofs.ReplayLemmas.{map_replayed, held_in_slot}
 use Rattle.papaya_core.proofs.SaidLemmas.{change_agreed, said_after, shown_none}
 use Rattle.papaya_core.proofs.TellLemmas.{IsAnswering, Tells, answering as answered_by, event_tells, made_number, told_made}
-use Rattle.papaya_core.proofs.TiedLemmas.{IsEnding, IsGrown, grown, tied_other, tied_entry, tied_fits, at_showing, at_showing_none, moments_more}
-use Rattle.papaya_core.proofs.TimelineLemmas.{entry, open_call-own, open_call-other, change_of-own, not_begin-own, below_more, below_unused, was_shown_none-own}
+use Rattle.papaya_core.proofs.TiedLemmas.{IsEnding, HasMoreLogs, grown, tied_other, tied_entry, tied_fits, at_showing, at_showing_none, moments_more}
+use Rattle.papaya_core.proofs.TimelineLemmas.{entry, open_call-own, open_call-other, change_of-own, not_begin-own, logged_more, logged_unused, was_shown_none-own}
 
 -- a call that goes on is the one after its step
 goes : {A : Type 0} (reply : Option Reply) (r' r : A) → goes_on reply r' ≡ Some r → (reply ≡ None) × (r' ≡ r)
@@ -71,6 +76,13 @@ done_in ask reply e = let f : None ≡ Some reply = e in cc
 begun_stands : (task : Task) (hash : ℕ) (mode : ResizeMode) (initial : ℕ) (said : Said) → StandsOn (started task hash mode initial) said → ⊥
 begun_stands task hash mode initial said stands = search rules
 
+-- no pair has a number past a log that has its pairs and more
+past_log : {K V S : Type 0} (first s : StoreState K V S) → KeepsPairs first s → (o : Option (Stored K V)) → pair_of first (length s.pairs) ≡ o → o ≡ None
+past_log first s keeps None there = refl
+past_log first s keeps (Some p) there =
+    let below : length s.pairs < length s.pairs = pair_below s (length s.pairs) p (keeps (length s.pairs) p there) in
+    absurd (omega (arith, below))
+
 -- a pair of a compute may have any value
 computed : {K V A : Type 0} (call : Call K V A) → task_of_call call ≡ tasks.Compute → (v : V) → IsValueOf call v
 computed (Get k) is v = absurd cc
@@ -81,7 +93,7 @@ computed (Compute k a) is v = tt
 
 module _ {K V S A : Type 0} (eq : K → K → Bool) (hash : K → ℕ) (law : IsLawfulKeys eq hash) where
   -- One step of a call, in a run whose history is good.
-  module _ {says : Says K V A} (refuse : Bool) (schedule : List (Turn K V A)) (start : Map K V) (s s' : CoreState K V S A) (h : History) (turn c : ℕ) (event : Event) (reply : Option Reply) (x : Advances eq says refuse s c s' event reply) (core' : IsCore s'.store s'.callers s'.mode) (good : IsGood eq hash schedule start s h) where
+  module _ {says : Says K V A} (refuse : Bool) (schedule : List (Turn K V A)) (first : StoreState K V S) (start : Map K V) (s s' : CoreState K V S A) (h : History) (turn c : ℕ) (event : Event) (reply : Option Reply) (x : Advances eq says refuse s c s' event reply) (core' : IsCore s'.store s'.callers s'.mode) (good : IsGood eq says hash schedule first start s h) where
     step : IsStep eq hash law refuse s c s' event reply x good.es good.tales
     step = kept_step eq hash law refuse s c s' event reply x good.es good.tales good.core good.kept
 
@@ -103,8 +115,8 @@ module _ {K V S A : Type 0} (eq : K → K → Bool) (hash : K → ℕ) (law : Is
     later_maps = replay eq es ∷ replay eq good.es ∷ good.maps
 
     -- what a closure answered in it
-    answering : IsAnswering x.before x.later event
-    answering = subst (λ y. IsAnswering x.before x.later y) (sym x.event_is) (answered_by eq says refuse (kind_of_ask x.before.machine) s.store x.before x.answer s'.store x.later (ask_of x.before.machine) x.performs)
+    answering : IsAnswering says s'.store x.before x.later event
+    answering = subst (λ y. IsAnswering says s'.store x.before x.later y) (sym x.event_is) (answered_by eq says refuse (kind_of_ask x.before.machine) s.store x.before x.answer s'.store x.later (ask_of x.before.machine) x.performs)
 
     hashed : IsHashed (setting_of {V = V} eq (low hash) s.mode s.store.words.tables) (coding_of (low hash))
     hashed = hashed_setting eq hash law s good.core
@@ -116,7 +128,7 @@ module _ {K V S A : Type 0} (eq : K → K → Bool) (hash : K → ℕ) (law : Is
     offers : ask_of x.before.machine ≡ ShowNone → x.before.machine.task ≡ tasks.Compute
     offers asks = machine_offers (setting_of eq (low hash) s.mode s.store.words.tables) (coding_of (low hash)) (good.tales c).begun (good.tales c).since step.call.key x.before.machine (good.tales c).hands step.call.rests asks
 
-    grows : IsGrown s.store x.before s'.store x.later
+    grows : HasMoreLogs s.store x.before s'.store x.later
     grows = grown eq says refuse (ask_of x.before.machine) s.store x.before x.answer s'.store x.later x.performs offers
 
     one : (step.made ≡ []) ⊎ ((e : Exchange (Stored K V)) × (step.made ≡ e ∷ []))
@@ -207,11 +219,11 @@ module _ {K V S A : Type 0} (eq : K → K → Bool) (hash : K → ℕ) (law : Is
     standing = held_in_slot eq (low hash) s'.mode s'.store.words.tables (hashed_setting eq hash law s' core').lawful es step.kept.allowed step.kept.single
 
     -- so they are in the log
-    within : (j : K) (p : Stored K V) → replay eq es j ≡ Some p → p.number < length s'.store.pairs
-    within j p e = let (t, i, there) = standing j p e in pair_below s'.store p.number p (step.kept.logged t i p there)
+    in_log : (j : K) (p : Stored K V) → replay eq es j ≡ Some p → pair_of s'.store p.number ≡ Some p
+    in_log j p e = let (t, i, there) = standing j p e in step.kept.logged t i p there
 
-    below : AllBelow (length s'.store.pairs) later_maps
-    below = (within, below_more (length s.store.pairs) (length s'.store.pairs) (replay eq good.es ∷ good.maps) step.longer good.below)
+    logged : AreLogged s'.store later_maps
+    logged = (in_log, logged_more s.store s'.store (replay eq good.es ∷ good.maps) grows.pairs_stay good.logged)
 
     -- the hands of the call
     own_hands : (tales c).hands ≡ step.hands
@@ -223,7 +235,7 @@ module _ {K V S A : Type 0} (eq : K → K → Bool) (hash : K → ℕ) (law : Is
         let none_before = unchanged_before (change_in x.before.machine.state) (kind_of_ask x.before.machine) (ask_of x.before.machine) x.answer (machine_once x.before.machine) (sym changed ∙ none) in
         ⊎_elim
         (λ was. good.unused c x.before x.was q was none_before)
-        (λ (new : (q.number ≡ length s.store.pairs) × (x.before.value ≡ Some q.value) × (pair_of s'.store q.number ≡ Some q)). subst (λ n. IsUnused n (replay eq good.es ∷ good.maps)) (sym new.0) (below_unused (length s.store.pairs) (replay eq good.es ∷ good.maps) good.below))
+        (λ (new : (q.number ≡ length s.store.pairs) × (x.before.value ≡ Some q.value) × (pair_of s'.store q.number ≡ Some q)). subst (λ n. IsUnused n (replay eq good.es ∷ good.maps)) (sym new.0) (logged_unused s.store (replay eq good.es ∷ good.maps) good.logged))
         (step.new q made)
 
     -- each caller's call, before it and after it
@@ -275,7 +287,7 @@ module _ {K V S A : Type 0} (eq : K → K → Bool) (hash : K → ℕ) (law : Is
         let tied = good.tied c x.before call x.was e in
         record {
           key = step.own.own ∙ ap (λ k. Some k) (step.own_key ∙ own_is call e);
-          task = machine_task m x.answer ∙ tied.task;
+          task = (same_task m x.answer).0 ∙ tied.task;
           value = λ v had. ⊎_elim (λ was. tied.value v was) (λ computes. computed call (sym tied.task ∙ computes) v) (grows.value_stays v had);
           made = λ q made. ⊎_elim
               (λ was. tied.made q was)
@@ -304,8 +316,7 @@ module _ {K V S A : Type 0} (eq : K → K → Bool) (hash : K → ℕ) (law : Is
     ending : (call : Call K V A) → open_call schedule c h ≡ Some call → (rep : Reply) → reply ≡ Some rep → ask_of (after x.before.machine x.answer) ≡ Ask_done rep → IsEnding r'.machine.task call rep c later_history later_maps
     ending call e rep some done =
         step_ending call x.before.machine x.answer c turn event h (replay eq es) (replay eq good.es ∷ good.maps) x.event_is (good.core.going c x.before x.was)
-        (unrefused eq says refuse s.store x.before x.answer s'.store x.later (ask_of x.before.machine) x.performs)
-        offers (λ shown asks. (may_show (Some call) e shown asks).0) rep (λ refused is. x.cause refused (some ∙ ap (λ y. Some y) is)) done
+        offers (λ shown asks. (may_show (Some call) e shown asks).0) rep (λ is. removes_nothing eq s.store x.before x.answer (unrefused eq says refuse s.store x.before x.answer s'.store x.later (ask_of x.before.machine) x.performs) (x.cause RemoveNothing (some ∙ ap (λ y. Some y) is))) done
 
     -- a reply fits
     fits : (o : Option (Call K V A)) → open_call schedule c later_history ≡ o → (rep : Reply) → reply ≡ Some rep → FitsOpen eq o rep c later_history later_maps
@@ -329,12 +340,81 @@ module _ {K V S A : Type 0} (eq : K → K → Bool) (hash : K → ℕ) (law : Is
       | inr differ ↦ tied_others d r call differ now (open_other d call differ e)
     ]
 
+    -- no pair is gone from the log
+    still_left : (a : A) (d : ℕ) → HasLeft says s.store schedule a d h good.answers → HasLeft says s'.store schedule a d h good.answers
+    still_left a d x = left_more says s.store s'.store grows.pairs_stay schedule a d h good.answers x
+
+    -- what its closure had left gave what it answered, if it was asked
+    own_given : (call : Call K V A) → open_call schedule c h ≡ Some call → (a' : A) → x.later.answers ≡ Some a' → (a : A) × HasLeft says s'.store schedule a c h good.answers × GivesIn says s'.store event answering.answered a a'
+    own_given call e a' had = let (a, was, gives) = answering.left a' had in (a, still_left a c (good.left c x.before call x.was e a was), gives)
+
+    given : AreGiven says s'.store schedule later_history later_answers
+    given = (
+      λ call e asks. let (a', had) = answering.gave asks in let (a, left, gives) = own_given call e a' had in (a, a', left, gives),
+      given_more says s.store s'.store grows.pairs_stay schedule h good.answers good.given,
+    )
+
+    -- what they have left after it
+    left_others : (d : ℕ) (r : Running K V A) (call : Call K V A) → d ≢ c → running s'.callers d ≡ Some r → open_call schedule d h ≡ Some call → (a : A) → r.answers ≡ Some a → HasLeft says s'.store schedule a d later_history later_answers
+    left_others d r call differ now e a had = inr (inr (λ z. differ (sym z), still_left a d (good.left d r call (run_other d r differ now) e a had)))
+
+    left : (d : ℕ) (r : Running K V A) (call : Call K V A) → running s'.callers d ≡ Some r → open_call schedule d later_history ≡ Some call → (a : A) → r.answers ≡ Some a → HasLeft says s'.store schedule a d later_history later_answers
+    left d r call now e a had = elim (cases_same d c) [
+      | inl same ↦
+          let is = (run_same d r same now).1 in
+          let opened_before = sym opened ∙ ap (λ y. open_call schedule y later_history) (sym same) ∙ e in
+          let (a0, left_before, gives) = own_given call opened_before a (ap (λ (y : Running K V A). y.answers) is ∙ had) in
+          subst (λ y. HasLeft says s'.store schedule a y later_history later_answers) (sym same)
+          (inr (inl (refl, ap begins x.event_is ∙ event_begins (kind_of_ask x.before.machine) (ask_of x.before.machine) x.answer, (a0, left_before, gives))))
+      | inr differ ↦ left_others d r call differ now (open_other d call differ e) a had
+    ]
+
+    -- a number past the log is new to the log where the run began
+    past_new : pair_of first (length s.store.pairs) ≡ None
+    past_new = past_log first s.store good.kept_pairs (pair_of first (length s.store.pairs)) refl
+
+    -- a pair that comes is one that the call made
+    comes_new : (call : Call K V A) → open_call schedule c h ≡ Some call → (e : Event) → event ≡ e → ComesNew first e
+    comes_new call began (Changed kind old (Some n)) is = by_came moved.came moved.came_is moved.may
+      where
+        moved : IsMoved eq step.call.key x.before.machine.task (good.tales c).hands.made (replay eq good.es) (replay eq es) old (Some n)
+        moved = subst (Moves eq step.call.key x.before.machine.task (good.tales c).hands.made (replay eq good.es) (replay eq es)) is (advance_moved eq hash law refuse s s' c event reply x good.core core' good.es good.tales good.kept step)
+
+        by_came : (came : Option (Stored K V)) → number_in came ≡ Some n → MayPut step.call.key x.before.machine.task (good.tales c).hands.made moved.went came → pair_of first n ≡ None
+        by_came None none may = let f : None ≡ Some n = none in absurd cc
+        by_came (Some q) number (made, own, replaces) = subst (λ i. pair_of first i ≡ None) (same_item q.number n number) (good.made_new c x.before call x.was began q made)
+    comes_new call began (Changed kind old None) is = tt
+    comes_new call began Begun is = tt
+    comes_new call began (Moved kind) is = tt
+    comes_new call began (Asked n agrees) is = tt
+    comes_new call began (Shown shown kind) is = tt
+    comes_new call began Other is = tt
+    comes_new call began (Replied rep) is = tt
+
+    fresh : AreNew first schedule later_history
+    fresh = (λ call began. comes_new call began event refl, good.fresh)
+
+    -- and so are those that calls of the run made
+    made_others : (d : ℕ) (r : Running K V A) (call : Call K V A) → d ≢ c → running s'.callers d ≡ Some r → open_call schedule d h ≡ Some call → (q : Stored K V) → IsOneOf (tales d).hands.made q → pair_of first q.number ≡ None
+    made_others d r call differ now e q made = good.made_new d r call (run_other d r differ now) e q (subst (λ (y : Hands (Stored K V)). IsOneOf y.made q) (hands_other d differ) made)
+
+    made_new : (d : ℕ) (r : Running K V A) (call : Call K V A) → running s'.callers d ≡ Some r → open_call schedule d later_history ≡ Some call → (q : Stored K V) → IsOneOf (tales d).hands.made q → pair_of first q.number ≡ None
+    made_new d r call now e q made = elim (cases_same d c) [
+      | inl same ↦
+          let opened_before = sym opened ∙ ap (λ y. open_call schedule y later_history) (sym same) ∙ e in
+          ⊎_elim
+          (λ was. good.made_new c x.before call x.was opened_before q was)
+          (λ (new : (q.number ≡ length s.store.pairs) × (x.before.value ≡ Some q.value) × (pair_of s'.store q.number ≡ Some q)). subst (λ n. pair_of first n ≡ None) (sym new.0) past_new)
+          (step.new q (subst (λ (y : Hands (Stored K V)). IsOneOf y.made q) own_hands (subst (λ y. IsOneOf (tales y).hands.made q) same made)))
+      | inr differ ↦ made_others d r call differ now (open_other d call differ e) q made
+    ]
+
     -- the call goes on
-    goes_on_good : IsGood eq hash schedule start s' later_history
-    goes_on_good = record { es = es; tales = tales; maps = replay eq good.es ∷ good.maps; answers = later_answers; core = core'; kept = step.kept; timeline = timeline; below = below; unused = unused; tied = tied }
+    goes_on_good : IsGood eq says hash schedule first start s' later_history
+    goes_on_good = record { es = es; tales = tales; maps = replay eq good.es ∷ good.maps; answers = later_answers; core = core'; kept = step.kept; timeline = timeline; logged = logged; given = given; left = left; kept_pairs = λ n p there. grows.pairs_stay n p (good.kept_pairs n p there); fresh = fresh; made_new = made_new; unused = unused; tied = tied }
 
     -- or it replies
-    replies_good : (rep : Reply) → reply ≡ Some rep → IsGood eq hash schedule start s' (entry turn c (Replied rep) ∷ later_history)
+    replies_good : (rep : Reply) → reply ≡ Some rep → IsGood eq says hash schedule first start s' (entry turn c (Replied rep) ∷ later_history)
     replies_good rep some = record {
       es = es;
       tales = tales;
@@ -343,7 +423,20 @@ module _ {K V S A : Type 0} (eq : K → K → Bool) (hash : K → ℕ) (law : Is
       core = core';
       kept = step.kept;
       timeline = ((λ j. refl, fits (open_call schedule c later_history) refl rep some), refl, timeline);
-      below = (within, below);
+      logged = (in_log, logged);
+      given = (λ call e asks. let f : false ≡ true = asks in absurd cc, given);
+      left = λ d r call now e a had. elim (cases_same d c) [
+        | inl same ↦ let f : Some rep ≡ None = sym some ∙ (run_same d r same now).0 in absurd cc
+        | inr differ ↦
+            let ne : c ≢ d = λ z. differ (sym z) in
+            inr (inr (ne, left_others d r call differ now (open_other d call differ (sym (open_call-other schedule c d turn (Replied rep) later_history ne) ∙ e)) a had))
+      ];
+      kept_pairs = λ n p there. grows.pairs_stay n p (good.kept_pairs n p there);
+      fresh = (λ call began. tt, fresh);
+      made_new = λ d r call now e q made. elim (cases_same d c) [
+        | inl same ↦ let f : Some rep ≡ None = sym some ∙ (run_same d r same now).0 in absurd cc
+        | inr differ ↦ made_others d r call differ now (open_other d call differ (sym (open_call-other schedule c d turn (Replied rep) later_history (λ z. differ (sym z))) ∙ e)) q made
+      ];
       unused = λ d r now q made none. let u = unused d r now q made none in (u.0, u);
       tied = λ d r call now e. elim (cases_same d c) [
         | inl same ↦ let f : Some rep ≡ None = sym some ∙ (run_same d r same now).0 in cc
@@ -355,13 +448,13 @@ module _ {K V S A : Type 0} (eq : K → K → Bool) (hash : K → ℕ) (law : Is
     }
 
   -- a step keeps a good history
-  pub good_step : {says : Says K V A} (refuse : Bool) (schedule : List (Turn K V A)) (start : Map K V) (s s' : CoreState K V S A) (h : History) (turn c : ℕ) (event : Event) (reply : Option Reply) → Advances eq says refuse s c s' event reply → IsCore s'.store s'.callers s'.mode → IsGood eq hash schedule start s h → IsGood eq hash schedule start s' (with_step turn c event reply h)
-  good_step refuse schedule start s s' h turn c event None x core' good = goes_on_good refuse schedule start s s' h turn c event None x core' good
-  good_step refuse schedule start s s' h turn c event (Some rep) x core' good = replies_good refuse schedule start s s' h turn c event (Some rep) x core' good rep refl
+  pub good_step : {says : Says K V A} (refuse : Bool) (schedule : List (Turn K V A)) (first : StoreState K V S) (start : Map K V) (s s' : CoreState K V S A) (h : History) (turn c : ℕ) (event : Event) (reply : Option Reply) → Advances eq says refuse s c s' event reply → IsCore s'.store s'.callers s'.mode → IsGood eq says hash schedule first start s h → IsGood eq says hash schedule first start s' (with_step turn c event reply h)
+  good_step refuse schedule first start s s' h turn c event None x core' good = goes_on_good refuse schedule first start s s' h turn c event None x core' good
+  good_step refuse schedule first start s s' h turn c event (Some rep) x core' good = replies_good refuse schedule first start s s' h turn c event (Some rep) x core' good rep refl
 
   -- a begin adds a call that rests on the exchanges as they are
-  pub good_begin : (schedule : List (Turn K V A)) (start : Map K V) (s s' : CoreState K V S A) (h : History) (turn c : ℕ) (call : Call K V A) → slice_get schedule turn ≡ Some (Begin c call) → Begins hash s c call s' → hash (key_of_call call) < 2 ^ 64 → IsCore s'.store s'.callers s'.mode → IsGood eq hash schedule start s h → IsGood eq hash schedule start s' (entry turn c Begun ∷ h)
-  good_begin schedule start s s' h turn c call at x low_hash core' good = record {
+  pub good_begin : (says : Says K V A) (schedule : List (Turn K V A)) (first : StoreState K V S) (start : Map K V) (s s' : CoreState K V S A) (h : History) (turn c : ℕ) (call : Call K V A) → slice_get schedule turn ≡ Some (Begin c call) → Begins hash s c call s' → hash (key_of_call call) < 2 ^ 64 → IsCore s'.store s'.callers s'.mode → IsGood eq says hash schedule first start s h → IsGood eq says hash schedule first start s' (entry turn c Begun ∷ h)
+  good_begin says schedule first start s s' h turn c call at x low_hash core' good = record {
     es = good.es;
     tales = tales;
     maps = replay eq good.es ∷ good.maps;
@@ -369,7 +462,31 @@ module _ {K V S A : Type 0} (eq : K → K → Bool) (hash : K → ℕ) (law : Is
     core = core';
     kept = kept_begin eq hash law s c call s' x low_hash good.es good.tales good.kept;
     timeline = (λ j. refl, refl, good.timeline);
-    below = (below.0, below);
+    logged = (logged.0, logged);
+    given = (
+      λ other e asks. let f : false ≡ true = asks in absurd cc,
+      subst (λ (y : StoreState K V S). AreGiven says y schedule h good.answers) (sym x.store) good.given,
+    );
+    left = λ d r other now e a had. elim (cases_same d c) [
+      | inl same ↦
+          let is = run_same d r same now in
+          inl (sym same, refl, ap (λ o. begun_answers (begun_by o)) at ∙ ap (λ (y : Running K V A). y.answers) is ∙ had)
+      | inr differ ↦
+          let ne : c ≢ d = λ z. differ (sym z) in
+          inr (inr (
+            ne,
+            subst (λ (y : StoreState K V S). HasLeft says y schedule a d h good.answers) (sym x.store)
+                (good.left d r other (run_other d r differ now) (sym (open_call-other schedule c d turn Begun h ne) ∙ e) a had),
+          ))
+    ];
+    kept_pairs = subst (λ (y : StoreState K V S). KeepsPairs first y) (sym x.store) good.kept_pairs;
+    fresh = (λ call began. tt, good.fresh);
+    made_new = λ d r other now e q made. elim (cases_same d c) [
+      | inl same ↦ absurd (subst (λ (y : Tale K V). IsOneOf y.hands.made q) (ap tales same ∙ tale_same) made)
+      | inr differ ↦
+          good.made_new d r other (run_other d r differ now) (sym (open_call-other schedule c d turn Begun h (λ z. differ (sym z))) ∙ e) q
+          (subst (λ (y : Tale K V). IsOneOf y.hands.made q) (tale_other d differ) made)
+    ];
     unused = unused;
     tied = tied;
   }
@@ -377,8 +494,8 @@ module _ {K V S A : Type 0} (eq : K → K → Bool) (hash : K → ℕ) (law : Is
       tales : ℕ → Tale K V
       tales = begun_tales good.tales c good.es
 
-      below : AllBelow (length s'.store.pairs) (replay eq good.es ∷ good.maps)
-      below = subst (λ (y : StoreState K V S). AllBelow (length y.pairs) (replay eq good.es ∷ good.maps)) (sym x.store) good.below
+      logged : AreLogged s'.store (replay eq good.es ∷ good.maps)
+      logged = subst (λ (y : StoreState K V S). AreLogged y (replay eq good.es ∷ good.maps)) (sym x.store) good.logged
 
       run_other : (d : ℕ) (r : Running K V A) → d ≢ c → running s'.callers d ≡ Some r → running s.callers d ≡ Some r
       run_other d r differ now =
@@ -450,8 +567,8 @@ module _ {K V S A : Type 0} (eq : K → K → Bool) (hash : K → ℕ) (law : Is
               begun_value (Compute k a) v had = tt
 
   -- a run begins with no entry and the core's map
-  pub good_start : (schedule : List (Turn K V A)) (s : CoreState K V S A) (es : List (Exchange (Stored K V))) (tales : ℕ → Tale K V) → IsCore s.store s.callers s.mode → IsKept eq hash s.mode s.store s.callers es tales → IsGood eq hash schedule (map_of eq s) s []
-  good_start schedule s es tales core kept = record {
+  pub good_start : (says : Says K V A) (schedule : List (Turn K V A)) (s : CoreState K V S A) (es : List (Exchange (Stored K V))) (tales : ℕ → Tale K V) → IsCore s.store s.callers s.mode → IsKept eq hash s.mode s.store s.callers es tales → IsGood eq says hash schedule s.store (map_of eq s) s []
+  good_start says schedule s es tales core kept = record {
     es = es;
     tales = tales;
     maps = [];
@@ -459,7 +576,12 @@ module _ {K V S A : Type 0} (eq : K → K → Bool) (hash : K → ℕ) (law : Is
     core = core;
     kept = kept;
     timeline = λ j. sym (is_map j);
-    below = (λ j p e. let (t, i, there) = standing j p e in pair_below s.store p.number p (kept.logged t i p there), tt);
+    logged = (λ j p e. let (t, i, there) = standing j p e in kept.logged t i p there, tt);
+    given = tt;
+    left = λ d r call now e a had. let f : None ≡ Some call = e in absurd cc;
+    kept_pairs = λ n p there. there;
+    fresh = tt;
+    made_new = λ d r call now e q made. let f : None ≡ Some call = e in absurd cc;
     unused = λ d r now q made none. (λ j p e. let (t, i, there) = standing j p e in (kept.calls d r now).unwritten q made none t i p there, tt);
     tied = λ d r call now e. let f : None ≡ Some call = e in cc;
   }
@@ -471,11 +593,15 @@ module _ {K V S A : Type 0} (eq : K → K → Bool) (hash : K → ℕ) (law : Is
       standing = held_in_slot eq (low hash) s.mode s.store.words.tables (hashed_setting eq hash law s core).lawful es kept.allowed kept.single
 
   -- at its end the maps of a run are a timeline from the core's map to the core's map
-  pub good_end : (schedule : List (Turn K V A)) (s s' : CoreState K V S A) (h : History) → IsGood eq hash schedule (map_of eq s) s' h → HasTimeline eq schedule s h s'
-  good_end schedule s s' h good = record {
+  pub good_end : (says : Says K V A) (schedule : List (Turn K V A)) (s s' : CoreState K V S A) (h : History) → IsGood eq says hash schedule s.store (map_of eq s) s' h → HasTimeline eq says schedule s h s'
+  good_end says schedule s s' h good = record {
     last = replay eq good.es;
     maps = good.maps;
     said = good.answers;
     timeline = good.timeline;
+    logged = good.logged;
+    given = good.given;
+    fresh = good.fresh;
+    keeps = good.kept_pairs;
     is_last = λ j. sym (map_kept eq hash law s' good.es good.tales good.core good.kept j ∙ ap (λ m. m j) (map_replayed eq (low hash) s'.mode s'.store.words.tables good.es (λ k. None)));
   }

@@ -6,9 +6,9 @@ use Rattle.papaya_call.specs.declared.call.Call.{Call}
 use Rattle.papaya_call.specs.declared.call.Reply.{Reply}
 use Rattle.papaya_call.specs.declared.call.Task.TheVariants.{Compute}
 use Rattle.papaya_call.specs.Answers.{Says}
-use Rattle.papaya_call.specs.Law.Exchange.{Exchange}
+use Rattle.papaya_law.specs.Exchange.{Exchange}
 use Rattle.papaya_call.specs.Machine.{IsStanding, ask_of, after}
-use Rattle.papaya_call.proofs.Standing.{machine_stands, machine_ask_fits}
+use Rattle.papaya_rests.proofs.Standing.{machine_stands, machine_ask_fits}
 use Rattle.papaya_core.specs.declared.pairs.Running.{Running}
 use Rattle.papaya_core.specs.declared.callers.Seat.{Seat}
 use Rattle.papaya_core.specs.declared.trace.Turn.{Turn}
@@ -24,7 +24,8 @@ use Rattle.papaya_core.specs.Kept.{IsKept, IsLawfulCore, Tale, setting_of, codin
 use Rattle.papaya_core.specs.Maps.{Map}
 use Rattle.papaya_core.specs.Moves.{MovesMap}
 use Rattle.papaya_core.specs.Runs.{History, StepRuns, BeginRuns, StepsRun, TurnRuns, TurnsRun}
-use Rattle.papaya_core.specs.Store.{StoreState, Stored, hash_of}
+use Rattle.papaya_core.specs.Store.{KeepsPairs, StoreState, Stored}
+use Rattle.papaya_keys.specs.Hashes.{hash_of}
 use Rattle.papaya_core.proofs.CallersLemmas.{same_item}
 use Rattle.papaya_core.proofs.CoreLemmas.{begun-core, still_going, performed-core, with_call-core}
 use Rattle.papaya_core.proofs.Good.{IsGood}
@@ -62,10 +63,10 @@ module _ {K V S A : Type 0} where
       (subst (λ (y : StoreState K V S). IsCore y (with_call (with_seat s.callers caller) caller (Some r)) s.mode) (sym x.store)
       (begun-core s.store s.callers s.mode caller r core (record { made = tt; remembered = record { fill = tt; choice = tt }; state = tt }) (still_going r.machine refl))))
 
-module _ {K V S A : Type 0} (eq : K → K → Bool) (says : Says K V A) (hash : S → K → ℕ) (hasher : S) (law : IsLawfulKeys eq (hash hasher)) (schedule : List (Turn K V A)) (start : Map K V) where
+module _ {K V S A : Type 0} (eq : K → K → Bool) (says : Says K V A) (hash : S → K → ℕ) (hasher : S) (law : IsLawfulKeys eq (hash hasher)) (schedule : List (Turn K V A)) (first : StoreState K V S) (start : Map K V) where
   -- a good history of a core with this hasher
   abbrev Good : CoreState K V S A → History → Type 0
-  Good s h = (s.store.hasher ≡ hasher) × IsGood eq (hash hasher) schedule start s h
+  Good s h = (s.store.hasher ≡ hasher) × IsGood eq says (hash hasher) schedule first start s h
 
   -- a turn that is passed over
   passes : (s s' : CoreState K V S A) (before after : History) → s' ≡ s → after ≡ before → Good s before → Good s' after
@@ -74,8 +75,8 @@ module _ {K V S A : Type 0} (eq : K → K → Bool) (says : Says K V A) (hash : 
   step_runs : (turn caller : ℕ) (refuse : Bool) (s s' : CoreState K V S A) (before after : History) → StepRuns eq says hash turn caller refuse s before s' after → Good s before → Good s' after
   step_runs turn caller refuse s s' before after (inl (event, reply, x, is)) (same, good) = (
     ap (λ (y : S). y) (grown eq says refuse (ask_of x.before.machine) s.store x.before x.answer s'.store x.later x.performs offers).hasher_is ∙ same,
-    subst (λ y. IsGood eq (hash hasher) schedule start s' y) (sym is)
-        (good_step eq (hash hasher) law refuse schedule start s s' before turn caller event reply x (advance-core eq says refuse s caller s' event reply x good.core) good),
+    subst (λ y. IsGood eq says (hash hasher) schedule first start s' y) (sym is)
+        (good_step eq (hash hasher) law refuse schedule first start s s' before turn caller event reply x (advance-core eq says refuse s caller s' event reply x good.core) good),
   )
     where
       -- only a compute shows its closure that there is none
@@ -90,8 +91,8 @@ module _ {K V S A : Type 0} (eq : K → K → Bool) (says : Says K V A) (hash : 
   begin_runs turn caller call s s' before after there (inl (idle, begins, is)) (same, good) =
       let x : Begins (hash hasher) s caller call s' = subst (λ (y : S). Begins (hash y) s caller call s') same begins in (
         ap (λ (y : StoreState K V S). y.hasher) x.store ∙ same,
-        subst (λ y. IsGood eq (hash hasher) schedule start s' y) (sym is)
-            (good_begin eq (hash hasher) law schedule start s s' before turn caller call there x x.fits (begin-core (hash hasher) s caller call s' x good.core) good),
+        subst (λ y. IsGood eq says (hash hasher) schedule first start s' y) (sym is)
+            (good_begin eq (hash hasher) law says schedule first start s s' before turn caller call there x x.fits (begin-core (hash hasher) s caller call s' x good.core) good),
       )
   begin_runs turn caller call s s' before after there (inr (r, busy, passed)) good = passes s s' before after passed.0 passed.1 good
 
@@ -111,10 +112,10 @@ module _ {K V S A : Type 0} (eq : K → K → Bool) (says : Says K V A) (hash : 
       turn_runs turn what middle s' so_far h there last (turns_run turn s middle so_far runs good)
 
 -- The maps of a run are a legal timeline with its history.
-pub run_timeline : {K V S A : Type 0} (eq : K → K → Bool) (says : Says K V A) (hash : S → K → ℕ) (schedule : List (Turn K V A)) (turns : ℕ) (s s' : CoreState K V S A) (h : History) → IsLawfulKeys eq (hash s.store.hasher) → IsCore s.store s.callers s.mode → (es : List (Exchange (Stored K V))) (tales : ℕ → Tale K V) → IsKept eq (hash s.store.hasher) s.mode s.store s.callers es tales → TurnsRun eq says hash schedule turns s s' h → HasTimeline eq schedule s h s'
+pub run_timeline : {K V S A : Type 0} (eq : K → K → Bool) (says : Says K V A) (hash : S → K → ℕ) (schedule : List (Turn K V A)) (turns : ℕ) (s s' : CoreState K V S A) (h : History) → IsLawfulKeys eq (hash s.store.hasher) → IsCore s.store s.callers s.mode → (es : List (Exchange (Stored K V))) (tales : ℕ → Tale K V) → IsKept eq (hash s.store.hasher) s.mode s.store s.callers es tales → TurnsRun eq says hash schedule turns s s' h → HasTimeline eq says schedule s h s'
 run_timeline eq says hash schedule turns s s' h law core es tales kept runs =
-    good_end eq (hash s.store.hasher) law schedule s s' h
-    (turns_run eq says hash s.store.hasher law schedule (map_of eq s) turns s s' h runs (refl, good_start eq (hash s.store.hasher) law schedule s es tales core kept)).1
+    good_end eq (hash s.store.hasher) law says schedule s s' h
+    (turns_run eq says hash s.store.hasher law schedule s.store (map_of eq s) turns s s' h runs (refl, good_start eq (hash s.store.hasher) law says schedule s es tales core kept)).1
 
 -- The same of a core whose invariant holds, with keys that are hashed as its hasher does.
 module _ {K V S A H : Type 0} (eq : K → K → Bool) (input : K → List (List ℕ)) (build : S → H) (write : H → List ℕ → H) (finish : H → ℕ) (classes : IsEquivalence eq) (respects : (x y : K) → eq x y ≡ true → input x ≡ input y) where
@@ -123,7 +124,7 @@ module _ {K V S A H : Type 0} (eq : K → K → Bool) (input : K → List (List 
   Always s = IsLawfulCore eq (hash_of input build write finish s.store.hasher) s.store s.callers s.mode
 
   -- a run has a timeline
-  pub lawful_timeline : (says : Says K V A) (schedule : List (Turn K V A)) (turns : ℕ) (s s' : CoreState K V S A) (h : History) → Always s → TurnsRun eq says (hash_of input build write finish) schedule turns s s' h → HasTimeline eq schedule s h s'
+  pub lawful_timeline : (says : Says K V A) (schedule : List (Turn K V A)) (turns : ℕ) (s s' : CoreState K V S A) (h : History) → Always s → TurnsRun eq says (hash_of input build write finish) schedule turns s s' h → HasTimeline eq says schedule s h s'
   lawful_timeline says schedule turns s s' h always runs =
       let (es, (tales, kept)) = always.law in
       run_timeline eq says (hash_of input build write finish) schedule turns s s' h (keys_lawful eq input build write finish classes respects s.store.hasher) always.core es tales kept runs
@@ -135,3 +136,14 @@ module _ {K V S A H : Type 0} (eq : K → K → Bool) (input : K → List (List 
       let hash : K → ℕ = hash_of input build write finish s.store.hasher in
       let law : IsLawfulKeys eq hash = keys_lawful eq input build write finish classes respects s.store.hasher in
       advance_moves eq hash law refuse s s' caller event reply x always.core (advance-core eq says refuse s caller s' event reply x always.core) es tales kept (kept_step eq hash law refuse s caller s' event reply x es tales always.core kept)
+
+  -- and no pair is gone from the log
+  pub lawful_keeps : (says : Says K V A) (refuse : Bool) (s s' : CoreState K V S A) (caller : ℕ) (event : Event) (reply : Option Reply) → Always s → Advances eq says refuse s caller s' event reply → KeepsPairs s.store s'.store
+  lawful_keeps says refuse s s' caller event reply always x = (grown eq says refuse (ask_of x.before.machine) s.store x.before x.answer s'.store x.later x.performs offers).pairs_stay
+    where
+      offers : ask_of x.before.machine ≡ ShowNone → x.before.machine.task ≡ Compute
+      offers asks =
+          let (es, (tales, kept)) = always.law in
+          let call = kept.calls caller x.before x.was in
+          let hash : K → ℕ = hash_of input build write finish s.store.hasher in
+          machine_offers (setting_of eq (low hash) s.mode s.store.words.tables) (coding_of (low hash)) (tales caller).begun (tales caller).since call.key x.before.machine (tales caller).hands call.rests asks

@@ -9,21 +9,22 @@ use Rattle.papaya_call.specs.declared.ask.Ask.{Ask}
 use Rattle.papaya_call.specs.declared.ask.Ask.TheVariants.{MakeTable}
 use Rattle.papaya_call.specs.declared.ask.Answer.{Answer}
 use Rattle.papaya_call.specs.declared.ask.Answer.TheVariants.{Made as Made_number}
-use Rattle.papaya_call.specs.Law.Code.{Coding}
-use Rattle.papaya_call.specs.Law.Exchange.{Setting, State, Exchange, run, start}
-use Rattle.papaya_call.specs.Law.Grows.{Comes}
-use Rattle.papaya_call.specs.Law.Invariant.{named}
+use Rattle.papaya_law.specs.Code.{Coding}
+use Rattle.papaya_law.specs.Exchange.{Setting, State, Exchange, run, start}
+use Rattle.papaya_law.specs.Grows.{Comes}
+use Rattle.papaya_law.specs.Invariant.{named}
 use Rattle.papaya_call.specs.Machine.{ask_of, kind_of_ask, after}
-use Rattle.papaya_call.specs.Rests.{change_in, change_after}
-use Rattle.papaya_call.specs.Told.{Hands, IsOneOf, IsTold, IsHashed, told_of, or_last, word_of}
-use Rattle.papaya_call.proofs.RestsReply.{machine_changes}
+use Rattle.papaya_rests.specs.Rests.{change_in, change_after}
+use Rattle.papaya_rests.specs.Told.{Hands, IsOneOf, IsTold, told_of, or_last, word_of}
+use Rattle.papaya_law.specs.Code.{IsHashed}
+use Rattle.papaya_rests.proofs.RestsReply.{machine_changes}
 use Rattle.papaya_core.specs.declared.pairs.KeyOf.{KeyOf}
 use Rattle.papaya_core.specs.declared.pairs.Running.{Running}
 use Rattle.papaya_core.specs.Kept.{Tale, setting_of, coding_of, low}
 use Rattle.papaya_core.specs.Performs.{key_at, own_key}
 use Rattle.papaya_core.specs.Store.{StoreState, Stored, pair_of}
 use Rattle.papaya_core.specs.Tables.{table_of, word_at}
-use Rattle.papaya_core.proofs.KeptTables.{IsGrown, grown-same}
+use Rattle.papaya_core.proofs.KeptTables.{HasMoreTables, grown-same}
 
 module _ {K V S A : Type 0} (eq : K → K → Bool) (hash : K → ℕ) (mode : ResizeMode) (store : StoreState K V S) (r : Running K V A) (es : List (Exchange (Stored K V))) (tale : Tale K V) where
   -- the setting, the coding and the words as the law has them
@@ -46,7 +47,7 @@ module _ {K V S A : Type 0} (eq : K → K → Bool) (hash : K → ℕ) (mode : R
     pub own : own_key store' later ≡ Some key
     pub logged : (n : ℕ) (p : Stored K V) → pair_of store n ≡ Some p → pair_of store' n ≡ Some p
     pub longer : length store.pairs ≤ length store'.pairs
-    pub grown : IsGrown store.words.tables store'.words.tables
+    pub grown : HasMoreTables store.words.tables store'.words.tables
     -- the words are those that the exchanges leave
     pub coded : (at : At) → word_of law_setting law_coding (run (es ++ made) start) at ≡ word_at store'.words at
     pub single : (t : ℕ) → (run (es ++ made) start).next t ≡ 0
@@ -83,7 +84,7 @@ module _ {K V S A : Type 0} (eq : K → K → Bool) (hash : K → ℕ) (mode : R
         → own_key store' later ≡ Some key
         → ((n : ℕ) (p : Stored K V) → pair_of store n ≡ Some p → pair_of store' n ≡ Some p)
         → length store.pairs ≤ length store'.pairs
-        → IsGrown store.words.tables store'.words.tables
+        → HasMoreTables store.words.tables store'.words.tables
         → ((at : At) → word_at store'.words at ≡ word_at store.words at)
         → ((p : Stored K V) → hands.last ≡ Some p → (tale.hands.last ≡ Some p) ⊎ ((t : ℕ) × (x : ℕ) × (named (words_now.slot t x) ≡ Some p)))
         → ((q : Stored K V) → IsOneOf hands.made q → IsOneOf tale.hands.made q ⊎ ((q.number ≡ length store.pairs) × (r.value ≡ Some q.value) × (pair_of store' q.number ≡ Some q)))

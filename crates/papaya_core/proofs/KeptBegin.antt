@@ -6,9 +6,9 @@ use Rattle.papaya_words.specs.declared.probe.ResizeMode.TheVariants.{Incremental
 use Rattle.papaya_call.specs.declared.ask.At.{At}
 use Rattle.papaya_call.specs.declared.ask.At.TheVariants.{Root, Next, Aborted, Done, Slot}
 use Rattle.papaya_call.specs.declared.call.Call.{Call}
-use Rattle.papaya_call.specs.Law.Exchange.{Exchange, Open, run, start}
-use Rattle.papaya_call.specs.Rests.{IsModeOf}
-use Rattle.papaya_call.specs.Told.{IsOneOf, no_hands, word_of}
+use Rattle.papaya_law.specs.Exchange.{Exchange, Open, run, start}
+use Rattle.papaya_rests.specs.Rests.{IsModeOf}
+use Rattle.papaya_rests.specs.Told.{IsOneOf, no_hands, word_of}
 use Rattle.papaya_core.specs.declared.pairs.Running.{Running}
 use Rattle.papaya_core.specs.declared.callers.Seat.{Seat}
 use Rattle.papaya_core.specs.Begins.{begun, key_of_call}

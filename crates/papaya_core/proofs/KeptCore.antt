@@ -10,20 +10,23 @@ use Rattle.papaya_call.specs.declared.ask.Answer.TheVariants.{Exchanged, Found a
 use Rattle.papaya_call.specs.declared.call.Call.{Call}
 use Rattle.papaya_call.specs.declared.call.Reply.{Reply}
 use Rattle.papaya_call.specs.Machine.{after, ask_of, kind_of_ask}
-use Rattle.papaya_call.specs.Told.{no_hands}
+use Rattle.papaya_rests.specs.Told.{no_hands}
 use Rattle.papaya_core.specs.declared.callers.Seat.{Seat}
 use Rattle.papaya_core.specs.declared.pairs.Running.{Running}
 use Rattle.papaya_core.specs.declared.trace.Event.{Event}
-use Rattle.papaya_core.specs.Advances.{Advances, event_of, goes_on, reply_in}
+use Rattle.papaya_call.specs.declared.call.Reply.TheVariants.{Refused as Reply_refused}
+use Rattle.papaya_words.specs.declared.probe.Refused.{Refused}
+use Rattle.papaya_core.specs.Advances.{Advances, IsCause, event_of, goes_on, reply_in}
 use Rattle.papaya_core.specs.Begins.{Begins, key_of_call}
 use Rattle.papaya_core.specs.Callers.{running, with_call}
 use Rattle.papaya_core.specs.Core.{CoreState, IsCore}
 use Rattle.papaya_core.specs.Kept.{IsKept, IsLawfulCore, Tale}
 use Rattle.papaya_core.specs.New.{HasCapacity}
 use Rattle.papaya_core.specs.Performs.{Performs, Stays}
-use Rattle.papaya_core.specs.Store.{StoreState, hash_of}
+use Rattle.papaya_core.specs.Store.{StoreState}
+use Rattle.papaya_keys.specs.Hashes.{hash_of}
 use Rattle.papaya_core.specs.Tables.{put, word_at}
-use Rattle.papaya_core.proofs.CoreLemmas.{caused}
+use Rattle.papaya_core.proofs.RefusedLemmas.{caused}
 use Rattle.papaya_core.proofs.KeptLemmas.{IsLawfulKeys, kept_begin, kept_new, kept_step}
 use Rattle.papaya_core.proofs.ShowLemmas.{none_shown, pair_shown}
 use Rattle.papaya_core.proofs.StoreLemmas.{matched}
@@ -87,10 +90,16 @@ module _ {K V S A H : Type 0} (eq : K → K → Bool) (input : K → List (List 
       let same : s.store.hasher ≡ s'.store.hasher = sym (performs-hasher eq says refuse _ s.store a.before a.answer s'.store a.later a.performs) in
       record { core = core; law = subst (λ h. (es : _) × ((tales : _) × IsKept eq (hash_of input build write finish h) s'.mode s'.store s'.callers es tales)) same (es ++ step.made, (_, step.kept)) }
 
+  -- a call that goes on is refused for a cause
+  pub lawful_caused : (s : CoreState K V S A) → Lawful s → (caller : ℕ) (r : Running K V A) → running s.callers caller ≡ Some r → (answer : Answer) (refused : Refused) → reply_in (ask_of (after r.machine answer)) ≡ Some (Reply_refused refused) → IsCause eq s.store r answer refused
+  lawful_caused s lawful caller r was answer refused e =
+      let (es, (tales, kept)) = lawful.law in
+      caused eq (hash_of input build write finish s.store.hasher) (keys_lawful eq input build write finish classes respects s.store.hasher) s lawful.core es tales kept caller r was answer refused e
+
   -- the same of what the code has: the store and the callers after it
   pub stepped_lawful : (says : Says K V A) (refuse : Bool) (s : CoreState K V S A) (caller : ℕ) (store' : StoreState K V S) (callers' : List (Seat K V A)) (before : Running K V A) (a : Answer) (later : Running K V A) → running s.callers caller ≡ Some before → Performs eq says refuse (ask_of before.machine) s.store before a store' later → later.machine ≡ before.machine
       → callers' ≡ with_call s.callers caller (goes_on (reply_in (ask_of (after before.machine a))) (record later { machine = after before.machine a })) → IsCore store' callers' s.mode → Lawful s → IsLawfulCore eq (hash_of input build write finish store'.hasher) store' callers' s.mode
   stepped_lawful says refuse s caller store' callers' before a later was performs machine callers core lawful =
       step_lawful {says = says} refuse s caller (record { store = store'; callers = callers'; mode = s.mode; initial = s.initial }) (event_of (kind_of_ask before.machine) (ask_of before.machine) a) (reply_in (ask_of (after before.machine a)))
-      (record { before = before; was = was; answer = a; later = later; performs = performs; machine = machine; event_is = refl; reply_is = refl; callers = callers; mode = refl; initial = refl; cause = λ refused e. caused before.machine a refused (lawful.core.going caller before was) e })
+      (record { before = before; was = was; answer = a; later = later; performs = performs; machine = machine; event_is = refl; reply_is = refl; callers = callers; mode = refl; initial = refl; cause = λ refused e. lawful_caused s lawful caller before was a refused e })
       core lawful

@@ -4,13 +4,13 @@ use Rattle.papaya_call.specs.declared.ask.At.{At}
 use Rattle.papaya_call.specs.declared.ask.At.TheVariants.{Root, Slot}
 use Rattle.papaya_call.specs.declared.ask.StepKind.{StepKind}
 use Rattle.papaya_call.specs.declared.ask.StepKind.TheVariants as kinds
-use Rattle.papaya_call.specs.Law.Allows.{Allows}
-use Rattle.papaya_call.specs.Law.Code.{Coding}
-use Rattle.papaya_call.specs.Law.Exchange.{Setting, Word, Live, Buried, State, Exchange, Open, after}
-use Rattle.papaya_call.specs.Law.Grows.{Comes}
-use Rattle.papaya_call.specs.Law.Invariant.{named}
-use Rattle.papaya_call.specs.Rests.{change_of_kind}
-use Rattle.papaya_call.specs.Told.{Hands, IsAsked, IsOneOf}
+use Rattle.papaya_law.specs.Allows.{Allows}
+use Rattle.papaya_law.specs.Code.{Coding}
+use Rattle.papaya_law.specs.Exchange.{Setting, Word, Live, Buried, State, Exchange, Open, after}
+use Rattle.papaya_law.specs.Grows.{Comes}
+use Rattle.papaya_law.specs.Invariant.{named}
+use Rattle.papaya_rests.specs.Rests.{change_of_kind}
+use Rattle.papaya_rests.specs.Told.{Hands, IsAsked, IsOneOf}
 
 -- two tests are both met
 both : (a b : Bool) → (a && b) ≡ true → (a ≡ true) × (b ≡ true)

@@ -3,10 +3,11 @@ use Rattle.std.proofs.Common.{◌≡◌, ℕ, ◌<◌, ◌^◌, Bool, Option, No
 use Rattle.papaya_words.specs.declared.probe.ResizeMode.{ResizeMode}
 use Rattle.papaya_call.specs.Answers.{Says}
 use Rattle.papaya_call.specs.declared.call.Call.{Call}
-use Rattle.papaya_call.specs.Law.Exchange.{Exchange, run, start}
-use Rattle.papaya_call.specs.Law.Meaning.{map_left}
+use Rattle.papaya_law.specs.Exchange.{Exchange, run, start}
+use Rattle.papaya_law.specs.Meaning.{map_left}
 use Rattle.papaya_call.specs.Machine.{ask_of, kind_of_ask, after}
-use Rattle.papaya_call.specs.Told.{Hands, IsOneOf, IsTold, IsHashed}
+use Rattle.papaya_rests.specs.Told.{Hands, IsOneOf, IsTold}
+use Rattle.papaya_law.specs.Code.{IsHashed}
 use Rattle.papaya_core.specs.declared.pairs.Running.{Running}
 use Rattle.papaya_core.specs.declared.callers.Seat.{Seat}
 use Rattle.papaya_core.specs.Advances.{Advances, goes_on}

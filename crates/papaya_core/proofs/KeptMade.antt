@@ -10,11 +10,12 @@ use Rattle.papaya_call.specs.declared.ask.Ask.{Ask}
 use Rattle.papaya_call.specs.declared.ask.Ask.TheVariants.{MakeKey, MakePair, MakeTable}
 use Rattle.papaya_call.specs.declared.ask.Answer.{Answer}
 use Rattle.papaya_call.specs.declared.ask.Answer.TheVariants.{Made as Made_number, Refused as Was_refused}
-use Rattle.papaya_call.specs.Law.Exchange.{Exchange}
-use Rattle.papaya_call.specs.Law.Grows.{Comes}
+use Rattle.papaya_law.specs.Exchange.{Exchange}
+use Rattle.papaya_law.specs.Grows.{Comes}
 use Rattle.papaya_call.specs.Machine.{ask_of, kind_of_ask}
-use Rattle.papaya_call.specs.Rests.{change_in, change_after}
-use Rattle.papaya_call.specs.Told.{Hands, IsTold, IsHashed, word_of}
+use Rattle.papaya_rests.specs.Rests.{change_in, change_after}
+use Rattle.papaya_rests.specs.Told.{Hands, IsTold, word_of}
+use Rattle.papaya_law.specs.Code.{IsHashed}
 use Rattle.papaya_core.specs.declared.pairs.Pair.{Pair}
 use Rattle.papaya_core.specs.declared.pairs.KeyOf.TheVariants.{Logged}
 use Rattle.papaya_core.specs.declared.pairs.Running.{Running}

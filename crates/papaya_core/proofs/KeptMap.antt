@@ -4,16 +4,16 @@ use Rattle.papaya_words.specs.Table.{TableWords}
 use Rattle.papaya_words.specs.Word.{kind_of, pair_of as number_of}
 use Rattle.papaya_words.specs.declared.probe.ResizeMode.{ResizeMode}
 use Rattle.papaya_call.specs.declared.ask.At.TheVariants.{Root, Slot}
-use Rattle.papaya_call.specs.Law.Code.{Coding, code, kind}
-use Rattle.papaya_call.specs.Law.Content.{lookup, pairs_in, pairs_of_word, content as law_content}
-use Rattle.papaya_call.specs.Law.Exchange.{Word, Empty, Closed, Live, Marked, Copied, Buried, Setting, State, Exchange, run, start}
-use Rattle.papaya_call.specs.Law.Invariant.{named}
-use Rattle.papaya_call.specs.Law.Meaning.{map_left}
-use Rattle.papaya_call.specs.Told.{IsHashed}
-use Rattle.papaya_call.proofs.Law.Code.{code_kind, code_pair}
-use Rattle.papaya_call.proofs.Law.Content.{content_is, no_content}
-use Rattle.papaya_call.proofs.Law.Logs.{on_comes}
-use Rattle.papaya_call.proofs.Law.OneMap.{keeping, sound}
+use Rattle.papaya_law.specs.Code.{Coding, code, kind}
+use Rattle.papaya_law.specs.Content.{lookup, pairs_in, pairs_of_word, content as law_content}
+use Rattle.papaya_law.specs.Exchange.{Word, Empty, Closed, Live, Marked, Copied, Buried, Setting, State, Exchange, run, start}
+use Rattle.papaya_law.specs.Invariant.{named}
+use Rattle.papaya_law.specs.Meaning.{map_left}
+use Rattle.papaya_law.specs.Code.{IsHashed}
+use Rattle.papaya_law.proofs.Codes.{code_kind, code_pair}
+use Rattle.papaya_law.proofs.Content.{content_is, no_content}
+use Rattle.papaya_law.proofs.Logs.{on_comes}
+use Rattle.papaya_law.proofs.OneMap.{keeping, sound}
 use Rattle.papaya_core.specs.declared.callers.Seat.{Seat}
 use Rattle.papaya_core.specs.Content.{content, listed, pairs_of_kind, pairs_of_slots, pairs_of_table}
 use Rattle.papaya_core.specs.Kept.{IsKept, IsLogged, Tale, setting_of, coding_of, low, slots_in}

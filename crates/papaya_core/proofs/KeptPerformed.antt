@@ -10,11 +10,12 @@ use Rattle.papaya_call.specs.declared.ask.Ask.{Ask}
 use Rattle.papaya_call.specs.declared.ask.Ask.TheVariants.{Load, Exchange as Ask_exchange, SameKey, ShowNone, ShowPair, SizeOf, MakeKey, MakePair, MakeTable, AddToShard, Done as Ask_done}
 use Rattle.papaya_call.specs.declared.ask.Answer.{Answer}
 use Rattle.papaya_call.specs.declared.ask.Answer.TheVariants.{Word as Word_read, Exchanged, Found as Found_instead, Yes, Size, Made as Made_number}
-use Rattle.papaya_call.specs.Law.Exchange.{Exchange, run, start}
-use Rattle.papaya_call.specs.Law.Grows.{Comes}
+use Rattle.papaya_law.specs.Exchange.{Exchange, run, start}
+use Rattle.papaya_law.specs.Grows.{Comes}
 use Rattle.papaya_call.specs.Machine.{ask_of, kind_of_ask}
-use Rattle.papaya_call.specs.Rests.{Rests, change_in, change_after}
-use Rattle.papaya_call.specs.Told.{Hands, IsTold, IsHashed, IsAsked, told_of, word_of}
+use Rattle.papaya_rests.specs.Rests.{Rests, change_in, change_after}
+use Rattle.papaya_rests.specs.Told.{Hands, IsTold, IsAsked, told_of, word_of}
+use Rattle.papaya_law.specs.Code.{IsHashed}
 use Rattle.papaya_core.specs.declared.pairs.Running.{Running}
 use Rattle.papaya_core.specs.Kept.{Tale, slots_in, places_in}
 use Rattle.papaya_core.specs.Performs.{Performs, own_key, same, size_of}
@@ -23,9 +24,9 @@ use Rattle.papaya_core.specs.Tables.{table_of, word_at, put}
 use Rattle.papaya_core.proofs.ShowLemmas.{IsShowing, none_shown, pair_shown}
 use Rattle.papaya_core.proofs.StoreLemmas.{matched}
 use Rattle.papaya_core.proofs.KeptAnswer.{law_setting, law_coding, words_now, IsAnswered, quiet, unexchanged, told_last, told_made}
-use Rattle.papaya_call.specs.Law.Allows.{AllAllowed}
-use Rattle.papaya_call.specs.Law.Class.{IsOn}
-use Rattle.papaya_call.proofs.RestsNames.{IsNamed, ask_named}
+use Rattle.papaya_law.specs.Allows.{AllAllowed}
+use Rattle.papaya_law.specs.Class.{IsOn}
+use Rattle.papaya_rests.proofs.RestsNames.{IsNamed, ask_named}
 use Rattle.papaya_core.specs.Performs.{Exchanges}
 use Rattle.papaya_core.proofs.KeptTables.{grown-same}
 use Rattle.papaya_core.proofs.KeptMade.{key_made, pair_made, table_made, none_made}

@@ -7,15 +7,15 @@ use Rattle.papaya_words.specs.Table.{TableWords}
 use Rattle.papaya_words.specs.Probe.{place}
 use Rattle.papaya_words.specs.declared.probe.ResizeMode.{ResizeMode}
 use Rattle.papaya_call.specs.Search.{IsSize}
-use Rattle.papaya_call.specs.Law.Grows.{Agrees}
-use Rattle.papaya_call.specs.Law.Hashing.{hashed}
-use Rattle.papaya_call.specs.Told.{IsHashed}
-use Rattle.papaya_call.proofs.Law.Hashing.{hashed_lawful}
-use Rattle.papaya_call.proofs.Law.Logs.{planned_lawful}
+use Rattle.papaya_law.specs.Grows.{Agrees}
+use Rattle.papaya_law.specs.Hashing.{hashed}
+use Rattle.papaya_law.specs.Code.{IsHashed}
+use Rattle.papaya_law.proofs.Hashing.{hashed_lawful}
+use Rattle.papaya_law.proofs.Logs.{planned_lawful}
 use Rattle.papaya_core.specs.Kept.{is_blocking, setting_of, coding_of, low, slots_in, places_in}
 use Rattle.papaya_core.specs.Store.{Stored}
 use Rattle.papaya_core.specs.Tables.{table_of}
-use Rattle.papaya_core.proofs.KeptTables.{IsGrown}
+use Rattle.papaya_core.proofs.KeptTables.{HasMoreTables}
 
 -- equality is an equivalence, and equal keys hash alike
 pub record IsLawfulKeys {K : Type 0} (eq : K → K → Bool) (hash : K → ℕ) : Type 0 where
@@ -48,7 +48,7 @@ module _ {K V : Type 0} (eq : K → K → Bool) (hash : K → ℕ) where
       }
 
   -- where tables grow, the setting says of the made ones what it said
-  pub grown_agrees : (mode mode' : ResizeMode) (tables tables' : List TableWords) → mode' ≡ mode → IsGrown tables tables' → (On : ℕ → Type 0) → ((t : ℕ) → On t → (words : TableWords) × (table_of tables t ≡ Some words)) → Agrees On (setting_of {V = V} eq (low hash) mode tables) (setting_of {V = V} eq (low hash) mode' tables')
+  pub grown_agrees : (mode mode' : ResizeMode) (tables tables' : List TableWords) → mode' ≡ mode → HasMoreTables tables tables' → (On : ℕ → Type 0) → ((t : ℕ) → On t → (words : TableWords) × (table_of tables t ≡ Some words)) → Agrees On (setting_of {V = V} eq (low hash) mode tables) (setting_of {V = V} eq (low hash) mode' tables')
   grown_agrees mode mode' tables tables' same grown On made =
       record { blocking = ap is_blocking same; key = λ p. refl; same = λ k l. refl; size = size; places = places; place = λ k t j on. ap (λ n. place (low hash k) n j) (size t on) }
     where

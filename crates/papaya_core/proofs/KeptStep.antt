@@ -5,22 +5,24 @@ use Rattle.papaya_call.specs.Answers.{Says}
 use Rattle.papaya_call.specs.declared.ask.Answer.{Answer}
 use Rattle.papaya_call.specs.declared.ask.Ask.TheVariants.{Exchange as Ask_exchange}
 use Rattle.papaya_call.specs.declared.ask.At.TheVariants.{Root}
-use Rattle.papaya_call.specs.Law.Allows.{AllAllowed}
-use Rattle.papaya_call.specs.Law.Class.{IsOn}
-use Rattle.papaya_call.specs.Law.Code.{Coding}
-use Rattle.papaya_call.specs.Law.Exchange.{Setting, Exchange, run, start}
-use Rattle.papaya_call.specs.Law.Grows.{Agrees}
-use Rattle.papaya_call.specs.Law.Invariant.{named}
-use Rattle.papaya_call.specs.Law.Meaning.{map_left}
+use Rattle.papaya_law.specs.Allows.{AllAllowed}
+use Rattle.papaya_law.specs.Class.{IsOn}
+use Rattle.papaya_law.specs.Code.{Coding}
+use Rattle.papaya_law.specs.Exchange.{Setting, Exchange, run, start}
+use Rattle.papaya_law.specs.Grows.{Agrees}
+use Rattle.papaya_law.specs.Invariant.{named}
+use Rattle.papaya_law.specs.Meaning.{map_left}
 use Rattle.papaya_call.specs.Machine.{HasClosure, ask_of, kind_of_ask, after}
-use Rattle.papaya_call.specs.Rests.{Rests, change_in}
-use Rattle.papaya_call.specs.Told.{Hands, IsOneOf, IsTold, IsHashed}
-use Rattle.papaya_call.proofs.Law.Grows.{all_carries, map_of_carries}
-use Rattle.papaya_call.proofs.Law.Logs.{on_comes}
-use Rattle.papaya_call.proofs.Law.OneMap.{start_keeps}
-use Rattle.papaya_call.proofs.RestsLearn.{machine_learns}
-use Rattle.papaya_call.proofs.RestsStay.{rests_stays}
-use Rattle.papaya_call.proofs.RestsTables.{rests_carries}
+use Rattle.papaya_rests.specs.Rests.{Rests, change_in}
+use Rattle.papaya_rests.specs.Told.{Hands, IsOneOf, IsTold}
+use Rattle.papaya_law.specs.Code.{IsHashed}
+use Rattle.papaya_law.proofs.Grows.{all_carries, map_of_carries}
+use Rattle.papaya_law.proofs.Logs.{on_comes}
+use Rattle.papaya_law.proofs.OneMap.{start_keeps}
+use Rattle.papaya_rests.proofs.RestsLearn.{machine_learns}
+use Rattle.papaya_rests.proofs.RestsStay.{rests_stays}
+use Rattle.papaya_rests.proofs.RestsTables.{rests_carries}
+use Rattle.papaya_rests.proofs.Tasks.{same_task}
 use Rattle.papaya_core.specs.declared.pairs.Running.{Running}
 use Rattle.papaya_core.specs.declared.callers.Seat.{Seat}
 use Rattle.papaya_core.specs.Callers.{running, with_call}
@@ -36,7 +38,7 @@ use Rattle.papaya_core.proofs.KeptClosures.{answers_performed}
 use Rattle.papaya_core.proofs.KeptLogs.{pair_below}
 use Rattle.papaya_core.proofs.KeptPerformed.{answered}
 use Rattle.papaya_core.proofs.KeptSettings.{IsLawfulKeys, tables_hashed, grown_agrees}
-use Rattle.papaya_core.proofs.MachineLemmas.{machine_opens, machine_task}
+use Rattle.papaya_core.proofs.MachineLemmas.{machine_opens}
 
 module _ {K V S A : Type 0} (eq : K → K → Bool) (hash : K → ℕ) (law : IsLawfulKeys eq hash) (says : Says K V A) (refuse : Bool) (s : CoreState K V S A) (caller : ℕ) (s' : CoreState K V S A)
     (before : Running K V A) (a : Answer) (later : Running K V A) (was : running s.callers caller ≡ Some before) (performs : Performs eq says refuse (ask_of before.machine) s.store before a s'.store later)
@@ -137,7 +139,7 @@ module _ {K V S A : Type 0} (eq : K → K → Bool) (hash : K → ℕ) (law : Is
   own_call hands e = record {
     key = call.key;
     own = left.own;
-    answers = λ asks. answers_performed eq says refuse (ask_of before.machine) s.store before a s'.store later performs (call.answers (subst HasClosure (machine_task before.machine a) asks));
+    answers = λ asks. answers_performed eq says refuse (ask_of before.machine) s.store before a s'.store later performs (call.answers (subst HasClosure (same_task before.machine a).0 asks));
     split = longer_split (tales caller) call.split;
     rests = subst (Rests g' c (tales caller).begun ((tales caller).since ++ left.made) call.key (after before.machine a)) e (grown_rests (tales caller) call.split call.key (after before.machine a) left.hands learnt.1);
     last = λ p l. own_last p (left.last p (ap (λ (y : Hands (Stored K V)). y.last) e ∙ l));

@@ -65,11 +65,11 @@ pub table_at : (tables : List TableWords) (n : ℕ) → (n == 0) ≡ false → t
 table_at tables n z = ap (λ b. cond b None (slice_get tables (n - 1))) z
 
 -- Each table is still there, as long as it was.
-abbrev pub IsGrown : List TableWords → List TableWords → Type 0
-IsGrown tables tables' = (n : ℕ) (t : TableWords) → table_of tables n ≡ Some t → (t' : TableWords) × (table_of tables' n ≡ Some t') × (length t'.slots ≡ length t.slots) × (t'.limit ≡ t.limit)
+abbrev pub HasMoreTables : List TableWords → List TableWords → Type 0
+HasMoreTables tables tables' = (n : ℕ) (t : TableWords) → table_of tables n ≡ Some t → (t' : TableWords) × (table_of tables' n ≡ Some t') × (length t'.slots ≡ length t.slots) × (t'.limit ≡ t.limit)
 
 -- tables that stay as they are
-pub grown-same : (tables : List TableWords) → IsGrown tables tables
+pub grown-same : (tables : List TableWords) → HasMoreTables tables tables
 grown-same tables n t e = (t, e, refl, refl)
 
 -- a write to a slot that is there
@@ -115,7 +115,7 @@ module _ (w : Tables) (n i word : ℕ) (t : TableWords) (there : table_of w.tabl
               omega arith
 
   -- each table is as long as it was
-  pub put-grown : IsGrown w.tables (put w (Slot n i) word).tables
+  pub put-grown : HasMoreTables w.tables (put w (Slot n i) word).tables
   put-grown u v e = ⊎_elim
       (λ (same : u ≡ n).
       let f : t ≡ v = same_item t v (sym there ∙ (ap (table_of w.tables) (sym same) ∙ e)) in
@@ -177,7 +177,7 @@ module _ (w : Tables) (number slots limit : ℕ) where
   word-made (Slot u y) = word-grown (λ v. slice_index v.slots y) (index-zeros slots y) u
 
   -- the tables before it stay
-  pub made-grown : IsGrown w.tables added.tables
+  pub made-grown : HasMoreTables w.tables added.tables
   made-grown n t e =
       let at = table_there w.tables n t e in
       (t, table_at added.tables n at.0 ∙ get-append w.tables (new_table number slots limit ∷ []) (n - 1) t at.1, refl, refl)

@@ -8,27 +8,28 @@ use Rattle.papaya_call.specs.declared.ask.Ask.{Ask}
 use Rattle.papaya_call.specs.declared.ask.Ask.TheVariants.{Exchange as Ask_exchange}
 use Rattle.papaya_call.specs.declared.ask.Answer.{Answer}
 use Rattle.papaya_call.specs.declared.ask.Answer.TheVariants.{Exchanged, Found as Found_instead}
-use Rattle.papaya_call.specs.Law.Exchange.{Setting, State, Exchange, run, start}
-use Rattle.papaya_call.specs.Law.Grows.{Comes}
-use Rattle.papaya_call.specs.Law.Invariant.{named}
+use Rattle.papaya_law.specs.Exchange.{Setting, State, Exchange, run, start}
+use Rattle.papaya_law.specs.Grows.{Comes}
+use Rattle.papaya_law.specs.Invariant.{named}
 use Rattle.papaya_call.specs.Machine.{ask_of, kind_of_ask}
-use Rattle.papaya_call.specs.Rests.{Rests, change_in, change_after}
-use Rattle.papaya_call.specs.Told.{IsTold, IsHashed, IsAsked, IsWritten, told_of, word_of}
+use Rattle.papaya_rests.specs.Rests.{Rests, change_in, change_after}
+use Rattle.papaya_rests.specs.Told.{IsTold, IsAsked, IsWritten, told_of, word_of}
+use Rattle.papaya_law.specs.Code.{IsHashed}
 use Rattle.papaya_core.specs.declared.pairs.Running.{Running}
 use Rattle.papaya_core.specs.Kept.{Tale, slots_in}
 use Rattle.papaya_core.specs.Performs.{own_key}
 use Rattle.papaya_core.specs.Store.{StoreState, Stored, pair_of}
 use Rattle.papaya_core.specs.Tables.{Tables, table_of, word_at, put}
 use Rattle.papaya_core.proofs.KeptAnswer.{law_setting, law_coding, words_now, IsAnswered, changed}
-use Rattle.papaya_core.proofs.KeptTables.{IsGrown, grown-same, put-grown, word-here, word-other}
-use Rattle.papaya_call.specs.Law.Allows.{AllAllowed, Allows}
-use Rattle.papaya_call.specs.Law.Class.{IsOn}
-use Rattle.papaya_call.specs.Law.Exchange.{after as state_after}
-use Rattle.papaya_call.specs.Rests.{change_of_kind}
-use Rattle.papaya_call.proofs.Law.Logs.{on_comes}
-use Rattle.papaya_call.proofs.Law.Moments.{run-append}
-use Rattle.papaya_call.proofs.RestsExchange.{machine_may}
-use Rattle.papaya_call.proofs.RestsNames.{ask_named, slot_named}
+use Rattle.papaya_core.proofs.KeptTables.{HasMoreTables, grown-same, put-grown, word-here, word-other}
+use Rattle.papaya_law.specs.Allows.{AllAllowed, Allows}
+use Rattle.papaya_law.specs.Class.{IsOn}
+use Rattle.papaya_law.specs.Exchange.{after as state_after}
+use Rattle.papaya_rests.specs.Rests.{change_of_kind}
+use Rattle.papaya_law.proofs.Logs.{on_comes}
+use Rattle.papaya_law.proofs.Moments.{run-append}
+use Rattle.papaya_rests.proofs.RestsExchange.{machine_may}
+use Rattle.papaya_rests.proofs.RestsNames.{ask_named, slot_named}
 use Rattle.std.proofs.Common.{eqb-true}
 use Rattle.papaya_core.proofs.CoreLemmas.{cases_same}
 use Rattle.papaya_core.proofs.KeptExchange.{IsChanged, changes, root_empty}
@@ -43,7 +44,7 @@ IsPlaced tables (Aborted n) = ⊥
 IsPlaced tables (Done n) = ⊥
 
 -- each table stays as long as it was
-placed_grown : (w : Tables) (at : At) (new : ℕ) → IsPlaced w.tables at → IsGrown w.tables (put w at new).tables
+placed_grown : (w : Tables) (at : At) (new : ℕ) → IsPlaced w.tables at → HasMoreTables w.tables (put w at new).tables
 placed_grown w Root new placed = grown-same w.tables
 placed_grown w (Slot n i) new (t, there, lt) = put-grown w n i new t there lt
 placed_grown w (Next n) new placed = absurd placed

@@ -17,16 +17,17 @@ use Rattle.papaya_call.specs.declared.call.Reply.TheVariants.{Inserted, Replaced
 use Rattle.papaya_call.specs.declared.call.Task.{Task}
 use Rattle.papaya_call.specs.declared.call.Task.TheVariants.{Insert as Insert_task, Compute as Compute_task}
 use Rattle.papaya_call.specs.declared.machine.Machine.{Machine}
-use Rattle.papaya_call.specs.Law.Allows.{Allows, AllAllowed}
-use Rattle.papaya_call.specs.Law.Exchange.{Live, Setting, State, Exchange, Open, Claim, Replace, Bury, run, start}
-use Rattle.papaya_call.specs.Law.Code.{Coding, code}
-use Rattle.papaya_call.specs.Law.Meaning.{IsLawful, IsLegal as IsLegal_exchange}
+use Rattle.papaya_law.specs.Allows.{Allows, AllAllowed}
+use Rattle.papaya_law.specs.Exchange.{Live, Setting, State, Exchange, Open, Claim, Replace, Bury, run, start}
+use Rattle.papaya_law.specs.Code.{Coding, code}
+use Rattle.papaya_law.specs.Meaning.{IsLawful, IsLegal as IsLegal_exchange}
 use Rattle.papaya_call.specs.Machine.{HasClosure, ask_of, kind_of_ask}
-use Rattle.papaya_call.specs.Rests.{Rests, change_of_reply}
-use Rattle.papaya_call.specs.Told.{Hands, IsAsked, IsHashed, IsOneOf, IsTold, word_of}
-use Rattle.papaya_call.proofs.Law.Code.{code_pair}
-use Rattle.papaya_call.proofs.Law.Moments.{allowed_rest}
-use Rattle.papaya_call.proofs.Law.Slots.{same_right}
+use Rattle.papaya_rests.specs.Rests.{Rests, change_of_reply}
+use Rattle.papaya_rests.specs.Told.{Hands, IsAsked, IsOneOf, IsTold, word_of}
+use Rattle.papaya_law.specs.Code.{IsHashed}
+use Rattle.papaya_law.proofs.Codes.{code_pair}
+use Rattle.papaya_law.proofs.Moments.{allowed_rest}
+use Rattle.papaya_law.proofs.Slots.{same_right}
 use Rattle.papaya_core.specs.declared.trace.Turn.{Turn}
 use Rattle.papaya_core.specs.declared.trace.Event.{Event}
 use Rattle.papaya_core.specs.declared.trace.Event.TheVariants as events

@@ -8,6 +8,7 @@ pub mod CountedSeats
 pub mod CountedStep
 pub mod EndingLemmas
 pub mod EventLemmas
+pub mod GivenLemmas
 pub mod Good
 pub mod GoodLemmas
 pub mod HeadlineLemmas
@@ -27,6 +28,7 @@ pub mod KeptTables
 pub mod KeptWritten
 pub mod LegalLemmas
 pub mod MachineLemmas
+pub mod RefusedLemmas
 pub mod ReplayLemmas
 pub mod RunLemmas
 pub mod ShowLemmas

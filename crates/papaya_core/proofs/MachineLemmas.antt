@@ -1,27 +1,28 @@
 -- What every machine keeps to, of those laws of machines that stand on no words.
-use Rattle.std.proofs.Common.{arith, rules, ◌≡◌, ◌⊎◌, inl, inr, ℕ, Bool, true, Option, None, Some, refl, sym, ◌∙◌, ap, subst, List}
+use Rattle.std.proofs.Common.{rules, ◌≡◌, ◌⊎◌, inl, inr, ℕ, true, Option, None, Some, sym, ◌∙◌, ap, subst, List}
 use Rattle.papaya_words.specs.Word.{pair_of}
 use Rattle.papaya_call.specs.declared.ask.At.{At}
 use Rattle.papaya_call.specs.declared.ask.At.TheVariants.{Root}
 use Rattle.papaya_call.specs.declared.ask.Ask.TheVariants.{Exchange as Ask_exchange, ShowNone, ShowPair, MakeTable, Done as Ask_done}
 use Rattle.papaya_call.specs.declared.ask.Answer.{Answer}
-use Rattle.papaya_call.specs.declared.ask.Answer.TheVariants.{Word as Word_read, Exchanged, Found as Found_instead, Yes, Op, Size, Made as Made_number, Ok as Ok_done, Refused as Was_refused}
+use Rattle.papaya_call.specs.declared.ask.Answer.TheVariants.{Made as Made_number}
 use Rattle.papaya_call.specs.declared.ask.StepKind.{StepKind}
 use Rattle.papaya_call.specs.declared.ask.StepKind.TheVariants as kinds
 use Rattle.papaya_call.specs.declared.call.Reply.{Reply}
 use Rattle.papaya_call.specs.declared.call.Task.{Task}
-use Rattle.papaya_call.specs.declared.call.Task.TheVariants.{Get, Insert, RemoveIf, Compute}
+use Rattle.papaya_call.specs.declared.call.Task.TheVariants.{Insert, Compute}
 use Rattle.papaya_call.specs.declared.machine.Machine.{Machine}
 use Rattle.papaya_call.specs.declared.remove.Removal.{Removal}
 use Rattle.papaya_call.specs.declared.machine.State.TheVariants.{Burying}
-use Rattle.papaya_call.specs.Law.Exchange.{Setting, Exchange}
-use Rattle.papaya_call.specs.Law.Code.{Coding, IsLawfulCoding}
-use Rattle.papaya_call.specs.Machine.{HasClosure, IsStanding, IsChanger, ask_of, kind_of_ask, after}
-use Rattle.papaya_call.specs.Rests.{Rests, RestsStage, IsReply, WasAtMoment, change_in, change_of_reply}
-use Rattle.papaya_call.specs.Says.{said_in, said_in_reply, said_to_remove}
-use Rattle.papaya_call.specs.Told.{Hands, IsHashed, IsOneOf}
-use Rattle.papaya_call.proofs.Law.Code.{code_pair}
-use Rattle.papaya_call.proofs.RestsOpened.{machine_opened}
+use Rattle.papaya_law.specs.Exchange.{Setting, Exchange}
+use Rattle.papaya_law.specs.Code.{Coding, IsLawfulCoding}
+use Rattle.papaya_call.specs.Machine.{HasClosure, IsStanding, IsChanger, MayInsert, ask_of, kind_of_ask, after}
+use Rattle.papaya_rests.specs.Rests.{Rests, RestsStage, IsReply, WasAtMoment, change_in, change_of_reply}
+use Rattle.papaya_rests.specs.Says.{said_in, said_in_reply}
+use Rattle.papaya_rests.specs.Told.{Hands}
+use Rattle.papaya_law.specs.Code.{IsHashed}
+use Rattle.papaya_law.proofs.Codes.{code_pair}
+use Rattle.papaya_rests.proofs.RestsOpened.{machine_opened}
 use Rattle.papaya_core.specs.declared.trace.Event.TheVariants.{Changed}
 use Rattle.papaya_core.specs.Advances.{event_of}
 
@@ -45,18 +46,6 @@ machine_burying m at old new kind e = search rules
 -- a reply stands on what the closure said, where it tells of that
 pub machine_says : (m : Machine) (reply : Reply) → ask_of m ≡ Ask_done reply → said_in m.task m.state ≡ said_in_reply m.task reply
 machine_says m reply e = search rules
-
--- an answer leaves the task
-pub machine_task : (m : Machine) (answer : Answer) → (after m answer).task ≡ m.task
-machine_task m (Word_read word) = refl
-machine_task m Exchanged = refl
-machine_task m (Found_instead word) = refl
-machine_task m (Yes same) = refl
-machine_task m (Op kind) = refl
-machine_task m (Size slots limit) = refl
-machine_task m (Made_number n) = refl
-machine_task m Ok_done = refl
-machine_task m (Was_refused refused) = refl
 
 module _ {K P : Type 0} (g : Setting K P) (c : Coding K P) (begun since : List (Exchange P)) (k : K) where
   -- where a machine asks no more, the reply is that of its task
@@ -102,3 +91,7 @@ module _ {K P : Type 0} (g : Setting K P) (c : Coding K P) (begun since : List (
 -- an exchange that changes the map is that of a call that may
 pub machine_changes : (m : Machine) → IsStanding m → (kind : StepKind) (old new : Option ℕ) (answer : Answer) → event_of (kind_of_ask m) (ask_of m) answer ≡ Changed kind old new → IsChanger m.task
 machine_changes m stands kind old new answer e = search rules
+
+-- and where a pair comes, that of one that inserts
+pub machine_inserts : (m : Machine) → IsStanding m → (kind : StepKind) (old : Option ℕ) (n : ℕ) (answer : Answer) → event_of (kind_of_ask m) (ask_of m) answer ≡ Changed kind old (Some n) → MayInsert m.task
+machine_inserts m stands kind old n answer e = search rules

@@ -4,15 +4,15 @@ use Rattle.std.proofs.lemmas.Bool.{cases_Bool}
 use Rattle.papaya_words.specs.Table.{TableWords}
 use Rattle.papaya_words.specs.declared.probe.ResizeMode.{ResizeMode}
 use Rattle.papaya_words.specs.declared.probe.ResizeMode.TheVariants.{Blocking}
-use Rattle.papaya_call.specs.Law.Allows.{AllAllowed}
-use Rattle.papaya_call.specs.Law.Content.{lookup, content}
-use Rattle.papaya_call.specs.Law.Exchange.{Setting, Exchange, Open, Claim, Replace, Bury, Link, Mark, Close, Place, Finish, Advance, Promote, Abort, run, start}
-use Rattle.papaya_call.specs.Law.Invariant.{named}
-use Rattle.papaya_call.specs.Law.Meaning.{map_of, map_after, map_left, IsLegal, AllLegal, IsLawful}
-use Rattle.papaya_call.proofs.Law.Content.{content_is}
-use Rattle.papaya_call.proofs.Law.Lists.{table_found}
-use Rattle.papaya_call.proofs.Law.Moments.{map_of-append}
-use Rattle.papaya_call.proofs.Law.OneMap.{keeping, legal_changes}
+use Rattle.papaya_law.specs.Allows.{AllAllowed}
+use Rattle.papaya_law.specs.Content.{lookup, content}
+use Rattle.papaya_law.specs.Exchange.{Setting, Exchange, Open, Claim, Replace, Bury, Link, Mark, Close, Place, Finish, Advance, Promote, Abort, run, start}
+use Rattle.papaya_law.specs.Invariant.{named}
+use Rattle.papaya_law.specs.Meaning.{map_of, map_after, map_left, IsLegal, AllLegal, IsLawful}
+use Rattle.papaya_law.proofs.Content.{content_is}
+use Rattle.papaya_law.proofs.Lists.{table_found}
+use Rattle.papaya_law.proofs.Moments.{map_of-append}
+use Rattle.papaya_law.proofs.OneMap.{keeping, legal_changes}
 use Rattle.papaya_core.specs.Kept.{setting_of}
 use Rattle.papaya_core.specs.Maps.{Map}
 use Rattle.papaya_core.specs.Store.{Stored}

@@ -1,5 +1,5 @@
 -- What a machine stands on after a step was said by its closure in the call: before the step, or in it.
-use Rattle.std.proofs.Common.{rules, ◌≡◌, ◌⊎◌, inl, inr, ⊎_elim, ℕ, Bool, true, Option, None, Some, ◌∷◌, refl, sym, ◌∙◌, ap, subst}
+use Rattle.std.proofs.Common.{rules, ◌≡◌, inl, inr, ⊎_elim, ℕ, Bool, true, Option, None, Some, ◌∷◌, refl, sym, ◌∙◌, ap, subst}
 use Rattle.papaya_call.specs.Answers.{Says, op_kind}
 use Rattle.papaya_call.specs.declared.answers.Operation.{Operation}
 use Rattle.papaya_call.specs.declared.answers.Operation.TheVariants as ops
@@ -12,20 +12,19 @@ use Rattle.papaya_call.specs.declared.call.Call.{Call}
 use Rattle.papaya_call.specs.declared.call.Call.TheVariants.{Get, Insert, TryInsert, RemoveIf, Compute}
 use Rattle.papaya_call.specs.declared.machine.Machine.{Machine}
 use Rattle.papaya_call.specs.Machine.{IsStanding, ask_of, kind_of_ask, after}
-use Rattle.papaya_call.specs.Says.{HasShownNone, IsSaidBy, IsSaidChange, Said, Agrees, Inserts, Makes, Removes, ShowsPairs, StandsOn, show}
-use Rattle.papaya_call.proofs.SaysSaid.{machine_said}
+use Rattle.papaya_rests.specs.Says.{HasShownNone, IsSaidBy, IsSaidChange, Said, Agrees, Inserts, Makes, Removes, ShowsPairs, StandsOn, show}
+use Rattle.papaya_rests.proofs.SaysSaid.{machine_said}
 use Rattle.papaya_core.specs.declared.pairs.Running.{Running}
 use Rattle.papaya_core.specs.declared.trace.Event.{Event}
 use Rattle.papaya_core.specs.Advances.{event_of}
 use Rattle.papaya_core.specs.Begins.{task_of_call}
 use Rattle.papaya_core.specs.Performs.{Performs, value_answered}
 use Rattle.papaya_core.specs.Runs.{History}
-use Rattle.papaya_core.specs.Store.{StoreState, Stored, pair_of}
+use Rattle.papaya_core.specs.Store.{KeepsPairs, StoreState, Stored, pair_of}
 use Rattle.papaya_core.specs.Timeline.{Answered, IsAgreed, IsAnsweredIn, WasAnswered, number_in}
 use Rattle.papaya_core.proofs.EventLemmas.{event_shown, step_asked, step_answered}
 use Rattle.papaya_core.proofs.Good.{WasSaid}
 use Rattle.papaya_core.proofs.TellLemmas.{IsAnswering, at_hand}
-use Rattle.papaya_core.proofs.TiedLemmas.{PairsStay}
 use Rattle.papaya_core.proofs.TimelineLemmas.{entry}
 
 -- a machine that made a pair stands on no value yet to be made one
@@ -54,8 +53,8 @@ inserting (ops.Abort t) e = absurd cc
 
 module _ {K V S A : Type 0} (eq : K → K → Bool) (says : Says K V A) (refuse : Bool) (s : StoreState K V S) (r : Running K V A) (a : Answer) (s' : StoreState K V S) (r' : Running K V A) where
   -- A step of the call r, which answers what its machine asks; a pair that it makes is of the value at hand.
-  module _ (performs : Performs eq says refuse (ask_of r.machine) s r a s' r') (stay : PairsStay s s') (made : (n : ℕ) → ask_of r.machine ≡ MakePair → a ≡ Made_number n → (q : Stored K V) × (pair_of s' n ≡ Some q) × (r.value ≡ Some q.value)) where
-    module _ (turn c : ℕ) (event : Event) (is : event ≡ event_of (kind_of_ask r.machine) (ask_of r.machine) a) (h : History) (answers : Answered V) (answering : IsAnswering r r' event) where
+  module _ (performs : Performs eq says refuse (ask_of r.machine) s r a s' r') (stay : KeepsPairs s s') (made : (n : ℕ) → ask_of r.machine ≡ MakePair → a ≡ Made_number n → (q : Stored K V) × (pair_of s' n ≡ Some q) × (r.value ≡ Some q.value)) where
+    module _ (turn c : ℕ) (event : Event) (is : event ≡ event_of (kind_of_ask r.machine) (ask_of r.machine) a) (h : History) (answers : Answered V) (answering : IsAnswering says s' r r' event) where
       abbrev o : Option (Operation V ℕ)
       o = answering.answered
 

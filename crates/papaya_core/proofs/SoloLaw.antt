@@ -10,8 +10,9 @@ use Rattle.papaya_core.specs.Counted.{IsCounted}
 use Rattle.papaya_core.specs.Headline.{HasTimeline}
 use Rattle.papaya_core.specs.Kept.{IsLawfulCore}
 use Rattle.papaya_core.specs.Runs.{History}
-use Rattle.papaya_core.specs.Solo.{IsAnswered, IsNewIn, KeepsPairs, RunsAlone, whatever}
-use Rattle.papaya_core.specs.Store.{Stored, hash_of}
+use Rattle.papaya_core.specs.Solo.{IsAnswered, IsNewIn, RunsAlone, whatever}
+use Rattle.papaya_core.specs.Store.{KeepsPairs, Stored}
+use Rattle.papaya_keys.specs.Hashes.{hash_of}
 use Rattle.papaya_core.specs.Timeline.{Timeline}
 use Rattle.papaya_core.proofs.HeadlineLemmas.{lawful_timeline}
 use Rattle.papaya_core.proofs.KeptCore.{keys_lawful}
@@ -26,7 +27,7 @@ module _ {K V S A H : Type 0} (eq : K → K → Bool) (input : K → List (List 
   over = runs_over eq (hash_of input build write finish) s (keys_lawful eq input build write finish classes respects s.store.hasher) call reply s' lawful alone
 
   -- its run has a timeline
-  timeline : HasTimeline eq (Begin 0 call ∷ Finish 0 alone.steps ∷ []) s (alone.last ∷ alone.before) s'
+  timeline : HasTimeline eq whatever (Begin 0 call ∷ Finish 0 alone.steps ∷ []) s (alone.last ∷ alone.before) s'
   timeline = lawful_timeline eq input build write finish classes respects whatever (Begin 0 call ∷ Finish 0 alone.steps ∷ []) 2 s s' (alone.last ∷ alone.before) lawful alone.runs
 
   -- it did what the finite map does

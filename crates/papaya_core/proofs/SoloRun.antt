@@ -8,10 +8,10 @@ use Rattle.papaya_call.specs.declared.call.Reply.{Reply}
 use Rattle.papaya_call.specs.declared.call.Reply.TheVariants.{Absent, Found, Inserted, Replaced, Occupied, Removed, Kept, Aborted, Refused}
 use Rattle.papaya_call.specs.declared.call.Task.{Task}
 use Rattle.papaya_call.specs.declared.call.Task.TheVariants.{Insert, Compute}
-use Rattle.papaya_call.specs.Law.Exchange.{Exchange, Setting}
+use Rattle.papaya_law.specs.Exchange.{Exchange, Setting}
 use Rattle.papaya_call.specs.Machine.{after, ask_of, kind_of_ask}
-use Rattle.papaya_call.specs.Rests.{IsOwnPair, IsReply}
-use Rattle.papaya_call.specs.Told.{Hands, IsOneOf}
+use Rattle.papaya_rests.specs.Rests.{IsOwnPair, IsReply}
+use Rattle.papaya_rests.specs.Told.{Hands, IsOneOf}
 use Rattle.papaya_core.specs.declared.callers.Seat.{Seat}
 use Rattle.papaya_core.specs.declared.pairs.Pair.{Pair}
 use Rattle.papaya_core.specs.declared.pairs.Running.{Running}
@@ -26,8 +26,8 @@ use Rattle.papaya_core.specs.Core.{CoreState, IsCore}
 use Rattle.papaya_core.specs.Counted.{IsCounted, owed_in}
 use Rattle.papaya_core.specs.Kept.{IsKept, IsLawfulCore, Tale, begun_tales, coding_of, low, setting_of, told_tales}
 use Rattle.papaya_core.specs.Runs.{BeginRuns, History, StepRuns, StepsRun, TurnRuns, with_event, with_step}
-use Rattle.papaya_core.specs.Solo.{IsNewIn, KeepsPairs, RunsAlone, whatever}
-use Rattle.papaya_core.specs.Store.{StoreState, Stored, pair_of, stored_at, stored_in}
+use Rattle.papaya_core.specs.Solo.{IsNewIn, RunsAlone, whatever}
+use Rattle.papaya_core.specs.Store.{KeepsPairs, StoreState, Stored, pair_of, stored_at, stored_in}
 use Rattle.papaya_core.specs.Timeline.{begins, open_after}
 use Rattle.papaya_core.proofs.CallersLemmas.{same_item}
 use Rattle.papaya_core.proofs.CoreLemmas.{reply_asked}

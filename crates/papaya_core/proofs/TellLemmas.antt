@@ -1,5 +1,5 @@
 -- What a step's event tells of its ask and the answer, what a closure answered in it, and which value is at hand after it.
-use Rattle.std.proofs.Common.{◌≡◌, ◌⊎◌, inl, inr, ℕ, Bool, true, false, Option, None, Some, List, ◌∷◌, length, refl, sym, ◌∙◌, ap, subst}
+use Rattle.std.proofs.Common.{◌≡◌, ◌⊎◌, inl, inr, ⊎_elim, ℕ, Bool, true, false, Option, None, Some, List, ◌∷◌, length, refl, sym, ◌∙◌, ap, subst}
 use Rattle.papaya_words.specs.declared.limits.TheConstants.{MAX_LOG_LEN}
 use Rattle.papaya_call.specs.Answers.{Says, op_kind}
 use Rattle.papaya_call.specs.declared.answers.Operation.{Operation}
@@ -13,17 +13,19 @@ use Rattle.papaya_call.specs.declared.ask.StepKind.{StepKind}
 use Rattle.papaya_call.specs.declared.ask.StepKind.TheVariants as kinds
 use Rattle.papaya_call.specs.declared.call.Task.{Task}
 use Rattle.papaya_call.specs.declared.call.Task.TheVariants as tasks
-use Rattle.papaya_call.specs.Law.Code.{Coding}
-use Rattle.papaya_call.specs.Law.Exchange.{Exchange, Setting, State}
-use Rattle.papaya_call.specs.Says.{show}
-use Rattle.papaya_call.specs.Told.{Hands, IsTold}
+use Rattle.papaya_law.specs.Code.{Coding}
+use Rattle.papaya_law.specs.Exchange.{Exchange, Setting, State}
+use Rattle.papaya_rests.specs.Says.{show}
+use Rattle.papaya_rests.specs.Told.{Hands, IsTold}
 use Rattle.papaya_core.specs.declared.pairs.Running.{Running}
 use Rattle.papaya_core.specs.declared.trace.Event.{Event}
 use Rattle.papaya_core.specs.declared.trace.Event.TheVariants as events
 use Rattle.papaya_core.specs.Advances.{event_of, answered_event, kind_event, shown_event}
+use Rattle.papaya_core.specs.Given.{GivesIn, IsEntryOf, asks_closure}
 use Rattle.papaya_core.specs.Performs.{Performs, Decides, HasKey, HasNoPair, LogsKey, LogsPair, Refuses, ShowsNothing, ShowsPair, Stays, value_answered}
-use Rattle.papaya_core.specs.Store.{StoreState}
+use Rattle.papaya_core.specs.Store.{StoreState, Stored, pair_of}
 use Rattle.papaya_core.specs.Timeline.{IsAnsweredIn}
+use Rattle.papaya_core.proofs.CallersLemmas.{same_item}
 use Rattle.papaya_core.proofs.EventLemmas.{event_shown}
 use Rattle.papaya_core.proofs.StoreLemmas.{matched}
 
@@ -126,57 +128,128 @@ unanswered V (events.Shown shown kind) none = absurd (none shown kind refl)
 unanswered V events.Other none = refl
 unanswered V (events.Replied reply) none = refl
 
--- what a closure answered in a step, if it was shown something, and what is at hand after it
-pub record IsAnswering {K V A : Type 0} (r r' : Running K V A) (event : Event) : Type 0 where
+-- an event at which a closure is asked tells that it was shown something, and what it answered
+asked : (e : Event) (ask : Ask) (answer : Answer) → Tells e ask answer → asks_closure e ≡ true → (is_showing ask ≡ true) × (((agrees : Bool) × (answer ≡ Yes agrees)) ⊎ ((op : OpKind) × (answer ≡ Op op)))
+asked events.Begun ask answer told asks = absurd told
+asked (events.Changed kind old new) ask answer told asks = absurd cc
+asked (events.Moved kind) ask answer told asks = absurd cc
+asked (events.Asked n agrees) ask answer told asks = (ap is_showing told.0, inl (agrees, told.1))
+asked (events.Shown shown kind) ask answer told asks = (ap is_showing told.0 ∙ is_show shown, inr (kind, told.1))
+asked events.Other ask answer told asks = absurd cc
+asked (events.Replied reply) ask answer told asks = absurd told
+
+-- what a closure answered in a step, if it was shown something, and what is at hand and left of its answers after it
+pub record IsAnswering {K V S A : Type 0} (says : Says K V A) (store : StoreState K V S) (r r' : Running K V A) (event : Event) : Type 0 where
   pub answered : Option (Operation V ℕ)
   pub fits : IsAnsweredIn event answered
   pub value : (op : Operation V ℕ) → answered ≡ Some op → r'.value ≡ value_answered op r.value
+  pub left : (a' : A) → r'.answers ≡ Some a' → (a : A) × (r.answers ≡ Some a) × GivesIn says store event answered a a'
+  pub gave : asks_closure event ≡ true → (a' : A) × (r'.answers ≡ Some a')
+
+module _ {K V S A : Type 0} (says : Says K V A) (store : StoreState K V S) where
+  -- where no closure is asked its answers stay
+  unasked : (e : Event) (answered : Option (Operation V ℕ)) (a : A) → (asks_closure e ≡ true → ⊥) → GivesIn says store e answered a a
+  unasked events.Begun answered a none = refl
+  unasked (events.Changed kind old new) answered a none = refl
+  unasked (events.Moved kind) answered a none = refl
+  unasked (events.Asked n agrees) answered a none = absurd (none refl)
+  unasked (events.Shown shown kind) answered a none = absurd (none refl)
+  unasked events.Other answered a none = refl
+  unasked (events.Replied reply) answered a none = refl
 
 module _ {K V S A : Type 0} (eq : K → K → Bool) (says : Says K V A) (refuse : Bool) where
   module _ (kind : Option StepKind) (s : StoreState K V S) (r : Running K V A) (a : Answer) (s' : StoreState K V S) (r' : Running K V A) where
-    -- no operation was answered
-    silent : (ask : Ask) → ((shown : Option ℕ) (op : OpKind) → ask ≡ show shown → a ≡ Op op → ⊥) → IsAnswering r r' (event_of kind ask a)
-    silent ask none = record {
+    -- no closure was asked
+    silent : (ask : Ask) → (asks_closure (event_of kind ask a) ≡ true → ⊥) → r'.answers ≡ r.answers → IsAnswering says s' r r' (event_of kind ask a)
+    silent ask none stays = record {
       answered = None;
-      fits = unanswered V (event_of kind ask a) (λ shown op is. let told = subst (λ e. Tells e ask a) is (event_tells kind ask a) in none shown op told.0 told.1);
+      fits = unanswered V (event_of kind ask a) (λ shown op is. none (ap asks_closure is));
       value = λ op e. let f : None ≡ Some op = e in absurd cc;
+      left = λ a' had. (a', sym stays ∙ had, unasked says s' (event_of kind ask a) None a' none);
+      gave = λ asks. absurd (none asks);
     }
 
-    -- one was
-    decided : (shown : Option ℕ) (pair : Option (K × V)) → Decides says pair s r a s' r' → IsAnswering r r' (event_of kind (show shown) a)
-    decided shown pair (x, op, y, has, gives, is, same, later) = record {
-      answered = Some op;
-      fits = subst (λ e. IsAnsweredIn e (Some op)) (sym (event_shown shown (op_kind op) kind (show shown) a refl is)) (op, refl, refl);
-      value = λ o e. let f : op ≡ o = cc in ap (λ (y : Running K V A). y.value) later ∙ ap (λ (o : Operation V ℕ). value_answered o r.value) f;
-    }
+    -- the closure of a compute was
+    decided : (shown : Option ℕ) (pair : Option (K × V)) → (s' ≡ s → IsEntryOf says s' shown pair) → Decides says pair s r a s' r' → IsAnswering says s' r r' (event_of kind (show shown) a)
+    decided shown pair entry (x, op, y, has, gives, is, same, later) =
+        let event_is : event_of kind (show shown) a ≡ events.Shown shown (op_kind op) = event_shown shown (op_kind op) kind (show shown) a refl is in
+        let answers_are : r'.answers ≡ Some y = ap (λ (z : Running K V A). z.answers) later in
+        record {
+          answered = Some op;
+          fits = subst (λ e. IsAnsweredIn e (Some op)) (sym event_is) (op, refl, refl);
+          value = λ o e. let f : op ≡ o = cc in ap (λ (y : Running K V A). y.value) later ∙ ap (λ (o : Operation V ℕ). value_answered o r.value) f;
+          left = λ a' had. (x, has, subst (λ e. GivesIn says s' e (Some op) x a') (sym event_is) (pair, op, entry same, refl, subst (λ (z : A). says.op x pair op z) (same_item y a' (sym answers_are ∙ had)) gives));
+          gave = λ asks. (y, answers_are);
+        }
 
-    nothing : (ask : Ask) → ShowsNothing a s r s' r' → IsAnswering r r' (event_of kind ask a)
-    nothing ask (is, stays) = silent ask (λ shown op shows e. let f : Ok_done ≡ Op op = sym is ∙ e in absurd cc)
+    -- the closure of a removal was
+    judged : (n : ℕ) (x : A) (p : Stored K V) (agrees : Bool) (y : A) → r.answers ≡ Some x → pair_of s n ≡ Some p → says.yes x p.key p.value agrees y → a ≡ Yes agrees → s' ≡ s → r'.answers ≡ Some y → IsAnswering says s' r r' (event_of kind (ShowPair n) a)
+    judged n x p agrees y has there gives is same answers_are =
+        let event_is : event_of kind (ShowPair n) a ≡ events.Asked n agrees = ap (λ z. shown_event (Some n) z) is in
+        record {
+          answered = None;
+          fits = subst (λ e. IsAnsweredIn {V = V} e None) (sym event_is) refl;
+          value = λ op e. let f : None ≡ Some op = e in absurd cc;
+          left = λ a' had. (x, has, subst (λ e. GivesIn says s' e None x a') (sym event_is) (p, ap (λ (z : StoreState K V S). pair_of z n) same ∙ there, subst (λ (z : A). says.yes x p.key p.value agrees z) (same_item y a' (sym answers_are ∙ had)) gives));
+          gave = λ asks. (y, answers_are);
+        }
 
-    not_shown : (ask : Ask) → is_showing ask ≡ false → IsAnswering r r' (event_of kind ask a)
-    not_shown ask unshown = silent ask (λ shown op shows e. let f : false ≡ true = sym unshown ∙ ap is_showing shows ∙ is_show shown in cc)
+    nothing : (ask : Ask) → ShowsNothing a s r s' r' → IsAnswering says s' r r' (event_of kind ask a)
+    nothing ask (is, stays) = silent ask never (ap (λ (z : Running K V A). z.answers) stays.1)
+      where
+        never : asks_closure (event_of kind ask a) ≡ true → ⊥
+        never asks = ⊎_elim
+            (λ (y : (agrees : Bool) × (a ≡ Yes agrees)). let f : Ok_done ≡ Yes y.0 = sym is ∙ y.1 in cc)
+            (λ (y : (op : OpKind) × (a ≡ Op op)). let f : Ok_done ≡ Op y.0 = sym is ∙ y.1 in cc)
+            (asked (event_of kind ask a) ask a (event_tells kind ask a) asks).1
 
-    pub answering : (ask : Ask) → Performs eq says refuse ask s r a s' r' → IsAnswering r r' (event_of kind ask a)
+    not_shown : (ask : Ask) → is_showing ask ≡ false → r'.answers ≡ r.answers → IsAnswering says s' r r' (event_of kind ask a)
+    not_shown ask unshown stays = silent ask (λ asks. let f : false ≡ true = sym unshown ∙ (asked (event_of kind ask a) ask a (event_tells kind ask a) asks).0 in cc) stays
+
+    -- what is made leaves the answers
+    as_was : r' ≡ r → r'.answers ≡ r.answers
+    as_was same = ap (λ (z : Running K V A). z.answers) same
+
+    key_made : Performs eq says refuse MakeKey s r a s' r' → r'.answers ≡ r.answers
+    key_made h = matched (r'.answers ≡ r.answers) refuse _ _ h (λ _ none. as_was none.1.1) (λ _ makes. by_cases makes)
+      where
+        by_cases : (Refuses MAX_LOG_LEN (length s.keys) a × Stays s r s' r') ⊎ (HasKey a r × Stays s r s' r') ⊎ LogsKey a s r s' r' → r'.answers ≡ r.answers
+        by_cases (inl (f, stays)) = as_was stays.1
+        by_cases (inr (inl (has, stays))) = as_was stays.1
+        by_cases (inr (inr (k, own, e, few, same, is))) = ap (λ (y : Running K V A). y.answers) is
+
+    pair_made : Performs eq says refuse MakePair s r a s' r' → r'.answers ≡ r.answers
+    pair_made h = matched (r'.answers ≡ r.answers) refuse _ _ h (λ _ none. as_was none.1.1) (λ _ makes. by_cases makes)
+      where
+        by_cases : (Refuses MAX_LOG_LEN (length s.pairs) a × Stays s r s' r') ⊎ (HasNoPair a r × Stays s r s' r') ⊎ LogsPair a s r s' r' → r'.answers ≡ r.answers
+        by_cases (inl (f, stays)) = as_was stays.1
+        by_cases (inr (inl (has, stays))) = as_was stays.1
+        by_cases (inr (inr (i, v, key, value, e, few, same, is))) = ap (λ (y : Running K V A). y.answers) is
+
+    table_made : (slots limit : ℕ) → Performs eq says refuse (MakeTable slots limit) s r a s' r' → r'.answers ≡ r.answers
+    table_made slots limit h = matched (r'.answers ≡ r.answers) refuse _ _ h (λ _ none. as_was none.1.1) (λ _ makes. as_was makes.1)
+
+    pub answering : (ask : Ask) → Performs eq says refuse ask s r a s' r' → IsAnswering says s' r r' (event_of kind ask a)
     answering ShowNone (inl (none, stays)) = nothing ShowNone stays
-    answering ShowNone (inr decides) = decided None None decides
+    answering ShowNone (inr decides) = decided None None (λ _. refl) decides
     answering (ShowPair n) h = by_task r.machine.task h
       where
-        by_task : (task : Task) → ShowsPair task says n s r a s' r' → IsAnswering r r' (event_of kind (ShowPair n) a)
+        by_task : (task : Task) → ShowsPair task says n s r a s' r' → IsAnswering says s' r r' (event_of kind (ShowPair n) a)
         by_task tasks.RemoveIf (inl (none, stays)) = nothing (ShowPair n) stays
-        by_task tasks.RemoveIf (inr (x, p, agrees, y, has, there, gives, is, same, later)) = silent (ShowPair n) (λ shown op shows e. let f : Yes agrees ≡ Op op = sym is ∙ e in absurd cc)
+        by_task tasks.RemoveIf (inr (x, p, agrees, y, has, there, gives, is, same, later)) = judged n x p agrees y has there gives is same (ap (λ (z : Running K V A). z.answers) later)
         by_task tasks.Compute (inl (none, stays)) = nothing (ShowPair n) stays
-        by_task tasks.Compute (inr (p, there, decides)) = decided (Some n) (Some (p.key, p.value)) decides
+        by_task tasks.Compute (inr (p, there, decides)) = decided (Some n) (Some (p.key, p.value)) (λ same. (p, ap (λ (z : StoreState K V S). pair_of z n) same ∙ there, refl)) decides
         by_task tasks.Get stays = nothing (ShowPair n) stays
         by_task (tasks.Insert replace) stays = nothing (ShowPair n) stays
-    answering (Load at) h = not_shown (Load at) refl
-    answering (Ask_exchange at old new) h = not_shown (Ask_exchange at old new) refl
-    answering (SameKey n) h = not_shown (SameKey n) refl
-    answering (SizeOf n) h = not_shown (SizeOf n) refl
-    answering MakeKey h = not_shown MakeKey refl
-    answering MakePair h = not_shown MakePair refl
-    answering (MakeTable slots limit) h = not_shown (MakeTable slots limit) refl
-    answering (AddToShard by) h = not_shown (AddToShard by) refl
-    answering (Ask_done reply) h = not_shown (Ask_done reply) refl
+    answering (Load at) h = not_shown (Load at) refl (as_was h.1.1)
+    answering (Ask_exchange at old new) h = not_shown (Ask_exchange at old new) refl (as_was h.1)
+    answering (SameKey n) h = not_shown (SameKey n) refl (as_was h.1.1)
+    answering (SizeOf n) h = not_shown (SizeOf n) refl (as_was h.1.1)
+    answering MakeKey h = not_shown MakeKey refl (key_made h)
+    answering MakePair h = not_shown MakePair refl (pair_made h)
+    answering (MakeTable slots limit) h = not_shown (MakeTable slots limit) refl (table_made slots limit h)
+    answering (AddToShard by) (e, same, kept) = not_shown (AddToShard by) refl (as_was kept)
+    answering (Ask_done reply) h = not_shown (Ask_done reply) refl (as_was h.1.1)
 
   module _ (s : StoreState K V S) (r : Running K V A) (a : Answer) (s' : StoreState K V S) (r' : Running K V A) where
     -- the value at hand is that of before, or a pair was made of it, or a closure answered

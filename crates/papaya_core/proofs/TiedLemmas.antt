@@ -14,11 +14,11 @@ use Rattle.papaya_call.specs.declared.answers.Operation.TheVariants as ops
 use Rattle.papaya_call.specs.declared.ask.OpKind.{OpKind}
 use Rattle.papaya_call.specs.declared.ask.OpKind.TheVariants as op_kinds
 use Rattle.papaya_call.specs.Answers.{Says}
-use Rattle.papaya_call.specs.Law.Exchange.{Exchange}
+use Rattle.papaya_law.specs.Exchange.{Exchange}
 use Rattle.papaya_call.specs.Machine.{ask_of}
-use Rattle.papaya_call.specs.Rests.{Rests, IsReply, change_of_reply, WasAtMoment}
-use Rattle.papaya_call.specs.Says.{Said, Agrees, Inserts, Makes, Removes, said_in_reply}
-use Rattle.papaya_call.specs.Told.{Hands, IsOneOf}
+use Rattle.papaya_rests.specs.Rests.{Rests, IsReply, change_of_reply, WasAtMoment}
+use Rattle.papaya_rests.specs.Says.{Said, Agrees, Inserts, Makes, Removes, said_in_reply}
+use Rattle.papaya_rests.specs.Told.{Hands, IsOneOf}
 use Rattle.papaya_words.specs.Table.{TableWords}
 use Rattle.papaya_words.specs.declared.limits.TheConstants.{MAX_LOG_LEN}
 use Rattle.papaya_words.specs.declared.probe.Refused.{Refused as Refusal}
@@ -33,7 +33,7 @@ use Rattle.papaya_core.specs.Begins.{task_of_call}
 use Rattle.papaya_core.specs.Kept.{Tale, told_tales, setting_of, coding_of}
 use Rattle.papaya_core.specs.Maps.{Map, Does, key_of}
 use Rattle.papaya_core.specs.Performs.{Performs, own_key, key_at, Stays, LogsKey, LogsPair, Decides, ShowsPair, Refuses, HasKey, HasNoPair}
-use Rattle.papaya_core.specs.Store.{StoreState, Stored, pair_of, stored_in}
+use Rattle.papaya_core.specs.Store.{KeepsPairs, StoreState, Stored, pair_of, stored_in}
 use Rattle.papaya_core.specs.Tables.{word_at}
 use Rattle.papaya_core.specs.Runs.{History}
 use Rattle.papaya_core.specs.Timeline.{Answered, is_begin, change_of, last_shown, number_in, was_shown_none, AtSomeMoment, Fits, FitsShown}
@@ -51,21 +51,16 @@ get-append [] ys n x e = let f : None ≡ Some x = e in cc
 get-append (y ∷ xs) ys zero x e = e
 get-append (y ∷ xs) ys (suc n) x e = get-append xs ys n x e
 
-module _ {K V S : Type 0} where
-  -- each pair stays in the log
-  abbrev pub PairsStay : StoreState K V S → StoreState K V S → Type 0
-  PairsStay s s' = (n : ℕ) (q : Stored K V) → pair_of s n ≡ Some q → pair_of s' n ≡ Some q
-
 module _ {K V S A : Type 0} where
   -- What a step leaves of the logs: no key and no pair is gone, and a value comes only of a compute's closure.
-  pub record IsGrown (s : StoreState K V S) (r : Running K V A) (s' : StoreState K V S) (r' : Running K V A) : Type 0 where
+  pub record HasMoreLogs (s : StoreState K V S) (r : Running K V A) (s' : StoreState K V S) (r' : Running K V A) : Type 0 where
     pub hasher_is : s'.hasher ≡ s.hasher
     pub keys_stay : (n : ℕ) (k : K) → slice_get s.keys n ≡ Some k → slice_get s'.keys n ≡ Some k
-    pub pairs_stay : PairsStay s s'
+    pub pairs_stay : KeepsPairs s s'
     pub value_stays : (v : V) → r'.value ≡ Some v → (r.value ≡ Some v) ⊎ (r.machine.task ≡ tasks.Compute)
 
   -- the store is as it was
-  unstored : (s : StoreState K V S) (r : Running K V A) (s' : StoreState K V S) (r' : Running K V A) → s' ≡ s → ((v : V) → r'.value ≡ Some v → (r.value ≡ Some v) ⊎ (r.machine.task ≡ tasks.Compute)) → IsGrown s r s' r'
+  unstored : (s : StoreState K V S) (r : Running K V A) (s' : StoreState K V S) (r' : Running K V A) → s' ≡ s → ((v : V) → r'.value ≡ Some v → (r.value ≡ Some v) ⊎ (r.machine.task ≡ tasks.Compute)) → HasMoreLogs s r s' r'
   unstored s r s' r' same value = record {
     hasher_is = ap (λ (y : StoreState K V S). y.hasher) same;
     keys_stay = λ n k e. ap (λ (y : StoreState K V S). slice_get y.keys n) same ∙ e;
@@ -73,10 +68,10 @@ module _ {K V S A : Type 0} where
     value_stays = value;
   }
 
-  still : (s : StoreState K V S) (r : Running K V A) (s' : StoreState K V S) (r' : Running K V A) → s' ≡ s → r' ≡ r → IsGrown s r s' r'
+  still : (s : StoreState K V S) (r : Running K V A) (s' : StoreState K V S) (r' : Running K V A) → s' ≡ s → r' ≡ r → HasMoreLogs s r s' r'
   still s r s' r' same as_was = unstored s r s' r' same (λ v e. inl (sym (ap (λ (y : Running K V A). y.value) as_was) ∙ e))
 
-  key_logged : (answer : Answer) (s : StoreState K V S) (r : Running K V A) (s' : StoreState K V S) (r' : Running K V A) → LogsKey answer s r s' r' → IsGrown s r s' r'
+  key_logged : (answer : Answer) (s : StoreState K V S) (r : Running K V A) (s' : StoreState K V S) (r' : Running K V A) → LogsKey answer s r s' r' → HasMoreLogs s r s' r'
   key_logged answer s r s' r' (k, own, e, few, same, is) = record {
     hasher_is = ap (λ (y : StoreState K V S). y.hasher) same;
     keys_stay = λ n j there. ap (λ (y : StoreState K V S). slice_get y.keys n) same ∙ get-append s.keys (k ∷ []) n j there;
@@ -84,7 +79,7 @@ module _ {K V S A : Type 0} where
     value_stays = λ v e. inl (sym (ap (λ (y : Running K V A). y.value) is) ∙ e);
   }
 
-  pair_logged : (answer : Answer) (s : StoreState K V S) (r : Running K V A) (s' : StoreState K V S) (r' : Running K V A) → LogsPair answer s r s' r' → IsGrown s r s' r'
+  pair_logged : (answer : Answer) (s : StoreState K V S) (r : Running K V A) (s' : StoreState K V S) (r' : Running K V A) → LogsPair answer s r s' r' → HasMoreLogs s r s' r'
   pair_logged answer s r s' r' (n, v, key, value, e, few, same, is) = record {
     hasher_is = ap (λ (y : StoreState K V S). y.hasher) same;
     keys_stay = λ i j there. ap (λ (y : StoreState K V S). slice_get y.keys i) same ∙ there;
@@ -93,7 +88,7 @@ module _ {K V S A : Type 0} where
   }
 
   -- words alone were written
-  words_changed : (s : StoreState K V S) (r : Running K V A) (s' : StoreState K V S) (r' : Running K V A) → s'.hasher ≡ s.hasher → s'.keys ≡ s.keys → s'.pairs ≡ s.pairs → r' ≡ r → IsGrown s r s' r'
+  words_changed : (s : StoreState K V S) (r : Running K V A) (s' : StoreState K V S) (r' : Running K V A) → s'.hasher ≡ s.hasher → s'.keys ≡ s.keys → s'.pairs ≡ s.pairs → r' ≡ r → HasMoreLogs s r s' r'
   words_changed s r s' r' hasher keys pairs as_was = record {
     hasher_is = hasher;
     keys_stay = λ n k e. ap (λ (y : List K). slice_get y n) keys ∙ e;
@@ -102,11 +97,11 @@ module _ {K V S A : Type 0} where
   }
 
   -- a compute's closure answered
-  decided : (says : Says K V A) (shown : Option (K × V)) (s : StoreState K V S) (r : Running K V A) (a : Answer) (s' : StoreState K V S) (r' : Running K V A) → r.machine.task ≡ tasks.Compute → Decides says shown s r a s' r' → IsGrown s r s' r'
+  decided : (says : Says K V A) (shown : Option (K × V)) (s : StoreState K V S) (r : Running K V A) (a : Answer) (s' : StoreState K V S) (r' : Running K V A) → r.machine.task ≡ tasks.Compute → Decides says shown s r a s' r' → HasMoreLogs s r s' r'
   decided says shown s r a s' r' computes (answers, op, rest, has, given, e, same, is) = unstored s r s' r' same (λ v e'. inr computes)
 
   -- a closure was shown a pair
-  showed : (says : Says K V A) (n : ℕ) (s : StoreState K V S) (r : Running K V A) (a : Answer) (s' : StoreState K V S) (r' : Running K V A) (task : Task) → r.machine.task ≡ task → ShowsPair task says n s r a s' r' → IsGrown s r s' r'
+  showed : (says : Says K V A) (n : ℕ) (s : StoreState K V S) (r : Running K V A) (a : Answer) (s' : StoreState K V S) (r' : Running K V A) (task : Task) → r.machine.task ≡ task → ShowsPair task says n s r a s' r' → HasMoreLogs s r s' r'
   showed says n s r a s' r' tasks.Get is (e, stays) = still s r s' r' stays.0 stays.1
   showed says n s r a s' r' (tasks.Insert replace) is (e, stays) = still s r s' r' stays.0 stays.1
   showed says n s r a s' r' tasks.RemoveIf is (inl (none, (e, stays))) = still s r s' r' stays.0 stays.1
@@ -115,10 +110,10 @@ module _ {K V S A : Type 0} where
   showed says n s r a s' r' tasks.Compute is (inr (p, there, decides)) = decided says (Some (p.key, p.value)) s r a s' r' is decides
 
   -- only a compute asks its closure what to put where nothing is
-  pub grown : (eq : K → K → Bool) (says : Says K V A) (refuse : Bool) (ask : Ask) (s : StoreState K V S) (r : Running K V A) (a : Answer) (s' : StoreState K V S) (r' : Running K V A) → Performs eq says refuse ask s r a s' r' → (ask ≡ ShowNone → r.machine.task ≡ tasks.Compute) → IsGrown s r s' r'
+  pub grown : (eq : K → K → Bool) (says : Says K V A) (refuse : Bool) (ask : Ask) (s : StoreState K V S) (r : Running K V A) (a : Answer) (s' : StoreState K V S) (r' : Running K V A) → Performs eq says refuse ask s r a s' r' → (ask ≡ ShowNone → r.machine.task ≡ tasks.Compute) → HasMoreLogs s r s' r'
   grown eq says refuse (Load at) s r a s' r' (e, stays) offers = still s r s' r' stays.0 stays.1
   grown eq says refuse (Ask_exchange at old new) s r a s' r' (ex, as_was) offers =
-      matched (IsGrown s r s' r') (word_at s.words at == old) _ _ ex
+      matched (HasMoreLogs s r s' r') (word_at s.words at == old) _ _ ex
       (λ _ done. words_changed s r s' r' (ap (λ (y : StoreState K V S). y.hasher) done.1) (ap (λ (y : StoreState K V S). y.keys) done.1) (ap (λ (y : StoreState K V S). y.pairs) done.1) as_was)
       (λ _ lost. still s r s' r' lost.1 as_was)
   grown eq says refuse (SameKey n) s r a s' r' (e, stays) offers = still s r s' r' stays.0 stays.1
@@ -127,25 +122,25 @@ module _ {K V S A : Type 0} where
   grown eq says refuse (ShowPair n) s r a s' r' h offers = showed says n s r a s' r' r.machine.task refl h
   grown eq says refuse (SizeOf n) s r a s' r' (e, stays) offers = still s r s' r' stays.0 stays.1
   grown eq says refuse MakeKey s r a s' r' h offers =
-      matched (IsGrown s r s' r') refuse _ _ h
+      matched (HasMoreLogs s r s' r') refuse _ _ h
       (λ _ none. still s r s' r' none.1.0 none.1.1)
       (λ _ makes. by_cases s r a s' r' makes)
     where
-      by_cases : (s : StoreState K V S) (r : Running K V A) (a : Answer) (s' : StoreState K V S) (r' : Running K V A) → (Refuses MAX_LOG_LEN (length s.keys) a × Stays s r s' r') ⊎ (HasKey a r × Stays s r s' r') ⊎ LogsKey a s r s' r' → IsGrown s r s' r'
+      by_cases : (s : StoreState K V S) (r : Running K V A) (a : Answer) (s' : StoreState K V S) (r' : Running K V A) → (Refuses MAX_LOG_LEN (length s.keys) a × Stays s r s' r') ⊎ (HasKey a r × Stays s r s' r') ⊎ LogsKey a s r s' r' → HasMoreLogs s r s' r'
       by_cases s r a s' r' (inl (f, stays)) = still s r s' r' stays.0 stays.1
       by_cases s r a s' r' (inr (inl (has, stays))) = still s r s' r' stays.0 stays.1
       by_cases s r a s' r' (inr (inr logs)) = key_logged a s r s' r' logs
   grown eq says refuse MakePair s r a s' r' h offers =
-      matched (IsGrown s r s' r') refuse _ _ h
+      matched (HasMoreLogs s r s' r') refuse _ _ h
       (λ _ none. still s r s' r' none.1.0 none.1.1)
       (λ _ makes. by_cases s r a s' r' makes)
     where
-      by_cases : (s : StoreState K V S) (r : Running K V A) (a : Answer) (s' : StoreState K V S) (r' : Running K V A) → (Refuses MAX_LOG_LEN (length s.pairs) a × Stays s r s' r') ⊎ (HasNoPair a r × Stays s r s' r') ⊎ LogsPair a s r s' r' → IsGrown s r s' r'
+      by_cases : (s : StoreState K V S) (r : Running K V A) (a : Answer) (s' : StoreState K V S) (r' : Running K V A) → (Refuses MAX_LOG_LEN (length s.pairs) a × Stays s r s' r') ⊎ (HasNoPair a r × Stays s r s' r') ⊎ LogsPair a s r s' r' → HasMoreLogs s r s' r'
       by_cases s r a s' r' (inl (f, stays)) = still s r s' r' stays.0 stays.1
       by_cases s r a s' r' (inr (inl (has, stays))) = still s r s' r' stays.0 stays.1
       by_cases s r a s' r' (inr (inr logs)) = pair_logged a s r s' r' logs
   grown eq says refuse (MakeTable slots limit) s r a s' r' h offers =
-      matched (IsGrown s r s' r') refuse _ _ h
+      matched (HasMoreLogs s r s' r') refuse _ _ h
       (λ _ none. still s r s' r' none.1.0 none.1.1)
       (λ _ makes. ⊎_elim
       (λ refused. still s r s' r' refused.1 makes.1)
@@ -179,7 +174,7 @@ module _ {K V S A : Type 0} where
   SaidForReply s r task reply caller h answers = (said : Said) → said_in_reply task reply ≡ Some said → WasSaid s r caller h answers said
 
   -- what a closure said stays said, whatever another caller does
-  pub said-other : (s s' : StoreState K V S) (r : Running K V A) (c d turn : ℕ) (event : Event) (h : History) (o : Option (Operation V ℕ)) (answers : Answered V) → PairsStay s s' → c ≢ d → (said : Said) → WasSaid s r d h answers said → WasSaid s' r d (entry turn c event ∷ h) (o ∷ answers) said
+  pub said-other : (s s' : StoreState K V S) (r : Running K V A) (c d turn : ℕ) (event : Event) (h : History) (o : Option (Operation V ℕ)) (answers : Answered V) → KeepsPairs s s' → c ≢ d → (said : Said) → WasSaid s r d h answers said → WasSaid s' r d (entry turn c event ∷ h) (o ∷ answers) said
   said-other s s' r c d turn event h o answers stay differ (Agrees n agrees) was = asked-other c d turn n agrees event h differ was
   said-other s s' r c d turn event h o answers stay differ (Inserts shown) (v, has, was) = (v, has, answered-other c d turn shown (ops.Insert v) event h o answers differ was)
   said-other s s' r c d turn event h o answers stay differ (Makes shown n) (q, there, was) = (q, stay n q there, answered-other c d turn shown (ops.Insert q.value) event h o answers differ was)
@@ -241,7 +236,7 @@ module _ {K V A : Type 0} (eq : K → K → Bool) where
   module _ {S : Type 0} where
     -- another caller's step leaves how a call stands to its history
     pub tied_other : (s s' : StoreState K V S) (r : Running K V A) (call : Call K V A) (c d turn : ℕ) (event : Event) (tales : ℕ → Tale K V) (made : List (Exchange (Stored K V))) (hands : Hands (Stored K V)) (h : History) (es : List (Exchange (Stored K V))) (maps : List (Map K V)) (o : Option (Operation V ℕ)) (answers : Answered V)
-        → ((n : ℕ) (k : K) → slice_get s.keys n ≡ Some k → slice_get s'.keys n ≡ Some k) → PairsStay s s' → (made ≡ []) ⊎ ((x : Exchange (Stored K V)) × (made ≡ x ∷ [])) → c ≢ d → (tales d).begun ++ (tales d).since ≡ es
+        → ((n : ℕ) (k : K) → slice_get s.keys n ≡ Some k → slice_get s'.keys n ≡ Some k) → KeepsPairs s s' → (made ≡ []) ⊎ ((x : Exchange (Stored K V)) × (made ≡ x ∷ [])) → c ≢ d → (tales d).begun ++ (tales d).since ≡ es
         → IsTied eq s r call d (tales d) h maps answers → IsTied eq s' r call d (told_tales tales c made hands d) (entry turn c event ∷ h) (replay eq (es ++ made) ∷ maps) (o ∷ answers)
     tied_other s s' r call c d turn event tales made hands h es maps o answers keys pairs one differ split tied = record {
       key = own_key_stays s s' r (key_of call) keys tied.key;

@@ -1,6 +1,8 @@
 -- One step of one caller.
-use Rattle.std.specs.Prelude.{◌≡◌, ◌⊎◌, ℕ, Bool, Option, Some, None}
+use Rattle.std.specs.Prelude.{◌≡◌, ◌⊎◌, ℕ, ◌≤◌, Bool, Option, Some, None, length, slice_index}
 use Rattle.papaya_call.specs.Answers.{Says}
+use Rattle.papaya_words.specs.Probe.{place}
+use Rattle.papaya_words.specs.Table.{TableWords}
 use Rattle.papaya_words.specs.Word.{pair_of}
 use Rattle.papaya_call.specs.declared.ask.Ask.{Ask}
 use Rattle.papaya_call.specs.declared.ask.Ask.TheVariants.{Load, Exchange, SameKey, ShowNone, ShowPair, SizeOf, MakeKey, MakePair, MakeTable, AddToShard, Done as Ask_done}
@@ -14,14 +16,16 @@ use Rattle.papaya_words.specs.declared.probe.Refused.TheVariants.{Capacity, Remo
 use Rattle.papaya_call.specs.declared.ask.At.TheVariants.{Next}
 use Rattle.papaya_call.specs.declared.call.Reply.{Reply}
 use Rattle.papaya_call.specs.declared.call.Reply.TheVariants.{Refused as Reply_refused}
-use Rattle.papaya_call.specs.declared.machine.Machine.{Machine}
-use Rattle.papaya_call.specs.Machine.{ask_of, kind_of_ask, after}
+use Rattle.papaya_call.specs.Machine.{MayInsert, ask_of, kind_of_ask, after}
 use Rattle.papaya_core.specs.declared.pairs.Running.{Running}
 use Rattle.papaya_core.specs.declared.trace.Event.{Event}
 use Rattle.papaya_core.specs.declared.trace.Event.TheVariants.{Changed, Moved, Asked, Shown, Other}
 use Rattle.papaya_core.specs.Callers.{with_call}
-use Rattle.papaya_core.specs.Performs.{Performs}
+use Rattle.papaya_core.specs.Performs.{Performs, own_key}
+use Rattle.papaya_core.specs.Content.{map_in}
 use Rattle.papaya_core.specs.Core.{CoreState, call_of}
+use Rattle.papaya_core.specs.Store.{StoreState}
+use Rattle.papaya_core.specs.Tables.{table_of, word_at}
 
 -- the event of an exchange of this kind that was made: a change of the map names the pair that went and the one that came
 abbrev pub exchange_event : StepKind → (old new : ℕ) → Event
@@ -45,14 +49,7 @@ kind_event (Some kind) old new = exchange_event kind old new
 
 abbrev pub answered_event : Option StepKind → (old new : ℕ) → Answer → Event
 answered_event kind old new Exchanged = kind_event kind old new
-answered_event kind old new (Word_read word) = Other
-answered_event kind old new (Found_instead word) = Other
-answered_event kind old new (Yes same) = Other
-answered_event kind old new (Op op) = Other
-answered_event kind old new (Size slots limit) = Other
-answered_event kind old new (Made_number n) = Other
-answered_event kind old new Ok_done = Other
-answered_event kind old new (Was_refused refused) = Other
+answered_event kind old new _ = Other
 
 -- whether a pair is to be removed is asked of a pair alone
 abbrev pub asked_event : Option ℕ → Bool → Event
@@ -63,50 +60,40 @@ asked_event (Some n) agrees = Asked n agrees
 abbrev pub shown_event : Option ℕ → Answer → Event
 shown_event shown (Op kind) = Shown shown kind
 shown_event shown (Yes agrees) = asked_event shown agrees
-shown_event shown (Word_read word) = Other
-shown_event shown Exchanged = Other
-shown_event shown (Found_instead word) = Other
-shown_event shown (Size slots limit) = Other
-shown_event shown (Made_number m) = Other
-shown_event shown Ok_done = Other
-shown_event shown (Was_refused refused) = Other
+shown_event shown _ = Other
 
 -- the event of an ask that was answered so
 abbrev pub event_of : Option StepKind → Ask → Answer → Event
 event_of kind (Exchange at old new) answer = answered_event kind old new answer
-event_of kind (Load at) answer = Other
-event_of kind (SameKey n) answer = Other
 event_of kind ShowNone answer = shown_event None answer
 event_of kind (ShowPair n) answer = shown_event (Some n) answer
-event_of kind (SizeOf n) answer = Other
-event_of kind MakeKey answer = Other
-event_of kind MakePair answer = Other
-event_of kind (MakeTable slots limit) answer = Other
-event_of kind (AddToShard by) answer = Other
-event_of kind (Ask_done reply) answer = Other
+event_of kind _ answer = Other
 
 -- the reply of a machine that asks no more
 abbrev pub reply_in : Ask → Option Reply
 reply_in (Ask_done reply) = Some reply
-reply_in (Load at) = None
-reply_in (Exchange at old new) = None
-reply_in (SameKey n) = None
-reply_in ShowNone = None
-reply_in (ShowPair n) = None
-reply_in (SizeOf n) = None
-reply_in MakeKey = None
-reply_in MakePair = None
-reply_in (MakeTable slots limit) = None
-reply_in (AddToShard by) = None
+reply_in _ = None
 
 -- the call goes on, unless it has replied
 abbrev pub goes_on : {A : Type 0} → Option Reply → A → Option A
 goes_on None r = Some r
 goes_on (Some reply) r = None
 
--- why a call is refused: what it asked to be made was refused so, it goes on to a next table, of which there is none yet, or its closure would remove where it was shown that nothing is
-abbrev pub IsCause : Machine → Answer → Refused → Type 0
-IsCause m answer refused = (answer ≡ Was_refused refused) ⊎ ((refused ≡ Capacity) × ((t : ℕ) × (ask_of m ≡ Load (Next t)))) ⊎ ((refused ≡ RemoveNothing) × (ask_of m ≡ ShowNone) × (answer ≡ Op kinds.Remove))
+-- Table t has no next one, the call inserts or computes, and its key is not in the map and has no place: each place of it in the table is filled.
+pub record HasNoPlace {K V S A : Type 0} (eq : K → K → Bool) (s : StoreState K V S) (r : Running K V A) (t : ℕ) : Type 0 where
+  pub asks : ask_of r.machine ≡ Load (Next t)
+  pub next : word_at s.words (Next t) ≡ 0
+  pub inserts : MayInsert r.machine.task
+  pub key : K
+  pub own : own_key s r ≡ Some key
+  pub absent : map_in eq s key ≡ None
+  pub table : TableWords
+  pub there : table_of s.words.tables t ≡ Some table
+  pub filled : (j : ℕ) → j ≤ table.limit → slice_index table.slots (place r.machine.hash (length table.slots) j) ≡ 0 → ⊥
+
+-- why a call is refused: what it asked to be made was refused so, its key has no place and there is no next table, or its closure would remove where it was shown that nothing is
+abbrev pub IsCause : {K V S A : Type 0} → (K → K → Bool) → StoreState K V S → Running K V A → Answer → Refused → Type 0
+IsCause eq s r answer refused = (answer ≡ Was_refused refused) ⊎ ((refused ≡ Capacity) × ((t : ℕ) × HasNoPlace eq s r t)) ⊎ ((refused ≡ RemoveNothing) × (ask_of r.machine ≡ ShowNone) × (answer ≡ Op kinds.Remove))
 
 -- Just one ask of the caller's machine is answered, a load or an exchange by the word that stands there. A reply is the one in the machine's Done. No other caller's call changes.
 pub record Advances {K V S A : Type 0} (eq : K → K → Bool) (says : Says K V A) (refuse : Bool) (s : CoreState K V S A) (caller : ℕ) (s' : CoreState K V S A) (event : Event) (reply : Option Reply) : Type 0 where
@@ -121,4 +108,4 @@ pub record Advances {K V S A : Type 0} (eq : K → K → Bool) (says : Says K V 
   pub callers : s'.callers ≡ with_call s.callers caller (goes_on reply (record later { machine = after before.machine answer }))
   pub mode : s'.mode ≡ s.mode
   pub initial : s'.initial ≡ s.initial
-  pub cause : (refused : Refused) → reply ≡ Some (Reply_refused refused) → IsCause before.machine answer refused
+  pub cause : (refused : Refused) → reply ≡ Some (Reply_refused refused) → IsCause eq s.store before answer refused

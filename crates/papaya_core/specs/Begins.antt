@@ -20,18 +20,14 @@ key_of_call (RemoveIf k a) = k
 key_of_call (Compute k a) = k
 
 abbrev pub value_of_call : {K V A : Type 0} → Call K V A → Option V
-value_of_call (Get k) = None
 value_of_call (Insert k v) = Some v
 value_of_call (TryInsert k v) = Some v
-value_of_call (RemoveIf k a) = None
-value_of_call (Compute k a) = None
+value_of_call _ = None
 
 abbrev pub answers_of_call : {K V A : Type 0} → Call K V A → Option A
-answers_of_call (Get k) = None
-answers_of_call (Insert k v) = None
-answers_of_call (TryInsert k v) = None
 answers_of_call (RemoveIf k a) = Some a
 answers_of_call (Compute k a) = Some a
+answers_of_call _ = None
 
 abbrev pub task_of_call : {K V A : Type 0} → Call K V A → Task
 task_of_call (Get k) = Get_task

@@ -4,7 +4,7 @@ use Rattle.papaya_words.specs.Word.{kind_of, pair_of as number_of}
 use Rattle.papaya_words.specs.Table.{TableWords}
 use Rattle.papaya_words.specs.declared.word.Kind.{Kind}
 use Rattle.papaya_words.specs.declared.word.Kind.TheVariants.{Empty, Live, Marked, Copied, Buried, Closed}
-use Rattle.papaya_call.specs.Law.Content.{lookup}
+use Rattle.papaya_law.specs.Content.{lookup}
 use Rattle.papaya_core.specs.Tables.{table_of}
 use Rattle.papaya_core.specs.Store.{StoreState, Stored, pair_of}
 use Rattle.papaya_core.specs.Core.{CoreState}
@@ -20,10 +20,7 @@ module _ {K V S : Type 0} (store : StoreState K V S) where
   abbrev pub pairs_of_kind : Kind → ℕ → List (Stored K V)
   pairs_of_kind Live n = listed (pair_of store n)
   pairs_of_kind Marked n = listed (pair_of store n)
-  pairs_of_kind Empty n = []
-  pairs_of_kind Copied n = []
-  pairs_of_kind Buried n = []
-  pairs_of_kind Closed n = []
+  pairs_of_kind _ n = []
 
   -- the pairs of a table's slots, in their order
   abbrev pub pairs_of_slots : List ℕ → List (Stored K V)

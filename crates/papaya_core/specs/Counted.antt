@@ -2,7 +2,7 @@
 use Rattle.std.specs.Prelude.{◌≡◌, ℤ, pos, ◌+ℤ◌, List, [], ◌∷◌, length, Option, Some, None}
 use Rattle.std.specs.Int.{w64, int_wrap}
 use Rattle.papaya_call.specs.Machine.{ask_of}
-use Rattle.papaya_call.specs.Owed.{owed_by}
+use Rattle.papaya_rests.specs.Owed.{owed_by}
 use Rattle.papaya_core.specs.declared.pairs.Running.{Running}
 use Rattle.papaya_core.specs.declared.callers.Seat.{Seat}
 use Rattle.papaya_core.specs.Content.{content}

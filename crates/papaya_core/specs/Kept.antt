@@ -7,14 +7,14 @@ use Rattle.papaya_call.specs.declared.ask.At.{At}
 use Rattle.papaya_call.specs.declared.ask.At.TheVariants.{Root}
 use Rattle.papaya_call.specs.declared.ask.Ask.TheVariants.{Exchange as Asks_exchange}
 use Rattle.papaya_call.specs.Machine.{HasClosure, ask_of}
-use Rattle.papaya_call.specs.Law.Allows.{AllAllowed}
-use Rattle.papaya_call.specs.Law.Code.{Coding}
-use Rattle.papaya_call.specs.Law.Exchange.{Setting, Exchange, run, start}
-use Rattle.papaya_call.specs.Law.Grows.{Comes, planned}
-use Rattle.papaya_call.specs.Law.Hashing.{hashed}
-use Rattle.papaya_call.specs.Law.Invariant.{named}
-use Rattle.papaya_call.specs.Rests.{Rests, change_in}
-use Rattle.papaya_call.specs.Told.{Hands, IsOneOf, no_hands, word_of}
+use Rattle.papaya_law.specs.Allows.{AllAllowed}
+use Rattle.papaya_law.specs.Code.{Coding}
+use Rattle.papaya_law.specs.Exchange.{Setting, Exchange, run, start}
+use Rattle.papaya_law.specs.Grows.{Comes, planned}
+use Rattle.papaya_law.specs.Hashing.{hashed}
+use Rattle.papaya_law.specs.Invariant.{named}
+use Rattle.papaya_rests.specs.Rests.{Rests, change_in}
+use Rattle.papaya_rests.specs.Told.{Hands, IsOneOf, no_hands, word_of}
 use Rattle.papaya_core.specs.declared.pairs.Running.{Running}
 use Rattle.papaya_core.specs.declared.callers.Seat.{Seat}
 use Rattle.papaya_core.specs.Callers.{running}

@@ -148,14 +148,7 @@ module _ {K V S A : Type 0} where
 
 -- an ask for something to be made
 abbrev pub IsMake : Ask → Type 0
-IsMake (Load at) = ⊥
-IsMake (Exchange at old new) = ⊥
-IsMake (SameKey n) = ⊥
-IsMake ShowNone = ⊥
-IsMake (ShowPair n) = ⊥
-IsMake (SizeOf n) = ⊥
 IsMake MakeKey = Unit {0}
 IsMake MakePair = Unit {0}
 IsMake (MakeTable slots limit) = Unit {0}
-IsMake (AddToShard by) = ⊥
-IsMake (Ask_done reply) = ⊥
+IsMake _ = ⊥

@@ -1,5 +1,5 @@
 -- The whole of one call, made by a caller with no other beside it.
-use Rattle.std.specs.Prelude.{◌≡◌, ℕ, Bool, [], ◌∷◌, Option, Some, None}
+use Rattle.std.specs.Prelude.{◌≡◌, ℕ, Bool, [], ◌∷◌, Option, None}
 use Rattle.papaya_call.specs.Answers.{Says}
 use Rattle.papaya_call.specs.declared.call.Call.{Call}
 use Rattle.papaya_call.specs.declared.call.Reply.{Reply}
@@ -36,17 +36,7 @@ IsAnswered eq call m (Kept n) m' = CallDoes eq call m (Kept n) m'
 abbrev pub IsNewIn : {K V S : Type 0} → StoreState K V S → Reply → Type 0
 IsNewIn store (Inserted n) = pair_of store n ≡ None
 IsNewIn store (Replaced o n) = pair_of store n ≡ None
-IsNewIn store Absent = Unit {0}
-IsNewIn store (Found n) = Unit {0}
-IsNewIn store (Occupied n) = Unit {0}
-IsNewIn store (Removed n) = Unit {0}
-IsNewIn store (Kept n) = Unit {0}
-IsNewIn store (Aborted t) = Unit {0}
-IsNewIn store (Refused refused) = Unit {0}
-
--- each pair of the one log stands in the other, under its number
-abbrev pub KeepsPairs : {K V S : Type 0} → StoreState K V S → StoreState K V S → Type 0
-KeepsPairs {K = K} {V = V} store store' = (n : ℕ) (p : Stored K V) → pair_of store n ≡ Some p → pair_of store' n ≡ Some p
+IsNewIn store _ = Unit {0}
 
 -- whatever a closure answers
 abbrev pub whatever : {K V A : Type 0} → Says K V A

@@ -1,5 +1,5 @@
 -- What the machines of all callers ask about.
-use Rattle.std.specs.Prelude.{ℕ, List, Option, Some, None, slice_get, fold}
+use Rattle.std.specs.Prelude.{◌≡◌, ℕ, List, Option, Some, None, slice_get}
 use Rattle.papaya_words.specs.Counter.{Count}
 use Rattle.papaya_core.specs.declared.pairs.Pair.{Pair}
 use Rattle.papaya_core.specs.Tables.{Tables}
@@ -30,6 +30,6 @@ stored_in keys n (Some p) = stored_at n p.value (slice_get keys p.key)
 abbrev pub pair_of : {K V S : Type 0} → StoreState K V S → ℕ → Option (Stored K V)
 pair_of s n = stored_in s.keys n (slice_get s.pairs n)
 
--- the hash of a key: what the hasher makes of the writes that the key feeds it
-abbrev pub hash_of : {K S H : Type 0} → (K → List (List ℕ)) → (S → H) → (H → List ℕ → H) → (H → ℕ) → S → K → ℕ
-hash_of input build write finish s k = finish (fold write (build s) (input k))
+-- each pair of the one log stands in the other, under its number
+abbrev pub KeepsPairs : {K V S : Type 0} → StoreState K V S → StoreState K V S → Type 0
+KeepsPairs {K = K} {V = V} store store' = (n : ℕ) (p : Stored K V) → pair_of store n ≡ Some p → pair_of store' n ≡ Some p

@@ -3,7 +3,7 @@ use Rattle.std.specs.Prelude.{◌≡◌, ◌≢◌, ℕ, ◌==◌, Bool, true, f
 use Rattle.papaya_words.specs.declared.probe.Refused.{Refused}
 use Rattle.papaya_words.specs.declared.probe.Refused.TheVariants.{RemoveNothing}
 use Rattle.papaya_call.specs.Answers.{op_kind}
-use Rattle.papaya_call.specs.Rests.{Change, change_of_reply}
+use Rattle.papaya_rests.specs.Rests.{Change, change_of_reply}
 use Rattle.papaya_call.specs.declared.answers.Operation.{Operation}
 use Rattle.papaya_call.specs.declared.answers.Operation.TheVariants as ops
 use Rattle.papaya_call.specs.declared.ask.OpKind.{OpKind}
@@ -16,7 +16,7 @@ use Rattle.papaya_core.specs.declared.trace.Turn.{Turn}
 use Rattle.papaya_core.specs.declared.trace.Turn.TheVariants.{Begin, Step, Finish}
 use Rattle.papaya_core.specs.declared.trace.Entry.{Entry}
 use Rattle.papaya_core.specs.declared.trace.Event.{Event}
-use Rattle.papaya_core.specs.declared.trace.Event.TheVariants.{Begun, Changed, Moved, Asked, Shown, Other, Replied}
+use Rattle.papaya_core.specs.declared.trace.Event.TheVariants.{Begun, Changed, Asked, Shown, Replied}
 use Rattle.papaya_core.specs.Runs.{History}
 use Rattle.papaya_core.specs.Store.{Stored}
 use Rattle.papaya_core.specs.Maps.{Map, Does, Same, IsUpdate, key_of}
@@ -31,12 +31,8 @@ begun_by (Some (Finish caller steps)) = None
 -- the call that a caller has open after an event of its own, which had this one before
 abbrev pub open_after : {A : Type 0} → Event → Option A → Option A → Option A
 open_after Begun begun before = begun
-open_after (Changed kind old new) begun before = before
-open_after (Moved kind) begun before = before
-open_after (Asked n agrees) begun before = before
-open_after (Shown n kind) begun before = before
-open_after Other begun before = before
 open_after (Replied reply) begun before = None
+open_after _ begun before = before
 
 -- the call that a caller has open, of those that the schedule began
 abbrev pub open_call : {K V A : Type 0} → List (Turn K V A) → ℕ → History → Option (Call K V A)
@@ -50,11 +46,8 @@ open_call schedule caller (e ∷ before) =
 abbrev pub change_by : Event → Change → Change
 change_by Begun before = None
 change_by (Changed kind old new) before = Some (old, new)
-change_by (Moved kind) before = before
-change_by (Asked n agrees) before = before
-change_by (Shown n kind) before = before
-change_by Other before = before
 change_by (Replied reply) before = None
+change_by _ before = before
 
 abbrev pub change_of : ℕ → History → Change
 change_of caller [] = None
@@ -62,12 +55,7 @@ change_of caller (e ∷ before) = if e.caller == caller then change_by e.event (
 
 abbrev pub begins : Event → Bool
 begins Begun = true
-begins (Changed kind old new) = false
-begins (Moved kind) = false
-begins (Asked n agrees) = false
-begins (Shown n kind) = false
-begins Other = false
-begins (Replied reply) = false
+begins _ = false
 
 -- is this the begin of the caller's call
 abbrev pub is_begin : ℕ → Entry → Bool
@@ -92,11 +80,9 @@ WasShown caller shown kind (e ∷ before) = ((e.caller ≡ caller) × (e.event �
 
 -- the call's closure, shown the pair of this number, would have it removed
 abbrev pub WouldRemove : {K V A : Type 0} → Call K V A → ℕ → ℕ → History → Type 0
-WouldRemove (Get k) caller n before = ⊥
-WouldRemove (Insert k v) caller n before = ⊥
-WouldRemove (TryInsert k v) caller n before = ⊥
 WouldRemove (RemoveIf k a) caller n before = WasAsked caller n true before
 WouldRemove (Compute k a) caller n before = WasShown caller (Some n) kinds.Remove before
+WouldRemove _ caller n before = ⊥
 
 -- What closures answered with each entry of a history, the newest first: an operation with its value, where one was answered.
 abbrev pub Answered : Type 0 → Type 0
@@ -105,12 +91,7 @@ Answered V = List (Option (Operation V ℕ))
 -- an operation is answered where a closure is shown something, of the kind that the event tells
 abbrev pub IsAnsweredIn : {V : Type 0} → Event → Option (Operation V ℕ) → Type 0
 IsAnsweredIn {V = V} (Shown n kind) answered = (op : Operation V ℕ) × (answered ≡ Some op) × (op_kind op ≡ kind)
-IsAnsweredIn Begun answered = answered ≡ None
-IsAnsweredIn (Changed kind old new) answered = answered ≡ None
-IsAnsweredIn (Moved kind) answered = answered ≡ None
-IsAnsweredIn (Asked n agrees) answered = answered ≡ None
-IsAnsweredIn Other answered = answered ≡ None
-IsAnsweredIn (Replied reply) answered = answered ≡ None
+IsAnsweredIn _ answered = answered ≡ None
 
 -- in the caller's call the closure was shown this and answered so
 abbrev pub WasAnswered : {V : Type 0} → ℕ → Option ℕ → Operation V ℕ → History → Answered V → Type 0
@@ -121,12 +102,9 @@ WasAnswered caller shown op (e ∷ before) (o ∷ said) = ((e.caller ≡ caller)
 -- what the closure of a caller's open call was last shown, and what it answered
 abbrev pub shown_by : Event → Option (Option ℕ × OpKind) → Option (Option ℕ × OpKind)
 shown_by Begun before = None
-shown_by (Changed kind old new) before = before
-shown_by (Moved kind) before = before
-shown_by (Asked n agrees) before = before
 shown_by (Shown shown kind) before = Some (shown, kind)
-shown_by Other before = before
 shown_by (Replied reply) before = None
+shown_by _ before = before
 
 abbrev pub last_shown : ℕ → History → Option (Option ℕ × OpKind)
 last_shown caller [] = None
@@ -139,12 +117,9 @@ is_none (Some n) before = before
 
 abbrev pub none_by : Event → Bool → Bool
 none_by Begun before = false
-none_by (Changed kind old new) before = before
-none_by (Moved kind) before = before
-none_by (Asked n agrees) before = before
 none_by (Shown shown kind) before = is_none shown before
-none_by Other before = before
 none_by (Replied reply) before = false
+none_by _ before = before
 
 abbrev pub was_shown_none : ℕ → History → Bool
 was_shown_none caller [] = false
@@ -239,13 +214,11 @@ module _ {K V A : Type 0} (eq : K → K → Bool) where
 
   -- an event is legal after this history, with these maps and answers, and leads to the map m'
   abbrev pub IsLegal : Event → List (Turn K V A) → ℕ → History → Map K V → List (Map K V) → Map K V → Answered V → Type 0
-  IsLegal Begun schedule caller before m maps m' said = Same m m'
   IsLegal (Changed kind old new) schedule caller before m maps m' said = IsChange schedule caller before m maps m' said old new
-  IsLegal (Moved kind) schedule caller before m maps m' said = Same m m'
   IsLegal (Asked n agrees) schedule caller before m maps m' said = Same m m' × FitsShown (open_call schedule caller before) (Some n) caller before (m ∷ maps)
   IsLegal (Shown n kind) schedule caller before m maps m' said = Same m m' × FitsShown (open_call schedule caller before) n caller before (m ∷ maps)
-  IsLegal Other schedule caller before m maps m' said = Same m m'
   IsLegal (Replied reply) schedule caller before m maps m' said = Same m m' × FitsOpen (open_call schedule caller before) reply caller before (m ∷ maps)
+  IsLegal _ schedule caller before m maps m' said = Same m m'
 
   -- the maps, one a moment, and the answers, one an entry, the newest first, from the map at the start
   abbrev pub Timeline : List (Turn K V A) → Map K V → History → List (Map K V) → Answered V → Type 0

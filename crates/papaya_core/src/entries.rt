@@ -22,7 +22,7 @@ fn exchange_event(kind: StepKind, old: u64, new: u64) -> Event
     }
 }
 
-/// The event of a showing to a closure.
+/// The event of a call of a closure.
 fn shown_event(shown: Option<u64>, answer: Answer) -> Event
     ensures { result ≡ shown_event shown answer }
 {

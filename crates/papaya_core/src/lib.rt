@@ -4,11 +4,7 @@
 pub mod callers;
 mod entries;
 pub mod pairs;
-#[cfg(test)]
-mod plain_tests;
 pub mod schedule;
 pub mod solo;
 pub mod store;
-#[cfg(test)]
-mod tests;
 pub mod trace;

@@ -1,9 +1,10 @@
 //! Any number of callers, and any schedule of their steps.
-ghost use Rattle.std.specs.Prelude.{◌≡◌, ◌<◌, ◌^◌, length, IfOk, IfErr, OnOk, IsSome, Some, None, is_some, MatchOption, reverse, ◌+◌, ◌*◌, ◌≤◌};
-ghost use Rattle.papaya_call.specs.Law.Content.{AreApart};
+ghost use Rattle.std.specs.Prelude.{◌≡◌, ◌<◌, ◌^◌, length, IfOk, IfErr, OnOk, IsSome, Some, None, is_some, MatchOption, reverse, ◌+◌, ◌*◌, ◌≤◌, []};
+ghost use Rattle.papaya_law.specs.Content.{AreApart};
 ghost use Rattle.papaya_call.specs.Machine.{IsChunked, IsStanding};
 ghost use Rattle.papaya_core.specs.Callers.{running};
-ghost use Rattle.papaya_core.specs.Store.{pair_of, hash_of};
+ghost use Rattle.papaya_core.specs.Store.{KeepsPairs, pair_of};
+ghost use Rattle.papaya_keys.specs.Hashes.{hash_of};
 ghost use Rattle.papaya_core.specs.Core.{call_of};
 ghost use Rattle.papaya_core.specs.Content.{content};
 ghost use Rattle.papaya_core.specs.Counted.{IsCounted};
@@ -11,7 +12,9 @@ ghost use Rattle.papaya_core.specs.Begins.{Begins, begun};
 ghost use Rattle.papaya_core.specs.Advances.{Advances, event_of, reply_in};
 ghost use Rattle.papaya_core.specs.Headline.{HasTimeline};
 ghost use Rattle.papaya_core.specs.Moves.{MovesMap};
-ghost use Rattle.papaya_core.specs.New.{IsAllowed, IsRefused, IsNew};
+ghost use Rattle.papaya_core.specs.New.{IsNew};
+ghost use Rattle.papaya_keys.specs.Sizes.{IsRefused};
+ghost use Rattle.papaya_keys.specs.Sizes.{IsAllowed};
 ghost use Rattle.papaya_core.specs.Runs.{TurnsRun, StopsEarly, TurnRuns, IsCutShort, BeginRuns, StepRuns, StepsRun};
 
 use crate::callers::Callers;
@@ -47,7 +50,7 @@ impl<K: Hash + Eq, V, S: BuildHasher, A> Model for Core<K, V, S, A> {
     ghost use Rattle.papaya_core.specs.Core.{CoreState};
     ghost use Rattle.papaya_core.specs.Counted.{IsCounted};
     ghost use Rattle.papaya_core.specs.Kept.{IsLawfulCore};
-    ghost use Rattle.papaya_core.specs.Store.{hash_of};
+    ghost use Rattle.papaya_keys.specs.Hashes.{hash_of};
 
     ghost Value = { CoreState K V S A };
 
@@ -134,6 +137,7 @@ impl<K: Hash + Eq + Drop, V: Drop, S: BuildHasher + Drop, A> Core<K, V, S, A> {
     ) -> Result<Core<K, V, S, A>, Refused>
         ensures ok { IfOk result (λ core. IsAllowed mode capacity shards × IsNew mode capacity shards hasher core) }
         ensures err { IfErr result (λ e. IsRefused mode capacity shards e) }
+        ensures content { IfOk result (λ core. content core.store ≡ []) }
         ensures counted { IfOk result (λ core. IsCounted core.store core.callers) }
     {
         let (store, initial) = Store::with_parts(alloc, mode, capacity, shards, hasher)?;
@@ -168,6 +172,7 @@ impl<K: Hash + Eq + Drop, V: Drop, S: BuildHasher, A: Answers<K, V> + Drop> Core
         requires { IsSome (call_of self.old caller) }
         ensures advances { Advances K.eq (record { op = A.op_gives; yes = A.yes_gives }) refuse self.old caller self.new result.0 result.1 }
         ensures moves { MovesMap K.eq self.old caller self.new result.0 }
+        ensures keeps { KeepsPairs self.old.store self.new.store }
         ensures counted { IsCounted self.new.store self.new.callers }
     {
         let mut running = self.callers.take(caller);
@@ -193,6 +198,7 @@ impl<K: Hash + Eq + Drop, V: Drop, S: BuildHasher, A: Answers<K, V> + Drop> Core
     pub fn step(&mut self, caller: usize, refuse_memory: bool) -> Option<Reply>
         requires { IsSome (call_of self.old caller) }
         ensures advances { (event : _) × Advances K.eq (record { op = A.op_gives; yes = A.yes_gives }) refuse_memory self.old caller self.new event result × MovesMap K.eq self.old caller self.new event }
+        ensures keeps { KeepsPairs self.old.store self.new.store }
         ensures counted { IsCounted self.new.store self.new.callers }
     {
         let (_, reply) = self.advance(caller, refuse_memory);
@@ -206,7 +212,7 @@ impl<K: Hash + Eq + Drop, V: Drop, S: BuildHasher, A: Answers<K, V> + Drop> Core
     /// before were made, and of a `Finish` perhaps some steps.
     pub fn run(&mut self, schedule: Vec<Turn<K, V, A>>) -> Result<Trace, Refused>
         ensures ok { IfOk result (λ trace. TurnsRun K.eq (record { op = A.op_gives; yes = A.yes_gives }) (hash_of K.hash_input S.build_hasher S.Hasher.write S.Hasher.finish) schedule.items (length schedule.items) self.old self.new (reverse trace.entries.items)) }
-        ensures timeline { IfOk result (λ trace. HasTimeline K.eq schedule.items self.old (reverse trace.entries.items) self.new) }
+        ensures timeline { IfOk result (λ trace. HasTimeline K.eq (record { op = A.op_gives; yes = A.yes_gives }) schedule.items self.old (reverse trace.entries.items) self.new) }
         ensures err { IfErr result (λ e. (e ≡ Refused.Memory) × StopsEarly K.eq (record { op = A.op_gives; yes = A.yes_gives }) (hash_of K.hash_input S.build_hasher S.Hasher.write S.Hasher.finish) schedule.items self.old self.new) }
         ensures counted { IsCounted self.new.store self.new.callers }
     {

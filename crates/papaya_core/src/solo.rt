@@ -4,8 +4,9 @@ ghost use Rattle.papaya_core.specs.Content.{map_of};
 ghost use Rattle.papaya_core.specs.Core.{CoreState};
 ghost use Rattle.papaya_core.specs.Counted.{IsCounted};
 ghost use Rattle.papaya_core.specs.Kept.{IsLawfulCore};
-ghost use Rattle.papaya_core.specs.Solo.{IsAnswered, IsNewIn, KeepsPairs, RunsAlone};
-ghost use Rattle.papaya_core.specs.Store.{hash_of};
+ghost use Rattle.papaya_core.specs.Solo.{IsAnswered, IsNewIn, RunsAlone};
+ghost use Rattle.papaya_core.specs.Store.{KeepsPairs};
+ghost use Rattle.papaya_keys.specs.Hashes.{hash_of};
 
 use papaya_call::call::{Call, Reply};
 use std::hash::{BuildHasher, Hash};

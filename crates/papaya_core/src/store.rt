@@ -6,15 +6,20 @@ ghost use Rattle.papaya_words.specs.declared.limits.TheConstants.{MAX_TABLE_LEN}
 ghost use Rattle.papaya_words.specs.Probe.{IsEntriesFor};
 ghost use Rattle.papaya_call.specs.Answers.{op_kind};
 ghost use Rattle.papaya_call.specs.Machine.{IsChunked};
-ghost use Rattle.papaya_core.specs.New.{HasCapacity, IsAllowed, IsNewStore, IsRefused, IsTooMuch};
+ghost use Rattle.papaya_core.specs.New.{HasCapacity, IsNewStore};
+ghost use Rattle.papaya_keys.specs.Sizes.{IsRefused};
+ghost use Rattle.papaya_keys.specs.Sizes.{IsAllowed};
+ghost use Rattle.papaya_keys.specs.Sizes.{IsTooMuch};
 ghost use Rattle.papaya_core.specs.Tables.{table_of, word_at, put, put_in, written};
-ghost use Rattle.papaya_core.specs.Store.{pair_of, hash_of};
+ghost use Rattle.papaya_core.specs.Store.{pair_of};
+ghost use Rattle.papaya_keys.specs.Hashes.{hash_of};
 ghost use Rattle.papaya_core.specs.Performs.{Exchanges, size_of, Performs, IsMake, Judges, DecidesPair, DecidesNone, ShowsPair, value_answered, Stays, Refuses, LogsKey, LogsPair, MakesTable, HasKey, HasNoPair, key_at, same};
 
 use crate::pairs::{KeyOf, Pair, Running};
 use papaya_call::answers::{Answers, Operation};
 use papaya_call::ask::{Answer, Ask, At, OpKind};
 use papaya_call::call::Task;
+use papaya_keys::sizes::{check_chunk, initial_len};
 use papaya_words::counter::Counter;
 use papaya_words::limits::{MAX_LOG_LEN, MAX_TABLE_LEN, MAX_TABLES};
 use papaya_words::probe::{Refused, ResizeMode, entries_for, limit};
@@ -74,29 +79,6 @@ fn keep_value<V: Drop>(operation: Operation<V, u64>, value: &mut Option<V>) -> A
         Operation::Remove => Answer::Op(OpKind::Remove),
         Operation::Abort(with) => Answer::Op(OpKind::Abort(with)),
     }
-}
-
-/// Refuses a chunk of no slots.
-fn check_chunk(mode: ResizeMode) -> Result<(), Refused>
-    ensures ok { OnOk result (IsChunked mode) }
-    ensures err { IfErr result (λ e. (e ≡ Refused.ZeroChunk) × (mode ≡ ResizeMode.Incremental 0)) }
-{
-    match mode {
-        ResizeMode::Incremental(0) => Err(Refused::ZeroChunk),
-        _ => Ok(()),
-    }
-}
-
-/// The initial capacity of a map that is made for so many pairs.
-fn initial_len(capacity: usize) -> Result<usize, Refused>
-    ensures ok { IfOk result (λ initial. (capacity * 8 < 2 ^ 64) × IsEntriesFor capacity initial × (initial ≤ MAX_TABLE_LEN)) }
-    ensures err { IfErr result (λ e. (e ≡ Refused.Capacity) × IsTooMuch capacity) }
-{
-    let initial = entries_for(capacity)?;
-    if initial > MAX_TABLE_LEN {
-        return Err(Refused::Capacity);
-    }
-    Ok(initial)
 }
 
 /// The words, the logs and the count.

@@ -11,37 +11,24 @@ use Rattle.papaya_call.specs.declared.ask.At.TheVariants.{Root, Next, Aborted as
 use Rattle.papaya_call.specs.declared.call.Reply.{Reply}
 use Rattle.papaya_call.specs.declared.machine.Machine.{Machine}
 use Rattle.papaya_call.specs.Machine.{IsStanding, after, ask_of}
-use Rattle.papaya_call.specs.Says.{Agrees, HasShownNone, Inserts, IsSaidBy, Makes, Removes, Said, ShowsPairs, StandsOn, show}
-use Rattle.papaya_call.proofs.SaysChanges.{machine_aborted}
-use Rattle.papaya_call.proofs.SaysOnce.{machine_shown}
-use Rattle.papaya_call.proofs.SaysSaid.{machine_said}
-use Rattle.papaya_call.proofs.SaysWords.{machine_shows}
+use Rattle.papaya_rests.specs.Says.{Agrees, HasShownNone, Inserts, IsSaidBy, Makes, Removes, Said, ShowsPairs, StandsOn, show}
+use Rattle.papaya_rests.proofs.SaysChanges.{machine_aborted}
+use Rattle.papaya_rests.proofs.SaysOnce.{machine_shown}
+use Rattle.papaya_rests.proofs.SaysSaid.{machine_said}
+use Rattle.papaya_rests.proofs.Silent.{IsSilent, not_done, not_show, stood_before}
+use Rattle.papaya_rests.proofs.SaysWords.{machine_shows}
 use Rattle.papaya_map.specs.declared.computing.Computing.{Computing}
-use Rattle.papaya_map.specs.declared.event.Begun.{Begun}
-use Rattle.papaya_map.specs.declared.event.Event.{Event}
-use Rattle.papaya_map.specs.declared.writer.Writer.{Writer}
+use Rattle.papaya_book.specs.declared.rule.entry.Begun.{Begun}
+use Rattle.papaya_book.specs.declared.rule.entry.Event.{Event}
+use Rattle.papaya_change.specs.declared.writing.Writer.{Writer}
 use Rattle.papaya_map.specs.Computing.{Holds, IsComputing, IsComputingOn, IsWriters}
-use Rattle.papaya_map.specs.History.{history_of}
-use Rattle.papaya_map.specs.Logs.{Stored}
-use Rattle.papaya_map.specs.Showings.{HasNoNone, WasHeld}
-use Rattle.papaya_map.specs.Writing.{IsCause, IsUnsaid, IsWritingOn}
-use Rattle.papaya_map.proofs.Histories.{history_since}
-use Rattle.papaya_map.proofs.Refusals.{refused_for}
-use Rattle.papaya_map.proofs.Showings.{all_shown, held_wider}
-
--- the closure says nothing with the answer to this ask, and no pair is made
-abbrev pub IsSilent : Ask → Type 0
-IsSilent ShowNone = ⊥
-IsSilent (ShowPair n) = ⊥
-IsSilent MakePair = ⊥
-IsSilent (Done reply) = ⊥
-IsSilent (Load at) = Unit {0}
-IsSilent (Exchange at old new) = Unit {0}
-IsSilent (SameKey n) = Unit {0}
-IsSilent (SizeOf t) = Unit {0}
-IsSilent MakeKey = Unit {0}
-IsSilent (MakeTable slots limit) = Unit {0}
-IsSilent (AddToShard by) = Unit {0}
+use Rattle.papaya_lookup.specs.History.{history_of}
+use Rattle.papaya_book.specs.Logs.{Stored}
+use Rattle.papaya_change.specs.Showings.{HasNoNone, WasHeld}
+use Rattle.papaya_change.specs.Writing.{IsCause, IsUnsaid, IsWritingOn}
+use Rattle.papaya_lookup.proofs.Histories.{history_since}
+use Rattle.papaya_change.proofs.Refusals.{refused_for}
+use Rattle.papaya_change.proofs.Showings.{all_shown, held_wider}
 
 -- what any call asks that inserts is silent
 pub writers_silent : (ask : Ask) → IsWriters ask → IsSilent ask
@@ -72,25 +59,6 @@ task_after m (Size slots limit) = refl
 task_after m (Made_number n) = refl
 task_after m Ok_done = refl
 task_after m (Was_refused refused) = refl
-
-module _ (m : Machine) (answer : Answer) (silent : IsSilent (ask_of m)) where
-  pub not_done : (reply : Reply) → ask_of m ≡ Done reply → ⊥
-  not_done reply e = subst IsSilent e silent
-
-  not_show : (shown : Option ℕ) → ask_of m ≡ show shown → ⊥
-  not_show None e = subst IsSilent e silent
-  not_show (Some n) e = subst IsSilent e silent
-
-  -- nothing was said
-  unsaid_now : (said : Said) → IsSaidBy m answer said → ⊥
-  unsaid_now (Agrees n agrees) h = subst IsSilent h.0 silent
-  unsaid_now (Inserts shown) h = not_show shown h.0
-  unsaid_now (Makes shown n) h = subst IsSilent h.1 silent
-  unsaid_now (Removes n) h = subst IsSilent h.0 silent
-
-  -- what the machine stands on, it stood on before
-  pub stood_before : IsStanding m → ShowsPairs m.state → (said : Said) → StandsOn (after m answer) said → StandsOn m said
-  stood_before standing words said stands = ⊎_elim (λ h. h) (λ h. absurd (unsaid_now said h)) (machine_said m answer said standing words stands)
 
 module _ {K V S H T : Type 0} (key : K) (made : List (Stored K V)) (said : List (Option (Stored K V) × Operation V T)) (x : Computing K V S T H) where
   -- what is at hand stays so, whatever else the writer does, while it keeps the value

@@ -12,24 +12,24 @@ use Rattle.papaya_call.specs.declared.call.Reply.{Reply}
 use Rattle.papaya_call.specs.declared.call.Reply.TheVariants.{Aborted, Refused as Reply_refused}
 use Rattle.papaya_call.specs.declared.machine.Machine.{Machine}
 use Rattle.papaya_call.specs.Machine.{IsStanding, after, ask_of}
-use Rattle.papaya_call.specs.Says.{Agrees, HasShownNone, Inserts, IsFilledBy, IsReplacedBy, IsSaidBy, Makes, Removes, Said, ShowsPairs, StandsOn, show}
-use Rattle.papaya_call.proofs.RestsHeld.{machine_refused_pair}
-use Rattle.papaya_call.proofs.SaysChanges.{machine_aborted}
-use Rattle.papaya_call.proofs.SaysOnce.{machine_shown}
-use Rattle.papaya_call.proofs.SaysOver.{machine_paired}
-use Rattle.papaya_call.proofs.SaysSaid.{machine_said}
-use Rattle.papaya_call.proofs.SaysWords.{machine_shows}
+use Rattle.papaya_rests.specs.Says.{Agrees, HasShownNone, Inserts, IsFilledBy, IsReplacedBy, IsSaidBy, Makes, Removes, Said, ShowsPairs, StandsOn, show}
+use Rattle.papaya_rests.proofs.RestsHeld.{machine_refused_pair}
+use Rattle.papaya_rests.proofs.SaysChanges.{machine_aborted}
+use Rattle.papaya_rests.proofs.SaysOnce.{machine_shown}
+use Rattle.papaya_rests.proofs.SaysOver.{machine_paired}
+use Rattle.papaya_rests.proofs.SaysSaid.{machine_said}
+use Rattle.papaya_rests.proofs.SaysWords.{machine_shows}
 use Rattle.papaya_map.specs.declared.computing.Computing.{Computing}
-use Rattle.papaya_map.specs.declared.event.Begun.{Begun}
-use Rattle.papaya_map.specs.declared.event.Event.{Event}
-use Rattle.papaya_map.specs.declared.writer.Writer.{Writer}
+use Rattle.papaya_book.specs.declared.rule.entry.Begun.{Begun}
+use Rattle.papaya_book.specs.declared.rule.entry.Event.{Event}
+use Rattle.papaya_change.specs.declared.writing.Writer.{Writer}
 use Rattle.papaya_map.specs.Computing.{Holds, IsComputing, IsComputingOn, IsMadeOf}
-use Rattle.papaya_map.specs.History.{key_of}
-use Rattle.papaya_map.specs.Logs.{Member, Stored, pair_named}
-use Rattle.papaya_map.specs.Rule.{IsPlaced}
-use Rattle.papaya_map.specs.Showings.{HasNoNone}
-use Rattle.papaya_map.specs.Writing.{IsCause, IsUnlogged, IsUnsaid, IsWritingOn}
-use Rattle.papaya_map.proofs.Refusals.{refused_for, unlogged_unsaid}
+use Rattle.papaya_lookup.specs.History.{key_of}
+use Rattle.papaya_book.specs.Logs.{Member, Stored, pair_named}
+use Rattle.papaya_book.specs.Rule.{IsPlaced}
+use Rattle.papaya_change.specs.Showings.{HasNoNone}
+use Rattle.papaya_change.specs.Writing.{IsCause, IsUnlogged, IsUnsaid, IsWritingOn}
+use Rattle.papaya_change.proofs.Refusals.{refused_for, unlogged_unsaid}
 
 -- a pair that was made stays so, when another is made
 made_still : {K V T : Type 0} (key : K) (made : List (Stored K V)) (said : List (Option (Stored K V) × Operation V T)) (q : Stored K V) (held : Option (Stored K V)) (n : ℕ) (p : Stored K V) → IsMadeOf key made said held n p → IsMadeOf key (q ∷ made) said held n p

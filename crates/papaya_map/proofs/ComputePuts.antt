@@ -10,18 +10,18 @@ use Rattle.papaya_call.specs.declared.ask.StepKind.{StepKind}
 use Rattle.papaya_call.specs.declared.ask.StepKind.TheVariants as kinds
 use Rattle.papaya_call.specs.declared.machine.Machine.{Machine}
 use Rattle.papaya_call.specs.Machine.{IsStanding, ask_of, kind_of_ask}
-use Rattle.papaya_call.specs.Says.{Makes}
-use Rattle.papaya_call.specs.Told.{IsOneOf}
-use Rattle.papaya_call.proofs.SaysOver.{machine_exchanges}
+use Rattle.papaya_rests.specs.Says.{Makes}
+use Rattle.papaya_rests.specs.Told.{IsOneOf}
+use Rattle.papaya_rests.proofs.SaysOver.{machine_exchanges}
 use Rattle.papaya_map.specs.declared.computing.Computing.{Computing}
-use Rattle.papaya_map.specs.declared.event.Begun.{Begun}
-use Rattle.papaya_map.specs.declared.event.Event.{Event}
+use Rattle.papaya_book.specs.declared.rule.entry.Begun.{Begun}
+use Rattle.papaya_book.specs.declared.rule.entry.Event.{Event}
 use Rattle.papaya_map.specs.Computing.{IsComputing, pair_for}
-use Rattle.papaya_map.specs.Hashes.{hash_of}
-use Rattle.papaya_map.specs.Plays.{IsPutting}
-use Rattle.papaya_map.proofs.Readings.{hashed_with}
-use Rattle.papaya_map.proofs.Writing.{own_query}
-use Rattle.papaya_map.specs.Logs.{Stored}
+use Rattle.papaya_book.specs.Hashes.{hash_of}
+use Rattle.papaya_book.specs.Plays.{IsPutting}
+use Rattle.papaya_lookup.proofs.Readings.{hashed_with}
+use Rattle.papaya_change.proofs.Written.{own_query}
+use Rattle.papaya_book.specs.Logs.{Stored}
 
 module _ {K V S T H F : Type 0} (eq : K → K → Bool) (input : K → List (List ℕ)) (build : S → H) (write : H → List ℕ → H) (finish : H → ℕ) (classes : IsEquivalence eq) (respects : (x y : K) → eq x y ≡ true → input x ≡ input y) (b : Begun K V S) (name : Book) (operates : F → Option (Stored K V) → Operation V T → F → Type 0) (key : K) (first : F) (begun log : List (Event K V S)) (x : Computing K V S T H) (f : F) (r : IsComputing eq (hash_of input build write finish) b name operates key first begun log x f)
     (standing : IsStanding x.writer.call.machine) (t i old new : ℕ) (asks : ask_of x.writer.call.machine ≡ Exchange (Slot t i) old new) where

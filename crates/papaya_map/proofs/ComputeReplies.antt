@@ -14,27 +14,29 @@ use Rattle.papaya_call.specs.declared.call.Task.{Task}
 use Rattle.papaya_call.specs.declared.call.Task.TheVariants.{Compute}
 use Rattle.papaya_call.specs.declared.machine.Machine.{Machine}
 use Rattle.papaya_call.specs.Machine.{ask_of, started}
-use Rattle.papaya_call.specs.Rests.{IsReply, change_of_reply}
-use Rattle.papaya_call.specs.Says.{Makes, Removes, Said, StandsOn, said_in, said_of_compute}
-use Rattle.papaya_call.proofs.RestsHeld.{ended_in, machine_replies}
-use Rattle.papaya_seq.specs.declared.compute.Compute.{Compute as Computed}
-use Rattle.papaya_seq.specs.declared.compute.Compute.TheVariants as computed
+use Rattle.papaya_rests.specs.Rests.{IsReply, change_of_reply}
+use Rattle.papaya_rests.specs.Says.{Makes, Removes, Said, StandsOn, said_in, said_of_compute}
+use Rattle.papaya_rests.proofs.RestsHeld.{ended_in, machine_replies}
+use Rattle.papaya_keys.specs.declared.compute.Compute.{Compute as Computed}
+use Rattle.papaya_keys.specs.declared.compute.Compute.TheVariants as computed
 use Rattle.papaya_map.specs.declared.computing.Computing.{Computing}
-use Rattle.papaya_map.specs.declared.event.Begun.{Begun}
-use Rattle.papaya_map.specs.declared.event.Event.{Event}
-use Rattle.papaya_map.specs.Changing.{HasChanged, IsChangeOf, hands_with}
-use Rattle.papaya_map.specs.Computing.{Holds, IsComputeBy, IsComputing, IsOperated}
-use Rattle.papaya_map.specs.Hashes.{hash_of}
-use Rattle.papaya_map.specs.History.{Change, changes_of, history_of, key_of}
-use Rattle.papaya_map.specs.Logs.{Member, Stored, exchanges_of, pair_named}
-use Rattle.papaya_map.specs.Rule.{IsLawfulLog, IsPlaced}
-use Rattle.papaya_map.specs.Showings.{AreOf, WasHeld, WasLast}
-use Rattle.papaya_map.proofs.Changing.{Coded, Wide}
-use Rattle.papaya_map.proofs.Histories.{changes-append, history_since}
-use Rattle.papaya_map.proofs.Logs.{prefix_trans}
-use Rattle.papaya_map.proofs.Showings.{all_shown, held_wider, shown_each}
-use Rattle.papaya_map.proofs.Writing.{own_query}
-use Rattle.papaya_map.proofs.WritingSteps.{begins as begins_writing}
+use Rattle.papaya_book.specs.declared.rule.entry.Begun.{Begun}
+use Rattle.papaya_book.specs.declared.rule.entry.Event.{Event}
+use Rattle.papaya_change.specs.Changing.{HasChanged, hands_with}
+use Rattle.papaya_change.specs.Changes.{IsChangeOf}
+use Rattle.papaya_map.specs.Computing.{Holds, IsComputing}
+use Rattle.papaya_map.specs.ComputeAnswers.{IsComputeBy, IsOperated}
+use Rattle.papaya_book.specs.Hashes.{hash_of}
+use Rattle.papaya_lookup.specs.History.{Change, changes_of, history_of, key_of}
+use Rattle.papaya_book.specs.Logs.{Member, Stored, exchanges_of, pair_named}
+use Rattle.papaya_book.specs.Rule.{IsLawfulLog, IsPlaced}
+use Rattle.papaya_change.specs.Showings.{AreOf, WasHeld, WasLast}
+use Rattle.papaya_change.proofs.Changing.{Coded, Wide}
+use Rattle.papaya_lookup.proofs.Histories.{changes-append, history_since}
+use Rattle.papaya_book.proofs.Logs.{prefix_trans}
+use Rattle.papaya_change.proofs.Showings.{all_shown, held_wider, shown_each}
+use Rattle.papaya_change.proofs.Written.{own_query}
+use Rattle.papaya_change.proofs.WritingSteps.{begins as begins_writing}
 
 -- no compute replies this
 abbrev pub IsNoCompute : Reply → Type 0

@@ -13,37 +13,37 @@ use Rattle.papaya_call.specs.declared.ask.OpKind.TheVariants as kinds
 use Rattle.papaya_call.specs.declared.call.Reply.{Reply}
 use Rattle.papaya_call.specs.declared.machine.Machine.{Machine}
 use Rattle.papaya_call.specs.Machine.{IsStanding, after, ask_of}
-use Rattle.papaya_call.specs.Says.{Agrees, HasShownNone, Inserts, IsSaidBy, Makes, Removes, Said, StandsOn, show}
-use Rattle.papaya_call.specs.Law.Code.{Coding}
-use Rattle.papaya_call.specs.Law.Exchange.{Setting}
-use Rattle.papaya_call.specs.Rests.{WasAtMoment}
-use Rattle.papaya_call.specs.Told.{Hands}
-use Rattle.papaya_call.proofs.RestsHeld as held
-use Rattle.papaya_call.proofs.RestsHeld.{machine_offered, machine_offers, machine_unpaired}
-use Rattle.papaya_call.proofs.RestsOpened.{machine_opened}
-use Rattle.papaya_call.proofs.RestsReplyRefused.{machine_refused}
-use Rattle.papaya_call.proofs.SaysChanges.{machine_aborted}
-use Rattle.papaya_call.proofs.SaysOnce.{machine_shown}
-use Rattle.papaya_call.proofs.SaysOver.{machine_chosen}
-use Rattle.papaya_call.proofs.SaysSaid.{machine_said}
-use Rattle.papaya_call.proofs.SaysWords.{machine_shows}
+use Rattle.papaya_rests.specs.Says.{Agrees, HasShownNone, Inserts, IsSaidBy, Makes, Removes, Said, StandsOn, show}
+use Rattle.papaya_law.specs.Code.{Coding}
+use Rattle.papaya_law.specs.Exchange.{Setting}
+use Rattle.papaya_rests.specs.Rests.{WasAtMoment}
+use Rattle.papaya_rests.specs.Told.{Hands}
+use Rattle.papaya_rests.proofs.RestsHeld as held
+use Rattle.papaya_rests.proofs.RestsHeld.{machine_offered, machine_offers, machine_unpaired}
+use Rattle.papaya_rests.proofs.RestsOpened.{machine_opened}
+use Rattle.papaya_rests.proofs.RestsReplyRefused.{machine_refused}
+use Rattle.papaya_rests.proofs.SaysChanges.{machine_aborted}
+use Rattle.papaya_rests.proofs.SaysOnce.{machine_shown}
+use Rattle.papaya_rests.proofs.SaysOver.{machine_chosen}
+use Rattle.papaya_rests.proofs.SaysSaid.{machine_said}
+use Rattle.papaya_rests.proofs.SaysWords.{machine_shows}
 use Rattle.papaya_map.specs.declared.computing.Computing.{Computing}
-use Rattle.papaya_map.specs.declared.event.Begun.{Begun}
-use Rattle.papaya_map.specs.declared.event.Event.{Event}
-use Rattle.papaya_map.specs.declared.writer.Writer.{Writer}
-use Rattle.papaya_map.specs.Changing.{IsCalling, hands_with}
+use Rattle.papaya_book.specs.declared.rule.entry.Begun.{Begun}
+use Rattle.papaya_book.specs.declared.rule.entry.Event.{Event}
+use Rattle.papaya_change.specs.declared.writing.Writer.{Writer}
+use Rattle.papaya_change.specs.Changing.{IsCalling, hands_with}
 use Rattle.papaya_map.specs.Computing.{Holds, IsComputing, IsMadeOf, aborted_after, chosen_after, keeping, kind_of, value_after}
-use Rattle.papaya_map.specs.Hashes.{hash_of}
-use Rattle.papaya_map.specs.History.{history_of}
-use Rattle.papaya_map.specs.Logs.{Stored, exchanges_of, pair_named}
-use Rattle.papaya_map.specs.Rule.{IsPlaced}
-use Rattle.papaya_map.specs.Showings.{HasNoNone, IsNoneOnce, WasHeld}
-use Rattle.papaya_map.specs.Writing.{IsWriting}
-use Rattle.papaya_map.proofs.Changing.{Coded, Wide, quiet}
+use Rattle.papaya_book.specs.Hashes.{hash_of}
+use Rattle.papaya_lookup.specs.History.{history_of}
+use Rattle.papaya_book.specs.Logs.{Stored, exchanges_of, pair_named}
+use Rattle.papaya_book.specs.Rule.{IsPlaced}
+use Rattle.papaya_change.specs.Showings.{HasNoNone, IsNoneOnce, WasHeld}
+use Rattle.papaya_change.specs.Writing.{IsWriting}
+use Rattle.papaya_change.proofs.Changing.{Coded, Wide, quiet}
 use Rattle.papaya_map.specs.Computing.{IsComputingOn}
-use Rattle.papaya_map.proofs.Readings.{IsQuery, hashed_with}
-use Rattle.papaya_map.proofs.Showings.{own_held_then}
-use Rattle.papaya_map.proofs.Writing.{own_query}
+use Rattle.papaya_lookup.proofs.Readings.{IsQuery, hashed_with}
+use Rattle.papaya_change.proofs.Showings.{own_held_then}
+use Rattle.papaya_change.proofs.Written.{own_query}
 
 -- the number of what is shown
 abbrev pub number_of : {K V : Type 0} → Option (Stored K V) → Option ℕ

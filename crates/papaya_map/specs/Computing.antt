@@ -1,9 +1,8 @@
 -- What a compute on the shared map holds and rests on, and what it answers.
-use Rattle.std.specs.Prelude.{◌≡◌, ◌⊎◌, ℕ, Bool, Option, None, Some, Result, Ok, Err, List}
+use Rattle.std.specs.Prelude.{◌≡◌, ◌⊎◌, ℕ, Bool, Option, None, Some, Result, List}
 use mathlib.Core.List.{IsPrefix}
 use Rattle.logbook.specs.Pages.{Book}
 use Rattle.papaya_words.specs.declared.probe.Refused.{Refused}
-use Rattle.papaya_words.specs.declared.probe.Refused.TheVariants.{RemoveNothing}
 use Rattle.papaya_call.specs.declared.answers.Operation.{Operation}
 use Rattle.papaya_call.specs.declared.answers.Operation.TheVariants as operation
 use Rattle.papaya_call.specs.declared.ask.Answer.{Answer}
@@ -19,45 +18,19 @@ use Rattle.papaya_call.specs.declared.call.Reply.{Reply}
 use Rattle.papaya_call.specs.declared.call.Reply.TheVariants as reply
 use Rattle.papaya_call.specs.declared.call.Task.TheVariants.{Compute}
 use Rattle.papaya_call.specs.Machine.{IsFit, after, ask_of}
-use Rattle.papaya_call.specs.Says.{Agrees, HasShownNone, Inserts, Makes, Removes, Said, ShowsPairs, StandsOn}
-use Rattle.papaya_call.specs.Told.{IsOneOf}
-use Rattle.papaya_seq.specs.declared.compute.Compute.{Compute as Computed}
-use Rattle.papaya_seq.specs.declared.compute.Compute.TheVariants.{Inserted, Updated, Removed, Aborted}
+use Rattle.papaya_rests.specs.Says.{Agrees, HasShownNone, Inserts, Makes, Removes, Said, ShowsPairs, StandsOn}
+use Rattle.papaya_rests.specs.Told.{IsOneOf}
+use Rattle.papaya_keys.specs.declared.compute.Compute.{Compute as Computed}
+use Rattle.papaya_keys.specs.declared.compute.Compute.TheVariants.{Aborted}
 use Rattle.papaya_map.specs.declared.computing.Computing.{Computing}
-use Rattle.papaya_map.specs.declared.event.Begun.{Begun}
-use Rattle.papaya_map.specs.declared.event.Event.{Event}
-use Rattle.papaya_map.specs.Changing.{IsChangeOf}
-use Rattle.papaya_map.specs.History.{Change, history_of, key_of}
-use Rattle.papaya_map.specs.Logs.{Member, Stored, pair_named}
-use Rattle.papaya_map.specs.Rule.{IsPlaced}
-use Rattle.papaya_map.specs.Showings.{AllShown, AreOf, HasNoNone, HasSaid, IsNoneOnce, IsSamePair, WasHeld, WasLast}
-use Rattle.papaya_map.specs.Writing.{IsCause, IsWriting}
-
--- A compute is refused as an insertion is, or since its closure last would remove where there is nothing.
-abbrev pub IsRefusedBy : {K V T : Type 0} → List (Option (Stored K V) × Operation V T) → Refused → Type 0
-IsRefusedBy said refused = IsCause refused ⊎ ((refused ≡ RemoveNothing) × WasLast None operation.Remove said)
-
-module _ {K V T : Type 0} (eq : K → K → Bool) (key : K) (old new : List (Change K (Stored K V))) where
-  -- the closure was shown this very pair, and answered this
-  abbrev pub WasOperated : Stored K V → Operation V T → List (Option (Stored K V) × Operation V T) → Type 0
-  WasOperated p done said = (shown : Stored K V) × IsSamePair shown p × Member (Some shown, done) said
-
-  -- What a compute answers, by what its closure was shown and answered. A new pair has the key that was handed in, and the value of the closure's answer to just what it takes the place of.
-  abbrev pub IsOperated : List (Option (Stored K V) × Operation V T) → Result (Computed K V T) Refused → Type 0
-  IsOperated said (Ok (Inserted k v)) = (q : Stored K V) × IsChangeOf (eq key) old new None (Some q) × (key_of q ≡ key) × Member (None, operation.Insert q.value.value) said × AreOf (k, v) q
-  IsOperated said (Ok (Updated before after)) = (p : Stored K V) × (q : Stored K V) × IsChangeOf (eq key) old new (Some p) (Some q) × (key_of q ≡ key) × WasOperated p (operation.Insert q.value.value) said × AreOf before p × AreOf after q
-  IsOperated said (Ok (Removed k v)) = (p : Stored K V) × IsChangeOf (eq key) old new (Some p) None × WasOperated p operation.Remove said × AreOf (k, v) p
-  IsOperated said (Ok (Aborted t)) = (held : Option (Stored K V)) × WasLast held (operation.Abort t) said
-  IsOperated said (Err refused) = IsRefusedBy said refused
-
-  -- A compute whose closure was `first`. What it was shown was the map's between the two histories, and at most once that there is none.
-  pub record IsComputeBy {F : Type 0} (operates : F → Option (Stored K V) → Operation V T → F → Type 0) (first : F) (answer : Result (Computed K V T) Refused) : Type 0 where
-    pub said : List (Option (Stored K V) × Operation V T)
-    pub left : F
-    pub has_said : HasSaid operates first said left
-    pub held : AllShown (WasHeld eq (eq key) old new) said
-    pub none_once : IsNoneOnce said
-    pub operated : IsOperated said answer
+use Rattle.papaya_book.specs.declared.rule.entry.Begun.{Begun}
+use Rattle.papaya_book.specs.declared.rule.entry.Event.{Event}
+use Rattle.papaya_lookup.specs.History.{history_of, key_of}
+use Rattle.papaya_book.specs.Logs.{Member, Stored, pair_named}
+use Rattle.papaya_book.specs.Rule.{IsPlaced}
+use Rattle.papaya_change.specs.Showings.{AllShown, HasNoNone, HasSaid, IsNoneOnce, WasHeld, WasLast}
+use Rattle.papaya_change.specs.Writing.{IsWriting}
+use Rattle.papaya_map.specs.ComputeAnswers.{IsRefusedBy, IsComputeBy}
 
 -- what the machine is told of an answer of the closure
 abbrev pub kind_of : {V T : Type 0} → Operation V T → OpKind

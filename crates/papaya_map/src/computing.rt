@@ -1,30 +1,29 @@
 //! Computes: their machine, answered by steps on the book and by a closure.
+ghost use Rattle.papaya_lookup.specs.Drivers.{past};
+ghost use Rattle.papaya_book.specs.Windows.{IsLawful, Sees};
+ghost use Rattle.papaya_map.specs.Computes.{CanCompute, Computes, Replies};
 ghost use Rattle.std.specs.Prelude.{◌≡◌, ◌⊎◌, ℕ, Bool, None, Some, Option, Ok};
-ghost use mathlib.Core.List.{IsPrefix};
 ghost use Rattle.papaya_call.specs.Machine.{IsFitAsk, IsStanding, ask_of, kind_of_ask};
 ghost use Rattle.papaya_call.specs.declared.ask.StepKind.TheVariants.{Claim, Replace};
 ghost use Rattle.papaya_call.specs.declared.call.Reply.TheVariants.{Inserted, Removed, Replaced};
 ghost use Rattle.papaya_call.specs.declared.ask.Ask.TheVariants.{Done, Exchange, MakePair, ShowNone, ShowPair};
 ghost use Rattle.papaya_call.specs.declared.ask.At.TheVariants.{Slot};
-ghost use Rattle.papaya_map.specs.Computing.{CanCompute, Computes, IsComputeBy, IsKept, IsWriters, Replies, chosen_after, pair_for};
-ghost use Rattle.papaya_map.specs.Hashes.{hash_of};
-ghost use Rattle.papaya_map.specs.History.{history_of};
-ghost use Rattle.papaya_map.specs.Parts.{begun_of};
-ghost use Rattle.papaya_map.specs.Rule.{IsLawfulLog};
-ghost use Rattle.papaya_map.specs.Showings.{Operates};
+ghost use Rattle.papaya_map.specs.Computing.{IsKept, IsWriters, chosen_after, pair_for};
+ghost use Rattle.papaya_map.specs.ComputeAnswers.{IsComputeBy};
+ghost use Rattle.papaya_change.specs.Showings.{Operates};
 
-use crate::book::Book;
-use crate::caller::Caller;
-use crate::count::Shard;
-use crate::event::Stored;
-use crate::reader::hash;
-use crate::removal::entry;
-use crate::trade::Sight;
-use crate::writer::Writer;
+use papaya_book::book::Book;
+use papaya_book::rule::entry::Stored;
+use papaya_book::window::Window;
 use papaya_call::answers::Operation;
 use papaya_call::ask::{Answer, Ask, At, OpKind, StepKind};
 use papaya_call::call::{Reply, Task};
-use papaya_seq::compute::Compute;
+use papaya_change::count::Shard;
+use papaya_change::removal::entry;
+use papaya_change::writing::Writer;
+use papaya_keys::compute::Compute;
+use papaya_lookup::driver::Driver;
+use papaya_lookup::lookup::hash;
 use papaya_words::probe::Refused;
 use std::alloc::Global;
 use std::hash::{BuildHasher, Hash};
@@ -34,7 +33,7 @@ use std::sync::Wait;
 /// would put in where there is none; the pair of which it was answered what is to become, and the one
 /// that is to take its place; and what its closure ended it with.
 #[derive(Drop)]
-pub(crate) struct Computing<'a, K: Hash + Eq, V, S: BuildHasher, T> {
+pub struct Computing<'a, K: Hash + Eq, V, S: BuildHasher, T> {
     writer: Writer<'a, K, V, S>,
     shown: Option<Stored<K, V>>,
     fill: Option<Stored<K, V>>,
@@ -102,49 +101,40 @@ impl<'a, K: Hash + Eq + Drop, V: Drop, S: BuildHasher, T: Drop> Computing<'a, K,
     fn show_none<F: FnMut(Option<(&'a K, &'a V)>) -> Operation<V, T>>(
         &mut self,
         compute: &mut F,
-        book: &'a Book<K, V, S>,
-        pass: &mut Sight<K, V, S>,
+        window: &Window<'a, K, V, S>,
     ) -> Answer
-        requires book { pass.old.book ≡ book.now.begun.book }
         requires callable { F.IsAlwaysCallable compute.old }
-        requires can { CanCompute K.eq (hash_of K.hash_input S.build_hasher S.Hasher.write S.Hasher.finish) (begun_of book.now.parts) book.now.begun.book (Operates F.FnMut) pass.old.log self.old compute.old }
+        requires can { CanCompute (Operates F.FnMut) window.now self.old compute.old }
         requires standing { IsStanding self.old.writer.call.machine }
         requires asks { ask_of self.old.writer.call.machine ≡ ShowNone }
-        ensures book { pass.new.book ≡ pass.old.book }
-        ensures seen { IsPrefix pass.old.log pass.new.log }
         ensures machine { self.new.writer.call.machine ≡ self.old.writer.call.machine }
         ensures callable { F.IsAlwaysCallable compute.new }
-        ensures computes { Computes K.eq (hash_of K.hash_input S.build_hasher S.Hasher.write S.Hasher.finish) (begun_of book.now.parts) book.now.begun.book (Operates F.FnMut) pass.old.log self.old compute.old pass.new.log self.new compute.new (Some result) }
+        ensures computes { Computes (Operates F.FnMut) window.now self.old compute.old window.now self.new compute.new (Some result) }
     {
-        let _ = &pass;
-        let operation = compute(no_entry(book));
+        let operation = compute(no_entry(window.book));
         self.shown = None;
         self.keep(operation)
     }
 
-    /// Shows the closure the pair last told of.
+    /// Calls the closure with the pair last loaded.
     fn show_pair<F: FnMut(Option<(&'a K, &'a V)>) -> Operation<V, T>>(
         &mut self,
         compute: &mut F,
-        book: &'a Book<K, V, S>,
-        pass: &mut Sight<K, V, S>,
+        window: &Window<'a, K, V, S>,
     ) -> Answer
-        requires book { pass.old.book ≡ book.now.begun.book }
         requires callable { F.IsAlwaysCallable compute.old }
-        requires can { CanCompute K.eq (hash_of K.hash_input S.build_hasher S.Hasher.write S.Hasher.finish) (begun_of book.now.parts) book.now.begun.book (Operates F.FnMut) pass.old.log self.old compute.old }
+        requires can { CanCompute (Operates F.FnMut) window.now self.old compute.old }
         requires standing { IsStanding self.old.writer.call.machine }
         requires asks { (n : ℕ) × (ask_of self.old.writer.call.machine ≡ ShowPair n) }
-        ensures book { pass.new.book ≡ pass.old.book }
-        ensures seen { IsPrefix pass.old.log pass.new.log }
         ensures machine { self.new.writer.call.machine ≡ self.old.writer.call.machine }
         ensures callable { F.IsAlwaysCallable compute.new }
-        ensures computes { Computes K.eq (hash_of K.hash_input S.build_hasher S.Hasher.write S.Hasher.finish) (begun_of book.now.parts) book.now.begun.book (Operates F.FnMut) pass.old.log self.old compute.old pass.new.log self.new compute.new (Some result) }
+        ensures computes { Computes (Operates F.FnMut) window.now self.old compute.old window.now self.new compute.new (Some result) }
     {
-        let _ = &pass;
         let Some(last) = &self.writer.call.last else {
             unreachable!()
         };
         let shown = last.again();
+        let book = window.book;
         let operation = compute(Some(entry(book, &shown)));
         self.chosen = chosen_after(&shown, &operation, self.chosen.take());
         self.shown = Some(shown);
@@ -156,21 +146,16 @@ impl<'a, K: Hash + Eq + Drop, V: Drop, S: BuildHasher, T: Drop> Computing<'a, K,
         &mut self,
         rt: &R,
         compute: &F,
-        book: &'a Book<K, V, S>,
-        pass: &mut Sight<K, V, S>,
+        window: &Window<'a, K, V, S>,
     ) -> Answer
-        requires book { pass.old.book ≡ book.now.begun.book }
-        requires can { CanCompute K.eq (hash_of K.hash_input S.build_hasher S.Hasher.write S.Hasher.finish) (begun_of book.now.parts) book.now.begun.book (Operates F.FnMut) pass.old.log self.old compute.now }
+        requires can { CanCompute (Operates F.FnMut) window.now self.old compute.now }
         requires standing { IsStanding self.old.writer.call.machine }
         requires asks { ask_of self.old.writer.call.machine ≡ MakePair }
-        ensures book { pass.new.book ≡ pass.old.book }
-        ensures seen { IsPrefix pass.old.log pass.new.log }
         ensures machine { self.new.writer.call.machine ≡ self.old.writer.call.machine }
-        ensures computes { Computes K.eq (hash_of K.hash_input S.build_hasher S.Hasher.write S.Hasher.finish) (begun_of book.now.parts) book.now.begun.book (Operates F.FnMut) pass.old.log self.old compute.now pass.new.log self.new compute.now (Some result) }
+        ensures computes { Computes (Operates F.FnMut) window.now self.old compute.now window.now self.new compute.now (Some result) }
     {
         let _ = compute;
-        let _ = &pass;
-        let pair = match self.writer.log_pair(rt, book, pass) {
+        let pair = match self.writer.log_pair(rt, window) {
             Ok(pair) => pair,
             Err(answer) => return answer,
         };
@@ -191,25 +176,22 @@ impl<'a, K: Hash + Eq + Drop, V: Drop, S: BuildHasher, T: Drop> Computing<'a, K,
         place: usize,
         words: (u64, u64),
         compute: &F,
-        book: &'a Book<K, V, S>,
-        pass: &mut Sight<K, V, S>,
+        window: &mut Window<'a, K, V, S>,
     ) -> Answer
-        requires book { pass.old.book ≡ book.now.begun.book }
-        requires can { CanCompute K.eq (hash_of K.hash_input S.build_hasher S.Hasher.write S.Hasher.finish) (begun_of book.now.parts) book.now.begun.book (Operates F.FnMut) pass.old.log self.old compute.now }
+        requires can { CanCompute (Operates F.FnMut) window.old self.old compute.now }
         requires standing { IsStanding self.old.writer.call.machine }
         requires asks { ask_of self.old.writer.call.machine ≡ Exchange (Slot number place) words.0 words.1 }
         requires kind { (kind_of_ask self.old.writer.call.machine ≡ Some Claim) ⊎ (kind_of_ask self.old.writer.call.machine ≡ Some Replace) }
-        ensures book { pass.new.book ≡ pass.old.book }
-        ensures seen { IsPrefix pass.old.log pass.new.log }
+        ensures sees { Sees window.old window.new }
         ensures machine { self.new.writer.call.machine ≡ self.old.writer.call.machine }
-        ensures computes { Computes K.eq (hash_of K.hash_input S.build_hasher S.Hasher.write S.Hasher.finish) (begun_of book.now.parts) book.now.begun.book (Operates F.FnMut) pass.old.log self.old compute.now pass.new.log self.new compute.now (Some result) }
+        ensures computes { Computes (Operates F.FnMut) window.old self.old compute.now window.new self.new compute.now (Some result) }
     {
         let _ = compute;
         let kind = self.writer.call.machine.kind();
         let Some(pair) = pair_for(kind, &self.fill, &self.made) else {
             unreachable!()
         };
-        self.writer.put(number, place, words, &pair, book, pass)
+        self.writer.put(number, place, words, &pair, window)
     }
 
     /// Tries an exchange of a slot.
@@ -219,21 +201,18 @@ impl<'a, K: Hash + Eq + Drop, V: Drop, S: BuildHasher, T: Drop> Computing<'a, K,
         place: usize,
         words: (u64, u64),
         compute: &F,
-        book: &'a Book<K, V, S>,
-        pass: &mut Sight<K, V, S>,
+        window: &mut Window<'a, K, V, S>,
     ) -> Answer
-        requires book { pass.old.book ≡ book.now.begun.book }
-        requires can { CanCompute K.eq (hash_of K.hash_input S.build_hasher S.Hasher.write S.Hasher.finish) (begun_of book.now.parts) book.now.begun.book (Operates F.FnMut) pass.old.log self.old compute.now }
+        requires can { CanCompute (Operates F.FnMut) window.old self.old compute.now }
         requires standing { IsStanding self.old.writer.call.machine }
         requires asks { ask_of self.old.writer.call.machine ≡ Exchange (Slot number place) words.0 words.1 }
-        ensures book { pass.new.book ≡ pass.old.book }
-        ensures seen { IsPrefix pass.old.log pass.new.log }
+        ensures sees { Sees window.old window.new }
         ensures machine { self.new.writer.call.machine ≡ self.old.writer.call.machine }
-        ensures computes { Computes K.eq (hash_of K.hash_input S.build_hasher S.Hasher.write S.Hasher.finish) (begun_of book.now.parts) book.now.begun.book (Operates F.FnMut) pass.old.log self.old compute.now pass.new.log self.new compute.now (Some result) }
+        ensures computes { Computes (Operates F.FnMut) window.old self.old compute.now window.new self.new compute.now (Some result) }
     {
         match self.writer.call.machine.kind() {
-            Some(StepKind::Bury) => self.writer.bury(number, place, words, book, pass),
-            _ => self.put(number, place, words, compute, book, pass),
+            Some(StepKind::Bury) => self.writer.bury(number, place, words, window),
+            _ => self.put(number, place, words, compute, window),
         }
     }
 
@@ -244,29 +223,26 @@ impl<'a, K: Hash + Eq + Drop, V: Drop, S: BuildHasher, T: Drop> Computing<'a, K,
         alloc: Global,
         ask: Ask,
         compute: &F,
-        book: &'a Book<K, V, S>,
-        pass: &mut Sight<K, V, S>,
+        window: &mut Window<'a, K, V, S>,
     ) -> Answer
-        requires book { pass.old.book ≡ book.now.begun.book }
-        requires can { CanCompute K.eq (hash_of K.hash_input S.build_hasher S.Hasher.write S.Hasher.finish) (begun_of book.now.parts) book.now.begun.book (Operates F.FnMut) pass.old.log self.old compute.now }
+        requires can { CanCompute (Operates F.FnMut) window.old self.old compute.now }
         requires standing { IsStanding self.old.writer.call.machine }
         requires asks { (ask_of self.old.writer.call.machine ≡ ask) × IsWriters ask }
         requires fit { IsFitAsk ask }
-        ensures book { pass.new.book ≡ pass.old.book }
-        ensures seen { IsPrefix pass.old.log pass.new.log }
+        ensures sees { Sees window.old window.new }
         ensures machine { self.new.writer.call.machine ≡ self.old.writer.call.machine }
-        ensures computes { Computes K.eq (hash_of K.hash_input S.build_hasher S.Hasher.write S.Hasher.finish) (begun_of book.now.parts) book.now.begun.book (Operates F.FnMut) pass.old.log self.old compute.now pass.new.log self.new compute.now (Some result) }
+        ensures computes { Computes (Operates F.FnMut) window.old self.old compute.now window.new self.new compute.now (Some result) }
     {
         let _ = compute;
         match ask {
-            Ask::Load(at) => self.writer.load(at, book, pass),
-            Ask::SizeOf(_) => self.writer.size(book, pass),
-            Ask::SameKey(_) => self.writer.same(book, pass),
-            Ask::MakeKey => self.writer.make_key(rt, book, pass),
+            Ask::Load(at) => self.writer.load(at, window),
+            Ask::SizeOf(_) => self.writer.size(window),
+            Ask::SameKey(_) => self.writer.same(window),
+            Ask::MakeKey => self.writer.make_key(rt, window),
             Ask::MakeTable { len, limit } => {
-                self.writer.make_table(rt, alloc, len, limit, book, pass)
+                self.writer.make_table(rt, alloc, len, limit, window)
             }
-            Ask::Exchange(At::Root, _, _) => self.writer.open(book, pass),
+            Ask::Exchange(At::Root, _, _) => self.writer.open(window),
             _ => unreachable!(),
         }
     }
@@ -278,33 +254,30 @@ impl<'a, K: Hash + Eq + Drop, V: Drop, S: BuildHasher, T: Drop> Computing<'a, K,
         alloc: Global,
         shard: &Shard<'_>,
         compute: &mut F,
-        book: &'a Book<K, V, S>,
-        pass: &mut Sight<K, V, S>,
+        window: &mut Window<'a, K, V, S>,
     ) -> Option<Answer>
-        requires book { pass.old.book ≡ book.now.begun.book }
         requires callable { F.IsAlwaysCallable compute.old }
-        requires can { CanCompute K.eq (hash_of K.hash_input S.build_hasher S.Hasher.write S.Hasher.finish) (begun_of book.now.parts) book.now.begun.book (Operates F.FnMut) pass.old.log self.old compute.old }
+        requires can { CanCompute (Operates F.FnMut) window.old self.old compute.old }
         requires standing { IsStanding self.old.writer.call.machine }
-        ensures book { pass.new.book ≡ pass.old.book }
-        ensures seen { IsPrefix pass.old.log pass.new.log }
+        ensures sees { Sees window.old window.new }
         ensures machine { self.new.writer.call.machine ≡ self.old.writer.call.machine }
         ensures callable { F.IsAlwaysCallable compute.new }
-        ensures computes { Computes K.eq (hash_of K.hash_input S.build_hasher S.Hasher.write S.Hasher.finish) (begun_of book.now.parts) book.now.begun.book (Operates F.FnMut) pass.old.log self.old compute.old pass.new.log self.new compute.new result }
+        ensures computes { Computes (Operates F.FnMut) window.old self.old compute.old window.new self.new compute.new result }
     {
         let ask = self.writer.call.machine.ask();
         match ask {
-            Ask::ShowNone => Some(self.show_none(compute, book, pass)),
-            Ask::ShowPair(_) => Some(self.show_pair(compute, book, pass)),
-            Ask::MakePair => Some(self.make_pair(rt, compute, book, pass)),
+            Ask::ShowNone => Some(self.show_none(compute, window)),
+            Ask::ShowPair(_) => Some(self.show_pair(compute, window)),
+            Ask::MakePair => Some(self.make_pair(rt, compute, window)),
             Ask::Exchange(At::Slot(number, place), old, new) => {
-                Some(self.exchange(number, place, (old, new), compute, book, pass))
+                Some(self.exchange(number, place, (old, new), compute, window))
             }
             Ask::AddToShard(by) => {
                 shard.add(by);
                 Some(Answer::Ok)
             }
             Ask::Done(_) => None,
-            _ => Some(self.write(rt, alloc, ask, compute, book, pass)),
+            _ => Some(self.write(rt, alloc, ask, compute, window)),
         }
     }
 
@@ -312,16 +285,15 @@ impl<'a, K: Hash + Eq + Drop, V: Drop, S: BuildHasher, T: Drop> Computing<'a, K,
     fn inserted<F: FnMut(Option<(&'a K, &'a V)>) -> Operation<V, T>>(
         &self,
         compute: &F,
-        book: &'a Book<K, V, S>,
-        pass: &Sight<K, V, S>,
+        window: &Window<'a, K, V, S>,
     ) -> Compute<'a, K, V, T>
         requires standing { IsStanding self.now.writer.call.machine }
-        requires can { CanCompute K.eq (hash_of K.hash_input S.build_hasher S.Hasher.write S.Hasher.finish) (begun_of book.now.parts) book.now.begun.book (Operates F.FnMut) pass.now.log self.now compute.now }
+        requires can { CanCompute (Operates F.FnMut) window.now self.now compute.now }
         requires done { (n : ℕ) × (ask_of self.now.writer.call.machine ≡ Done (Inserted n)) }
-        ensures { Replies K.eq (hash_of K.hash_input S.build_hasher S.Hasher.write S.Hasher.finish) (begun_of book.now.parts) book.now.begun.book (Operates F.FnMut) pass.now.log self.now compute.now (Ok result) }
+        ensures { Replies (Operates F.FnMut) window.now self.now compute.now (Ok result) }
     {
         let _ = compute;
-        let _ = pass;
+        let book = window.book;
         match (&self.fill, &self.writer.call.put) {
             (Some(fill), Some(put)) => {
                 book.parts.pairs.agrees(fill, put);
@@ -336,22 +308,21 @@ impl<'a, K: Hash + Eq + Drop, V: Drop, S: BuildHasher, T: Drop> Computing<'a, K,
     fn updated<F: FnMut(Option<(&'a K, &'a V)>) -> Operation<V, T>>(
         &self,
         compute: &F,
-        book: &'a Book<K, V, S>,
-        pass: &Sight<K, V, S>,
+        window: &Window<'a, K, V, S>,
     ) -> Compute<'a, K, V, T>
         requires standing { IsStanding self.now.writer.call.machine }
-        requires can { CanCompute K.eq (hash_of K.hash_input S.build_hasher S.Hasher.write S.Hasher.finish) (begun_of book.now.parts) book.now.begun.book (Operates F.FnMut) pass.now.log self.now compute.now }
+        requires can { CanCompute (Operates F.FnMut) window.now self.now compute.now }
         requires done { (m : ℕ) × (n : ℕ) × (ask_of self.now.writer.call.machine ≡ Done (Replaced m n)) }
-        ensures { Replies K.eq (hash_of K.hash_input S.build_hasher S.Hasher.write S.Hasher.finish) (begun_of book.now.parts) book.now.begun.book (Operates F.FnMut) pass.now.log self.now compute.now (Ok result) }
+        ensures { Replies (Operates F.FnMut) window.now self.now compute.now (Ok result) }
     {
         let _ = compute;
-        let _ = pass;
         let (Some(chosen), Some(taken)) = (&self.chosen, &self.writer.call.taken) else {
             unreachable!()
         };
         let (Some(made), Some(put)) = (&self.made, &self.writer.call.put) else {
             unreachable!()
         };
+        let book = window.book;
         book.parts.pairs.agrees(chosen, taken);
         book.parts.pairs.agrees(made, put);
         Compute::Updated {
@@ -364,16 +335,15 @@ impl<'a, K: Hash + Eq + Drop, V: Drop, S: BuildHasher, T: Drop> Computing<'a, K,
     fn removed<F: FnMut(Option<(&'a K, &'a V)>) -> Operation<V, T>>(
         &self,
         compute: &F,
-        book: &'a Book<K, V, S>,
-        pass: &Sight<K, V, S>,
+        window: &Window<'a, K, V, S>,
     ) -> Compute<'a, K, V, T>
         requires standing { IsStanding self.now.writer.call.machine }
-        requires can { CanCompute K.eq (hash_of K.hash_input S.build_hasher S.Hasher.write S.Hasher.finish) (begun_of book.now.parts) book.now.begun.book (Operates F.FnMut) pass.now.log self.now compute.now }
+        requires can { CanCompute (Operates F.FnMut) window.now self.now compute.now }
         requires done { (n : ℕ) × (ask_of self.now.writer.call.machine ≡ Done (Removed n)) }
-        ensures { Replies K.eq (hash_of K.hash_input S.build_hasher S.Hasher.write S.Hasher.finish) (begun_of book.now.parts) book.now.begun.book (Operates F.FnMut) pass.now.log self.now compute.now (Ok result) }
+        ensures { Replies (Operates F.FnMut) window.now self.now compute.now (Ok result) }
     {
         let _ = compute;
-        let _ = pass;
+        let book = window.book;
         match (&self.chosen, &self.writer.call.taken) {
             (Some(chosen), Some(taken)) => {
                 book.parts.pairs.agrees(chosen, taken);
@@ -388,20 +358,18 @@ impl<'a, K: Hash + Eq + Drop, V: Drop, S: BuildHasher, T: Drop> Computing<'a, K,
     fn replied<F: FnMut(Option<(&'a K, &'a V)>) -> Operation<V, T>>(
         &mut self,
         compute: &F,
-        book: &'a Book<K, V, S>,
-        pass: &Sight<K, V, S>,
+        window: &Window<'a, K, V, S>,
     ) -> Result<Compute<'a, K, V, T>, Refused>
         requires standing { IsStanding self.old.writer.call.machine }
-        requires can { CanCompute K.eq (hash_of K.hash_input S.build_hasher S.Hasher.write S.Hasher.finish) (begun_of book.now.parts) book.now.begun.book (Operates F.FnMut) pass.now.log self.old compute.now }
+        requires can { CanCompute (Operates F.FnMut) window.now self.old compute.now }
         requires done { (reply : _) × (ask_of self.old.writer.call.machine ≡ Done reply) }
-        ensures { Replies K.eq (hash_of K.hash_input S.build_hasher S.Hasher.write S.Hasher.finish) (begun_of book.now.parts) book.now.begun.book (Operates F.FnMut) pass.now.log self.old compute.now result }
+        ensures { Replies (Operates F.FnMut) window.now self.old compute.now result }
     {
         let _ = compute;
-        let _ = pass;
         match self.writer.call.machine.ask() {
-            Ask::Done(Reply::Inserted(_)) => Ok(self.inserted(compute, book, pass)),
-            Ask::Done(Reply::Replaced { .. }) => Ok(self.updated(compute, book, pass)),
-            Ask::Done(Reply::Removed(_)) => Ok(self.removed(compute, book, pass)),
+            Ask::Done(Reply::Inserted(_)) => Ok(self.inserted(compute, window)),
+            Ask::Done(Reply::Replaced { .. }) => Ok(self.updated(compute, window)),
+            Ask::Done(Reply::Removed(_)) => Ok(self.removed(compute, window)),
             Ask::Done(Reply::Aborted(_)) => match self.aborted.take() {
                 Some(with) => Ok(Compute::Aborted(with)),
                 None => unreachable!(),
@@ -413,7 +381,7 @@ impl<'a, K: Hash + Eq + Drop, V: Drop, S: BuildHasher, T: Drop> Computing<'a, K,
 }
 
 /// Does with a key's pair, or where it has none, what the closure answers that is shown it.
-pub(crate) fn compute<
+pub fn compute<
     'a,
     R: Wait,
     K: Hash + Eq + Drop,
@@ -426,23 +394,21 @@ pub(crate) fn compute<
     alloc: Global,
     initial: usize,
     shard: &Shard<'_>,
-    book: &'a Book<K, V, S>,
+    window: &mut Window<'a, K, V, S>,
     key: K,
     mut f: F,
-    pass: &mut Sight<K, V, S>,
 ) -> Result<Compute<'a, K, V, T>, Refused>
-    requires book { pass.old.book ≡ book.now.begun.book }
     requires callable { F.IsAlwaysCallable f }
-    ensures book { pass.new.book ≡ pass.old.book }
-    ensures seen { IsPrefix pass.old.log pass.new.log }
-    ensures lawful { IsLawfulLog K.eq (hash_of K.hash_input S.build_hasher S.Hasher.write S.Hasher.finish) (begun_of book.now.parts) pass.new.log }
-    ensures computed { IsComputeBy K.eq key (history_of pass.old.log) (history_of pass.new.log) (Operates F.FnMut) f result }
+    ensures sees { Sees window.old window.new }
+    ensures lawful { IsLawful window.new }
+    ensures computed { IsComputeBy K.eq key (past window.old) (past window.new) (Operates F.FnMut) f result }
 {
-    book.learn(pass);
+    window.learn();
+    let book = window.book;
     let hash = hash(&book.parts.hasher, &key);
     let mut computing: Computing<'a, K, V, S, T> = Computing {
         writer: Writer {
-            call: Caller::new(Task::Compute, hash, book.parts.mode, initial),
+            call: Driver::new(Task::Compute, hash, book.parts.mode, initial),
             key: Some(key),
             logged: None,
             value: None,
@@ -455,9 +421,9 @@ pub(crate) fn compute<
         aborted: None,
     };
     for _ in rt.forever() {
-        match computing.answer(rt, alloc, shard, &mut f, book, pass) {
+        match computing.answer(rt, alloc, shard, &mut f, window) {
             Some(answer) => computing.writer.call.machine.answer(answer),
-            None => return computing.replied(&f, book, pass),
+            None => return computing.replied(&f, window),
         }
     }
     unreachable!()

@@ -2,27 +2,30 @@
 ghost use Rattle.std.specs.Prelude.{◌≡◌, ◌⊎◌, true, IfErr, IfOk};
 ghost use mathlib.Core.List.{IsPrefix};
 ghost use Rattle.logbook.specs.Pages.{Book as BookName};
-ghost use Rattle.papaya_core.specs.New.{IsAllowed};
+ghost use Rattle.papaya_words.specs.declared.limits.TheConstants.{DEFAULT_CHUNK, DEFAULT_SHARDS};
+ghost use Rattle.papaya_keys.specs.Sizes.{IsAllowed};
 ghost use Rattle.papaya_map.specs.Asked.{IsRefused};
-ghost use Rattle.papaya_map.specs.Changing.{IsPut};
-ghost use Rattle.papaya_map.specs.Computing.{IsComputeBy};
-ghost use Rattle.papaya_map.specs.History.{IsLegalHistory, Past, history_of, key_of};
-ghost use Rattle.papaya_map.specs.Readers.{IsAnsweredBetween};
-ghost use Rattle.papaya_map.specs.Removing.{IsRemovalBy, IsRemoved};
-ghost use Rattle.papaya_map.specs.Showings.{Judges, Operates};
+ghost use Rattle.papaya_change.specs.Changes.{IsPut};
+ghost use Rattle.papaya_map.specs.ComputeAnswers.{IsComputeBy};
+ghost use Rattle.papaya_lookup.specs.History.{IsLegalHistory, Past, history_of, key_of};
+ghost use Rattle.papaya_lookup.specs.Answers.{IsAnsweredBetween};
+ghost use Rattle.papaya_change.specs.RemovalAnswers.{IsRemovalBy, IsRemoved};
+ghost use Rattle.papaya_change.specs.Showings.{Judges, Operates};
 
-use crate::asked::{check_chunk, initial_len};
-use crate::book::Book;
 use crate::computing::compute;
-use crate::count::Count;
-use crate::insertion::insert;
-use crate::parts::Parts;
-use crate::reader::look_up;
-use crate::removal::remove;
-use crate::trade::Sight;
+use papaya_book::book::Book;
+use papaya_book::book::parts::Parts;
+use papaya_book::rule::trade::Sight;
+use papaya_book::window::Window;
 use papaya_call::answers::Operation;
-use papaya_seq::compute::Compute;
-use papaya_seq::guard::{Collector, Equivalent, Guard};
+use papaya_change::count::Count;
+use papaya_change::insertion::insert;
+use papaya_change::removal::remove;
+use papaya_keys::compute::Compute;
+use papaya_keys::guard::{Collector, Equivalent, Guard};
+use papaya_keys::sizes::{check_chunk, initial_len};
+use papaya_lookup::lookup::look_up;
+use papaya_words::limits::DEFAULT_SHARDS;
 use papaya_words::probe::{Refused, ResizeMode};
 use std::alloc::Global;
 use std::hash::{BuildHasher, BuildHasherDefault, FoldHasher, Hash};
@@ -114,6 +117,39 @@ impl<K: Hash + Eq + Drop, V: Drop, S: BuildHasher + Drop> HashMap<K, V, S> {
     }
 }
 
+impl<K: Hash + Eq + Drop, V: Drop> HashMap<K, V, BuildHasherDefault<FoldHasher>> {
+    /// A map that makes its first table at its first change: `new` of 0.2.5, but for the hasher, which
+    /// is the same in each run.
+    pub fn new<R: Wait>(
+        rt: &R,
+        alloc: Global,
+    ) -> Result<HashMap<K, V, BuildHasherDefault<FoldHasher>>, Refused>
+        ensures err { IfErr result (λ e. e ≡ Refused.Memory) }
+    {
+        HashMap::with_capacity(rt, alloc, 0)
+    }
+
+    /// A map for so many pairs: `with_capacity` of 0.2.5. It resizes as [`ResizeMode::default`] says,
+    /// and counts its pairs over [`DEFAULT_SHARDS`] shards. Refused as [`HashMap::with_parts`].
+    pub fn with_capacity<R: Wait>(
+        rt: &R,
+        alloc: Global,
+        capacity: usize,
+    ) -> Result<HashMap<K, V, BuildHasherDefault<FoldHasher>>, Refused>
+        ensures ok { IfOk result (λ map. IsAllowed (ResizeMode.Incremental DEFAULT_CHUNK) capacity DEFAULT_SHARDS) }
+        ensures err { IfErr result (λ e. IsRefused (ResizeMode.Incremental DEFAULT_CHUNK) capacity DEFAULT_SHARDS e) }
+    {
+        HashMap::with_parts(
+            rt,
+            alloc,
+            ResizeMode::default(),
+            capacity,
+            DEFAULT_SHARDS,
+            BuildHasherDefault::new(),
+        )
+    }
+}
+
 impl<K: Hash + Eq, V, S: BuildHasher> HashMap<K, V, S> {
     /// The map, as calls take it.
     #[inline]
@@ -136,7 +172,7 @@ impl<K: Hash + Eq, V, S: BuildHasher> HashMap<K, V, S> {
         self.len() == 0
     }
 
-    /// A pass of one's own.
+    /// A new pass of this map.
     pub fn pass(&self) -> Pass<K, V, S>
         ensures { result.book ≡ self.now }
     {
@@ -157,7 +193,10 @@ impl<'a, K: Hash + Eq, V, S: BuildHasher> HashMapRef<'a, K, V, S> {
         ensures answered { IsAnsweredBetween K.eq (Q.matches key.now) pass.old.history pass.new.history result }
     {
         let map: &'a HashMap<K, V, S> = self.map;
-        look_up(&map.book, key, &mut pass.sight)
+        let mut window = Window::new(&map.book, &pass.sight);
+        let found = look_up(&mut window, key);
+        pass.sight = window.sight;
+        found
     }
 
     /// Removes a key's pair if the closure, which is shown it, answers true: `remove_if` of 0.2.5.
@@ -182,7 +221,10 @@ impl<'a, K: Hash + Eq, V, S: BuildHasher> HashMapRef<'a, K, V, S> {
     {
         let map: &'a HashMap<K, V, S> = self.map;
         let shard = map.count.shard(self.guard);
-        remove(rt, &shard, &map.book, key, should_remove, &mut pass.sight)
+        let mut window = Window::new(&map.book, &pass.sight);
+        let removed = remove(rt, &shard, &mut window, key, should_remove);
+        pass.sight = window.sight;
+        removed
     }
 
     /// Removes a key's pair, and answers its value: `remove` of 0.2.5. It takes no memory, and is
@@ -236,16 +278,10 @@ impl<'a, K: Hash + Eq + Drop, V: Drop, S: BuildHasher> HashMapRef<'a, K, V, S> {
     {
         let map: &'a HashMap<K, V, S> = self.map;
         let shard = map.count.shard(self.guard);
-        insert(
-            rt,
-            map.alloc,
-            map.initial,
-            &shard,
-            &map.book,
-            key,
-            value,
-            &mut pass.sight,
-        )
+        let mut window = Window::new(&map.book, &pass.sight);
+        let before = insert(rt, map.alloc, map.initial, &shard, &mut window, key, value);
+        pass.sight = window.sight;
+        before
     }
 
     /// What the closure makes of the key's pair, or of its absence: `compute` of 0.2.5. It is shown
@@ -273,15 +309,9 @@ impl<'a, K: Hash + Eq + Drop, V: Drop, S: BuildHasher> HashMapRef<'a, K, V, S> {
     {
         let map: &'a HashMap<K, V, S> = self.map;
         let shard = map.count.shard(self.guard);
-        compute(
-            rt,
-            map.alloc,
-            map.initial,
-            &shard,
-            &map.book,
-            key,
-            f,
-            &mut pass.sight,
-        )
+        let mut window = Window::new(&map.book, &pass.sight);
+        let computed = compute(rt, map.alloc, map.initial, &shard, &mut window, key, f);
+        pass.sight = window.sight;
+        computed
     }
 }

@@ -1,15 +1,16 @@
 -- What the reply of an insertion says of the map, in terms of its pairs.
-use Rattle.std.proofs.Common.{◌≡◌, ⊎_elim, ℕ, Bool, true, false, cond, List, [], ◌∷◌, Option, Some, None, refl, sym, ◌∙◌, ap, subst}
+use Rattle.std.proofs.Common.{◌≡◌, ⊎_elim, ℕ, Bool, true, false, cond, List, [], ◌∷◌, Option, Some, None, Result, Ok, refl, sym, ◌∙◌, ap, subst}
 use Rattle.std.proofs.lemmas.Bool.{cases_Bool}
 use Rattle.std.specs.Cmp.{IsEquivalence}
-use Rattle.papaya_call.specs.Law.Content.{lookup}
+use Rattle.papaya_words.specs.declared.probe.Refused.{Refused}
+use Rattle.papaya_law.specs.Content.{lookup}
 use Rattle.papaya_call.specs.declared.call.Call.TheVariants.{Insert, TryInsert}
 use Rattle.papaya_call.specs.declared.call.Reply.TheVariants as replies
 use Rattle.papaya_core.specs.Content.{content, map_in}
 use Rattle.papaya_core.specs.Maps.{Does, IsMadeOf, IsUpdate, Same, key_of}
 use Rattle.papaya_core.specs.Solo.{IsAnswered, IsNewIn}
 use Rattle.papaya_core.specs.Store.{StoreState, Stored, pair_of}
-use Rattle.papaya_seq.specs.Map.{Inserts, IsOccupied, insertion, value_of}
+use Rattle.papaya_seq.specs.Map.{Inserts, IsOccupied, IsTried, Keeps, MapState, insertion, value_of}
 use Rattle.papaya_seq.proofs.Lawful.{logged_content, lookup_some}
 
 -- equal keys have one pair in a list
@@ -139,3 +140,8 @@ module _ {K V S : Type 0} (eq : K → K → Bool) (law : IsEquivalence eq) where
 
     pub occupied_by : (reply : _) (n : ℕ) → reply ≡ replies.Occupied n → IsAnswered {A = Unit {0}} eq (TryInsert k v) (map_in eq s) reply (map_in eq s') → IsThere n
     occupied_by reply n is d = occupied_there n (subst (λ r. IsAnswered {A = Unit {0}} eq (TryInsert k v) (map_in eq s) r (map_in eq s')) is d)
+
+-- an insertion that found its key in the map, by its number
+pub tried_there : {K V S : Type 0} (eq : K → K → Bool) (hash : ℕ) (k : K) (v : V) (s : MapState K V S) (result : Result (ℕ × Option V) Refused) (s' : MapState K V S) (n : ℕ) (left : V) → result ≡ Ok (n, Some left) → IsTried eq hash k v s result s'
+    → (p : Stored K V) × (pair_of s'.store n ≡ Some p) × (left ≡ v) × IsOccupied eq k s.store p.value s'.store × Keeps s s'
+tried_there eq hash k v s result s' n left is tried = subst (λ r. IsTried eq hash k v s r s') is tried

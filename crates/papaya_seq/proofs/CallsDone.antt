@@ -5,7 +5,7 @@ use Rattle.std.specs.Cmp.{IsEquivalence}
 use Rattle.std.specs.List.{All, Contains}
 use Rattle.papaya_words.specs.declared.probe.Refused as words
 use Rattle.papaya_call.specs.Answers.{Says}
-use Rattle.papaya_call.specs.Law.Content.{AreApart, lookup}
+use Rattle.papaya_law.specs.Content.{AreApart, lookup}
 use Rattle.papaya_call.specs.declared.call.Call.{Call}
 use Rattle.papaya_call.specs.declared.call.Call.TheVariants.{Get, RemoveIf}
 use Rattle.papaya_call.specs.declared.call.Reply.{Reply}
@@ -22,7 +22,7 @@ use Rattle.papaya_seq.proofs.Lawful.{number_is}
 
 module _ {K V : Type 0} (eq : K → K → Bool) (classes : IsEquivalence eq) where
   -- where no key stands twice, a pair is found by each key that equals its own
-  found_apart : (ps : List (Stored K V)) → AreApart eq (λ p. p.key) ps → (k : K) (p : Stored K V) → Contains ps p → eq k p.key ≡ true → lookup eq (λ q. q.key) ps k ≡ Some p
+  pub found_apart : (ps : List (Stored K V)) → AreApart eq (λ p. p.key) ps → (k : K) (p : Stored K V) → Contains ps p → eq k p.key ≡ true → lookup eq (λ q. q.key) ps k ≡ Some p
   found_apart [] apart k p (i, within, is) same = absurd (omega (arith, within))
   found_apart (q ∷ ps) apart k p (zero, within, is) same =
       cond-true (eq k q.key) (Some q) (lookup eq (λ (r : Stored K V). r.key) ps k) (subst (λ (r : Stored K V). eq k r.key ≡ true) (sym is) same) ∙ ap Some is
@@ -34,7 +34,7 @@ module _ {K V : Type 0} (eq : K → K → Bool) (classes : IsEquivalence eq) whe
       (cases_Bool (eq k q.key))
 
   -- where no key equals, none is found
-  found_none : (ps : List (Stored K V)) (k : K) → All (λ p. eq k p.key ≡ false) ps → lookup eq (λ q. q.key) ps k ≡ None
+  pub found_none : (ps : List (Stored K V)) (k : K) → All (λ p. eq k p.key ≡ false) ps → lookup eq (λ q. q.key) ps k ≡ None
   found_none [] k none = refl
   found_none (q ∷ ps) k none =
       cond-false (eq k q.key) (Some q) (lookup eq (λ (r : Stored K V). r.key) ps k) (none 0 q (omega arith)) ∙ found_none ps k (λ i d within. none (suc i) d (omega (arith, within)))

@@ -2,7 +2,7 @@
 use Rattle.std.proofs.Common.{◌≡◌, ⊎_elim, ℕ, ◌^◌, ◌<◌, Bool, true, false, List, Option, None, Some, MatchOption, option_map, inr, refl, sym, ◌∙◌, ap, subst}
 use denote.Ref.{Bor}
 use Rattle.std.specs.Cmp.{IsEquivalence}
-use Rattle.papaya_call.specs.Alone.{IsPrompt, IsRead, left}
+use Rattle.papaya_rests.specs.Alone.{IsPrompt, IsRead, left}
 use Rattle.papaya_call.specs.Answers.{op_kind}
 use Rattle.papaya_call.specs.declared.answers.Operation.{Operation}
 use Rattle.papaya_call.specs.declared.ask.Ask.{Ask}
@@ -17,9 +17,10 @@ use Rattle.papaya_call.specs.declared.machine.State.TheVariants.{Offering, Showi
 use Rattle.papaya_call.specs.declared.write.Made.TheVariants.{Nothing}
 use Rattle.papaya_call.specs.Compute.{nothing}
 use Rattle.papaya_call.specs.Machine.{IsFit, after, ask_of}
-use Rattle.papaya_call.proofs.AloneCurrent.{machine_stays}
-use Rattle.papaya_call.proofs.AloneSteps.{machine_nears}
-use Rattle.papaya_call.proofs.Standing.{machine_stands}
+use Rattle.papaya_rests.proofs.AloneCurrent.{machine_stays}
+use Rattle.papaya_rests.proofs.AloneSteps.{machine_nears}
+use Rattle.papaya_rests.proofs.Standing.{machine_stands}
+use Rattle.papaya_rests.proofs.Tasks.{same_task}
 use Rattle.papaya_core.specs.declared.pairs.KeyOf.{KeyOf}
 use Rattle.papaya_core.specs.declared.pairs.KeyOf.TheVariants.{Own}
 use Rattle.papaya_core.specs.declared.pairs.Running.{Running}
@@ -27,14 +28,15 @@ use Rattle.papaya_core.specs.Advances.{reply_in}
 use Rattle.papaya_core.specs.Content.{map_in}
 use Rattle.papaya_core.specs.Performs.{Performs, ShowsPair, value_answered}
 use Rattle.papaya_core.specs.Solo.{whatever}
-use Rattle.papaya_core.specs.Store.{StoreState, Stored, hash_of, pair_of}
+use Rattle.papaya_core.specs.Store.{StoreState, Stored, pair_of}
+use Rattle.papaya_keys.specs.Hashes.{hash_of}
 use Rattle.papaya_seq.specs.Computes.{AreOf, Says}
 use Rattle.papaya_seq.specs.Computing.{IsKept}
 use Rattle.papaya_seq.specs.Map.{IsLawfulMap, MapState, deref_pair, entry_of}
 use Rattle.papaya_seq.proofs.ComputeRun.{IsComputing, IsDoing, IsLeft, IsWaiting, as_number, chosen_stage, kept_as, not_offered, not_showing, offered_stage, same_mode}
 use Rattle.papaya_seq.proofs.ComputeShown.{asking, compute_of, computing, offering, showing, shows_none, shows_pair}
 use Rattle.papaya_seq.proofs.ComputeStages.{IsAsked, IsUnasked}
-use Rattle.papaya_seq.proofs.Steps.{IsMade, made_more, same_task, words_of}
+use Rattle.papaya_seq.proofs.Steps.{IsMade, made_more, words_of}
 
 module _ {K V S A F T H : Type 0} (eq : K → K → Bool) (input : K → List (List ℕ)) (build : S → H) (write : H → List ℕ → H) (finish : H → ℕ) (classes : IsEquivalence eq) (respects : (x y : K) → eq x y ≡ true → input x ≡ input y)
     (s : MapState K V S) (lawful : IsLawfulMap eq (hash_of input build write finish s.store.hasher) s.store s.mode) (k : K) (fits : hash_of input build write finish s.store.hasher k < 2 ^ 64)

@@ -17,8 +17,8 @@ use Rattle.papaya_seq.specs.Calls.{Answers, IsCalled, IsOperated}
 use Rattle.papaya_seq.specs.Computes.{ComputesBy, Operates, Says, answer_map}
 use Rattle.papaya_seq.specs.Computing.{reply_of}
 use Rattle.papaya_seq.specs.Map.{IsCause, Keeps, MapState, deref_pair}
-use Rattle.papaya_seq.specs.declared.compute.Computed.{Computed}
-use Rattle.papaya_seq.specs.declared.compute.Computed.TheVariants.{Inserted, Updated, Removed, Aborted}
+use Rattle.papaya_keys.specs.declared.compute.Computed.{Computed}
+use Rattle.papaya_keys.specs.declared.compute.Computed.TheVariants.{Inserted, Updated, Removed, Aborted}
 use Rattle.papaya_seq.proofs.Answered.{update_leaves}
 
 module _ {K V S A : Type 0} (eq : K → K → Bool) (hash : S → K → ℕ) (classes : IsEquivalence eq) (s s' : MapState K V S) (k : K) (a : A) (says : Answers_say K V A) (keeps : Keeps s s') where

@@ -15,8 +15,8 @@ use Rattle.papaya_core.proofs.SoloTimeline.{lookup_alike}
 use Rattle.papaya_seq.specs.Computes.{ComputesBy, IsNew}
 use Rattle.papaya_seq.specs.Computing.{IsComputed, Replies}
 use Rattle.papaya_seq.specs.Map.{IsCause, Keeps, MapState}
-use Rattle.papaya_seq.specs.declared.compute.Computed.{Computed}
-use Rattle.papaya_seq.specs.declared.compute.Computed.TheVariants.{Inserted, Updated, Removed, Aborted}
+use Rattle.papaya_keys.specs.declared.compute.Computed.{Computed}
+use Rattle.papaya_keys.specs.declared.compute.Computed.TheVariants.{Inserted, Updated, Removed, Aborted}
 use Rattle.papaya_seq.proofs.Answered.{logged_there}
 use Rattle.papaya_seq.proofs.ComputeRun.{IsLeft}
 use Rattle.papaya_seq.proofs.ComputeShown.{compute_of}

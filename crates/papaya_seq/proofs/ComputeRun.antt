@@ -2,7 +2,7 @@
 use Rattle.std.proofs.Common.{◌≡◌, ◌⊎◌, ⊎_elim, ℕ, ◌^◌, ◌<◌, Bool, false, Option, None, Some, length, option_map, inl, inr, refl, sym, ◌∙◌, ap, subst}
 use denote.Ref.{Bor}
 use Rattle.papaya_words.specs.Table.{TableWords}
-use Rattle.papaya_call.specs.Alone.{IsCurrent, IsPrompt, IsRead, left}
+use Rattle.papaya_rests.specs.Alone.{IsCurrent, IsPrompt, IsRead, left}
 use Rattle.papaya_call.specs.Answers.{Says as Answers_say, op_kind}
 use Rattle.papaya_call.specs.declared.answers.Operation.{Operation}
 use Rattle.papaya_call.specs.declared.answers.Operation.TheVariants as ops
@@ -25,9 +25,10 @@ use Rattle.papaya_call.specs.declared.write.Made.TheVariants.{Nothing, Key, Pair
 use Rattle.papaya_call.specs.Compute.{chosen, nothing, offered, with_choice}
 use Rattle.papaya_call.specs.Machine.{IsFit, IsStanding, after, ask_of, asks, started}
 use Rattle.papaya_call.specs.Search.{IsSize}
-use Rattle.papaya_call.proofs.AloneCurrent.{machine_stays}
-use Rattle.papaya_call.proofs.AloneSteps.{machine_nears}
-use Rattle.papaya_call.proofs.Standing.{machine_ask_fits, machine_stands}
+use Rattle.papaya_rests.proofs.AloneCurrent.{machine_stays}
+use Rattle.papaya_rests.proofs.AloneSteps.{machine_nears}
+use Rattle.papaya_rests.proofs.Standing.{machine_ask_fits, machine_stands}
+use Rattle.papaya_rests.proofs.Tasks.{same_task}
 use Rattle.papaya_core.specs.declared.pairs.KeyOf.{KeyOf}
 use Rattle.papaya_core.specs.declared.pairs.KeyOf.TheVariants.{Own}
 use Rattle.papaya_core.specs.declared.pairs.Running.{Running}
@@ -49,7 +50,7 @@ use Rattle.papaya_seq.proofs.Lawful.{bare, single, sized}
 use Rattle.papaya_seq.proofs.Past.{IsSlotThere}
 use Rattle.papaya_seq.proofs.RemovalTurns.{IsFound}
 use Rattle.papaya_seq.proofs.Removing.{open_kind}
-use Rattle.papaya_seq.proofs.Steps.{IsAnswerable, IsMade, answering_performs, made_alone, made_more, made_none, prompt_single, prompted, same_task, seated, unreplied, words_of}
+use Rattle.papaya_seq.proofs.Steps.{IsAnswerable, IsMade, answering_performs, made_alone, made_more, made_none, prompt_single, prompted, seated, unreplied, words_of}
 use Rattle.papaya_seq.proofs.Words.{rooted, uncopied, unmarked}
 
 -- a machine's mode and initial capacity stay
@@ -340,7 +341,7 @@ module _ {K V S A F T : Type 0} (eq : K → K → Bool) (hash : S → K → ℕ)
   module _ (store : StoreState K V S) (r : Running K V A) (reply : Reply) (e : Ask_done reply ≡ ask_of r.machine) (closure : Option F) (shown : Option ℕ) (aborted : Option T) (now : IsComputing eq hash s k post f store r closure shown aborted) where
     -- it has replied: it was made alone
     pub computing_alone : hash s.store.hasher k < 2 ^ 64 → RunsAlone eq hash (core_of s) (compute_of k) reply (seated store None s.mode s.initial)
-    computing_alone fits = made_alone eq hash s (compute_of k) fits store (asking r) reply (sym e) now.steps
+    computing_alone fits = made_alone eq hash s (compute_of k) keys lawful fits store (asking r) reply (sym e) now.steps
 
     -- its closure was called
     pub did : IsDoing eq hash s k post f store r shown aborted

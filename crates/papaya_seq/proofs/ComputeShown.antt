@@ -24,14 +24,16 @@ use Rattle.papaya_call.specs.declared.remove.Removal.{Removal}
 use Rattle.papaya_call.specs.declared.search.Search.TheVariants.{Sizing, Looking, Comparing}
 use Rattle.papaya_call.specs.declared.write.Made.{Made}
 use Rattle.papaya_call.specs.declared.write.Made.TheVariants.{Nothing, Key, Pair}
-use Rattle.papaya_call.specs.Alone.{IsRead, word_of_place}
+use Rattle.papaya_rests.specs.Alone.{IsRead, word_of_place}
 use Rattle.papaya_call.specs.Compute.{nothing}
 use Rattle.papaya_call.specs.Machine.{after, asks}
 use Rattle.papaya_call.specs.Remove.{grave_word}
+use Rattle.papaya_core.proofs.KeptCore.{keys_lawful}
 use Rattle.papaya_core.specs.Content.{map_in}
 use Rattle.papaya_core.specs.Maps.{Does}
 use Rattle.papaya_core.specs.Performs.{Exchanges}
-use Rattle.papaya_core.specs.Store.{StoreState, Stored, hash_of, pair_of}
+use Rattle.papaya_core.specs.Store.{StoreState, Stored, pair_of}
+use Rattle.papaya_keys.specs.Hashes.{hash_of}
 use Rattle.papaya_core.specs.Tables.{put, word_at}
 use Rattle.papaya_core.specs.declared.pairs.KeyOf.TheVariants.{Own}
 use Rattle.papaya_core.specs.declared.pairs.Running.{Running}
@@ -128,7 +130,7 @@ module _ {K V S H : Type 0} (eq : K → K → Bool) (input : K → List (List �
       let m : Machine = at_state (Offering gap) in
       let answer : Answer = Op kinds.Remove in
       let refused = made_more eq (hash_of input build write finish) s (compute_of k) s.store (computing m k left) answer s.store (computing m k left) refl (inr (tt, ops.Remove, tt, refl, tt, refl, refl, refl)) refl came in
-      let alone = made_alone eq (hash_of input build write finish) s (compute_of k) fits s.store (computing (after m answer) k left) (Reply_refused RemoveNothing) refl refused in
+      let alone = made_alone eq (hash_of input build write finish) s (compute_of k) (keys_lawful eq input build write finish classes respects s.store.hasher) lawful fits s.store (computing (after m answer) k left) (Reply_refused RemoveNothing) refl refused in
       none_there (map_in eq s.store k) ((map_answered eq input build write finish classes respects s (compute_of k) (Reply_refused RemoveNothing) s.store lawful alone).1 refl)
 
   -- and where a pair is removed, it is there
@@ -149,7 +151,7 @@ module _ {K V S H : Type 0} (eq : K → K → Bool) (input : K → List (List �
       let m2 : Machine = after m1 Exchanged in
       let store2 : StoreState K V S = record store1 { count = record store1.count { sum = int_wrap w64 (store1.count.sum +ℤ negsuc 0) } } in
       let counted = made_more eq (hash_of input build write finish) s (compute_of k) store1 (computing m2 k left) Ok_done store2 (computing m2 k left) refl (refl, refl, refl) refl buried in
-      let alone = made_alone eq (hash_of input build write finish) s (compute_of k) fits store2 (computing (after m2 Ok_done) k left) (Removed n) refl counted in
+      let alone = made_alone eq (hash_of input build write finish) s (compute_of k) (keys_lawful eq input build write finish classes respects s.store.hasher) lawful fits store2 (computing (after m2 Ok_done) k left) (Removed n) refl counted in
       let answered = map_answered eq input build write finish classes respects s (compute_of k) (Removed n) store2 lawful alone in
       let (q, went, number) = pair_there n answered.went answered.came answered.does in
       let here : map_in eq s.store k ≡ Some q = answered.update.before ∙ went in

@@ -27,12 +27,12 @@ use Rattle.papaya_call.specs.declared.search.Place.{Place}
 use Rattle.papaya_call.specs.declared.search.Search.TheVariants.{Sizing, Looking, Comparing}
 use Rattle.papaya_call.specs.declared.write.Made.{Made}
 use Rattle.papaya_call.specs.declared.write.Made.TheVariants.{Nothing, Key, Pair}
-use Rattle.papaya_call.specs.Alone.{IsRead}
+use Rattle.papaya_rests.specs.Alone.{IsRead}
 use Rattle.papaya_call.specs.Compute.{lacks, nothing, provides, with_pair}
 use Rattle.papaya_call.specs.Machine.{IsStandingState, after, asks, goes_as}
 use Rattle.papaya_call.specs.Search.{IsSize, look, look_at, at_yes as search_compared}
 use Rattle.papaya_call.specs.Write.{new_word}
-use Rattle.papaya_call.proofs.AloneSteps.{exchange_done}
+use Rattle.papaya_rests.proofs.AloneSteps.{exchange_done}
 use Rattle.papaya_core.specs.declared.pairs.KeyOf.{KeyOf}
 use Rattle.papaya_core.specs.declared.pairs.KeyOf.TheVariants.{Own, Logged}
 use Rattle.papaya_core.specs.declared.pairs.Pair.{Pair as LoggedPair}

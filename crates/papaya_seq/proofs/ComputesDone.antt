@@ -1,5 +1,5 @@
 -- What a compute says of the map, by what it answers.
-use Rattle.std.proofs.Common.{◌≡◌, ◌⊎◌, ⊎_elim, inl, inr, ℕ, Bool, true, false, Option, Some, None, Result, Ok, Err, IsSome, MatchOption, option_map, refl, sym, ◌∙◌, ap, subst}
+use Rattle.std.proofs.Common.{◌≡◌, ℕ, Bool, Option, Some, None, Result, Ok, Err, refl, sym, ◌∙◌, ap, subst}
 use denote.Ref.{Bor}
 use Rattle.std.specs.Cmp.{IsEquivalence}
 use Rattle.papaya_words.specs.declared.probe.Refused.{Refused}
@@ -8,11 +8,11 @@ use Rattle.papaya_call.specs.declared.answers.Operation.{Operation}
 use Rattle.papaya_call.specs.declared.answers.Operation.TheVariants.{Insert, Remove, Abort}
 use Rattle.papaya_core.specs.Content.{map_in}
 use Rattle.papaya_core.specs.Maps.{IsUpdate}
-use Rattle.papaya_core.specs.Store.{StoreState, Stored, pair_of}
-use Rattle.papaya_seq.specs.Computes.{Computes, ComputesBy, IsNew, Operates, Says, answer_map}
+use Rattle.papaya_core.specs.Store.{Stored, pair_of}
+use Rattle.papaya_seq.specs.Computes.{ComputesBy, IsNew, Operates, Says, answer_map}
 use Rattle.papaya_seq.specs.Map.{Inserts, IsCause, Keeps, MapState, Unchanged, deref_pair, entry_of, value_of}
-use Rattle.papaya_seq.specs.declared.compute.Computed.{Computed}
-use Rattle.papaya_seq.specs.declared.compute.Computed.TheVariants.{Inserted, Updated, Removed, Aborted}
+use Rattle.papaya_keys.specs.declared.compute.Computed.{Computed}
+use Rattle.papaya_keys.specs.declared.compute.Computed.TheVariants.{Inserted, Updated, Removed, Aborted}
 use Rattle.papaya_seq.proofs.Answered.{logged_there, update_leaves}
 
 module _ {K V T : Type 0} (post : Option (Bor K × Bor V) → Operation V T → Type 0) where

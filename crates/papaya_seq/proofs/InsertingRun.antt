@@ -3,7 +3,7 @@ use Rattle.std.proofs.Common.{◌≡◌, ℕ, ◌^◌, ◌<◌, Bool, true, fals
 use Rattle.papaya_words.specs.Table.{TableWords}
 use Rattle.papaya_words.specs.declared.probe.Refused.{Refused}
 use Rattle.papaya_words.specs.declared.probe.ResizeMode.{ResizeMode}
-use Rattle.papaya_call.specs.Alone.{IsCurrent, IsPrompt, left}
+use Rattle.papaya_rests.specs.Alone.{IsCurrent, IsPrompt, left}
 use Rattle.papaya_call.specs.Answers.{Says}
 use Rattle.papaya_call.specs.declared.ask.Ask.{Ask}
 use Rattle.papaya_call.specs.declared.ask.Ask.TheVariants.{Done as Ask_done}
@@ -20,9 +20,10 @@ use Rattle.papaya_call.specs.declared.write.Made.{Made}
 use Rattle.papaya_call.specs.declared.write.Made.TheVariants.{Nothing, Key, Pair}
 use Rattle.papaya_call.specs.Machine.{IsFit, IsStanding, after, ask_of, asks, started}
 use Rattle.papaya_call.specs.Search.{IsSize}
-use Rattle.papaya_call.proofs.AloneCurrent.{machine_stays}
-use Rattle.papaya_call.proofs.AloneSteps.{machine_nears}
-use Rattle.papaya_call.proofs.Standing.{machine_ask_fits, machine_stands}
+use Rattle.papaya_rests.proofs.AloneCurrent.{machine_stays}
+use Rattle.papaya_rests.proofs.AloneSteps.{machine_nears}
+use Rattle.papaya_rests.proofs.Standing.{machine_ask_fits, machine_stands}
+use Rattle.papaya_rests.proofs.Tasks.{same_task}
 use Rattle.papaya_core.specs.declared.pairs.KeyOf.TheVariants.{Own}
 use Rattle.papaya_core.specs.declared.pairs.Running.{Running}
 use Rattle.papaya_core.specs.Advances.{reply_in}
@@ -37,7 +38,7 @@ use Rattle.papaya_seq.specs.Map.{IsCause, IsLawfulMap, MapState, core_of, insert
 use Rattle.papaya_seq.proofs.Inserting.{IsAtHand, IsEnd, IsPlain, IsStage}
 use Rattle.papaya_seq.proofs.InsertingSteps.{answerable_in, leads_in}
 use Rattle.papaya_seq.proofs.Lawful.{bare, single, sized}
-use Rattle.papaya_seq.proofs.Steps.{IsAnswerable, IsMade, answering, answering_performs, made_alone, made_more, made_none, prompt_single, prompted, same_task, seated, unreplied, words_of}
+use Rattle.papaya_seq.proofs.Steps.{IsAnswerable, IsMade, answering, answering_performs, made_alone, made_more, made_none, prompt_single, prompted, seated, unreplied, words_of}
 use Rattle.papaya_seq.proofs.Words.{rooted, uncopied, unmarked}
 
 -- an insertion as it begins
@@ -163,7 +164,7 @@ module _ {K V S A : Type 0} (eq : K → K → Bool) (hash : S → K → ℕ) (s 
   module _ (store : StoreState K V S) (r : Running K V A) (reply : Reply) (e : Ask_done reply ≡ ask_of r.machine) (now : IsInserting eq hash s replace k value store r) where
     -- it has replied: it was made alone
     pub inserting_alone : hash s.store.hasher k < 2 ^ 64 → RunsAlone eq hash (core_of s) (insertion replace k value) reply (seated store None s.mode s.initial)
-    inserting_alone fits = made_alone eq hash s (insertion replace k value) (subst (λ (x : K). hash s.store.hasher x < 2 ^ 64) (sym (key_of_insertion replace k value)) fits) store (answering None r) reply (sym e) now.steps
+    inserting_alone fits = made_alone eq hash s (insertion replace k value) keys lawful (subst (λ (x : K). hash s.store.hasher x < 2 ^ 64) (sym (key_of_insertion replace k value)) fits) store (answering None r) reply (sym e) now.steps
 
     -- what is so at its end
     ends : IsEnd (hash s.store.hasher k) s.store value reply r.value

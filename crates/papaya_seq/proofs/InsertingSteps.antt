@@ -18,10 +18,10 @@ use Rattle.papaya_call.specs.declared.search.Search.TheVariants.{Sizing, Looking
 use Rattle.papaya_call.specs.declared.write.Made.{Made}
 use Rattle.papaya_call.specs.declared.write.Made.TheVariants.{Nothing, Key, Pair}
 use Rattle.papaya_call.specs.declared.write.Write.{Write}
-use Rattle.papaya_call.specs.Alone.{IsRead}
+use Rattle.papaya_rests.specs.Alone.{IsRead}
 use Rattle.papaya_call.specs.Machine.{IsStandingState, after, asks, goes_as}
 use Rattle.papaya_call.specs.Search.{IsSize, look, at_yes as search_compared}
-use Rattle.papaya_call.proofs.AloneSteps.{exchange_done}
+use Rattle.papaya_rests.proofs.AloneSteps.{exchange_done}
 use Rattle.papaya_core.specs.declared.pairs.KeyOf.TheVariants.{Own, Logged}
 use Rattle.papaya_core.specs.declared.pairs.Running.{Running}
 use Rattle.papaya_core.specs.Advances.{reply_in}

@@ -10,16 +10,16 @@ use Rattle.papaya_words.specs.Word.{kind_of, pair_of as number_of}
 use Rattle.papaya_words.specs.declared.probe.ResizeMode.{ResizeMode}
 use Rattle.papaya_words.specs.declared.word.Kind.{Kind}
 use Rattle.papaya_words.specs.declared.word.Kind.TheVariants as kinds
-use Rattle.papaya_call.specs.Alone.{IsBare}
+use Rattle.papaya_rests.specs.Alone.{IsBare}
 use Rattle.papaya_call.specs.declared.ask.At.TheVariants.{Next, Root, Slot}
-use Rattle.papaya_call.specs.Law.Content.{lookup}
-use Rattle.papaya_call.specs.Law.Exchange.{Word, Empty, State, run, start}
-use Rattle.papaya_call.specs.Law.Code.{IsOfKind, code}
+use Rattle.papaya_law.specs.Content.{lookup}
+use Rattle.papaya_law.specs.Exchange.{Word, Empty, State, run, start}
+use Rattle.papaya_law.specs.Code.{IsOfKind, code}
 use Rattle.papaya_call.specs.Search.{IsSize}
-use Rattle.papaya_call.specs.Law.Grows.{Comes}
-use Rattle.papaya_call.proofs.Law.CodeViews.{word_of_kind}
-use Rattle.papaya_call.proofs.Law.Logs.{on_comes}
-use Rattle.papaya_call.proofs.Law.OneMap.{sound}
+use Rattle.papaya_law.specs.Grows.{Comes}
+use Rattle.papaya_law.proofs.CodeViews.{word_of_kind}
+use Rattle.papaya_law.proofs.Logs.{on_comes}
+use Rattle.papaya_law.proofs.OneMap.{sound}
 use Rattle.papaya_core.specs.Content.{content, listed, pairs_of_kind, pairs_of_slots, pairs_of_table}
 use Rattle.papaya_core.specs.Kept.{setting_of, coding_of, low}
 use Rattle.papaya_core.specs.Store.{StoreState, Stored, pair_of, stored_at, stored_in}

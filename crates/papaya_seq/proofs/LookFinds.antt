@@ -9,12 +9,14 @@ use Rattle.papaya_call.specs.declared.call.Task.TheVariants.{Get as Get_task}
 use Rattle.papaya_call.specs.declared.call.Reply.{Reply}
 use Rattle.papaya_call.specs.declared.call.Reply.TheVariants.{Absent, Found, Inserted, Replaced, Occupied, Removed, Kept, Aborted, Refused}
 use Rattle.papaya_call.specs.declared.machine.Machine.{Machine}
-use Rattle.papaya_call.specs.Alone.{HasMetNone}
+use Rattle.papaya_rests.specs.Alone.{HasMetNone}
 use Rattle.papaya_call.specs.Machine.{after, ask_of, started}
+use Rattle.papaya_rests.proofs.Tasks.{same_task}
 use Rattle.papaya_core.specs.Content.{map_of}
 use Rattle.papaya_core.specs.Maps.{Map, Does}
 use Rattle.papaya_core.specs.Solo.{IsAnswered}
-use Rattle.papaya_core.specs.Store.{StoreState, Stored, hash_of}
+use Rattle.papaya_core.specs.Store.{StoreState, Stored}
+use Rattle.papaya_keys.specs.Hashes.{hash_of}
 use Rattle.papaya_core.proofs.SoloLaw.{alone_answered}
 use Rattle.papaya_core.proofs.KeptCore.{keys_lawful}
 use Rattle.papaya_core.proofs.KeptSettings.{IsLawfulKeys}
@@ -22,19 +24,19 @@ use Rattle.papaya_seq.specs.Looks.{IsFound, LooksUp, Replies, found_number, repl
 use Rattle.papaya_seq.specs.Map.{Holds, IsLawfulMap, MapState, core_of}
 use Rattle.papaya_seq.proofs.Lawful.{IsMatched, MatchesNone, decided, logged_content, lookup_has_none, lookup_holds, none_held}
 use Rattle.papaya_seq.proofs.LookRun.{look_alone}
-use Rattle.papaya_seq.proofs.LookSteps.{IsLooking, IsLookReply, IsLookUp, look_replies, lookup_looks, lookup_meets_none, none_replies, same_task}
+use Rattle.papaya_seq.proofs.LookSteps.{IsLooking, IsLookReply, IsLookUp, look_replies, lookup_looks, lookup_meets_none, none_replies}
 
 module _ {K V S : Type 0} (eq : K → K → Bool) (hash : K → ℕ) (mode : ResizeMode) (store : StoreState K V S) (lawful : IsLawfulMap eq hash store mode) (keys : IsLawfulKeys eq hash) (matches : K → Bool) where
   -- where no pair of the log matches, the reply is that there is none
   unmatched_reply : MatchesNone store matches → (answers : List Answer) (m : Machine) (reply : Reply) → m.task ≡ Get_task → IsLooking store m.state → HasMetNone m.state → Replies matches store m answers reply → reply ≡ Absent
   unmatched_reply none [] m reply is_get looking met done = none_replies m.made m.hash m.state reply met done
   unmatched_reply none (answer ∷ rest) m reply is_get looking met (told, more) =
-      unmatched_reply none rest (after m answer) reply (same_task m answer ∙ is_get) (lookup_looks eq hash mode store lawful keys matches m is_get looking answer told) (lookup_meets_none eq hash mode store lawful keys matches m is_get looking answer told none met) more
+      unmatched_reply none rest (after m answer) reply ((same_task m answer).0 ∙ is_get) (lookup_looks eq hash mode store lawful keys matches m is_get looking answer told) (lookup_meets_none eq hash mode store lawful keys matches m is_get looking answer told none met) more
 
   -- the replies of a lookup
   reply_fits : (answers : List Answer) (m : Machine) (reply : Reply) → m.task ≡ Get_task → IsLooking store m.state → Replies matches store m answers reply → IsLookReply reply
   reply_fits [] m reply is_get looking done = look_replies store m.made m.hash m.state reply looking done
-  reply_fits (answer ∷ rest) m reply is_get looking (told, more) = reply_fits rest (after m answer) reply (same_task m answer ∙ is_get) (lookup_looks eq hash mode store lawful keys matches m is_get looking answer told) more
+  reply_fits (answer ∷ rest) m reply is_get looking (told, more) = reply_fits rest (after m answer) reply ((same_task m answer).0 ∙ is_get) (lookup_looks eq hash mode store lawful keys matches m is_get looking answer told) more
 
   -- the pair that a reply names is the map's, or there is none
   pub record Finds (reply : Reply) : Type 0 where

@@ -1,9 +1,13 @@
 -- What is answered of the pair that a lookup found.
-use Rattle.std.proofs.Common.{◌≡◌, ℕ, Bool, Option, Some, None, is_some, option_map, MatchBool, MatchOption, sym, ◌∙◌, ap, subst}
+use Rattle.std.proofs.Common.{◌≡◌, ℕ, Bool, Option, Some, None, is_some, option_map, MatchBool, MatchOption, refl, sym, ◌∙◌, ap, subst}
 use denote.Ref.{Bor}
+use Rattle.std.specs.Cmp.{IsEquivalence}
+use Rattle.papaya_law.specs.Content.{AreApart}
+use Rattle.papaya_core.specs.Content.{content, map_in}
 use Rattle.papaya_core.specs.Store.{StoreState, Stored, pair_of}
 use Rattle.papaya_seq.specs.Looks.{IsFound}
-use Rattle.papaya_seq.specs.Map.{HasNone, Holds}
+use Rattle.papaya_seq.specs.Map.{HasNone, Holds, deref_pair, entry_of, value_of}
+use Rattle.papaya_seq.proofs.CallsDone.{found_apart, found_none}
 
 module _ {K V S : Type 0} (matches : K → Bool) (store : StoreState K V S) where
   -- a key is in the map where a pair was found
@@ -16,7 +20,7 @@ module _ {K V S : Type 0} (matches : K → Bool) (store : StoreState K V S) wher
   Refers n entry = MatchOption entry (pair_of store n ≡ None) (λ e. pair_of store n ≡ Some (record { number = n; key = e.0.now; value = e.1.now }))
 
   -- they are those of the map's pair
-  abbrev RefersTo : Option (Bor K × Bor V) → Type 0
+  abbrev pub RefersTo : Option (Bor K × Bor V) → Type 0
   RefersTo entry = MatchOption entry (HasNone matches store) (λ e. (p : Stored K V) × Holds matches store p × (p.key ≡ e.0.now) × (p.value ≡ e.1.now))
 
   -- the entry of a number in the log is the pair that was found
@@ -30,3 +34,25 @@ module _ {K V S : Type 0} (matches : K → Bool) (store : StoreState K V S) wher
   pub refers_found : (found : Option (Stored K V)) (n : ℕ) (entry : Option (Bor K × Bor V)) → IsFound matches store found → Some n ≡ option_map (λ p. p.number) found → Refers n entry → RefersTo entry
   refers_found None n entry is e told = absurd cc
   refers_found (Some p) n entry is e told = let number : n ≡ p.number = cc e in entry_found p n entry is.0 (ap (pair_of store) number ∙ is.1) told
+
+module _ {K V S : Type 0} (eq : K → K → Bool) (classes : IsEquivalence eq) (matches : K → Bool) (store : StoreState K V S) (apart : AreApart eq (λ p. p.key) (content store)) (k : K) (alike : (l : K) → matches l ≡ eq k l) where
+  -- what a lookup by a key that matches k refers to is what the finite map has at k
+  pub refers_map : (entry : Option (Bor K × Bor V)) → RefersTo matches store entry → option_map deref_pair entry ≡ option_map entry_of (map_in eq store k)
+  refers_map None none = ap (option_map entry_of) (sym (found_none eq classes (content store) k (λ i d within. sym (alike _) ∙ none i d within)))
+  refers_map (Some e) (p, holds, key, value) =
+      ap (λ x. Some (x, e.1.now)) (sym key) ∙ ap (λ y. Some (p.key, y)) (sym value) ∙ ap (option_map entry_of) (sym (found_apart eq classes (content store) apart k p holds.there (sym (alike p.key) ∙ holds.key)))
+
+  -- what a lookup by such a key found is what the finite map has
+  pub found_map : (found : Option (Stored K V)) → IsFound matches store found → map_in eq store k ≡ found
+  found_map None none = found_none eq classes (content store) k (λ i d within. sym (alike _) ∙ none i d within)
+  found_map (Some p) (holds, logged) = found_apart eq classes (content store) apart k p holds.there (sym (alike p.key) ∙ holds.key)
+
+-- a pair is there where its number is
+pub number_there : {K V : Type 0} (found : Option (Stored K V)) → is_some (option_map (λ p. p.number) found) ≡ is_some found
+number_there None = refl
+number_there (Some p) = refl
+
+-- the value of an entry
+pub entry_value : {K V : Type 0} (entry : Option (K × V)) (o : Option (Stored K V)) → entry ≡ option_map entry_of o → option_map (λ e. e.1) entry ≡ value_of o
+entry_value entry None is = ap (option_map (λ e. e.1)) is
+entry_value entry (Some p) is = ap (option_map (λ e. e.1)) is

@@ -11,6 +11,7 @@ use Rattle.papaya_call.specs.declared.call.Reply.{Reply}
 use Rattle.papaya_call.specs.declared.call.Reply.TheVariants.{Refused as Reply_refused}
 use Rattle.papaya_call.specs.declared.machine.Machine.{Machine}
 use Rattle.papaya_call.specs.Machine.{after, ask_of, kind_of_ask, started}
+use Rattle.papaya_rests.proofs.Tasks.{same_task}
 use Rattle.papaya_core.specs.declared.pairs.KeyOf.TheVariants.{Own}
 use Rattle.papaya_core.specs.declared.pairs.Running.{Running}
 use Rattle.papaya_core.specs.declared.trace.Entry.{Entry}
@@ -26,7 +27,7 @@ use Rattle.papaya_core.specs.Store.{Stored, pair_of}
 use Rattle.papaya_core.proofs.KeptSettings.{IsLawfulKeys}
 use Rattle.papaya_seq.specs.Looks.{IsToldBy, Replies, matches_in}
 use Rattle.papaya_seq.specs.Map.{IsLawfulMap, MapState, core_of}
-use Rattle.papaya_seq.proofs.LookSteps.{IsLooking, IsLookReply, look_replies, lookup_looks, same_task}
+use Rattle.papaya_seq.proofs.LookSteps.{IsLooking, IsLookReply, look_replies, lookup_looks}
 
 module _ {K V S : Type 0} (eq : K → K → Bool) (hash : S → K → ℕ) (s : MapState K V S) (lawful : IsLawfulMap eq (hash s.store.hasher) s.store s.mode) (keys : IsLawfulKeys eq (hash s.store.hasher))
     (k : K) (matches : K → Bool) (alike : (l : K) → matches l ≡ eq k l) where
@@ -112,7 +113,7 @@ module _ {K V S : Type 0} (eq : K → K → Bool) (hash : S → K → ℕ) (s : 
       let event : Event = event_of (kind_of_ask m) (ask_of m) answer in
       let looks : IsLooking s.store (after m answer).state = lookup_looks eq (hash s.store.hasher) s.mode s.store lawful keys matches m is_get looking answer told in
       let step = told_steps m answer None told (sym (told_goes (ask_of (after m answer)) next more.0)) (λ refused e. absurd cc) in
-      run_rest begun (after m answer) (with_event 1 0 event so_far) (suc steps) next rest reply (same_task m answer ∙ is_get) looks (core_in (Some (getting m)), so_far, run, inl (event, None, step, refl)) more
+      run_rest begun (after m answer) (with_event 1 0 event so_far) (suc steps) next rest reply ((same_task m answer).0 ∙ is_get) looks (core_in (Some (getting m)), so_far, run, inl (event, None, step, refl)) more
 
   -- the whole call
   pub look_alone : hash s.store.hasher k < 2 ^ 64 → (answers : List Answer) (reply : Reply) → Replies matches s.store (started Get_task (hash s.store.hasher k) s.mode s.initial) answers reply → RunsAlone eq hash (core_of s) (Get k) reply (core_in None)

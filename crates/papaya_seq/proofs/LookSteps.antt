@@ -8,7 +8,7 @@ use Rattle.papaya_words.specs.declared.probe.ResizeMode.TheVariants.{Incremental
 use Rattle.papaya_words.specs.declared.word.Kind.{Kind}
 use Rattle.papaya_words.specs.declared.word.Kind.TheVariants as word_kinds
 use Rattle.papaya_call.specs.declared.ask.Answer.{Answer}
-use Rattle.papaya_call.specs.declared.ask.Answer.TheVariants.{Word as Word_read, Exchanged, Found as Found_instead, Yes, Op, Size, Made as Made_number, Ok as Ok_done, Refused as Was_refused}
+use Rattle.papaya_call.specs.declared.ask.Answer.TheVariants.{Word as Word_read, Yes}
 use Rattle.papaya_call.specs.declared.ask.Ask.TheVariants.{Done as Ask_done}
 use Rattle.papaya_call.specs.declared.ask.At.TheVariants.{Next, Slot}
 use Rattle.papaya_call.specs.declared.call.Reply.{Reply}
@@ -24,12 +24,13 @@ use Rattle.papaya_call.specs.declared.search.Search.TheVariants.{Sizing, Looking
 use Rattle.papaya_call.specs.declared.search.Seen.{Seen}
 use Rattle.papaya_call.specs.declared.search.Seen.TheVariants as seen
 use Rattle.papaya_call.specs.declared.write.Made.{Made}
-use Rattle.papaya_call.specs.Alone.{HasMetNone, IsCurrent, IsPrompt, IsSeeker, IsUnmatched, left}
+use Rattle.papaya_rests.specs.Alone.{HasMetNone, IsCurrent, IsPrompt, IsSeeker, IsUnmatched, left}
 use Rattle.papaya_call.specs.Machine.{IsStanding, started, after, ask_of, asks, passes, goes_as}
-use Rattle.papaya_call.proofs.AloneCurrent.{machine_stays}
-use Rattle.papaya_call.proofs.AloneSteps.{machine_nears}
-use Rattle.papaya_call.proofs.AloneUnmatched.{machine_meets_none}
+use Rattle.papaya_rests.proofs.AloneCurrent.{machine_stays}
+use Rattle.papaya_rests.proofs.AloneSteps.{machine_nears}
+use Rattle.papaya_rests.proofs.AloneUnmatched.{machine_meets_none}
 use Rattle.papaya_call.specs.Search.{IsSize, next_place, go_on, look_at, look, match_at, at_yes as search_compared}
+use Rattle.papaya_rests.proofs.Tasks.{same_task}
 use Rattle.papaya_core.specs.Performs.{size_of}
 use Rattle.papaya_core.specs.Store.{StoreState, Stored, pair_of}
 use Rattle.papaya_core.specs.Tables.{table_of, word_at}
@@ -220,18 +221,6 @@ module _ {K V S : Type 0} (store : StoreState K V S) where
     unmatched_in none (Uncounting n) answer looking told = absurd looking
     unmatched_in none (Growing t) answer looking told = absurd looking
 
--- no answer changes what a call is for
-pub same_task : (m : Machine) (answer : Answer) → (after m answer).task ≡ m.task
-same_task m (Word_read word) = refl
-same_task m Exchanged = refl
-same_task m (Found_instead word) = refl
-same_task m (Yes same) = refl
-same_task m (Op kind) = refl
-same_task m (Size slots limit) = refl
-same_task m (Made_number n) = refl
-same_task m Ok_done = refl
-same_task m (Was_refused refused) = refl
-
 -- a call that has met none replies that there is none
 pub none_replies : (made : Made) (hash : ℕ) (s : State) (reply : Reply) → HasMetNone s → asks made hash s ≡ Ask_done reply → reply ≡ Absent
 none_replies made hash AtRoot reply none e = absurd cc
@@ -290,7 +279,7 @@ module _ {K V S : Type 0} (eq : K → K → Bool) (hash : K → ℕ) (mode : Res
   look_up_goes begun kept standing =
       record {
         standing = standing;
-        task = same_task m answer ∙ getting;
+        task = (same_task m answer).0 ∙ getting;
         looking = lookup_looks;
         current = lookup_current kept.current;
         told = λ answers reply replies. kept.told (answer ∷ answers) reply (told, replies);

@@ -4,7 +4,7 @@ use denote.Ref.{Bor}
 use Rattle.std.proofs.lemmas.Bool.{cases_Bool}
 use Rattle.std.specs.Cmp.{IsEquivalence}
 use Rattle.std.specs.Fn.{Mut}
-use Rattle.papaya_call.specs.Says.{Agrees, said_of_removal}
+use Rattle.papaya_rests.specs.Says.{Agrees, said_of_removal}
 use Rattle.papaya_call.specs.declared.call.Reply.{Reply}
 use Rattle.papaya_call.specs.declared.call.Reply.TheVariants.{Absent, Found, Inserted, Replaced, Occupied, Removed, Kept, Aborted, Refused}
 use Rattle.papaya_core.specs.Content.{content, map_in}

@@ -2,9 +2,9 @@
 use Rattle.std.proofs.Common.{◌≡◌, ℕ, ◌^◌, ◌<◌, ℤ, negsuc, slice_get, Bool, None, refl, sym, ◌∙◌, ap, subst}
 use denote.Ref.{Bor}
 use Rattle.std.specs.Fn.{Mut}
-use Rattle.papaya_call.specs.Alone.{HasMetNone, IsRead}
+use Rattle.papaya_rests.specs.Alone.{HasMetNone, IsRead}
 use Rattle.papaya_call.specs.Machine.{after, ask_of, asks, started}
-use Rattle.papaya_call.specs.Says.{said_in, said_of_removal}
+use Rattle.papaya_rests.specs.Says.{said_in, said_of_removal}
 use Rattle.papaya_call.specs.declared.ask.Answer.{Answer}
 use Rattle.papaya_call.specs.declared.ask.Ask.TheVariants.{AddToShard, Done as Ask_done}
 use Rattle.papaya_call.specs.declared.call.Reply.{Reply}
@@ -15,9 +15,10 @@ use Rattle.papaya_call.specs.declared.machine.State.{State}
 use Rattle.papaya_call.specs.declared.machine.State.TheVariants.{AtRoot, Making, Opening, Searching, Writing, Offering, Showing, Pairing, Putting, Burying, Counting, Uncounting, Leaving, Growing, Ended}
 use Rattle.papaya_call.specs.declared.search.Search.TheVariants.{Sizing, Looking, Comparing}
 use Rattle.papaya_call.specs.declared.write.Made.{Made}
+use Rattle.papaya_core.proofs.KeptSettings.{IsLawfulKeys}
 use Rattle.papaya_core.specs.Solo.{RunsAlone}
 use Rattle.papaya_core.specs.Store.{StoreState, pair_of, stored_in}
-use Rattle.papaya_seq.specs.Map.{MapState, core_of}
+use Rattle.papaya_seq.specs.Map.{IsLawfulMap, MapState, core_of}
 use Rattle.papaya_seq.proofs.Lawful.{MatchesNone}
 use Rattle.papaya_seq.proofs.RemovalTurns.{IsFound, IsJudged, Turns, machine_turns}
 use Rattle.papaya_seq.proofs.Removing.{IsAnswer, IsEnd, IsLogOf, IsStage, answered_going, performed, removal_by, removing}
@@ -117,8 +118,8 @@ module _ {K V S F : Type 0} (g : Mut F (Bor K × (Bor V × Unit {0})) Bool) (eq 
     judged_reply = subst (λ st. IsJudged g matches map.store agrees (said_in RemoveIf st) f) state_is now.judged
 
     -- by an owned key it is a call made alone
-    pub alone : (k : K) → ((l : K) → matches l ≡ eq k l) → hash map.store.hasher k ≡ hashed → hash map.store.hasher k < 2 ^ 64 → RunsAlone eq hash (core_of map) (removal_by k) reply (seated s None map.mode map.initial)
-    alone k alike same fits = made_alone eq hash map (removal_by k) fits s (removing m k) reply e (now.matched k alike same)
+    pub alone : IsLawfulKeys eq (hash map.store.hasher) → IsLawfulMap eq (hash map.store.hasher) map.store map.mode → (k : K) → ((l : K) → matches l ≡ eq k l) → hash map.store.hasher k ≡ hashed → hash map.store.hasher k < 2 ^ 64 → RunsAlone eq hash (core_of map) (removal_by k) reply (seated s None map.mode map.initial)
+    alone keys lawful k alike same fits = made_alone eq hash map (removal_by k) keys lawful fits s (removing m k) reply e (now.matched k alike same)
 
     -- and by what matches no pair, it finds nothing
     pub unmet : MatchesNone map.store matches → (reply ≡ Absent) × (s ≡ map.store)

@@ -7,10 +7,10 @@ use Rattle.papaya_words.specs.Table.{TableWords}
 use Rattle.papaya_words.specs.Word.{kind_of, pair_of as number_of}
 use Rattle.papaya_words.specs.declared.probe.ResizeMode.{ResizeMode}
 use Rattle.papaya_words.specs.declared.word.Kind.TheVariants as kinds
-use Rattle.papaya_call.specs.Alone.{HasMetNone, IsBare, IsPrompt, IsRead, IsUnmatched, left, word_of_place}
+use Rattle.papaya_rests.specs.Alone.{HasMetNone, IsBare, IsPrompt, IsRead, IsUnmatched, left, word_of_place}
 use Rattle.papaya_call.specs.Machine.{IsFit, after, agreed, ask_of}
 use Rattle.papaya_call.specs.Remove.{grave_word}
-use Rattle.papaya_call.specs.Says.{Said, Agrees, Inserts, Makes, Removes, said_in}
+use Rattle.papaya_rests.specs.Says.{Said, Agrees, Inserts, Makes, Removes, said_in}
 use Rattle.papaya_call.specs.Search.{IsSize, look}
 use Rattle.papaya_call.specs.declared.ask.Answer.{Answer}
 use Rattle.papaya_call.specs.declared.ask.Answer.TheVariants.{Word as Word_read, Exchanged, Yes, Size, Ok as Ok_done}
@@ -26,9 +26,9 @@ use Rattle.papaya_call.specs.declared.remove.Removal.{Removal}
 use Rattle.papaya_call.specs.declared.search.Place.{Place}
 use Rattle.papaya_call.specs.declared.search.Search.TheVariants.{Sizing, Looking, Comparing}
 use Rattle.papaya_call.specs.declared.write.Made.{Made}
-use Rattle.papaya_call.proofs.AloneCurrent.{machine_stays}
-use Rattle.papaya_call.proofs.AloneSteps.{exchange_done, machine_nears}
-use Rattle.papaya_call.proofs.AloneUnmatched.{machine_meets_none}
+use Rattle.papaya_rests.proofs.AloneCurrent.{machine_stays}
+use Rattle.papaya_rests.proofs.AloneSteps.{exchange_done, machine_nears}
+use Rattle.papaya_rests.proofs.AloneUnmatched.{machine_meets_none}
 use Rattle.papaya_core.specs.Performs.{size_of}
 use Rattle.papaya_core.specs.Store.{StoreState, Stored, pair_of}
 use Rattle.papaya_core.specs.Tables.{put, table_of, word_at}

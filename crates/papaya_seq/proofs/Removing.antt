@@ -11,7 +11,7 @@ use Rattle.papaya_words.specs.declared.probe.ResizeMode.TheVariants.{Incremental
 use Rattle.papaya_words.specs.declared.word.Kind.{Kind}
 use Rattle.papaya_words.specs.declared.word.Kind.TheVariants as kinds
 use Rattle.papaya_call.specs.Machine.{goes_as, passes, removes}
-use Rattle.papaya_call.specs.Says.{said_in}
+use Rattle.papaya_rests.specs.Says.{said_in}
 use Rattle.papaya_call.specs.Search.{at_yes as search_compared, go_on, look_at, match_at, next_place}
 use Rattle.papaya_call.specs.declared.ask.Answer.{Answer}
 use Rattle.papaya_call.specs.declared.ask.Answer.TheVariants.{Word as Word_read, Yes, Ok as Ok_done}

@@ -1,16 +1,15 @@
 -- The call of a map for one caller as the steps of a core with one seat.
-use Rattle.std.proofs.Common.{◌≡◌, ℕ, suc, ◌+◌, ◌^◌, ◌<◌, ◌==◌, Bool, true, false, Option, None, Some, List, [], ◌∷◌, length, inl, inr, refl, sym, ◌∙◌, ap, subst}
+use Rattle.std.proofs.Common.{◌≡◌, ℕ, suc, ◌+◌, ◌^◌, ◌<◌, ◌==◌, Bool, true, false, Option, None, Some, List, [], ◌∷◌, ◌++◌, length, inl, inr, refl, sym, ◌∙◌, ap, subst}
 use Rattle.std.specs.Prelude.{MatchBool}
 use Rattle.papaya_words.specs.Table.{TableWords}
 use Rattle.papaya_words.specs.declared.probe.Refused.TheVariants.{Memory, Capacity}
 use Rattle.papaya_words.specs.declared.probe.ResizeMode.{ResizeMode}
-use Rattle.papaya_call.specs.Alone.{IsMaking, IsPrompt, IsPut, IsSame}
+use Rattle.papaya_rests.specs.Alone.{IsMaking, IsPrompt, IsPut, IsSame}
 use Rattle.papaya_call.specs.Answers.{Says}
 use Rattle.papaya_call.specs.declared.ask.Ask.{Ask}
 use Rattle.papaya_call.specs.declared.ask.Ask.TheVariants.{Load, Exchange, SameKey, ShowNone, ShowPair, SizeOf, MakeKey, MakePair, MakeTable, AddToShard, Done as Ask_done}
 use Rattle.papaya_call.specs.declared.ask.Answer.{Answer}
-use Rattle.papaya_call.specs.declared.ask.Answer.TheVariants.{Word as Word_read, Exchanged, Found as Found_instead, Yes, Op, Size, Made as Made_number, Ok as Ok_done, Refused as Was_refused}
-use Rattle.papaya_call.specs.declared.machine.Machine.{Machine}
+use Rattle.papaya_call.specs.declared.ask.Answer.TheVariants.{Exchanged, Found as Found_instead}
 use Rattle.papaya_call.specs.declared.ask.At.{At}
 use Rattle.papaya_call.specs.declared.ask.At.TheVariants.{Root, Next, Aborted, Done, Slot}
 use Rattle.papaya_call.specs.declared.call.Call.{Call}
@@ -24,16 +23,19 @@ use Rattle.papaya_core.specs.declared.trace.Event.{Event}
 use Rattle.papaya_core.specs.declared.trace.Event.TheVariants.{Begun, Replied}
 use Rattle.papaya_core.specs.declared.trace.Turn.TheVariants.{Begin, Finish}
 use Rattle.papaya_core.specs.Advances.{Advances, event_of, goes_on, reply_in}
-use Rattle.papaya_core.specs.Begins.{begun, key_of_call}
+use Rattle.papaya_core.specs.Begins.{Begins, begun, key_of_call}
 use Rattle.papaya_core.specs.Core.{CoreState}
+use Rattle.papaya_core.specs.Kept.{IsLawfulCore, begun_tales, told_tales}
 use Rattle.papaya_core.specs.Performs.{Performs, Refuses, size_of}
 use Rattle.papaya_core.specs.Runs.{History, StepsRun, with_event, with_step}
 use Rattle.papaya_core.specs.Solo.{RunsAlone, whatever}
 use Rattle.papaya_core.specs.Store.{StoreState}
 use Rattle.papaya_core.specs.Tables.{Tables, put, table_of, word_at}
-use Rattle.papaya_core.proofs.CoreLemmas.{caused, still_going}
+use Rattle.papaya_core.proofs.HeadlineLemmas.{advance-core, begin-core}
+use Rattle.papaya_core.proofs.KeptLemmas.{IsLawfulKeys, kept_begin, kept_step}
+use Rattle.papaya_core.proofs.RefusedLemmas.{caused}
 use Rattle.papaya_core.proofs.KeptTables.{word-here, word-made, word-other}
-use Rattle.papaya_seq.specs.Map.{MapState, core_of}
+use Rattle.papaya_seq.specs.Map.{IsLawfulMap, MapState, core_of}
 
 -- a core whose one seat has this call
 abbrev pub seated : {K V S A : Type 0} → StoreState K V S → Option (Running K V A) → ResizeMode → ℕ → CoreState K V S A
@@ -43,17 +45,35 @@ seated store call mode initial = record { store = store; callers = record { call
 abbrev pub still : {K V A : Type 0} → Running K V A → Option (Running K V A)
 still r = goes_on (reply_in (ask_of r.machine)) r
 
-module _ {K V S A : Type 0} (eq : K → K → Bool) (hash : S → K → ℕ) (s : MapState K V S) (call : Call K V A) where
-  -- The call came to this by steps of the core; where it has replied, the last of them gave the reply.
-  pub record IsMade (store : StoreState K V S) (r : Running K V A) : Type 0 where
+module _ {K V S : Type 0} (eq : K → K → Bool) (hash : S → K → ℕ) (s : MapState K V S) (call : Call K V (Unit {0})) where
+  -- The call came to this by steps of the core, which is in order; where it has replied, the last of them gave the reply.
+  pub record HasCome (store : StoreState K V S) (r : Running K V (Unit {0})) : Type 0 where
     pub steps : ℕ
     pub history : History
     pub runs : StepsRun eq whatever hash 1 0 steps (seated s.store (Some (begun (hash s.store.hasher) s.mode s.initial call)) s.mode s.initial) (with_event 0 0 Begun []) (seated store (still r) s.mode s.initial) history
     pub replied : (reply : Reply) → reply_in (ask_of r.machine) ≡ Some reply → (last : Entry) × (before : History) × (history ≡ last ∷ before) × (last.event ≡ Replied reply)
+    pub lawful : IsLawfulCore eq (hash s.store.hasher) store (record { caller = 0; call = still r } ∷ []) s.mode
+
+  -- so from a map that is in order
+  abbrev pub IsMade : StoreState K V S → Running K V (Unit {0}) → Type 0
+  IsMade store r = IsLawfulKeys eq (hash s.store.hasher) → IsLawfulMap eq (hash s.store.hasher) s.store s.mode → hash s.store.hasher (key_of_call call) < 2 ^ 64 → HasCome store r
 
   -- a call that begins
   pub made_none : IsMade s.store (begun (hash s.store.hasher) s.mode s.initial call)
-  made_none = record { steps = 0; history = with_event 0 0 Begun []; runs = (refl, refl); replied = λ reply e. let f : None ≡ Some reply = e in absurd cc }
+  made_none keys lawful fits =
+      let begun_seat = seated s.store (Some (begun (hash s.store.hasher) s.mode s.initial call)) s.mode s.initial in
+      let begins : Begins (hash s.store.hasher) (core_of s) 0 call begun_seat = record { store = refl; callers = refl; mode = refl; initial = refl; fits = fits } in
+      let (es, (tales, kept)) = lawful.lawful.law in
+      record {
+        steps = 0;
+        history = with_event 0 0 Begun [];
+        runs = (refl, refl);
+        replied = λ reply e. let f : None ≡ Some reply = e in absurd cc;
+        lawful = record {
+          core = begin-core (hash s.store.hasher) (core_of s) 0 call begun_seat begins lawful.lawful.core;
+          law = (es, (begun_tales tales 0 es, kept_begin eq (hash s.store.hasher) keys (core_of s) 0 call begun_seat begins fits es tales kept));
+        };
+      }
 
   -- the last of a step's entries is its reply
   last_entry : (event : Event) (o : Option Reply) (before : History) (reply : Reply) → o ≡ Some reply → (last : Entry) × (rest : History) × (with_step 1 0 event o before ≡ last ∷ rest) × (last.event ≡ Replied reply)
@@ -63,8 +83,10 @@ module _ {K V S A : Type 0} (eq : K → K → Bool) (hash : S → K → ℕ) (s 
       (record { turn = 1; caller = 0; event = Replied told }, with_event 1 0 event before, refl, ap Replied same)
 
   -- one more ask is answered
-  pub made_more : (store : StoreState K V S) (r : Running K V A) (answer : Answer) (store' : StoreState K V S) (later : Running K V A) → reply_in (ask_of r.machine) ≡ None → Performs eq whatever false (ask_of r.machine) store r answer store' later → later.machine ≡ r.machine → IsMade store r → IsMade store' (record later { machine = after r.machine answer })
-  made_more store r answer store' later going performs same made =
+  pub made_more : (store : StoreState K V S) (r : Running K V (Unit {0})) (answer : Answer) (store' : StoreState K V S) (later : Running K V (Unit {0})) → reply_in (ask_of r.machine) ≡ None → Performs eq whatever false (ask_of r.machine) store r answer store' later → later.machine ≡ r.machine → IsMade store r → IsMade store' (record later { machine = after r.machine answer })
+  made_more store r answer store' later going performs same came keys lawful fits =
+      let made = came keys lawful fits in
+      let (es, (tales, kept)) = made.lawful.law in
       let m = after r.machine answer in
       let reply = reply_in (ask_of m) in
       let event = event_of (kind_of_ask r.machine) (ask_of r.machine) answer in
@@ -82,9 +104,12 @@ module _ {K V S A : Type 0} (eq : K → K → Bool) (hash : S → K → ℕ) (s 
         callers = refl;
         mode = refl;
         initial = refl;
-        cause = λ refused e. caused r.machine answer refused (still_going r.machine going) e;
+        cause = λ refused e. caused eq (hash s.store.hasher) keys now made.lawful.core es tales kept 0 r (ap (λ o. goes_on o r) going) answer refused e;
       } in
+      let core = advance-core eq whatever false now 0 next event reply advances made.lawful.core in
+      let step = kept_step eq (hash s.store.hasher) keys false now 0 next event reply advances es tales made.lawful.core kept in
       record {
+        lawful = record { core = core; law = (es ++ step.made, (told_tales tales 0 step.made step.hands, step.kept)) };
         steps = suc made.steps;
         history = with_step 1 0 event reply made.history;
         runs = (now, made.history, made.runs, inl (event, reply, advances, refl));
@@ -92,8 +117,9 @@ module _ {K V S A : Type 0} (eq : K → K → Bool) (hash : S → K → ℕ) (s 
       }
 
   -- the call has replied: it was made alone
-  pub made_alone : hash s.store.hasher (key_of_call call) < 2 ^ 64 → (store : StoreState K V S) (r : Running K V A) (reply : Reply) → ask_of r.machine ≡ Ask_done reply → IsMade store r → RunsAlone eq hash (core_of s) call reply (seated store None s.mode s.initial)
-  made_alone fits store r reply e made =
+  pub made_alone : IsLawfulKeys eq (hash s.store.hasher) → IsLawfulMap eq (hash s.store.hasher) s.store s.mode → hash s.store.hasher (key_of_call call) < 2 ^ 64 → (store : StoreState K V S) (r : Running K V (Unit {0})) (reply : Reply) → ask_of r.machine ≡ Ask_done reply → IsMade store r → RunsAlone eq hash (core_of s) call reply (seated store None s.mode s.initial)
+  made_alone keys lawful fits store r reply e came =
+      let made = came keys lawful fits in
       let told : reply_in (ask_of r.machine) ≡ Some reply = ap reply_in e in
       let ends = made.replied reply told in
       let start = seated s.store (Some (begun (hash s.store.hasher) s.mode s.initial call)) s.mode s.initial in
@@ -240,18 +266,6 @@ prompt_single MakePair store r answer words' there told t last = told.1 (Next t)
 prompt_single (MakeTable slots limit) store r answer words' there told t last = told.1 (Next t) ∙ last
 prompt_single (AddToShard by) store r answer words' there told t last = told.1 (Next t) ∙ last
 prompt_single (Ask_done reply) store r answer words' there told t last = absurd there
-
--- a machine's task and hash stay
-pub same_task : (m : Machine) (answer : Answer) → ((after m answer).task ≡ m.task) × ((after m answer).hash ≡ m.hash)
-same_task m (Word_read word) = (refl, refl)
-same_task m Exchanged = (refl, refl)
-same_task m (Found_instead word) = (refl, refl)
-same_task m (Yes same) = (refl, refl)
-same_task m (Op kind) = (refl, refl)
-same_task m (Size slots limit) = (refl, refl)
-same_task m (Made_number n) = (refl, refl)
-same_task m Ok_done = (refl, refl)
-same_task m (Was_refused refused) = (refl, refl)
 
 -- an ask that is no reply has none in it
 pub unreplied : (ask : Ask) → ((reply : Reply) → ask ≡ Ask_done reply → ⊥) → reply_in ask ≡ None

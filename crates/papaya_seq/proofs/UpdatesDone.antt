@@ -1,5 +1,5 @@
 -- What the calls answer that are computes, by what their closures answer.
-use Rattle.std.proofs.Common.{◌≡◌, ◌⊎◌, inl, inr, ℕ, Bool, Option, Some, None, Result, Ok, Err, IsSome, MatchOption, option_map, refl, sym, ◌∙◌, ap, subst}
+use Rattle.std.proofs.Common.{◌≡◌, inl, inr, ℕ, Bool, Option, Some, None, Result, Ok, Err, IsSome, MatchOption, option_map, refl, sym, ◌∙◌, ap, subst}
 use denote.Ref.{Bor}
 use Rattle.std.specs.Cmp.{IsEquivalence}
 use Rattle.papaya_words.specs.declared.probe.Refused.{Refused}
@@ -8,11 +8,11 @@ use Rattle.papaya_call.specs.declared.answers.Operation.TheVariants.{Insert, Rem
 use Rattle.papaya_core.specs.Content.{map_in}
 use Rattle.papaya_core.specs.Store.{Stored, pair_of}
 use Rattle.papaya_seq.specs.Computes.{ComputesBy, IsRefused, IsTriedWith, IsUpdated, IsUpdatedOrInserted, Says}
-use Rattle.papaya_seq.specs.Map.{Inserts, IsCause, IsOccupied, Keeps, MapState, Unchanged}
-use Rattle.papaya_seq.specs.declared.compute.Computed.{Computed}
-use Rattle.papaya_seq.specs.declared.compute.Computed.TheVariants.{Inserted, Updated, Removed, Aborted}
+use Rattle.papaya_seq.specs.Map.{IsCause, IsOccupied, Keeps, MapState, Unchanged}
+use Rattle.papaya_keys.specs.declared.compute.Computed.{Computed}
+use Rattle.papaya_keys.specs.declared.compute.Computed.TheVariants.{Inserted, Updated, Removed, Aborted}
 use Rattle.papaya_seq.proofs.Answered.{logged_there}
-use Rattle.papaya_seq.proofs.ComputesDone.{Facts, Leaves, Refuses, StoresPair, StoresValue, facts_of, said_none, said_some, value_stored}
+use Rattle.papaya_seq.proofs.ComputesDone.{Leaves, Refuses, facts_of, said_none, said_some, value_stored}
 
 module _ {K V T : Type 0} (post : Option (Bor K × Bor V) → Operation V T → Type 0) where
   -- of a pair the closure computes a value

@@ -5,12 +5,12 @@ use Rattle.papaya_words.specs.Word.{kind_of}
 use Rattle.papaya_words.specs.declared.probe.ResizeMode.{ResizeMode}
 use Rattle.papaya_words.specs.declared.word.Kind.TheVariants as kinds
 use Rattle.papaya_call.specs.declared.ask.At.TheVariants.{Root, Slot}
-use Rattle.papaya_call.specs.Law.Code.{IsOfKind}
-use Rattle.papaya_call.specs.Law.Exchange.{run, start}
-use Rattle.papaya_call.specs.Law.Invariant.{IsSound, shut}
-use Rattle.papaya_call.proofs.Law.CodeViews.{word_of_kind}
-use Rattle.papaya_call.proofs.Law.Logs.{on_comes}
-use Rattle.papaya_call.proofs.Law.OneMap.{sound}
+use Rattle.papaya_law.specs.Code.{IsOfKind}
+use Rattle.papaya_law.specs.Exchange.{run, start}
+use Rattle.papaya_law.specs.Invariant.{IsSound, shut}
+use Rattle.papaya_law.proofs.CodeViews.{word_of_kind}
+use Rattle.papaya_law.proofs.Logs.{on_comes}
+use Rattle.papaya_law.proofs.OneMap.{sound}
 use Rattle.papaya_core.specs.Kept.{coding_of, low, setting_of}
 use Rattle.papaya_core.specs.Store.{StoreState}
 use Rattle.papaya_core.specs.Tables.{table_of, word_at}

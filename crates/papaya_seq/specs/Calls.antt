@@ -35,30 +35,19 @@ module _ {K V S A : Type 0} (says : Says K V A) (a : A) (held : Option (Stored K
   IsOperated (Aborted t) = Answers says a held (ops.Abort t)
   IsOperated (Refused refusals.RemoveNothing) = Answers says a held ops.Remove
   IsOperated (Refused refused) = (v : V) × Answers says a held (ops.Insert v)
-  IsOperated Absent = ⊥
-  IsOperated (Found n) = ⊥
-  IsOperated (Occupied n) = ⊥
-  IsOperated (Kept n) = ⊥
+  IsOperated _ = ⊥
 
 -- a removal's reply is what its closure's answers gave
 abbrev pub IsJudged : {K V S A : Type 0} → Says K V A → A → Reply → StoreState K V S → Type 0
 IsJudged says a (Removed n) s = Gives says a s n true
 IsJudged says a (Kept n) s = Gives says a s n false
-IsJudged says a Absent s = Unit {0}
-IsJudged says a (Found n) s = Unit {0}
-IsJudged says a (Inserted n) s = Unit {0}
-IsJudged says a (Replaced o n) s = Unit {0}
-IsJudged says a (Occupied n) s = Unit {0}
-IsJudged says a (Aborted t) s = Unit {0}
-IsJudged says a (Refused refused) s = Unit {0}
+IsJudged says a _ s = Unit {0}
 
 -- the reply of a call that has a closure is what its answers gave
 abbrev pub IsSaid : {K V S A : Type 0} → (K → K → Bool) → Says K V A → Call K V A → StoreState K V S → Reply → StoreState K V S → Type 0
 IsSaid eq says (RemoveIf k a) s reply s' = IsJudged says a reply s
 IsSaid eq says (Compute k a) s reply s' = IsOperated says a (map_in eq s k) s' reply
-IsSaid eq says (Get k) s reply s' = Unit {0}
-IsSaid eq says (Insert k v) s reply s' = Unit {0}
-IsSaid eq says (TryInsert k v) s reply s' = Unit {0}
+IsSaid eq says _ s reply s' = Unit {0}
 
 -- A lookup is never refused, an insertion for a cause, a removal only while the root table has a next one, and a compute as an insertion, or where its closure would remove what isn't there.
 abbrev pub MayRefuse : {K V S A : Type 0} → (K → ℕ) → StoreState K V S → Call K V A → words.Refused → Type 0

@@ -9,10 +9,10 @@ use Rattle.papaya_core.specs.Content.{map_in}
 use Rattle.papaya_core.specs.Maps.{IsUpdate}
 use Rattle.papaya_core.specs.Store.{StoreState, Stored, pair_of}
 use Rattle.papaya_seq.specs.Map.{Inserts, IsCause, IsOccupied, Keeps, MapState, Unchanged, deref_pair, entry_of}
-use Rattle.papaya_seq.specs.declared.compute.Compute.{Compute}
-use Rattle.papaya_seq.specs.declared.compute.Compute.TheVariants as shown
-use Rattle.papaya_seq.specs.declared.compute.Computed.{Computed}
-use Rattle.papaya_seq.specs.declared.compute.Computed.TheVariants.{Inserted, Updated, Removed, Aborted}
+use Rattle.papaya_keys.specs.declared.compute.Compute.{Compute}
+use Rattle.papaya_keys.specs.declared.compute.Compute.TheVariants as shown
+use Rattle.papaya_keys.specs.declared.compute.Computed.{Computed}
+use Rattle.papaya_keys.specs.declared.compute.Computed.TheVariants.{Inserted, Updated, Removed, Aborted}
 
 -- these are references to the key and the value of the pair that a class holds, if it holds one
 abbrev pub AreOf : {K V : Type 0} → Option (Bor K × Bor V) → Option (Stored K V) → Type 0

@@ -8,8 +8,8 @@ use Rattle.papaya_call.specs.declared.ask.Answer.TheVariants.{Op}
 use Rattle.papaya_call.specs.declared.ask.OpKind.TheVariants as kinds
 use Rattle.papaya_call.specs.declared.call.Reply.{Reply}
 use Rattle.papaya_call.specs.declared.call.Reply.TheVariants as replies
-use Rattle.papaya_seq.specs.declared.compute.Computed.{Computed}
-use Rattle.papaya_seq.specs.declared.compute.Computed.TheVariants.{Inserted, Updated, Removed, Aborted}
+use Rattle.papaya_keys.specs.declared.compute.Computed.{Computed}
+use Rattle.papaya_keys.specs.declared.compute.Computed.TheVariants.{Inserted, Updated, Removed, Aborted}
 
 -- a closure's answer is told without what it owns, and that is kept: the value of an insertion, and what the call is ended with
 abbrev pub IsKept : {V T : Type 0} → Operation V T → Answer → Option V → Option V → Option T → Option T → Type 0

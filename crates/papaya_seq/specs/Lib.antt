@@ -3,7 +3,6 @@ pub mod Calls
 pub mod Computes
 pub mod Computing
 pub mod Ends
-pub mod Guards
 pub mod Looks
 pub mod Map
 pub mod Removes

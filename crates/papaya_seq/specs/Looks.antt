@@ -24,14 +24,7 @@ module _ {K V S : Type 0} (matches : K → Bool) (store : StoreState K V S) wher
   IsToldBy (Load at) answer = answer ≡ Word (word_at store.words at)
   IsToldBy (SameKey n) answer = answer ≡ Yes (matches_in matches (pair_of store n))
   IsToldBy (SizeOf t) answer = answer ≡ size_of (table_of store.words.tables t)
-  IsToldBy (Exchange at old new) answer = ⊥
-  IsToldBy (ShowPair n) answer = ⊥
-  IsToldBy MakeKey answer = ⊥
-  IsToldBy ShowNone answer = ⊥
-  IsToldBy MakePair answer = ⊥
-  IsToldBy (MakeTable slots limit) answer = ⊥
-  IsToldBy (AddToShard by) answer = ⊥
-  IsToldBy (Done reply) answer = ⊥
+  IsToldBy _ answer = ⊥
 
   -- the machine replies this when each of its asks is answered so
   abbrev pub Replies : Machine → List Answer → Reply → Type 0
@@ -45,15 +38,8 @@ reply_of (Some p) = Found p.number
 
 -- the number in a reply that names a pair that was found
 abbrev pub found_number : Reply → Option ℕ
-found_number Absent = None
 found_number (Found n) = Some n
-found_number (Inserted n) = None
-found_number (Replaced o n) = None
-found_number (Occupied n) = None
-found_number (Removed n) = None
-found_number (Kept n) = None
-found_number (Aborted t) = None
-found_number (Refused refused) = None
+found_number _ = None
 
 module _ {K V S : Type 0} (matches : K → Bool) (store : StoreState K V S) where
   -- the pair that was found is the map's, or there is none

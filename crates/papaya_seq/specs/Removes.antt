@@ -31,11 +31,7 @@ module _ {K V S : Type 0} (eq : K → K → Bool) (matches : K → Bool) where
   IsRemoval said s (Removed n) s' = (p : Stored K V) × IsHeld n s p × Removes eq matches s p s' × said p true
   IsRemoval said s (Kept n) s' = (p : Stored K V) × IsHeld n s p × Unchanged eq s s' × said p false
   IsRemoval said s (Refused refused) s' = Unchanged eq s s'
-  IsRemoval said s (Found n) s' = ⊥
-  IsRemoval said s (Inserted n) s' = ⊥
-  IsRemoval said s (Replaced o n) s' = ⊥
-  IsRemoval said s (Occupied n) s' = ⊥
-  IsRemoval said s (Aborted t) s' = ⊥
+  IsRemoval said s _ s' = ⊥
 
 -- the same as one fact, of which a proof can read what the closure may answer
 pub record IsRemovalBy {K V S : Type 0} (eq : K → K → Bool) (matches : K → Bool) (said : Stored K V → Bool → Type 0) (s : StoreState K V S) (reply : Reply) (s' : StoreState K V S) : Type 0 where

@@ -3,14 +3,15 @@ ghost use Rattle.std.specs.Prelude.{◌≡◌, Some, None, IfOk, IfErr, IsSome, 
 ghost use Rattle.std.specs.Borrow.{sem};
 ghost use Rattle.std.specs.Fn.{FnReturnsAt};
 ghost use Rattle.papaya_core.specs.Content.{map_in};
-ghost use Rattle.papaya_core.specs.Store.{hash_of, pair_of};
+ghost use Rattle.papaya_core.specs.Store.{pair_of};
+ghost use Rattle.papaya_keys.specs.Hashes.{hash_of};
 ghost use Rattle.papaya_seq.specs.Answered.{IsParted, old_answered, value_answered};
 ghost use Rattle.papaya_seq.specs.Computes.{ComputesBy, HasValueOf, IsTriedWith, IsUpdated, IsUpdatedOrInserted, Says, Takes, compute_answered, tried_answered};
 ghost use Rattle.papaya_seq.specs.Map.{IsCause, MapState, entry_of};
 
-use crate::compute::{Compute, Computed};
 use crate::seq::HashMap;
 use papaya_call::answers::Operation;
+use papaya_keys::compute::{Compute, Computed};
 use papaya_words::probe::Refused;
 use std::hash::{BuildHasher, Hash};
 
@@ -46,7 +47,7 @@ impl<K: Hash + Eq + Drop, V: Drop, S: BuildHasher> HashMap<K, V, S> {
 
     /// What the closure makes of the key's pair, or of its absence: `compute` of 0.2.5. It is shown
     /// the pair, if there is one, and says what is stored, that the pair is removed, or that nothing
-    /// is changed. The references that it is shown last for that showing.
+    /// is changed. Its references last for that one call of it.
     ///
     /// Refused as [`HashMap::insert`], and with `Refused::RemoveNothing` where the closure would
     /// remove and there is no pair. No clause says here what the map is after it, since the answer

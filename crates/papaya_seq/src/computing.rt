@@ -1,11 +1,10 @@
 //! Computes: their machine, answered by the store and by one call of a closure.
 ghost use Rattle.std.specs.Prelude.{◌≡◌, Some, None, option_map};
 ghost use Rattle.papaya_core.specs.Content.{map_in};
-ghost use Rattle.papaya_core.specs.Store.{hash_of};
+ghost use Rattle.papaya_keys.specs.Hashes.{hash_of};
 ghost use Rattle.papaya_seq.specs.Computes.{ComputesBy, Says, Takes};
 ghost use Rattle.papaya_seq.specs.Computing.{IsComputed, IsKept, Replies};
 
-use crate::compute::Computed;
 use crate::seq::HashMap;
 use papaya_call::answers::{Listed, Operation};
 use papaya_call::ask::{Answer, Ask, OpKind};
@@ -13,6 +12,7 @@ use papaya_call::call::{Reply, Task};
 use papaya_call::machine::Machine;
 use papaya_core::pairs::{KeyOf, Running};
 use papaya_core::store::Store;
+use papaya_keys::compute::Computed;
 use papaya_words::probe::Refused;
 use std::hash::{BuildHasher, Hash};
 

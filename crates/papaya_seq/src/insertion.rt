@@ -3,7 +3,7 @@ ghost use Rattle.std.specs.Prelude.{◌≡◌, ℕ, Bool, Option, Some, None, co
 ghost use Rattle.papaya_words.specs.declared.probe.Refused.{Refused};
 ghost use Rattle.papaya_core.specs.Content.{map_in};
 ghost use Rattle.papaya_core.specs.Solo.{IsAnswered, IsNewIn};
-ghost use Rattle.papaya_core.specs.Store.{hash_of};
+ghost use Rattle.papaya_keys.specs.Hashes.{hash_of};
 ghost use Rattle.papaya_seq.specs.Map.{IsCause, Keeps, insertion};
 
 use crate::seq::HashMap;

@@ -1,14 +1,12 @@
-//! The map for one caller, and what guards and keys of all maps share.
+//! The map for one caller. Guards, and what computes answer, are those of all maps.
 #![tactic(auto)]
 
-pub mod compute;
+pub use papaya_keys::{compute, guard, occupied};
+
 mod computes;
 mod computing;
-pub mod guard;
 mod insertion;
+pub mod laws;
 mod lookup;
-pub mod occupied;
 mod removal;
 pub mod seq;
-#[cfg(test)]
-mod tests;

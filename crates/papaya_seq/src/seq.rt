@@ -1,25 +1,30 @@
 //! The map for one caller.
-ghost use Rattle.std.specs.Prelude.{◌≡◌, ◌≢◌, ℕ, ◌<◌, Bool, true, false, Option, Some, None, List, [], ◌∷◌, ◌++◌, ◌≤◌, length, vec_len, vec_capacity, IfOk, IfErr, IsOk, IsSome, MatchOption, MatchBool, option_map};
+ghost use Rattle.std.specs.Prelude.{◌≡◌, ◌≢◌, ℕ, ◌<◌, Bool, true, false, Option, Some, None, List, [], ◌∷◌, ◌++◌, ◌≤◌, length, vec_len, vec_capacity, IfOk, IfErr, IsOk, IsSome, MatchOption, MatchBool, is_some, option_map};
 ghost use Rattle.std.specs.Borrow.{sem};
 ghost use Rattle.papaya_words.specs.declared.limits.TheConstants.{DEFAULT_CHUNK};
 ghost use Rattle.papaya_call.specs.Machine.{started};
 ghost use Rattle.papaya_call.specs.declared.call.Task.TheVariants.{Get};
+ghost use Rattle.papaya_law.specs.Content.{AreApart};
 ghost use Rattle.papaya_core.specs.Content.{content, map_in};
-ghost use Rattle.papaya_core.specs.New.{IsAllowed, IsNew, IsRefused};
-ghost use Rattle.papaya_core.specs.Store.{hash_of, pair_of};
+ghost use Rattle.papaya_core.specs.New.{IsNew};
+ghost use Rattle.papaya_keys.specs.Sizes.{IsRefused};
+ghost use Rattle.papaya_keys.specs.Sizes.{IsAllowed};
+ghost use Rattle.papaya_core.specs.Store.{pair_of};
+ghost use Rattle.papaya_keys.specs.Hashes.{hash_of};
 ghost use Rattle.papaya_seq.specs.Answered.{entry_answered, judged_answered, old_answered, value_answered};
 ghost use Rattle.papaya_seq.specs.Calls.{AreCalled, IsCalled};
+ghost use Rattle.papaya_seq.specs.Computes.{tried_answered};
 ghost use Rattle.papaya_seq.specs.Computing.{reply_of};
 ghost use Rattle.papaya_seq.specs.Looks.{LooksUp};
 ghost use Rattle.papaya_seq.specs.Removes.{IsJudged, Judges};
-ghost use Rattle.papaya_seq.specs.Map.{HasNone, HasValue, Holds, IsCause, IsInserted, IsRemoved, IsTried, core_of, deref_pair, next_of, slots_of, value_of, entry_of};
+ghost use Rattle.papaya_seq.specs.Map.{HasNone, HasValue, Holds, IsCause, IsInserted, IsRemoved, IsTried, IsTriedInto, core_of, deref_pair, next_of, slots_of, value_of, entry_of};
 
-use crate::compute::Computed;
-use crate::guard::Equivalent;
-use crate::occupied::{NotInserted, OccupiedError};
 use papaya_call::answers::Answers;
 use papaya_call::call::{Call, Reply};
 use papaya_core::store::Store;
+use papaya_keys::compute::Computed;
+use papaya_keys::guard::Equivalent;
+use papaya_keys::occupied::{NotInserted, OccupiedError};
 use papaya_words::probe::{Refused, ResizeMode};
 use std::alloc::Global;
 use std::hash::{BuildHasher, BuildHasherDefault, FoldHasher, Hash};
@@ -62,7 +67,7 @@ pub struct HashMap<K: Hash + Eq, V, S: BuildHasher = BuildHasherDefault<FoldHash
 }
 
 impl<K: Hash + Eq, V, S: BuildHasher> Model for HashMap<K, V, S> {
-    ghost use Rattle.papaya_core.specs.Store.{hash_of};
+    ghost use Rattle.papaya_keys.specs.Hashes.{hash_of};
     ghost use Rattle.papaya_seq.specs.Map.{IsLawfulMap, MapState};
 
     ghost Value = { MapState K V S };
@@ -158,7 +163,8 @@ impl<K: Hash + Eq + Drop, V: Drop> HashMap<K, V, BuildHasherDefault<FoldHasher>>
 impl<K: Hash + Eq, V, S: BuildHasher> HashMap<K, V, S> {
     /// How many pairs the map has.
     pub fn len(&self) -> usize
-        ensures { result ≡ length (content self.now.store) }
+        ensures count { result ≡ length (content self.now.store) }
+        ensures apart { AreApart K.eq (λ p. p.key) (content self.now.store) }
     {
         self.store.count()
     }
@@ -199,6 +205,7 @@ impl<K: Hash + Eq, V, S: BuildHasher> HashMap<K, V, S> {
     /// word that stands in the tables.
     #[inline(always)]
     pub fn get<Q: Equivalent<K>>(&self, key: &Q) -> Option<&V>
+        ensures map { (k : _) → Q.matches key.now k ≡ true → option_map (λ v. v.now) result ≡ value_of (map_in K.eq self.now.store k) }
         ensures answer { MatchOption result (HasNone (Q.matches key.now) self.now.store) (λ v. (p : _) × Holds (Q.matches key.now) self.now.store p × (p.value ≡ v.now)) }
         ensures machine { (found : _) × LooksUp (Q.matches key.now) self.now.store (started Get (hash_of Q.hash_input S.build_hasher S.Hasher.write S.Hasher.finish self.now.store.hasher key.now) self.now.mode self.now.initial) found × (option_map (λ v. v.now) result ≡ value_of found) }
     {
@@ -211,6 +218,7 @@ impl<K: Hash + Eq, V, S: BuildHasher> HashMap<K, V, S> {
     /// The stored key and the value of a key: `get_key_value` of 0.2.5.
     #[inline(always)]
     pub fn get_key_value<Q: Equivalent<K>>(&self, key: &Q) -> Option<(&K, &V)>
+        ensures map { (k : _) → Q.matches key.now k ≡ true → option_map deref_pair result ≡ option_map entry_of (map_in K.eq self.now.store k) }
         ensures answer { MatchOption result (HasNone (Q.matches key.now) self.now.store) (λ found. (p : _) × Holds (Q.matches key.now) self.now.store p × (p.key ≡ found.0.now) × (p.value ≡ found.1.now)) }
         ensures machine { (found : _) × LooksUp (Q.matches key.now) self.now.store (started Get (hash_of Q.hash_input S.build_hasher S.Hasher.write S.Hasher.finish self.now.store.hasher key.now) self.now.mode self.now.initial) found × (option_map deref_pair result ≡ option_map entry_of found) }
     {
@@ -223,8 +231,12 @@ impl<K: Hash + Eq, V, S: BuildHasher> HashMap<K, V, S> {
     /// Is the key in the map? `contains_key` of 0.2.5.
     #[inline(always)]
     pub fn contains_key<Q: Equivalent<K>>(&self, key: &Q) -> bool
-        ensures { MatchBool result ((p : _) × Holds (Q.matches key.now) self.now.store p) (HasNone (Q.matches key.now) self.now.store) }
+        ensures map { (k : _) → Q.matches key.now k ≡ true → result ≡ is_some (map_in K.eq self.now.store k) }
+        ensures answer { MatchBool result ((p : _) × Holds (Q.matches key.now) self.now.store p) (HasNone (Q.matches key.now) self.now.store) }
+        ensures machine { (found : _) × LooksUp (Q.matches key.now) self.now.store (started Get (hash_of Q.hash_input S.build_hasher S.Hasher.write S.Hasher.finish self.now.store.hasher key.now) self.now.mode self.now.initial) found × (result ≡ is_some found) }
     {
+        // By this read the map is known to be in order.
+        let _mode = self.mode;
         self.look_up(key).is_some()
     }
 }
@@ -282,11 +294,34 @@ impl<K: Hash + Eq + Drop, V: Drop, S: BuildHasher> HashMap<K, V, S> {
         }
     }
 
+    /// [`HashMap::try_insert`] which leaves the value that was handed in in `left`, where the key is in
+    /// the map. So its answer owns nothing, and its clause says what the map is after it.
+    pub fn try_insert_into(
+        &mut self,
+        key: K,
+        value: V,
+        left: &mut Option<V>,
+    ) -> Result<Result<&V, &V>, Refused>
+        ensures* tries { sem 𝓛 (ends_so K.row V.row S.row S.Hasher.row K.Hash S.BuildHasher S.Hasher.Hasher self.entry (IsTriedInto K.eq (hash_of K.hash_input S.build_hasher S.Hasher.write S.Hasher.finish self.old.store.hasher key) key value self.old (tried_answered result) left.old left.new)) }
+        ensures stored { IfOk result (λ tried. IfOk tried (λ v. (v.now ≡ value) × (map_in K.eq self.old.store key ≡ None))) }
+        ensures occupied { IfOk result (λ tried. IfErr tried (λ v. (value_of (map_in K.eq self.old.store key) ≡ Some v.now) × (left.new ≡ Some value))) }
+        ensures err { IfErr result (IsCause (hash_of K.hash_input S.build_hasher S.Hasher.write S.Hasher.finish self.old.store.hasher key) self.old.store) }
+    {
+        let (pair, unstored) = self.insert_absent(key, value)?;
+        match unstored {
+            None => Ok(Ok(self.logged(pair))),
+            Some(value) => {
+                *left = Some(value);
+                Ok(Err(self.logged(pair)))
+            }
+        }
+    }
+
     /// Stores a pair where the key is absent, and answers its value: `try_insert` of 0.2.5. Where
     /// the key is in the map, what is there stays, and the value that was handed in is given back.
     ///
-    /// Refused as [`HashMap::insert`]. No clause says here what the map is after it, since the answer
-    /// may own a value: [`HashMap::insert_absent`] says it.
+    /// It is [`HashMap::try_insert_into`], which says what the map is after it. No clause says it
+    /// here, since the answer may own a value. Refused as [`HashMap::insert`].
     pub fn try_insert(
         &mut self,
         key: K,
@@ -296,13 +331,16 @@ impl<K: Hash + Eq + Drop, V: Drop, S: BuildHasher> HashMap<K, V, S> {
         ensures occupied { IfOk result (λ tried. IfErr tried (λ e. (value_of (map_in K.eq self.old.store key) ≡ Some e.current.now) × (e.not_inserted ≡ NotInserted.Value value))) }
         ensures err { IfErr result (IsCause (hash_of K.hash_input S.build_hasher S.Hasher.write S.Hasher.finish self.old.store.hasher key) self.old.store) }
     {
-        let (pair, left) = self.insert_absent(key, value)?;
-        match left {
-            None => Ok(Ok(self.logged(pair))),
-            Some(value) => Ok(Err(OccupiedError {
-                current: self.logged(pair),
-                not_inserted: NotInserted::Value(value),
-            })),
+        let mut left = None;
+        match self.try_insert_into(key, value, &mut left)? {
+            Ok(stored) => Ok(Ok(stored)),
+            Err(current) => match left {
+                Some(value) => Ok(Err(OccupiedError {
+                    current,
+                    not_inserted: NotInserted::Value(value),
+                })),
+                None => unreachable!(),
+            },
         }
     }
 

@@ -10,13 +10,14 @@ use Rattle.papaya_core.specs.Core.{IsCore, IsGoing}
 use Rattle.papaya_call.specs.declared.call.Reply.{Reply}
 use Rattle.papaya_core.specs.Counted.{IsCounted}
 use Rattle.papaya_core.specs.Kept.{IsLawfulCore}
-use Rattle.papaya_core.specs.Store.{hash_of}
+use Rattle.papaya_keys.specs.Hashes.{hash_of}
 use Rattle.papaya_core.specs.Advances.{Advances, event_of, reply_in, goes_on}
 use Rattle.papaya_core.proofs.CallersLemmas.{with_call-twice}
-use Rattle.papaya_core.proofs.CoreLemmas.{caused, still_going, with_call-core, performed-core}
-use Rattle.papaya_core.proofs.HeadlineLemmas.{lawful_moves}
+use Rattle.papaya_core.proofs.CoreLemmas.{still_going, with_call-core, performed-core}
+use Rattle.papaya_core.proofs.HeadlineLemmas.{lawful_keeps, lawful_moves}
 use Rattle.papaya_core.proofs.StoreLemmas.{performed, unnumbered}
 use Rattle.papaya_core.proofs.CountedCore.{stepped_sound}
+use Rattle.papaya_core.proofs.KeptCore.{lawful_caused}
 use Rattle.papaya_core.proofs.schedule.Core.advance.Goals as goal
 use Rattle.papaya_core.proofs.schedule.Core.advance.Goals.{After-perform-answer, After-put}
 use Rattle.papaya_core.proofs.schedule.Core.advance.Given.{Over}
@@ -119,7 +120,7 @@ returns-in-Some-clause-advances g c =
       callers = c.take-running.ensures.taken ∙ sym (ap (λ y. with_call c.self.inside.callers c.args.caller (goes_on y (record later { machine = after before.machine a }))) c.in-Some.is);
       mode = refl;
       initial = refl;
-      cause = λ refused e. caused before.machine a refused (c.self.invariant.0.core.going c.args.caller before c.take-running.ensures.call) (sym (c.reply_in-reply.ensures ∙ ap reply_in c.ask.ensures.value ∙ ap (λ m. reply_in (ask_of m)) is_after) ∙ e);
+      cause = λ refused e. lawful_caused g.K.PartialEq.eq g.K.Hash.hash_input g.S.BuildHasher.build_hasher g.S.Hasher.Hasher.write g.S.Hasher.Hasher.finish g.met.K.Eq.laws g.met.K.Hash.respects_eq (record { store = c.self.inside.store; callers = c.self.inside.callers; mode = c.self.inside.mode; initial = c.self.inside.initial }) c.self.invariant.0 c.args.caller before c.take-running.ensures.call a refused (sym (c.reply_in-reply.ensures ∙ ap reply_in c.ask.ensures.value ∙ ap (λ m. reply_in (ask_of m)) is_after) ∙ e);
     })
 
 pub returns-in-None-clause-advances : goal.returns-in-None-clause-advances
@@ -156,6 +157,20 @@ returns-in-Some-clause-moves g c =
 pub returns-in-None-clause-moves : goal.returns-in-None-clause-moves
 returns-in-None-clause-moves g c =
     lawful_moves g.K.PartialEq.eq g.K.Hash.hash_input g.S.BuildHasher.build_hasher g.S.Hasher.Hasher.write g.S.Hasher.Hasher.finish g.met.K.Eq.laws g.met.K.Hash.respects_eq
+    (says g) c.args.refuse c.args.self.now (record { store = c.perform-answer.new.self; callers = c.put.new.self; mode = c.self.inside.mode; initial = c.self.inside.initial }) c.args.caller c.event_of-event.result c.reply_in-reply.result
+    (subst (λ s. IsLawfulCore g.K.PartialEq.eq (hash_of g.K.Hash.hash_input g.S.BuildHasher.build_hasher g.S.Hasher.Hasher.write g.S.Hasher.Hasher.finish s.store.hasher) s.store s.callers s.mode) c.self.view_is c.self.invariant.0)
+    (returns-in-None-clause-advances g c)
+
+pub returns-in-Some-clause-keeps : goal.returns-in-Some-clause-keeps
+returns-in-Some-clause-keeps g c =
+    lawful_keeps g.K.PartialEq.eq g.K.Hash.hash_input g.S.BuildHasher.build_hasher g.S.Hasher.Hasher.write g.S.Hasher.Hasher.finish g.met.K.Eq.laws g.met.K.Hash.respects_eq
+    (says g) c.args.refuse c.args.self.now (record { store = c.perform-answer.new.self; callers = c.take-running.new.self; mode = c.self.inside.mode; initial = c.self.inside.initial }) c.args.caller c.event_of-event.result c.reply_in-reply.result
+    (subst (λ s. IsLawfulCore g.K.PartialEq.eq (hash_of g.K.Hash.hash_input g.S.BuildHasher.build_hasher g.S.Hasher.Hasher.write g.S.Hasher.Hasher.finish s.store.hasher) s.store s.callers s.mode) c.self.view_is c.self.invariant.0)
+    (returns-in-Some-clause-advances g c)
+
+pub returns-in-None-clause-keeps : goal.returns-in-None-clause-keeps
+returns-in-None-clause-keeps g c =
+    lawful_keeps g.K.PartialEq.eq g.K.Hash.hash_input g.S.BuildHasher.build_hasher g.S.Hasher.Hasher.write g.S.Hasher.Hasher.finish g.met.K.Eq.laws g.met.K.Hash.respects_eq
     (says g) c.args.refuse c.args.self.now (record { store = c.perform-answer.new.self; callers = c.put.new.self; mode = c.self.inside.mode; initial = c.self.inside.initial }) c.args.caller c.event_of-event.result c.reply_in-reply.result
     (subst (λ s. IsLawfulCore g.K.PartialEq.eq (hash_of g.K.Hash.hash_input g.S.BuildHasher.build_hasher g.S.Hasher.Hasher.write g.S.Hasher.Hasher.finish s.store.hasher) s.store s.callers s.mode) c.self.view_is c.self.invariant.0)
     (returns-in-None-clause-advances g c)

@@ -6,7 +6,7 @@ use Rattle.papaya_core.specs.Begins.{Begins}
 use Rattle.papaya_core.specs.Core.{CoreState, IsCore, IsGoing, call_of}
 use Rattle.papaya_core.specs.Counted.{IsCounted}
 use Rattle.papaya_core.specs.Kept.{IsLawfulCore}
-use Rattle.papaya_core.specs.Store.{hash_of}
+use Rattle.papaya_keys.specs.Hashes.{hash_of}
 use Rattle.papaya_core.proofs.CoreLemmas.{begun-core, begun-going}
 use Rattle.papaya_core.proofs.CountedLemmas.{counted_begin}
 use Rattle.papaya_core.proofs.KeptCore.{begin_lawful}

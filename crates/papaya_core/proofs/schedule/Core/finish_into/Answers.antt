@@ -1,6 +1,6 @@
 use Rattle.std.proofs.Common.{◌+◌, ◌-◌, reverse, sym, ◌∙◌, arith}
 use Rattle.papaya_core.specs.Core.{call_of}
-use Rattle.papaya_core.specs.Store.{hash_of}
+use Rattle.papaya_keys.specs.Hashes.{hash_of}
 use Rattle.papaya_core.proofs.RunLemmas.{is_none, StepsRun-idle, StepsRun-more}
 use Rattle.papaya_core.proofs.schedule.Core.finish_into.Goals as goal
 

@@ -1,6 +1,6 @@
 use Rattle.std.proofs.Common.{reverse}
 use Rattle.papaya_core.specs.Counted.{IsCounted}
-use Rattle.papaya_core.specs.Store.{hash_of}
+use Rattle.papaya_keys.specs.Hashes.{hash_of}
 use Rattle.papaya_core.specs.Runs.{StepsRun}
 use Rattle.papaya_core.proofs.schedule.Core.finish_into.Given as goal
 

@@ -1,6 +1,6 @@
 use Rattle.std.proofs.Common.{refl}
 use Rattle.papaya_core.proofs.CoreLemmas.{new-core}
-use Rattle.papaya_core.proofs.CountedLemmas.{counted_new}
+use Rattle.papaya_core.proofs.CountedLemmas.{counted_new, new_content}
 use Rattle.papaya_core.proofs.KeptCore.{new_lawful}
 use Rattle.papaya_core.proofs.schedule.Core.new.Goals as goal
 
@@ -21,3 +21,6 @@ returns-clause-ok g c =
 pub returns-clause-counted : goal.returns-clause-counted
 returns-clause-counted g c =
     let (allowed, made, few) = c.in_ok-store.ensures.ok in counted_new c.in_ok-store.store made.pairs c.new.result made.sum c.new.ensures
+
+pub returns-clause-content : goal.returns-clause-content
+returns-clause-content g c = let (allowed, made, few) = c.in_ok-store.ensures.ok in new_content c.in_ok-store.store made.pairs

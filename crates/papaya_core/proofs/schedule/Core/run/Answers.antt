@@ -9,7 +9,7 @@ use Rattle.std.proofs.lemmas.Iterator.Adapters.{YieldsList-from_vec}
 use Rattle.std.proofs.lemmas.Iterator.Consumers.{YieldsList-from_enumerate, YieldsList-turn, YieldsList-end}
 use Rattle.std.proofs.lemmas.Result.{err_from_is_err_and}
 use Rattle.papaya_words.specs.declared.probe.Refused.TheVariants.{Memory}
-use Rattle.papaya_core.specs.Store.{hash_of}
+use Rattle.papaya_keys.specs.Hashes.{hash_of}
 use Rattle.papaya_core.specs.Kept.{IsLawfulCore}
 use Rattle.papaya_core.specs.Runs.{TurnsRun, StopsEarly}
 use Rattle.papaya_core.proofs.HeadlineLemmas.{lawful_timeline}

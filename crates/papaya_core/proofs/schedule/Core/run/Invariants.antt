@@ -1,6 +1,6 @@
 use Rattle.std.proofs.Common.{reverse, length}
 use Rattle.papaya_core.specs.Counted.{IsCounted}
-use Rattle.papaya_core.specs.Store.{hash_of}
+use Rattle.papaya_keys.specs.Hashes.{hash_of}
 use Rattle.papaya_core.specs.Runs.{TurnsRun}
 use Rattle.papaya_core.proofs.schedule.Core.run.Given as goal
 

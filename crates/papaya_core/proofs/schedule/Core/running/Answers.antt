@@ -1,5 +1,5 @@
 use Rattle.std.proofs.Common.{subst}
-use Rattle.papaya_call.specs.Law.Content.{AreApart}
+use Rattle.papaya_law.specs.Content.{AreApart}
 use Rattle.papaya_core.specs.Content.{content}
 use Rattle.papaya_core.specs.Core.{CoreState}
 use Rattle.papaya_core.proofs.CountedCore.{lawful_apart}

@@ -1,18 +1,18 @@
 use Rattle.std.proofs.Common.{◌≡◌, Some, sym, ap, ◌∙◌, subst}
 use Rattle.papaya_call.specs.Machine.{ask_of}
 use Rattle.papaya_call.specs.declared.ask.Ask.TheVariants.{ShowPair}
-use Rattle.papaya_map.specs.Logs.{pair_named}
-use Rattle.papaya_map.specs.Parts.{begun_of}
-use Rattle.papaya_map.specs.Rule.{IsPlaced}
-use Rattle.papaya_map.specs.Showings.{Operates}
+use Rattle.papaya_book.specs.Logs.{pair_named}
+use Rattle.papaya_book.specs.Parts.{begun_of}
+use Rattle.papaya_book.specs.Rule.{IsPlaced}
+use Rattle.papaya_change.specs.Showings.{Operates}
 use Rattle.papaya_map.proofs.ComputeShows.{pair_held, shows_on}
 use Rattle.papaya_map.proofs.computing.Computing.show_pair.Goals as goal
 
 pub returns-clause-computes : goal.returns-clause-computes
 returns-clause-computes g c = λ key first begun r.
     let p = c.in-Some.last in
-    let h = pair_held g.K.PartialEq.eq g.K.Hash.hash_input g.S.BuildHasher.build_hasher g.S.Hasher.Hasher.write g.S.Hasher.Hasher.finish g.met.K.Eq.laws g.met.K.Hash.respects_eq (begun_of c.args.book.now.parts) c.args.book.now.begun.book (Operates g.F.FnMut) key first begun c.args.pass.now.log c.args.self.now c.args.compute.now r c.requires.asks.0 c.requires.asks.1 p c.in-Some.is in
+    let h = pair_held g.K.PartialEq.eq g.K.Hash.hash_input g.S.BuildHasher.build_hasher g.S.Hasher.Hasher.write g.S.Hasher.Hasher.finish g.met.K.Eq.laws g.met.K.Hash.respects_eq (begun_of c.args.window.now.book.now.parts) c.args.window.now.book.now.begun.book (Operates g.F.FnMut) key first begun c.args.window.now.sight.log c.args.self.now c.args.compute.now r c.requires.asks.0 c.requires.asks.1 p c.in-Some.is in
     let asks : ask_of c.args.self.now.writer.call.machine ≡ ShowPair p.index = c.requires.asks.1 ∙ ap ShowPair (sym h.1) in
-    let placed = subst (λ (o : _). IsPlaced (begun_of c.args.book.now.parts) (Some c.args.book.now.begun.book) (pair_named o)) c.in-Some.is r.writing.calling.last_placed in
-    let on = shows_on g.K.PartialEq.eq g.K.Hash.hash_input g.S.BuildHasher.build_hasher g.S.Hasher.Hasher.write g.S.Hasher.Hasher.finish g.met.K.Eq.laws g.met.K.Hash.respects_eq (begun_of c.args.book.now.parts) c.args.book.now.begun.book (Operates g.F.FnMut) key first begun c.args.pass.now.log c.args.self.now c.args.compute.now r c.requires.standing (Some p) c.compute-operation.result asks c.compute-operation.new.self (Some c.entry.result, rw (sym c.again-shown.ensures) c.entry.ensures, c.compute-operation.ensures) h.0 placed in
+    let placed = subst (λ (o : _). IsPlaced (begun_of c.args.window.now.book.now.parts) (Some c.args.window.now.book.now.begun.book) (pair_named o)) c.in-Some.is r.writing.calling.last_placed in
+    let on = shows_on g.K.PartialEq.eq g.K.Hash.hash_input g.S.BuildHasher.build_hasher g.S.Hasher.Hasher.write g.S.Hasher.Hasher.finish g.met.K.Eq.laws g.met.K.Hash.respects_eq (begun_of c.args.window.now.book.now.parts) c.args.window.now.book.now.begun.book (Operates g.F.FnMut) key first begun c.args.window.now.sight.log c.args.self.now c.args.compute.now r c.requires.standing (Some p) c.compute-operation.result asks c.compute-operation.new.self (Some c.entry.result, rw (sym c.again-shown.ensures) c.entry.ensures, c.compute-operation.ensures) h.0 placed in
     rw (c.keep.ensures.0, c.keep.ensures.1, c.chosen_after.ensures, c.take.ensures.value, c.again-shown.ensures) on

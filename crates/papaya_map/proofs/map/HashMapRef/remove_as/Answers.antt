@@ -1,5 +1,5 @@
 use Rattle.std.proofs.Common.{◌≡◌, Ok, Err, Some, rules}
-use Rattle.papaya_map.proofs.RemovingReplies.{none_stays, refused_removed, value_removed}
+use Rattle.papaya_change.proofs.RemovingReplies.{none_stays, refused_removed, value_removed}
 use Rattle.papaya_map.proofs.map.HashMapRef.remove_as.Goals as goal
 
 pub unreachable-requires : goal.unreachable-requires

@@ -1,9 +1,10 @@
 use Rattle.std.proofs.Common.{rules, ◌≡◌, ℕ, Bool, Option, None, Some, option_map, refl, sym, ◌∙◌, subst}
-use Rattle.papaya_call.specs.Law.Content.{AreApart}
+use Rattle.papaya_law.specs.Content.{AreApart}
 use Rattle.papaya_words.specs.Table.{TableWords}
 use Rattle.papaya_core.specs.Content.{content}
 use Rattle.papaya_core.specs.Tables.{table_of, word_in}
-use Rattle.papaya_core.specs.Store.{StoreState, Stored, hash_of}
+use Rattle.papaya_core.specs.Store.{StoreState, Stored}
+use Rattle.papaya_keys.specs.Hashes.{hash_of}
 use Rattle.papaya_call.specs.declared.call.Reply.TheVariants.{Absent, Found, Refused}
 use Rattle.papaya_core.proofs.CountedCore.{lawful_apart}
 use Rattle.papaya_seq.specs.Calls.{IsCalled}

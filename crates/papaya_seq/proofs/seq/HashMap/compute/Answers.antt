@@ -1,7 +1,7 @@
 use Rattle.std.proofs.Common.{Ok, Err, refl, ◌∙◌, ap}
 use Rattle.std.proofs.lemmas.Result.{err_from_is_err_and}
 use Rattle.papaya_seq.specs.Map.{deref_pair}
-use Rattle.papaya_seq.specs.declared.compute.Computed.TheVariants.{Inserted, Updated, Removed, Aborted}
+use Rattle.papaya_keys.specs.declared.compute.Computed.TheVariants.{Inserted, Updated, Removed, Aborted}
 use Rattle.papaya_seq.proofs.ComputesDone.{computes_shown}
 use Rattle.papaya_seq.proofs.UpdatesDone.{removed_logged, updated_logged}
 use Rattle.papaya_seq.proofs.seq.HashMap.compute.Goals as goal

@@ -1,6 +1,6 @@
 use Rattle.std.proofs.Common.{◌≡◌, ℕ, ◌^◌, ◌<◌, Option, Some, None, refl, sym, ◌∙◌, ap, subst}
 use denote.Ref.{Bor}
-use Rattle.papaya_call.specs.Alone.{left}
+use Rattle.papaya_rests.specs.Alone.{left}
 use Rattle.papaya_call.specs.Answers.{first_or, rest_of}
 use Rattle.papaya_call.specs.Machine.{IsFit, after}
 use Rattle.papaya_call.specs.declared.answers.Operation.{Operation}
@@ -9,7 +9,8 @@ use Rattle.papaya_call.specs.declared.ask.Answer.{Answer}
 use Rattle.papaya_call.specs.declared.machine.Machine.{Machine}
 use Rattle.papaya_core.specs.declared.pairs.KeyOf.TheVariants.{Own}
 use Rattle.papaya_core.specs.declared.pairs.Running.{Running}
-use Rattle.papaya_core.specs.Store.{StoreState, hash_of}
+use Rattle.papaya_core.specs.Store.{StoreState}
+use Rattle.papaya_keys.specs.Hashes.{hash_of}
 use Rattle.papaya_core.proofs.KeptCore.{keys_lawful}
 use Rattle.papaya_core.proofs.KeptSettings.{IsLawfulKeys}
 use Rattle.papaya_seq.specs.Computes.{Says}

@@ -1,12 +1,12 @@
 use Rattle.std.proofs.Common.{◌≡◌, ℕ, ◌^◌, ◌<◌, Some, None, refl, sym, ◌∙◌, ap, subst}
-use Rattle.papaya_call.specs.Alone.{left}
+use Rattle.papaya_rests.specs.Alone.{left}
 use Rattle.papaya_call.specs.Answers.{first_or, rest_of}
 use Rattle.papaya_call.specs.declared.answers.Operation.TheVariants.{Abort}
 use Rattle.papaya_call.specs.Machine.{IsStanding, after}
 use Rattle.papaya_call.specs.declared.machine.Machine.{Machine}
 use Rattle.papaya_core.specs.declared.pairs.KeyOf.TheVariants.{Own}
 use Rattle.papaya_core.specs.Solo.{RunsAlone}
-use Rattle.papaya_core.specs.Store.{hash_of}
+use Rattle.papaya_keys.specs.Hashes.{hash_of}
 use Rattle.papaya_core.proofs.KeptCore.{keys_lawful}
 use Rattle.papaya_core.proofs.KeptSettings.{IsLawfulKeys}
 use Rattle.papaya_seq.specs.Map.{IsLawfulMap, MapState, core_of, insertion}

@@ -1,6 +1,6 @@
 use Rattle.std.proofs.Common.{◌≡◌}
-use Rattle.papaya_call.specs.Alone.{left}
-use Rattle.papaya_core.specs.Store.{hash_of}
+use Rattle.papaya_rests.specs.Alone.{left}
+use Rattle.papaya_keys.specs.Hashes.{hash_of}
 use Rattle.papaya_seq.proofs.InsertingRun.{IsInserting}
 use Rattle.papaya_seq.proofs.seq.HashMap.insert_by.Given as goal
 

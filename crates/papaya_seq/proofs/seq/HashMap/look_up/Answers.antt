@@ -2,10 +2,11 @@ use Rattle.std.proofs.Common.{◌≡◌, ℕ, sym, ◌∙◌, ap, subst, fold, �
 use Rattle.papaya_call.specs.declared.ask.Answer.TheVariants.{Word, Yes}
 use Rattle.papaya_call.specs.declared.ask.Ask.{Ask}
 use Rattle.papaya_call.specs.declared.call.Task.TheVariants.{Get}
-use Rattle.papaya_call.specs.Alone.{left}
+use Rattle.papaya_rests.specs.Alone.{left}
 use Rattle.papaya_call.specs.Machine.{IsStanding, ask_of, started}
 use Rattle.papaya_core.specs.Performs.{size_of}
-use Rattle.papaya_core.specs.Store.{hash_of, pair_of}
+use Rattle.papaya_core.specs.Store.{pair_of}
+use Rattle.papaya_keys.specs.Hashes.{hash_of}
 use Rattle.papaya_core.specs.Tables.{table_of, word_at}
 use Rattle.papaya_core.proofs.KeptCore.{keys_lawful}
 use Rattle.papaya_core.proofs.KeptSettings.{IsLawfulKeys}

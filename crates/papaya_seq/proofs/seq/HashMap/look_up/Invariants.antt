@@ -1,7 +1,7 @@
-use Rattle.papaya_call.specs.Alone.{left}
+use Rattle.papaya_rests.specs.Alone.{left}
 use Rattle.papaya_call.specs.declared.call.Task.TheVariants.{Get}
 use Rattle.papaya_call.specs.Machine.{started}
-use Rattle.papaya_core.specs.Store.{hash_of}
+use Rattle.papaya_keys.specs.Hashes.{hash_of}
 use Rattle.papaya_seq.proofs.LookSteps.{IsLookUp}
 use Rattle.papaya_seq.proofs.seq.HashMap.look_up.Given as goal
 

@@ -4,7 +4,7 @@ use Rattle.std.specs.Fn.{Mut}
 use mir.Val.{SFits}
 use Rattle.std.specs.Int.{w64, int_wrap}
 use Rattle.std.proofs.lemmas.Int.{ints, to_z-of_z}
-use Rattle.papaya_call.specs.Alone.{left}
+use Rattle.papaya_rests.specs.Alone.{left}
 use Rattle.papaya_call.specs.Machine.{ask_of}
 use Rattle.papaya_call.specs.declared.ask.Answer.{Answer}
 use Rattle.papaya_call.specs.declared.ask.Answer.TheVariants.{Word as Word_read, Yes}
@@ -12,17 +12,18 @@ use Rattle.papaya_call.specs.declared.ask.Ask.{Ask}
 use Rattle.papaya_call.specs.declared.ask.Ask.TheVariants.{Done as Ask_done}
 use Rattle.papaya_core.specs.Performs.{Exchanges}
 use Rattle.papaya_core.specs.Solo.{RunsAlone}
-use Rattle.papaya_core.specs.Store.{StoreState, Stored, hash_of}
+use Rattle.papaya_core.specs.Store.{StoreState, Stored}
+use Rattle.papaya_keys.specs.Hashes.{hash_of}
 use Rattle.papaya_core.specs.Tables.{Tables}
 use Rattle.papaya_core.proofs.KeptCore.{keys_lawful}
 use Rattle.papaya_core.proofs.SoloLaw.{alone_answered, alone_lawful}
-use Rattle.papaya_seq.specs.Map.{IsLawfulMap, core_of}
+use Rattle.papaya_seq.specs.Map.{IsLawfulMap, MapState, core_of}
 use Rattle.papaya_seq.specs.Removes.{IsShown, Judges}
 use Rattle.papaya_seq.proofs.Lawful.{IsMatched, MatchesNone, bare, decided, single, sized}
 use Rattle.papaya_seq.proofs.Removing.{IsAnswer, IsEnd, open_kind, removal_by}
 use Rattle.papaya_seq.proofs.RemovalReply.{removal_done, removal_none}
 use Rattle.papaya_seq.proofs.Steps.{seated}
-use Rattle.papaya_seq.proofs.RemovalRun.{IsUnderWay, alone, counts_out, ends, judged_reply, log_kept, next_turn, under_way_more, unmet}
+use Rattle.papaya_seq.proofs.RemovalRun.{IsUnderWay, alone, counts_out, ends, judged_reply, log_kept, next_turn, under_way, under_way_more, unmet}
 use Rattle.papaya_seq.proofs.RemovalTurns.{IsFound}
 use Rattle.papaya_seq.proofs.Words.{rooted, uncopied, unmarked}
 use Rattle.papaya_seq.proofs.seq.HashMap.remove_by.Goals as goal
@@ -99,6 +100,20 @@ found g c =
       unshut = λ t i. open_kind _ (unmarked g.K.PartialEq.eq hash c.args.self.now.mode c.args.self.now.store keys (lawful g c) t i) (uncopied g.K.PartialEq.eq hash c.args.self.now.mode c.args.self.now.store keys (lawful g c) t i);
     }
 
+pub loop-at-init : goal.loop-at-init
+loop-at-init g c =
+    let hash = hash_of g.K.Hash.hash_input g.S.BuildHasher.build_hasher g.S.Hasher.Hasher.write g.S.Hasher.Hasher.finish in
+    let matches = g.Q.Equivalent.matches c.args.key.now in
+    let view : MapState _ _ _ = record { store = c.self.inside.store; mode = c.self.inside.mode; initial = c.self.inside.initial } in (
+      c.requires,
+      c.new-machine.ensures.standing,
+      ap (λ (m : MapState _ _ _). m.mode) c.self.view_is,
+      ap (λ (m : MapState _ _ _). m.initial) c.self.view_is,
+      subst (λ (m : MapState _ _ _). IsUnderWay g.F.FnMut g.K.PartialEq.eq hash matches c.hash-hash.result m c.args.agrees c.self.inside.store c.args.agrees c.new-machine.result) c.self.view_is
+          (subst (λ m. IsUnderWay g.F.FnMut g.K.PartialEq.eq hash matches c.hash-hash.result view c.args.agrees c.self.inside.store c.args.agrees m) (sym c.new-machine.ensures.value)
+          (under_way g.F.FnMut g.K.PartialEq.eq hash matches c.hash-hash.result view c.args.agrees)),
+    )
+
 pub loop-at-preserved : goal.loop-at-preserved
 loop-at-preserved g c =
     let hash = hash_of g.K.Hash.hash_input g.S.BuildHasher.build_hasher g.S.Hasher.Hasher.write g.S.Hasher.Hasher.finish in
@@ -134,10 +149,11 @@ hashed g c m =
     ∙ sym (c.hash-hash.ensures.value ∙ ap (λ s. hash_of g.Q.Hash.hash_input g.S.BuildHasher.build_hasher g.S.Hasher.Hasher.write g.S.Hasher.Hasher.finish s.store.hasher c.args.key.now) c.self.view_is)
 
 -- so the removal is that by the pair's key, made alone
-made : (g : Over) (c : After-drop-agrees g) (m : IsMatched c.args.self.now.store (g.Q.Equivalent.matches c.args.key.now)) → RunsAlone g.K.PartialEq.eq (hash_of g.K.Hash.hash_input g.S.BuildHasher.build_hasher g.S.Hasher.Hasher.write g.S.Hasher.Hasher.finish) (core_of c.args.self.now) (removal_by m.pair.key) c.in-Done.reply (seated c.loop-at.self-inside.store None c.args.self.now.mode c.args.self.now.initial)
-made g c m =
+made : (g : Over) (c : After-drop-agrees g) → IsLawfulMap g.K.PartialEq.eq (hash_of g.K.Hash.hash_input g.S.BuildHasher.build_hasher g.S.Hasher.Hasher.write g.S.Hasher.Hasher.finish c.args.self.now.store.hasher) c.args.self.now.store c.args.self.now.mode → (m : IsMatched c.args.self.now.store (g.Q.Equivalent.matches c.args.key.now)) → RunsAlone g.K.PartialEq.eq (hash_of g.K.Hash.hash_input g.S.BuildHasher.build_hasher g.S.Hasher.Hasher.write g.S.Hasher.Hasher.finish) (core_of c.args.self.now) (removal_by m.pair.key) c.in-Done.reply (seated c.loop-at.self-inside.store None c.args.self.now.mode c.args.self.now.initial)
+made g c orderly m =
     alone g.F.FnMut g.K.PartialEq.eq (hash_of g.K.Hash.hash_input g.S.BuildHasher.build_hasher g.S.Hasher.Hasher.write g.S.Hasher.Hasher.finish) (g.Q.Equivalent.matches c.args.key.now) c.hash-hash.result c.args.self.now c.args.agrees
-    c.loop-at.self-inside.store c.loop-at.agrees c.loop-at.machine c.loop-at.invariant.4 c.in-Done.reply (ends_with g c) m.pair.key (alike g c m) (hashed g c m) (subst (λ n. n < 2 ^ 64) (sym (hashed g c m)) c.hash-hash.ensures.fits)
+    c.loop-at.self-inside.store c.loop-at.agrees c.loop-at.machine c.loop-at.invariant.4 c.in-Done.reply (ends_with g c)
+    (keys_lawful g.K.PartialEq.eq g.K.Hash.hash_input g.S.BuildHasher.build_hasher g.S.Hasher.Hasher.write g.S.Hasher.Hasher.finish g.met.K.Eq.laws g.met.K.Hash.respects_eq c.args.self.now.store.hasher) orderly m.pair.key (alike g c m) (hashed g c m) (subst (λ n. n < 2 ^ 64) (sym (hashed g c m)) c.hash-hash.ensures.fits)
 
 pub returns-in-Done-clause-whole : goal.returns-in-Done-clause-whole
 returns-in-Done-clause-whole g c =
@@ -150,7 +166,7 @@ returns-in-Done-clause-whole g c =
           (λ (m : IsMatched map.store matches).
           removal_done g.F.FnMut g.K.PartialEq.eq g.met.K.Eq.laws matches m.pair.key (alike g c m) map.store later c.args.agrees c.loop-at.agrees c.in-Done.reply
           (alone_answered g.K.PartialEq.eq g.K.Hash.hash_input g.S.BuildHasher.build_hasher g.S.Hasher.Hasher.write g.S.Hasher.Hasher.finish g.met.K.Eq.laws g.met.K.Hash.respects_eq
-          (core_of map) (seated later None map.mode map.initial) (removal_by m.pair.key) c.in-Done.reply (lawful g (goal.at.returns-in-Done-clause-whole g c).After-new-machine).lawful (made g c m))
+          (core_of map) (seated later None map.mode map.initial) (removal_by m.pair.key) c.in-Done.reply (lawful g (goal.at.returns-in-Done-clause-whole g c).After-new-machine).lawful (made g c (lawful g (goal.at.returns-in-Done-clause-whole g c).After-new-machine) m))
           (judged_reply g.F.FnMut g.K.PartialEq.eq hash matches c.hash-hash.result map c.args.agrees later c.loop-at.agrees c.loop-at.machine c.loop-at.invariant.4 c.in-Done.reply (ends_with g c)))
           (λ (none : MatchesNone map.store matches).
           let nothing = unmet g.F.FnMut g.K.PartialEq.eq hash matches c.hash-hash.result map c.args.agrees later c.loop-at.agrees c.loop-at.machine c.loop-at.invariant.4 c.in-Done.reply (ends_with g c) none in
@@ -169,7 +185,7 @@ invariant_of-self g c =
     (⊎_elim
     (λ (m : IsMatched map.store matches).
     let so = alone_lawful g.K.PartialEq.eq g.K.Hash.hash_input g.S.BuildHasher.build_hasher g.S.Hasher.Hasher.write g.S.Hasher.Hasher.finish g.met.K.Eq.laws g.met.K.Hash.respects_eq
-    (core_of map) (seated later None map.mode map.initial) (removal_by m.pair.key) c.in-Done.reply before.lawful (made g c m) before.counted in
+    (core_of map) (seated later None map.mode map.initial) (removal_by m.pair.key) c.in-Done.reply before.lawful (made g c before m) before.counted in
     record { lawful = so.0; counted = so.1 })
     (λ (none : MatchesNone map.store matches).
     let nothing = unmet g.F.FnMut g.K.PartialEq.eq hash matches c.hash-hash.result map c.args.agrees later c.loop-at.agrees c.loop-at.machine c.loop-at.invariant.4 c.in-Done.reply (ends_with g c) none in

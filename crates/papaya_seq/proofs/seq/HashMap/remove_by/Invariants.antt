@@ -1,7 +1,7 @@
 use Rattle.std.proofs.Common.{◌≡◌}
-use Rattle.papaya_call.specs.Alone.{left}
+use Rattle.papaya_rests.specs.Alone.{left}
 use Rattle.papaya_call.specs.Machine.{IsStanding}
-use Rattle.papaya_core.specs.Store.{hash_of}
+use Rattle.papaya_keys.specs.Hashes.{hash_of}
 use Rattle.papaya_seq.proofs.RemovalRun.{IsUnderWay}
 use Rattle.papaya_seq.proofs.seq.HashMap.remove_by.Given as goal
 

@@ -1,0 +1,42 @@
+//! A hash map that threads share, and the same map for one caller: `papaya` 0.2.5, proved.
+//!
+//! This crate names the public items of the others again, and has no code of its own.
+//!
+//! - [`HashMap`] is the map that threads share: [`HashMap::pin`] gives a [`HashMapRef`], which has the
+//!   calls, and [`HashMap::pass`] a [`Pass`], the record of what one thread has seen.
+//! - [`seq::HashMap`] is the map for one caller: changes take `&mut self`.
+//! - [`schedule`] runs the calls of many callers step by step, in any order that a test gives.
+//! - [`raw`] has the words, tables and machines that all three are made of.
+#![tactic(auto)]
+
+pub use papaya_call::answers::Operation;
+pub use papaya_keys::compute::Compute;
+pub use papaya_keys::guard::{Equivalent, TextKey};
+pub use papaya_keys::occupied::{NotInserted, OccupiedError};
+pub use papaya_map::map::{HashMap, HashMapRef, Pass};
+pub use papaya_words::probe::{Refused, ResizeMode};
+
+/// The map for one caller.
+pub mod seq {
+    pub use papaya_keys::compute::Computed;
+    pub use papaya_seq::seq::HashMap;
+}
+
+/// Any number of callers under any schedule of their steps.
+pub mod schedule {
+    pub use papaya_call::answers::{Answers, Listed};
+    pub use papaya_call::call::{Call, Reply};
+    pub use papaya_core::schedule::Core;
+    pub use papaya_core::trace::{Entry, Event, Trace, Turn};
+}
+
+/// What the maps are made of: words, places, tables and counts, and the calls as machines.
+pub mod raw {
+    pub use papaya_call::ask::{Answer, Ask, At};
+    pub use papaya_call::call::Task;
+    pub use papaya_call::machine::Machine;
+    pub use papaya_words::counter::Counter;
+    pub use papaya_words::probe::Probe;
+    pub use papaya_words::table::Table;
+    pub use papaya_words::word::Word;
+}

@@ -1,0 +1,2 @@
+pub mod SeqLemmas
+pub mod SharedLemmas

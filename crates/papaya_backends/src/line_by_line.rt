@@ -1,0 +1,55 @@
+//! The lines of an input one by one: each is read, done and printed before the next is read.
+ghost use Rattle.std.specs.Prelude.{◌≡◌, ℕ, List, IfErr, IfOk};
+ghost use Rattle.papaya_lines.specs.declared.printed.Printed.{Printed};
+
+use papaya_lines::lines::next_line;
+use papaya_lines::printed::Printed;
+use papaya_shell::failure::Failure;
+use papaya_words::probe::Refused;
+use std::alloc::Global;
+use std::io;
+use std::io::{BufReader, Read, Write};
+
+/// What does lines, one at a time.
+///
+/// Each tells contracts what is printed of a line that it does from one state to another, and which
+/// lines are bad.
+pub trait Obey {
+    ghost does: { Self → List ℕ → Printed → Self → Type 0 };
+
+    ghost is_bad: { List ℕ → Type 0 };
+
+    /// Does what the line of this number asks for, and answers what is printed of it. A bad line
+    /// does nothing.
+    fn obey_line(&mut self, number: u64, line: &[u8]) -> Result<Printed, Failure>
+        ensures done { IfOk result (λ printed. does self.old line.now printed self.new) }
+        ensures bad { IfErr result (λ failure. is_bad line.now × (failure ≡ Failure.Line number) × (self.new ≡ self.old)) };
+}
+
+/// Prints what is printed of a line, so that it is seen at once.
+fn print<W: Write>(printed: Printed, output: &mut W) -> io::Result<()> {
+    writeln!(output, "{printed}")?;
+    output.flush()
+}
+
+/// Has each line of the input done, and prints the reply at once. Lines count from 1, and empty ones
+/// are passed over. The first line that fails ends the run.
+pub fn run_lines<B: Obey, R: Read, W: Write>(
+    alloc: Global,
+    backend: &mut B,
+    input: &mut R,
+    output: &mut W,
+) -> Result<(), Failure> {
+    let mut reader = BufReader::new(alloc, input).map_err(|_| Failure::Refused(Refused::Memory))?;
+    let mut line = Vec::new(alloc);
+    for number in 1..u64::MAX {
+        if !next_line(&mut reader, &mut line)? {
+            return Ok(());
+        }
+        if !line.is_empty() {
+            let printed = backend.obey_line(number, &line)?;
+            print(printed, output).map_err(|_| Failure::Output)?;
+        }
+    }
+    Err(Failure::Input)
+}

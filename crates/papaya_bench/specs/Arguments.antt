@@ -1,9 +1,0 @@
--- What the program's arguments say.
-use Rattle.std.specs.Prelude.{ℕ, List, [], ◌∷◌, codes}
-use Rattle.papaya_bench.specs.declared.arguments.Task.{Task}
-use Rattle.papaya_bench.specs.declared.arguments.Task.TheVariants as task
-
--- the arguments that ask for a task
-abbrev pub words_of : Task → List (List ℕ)
-words_of task.Check = []
-words_of task.Time = codes "time" ∷ []

@@ -1,0 +1,26 @@
+-- tokens of boxcar logs
+pub mod Retyped
+pub mod Made
+-- offers that hand tokens to the book
+pub mod Trades
+-- longer logs
+pub mod Logs
+pub mod Names
+pub mod Windows
+-- what steps keep and tell
+pub mod Cells
+pub mod Loads
+pub mod Grown
+pub mod Exchanges
+pub mod Makers
+pub mod Comes
+pub mod Brings
+pub mod Opening
+pub mod Making
+pub mod Settings
+pub mod Tellings
+pub mod Found
+pub mod Tables
+pub mod Loaded
+pub mod Opened
+pub mod TableSizes

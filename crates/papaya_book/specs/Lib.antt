@@ -1,0 +1,17 @@
+-- what a clause sees of a table, of a token, and of a key's hash
+pub mod Sheets
+pub mod Tokens
+pub mod Hashes
+pub mod Keys
+-- the log, the rule of the book, and what the book keeps beside the log
+pub mod Logs
+pub mod Rule
+pub mod Plays
+pub mod Makers
+pub mod Trade
+pub mod Parts
+pub mod Calls
+-- the same by the keys of the map and the book
+pub mod Books
+-- what a call sees of a map
+pub mod Windows

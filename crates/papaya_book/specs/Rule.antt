@@ -1,0 +1,76 @@
+-- The rule of the book.
+use Rattle.std.specs.Prelude.{◌≡◌, ◌⊎◌, ℕ, ◌+◌, ◌^◌, ◌<◌, ◌≤◌, Bool, true, false, Option, None, Some, List, ◌∷◌, length}
+use Rattle.boxcar.specs.Table.{Shows}
+use Rattle.logbook.specs.Pages.{Book, Cell, cell}
+use Rattle.papaya_call.specs.declared.ask.At.{At}
+use Rattle.papaya_call.specs.declared.ask.At.TheVariants.{Root, Next, Aborted, Done, Slot}
+use Rattle.papaya_law.specs.Exchange.{Empty, State, start}
+use Rattle.papaya_law.specs.Allows.{AllAllowed}
+use Rattle.papaya_law.specs.Grows.{AllSized}
+use Rattle.papaya_rests.specs.Told.{word_of}
+use Rattle.papaya_book.specs.declared.rule.entry.Named.{Named}
+use Rattle.papaya_book.specs.declared.rule.entry.Named.TheVariants as names
+use Rattle.papaya_book.specs.declared.rule.entry.Begun.{Begun}
+use Rattle.papaya_book.specs.declared.rule.entry.Step.{Step}
+use Rattle.papaya_book.specs.declared.rule.entry.Event.{Event}
+use Rattle.papaya_book.specs.declared.rule.entry.Event.TheVariants.{Begin, Home}
+use Rattle.papaya_book.specs.Logs.{Entered, Member, coding_of, entries_of, exchanges_of, in_table, key_at, name_in, owner, seals_of, setting_of, state_of, steps_of, table_in}
+
+-- the words of a table of which nothing is said yet
+pub record IsBlank {P : Type 0} (s : State P) (t : ℕ) : Type 0 where
+  pub next : s.next t ≡ 0
+  pub aborted : s.aborted t ≡ false
+  pub done : s.done t ≡ 0
+  pub slots : (x : ℕ) → s.slot t x ≡ Empty
+
+-- the seal of the table of a place
+abbrev pub seal_at : {K V : Type 0} → List (Step K V) → At → Option ℕ
+seal_at es Root = None
+seal_at es (Next t) = in_table (λ s. Some s.seal) (table_in es t)
+seal_at es (Aborted t) = in_table (λ s. Some s.seal) (table_in es t)
+seal_at es (Done t) = in_table (λ s. Some s.seal) (table_in es t)
+seal_at es (Slot t x) = in_table (λ s. Some s.seal) (table_in es t)
+
+-- what the word that only makers use holds: 1 once the book has its name
+abbrev pub flag : Option Book → ℕ
+flag None = 0
+flag (Some b) = 1
+
+module _ {K V S : Type 0} where
+  -- What has come is in the logs that the book was opened with. The words of a table are of the book that has this name.
+  abbrev pub IsPlaced : Begun K V S → Option Book → Named K V → Type 0
+  IsPlaced b name names.Nothing = Unit {0}
+  IsPlaced b name (names.Pair p) = Shows b.pairs p × Shows b.keys p.value.key
+  IsPlaced b name (names.Table w) = Shows b.tables w × (w.index < 2 ^ 32) × (name ≡ Some w.value.book)
+
+  module _ (eq : K → K → Bool) (hash : S → K → ℕ) where
+    -- What the rule says of the log alone, where the book was opened with b: its exchanges are allowed, and what it names is where it says.
+    pub record IsLawfulLog (b : Begun K V S) (log : List (Event K V S)) : Type 0 where
+      pub rest : List (Event K V S)
+      pub is : log ≡ Begin b ∷ rest
+      pub allowed : AllAllowed (setting_of eq (hash b.hasher) b.mode log) start (exchanges_of log)
+      pub sized : AllSized (entries_of log)
+      pub placed : (n : Named K V) → Entered n log → IsPlaced b (name_in log) n
+      -- a table that has not come is blank, and before there is a root none has come
+      pub blank : (t : ℕ) → table_in (steps_of log) t ≡ None → IsBlank (state_of log) t
+      pub unopened : (state_of log).root ≡ 0 → (t : ℕ) → table_in (steps_of log) t ≡ None
+      -- no two places share a word
+      pub apart : (at at' : At) (k : ℕ) → key_at (steps_of log) at ≡ Some k → key_at (steps_of log) at' ≡ Some k → at ≡ at'
+
+    -- the word that stands at a place after a log
+    abbrev pub word_in : Begun K V S → List (Event K V S) → At → ℕ
+    word_in b log at = word_of (setting_of eq (hash b.hasher) b.mode log) (coding_of (hash b.hasher)) (state_of log) at
+
+    -- The words in the book are the codes of what the exchanges leave.
+    pub record IsKept (cells : List Cell) (log : List (Event K V S)) : Type 0 where
+      pub begun : Begun K V S
+      pub lawful : IsLawfulLog begun log
+      pub many : length cells ≡ 2 + length (seals_of log)
+      pub maker : cell cells 1 ≡ (flag (name_in log), true)
+      pub coded : (at : At) (k : ℕ) → key_at (steps_of log) at ≡ Some k → cell cells k ≡ (word_in begun log at, true)
+      pub counted : (at : At) (k : ℕ) → key_at (steps_of log) at ≡ Some k → (k < length cells) × ((at ≡ Root) ⊎ (2 ≤ k))
+      -- a table's words were added for its seal
+      pub owned : (at : At) (k : ℕ) → key_at (steps_of log) at ≡ Some k → (at ≡ Root) ⊎ (owner k log ≡ seal_at (steps_of log) at)
+      -- words that came home stay there, and hold 0 while they are in no table
+      pub homes : (k : ℕ) → Member (Home k) log → (k < length cells) × ((cell cells k).1 ≡ true)
+      pub fresh : (k : ℕ) → 2 ≤ k → (cell cells k).1 ≡ true → ((at : At) → key_at (steps_of log) at ≡ Some k → ⊥) → (cell cells k).0 ≡ 0

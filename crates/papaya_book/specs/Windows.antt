@@ -1,0 +1,58 @@
+-- What a call sees of a map, and what a step adds to it.
+use Rattle.std.specs.Prelude.{◌≡◌, ℕ, Option, Some}
+use mathlib.Core.List.{IsPrefix}
+use denote.Bor.{Bor}
+use Rattle.boxcar.specs.Table.{Where}
+use Rattle.papaya_call.specs.declared.ask.StepKind.{StepKind}
+use Rattle.papaya_book.specs.declared.keyed.Keyed as keyed
+use Rattle.papaya_book.specs.declared.rule.entry.Named.{Named}
+use Rattle.papaya_book.specs.declared.window.Window.{Window}
+use Rattle.papaya_book.specs.Books as books
+use Rattle.papaya_book.specs.Calls as calls
+use Rattle.papaya_book.specs.Logs.{Stored}
+use Rattle.papaya_book.specs.Makers as makers
+use Rattle.papaya_book.specs.Sheets.{Sheet}
+
+module _ {K V S H : Type 0} {d : keyed.Ghosts S K H} where
+  -- the same book, and no less of its log
+  pub record Sees (old new : Window K V S H d) : Type 0 where
+    pub book : new.book ≡ old.book
+    pub log : IsPrefix old.sight.log new.sight.log
+
+  -- the rule of the book holds of what is seen
+  abbrev pub IsLawful : Window K V S H d → Type 0
+  IsLawful w = books.IsLawfulLog d.keys w.book.now w.sight.log
+
+  abbrev pub IsIn : Window K V S H d → Named K V → Type 0
+  IsIn w = books.IsIn w.book.now
+
+  abbrev pub IsTable : Window K V S H d → ℕ → Sheet → Type 0
+  IsTable w = calls.IsTable w.sight.log
+
+  abbrev pub IsMade : Window K V S H d → Sheet → Type 0
+  IsMade w sheet = makers.IsMade sheet w.sight.log
+
+  module _ (w w' : Window K V S H d) where
+    abbrev pub IsRoot : ℕ → Option (Bor Sheet) → Type 0
+    IsRoot word = books.IsRoot d.keys w.book.now word w'.sight.log
+
+    abbrev pub IsNext : ℕ → ℕ → Option (Bor Sheet) → Type 0
+    IsNext number word = books.IsNext d.keys w.book.now number word w'.sight.log
+
+    abbrev pub IsSlot : ℕ → ℕ → ℕ → Option (Stored K V) → Type 0
+    IsSlot number place word = books.IsSlot d.keys w.book.now number place word w'.sight.log
+
+    abbrev pub Opens : Where Sheet → ℕ → Type 0
+    Opens table found = (state : Option (Named K V)) × books.Opens d.keys w.book.now table w.sight.log found w'.sight.log state
+
+    abbrev pub TriesSlot : (t x : ℕ) → Option StepKind → (words : ℕ × ℕ) → ℕ → Option (Stored K V) → Type 0
+    TriesSlot t x kind words found = books.TriesSlot d.keys w.book.now t x kind words w.sight.log found w'.sight.log
+
+    abbrev pub PutsSlot : (t x : ℕ) → Option StepKind → Stored K V → (words : ℕ × ℕ) → ℕ → Option (Stored K V) → Type 0
+    PutsSlot t x kind made words found = books.PutsSlot d.keys w.book.now t x kind made words w.sight.log found w'.sight.log
+
+  abbrev pub CanTrySlot : Window K V S H d → (t x : ℕ) → Option StepKind → (words : ℕ × ℕ) → Type 0
+  CanTrySlot w t x kind words = books.CanTrySlot d.keys w.book.now t x kind words w.sight.log
+
+  abbrev pub CanPutSlot : Window K V S H d → (t x : ℕ) → Option StepKind → Stored K V → (words : ℕ × ℕ) → Type 0
+  CanPutSlot w t x kind made words = books.CanPutSlot d.keys w.book.now t x kind made words w.sight.log

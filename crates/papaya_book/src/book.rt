@@ -1,0 +1,202 @@
+//! The book of a map: its own words, and the steps on words.
+ghost use Rattle.std.specs.Prelude.{◌≡◌, ◌<◌, [], ◌∷◌, Some, None, length};
+ghost use mathlib.Core.List.{IsPrefix};
+ghost use Rattle.papaya_book.specs.Calls.{IsTable};
+ghost use Rattle.papaya_book.specs.Logs.{first_in, key_at, name_in, steps_of};
+ghost use Rattle.papaya_book.specs.Parts.{begun_of};
+ghost use Rattle.papaya_book.specs.Sheets.{word_named};
+ghost use Rattle.papaya_book.specs.declared.rule.entry.Event.TheVariants.{Begin};
+ghost use Rattle.papaya_book.specs.declared.rule.entry.Named.TheVariants.{Nothing, Pair as PairNamed};
+
+pub mod exchanges;
+pub mod layer;
+pub mod logs;
+pub mod maker;
+pub mod parts;
+
+use crate::book::parts::Parts;
+use crate::keyed::Keyed;
+use crate::rule::entry::Stored;
+use crate::rule::law::Found;
+use crate::rule::steps::{Look, Put, Sought, Try, Wish};
+use crate::rule::token::{tell, token};
+use crate::rule::trade;
+use crate::rule::trade::{Sight, Trade};
+use crate::table::{Cell, Table};
+use papaya_call::ask::At;
+use papaya_words::word::{Kind, Word};
+use std::hash::{BuildHasher, Hash};
+
+/// What all callers of a map share: what its book was opened with, the root and the word that only
+/// makers of tables use.
+#[derive(Drop)]
+pub struct Book<K: Hash + Eq, V, S: BuildHasher> {
+    pub parts: Parts<K, V, S>,
+    pub root: Cell<K, V, S>,
+    pub maker: Cell<K, V, S>,
+    pub begun: Sight<K, V, S>,
+    ghost root_is: { root ≡ word_named begun.book 0 },
+    ghost maker_is: { maker ≡ word_named begun.book 1 },
+    ghost begins: { first_in begun.log ≡ Some (Begin (begun_of parts)) },
+    ghost called: { name_in begun.log ≡ Some begun.book },
+}
+
+impl<K: Hash + Eq, V, S: BuildHasher> Book<K, V, S> {
+    ghost use Rattle.papaya_book.specs.Books.{CanPut, CanTry, IsIn, IsLawfulLog, IsNext, IsRead, IsRoot, IsSlot, Puts, Tries};
+
+    /// One atomic load: the word that stands there. The trade gains what it names.
+    pub fn read(
+        &self,
+        word: &Cell<K, V, S>,
+        sought: &Sought,
+        sight: &mut Sight<K, V, S>,
+    ) -> (u64, Trade<K, V, S>)
+        requires book { sight.old.book ≡ self.now.begun.book }
+        requires word { word.now ≡ word_named self.now.begun.book word.now.key }
+        requires key { key_at (steps_of sight.old.log) sought.now.at ≡ Some word.now.key }
+        ensures book { sight.new.book ≡ sight.old.book }
+        ensures seen { IsPrefix sight.old.log sight.new.log }
+        ensures read { IsRead ⟦<S as Keyed<K>>⟧.keys self.now sought.now.at result.0 sight.new.log result.1.state }
+    {
+        sight.learn(&self.begun);
+        let mut trade = trade::bare::<K, V, S, Sought, Look>(sight, sought);
+        let found = word.load::<Look, Found<K, V>>(sight, &mut trade);
+        (found, trade)
+    }
+
+    /// One atomic exchange with which nothing comes: the word found there.
+    pub fn exchange(
+        &self,
+        word: &Cell<K, V, S>,
+        wish: &Wish,
+        old: u64,
+        new: u64,
+        sight: &mut Sight<K, V, S>,
+    ) -> (u64, Trade<K, V, S>)
+        requires book { sight.old.book ≡ self.now.begun.book }
+        requires word { word.now ≡ word_named self.now.begun.book word.now.key }
+        requires key { key_at (steps_of sight.old.log) wish.now.at ≡ Some word.now.key }
+        requires can { CanTry ⟦<S as Keyed<K>>⟧.keys self.now wish.now old new sight.old.log }
+        ensures book { sight.new.book ≡ sight.old.book }
+        ensures seen { IsPrefix sight.old.log sight.new.log }
+        ensures tried { Tries ⟦<S as Keyed<K>>⟧.keys self.now wish.now old new sight.old.log result.0 sight.new.log result.1.state }
+    {
+        sight.learn(&self.begun);
+        let mut trade = trade::bare::<K, V, S, Wish, Try>(sight, wish);
+        let mut pen = sight.no_pen();
+        let found = word.compare_exchange::<Try, Found<K, V>>(
+            old, new, sight, &mut trade, &mut pen,
+        );
+        (found, trade)
+    }
+
+    /// One atomic exchange with which the pair comes that the call has made: the word found there.
+    pub fn put(
+        &self,
+        word: &Cell<K, V, S>,
+        wish: &Put<K, V>,
+        old: u64,
+        new: u64,
+        sight: &mut Sight<K, V, S>,
+    ) -> (u64, Trade<K, V, S>)
+        requires book { sight.old.book ≡ self.now.begun.book }
+        requires word { word.now ≡ word_named self.now.begun.book word.now.key }
+        requires key { key_at (steps_of sight.old.log) wish.now.at ≡ Some word.now.key }
+        requires placed { IsIn self.now (PairNamed wish.now.made.now) }
+        requires can { CanPut ⟦<S as Keyed<K>>⟧.keys self.now wish.now old new sight.old.log }
+        ensures book { sight.new.book ≡ sight.old.book }
+        ensures seen { IsPrefix sight.old.log sight.new.log }
+        ensures tried { Puts ⟦<S as Keyed<K>>⟧.keys self.now wish.now old new sight.old.log result.0 sight.new.log result.1.state }
+    {
+        sight.learn(&self.begun);
+        let mut trade = trade::with_pair::<K, V, S, Put<K, V>, Try>(sight, wish, tell(wish.made));
+        let mut pen = sight.no_pen();
+        let found = word.compare_exchange::<Try, Found<K, V>>(
+            old, new, sight, &mut trade, &mut pen,
+        );
+        (found, trade)
+    }
+
+    /// One atomic load of a table's slot: the word, and the token of the pair that it names.
+    pub fn slot(
+        &self,
+        table: &Table<K, V, S>,
+        number: u64,
+        place: usize,
+        sight: &mut Sight<K, V, S>,
+    ) -> (u64, Option<Stored<K, V>>)
+        requires book { sight.old.book ≡ self.now.begun.book }
+        requires table { IsTable sight.old.log number table.now }
+        requires place { place < length table.now.slots }
+        ensures book { sight.new.book ≡ sight.old.book }
+        ensures seen { IsPrefix sight.old.log sight.new.log }
+        ensures slot { IsSlot ⟦<S as Keyed<K>>⟧.keys self.now number place result.0 sight.new.log result.1 }
+    {
+        sight.learn(&self.begun);
+        let sought = Sought {
+            at: At::Slot(number, place),
+        };
+        let (found, trade) = self.read(table.slot(place), &sought, sight);
+        match Word(found).kind() {
+            Kind::Empty | Kind::Closed => (found, None),
+            _ => {
+                let known = trade::pair_known(trade.into_gain());
+                (found, Some(token(known, Word(found).pair() as usize)))
+            }
+        }
+    }
+
+    /// One atomic load of the root: its number, and its table.
+    pub fn root<'a>(&'a self, sight: &mut Sight<K, V, S>) -> (u64, Option<&'a Table<K, V, S>>)
+        requires book { sight.old.book ≡ self.now.begun.book }
+        ensures book { sight.new.book ≡ sight.old.book }
+        ensures seen { IsPrefix sight.old.log sight.new.log }
+        ensures root { IsRoot ⟦<S as Keyed<K>>⟧.keys self.now result.0 sight.new.log result.1 }
+    {
+        sight.learn(&self.begun);
+        let sought = Sought { at: At::Root };
+        let (found, trade) = self.read(&self.root, &sought, sight);
+        if found == 0 {
+            return (0, None);
+        }
+        let known = trade::table_known(trade.into_gain());
+        let token = token(known, (found - 1) as usize);
+        (found, Some(self.parts.tables.value(&token)))
+    }
+
+    /// One atomic load of the number of the next table, and that table.
+    pub fn next<'a>(
+        &'a self,
+        table: &Table<K, V, S>,
+        number: u64,
+        sight: &mut Sight<K, V, S>,
+    ) -> (u64, Option<&'a Table<K, V, S>>)
+        requires book { sight.old.book ≡ self.now.begun.book }
+        requires table { IsTable sight.old.log number table.now }
+        ensures book { sight.new.book ≡ sight.old.book }
+        ensures seen { IsPrefix sight.old.log sight.new.log }
+        ensures next { IsNext ⟦<S as Keyed<K>>⟧.keys self.now number result.0 sight.new.log result.1 }
+    {
+        sight.learn(&self.begun);
+        let sought = Sought {
+            at: At::Next(number),
+        };
+        let (found, trade) = self.read(table.next(), &sought, sight);
+        if found == 0 {
+            return (0, None);
+        }
+        let known = trade::table_known(trade.into_gain());
+        let token = token(known, (found - 1) as usize);
+        (found, Some(self.parts.tables.value(&token)))
+    }
+
+    /// What the book was opened with, and what it says by now.
+    pub fn learn(&self, sight: &mut Sight<K, V, S>)
+        requires book { sight.old.book ≡ self.now.begun.book }
+        ensures book { sight.new.book ≡ sight.old.book }
+        ensures seen { IsPrefix sight.old.log sight.new.log }
+        ensures lawful { IsLawfulLog ⟦<S as Keyed<K>>⟧.keys self.now sight.new.log }
+    {
+        sight.learn(&self.begun);
+    }
+}

@@ -1,0 +1,98 @@
+//! Exchanges of slots, with the pairs that they find.
+ghost use Rattle.papaya_book.specs.Books.{CanPutSlot, CanTrySlot, IsIn, PutsSlot, TriesSlot};
+ghost use Rattle.std.specs.Prelude.{◌≡◌, ◌<◌, length};
+ghost use mathlib.Core.List.{IsPrefix};
+ghost use Rattle.papaya_book.specs.Calls.{IsPairOf, IsTable, NamesPair};
+ghost use Rattle.papaya_book.specs.declared.rule.entry.Named.TheVariants.{Pair as PairNamed};
+
+use crate::book::Book;
+use crate::keyed::Keyed;
+use crate::rule::entry::Stored;
+use crate::rule::steps::{Put, Wish};
+use crate::rule::token::token;
+use crate::rule::trade;
+use crate::rule::trade::{Sight, Trade};
+use crate::table::Table;
+use papaya_call::ask::{At, StepKind};
+use papaya_words::word::{Kind, Word};
+use std::hash::{BuildHasher, Hash};
+
+/// The token of the pair that a slot's word names, if it names one.
+fn pair_in<K: Hash + Eq, V, S: BuildHasher>(
+    found: u64,
+    trade: Trade<K, V, S>,
+) -> Option<Stored<K, V>>
+    requires { NamesPair found trade.state }
+    ensures { IsPairOf found trade.state result }
+{
+    match Word(found).kind() {
+        Kind::Empty | Kind::Closed => None,
+        _ => {
+            let known = trade::pair_known(trade.into_gain());
+            Some(token(known, Word(found).pair() as usize))
+        }
+    }
+}
+
+impl<K: Hash + Eq, V, S: BuildHasher> Book<K, V, S> {
+    /// One atomic exchange of a slot, with which nothing comes: the word found there, and the token of
+    /// the pair that it names.
+    pub fn exchange_slot(
+        &self,
+        table: &Table<K, V, S>,
+        number: u64,
+        place: usize,
+        kind: Option<StepKind>,
+        words: (u64, u64),
+        sight: &mut Sight<K, V, S>,
+    ) -> (u64, Option<Stored<K, V>>)
+        requires book { sight.old.book ≡ self.now.begun.book }
+        requires table { IsTable sight.old.log number table.now }
+        requires place { place < length table.now.slots }
+        requires can { CanTrySlot ⟦<S as Keyed<K>>⟧.keys self.now number place kind words sight.old.log }
+        ensures book { sight.new.book ≡ sight.old.book }
+        ensures seen { IsPrefix sight.old.log sight.new.log }
+        ensures tried { TriesSlot ⟦<S as Keyed<K>>⟧.keys self.now number place kind words sight.old.log result.0 sight.new.log result.1 }
+    {
+        let wish = Wish {
+            at: At::Slot(number, place),
+            kind,
+        };
+        let (old, new) = words;
+        sight.learn(&self.begun);
+        let (found, trade) = self.exchange(table.slot(place), &wish, old, new, sight);
+        (found, pair_in(found, trade))
+    }
+
+    /// One atomic exchange of a slot, with which the pair comes that the call has made: the word found
+    /// there, and the token of the pair that it names.
+    pub fn put_slot(
+        &self,
+        table: &Table<K, V, S>,
+        number: u64,
+        place: usize,
+        kind: Option<StepKind>,
+        made: &Stored<K, V>,
+        words: (u64, u64),
+        sight: &mut Sight<K, V, S>,
+    ) -> (u64, Option<Stored<K, V>>)
+        requires book { sight.old.book ≡ self.now.begun.book }
+        requires table { IsTable sight.old.log number table.now }
+        requires place { place < length table.now.slots }
+        requires placed { IsIn self.now (PairNamed made.now) }
+        requires can { CanPutSlot ⟦<S as Keyed<K>>⟧.keys self.now number place kind made.now words sight.old.log }
+        ensures book { sight.new.book ≡ sight.old.book }
+        ensures seen { IsPrefix sight.old.log sight.new.log }
+        ensures tried { PutsSlot ⟦<S as Keyed<K>>⟧.keys self.now number place kind made.now words sight.old.log result.0 sight.new.log result.1 }
+    {
+        sight.learn(&self.begun);
+        let wish = Put {
+            at: At::Slot(number, place),
+            kind,
+            made,
+        };
+        let (old, new) = words;
+        let (found, trade) = self.put(table.slot(place), &wish, old, new, sight);
+        (found, pair_in(found, trade))
+    }
+}

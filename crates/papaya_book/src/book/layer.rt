@@ -1,0 +1,168 @@
+//! Making and opening tables.
+ghost use Rattle.papaya_book.specs.Books.{IsIn, IsLeft, Opens, Seals, root_then};
+ghost use Rattle.std.specs.Prelude.{◌≡◌, ℕ, ◌+◌, ◌<◌, ◌≤◌, ◌⊎◌, ◌==◌, cond, false, Some, None, IfErr, IfOk, length, map};
+ghost use mathlib.Core.List.{IsPrefix};
+ghost use Rattle.papaya_call.specs.Search.{IsSize};
+ghost use Rattle.papaya_book.specs.Calls.{IsTable};
+ghost use Rattle.papaya_book.specs.Makers.{AreMade, IsMade};
+ghost use Rattle.papaya_book.specs.Logs.{seals_of};
+ghost use Rattle.papaya_book.specs.Sheets.{AllOf};
+ghost use Rattle.papaya_book.specs.declared.rule.entry.Named.TheVariants.{Table as TableNamed};
+ghost use Rattle.papaya_words.specs.Probe.{IsEntriesFor};
+ghost use Rattle.papaya_words.specs.declared.limits.TheConstants.{MAX_TABLE_LEN};
+
+use crate::book::Book;
+use crate::keyed::Keyed;
+use crate::rule::steps::Laying;
+use crate::rule::token::token;
+use crate::rule::trade;
+use crate::rule::trade::{Sight, Trade};
+use crate::table::{Cell, Table};
+use boxcar::Pushed;
+use logbook::Pen;
+use papaya_call::ask::{At, StepKind};
+use papaya_keys::sizes::first_size;
+use papaya_words::limits::MAX_TABLES;
+use papaya_words::probe::Refused;
+use std::alloc::{AllocError, Global};
+use std::hash::{BuildHasher, Hash};
+use std::sync::Wait;
+
+impl<K: Hash + Eq, V, S: BuildHasher> Book<K, V, S> {
+    /// The slots of a new table.
+    fn row(
+        &self,
+        alloc: Global,
+        len: usize,
+        seal: &Pen,
+        sight: &mut Sight<K, V, S>,
+    ) -> Result<Vec<Cell<K, V, S>>, AllocError>
+        requires book { sight.old.book ≡ self.now.begun.book }
+        ensures book { sight.new.book ≡ sight.old.book }
+        ensures seen { IsPrefix sight.old.log sight.new.log }
+        ensures len { IfOk result (λ v. length v.items ≡ len) }
+        ensures words { IfOk result (λ v. AllOf self.now.begun.book v.items) }
+        ensures made { IfOk result (λ v. (least : ℕ) → least < 2 + length (seals_of sight.old.log) → AreMade (map (λ w. w.key) v.items) least seal.now.nib.key sight.new.log) }
+    {
+        let mut slots = Vec::with_capacity(alloc, len)?;
+        for _ in 0..len {
+            slots.push(self.word(seal, sight))?;
+        }
+        Ok(slots)
+    }
+
+    /// A table of so many slots, all Empty, in the log of tables, with the pen of its seal.
+    ///
+    /// `Refused::Memory` where a growth was refused, and `Refused::Capacity` where the number that the
+    /// log gave it would pass [`MAX_TABLES`].
+    pub fn make_table<R: Wait>(
+        &self,
+        rt: &R,
+        alloc: Global,
+        len: usize,
+        limit: usize,
+        sight: &mut Sight<K, V, S>,
+    ) -> Result<(Pushed<Table<K, V, S>>, Pen), Refused>
+        requires book { sight.old.book ≡ self.now.begun.book }
+        requires size { IsSize len limit }
+        ensures book { sight.new.book ≡ sight.old.book }
+        ensures seen { IsPrefix sight.old.log sight.new.log }
+        ensures size { IfOk result (λ r. (length r.0.value.slots ≡ len) × (r.0.value.limit ≡ limit)) }
+        ensures made { IfOk result (λ r. IsMade r.0.value sight.new.log) }
+        ensures err { IfErr result (λ e. (e ≡ Refused.Memory) ⊎ (e ≡ Refused.Capacity)) }
+        ensures placed { IfOk result (λ r. IsIn self.now (TableNamed r.0)) }
+        ensures pen { IfOk result (λ r. Seals self.now r.1 r.0.value) }
+    {
+        let (done, seal) = self.seal(sight);
+        let next = self.word(&seal, sight);
+        let aborted = self.word(&seal, sight);
+        let Ok(slots) = self.row(alloc, len, &seal, sight) else {
+            return Err(Refused::Memory);
+        };
+        let table = Table {
+            limit,
+            next,
+            aborted,
+            done,
+            slots,
+        };
+        let Ok(token) = self.parts.tables.push_shown(rt, table) else {
+            return Err(Refused::Memory);
+        };
+        if token.index() as u64 >= MAX_TABLES {
+            return Err(Refused::Capacity);
+        }
+        Ok((token, seal))
+    }
+
+    /// One atomic exchange: the table becomes the root, if there is none. The number found, and what
+    /// gains the table that was first.
+    pub fn open(
+        &self,
+        table: &Pushed<Table<K, V, S>>,
+        seal: &mut Pen,
+        sight: &mut Sight<K, V, S>,
+    ) -> (u64, Trade<K, V, S>)
+        requires book { sight.old.book ≡ self.now.begun.book }
+        requires placed { IsIn self.now (TableNamed table.now) }
+        requires made { IsMade table.now.value sight.old.log }
+        requires pen { Seals self.now seal.old table.now.value }
+        ensures book { sight.new.book ≡ sight.old.book }
+        ensures seen { IsPrefix sight.old.log sight.new.log }
+        ensures tried { Opens ⟦<S as Keyed<K>>⟧.keys self.now table.now sight.old.log result.0 sight.new.log result.1.state }
+        ensures pen { IsLeft seal.old seal.new result.0 0 }
+    {
+        let laying = Laying {
+            at: At::Root,
+            kind: Some(StepKind::Open),
+            table,
+        };
+        let number = table.index() as u64 + 1;
+        self.bring(&self.root, &laying, 0, number, seal, sight)
+    }
+
+    /// One atomic exchange: the table becomes the root, if there is none. The number found, and the
+    /// root's table.
+    pub fn open_root<'a>(
+        &'a self,
+        table: &Pushed<Table<K, V, S>>,
+        seal: &mut Pen,
+        sight: &mut Sight<K, V, S>,
+    ) -> (u64, &'a Table<K, V, S>)
+        requires book { sight.old.book ≡ self.now.begun.book }
+        requires placed { IsIn self.now (TableNamed table.now) }
+        requires made { IsMade table.now.value sight.old.log }
+        requires pen { Seals self.now seal.old table.now.value }
+        ensures book { sight.new.book ≡ sight.old.book }
+        ensures seen { IsPrefix sight.old.log sight.new.log }
+        ensures tried { (state : _) × Opens ⟦<S as Keyed<K>>⟧.keys self.now table.now sight.old.log result.0 sight.new.log state }
+        ensures held { IsTable sight.new.log (root_then table.now result.0) result.1.now }
+    {
+        sight.learn(&self.begun);
+        let (found, trade) = self.open(table, seal, sight);
+        if found == 0 {
+            return (0, self.parts.tables.value(table));
+        }
+        let known = trade::table_known(trade.into_gain());
+        let token = token(known, (found - 1) as usize);
+        (found, self.parts.tables.value(&token))
+    }
+
+    /// Makes the first table of a new map, for so many pairs, and opens it.
+    pub fn open_first<R: Wait>(
+        &self,
+        rt: &R,
+        alloc: Global,
+        capacity: usize,
+        initial: usize,
+    ) -> Result<(), Refused>
+        requires { IsEntriesFor capacity initial × (initial ≤ MAX_TABLE_LEN) }
+        ensures { IfErr result (λ e. (e ≡ Refused.Memory) ⊎ (e ≡ Refused.Capacity)) }
+    {
+        let (len, limit) = first_size(capacity, initial);
+        let mut sight = self.pass();
+        let (table, mut seal) = self.make_table(rt, alloc, len, limit, &mut sight)?;
+        self.open(&table, &mut seal, &mut sight);
+        Ok(())
+    }
+}

@@ -1,0 +1,97 @@
+//! Opening the book of a map, and logging what callers put into it.
+ghost use Rattle.papaya_book.specs.Books.{IsIn};
+ghost use Rattle.std.specs.Prelude.{◌≡◌, ◌^◌, ◌<◌, Some, IfOk, IfErr};
+ghost use Rattle.boxcar.specs.Table.{Shows};
+ghost use Rattle.papaya_book.specs.declared.rule.entry.Named.TheVariants.{Pair as PairNamed};
+
+use crate::book::Book;
+use crate::book::parts::Parts;
+use crate::rule::entry::{Pair, Stored};
+use crate::rule::trade::Sight;
+use boxcar::Pushed;
+use papaya_words::probe::ResizeMode;
+use std::alloc::{AllocError, Global};
+use std::hash::{BuildHasher, Hash};
+use std::sync::Wait;
+
+impl<K: Hash + Eq + Drop, V: Drop, S: BuildHasher + Drop> Parts<K, V, S> {
+    /// The hasher, and three logs that hold nothing.
+    pub fn new(alloc: Global, mode: ResizeMode, hasher: S) -> Result<Parts<K, V, S>, AllocError>
+        ensures { IfOk result (λ p. (p.hasher ≡ hasher) × (p.mode ≡ mode)) }
+    {
+        let keys = boxcar::Vec::new(alloc)?;
+        let pairs = boxcar::Vec::new(alloc)?;
+        let tables = boxcar::Vec::new(alloc)?;
+        Ok(Parts {
+            hasher,
+            mode,
+            keys,
+            pairs,
+            tables,
+        })
+    }
+}
+
+impl<K: Hash + Eq, V, S: BuildHasher> Book<K, V, S> {
+    /// The book of a new map.
+    pub fn opened<R: Wait>(rt: &R, parts: Parts<K, V, S>) -> Book<K, V, S>
+        ensures { result.parts ≡ parts }
+    {
+        let mut parts = parts;
+        for _ in rt.forever() {
+            match Book::begin(parts) {
+                Ok(book) => return book,
+                Err(back) => parts = back,
+            }
+        }
+        unreachable!()
+    }
+
+    /// The pair that a token shows.
+    pub fn pair<'a>(&'a self, stored: &Stored<K, V>) -> &'a Pair<K, V>
+        requires { IsIn self.now (PairNamed stored.now) }
+        ensures { result.now ≡ stored.now.value }
+    {
+        self.parts.pairs.value(stored)
+    }
+
+    /// Its key.
+    pub fn key<'a>(&'a self, pair: &Pair<K, V>) -> &'a K
+        requires { Shows self.now.parts.keys pair.now.key }
+        ensures { result.now ≡ pair.now.key.value }
+    {
+        self.parts.keys.value(&pair.key)
+    }
+
+    /// A new pass. What it has seen begins what every other has seen.
+    pub fn pass(&self) -> Sight<K, V, S>
+        ensures { result ≡ self.now.begun }
+    {
+        self.begun.again()
+    }
+}
+
+impl<K: Hash + Eq + Drop, V: Drop, S: BuildHasher> Book<K, V, S> {
+    /// The key, logged. It comes back where there is no memory.
+    pub fn log_key<R: Wait>(&self, rt: &R, key: K) -> Result<Pushed<K>, K>
+        ensures ok { IfOk result (λ p. Shows self.now.parts.keys p × (p.value ≡ key)) }
+        ensures err { IfErr result (λ k. k ≡ key) }
+    {
+        self.parts.keys.push_shown(rt, key)
+    }
+
+    /// The pair of a logged key, logged. It comes back where there is no memory.
+    pub fn log_pair<R: Wait>(
+        &self,
+        rt: &R,
+        key: Pushed<K>,
+        value: V,
+    ) -> Result<Stored<K, V>, Pair<K, V>>
+        requires { Shows self.now.parts.keys key }
+        ensures placed { IfOk result (λ p. IsIn self.now (PairNamed p)) }
+        ensures ok { IfOk result (λ p. (p.value.key ≡ key) × (p.value.value ≡ value)) }
+        ensures err { IfErr result (λ p. (p.key ≡ key) × (p.value ≡ value)) }
+    {
+        self.parts.pairs.push_shown(rt, Pair { key, value })
+    }
+}

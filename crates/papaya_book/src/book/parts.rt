@@ -1,0 +1,28 @@
+//! What a map's book is opened with.
+use crate::rule::entry::{Event, Pair};
+use crate::table::Table;
+use logbook::Opening;
+use papaya_words::probe::ResizeMode;
+use std::hash::{BuildHasher, Hash};
+
+/// The hasher, how the map resizes, and the logs of keys, of pairs and of tables. A key, a pair or a
+/// table stays where it was logged.
+#[derive(Drop)]
+pub struct Parts<K: Hash + Eq, V, S: BuildHasher> {
+    pub hasher: S,
+    pub mode: ResizeMode,
+    pub keys: boxcar::Vec<K>,
+    pub pairs: boxcar::Vec<Pair<K, V>>,
+    pub tables: boxcar::Vec<Table<K, V, S>>,
+}
+
+/// The first log says what the book was opened with.
+pub struct First;
+
+impl<K: Hash + Eq, V, S: BuildHasher> Opening<Parts<K, V, S>, Event<K, V, S>> for First {
+    ghost use Rattle.std.specs.Prelude.{[], ◌∷◌};
+    ghost use Rattle.papaya_book.specs.declared.rule.entry.Event.TheVariants.{Begin};
+    ghost use Rattle.papaya_book.specs.Parts.{begun_of};
+
+    ghost log = { λ n p. Begin (begun_of p) ∷ [] };
+}

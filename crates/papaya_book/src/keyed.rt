@@ -1,0 +1,42 @@
+//! When keys are equal, and their hashes, as contracts name them.
+use papaya_keys::guard::Equivalent;
+use std::hash::{BuildHasher, Hash};
+
+/// The keys of a map with this hasher. Every hasher has them.
+pub trait Keyed<K: Hash + Eq>: BuildHasher {
+    ghost use Rattle.papaya_book.specs.Keys.{Keys};
+
+    ghost keys: { Keys K Self };
+}
+
+impl<K: Hash + Eq, S: BuildHasher> Keyed<K> for S {
+    ghost use Rattle.papaya_book.specs.Keys.{keys_of};
+
+    ghost keys = { keys_of K.Hash S.BuildHasher S.Hasher.Hasher };
+}
+
+/// The hashes that a map with this hasher looks things up by. Every hasher has them.
+pub trait Hashed<Q: Hash>: BuildHasher {
+    ghost use Rattle.std.specs.Prelude.{ℕ};
+
+    ghost hash: { Self → Q → ℕ };
+}
+
+impl<Q: Hash, S: BuildHasher> Hashed<Q> for S {
+    ghost use Rattle.papaya_book.specs.Hashes.{hash_of};
+
+    ghost hash = { hash_of Q.hash_input S.build_hasher S.Hasher.write S.Hasher.finish };
+}
+
+/// What a query asks of a map with this hasher.
+pub trait Asked<K: Hash + Eq, Q: Equivalent<K>>: BuildHasher {
+    ghost use Rattle.papaya_book.specs.Keys.{Query};
+
+    ghost query: { Q → Query K Self };
+}
+
+impl<K: Hash + Eq, Q: Equivalent<K>, S: BuildHasher> Asked<K, Q> for S {
+    ghost use Rattle.papaya_book.specs.Hashes.{hash_of};
+
+    ghost query = { λ q. record { matches = Q.matches q; hash = λ s. hash_of Q.hash_input S.build_hasher S.Hasher.write S.Hasher.finish s q } };
+}

@@ -1,0 +1,17 @@
+//! The book of a shared map: its words are atomic words whose log records every exchange.
+//!
+//! Read [`rule`] first: what the log says ([`rule::entry`]), when an exchange is allowed
+//! ([`rule::law`]), and how the tokens of pairs and tables pass between a step and the book. Then
+//! [`book`]: loads and exchanges as calls, the logs of keys and pairs, and tables that are made and
+//! opened while others act.
+//!
+//! Whatever the kind of an exchange, the same two steps try it: one with which nothing comes or a
+//! pair, and one with which a table comes. A caller shows that its exchange is allowed whenever its
+//! old word stands there; the machines' laws say just that.
+#![tactic(auto)]
+
+pub mod book;
+pub mod keyed;
+pub mod rule;
+pub mod table;
+pub mod window;

@@ -1,0 +1,7 @@
+//! The rule of the book. Contracts alone see the log, so most of this is never built.
+
+pub mod entry;
+pub mod law;
+pub mod steps;
+pub mod token;
+pub mod trade;

@@ -1,0 +1,109 @@
+//! What the book's log says.
+//!
+//! No code builds an entry: the log is seen by contracts alone. Its types are those of the tokens
+//! and logs that the rule of the book speaks of.
+ghost use Rattle.logbook.specs.Pages.{Book, book_coded};
+ghost use Rattle.papaya_book.specs.Sheets.{Sheet as SheetOf, sheet_coded};
+
+use boxcar::Pushed;
+use papaya_call::ask::{At, StepKind};
+use papaya_words::probe::ResizeMode;
+use std::collections::LinkedList;
+use std::marker::Model;
+
+/// What lies in the pair log: a value, and the token of its key in the key log.
+#[derive(Drop)]
+pub struct Pair<K, V> {
+    pub key: Pushed<K>,
+    pub value: V,
+}
+
+/// A pair as the log names it: its number, the places where the pair log keeps it, and the pair.
+pub type Stored<K, V> = Pushed<Pair<K, V>>;
+
+/// What the log says of a table: its words' keys, and how far a search of it goes. A table's words
+/// keep to this very log, so the log can't name the table's own type.
+pub struct Sheet {
+    book: Name,
+    limit: u64,
+    next: u64,
+    aborted: u64,
+    seal: u64,
+    slots: LinkedList<u64>,
+}
+
+impl Model for Sheet {
+    ghost Value = { SheetOf };
+
+    ghost coded = { sheet_coded };
+
+    ghost view = { λ s. record { book = s.book; limit = s.limit; next = s.next; aborted = s.aborted; seal = s.seal; slots = s.slots } };
+}
+
+/// A table as the log names it.
+pub type Laid = Pushed<Sheet>;
+
+/// Which book it is.
+pub struct Name {
+    number: u64,
+    log: u64,
+    cells: u64,
+}
+
+impl Model for Name {
+    ghost Value = { Book };
+
+    ghost coded = { book_coded };
+
+    ghost view = { λ n. record { number = n.number; log_name = n.log; cells_name = n.cells } };
+}
+
+/// An exchange, of one of the twelve kinds. Tables are named by number, but for one that comes.
+pub enum Step<K, V> {
+    Open(Laid),
+    Claim(u64, u64, Stored<K, V>),
+    Replace(u64, u64, Stored<K, V>, Stored<K, V>),
+    Bury(u64, u64, Stored<K, V>),
+    Link(u64, Laid),
+    Mark(u64, u64, Stored<K, V>),
+    Close(u64, u64),
+    Place(u64, u64, Stored<K, V>),
+    Finish(u64, u64, Stored<K, V>),
+    Advance(u64, u64, u64),
+    Promote(u64, u64),
+    Abort(u64),
+}
+
+/// What a word names: nothing, a pair or a table.
+pub enum Named<K, V> {
+    Nothing,
+    Pair(Stored<K, V>),
+    Table(Laid),
+}
+
+/// What the book was opened with: the hasher, how the map resizes, and the logs of keys, of pairs
+/// and of tables.
+pub struct Begun<K, V, S> {
+    pub hasher: S,
+    pub mode: ResizeMode,
+    pub keys: boxcar::Vec<K>,
+    pub pairs: boxcar::Vec<Pair<K, V>>,
+    pub tables: boxcar::Vec<Sheet>,
+}
+
+/// An entry of the log.
+pub enum Event<K, V, S> {
+    /// What a load or an exchange asks for: a word, the kind of the exchange, the pair that the call
+    /// has made, and what comes with the step. No log has it.
+    Wish(At, Option<StepKind>, Option<Stored<K, V>>, Named<K, V>),
+    /// The book was opened.
+    Begin(Begun<K, V, S>),
+    /// The book was told its own name.
+    Called(Name),
+    /// A word was added, for the table that will have this seal.
+    Born(u64),
+    /// The word of this key came home, and holds 0.
+    Home(u64),
+    /// A word was exchanged.
+    Stepped(Step<K, V>),
+}

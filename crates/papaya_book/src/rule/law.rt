@@ -1,0 +1,47 @@
+//! The rule of the book.
+use crate::rule::entry::{Event, Named};
+use logbook::{Gain, Rule};
+use std::hash::{BuildHasher, Hash};
+use std::marker::PhantomData;
+
+/// The rule: the log's exchanges are allowed, the words are those that they leave, and the book keeps
+/// the tokens of all pairs and tables that came.
+pub struct Law<K, V, S> {
+    of: PhantomData<(K, V, S)>,
+}
+
+impl<K: Hash + Eq, V, S: BuildHasher> Rule<Event<K, V, S>, Named<K, V>> for Law<K, V, S> {
+    ghost use Rattle.std.specs.Prelude.{[]};
+    ghost use Rattle.papaya_book.specs.Hashes.{hash_of};
+    ghost use Rattle.papaya_book.specs.Rule.{IsKept};
+    ghost use Rattle.papaya_book.specs.Tokens.{stands};
+    ghost use Rattle.papaya_book.specs.Trade.{kept, Moved};
+    ghost use Rattle.papaya_book.specs.contracts.rule.entry.Pair.{the_row as PairOf};
+    ghost use Rattle.papaya_book.specs.contracts.rule.entry.Sheet.{the_row as SheetRow};
+
+    ghost holds = { λ cells log. IsKept K.eq (hash_of K.hash_input S.build_hasher S.Hasher.write S.Hasher.finish) cells log };
+
+    ghost first = { [] };
+
+    ghost hinted = { λ n log. Unit {0} };
+
+    ghost shows = { λ log. log };
+
+    ghost keeps = { λ names log. kept (stands (PairOf K.row V.row)) (stands SheetRow) log };
+
+    ghost moves = { λ ask before after answer. Moved ask before after answer };
+}
+
+/// The client has the token of the answer.
+pub struct Found<K, V> {
+    of: PhantomData<(K, V)>,
+}
+
+impl<K, V, S> Gain<Event<K, V, S>, Named<K, V>> for Found<K, V> {
+    ghost use Rattle.papaya_book.specs.Tokens.{stands};
+    ghost use Rattle.papaya_book.specs.Trade.{shown};
+    ghost use Rattle.papaya_book.specs.contracts.rule.entry.Pair.{the_row as PairOf};
+    ghost use Rattle.papaya_book.specs.contracts.rule.entry.Sheet.{the_row as SheetRow};
+
+    ghost after = { λ names about answer. shown (stands (PairOf K.row V.row)) (stands SheetRow) answer };
+}

@@ -1,0 +1,171 @@
+//! The steps on words: what they ask for, and what they tell.
+use crate::rule::entry::{Event, Named, Stored};
+use crate::rule::trade::Sight;
+use crate::table::Table;
+use boxcar::Pushed;
+use logbook::{Pen, Plain, Play};
+use papaya_call::ask::{At, StepKind};
+use std::hash::{BuildHasher, Hash};
+
+/// A word that is to be loaded.
+#[derive(Clone, Copy)]
+pub struct Sought {
+    pub at: At,
+}
+
+/// An exchange with which nothing comes: the word and the kind.
+#[derive(Clone, Copy)]
+pub struct Wish {
+    pub at: At,
+    pub kind: Option<StepKind>,
+}
+
+/// An exchange with which the pair comes that the call has made.
+#[derive(Clone, Copy)]
+pub struct Put<'a, K, V> {
+    pub at: At,
+    pub kind: Option<StepKind>,
+    pub made: &'a Stored<K, V>,
+}
+
+/// A load.
+pub struct Look;
+
+impl<K, V, S> Plain<Sought, Event<K, V, S>, Named<K, V>> for Look {
+    ghost use Rattle.std.specs.Prelude.{None};
+    ghost use Rattle.papaya_book.specs.declared.rule.entry.Named.TheVariants.{Nothing};
+    ghost use Rattle.papaya_book.specs.declared.rule.entry.Event.TheVariants.{Wish};
+
+    ghost ask = { λ x. Wish x.at None None Nothing };
+
+    ghost state = { λ x. None };
+}
+
+impl<K: Hash + Eq, V, S: BuildHasher> Play<Event<K, V, S>, Named<K, V>> for Look {
+    ghost use Rattle.papaya_book.specs.Hashes.{hash_of};
+    ghost use Rattle.papaya_book.specs.Plays.{Looks};
+
+    ghost then = { Looks K.eq (hash_of K.hash_input S.build_hasher S.Hasher.write S.Hasher.finish) };
+}
+
+/// An exchange.
+pub struct Try;
+
+impl<K, V, S> Plain<Wish, Event<K, V, S>, Named<K, V>> for Try {
+    ghost use Rattle.std.specs.Prelude.{None};
+    ghost use Rattle.papaya_book.specs.declared.rule.entry.Named.TheVariants.{Nothing};
+    ghost use Rattle.papaya_book.specs.declared.rule.entry.Event.TheVariants.{Wish};
+
+    ghost ask = { λ x. Wish x.at x.kind None Nothing };
+
+    ghost state = { λ x. None };
+}
+
+impl<'a, K, V, S> Plain<Put<'a, K, V>, Event<K, V, S>, Named<K, V>> for Try {
+    ghost use Rattle.std.specs.Prelude.{None, Some};
+    ghost use Rattle.papaya_book.specs.declared.rule.entry.Named.TheVariants.{Pair};
+    ghost use Rattle.papaya_book.specs.declared.rule.entry.Event.TheVariants.{Wish};
+
+    ghost ask = { λ x. Wish x.at x.kind (Some x.made.now) (Pair x.made.now) };
+
+    ghost state = { λ x. None };
+}
+
+impl<K: Hash + Eq, V, S: BuildHasher> Play<Event<K, V, S>, Named<K, V>> for Try {
+    ghost use Rattle.papaya_book.specs.Hashes.{hash_of};
+    ghost use Rattle.papaya_book.specs.Plays.{Tries};
+
+    ghost then = { Tries K.eq (hash_of K.hash_input S.build_hasher S.Hasher.write S.Hasher.finish) };
+}
+
+/// A step that adds the first word of a table, whose key is the table's seal.
+pub struct Seal;
+
+/// A step that adds another word of the table whose seal this pen holds.
+pub struct Add;
+
+/// A step that brings the pen's word home.
+pub struct Come;
+
+/// A step that tells the book its own name.
+pub struct Call;
+
+/// A step with which a table comes: it is opened or linked.
+pub struct Bring;
+
+/// An exchange with which the table comes that the token shows.
+#[derive(Clone, Copy)]
+pub struct Laying<'a, K: Hash + Eq, V, S: BuildHasher> {
+    pub at: At,
+    pub kind: Option<StepKind>,
+    pub table: &'a Pushed<Table<K, V, S>>,
+}
+
+impl<K, V, S> Plain<Pen, Event<K, V, S>, Named<K, V>> for Add {
+    ghost use Rattle.std.specs.Prelude.{None};
+    ghost use Rattle.papaya_book.specs.declared.rule.entry.Event.TheVariants.{Born};
+
+    ghost ask = { λ pen. Born pen.nib.key };
+
+    ghost state = { λ pen. None };
+}
+
+impl<K, V, S> Plain<Pen, Event<K, V, S>, Named<K, V>> for Come {
+    ghost use Rattle.std.specs.Prelude.{None};
+    ghost use Rattle.papaya_book.specs.declared.rule.entry.Event.TheVariants.{Home};
+
+    ghost ask = { λ pen. Home pen.nib.key };
+
+    ghost state = { λ pen. None };
+}
+
+impl<K: Hash + Eq, V, S: BuildHasher> Plain<Sight<K, V, S>, Event<K, V, S>, Named<K, V>> for Call {
+    ghost use Rattle.std.specs.Prelude.{None};
+    ghost use Rattle.papaya_book.specs.declared.rule.entry.Event.TheVariants.{Called};
+
+    ghost ask = { λ seen. Called seen.book };
+
+    ghost state = { λ seen. None };
+}
+
+impl<'a, K: Hash + Eq, V, S: BuildHasher> Plain<Laying<'a, K, V, S>, Event<K, V, S>, Named<K, V>>
+    for Bring {
+    ghost use Rattle.std.specs.Prelude.{None};
+    ghost use Rattle.papaya_book.specs.declared.rule.entry.Named.TheVariants.{Table};
+    ghost use Rattle.papaya_book.specs.declared.rule.entry.Event.TheVariants.{Wish};
+
+    ghost ask = { λ x. Wish x.at x.kind None (Table x.table.now) };
+
+    ghost state = { λ x. None };
+}
+
+impl<K, V, S> Play<Event<K, V, S>, Named<K, V>> for Seal {
+    ghost use Rattle.papaya_book.specs.Makers.{Seals};
+
+    ghost then = { Seals };
+}
+
+impl<K, V, S> Play<Event<K, V, S>, Named<K, V>> for Add {
+    ghost use Rattle.papaya_book.specs.Makers.{Adds};
+
+    ghost then = { Adds };
+}
+
+impl<K, V, S> Play<Event<K, V, S>, Named<K, V>> for Come {
+    ghost use Rattle.papaya_book.specs.Makers.{Homes};
+
+    ghost then = { Homes };
+}
+
+impl<K, V, S> Play<Event<K, V, S>, Named<K, V>> for Call {
+    ghost use Rattle.papaya_book.specs.Makers.{Calls};
+
+    ghost then = { Calls };
+}
+
+impl<K: Hash + Eq, V, S: BuildHasher> Play<Event<K, V, S>, Named<K, V>> for Bring {
+    ghost use Rattle.papaya_book.specs.Hashes.{hash_of};
+    ghost use Rattle.papaya_book.specs.Makers.{Brings};
+
+    ghost then = { Brings K.eq (hash_of K.hash_input S.build_hasher S.Hasher.write S.Hasher.finish) };
+}

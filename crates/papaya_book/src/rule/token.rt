@@ -1,0 +1,91 @@
+//! Tokens of `boxcar` logs, taken apart and put together again.
+//!
+//! The rule of the book keeps what a token shows, but not a token's bytes. A token is told, what it
+//! shows goes to the book, and whoever finds the number in a word rebuilds it.
+ghost use Rattle.std.specs.Prelude.{◌≡◌, ℕ, ◌+◌, ◌^◌, ◌<◌};
+ghost use Rattle.boxcar.specs.Table.{Where, where_coded, IsAt, span};
+ghost use Rattle.papaya_book.specs.Tokens.{stands};
+
+use boxcar::Pushed;
+use std::marker::{Model, PhantomData};
+
+/// What a token of a log shows, with no bytes.
+pub struct Known<T> {
+    pub marker: PhantomData<T>,
+    pub ghost at: { Where T } by { where_coded T.code },
+}
+
+impl<T> Model for Known<T> {
+    ghost also_owns = { λ k. stands T.row k.at };
+}
+
+/// What the token shows.
+pub fn tell<T>(token: &Pushed<T>) -> Known<T>
+    ensures { result.at ≡ token.now }
+{
+    let _ = token;
+    Known {
+        marker: PhantomData,
+    }
+}
+
+// It lies in memory as a token of a log does.
+#[derive(Drop)]
+struct Bytes<T> {
+    index: usize,
+    bucket: usize,
+    slot: usize,
+    row: Row<T>,
+    item: Row<T>,
+}
+
+#[derive(Drop)]
+struct Row<T> {
+    marker: PhantomData<T>,
+}
+
+fn rebuild<T>(known: Known<T>, index: usize, bucket: usize, slot: usize) -> Pushed<T>
+    requires { (index ≡ known.at.index) × IsAt index bucket slot }
+    ensures { result ≡ known.at }
+{
+    let Known { marker: _ } = known;
+    let held = Bytes::<T> {
+        index,
+        bucket,
+        slot,
+        row: Row {
+            marker: PhantomData,
+        },
+        item: Row {
+            marker: PhantomData,
+        },
+    };
+    unsafe { std::ptr::read(&raw const held as *const Pushed<T>) }
+}
+
+fn bucket_len(bucket: usize) -> usize
+    requires { bucket < 58 }
+    ensures { (result ≡ span bucket) × (result + result < 2 ^ 64) }
+{
+    32 << bucket
+}
+
+// Where a log keeps the value of this index.
+fn locate(index: usize) -> (usize, usize)
+    requires { index + 32 < 2 ^ 63 }
+    ensures { IsAt index result.0 result.1 }
+{
+    let skewed = index + 32;
+    let bucket = skewed.ilog2() as usize - 5;
+    (bucket, skewed - bucket_len(bucket))
+}
+
+/// The token again, by its index.
+pub fn token<T>(known: Known<T>, index: usize) -> Pushed<T>
+    requires index { index ≡ known.at.index }
+    requires fits { index + 32 < 2 ^ 63 }
+    ensures { result ≡ known.at }
+{
+    let (bucket, slot) = locate(index);
+    rebuild(known, index, bucket, slot)
+}

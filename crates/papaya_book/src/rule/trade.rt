@@ -1,0 +1,109 @@
+//! What passes between a step and the book: tokens go to the book with what comes, and whoever finds
+//! a name in a word has its token.
+ghost use Rattle.std.specs.Prelude.{◌≡◌, [], ◌∷◌, None};
+ghost use Rattle.papaya_book.specs.declared.rule.entry.Named.TheVariants.{Nothing, Pair as PairNamed, Table as TableNamed};
+ghost use Rattle.papaya_book.specs.declared.rule.entry.Event.TheVariants.{Begin};
+ghost use Rattle.papaya_book.specs.Logs.{brought};
+ghost use Rattle.papaya_book.specs.Parts.{begun_of};
+
+use crate::book::parts::Parts;
+use crate::rule::entry::{Event, Named, Pair};
+use crate::rule::law::{Found, Law};
+use crate::rule::token::Known;
+use crate::table::Table;
+use logbook::{Gained, Offer, Plain, Seen, Start};
+use std::hash::{BuildHasher, Hash};
+use std::marker::PhantomData;
+
+/// What a thread has seen of the log.
+pub type Sight<K, V, S> = Seen<Event<K, V, S>, Named<K, V>, Law<K, V, S>>;
+
+/// A client's update of the book.
+pub type Trade<K, V, S> = Offer<Event<K, V, S>, Named<K, V>, Law<K, V, S>, Found<K, V>>;
+
+/// An update with which nothing comes. It gains the token of what the word names.
+pub fn bare<K: Hash + Eq, V, S: BuildHasher, X, M: Plain<X, Event<K, V, S>, Named<K, V>>>(
+    seen: &Sight<K, V, S>,
+    about: &X,
+) -> Trade<K, V, S>
+    requires { brought (M.ask about.now) ≡ Nothing }
+    ensures { (result.names ≡ seen.now.names) × (result.ask ≡ M.ask about.now) × (result.about ≡ []) × (result.state ≡ None) }
+{
+    let _ = seen;
+    let _ = about;
+    Offer {
+        marker: PhantomData,
+    }
+}
+
+/// An update with which the pair of the token comes.
+pub fn with_pair<K: Hash + Eq, V, S: BuildHasher, X, M: Plain<X, Event<K, V, S>, Named<K, V>>>(
+    seen: &Sight<K, V, S>,
+    about: &X,
+    known: Known<Pair<K, V>>,
+) -> Trade<K, V, S>
+    requires { brought (M.ask about.now) ≡ PairNamed known.at }
+    ensures { (result.names ≡ seen.now.names) × (result.ask ≡ M.ask about.now) × (result.about ≡ []) × (result.state ≡ None) }
+{
+    let _ = seen;
+    let _ = about;
+    let Known { marker: _ } = known;
+    Offer {
+        marker: PhantomData,
+    }
+}
+
+/// An update with which the table of the token comes.
+pub fn with_table<K: Hash + Eq, V, S: BuildHasher, X, M: Plain<X, Event<K, V, S>, Named<K, V>>>(
+    seen: &Sight<K, V, S>,
+    about: &X,
+    known: Known<Table<K, V, S>>,
+) -> Trade<K, V, S>
+    requires { brought (M.ask about.now) ≡ TableNamed known.at }
+    ensures { (result.names ≡ seen.now.names) × (result.ask ≡ M.ask about.now) × (result.about ≡ []) × (result.state ≡ None) }
+{
+    let _ = seen;
+    let _ = about;
+    let Known { marker: _ } = known;
+    Offer {
+        marker: PhantomData,
+    }
+}
+
+/// What shows the pair that the step's word named.
+pub fn pair_known<K, V, S>(
+    gained: Gained<Event<K, V, S>, Named<K, V>, Found<K, V>>,
+) -> Known<Pair<K, V>>
+    requires { (p : _) × (gained.answer ≡ PairNamed p) }
+    ensures { gained.answer ≡ PairNamed result.at }
+{
+    let Gained { marker: _ } = gained;
+    Known {
+        marker: PhantomData,
+    }
+}
+
+/// What shows the table that the step's word named.
+pub fn table_known<K: Hash + Eq, V, S: BuildHasher>(
+    gained: Gained<Event<K, V, S>, Named<K, V>, Found<K, V>>,
+) -> Known<Table<K, V, S>>
+    requires { (w : _) × (gained.answer ≡ TableNamed w) }
+    ensures { gained.answer ≡ TableNamed result.at }
+{
+    let Gained { marker: _ } = gained;
+    Known {
+        marker: PhantomData,
+    }
+}
+
+/// What clients keep of the first log: nothing.
+pub fn begin<K: Hash + Eq, V, S: BuildHasher>(
+    begun: &Parts<K, V, S>,
+) -> Start<Event<K, V, S>, Named<K, V>, Law<K, V, S>>
+    ensures { (result.names ≡ []) × (result.shown ≡ Begin (begun_of begun.now) ∷ []) }
+{
+    let _ = begun;
+    Start {
+        marker: PhantomData,
+    }
+}

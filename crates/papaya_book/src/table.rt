@@ -1,0 +1,88 @@
+//! Tables of atomic words.
+ghost use Rattle.std.specs.Prelude.{◌≡◌, ◌<◌, ℕ, Some, length, map, slice_get};
+ghost use Rattle.papaya_call.specs.Search.{IsSize};
+ghost use Rattle.papaya_book.specs.Sheets.{Sheet, sheet_coded, AllOf, word_named};
+
+use crate::rule::entry::{Event, Named};
+use crate::rule::law::Law;
+use logbook::Word;
+use std::hash::{BuildHasher, Hash};
+use std::marker::Model;
+
+/// An atomic word of the map.
+pub type Cell<K, V, S> = Word<Event<K, V, S>, Named<K, V>, Law<K, V, S>>;
+
+/// A table: its slots, how far a search of it goes, and how far its resize has come. Contracts see
+/// it as the keys of its words.
+#[derive(Drop)]
+pub struct Table<K: Hash + Eq, V, S: BuildHasher> {
+    pub limit: usize,
+    pub next: Cell<K, V, S>,
+    pub aborted: Cell<K, V, S>,
+    pub done: Cell<K, V, S>,
+    pub slots: Vec<Cell<K, V, S>>,
+}
+
+impl<K: Hash + Eq, V, S: BuildHasher> Model for Table<K, V, S> {
+    ghost Value = { Sheet };
+
+    ghost coded = { sheet_coded };
+
+    ghost view = { λ t. record { book = t.done.book; limit = t.limit; next = t.next.key; aborted = t.aborted.key; seal = t.done.key; slots = map (λ w. w.key) t.slots.items } };
+
+    ghost invariant = { λ t. (t.next ≡ word_named t.done.book t.next.key) × (t.aborted ≡ word_named t.done.book t.aborted.key) × (t.done ≡ word_named t.done.book t.done.key) × AllOf t.done.book t.slots.items × IsSize (length t.slots.items) t.limit };
+}
+
+impl<K: Hash + Eq, V, S: BuildHasher> Table<K, V, S> {
+    /// How many slots the table has.
+    pub fn len(&self) -> usize
+        ensures { result ≡ length self.now.slots }
+    {
+        self.slots.len()
+    }
+
+    /// How many places a search visits after the first.
+    pub fn limit(&self) -> usize
+        ensures { result ≡ self.now.limit }
+    {
+        self.limit
+    }
+
+    /// How many slots the table has, and how many places a search visits after the first.
+    pub fn size(&self) -> (usize, usize)
+        ensures len { result.0 ≡ length self.now.slots }
+        ensures limit { result.1 ≡ self.now.limit }
+        ensures size { IsSize result.0 result.1 }
+    {
+        (self.slots.len(), self.limit)
+    }
+
+    /// The word of a slot.
+    pub fn slot(&self, place: usize) -> &Cell<K, V, S>
+        requires { place < length self.now.slots }
+        ensures { (k : ℕ) × (slice_get self.now.slots place ≡ Some k) × (result.now ≡ word_named self.now.book k) }
+    {
+        &self.slots[place]
+    }
+
+    /// The word with the number of the next table.
+    pub fn next(&self) -> &Cell<K, V, S>
+        ensures { result.now ≡ word_named self.now.book self.now.next }
+    {
+        &self.next
+    }
+
+    /// The word that says whether the table was given up.
+    pub fn aborted(&self) -> &Cell<K, V, S>
+        ensures { result.now ≡ word_named self.now.book self.now.aborted }
+    {
+        &self.aborted
+    }
+
+    /// The word with the count of slots that were copied to this table.
+    pub fn done(&self) -> &Cell<K, V, S>
+        ensures { result.now ≡ word_named self.now.book self.now.seal }
+    {
+        &self.done
+    }
+}

@@ -1,0 +1,167 @@
+//! What a call sees of a map, with the laws of the map's keys.
+ghost use Rattle.std.specs.Prelude.{◌≡◌};
+ghost use Rattle.papaya_book.specs.Keys.{IsLawful as AreLawful};
+
+use crate::book::Book;
+use crate::keyed::Keyed;
+use crate::rule::entry::Stored;
+use crate::rule::trade::Sight;
+use crate::table::Table;
+use boxcar::Pushed;
+use logbook::Pen;
+use papaya_call::ask::StepKind;
+use papaya_words::probe::Refused;
+use std::alloc::Global;
+use std::hash::{BuildHasher, Hash};
+use std::sync::Wait;
+
+/// The book that a call works on, and what it has seen of that book's log.
+#[derive(Drop)]
+pub struct Window<'a, K: Hash + Eq, V, S: Keyed<K>> {
+    pub book: &'a Book<K, V, S>,
+    pub sight: Sight<K, V, S>,
+    ghost same_book: { sight.book ≡ book.now.begun.book },
+    ghost keyed: { AreLawful S.keys },
+}
+
+impl<'a, K: Hash + Eq, V, S: BuildHasher> Window<'a, K, V, S> {
+    ghost use Rattle.std.specs.Prelude.{◌⊎◌, ◌<◌, IfErr, IfOk, length};
+    ghost use Rattle.papaya_call.specs.Search.{IsSize};
+    ghost use Rattle.papaya_book.specs.Books.{IsLeft, Seals, root_then};
+    ghost use Rattle.papaya_book.specs.Windows.{CanPutSlot, CanTrySlot, IsIn, IsLawful, IsMade, IsNext, IsRoot, IsSlot, IsTable, Opens, PutsSlot, Sees, TriesSlot};
+    ghost use Rattle.papaya_book.specs.declared.rule.entry.Named.TheVariants.{Pair as PairNamed, Table as TableNamed};
+
+    /// What one who has seen so much sees of the book.
+    #[inline(always)]
+    pub fn new(book: &'a Book<K, V, S>, sight: &Sight<K, V, S>) -> Window<'a, K, V, S>
+        requires { sight.now.book ≡ book.now.begun.book }
+        ensures book { result.book ≡ book.entry }
+        ensures sight { result.sight ≡ sight.now }
+    {
+        Window {
+            book,
+            sight: sight.again(),
+        }
+    }
+
+    /// What the book was opened with, and what it says by now.
+    #[inline(always)]
+    pub fn learn(&mut self)
+        ensures sees { Sees self.old self.new }
+        ensures lawful { IsLawful self.new }
+    {
+        self.book.learn(&mut self.sight);
+    }
+
+    /// One atomic load of the root: its number, and its table.
+    #[inline(always)]
+    pub fn root(&mut self) -> (u64, Option<&'a Table<K, V, S>>)
+        ensures sees { Sees self.old self.new }
+        ensures root { IsRoot self.old self.new result.0 result.1 }
+    {
+        self.book.root(&mut self.sight)
+    }
+
+    /// One atomic load of the number of the next table, and that table.
+    #[inline(always)]
+    pub fn next(&mut self, table: &Table<K, V, S>, number: u64) -> (u64, Option<&'a Table<K, V, S>>)
+        requires table { IsTable self.old number table.now }
+        ensures sees { Sees self.old self.new }
+        ensures next { IsNext self.old self.new number result.0 result.1 }
+    {
+        self.book.next(table, number, &mut self.sight)
+    }
+
+    /// One atomic load of a table's slot: the word, and the token of the pair that it names.
+    #[inline(always)]
+    pub fn slot(
+        &mut self,
+        table: &Table<K, V, S>,
+        number: u64,
+        place: usize,
+    ) -> (u64, Option<Stored<K, V>>)
+        requires table { IsTable self.old number table.now }
+        requires place { place < length table.now.slots }
+        ensures sees { Sees self.old self.new }
+        ensures slot { IsSlot self.old self.new number place result.0 result.1 }
+    {
+        self.book.slot(table, number, place, &mut self.sight)
+    }
+
+    /// One atomic exchange of a slot, with which nothing comes: the word found there, and the token of
+    /// the pair that it names.
+    pub fn exchange_slot(
+        &mut self,
+        table: &Table<K, V, S>,
+        number: u64,
+        place: usize,
+        kind: Option<StepKind>,
+        words: (u64, u64),
+    ) -> (u64, Option<Stored<K, V>>)
+        requires table { IsTable self.old number table.now }
+        requires place { place < length table.now.slots }
+        requires can { CanTrySlot self.old number place kind words }
+        ensures sees { Sees self.old self.new }
+        ensures tried { TriesSlot self.old self.new number place kind words result.0 result.1 }
+    {
+        self.book
+            .exchange_slot(table, number, place, kind, words, &mut self.sight)
+    }
+
+    /// One atomic exchange of a slot, with which the pair comes that the call has made: the word found
+    /// there, and the token of the pair that it names.
+    pub fn put_slot(
+        &mut self,
+        table: &Table<K, V, S>,
+        number: u64,
+        place: usize,
+        kind: Option<StepKind>,
+        made: &Stored<K, V>,
+        words: (u64, u64),
+    ) -> (u64, Option<Stored<K, V>>)
+        requires table { IsTable self.old number table.now }
+        requires place { place < length table.now.slots }
+        requires placed { IsIn self.old (PairNamed made.now) }
+        requires can { CanPutSlot self.old number place kind made.now words }
+        ensures sees { Sees self.old self.new }
+        ensures tried { PutsSlot self.old self.new number place kind made.now words result.0 result.1 }
+    {
+        self.book
+            .put_slot(table, number, place, kind, made, words, &mut self.sight)
+    }
+
+    /// A table of so many slots, all Empty, in the log of tables, with the pen of its seal.
+    pub fn make_table<R: Wait>(
+        &mut self,
+        rt: &R,
+        alloc: Global,
+        len: usize,
+        limit: usize,
+    ) -> Result<(Pushed<Table<K, V, S>>, Pen), Refused>
+        requires size { IsSize len limit }
+        ensures sees { Sees self.old self.new }
+        ensures err { IfErr result (λ e. (e ≡ Refused.Memory) ⊎ (e ≡ Refused.Capacity)) }
+        ensures made { IfOk result (λ r. IsMade self.new r.0.value) }
+        ensures placed { IfOk result (λ r. IsIn self.old (TableNamed r.0)) }
+        ensures pen { IfOk result (λ r. Seals self.old.book.now r.1 r.0.value) }
+    {
+        self.book.make_table(rt, alloc, len, limit, &mut self.sight)
+    }
+
+    /// One atomic exchange: the table becomes the root, if there is none. The number found, and the
+    /// root's table.
+    pub fn open_root(
+        &mut self,
+        table: &Pushed<Table<K, V, S>>,
+        seal: &mut Pen,
+    ) -> (u64, &'a Table<K, V, S>)
+        requires placed { IsIn self.old (TableNamed table.now) }
+        requires made { IsMade self.old table.now.value }
+        requires pen { Seals self.old.book.now seal.old table.now.value }
+        ensures sees { Sees self.old self.new }
+        ensures tried { Opens self.old self.new table.now result.0 }
+        ensures held { IsTable self.new (root_then table.now result.0) result.1.now }
+    {
+        self.book.open_root(table, seal, &mut self.sight)
+    }
+}

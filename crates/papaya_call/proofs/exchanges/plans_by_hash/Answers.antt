@@ -1,9 +1,0 @@
-use Rattle.papaya_call.proofs.exchanges.plans_by_hash.Goals as goal
-use Rattle.papaya_call.proofs.Law.Hashing.{hashed_lawful}
-use Rattle.papaya_call.proofs.Law.Logs.{planned_lawful}
-
-pub returns-clause-plan : goal.returns-clause-plan
-returns-clause-plan g c = λ blocking key same hash itself back through respects. hashed_lawful blocking key same hash itself back through respects
-
-pub returns-clause-setting : goal.returns-clause-setting
-returns-clause-setting g c = λ h law size places slots some. planned_lawful h law size places slots some

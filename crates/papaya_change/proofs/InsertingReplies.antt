@@ -1,0 +1,105 @@
+-- What an insertion has put in when it replies.
+use Rattle.std.proofs.Common.{◌≡◌, ℕ, Bool, true, MatchOption, Option, None, Some, List, [], ◌∷◌, ◌++◌, append-nil, refl, sym, ap, ◌∙◌, subst}
+use Rattle.std.specs.Cmp.{IsEquivalence}
+use mathlib.Core.List.{IsPrefix}
+use denote.Bor.{Bor}
+use Rattle.logbook.specs.Pages.{Book}
+use Rattle.papaya_call.specs.declared.ask.Ask.TheVariants.{Done}
+use Rattle.papaya_call.specs.declared.call.Reply.{Reply}
+use Rattle.papaya_call.specs.declared.call.Reply.TheVariants.{Absent, Found, Inserted, Replaced, Occupied, Removed, Kept, Aborted, Refused}
+use Rattle.papaya_call.specs.declared.call.Task.{Task}
+use Rattle.papaya_call.specs.declared.call.Task.TheVariants.{Insert}
+use Rattle.papaya_call.specs.Machine.{ask_of}
+use Rattle.papaya_rests.specs.Rests.{IsReply, change_in, change_of_reply}
+use Rattle.papaya_rests.proofs.RestsHeld.{machine_replies}
+use Rattle.papaya_book.specs.declared.rule.entry.Begun.{Begun}
+use Rattle.papaya_book.specs.declared.rule.entry.Event.{Event}
+use Rattle.papaya_change.specs.declared.insertion.Insertion.{Insertion}
+use Rattle.papaya_change.specs.Changing.{hands_with}
+use Rattle.papaya_change.specs.Changes.{IsPut}
+use Rattle.papaya_book.specs.Hashes.{hash_of}
+use Rattle.papaya_lookup.specs.History.{Change, changes_of, history_of, key_of}
+use Rattle.papaya_change.specs.Inserting.{IsInserting}
+use Rattle.papaya_book.specs.Logs.{Stored, exchanges_of}
+use Rattle.papaya_book.specs.Plays.{made_list}
+use Rattle.papaya_change.proofs.Changing.{Coded, Wide}
+use Rattle.papaya_lookup.proofs.Histories.{changes-append, history_since}
+use Rattle.papaya_change.proofs.Written.{own_query}
+use Rattle.papaya_book.proofs.Logs.{prefix_trans}
+use Rattle.papaya_lookup.proofs.Readings.{IsQuery}
+
+module _ {K V S H : Type 0} (eq : K → K → Bool) (input : K → List (List ℕ)) (build : S → H) (write : H → List ℕ → H) (finish : H → ℕ) (classes : IsEquivalence eq) (respects : (x y : K) → eq x y ≡ true → input x ≡ input y)
+    (b : Begun K V S) (name : Book) (key : K) (value : V) (begun : List (Event K V S)) where
+  abbrev hash : S → K → ℕ
+  hash = hash_of input build write finish
+
+  abbrev Ins : List (Event K V S) → Insertion K V S H → Type 0
+  Ins log x = IsInserting eq hash b name key value begun log x
+
+  abbrev query : IsQuery eq input (eq key) (input key)
+  query = own_query eq input build write finish classes respects b name key
+
+  module _ (log : List (Event K V S)) (x : Insertion K V S H) (r : Ins log x) where
+    -- a change that puts in a number puts in a pair
+    some_put : (class : K) (change : Option ℕ × Option ℕ) (n : ℕ) → change.1 ≡ Some n → (put : Option (Stored K V)) → MatchOption put (change.1 ≡ None) (λ q. (change.1 ≡ Some q.index) × (eq class (key_of q) ≡ true)) → (q : Stored K V) × (put ≡ Some q) × (eq class (key_of q) ≡ true)
+    some_put class change n puts None is = let none : Some n ≡ None = sym puts ∙ is in absurd (cc none)
+    some_put class change n puts (Some q) is = (q, refl, is.1)
+
+    -- its change, with the value of the pair that went
+    put_changed : (change : Option ℕ × Option ℕ) (n : ℕ) → change.1 ≡ Some n → change_in x.writer.call.machine.state ≡ Some change → (answer : Option (Bor V)) → MatchOption answer (x.writer.call.taken ≡ None) (λ v. (p : Stored K V) × (x.writer.call.taken ≡ Some p) × (v.now ≡ p.value.value)) → IsPut eq key value (history_of begun) (history_of log) answer
+    put_changed change n puts e answer taken =
+        let h = r.writing.calling.changed change e in
+        let q = some_put h.class change n puts x.writer.call.put h.put_is in
+        let own = r.put_is q.0 q.1 in
+        let is : history_of log ≡ history_of h.before ++ record { class = h.class; taken = x.writer.call.taken; put = x.writer.call.put } ∷ [] =
+        ap (changes_of key_of) h.is ∙ (changes-append key_of (exchanges_of h.before) (h.by ∷ []) ∙ ap (λ (cs : List (Change K (Stored K V))). history_of h.before ++ cs) (Rattle.std.proofs.lemmas.List.append-nil _ ∙ h.change_is)) in record {
+          before = history_of h.before;
+          change = record { class = h.class; taken = x.writer.call.taken; put = x.writer.call.put };
+          since = history_since begun h.before h.since;
+          is = is;
+          class_is = subst (λ (z : K). eq h.class z ≡ true) own.0 q.2;
+          put_is = (q.0, q.1, own.0, own.1);
+          taken_is = taken;
+        }
+
+    -- a reply that is no refusal is a change
+    put_reply : (reply : Reply) → IsReply (Wide eq input build write finish classes respects b (eq key) (input key) query (Some key) name begun log) (Coded eq input build write finish classes respects b (eq key) (input key) query (Some key) name begun) (exchanges_of begun) r.writing.calling.since (Some key) (hands_with x.writer.call.last (made_list x.made)) (Insert true) reply
+        → ((refused : _) → reply ≡ Refused refused → ⊥) → (change : Option ℕ × Option ℕ) × (n : ℕ) × (change.1 ≡ Some n) × (change_of_reply reply ≡ Some change)
+    put_reply Absent fits some = absurd fits
+    put_reply (Found n) fits some = absurd fits
+    put_reply (Inserted n) fits some = ((None, Some n), n, refl, refl)
+    put_reply (Replaced i n) fits some = ((Some i, Some n), n, refl, refl)
+    put_reply (Occupied n) fits some = absurd fits
+    put_reply (Removed n) fits some = absurd fits
+    put_reply (Kept n) fits some = absurd fits
+    put_reply (Aborted t) fits some = absurd fits
+    put_reply (Refused refused) fits some = absurd (some refused refl)
+
+    pub put_replied : (reply : Reply) → ask_of x.writer.call.machine ≡ Done reply → ((refused : _) → reply ≡ Refused refused → ⊥) → (answer : Option (Bor V)) → MatchOption answer (x.writer.call.taken ≡ None) (λ v. (p : Stored K V) × (x.writer.call.taken ≡ Some p) × (v.now ≡ p.value.value)) → IsPut eq key value (history_of begun) (history_of log) answer
+    put_replied reply asks some answer taken =
+        let g = Wide eq input build write finish classes respects b (eq key) (input key) query (Some key) name begun log in
+        let c = Coded eq input build write finish classes respects b (eq key) (input key) query (Some key) name begun in
+        let all = machine_replies g c (exchanges_of begun) r.writing.calling.since (Some key) (hands_with x.writer.call.last (made_list x.made)) x.writer.call.machine r.writing.calling.rests reply asks in
+        let fits = subst (λ (z : Task). IsReply g c (exchanges_of begun) r.writing.calling.since (Some key) (hands_with x.writer.call.last (made_list x.made)) z reply) r.task_is all.0 in
+        let done = put_reply reply fits some in
+        put_changed done.0 done.1 done.2 (all.1 ∙ done.3) answer taken
+
+    -- it took out this pair
+    pub replaced : (reply : Reply) → ask_of x.writer.call.machine ≡ Done reply → ((refused : _) → reply ≡ Refused refused → ⊥) → (lent : Bor V) (p : Stored K V) → x.writer.call.taken ≡ Some p → lent.now ≡ p.value.value → IsPut eq key value (history_of begun) (history_of log) (Some lent)
+    replaced reply asks some lent p is now = put_replied reply asks some (Some lent) (p, is, now)
+
+    -- or none
+    pub inserted : (reply : Reply) → ask_of x.writer.call.machine ≡ Done reply → ((refused : _) → reply ≡ Refused refused → ⊥) → x.writer.call.taken ≡ None → IsPut {V = V} eq key value (history_of begun) (history_of log) None
+    inserted reply asks some is = put_replied reply asks some None is
+
+-- what was seen before the call began was seen before its change
+pub put_since : {K V S : Type 0} (eq : K → K → Bool) (key : K) (value : V) (old begun log : List (Event K V S)) (answer : Option (Bor V)) → IsPrefix old begun → IsPut eq key value (history_of begun) (history_of log) answer → IsPut eq key value (history_of old) (history_of log) answer
+put_since eq key value old begun log answer pre p = record {
+  before = p.before;
+  change = p.change;
+  since = prefix_trans (history_of old) (history_of begun) p.before (history_since old begun pre) p.since;
+  is = p.is;
+  class_is = p.class_is;
+  put_is = p.put_is;
+  taken_is = p.taken_is;
+}

@@ -1,0 +1,208 @@
+-- After each answer a removal rests again, and what its machine stands on was said of the pair shown last.
+use Rattle.std.proofs.Common.{◌≡◌, inl, inr, ⊎_elim, ℕ, ◌==◌, Bool, true, false, MatchBool, MatchOption, Option, None, Some, List, [], ◌∷◌, length, append-nil, refl, sym, ap, ◌∙◌, subst}
+use Rattle.std.proofs.lemmas.Bool.{cases_Bool}
+use Rattle.std.specs.Cmp.{IsEquivalence}
+use mathlib.Core.List.{IsPrefix}
+use denote.Bor.{Bor}
+use Rattle.logbook.specs.Pages.{Book}
+use Rattle.papaya_words.specs.declared.probe.Refused.{Refused as Cause}
+use Rattle.papaya_words.specs.declared.probe.Refused.TheVariants.{Capacity}
+use Rattle.papaya_call.specs.declared.ask.At.{At}
+use Rattle.papaya_call.specs.declared.ask.At.TheVariants.{Slot}
+use Rattle.papaya_call.specs.declared.ask.Ask.{Ask}
+use Rattle.papaya_call.specs.declared.ask.Ask.TheVariants.{Load, Exchange as Ask_exchange, SizeOf, SameKey, ShowPair, AddToShard, Done}
+use Rattle.papaya_call.specs.declared.ask.StepKind.TheVariants as kinds
+use Rattle.papaya_call.specs.declared.ask.Answer.{Answer}
+use Rattle.papaya_call.specs.declared.ask.Answer.TheVariants.{Word as Word_read, Exchanged, Found as Found_instead, Size, Yes, Ok as Ok_done, Refused as Was_refused}
+use Rattle.papaya_call.specs.declared.call.Reply.{Reply}
+use Rattle.papaya_call.specs.declared.call.Reply.TheVariants.{Refused}
+use Rattle.papaya_call.specs.declared.call.Task.{Task}
+use Rattle.papaya_call.specs.declared.call.Task.TheVariants.{RemoveIf}
+use Rattle.papaya_call.specs.declared.machine.Machine.{Machine}
+use Rattle.papaya_rests.specs.Followed.{MayAsk}
+use Rattle.papaya_call.specs.Machine.{IsComputer, IsFit, IsStanding, after, ask_of, asks, kind_of_ask}
+use Rattle.papaya_rests.specs.Rests.{WasAtMoment}
+use Rattle.papaya_rests.specs.Told.{or_last}
+use Rattle.papaya_rests.specs.Says.{Agrees, ShowsPairs, StandsOn}
+use Rattle.papaya_call.specs.Search.{IsSize}
+use Rattle.papaya_rests.proofs.RestsHeld as held
+use Rattle.papaya_rests.proofs.RestsHeld.{IsShowing}
+use Rattle.papaya_rests.proofs.Followed.{asked_of_task}
+use Rattle.papaya_rests.proofs.SaysOver.{unsaid}
+use Rattle.papaya_rests.proofs.SaysSaid.{machine_said}
+use Rattle.papaya_rests.proofs.SaysWords.{machine_shows}
+use Rattle.papaya_book.specs.Sheets.{Sheet}
+use Rattle.papaya_book.specs.declared.rule.entry.Begun.{Begun}
+use Rattle.papaya_book.specs.declared.rule.entry.Event.{Event}
+use Rattle.papaya_lookup.specs.declared.driver.Driver.{Driver}
+use Rattle.papaya_change.specs.declared.removal.Removal.{Removal}
+use Rattle.papaya_book.specs.Calls.{IsSlotTried, IsTable}
+use Rattle.papaya_change.specs.Changing.{IsCalling, hands_with}
+use Rattle.papaya_lookup.specs.Driver.{IsLoaded}
+use Rattle.papaya_lookup.specs.Driver.{IsHeldAt}
+use Rattle.papaya_book.specs.Hashes.{hash_of}
+use Rattle.papaya_lookup.specs.History.{history_of, key_of}
+use Rattle.papaya_book.specs.declared.rule.entry.Named.TheVariants as names
+use Rattle.papaya_book.specs.Plays.{CanExchange}
+use Rattle.papaya_book.specs.Logs.{Stored, exchanges_of, pair_named}
+use Rattle.papaya_change.specs.Removing.{IsRemoving, IsRemovingOn}
+use Rattle.papaya_book.specs.Rule.{IsPlaced}
+use Rattle.papaya_change.specs.Showings.{WasHeld}
+use Rattle.papaya_change.proofs.Changing.{Coded, Wide, counted, compared, load_table, loaded_lawful, loads, quiet, rests_of, size_table, sized, slot_table}
+use Rattle.papaya_rests.proofs.Silent.{IsSilent, not_done, stood_before}
+use Rattle.papaya_lookup.proofs.Driving.{can_bury}
+use Rattle.papaya_change.proofs.Exchanging.{exchanged, lost}
+use Rattle.papaya_lookup.proofs.Histories.{history_since}
+use Rattle.papaya_lookup.proofs.Readings.{IsQuery, fed, hashed_with}
+use Rattle.papaya_change.proofs.Refusals.{refused_for, shows_none}
+use Rattle.papaya_change.proofs.Showings.{all_shown, held_then, held_wider}
+
+-- the answer isn't that something was refused
+abbrev IsGiven : Answer → Type 0
+IsGiven answer = (cause : Cause) → answer ≡ Was_refused cause → ⊥
+
+-- a removal to which nothing is refused is itself refused only where it needs a further table
+refused_full : (m : Machine) (answer : Answer) → IsStanding m → m.task ≡ RemoveIf → ((reply : Reply) → ask_of m ≡ Done reply → ⊥) → IsGiven answer → (cause : Cause) → ask_of (after m answer) ≡ Done (Refused cause) → cause ≡ Capacity
+refused_full m answer standing task_is open_still given = refused_for (λ cause. cause ≡ Capacity) m answer (λ e. subst IsComputer task_is (shows_none m standing e)) open_still refl (λ cause e. absurd (given cause e))
+
+module _ {K V S H F : Type 0} (eq : K → K → Bool) (input : K → List (List ℕ)) (build : S → H) (write : H → List ℕ → H) (finish : H → ℕ) (classes : IsEquivalence eq) (respects : (x y : K) → eq x y ≡ true → input x ≡ input y)
+    (b : Begun K V S) (name : Book) (matches : K → Bool) (query : List (List ℕ)) (lawful : IsQuery eq input matches query) (judges : F → Stored K V → Bool → F → Type 0) (first : F) (begun : List (Event K V S)) where
+  abbrev hash : S → K → ℕ
+  hash = hash_of input build write finish
+
+  abbrev fed_to : ℕ
+  fed_to = fed eq input build write finish classes respects b matches query lawful
+
+  abbrev pub Removing : List (Event K V S) → Removal K V S H → F → Type 0
+  Removing log x f = IsRemoving eq hash b name matches fed_to judges first begun log x f
+
+  abbrev pub RemovingOn : List (Event K V S) → Removal K V S H → F → Option Answer → Type 0
+  RemovingOn log x f answer = IsRemovingOn eq hash b name matches fed_to judges first begun log x f answer
+
+  module _ (log : List (Event K V S)) (x : Removal K V S H) (f : F) (r : Removing log x f) where
+    abbrev m : Machine
+    m = x.call.machine
+
+    -- what was shown was held, over a longer log
+    abbrev HeldOn : List (Event K V S) → Stored K V → Type 0
+    HeldOn log' p = WasHeld eq matches (history_of begun) (history_of log') (Some p)
+
+    held_later : (log' : List (Event K V S)) → IsPrefix log log' → (p : Stored K V) → HeldOn log p → HeldOn log' p
+    held_later log' pre p h = held_wider eq matches (history_of begun) (history_of begun) (history_of log) (history_of log') ([], append-nil (history_of begun)) (history_since log log' pre) (Some p) h
+
+    module _ (standing : IsStanding m) where
+      -- it goes on after an answer that shows nothing
+      pub goes_on : (log' : List (Event K V S)) → IsPrefix log log' → (y : Driver K V S H) (answer : Answer) → y.machine ≡ m → IsFit answer → (after m answer).task ≡ m.task → IsSilent (ask_of m) → IsGiven answer
+          → IsCalling eq hash b name matches fed_to None begun log' (after m answer) y.table y.last [] y.taken y.put → RemovingOn log' (record x { call = y }) f (Some answer)
+      goes_on log' pre y answer machine fit task silent given calling =
+          let same : after m answer ≡ after y.machine answer = ap (λ (z : Machine). after z answer) (sym machine) in (
+            record {
+              calling = subst (λ (z : Machine). IsCalling eq hash b name matches fed_to None begun log' z y.table y.last [] y.taken y.put) same calling;
+              task_is = ap (λ (z : Machine). z.task) (sym same) ∙ (task ∙ r.task_is);
+              words = subst (λ (z : Machine). ShowsPairs z.state) same (machine_shows m answer r.words);
+              shown_placed = r.shown_placed;
+              said = r.said;
+              has_said = r.has_said;
+              held = all_shown (HeldOn log) (HeldOn log') (held_later log' pre) r.said r.held;
+              stood = λ n agrees stands. r.stood n agrees (stood_before m answer silent standing r.words (Agrees n agrees) (subst (λ (z : Machine). StandsOn z (Agrees n agrees)) (sym same) stands));
+              refuses = λ cause e. refused_full m answer standing r.task_is (not_done m answer silent) given cause (ap ask_of same ∙ e);
+            },
+            fit,
+          )
+
+      -- the word at a place may be loaded
+      pub load_held : (at : At) → ask_of m ≡ Load at → IsHeldAt at log x.call.table
+      load_held at asks =
+          load_table eq input build write finish classes respects b matches query lawful None name begun log m x.call.table x.call.last [] x.call.taken x.call.put r.calling at asks
+          (subst (λ (a : Ask). MayAsk m.task (kind_of_ask m) a) asks (asked_of_task m standing))
+
+      -- and was loaded
+      pub loaded_as : (log' : List (Event K V S)) → IsPrefix log log' → (at : At) (word : ℕ) (y : Driver K V S H) → y.machine ≡ m → y.taken ≡ x.call.taken → y.put ≡ x.call.put → ask_of m ≡ Load at → IsLoaded eq hash b name at word log' x.call.table y.table x.call.last y.last → RemovingOn log' (record x { call = y }) f (Some (Word_read word))
+      loaded_as log' pre at word y machine taken put asks is =
+          let calling = loads eq input build write finish classes respects b matches query lawful None name begun log log' pre (loaded_lawful eq hash b name log' at word x.call.table y.table x.call.last y.last is) m x.call.table x.call.last [] x.call.taken x.call.put r.calling at word y.table y.last asks is in
+          goes_on log' pre y (Word_read word) machine tt refl (subst IsSilent (sym asks) tt) (λ cause h. absurd (cc h))
+          (subst (λ (o : Option (Stored K V) × Option (Stored K V)). IsCalling eq hash b name matches fed_to None begun log' (after m (Word_read word)) y.table y.last [] o.0 o.1) (λ i. (sym taken i, sym put i)) calling)
+
+      -- a table whose size is asked for is held
+      pub size_held : (t : ℕ) → ask_of m ≡ SizeOf t → x.call.table ≡ None → ⊥
+      size_held t asks none = subst (λ (o : Option (Bor Sheet)). MatchOption o ⊥ (λ z. IsTable log t z.now)) none (size_table eq input build write finish classes respects b matches query lawful None name begun log m x.call.table x.call.last [] x.call.taken x.call.put r.calling t asks)
+
+      -- its size was told
+      pub sized_on : (t : ℕ) (lent : Bor Sheet) → x.call.table ≡ Some lent → (slots limit : ℕ) → slots ≡ length lent.now.slots → limit ≡ lent.now.limit → IsSize slots limit → ask_of m ≡ SizeOf t → RemovingOn log x f (Some (Size slots limit))
+      sized_on t lent has slots limit slots_is limit_is size asks =
+          goes_on log ([], append-nil log) x.call (Size slots limit) refl size refl (subst IsSilent (sym asks) tt) (λ cause h. absurd (cc h))
+          (sized eq input build write finish classes respects b matches query lawful None name begun log m x.call.table x.call.last [] x.call.taken x.call.put r.calling t lent has slots limit slots_is limit_is asks)
+
+      -- the pair last told of was compared
+      pub compared_on : (n : ℕ) (same : Bool) → ((p : Stored K V) → x.call.last ≡ Some p → same ≡ matches (key_of p)) → ask_of m ≡ SameKey n → RemovingOn log x f (Some (Yes same))
+      compared_on n same is asks =
+          goes_on log ([], append-nil log) x.call (Yes same) refl tt refl (subst IsSilent (sym asks) tt) (λ cause h. absurd (cc h))
+          (compared eq input build write finish classes respects b matches query lawful None name begun log m x.call.table x.call.last [] x.call.taken x.call.put r.calling n same is asks)
+
+      -- the change was counted
+      pub counted_on : (by : _) → ask_of m ≡ AddToShard by → RemovingOn log x f (Some Ok_done)
+      counted_on by asks =
+          goes_on log ([], append-nil log) x.call Ok_done refl tt refl (subst IsSilent (sym asks) tt) (λ cause h. absurd (cc h))
+          (counted eq input build write finish classes respects b matches query lawful None name begun log m x.call.table x.call.last [] x.call.taken x.call.put r.calling by asks)
+
+      -- the pair last told of was shown
+      pub shown_on : (n : ℕ) (p : Stored K V) (agreed : Bool) (g : F) → x.call.last ≡ Some p → judges f p agreed g → ask_of m ≡ ShowPair n → RemovingOn log (record x { shown = Some p }) g (Some (Yes agreed))
+      shown_on n p agreed g last judged showing =
+          let s = Wide eq input build write finish classes respects b matches query lawful None name begun log in
+          let c = Coded eq input build write finish classes respects b matches query lawful None name begun in
+          let hashed = hashed_with eq input build write finish classes respects b matches query lawful log r.calling.lawful in
+          let shows : (i : ℕ) → ask_of m ≡ ShowPair i → IsShowing s c hashed (exchanges_of begun) r.calling.since None (hands_with x.call.last []) i = λ i e. held.machine_shows s c hashed (exchanges_of begun) r.calling.since None (hands_with x.call.last []) m r.calling.rests i e in
+          let is : (i : ℕ) → ask_of m ≡ ShowPair i → p.index ≡ i = λ i e. let one : (shows i e).0 ≡ p = cc ((shows i e).1, last) in ap (λ (z : Stored K V). z.index) (sym one) ∙ (shows i e).2 in
+          let one : (shows n showing).0 ≡ p = cc ((shows n showing).1, last) in
+          let was = subst (λ (z : Stored K V). WasAtMoment s c (exchanges_of begun) r.calling.since None (Some z)) one (shows n showing).4 in (
+            record {
+              calling = quiet eq input build write finish classes respects b matches query lawful None name begun log log ([], append-nil log) r.calling.lawful m x.call.table x.call.last [] x.call.taken x.call.put r.calling
+                  (ShowPair n) showing (Yes agreed) x.call.last [] x.call.table r.calling.number (record { told = (inl (agreed, refl), (refl, refl)); number_is = refl; same = refl; busy = λ z. z }) r.calling.holds_table r.calling.last_placed r.calling.made_placed;
+              task_is = r.task_is;
+              words = machine_shows m (Yes agreed) r.words;
+              shown_placed = subst (λ (o : Option (Stored K V)). IsPlaced b (Some name) (pair_named o)) last r.calling.last_placed;
+              said = (p, agreed) ∷ r.said;
+              has_said = (f, r.has_said, judged);
+              held = (held_then eq input build write finish classes respects b matches query lawful begun log r.calling.lawful r.calling.since r.calling.is (Some p) was, r.held);
+              stood = λ i agrees stands. ⊎_elim
+                  (λ h. absurd (unsaid m n i agrees showing h))
+                  (λ h. let e = h.1 in let same : agreed ≡ agrees = cc e in (p, refl, is i h.0, inl (ap (λ (z : Bool). (p, z)) (sym same))))
+                  (machine_said m (Yes agreed) (Agrees i agrees) standing r.words stands);
+              refuses = refused_full m (Yes agreed) standing r.task_is (λ reply h. let e = sym showing ∙ h in cc e) (λ cause h. absurd (cc h));
+            },
+            tt,
+          )
+
+      module _ (t i old new : ℕ) (tries : ask_of m ≡ Ask_exchange (Slot t i) old new) where
+        -- the slot is one of the table that is held
+        pub bury_held : IsHeldAt (Slot t i) log x.call.table
+        bury_held = slot_table eq input build write finish classes respects b matches query lawful None name begun log m x.call.table x.call.last [] x.call.taken x.call.put r.calling t i (inr (old, new, tries))
+
+        -- a removal's exchange of a slot buries
+        bury_kind : kind_of_ask m ≡ Some kinds.Bury
+        bury_kind = ⊎_elim (λ h. absurd (h.0)) (λ h. h.1) (subst (λ (a : Ask). MayAsk RemoveIf (kind_of_ask m) a) tries (subst (λ (z : Task). MayAsk z (kind_of_ask m) (ask_of m)) r.task_is (asked_of_task m standing)))
+
+        pub bury_can : CanExchange eq hash b (Slot t i) (kind_of_ask m) old new None names.Nothing log
+        bury_can = can_bury eq input build write finish classes respects b matches query lawful None (exchanges_of begun) log r.calling.lawful m (hands_with x.call.last []) (rests_of eq input build write finish classes respects b matches query lawful None name begun log m x.call.table x.call.last [] x.call.taken x.call.put r.calling) t i old new tries bury_kind
+
+        module _ (log' : List (Event K V S)) (pre : IsPrefix log log') (found : ℕ) (pair : Option (Stored K V)) (s : IsSlotTried eq hash b name t i (kind_of_ask m) old new None names.Nothing log found log' pair) where
+          -- it was buried
+          buried : (found == old) ≡ true → RemovingOn log' (record x { call = record x.call { taken = pair; put = None } }) f (Some Exchanged)
+          buried is = goes_on log' pre (record x.call { taken = pair; put = None }) Exchanged refl tt refl (subst IsSilent (sym tries) tt) (λ cause h. absurd (cc h))
+              (exchanged eq input build write finish classes respects b matches query lawful None name begun log log' m x.call.table x.call.last [] x.call.taken x.call.put r.calling t i old new found None pair tries s (λ q none. absurd (cc none)) is)
+
+          -- it was not
+          not_buried : (found == old) ≡ false → RemovingOn log' (record x { call = record x.call { last = or_last pair x.call.last } }) f (Some (Found_instead found))
+          not_buried is = goes_on log' pre (record x.call { last = or_last pair x.call.last }) (Found_instead found) refl tt refl (subst IsSilent (sym tries) tt) (λ cause h. absurd (cc h))
+              (lost eq input build write finish classes respects b matches query lawful None name begun log log' m x.call.table x.call.last [] x.call.taken x.call.put r.calling t i old new found None pair tries s is)
+
+          -- as the call holds it afterwards
+          abbrev AfterBury : Bool → Driver K V S H → Answer → Type 0
+          AfterBury z y answer = MatchBool z ((answer ≡ Exchanged) × (y ≡ record x.call { taken = pair; put = None })) ((answer ≡ Found_instead found) × (y ≡ record x.call { last = or_last pair x.call.last }))
+
+          pub bury_on : (y : Driver K V S H) (answer : Answer) → AfterBury (found == old) y answer → RemovingOn log' (record x { call = y }) f (Some answer)
+          bury_on y answer h =
+              ⊎_elim
+              (λ is. let g = subst (λ (z : Bool). AfterBury z y answer) is h in subst (λ (z : Driver K V S H × Answer). RemovingOn log' (record x { call = z.0 }) f (Some z.1)) (λ j. (sym g.1 j, sym g.0 j)) (buried is))
+              (λ is. let g = subst (λ (z : Bool). AfterBury z y answer) is h in subst (λ (z : Driver K V S H × Answer). RemovingOn log' (record x { call = z.0 }) f (Some z.1)) (λ j. (sym g.1 j, sym g.0 j)) (not_buried is))
+              (cases_Bool (found == old))

@@ -1,0 +1,217 @@
+-- What a removal that has replied answers: what its closure said of the pair, and the change that it made.
+use Rattle.std.proofs.Common.{◌≡◌, inl, inr, ℕ, Bool, true, false, MatchOption, Option, None, Some, Result, Ok, Err, List, [], ◌∷◌, ◌++◌, append-nil, refl, sym, ap, ◌∙◌, subst}
+use Rattle.std.specs.Cmp.{IsEquivalence}
+use mathlib.Core.List.{IsPrefix}
+use denote.Bor.{Bor}
+use Rattle.logbook.specs.Pages.{Book}
+use Rattle.papaya_words.specs.declared.probe.Refused.{Refused as Cause}
+use Rattle.papaya_words.specs.declared.probe.Refused.TheVariants.{Capacity}
+use Rattle.papaya_call.specs.declared.ask.Ask.TheVariants.{Done}
+use Rattle.papaya_call.specs.declared.call.Reply.{Reply}
+use Rattle.papaya_call.specs.declared.call.Reply.TheVariants.{Absent, Found, Inserted, Replaced, Occupied, Removed, Kept, Aborted, Refused}
+use Rattle.papaya_call.specs.declared.call.Task.{Task}
+use Rattle.papaya_call.specs.declared.call.Task.TheVariants.{RemoveIf}
+use Rattle.papaya_call.specs.declared.machine.Machine.{Machine}
+use Rattle.papaya_call.specs.Machine.{ask_of, started}
+use Rattle.papaya_rests.specs.Rests.{IsReply, change_in, change_of_reply}
+use Rattle.papaya_rests.specs.Says.{Agrees, Said, StandsOn, said_in, said_of_removal}
+use Rattle.papaya_rests.proofs.RestsHeld.{ended_in, machine_replies}
+use Rattle.papaya_book.specs.declared.rule.entry.Begun.{Begun}
+use Rattle.papaya_book.specs.declared.rule.entry.Event.{Event}
+use Rattle.papaya_change.specs.declared.removal.Removal.{Removal}
+use Rattle.papaya_change.specs.Changing.{HasChanged, hands_with}
+use Rattle.papaya_lookup.specs.History.{Change, changes_of, history_of, key_of}
+use Rattle.papaya_book.specs.Logs.{Member, Stored, exchanges_of}
+use Rattle.papaya_book.specs.Rule.{IsLawfulLog}
+use Rattle.papaya_change.specs.Removing.{IsRemoving}
+use Rattle.papaya_change.specs.RemovalAnswers.{IsJudged, IsRemovalBy, IsTaken}
+use Rattle.papaya_change.specs.Showings.{AreOf, WasHeld}
+use Rattle.papaya_change.proofs.Changing.{begins as begins_calling, Coded, Wide}
+use Rattle.papaya_lookup.proofs.Histories.{changes-append, history_since}
+use Rattle.papaya_book.proofs.Logs.{prefix_trans}
+use Rattle.papaya_lookup.proofs.Readings.{IsQuery}
+use Rattle.papaya_change.proofs.Removing.{Removing}
+use Rattle.papaya_change.proofs.Showings.{all_shown, held_then, held_wider, said_only, shown_each}
+
+-- no removal replies this
+abbrev pub IsNoRemoval : Reply → Type 0
+IsNoRemoval Absent = ⊥
+IsNoRemoval (Found n) = Unit {0}
+IsNoRemoval (Inserted n) = Unit {0}
+IsNoRemoval (Replaced old n) = Unit {0}
+IsNoRemoval (Occupied n) = Unit {0}
+IsNoRemoval (Removed n) = ⊥
+IsNoRemoval (Kept n) = ⊥
+IsNoRemoval (Aborted t) = Unit {0}
+IsNoRemoval (Refused cause) = ⊥
+
+-- where two are the same, both are there or neither is
+same_there : {P : Type 0} (holds : P → Type 0) (none : Type 0) (o : Option P) (p : P) → o ≡ Some p → MatchOption o none holds → holds p
+same_there holds none o p is m = subst (λ z. MatchOption z none holds) is m
+
+module _ {K V S H F : Type 0} (eq : K → K → Bool) (input : K → List (List ℕ)) (build : S → H) (write : H → List ℕ → H) (finish : H → ℕ) (classes : IsEquivalence eq) (respects : (x y : K) → eq x y ≡ true → input x ≡ input y)
+    (b : Begun K V S) (name : Book) (matches : K → Bool) (query : List (List ℕ)) (lawful : IsQuery eq input matches query) (judges : F → Stored K V → Bool → F → Type 0) (first : F) (begun log : List (Event K V S)) (x : Removal K V S H) (f : F)
+    (r : Removing eq input build write finish classes respects b name matches query lawful judges first begun log x f) where
+  abbrev m : Machine
+  m = x.call.machine
+
+  -- what it has replied
+  replies : (reply : Reply) → ask_of m ≡ Done reply → IsReply (Wide eq input build write finish classes respects b matches query lawful None name begun log) (Coded eq input build write finish classes respects b matches query lawful None name begun) (exchanges_of begun) r.calling.since None (hands_with x.call.last []) RemoveIf reply × (change_in m.state ≡ change_of_reply reply)
+  replies reply e =
+      let g = Wide eq input build write finish classes respects b matches query lawful None name begun log in
+      let c = Coded eq input build write finish classes respects b matches query lawful None name begun in
+      let all = machine_replies g c (exchanges_of begun) r.calling.since None (hands_with x.call.last []) m r.calling.rests reply e in
+      (subst (λ (t : Task). IsReply g c (exchanges_of begun) r.calling.since None (hands_with x.call.last []) t reply) r.task_is all.0, all.1)
+
+  -- what its reply stands on
+  stands : (reply : Reply) (said : Said) → ask_of m ≡ Done reply → said_of_removal reply ≡ Some said → StandsOn m said
+  stands reply said e is = inl (ap (λ t. said_in t m.state) r.task_is ∙ (ap (said_in RemoveIf) (ended_in m.made m.hash m.state reply e) ∙ is))
+
+  -- what the closure said of the pair
+  pub was_said : (reply : Reply) (n : ℕ) (agrees : Bool) → ask_of m ≡ Done reply → said_of_removal reply ≡ Some (Agrees n agrees) → (p : Stored K V) × (x.shown ≡ Some p) × (p.index ≡ n) × Member (p, agrees) r.said
+  was_said reply n agrees e is = r.stood n agrees (stands reply (Agrees n agrees) e is)
+
+  -- what it answers, whatever that is
+  answers : (answer : Result (Result (Option (Bor K × Bor V)) (Bor K × Bor V)) Cause) → IsJudged eq matches (history_of begun) (history_of log) r.said answer → IsRemovalBy eq matches (history_of begun) (history_of log) judges first answer
+  answers answer judged = record { said = r.said; left = f; has_said = r.has_said; held = r.held; answered = judged }
+
+  -- there was none
+  pub absent : ask_of m ≡ Done Absent → IsRemovalBy eq matches (history_of begun) (history_of log) judges first (Ok (Ok None))
+  absent e = answers (Ok (Ok None)) (held_then eq input build write finish classes respects b matches query lawful begun log r.calling.lawful r.calling.since r.calling.is None (replies Absent e).0)
+
+  -- it was refused
+  pub refused : (cause : Cause) → ask_of m ≡ Done (Refused cause) → IsRemovalBy eq matches (history_of begun) (history_of log) judges first (Err cause)
+  refused cause e = answers (Err cause) (r.refuses cause e)
+
+  -- the pair stays
+  pub kept : (n : ℕ) → ask_of m ≡ Done (Kept n) → (p : Stored K V) → x.shown ≡ Some p → (entry : Bor K × Bor V) → AreOf entry p → IsRemovalBy eq matches (history_of begun) (history_of log) judges first (Ok (Err entry))
+  kept n e p has entry are =
+      let s = was_said (Kept n) n false e refl in
+      let one : s.0 ≡ p = cc (s.1, has) in
+      answers (Ok (Err entry)) (p, subst (λ (z : Stored K V). Member (z, false) r.said) one s.3, are)
+
+  -- a pair that stays was shown
+  pub kept_shown : (n : ℕ) → ask_of m ≡ Done (Kept n) → x.shown ≡ None → ⊥
+  kept_shown n e is = let s = was_said (Kept n) n false e refl in let none = sym s.1 ∙ is in cc none
+
+  -- it replies nothing else
+  replies_no_other : (reply : Reply) → IsNoRemoval reply → IsReply (Wide eq input build write finish classes respects b matches query lawful None name begun log) (Coded eq input build write finish classes respects b matches query lawful None name begun) (exchanges_of begun) r.calling.since None (hands_with x.call.last []) RemoveIf reply → ⊥
+  replies_no_other Absent never is = never
+  replies_no_other (Found n) never is = is
+  replies_no_other (Inserted n) never is = is
+  replies_no_other (Replaced old n) never is = is
+  replies_no_other (Occupied n) never is = is
+  replies_no_other (Removed n) never is = never
+  replies_no_other (Kept n) never is = never
+  replies_no_other (Aborted t) never is = is
+  replies_no_other (Refused cause) never is = never
+
+  pub no_other : (reply : Reply) → IsNoRemoval reply → ask_of m ≡ Done reply → ⊥
+  no_other reply never e = replies_no_other reply never (replies reply e).0
+
+  module _ (n : ℕ) (e : ask_of m ≡ Done (Removed n)) where
+    abbrev change : Option ℕ × Option ℕ
+    change = (Some n, None)
+
+    changed : HasChanged eq begun log x.call.taken x.call.put change
+    changed = r.calling.changed change (replies (Removed n) e).1
+
+    -- the pair that went has the number of the one that was shown
+    pub same_number : (shown taken : Stored K V) → x.shown ≡ Some shown → x.call.taken ≡ Some taken → shown.index ≡ taken.index
+    same_number shown taken has took =
+        let s = was_said (Removed n) n true e refl in
+        let one : s.0 ≡ shown = cc (s.1, has) in
+        let t = (same_there (λ p. (Some n ≡ Some p.index) × (changed.class ≡ key_of p)) (change.0 ≡ None) x.call.taken taken took changed.taken_is).0 in
+        let number : n ≡ taken.index = cc t in
+        ap (λ (z : Stored K V). z.index) (sym one) ∙ (s.2 ∙ number)
+
+    none_put : (o : Option (Stored K V)) → MatchOption o (change.1 ≡ None) (λ q. (change.1 ≡ Some q.index) × (eq changed.class (key_of q) ≡ true)) → o ≡ None
+    none_put None h = refl
+    none_put (Some q) h = let none = h.0 in absurd (cc none)
+
+    some_taken : (o : Option (Stored K V)) → MatchOption o (change.0 ≡ None) (λ p. (change.0 ≡ Some p.index) × (changed.class ≡ key_of p)) → o ≡ None → ⊥
+    some_taken o h is = let none = subst (λ z. MatchOption z (change.0 ≡ None) (λ p. (change.0 ≡ Some p.index) × (changed.class ≡ key_of p))) is h in cc none
+
+    -- a pair was shown, and one went
+    pub was_shown : x.shown ≡ None → ⊥
+    was_shown is = let s = was_said (Removed n) n true e refl in let none = sym s.1 ∙ is in cc none
+
+    pub was_taken : x.call.taken ≡ None → ⊥
+    was_taken is = some_taken x.call.taken changed.taken_is is
+
+    -- it went
+    pub went : (shown taken : Stored K V) → x.shown ≡ Some shown → x.call.taken ≡ Some taken → shown.value ≡ taken.value → (entry : Bor K × Bor V) → AreOf entry taken → IsRemovalBy eq matches (history_of begun) (history_of log) judges first (Ok (Ok (Some entry)))
+    went shown taken has took value entry are =
+        let s = was_said (Removed n) n true e refl in
+        let one : s.0 ≡ shown = cc (s.1, has) in
+        let there : Member (shown, true) r.said = subst (λ (z : Stored K V). Member (z, true) r.said) one s.3 in
+        let held : WasHeld eq matches (history_of begun) (history_of log) (Some shown) = shown_each (λ p. WasHeld eq matches (history_of begun) (history_of log) (Some p)) r.said r.held shown true there in
+        let class : changed.class ≡ key_of taken = (same_there (λ p. (Some n ≡ Some p.index) × (changed.class ≡ key_of p)) (change.0 ≡ None) x.call.taken taken took changed.taken_is).1 in
+        let is : history_of log ≡ history_of changed.before ++ record { class = changed.class; taken = x.call.taken; put = x.call.put } ∷ [] =
+        ap (changes_of key_of) changed.is ∙ (changes-append key_of (exchanges_of changed.before) (changed.by ∷ []) ∙ ap (λ (cs : List (Change K (Stored K V))). history_of changed.before ++ cs) (Rattle.std.proofs.lemmas.List.append-nil _ ∙ changed.change_is)) in
+        let taken_as : IsTaken eq matches (history_of begun) (history_of log) taken = record {
+          before = history_of changed.before;
+          change = record { class = changed.class; taken = x.call.taken; put = x.call.put };
+          since = history_since begun changed.before changed.since;
+          is = is;
+          class_is = ap matches (class ∙ ap (λ z. z.key.value) (sym value)) ∙ held.is.0;
+          taken_is = took;
+          put_is = none_put x.call.put changed.put_is;
+        } in
+        answers (Ok (Ok (Some entry))) (taken, taken_as, (shown, (same_number shown taken has took, value), there), are)
+
+-- what was seen before a removal began was seen before its change, and before what its closure was shown
+module _ {K V : Type 0} (eq : K → K → Bool) (matches : K → Bool) (older old new : List (Change K (Stored K V))) (pre : IsPrefix older old) where
+  taken_since : (p : Stored K V) → IsTaken eq matches old new p → IsTaken eq matches older new p
+  taken_since p t = record { before = t.before; change = t.change; since = prefix_trans older old t.before pre t.since; is = t.is; class_is = t.class_is; taken_is = t.taken_is; put_is = t.put_is }
+
+  wider : (held : Option (Stored K V)) → WasHeld eq matches old new held → WasHeld eq matches older new held
+  wider held h = held_wider eq matches older old new new pre ([], append-nil new) held h
+
+  judged_since : (said : List (Stored K V × Bool)) (answer : Result (Result (Option (Bor K × Bor V)) (Bor K × Bor V)) Cause) → IsJudged eq matches old new said answer → IsJudged eq matches older new said answer
+  judged_since said (Ok (Ok None)) h = wider None h
+  judged_since said (Ok (Ok (Some entry))) h = (h.0, taken_since h.0 h.1, h.2, h.3)
+  judged_since said (Ok (Err entry)) h = h
+  judged_since said (Err cause) h = h
+
+  pub removal_since : {F : Type 0} (judges : F → Stored K V → Bool → F → Type 0) (first : F) (answer : Result (Result (Option (Bor K × Bor V)) (Bor K × Bor V)) Cause) → IsRemovalBy eq matches old new judges first answer → IsRemovalBy eq matches older new judges first answer
+  removal_since judges first answer r = record {
+    said = r.said;
+    left = r.left;
+    has_said = r.has_said;
+    held = all_shown (λ p. WasHeld eq matches old new (Some p)) (λ p. WasHeld eq matches older new (Some p)) (λ p h. wider (Some p) h) r.said r.held;
+    answered = judged_since r.said answer r.answered;
+  }
+
+-- why a removal was refused
+pub refused_removed : {K V F : Type 0} (eq : K → K → Bool) (matches : K → Bool) (old new : List (Change K (Stored K V))) (judges : F → Stored K V → Bool → F → Type 0) (first : F) (answer : Result (Result (Option (Bor K × Bor V)) (Bor K × Bor V)) Cause) → IsRemovalBy eq matches old new judges first answer → (cause : Cause) → answer ≡ Err cause → cause ≡ Capacity
+refused_removed eq matches old new judges first answer r cause is = subst (IsJudged eq matches old new r.said) is r.answered
+
+module _ {K V F : Type 0} (eq : K → K → Bool) (matches : K → Bool) (old new : List (Change K (Stored K V))) (judges : F → Stored K V → Bool → F → Type 0) (first : F) (answer : Result (Result (Option (Bor K × Bor V)) (Bor K × Bor V)) Cause) (entry : Bor K × Bor V) (r : IsRemovalBy eq matches old new judges first answer) where
+  -- the value of the pair that went
+  pub value_removed : answer ≡ Ok (Ok (Some entry)) → (p : Stored K V) × IsTaken eq matches old new p × (entry.1.now ≡ p.value.value)
+  value_removed is = let h = subst (IsJudged eq matches old new r.said) is r.answered in (h.0, h.1, h.3.1)
+
+  -- where the closure always agrees, no pair stays
+  pub none_stays : ((f : F) (p : Stored K V) (agrees : Bool) (g : F) → judges f p agrees g → agrees ≡ true) → answer ≡ Ok (Err entry) → ⊥
+  none_stays always is = let h = subst (IsJudged eq matches old new r.said) is r.answered in let agreed : false ≡ true = said_only judges (λ a. a ≡ true) always first r.said r.left r.has_said h.0 false h.1 in cc agreed
+
+-- a removal that begins
+pub begins : {K V S H F : Type 0} (eq : K → K → Bool) (hash : S → K → ℕ) (b : Begun K V S) (name : Book) (matches : K → Bool) (fed : ℕ) (judges : F → Stored K V → Bool → F → Type 0) (first : F) (log : List (Event K V S)) (x : Removal K V S H) → IsLawfulLog eq hash b log
+    → x.call.machine ≡ started RemoveIf fed b.mode 0 → x.call.table ≡ None → x.call.last ≡ None → x.call.taken ≡ None → x.call.put ≡ None → x.shown ≡ None → IsRemoving eq hash b name matches fed judges first log log x first
+begins eq hash b name matches fed judges first log x l machine table last taken put shown = record {
+  calling = rw (machine, table, last, taken, put) (begins_calling eq hash b name matches fed None refl log l RemoveIf 0);
+  task_is = ap (λ (z : Machine). z.task) machine;
+  words = rw machine tt;
+  shown_placed = rw shown tt;
+  said = [];
+  has_said = refl;
+  held = tt;
+  stood = λ n agrees stands. absurd (nothing_said (subst (λ (z : Machine). StandsOn z (Agrees n agrees)) machine stands));
+  refuses = λ cause e. let f = sym (ap ask_of machine) ∙ e in absurd (cc f);
+}
+  where
+    nothing_said : {n : ℕ} {agrees : Bool} → StandsOn (started RemoveIf fed b.mode 0) (Agrees n agrees) → ⊥
+    nothing_said (inl e) = cc e
+    nothing_said (inr (inl e)) = cc e
+    nothing_said (inr (inr e)) = cc e

@@ -1,0 +1,165 @@
+-- After each answer a call that inserts rests again, by its key and with the pairs that it has made.
+use Rattle.std.proofs.Common.{◌≡◌, ◌⊎◌, inl, inr, ⊎_elim, ℕ, ◌<◌, ◌^◌, Bool, true, Option, None, Some, List, [], ◌∷◌, append-nil, refl, sym, ap, ◌∙◌, subst, arith}
+use Rattle.std.specs.Cmp.{IsEquivalence}
+use mathlib.Core.List.{IsPrefix}
+use Rattle.boxcar.specs.Table.{Shows, Where}
+use Rattle.logbook.specs.Pages.{Book, nib, may_write}
+use Rattle.logbook.specs.declared.tokens.Pen.{Pen}
+use Rattle.papaya_words.specs.declared.probe.Refused.{Refused}
+use Rattle.papaya_call.specs.declared.ask.At.TheVariants.{Root}
+use Rattle.papaya_call.specs.declared.ask.Ask.TheVariants.{Exchange as Ask_exchange, SameKey, MakeKey, MakePair, MakeTable}
+use Rattle.papaya_call.specs.declared.ask.Answer.{Answer}
+use Rattle.papaya_call.specs.declared.ask.Answer.TheVariants.{Word as Word_read, Exchanged, Found as Found_instead, Yes, Op, Size, Made as Made_number, Ok as Ok_done, Refused as Was_refused}
+use Rattle.papaya_call.specs.declared.machine.Machine.{Machine}
+use Rattle.papaya_call.specs.Machine.{IsFit, after, ask_of}
+use Rattle.papaya_rests.proofs.RestsOpened.{machine_opened}
+use Rattle.papaya_book.specs.Sheets.{Sheet}
+use Rattle.papaya_book.specs.declared.rule.entry.Begun.{Begun}
+use Rattle.papaya_book.specs.declared.rule.entry.Event.{Event}
+use Rattle.papaya_book.specs.declared.rule.entry.Named.TheVariants as names
+use Rattle.papaya_change.specs.declared.writing.Writer.{Writer}
+use Rattle.papaya_change.specs.Changing.{IsCalling}
+use Rattle.papaya_book.specs.Hashes.{hash_of}
+use Rattle.papaya_lookup.specs.History.{key_of}
+use Rattle.papaya_book.specs.Logs.{Stored, number_of, pair_named}
+use Rattle.papaya_book.specs.Makers.{IsMade}
+use Rattle.papaya_book.specs.Rule.{IsLawfulLog, IsPlaced}
+use Rattle.papaya_change.specs.Writing.{IsOpening, IsWriting, IsWritingOn}
+use Rattle.papaya_change.proofs.Changing.{compared, held_later, quiet}
+use Rattle.papaya_lookup.proofs.Readings.{IsQuery}
+
+-- an answer to an ask for something made
+abbrev pub IsPlainAnswer : Answer → Type 0
+IsPlainAnswer (Made_number n) = n < 2 ^ 48
+IsPlainAnswer (Was_refused refused) = Unit {0}
+IsPlainAnswer Ok_done = Unit {0}
+IsPlainAnswer _ = ⊥
+
+plain_fit : (answer : Answer) → IsPlainAnswer answer → IsFit answer
+plain_fit (Word_read word) p = absurd p
+plain_fit Exchanged p = absurd p
+plain_fit (Found_instead word) p = absurd p
+plain_fit (Yes same) p = absurd p
+plain_fit (Op kind) p = absurd p
+plain_fit (Size slots limit) p = absurd p
+plain_fit (Made_number n) p = p
+plain_fit Ok_done p = tt
+plain_fit (Was_refused refused) p = tt
+
+-- such an answer says whether anything was made
+abbrev pub IsMakeAnswer : Answer → Type 0
+IsMakeAnswer answer = (((refused : Refused) × (answer ≡ Was_refused refused)) ⊎ (answer ≡ Ok_done)) ⊎ ((n : ℕ) × (answer ≡ Made_number n))
+
+make_answer : (answer : Answer) → IsPlainAnswer answer → IsMakeAnswer answer
+make_answer (Word_read word) p = absurd p
+make_answer Exchanged p = absurd p
+make_answer (Found_instead word) p = absurd p
+make_answer (Yes same) p = absurd p
+make_answer (Op kind) p = absurd p
+make_answer (Size slots limit) p = absurd p
+make_answer (Made_number n) p = inr (n, refl)
+make_answer Ok_done p = inl (inr refl)
+make_answer (Was_refused refused) p = inl (inl (refused, refl))
+
+module _ {K V S H : Type 0} (eq : K → K → Bool) (input : K → List (List ℕ)) (build : S → H) (write : H → List ℕ → H) (finish : H → ℕ) (classes : IsEquivalence eq) (respects : (x y : K) → eq x y ≡ true → input x ≡ input y)
+    (b : Begun K V S) (name : Book) (key : K) where
+  abbrev hash : S → K → ℕ
+  hash = hash_of input build write finish
+
+  -- a key is a form of itself
+  pub own_query : IsQuery eq input (eq key) (input key)
+  own_query = record { feeds = λ k h. respects key k h; class = λ k l h. classes.congr key k l h }
+
+  module _ (made : List (Stored K V)) (begun : List (Event K V S)) where
+    abbrev pub Writing : List (Event K V S) → Writer K V S H → Type 0
+    Writing log w = IsWriting eq hash b name key made begun log w
+
+    abbrev pub WritingOn : List (Event K V S) → Writer K V S H → Answer → Type 0
+    WritingOn log w answer = IsWritingOn eq hash b name key made begun log w answer
+
+    module _ (log : List (Event K V S)) (w : Writer K V S H) (r : Writing log w) where
+      abbrev m : Machine
+      m = w.call.machine
+
+      -- nothing is opened after an answer, unless a table was made or was to be opened
+      pub unopened : (log' : List (Event K V S)) (answer : Answer) (opening : Option (Where Sheet × Pen)) → ((n : ℕ) → ask_of m ≡ Ask_exchange Root 0 n → ⊥) → ((slots limit : ℕ) → ask_of m ≡ MakeTable slots limit → ⊥)
+          → (n : ℕ) → ask_of (after m answer) ≡ Ask_exchange Root 0 n → IsOpening b name log' n opening
+      unopened log' answer opening opens makes n e = ⊎_elim (λ h. absurd (makes h.1.0 h.1.1 h.1.2)) (λ h. absurd (opens n h)) (machine_opened m n answer e)
+
+      -- the key was logged, or not
+      pub key_made : (own : Option K) (logged : Option (Where K)) (answer : Answer) → ask_of m ≡ MakeKey → IsPlainAnswer answer → ((k : K) → own ≡ Some k → k ≡ key) → ((p : Where K) → logged ≡ Some p → (p.value ≡ key) × Shows b.keys p) → (own ≡ None → (p : Where K) × (logged ≡ Some p))
+          → WritingOn log (record w { key = own; logged = logged }) answer
+      key_made own logged answer asks plain own_is logged_is some = (
+        record {
+          calling = quiet eq input build write finish classes respects b (eq key) (input key) own_query (Some key) name begun log log ([], append-nil log) r.calling.lawful m w.call.table w.call.last made w.call.taken w.call.put r.calling
+              MakeKey asks answer w.call.last made w.call.table r.calling.number (record { told = (make_answer answer plain, (refl, refl)); number_is = refl; same = refl; busy = λ z. z }) r.calling.holds_table r.calling.last_placed r.calling.made_placed;
+          own_is = own_is;
+          logged_is = logged_is;
+          some_key = some;
+          put_placed = r.put_placed;
+          opens = unopened log answer w.opening (λ n h. let f = sym asks ∙ h in cc f) (λ s l h. let f = sym asks ∙ h in cc f);
+        },
+        plain_fit answer plain,
+      )
+
+      -- it goes on with its key
+      pub goes_on : (made' : List (Stored K V)) (log' : List (Event K V S)) (w' : Writer K V S H) (answer : Answer) → w'.key ≡ w.key → w'.logged ≡ w.logged → IsFit answer → IsCalling eq hash b name (eq key) (hash b.hasher key) (Some key) begun log' (after w'.call.machine answer) w'.call.table w'.call.last made' w'.call.taken w'.call.put
+          → IsPlaced b (Some name) (pair_named w'.call.put) → ((n : ℕ) → ask_of (after w'.call.machine answer) ≡ Ask_exchange Root 0 n → IsOpening b name log' n w'.opening) → IsWritingOn eq hash b name key made' begun log' w' answer
+      goes_on made' log' w' answer own logged fit calling placed opens = (
+        record {
+          calling = calling;
+          own_is = λ k e. r.own_is k (sym own ∙ e);
+          logged_is = λ p e. r.logged_is p (sym logged ∙ e);
+          some_key = λ e. let h = r.some_key (sym own ∙ e) in (h.0, logged ∙ h.1);
+          put_placed = placed;
+          opens = opens;
+        },
+        fit,
+      )
+
+      -- the pair was not logged
+      pub pair_unmade : (left : Option V) (answer : Answer) → ask_of m ≡ MakePair → ((refused : Refused) × (answer ≡ Was_refused refused)) ⊎ (answer ≡ Ok_done) → IsPlainAnswer answer → WritingOn log (record w { value = left }) answer
+      pair_unmade left answer asks unmade plain =
+          goes_on made log (record w { value = left }) answer refl refl (plain_fit answer plain)
+          (quiet eq input build write finish classes respects b (eq key) (input key) own_query (Some key) name begun log log ([], append-nil log) r.calling.lawful m w.call.table w.call.last made w.call.taken w.call.put r.calling
+          MakePair asks answer w.call.last made w.call.table r.calling.number (record { told = inl (unmade, (refl, refl)); number_is = refl; same = refl; busy = λ z. z }) r.calling.holds_table r.calling.last_placed r.calling.made_placed)
+          r.put_placed (unopened log answer w.opening (λ n h. let f = sym asks ∙ h in cc f) (λ s l h. let f = sym asks ∙ h in cc f))
+
+      -- the pair was logged
+      pub pair_made : (q : Stored K V) (left : Option V) → ask_of m ≡ MakePair → q.index < 2 ^ 48 → key_of q ≡ key → IsPlaced b (Some name) (names.Pair q) → IsWritingOn eq hash b name key (q ∷ made) begun log (record w { value = left }) (Made_number q.index)
+      pair_made q left asks low key_is placed =
+          goes_on (q ∷ made) log (record w { value = left }) (Made_number q.index) refl refl low
+          (quiet eq input build write finish classes respects b (eq key) (input key) own_query (Some key) name begun log log ([], append-nil log) r.calling.lawful m w.call.table w.call.last made w.call.taken w.call.put r.calling
+          MakePair asks (Made_number q.index) w.call.last (q ∷ made) w.call.table r.calling.number (record { told = inr (q, ap (λ z. Some z) key_is, refl, refl, refl); number_is = refl; same = refl; busy = λ z. z }) r.calling.holds_table r.calling.last_placed
+          (λ p one. ⊎_elim (λ is. subst (λ (z : Stored K V). IsPlaced b (Some name) (names.Pair z)) (sym is) placed) (λ other. r.calling.made_placed p other) one))
+          r.put_placed (unopened log (Made_number q.index) w.opening (λ i h. let f = sym asks ∙ h in cc f) (λ s l h. let f = sym asks ∙ h in cc f))
+
+      -- the key was compared
+      pub key_compared : (n : ℕ) (same : Bool) → ((p : Stored K V) → w.call.last ≡ Some p → same ≡ eq key (key_of p)) → ask_of m ≡ SameKey n → WritingOn log w (Yes same)
+      key_compared n same is asks =
+          goes_on made log w (Yes same) refl refl tt
+          (compared eq input build write finish classes respects b (eq key) (input key) own_query (Some key) name begun log m w.call.table w.call.last made w.call.taken w.call.put r.calling n same is asks)
+          r.put_placed (unopened log (Yes same) w.opening (λ i h. let f = sym asks ∙ h in cc f) (λ s l h. let f = sym asks ∙ h in cc f))
+
+      -- no table was made
+      pub table_unmade : (log' : List (Event K V S)) → IsPrefix log log' → IsLawfulLog eq hash b log' → (slots limit : ℕ) (refused : Refused) → ask_of m ≡ MakeTable slots limit → WritingOn log' w (Was_refused refused)
+      table_unmade log' pre l' slots limit refused asks =
+          goes_on made log' w (Was_refused refused) refl refl tt
+          (quiet eq input build write finish classes respects b (eq key) (input key) own_query (Some key) name begun log log' pre l' m w.call.table w.call.last made w.call.taken w.call.put r.calling
+          (MakeTable slots limit) asks (Was_refused refused) w.call.last made w.call.table r.calling.number (record { told = (inl (inl (refused, refl)), (refl, refl)); number_is = refl; same = refl; busy = λ z. z })
+          (held_later log log' pre r.calling.number w.call.table r.calling.holds_table) r.calling.last_placed r.calling.made_placed)
+          r.put_placed (λ n e. ⊎_elim (λ h. absurd (let f = h.0 in cc f)) (λ h. let f = sym asks ∙ h in absurd (cc f)) (machine_opened m n (Was_refused refused) e))
+
+      -- a table was made
+      pub table_made : (log' : List (Event K V S)) → IsPrefix log log' → IsLawfulLog eq hash b log' → (slots limit : ℕ) (t : Where Sheet) (seal : Pen) (i : ℕ) → i ≡ number_of t → ask_of m ≡ MakeTable slots limit → IsMade t.value log' → IsPlaced b (Some name) (names.Table t) → seal.book ≡ name → seal.nib ≡ nib may_write t.value.seal 0
+          → WritingOn log' (record w { opening = Some (t, seal) }) (Made_number i)
+      table_made log' pre l' slots limit t seal i number_is asks is_made placed book is =
+          goes_on made log' (record w { opening = Some (t, seal) }) (Made_number i) refl refl (let low = placed.1 in omega arith)
+          (quiet eq input build write finish classes respects b (eq key) (input key) own_query (Some key) name begun log log' pre l' m w.call.table w.call.last made w.call.taken w.call.put r.calling
+          (MakeTable slots limit) asks (Made_number i) w.call.last made w.call.table r.calling.number (record { told = (inr (i, omega arith, refl), (refl, refl)); number_is = refl; same = refl; busy = λ z. z })
+          (held_later log log' pre r.calling.number w.call.table r.calling.holds_table) r.calling.last_placed r.calling.made_placed)
+          r.put_placed
+          (λ n e. ⊎_elim
+          (λ h. let f = h.0 in let number : i ≡ n = cc f in record { table = t; seal = seal; is = refl; number_is = sym number_is ∙ number; made = is_made; placed = placed; seal_book = book; seal_nib = is })
+          (λ h. let f = sym asks ∙ h in absurd (cc f))
+          (machine_opened m n (Made_number i) e))

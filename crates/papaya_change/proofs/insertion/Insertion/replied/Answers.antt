@@ -1,0 +1,23 @@
+use Rattle.std.proofs.Common.{◌≡◌, Some, ap, ◌∙◌, rules, subst}
+use Rattle.papaya_words.specs.declared.probe.Refused.{Refused as Cause}
+use Rattle.papaya_call.specs.declared.ask.Ask.TheVariants.{Done}
+use Rattle.papaya_call.specs.declared.call.Reply.TheVariants.{Refused}
+use Rattle.papaya_book.specs.Logs.{pair_named}
+use Rattle.papaya_book.specs.Parts.{begun_of}
+use Rattle.papaya_book.specs.Rule.{IsPlaced}
+use Rattle.papaya_change.proofs.InsertingReplies.{inserted, replaced}
+use Rattle.papaya_change.proofs.insertion.Insertion.replied.Goals.{in-Done+in-Absent-1, in-Load-1}
+use Rattle.papaya_change.proofs.insertion.Insertion.replied.Goals as goal
+
+pub pair-requires : goal.pair-requires
+pair-requires g c = subst (λ (o : _). IsPlaced (begun_of c.args.window.now.book.now.parts) (Some c.args.window.now.book.now.begun.book) (pair_named o)) c.in-Some.is c.requires.can.3.writing.calling.taken_placed
+
+pub returns-in-Some-clause-put : goal.returns-in-Some-clause-put
+returns-in-Some-clause-put g c = λ key value begun r.
+    let some : (refused : Cause) → c.requires.done.0 ≡ Refused refused → ⊥ = λ refused e. let both : c.ask.result ≡ Done (Refused refused) = c.ask.ensures.value ∙ (c.requires.done.1 ∙ ap Done e) in elim c.match-ask.branch [ in-Done+in-Absent-1 w ↦ search rules | in-Load-1 w ↦ search rules ] in
+    replaced g.K.PartialEq.eq g.K.Hash.hash_input g.S.BuildHasher.build_hasher g.S.Hasher.Hasher.write g.S.Hasher.Hasher.finish g.met.K.Eq.laws g.met.K.Hash.respects_eq (begun_of c.args.window.now.book.now.parts) c.args.window.now.book.now.begun.book key value begun c.args.window.now.sight.log c.args.self.now r c.requires.done.0 c.requires.done.1 some _ c.in-Some.taken c.in-Some.is (ap (λ z. z.value) c.pair.ensures)
+
+pub returns-in-None-clause-put : goal.returns-in-None-clause-put
+returns-in-None-clause-put g c = λ key value begun r.
+    let some : (refused : Cause) → c.requires.done.0 ≡ Refused refused → ⊥ = λ refused e. let both : c.ask.result ≡ Done (Refused refused) = c.ask.ensures.value ∙ (c.requires.done.1 ∙ ap Done e) in elim c.match-ask.branch [ in-Done+in-Absent-1 w ↦ search rules | in-Load-1 w ↦ search rules ] in
+    inserted g.K.PartialEq.eq g.K.Hash.hash_input g.S.BuildHasher.build_hasher g.S.Hasher.Hasher.write g.S.Hasher.Hasher.finish g.met.K.Eq.laws g.met.K.Hash.respects_eq (begun_of c.args.window.now.book.now.parts) c.args.window.now.book.now.begun.book key value begun c.args.window.now.sight.log c.args.self.now r c.requires.done.0 c.requires.done.1 some c.in-None.is

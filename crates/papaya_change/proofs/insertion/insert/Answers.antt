@@ -1,0 +1,51 @@
+use Rattle.std.proofs.Common.{true, Result, Ok, Err, IfOk, refl, ap, ◌∙◌}
+use Rattle.papaya_call.specs.declared.call.Task.TheVariants.{Insert}
+use Rattle.papaya_call.specs.Machine.{started}
+use Rattle.papaya_book.specs.Hashes.{hash_of}
+use Rattle.papaya_book.specs.Parts.{begun_of}
+use Rattle.papaya_change.proofs.Inserting.{begins}
+use Rattle.papaya_change.proofs.InsertingReplies.{put_since}
+use Rattle.papaya_book.proofs.Windows.{sees_trans}
+use Rattle.papaya_change.proofs.insertion.insert.Goals as goal
+
+if_ok : {A E : Type 0} (P Q : A → Type 0) (r : Result A E) → IfOk r P → ((a : A) → P a → Q a) → IfOk r Q
+if_ok P Q (Ok a) p f = f a p
+if_ok P Q (Err e) p f = tt
+
+pub loop-init : goal.loop-init
+loop-init g c =
+    let w = c.learn.new.self.book.now in let log = c.learn.new.self.sight.log in let pairs = c.new.ensures.pairs in
+    let machine = c.new.ensures.machine ∙ ap (λ h. started (Insert true) h w.parts.mode c.args.initial) c.hash-hash.ensures in (
+      (
+        log,
+        c.learn.ensures.sees.log,
+        begins g.K.PartialEq.eq (hash_of g.K.Hash.hash_input g.S.BuildHasher.build_hasher g.S.Hasher.Hasher.write g.S.Hasher.Hasher.finish) (begun_of w.parts) w.begun.book c.args.key c.args.value log _ c.learn.ensures.lawful c.args.initial machine c.new.ensures.table pairs.0 pairs.1 pairs.2 refl refl refl refl,
+      ),
+      c.new.ensures.standing,
+      c.learn.ensures.sees,
+    )
+
+pub answer-requires-in-Some-answer-clause-fit : goal.answer-requires-in-Some-answer-clause-fit
+answer-requires-in-Some-answer-clause-fit g c = let u = c.loop.invariant.0 in (c.in-Some-answer.ensures.inserts c.args.key c.args.value u.0 u.2).1
+
+pub loop-preserved : goal.loop-preserved
+loop-preserved g c =
+    let u = c.loop.invariant.0 in let on = (c.in-Some-answer.ensures.inserts c.args.key c.args.value u.0 u.2).0 in (
+      (u.0, u.1, rw (c.answer.ensures.sees.book, c.answer-in-Some-answer.ensures.after) on),
+      c.answer-in-Some-answer.ensures.standing,
+      sees_trans _ _ _ c.loop.invariant.2 c.answer.ensures.sees,
+    )
+
+pub replied-requires-clause-can : goal.replied-requires-clause-can
+replied-requires-clause-can g c = let u = c.loop.invariant.0 in rw c.answer.ensures.sees.book (c.args.key, c.args.value, u.0, (c.in-None-answer.ensures.inserts c.args.key c.args.value u.0 u.2).0)
+
+pub replied-requires-clause-done : goal.replied-requires-clause-done
+replied-requires-clause-done g c = let u = c.loop.invariant.0 in (c.in-None-answer.ensures.inserts c.args.key c.args.value u.0 u.2).1
+
+pub returns-in-None-answer-clause-lawful : goal.returns-in-None-answer-clause-lawful
+returns-in-None-answer-clause-lawful g c = let u = c.loop.invariant.0 in rw c.answer.ensures.sees.book (c.in-None-answer.ensures.inserts c.args.key c.args.value u.0 u.2).0.writing.calling.lawful
+
+pub returns-in-None-answer-clause-put : goal.returns-in-None-answer-clause-put
+returns-in-None-answer-clause-put g c =
+    let u = c.loop.invariant.0 in let r = (c.in-None-answer.ensures.inserts c.args.key c.args.value u.0 u.2).0 in
+    if_ok _ _ c.replied.result c.replied.ensures.put (λ a h. put_since g.K.PartialEq.eq c.args.key c.args.value c.args.window.now.sight.log u.0 c.answer.new.window.sight.log a u.1 (h c.args.key c.args.value u.0 (rw c.answer.ensures.sees.book r)))

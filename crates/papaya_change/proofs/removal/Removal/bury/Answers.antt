@@ -1,0 +1,32 @@
+use Rattle.std.proofs.Common.{◌<◌, MatchOption, Option, length, subst, None}
+use denote.Bor.{Bor}
+use Rattle.papaya_call.specs.declared.ask.StepKind.{StepKind}
+use Rattle.papaya_book.specs.Calls.{IsSlotTried, IsTable}
+use Rattle.papaya_book.specs.Hashes.{hash_of}
+use Rattle.papaya_book.specs.Parts.{begun_of}
+use Rattle.papaya_book.specs.Sheets.{Sheet}
+use Rattle.papaya_change.specs.Showings.{Judges}
+use Rattle.papaya_book.specs.declared.rule.entry.Named.TheVariants.{Nothing}
+use Rattle.papaya_lookup.proofs.Readings.{IsQuery}
+use Rattle.papaya_change.proofs.Removing.{bury_can, bury_held, bury_on}
+use Rattle.papaya_change.proofs.removal.Removal.bury.Goals as goal
+
+pub exchange_slot-found-requires-clause-place : goal.exchange_slot-found-requires-clause-place
+exchange_slot-found-requires-clause-place g c =
+    let lawful : IsQuery g.K.PartialEq.eq g.K.Hash.hash_input (g.Q.Equivalent.matches c.args.key.now) (g.Q.Hash.hash_input c.args.key.now) = record { feeds = g.met.Q.Equivalent.hashes_as_key c.args.key.now; class = λ k l. g.met.Q.Equivalent.matches_equal_keys c.args.key.now k l } in
+    (subst (λ (o : Option (Bor Sheet)). MatchOption o ⊥ (λ z. IsTable c.args.window.now.sight.log c.args.number z.now × (c.args.place < length z.now.slots))) c.in-Some.is
+    (bury_held g.K.PartialEq.eq g.K.Hash.hash_input g.S.BuildHasher.build_hasher g.S.Hasher.Hasher.write g.S.Hasher.Hasher.finish g.met.K.Eq.laws g.met.K.Hash.respects_eq (begun_of c.args.window.now.book.now.parts) c.args.window.now.book.now.begun.book (g.Q.Equivalent.matches c.args.key.now) (g.Q.Hash.hash_input c.args.key.now) lawful (Judges g.F.FnMut) c.requires.can.0 c.requires.can.1 c.args.window.now.sight.log c.args.self.now c.args.agrees.now c.requires.can.2 c.requires.standing c.args.number c.args.place c.args.words.0 c.args.words.1 c.requires.asks)).1
+
+pub exchange_slot-found-requires-clause-can : goal.exchange_slot-found-requires-clause-can
+exchange_slot-found-requires-clause-can g c =
+    let lawful : IsQuery g.K.PartialEq.eq g.K.Hash.hash_input (g.Q.Equivalent.matches c.args.key.now) (g.Q.Hash.hash_input c.args.key.now) = record { feeds = g.met.Q.Equivalent.hashes_as_key c.args.key.now; class = λ k l. g.met.Q.Equivalent.matches_equal_keys c.args.key.now k l } in
+    let hash = hash_of g.K.Hash.hash_input g.S.BuildHasher.build_hasher g.S.Hasher.Hasher.write g.S.Hasher.Hasher.finish in
+    rw c.kind-kind.ensures (bury_can g.K.PartialEq.eq g.K.Hash.hash_input g.S.BuildHasher.build_hasher g.S.Hasher.Hasher.write g.S.Hasher.Hasher.finish g.met.K.Eq.laws g.met.K.Hash.respects_eq (begun_of c.args.window.now.book.now.parts) c.args.window.now.book.now.begun.book (g.Q.Equivalent.matches c.args.key.now) (g.Q.Hash.hash_input c.args.key.now) lawful (Judges g.F.FnMut) c.requires.can.0 c.requires.can.1 c.args.window.now.sight.log c.args.self.now c.args.agrees.now c.requires.can.2 c.requires.standing c.args.number c.args.place c.args.words.0 c.args.words.1 c.requires.asks)
+
+pub returns-clause-removes : goal.returns-clause-removes
+returns-clause-removes g c = λ first begun r.
+    let lawful : IsQuery g.K.PartialEq.eq g.K.Hash.hash_input (g.Q.Equivalent.matches c.args.key.now) (g.Q.Hash.hash_input c.args.key.now) = record { feeds = g.met.Q.Equivalent.hashes_as_key c.args.key.now; class = λ k l. g.met.Q.Equivalent.matches_equal_keys c.args.key.now k l } in
+    let hash = hash_of g.K.Hash.hash_input g.S.BuildHasher.build_hasher g.S.Hasher.Hasher.write g.S.Hasher.Hasher.finish in
+    let found = c.exchange_slot-found in
+    let tried = subst (λ (z : Option StepKind). IsSlotTried g.K.PartialEq.eq hash (begun_of c.args.window.now.book.now.parts) c.args.window.now.book.now.begun.book c.args.number c.args.place z c.args.words.0 c.args.words.1 None Nothing c.args.window.now.sight.log found.result.0 found.new.self.sight.log found.result.1) c.kind-kind.ensures found.ensures.tried in
+    bury_on g.K.PartialEq.eq g.K.Hash.hash_input g.S.BuildHasher.build_hasher g.S.Hasher.Hasher.write g.S.Hasher.Hasher.finish g.met.K.Eq.laws g.met.K.Hash.respects_eq (begun_of c.args.window.now.book.now.parts) c.args.window.now.book.now.begun.book (g.Q.Equivalent.matches c.args.key.now) (g.Q.Hash.hash_input c.args.key.now) lawful (Judges g.F.FnMut) first begun c.args.window.now.sight.log c.args.self.now c.args.agrees.now r c.requires.standing c.args.number c.args.place c.args.words.0 c.args.words.1 c.requires.asks found.new.self.sight.log found.ensures.sees.log found.result.0 found.result.1 tried c.tried.new.self c.tried.result c.tried.ensures

@@ -1,0 +1,11 @@
+pub mod Changes
+pub mod Changing
+pub mod Writing
+pub mod Inserting
+pub mod Showings
+pub mod RemovalAnswers
+pub mod Removing
+-- the same by what is seen of the map
+pub mod Writers
+pub mod Insertions
+pub mod Removals

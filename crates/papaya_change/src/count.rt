@@ -1,0 +1,77 @@
+//! The count of a map's pairs, in shards, so that callers seldom meet at one word.
+ghost use Rattle.std.specs.Prelude.{◌≡◌, ◌<◌, ◌≤◌, Err, IfErr, length};
+
+use papaya_words::limits::MAX_SHARDS;
+use papaya_words::probe::Refused;
+use std::alloc::Global;
+use std::sync::atomic::{AtomicI64, Ordering};
+
+/// A signed number in shards. Its additions are steps apart from the changes that they count, so a
+/// sum may lag behind them, and no contract says what it is.
+///
+/// 0.2.5 gives each shard a cache line of its own, and takes their number from the machine's
+/// processors.
+#[derive(Drop)]
+pub struct Count {
+    shards: Vec<AtomicI64>,
+}
+
+impl Count {
+    /// A count of 0 over at least so many shards: rounded up to a power of two.
+    pub fn new(alloc: Global, shards: usize) -> Result<Count, Refused>
+        ensures many { MAX_SHARDS < shards → result ≡ Err Refused.Capacity }
+        ensures few { shards ≤ MAX_SHARDS → IfErr result (λ refused. refused ≡ Refused.Memory) }
+    {
+        if shards > MAX_SHARDS {
+            return Err(Refused::Capacity);
+        }
+        match row(alloc, shards.next_power_of_two()) {
+            Some(shards) => Ok(Count { shards }),
+            None => Err(Refused::Memory),
+        }
+    }
+
+    /// What the caller adds to whose guard has this number.
+    #[inline(always)]
+    pub fn shard(&self, guard_number: u64) -> Shard<'_> {
+        Shard {
+            count: self,
+            place: guard_number & (self.shards.len() as u64).wrapping_sub(1),
+        }
+    }
+
+    /// The sum of all shards, each as it is when it is read; a negative one counts as 0.
+    pub fn sum(&self) -> usize {
+        let mut sum: i64 = 0;
+        for shard in &self.shards {
+            sum = sum.wrapping_add(shard.load(Ordering::SeqCst));
+        }
+        if sum < 0 { 0 } else { sum as usize }
+    }
+}
+
+/// So many shards of 0, or none where there is no memory.
+fn row(alloc: Global, len: usize) -> Option<Vec<AtomicI64>> {
+    let mut shards = Vec::with_capacity(alloc, len).ok()?;
+    for _ in 0..len {
+        shards.push(AtomicI64::new(0)).ok()?;
+    }
+    Some(shards)
+}
+
+/// The shard of one caller.
+#[derive(Drop)]
+pub struct Shard<'a> {
+    count: &'a Count,
+    place: u64,
+}
+
+impl Shard<'_> {
+    /// Adds to the shard. It wraps.
+    #[inline(always)]
+    pub fn add(&self, by: i64) {
+        if let Some(shard) = self.count.shards.get(self.place as usize) {
+            shard.fetch_add(by, Ordering::SeqCst);
+        }
+    }
+}

@@ -1,0 +1,163 @@
+//! Insertions: their machine, answered by steps on the book.
+ghost use Rattle.papaya_lookup.specs.Drivers.{past};
+ghost use Rattle.papaya_book.specs.Windows.{IsLawful, Sees};
+ghost use Rattle.papaya_change.specs.Insertions.{CanInsert, HasPut, Inserts};
+ghost use Rattle.std.specs.Prelude.{◌≡◌, Some, IfErr, IfOk};
+ghost use Rattle.papaya_call.specs.Machine.{IsStanding, ask_of};
+ghost use Rattle.papaya_call.specs.declared.ask.Ask.TheVariants.{Done, Exchange, MakePair};
+ghost use Rattle.papaya_call.specs.declared.ask.At.TheVariants.{Slot};
+ghost use Rattle.papaya_change.specs.Changes.{IsPut};
+ghost use Rattle.papaya_change.specs.Writing.{IsCause};
+
+use crate::count::Shard;
+use crate::writing::Writer;
+use papaya_book::rule::entry::Stored;
+use papaya_book::window::Window;
+use papaya_call::ask::{Answer, Ask, At};
+use papaya_call::call::{Reply, Task};
+use papaya_lookup::driver::Driver;
+use papaya_lookup::lookup::hash;
+use papaya_words::probe::Refused;
+use std::alloc::Global;
+use std::hash::{BuildHasher, Hash};
+use std::sync::Wait;
+
+/// An insertion under way. It makes one pair.
+#[derive(Drop)]
+pub struct Insertion<'a, K: Hash + Eq, V, S: BuildHasher> {
+    writer: Writer<'a, K, V, S>,
+    made: Option<Stored<K, V>>,
+}
+
+impl<'a, K: Hash + Eq + Drop, V: Drop, S: BuildHasher> Insertion<'a, K, V, S> {
+    /// Logs the pair of the logged key and the value.
+    fn make_pair<R: Wait>(&mut self, rt: &R, window: &Window<'a, K, V, S>) -> Answer
+        requires standing { IsStanding self.old.writer.call.machine }
+        requires can { CanInsert window.now self.old }
+        requires asks { ask_of self.old.writer.call.machine ≡ MakePair }
+        ensures machine { self.new.writer.call.machine ≡ self.old.writer.call.machine }
+        ensures inserts { Inserts window.now self.old window.now self.new (Some result) }
+    {
+        match self.writer.log_pair(rt, window) {
+            Ok(pair) => {
+                let number = pair.index();
+                self.made = Some(pair);
+                Answer::Made(number as u64)
+            }
+            Err(answer) => answer,
+        }
+    }
+
+    /// Tries to put the pair into a slot.
+    fn put(
+        &mut self,
+        number: u64,
+        place: usize,
+        words: (u64, u64),
+        window: &mut Window<'a, K, V, S>,
+    ) -> Answer
+        requires standing { IsStanding self.old.writer.call.machine }
+        requires can { CanInsert window.old self.old }
+        requires asks { ask_of self.old.writer.call.machine ≡ Exchange (Slot number place) words.0 words.1 }
+        ensures sees { Sees window.old window.new }
+        ensures machine { self.new.writer.call.machine ≡ self.old.writer.call.machine }
+        ensures inserts { Inserts window.old self.old window.new self.new (Some result) }
+    {
+        let Some(made) = &self.made else {
+            unreachable!()
+        };
+        self.writer.put(number, place, words, made, window)
+    }
+
+    /// The answer to what the machine asks. None where it has replied.
+    fn answer<R: Wait>(
+        &mut self,
+        rt: &R,
+        alloc: Global,
+        shard: &Shard<'_>,
+        window: &mut Window<'a, K, V, S>,
+    ) -> Option<Answer>
+        requires standing { IsStanding self.old.writer.call.machine }
+        requires can { CanInsert window.old self.old }
+        ensures sees { Sees window.old window.new }
+        ensures machine { self.new.writer.call.machine ≡ self.old.writer.call.machine }
+        ensures inserts { Inserts window.old self.old window.new self.new result }
+    {
+        match self.writer.call.machine.ask() {
+            Ask::Load(at) => Some(self.writer.load(at, window)),
+            Ask::SizeOf(_) => Some(self.writer.size(window)),
+            Ask::SameKey(_) => Some(self.writer.same(window)),
+            Ask::MakeKey => Some(self.writer.make_key(rt, window)),
+            Ask::MakePair => Some(self.make_pair(rt, window)),
+            Ask::MakeTable { len, limit } => {
+                Some(self.writer.make_table(rt, alloc, len, limit, window))
+            }
+            Ask::Exchange(At::Root, _, _) => Some(self.writer.open(window)),
+            Ask::Exchange(At::Slot(number, place), old, new) => {
+                Some(self.put(number, place, (old, new), window))
+            }
+            Ask::AddToShard(by) => {
+                shard.add(by);
+                Some(Answer::Ok)
+            }
+            Ask::Done(_) => None,
+            Ask::ShowNone | Ask::ShowPair(_) | Ask::Exchange(_, _, _) => unreachable!(),
+        }
+    }
+
+    /// What the insertion answers that has replied: the value that its key had.
+    fn replied(&self, window: &Window<'a, K, V, S>) -> Result<Option<&'a V>, Refused>
+        requires standing { IsStanding self.now.writer.call.machine }
+        requires can { CanInsert window.now self.now }
+        requires done { (reply : _) × (ask_of self.now.writer.call.machine ≡ Done reply) }
+        ensures put { IfOk result (λ answer. HasPut window.now self.now answer) }
+        ensures refused { IfErr result (λ refused. IsCause refused) }
+    {
+        if let Ask::Done(Reply::Refused(refused)) = self.writer.call.machine.ask() {
+            return Err(refused);
+        }
+        let book = window.book;
+        match &self.writer.call.taken {
+            Some(taken) => Ok(Some(&book.pair(taken).value)),
+            None => Ok(None),
+        }
+    }
+}
+
+/// Inserts a pair: the value that its key had.
+pub fn insert<'a, R: Wait, K: Hash + Eq + Drop, V: Drop, S: BuildHasher>(
+    rt: &R,
+    alloc: Global,
+    initial: usize,
+    shard: &Shard<'_>,
+    window: &mut Window<'a, K, V, S>,
+    key: K,
+    value: V,
+) -> Result<Option<&'a V>, Refused>
+    ensures sees { Sees window.old window.new }
+    ensures lawful { IsLawful window.new }
+    ensures put { IfOk result (λ answer. IsPut K.eq key value (past window.old) (past window.new) answer) }
+    ensures refused { IfErr result (λ refused. IsCause refused) }
+{
+    window.learn();
+    let book = window.book;
+    let hash = hash(&book.parts.hasher, &key);
+    let task = Task::Insert { replace: true };
+    let mut insertion = Insertion {
+        writer: Writer {
+            call: Driver::new(task, hash, book.parts.mode, initial),
+            key: Some(key),
+            logged: None,
+            value: Some(value),
+            opening: None,
+        },
+        made: None,
+    };
+    for _ in rt.forever() {
+        match insertion.answer(rt, alloc, shard, window) {
+            Some(answer) => insertion.writer.call.machine.answer(answer),
+            None => return insertion.replied(window),
+        }
+    }
+    unreachable!()
+}

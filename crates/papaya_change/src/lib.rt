@@ -1,0 +1,8 @@
+//! The calls that change the shared map: insertions, removals and computes, driven by their
+//! machines.
+#![tactic(auto)]
+
+pub mod count;
+pub mod insertion;
+pub mod removal;
+pub mod writing;

@@ -1,0 +1,271 @@
+//! What calls that insert have in common: their machine's asks, answered by steps on the book.
+ghost use Rattle.papaya_book.specs.Windows.{IsIn, Sees};
+ghost use Rattle.papaya_change.specs.Writers.{CanPut, CanWrite, Pairs, Puts, Writes};
+ghost use Rattle.std.specs.Prelude.{◌≡◌, ◌⊎◌, ℕ, ◌<◌, ◌^◌, IfErr, IfOk, None, Some};
+ghost use Rattle.papaya_call.specs.Machine.{IsStanding, ask_of, kind_of_ask};
+ghost use Rattle.papaya_call.specs.Search.{IsSize};
+ghost use Rattle.papaya_call.specs.declared.ask.Ask.TheVariants.{Exchange, Load, MakeKey, MakePair, MakeTable, SameKey, SizeOf};
+ghost use Rattle.papaya_call.specs.declared.ask.At.TheVariants.{Root, Slot};
+ghost use Rattle.papaya_call.specs.declared.ask.StepKind.TheVariants.{Bury};
+ghost use Rattle.papaya_words.specs.Word.{pair_of};
+ghost use Rattle.papaya_book.specs.Plays.{IsPutting};
+ghost use Rattle.papaya_change.specs.Writing.{IsUnlogged, IsUnsaid};
+ghost use Rattle.papaya_book.specs.declared.rule.entry.Named.TheVariants.{Pair as PairNamed};
+
+use boxcar::Pushed;
+use logbook::Pen;
+use papaya_book::rule::entry::Stored;
+use papaya_book::table::Table;
+use papaya_book::window::Window;
+use papaya_call::ask::{Answer, At};
+use papaya_lookup::driver::Driver;
+use papaya_words::limits::MAX_LOG_LEN;
+use papaya_words::probe::Refused;
+use std::alloc::Global;
+use std::hash::{BuildHasher, Hash};
+use std::sync::Wait;
+
+/// A call that inserts, under way: its key until that is logged, and the value of the pair that it
+/// makes next until that is. A table that it has made is opened by its next step.
+#[derive(Drop)]
+pub struct Writer<'a, K: Hash + Eq, V, S: BuildHasher> {
+    pub call: Driver<'a, K, V, S>,
+    pub key: Option<K>,
+    pub logged: Option<Pushed<K>>,
+    pub value: Option<V>,
+    pub opening: Option<(Pushed<Table<K, V, S>>, Pen)>,
+}
+
+impl<'a, K: Hash + Eq + Drop, V: Drop, S: BuildHasher> Writer<'a, K, V, S> {
+    /// Loads a word.
+    pub fn load(&mut self, at: At, window: &mut Window<'a, K, V, S>) -> Answer
+        requires can { CanWrite window.old self.old }
+        requires asks { ask_of self.old.call.machine ≡ Load at }
+        requires standing { IsStanding self.old.call.machine }
+        ensures sees { Sees window.old window.new }
+        ensures machine { self.new.call.machine ≡ self.old.call.machine }
+        ensures value { self.new.value ≡ self.old.value }
+        ensures unsaid { IsUnsaid result }
+        ensures put { self.new.call.put ≡ self.old.call.put }
+        ensures writes { Writes window.old self.old window.new self.new result }
+    {
+        Answer::Word(self.call.load(at, window))
+    }
+
+    /// The size of the table.
+    pub fn size(&self, window: &Window<'a, K, V, S>) -> Answer
+        requires can { CanWrite window.now self.now }
+        requires asks { (t : ℕ) × (ask_of self.now.call.machine ≡ SizeOf t) }
+        requires standing { IsStanding self.now.call.machine }
+        ensures unsaid { IsUnsaid result }
+        ensures writes { Writes window.now self.now window.now self.now result }
+    {
+        let Some(table) = self.call.table else {
+            unreachable!()
+        };
+        let (len, limit) = table.size();
+        Answer::Size { len, limit }
+    }
+
+    /// Has the pair last loaded a key that equals the call's?
+    pub fn same(&self, window: &Window<'a, K, V, S>) -> Answer
+        requires can { CanWrite window.now self.now }
+        requires asks { (n : ℕ) × (ask_of self.now.call.machine ≡ SameKey n) }
+        requires standing { IsStanding self.now.call.machine }
+        ensures unsaid { IsUnsaid result }
+        ensures writes { Writes window.now self.now window.now self.now result }
+    {
+        let Some(last) = &self.call.last else {
+            unreachable!()
+        };
+        let book = window.book;
+        let found = book.key(book.pair(last));
+        let same = match (&self.key, &self.logged) {
+            (Some(key), _) => *key == *found,
+            (None, Some(token)) => *book.parts.keys.value(token) == *found,
+            (None, None) => unreachable!(),
+        };
+        Answer::Yes(same)
+    }
+
+    /// Logs the key.
+    pub fn make_key<R: Wait>(&mut self, rt: &R, window: &Window<'a, K, V, S>) -> Answer
+        requires can { CanWrite window.now self.old }
+        requires asks { ask_of self.old.call.machine ≡ MakeKey }
+        requires standing { IsStanding self.old.call.machine }
+        ensures machine { self.new.call.machine ≡ self.old.call.machine }
+        ensures value { self.new.value ≡ self.old.value }
+        ensures unsaid { IsUnsaid result }
+        ensures put { self.new.call.put ≡ self.old.call.put }
+        ensures writes { Writes window.now self.old window.now self.new result }
+    {
+        let Some(key) = self.key.take() else {
+            return Answer::Ok;
+        };
+        match window.book.log_key(rt, key) {
+            Ok(token) => {
+                let number = token.index();
+                self.logged = Some(token);
+                if number >= MAX_LOG_LEN {
+                    return Answer::Refused(Refused::Capacity);
+                }
+                Answer::Made(number as u64)
+            }
+            Err(key) => {
+                self.key = Some(key);
+                Answer::Refused(Refused::Memory)
+            }
+        }
+    }
+
+    /// Logs the pair of the logged key and the value, and hands it out. Where there is none, what the
+    /// machine is to be answered.
+    pub fn log_pair<R: Wait>(
+        &mut self,
+        rt: &R,
+        window: &Window<'a, K, V, S>,
+    ) -> Result<Stored<K, V>, Answer>
+        requires can { CanWrite window.now self.old }
+        requires asks { ask_of self.old.call.machine ≡ MakePair }
+        requires standing { IsStanding self.old.call.machine }
+        ensures machine { self.new.call.machine ≡ self.old.call.machine }
+        ensures put { self.new.call.put ≡ self.old.call.put }
+        ensures left { (v : _) → self.new.value ≡ Some v → self.old.value ≡ Some v }
+        ensures number { IfOk result (λ q. q.index < 2 ^ 48) }
+        ensures placed { IfOk result (λ q. IsIn window.now (PairNamed q)) }
+        ensures value { IfOk result (λ q. (self.old.value ≡ Some q.value.value) × (self.new.value ≡ None)) }
+        ensures pairs { IfOk result (λ q. Pairs window.now self.old self.new q) }
+        ensures unlogged { IfErr result (λ answer. IsUnlogged answer) }
+        ensures kept { IfErr result (λ answer. answer ≡ Answer.Ok → self.new.value ≡ self.old.value) }
+        ensures writes { IfErr result (λ answer. Writes window.now self.old window.now self.new answer) }
+    {
+        let Some(key) = &self.logged else {
+            return Err(Answer::Ok);
+        };
+        let key = key.again();
+        let Some(value) = self.value.take() else {
+            return Err(Answer::Ok);
+        };
+        let Ok(pair) = window.book.log_pair(rt, key, value) else {
+            return Err(Answer::Refused(Refused::Memory));
+        };
+        let number = pair.index();
+        if number >= MAX_LOG_LEN {
+            return Err(Answer::Refused(Refused::Capacity));
+        }
+        Ok(pair)
+    }
+
+    /// Makes a table, and keeps it with its seal until it is tried to be opened.
+    pub fn make_table<R: Wait>(
+        &mut self,
+        rt: &R,
+        alloc: Global,
+        len: usize,
+        limit: usize,
+        window: &mut Window<'a, K, V, S>,
+    ) -> Answer
+        requires can { CanWrite window.old self.old }
+        requires asks { ask_of self.old.call.machine ≡ MakeTable len limit }
+        requires standing { IsStanding self.old.call.machine }
+        requires size { IsSize len limit }
+        ensures sees { Sees window.old window.new }
+        ensures machine { self.new.call.machine ≡ self.old.call.machine }
+        ensures value { self.new.value ≡ self.old.value }
+        ensures unsaid { IsUnsaid result }
+        ensures put { self.new.call.put ≡ self.old.call.put }
+        ensures writes { Writes window.old self.old window.new self.new result }
+    {
+        let made = window.make_table(rt, alloc, len, limit);
+        window.learn();
+        match made {
+            Ok((table, seal)) => {
+                let number = table.index() as u64 + 1;
+                self.opening = Some((table, seal));
+                Answer::Made(number)
+            }
+            Err(refused) => Answer::Refused(refused),
+        }
+    }
+
+    /// Tries to make the table that was made the root.
+    pub fn open(&mut self, window: &mut Window<'a, K, V, S>) -> Answer
+        requires can { CanWrite window.old self.old }
+        requires asks { (old : ℕ) × (new : ℕ) × (ask_of self.old.call.machine ≡ Exchange Root old new) }
+        requires standing { IsStanding self.old.call.machine }
+        ensures sees { Sees window.old window.new }
+        ensures machine { self.new.call.machine ≡ self.old.call.machine }
+        ensures value { self.new.value ≡ self.old.value }
+        ensures unsaid { IsUnsaid result }
+        ensures put { self.new.call.put ≡ self.old.call.put }
+        ensures writes { Writes window.old self.old window.new self.new result }
+    {
+        let Some((table, mut seal)) = self.opening.take() else {
+            unreachable!()
+        };
+        let (found, root) = window.open_root(&table, &mut seal);
+        self.call.table = Some(root);
+        if found == 0 {
+            Answer::Exchanged
+        } else {
+            Answer::Found(found)
+        }
+    }
+
+    /// Tries to put this pair into a slot, one of those made.
+    pub fn put(
+        &mut self,
+        number: u64,
+        place: usize,
+        words: (u64, u64),
+        pair: &Stored<K, V>,
+        window: &mut Window<'a, K, V, S>,
+    ) -> Answer
+        requires can { CanPut window.old self.old pair.now }
+        requires number { pair_of words.1 ≡ pair.now.index }
+        requires asks { ask_of self.old.call.machine ≡ Exchange (Slot number place) words.0 words.1 }
+        requires kind { IsPutting (kind_of_ask self.old.call.machine) }
+        requires standing { IsStanding self.old.call.machine }
+        ensures sees { Sees window.old window.new }
+        ensures machine { self.new.call.machine ≡ self.old.call.machine }
+        ensures value { self.new.value ≡ self.old.value }
+        ensures unsaid { IsUnsaid result }
+        ensures put { (self.new.call.put ≡ self.old.call.put) ⊎ (self.new.call.put ≡ Some pair.now) }
+        ensures writes { Puts window.old self.old pair.now window.new self.new result }
+    {
+        let Some(table) = self.call.table else {
+            unreachable!()
+        };
+        let kind = self.call.machine.kind();
+        let (found, before) = window.put_slot(table, number, place, kind, pair, words);
+        let put = pair.again();
+        self.call.tried(words.0, found, before, Some(put))
+    }
+
+    /// Tries to bury the pair that a slot holds.
+    pub fn bury(
+        &mut self,
+        number: u64,
+        place: usize,
+        words: (u64, u64),
+        window: &mut Window<'a, K, V, S>,
+    ) -> Answer
+        requires can { CanWrite window.old self.old }
+        requires asks { ask_of self.old.call.machine ≡ Exchange (Slot number place) words.0 words.1 }
+        requires kind { kind_of_ask self.old.call.machine ≡ Some Bury }
+        requires standing { IsStanding self.old.call.machine }
+        ensures sees { Sees window.old window.new }
+        ensures machine { self.new.call.machine ≡ self.old.call.machine }
+        ensures value { self.new.value ≡ self.old.value }
+        ensures unsaid { IsUnsaid result }
+        ensures put { (self.new.call.put ≡ self.old.call.put) ⊎ (self.new.call.put ≡ None) }
+        ensures writes { Writes window.old self.old window.new self.new result }
+    {
+        let Some(table) = self.call.table else {
+            unreachable!()
+        };
+        let kind = self.call.machine.kind();
+        let (found, before) = window.exchange_slot(table, number, place, kind, words);
+        self.call.tried(words.0, found, before, None)
+    }
+}

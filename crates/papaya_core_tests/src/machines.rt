@@ -1,0 +1,548 @@
+// What machines ask and reply over words that stand in tables: worked values, where specs and
+// code might agree and both be wrong.
+ghost use Rattle.papaya_call.specs.Machine.{IsChunked, IsFit, IsStanding};
+
+use crate::expect::is;
+use papaya_call::ask::{Answer, Ask, At, OpKind, StepKind};
+use papaya_call::call::{Reply, Task};
+use papaya_call::machine::Machine;
+use papaya_words::probe::{Refused, ResizeMode};
+use std::process::Abort;
+
+/// A key whose hash byte is 5 and whose places in 8 slots are 2, 3, 5, 0, 4, 1, 7, 6.
+const HASH: u64 = 0x0a00_0000_0000_0002;
+
+/// The byte 6 and the pair 9.
+const LIVE_OF_ANOTHER_BYTE: u64 = 9265;
+/// From here on the byte is 5. The pair 3:
+const LIVE: u64 = 3113;
+
+const BURIED: u64 = 3116;
+
+const COPIED_3: u64 = 3115;
+/// The pair 4.
+const COPIED: u64 = 4139;
+/// The pair 7.
+const MARKED: u64 = 7210;
+
+const CLOSED: u64 = 5;
+
+const EMPTY: u64 = 0;
+/// What an insertion puts where its pair has the number 12.
+const LIVE_12: u64 = 12_329;
+/// The pairs 4 and 13.
+const LIVE_4: u64 = 4137;
+
+const LIVE_13: u64 = 13_353;
+/// What a removal of the pair 12 leaves.
+const BURIED_12: u64 = 12_332;
+
+/// The machine asks this, and is answered.
+fn told(rt: &impl Abort, machine: &mut Machine, ask: Ask, answer: Answer)
+    requires standing { IsStanding machine.old }
+    requires fit { IsFit answer }
+    ensures { IsStanding machine.new }
+{
+    is(rt, machine.ask(), ask);
+    machine.answer(answer);
+}
+
+/// The machine loads the root, and enters that table, which has 8 slots.
+fn enters_root(rt: &impl Abort, machine: &mut Machine, table: u64)
+    requires { IsStanding machine.old }
+    ensures { IsStanding machine.new }
+{
+    told(rt, machine, Ask::Load(At::Root), Answer::Word(table));
+    enters(rt, machine, table);
+}
+
+fn enters(rt: &impl Abort, machine: &mut Machine, table: u64)
+    requires { IsStanding machine.old }
+    ensures { IsStanding machine.new }
+{
+    let size = Answer::Size { len: 8, limit: 7 };
+    told(rt, machine, Ask::SizeOf(table), size);
+}
+
+/// The machine loads a slot.
+fn loads(rt: &impl Abort, machine: &mut Machine, table: u64, slot: usize, word: u64)
+    requires { IsStanding machine.old }
+    ensures { IsStanding machine.new }
+{
+    let ask = Ask::Load(At::Slot(table, slot));
+    told(rt, machine, ask, Answer::Word(word));
+}
+
+/// The machine compares its key with a pair's.
+fn compares(rt: &impl Abort, machine: &mut Machine, pair: u64, same: bool)
+    requires { IsStanding machine.old }
+    ensures { IsStanding machine.new }
+{
+    told(rt, machine, Ask::SameKey(pair), Answer::Yes(same));
+}
+
+/// The machine tries to put its pair in place of a word.
+fn tries(
+    rt: &impl Abort,
+    machine: &mut Machine,
+    slot: usize,
+    old: u64,
+    kind: StepKind,
+    answer: Answer,
+)
+    requires standing { IsStanding machine.old }
+    requires fit { IsFit answer }
+    ensures { IsStanding machine.new }
+{
+    is(rt, machine.kind(), Some(kind));
+    let ask = Ask::Exchange(At::Slot(2, slot), old, LIVE_12);
+    told(rt, machine, ask, answer);
+}
+
+/// The machine replies.
+fn replies(rt: &impl Abort, machine: &Machine, reply: Reply)
+    requires { IsStanding machine.now }
+{
+    is(rt, machine.ask(), Ask::Done(reply));
+}
+
+#[test]
+fn lookup_passes_each_kind_of_word(rt: HostRuntime) {
+    let mut lookup = Machine::new(Task::Get, HASH, ResizeMode::Incremental(64), 1);
+    enters_root(&rt, &mut lookup, 1);
+    loads(&rt, &mut lookup, 1, 2, LIVE_OF_ANOTHER_BYTE);
+    loads(&rt, &mut lookup, 1, 3, BURIED);
+    loads(&rt, &mut lookup, 1, 5, CLOSED);
+    loads(&rt, &mut lookup, 1, 0, COPIED);
+    compares(&rt, &mut lookup, 4, false);
+    loads(&rt, &mut lookup, 1, 4, LIVE);
+    compares(&rt, &mut lookup, 3, false);
+    loads(&rt, &mut lookup, 1, 1, MARKED);
+    compares(&rt, &mut lookup, 7, true);
+    replies(&rt, &lookup, Reply::Found(7));
+}
+
+#[test]
+fn lookup_ends_at_an_empty_word(rt: HostRuntime) {
+    let mut lookup = Machine::new(Task::Get, HASH, ResizeMode::Incremental(64), 1);
+    enters_root(&rt, &mut lookup, 1);
+    loads(&rt, &mut lookup, 1, 2, LIVE);
+    compares(&rt, &mut lookup, 3, false);
+    loads(&rt, &mut lookup, 1, 3, EMPTY);
+    replies(&rt, &lookup, Reply::Absent);
+}
+
+#[test]
+fn lookup_follows_a_copied_pair(rt: HostRuntime) {
+    let mut lookup = Machine::new(Task::Get, HASH, ResizeMode::Incremental(64), 1);
+    enters_root(&rt, &mut lookup, 1);
+    loads(&rt, &mut lookup, 1, 2, COPIED);
+    compares(&rt, &mut lookup, 4, true);
+    told(&rt, &mut lookup, Ask::Load(At::Next(1)), Answer::Word(2));
+    enters(&rt, &mut lookup, 2);
+    loads(&rt, &mut lookup, 2, 2, LIVE);
+    compares(&rt, &mut lookup, 3, true);
+    replies(&rt, &lookup, Reply::Found(3));
+}
+
+/// A lookup that met a Closed word at each place of table 1.
+fn past_closed_slots(rt: &impl Abort, mode: ResizeMode) -> Machine
+    requires { IsChunked mode }
+    ensures { IsStanding result }
+{
+    let mut lookup = Machine::new(Task::Get, HASH, mode, 1);
+    enters_root(rt, &mut lookup, 1);
+    loads(rt, &mut lookup, 1, 2, CLOSED);
+    loads(rt, &mut lookup, 1, 3, CLOSED);
+    loads(rt, &mut lookup, 1, 5, CLOSED);
+    loads(rt, &mut lookup, 1, 0, CLOSED);
+    loads(rt, &mut lookup, 1, 4, CLOSED);
+    loads(rt, &mut lookup, 1, 1, CLOSED);
+    loads(rt, &mut lookup, 1, 7, CLOSED);
+    loads(rt, &mut lookup, 1, 6, CLOSED);
+    lookup
+}
+
+#[test]
+fn lookup_goes_on_where_no_place_is_left(rt: HostRuntime) {
+    let mut lookup = past_closed_slots(&rt, ResizeMode::Incremental(64));
+    told(&rt, &mut lookup, Ask::Load(At::Next(1)), Answer::Word(0));
+    replies(&rt, &lookup, Reply::Absent);
+    let lookup = past_closed_slots(&rt, ResizeMode::Blocking);
+    replies(&rt, &lookup, Reply::Absent);
+}
+
+/// An insertion that found no root, lost its table's exchange to table 2, and is to claim the key's
+/// first place there.
+fn insertion(rt: &impl Abort) -> Machine
+    ensures { IsStanding result }
+{
+    let task = Task::Insert { replace: true };
+    let mut insertion = Machine::new(task, HASH, ResizeMode::Blocking, 1);
+    let first = Ask::MakeTable { len: 32, limit: 25 };
+    told(rt, &mut insertion, Ask::Load(At::Root), Answer::Word(0));
+    told(rt, &mut insertion, first, Answer::Made(1));
+    is(rt, insertion.kind(), Some(StepKind::Open));
+    told(
+        rt,
+        &mut insertion,
+        Ask::Exchange(At::Root, 0, 1),
+        Answer::Found(2),
+    );
+    enters(rt, &mut insertion, 2);
+    loads(rt, &mut insertion, 2, 2, EMPTY);
+    told(rt, &mut insertion, Ask::MakeKey, Answer::Made(11));
+    is(rt, insertion.kind(), None);
+    told(rt, &mut insertion, Ask::MakePair, Answer::Made(12));
+    insertion
+}
+
+#[test]
+fn insertion_loses_its_place_to_another_key(rt: HostRuntime) {
+    let mut insertion = insertion(&rt);
+    tries(
+        &rt,
+        &mut insertion,
+        2,
+        EMPTY,
+        StepKind::Claim,
+        Answer::Found(LIVE),
+    );
+    compares(&rt, &mut insertion, 3, false);
+    loads(&rt, &mut insertion, 2, 3, EMPTY);
+    tries(
+        &rt,
+        &mut insertion,
+        3,
+        EMPTY,
+        StepKind::Claim,
+        Answer::Exchanged,
+    );
+    told(&rt, &mut insertion, Ask::AddToShard(1), Answer::Ok);
+    replies(&rt, &insertion, Reply::Inserted(12));
+}
+
+#[test]
+fn insertion_loses_its_place_to_its_own_key(rt: HostRuntime) {
+    let mut insertion = insertion(&rt);
+    tries(
+        &rt,
+        &mut insertion,
+        2,
+        EMPTY,
+        StepKind::Claim,
+        Answer::Found(LIVE),
+    );
+    compares(&rt, &mut insertion, 3, true);
+    tries(
+        &rt,
+        &mut insertion,
+        2,
+        LIVE,
+        StepKind::Replace,
+        Answer::Exchanged,
+    );
+    replies(&rt, &insertion, Reply::Replaced { old: 3, new: 12 });
+}
+
+#[test]
+fn insertion_that_keeps_what_it_finds(rt: HostRuntime) {
+    let task = Task::Insert { replace: false };
+    let mut insertion = Machine::new(task, HASH, ResizeMode::Blocking, 1);
+    enters_root(&rt, &mut insertion, 1);
+    loads(&rt, &mut insertion, 1, 2, LIVE);
+    compares(&rt, &mut insertion, 3, true);
+    replies(&rt, &insertion, Reply::Occupied(3));
+}
+
+/// A removal that found the pair 3 of its key at the first place of table 1.
+fn removal(rt: &impl Abort) -> Machine
+    ensures { IsStanding result }
+{
+    let mut removal = Machine::new(Task::RemoveIf, HASH, ResizeMode::Blocking, 1);
+    enters_root(rt, &mut removal, 1);
+    loads(rt, &mut removal, 1, 2, LIVE);
+    compares(rt, &mut removal, 3, true);
+    removal
+}
+
+/// The machine shows a pair to its closure.
+fn shows(rt: &impl Abort, machine: &mut Machine, pair: u64, agrees: bool)
+    requires { IsStanding machine.old }
+    ensures { IsStanding machine.new }
+{
+    is(rt, machine.kind(), None);
+    told(rt, machine, Ask::ShowPair(pair), Answer::Yes(agrees));
+}
+
+/// The machine tries to bury the pair at the first place of table 1.
+fn buries(rt: &impl Abort, machine: &mut Machine, old: u64, new: u64, answer: Answer)
+    requires standing { IsStanding machine.old }
+    requires fit { IsFit answer }
+    ensures { IsStanding machine.new }
+{
+    is(rt, machine.kind(), Some(StepKind::Bury));
+    told(rt, machine, Ask::Exchange(At::Slot(1, 2), old, new), answer);
+}
+
+#[test]
+fn removal_buries_and_counts_out(rt: HostRuntime) {
+    let mut removal = removal(&rt);
+    shows(&rt, &mut removal, 3, true);
+    buries(&rt, &mut removal, LIVE, BURIED, Answer::Exchanged);
+    is(&rt, removal.kind(), None);
+    told(&rt, &mut removal, Ask::AddToShard(-1), Answer::Ok);
+    replies(&rt, &removal, Reply::Removed(3));
+}
+
+#[test]
+fn removal_keeps_what_its_closure_wants_kept(rt: HostRuntime) {
+    let mut removal = removal(&rt);
+    shows(&rt, &mut removal, 3, false);
+    replies(&rt, &removal, Reply::Kept(3));
+}
+
+#[test]
+fn removal_loses_to_another_removal(rt: HostRuntime) {
+    let mut removal = removal(&rt);
+    shows(&rt, &mut removal, 3, true);
+    buries(&rt, &mut removal, LIVE, BURIED, Answer::Found(BURIED));
+    replies(&rt, &removal, Reply::Absent);
+}
+
+/// A removal whose closure agreed to the pair 3, and that lost it to a replacement by the pair 12.
+fn lost_to_a_replacement(rt: &impl Abort) -> Machine
+    ensures { IsStanding result }
+{
+    let mut removal = removal(rt);
+    shows(rt, &mut removal, 3, true);
+    buries(rt, &mut removal, LIVE, BURIED, Answer::Found(LIVE_12));
+    compares(rt, &mut removal, 12, true);
+    removal
+}
+
+#[test]
+fn removal_shows_the_pair_that_it_lost_to(rt: HostRuntime) {
+    let mut removal = lost_to_a_replacement(&rt);
+    shows(&rt, &mut removal, 12, true);
+    buries(&rt, &mut removal, LIVE_12, BURIED_12, Answer::Exchanged);
+    told(&rt, &mut removal, Ask::AddToShard(-1), Answer::Ok);
+    replies(&rt, &removal, Reply::Removed(12));
+    let mut removal = lost_to_a_replacement(&rt);
+    shows(&rt, &mut removal, 12, false);
+    replies(&rt, &removal, Reply::Kept(12));
+}
+
+#[test]
+fn removal_of_an_absent_key(rt: HostRuntime) {
+    let mut removal = Machine::new(Task::RemoveIf, HASH, ResizeMode::Blocking, 1);
+    told(&rt, &mut removal, Ask::Load(At::Root), Answer::Word(0));
+    replies(&rt, &removal, Reply::Absent);
+    let mut removal = Machine::new(Task::RemoveIf, HASH, ResizeMode::Incremental(64), 1);
+    enters_root(&rt, &mut removal, 1);
+    loads(&rt, &mut removal, 1, 2, COPIED);
+    compares(&rt, &mut removal, 4, true);
+    told(&rt, &mut removal, Ask::Load(At::Next(1)), Answer::Word(2));
+    enters(&rt, &mut removal, 2);
+    loads(&rt, &mut removal, 2, 2, BURIED);
+    loads(&rt, &mut removal, 2, 3, EMPTY);
+    replies(&rt, &removal, Reply::Absent);
+}
+
+/// The machine shows its closure that its key is absent.
+fn shows_none(rt: &impl Abort, machine: &mut Machine, kind: OpKind)
+    requires { IsStanding machine.old }
+    ensures { IsStanding machine.new }
+{
+    is(rt, machine.kind(), None);
+    told(rt, machine, Ask::ShowNone, Answer::Op(kind));
+}
+
+/// The machine shows its closure a pair, and is told what to do with it.
+fn decides(rt: &impl Abort, machine: &mut Machine, pair: u64, kind: OpKind)
+    requires { IsStanding machine.old }
+    ensures { IsStanding machine.new }
+{
+    is(rt, machine.kind(), None);
+    told(rt, machine, Ask::ShowPair(pair), Answer::Op(kind));
+}
+
+/// The machine makes its key and the pair 12 of what its closure answered.
+fn makes_12(rt: &impl Abort, machine: &mut Machine)
+    requires { IsStanding machine.old }
+    ensures { IsStanding machine.new }
+{
+    is(rt, machine.kind(), None);
+    told(rt, machine, Ask::MakeKey, Answer::Made(11));
+    told(rt, machine, Ask::MakePair, Answer::Made(12));
+}
+
+/// The machine tries to put a pair into an empty slot of table 1.
+fn claims(rt: &impl Abort, machine: &mut Machine, slot: usize, new: u64, answer: Answer)
+    requires standing { IsStanding machine.old }
+    requires fit { IsFit answer }
+    ensures { IsStanding machine.new }
+{
+    is(rt, machine.kind(), Some(StepKind::Claim));
+    let ask = Ask::Exchange(At::Slot(1, slot), EMPTY, new);
+    told(rt, machine, ask, answer);
+}
+
+/// The machine tries to put a pair in place of the one at the first place of table 1.
+fn replaces(rt: &impl Abort, machine: &mut Machine, old: u64, new: u64, answer: Answer)
+    requires standing { IsStanding machine.old }
+    requires fit { IsFit answer }
+    ensures { IsStanding machine.new }
+{
+    is(rt, machine.kind(), Some(StepKind::Replace));
+    told(rt, machine, Ask::Exchange(At::Slot(1, 2), old, new), answer);
+}
+
+/// A compute that found no root.
+fn compute_of_no_table(rt: &impl Abort) -> Machine
+    ensures { IsStanding result }
+{
+    let mut compute = Machine::new(Task::Compute, HASH, ResizeMode::Blocking, 1);
+    told(rt, &mut compute, Ask::Load(At::Root), Answer::Word(0));
+    compute
+}
+
+#[test]
+fn compute_of_an_absent_key_changes_nothing(rt: HostRuntime) {
+    let mut compute = compute_of_no_table(&rt);
+    shows_none(&rt, &mut compute, OpKind::Abort(9));
+    replies(&rt, &compute, Reply::Aborted(9));
+    let mut compute = compute_of_no_table(&rt);
+    shows_none(&rt, &mut compute, OpKind::Remove);
+    replies(&rt, &compute, Reply::Refused(Refused::RemoveNothing));
+}
+
+/// The first table, which has 32 slots.
+fn enters_first(rt: &impl Abort, machine: &mut Machine)
+    requires { IsStanding machine.old }
+    ensures { IsStanding machine.new }
+{
+    let size = Answer::Size { len: 32, limit: 25 };
+    told(rt, machine, Ask::SizeOf(1), size);
+}
+
+#[test]
+fn compute_inserts_over_no_root(rt: HostRuntime) {
+    let mut compute = compute_of_no_table(&rt);
+    shows_none(&rt, &mut compute, OpKind::Insert);
+    makes_12(&rt, &mut compute);
+    let first = Ask::MakeTable { len: 32, limit: 25 };
+    told(&rt, &mut compute, first, Answer::Made(1));
+    let opens = Ask::Exchange(At::Root, 0, 1);
+    told(&rt, &mut compute, opens, Answer::Exchanged);
+    enters_first(&rt, &mut compute);
+    loads(&rt, &mut compute, 1, 2, EMPTY);
+    claims(&rt, &mut compute, 2, LIVE_12, Answer::Exchanged);
+    told(&rt, &mut compute, Ask::AddToShard(1), Answer::Ok);
+    replies(&rt, &compute, Reply::Inserted(12));
+}
+
+/// A compute that found the pair 3 of its key at the first place of table 1.
+fn compute(rt: &impl Abort) -> Machine
+    ensures { IsStanding result }
+{
+    let mut compute = Machine::new(Task::Compute, HASH, ResizeMode::Blocking, 1);
+    enters_root(rt, &mut compute, 1);
+    loads(rt, &mut compute, 1, 2, LIVE);
+    compares(rt, &mut compute, 3, true);
+    compute
+}
+
+#[test]
+fn compute_does_as_its_closure_answers(rt: HostRuntime) {
+    let mut aborted = compute(&rt);
+    decides(&rt, &mut aborted, 3, OpKind::Abort(9));
+    replies(&rt, &aborted, Reply::Aborted(9));
+    let mut replaced = compute(&rt);
+    decides(&rt, &mut replaced, 3, OpKind::Insert);
+    makes_12(&rt, &mut replaced);
+    replaces(&rt, &mut replaced, LIVE, LIVE_12, Answer::Exchanged);
+    replies(&rt, &replaced, Reply::Replaced { old: 3, new: 12 });
+    let mut removed = compute(&rt);
+    decides(&rt, &mut removed, 3, OpKind::Remove);
+    buries(&rt, &mut removed, LIVE, BURIED, Answer::Exchanged);
+    told(&rt, &mut removed, Ask::AddToShard(-1), Answer::Ok);
+    replies(&rt, &removed, Reply::Removed(3));
+}
+
+/// The claim is lost to a pair, and that one to another removal: the closure, which had answered
+/// what to insert, is not shown again that its key is absent.
+#[test]
+fn compute_remembers_what_it_inserts(rt: HostRuntime) {
+    let mut compute = Machine::new(Task::Compute, HASH, ResizeMode::Blocking, 1);
+    enters_root(&rt, &mut compute, 1);
+    loads(&rt, &mut compute, 1, 2, EMPTY);
+    shows_none(&rt, &mut compute, OpKind::Insert);
+    makes_12(&rt, &mut compute);
+    claims(&rt, &mut compute, 2, LIVE_12, Answer::Found(LIVE));
+    compares(&rt, &mut compute, 3, true);
+    decides(&rt, &mut compute, 3, OpKind::Remove);
+    buries(&rt, &mut compute, LIVE, BURIED, Answer::Found(BURIED));
+    loads(&rt, &mut compute, 1, 3, EMPTY);
+    claims(&rt, &mut compute, 3, LIVE_12, Answer::Exchanged);
+    told(&rt, &mut compute, Ask::AddToShard(1), Answer::Ok);
+    replies(&rt, &compute, Reply::Inserted(12));
+}
+
+/// A compute whose pair 12 was to take the place of the pair 3, and lost it.
+fn lost_to(rt: &impl Abort, word: u64) -> Machine
+    ensures { IsStanding result }
+{
+    let mut compute = compute(rt);
+    decides(rt, &mut compute, 3, OpKind::Insert);
+    makes_12(rt, &mut compute);
+    replaces(rt, &mut compute, LIVE, LIVE_12, Answer::Found(word));
+    compute
+}
+
+#[test]
+fn compute_asks_again_of_another_pair(rt: HostRuntime) {
+    let mut compute = lost_to(&rt, LIVE_4);
+    compares(&rt, &mut compute, 4, true);
+    decides(&rt, &mut compute, 4, OpKind::Insert);
+    told(&rt, &mut compute, Ask::MakePair, Answer::Made(13));
+    replaces(&rt, &mut compute, LIVE_4, LIVE_13, Answer::Exchanged);
+    replies(&rt, &compute, Reply::Replaced { old: 4, new: 13 });
+}
+
+#[test]
+fn compute_loses_its_pair_to_a_removal(rt: HostRuntime) {
+    let mut compute = lost_to(&rt, BURIED);
+    loads(&rt, &mut compute, 1, 3, EMPTY);
+    shows_none(&rt, &mut compute, OpKind::Insert);
+    told(&rt, &mut compute, Ask::MakePair, Answer::Made(13));
+    claims(&rt, &mut compute, 3, LIVE_13, Answer::Exchanged);
+    told(&rt, &mut compute, Ask::AddToShard(1), Answer::Ok);
+    replies(&rt, &compute, Reply::Inserted(13));
+}
+
+/// The pair 3 was copied meanwhile: in the next table the closure is not shown it again.
+#[test]
+fn compute_remembers_what_it_answered_to_a_pair(rt: HostRuntime) {
+    let mut compute = Machine::new(Task::Compute, HASH, ResizeMode::Incremental(64), 1);
+    enters_root(&rt, &mut compute, 1);
+    loads(&rt, &mut compute, 1, 2, LIVE);
+    compares(&rt, &mut compute, 3, true);
+    decides(&rt, &mut compute, 3, OpKind::Insert);
+    makes_12(&rt, &mut compute);
+    replaces(&rt, &mut compute, LIVE, LIVE_12, Answer::Found(COPIED_3));
+    compares(&rt, &mut compute, 3, true);
+    told(&rt, &mut compute, Ask::Load(At::Next(1)), Answer::Word(2));
+    enters(&rt, &mut compute, 2);
+    loads(&rt, &mut compute, 2, 2, LIVE);
+    compares(&rt, &mut compute, 3, true);
+    tries(
+        &rt,
+        &mut compute,
+        2,
+        LIVE,
+        StepKind::Replace,
+        Answer::Exchanged,
+    );
+    replies(&rt, &compute, Reply::Replaced { old: 3, new: 12 });
+}

@@ -1,0 +1,43 @@
+//! What is asked for of a new map, before anything is made.
+ghost use Rattle.std.specs.Prelude.{◌≡◌, ◌*◌, ◌^◌, ◌<◌, ◌≤◌, IfErr, IfOk, OnOk};
+ghost use Rattle.papaya_call.specs.Machine.{IsChunked};
+ghost use Rattle.papaya_call.specs.Search.{IsSize};
+ghost use Rattle.papaya_keys.specs.Sizes.{IsTooMuch};
+ghost use Rattle.papaya_words.specs.Probe.{IsEntriesFor};
+ghost use Rattle.papaya_words.specs.declared.limits.TheConstants.{MAX_TABLE_LEN};
+
+use papaya_words::limits::MAX_TABLE_LEN;
+use papaya_words::probe::{Refused, ResizeMode, entries_for, limit};
+use papaya_words::table::table_len;
+
+/// Refuses a chunk of no slots.
+pub fn check_chunk(mode: ResizeMode) -> Result<(), Refused>
+    ensures ok { OnOk result (IsChunked mode) }
+    ensures err { IfErr result (λ e. (e ≡ Refused.ZeroChunk) × (mode ≡ ResizeMode.Incremental 0)) }
+{
+    match mode {
+        ResizeMode::Incremental(0) => Err(Refused::ZeroChunk),
+        _ => Ok(()),
+    }
+}
+
+/// The initial capacity, in slots, of a map that is made for so many pairs.
+pub fn initial_len(capacity: usize) -> Result<usize, Refused>
+    ensures ok { IfOk result (λ initial. (capacity * 8 < 2 ^ 64) × IsEntriesFor capacity initial × (initial ≤ MAX_TABLE_LEN)) }
+    ensures err { IfErr result (λ e. (e ≡ Refused.Capacity) × IsTooMuch capacity) }
+{
+    let initial = entries_for(capacity)?;
+    if initial > MAX_TABLE_LEN {
+        return Err(Refused::Capacity);
+    }
+    Ok(initial)
+}
+
+/// The size of the first table of a map with this initial capacity.
+pub fn first_size(capacity: usize, initial: usize) -> (usize, usize)
+    requires { IsEntriesFor capacity initial × (initial ≤ MAX_TABLE_LEN) }
+    ensures { IsSize result.0 result.1 }
+{
+    let len = table_len(initial);
+    (len, limit(len))
+}

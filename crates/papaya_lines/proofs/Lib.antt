@@ -1,0 +1,4 @@
+pub mod CommandLemmas
+pub mod NumberLemmas
+pub mod PartLemmas
+pub mod TurnLemmas

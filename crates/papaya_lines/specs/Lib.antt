@@ -1,0 +1,9 @@
+pub mod Arguments
+pub mod Closures
+pub mod Commands
+pub mod Hashers
+pub mod Numbers
+pub mod Printed
+pub mod Replies
+pub mod Script
+pub mod Turns

@@ -1,0 +1,91 @@
+//! The program's arguments.
+ghost use Rattle.std.specs.Prelude.{◌≡◌, ◌≢◌, ℕ, List, map, string_bytes, MatchOption};
+ghost use Rattle.papaya_lines.specs.declared.arguments.Backend.{Backend};
+ghost use Rattle.papaya_words.specs.declared.probe.ResizeMode.{ResizeMode};
+ghost use Rattle.papaya_lines.specs.declared.arguments.Arguments.{Arguments};
+ghost use Rattle.papaya_lines.specs.declared.arguments.Hashing.{Hashing};
+ghost use Rattle.papaya_lines.specs.Arguments.{WritesArguments, WritesMode, backend_word, hashing_word};
+
+use crate::numbers::number_of;
+use papaya_words::probe::ResizeMode;
+
+/// What the lines run on.
+#[derive(Clone, Copy, Debug, PartialEq, Eq)]
+pub enum Backend {
+    /// Any number of callers on one map, a step at a time.
+    Core,
+    /// One caller, a whole call at a time.
+    Seq,
+    /// The map that threads share, by one pass, a whole call at a time.
+    Shared,
+}
+
+/// How keys are hashed.
+#[derive(Clone, Copy, Debug, PartialEq, Eq)]
+pub enum Hashing {
+    /// A key to itself.
+    Identity,
+    /// Every key to 0.
+    Zero,
+}
+
+/// What the arguments ask for.
+#[derive(Clone, Copy, Debug, PartialEq, Eq)]
+pub struct Arguments {
+    pub backend: Backend,
+    pub mode: ResizeMode,
+    pub hashing: Hashing,
+}
+
+/// The backend of this word.
+fn backend_of(word: &str) -> Option<Backend>
+    ensures { MatchOption result ((backend : Backend) → word.now ≢ backend_word backend) (λ backend. word.now ≡ backend_word backend) }
+{
+    match word {
+        "core" => Some(Backend::Core),
+        "seq" => Some(Backend::Seq),
+        "shared" => Some(Backend::Shared),
+        _ => None,
+    }
+}
+
+/// The mode of this word.
+fn mode_of(word: &[u8]) -> Option<ResizeMode>
+    ensures { MatchOption result ((mode : ResizeMode) → ¬ (WritesMode word.now mode)) (WritesMode word.now) }
+{
+    match word {
+        b"block" => Some(ResizeMode::Blocking),
+        [b'i', b'n', b'c', b':', chunk @ ..] => Some(ResizeMode::Incremental(
+            number_of(chunk)? as usize,
+        )),
+        _ => None,
+    }
+}
+
+/// The way to hash of this word.
+fn hashing_of(word: &str) -> Option<Hashing>
+    ensures { MatchOption result ((hashing : Hashing) → word.now ≢ hashing_word hashing) (λ hashing. word.now ≡ hashing_word hashing) }
+{
+    match word {
+        "id" => Some(Hashing::Identity),
+        "zero" => Some(Hashing::Zero),
+        _ => None,
+    }
+}
+
+impl Arguments {
+    /// The arguments behind the program's name, or None where they are bad. That a chunk is not 0
+    /// is for the map to see.
+    pub fn from_words(words: &[String]) -> Option<Arguments>
+        ensures { MatchOption result ((arguments : Arguments) → ¬ (WritesArguments (map string_bytes words.now) arguments)) (WritesArguments (map string_bytes words.now)) }
+    {
+        match words {
+            [backend, mode, hashing] => Some(Arguments {
+                backend: backend_of(backend.as_str())?,
+                mode: mode_of(mode.as_bytes())?,
+                hashing: hashing_of(hashing.as_str())?,
+            }),
+            _ => None,
+        }
+    }
+}

@@ -1,0 +1,28 @@
+//! What the closures of a script's calls answer.
+ghost use Rattle.std.specs.Prelude.{◌≡◌, ℕ, Option, Bool, true, option_map};
+ghost use Rattle.papaya_call.specs.declared.answers.Operation.{Operation};
+ghost use Rattle.papaya_lines.specs.Closures.{operation_of};
+
+use papaya_call::answers::{Answers, Operation};
+
+/// The closures of a script: a removal agrees to what it is shown, and an update adds 1 to the value
+/// that it is shown, where 0 follows the greatest.
+#[derive(Clone, Copy, Debug, PartialEq, Eq)]
+pub struct Answering;
+
+impl Answers<u64, u64> for Answering {
+    ghost op_gives = { λ s shown answer t. answer ≡ operation_of shown };
+
+    ghost yes_gives = { λ s key value answer t. answer ≡ true };
+
+    fn op(&mut self, shown: Option<(&u64, &u64)>) -> Operation<u64, u64> {
+        match shown {
+            Some((_, value)) => Operation::Insert(value.wrapping_add(1)),
+            None => Operation::Abort(0),
+        }
+    }
+
+    fn yes(&mut self, _key: &u64, _value: &u64) -> bool {
+        true
+    }
+}

@@ -1,0 +1,47 @@
+//! The text of a reply.
+use papaya_words::probe::Refused;
+use std::fmt;
+
+/// What is printed of a reply.
+#[derive(Clone, Copy, Debug, PartialEq, Eq)]
+pub enum Printed {
+    /// There is no such pair, or there was none.
+    Absent,
+    /// The value that a lookup found.
+    Found(u64),
+    /// The value that an insertion replaced.
+    Old(u64),
+    /// The value that an update stored.
+    New(u64),
+    /// The value that a removal took out.
+    Removed(u64),
+    /// How many pairs there are.
+    Length(usize),
+    /// How many slots the root table has.
+    Slots(usize),
+    /// Why the call changed nothing.
+    Refused(Refused),
+}
+
+impl fmt::Display for Printed {
+    ghost use Rattle.std.specs.Prelude.{Some};
+    ghost use Rattle.papaya_lines.specs.Printed.{text_of};
+
+    ghost output = { λ printed. Some (text_of printed) };
+
+    fn fmt<W: fmt::Write>(&self, f: &mut fmt::Formatter<W>) -> fmt::Result {
+        match *self {
+            Printed::Absent => f.write_str("none"),
+            Printed::Found(value) => write!(f, "some {value}"),
+            Printed::Old(value) => write!(f, "old {value}"),
+            Printed::New(value) => write!(f, "new {value}"),
+            Printed::Removed(value) => write!(f, "removed {value}"),
+            Printed::Length(count) => write!(f, "len {count}"),
+            Printed::Slots(count) => write!(f, "slots {count}"),
+            Printed::Refused(refused) => {
+                let number = refused.number();
+                write!(f, "refused {number} {refused}")
+            }
+        }
+    }
+}

@@ -1,0 +1,95 @@
+//! A whole script: the turns that its lines ask for.
+ghost use Rattle.std.specs.Prelude.{◌≡◌, OnOk};
+ghost use Rattle.papaya_lines.specs.Script.{Adds, line_of};
+
+use crate::closures::Answering;
+use crate::lines::next_line;
+use crate::turns::turn_of;
+use papaya_call::call::Call;
+use papaya_core::trace::Turn;
+use papaya_shell::failure::Failure;
+use std::alloc::Global;
+use std::io::BufRead;
+
+/// What a line has its caller do, as far as what is printed hangs on it.
+#[derive(Clone, Copy, Debug, PartialEq, Eq)]
+pub enum Part {
+    /// It begins an update, of whose reply the new value is printed.
+    Update,
+    /// It begins another call.
+    Call,
+    Step,
+    /// It says so where its call is still running.
+    Finish,
+}
+
+/// The line that a turn was read from.
+#[derive(Clone, Copy, Debug)]
+pub struct Line {
+    /// Counted from 1, empty lines among them.
+    pub number: u64,
+    pub caller: usize,
+    pub part: Part,
+}
+
+/// The line of this number, which asks for this turn.
+fn line_of(number: u64, turn: &Turn<u64, u64, Answering>) -> Line
+    ensures { result ≡ line_of number turn.now }
+{
+    let (caller, part) = match turn {
+        Turn::Begin(caller, Call::Compute(..)) => (*caller, Part::Update),
+        Turn::Begin(caller, _) => (*caller, Part::Call),
+        Turn::Step(caller, _) => (*caller, Part::Step),
+        Turn::Finish(caller, _) => (*caller, Part::Finish),
+    };
+    Line {
+        number,
+        caller,
+        part,
+    }
+}
+
+/// A whole script, up to its first line of bad form.
+#[derive(Drop)]
+pub struct Script {
+    pub turns: Vec<Turn<u64, u64, Answering>>,
+    /// The line of each turn, in order.
+    pub lines: Vec<Line>,
+    /// The number of the first line of bad form.
+    pub bad_line: Option<u64>,
+}
+
+impl Script {
+    /// Reads the whole input, also behind a bad line, since a fault there counts too.
+    pub fn read<R: BufRead>(alloc: Global, input: &mut R) -> Result<Script, Failure> {
+        let mut script = Script {
+            turns: Vec::new(alloc),
+            lines: Vec::new(alloc),
+            bad_line: None,
+        };
+        let mut line = Vec::new(alloc);
+        for number in 1..u64::MAX {
+            if !next_line(input, &mut line)? {
+                return Ok(script);
+            }
+            if script.bad_line.is_none() && !line.is_empty() {
+                script.add(number, &line)?;
+            }
+        }
+        Err(Failure::Input)
+    }
+
+    /// Adds a line that is not empty, or notes that it is of bad form.
+    fn add(&mut self, number: u64, line: &[u8]) -> Result<(), Failure>
+        ensures { OnOk result (Adds self.old number line.now self.new) }
+    {
+        let Some(turn) = turn_of(line) else {
+            self.bad_line = Some(number);
+            return Ok(());
+        };
+        let line = line_of(number, &turn);
+        self.turns.push(turn)?;
+        self.lines.push(line)?;
+        Ok(())
+    }
+}

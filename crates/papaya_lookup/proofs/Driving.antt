@@ -1,0 +1,260 @@
+-- What a machine rests on makes its exchanges possible, and what the calls of a book tell is what machines are to be told.
+use Rattle.std.proofs.Common.{◌≡◌, inl, inr, ℕ, Bool, true, Option, None, Some, List, ◌++◌, refl, sym, ap, ◌∙◌, subst, append_assoc}
+use Rattle.papaya_words.specs.Word.{pair_of, live_word, marked_word, copied_word, buried_word, top_byte}
+use Rattle.std.specs.Cmp.{IsEquivalence}
+use mathlib.Core.List.{IsPrefix}
+use Rattle.papaya_call.specs.declared.ask.At.{At}
+use Rattle.papaya_call.specs.declared.ask.At.TheVariants.{Root, Next, Aborted, Done, Slot}
+use Rattle.papaya_call.specs.declared.ask.Ask.TheVariants.{Exchange as Ask_exchange}
+use Rattle.papaya_call.specs.declared.ask.Answer.{Answer}
+use Rattle.papaya_call.specs.declared.ask.StepKind.{StepKind}
+use Rattle.papaya_call.specs.declared.ask.StepKind.TheVariants as kinds
+use Rattle.papaya_call.specs.declared.machine.Machine.{Machine}
+use Rattle.papaya_call.specs.Machine.{after, ask_of, kind_of_ask}
+use Rattle.papaya_law.specs.Allows.{AllAllowed, Allows}
+use Rattle.papaya_law.specs.Class.{IsOn}
+use Rattle.papaya_law.specs.Exchange.{Exchange, Setting, State, Word, Empty, Closed, Live, Marked, Copied, Buried, after as after_exchange, run, start}
+use Rattle.papaya_law.specs.Code.{Coding, byte_of_pair, code}
+use Rattle.papaya_law.specs.Grows.{Agrees}
+use Rattle.papaya_rests.specs.Rests.{Rests}
+use Rattle.papaya_rests.specs.Told.{Hands, IsAsked, IsOneOf, IsOwnWord, IsTold, IsWritten, word_of}
+use Rattle.papaya_law.proofs.Alike.{alike_back, allows_alike}
+use Rattle.papaya_law.proofs.Further.{key_agrees, key_alike}
+use Rattle.papaya_rests.proofs.FurtherWords.{key_word}
+use Rattle.papaya_law.proofs.Moments.{allowed_first}
+use Rattle.papaya_rests.proofs.RestsExchange.{machine_may}
+use Rattle.papaya_rests.proofs.RestsLearn.{machine_learns}
+use Rattle.papaya_rests.proofs.RestsStay.{rests_stays}
+use Rattle.papaya_rests.proofs.RestsTables.{rests_carries}
+use Rattle.papaya_book.specs.declared.rule.entry.Begun.{Begun}
+use Rattle.papaya_book.specs.declared.rule.entry.Named.TheVariants as names
+use Rattle.papaya_book.specs.declared.rule.entry.Step.TheVariants as steps
+use Rattle.papaya_book.specs.declared.rule.entry.Event.{Event}
+use Rattle.papaya_book.specs.Hashes.{hash_of}
+use Rattle.papaya_lookup.specs.History.{key_of}
+use Rattle.papaya_book.specs.Logs.{Stored, coding_of, exchanges_of, setting_of, state_of}
+use Rattle.papaya_book.specs.Plays.{CanExchange, IsPutting, MayStep, made_list}
+use Rattle.papaya_book.specs.Rule.{IsLawfulLog, word_in}
+use Rattle.papaya_book.proofs.Logs.{exchanges_of-append}
+use Rattle.papaya_lookup.proofs.Namesakes.{claimed_instead, replaced_instead, written_instead}
+use Rattle.papaya_lookup.proofs.Readings.{IsQuery, allowed_with, coding, fed, hashed_with, setting}
+use Rattle.papaya_book.proofs.Settings.{agrees_later}
+
+-- the one pair that a call made
+pub one_made : {P : Type 0} (made : Option P) (q : P) → IsOneOf (made_list made) q → made ≡ Some q
+one_made None q one = absurd one
+one_made (Some p) q (inl is) = ap Some (sym is)
+one_made (Some p) q (inr one) = absurd one
+
+-- and it is one of those made
+pub is_made : {P : Type 0} (made : Option P) (q : P) → made ≡ Some q → IsOneOf (made_list made) q
+is_made made q is = subst (λ o. IsOneOf (made_list o) q) (sym is) (inl refl)
+
+module _ {K K' P : Type 0} (c : Coding K P) (c' : Coding K' P) (numbers : (p : P) → c.number p ≡ c'.number p) (hands hands' : Hands P) (made : (q : P) → IsOneOf hands.made q → IsOneOf hands'.made q) where
+  own_word : (new : ℕ) (q : P) → IsOwnWord c hands new q → IsOwnWord c' hands' new q
+  own_word new q own = record { made = made q own.made; named = sym (numbers q) ∙ own.named }
+
+  -- what a machine asks for depends on the pairs that it made and on their numbers, and not on the pair last loaded
+  pub asked_by_made : (kind : Option StepKind) (at : At) (new : ℕ) (s : State P) (e : Exchange P) → IsAsked c kind at new s hands e → IsAsked c' kind at new s hands' e
+  asked_by_made None at new s e a = absurd a
+  asked_by_made (Some kinds.Open) Root new s e a = a
+  asked_by_made (Some kinds.Open) (Next t) new s e a = absurd a
+  asked_by_made (Some kinds.Open) (Aborted t) new s e a = absurd a
+  asked_by_made (Some kinds.Open) (Done t) new s e a = absurd a
+  asked_by_made (Some kinds.Open) (Slot t x) new s e a = absurd a
+  asked_by_made (Some kinds.Claim) Root new s e a = absurd a
+  asked_by_made (Some kinds.Claim) (Next t) new s e a = absurd a
+  asked_by_made (Some kinds.Claim) (Aborted t) new s e a = absurd a
+  asked_by_made (Some kinds.Claim) (Done t) new s e a = absurd a
+  asked_by_made (Some kinds.Claim) (Slot t x) new s e a = (a.0, own_word new a.0 a.1, a.2)
+  asked_by_made (Some kinds.Replace) Root new s e a = absurd a
+  asked_by_made (Some kinds.Replace) (Next t) new s e a = absurd a
+  asked_by_made (Some kinds.Replace) (Aborted t) new s e a = absurd a
+  asked_by_made (Some kinds.Replace) (Done t) new s e a = absurd a
+  asked_by_made (Some kinds.Replace) (Slot t x) new s e a = (a.0, a.1, a.2, own_word new a.1 a.3, a.4)
+  asked_by_made (Some kinds.Bury) Root new s e a = absurd a
+  asked_by_made (Some kinds.Bury) (Next t) new s e a = absurd a
+  asked_by_made (Some kinds.Bury) (Aborted t) new s e a = absurd a
+  asked_by_made (Some kinds.Bury) (Done t) new s e a = absurd a
+  asked_by_made (Some kinds.Bury) (Slot t x) new s e a = a
+  asked_by_made (Some kinds.Link) at new s e a = absurd a
+  asked_by_made (Some kinds.Mark) at new s e a = absurd a
+  asked_by_made (Some kinds.Close) at new s e a = absurd a
+  asked_by_made (Some kinds.Place) at new s e a = absurd a
+  asked_by_made (Some kinds.Finish) at new s e a = absurd a
+  asked_by_made (Some kinds.Advance) at new s e a = absurd a
+  asked_by_made (Some kinds.Promote) at new s e a = absurd a
+  asked_by_made (Some kinds.Abort) at new s e a = absurd a
+
+-- the word that stands at a place is the same in all settings whose pairs have the same keys
+word_same : {K P : Type 0} (g g' : Setting K P) (c : Coding K P) → ((p : P) → g'.key p ≡ g.key p) → (s : State P) (at : At) → word_of g' c s at ≡ word_of g c s at
+word_same g g' c same s Root = refl
+word_same g g' c same s (Next t) = refl
+word_same g g' c same s (Aborted t) = refl
+word_same g g' c same s (Done t) = refl
+word_same g g' c same s (Slot t x) = code_same g g' c same (s.slot t x)
+  where
+    byte_same : {K P : Type 0} (g g' : Setting K P) (c : Coding K P) → ((p : P) → g'.key p ≡ g.key p) → (p : P) → byte_of_pair g' c p ≡ byte_of_pair g c p
+    byte_same g g' c same p = ap (λ z. top_byte (c.hash z)) (same p)
+
+    code_same : {K P : Type 0} (g g' : Setting K P) (c : Coding K P) → ((p : P) → g'.key p ≡ g.key p) → (w : Word P) → code g' c w ≡ code g c w
+    code_same g g' c same Empty = refl
+    code_same g g' c same Closed = refl
+    code_same g g' c same (Live p) = ap (λ z. live_word z (c.number p)) (byte_same g g' c same p)
+    code_same g g' c same (Marked p) = ap (λ z. marked_word z (c.number p)) (byte_same g g' c same p)
+    code_same g g' c same (Copied p) = ap (λ z. copied_word z (c.number p)) (byte_same g g' c same p)
+    code_same g g' c same (Buried p) = ap (λ z. buried_word z (c.number p)) (byte_same g g' c same p)
+
+module _ {K V S H : Type 0} (eq : K → K → Bool) (input : K → List (List ℕ)) (build : S → H) (write : H → List ℕ → H) (finish : H → ℕ) (classes : IsEquivalence eq) (respects : (x y : K) → eq x y ≡ true → input x ≡ input y)
+    (b : Begun K V S) (matches : K → Bool) (query : List (List ℕ)) (lawful : IsQuery eq input matches query) (k : Option K) (begun : List (Exchange (Stored K V))) where
+  abbrev hash : S → K → ℕ
+  hash = hash_of input build write finish
+
+  abbrev fed_to : ℕ
+  fed_to = fed eq input build write finish classes respects b matches query lawful
+
+  -- the settings of a log, with what is called by as a further key and without it
+  abbrev pub wide : List (Event K V S) → Setting (Option K) (Stored K V)
+  wide log = setting eq input build write finish classes respects b matches query lawful log
+
+  abbrev plain : List (Event K V S) → Setting K (Stored K V)
+  plain log = setting_of eq (hash b.hasher) b.mode log
+
+  abbrev pub coded : Coding (Option K) (Stored K V)
+  coded = coding eq input build write finish classes respects b matches query lawful
+
+  abbrev c : Coding K (Stored K V)
+  c = coding_of (hash b.hasher)
+
+  -- a machine rests on the exchanges of a log, since its call began
+  pub record IsResting (log : List (Event K V S)) (m : Machine) (hands : Hands (Stored K V)) : Type 0 where
+    pub since : List (Exchange (Stored K V))
+    pub is : begun ++ since ≡ exchanges_of log
+    pub rests : Rests (wide log) coded begun since k m hands
+
+  -- the word that stands at a place, in the wide setting of any log
+  pub word_wide : (log log' : List (Event K V S)) (at : At) → word_of (wide log') coded (state_of log) at ≡ word_in eq hash b log at
+  word_wide log log' at = key_word (plain log') matches fed_to c (state_of log) at ∙ word_same (plain log) (plain log') c (λ p. refl) (state_of log) at
+
+  module _ (log : List (Event K V S)) (l : IsLawfulLog eq hash b log) (m : Machine) (hands : Hands (Stored K V)) (r : IsResting log m hands) (log' : List (Event K V S)) (l' : IsLawfulLog eq hash b log') (pre : IsPrefix log log') where
+    -- what has come since
+    abbrev more : List (Exchange (Stored K V))
+    more = exchanges_of pre.0
+
+    longer : begun ++ (r.since ++ more) ≡ exchanges_of log'
+    longer = sym (append_assoc begun r.since more) ∙ (ap (λ (z : List (Exchange (Stored K V))). z ++ more) r.is ∙ (sym (exchanges_of-append log pre.0) ∙ ap exchanges_of pre.1))
+
+    -- the longer log's tables are no matter
+    carried : Rests (wide log') coded begun r.since k m hands
+    carried =
+        let On = IsOn (state_of log).first (state_of log).next in
+        let agree : Agrees On (wide log) (wide log') = key_agrees On (plain log) (plain log') (agrees_later eq input build write finish classes respects b log l log' pre) matches fed_to in
+        let agree' : Agrees (IsOn (run (begun ++ r.since) start).first (run (begun ++ r.since) start).next) (wide log) (wide log') =
+        subst (λ (z : List (Exchange (Stored K V))). Agrees (IsOn (run z start).first (run z start).next) (wide log) (wide log')) (sym r.is) agree in
+        rests_carries (wide log) (wide log') coded (hashed_with eq input build write finish classes respects b matches query lawful log l) begun r.since
+        (subst (AllAllowed (wide log) start) (sym r.is) (allowed_with eq input build write finish classes respects b matches query lawful log l)) k agree' m hands r.rests
+
+    may_longer : AllAllowed (wide log') start (begun ++ (r.since ++ more))
+    may_longer = subst (AllAllowed (wide log') start) (sym longer) (allowed_with eq input build write finish classes respects b matches query lawful log' l')
+
+    -- it rests on the longer log too
+    pub resting_later : IsResting log' m hands
+    resting_later = record {
+      since = r.since ++ more;
+      is = longer;
+      rests = rests_stays (wide log') coded (hashed_with eq input build write finish classes respects b matches query lawful log' l') begun r.since more may_longer k m hands carried;
+    }
+
+    -- it is told of the log's words, with which the log grew
+    pub resting_told : (answer : Answer) (hands' : Hands (Stored K V)) → IsTold (wide log') coded k (state_of log) (kind_of_ask m) hands (ask_of m) answer more hands' → IsResting log' (after m answer) hands'
+    resting_told answer hands' told =
+        let first : AllAllowed (wide log') start (begun ++ r.since) = allowed_first (wide log') (begun ++ r.since) more start (subst (AllAllowed (wide log') start) (sym (append_assoc begun r.since more)) may_longer) in
+        let told' : IsTold (wide log') coded k (run (begun ++ r.since) start) (kind_of_ask m) hands (ask_of m) answer more hands' =
+        subst (λ (z : List (Exchange (Stored K V))). IsTold (wide log') coded k (run z start) (kind_of_ask m) hands (ask_of m) answer more hands') (sym r.is) told in
+        let all = machine_learns (wide log') coded (hashed_with eq input build write finish classes respects b matches query lawful log' l') begun r.since first k m hands carried answer more hands' told' in
+        record { since = r.since ++ more; is = longer; rests = all.1 }
+
+  -- An exchange that a machine asked for may come next after this log, and writes the new word.
+  record IsGranted (log : List (Event K V S)) (kind : Option StepKind) (hands : Hands (Stored K V)) (at : At) (new : ℕ) : Type 0 where
+    pub by : Exchange (Stored K V)
+    pub asked : IsAsked coded kind at new (state_of log) hands by
+    pub allowed : Allows (plain log) (state_of log) by
+    pub written : IsWritten (plain log) c (state_of log) at new (after_exchange (state_of log) by)
+
+  -- so may what a machine asks for, whenever the old word stands there
+  can_exchange : (v : List (Event K V S)) → IsLawfulLog eq hash b v → (m : Machine) (hands : Hands (Stored K V)) → IsResting v m hands → (at : At) (old new : ℕ) → ask_of m ≡ Ask_exchange at old new
+      → (log : List (Event K V S)) → IsPrefix v log → IsLawfulLog eq hash b log → word_in eq hash b log at ≡ old → IsGranted log (kind_of_ask m) hands at new
+  can_exchange v l m hands r at old new asks log pre l' stands =
+      let now = resting_later v l m hands r log l' pre in
+      let hashed = hashed_with eq input build write finish classes respects b matches query lawful log l' in
+      let may = subst (AllAllowed (wide log) start) (sym now.is) (allowed_with eq input build write finish classes respects b matches query lawful log l') in
+      let there : word_of (wide log) coded (run (begun ++ now.since) start) at ≡ old =
+      subst (λ (z : List (Exchange (Stored K V))). word_of (wide log) coded (run z start) at ≡ old) (sym now.is) (word_wide log log at ∙ stands) in
+      let done = machine_may (wide log) coded hashed begun now.since may k m hands now.rests at old new asks there in
+      let by = done.0 in
+      let wide_allows : Allows (wide log) (state_of log) by = subst (λ (z : List (Exchange (Stored K V))). Allows (wide log) (run z start) by) now.is done.2 in
+      let written : IsWritten (wide log) coded (state_of log) at new (after_exchange (state_of log) by) = subst (λ (z : List (Exchange (Stored K V))). IsWritten (wide log) coded (run z start) at new (after_exchange (run z start) by)) now.is done.3 in
+      let same = λ (s : State (Stored K V)). λ (at' : At). key_word (plain log) matches fed_to c s at' in record {
+        by = by;
+        asked = subst (λ (z : List (Exchange (Stored K V))). IsAsked coded (kind_of_ask m) at new (run z start) hands by) now.is done.1;
+        allowed = allows_alike (wide log) (plain log) (alike_back (plain log) (wide log) (key_alike (plain log) matches fed_to)) (state_of log) by wide_allows;
+        written = record {
+          here = sym (same (after_exchange (state_of log) by) at) ∙ written.here;
+          others = λ other differs. sym (same (after_exchange (state_of log) by) other) ∙ (written.others other differs ∙ same (state_of log) other);
+        };
+      }
+
+  -- the pairs that a call made have one key
+  one_key : (log : List (Event K V S)) (m : Machine) (hands : Hands (Stored K V)) → IsResting log m hands → (p q : Stored K V) → IsOneOf hands.made p → IsOneOf hands.made q → key_of p ≡ key_of q
+  one_key log m hands r p q one other = let both : Some (key_of p) ≡ Some (key_of q) = r.rests.made.keys p one ∙ sym (r.rests.made.keys q other) in cc both
+
+  module _ (log : List (Event K V S)) (hands : Hands (Stored K V)) (t x new : ℕ) where
+    -- a pair that the call made is put in, where one of its number was asked for
+    module _ (q : Stored K V) (number : pair_of new ≡ q.index) (keys : (p : Stored K V) → IsOneOf hands.made p → key_of p ≡ key_of q) where
+      abbrev MayPut : Option StepKind → Type 0
+      MayPut kind = MayStep eq hash b (Slot t x) kind new (Some q) (names.Pair q) log
+
+      may_claim : IsGranted log (Some kinds.Claim) hands (Slot t x) new → MayPut (Some kinds.Claim)
+      may_claim g =
+          let p = g.asked.0 in let own = g.asked.1 in let is = g.asked.2 in let key = keys p own.made in record {
+            step = steps.Claim t x q;
+            meant = record { asked = (q, record { made = inl refl; named = sym number }, refl); with_it = refl };
+            allowed = claimed_instead (plain log) c p q key (own.named ∙ number) (state_of log) t x (subst (Allows (plain log) (state_of log)) is g.allowed);
+            written = written_instead (plain log) c p q key (own.named ∙ number) (state_of log) t x (Slot t x) new (subst (λ (e : Exchange (Stored K V)). IsWritten (plain log) c (state_of log) (Slot t x) new (after_exchange (state_of log) e)) is g.written);
+          }
+
+      may_replace : IsGranted log (Some kinds.Replace) hands (Slot t x) new → MayPut (Some kinds.Replace)
+      may_replace g =
+          let r = g.asked.0 in let p = g.asked.1 in let live = g.asked.2 in let own = g.asked.3 in let is = g.asked.4 in let key = keys p own.made in record {
+            step = steps.Replace t x r q;
+            meant = record { asked = (r, q, live, record { made = inl refl; named = sym number }, refl); with_it = refl };
+            allowed = replaced_instead (plain log) c p q key (own.named ∙ number) (state_of log) t x r (subst (Allows (plain log) (state_of log)) is g.allowed);
+            written = written_instead (plain log) c p q key (own.named ∙ number) (state_of log) t x (Slot t x) new (subst (λ (e : Exchange (Stored K V)). IsWritten (plain log) c (state_of log) (Slot t x) new (after_exchange (state_of log) e)) is g.written);
+          }
+
+      may_put : (kind : Option StepKind) → IsPutting kind → IsGranted log kind hands (Slot t x) new → MayPut kind
+      may_put kind (inl is) g = subst MayPut (sym is) (may_claim (subst (λ (z : Option StepKind). IsGranted log z hands (Slot t x) new) is g))
+      may_put kind (inr is) g = subst MayPut (sym is) (may_replace (subst (λ (z : Option StepKind). IsGranted log z hands (Slot t x) new) is g))
+
+    -- a pair is taken out
+    abbrev MayBury : Option StepKind → Type 0
+    MayBury kind = MayStep eq hash b (Slot t x) kind new None names.Nothing log
+
+    may_bury : (kind : Option StepKind) → kind ≡ Some kinds.Bury → IsGranted log kind hands (Slot t x) new → MayBury kind
+    may_bury kind is granted =
+        let g = subst (λ (z : Option StepKind). IsGranted log z hands (Slot t x) new) is granted in
+        let p = g.asked.0 in let by = g.asked.2 in subst MayBury (sym is) (record {
+          step = steps.Bury t x p;
+          meant = record { asked = (p, g.asked.1, refl); with_it = refl };
+          allowed = subst (Allows (plain log) (state_of log)) by g.allowed;
+          written = subst (λ (e : Exchange (Stored K V)). IsWritten (plain log) c (state_of log) (Slot t x) new (after_exchange (state_of log) e)) by g.written;
+        })
+
+  module _ (v : List (Event K V S)) (l : IsLawfulLog eq hash b v) (m : Machine) (hands : Hands (Stored K V)) (r : IsResting v m hands) (t x old new : ℕ) (asks : ask_of m ≡ Ask_exchange (Slot t x) old new) where
+    -- An exchange that puts a pair in may be tried with any pair that the call made and that has the number asked for.
+    pub can_put : IsPutting (kind_of_ask m) → (q : Stored K V) → IsOneOf hands.made q → pair_of new ≡ q.index → CanExchange eq hash b (Slot t x) (kind_of_ask m) old new (Some q) (names.Pair q) v
+    can_put kind q one number log pre l' stands = may_put log hands t x new q number (λ p own. one_key v m hands r p q own one) (kind_of_ask m) kind (can_exchange v l m hands r (Slot t x) old new asks log pre l' stands)
+
+    -- An exchange that takes a pair out may be tried with no pair, whatever the call has made.
+    pub can_bury : kind_of_ask m ≡ Some kinds.Bury → CanExchange eq hash b (Slot t x) (kind_of_ask m) old new None names.Nothing v
+    can_bury kind log pre l' stands = may_bury log hands t x new (kind_of_ask m) kind (can_exchange v l m hands r (Slot t x) old new asks log pre l' stands)

@@ -1,0 +1,13 @@
+-- what machines are told
+pub mod AskedPairs
+pub mod Namesakes
+pub mod Driving
+pub mod Replies
+-- lookups
+pub mod Lookups
+pub mod Histories
+pub mod Readings
+pub mod Answering
+pub mod Comparing
+pub mod Moments
+pub mod LookupReplies

@@ -1,0 +1,96 @@
+-- What a lookup replies is the answer of a history between the two that its pass has seen.
+use Rattle.std.proofs.Common.{◌≡◌, ℕ, Bool, true, Option, None, Some, List, refl, ap, ◌∙◌, subst}
+use Rattle.std.specs.Cmp.{IsEquivalence}
+use mathlib.Core.List.{IsPrefix}
+use denote.Bor.{Bor}
+use Rattle.papaya_call.specs.declared.ask.Ask.TheVariants.{Done}
+use Rattle.papaya_call.specs.declared.call.Reply.{Reply}
+use Rattle.papaya_call.specs.declared.call.Reply.TheVariants.{Absent, Found, Inserted, Replaced, Occupied, Removed, Kept, Aborted, Refused}
+use Rattle.papaya_call.specs.declared.call.Task.TheVariants.{Get}
+use Rattle.papaya_call.specs.declared.machine.Machine.{Machine}
+use Rattle.papaya_call.specs.declared.machine.State.{State as Stage}
+use Rattle.papaya_call.specs.declared.machine.State.TheVariants.{AtRoot, Making, Opening, Searching, Writing, Offering, Showing, Pairing, Putting, Burying, Counting, Uncounting, Leaving, Growing, Ended}
+use Rattle.papaya_call.specs.declared.search.Search.TheVariants.{Sizing, Looking, Comparing}
+use Rattle.papaya_call.specs.declared.write.Made.{Made}
+use Rattle.papaya_law.specs.Code.{Coding}
+use Rattle.papaya_law.specs.Exchange.{Exchange, Setting}
+use Rattle.papaya_call.specs.Machine.{IsStanding, IsStandingState, ask_of, asks}
+use Rattle.papaya_rests.specs.Rests.{IsReply, RestsStage, WasAtMoment}
+use Rattle.papaya_rests.specs.Told.{Hands}
+use Rattle.papaya_book.specs.Sheets.{Sheet}
+use Rattle.papaya_book.specs.declared.rule.entry.Begun.{Begun}
+use Rattle.papaya_book.specs.declared.rule.entry.Event.{Event}
+use Rattle.papaya_book.specs.Hashes.{hash_of}
+use Rattle.papaya_lookup.specs.History.{history_of}
+use Rattle.papaya_book.specs.Logs.{Stored, exchanges_of}
+use Rattle.papaya_lookup.specs.Answers.{IsAnsweredBetween}
+use Rattle.papaya_lookup.proofs.Answering.{Reading, stands_get}
+use Rattle.papaya_lookup.proofs.Moments.{IsHistory, matched_history}
+use Rattle.papaya_lookup.proofs.Readings.{IsQuery, coding, setting}
+
+-- a machine that has replied is at its end
+done_state : (made : Made) (hash : ℕ) (s : Stage) → IsStandingState Get s → (reply : Reply) → asks made hash s ≡ Done reply → s ≡ Ended reply
+done_state made hash AtRoot stands reply e = absurd cc
+done_state made hash Making stands reply e = absurd stands
+done_state made hash (Opening u) stands reply e = absurd stands
+done_state made hash (Searching (Sizing u)) stands reply e = absurd cc
+done_state made hash (Searching (Looking at)) stands reply e = absurd cc
+done_state made hash (Searching (Comparing at word)) stands reply e = absurd cc
+done_state made hash (Writing write) stands reply e = absurd stands.0
+done_state made hash (Offering gap) stands reply e = absurd stands.0
+done_state made hash (Showing removal) stands reply e = absurd stands.0
+done_state made hash (Pairing purpose) stands reply e = absurd stands.0
+done_state made hash (Putting put) stands reply e = absurd stands.0
+done_state made hash (Burying removal) stands reply e = absurd stands.0
+done_state made hash (Counting n) stands reply e = absurd stands
+done_state made hash (Uncounting n) stands reply e = absurd stands
+done_state made hash (Leaving u) stands reply e = absurd cc
+done_state made hash (Growing u) stands reply e = absurd stands
+done_state made hash (Ended other) stands reply e = let is : other ≡ reply = cc e in ap Ended is
+
+module _ {K P : Type 0} (g : Setting K P) (c : Coding K P) (begun since : List (Exchange P)) (k : K) (hands : Hands P) where
+  -- a lookup replies that its key was absent at a moment, or that it found a pair
+  get_reply : (reply : Reply) → IsReply g c begun since k hands Get reply → ((n : ℕ) → reply ≡ Found n → ⊥) → WasAtMoment g c begun since k None
+  get_reply Absent r none = r
+  get_reply (Found n) r none = absurd (none n refl)
+  get_reply (Inserted n) r none = absurd r
+  get_reply (Replaced m n) r none = absurd r
+  get_reply (Occupied n) r none = absurd r
+  get_reply (Removed n) r none = absurd r
+  get_reply (Kept n) r none = absurd r
+  get_reply (Aborted t) r none = absurd r
+  get_reply (Refused refused) r none = absurd r
+
+module _ {K V S H : Type 0} (eq : K → K → Bool) (input : K → List (List ℕ)) (build : S → H) (write : H → List ℕ → H) (finish : H → ℕ) (classes : IsEquivalence eq) (respects : (x y : K) → eq x y ≡ true → input x ≡ input y)
+    (b : Begun K V S) (matches : K → Bool) (query : List (List ℕ)) (lawful : IsQuery eq input matches query) (old began : List (Event K V S)) (pre : IsPrefix old began)
+    (log : List (Event K V S)) (m : Machine) (table : Option (Bor Sheet)) (pair : Option (Stored K V)) (r : Reading eq input build write finish classes respects b matches query lawful (exchanges_of began) log m table pair) (stands : IsStanding m) where
+  abbrev hash : S → K → ℕ
+  hash = hash_of input build write finish
+
+  -- the history at a moment of the call
+  history_then : (value : Option (Stored K V)) → WasAtMoment (setting eq input build write finish classes respects b matches query lawful log) (coding eq input build write finish classes respects b matches query lawful) (exchanges_of began) r.since None value → IsHistory eq matches old log value
+  history_then value was = matched_history eq input build write finish classes respects b matches query lawful old began pre log r.lawful r.since r.is value was
+
+  -- a pair was found, and is the one that is held
+  pub found_answer : (n : ℕ) → ask_of m ≡ Done (Found n) → (q : Stored K V) → pair ≡ Some q → (value : Bor V) → value.now ≡ q.value.value → IsAnsweredBetween {V = V} eq matches (history_of old) (history_of log) (Some value)
+  found_answer n e q has value is =
+      let last = r.found n (done_state m.made m.hash m.state (stands_get m r.task_is stands) (Found n) e) in
+      let p = last.0 in
+      let h = history_then (Some p) last.2 in
+      let match' = h.found p refl in
+      let one : q ≡ p = cc (has, r.holds_pair.0, last.1) in
+      record { seen = h.seen; since = h.since; until = h.until; is = (p, match', h.had p.value.key.value match', is ∙ ap (λ (z : Stored K V). z.value.value) one) }
+
+  -- a pair that was found is held
+  pub found_held : (n : ℕ) → ask_of m ≡ Done (Found n) → pair ≡ None → ⊥
+  found_held n e none =
+      let last = r.found n (done_state m.made m.hash m.state (stands_get m r.task_is stands) (Found n) e) in
+      cc (none, r.holds_pair.0, last.1)
+
+  -- none was found
+  pub absent_answer : (reply : Reply) → ask_of m ≡ Done reply → ((n : ℕ) → reply ≡ Found n → ⊥) → IsAnsweredBetween {V = V} eq matches (history_of old) (history_of log) None
+  absent_answer reply e none =
+      let g = setting eq input build write finish classes respects b matches query lawful log in let c = coding eq input build write finish classes respects b matches query lawful in
+      let ended = done_state m.made m.hash m.state (stands_get m r.task_is stands) reply e in
+      let stage : RestsStage g c (exchanges_of began) r.since None r.hands Get (Ended reply) = subst (λ z. RestsStage g c (exchanges_of began) r.since None r.hands Get z) ended (subst (λ t. RestsStage g c (exchanges_of began) r.since None r.hands t m.state) r.task_is r.rests.stage) in
+      let h = history_then None (get_reply g c (exchanges_of began) r.since None r.hands reply stage none) in record { seen = h.seen; since = h.since; until = h.until; is = h.had }

@@ -1,0 +1,80 @@
+-- What a lookup on the shared map holds and rests on, and what it answers.
+use Rattle.std.specs.Prelude.{◌≡◌, ℕ, ◌+◌, ◌*◌, ◌-◌, ◌^◌, ◌<◌, Bool, Option, None, Some, List, ◌++◌}
+use denote.Bor.{Bor}
+use Rattle.papaya_call.specs.declared.call.Reply.{Reply}
+use Rattle.papaya_call.specs.declared.call.Reply.TheVariants.{Found}
+use Rattle.papaya_call.specs.declared.call.Task.TheVariants.{Get}
+use Rattle.papaya_call.specs.declared.machine.Machine.{Machine}
+use Rattle.papaya_call.specs.declared.machine.State.{State as Stage}
+use Rattle.papaya_call.specs.declared.machine.State.TheVariants.{AtRoot, Making, Opening, Searching, Writing, Offering, Showing, Pairing, Putting, Burying, Counting, Uncounting, Leaving, Growing, Ended}
+use Rattle.papaya_call.specs.declared.search.Search.TheVariants.{Sizing, Looking, Comparing}
+use Rattle.papaya_law.specs.Exchange.{Exchange, Setting}
+use Rattle.papaya_law.specs.Code.{Coding}
+use Rattle.papaya_law.specs.Further.{coding_with, with_key}
+use Rattle.papaya_call.specs.Machine.{IsFit, after, ask_of}
+use Rattle.papaya_call.specs.declared.ask.Answer.{Answer}
+use Rattle.papaya_call.specs.declared.ask.Ask.TheVariants.{Done}
+use Rattle.papaya_rests.specs.Rests.{Rests, WasAtMoment}
+use Rattle.papaya_rests.specs.Told.{Hands}
+use Rattle.papaya_book.specs.Sheets.{Sheet}
+use Rattle.papaya_book.specs.declared.rule.entry.Begun.{Begun}
+use Rattle.papaya_book.specs.declared.rule.entry.Event.{Event}
+use Rattle.papaya_book.specs.Calls.{IsTable}
+use Rattle.papaya_book.specs.Logs.{Stored, coding_of, exchanges_of, pair_named, setting_of}
+use Rattle.papaya_book.specs.Rule.{IsLawfulLog, IsPlaced}
+
+-- the table that a lookup searches or leaves
+abbrev pub table_of : Stage → Option ℕ
+table_of (Searching (Sizing t)) = Some t
+table_of (Searching (Looking at)) = Some at.table
+table_of (Searching (Comparing at word)) = Some at.table
+table_of (Leaving t) = Some t
+table_of _ = None
+
+-- what is left to do in table t and after it, where so much is left in t itself
+abbrev pub left_in : (t more : ℕ) → ℕ
+left_in t more = (2 ^ 32 + 1 - t) * 2 ^ 34 + more
+
+-- What a lookup has left to do. It goes down with each answer: a search looks at each place once, and the next table has a greater number.
+abbrev pub left_of : Stage → ℕ
+left_of AtRoot = left_in 0 (2 ^ 33 + 5)
+left_of (Searching (Sizing t)) = left_in t (2 ^ 33 + 4)
+left_of (Searching (Looking at)) = left_in at.table (2 * (at.limit + 1 - at.probe.len) + 1)
+left_of (Searching (Comparing at word)) = left_in at.table (2 * (at.limit + 1 - at.probe.len))
+left_of (Leaving t) = left_in t 1
+left_of _ = 0
+
+module _ {K V S : Type 0} where
+  -- the table of this number is held
+  abbrev pub HoldsTable : List (Event K V S) → Option ℕ → Option (Bor Sheet) → Type 0
+  HoldsTable log None table = Unit {0}
+  HoldsTable log (Some t) None = ⊥
+  HoldsTable log (Some t) (Some r) = IsTable log t r.now
+
+  -- the pair that is held is the one last told of, and is in the logs
+  abbrev pub HoldsPair : Begun K V S → (last pair : Option (Stored K V)) → Type 0
+  HoldsPair b last pair = (pair ≡ last) × IsPlaced b None (pair_named pair)
+
+  -- the setting of a log, with what is looked up as a further key
+  abbrev pub setting_for : (K → K → Bool) → (S → K → ℕ) → Begun K V S → (K → Bool) → ℕ → List (Event K V S) → Setting (Option K) (Stored K V)
+  setting_for eq hash b matches fed log = with_key (setting_of eq (hash b.hasher) b.mode log) matches fed
+
+abbrev pub coding_for : {K V S : Type 0} → (S → K → ℕ) → S → ℕ → Coding (Option K) (Stored K V)
+coding_for hash hasher fed = coding_with (coding_of (hash hasher)) fed
+
+-- A lookup of what matches these keys, and hashes so, rests on the log since its call began, and holds the table and the pair of which it was told last.
+pub record IsReading {K V S : Type 0} (eq : K → K → Bool) (hash : S → K → ℕ) (b : Begun K V S) (matches : K → Bool) (fed : ℕ) (begun : List (Exchange (Stored K V))) (log : List (Event K V S)) (m : Machine) (table : Option (Bor Sheet)) (pair : Option (Stored K V)) : Type 0 where
+  pub lawful : IsLawfulLog eq hash b log
+  pub since : List (Exchange (Stored K V))
+  pub is : begun ++ since ≡ exchanges_of log
+  pub hands : Hands (Stored K V)
+  pub task_is : m.task ≡ Get
+  pub rests : Rests (setting_for eq hash b matches fed log) (coding_for hash b.hasher fed) begun since None m hands
+  pub holds_table : HoldsTable log (table_of m.state) table
+  pub holds_pair : HoldsPair b hands.last pair
+  pub found : (n : ℕ) → m.state ≡ Ended (Found n) → (p : Stored K V) × (hands.last ≡ Some p) × WasAtMoment (setting_for eq hash b matches fed log) (coding_for hash b.hasher fed) begun since None (Some p)
+
+-- The lookup has replied; or this is an answer to what it asks, after which it rests again and has less left to do.
+abbrev pub IsReadingOn : {K V S : Type 0} → (K → K → Bool) → (S → K → ℕ) → Begun K V S → (K → Bool) → ℕ → List (Exchange (Stored K V)) → List (Event K V S) → Machine → Option Answer → Option (Bor Sheet) → Option (Stored K V) → Type 0
+IsReadingOn eq hash b matches fed begun log m None table pair = IsReading eq hash b matches fed begun log m table pair × ((reply : Reply) × (ask_of m ≡ Done reply))
+IsReadingOn eq hash b matches fed begun log m (Some answer) table pair = IsReading eq hash b matches fed begun log (after m answer) table pair × IsFit answer × (left_of (after m answer).state < left_of m.state)

@@ -1,0 +1,7 @@
+//! Lookups on the shared map, the histories that they answer from, and what every call under way
+//! holds.
+#![tactic(auto)]
+
+pub mod driver;
+pub mod history;
+pub mod lookup;

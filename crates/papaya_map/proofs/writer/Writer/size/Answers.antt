@@ -1,9 +1,0 @@
-use Rattle.papaya_map.specs.Parts.{begun_of}
-use Rattle.papaya_map.proofs.WritingSteps.{size_held, sized_on}
-use Rattle.papaya_map.proofs.writer.Writer.size.Goals as goal
-
-pub unreachable-requires : goal.unreachable-requires
-unreachable-requires g c = size_held g.K.PartialEq.eq g.K.Hash.hash_input g.S.BuildHasher.build_hasher g.S.Hasher.Hasher.write g.S.Hasher.Hasher.finish g.met.K.Eq.laws g.met.K.Hash.respects_eq (begun_of c.args.book.now.parts) c.args.book.now.begun.book c.requires.can.0 c.requires.can.1 c.requires.can.2 c.args.pass.now.log c.args.self.now c.requires.can.3 c.requires.asks.0 c.requires.asks.1 c.in_default.is
-
-pub returns : goal.returns
-returns g c = record { unsaid = λ cause e. absurd (cc e); writes = λ key made begun r. sized_on g.K.PartialEq.eq g.K.Hash.hash_input g.S.BuildHasher.build_hasher g.S.Hasher.Hasher.write g.S.Hasher.Hasher.finish g.met.K.Eq.laws g.met.K.Hash.respects_eq (begun_of c.args.book.now.parts) c.args.book.now.begun.book key made begun c.args.pass.now.log c.args.self.now r c.requires.asks.0 c.in-Some.table c.in-Some.is c.size-len.result.0 c.size-len.result.1 c.size-len.ensures.len c.size-len.ensures.limit c.size-len.ensures.size c.requires.asks.1 }

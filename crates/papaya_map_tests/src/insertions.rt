@@ -1,0 +1,83 @@
+// How maps are made, and insertions by one caller.
+ghost use Rattle.std.specs.Prelude.{◌≡◌};
+
+use crate::expect::is;
+use crate::hashing::TOGETHER;
+use crate::numbers::{Numbers, NumbersPass, counts, finds, inserts, made, numbers};
+use papaya_map::map::HashMap;
+use papaya_words::probe::{Refused, ResizeMode};
+use std::process::Abort;
+use std::sync::Wait;
+use std::test::Fail;
+
+#[test]
+fn a_map_is_made_with_a_capacity(rt: HostRuntime) -> Result<(), Fail> {
+    let map = made(&rt, rt.alloc(), ResizeMode::Blocking, 10, 4)?;
+    let mut pass = map.pass();
+    finds(&rt, &map, 5, &mut pass, None);
+    let map = made(&rt, rt.alloc(), ResizeMode::Incremental(64), 0, 4)?;
+    let mut pass = map.pass();
+    finds(&rt, &map, 5, &mut pass, None);
+    Ok(())
+}
+
+#[test]
+fn a_map_past_a_limit_is_refused(rt: HostRuntime) {
+    for (mode, capacity, shards, refused) in [
+        (ResizeMode::Incremental(0), 0, 1, Refused::ZeroChunk),
+        (ResizeMode::Blocking, 0, 65_537, Refused::Capacity),
+        (ResizeMode::Blocking, 3_221_225_473, 1, Refused::Capacity),
+        (ResizeMode::Blocking, 1 << 61, 1, Refused::Capacity),
+    ] {
+        let made = made(&rt, rt.alloc(), mode, capacity, shards);
+        is(&rt, made.err(), Some(refused));
+    }
+}
+
+/// Key 1 has no value, and then 10, and then 20.
+fn replaces<R: Wait + Abort>(rt: &R, map: &Numbers, pass: &mut NumbersPass)
+    requires { pass.old.book ≡ map.now }
+    ensures { pass.new.book ≡ pass.old.book }
+{
+    finds(rt, map, 1, pass, None);
+    inserts(rt, map, 1, 10, pass, Ok(None));
+    finds(rt, map, 1, pass, Some(&10));
+    inserts(rt, map, 1, 20, pass, Ok(Some(&10)));
+}
+
+#[test]
+fn a_pass_sees_its_own_insertions(rt: HostRuntime) {
+    let map = numbers(&rt, rt.alloc());
+    let mut pass = map.pass();
+    counts(&rt, &map, 0);
+    replaces(&rt, &map, &mut pass);
+    inserts(&rt, &map, 2, 30, &mut pass, Ok(None));
+    finds(&rt, &map, 1, &mut pass, Some(&20));
+    finds(&rt, &map, 2, &mut pass, Some(&30));
+    counts(&rt, &map, 2);
+}
+
+/// The keys below 26 have themselves.
+fn fills<R: Wait + Abort>(rt: &R, map: &Numbers, pass: &mut NumbersPass)
+    requires { pass.old.book ≡ map.now }
+    ensures { pass.new.book ≡ pass.old.book }
+{
+    for key in 0..26u64 {
+        inserts(rt, map, key, key, pass, Ok(None));
+    }
+}
+
+#[test]
+fn a_path_of_the_first_table_has_26_places(rt: HostRuntime) -> Result<(), Fail> {
+    let mode = ResizeMode::Incremental(64);
+    let map: Numbers = HashMap::with_parts(&rt, rt.alloc(), mode, 0, 1, TOGETHER)?;
+    let mut pass = map.pass();
+    fills(&rt, &map, &mut pass);
+    inserts(&rt, &map, 26, 26, &mut pass, Err(Refused::Capacity));
+    inserts(&rt, &map, 25, 7, &mut pass, Ok(Some(&25)));
+    finds(&rt, &map, 0, &mut pass, Some(&0));
+    finds(&rt, &map, 25, &mut pass, Some(&7));
+    finds(&rt, &map, 26, &mut pass, None);
+    counts(&rt, &map, 26);
+    Ok(())
+}

@@ -1,0 +1,27 @@
+//! The tests of the map that threads share, and of the book below it.
+#![tactic(auto)]
+
+#[cfg(test)]
+mod additions;
+#[cfg(test)]
+mod books;
+#[cfg(test)]
+mod computes;
+#[cfg(test)]
+mod expect;
+#[cfg(test)]
+mod gates;
+#[cfg(test)]
+mod hashing;
+#[cfg(test)]
+mod insertions;
+#[cfg(test)]
+mod numbers;
+#[cfg(test)]
+mod refused;
+#[cfg(test)]
+mod removals;
+#[cfg(test)]
+mod texts;
+#[cfg(test)]
+mod threads;

@@ -1,0 +1,159 @@
+// Removals by one caller: what they answer, what they show their closure, and what is there after them.
+ghost use Rattle.std.specs.Prelude.{◌≡◌};
+
+use crate::expect::is;
+use crate::numbers::{Numbers, NumbersPass, counts, finds, inserts, made, numbers, removes};
+use papaya_words::probe::ResizeMode;
+use std::process::Abort;
+use std::sync::Wait;
+use std::test::Fail;
+
+#[test]
+fn remove_answers_the_value_once(rt: HostRuntime) {
+    let map = numbers(&rt, rt.alloc());
+    let mut pass = map.pass();
+    removes(&rt, &map, 1, &mut pass, Ok(None));
+    inserts(&rt, &map, 1, 10, &mut pass, Ok(None));
+    counts(&rt, &map, 1);
+    finds(&rt, &map, 1, &mut pass, Some(&10));
+    removes(&rt, &map, 1, &mut pass, Ok(Some(&10)));
+    counts(&rt, &map, 0);
+    finds(&rt, &map, 1, &mut pass, None);
+}
+
+/// Of the keys 1 and 2 the first is removed.
+fn removes_one<R: Wait + Abort>(rt: &R, map: &Numbers, pass: &mut NumbersPass)
+    requires { pass.old.book ≡ map.now }
+    ensures { pass.new.book ≡ pass.old.book }
+{
+    inserts(rt, map, 1, 10, pass, Ok(None));
+    inserts(rt, map, 2, 20, pass, Ok(None));
+    counts(rt, map, 2);
+    removes(rt, map, 1, pass, Ok(Some(&10)));
+    counts(rt, map, 1);
+    finds(rt, map, 1, pass, None);
+}
+
+/// What is removed stays out, for its own pass and for one that is made afterwards.
+#[test]
+fn a_removed_pair_stays_out(rt: HostRuntime) -> Result<(), Fail> {
+    let map = made(&rt, rt.alloc(), ResizeMode::Incremental(64), 10, 4)?;
+    let mut pass = map.pass();
+    removes_one(&rt, &map, &mut pass);
+    let mut later = map.pass();
+    finds(&rt, &map, 1, &mut later, None);
+    finds(&rt, &map, 2, &mut later, Some(&20));
+    removes(&rt, &map, 1, &mut pass, Ok(None));
+    removes(&rt, &map, 1, &mut later, Ok(None));
+    counts(&rt, &map, 1);
+    Ok(())
+}
+
+#[test]
+fn an_insertion_after_a_removal_finds_no_old_value(rt: HostRuntime) -> Result<(), Fail> {
+    let map = made(&rt, rt.alloc(), ResizeMode::Blocking, 0, 1)?;
+    let mut pass = map.pass();
+    inserts(&rt, &map, 1, 10, &mut pass, Ok(None));
+    removes(&rt, &map, 1, &mut pass, Ok(Some(&10)));
+    inserts(&rt, &map, 1, 11, &mut pass, Ok(None));
+    counts(&rt, &map, 1);
+    finds(&rt, &map, 1, &mut pass, Some(&11));
+    removes(&rt, &map, 1, &mut pass, Ok(Some(&11)));
+    counts(&rt, &map, 0);
+    Ok(())
+}
+
+/// What a removal answered, with copies of the pair's key and value.
+#[derive(Clone, Copy, PartialEq, Debug)]
+enum Told {
+    Absent,
+    Removed(u64, u64),
+    Kept(u64, u64),
+    Refused,
+}
+
+/// Removes a key's pair if the closure agrees.
+fn remove_if<R: Wait, F: FnMut(&u64, &u64) -> bool>(
+    rt: &R,
+    map: &Numbers,
+    key: u64,
+    agrees: F,
+    pass: &mut NumbersPass,
+) -> Told
+    requires book { pass.old.book ≡ map.now }
+    requires callable { F.IsAlwaysCallable agrees }
+    ensures { pass.new.book ≡ pass.old.book }
+{
+    match map.pin().remove_if_as(rt, &key, agrees, pass) {
+        Ok(Ok(None)) => Told::Absent,
+        Ok(Ok(Some((k, v)))) => Told::Removed(*k, *v),
+        Ok(Err((k, v))) => Told::Kept(*k, *v),
+        Err(_) => Told::Refused,
+    }
+}
+
+#[test]
+fn remove_if_asks_its_closure(rt: HostRuntime) {
+    let map = numbers(&rt, rt.alloc());
+    let mut pass = map.pass();
+    inserts(&rt, &map, 1, 0, &mut pass, Ok(None));
+    let absent = remove_if(&rt, &map, 0, |_, _| true, &mut pass);
+    is(&rt, absent, Told::Absent);
+    let kept = remove_if(&rt, &map, 1, |_, _| false, &mut pass);
+    is(&rt, kept, Told::Kept(1, 0));
+    counts(&rt, &map, 1);
+    finds(&rt, &map, 1, &mut pass, Some(&0));
+    let removed = remove_if(&rt, &map, 1, |_, v| *v == 0, &mut pass);
+    is(&rt, removed, Told::Removed(1, 0));
+    counts(&rt, &map, 0);
+    let again = remove_if(&rt, &map, 1, |_, _| true, &mut pass);
+    is(&rt, again, Told::Absent);
+    counts(&rt, &map, 0);
+}
+
+/// How often the closure of a removal was shown a pair, and which it was shown last.
+fn shown_by<R: Wait>(
+    rt: &R,
+    map: &Numbers,
+    key: u64,
+    agrees: bool,
+) -> Option<(u64, Option<(u64, u64)>)> {
+    let mut times = 0u64;
+    let mut shown = None;
+    let mut pass = map.pass();
+    let removed = map.pin().remove_if_as(
+        rt,
+        &key,
+        |k, v| {
+            times = times.wrapping_add(1);
+            shown = Some((*k, *v));
+            agrees
+        },
+        &mut pass,
+    );
+    if removed.is_ok() {
+        Some((times, shown))
+    } else {
+        None
+    }
+}
+
+/// Where nobody else acts, a closure is shown the stored pair, once, and nothing for an absent key.
+#[test]
+fn a_closure_is_shown_the_pair_once(rt: HostRuntime) {
+    let map = numbers(&rt, rt.alloc());
+    let mut pass = map.pass();
+    inserts(&rt, &map, 7, 70, &mut pass, Ok(None));
+    inserts(&rt, &map, 8, 80, &mut pass, Ok(None));
+    for (key, agrees, shown) in [
+        (9, true, (0, None)),
+        (7, false, (1, Some((7, 70)))),
+        (7, true, (1, Some((7, 70)))),
+        (7, true, (0, None)),
+    ] {
+        is(&rt, shown_by(&rt, &map, key, agrees), Some(shown));
+    }
+    let mut later = map.pass();
+    finds(&rt, &map, 8, &mut later, Some(&80));
+    counts(&rt, &map, 1);
+}

@@ -1,0 +1,163 @@
+// Threads that share a map, each with a pass of its own.
+use crate::expect::{is, is_at};
+use crate::numbers::{Numbers, made};
+use papaya_words::probe::ResizeMode;
+use std::alloc::Global;
+use std::sync::Wait;
+use std::sync::atomic::{AtomicBool, AtomicU64, Ordering};
+use std::thread::{Threads, join, yield_now};
+
+const KEYS: u64 = 16;
+
+const ROUNDS: u64 = 20;
+
+const VALUES: u64 = 640;
+
+/// The value that a thread stores at a key in a round. No two stores have the same.
+fn value_of(thread: u64, round: u64, key: u64) -> u64 {
+    thread
+        .wrapping_mul(ROUNDS)
+        .wrapping_add(round)
+        .wrapping_mul(KEYS)
+        .wrapping_add(key)
+}
+
+/// How often each value was taken out, as an old value or as removed.
+#[derive(Drop)]
+struct Tally {
+    counts: Vec<u64>,
+    legal: bool,
+}
+
+impl Tally {
+    /// Nothing was taken out.
+    fn new(alloc: Global) -> Option<Tally> {
+        let mut counts = Vec::with_capacity(alloc, VALUES as usize).ok()?;
+        for _ in 0..VALUES {
+            counts.push(0u64).ok()?;
+        }
+        Some(Tally {
+            counts,
+            legal: true,
+        })
+    }
+
+    /// How often a value was taken out.
+    fn count(&self, value: u64) -> u64 {
+        self.counts.get(value as usize).copied().unwrap_or(0)
+    }
+
+    /// Takes out what was answered for a key.
+    fn take(&mut self, key: u64, taken: Option<&u64>) {
+        let Some(value) = taken else {
+            return;
+        };
+        self.see(key, Some(value));
+        if let Some(count) = self.counts.get_mut(*value as usize) {
+            *count = count.wrapping_add(1);
+        }
+    }
+
+    /// Is what was answered for a key a value that some thread stores there?
+    fn see(&mut self, key: u64, seen: Option<&u64>) {
+        if let Some(value) = seen {
+            self.legal = self.legal && *value < VALUES && *value % KEYS == key;
+        }
+    }
+}
+
+/// Waits until the flag is set, if it ever is.
+pub fn turn_until(flag: &AtomicBool) -> bool {
+    for _ in 0..100_000_000u64 {
+        if flag.load(Ordering::SeqCst) {
+            return true;
+        }
+        yield_now();
+    }
+    false
+}
+
+/// Waits until both threads are here, if they ever are.
+pub fn meet(here: &AtomicU64) {
+    here.fetch_add(1, Ordering::SeqCst);
+    for _ in 0..1_000_000u64 {
+        if here.load(Ordering::SeqCst) >= 2 {
+            return;
+        }
+        yield_now();
+    }
+}
+
+/// Inserts, reads and removes each key in each round. None where a call was refused.
+fn churn<R: Wait>(
+    rt: &R,
+    alloc: Global,
+    map: &Numbers,
+    here: &AtomicU64,
+    thread: u64,
+) -> Option<Tally> {
+    let mut tally = Tally::new(alloc)?;
+    let mut pass = map.pass();
+    let pinned = map.pin();
+    meet(here);
+    for round in 0..ROUNDS {
+        for key in 0..KEYS {
+            let value = value_of(thread, round, key);
+            let old = pinned.insert_as(rt, key, value, &mut pass).ok()?;
+            tally.take(key, old);
+            tally.see(key, pinned.get_as(&key, &mut pass));
+            if (key ^ round) % 4 != 0 {
+                let removed = pinned.remove_as(rt, &key, &mut pass).ok()?;
+                tally.take(key, removed);
+            }
+        }
+    }
+    Some(tally)
+}
+
+/// Two threads at a time.
+fn churn_both<R: Threads + Wait + Sync>(
+    rt: &R,
+    alloc: Global,
+    map: &Numbers,
+) -> (Option<Tally>, Option<Tally>) {
+    let here = AtomicU64::new(0);
+    join(
+        rt,
+        || churn(rt, alloc, map, &here, 0),
+        || churn(rt, alloc, map, &here, 1),
+    )
+}
+
+/// The values that are left, and how many they are.
+fn left_in(alloc: Global, map: &Numbers) -> Option<(Tally, usize)> {
+    let mut tally = Tally::new(alloc)?;
+    let mut left = 0usize;
+    let mut pass = map.pass();
+    for key in 0..KEYS {
+        let value = map.pin().get_as(&key, &mut pass);
+        left = left.wrapping_add(usize::from(value.is_some()));
+        tally.take(key, value);
+    }
+    Some((tally, left))
+}
+
+/// Each value is taken out once or is left, and none is lost or taken twice.
+#[test]
+fn each_value_is_taken_out_once(rt: HostRuntime) {
+    let map = made(&rt, rt.alloc(), ResizeMode::Blocking, 4096, 4).expect(&rt, "a map");
+    let (first, second) = churn_both(&rt, rt.alloc(), &map);
+    let first = first.expect(&rt, "a tally");
+    let second = second.expect(&rt, "a tally");
+    is(&rt, (first.legal, second.legal), (true, true));
+    let (last, left) = left_in(rt.alloc(), &map).expect(&rt, "a tally");
+    is(&rt, last.legal, true);
+    is(&rt, map.len(), left);
+    for value in 0..VALUES {
+        let taken = first
+            .count(value)
+            .wrapping_add(second.count(value))
+            .wrapping_add(last.count(value));
+        is_at(&rt, value as usize, taken, 1);
+    }
+}

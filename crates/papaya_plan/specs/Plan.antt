@@ -1,0 +1,12 @@
+-- What a workload does to a map.
+use Rattle.std.specs.Prelude.{Bool, true, false}
+use Rattle.papaya_plan.specs.declared.plan.Workload.{Workload}
+use Rattle.papaya_plan.specs.declared.plan.Workload.TheVariants as workload
+
+-- a round takes away what a further round needs: absent keys, or free slots
+abbrev pub uses_up : Workload → Bool
+uses_up workload.GetHit = false
+uses_up workload.GetMiss = false
+uses_up workload.InsertFresh = true
+uses_up workload.InsertReplace = false
+uses_up workload.RemoveInsert = true

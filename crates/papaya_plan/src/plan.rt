@@ -1,0 +1,147 @@
+//! What is done to the maps, and how often.
+ghost use Rattle.std.specs.Prelude.{◌≡◌, ◌≢◌, cond, ◌+◌, ◌*◌, ◌/◌, ◌%◌, ◌^◌, ◌<◌, ◌≤◌};
+ghost use Rattle.std.specs.Int.{IsPowerOfTwo};
+ghost use Rattle.papaya_plan.specs.declared.plan.Workload.TheVariants.{InsertFresh};
+ghost use Rattle.papaya_plan.specs.Plan.{uses_up};
+
+/// How many threads work at once, where there are several.
+pub const THREADS: u64 = 4;
+
+/// What one step does to a map.
+#[derive(Clone, Copy, Debug, PartialEq, Eq)]
+pub enum Workload {
+    /// Looks up a key that the map has.
+    GetHit,
+    /// Looks up a key that it does not have.
+    GetMiss,
+    /// Inserts a key that it does not have.
+    InsertFresh,
+    /// Inserts a key that it has.
+    InsertReplace,
+    /// Removes a key that it has, and inserts it again.
+    RemoveInsert,
+}
+
+impl Workload {
+    /// All workloads, in the order in which they are run.
+    pub const ALL: [Workload; 5] = [
+        Workload::GetHit,
+        Workload::GetMiss,
+        Workload::InsertFresh,
+        Workload::InsertReplace,
+        Workload::RemoveInsert,
+    ];
+
+    /// The name in what is printed.
+    pub fn name(self) -> &'static str {
+        match self {
+            Workload::GetHit => "get-hit",
+            Workload::GetMiss => "get-miss",
+            Workload::InsertFresh => "insert-fresh",
+            Workload::InsertReplace => "insert-replace",
+            Workload::RemoveInsert => "remove-insert",
+        }
+    }
+}
+
+/// A workload, and over how many keys how often. One round is a step at each key.
+#[derive(Clone, Copy, Debug, PartialEq, Eq)]
+pub struct Plan {
+    pub workload: Workload,
+    /// A power of two, so that each key has its turn in a round.
+    pub keys: u32,
+    pub rounds: u32,
+}
+
+impl Plan {
+    /// How many maps are made, and how many rounds each of them has. Where a round takes away what a
+    /// further round needs, each round has a map of its own.
+    pub fn maps(self) -> (u32, u32)
+        ensures each { result ≡ cond (uses_up self.workload) (self.rounds, 1) (1, self.rounds) }
+        ensures all { result.0 * result.1 ≡ self.rounds }
+    {
+        match self.workload {
+            Workload::GetHit | Workload::GetMiss | Workload::InsertReplace => (1, self.rounds),
+            // A removed pair keeps its slot.
+            Workload::InsertFresh | Workload::RemoveInsert => (self.rounds, 1),
+        }
+    }
+
+    /// How many pairs a map has before the first round.
+    pub fn filled(self) -> u32
+        ensures none { self.workload ≡ InsertFresh → result ≡ 0 }
+        ensures all { self.workload ≢ InsertFresh → result ≡ self.keys }
+    {
+        match self.workload {
+            Workload::InsertFresh => 0,
+            _ => self.keys,
+        }
+    }
+
+    /// For how many pairs a map is made. A table does not grow yet.
+    pub fn capacity(self) -> usize
+        ensures { self.keys ≤ result }
+    {
+        match self.workload {
+            Workload::RemoveInsert => self.keys as usize * 2,
+            _ => self.keys as usize,
+        }
+    }
+
+    /// How many steps are made in all rounds.
+    pub fn steps(self) -> u64
+        ensures { result ≡ self.keys * self.rounds }
+    {
+        u64::from(self.keys) * u64::from(self.rounds)
+    }
+
+    /// The number of the key whose turn it is, in an order in which neighbours are far apart. By
+    /// `back`, each number below `keys` has one turn in a round.
+    #[inline(always)]
+    pub fn number_at(self, turn: u64) -> u64
+        ensures value { IsPowerOfTwo self.keys → result ≡ (turn * 2654435761) % self.keys }
+        ensures back { IsPowerOfTwo self.keys → turn < self.keys → (result * 14962265741255716689) % self.keys ≡ turn }
+    {
+        turn.wrapping_mul(2_654_435_761) & u64::from(self.keys).wrapping_sub(1)
+    }
+}
+
+/// The key of a number. By `back`, different numbers have different keys.
+#[inline(always)]
+pub fn key_of(number: u64) -> u64
+    ensures value { result ≡ (number * 3787392781) % 2 ^ 64 }
+    ensures back { (result * 1847824006677864389) % 2 ^ 64 ≡ number }
+{
+    number.wrapping_mul(3_787_392_781)
+}
+
+/// The turns of one of several parts of a round: from the first to below the second.
+#[derive(Clone, Copy, Debug, PartialEq, Eq)]
+pub struct Part {
+    pub start: u64,
+    pub end: u64,
+}
+
+impl Part {
+    /// The whole round.
+    pub fn whole(plan: Plan) -> Part
+        ensures { (result.start ≡ 0) × (result.end ≡ plan.keys) }
+    {
+        Part {
+            start: 0,
+            end: u64::from(plan.keys),
+        }
+    }
+
+    /// The part of this number of as many as there are threads. They follow one another.
+    pub fn of_thread(plan: Plan, thread: u32) -> Part
+        ensures { (result.start ≡ plan.keys * thread / THREADS) × (result.end ≡ plan.keys * (thread + 1) / THREADS) }
+    {
+        let keys = u64::from(plan.keys);
+        let thread = u64::from(thread);
+        Part {
+            start: keys * thread / THREADS,
+            end: keys * (thread + 1) / THREADS,
+        }
+    }
+}

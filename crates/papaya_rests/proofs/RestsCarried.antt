@@ -1,0 +1,167 @@
+-- What a machine rests on, by its parts: where each part is carried over, all of it is.
+use Rattle.std.proofs.Common.{◌≡◌, ℕ, Bool, true, false, Option, None, Some, List, sym, ap, ◌∙◌, subst}
+use Rattle.papaya_call.specs.declared.call.Reply.{Reply}
+use Rattle.papaya_call.specs.declared.call.Reply.TheVariants.{Absent, Found, Inserted, Replaced, Occupied, Removed, Kept, Aborted, Refused as Reply_refused}
+use Rattle.papaya_call.specs.declared.call.Task.{Task}
+use Rattle.papaya_call.specs.declared.call.Task.TheVariants.{Get, Insert, RemoveIf, Compute}
+use Rattle.papaya_call.specs.declared.compute.Choice.{Choice}
+use Rattle.papaya_call.specs.declared.compute.Choice.TheVariants.{Replace as To_replace, Remove as To_remove}
+use Rattle.papaya_call.specs.declared.compute.Gap.{Gap}
+use Rattle.papaya_call.specs.declared.compute.Gap.TheVariants.{NoRoot, At as At_place, After}
+use Rattle.papaya_call.specs.declared.compute.Purpose.{Purpose}
+use Rattle.papaya_call.specs.declared.compute.Purpose.TheVariants.{Fill, Replace as For_replace}
+use Rattle.papaya_call.specs.declared.compute.Remembered.{Remembered}
+use Rattle.papaya_call.specs.declared.remove.Removal.{Removal}
+use Rattle.papaya_call.specs.declared.search.Place.{Place}
+use Rattle.papaya_call.specs.declared.search.Search.{Search}
+use Rattle.papaya_call.specs.declared.search.Search.TheVariants.{Sizing, Looking, Comparing}
+use Rattle.papaya_call.specs.declared.write.Made.{Made}
+use Rattle.papaya_call.specs.declared.write.Made.TheVariants.{Nothing, Key, Pair}
+use Rattle.papaya_call.specs.declared.write.Write.{Write}
+use Rattle.papaya_call.specs.declared.machine.State.{State as Stage}
+use Rattle.papaya_call.specs.declared.machine.State.TheVariants.{AtRoot, Making, Opening, Searching, Writing, Offering, Showing, Pairing, Putting, Burying, Counting, Uncounting, Leaving, Growing, Ended}
+use Rattle.papaya_call.specs.declared.machine.Machine.{Machine}
+use Rattle.papaya_law.specs.Exchange.{Setting, Exchange}
+use Rattle.papaya_law.specs.View.{look, IsPassed}
+use Rattle.papaya_law.specs.Code.{Coding}
+use Rattle.papaya_rests.specs.Told.{Hands}
+use Rattle.papaya_rests.specs.Rests.{now, IsModeOf, HasComeTo, IsAt, HasMet, MayRemove, MayWrite, WasAtMoment, RestsWriting, RestsMade, RestsFill, RestsChoice, RestsHands, RestsGap, RestsPurpose, RestsSearch, RestsLeaving, RestsGrowing, HadPair, IsReply, RestsStage, Rests}
+
+-- each part is carried from one setting, and the exchanges of a call so far, to another setting and more of them
+pub record AreCarried {K P : Type 0} (g g' : Setting K P) (c : Coding K P) (begun since since' : List (Exchange P)) (k : K) : Type 0 where
+  pub mode : g'.blocking ≡ g.blocking
+  pub key : (p : P) → g'.key p ≡ g.key p
+  pub same : (k k' : K) → g'.same k k' ≡ g.same k k'
+  pub moment : (value : Option P) → WasAtMoment g c begun since k value → WasAtMoment g' c begun since' k value
+  pub come : (t : ℕ) → HasComeTo g c begun since k t → HasComeTo g' c begun since' k t
+  pub stands : (at : Place) → IsAt g c begun since k at → IsAt g' c begun since' k at
+  pub met : (at : Place) (word : ℕ) (p : P) → HasMet g c begun since k at word p → HasMet g' c begun since' k at word p
+  pub write : (replace : Bool) (write : Write) → MayWrite g c begun since k replace write → MayWrite g' c begun since' k replace write
+  pub passed : (t : ℕ) → HasComeTo g c begun since k t → IsPassed g.places (look g (now g c begun since k) k) t → IsPassed g'.places (look g' (now g' c begun since' k) k) t
+  pub leaving : (task : Task) (t : ℕ) → RestsLeaving g c begun since k task t → RestsLeaving g' c begun since' k task t
+  pub growing : (task : Task) (t : ℕ) → RestsGrowing g c begun since k task t → RestsGrowing g' c begun since' k task t
+
+module _ {K P : Type 0} (g g' : Setting K P) (c : Coding K P) (begun since since' : List (Exchange P)) (k : K) (carried : AreCarried g g' c begun since since' k) (hands : Hands P) where
+  -- the search
+  search_carried : (search : Search) → RestsSearch g c begun since k hands search → RestsSearch g' c begun since' k hands search
+  search_carried (Sizing t) r = carried.come t r
+  search_carried (Looking at) r = carried.stands at r
+  search_carried (Comparing at word) r = (r.0, r.1, carried.met at word r.0 r.2)
+
+  -- the write of a task
+  writing_carried : (task : Task) (write : Write) → RestsWriting g c begun since k task write → RestsWriting g' c begun since' k task write
+  writing_carried Get write r = r
+  writing_carried (Insert replace) write r = carried.write replace write r
+  writing_carried RemoveIf write r = r
+  writing_carried Compute write r = r
+
+  -- the gap where the key is absent
+  gap_carried : (gap : Gap) → RestsGap g c begun since k gap → RestsGap g' c begun since' k gap
+  gap_carried NoRoot r = r
+  gap_carried (At_place at) r = carried.stands at r
+  gap_carried (After t) r = (carried.come t r.0, carried.passed t r.0 r.1)
+
+  -- what a pair is made for
+  purpose_carried : (purpose : Purpose) → RestsPurpose g c begun since k purpose → RestsPurpose g' c begun since' k purpose
+  purpose_carried (Fill gap) r = gap_carried gap r
+  purpose_carried (For_replace write) r = carried.write true write r
+
+  -- the removal of a pair
+  removal_carried : (removal : Removal) → MayRemove g c begun since k hands removal → MayRemove g' c begun since' k hands removal
+  removal_carried removal r = record { pair = r.pair; last = r.last; met = carried.met removal.place removal.word r.pair r.met; live = r.live; same = same_carried r.pair ∙ r.same }
+    where
+      same_carried : (p : P) → g'.same k (g'.key p) ≡ g.same k (g.key p)
+      same_carried p = carried.same k (g'.key p) ∙ ap (λ key. g.same k key) (carried.key p)
+
+  -- the map had the pair
+  had_carried : (n : ℕ) → HadPair g c begun since k n → HadPair g' c begun since' k n
+  had_carried n r = (r.0, r.1, carried.moment (Some r.0) r.2)
+
+  -- a reply fits still
+  reply_carried : (task : Task) (reply : Reply) → IsReply g c begun since k hands task reply → IsReply g' c begun since' k hands task reply
+  reply_carried Get Absent r = carried.moment None r
+  reply_carried Get (Found n) r = had_carried n r
+  reply_carried Get (Inserted n) r = r
+  reply_carried Get (Replaced m n) r = r
+  reply_carried Get (Occupied n) r = r
+  reply_carried Get (Removed n) r = r
+  reply_carried Get (Kept n) r = r
+  reply_carried Get (Aborted t) r = r
+  reply_carried Get (Reply_refused refused) r = r
+  reply_carried (Insert replace) Absent r = r
+  reply_carried (Insert replace) (Found n) r = r
+  reply_carried (Insert replace) (Inserted n) r = r
+  reply_carried (Insert true) (Replaced m n) r = r
+  reply_carried (Insert false) (Replaced m n) r = r
+  reply_carried (Insert true) (Occupied n) r = r
+  reply_carried (Insert false) (Occupied n) r = had_carried n r
+  reply_carried (Insert replace) (Removed n) r = r
+  reply_carried (Insert replace) (Kept n) r = r
+  reply_carried (Insert replace) (Aborted t) r = r
+  reply_carried (Insert replace) (Reply_refused refused) r = r
+  reply_carried RemoveIf Absent r = carried.moment None r
+  reply_carried RemoveIf (Found n) r = r
+  reply_carried RemoveIf (Inserted n) r = r
+  reply_carried RemoveIf (Replaced m n) r = r
+  reply_carried RemoveIf (Occupied n) r = r
+  reply_carried RemoveIf (Removed n) r = r
+  reply_carried RemoveIf (Kept n) r = had_carried n r
+  reply_carried RemoveIf (Aborted t) r = r
+  reply_carried RemoveIf (Reply_refused refused) r = r
+  reply_carried Compute Absent r = r
+  reply_carried Compute (Found n) r = r
+  reply_carried Compute (Inserted n) r = r
+  reply_carried Compute (Replaced m n) r = r
+  reply_carried Compute (Occupied n) r = r
+  reply_carried Compute (Removed n) r = r
+  reply_carried Compute (Kept n) r = r
+  reply_carried Compute (Aborted t) r = r
+  reply_carried Compute (Reply_refused refused) r = r
+
+  -- each stage
+  stage_carried : (task : Task) (stage : Stage) → RestsStage g c begun since k hands task stage → RestsStage g' c begun since' k hands task stage
+  stage_carried task AtRoot r = r
+  stage_carried task Making r = r
+  stage_carried task (Opening t) r = r
+  stage_carried task (Searching search) r = search_carried search r
+  stage_carried task (Writing write) r = writing_carried task write r
+  stage_carried task (Offering gap) r = (r.0, gap_carried gap r.1, carried.moment None r.2)
+  stage_carried task (Showing removal) r = (r.0, removal_carried removal r.1)
+  stage_carried task (Pairing purpose) r = (r.0, purpose_carried purpose r.1)
+  stage_carried task (Putting put) r = (r.0, carried.write true put.write r.1, r.2)
+  stage_carried task (Burying removal) r = (r.0, removal_carried removal r.1)
+  stage_carried task (Counting n) r = r
+  stage_carried task (Uncounting n) r = r
+  stage_carried task (Leaving t) r = carried.leaving task t r
+  stage_carried task (Growing t) r = carried.growing task t r
+  stage_carried task (Ended reply) r = reply_carried task reply r
+
+  -- what the call made
+  made_carried : (made : Made) → RestsMade g c begun since k hands made → RestsMade g' c begun since' k hands made
+  made_carried Nothing r = r
+  made_carried Key r = r
+  made_carried (Pair n) r = r
+
+  -- the pair for an absent key
+  fill_carried : (fill : Option ℕ) → RestsFill g c begun since k hands fill → RestsFill g' c begun since' k hands fill
+  fill_carried None r = r
+  fill_carried (Some n) r = r
+
+  -- what a closure chose
+  choice_carried : (choice : Option Choice) → RestsChoice g c begun since k hands choice → RestsChoice g' c begun since' k hands choice
+  choice_carried None r = r
+  choice_carried (Some (To_replace old new)) r = r
+  choice_carried (Some (To_remove old)) r = r
+
+  -- the pairs that the call made are of its key
+  hands_carried : (made : Made) (held : Remembered) → RestsHands g c begun since k hands made held → RestsHands g' c begun since' k hands made held
+  hands_carried made held r = record {
+    keys = λ q one. carried.key q ∙ r.keys q one;
+    made_is = made_carried made r.made_is;
+    fill_is = fill_carried held.fill r.fill_is;
+    choice_is = choice_carried held.choice r.choice_is;
+  }
+
+  -- all of it
+  pub rests_carried : (m : Machine) → Rests g c begun since k m hands → Rests g' c begun since' k m hands
+  rests_carried m r = record { hash = r.hash; mode = subst (IsModeOf m.mode) (sym carried.mode) r.mode; made = hands_carried m.made m.remembered r.made; stage = stage_carried m.task m.state r.stage }

@@ -1,0 +1,228 @@
+-- What a machine has yet to add after an answer is what the map grew by.
+use Rattle.std.proofs.Common.{◌≡◌, ⊎_elim, ℕ, ℤ, pos, negsuc, ◌==◌, Bool, true, false, cond, Some, List, ◌∷◌, [], refl, sym, ◌∙◌, subst}
+use Rattle.papaya_words.specs.Word.{pair_of}
+use Rattle.papaya_words.specs.declared.probe.Refused.{Refused}
+use Rattle.papaya_words.specs.declared.probe.ResizeMode.{ResizeMode}
+use Rattle.papaya_call.specs.declared.ask.Answer.{Answer}
+use Rattle.papaya_call.specs.declared.ask.Answer.TheVariants.{Exchanged, Found as Found_instead, Yes, Op, Ok as Ok_done, Refused as Was_refused}
+use Rattle.papaya_call.specs.declared.ask.At.TheVariants.{Root, Slot}
+use Rattle.papaya_call.specs.declared.ask.OpKind.{OpKind}
+use Rattle.papaya_call.specs.declared.ask.OpKind.TheVariants as ops
+use Rattle.papaya_call.specs.declared.ask.StepKind.TheVariants as kinds
+use Rattle.papaya_call.specs.declared.call.Reply.TheVariants.{Replaced}
+use Rattle.papaya_call.specs.declared.call.Task.{Task}
+use Rattle.papaya_call.specs.declared.call.Task.TheVariants.{Get, Insert, RemoveIf, Compute}
+use Rattle.papaya_call.specs.declared.compute.Gap.{Gap}
+use Rattle.papaya_call.specs.declared.compute.Remembered.{Remembered}
+use Rattle.papaya_call.specs.declared.remove.Removal.{Removal}
+use Rattle.papaya_call.specs.declared.search.Place.{Place}
+use Rattle.papaya_call.specs.declared.search.Search.TheVariants.{Sizing, Looking, Comparing}
+use Rattle.papaya_call.specs.declared.search.Seen.{Seen}
+use Rattle.papaya_call.specs.declared.write.Made.{Made}
+use Rattle.papaya_call.specs.declared.write.Made.TheVariants.{Nothing, Key, Pair}
+use Rattle.papaya_call.specs.declared.machine.Machine.{Machine}
+use Rattle.papaya_call.specs.declared.machine.State.{State as Stage}
+use Rattle.papaya_call.specs.declared.machine.State.TheVariants.{AtRoot, Making, Opening, Searching, Writing, Offering, Showing, Pairing, Putting, Burying, Counting, Uncounting, Leaving, Growing, Ended}
+use Rattle.papaya_law.specs.Exchange.{Setting, State, Exchange}
+use Rattle.papaya_law.specs.Code.{Coding, code}
+use Rattle.papaya_call.specs.Compute.{chosen, offered}
+use Rattle.papaya_call.specs.Machine.{after, agreed, ask_of, asks, decided, goes_as, judged, kind_asked, kind_of_ask}
+use Rattle.papaya_rests.specs.Owed.{owed_by, grows_by, grows_of}
+use Rattle.papaya_call.specs.Remove.{grave_word}
+use Rattle.papaya_call.specs.Search.{look as look_seen, at_yes as search_compared}
+use Rattle.papaya_rests.specs.Told.{IsAsked, IsTold, IsUnmade, IsSaying, Hands, told_of}
+use Rattle.papaya_call.specs.Write.{new_word}
+use Rattle.papaya_rests.proofs.Leads.{HoldsOfLeads, beaten_leads, goes_leads, left_leads, provides_leads, root_leads}
+use Rattle.papaya_rests.proofs.RestsLearn.{by_test}
+
+-- a machine owes where it is about to count
+abbrev owed_in : Stage → ℤ
+owed_in (Counting n) = pos 1
+owed_in (Uncounting n) = negsuc 0
+owed_in AtRoot = pos 0
+owed_in Making = pos 0
+owed_in (Opening t) = pos 0
+owed_in (Searching search) = pos 0
+owed_in (Writing write) = pos 0
+owed_in (Offering gap) = pos 0
+owed_in (Showing removal) = pos 0
+owed_in (Pairing purpose) = pos 0
+owed_in (Putting put) = pos 0
+owed_in (Burying removal) = pos 0
+owed_in (Leaving t) = pos 0
+owed_in (Growing t) = pos 0
+owed_in (Ended reply) = pos 0
+
+-- its ask is what it owes
+asked_in : (made : Made) (hash : ℕ) (stage : Stage) → owed_by (asks made hash stage) ≡ owed_in stage
+asked_in made hash AtRoot = refl
+asked_in made hash Making = refl
+asked_in made hash (Opening t) = refl
+asked_in made hash (Searching (Sizing t)) = refl
+asked_in made hash (Searching (Looking at)) = refl
+asked_in made hash (Searching (Comparing at word)) = refl
+asked_in Nothing hash (Writing write) = refl
+asked_in Key hash (Writing write) = refl
+asked_in (Pair n) hash (Writing write) = refl
+asked_in made hash (Offering gap) = refl
+asked_in made hash (Showing removal) = refl
+asked_in Nothing hash (Pairing purpose) = refl
+asked_in Key hash (Pairing purpose) = refl
+asked_in (Pair n) hash (Pairing purpose) = refl
+asked_in made hash (Putting put) = refl
+asked_in made hash (Burying removal) = refl
+asked_in made hash (Counting n) = refl
+asked_in made hash (Uncounting n) = refl
+asked_in made hash (Leaving t) = refl
+asked_in made hash (Growing t) = refl
+asked_in made hash (Ended reply) = refl
+
+-- a load or a search leads to nothing that is owed
+leads_owe : HoldsOfLeads (λ stage. owed_in stage ≡ pos 0)
+leads_owe = record {
+  ended_absent = refl;
+  ended_found = λ n. refl;
+  ended_occupied = λ n. refl;
+  making = refl;
+  searching = λ place. refl;
+  writing = λ write. refl;
+  offering = λ gap. refl;
+  showing = λ removal. refl;
+  putting = λ put. refl;
+  burying = λ removal. refl;
+  leaving = λ t. refl;
+  growing = λ t. refl;
+}
+
+-- what a search saw
+goes_owes : (task : Task) (mode : ResizeMode) (held : Remembered) (s : Seen) → owed_in (goes_as task mode held s) ≡ pos 0
+goes_owes task mode held s = goes_leads (λ stage. owed_in stage ≡ pos 0) leads_owe task mode held s
+
+-- nor does what a closure answered
+agreed_owes : (removal : Removal) (agrees : Bool) → owed_in (agreed removal agrees) ≡ pos 0
+agreed_owes removal true = refl
+agreed_owes removal false = refl
+
+-- for a removal
+judged_owes : (task : Task) (removal : Removal) (agrees : Bool) → owed_in (judged task removal agrees) ≡ pos 0
+judged_owes Get removal agrees = refl
+judged_owes (Insert replace) removal agrees = refl
+judged_owes RemoveIf removal true = refl
+judged_owes RemoveIf removal false = refl
+judged_owes Compute removal agrees = refl
+
+-- to a pair that was shown
+chosen_owes : (removal : Removal) (kind : OpKind) → owed_in (chosen removal kind) ≡ pos 0
+chosen_owes removal ops.Insert = refl
+chosen_owes removal ops.Remove = refl
+chosen_owes removal (ops.Abort t) = refl
+
+-- for a compute
+decided_owes : (task : Task) (removal : Removal) (kind : OpKind) → owed_in (decided task removal kind) ≡ pos 0
+decided_owes Get removal kind = refl
+decided_owes (Insert replace) removal kind = refl
+decided_owes RemoveIf removal kind = refl
+decided_owes Compute removal kind = chosen_owes removal kind
+
+-- to None
+offered_owes : (gap : Gap) (kind : OpKind) → owed_in (offered gap kind) ≡ pos 0
+offered_owes gap ops.Insert = refl
+offered_owes gap ops.Remove = refl
+offered_owes gap (ops.Abort t) = refl
+
+-- one is owed for a pair that was claimed, and nothing for one that took the place of another
+written_owes : (b : Bool) (old n : ℕ) → owed_in (cond b (Counting n) (Ended (Replaced (pair_of old) n))) ≡ grows_of (Some (cond b kinds.Claim kinds.Replace))
+written_owes true old n = refl
+written_owes false old n = refl
+
+module _ {K P : Type 0} (g : Setting K P) (c : Coding K P) (k : K) (s : State P) (m : Machine) (hands : Hands P) (es : List (Exchange P)) (hands' : Hands P) where
+  -- what an answer leads to owes what the map grew by
+  abbrev Owes : Made → Stage → Answer → Type 0
+  Owes made stage answer = owed_in (after (record m { made = made; state = stage }) answer).state ≡ grows_by (kind_asked made stage) (asks made m.hash stage) answer
+
+  -- where there is nothing to make
+  unmade_owes : (made : Made) (stage : Stage) (answer : Answer) → IsUnmade g c k answer → ((refused : Refused) → Owes made stage (Was_refused refused)) → Owes made stage Ok_done → Owes made stage answer
+  unmade_owes made stage answer h refused ok =
+      ⊎_elim
+      (λ (n : (refused : Refused) × (answer ≡ Was_refused refused)). subst (Owes made stage) (sym n.1) (refused n.0))
+      (λ (n : answer ≡ Ok_done). subst (Owes made stage) (sym n) ok)
+      h
+
+  -- where a closure was asked
+  said_owes : (made : Made) (stage : Stage) (answer : Answer) → IsSaying g c k answer → ((agrees : Bool) → Owes made stage (Yes agrees)) → ((kind : OpKind) → Owes made stage (Op kind)) → Owes made stage Ok_done → Owes made stage answer
+  said_owes made stage answer h judged decided ok =
+      ⊎_elim
+      (λ (y : (agrees : Bool) × (answer ≡ Yes agrees)). subst (Owes made stage) (sym y.1) (judged y.0))
+      (λ z. ⊎_elim (λ (y : (kind : OpKind) × (answer ≡ Op kind)). subst (Owes made stage) (sym y.1) (decided y.0)) (λ (y : answer ≡ Ok_done). subst (Owes made stage) (sym y) ok) z)
+      h
+
+  -- after a comparison
+  compared_owes : (made : Made) (at : Place) (word : ℕ) (answer : Answer) → Owes made (Searching (Comparing at word)) answer
+  compared_owes made at word (Yes same) = goes_owes m.task m.mode m.remembered (search_compared (Comparing at word) same)
+  compared_owes made at word answer = refl
+
+  -- in each stage
+  owes_in : (made : Made) (stage : Stage) (answer : Answer) → IsTold g c k s (kind_asked made stage) hands (asks made m.hash stage) answer es hands' → Owes made stage answer
+  owes_in made AtRoot answer h = subst (Owes made AtRoot) (sym h.0) (root_leads (λ stage. owed_in stage ≡ pos 0) leads_owe m.task m.remembered.fill s.root)
+  owes_in made Making answer h = ⊎_elim (λ u. unmade_owes made Making answer u (λ refused. refl) refl) (λ t. subst (Owes made Making) (sym t.2) refl) h.0
+  owes_in made (Opening t) answer h =
+      by_test (s.root == 0)
+      ((answer ≡ Exchanged) × ((e : Exchange P) × IsAsked c (Some kinds.Open) Root t s hands e × (es ≡ e ∷ [])) × (hands' ≡ hands))
+      ((answer ≡ Found_instead s.root) × (es ≡ []) × (hands' ≡ hands))
+      (Owes made (Opening t) answer) h
+      (λ _ h'. subst (Owes made (Opening t)) (sym h'.0) refl)
+      (λ _ h'. subst (Owes made (Opening t)) (sym h'.0) refl)
+  owes_in made (Searching (Sizing t)) answer h = let size = h.0 in subst (Owes made (Searching (Sizing t))) (sym size.2) refl
+  owes_in made (Searching (Looking at)) answer h =
+      let word : ℕ = code g c (s.slot at.table at.probe.i) in
+      subst (Owes made (Searching (Looking at))) (sym h.0) (goes_owes m.task m.mode m.remembered (look_seen at m.hash word))
+  owes_in made (Searching (Comparing at word)) answer h = compared_owes made at word answer
+  owes_in Nothing (Writing write) answer h = ⊎_elim (λ u. unmade_owes Nothing (Writing write) answer u (λ refused. refl) refl) (λ i. subst (Owes Nothing (Writing write)) (sym i.1) refl) h.0
+  owes_in Key (Writing write) answer h = ⊎_elim (λ u. unmade_owes Key (Writing write) answer u.0 (λ refused. refl) refl) (λ q. subst (Owes Key (Writing write)) (sym q.2) refl) h
+  owes_in (Pair i) (Writing write) answer h =
+      let t : ℕ = write.place.table in
+      let x : ℕ = write.place.probe.i in
+      let word : ℕ = code g c (s.slot t x) in
+      by_test (word == write.old)
+      ((answer ≡ Exchanged) × ((e : Exchange P) × IsAsked c (Some (cond (write.old == 0) kinds.Claim kinds.Replace)) (Slot t x) (new_word m.hash i) s hands e × (es ≡ e ∷ [])) × (hands' ≡ hands))
+      ((answer ≡ Found_instead word) × (es ≡ []) × (hands' ≡ told_of s (Slot t x) hands))
+      (Owes (Pair i) (Writing write) answer) h
+      (λ _ h'. subst (Owes (Pair i) (Writing write)) (sym h'.0) (written_owes (write.old == 0) write.old i))
+      (λ _ h'. subst (Owes (Pair i) (Writing write)) (sym h'.0) (goes_owes m.task m.mode m.remembered (look_seen write.place m.hash word)))
+  owes_in made (Offering gap) answer h = said_owes made (Offering gap) answer h.0 (λ _. refl) (λ kind. offered_owes gap kind) refl
+  owes_in made (Showing removal) answer h = said_owes made (Showing removal) answer h.0 (λ agrees. judged_owes m.task removal agrees) (λ kind. decided_owes m.task removal kind) refl
+  owes_in Nothing (Pairing purpose) answer h =
+      ⊎_elim (λ u. unmade_owes Nothing (Pairing purpose) answer u (λ refused. refl) refl) (λ i. subst (Owes Nothing (Pairing purpose)) (sym i.1) refl) h.0
+  owes_in Key (Pairing purpose) answer h =
+      ⊎_elim (λ u. unmade_owes Key (Pairing purpose) answer u.0 (λ refused. refl) refl) (λ q. subst (Owes Key (Pairing purpose)) (sym q.2) (provides_leads (λ stage. owed_in stage ≡ pos 0) leads_owe purpose (c.number q.0))) h
+  owes_in (Pair i) (Pairing purpose) answer h =
+      ⊎_elim (λ u. unmade_owes (Pair i) (Pairing purpose) answer u.0 (λ refused. refl) refl) (λ q. subst (Owes (Pair i) (Pairing purpose)) (sym q.2) (provides_leads (λ stage. owed_in stage ≡ pos 0) leads_owe purpose (c.number q.0))) h
+  owes_in made (Putting put) answer h =
+      let t : ℕ = put.write.place.table in
+      let x : ℕ = put.write.place.probe.i in
+      let word : ℕ = code g c (s.slot t x) in
+      by_test (word == put.write.old)
+      ((answer ≡ Exchanged) × ((e : Exchange P) × IsAsked c (Some (cond (put.write.old == 0) kinds.Claim kinds.Replace)) (Slot t x) (new_word m.hash put.pair) s hands e × (es ≡ e ∷ [])) × (hands' ≡ hands))
+      ((answer ≡ Found_instead word) × (es ≡ []) × (hands' ≡ told_of s (Slot t x) hands))
+      (Owes made (Putting put) answer) h
+      (λ _ h'. subst (Owes made (Putting put)) (sym h'.0) (written_owes (put.write.old == 0) put.write.old put.pair))
+      (λ _ h'. subst (Owes made (Putting put)) (sym h'.0) (goes_owes m.task m.mode m.remembered (look_seen put.write.place m.hash word)))
+  owes_in made (Burying removal) answer h =
+      let t : ℕ = removal.place.table in
+      let x : ℕ = removal.place.probe.i in
+      let word : ℕ = code g c (s.slot t x) in
+      by_test (word == removal.word)
+      ((answer ≡ Exchanged) × ((e : Exchange P) × IsAsked c (Some kinds.Bury) (Slot t x) (grave_word removal.word) s hands e × (es ≡ e ∷ [])) × (hands' ≡ hands))
+      ((answer ≡ Found_instead word) × (es ≡ []) × (hands' ≡ told_of s (Slot t x) hands))
+      (Owes made (Burying removal) answer) h
+      (λ _ h'. subst (Owes made (Burying removal)) (sym h'.0) refl)
+      (λ _ h'. subst (Owes made (Burying removal)) (sym h'.0) (beaten_leads (λ stage. owed_in stage ≡ pos 0) leads_owe (record m { made = made; state = Burying removal }) removal word))
+  owes_in made (Counting i) answer h = subst (Owes made (Counting i)) (sym h.0) refl
+  owes_in made (Uncounting i) answer h = subst (Owes made (Uncounting i)) (sym h.0) refl
+  owes_in made (Growing t) answer h = subst (Owes made (Growing t)) (sym h.0) refl
+  owes_in made (Leaving t) answer h = subst (Owes made (Leaving t)) (sym h.0) (left_leads (λ stage. owed_in stage ≡ pos 0) leads_owe m.task m.remembered.fill t (s.next t))
+  owes_in made (Ended reply) answer h = subst (Owes made (Ended reply)) (sym h.0) refl
+
+  -- of the machine
+  pub machine_owes : (answer : Answer) → IsTold g c k s (kind_of_ask m) hands (ask_of m) answer es hands' → owed_by (ask_of (after m answer)) ≡ grows_by (kind_of_ask m) (ask_of m) answer
+  machine_owes answer h = asked_in (after m answer).made (after m answer).hash (after m answer).state ∙ owes_in m.made m.state answer h

@@ -1,0 +1,248 @@
+-- The exchange that a machine asks for: where its old word stands there it may be made, and it writes just its word.
+use Rattle.std.proofs.Common.{◌≡◌, ⊎_elim, ℕ, ◌<◌, ◌^◌, ◌==◌, eqb-true, eq-eqb, Bool, true, false, cond, Option, Some, List, ◌++◌, refl, sym, ap, ◌∙◌, subst}
+use Rattle.papaya_words.specs.Word.{byte_of, kind_of, pair_of, live_word, buried_word, top_byte}
+use Rattle.papaya_words.specs.declared.word.Kind.TheVariants as word_kinds
+use Rattle.papaya_call.specs.declared.ask.Ask.TheVariants.{Exchange as Ask_exchange}
+use Rattle.papaya_call.specs.declared.ask.At.{At}
+use Rattle.papaya_call.specs.declared.ask.At.TheVariants.{Root, Next, Aborted, Done, Slot}
+use Rattle.papaya_call.specs.declared.ask.StepKind.{StepKind}
+use Rattle.papaya_call.specs.declared.ask.StepKind.TheVariants as kinds
+use Rattle.papaya_call.specs.declared.call.Task.{Task}
+use Rattle.papaya_call.specs.declared.call.Task.TheVariants.{Get, Insert, RemoveIf, Compute}
+use Rattle.papaya_call.specs.declared.compute.Put.{Put}
+use Rattle.papaya_call.specs.declared.remove.Removal.{Removal}
+use Rattle.papaya_call.specs.declared.search.Place.{Place}
+use Rattle.papaya_call.specs.declared.search.Search.TheVariants.{Sizing, Looking, Comparing}
+use Rattle.papaya_call.specs.declared.write.Made.{Made}
+use Rattle.papaya_call.specs.declared.write.Made.TheVariants.{Nothing, Key, Pair}
+use Rattle.papaya_call.specs.declared.write.Write.{Write}
+use Rattle.papaya_call.specs.declared.machine.Machine.{Machine}
+use Rattle.papaya_call.specs.declared.machine.State.{State as Stage}
+use Rattle.papaya_call.specs.declared.machine.State.TheVariants.{AtRoot, Making, Opening, Searching, Writing, Offering, Showing, Pairing, Putting, Burying, Counting, Uncounting, Leaving, Growing, Ended}
+use Rattle.papaya_law.specs.Exchange.{Word, Live, Buried, Setting, State, Exchange, Open, Claim, Replace, Bury, after, run, slot_put, start, walk}
+use Rattle.papaya_law.specs.View.{Foreign, Here, look, own, beyond, IsPassed, IsReached}
+use Rattle.papaya_law.specs.Allows.{AllAllowed, Allows, MayClaim, MayReplace, MayBury}
+use Rattle.papaya_law.specs.Code.{Coding, IsOfKind, code}
+use Rattle.papaya_law.specs.Invariant.{named}
+use Rattle.papaya_law.specs.Later.{Becomes}
+use Rattle.papaya_call.specs.Machine.{asks, kind_asked}
+use Rattle.papaya_rests.specs.Told.{IsAsked, IsOneOf, IsWritten, Hands, word_of}
+use Rattle.papaya_law.specs.Code.{IsHashed}
+use Rattle.papaya_call.specs.Remove.{grave_word}
+use Rattle.papaya_rests.specs.Rests.{IsAt, IsOwnPair, MayRemove, MayWrite, Rests, RestsMade, RestsStage, RestsWriting}
+use Rattle.papaya_call.specs.Write.{new_word}
+use Rattle.papaya_law.proofs.Codes.{code_empty, code_pair}
+use Rattle.papaya_law.proofs.CodeViews.{word_of_kind}
+use Rattle.papaya_law.proofs.Slots.{look_same, put_there, put_elsewhere}
+use Rattle.papaya_rests.proofs.NewWords.{pair_of-new_word}
+use Rattle.papaya_rests.proofs.RestsLearnMoments.{come_reached}
+use Rattle.papaya_rests.proofs.RestsLearnPlaces.{sees}
+
+-- a Live word that is the key's has an equal key
+own_live : {P : Type 0} → (b : Bool) (p : P) → own (cond b (Here p) Foreign) ≡ true → b ≡ true
+own_live true p h = refl
+own_live false p h = absurd cc
+
+module _ {K P : Type 0} (g : Setting K P) (c : Coding K P) (hashed : IsHashed g c) (begun since : List (Exchange P)) (may : AllAllowed g start (begun ++ since)) (k : K) where
+  -- the state after all exchanges
+  abbrev now : State P
+  now = run (begun ++ since) start
+
+  module _ (at : Place) (r : IsAt g c begun since k at) where
+    -- the key's search comes to the place
+    reached : IsReached g now k at.table
+    reached = come_reached g c hashed.lawful begun since may k at.table r.come
+
+    -- so does the search for each equal key
+    reached_pair : (p : P) → g.same k (g.key p) ≡ true → IsReached g now (g.key p) at.table
+    reached_pair p same = let e = reached in record {
+      from = e.from;
+      links = e.links;
+      was = e.was;
+      is = e.is;
+      made = e.made;
+      mode = e.mode;
+      passed = λ i lt. subst (λ V. IsPassed g.places V (walk now.next i e.from)) (look_same g hashed.lawful now k (g.key p) same) (e.passed i lt);
+    }
+
+    -- a pair of the key that is Live may be buried
+    pub may_bury : (p : P) → now.slot at.table at.probe.i ≡ Live p → g.same k (g.key p) ≡ true → MayBury g now at.table at.probe.i p
+    may_bury p live same = record { live = live; reached = reached_pair p same }
+
+    module _ (q : P) (mine : g.key q ≡ k) where
+      -- at an Empty place a pair of the key may be claimed
+      pub may_claim : code g c (now.slot at.table at.probe.i) ≡ 0 → MayClaim g now at.table at.probe.i q
+      may_claim none = record {
+        empty = code_empty g c (now.slot at.table at.probe.i) none;
+        reached = subst (λ l. IsReached g now l at.table) (sym mine) reached;
+        place = record {
+          at = at.probe.len;
+          within = r.within;
+          is = ap (λ l. g.place l at.table at.probe.len) mine ∙ sym r.slot;
+          before = subst (λ l. (i : ℕ) → i < at.probe.len → beyond (look g now l at.table i) ≡ true) (sym mine) r.before;
+        };
+      }
+
+      module _ (p : P) (live : now.slot at.table at.probe.i ≡ Live p) (own_word : own (look g now k at.table at.probe.len) ≡ true) where
+        -- the pair that stands there is of the key
+        same_key : g.same k (g.key p) ≡ true
+        same_key = own_live (g.same k (g.key p)) p (ap own (sym (sees g c hashed begun since k at r (Live p) live)) ∙ own_word)
+
+        -- it may be replaced
+        pub may_replace : MayReplace g now at.table at.probe.i p q
+        may_replace = record {
+          live = live;
+          reached = reached_pair p same_key;
+          same = subst (λ l. g.same (g.key p) l ≡ true) (sym mine) (hashed.lawful.back k (g.key p) same_key);
+        }
+
+  -- the exchange of this kind at this place may be made, and writes just the new word
+  abbrev pub MayDo : Option StepKind → Hands P → At → (old new : ℕ) → Type 0
+  MayDo kind hands at old new = word_of g c now at ≡ old → (e : Exchange P) × IsAsked c kind at new now hands e × Allows g now e × IsWritten g c now at new (after now e)
+
+  -- what an ask says is one thing
+  same_ask : (kind : Option StepKind) (hands : Hands P) (at at' : At) (old old' new new' : ℕ) → Ask_exchange at old new ≡ Ask_exchange at' old' new' → MayDo kind hands at old new → MayDo kind hands at' old' new'
+  same_ask kind hands at at' old old' new new' e h =
+      let a : at ≡ at' = cc e in
+      let b : old ≡ old' = cc e in
+      let d : new ≡ new' = cc e in
+      subst (λ y. MayDo kind hands y old' new') a (subst (λ y. MayDo kind hands at y new') b (subst (λ y. MayDo kind hands at old y) d h))
+
+  -- a root is put in
+  opens : (hands : Hands P) (t : ℕ) → 0 < t → MayDo (Some kinds.Open) hands Root 0 t
+  opens hands t some none = (Open t, refl, (none, some), record { here = refl; others = others })
+    where
+      others : (other : At) → (other ≡ Root → ⊥) → word_of g c (after now (Open t)) other ≡ word_of g c now other
+      others Root different = absurd (different refl)
+      others (Next u) different = refl
+      others (Aborted u) different = refl
+      others (Done u) different = refl
+      others (Slot u y) different = refl
+
+  -- a word that is put into a slot is the only one that changes
+  slot_written : (t x : ℕ) (w : Word P) → IsWritten g c now (Slot t x) (code g c w) (slot_put now t x w)
+  slot_written t x w = record { here = ap (code g c) (put_there now t x w t x (refl, refl)).0; others = others }
+    where
+      others : (other : At) → (other ≡ Slot t x → ⊥) → word_of g c (slot_put now t x w) other ≡ word_of g c now other
+      others Root different = refl
+      others (Next u) different = refl
+      others (Aborted u) different = refl
+      others (Done u) different = refl
+      others (Slot u y) different = ap (code g c) (put_elsewhere now t x w u y (λ e. different (ap (λ a. Slot a y) (sym e.0) ∙ ap (Slot t) (sym e.1))))
+
+  -- an insertion's word is the code of its pair
+  new_code : (hash n : ℕ) (q : P) → hash ≡ c.hash k → g.key q ≡ k → c.number q ≡ n → code g c (Live q) ≡ new_word hash n
+  new_code hash n q same mine is =
+      ap (λ l. live_word (top_byte (c.hash l)) (c.number q)) mine
+      ∙ ap (λ h. live_word (top_byte h) (c.number q)) (sym same)
+      ∙ ap (live_word (top_byte hash)) is
+
+  -- the word of an insertion names its pair
+  new_pair : (hash n : ℕ) → hash ≡ c.hash k → pair_of (new_word hash n) ≡ n
+  new_pair hash n same = pair_of-new_word hash n (subst (λ h. h < 2 ^ 64) (sym same) (hashed.coding.hash_fits k))
+
+  -- a call that made pairs of its key
+  module _ (hands : Hands P) (keys : (q : P) → IsOneOf hands.made q → g.key q ≡ k) (hash : ℕ) (same : hash ≡ c.hash k) where
+    -- writes one: it is claimed where there was none, or put in place of another
+    writes : (n : ℕ) → IsOwnPair g c begun since k hands n → (replace : Bool) (write : Write) → MayWrite g c begun since k replace write → (b : Bool) → (write.old == 0) ≡ b
+        → MayDo (Some (cond b kinds.Claim kinds.Replace)) hands (Slot write.place.table write.place.probe.i) write.old (new_word hash n)
+    writes n m replace write r true e old =
+        let t : ℕ = write.place.table in
+        let x : ℕ = write.place.probe.i in
+        let q : P = m.0 in
+        let mine : g.key q ≡ k = keys q m.1 in (
+          Claim t x q,
+          (q, record { made = m.1; named = m.2 ∙ sym (new_pair hash n same) }, refl),
+          may_claim write.place r.stands q mine (old ∙ eqb-true write.old 0 e),
+          subst (λ y. IsWritten g c now (Slot t x) y (slot_put now t x (Live q))) (new_code hash n q same mine m.2) (slot_written t x (Live q)),
+        )
+    writes n m replace write r false e old =
+        let t : ℕ = write.place.table in
+        let x : ℕ = write.place.probe.i in
+        let q : P = m.0 in
+        let mine : g.key q ≡ k = keys q m.1 in
+        ⊎_elim
+        (λ none. absurd (let some = eq-eqb write.old 0 none in cc (some, e)))
+        (λ h.
+        let live : IsOfKind word_kinds.Live (now.slot t x) = subst (λ y. IsOfKind y (now.slot t x)) (ap kind_of old ∙ h.1) (word_of_kind g c (now.slot t x)) in (
+          Replace t x live.0 q,
+          (live.0, q, live.1, record { made = m.1; named = m.2 ∙ sym (new_pair hash n same) }, refl),
+          may_replace write.place r.stands q mine live.0 live.1 h.2,
+          subst (λ y. IsWritten g c now (Slot t x) y (slot_put now t x (Live q))) (new_code hash n q same mine m.2) (slot_written t x (Live q)),
+        ))
+        r.old
+
+    -- an insertion writes
+    writing : (n : ℕ) → IsOwnPair g c begun since k hands n → (task : Task) (write : Write) → RestsWriting g c begun since k task write
+        → MayDo (Some (cond (write.old == 0) kinds.Claim kinds.Replace)) hands (Slot write.place.table write.place.probe.i) write.old (new_word hash n)
+    writing n m Get write r = absurd r
+    writing n m RemoveIf write r = absurd r
+    writing n m Compute write r = absurd r
+    writing n m (Insert replace) write r = writes n m replace write r (write.old == 0) refl
+
+    -- and so does a compute
+    puts : (put : Put) → MayWrite g c begun since k true put.write → IsOwnPair g c begun since k hands put.pair
+        → MayDo (Some (cond (put.write.old == 0) kinds.Claim kinds.Replace)) hands (Slot put.write.place.table put.write.place.probe.i) put.write.old (new_word hash put.pair)
+    puts put r m = writes put.pair m true put.write r (put.write.old == 0) refl
+
+  -- a Live word that came of one of the key is of the key
+  still_own : (was : Word P) (p q : P) → IsOfKind word_kinds.Live was → named was ≡ Some p → Becomes g was (Live q) → g.same k (g.key p) ≡ true → g.same k (g.key q) ≡ true
+  still_own was p q live names became same =
+      let is : live.0 ≡ p = let n = ap named (sym live.1) ∙ names in cc n in
+      let became' : Becomes g (Live live.0) (Live q) = subst (λ w. Becomes g w (Live q)) live.1 became in
+      hashed.lawful.through k (g.key p) (g.key q) same (subst (λ r. g.same (g.key r) (g.key q) ≡ true) is became')
+
+  -- a removed pair's word is the code of its Buried word
+  grave_code : (p : P) (word : ℕ) → code g c (Live p) ≡ word → code g c (Buried p) ≡ grave_word word
+  grave_code p word e =
+      let parts = code_pair g c hashed.coding (Live p) p refl in
+      ap (λ b. buried_word b (c.number p)) (sym parts.1) ∙ ap (buried_word (byte_of (code g c (Live p)))) (sym parts.0) ∙ ap grave_word e
+
+  -- a pair to which the closure agreed is buried where its word stands
+  buries : (hands : Hands P) (removal : Removal) → MayRemove g c begun since k hands removal → MayDo (Some kinds.Bury) hands (Slot removal.place.table removal.place.probe.i) removal.word (grave_word removal.word)
+  buries hands removal r stands_there =
+      let t : ℕ = removal.place.table in
+      let x : ℕ = removal.place.probe.i in
+      let live : IsOfKind word_kinds.Live (now.slot t x) = subst (λ y. IsOfKind y (now.slot t x)) (ap kind_of stands_there ∙ r.live) (word_of_kind g c (now.slot t x)) in
+      let was_live : IsOfKind word_kinds.Live r.met.was = subst (λ y. IsOfKind y r.met.was) (ap kind_of (sym r.met.loaded) ∙ r.live) (word_of_kind g c r.met.was) in
+      let q : P = live.0 in
+      let same : g.same k (g.key q) ≡ true = still_own r.met.was r.pair q was_live r.met.names (subst (Becomes g r.met.was) live.1 r.met.became) r.same in (
+        Bury t x q,
+        (q, live.1, refl),
+        may_bury removal.place r.met.stands q live.1 same,
+        subst (λ y. IsWritten g c now (Slot t x) y (slot_put now t x (Buried q))) (grave_code q removal.word (ap (code g c) (sym live.1) ∙ stands_there)) (slot_written t x (Buried q)),
+      )
+
+  module _ (hands : Hands P) (keys : (q : P) → IsOneOf hands.made q → g.key q ≡ k) (hash : ℕ) (same : hash ≡ c.hash k) (task : Task) where
+    -- what a machine asks for may be made
+    may_do : (made : Made) → RestsMade g c begun since k hands made → (stage : Stage) → RestsStage g c begun since k hands task stage
+        → (at : At) (old new : ℕ) → asks made hash stage ≡ Ask_exchange at old new → MayDo (kind_asked made stage) hands at old new
+    may_do made m AtRoot r at old new e = absurd cc
+    may_do made m Making r at old new e = absurd cc
+    may_do made m (Opening t) r at old new e = same_ask (Some kinds.Open) hands Root at 0 old t new e (opens hands t r.1)
+    may_do made m (Searching (Sizing t)) r at old new e = absurd cc
+    may_do made m (Searching (Looking place)) r at old new e = absurd cc
+    may_do made m (Searching (Comparing place word)) r at old new e = absurd cc
+    may_do Nothing m (Writing write) r at old new e = absurd cc
+    may_do Key m (Writing write) r at old new e = absurd cc
+    may_do (Pair n) m (Writing write) r at old new e =
+        same_ask (Some (cond (write.old == 0) kinds.Claim kinds.Replace)) hands (Slot write.place.table write.place.probe.i) at write.old old (new_word hash n) new e (writing hands keys hash same n m task write r)
+    may_do made m (Offering gap) r at old new e = absurd cc
+    may_do made m (Showing removal) r at old new e = absurd cc
+    may_do Nothing m (Pairing purpose) r at old new e = absurd cc
+    may_do Key m (Pairing purpose) r at old new e = absurd cc
+    may_do (Pair n) m (Pairing purpose) r at old new e = absurd cc
+    may_do made m (Putting put) r at old new e =
+        let write : Write = put.write in
+        same_ask (Some (cond (write.old == 0) kinds.Claim kinds.Replace)) hands (Slot write.place.table write.place.probe.i) at write.old old (new_word hash put.pair) new e (puts hands keys hash same put r.1 r.2)
+    may_do made m (Burying removal) r at old new e =
+        same_ask (Some kinds.Bury) hands (Slot removal.place.table removal.place.probe.i) at removal.word old (grave_word removal.word) new e (buries hands removal r.1)
+    may_do made m (Counting n) r at old new e = absurd cc
+    may_do made m (Uncounting n) r at old new e = absurd cc
+    may_do made m (Leaving t) r at old new e = absurd cc
+    may_do made m (Growing t) r at old new e = absurd cc
+    may_do made m (Ended reply) r at old new e = absurd cc
+
+  -- the same of the machine
+  pub machine_may : (m : Machine) (hands : Hands P) → Rests g c begun since k m hands → (at : At) (old new : ℕ) → asks m.made m.hash m.state ≡ Ask_exchange at old new → MayDo (kind_asked m.made m.state) hands at old new
+  machine_may m hands r at old new e = let own = r.made in may_do hands own.keys m.hash r.hash m.task m.made own.made_is m.state r.stage at old new e

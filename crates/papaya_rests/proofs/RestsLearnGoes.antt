@@ -1,0 +1,131 @@
+-- Where a search ends, the machine rests on what it saw.
+use Rattle.std.proofs.Common.{◌≡◌, ◌⊎◌, inl, inr, ⊎_elim, ℕ, true, false, cond, None, Some, List, ◌++◌, refl, sym, ap, ◌∙◌, subst}
+use Rattle.papaya_words.specs.Word.{kind_of, pair_of}
+use Rattle.papaya_words.specs.declared.word.Kind.TheVariants as kinds
+use Rattle.papaya_words.specs.declared.probe.ResizeMode.{ResizeMode}
+use Rattle.papaya_words.specs.declared.probe.ResizeMode.TheVariants.{Incremental, Blocking}
+use Rattle.papaya_call.specs.declared.call.Task.{Task}
+use Rattle.papaya_call.specs.declared.call.Task.TheVariants.{Get, Insert, RemoveIf, Compute}
+use Rattle.papaya_call.specs.declared.compute.Gap.TheVariants.{At, After}
+use Rattle.papaya_call.specs.declared.compute.Remembered.{Remembered}
+use Rattle.papaya_call.specs.declared.search.Place.{Place}
+use Rattle.papaya_call.specs.declared.search.Seen.{Seen}
+use Rattle.papaya_call.specs.declared.search.Seen.TheVariants as seen
+use Rattle.papaya_law.specs.Exchange.{Word, Live, Marked, Copied, Setting, State, Exchange, run, start}
+use Rattle.papaya_law.specs.View.{Foreign, Here, Leaving, Gone, look, own, held, view}
+use Rattle.papaya_law.specs.Allows.{AllAllowed}
+use Rattle.papaya_law.specs.Code.{Coding, code}
+use Rattle.papaya_call.specs.Machine.{goes_as, computes, found, removes, replaces}
+use Rattle.papaya_rests.specs.Told.{Hands}
+use Rattle.papaya_law.specs.Code.{IsHashed}
+use Rattle.papaya_rests.specs.Rests.{HadPair, HasMet, IsAt, IsMovingFrom, IsModeOf, MayRemove, MayWrite, RestsChoice, RestsFill, RestsStage, WasAtMoment}
+use Rattle.papaya_law.proofs.Codes.{code_kind, code_pair}
+use Rattle.papaya_law.proofs.Later.{own_sees, sees_later}
+use Rattle.papaya_rests.proofs.RestsLearnComputes.{lacks_rests, recalls_rests}
+use Rattle.papaya_rests.proofs.RestsLearnMoments.{empty_here, over_blocking}
+use Rattle.papaya_rests.proofs.RestsLearnPlaces.{RestsSeen, sees}
+use Rattle.papaya_rests.proofs.RestsLearnLook.{became_of}
+
+module _ {K P : Type 0} (g : Setting K P) (c : Coding K P) (hashed : IsHashed g c) (begun since : List (Exchange P)) (may : AllAllowed g start (begun ++ since)) (k : K) where
+  -- the state after all exchanges
+  abbrev now : State P
+  now = run (begun ++ since) start
+
+  module _ (at : Place) (word : ℕ) (p : P) (h : HasMet g c begun since k at word p) (same : g.same k (g.key p) ≡ true) where
+    -- a pair of the key that stood Live shows so
+    shows_live : h.was ≡ Live p → view g k h.was ≡ Here p
+    shows_live e = ap (view g k) e ∙ ap (λ b. cond b (Here p) Foreign) same
+
+    -- one that stood Marked too
+    shows_marked : h.was ≡ Marked p → view g k h.was ≡ Leaving p
+    shows_marked e = ap (view g k) e ∙ ap (λ b. cond b (Leaving p) Foreign) same
+
+    -- the map had the pair at a moment
+    pub had_pair : (h.was ≡ Live p) ⊎ (h.was ≡ Marked p) → HadPair g c begun since k (pair_of word)
+    had_pair e = (
+      p,
+      sym (ap pair_of h.loaded ∙ (code_pair g c hashed.coding h.was p h.names).0),
+      h.had (⊎_elim (λ l. ap held (shows_live l)) (λ m. ap held (shows_marked m)) e),
+    )
+
+    -- where it stood Live the key's word still stands there
+    own_now : h.was ≡ Live p → own (look g now k at.table at.probe.len) ≡ true
+    own_now e =
+        let w : Word P = now.slot at.table at.probe.i in
+        ap own (sees g c hashed begun since k at h.stands w refl)
+        ∙ own_sees (view g k h.was) (view g k w) (sees_later g hashed.lawful k h.was w h.became) (ap own (shows_live e))
+
+    -- where it stood Marked the pair is being copied, or was
+    moving : h.was ≡ Marked p → IsMovingFrom g c begun since k at.table
+    moving e =
+        ⊎_elim
+        (λ m. (at.probe.len, p, h.stands.within, inl (sees g c hashed begun since k at h.stands (Marked p) m ∙ ap (λ b. cond b (Leaving p) Foreign) same)))
+        (λ m. (at.probe.len, p, h.stands.within, inr (sees g c hashed begun since k at h.stands (Copied p) m ∙ ap (λ b. cond b (Gone p) Foreign) same)))
+        (became_of g c hashed begun since may k at word p h (Marked p) e)
+
+    -- the number says how the word stood
+    live_kind : h.was ≡ Live p → kind_of word ≡ kinds.Live
+    live_kind e = ap kind_of (h.loaded ∙ ap (code g c) e) ∙ code_kind g c (Live p)
+
+    -- of a Marked one too
+    marked_kind : h.was ≡ Marked p → kind_of word ≡ kinds.Marked
+    marked_kind e = ap kind_of (h.loaded ∙ ap (code g c) e) ∙ code_kind g c (Marked p)
+
+    -- the key's word may be replaced
+    pub replaceable : h.was ≡ Live p → MayWrite g c begun since k true (record { place = at; old = word })
+    replaceable e = record { stands = h.stands; old = inr (refl, live_kind e, own_now e) }
+
+    -- its pair may be removed
+    removable : (hands : Hands P) → hands.last ≡ Some p → h.was ≡ Live p → MayRemove g c begun since k hands (record { place = at; word = word })
+    removable hands last e = record { pair = p; last = last; met = h; live = live_kind e; same = same }
+
+    -- an insertion that replaces
+    replacing : (hands : Hands P) → (h.was ≡ Live p) ⊎ (h.was ≡ Marked p) → RestsStage g c begun since k hands (Insert true) (replaces (kind_of word) at word)
+    replacing hands (inl e) = subst (λ y. RestsStage g c begun since k hands (Insert true) (replaces y at word)) (sym (live_kind e)) (replaceable e)
+    replacing hands (inr e) =
+        subst (λ y. RestsStage g c begun since k hands (Insert true) (replaces y at word)) (sym (marked_kind e)) (h.stands.come, inr (moving e))
+
+    -- a removal
+    removing : (hands : Hands P) → hands.last ≡ Some p → (h.was ≡ Live p) ⊎ (h.was ≡ Marked p) → RestsStage g c begun since k hands RemoveIf (removes (kind_of word) at word)
+    removing hands last (inl e) = subst (λ y. RestsStage g c begun since k hands RemoveIf (removes y at word)) (sym (live_kind e)) (tt, removable hands last e)
+    removing hands last (inr e) =
+        subst (λ y. RestsStage g c begun since k hands RemoveIf (removes y at word)) (sym (marked_kind e)) (h.stands.come, moving e)
+
+    -- a compute
+    computing : (hands : Hands P) → hands.last ≡ Some p → (held : Remembered) → RestsChoice g c begun since k hands held.choice → (h.was ≡ Live p) ⊎ (h.was ≡ Marked p)
+        → RestsStage g c begun since k hands Compute (computes (kind_of word) held at word)
+    computing hands last held own (inl e) =
+        subst (λ y. RestsStage g c begun since k hands Compute (computes y held at word)) (sym (live_kind e))
+        (recalls_rests g c begun since k hands at word (replaceable e) (removable hands last e) held.choice own (pair_of word))
+    computing hands last held own (inr e) =
+        subst (λ y. RestsStage g c begun since k hands Compute (computes y held at word)) (sym (marked_kind e)) (h.stands.come, inr (moving e))
+
+    -- each task
+    finds : (hands : Hands P) → hands.last ≡ Some p → (held : Remembered) → RestsChoice g c begun since k hands held.choice → (task : Task) → (h.was ≡ Live p) ⊎ (h.was ≡ Marked p)
+        → RestsStage g c begun since k hands task (found task held at word)
+    finds hands last held own Get e = had_pair e
+    finds hands last held own (Insert false) e = had_pair e
+    finds hands last held own (Insert true) e = replacing hands e
+    finds hands last held own RemoveIf e = removing hands last e
+    finds hands last held own Compute e = computing hands last held own e
+
+  -- a call that looks for its key comes to an Empty place
+  empty_rests : (at : Place) → IsAt g c begun since k at → now.slot at.table at.probe.i ≡ Word.Empty → WasAtMoment g c begun since k None
+  empty_rests at r e = empty_here g c hashed.lawful begun since may k at.table at.probe.len r.come r.within r.before (sees g c hashed begun since k at r Word.Empty e)
+
+  module _ (hands : Hands P) (held : Remembered) (fill : RestsFill g c begun since k hands held.fill) (choice : RestsChoice g c begun since k hands held.choice) where
+    -- what the search saw leads where the machine rests
+    pub goes_rests : (task : Task) (mode : ResizeMode) → IsModeOf mode g.blocking → (s : Seen) → RestsSeen g c hashed begun since k hands s → RestsStage g c begun since k hands task (goes_as task mode held s)
+    goes_rests task mode is (seen.On _) r = r
+    goes_rests task mode is (seen.Here at word) r = finds at word r.0 r.2 r.3 hands r.1 held choice task r.4
+    goes_rests Get mode is (seen.Empty at) r = empty_rests at r.0 r.1
+    goes_rests RemoveIf mode is (seen.Empty at) r = empty_rests at r.0 r.1
+    goes_rests Compute mode is (seen.Empty at) r = lacks_rests g c begun since k hands held.fill fill (At at) r.0 (empty_rests at r.0 r.1)
+    goes_rests (Insert replace) mode is (seen.Empty at) r = record { stands = r.0; old = inl refl }
+    goes_rests Get (Incremental chunk) is (seen.Over t) r = (is, r.0, r.1)
+    goes_rests Get Blocking is (seen.Over t) r = over_blocking g c hashed.lawful begun since may k t r.0 is r.1
+    goes_rests RemoveIf (Incremental chunk) is (seen.Over t) r = (is, r.0, r.1)
+    goes_rests RemoveIf Blocking is (seen.Over t) r = over_blocking g c hashed.lawful begun since may k t r.0 is r.1
+    goes_rests Compute (Incremental chunk) is (seen.Over t) r = (is, r.0, r.1)
+    goes_rests Compute Blocking is (seen.Over t) r = lacks_rests g c begun since k hands held.fill fill (After t) r (over_blocking g c hashed.lawful begun since may k t r.0 is r.1)
+    goes_rests (Insert replace) mode is (seen.Over t) r = (r.0, inl r.1)

@@ -1,0 +1,128 @@
+-- What a search sees in the word that stands at its place, and by comparing the key of the pair that it met.
+use Rattle.std.proofs.Common.{◌≡◌, ◌⊎◌, inl, inr, ⊎_elim, ℕ, ◌==◌, Bool, true, false, cond, Some, List, [], ◌++◌, append-nil, refl, sym, ap, ◌∙◌, subst}
+use Rattle.std.proofs.lemmas.Bool.{cond_both}
+use Rattle.papaya_words.specs.Word.{kind_of, byte_of, top_byte}
+use Rattle.papaya_words.specs.declared.word.Kind.TheVariants as kinds
+use Rattle.papaya_call.specs.declared.search.Place.{Place}
+use Rattle.papaya_call.specs.declared.search.Search.TheVariants.{Comparing}
+use Rattle.papaya_call.specs.declared.search.Seen.TheVariants as seen
+use Rattle.papaya_law.specs.Exchange.{Word, Empty, Closed, Live, Marked, Copied, Buried, Setting, State, Exchange, run, start}
+use Rattle.papaya_law.specs.View.{View, Foreign, Here, Leaving, Gone, look, held, beyond, view}
+use Rattle.papaya_law.specs.Allows.{AllAllowed}
+use Rattle.papaya_law.specs.Code.{Coding, code, kind}
+use Rattle.papaya_law.specs.Invariant.{named}
+use Rattle.papaya_law.specs.Later.{Becomes}
+use Rattle.papaya_call.specs.Search.{go_on, compare_byte, look_at, look as look_seen, match_at, at_yes}
+use Rattle.papaya_rests.specs.Told.{Hands, or_last}
+use Rattle.papaya_law.specs.Code.{IsHashed}
+use Rattle.papaya_rests.specs.Rests.{HasMet, IsAt}
+use Rattle.papaya_law.proofs.Codes.{code_kind}
+use Rattle.papaya_law.proofs.CodeViews.{other_byte, other_key, past_buried}
+use Rattle.papaya_law.proofs.Later.{Sees, later_itself, sees_later}
+use Rattle.papaya_rests.proofs.RestsLearnMoments.{found_here}
+use Rattle.papaya_rests.proofs.RestsLearnPlaces.{RestsSeen, goes_on, sees}
+
+-- the machine was told of the pair that a word names
+abbrev pub told_word : {P : Type 0} → Word P → Hands P → Hands P
+told_word w hands = record hands { last = or_last (named w) hands.last }
+
+-- of two views the one that is held
+one_held : {P : Type 0} → (b : Bool) (v : View P) → held (cond b v Foreign) ≡ true → cond b v Foreign ≡ v
+one_held true v h = refl
+one_held false v h = absurd cc
+
+module _ {K P : Type 0} (g : Setting K P) (k : K) where
+  -- a held word that names p has p
+  held_pair : (w : Word P) (p : P) → named w ≡ Some p → held (view g k w) ≡ true → (view g k w ≡ Here p) ⊎ (view g k w ≡ Leaving p)
+  held_pair Empty p n h = absurd cc
+  held_pair Closed p n h = absurd cc
+  held_pair (Live q) p n h = let is : q ≡ p = cc n in inl (one_held (g.same k (g.key q)) (Here q) h ∙ ap Here is)
+  held_pair (Marked q) p n h = let is : q ≡ p = cc n in inr (one_held (g.same k (g.key q)) (Leaving q) h ∙ ap Leaving is)
+  held_pair (Copied q) p n h = let e = one_held (g.same k (g.key q)) (Gone q) h in let no : held (Gone q) ≡ true = subst (λ v. held v ≡ true) e h in absurd cc
+  held_pair (Buried q) p n h = let e = one_held (g.same k (g.key q)) (View.Grave q) h in let no : held (View.Grave q) ≡ true = subst (λ v. held v ≡ true) e h in absurd cc
+
+module _ {K P : Type 0} (g : Setting K P) (c : Coding K P) (hashed : IsHashed g c) (begun since : List (Exchange P)) (may : AllAllowed g start (begun ++ since)) (k : K) where
+  -- the state after all exchanges
+  abbrev now : State P
+  now = run (begun ++ since) start
+
+  module _ (at : Place) (r : IsAt g c begun since k at) where
+    -- the pair that the word at the place names is met
+    met : (w : Word P) (p : P) → now.slot at.table at.probe.i ≡ w → named w ≡ Some p → (kind w ≡ kinds.Buried → ⊥) → HasMet g c begun since k at (code g c w) p
+    met w p e n unburied = record {
+      stands = r;
+      was = w;
+      loaded = refl;
+      names = n;
+      unburied = λ b. unburied (sym (code_kind g c w) ∙ b);
+      stood = (since, ([], append-nil since, e));
+      became = subst (λ v. Becomes g v (now.slot at.table at.probe.i)) e ((later_itself g hashed.lawful now).words at.table at.probe.i);
+      had = λ h.
+          let there = sees g c hashed begun since k at r w e in
+          found_here g c hashed.lawful begun since may k at.table at.probe.len p r.come r.within
+          (⊎_elim (λ q. inl (there ∙ q)) (λ q. inr (there ∙ q)) (held_pair g k w p n h));
+    }
+
+    -- a word with the key's hash byte is compared, and a search goes past another one
+    compares : (w : Word P) (p : P) → now.slot at.table at.probe.i ≡ w → named w ≡ Some p → (kind w ≡ kinds.Buried → ⊥) → (hands : Hands P) → RestsSeen g c hashed begun since k (told_word w hands) (compare_byte at (c.hash k) (code g c w))
+    compares w p e n unburied hands =
+        cond_both (byte_of (code g c w) == top_byte (c.hash k)) (seen.On (Comparing at (code g c w))) (go_on at) (RestsSeen g c hashed begun since k (told_word w hands))
+        (λ same. (p, ap (λ o. or_last o hands.last) n, met w p e n unburied))
+        (λ other. goes_on g c hashed begun since k at r (ap beyond (sees g c hashed begun since k at r w e ∙ other_byte g c hashed.coding k w p n other)) (told_word w hands))
+
+    -- a word that is passed whatever its key
+    passes : (w : Word P) → now.slot at.table at.probe.i ≡ w → beyond (view g k w) ≡ true → (hands : Hands P) → RestsSeen g c hashed begun since k (told_word w hands) (go_on at)
+    passes w e past hands = goes_on g c hashed begun since k at r (ap beyond (sees g c hashed begun since k at r w e) ∙ past) (told_word w hands)
+
+    -- by the word's kind
+    by_kind : (w : Word P) → now.slot at.table at.probe.i ≡ w → (hands : Hands P) → RestsSeen g c hashed begun since k (told_word w hands) (look_at (kind w) at (c.hash k) (code g c w))
+    by_kind Empty e hands = (r, e)
+    by_kind Closed e hands = passes Closed e refl hands
+    by_kind (Live p) e hands = compares (Live p) p e refl (λ q. cc) hands
+    by_kind (Marked p) e hands = compares (Marked p) p e refl (λ q. cc) hands
+    by_kind (Copied p) e hands = compares (Copied p) p e refl (λ q. cc) hands
+    by_kind (Buried p) e hands = passes (Buried p) e (past_buried g c k (Buried p) (code_kind g c (Buried p))) hands
+
+    -- what the word that stands there tells
+    pub looks : (hands : Hands P) → RestsSeen g c hashed begun since k (told_word (now.slot at.table at.probe.i) hands) (look_seen at (c.hash k) (code g c (now.slot at.table at.probe.i)))
+    looks hands =
+        let w : Word P = now.slot at.table at.probe.i in
+        subst (λ y. RestsSeen g c hashed begun since k (told_word w hands) (look_at y at (c.hash k) (code g c w))) (sym (code_kind g c w)) (by_kind w refl hands)
+
+  module _ (at : Place) (word : ℕ) (p : P) (h : HasMet g c begun since k at word p) where
+    -- the number is that of the word that was loaded
+    kind_then : (w : Word P) → h.was ≡ w → kind_of word ≡ kind w
+    kind_then w e = ap kind_of (h.loaded ∙ ap (code g c) e) ∙ code_kind g c w
+
+    -- the pair that the word names is the one that was met
+    same_pair : (w : Word P) (q : P) → named w ≡ Some q → h.was ≡ w → q ≡ p
+    same_pair w q n e = let names = h.names in let there : named h.was ≡ Some q = ap named e ∙ n in cc (names, there)
+
+    -- what stands there now came of it
+    pub became_of : (w : Word P) → h.was ≡ w → Becomes g w (now.slot at.table at.probe.i)
+    became_of w e = subst (λ v. Becomes g v (now.slot at.table at.probe.i)) e h.became
+
+    -- the key's pair
+    matches : g.same k (g.key p) ≡ true → (hands : Hands P) → hands.last ≡ Some p → (w : Word P) → h.was ≡ w → RestsSeen g c hashed begun since k hands (match_at (kind w) at word)
+    matches same hands last Empty e = absurd (let n = h.names in let there = ap named e in cc (n, there))
+    matches same hands last Closed e = absurd (let n = h.names in let there = ap named e in cc (n, there))
+    matches same hands last (Live q) e = (p, last, h, same, inl (e ∙ ap Live (same_pair (Live q) q refl e)))
+    matches same hands last (Marked q) e = (p, last, h, same, inr (e ∙ ap Marked (same_pair (Marked q) q refl e)))
+    matches same hands last (Copied q) e =
+        let mine : g.same k (g.key q) ≡ true = subst (λ y. g.same k (g.key y) ≡ true) (sym (same_pair (Copied q) q refl e)) same in
+        let gone : look g now k at.table at.probe.len ≡ Gone q = sees g c hashed begun since k at h.stands (Copied q) (became_of (Copied q) e) ∙ ap (λ b. cond b (Gone q) Foreign) mine in
+        (h.stands.come, inl (at.probe.len, q, h.stands.within, gone))
+    matches same hands last (Buried q) e = absurd (h.unburied (kind_then (Buried q) e))
+
+    -- another key's pair
+    differs : g.same k (g.key p) ≡ false → (hands : Hands P) → RestsSeen g c hashed begun since k hands (go_on at)
+    differs other hands =
+        let then' : view g k h.was ≡ Foreign = other_key g k h.was p h.names other in
+        let still : Sees (view g k h.was) (view g k (now.slot at.table at.probe.i)) = sees_later g hashed.lawful k h.was (now.slot at.table at.probe.i) h.became in
+        let foreign : view g k (now.slot at.table at.probe.i) ≡ Foreign = subst (λ v. Sees v (view g k (now.slot at.table at.probe.i))) then' still in
+        goes_on g c hashed begun since k at h.stands (ap beyond (sees g c hashed begun since k at h.stands (now.slot at.table at.probe.i) refl ∙ foreign)) hands
+
+    -- what the comparison tells
+    pub compared : (hands : Hands P) → hands.last ≡ Some p → (same : Bool) → g.same k (g.key p) ≡ same → RestsSeen g c hashed begun since k hands (at_yes (Comparing at word) same)
+    compared hands last true e = subst (λ y. RestsSeen g c hashed begun since k hands (match_at y at word)) (sym (kind_then h.was refl)) (matches e hands last h.was refl)
+    compared hands last false e = differs e hands

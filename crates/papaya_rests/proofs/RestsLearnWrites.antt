@@ -1,0 +1,111 @@
+-- After an exchange of its own a machine rests again, and the exchange was allowed.
+use Rattle.std.proofs.Common.{◌≡◌, ⊎_elim, ℕ, ◌<◌, ◌==◌, eqb-true, eq-eqb, Bool, true, false, cond, Option, Some, List, [], ◌∷◌, ◌++◌, append_assoc, refl, sym, ap, ◌∙◌, subst}
+use Rattle.std.proofs.lemmas.Bool.{cond_both}
+use Rattle.papaya_words.specs.Word.{pair_of}
+use Rattle.papaya_call.specs.declared.ask.At.TheVariants.{Root, Slot}
+use Rattle.papaya_call.specs.declared.ask.StepKind.{StepKind}
+use Rattle.papaya_call.specs.declared.ask.StepKind.TheVariants as kinds
+use Rattle.papaya_call.specs.declared.call.Reply.TheVariants.{Replaced}
+use Rattle.papaya_call.specs.declared.call.Task.{Task}
+use Rattle.papaya_call.specs.declared.call.Task.TheVariants.{Get, Insert, RemoveIf, Compute}
+use Rattle.papaya_call.specs.declared.compute.Put.{Put}
+use Rattle.papaya_call.specs.declared.machine.State.TheVariants.{Counting, Ended}
+use Rattle.papaya_call.specs.declared.search.Place.{Place}
+use Rattle.papaya_call.specs.declared.write.Write.{Write}
+use Rattle.papaya_law.specs.Exchange.{Setting, State, Exchange, Open, after, run, start}
+use Rattle.papaya_law.specs.Allows.{AllAllowed, Allows}
+use Rattle.papaya_law.specs.Code.{Coding, code}
+use Rattle.papaya_call.specs.Machine.{IsComputer, written}
+use Rattle.papaya_rests.specs.Told.{IsAsked, IsOneOf, Hands}
+use Rattle.papaya_law.specs.Code.{IsHashed}
+use Rattle.papaya_rests.specs.Rests.{HasComeTo, IsOwnPair, MayWrite, RestsStage, RestsWriting}
+use Rattle.papaya_call.specs.Write.{write_kind}
+use Rattle.papaya_law.proofs.Moments.{run-append, allowed_append}
+use Rattle.papaya_rests.proofs.RestsExchange.{may_claim, may_replace}
+use Rattle.papaya_rests.proofs.RestsLearnMoments.{root_come}
+
+module _ {K P : Type 0} (g : Setting K P) (c : Coding K P) (hashed : IsHashed g c) (begun since : List (Exchange P)) (may : AllAllowed g start (begun ++ since)) (k : K) where
+  -- the state after all exchanges
+  abbrev now : State P
+  now = run (begun ++ since) start
+
+  -- one more allowed exchange
+  pub one_more : (e : Exchange P) → Allows g now e → AllAllowed g start (begun ++ (since ++ e ∷ []))
+  one_more e allows = subst (AllAllowed g start) (append_assoc begun since (e ∷ [])) (allowed_append g (begun ++ since) (e ∷ []) start may (allows, tt))
+
+  -- the state after it
+  after_more : (e : Exchange P) → run (begun ++ (since ++ e ∷ [])) start ≡ after now e
+  after_more e = ap (λ l. run l start) (sym (append_assoc begun since (e ∷ []))) ∙ run-append (begun ++ since) (e ∷ []) start
+
+  -- the root that was put in is come to
+  opened : (t : ℕ) → 0 < t → now.root ≡ 0 → (e : Exchange P) → e ≡ Open t → AllAllowed g start (begun ++ (since ++ e ∷ [])) × HasComeTo g c begun (since ++ e ∷ []) k t
+  opened t some none e is =
+      let all : AllAllowed g start (begun ++ (since ++ Open t ∷ [])) = one_more (Open t) (none, some) in
+      let root : (run (begun ++ (since ++ Open t ∷ [])) start).root ≡ t = ap (λ s. s.root) (after_more (Open t)) in
+      let come : HasComeTo g c begun (since ++ Open t ∷ []) k t = subst (HasComeTo g c begun (since ++ Open t ∷ []) k) root (root_come g c hashed.lawful begun (since ++ Open t ∷ []) all k (subst (λ y. 0 < y) (sym root) some)) in
+      subst (λ y. AllAllowed g start (begun ++ (since ++ y ∷ [])) × HasComeTo g c begun (since ++ y ∷ []) k t) (sym is) (all, come)
+
+  -- what was asked for at the root
+  pub opens : (t : ℕ) → 0 < t → now.root ≡ 0 → (hands : Hands P) (es : List (Exchange P)) → ((e : Exchange P) × IsAsked c (Some kinds.Open) Root t now hands e × (es ≡ e ∷ []))
+      → AllAllowed g start (begun ++ (since ++ es)) × HasComeTo g c begun (since ++ es) k t
+  opens t some none hands es h = subst (λ l. AllAllowed g start (begun ++ (since ++ l)) × HasComeTo g c begun (since ++ l) k t) (sym h.2) (opened t some none h.0 h.1)
+
+  -- the word at a place of the search
+  abbrev word_at : Place → ℕ
+  word_at at = code g c (now.slot at.table at.probe.i)
+
+  -- what was exchanged there is what was asked for
+  abbrev pub IsSlotAsked : Option StepKind → Place → ℕ → Hands P → List (Exchange P) → Type 0
+  IsSlotAsked kind at new hands es = (e : Exchange P) × IsAsked c kind (Slot at.table at.probe.i) new now hands e × (es ≡ e ∷ [])
+
+  -- the pairs that the call made are of its key
+  abbrev AreOwn : Hands P → Type 0
+  AreOwn hands = (q : P) → IsOneOf hands.made q → g.key q ≡ k
+
+  module _ (hands : Hands P) (keys : AreOwn hands) (new : ℕ) (replace : Bool) (write : Write) (r : MayWrite g c begun since k replace write) (old : word_at write.place ≡ write.old) where
+    -- an exchange of a slot that was asked for where a machine writes is allowed
+    allowed_write : (b : Bool) → (write.old == 0) ≡ b → (e : Exchange P) → IsAsked c (Some (cond b kinds.Claim kinds.Replace)) (Slot write.place.table write.place.probe.i) new now hands e → Allows g now e
+    allowed_write true is e h = subst (Allows g now) (sym h.2) (may_claim g c hashed begun since may k write.place r.stands h.0 (keys h.0 h.1.made) (old ∙ eqb-true write.old 0 is))
+    allowed_write false is e h =
+        ⊎_elim
+        (λ none. absurd (let some = eq-eqb write.old 0 none in cc (some, is)))
+        (λ o. subst (Allows g now) (sym h.4) (may_replace g c hashed begun since may k write.place r.stands h.1 (keys h.1 h.3.made) h.0 h.2 o.2))
+        r.old
+
+    -- so it may follow what was exchanged
+    allowed_slot : (es : List (Exchange P)) → IsSlotAsked (Some (write_kind write)) write.place new hands es → AllAllowed g start (begun ++ (since ++ es))
+    allowed_slot es h = subst (λ l. AllAllowed g start (begun ++ (since ++ l))) (sym h.2) (one_more h.0 (allowed_write (write.old == 0) refl h.0 h.1))
+
+  -- an insertion that replaces has replaced, and another one has claimed
+  has_written : (since' : List (Exchange P)) (hands : Hands P) (n : ℕ) → IsOwnPair g c begun since k hands n → (replace : Bool) (write : Write) → MayWrite g c begun since k replace write → (b : Bool) → (write.old == 0) ≡ b
+      → RestsStage g c begun since' k hands (Insert replace) (cond b (Counting n) (Ended (Replaced (pair_of write.old) n)))
+  has_written since' hands n own replace write r true is = (tt, own)
+  has_written since' hands n own true write r false is = own
+  has_written since' hands n own false write r false is =
+      ⊎_elim
+      (λ none. absurd (let some = eq-eqb write.old 0 none in cc (some, is)))
+      (λ o. absurd (let replaces = o.0 in cc replaces))
+      r.old
+
+  -- what was asked for at a slot
+  pub writes : (hands : Hands P) → AreOwn hands → (n new : ℕ) → IsOwnPair g c begun since k hands n → (task : Task) (write : Write) → RestsWriting g c begun since k task write
+      → word_at write.place ≡ write.old → (es : List (Exchange P)) → IsSlotAsked (Some (write_kind write)) write.place new hands es
+      → AllAllowed g start (begun ++ (since ++ es)) × RestsStage g c begun (since ++ es) k hands task (written write n)
+  writes hands keys n new own Get write r old es h = absurd r
+  writes hands keys n new own RemoveIf write r old es h = absurd r
+  writes hands keys n new own Compute write r old es h = absurd r
+  writes hands keys n new own (Insert replace) write r old es h = (allowed_slot hands keys new replace write r old es h, has_written (since ++ es) hands n own replace write r (write.old == 0) refl)
+
+  -- a compute has claimed or replaced
+  has_put : (since' : List (Exchange P)) (hands : Hands P) (task : Task) → IsComputer task → (n : ℕ) → IsOwnPair g c begun since k hands n → (write : Write) → RestsStage g c begun since' k hands task (written write n)
+  has_put since' hands Get is n own write = absurd is
+  has_put since' hands (Insert replace) is n own write = absurd is
+  has_put since' hands RemoveIf is n own write = absurd is
+  has_put since' hands Compute is n own write =
+      cond_both (write.old == 0) (Counting n) (Ended (Replaced (pair_of write.old) n)) (RestsStage g c begun since' k hands Compute) (λ none. (tt, own)) (λ some. own)
+
+  -- where it puts the pair that it made
+  pub puts : (hands : Hands P) → AreOwn hands → (task : Task) → IsComputer task → (put : Put) → IsOwnPair g c begun since k hands put.pair → (new : ℕ) → MayWrite g c begun since k true put.write
+      → word_at put.write.place ≡ put.write.old → (es : List (Exchange P)) → IsSlotAsked (Some (write_kind put.write)) put.write.place new hands es
+      → AllAllowed g start (begun ++ (since ++ es)) × RestsStage g c begun (since ++ es) k hands task (written put.write put.pair)
+  puts hands keys task is put own new r old es h = (allowed_slot hands keys new true put.write r old es h, has_put (since ++ es) hands task is put.pair own put.write)

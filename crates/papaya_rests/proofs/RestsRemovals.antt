@@ -1,0 +1,81 @@
+-- While no table has a next one, a removal is never refused: it makes nothing, and it needs no further table.
+use Rattle.std.proofs.Common.{◌≡◌, ⊎_elim, ℕ, ◌<◌, List, ◌++◌, subst, arith}
+use Rattle.papaya_words.specs.declared.probe.Refused.{Refused}
+use Rattle.papaya_words.specs.declared.probe.Refused.TheVariants.{Capacity, RemoveNothing}
+use Rattle.papaya_call.specs.declared.ask.Answer.{Answer}
+use Rattle.papaya_call.specs.declared.ask.Answer.TheVariants.{Op}
+use Rattle.papaya_call.specs.declared.ask.Ask.TheVariants.{Done as Ask_done}
+use Rattle.papaya_call.specs.declared.ask.OpKind.TheVariants as ops
+use Rattle.papaya_call.specs.declared.call.Reply.{Reply}
+use Rattle.papaya_call.specs.declared.call.Reply.TheVariants.{Refused as Reply_refused}
+use Rattle.papaya_call.specs.declared.call.Task.TheVariants.{RemoveIf}
+use Rattle.papaya_call.specs.declared.compute.Gap.{Gap}
+use Rattle.papaya_call.specs.declared.machine.Machine.{Machine}
+use Rattle.papaya_call.specs.declared.machine.State.{State as Stage}
+use Rattle.papaya_call.specs.declared.machine.State.TheVariants.{AtRoot, Making, Opening, Searching, Writing, Offering, Showing, Pairing, Putting, Burying, Counting, Uncounting, Leaving, Growing, Ended}
+use Rattle.papaya_law.specs.Exchange.{Setting, State, Exchange, run, start}
+use Rattle.papaya_law.specs.Allows.{AllAllowed}
+use Rattle.papaya_law.specs.Code.{Coding}
+use Rattle.papaya_law.specs.Invariant.{IsKeeping}
+use Rattle.papaya_law.specs.Meaning.{IsLawful, map_left}
+use Rattle.papaya_call.specs.Machine.{after, ask_of}
+use Rattle.papaya_rests.specs.Rests.{IsMovingFrom, Rests, RestsStage}
+use Rattle.papaya_rests.specs.Told.{Hands}
+use Rattle.papaya_law.proofs.OneMap.{keeping}
+use Rattle.papaya_law.proofs.Onward.{leaving_further, gone_further}
+use Rattle.papaya_rests.proofs.RestsReplyRefused.{IsMaking, machine_reason}
+
+module _ {K P : Type 0} (g : Setting K P) (c : Coding K P) (law : IsLawful g) (begun since : List (Exchange P)) (may : AllAllowed g start (begun ++ since)) (k : K) where
+  -- the state after all exchanges
+  abbrev now : State P
+  now = run (begun ++ since) start
+
+  -- a pair that is being copied, or was, is copied to a next table
+  pub moving_further : (t : ℕ) → IsMovingFrom g c begun since k t → 0 < now.next t
+  moving_further t (j, p, lt, e) =
+      let keeps : IsKeeping g now (map_left g (begun ++ since)) = keeping g law (begun ++ since) may in
+      ⊎_elim
+      (λ leaving. leaving_further g now (map_left g (begun ++ since)) keeps k t j p leaving)
+      (λ gone. gone_further g now (map_left g (begun ++ since)) keeps k t j p gone)
+      e
+
+  module _ (hands : Hands P) where
+    -- a removal makes nothing
+    nothing_made : (stage : Stage) → RestsStage g c begun since k hands RemoveIf stage → IsMaking stage → ⊥
+    nothing_made AtRoot r making = making
+    nothing_made Making r making = r
+    nothing_made (Opening t) r making = making
+    nothing_made (Searching place) r making = making
+    nothing_made (Writing write) r making = r
+    nothing_made (Offering gap) r making = making
+    nothing_made (Showing removal) r making = making
+    nothing_made (Pairing purpose) r making = r.0
+    nothing_made (Putting put) r making = making
+    nothing_made (Burying removal) r making = making
+    nothing_made (Counting n) r making = making
+    nothing_made (Uncounting n) r making = making
+    nothing_made (Leaving t) r making = making
+    nothing_made (Growing t) r making = making
+    nothing_made (Ended reply) r making = making
+
+    -- and shows no closure that its key is absent
+    nothing_offered : (gap : Gap) → RestsStage g c begun since k hands RemoveIf (Offering gap) → ⊥
+    nothing_offered gap r = r.0
+
+    module _ (alone : (t : ℕ) → now.next t ≡ 0) where
+      -- and needs a further table only where there is one
+      nothing_needed : (t : ℕ) → RestsStage g c begun since k hands RemoveIf (Growing t) → ⊥
+      nothing_needed t r = let some = moving_further t r.1 in let none = alone t in omega (arith, some, none)
+
+      -- so no reason for a refusal is there
+      pub removal_unrefused : (m : Machine) → Rests g c begun since k m hands → m.task ≡ RemoveIf → ((reply : Reply) → ask_of m ≡ Ask_done reply → ⊥) → (answer : Answer) (refused : Refused) → ask_of (after m answer) ≡ Ask_done (Reply_refused refused) → ⊥
+      removal_unrefused m r task open_still answer refused e =
+          let stage : RestsStage g c begun since k hands RemoveIf m.state = subst (λ a. RestsStage g c begun since k hands a m.state) task r.stage in
+          ⊎_elim
+          (λ made. nothing_made m.state stage made.1)
+          (λ rest.
+          ⊎_elim
+          (λ (grows : (refused ≡ Capacity) × ((t : ℕ) × (m.state ≡ Growing t))). let last = grows.1 in nothing_needed last.0 (subst (RestsStage g c begun since k hands RemoveIf) last.1 stage))
+          (λ (offers : (refused ≡ RemoveNothing) × ((gap : Gap) × (m.state ≡ Offering gap)) × (answer ≡ Op ops.Remove)). let last = offers.1 in nothing_offered last.0 (subst (RestsStage g c begun since k hands RemoveIf) last.1 stage))
+          rest)
+          (machine_reason m refused answer open_still e)

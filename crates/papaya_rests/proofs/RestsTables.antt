@@ -1,0 +1,134 @@
+-- What a machine rests on stays so, whatever tables come later.
+use Rattle.std.proofs.Common.{◌≡◌, ◌⊎◌, inl, inr, ⊎_elim, ℕ, ◌<◌, Bool, Option, None, Some, List, ◌++◌, refl, sym, ap, ◌∙◌, subst}
+use Rattle.papaya_words.specs.Word.{top_byte, live_word, marked_word, copied_word, buried_word}
+use Rattle.papaya_call.specs.declared.call.Task.{Task}
+use Rattle.papaya_call.specs.declared.call.Task.TheVariants.{Get, Insert, RemoveIf, Compute}
+use Rattle.papaya_call.specs.declared.search.Place.{Place}
+use Rattle.papaya_call.specs.declared.write.Write.{Write}
+use Rattle.papaya_call.specs.declared.machine.Machine.{Machine}
+use Rattle.papaya_law.specs.Exchange.{Word, Empty, Closed, Live, Marked, Copied, Buried, Setting, Exchange, start}
+use Rattle.papaya_law.specs.View.{Leaving as View_leaving, Gone, held, own, beyond, look, IsPassed}
+use Rattle.papaya_law.specs.Class.{IsOn}
+use Rattle.papaya_law.specs.Allows.{AllAllowed}
+use Rattle.papaya_law.specs.Meaning.{map_left, map_of}
+use Rattle.papaya_law.specs.Invariant.{IsSound}
+use Rattle.papaya_law.specs.Code.{Coding, byte_of_pair, code}
+use Rattle.papaya_law.specs.Grows.{Agrees}
+use Rattle.papaya_rests.specs.Told.{Hands}
+use Rattle.papaya_law.specs.Code.{IsHashed}
+use Rattle.papaya_rests.specs.Rests.{now, HasComeTo, IsAt, HasMet, MayWrite, WasAtMoment, IsMovingFrom, RestsGrowing, RestsLeaving, Rests}
+use Rattle.papaya_law.proofs.Carries.{look_agrees, view_agrees, passed_carries}
+use Rattle.papaya_law.proofs.Grows.{becomes_carries, map_of_carries, reached_carries}
+use Rattle.papaya_law.proofs.OneMap.{sound}
+use Rattle.papaya_rests.proofs.RestsCarried.{rests_carried}
+use Rattle.papaya_rests.proofs.RestsNames.{OnChain, come_on}
+
+module _ {K P : Type 0} (g g' : Setting K P) (c : Coding K P) (h : IsHashed g c) (begun since : List (Exchange P)) (may : AllAllowed g start (begun ++ since)) (k : K)
+    (agrees : Agrees (IsOn (now g c begun since k).first (now g c begun since k).next) g g') where
+  -- what is kept of the words
+  kept : IsSound g (now g c begun since k)
+  kept = sound g h.lawful (begun ++ since) may
+
+  -- the key sees the same
+  sees_same : look g' (now g c begun since k) k ≡ look g (now g c begun since k) k
+  sees_same = look_agrees g g' (now g c begun since k) kept agrees k
+
+  -- each list leaves the same map
+  map_same : (m : K → Option P) (es : List (Exchange P)) → map_of g' m es ≡ map_of g m es
+  map_same m es = map_of_carries g g' (IsOn (now g c begun since k).first (now g c begun since k).next) agrees es m
+
+  -- a moment of the call is one
+  moment_carries : (value : Option P) → WasAtMoment g c begun since k value → WasAtMoment g' c begun since k value
+  moment_carries value m = record {
+    so_far = m.so_far;
+    rest = m.rest;
+    is = m.is;
+    value_is = ap (λ f. map_of g' f m.so_far k) (map_same (λ k. None) begun) ∙ (ap (λ f. f k) (map_same (map_left g begun) m.so_far) ∙ m.value_is);
+  }
+
+  -- the search came to the table
+  come_carries : (t : ℕ) → HasComeTo g c begun since k t → HasComeTo g' c begun since k t
+  come_carries t r = record {
+    some = r.some;
+    is = ⊎_elim (λ h. inl (agrees.blocking ∙ h.0, reached_carries g g' (now g c begun since k) kept agrees k t h.1)) (λ h. inr (agrees.blocking ∙ h.0, h.1)) r.is;
+  }
+
+  -- it stands at the place
+  at_carries : (at : Place) → IsAt g c begun since k at → IsAt g' c begun since k at
+  at_carries at r =
+      let on : OnChain g c h begun since may k at.table = come_on g c h begun since may k at.table r.come in
+      record {
+        come = come_carries at.table r.come;
+        len = r.len ∙ sym (agrees.size at.table on);
+        limit = r.limit ∙ sym (agrees.places at.table on);
+        slot = r.slot ∙ sym (agrees.place k at.table at.probe.len on);
+        within = subst (λ y. at.probe.len < y) (sym (agrees.places at.table on)) r.within;
+        before = λ i lt. ap (λ V. beyond (V at.table i)) sees_same ∙ r.before i lt;
+      }
+
+  -- the byte of a pair's key
+  byte_same : (p : P) → byte_of_pair g' c p ≡ byte_of_pair g c p
+  byte_same p = ap (λ l. top_byte (c.hash l)) (agrees.key p)
+
+  -- the number of a word
+  code_same : (w : Word P) → code g' c w ≡ code g c w
+  code_same Empty = refl
+  code_same Closed = refl
+  code_same (Live p) = ap (λ b. live_word b (c.number p)) (byte_same p)
+  code_same (Marked p) = ap (λ b. marked_word b (c.number p)) (byte_same p)
+  code_same (Copied p) = ap (λ b. copied_word b (c.number p)) (byte_same p)
+  code_same (Buried p) = ap (λ b. buried_word b (c.number p)) (byte_same p)
+
+  -- it met the pair
+  met_carries : (at : Place) (word : ℕ) (p : P) → HasMet g c begun since k at word p → HasMet g' c begun since k at word p
+  met_carries at word p r = record {
+    stands = at_carries at r.stands;
+    was = r.was;
+    loaded = r.loaded ∙ sym (code_same r.was);
+    names = r.names;
+    unburied = r.unburied;
+    stood = r.stood;
+    became = becomes_carries g g' (IsOn (now g c begun since k).first (now g c begun since k).next) agrees r.was ((now g c begun since k).slot at.table at.probe.i) r.became;
+    had = λ e. moment_carries (Some p) (r.had (ap held (sym (view_agrees g g' (now g c begun since k) kept agrees k r.was)) ∙ e));
+  }
+
+  -- it may write
+  write_carries : (replace : Bool) (write : Write) → MayWrite g c begun since k replace write → MayWrite g' c begun since k replace write
+  write_carries replace write r = record {
+    stands = at_carries write.place r.stands;
+    old = ⊎_elim (λ e. inl e) (λ e. inr (e.0, e.1, ap (λ V. own (V write.place.table write.place.probe.len)) sees_same ∙ e.2)) r.old;
+  }
+
+  -- a passed table of the chain
+  table_passed : (t : ℕ) → HasComeTo g c begun since k t → IsPassed g.places (look g (now g c begun since k) k) t → IsPassed g'.places (look g' (now g c begun since k) k) t
+  table_passed t r pass = passed_carries g g' (now g c begun since k) kept agrees (look g (now g c begun since k) k) (look g' (now g c begun since k) k) sees_same t (come_on g c h begun since may k t r) pass
+
+  -- a table from where the pair is copied
+  moving_carries : (t : ℕ) → HasComeTo g c begun since k t → IsMovingFrom g c begun since k t → IsMovingFrom g' c begun since k t
+  moving_carries t r (j, p, lt, e) = (
+    j,
+    p,
+    subst (λ y. j < y) (sym (agrees.places t (come_on g c h begun since may k t r))) lt,
+    subst (λ V. (V t j ≡ View_leaving p) ⊎ (V t j ≡ Gone p)) (sym sees_same) e,
+  )
+
+  -- what a call leaves
+  leaving_carries : (task : Task) (t : ℕ) → RestsLeaving g c begun since k task t → RestsLeaving g' c begun since k task t
+  leaving_carries Get t r = (agrees.blocking ∙ r.0, come_carries t r.1, table_passed t r.1 r.2)
+  leaving_carries RemoveIf t r = (agrees.blocking ∙ r.0, come_carries t r.1, table_passed t r.1 r.2)
+  leaving_carries Compute t r = (agrees.blocking ∙ r.0, come_carries t r.1, table_passed t r.1 r.2)
+  leaving_carries (Insert replace) t r = absurd r
+
+  -- what a call that needs a further table leaves
+  growing_carries : (task : Task) (t : ℕ) → RestsGrowing g c begun since k task t → RestsGrowing g' c begun since k task t
+  growing_carries Get t r = absurd r
+  growing_carries RemoveIf t r = (come_carries t r.0, moving_carries t r.0 r.1)
+  growing_carries Compute t r = (come_carries t r.0, ⊎_elim (λ pass. inl (table_passed t r.0 pass)) (λ moving. inr (moving_carries t r.0 moving)) r.1)
+  growing_carries (Insert replace) t r = (come_carries t r.0, ⊎_elim (λ pass. inl (table_passed t r.0 pass)) (λ moving. inr (moving_carries t r.0 moving)) r.1)
+
+  -- the machine rests on what it rested on
+  pub rests_carries : (m : Machine) (hands : Hands P) → Rests g c begun since k m hands → Rests g' c begun since k m hands
+  rests_carries m hands r =
+      rests_carried g g' c begun since since k
+      (record { mode = agrees.blocking; key = agrees.key; same = agrees.same; moment = moment_carries; come = come_carries; stands = at_carries; met = met_carries; write = write_carries; passed = table_passed; leaving = leaving_carries; growing = growing_carries })
+      hands m r

@@ -1,0 +1,5 @@
+use Rattle.papaya_rests.proofs.loads.lookups_are_bounded.Goals as goal
+use Rattle.papaya_rests.proofs.LoadsBound.{lookup_bounded}
+
+pub returns : goal.returns
+returns c = λ hash initial mode limit answers fit. lookup_bounded limit hash initial mode answers fit

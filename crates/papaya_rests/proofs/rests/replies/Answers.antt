@@ -1,0 +1,9 @@
+use Rattle.papaya_rests.proofs.rests.replies.Goals as goal
+use Rattle.papaya_rests.proofs.RestsReply.{machine_changes}
+use Rattle.papaya_rests.proofs.RestsReplyRefused.{machine_refused}
+
+pub returns-clause-change : goal.returns-clause-change
+returns-clause-change g c = λ h d hashed begun since k m hands r s answer es hands' told. machine_changes h d hashed k s m r.hash hands es hands' answer told
+
+pub returns-clause-refusal : goal.returns-clause-refusal
+returns-clause-refusal g c = λ m answer refused open_still e. machine_refused m refused answer open_still e

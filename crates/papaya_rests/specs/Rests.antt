@@ -1,0 +1,237 @@
+-- What a machine rests on: facts of the words that stay true whatever exchanges follow, and facts about a moment since its call began.
+use Rattle.std.specs.Prelude.{◌≡◌, ◌⊎◌, ℕ, ◌+◌, ◌<◌, Bool, true, false, Option, None, Some, List, ◌++◌}
+use Rattle.papaya_words.specs.Word.{kind_of, pair_of}
+use Rattle.papaya_words.specs.declared.word.Kind.TheVariants as word_kinds
+use Rattle.papaya_words.specs.declared.probe.ResizeMode.{ResizeMode}
+use Rattle.papaya_words.specs.declared.probe.ResizeMode.TheVariants.{Incremental, Blocking}
+use Rattle.papaya_call.specs.declared.ask.Ask.{Ask}
+use Rattle.papaya_call.specs.declared.ask.Ask.TheVariants.{Exchange as Ask_exchange}
+use Rattle.papaya_call.specs.declared.ask.Answer.{Answer}
+use Rattle.papaya_call.specs.declared.ask.Answer.TheVariants.{Exchanged}
+use Rattle.papaya_call.specs.declared.ask.StepKind.{StepKind}
+use Rattle.papaya_call.specs.declared.ask.StepKind.TheVariants as kinds
+use Rattle.papaya_call.specs.declared.call.Reply.{Reply}
+use Rattle.papaya_call.specs.declared.call.Reply.TheVariants.{Absent, Found, Inserted, Replaced, Occupied, Removed, Kept, Aborted, Refused as Reply_refused}
+use Rattle.papaya_call.specs.declared.call.Task.{Task}
+use Rattle.papaya_call.specs.declared.call.Task.TheVariants.{Get, Insert, RemoveIf, Compute}
+use Rattle.papaya_call.specs.declared.compute.Choice.{Choice}
+use Rattle.papaya_call.specs.declared.compute.Choice.TheVariants.{Replace as To_replace, Remove as To_remove}
+use Rattle.papaya_call.specs.declared.compute.Gap.{Gap}
+use Rattle.papaya_call.specs.declared.compute.Gap.TheVariants.{NoRoot, At as At_place, After}
+use Rattle.papaya_call.specs.declared.compute.Purpose.{Purpose}
+use Rattle.papaya_call.specs.declared.compute.Purpose.TheVariants.{Fill, Replace as For_replace}
+use Rattle.papaya_call.specs.declared.compute.Remembered.{Remembered}
+use Rattle.papaya_call.specs.declared.remove.Removal.{Removal}
+use Rattle.papaya_call.specs.declared.search.Place.{Place}
+use Rattle.papaya_call.specs.declared.search.Search.{Search}
+use Rattle.papaya_call.specs.declared.search.Search.TheVariants.{Sizing, Looking, Comparing}
+use Rattle.papaya_call.specs.declared.write.Made.{Made}
+use Rattle.papaya_call.specs.declared.write.Made.TheVariants.{Nothing, Key, Pair}
+use Rattle.papaya_call.specs.declared.write.Write.{Write}
+use Rattle.papaya_call.specs.declared.machine.State.{State as Stage}
+use Rattle.papaya_call.specs.declared.machine.State.TheVariants.{AtRoot, Making, Opening, Searching, Writing, Offering, Showing, Pairing, Putting, Burying, Counting, Uncounting, Leaving, Growing, Ended}
+use Rattle.papaya_call.specs.declared.machine.Machine.{Machine}
+use Rattle.papaya_law.specs.Exchange.{Word, Setting, State, Exchange, run, start}
+use Rattle.papaya_law.specs.View.{Leaving as View_leaving, Gone, view, look, own, held, beyond, IsPassed, IsReached}
+use Rattle.papaya_law.specs.Meaning.{IsAtMoment, map_left}
+use Rattle.papaya_law.specs.Invariant.{named}
+use Rattle.papaya_law.specs.Later.{Becomes}
+use Rattle.papaya_law.specs.Code.{Coding, code}
+use Rattle.papaya_call.specs.Machine.{HasClosure, IsComputer, MayInsert}
+use Rattle.papaya_rests.specs.Told.{Hands, IsOneOf}
+
+-- the machine resizes as the setting does
+abbrev pub IsModeOf : ResizeMode → Bool → Type 0
+IsModeOf (Incremental chunk) blocking = blocking ≡ false
+IsModeOf Blocking blocking = blocking ≡ true
+
+-- The exchanges when the call began are `begun`, and those since then `since`.
+module _ {K P : Type 0} (g : Setting K P) (c : Coding K P) (begun since : List (Exchange P)) (k : K) where
+  -- the state after all exchanges
+  abbrev pub now : State P
+  now = run (begun ++ since) start
+
+  -- at some moment of the call the key's pair was this
+  abbrev pub WasAtMoment : Option P → Type 0
+  WasAtMoment value = IsAtMoment g (map_left g begun) since k value
+
+  -- The search for the key has come to table t. With blocking t was the root at a moment of the call; else t is reached.
+  pub record HasComeTo (t : ℕ) : Type 0 where
+    pub some : 0 < t
+    pub is : ((g.blocking ≡ false) × IsReached g now k t)
+        ⊎ ((g.blocking ≡ true) × ((es : List (Exchange P)) × (fs : List (Exchange P)) × (es ++ fs ≡ since) × ((run (begun ++ es) start).root ≡ t)))
+
+  -- the search stands at this place of its table, and passed the places before
+  pub record IsAt (at : Place) : Type 0 where
+    pub come : HasComeTo at.table
+    pub len : at.len ≡ g.size at.table
+    pub limit : at.limit + 1 ≡ g.places at.table
+    pub slot : at.probe.i ≡ g.place k at.table at.probe.len
+    pub within : at.probe.len < g.places at.table
+    pub before : (i : ℕ) → i < at.probe.len → beyond (look g now k at.table i) ≡ true
+
+  -- the word that was loaded at this place named the pair p
+  pub record HasMet (at : Place) (word : ℕ) (p : P) : Type 0 where
+    pub stands : IsAt at
+    pub was : Word P
+    pub loaded : word ≡ code g c was
+    pub names : named was ≡ Some p
+    -- a Buried word isn't compared
+    pub unburied : kind_of word ≡ word_kinds.Buried → ⊥
+    -- it stood there at a moment of the call
+    pub stood : (so_far : List (Exchange P)) × ((rest : List (Exchange P)) × (so_far ++ rest ≡ since) × ((run (begun ++ so_far) start).slot at.table at.probe.i ≡ was))
+    -- what stands there now came of it
+    pub became : Becomes g was (now.slot at.table at.probe.i)
+    -- where p is the key's and was held there, the map had it at a moment of the call
+    pub had : held (view g k was) ≡ true → WasAtMoment (Some p)
+
+  -- a write takes the place of nothing or, where it may replace, of a Live word of the key
+  pub record MayWrite (replace : Bool) (write : Write) : Type 0 where
+    pub stands : IsAt write.place
+    pub old : (write.old ≡ 0) ⊎ ((replace ≡ true) × (kind_of write.old ≡ word_kinds.Live) × (own (look g now k write.place.table write.place.probe.len) ≡ true))
+
+  abbrev pub RestsWriting : Task → Write → Type 0
+  RestsWriting (Insert replace) write = MayWrite replace write
+  RestsWriting _ write = ⊥
+
+  -- the pair last told of is the key's, and was Live at the removal's place
+  pub record MayRemove (hands : Hands P) (removal : Removal) : Type 0 where
+    pub pair : P
+    pub last : hands.last ≡ Some pair
+    pub met : HasMet removal.place removal.word pair
+    pub live : kind_of removal.word ≡ word_kinds.Live
+    pub same : g.same k (g.key pair) ≡ true
+
+  -- the pair of this number is one that the call made
+  abbrev pub IsOwnPair : Hands P → ℕ → Type 0
+  IsOwnPair hands n = (q : P) × IsOneOf hands.made q × (c.number q ≡ n)
+
+  abbrev pub RestsMade : Hands P → Made → Type 0
+  RestsMade hands Nothing = Unit {0}
+  RestsMade hands Key = Unit {0}
+  RestsMade hands (Pair n) = IsOwnPair hands n
+
+  -- what a compute remembers is pairs that it made
+  abbrev pub RestsFill : Hands P → Option ℕ → Type 0
+  RestsFill hands None = Unit {0}
+  RestsFill hands (Some n) = IsOwnPair hands n
+
+  abbrev pub RestsChoice : Hands P → Option Choice → Type 0
+  RestsChoice hands None = Unit {0}
+  RestsChoice hands (Some (To_replace old new)) = IsOwnPair hands new
+  RestsChoice hands (Some (To_remove old)) = Unit {0}
+
+  -- what the call has made: pairs of its key
+  pub record RestsHands (hands : Hands P) (made : Made) (held : Remembered) : Type 0 where
+    pub keys : (q : P) → IsOneOf hands.made q → g.key q ≡ k
+    pub made_is : RestsMade hands made
+    pub fill_is : RestsFill hands held.fill
+    pub choice_is : RestsChoice hands held.choice
+
+  abbrev pub RestsSearch : Hands P → Search → Type 0
+  RestsSearch hands (Sizing t) = HasComeTo t
+  RestsSearch hands (Looking at) = IsAt at
+  RestsSearch hands (Comparing at word) = (p : P) × (hands.last ≡ Some p) × HasMet at word p
+
+  -- the key's pair is being copied from table t, or was
+  abbrev pub IsMovingFrom : ℕ → Type 0
+  IsMovingFrom t = (j : ℕ) × (p : P) × (j < g.places t) × ((look g now k t j ≡ View_leaving p) ⊎ (look g now k t j ≡ Gone p))
+
+  -- a call that looks for its key leaves a table that it passed
+  abbrev pub RestsLeaving : Task → ℕ → Type 0
+  RestsLeaving (Insert replace) t = ⊥
+  RestsLeaving _ t = (g.blocking ≡ false) × HasComeTo t × IsPassed g.places (look g now k) t
+
+  -- a call that inserts needs a further table where its key has no place in this one or its pair is being copied, and a removal only where its pair is
+  abbrev pub RestsGrowing : Task → ℕ → Type 0
+  RestsGrowing Get t = ⊥
+  RestsGrowing (Insert replace) t = HasComeTo t × (IsPassed g.places (look g now k) t ⊎ IsMovingFrom t)
+  RestsGrowing RemoveIf t = HasComeTo t × IsMovingFrom t
+  RestsGrowing Compute t = HasComeTo t × (IsPassed g.places (look g now k) t ⊎ IsMovingFrom t)
+
+  -- where a compute would put a pair of an absent key
+  abbrev pub RestsGap : Gap → Type 0
+  RestsGap NoRoot = Unit {0}
+  RestsGap (At_place at) = IsAt at
+  RestsGap (After t) = HasComeTo t × IsPassed g.places (look g now k) t
+
+  abbrev pub RestsPurpose : Purpose → Type 0
+  RestsPurpose (Fill gap) = RestsGap gap
+  RestsPurpose (For_replace write) = MayWrite true write
+
+  -- some pair of this number was the key's at a moment of the call
+  abbrev pub HadPair : ℕ → Type 0
+  HadPair n = (p : P) × (c.number p ≡ n) × WasAtMoment (Some p)
+
+  -- A reply that fits the task: what a call found was the map's at a moment of the call, and a pair that was put in is the one that the call made.
+  abbrev pub IsReply : Hands P → Task → Reply → Type 0
+  IsReply hands Get Absent = WasAtMoment None
+  IsReply hands Get (Found n) = HadPair n
+  IsReply hands (Insert replace) (Inserted n) = IsOwnPair hands n
+  IsReply hands (Insert true) (Replaced m n) = IsOwnPair hands n
+  IsReply hands (Insert false) (Occupied n) = HadPair n
+  IsReply hands (Insert replace) (Reply_refused refused) = Unit {0}
+  IsReply hands RemoveIf Absent = WasAtMoment None
+  IsReply hands RemoveIf (Kept n) = HadPair n
+  IsReply hands RemoveIf (Removed n) = Unit {0}
+  IsReply hands RemoveIf (Reply_refused refused) = Unit {0}
+  IsReply hands Compute (Inserted n) = IsOwnPair hands n
+  IsReply hands Compute (Replaced m n) = IsOwnPair hands n
+  IsReply hands Compute (Removed n) = Unit {0}
+  IsReply hands Compute (Aborted t) = Unit {0}
+  IsReply hands Compute (Reply_refused refused) = Unit {0}
+  IsReply hands _ _ = ⊥
+
+  abbrev pub RestsStage : Hands P → Task → Stage → Type 0
+  RestsStage hands task AtRoot = Unit {0}
+  RestsStage hands task Making = MayInsert task
+  RestsStage hands task (Opening t) = MayInsert task × (0 < t)
+  RestsStage hands task (Searching search) = RestsSearch hands search
+  RestsStage hands task (Writing write) = RestsWriting task write
+  RestsStage hands task (Offering gap) = IsComputer task × RestsGap gap × WasAtMoment None
+  RestsStage hands task (Showing removal) = HasClosure task × MayRemove hands removal
+  RestsStage hands task (Pairing purpose) = IsComputer task × RestsPurpose purpose
+  RestsStage hands task (Putting put) = IsComputer task × MayWrite true put.write × IsOwnPair hands put.pair
+  RestsStage hands task (Burying removal) = HasClosure task × MayRemove hands removal
+  RestsStage hands task (Counting n) = MayInsert task × IsOwnPair hands n
+  RestsStage hands task (Uncounting n) = HasClosure task
+  RestsStage hands task (Leaving t) = RestsLeaving task t
+  RestsStage hands task (Growing t) = RestsGrowing task t
+  RestsStage hands task (Ended reply) = IsReply hands task reply
+
+  -- what the machine of a call with this key rests on
+  pub record Rests (m : Machine) (hands : Hands P) : Type 0 where
+    pub hash : m.hash ≡ c.hash k
+    pub mode : IsModeOf m.mode g.blocking
+    pub made : RestsHands hands m.made m.remembered
+    pub stage : RestsStage hands m.task m.state
+
+-- a change of the map: the pair that went, and the one that came
+abbrev pub Change : Type 0
+Change = Option (Option ℕ × Option ℕ)
+
+-- the change that a call with this reply made
+abbrev pub change_of_reply : Reply → Change
+change_of_reply (Inserted n) = Some (None, Some n)
+change_of_reply (Replaced m n) = Some (Some m, Some n)
+change_of_reply (Removed n) = Some (Some n, None)
+change_of_reply _ = None
+
+-- the change that a machine in this stage has made
+abbrev pub change_in : Stage → Change
+change_in (Counting n) = Some (None, Some n)
+change_in (Uncounting n) = Some (Some n, None)
+change_in (Ended reply) = change_of_reply reply
+change_in _ = None
+
+-- the change that an exchange of this kind makes
+abbrev pub change_of_kind : Option StepKind → (old new : ℕ) → Change
+change_of_kind (Some kinds.Claim) old new = Some (None, Some (pair_of new))
+change_of_kind (Some kinds.Replace) old new = Some (Some (pair_of old), Some (pair_of new))
+change_of_kind (Some kinds.Bury) old new = Some (Some (pair_of old), None)
+change_of_kind _ old new = None
+
+-- the change that a call has made after one of its asks was answered so, where it had made this one before
+abbrev pub change_after : Option StepKind → Ask → Answer → Change → Change
+change_after kind (Ask_exchange at old new) Exchanged before = change_of_kind kind old new
+change_after kind _ _ before = before

@@ -1,0 +1,10 @@
+//! What a machine rests on while others exchange words between its asks, and so what it replies.
+//!
+//! The law of exchanges and the machines meet here. A backend that answers truly needs these laws
+//! and never looks into a machine: [`rests`] for any schedule, [`alone`] for a call whose words
+//! nobody else changes, [`loads`] for how much a lookup loads.
+#![tactic(auto)]
+
+pub mod alone;
+pub mod loads;
+pub mod rests;

@@ -1,0 +1,14 @@
+//! How much a lookup loads. The function does nothing; its contract is the bound.
+ghost use Rattle.std.specs.Prelude.{ℕ, List};
+ghost use Rattle.papaya_words.specs.declared.probe.ResizeMode.{ResizeMode};
+ghost use Rattle.papaya_call.specs.declared.ask.Answer.{Answer};
+ghost use Rattle.papaya_call.specs.declared.call.Task.TheVariants.{Get};
+ghost use Rattle.papaya_call.specs.Machine.{started};
+ghost use Rattle.papaya_rests.specs.Loads.{AreAnswers, IsBounded, asked};
+
+/// A law, with nothing to run: whatever words a lookup loads, it loads at most one slot more than
+/// a table's limit of each table, and only of tables that it entered; it enters no table twice,
+/// since each has a greater number than the one before; and it changes and makes nothing.
+pub fn lookups_are_bounded()
+    ensures { (hash initial : ℕ) (mode : ResizeMode) (limit : ℕ → ℕ) (answers : List Answer) → AreAnswers limit (started Get hash mode initial) answers → IsBounded limit (asked (started Get hash mode initial) answers) }
+{}

@@ -1,0 +1,20 @@
+//! What follows from the contracts of the calls together. The functions do nothing: their contracts
+//! are the laws.
+ghost use Rattle.std.specs.Prelude.{◌≡◌, ℕ, Bool, Option, Some, None, false};
+ghost use Rattle.papaya_core.specs.Content.{map_in};
+ghost use Rattle.papaya_core.specs.Store.{StoreState, Stored};
+ghost use Rattle.papaya_seq.specs.Map.{Inserts, Removes, value_of};
+
+use std::hash::Hash;
+
+/// A key that was inserted has its value, and a key whose pair was removed has none. Keys that are
+/// not equal to it have what they had.
+///
+/// [`crate::seq::HashMap::get`] answers what the finite map has, so an insertion and then a lookup
+/// of its key finds its value.
+pub fn changes_are_found<K: Hash + Eq, V, S>()
+    ensures inserted { (k : K) (v : V) (went : Option V) (s s' : StoreState K V S) → Inserts K.eq k v s went s' → value_of (map_in K.eq s' k) ≡ Some v }
+    ensures beside { (k : K) (v : V) (went : Option V) (s s' : StoreState K V S) → Inserts K.eq k v s went s' → (j : K) → K.eq j k ≡ false → map_in K.eq s' j ≡ map_in K.eq s j }
+    ensures removed { (matches : K → Bool) (p : Stored K V) (s s' : StoreState K V S) → Removes K.eq matches s p s' → map_in K.eq s' p.key ≡ None }
+    ensures left { (matches : K → Bool) (p : Stored K V) (s s' : StoreState K V S) → Removes K.eq matches s p s' → (j : K) → K.eq j p.key ≡ false → map_in K.eq s' j ≡ map_in K.eq s j }
+{}

@@ -1,0 +1,153 @@
+// Insertions and lookups, what callers know of the map after a call, and lists of calls.
+ghost use Rattle.std.specs.Prelude.{◌≡◌, IfOk, IfErr, MatchBool, is_some};
+ghost use Rattle.papaya_seq.specs.Map.{Inserts, Removes, Unchanged};
+
+use crate::expect::is;
+use crate::hashing::{APART, TOGETHER};
+use crate::numbers::{Numbers, Usual, finds, has, inserts, provides, tries};
+use papaya_call::answers::Listed;
+use papaya_call::call::{Call, Reply};
+use papaya_keys::guard::Equivalent;
+use papaya_keys::occupied::{NotInserted, OccupiedError};
+use papaya_seq::seq::HashMap;
+use papaya_words::probe::Refused;
+use std::alloc::Global;
+use std::hash::{BuildHasher, Hash};
+use std::test::Fail;
+
+#[test]
+fn insert_then_get(rt: HostRuntime) -> Result<(), Fail> {
+    let mut map: Usual = HashMap::new(rt.alloc())?;
+    inserts(&rt, &mut map, 65, 1, Ok(None));
+    finds(&rt, &map, 65, Some(&1));
+    has(&rt, &map, 1);
+    Ok(())
+}
+
+#[test]
+fn insert_answers_the_old_value(rt: HostRuntime) -> Result<(), Fail> {
+    let mut map: Usual = HashMap::default(rt.alloc())?;
+    inserts(&rt, &mut map, 37, 1, Ok(None));
+    inserts(&rt, &mut map, 37, 2, Ok(Some(&1)));
+    inserts(&rt, &mut map, 37, 3, Ok(Some(&2)));
+    finds(&rt, &map, 37, Some(&3));
+    is(&rt, map.get_key_value(&37), Some((&37, &3)));
+    has(&rt, &map, 1);
+    Ok(())
+}
+
+#[test]
+fn try_insert_keeps_the_old_value(rt: HostRuntime) -> Result<(), Fail> {
+    let mut map: Numbers = HashMap::with_hasher(rt.alloc(), TOGETHER)?;
+    tries(&rt, &mut map, 37, 1, Ok(Ok(&1)));
+    let occupied = OccupiedError {
+        current: &1,
+        not_inserted: NotInserted::Value(2),
+    };
+    tries(&rt, &mut map, 37, 2, Ok(Err(occupied)));
+    finds(&rt, &map, 37, Some(&1));
+    provides(&rt, &mut map, 37, 4, Ok(&1));
+    provides(&rt, &mut map, 38, 4, Ok(&4));
+    has(&rt, &map, 2);
+    Ok(())
+}
+
+/// Stores a pair, and says whether it took the place of one. What the map is after it follows from
+/// the clause of `insert`.
+fn stores<K: Hash + Eq + Drop, V: Drop, S: BuildHasher>(
+    map: &mut HashMap<K, V, S>,
+    key: K,
+    value: V,
+) -> Result<bool, Refused>
+    ensures ok { IfOk result (λ replaced. (went : _) × Inserts K.eq key value map.old.store went map.new.store × (is_some went ≡ replaced)) }
+    ensures err { IfErr result (λ _. Unchanged K.eq map.old.store map.new.store) }
+{
+    let old = map.insert(key, value)?;
+    Ok(old.is_some())
+}
+
+/// Removes a key's pair, and says whether there was one.
+fn removes<K: Hash + Eq + Drop, V: Drop, S: BuildHasher, Q: Equivalent<K>>(
+    map: &mut HashMap<K, V, S>,
+    key: &Q,
+) -> Result<bool, Refused>
+    ensures { IfOk result (λ removed. MatchBool removed ((p : _) × Removes K.eq (Q.matches key.now) map.old.store p map.new.store) (Unchanged K.eq map.old.store map.new.store)) }
+{
+    match map.remove(key)? {
+        Some(_) => Ok(true),
+        None => Ok(false),
+    }
+}
+
+#[test]
+fn callers_know_the_map_after(rt: HostRuntime) -> Result<(), Fail> {
+    let mut map: Usual = HashMap::new(rt.alloc())?;
+    is(&rt, stores(&mut map, 5, 1), Ok(false));
+    is(&rt, stores(&mut map, 5, 2), Ok(true));
+    is(&rt, removes(&mut map, &5u64), Ok(true));
+    is(&rt, removes(&mut map, &5u64), Ok(false));
+    has(&rt, &map, 0);
+    Ok(())
+}
+
+/// More keys than the table has room for are refused, and what is there stays.
+#[test]
+fn full_table_refuses(rt: HostRuntime) -> Result<(), Fail> {
+    let mut map: Numbers = HashMap::with_hasher(rt.alloc(), APART)?;
+    for key in 0..32u64 {
+        inserts(&rt, &mut map, key, key, Ok(None));
+    }
+    is(&rt, map.slots(), 32);
+    inserts(&rt, &mut map, 32, 1, Err(Refused::Capacity));
+    tries(&rt, &mut map, 32, 1, Err(Refused::Capacity));
+    provides(&rt, &mut map, 32, 1, Err(Refused::Capacity));
+    has(&rt, &map, 32);
+    finds(&rt, &map, 32, None);
+    for key in 0..32u64 {
+        finds(&rt, &map, key, Some(&key));
+    }
+    Ok(())
+}
+
+/// What a closure answers, in turn.
+fn answers(alloc: Global, yes: bool) -> Result<Listed<u64>, Fail> {
+    Ok(Listed {
+        ops: Vec::new(alloc),
+        yes: vec![in alloc; yes]?,
+    })
+}
+
+#[test]
+fn calls_run_in_turn(rt: HostRuntime) -> Result<(), Fail> {
+    let mut map: Usual = HashMap::new(rt.alloc())?;
+    let calls = vec![in rt.alloc();
+        Call::Get(7u64),
+        Call::Insert(7, 1u64),
+        Call::TryInsert(7, 2),
+        Call::Insert(7, 3),
+        Call::Get(7),
+        Call::RemoveIf(7, answers(rt.alloc(), false)?),
+        Call::RemoveIf(8, answers(rt.alloc(), true)?),
+        Call::RemoveIf(7, answers(rt.alloc(), true)?),
+        Call::Get(7),
+        Call::TryInsert(7, 4),
+    ]?;
+    let expected = vec![in rt.alloc();
+        Reply::Absent,
+        Reply::Inserted(0),
+        Reply::Occupied(0),
+        Reply::Replaced { old: 0, new: 1 },
+        Reply::Found(1),
+        Reply::Kept(1),
+        Reply::Absent,
+        Reply::Removed(1),
+        Reply::Absent,
+        Reply::Inserted(2),
+    ]?;
+    is(&rt, map.run(calls)?, expected);
+    is(&rt, map.pair(1), Some((&7, &3)));
+    is(&rt, map.pair(2), Some((&7, &4)));
+    is(&rt, map.pair(3).is_none(), true);
+    has(&rt, &map, 1);
+    Ok(())
+}

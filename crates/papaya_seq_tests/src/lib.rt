@@ -1,0 +1,21 @@
+//! The tests of the map for one caller.
+#![tactic(auto)]
+
+#[cfg(test)]
+mod calls;
+#[cfg(test)]
+mod computes;
+#[cfg(test)]
+mod expect;
+#[cfg(test)]
+mod hashing;
+#[cfg(test)]
+mod new;
+#[cfg(test)]
+mod numbers;
+#[cfg(test)]
+mod refused;
+#[cfg(test)]
+mod removals;
+#[cfg(test)]
+mod texts;

@@ -1,0 +1,50 @@
+// How maps are made, and what they are refused for.
+use crate::expect::is;
+use crate::hashing::TOGETHER;
+use crate::numbers::{Numbers, Usual};
+use papaya_seq::seq::HashMap;
+use papaya_words::probe::{Refused, ResizeMode};
+use std::alloc::Global;
+use std::hash::{BuildHasherDefault, FoldHasher};
+use std::test::Fail;
+
+/// The slots of a map for so many pairs, or why there is none.
+fn slots_for(alloc: Global, capacity: usize) -> Result<usize, Refused> {
+    let map: Usual = HashMap::with_capacity(alloc, capacity)?;
+    Ok(map.slots())
+}
+
+#[test]
+fn capacity_is_for_so_many_pairs(rt: HostRuntime) {
+    for (capacity, wanted) in [
+        (10, Ok(16)),
+        (1, Ok(8)),
+        (4_294_967_296, Err(Refused::Capacity)),
+        (3_221_225_473, Err(Refused::Capacity)),
+    ] {
+        is(&rt, slots_for(rt.alloc(), capacity), wanted);
+    }
+}
+
+#[test]
+fn slots_of_new_maps(rt: HostRuntime) -> Result<(), Fail> {
+    let map: Usual = HashMap::new(rt.alloc())?;
+    is(&rt, map.slots(), 0);
+    let hasher = BuildHasherDefault::<FoldHasher>::new();
+    let sized: Usual = HashMap::with_capacity_and_hasher(rt.alloc(), 10, hasher)?;
+    is(&rt, (sized.slots(), sized.len()), (16, 0));
+    Ok(())
+}
+
+/// Why there is no map of these parts.
+fn refusal(alloc: Global, mode: ResizeMode, shards: usize) -> Option<Refused> {
+    let made: Result<Numbers, Refused> = HashMap::with_parts(alloc, mode, 0, shards, TOGETHER);
+    made.err()
+}
+
+#[test]
+fn parts_are_refused(rt: HostRuntime) {
+    let zero = ResizeMode::Incremental(0);
+    is(&rt, refusal(rt.alloc(), zero, 1), Some(Refused::ZeroChunk));
+    is(&rt, refusal(rt.alloc(), ResizeMode::Blocking, 4), None);
+}

@@ -1,0 +1,62 @@
+// Removals: what they answer, what they show their closure, and what is there after them.
+use crate::expect::is;
+use crate::hashing::TOGETHER;
+use crate::numbers::{Numbers, Usual, finds, has, inserts, removes};
+use papaya_seq::seq::HashMap;
+use papaya_words::probe::Refused;
+use std::process::Abort;
+use std::test::Fail;
+
+/// A removal that asks its closure answers so.
+fn judges<F: FnMut(&u64, &u64) -> bool>(
+    rt: &impl Abort,
+    map: &mut Usual,
+    key: u64,
+    agrees: F,
+    wanted: Result<Result<Option<(&u64, &u64)>, (&u64, &u64)>, Refused>,
+)
+    requires { F.IsAlwaysCallable agrees }
+{
+    is(rt, map.remove_if(&key, agrees), wanted);
+}
+
+#[test]
+fn remove_if_asks_its_closure(rt: HostRuntime) -> Result<(), Fail> {
+    let mut map: Usual = HashMap::new(rt.alloc())?;
+    inserts(&rt, &mut map, 1, 0, Ok(None));
+    judges(&rt, &mut map, 0, |_, _| true, Ok(Ok(None)));
+    judges(&rt, &mut map, 1, |_, _| false, Ok(Err((&1, &0))));
+    judges(&rt, &mut map, 1, |_, v| *v == 0, Ok(Ok(Some((&1, &0)))));
+    judges(&rt, &mut map, 1, |_, _| true, Ok(Ok(None)));
+    has(&rt, &map, 0);
+    Ok(())
+}
+
+/// A removal answers this pair.
+fn removes_entry(
+    rt: &impl Abort,
+    map: &mut Numbers,
+    key: u64,
+    wanted: Result<Option<(&u64, &u64)>, Refused>,
+) {
+    is(rt, map.remove_entry(&key), wanted);
+}
+
+#[test]
+fn remove_answers_what_went(rt: HostRuntime) -> Result<(), Fail> {
+    let mut map: Numbers = HashMap::with_hasher(rt.alloc(), TOGETHER)?;
+    for key in 0..4u64 {
+        inserts(&rt, &mut map, key, key + 10, Ok(None));
+    }
+    removes(&rt, &mut map, 2, Ok(Some(&12)));
+    removes(&rt, &mut map, 2, Ok(None));
+    removes_entry(&rt, &mut map, 1, Ok(Some((&1, &11))));
+    removes_entry(&rt, &mut map, 1, Ok(None));
+    finds(&rt, &map, 0, Some(&10));
+    finds(&rt, &map, 1, None);
+    finds(&rt, &map, 2, None);
+    finds(&rt, &map, 3, Some(&13));
+    has(&rt, &map, 2);
+    is(&rt, map.resizing(), false);
+    Ok(())
+}

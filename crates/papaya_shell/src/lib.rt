@@ -1,0 +1,7 @@
+//! What the programs have alike: why they end early and by which status, the words that they are
+//! started with, and readers and writers for their tests.
+#![tactic(auto)]
+
+pub mod failure;
+pub mod fakes;
+pub mod start;

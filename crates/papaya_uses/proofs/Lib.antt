@@ -1,0 +1,4 @@
+mod CounterLemmas
+mod Said
+mod SessionLemmas
+mod WordLemmas

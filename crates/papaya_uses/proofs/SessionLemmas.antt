@@ -1,0 +1,30 @@
+-- What a removal answers whose closure agrees to one user's session alone.
+use Rattle.std.proofs.Common.{◌≡◌, ◌==◌, ℕ, Bool, true, Some, Ok, sym, ◌∙◌, ap, subst}
+use Rattle.std.proofs.lemmas.Bool.{eqb-true}
+use Rattle.std.specs.Prelude.{Result, Option}
+use Rattle.std.specs.Borrow.{Bor}
+use Rattle.std.specs.Fn.{Called, Mut}
+use Rattle.papaya_words.specs.declared.probe.Refused.{Refused}
+use Rattle.papaya_book.specs.Logs.{Member, Stored}
+use Rattle.papaya_change.specs.RemovalAnswers.{IsJudged, IsRemovalBy}
+use Rattle.papaya_change.specs.Showings.{Judges}
+use Rattle.papaya_uses.specs.Sessions.{IsSignedOut, Seen}
+use Rattle.papaya_uses.proofs.Said.{said_each}
+
+module _ {F : Type 0} (called : Mut F (Bor ℕ × (Bor ℕ × Unit {0})) Bool) (token user : ℕ) (old new : Seen) (first : F) (answer : Result (Result (Option (Bor ℕ × Bor ℕ)) (Bor ℕ × Bor ℕ)) Refused) (h : IsRemovalBy (λ a b. a == b) (λ key. token == key) old new (Judges called) first answer)
+    (holds : F → Type 0) (at_first : holds first)
+    (judges : (f : F) (key value : Bor ℕ) (agrees : Bool) (g : F) → holds f → Called called f (key, (value, tt)) agrees g → holds g × (agrees ≡ (value.now == user))) where
+  -- it agreed to a pair of that user
+  said_so : (p : Stored ℕ ℕ) (agrees : Bool) → Member (p, agrees) h.said → agrees ≡ (p.value.value == user)
+  said_so = said_each (Judges called) holds (λ p agrees. agrees ≡ (p.value.value == user)) (λ f p agrees g is says. let next = judges f says.0 says.1 agrees g is says.3 in (next.0, next.1 ∙ ap (λ v. v == user) says.2.1)) first at_first h.said h.left h.has_said
+
+  abbrev Judged : Result (Result (Option (Bor ℕ × Bor ℕ)) (Bor ℕ × Bor ℕ)) Refused → Type 0
+  Judged r = IsJudged (λ a b. a == b) (λ key. token == key) old new h.said r
+
+  -- so the session that went was that user's
+  pub signed_out : (entry : Bor ℕ × Bor ℕ) → answer ≡ Ok (Ok (Some entry)) → IsSignedOut token user old new true
+  signed_out entry is =
+      let (p, taken, (shown, same, member), of) : Judged (Ok (Ok (Some entry))) = subst Judged is h.answered in
+      let agreed : true ≡ (shown.value.value == user) = said_so shown true member in
+      let of_user : shown.value.value ≡ user = eqb-true _ _ (sym agreed) in
+      (p, taken, ap (λ v. v.value) (sym same.1) ∙ of_user)

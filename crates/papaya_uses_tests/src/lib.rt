@@ -1,0 +1,5 @@
+//! Each caller of `papaya_uses`, run once; threads share the tables.
+#![tactic(auto)]
+
+#[cfg(test)]
+mod uses;

@@ -1,0 +1,101 @@
+// Each use, run once; threads share the tables.
+use papaya_uses::counters::{Adder, Counters};
+use papaya_uses::sessions::{Desk, Sessions};
+use papaya_uses::words::count_words;
+use papaya::Refused;
+use papaya::seq::HashMap;
+use std::process::Abort;
+use std::sync::Wait;
+use std::test::Fail;
+use std::thread::{Threads, join};
+
+/// The word stands so often in the text.
+fn stands(rt: &impl Abort, counts: &HashMap<&'static str, u64>, word: &'static str, times: u64) {
+    assert_eq!(rt; counts.get(&word).copied().unwrap_or(0), times, "of {word}");
+}
+
+#[test]
+fn words_are_counted(rt: HostRuntime) -> Result<(), Fail> {
+    let text = ["to", "be", "or", "not", "to", "be"];
+    let counts = count_words(rt.alloc(), &text)?;
+    stands(&rt, &counts, "to", 2);
+    stands(&rt, &counts, "or", 1);
+    stands(&rt, &counts, "is", 0);
+    Ok(())
+}
+
+/// The token has this user.
+fn has(rt: &impl Abort, desk: &mut Desk<'_>, token: u64, user: Option<u64>) {
+    assert_eq!(rt; desk.user(token), user, "of {token}");
+}
+
+/// Signs a user in under two tokens, and out of the second.
+fn comes_and_goes(rt: &impl Wait, sessions: &Sessions, user: u64) -> Result<bool, Refused> {
+    let mut desk = Desk::new(sessions);
+    let second = user.wrapping_add(100);
+    desk.sign_in(rt, user, user)?;
+    desk.sign_in(rt, second, user)?;
+    desk.sign_out(rt, second, user)
+}
+
+/// Two threads at a time.
+fn both_come(
+    rt: &(impl Threads + Wait + Sync),
+    sessions: &Sessions,
+) -> (Result<bool, Refused>, Result<bool, Refused>) {
+    join(
+        rt,
+        || comes_and_goes(rt, sessions, 1),
+        || comes_and_goes(rt, sessions, 2),
+    )
+}
+
+#[test]
+fn threads_share_sessions(rt: HostRuntime) -> Result<(), Fail> {
+    let sessions: Sessions = Sessions::with_capacity(&rt, rt.alloc(), 100)?;
+    let both = both_come(&rt, &sessions);
+    assert!(rt; both == (Ok(true), Ok(true)));
+    let mut desk = Desk::new(&sessions);
+    has(&rt, &mut desk, 1, Some(1));
+    has(&rt, &mut desk, 2, Some(2));
+    has(&rt, &mut desk, 101, None);
+    Ok(())
+}
+
+#[test]
+fn a_session_of_another_user_stays(rt: HostRuntime) -> Result<(), Fail> {
+    let sessions: Sessions = Sessions::with_capacity(&rt, rt.alloc(), 100)?;
+    let mut desk = Desk::new(&sessions);
+    let before = desk.sign_in(&rt, 7, 1)?;
+    assert!(rt; before.is_none());
+    let out = desk.sign_out(&rt, 7, 2)?;
+    assert!(rt; !out);
+    has(&rt, &mut desk, 7, Some(1));
+    Ok(())
+}
+
+/// Adds 1 to a counter so often.
+fn adds(rt: &impl Wait, counters: &Counters, times: u64) -> Result<u64, Refused> {
+    let mut adder = Adder::new(counters);
+    for _ in 0..times {
+        adder.add(rt, 5, 1)?;
+    }
+    adder.add(rt, 5, 0)
+}
+
+/// Two threads at a time.
+fn both_add(
+    rt: &(impl Threads + Wait + Sync),
+    counters: &Counters,
+) -> (Result<u64, Refused>, Result<u64, Refused>) {
+    join(rt, || adds(rt, counters, 1000), || adds(rt, counters, 1000))
+}
+
+#[test]
+fn no_addition_is_lost(rt: HostRuntime) -> Result<(), Fail> {
+    let counters: Counters = Counters::with_capacity(&rt, rt.alloc(), 100)?;
+    let _ = both_add(&rt, &counters);
+    let sum = adds(&rt, &counters, 0)?;
+    assert!(rt; sum == 2000);
+    Ok(())
+}

@@ -1,0 +1,105 @@
+#!/usr/bin/env bash
+# What the script papaya-run says itself: its help, and the lines of a build. A stand-in for rt
+# prints what rt does, so nothing is built.
+set -euo pipefail
+
+top="$(cd "$(dirname "${BASH_SOURCE[0]}")/.." && pwd)"
+folder="$(mktemp -d)"
+trap 'rm -rf "$folder"' EXIT
+passed=0
+failed=0
+
+# One case: what was wanted, and what came.
+same() {
+    if [[ "$2" == "$3" ]]; then
+        passed=$((passed + 1))
+    else
+        failed=$((failed + 1))
+        printf 'papaya_run.sh: %s\n--- wanted\n%s\n--- found\n%s\n' "$1" "$2" "$3" >&2
+    fi
+}
+
+# A repository of three crates, whose program prints its arguments.
+made="$folder/top"
+mkdir -p "$made"/crates/{papaya_low/src,papaya_mid/src,papaya_run/src} "$folder/bin"
+cp "$top/papaya-run" "$made/papaya-run"
+printf '# crates\npapaya_low:\npapaya_mid: papaya_low\npapaya_run: papaya_mid\n' >"$made/crates.txt"
+touch "$made"/crates/papaya_{low,mid,run}/src/lib.rt
+
+cat >"$folder/bin/rt" <<'END'
+#!/usr/bin/env bash
+for name in papaya_low papaya_mid papaya_run; do
+    echo "rt: chose --jobs 2 for $name"
+    [[ -z "${SLOW-}" ]] || sleep 30
+    echo "crate $name: modules loaded=3 checked=3"
+    if [[ "${BROKEN-}" == "$name" ]]; then
+        echo "src/lib.rt:1:1: error: not proved"
+        exit 1
+    fi
+    echo "logic=proved functions=1 sum=0" >&2
+done
+mkdir -p out
+printf '#!/usr/bin/env bash\necho "ran $*"\n' >out/papaya_run
+chmod +x out/papaya_run
+END
+chmod +x "$folder/bin/rt"
+export PATH="$folder/bin:$PATH"
+
+# Runs the script; its standard output and standard error stay in files.
+run() {
+    local status=0
+    "$made/papaya-run" "$@" >"$folder/output" 2>"$folder/errors" || status=$?
+    echo "$status"
+}
+
+# Help is answered with no build, and begins with the form of the arguments.
+for flag in --help -h; do
+    same "$flag ends well" 0 "$(run "$flag")"
+    same "$flag prints the form" 'papaya-run <seq|shared|core> <inc:N|block> <id|zero>' \
+        "$(head -1 "$folder/output")"
+    same "$flag says nothing else" '' "$(cat "$folder/errors")"
+done
+same 'help builds nothing' 'none' "$([[ -e "$made/crates/papaya_run/out" ]] && echo some || echo none)"
+
+# A failed build shows what rt printed, and leaves no program.
+export BROKEN=papaya_mid
+same 'a failed build has status 1' 1 "$(run core block id)"
+same 'a failed build shows the error' 'src/lib.rt:1:1: error: not proved' \
+    "$(tail -1 "$folder/errors")"
+unset BROKEN
+
+# A build that is stopped leaves no program.
+SLOW=yes "$made/papaya-run" core block id >"$folder/output" 2>"$folder/errors" &
+script=$!
+sleep 1
+kill -TERM "$script"
+status=0
+wait "$script" || status=$?
+same 'a stopped build has status 130' 130 "$status"
+same 'a stopped build says so' 'papaya-run: stopped; what was proved so far is kept' \
+    "$(tail -1 "$folder/errors")"
+same 'a stopped build leaves no program' 'none' \
+    "$([[ -e "$made/crates/papaya_run/out/papaya_run" ]] && echo some || echo none)"
+
+# A first build says what it does, then each crate.
+same 'a first build ends as the program' 0 "$(run core block id)"
+same 'standard output is the program'\''s' 'ran core block id' "$(cat "$folder/output")"
+same 'a first build names each crate' 'papaya-run: first run: proving and building 3 crates, about a quarter of an hour, once
+papaya-run: papaya_low proved, 1 of 3
+papaya-run: papaya_mid proved, 2 of 3
+papaya-run: papaya_run proved, 3 of 3' "$(cat "$folder/errors")"
+
+# A program that is fresh runs with no word.
+same 'a fresh program runs' 0 "$(run seq inc:8 zero)"
+same 'a fresh program gets its arguments' 'ran seq inc:8 zero' "$(cat "$folder/output")"
+same 'a fresh program runs with no word' '' "$(cat "$folder/errors")"
+
+# After a change it is built anew, and the script says so.
+touch -d '+1 minute' "$made/crates/papaya_low/src/lib.rt"
+same 'a stale program is built anew' 0 "$(run core block id)"
+same 'the script says so' \
+    'papaya-run: a source is newer than the program: proving anew what it reaches, and building' \
+    "$(head -1 "$folder/errors")"
+
+echo "papaya_run.sh: $passed passed, $failed failed"
+[[ "$failed" == 0 ]]
