@@ -1,9 +1,9 @@
 // Each use, run once; threads share the tables.
+use papaya::Refused;
+use papaya::seq::HashMap;
 use papaya_uses::counters::{Adder, Counters};
 use papaya_uses::sessions::{Desk, Sessions};
 use papaya_uses::words::count_words;
-use papaya::Refused;
-use papaya::seq::HashMap;
 use std::process::Abort;
 use std::sync::Wait;
 use std::test::Fail;
