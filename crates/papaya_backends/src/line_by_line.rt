@@ -1,4 +1,4 @@
-//! The lines of an input one by one: each is read, done and printed before the next is read.
+//! The lines of an input one by one: each is read, done and answered in turn.
 ghost use Rattle.std.specs.Prelude.{◌≡◌, ℕ, List, IfErr, IfOk};
 ghost use Rattle.papaya_lines.specs.declared.printed.Printed.{Printed};
 
@@ -7,8 +7,7 @@ use papaya_lines::printed::Printed;
 use papaya_shell::failure::Failure;
 use papaya_words::probe::Refused;
 use std::alloc::Global;
-use std::io;
-use std::io::{BufReader, Read, Write};
+use std::io::{BufReader, BufWriter, Read, Write};
 
 /// What does lines, one at a time.
 ///
@@ -26,14 +25,33 @@ pub trait Obey {
         ensures bad { IfErr result (λ failure. is_bad line.now × (failure ≡ Failure.Line number) × (self.new ≡ self.old)) };
 }
 
-/// Prints what is printed of a line, so that it is seen at once.
-fn print<W: Write>(printed: Printed, output: &mut W) -> io::Result<()> {
-    writeln!(output, "{printed}")?;
-    output.flush()
+/// Has the lines done, and prints their replies. A reply is written out before the reader may have to
+/// wait, so that whoever types a line sees its reply.
+fn obey_lines<B: Obey, R: Read, W: Write>(
+    alloc: Global,
+    backend: &mut B,
+    reader: &mut BufReader<R>,
+    output: &mut W,
+) -> Result<(), Failure> {
+    let mut line = Vec::new(alloc);
+    for number in 1..u64::MAX {
+        if !reader.buffer().contains(&b'\n') {
+            output.flush().map_err(|_| Failure::Output)?;
+        }
+        if !next_line(reader, &mut line)? {
+            return Ok(());
+        }
+        if !line.is_empty() {
+            let printed = backend.obey_line(number, &line)?;
+            writeln!(output, "{printed}").map_err(|_| Failure::Output)?;
+        }
+    }
+    Err(Failure::Input)
 }
 
-/// Has each line of the input done, and prints the reply at once. Lines count from 1, and empty ones
-/// are passed over. The first line that fails ends the run.
+/// Has each line of the input done, and prints its reply. Lines count from 1, and empty ones are
+/// passed over. The first line that fails ends the run; what lines before it print is written out
+/// first.
 pub fn run_lines<B: Obey, R: Read, W: Write>(
     alloc: Global,
     backend: &mut B,
@@ -41,15 +59,8 @@ pub fn run_lines<B: Obey, R: Read, W: Write>(
     output: &mut W,
 ) -> Result<(), Failure> {
     let mut reader = BufReader::new(alloc, input).map_err(|_| Failure::Refused(Refused::Memory))?;
-    let mut line = Vec::new(alloc);
-    for number in 1..u64::MAX {
-        if !next_line(&mut reader, &mut line)? {
-            return Ok(());
-        }
-        if !line.is_empty() {
-            let printed = backend.obey_line(number, &line)?;
-            print(printed, output).map_err(|_| Failure::Output)?;
-        }
-    }
-    Err(Failure::Input)
+    let mut output = BufWriter::new(alloc, output).map_err(|_| Failure::Refused(Refused::Memory))?;
+    let done = obey_lines(alloc, backend, &mut reader, &mut output);
+    output.flush().map_err(|_| Failure::Output)?;
+    done
 }

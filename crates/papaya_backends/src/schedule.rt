@@ -9,7 +9,7 @@ use papaya_words::probe::{Refused, ResizeMode};
 use std::alloc::Global;
 use std::hash::BuildHasher;
 use std::io;
-use std::io::{BufReader, Read, Write};
+use std::io::{BufReader, BufWriter, Read, Write};
 
 /// Reads the whole input.
 fn script_of<R: Read>(alloc: Global, input: &mut R) -> Result<Script, Failure> {
@@ -19,12 +19,14 @@ fn script_of<R: Read>(alloc: Global, input: &mut R) -> Result<Script, Failure> {
 
 /// Prints the replies, and answers the number of the first line whose turn was passed over.
 fn print<S: BuildHasher + Drop, W: Write>(
+    alloc: Global,
     core: &Core<u64, u64, S, Answering>,
     lines: &[Line],
     trace: &Trace,
     output: &mut W,
 ) -> io::Result<Option<u64>> {
-    let passed_over = print_trace(core, lines, trace, output)?;
+    let mut output = BufWriter::new(alloc, output)?;
+    let passed_over = print_trace(core, lines, trace, &mut output)?;
     output.flush()?;
     Ok(passed_over)
 }
@@ -44,7 +46,9 @@ pub(crate) fn run_core<S: BuildHasher + Drop, R: Read, W: Write>(
         bad_line,
     } = script_of(alloc, input)?;
     let trace = core.run(turns)?;
-    let passed_over = print(&core, lines.as_slice(), &trace, output).map_err(|_| Failure::Output)?;
+    let passed_over = print(alloc, &core, lines.as_slice(), &trace, output).map_err(
+        |_| Failure::Output,
+    )?;
     match passed_over.or(bad_line) {
         Some(number) => Err(Failure::Line(number)),
         None => Ok(()),

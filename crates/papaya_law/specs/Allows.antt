@@ -1,17 +1,21 @@
--- When an exchange may come next. Each condition is on the state alone; but for what the word itself holds, no later exchange undoes it (`proofs/Law/Later.antt`), so "was" and "stood" are read off the words as they are now.
+-- When an exchange may come next. Each condition is on the state alone; but for what the word
+-- itself holds, no later exchange undoes it (`proofs/Law/Later.antt`), so "was" and "stood" are
+-- read off the words as they are now.
 use Rattle.std.specs.Prelude.{◌≡◌, ℕ, ◌<◌, ◌≤◌, true, false, List, [], ◌∷◌}
 use Rattle.papaya_law.specs.Exchange.{Empty, Live, Marked, Setting, Exchange, Open, Claim, Replace, Bury, Link, Mark, Close, Place, Finish, Advance, Promote, Abort, State, after}
 use Rattle.papaya_law.specs.View.{look, beyond, foreign, IsFull, HasWord, IsNextPlace, IsReached}
 use Rattle.papaya_law.specs.Copying.{IsTaker, IsTarget, IsCopied, IsSettled}
 
--- Claim: an insertion puts p at the first place that is left, in a table where a search for its key comes.
+-- Claim: an insertion puts p at the first place that is left, in a table where a search for its key
+-- comes.
 pub record MayClaim {K P : Type 0} (g : Setting K P) (s : State P) (t x : ℕ) (p : P) : Type 0 where
   pub empty : s.slot t x ≡ Empty
   pub reached : IsReached g s (g.key p) t
   pub place : IsNextPlace g s (g.key p) beyond t x
 
 -- Replace: q takes the place of p, which has an equal key.
-pub record MayReplace {K P : Type 0} (g : Setting K P) (s : State P) (t x : ℕ) (p q : P) : Type 0 where
+pub record MayReplace {K P : Type 0} (g : Setting K P) (s : State P) (t x : ℕ)
+    (p q : P) : Type 0 where
   pub live : s.slot t x ≡ Live p
   pub reached : IsReached g s (g.key p) t
   pub same : g.same (g.key p) (g.key q) ≡ true
@@ -21,25 +25,29 @@ pub record MayBury {K P : Type 0} (g : Setting K P) (s : State P) (t x : ℕ) (p
   pub live : s.slot t x ≡ Live p
   pub reached : IsReached g s (g.key p) t
 
--- Mark: a copier marks p, of a table that was the root. There is a next table to copy it to, else a search that meets the mark couldn't go on.
+-- Mark: a copier marks p, of a table that was the root. There is a next table to copy it to, else a
+-- search that meets the mark couldn't go on.
 pub record MayMark {K P : Type 0} (g : Setting K P) (s : State P) (t x : ℕ) (p : P) : Type 0 where
   pub live : s.slot t x ≡ Live p
   pub was : s.was_root t ≡ true
   pub further : 0 < s.next t
 
--- Close: a copier shuts an Empty place, of a table that was the root. There is a next table, else a search that goes past it couldn't go on.
+-- Close: a copier shuts an Empty place, of a table that was the root. There is a next table, else a
+-- search that goes past it couldn't go on.
 pub record MayClose {K P : Type 0} (g : Setting K P) (s : State P) (t x : ℕ) : Type 0 where
   pub empty : s.slot t x ≡ Empty
   pub was : s.was_root t ≡ true
   pub further : 0 < s.next t
 
--- Place: a copier puts p, which stood marked, into a table that takes it, behind other keys' words and Closed alone: a Buried word of its key says that the copy came and was removed.
+-- Place: a copier puts p, which stood marked, into a table that takes it, behind other keys' words
+-- and Closed alone: a Buried word of its key says that the copy came and was removed.
 pub record MayPlace {K P : Type 0} (g : Setting K P) (s : State P) (n x : ℕ) (p : P) : Type 0 where
   pub empty : s.slot n x ≡ Empty
   pub source : IsCopied g s n p
   pub place : IsNextPlace g s (g.key p) foreign n x
 
--- Finish, without blocking: p's class has a word in a table that takes p from the word's own table. A table that takes p from another one wouldn't do: p would be lost.
+-- Finish, without blocking: p's class has a word in a table that takes p from the word's own table.
+-- A table that takes p from another one wouldn't do: p would be lost.
 pub record MayFinish {K P : Type 0} (g : Setting K P) (s : State P) (t x : ℕ) (p : P) : Type 0 where
   pub marked : s.slot t x ≡ Marked p
   pub mode : g.blocking ≡ false
@@ -47,7 +55,8 @@ pub record MayFinish {K P : Type 0} (g : Setting K P) (s : State P) (t x : ℕ) 
   pub taker : IsTaker g s (g.key p) t to
   pub has : HasWord g.places (look g s (g.key p)) to
 
--- Advance: the slots from a to b are settled, of a table whose copies go to n; b is no more than its length, so that a count never speaks of slots that aren't there.
+-- Advance: the slots from a to b are settled, of a table whose copies go to n; b is no more than
+-- its length, so that a count never speaks of slots that aren't there.
 pub record MayAdvance {K P : Type 0} (g : Setting K P) (s : State P) (n a b : ℕ) : Type 0 where
   pub done : s.done n ≡ a
   pub more : a < b
@@ -71,7 +80,8 @@ pub record MayAbort {K P : Type 0} (g : Setting K P) (s : State P) (n : ℕ) : T
   pub source : IsCopied g s n pair
   pub full : IsFull g.places (look g s (g.key pair)) n
 
--- The exchange may come next. Open: there is no root yet. Link: t has no next table, and the new one has a greater number, so that no chain leads back.
+-- The exchange may come next. Open: there is no root yet. Link: t has no next table, and the new
+-- one has a greater number, so that no chain leads back.
 abbrev pub Allows : {K P : Type 0} → Setting K P → State P → Exchange P → Type 0
 Allows g s (Open t) = (s.root ≡ 0) × (0 < t)
 Allows g s (Claim t x p) = MayClaim g s t x p

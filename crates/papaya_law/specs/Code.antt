@@ -8,7 +8,8 @@ use Rattle.papaya_law.specs.Invariant.{named}
 use Rattle.papaya_law.specs.Meaning.{IsLawful}
 use Rattle.papaya_words.specs.Probe.{place}
 
--- How pairs are named in words: by a number, and by a byte of their key's hash. Nothing says that a number names one pair.
+-- How pairs are named in words: by a number, and by a byte of their key's hash. Nothing says that a
+-- number names one pair.
 pub record Coding (K P : Type 0) : Type 0 where
   pub number : P → ℕ
   pub hash : K → ℕ
@@ -49,7 +50,8 @@ kind (Buried p) = kinds.Buried
 -- Two words are of one kind, and the pairs that they name have one number and one hash byte.
 pub record AreAlike {K P : Type 0} (g : Setting K P) (c : Coding K P) (v w : Word P) : Type 0 where
   pub kind_is : kind v ≡ kind w
-  pub pair_is : (p q : P) → named v ≡ Some p → named w ≡ Some q → (c.number p ≡ c.number q) × (byte_of_pair g c p ≡ byte_of_pair g c q)
+  pub pair_is : (p q : P) → named v ≡ Some p → named w ≡ Some q
+      → (c.number p ≡ c.number q) × (byte_of_pair g c p ≡ byte_of_pair g c q)
 
 -- the exchange changes slot y of table u
 abbrev pub ChangesSlot : {P : Type 0} → Exchange P → ℕ → ℕ → Type 0

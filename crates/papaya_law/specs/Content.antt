@@ -27,7 +27,8 @@ abbrev pub AreApart : {K P : Type 0} → (K → K → Bool) → (P → K) → Li
 AreApart same key [] = Unit {0}
 AreApart same key (p ∷ ps) = (lookup same key ps (key p) ≡ None) × AreApart same key ps
 
--- how many pairs there are after an exchange, where there were `before`: a claim adds one, and a burial takes one out
+-- how many pairs there are after an exchange, where there were `before`: a claim adds one, and a
+-- burial takes one out
 abbrev pub IsCountAfter : {P : Type 0} → Exchange P → ℕ → ℕ → Type 0
 IsCountAfter (Claim t x p) before now = now ≡ suc before
 IsCountAfter (Bury t x p) before now = suc now ≡ before

@@ -3,12 +3,15 @@ use Rattle.std.specs.Prelude.{◌≡◌, ◌⊎◌, ℕ, suc, ◌<◌, true, fal
 use Rattle.papaya_law.specs.Exchange.{Word, Empty, Closed, Live, Marked, Copied, Buried, Setting, State, walk}
 use Rattle.papaya_law.specs.View.{look, foreign, IsFull, HasWord}
 
--- Copies from t go to n: n comes some links after t, and the tables between are aborted or, without blocking, full for the key.
+-- Copies from t go to n: n comes some links after t, and the tables between are aborted or, without
+-- blocking, full for the key.
 pub record IsTaker {K P : Type 0} (g : Setting K P) (s : State P) (k : K) (t n : ℕ) : Type 0 where
   pub links : ℕ
   pub is : walk s.next (suc links) t ≡ n
   pub made : 0 < n
-  pub over : (i : ℕ) → i < links → ((g.blocking ≡ true) × (s.aborted (walk s.next (suc i) t) ≡ true)) ⊎ ((g.blocking ≡ false) × IsFull g.places (look g s k) (walk s.next (suc i) t))
+  pub over : (i : ℕ) → i < links → ((g.blocking ≡ true)
+      × (s.aborted (walk s.next (suc i) t) ≡ true))
+      ⊎ ((g.blocking ≡ false) × IsFull g.places (look g s k) (walk s.next (suc i) t))
 
 -- n is or was the first table after t that isn't aborted; without blocking, the next one
 pub record IsTarget {K P : Type 0} (g : Setting K P) (s : State P) (t n : ℕ) : Type 0 where
@@ -32,8 +35,10 @@ IsSettled g s n (Live p) = ⊥
 IsSettled g s n (Marked p) = (g.blocking ≡ true) × HasWord g.places (look g s (g.key p)) n
 IsSettled g s n _ = Unit {0}
 
--- p stood marked in slot x of t and goes to n, where the copier has met only other keys' words and Closed at the places before j
-pub record IsPutting {K P : Type 0} (g : Setting K P) (s : State P) (t x : ℕ) (p : P) (n j : ℕ) : Type 0 where
+-- p stood marked in slot x of t and goes to n, where the copier has met only other keys' words and
+-- Closed at the places before j
+pub record IsPutting {K P : Type 0} (g : Setting K P) (s : State P) (t x : ℕ) (p : P)
+    (n j : ℕ) : Type 0 where
   pub stood : (s.slot t x ≡ Marked p) ⊎ (s.slot t x ≡ Copied p)
   pub taker : IsTaker g s (g.key p) t n
   pub before : (i : ℕ) → i < j → foreign (look g s (g.key p) n i) ≡ true

@@ -1,8 +1,10 @@
--- Tables that come later: settings that agree on the tables of the chain, and the setting that a growing list of tables or a log gives.
+-- Tables that come later: settings that agree on the tables of the chain, and the setting that a
+-- growing list of tables or a log gives.
 use Rattle.std.specs.Prelude.{◌≡◌, ◌⊎◌, ℕ, ◌<◌, ◌==◌, ◌||◌, Bool, true, false, cond, List, [], ◌∷◌}
 use Rattle.papaya_law.specs.Exchange.{Setting, State, Exchange, Open, Claim, Replace, Bury, Link, Mark, Close, Place, Finish, Advance, Promote, Abort}
 
--- g' says of modes, keys and the tables of the chain what g says; of other tables it may say anything
+-- g' says of modes, keys and the tables of the chain what g says; of other tables it may say
+-- anything
 pub record Agrees {K P : Type 0} (On : ℕ → Type 0) (g g' : Setting K P) : Type 0 where
   pub blocking : g'.blocking ≡ g.blocking
   pub key : (p : P) → g'.key p ≡ g.key p
@@ -11,7 +13,8 @@ pub record Agrees {K P : Type 0} (On : ℕ → Type 0) (g g' : Setting K P) : Ty
   pub places : (t : ℕ) → On t → g'.places t ≡ g.places t
   pub place : (k : K) (t j : ℕ) → On t → g'.place k t j ≡ g.place k t j
 
--- All of a setting but its tables' lengths and limits. A key's places depend on the table's length alone.
+-- All of a setting but its tables' lengths and limits. A key's places depend on the table's length
+-- alone.
 pub record Plan (K P : Type 0) : Type 0 where
   pub blocking : Bool
   pub key : P → K
@@ -28,13 +31,15 @@ pub record IsLawfulPlan {K P : Type 0} (h : Plan K P) : Type 0 where
 
 -- the setting of a plan, where table t has size t slots and places t places
 abbrev pub planned : {K P : Type 0} → Plan K P → (ℕ → ℕ) → (ℕ → ℕ) → Setting K P
-planned h size places = record { blocking = h.blocking; size = size; places = places; place = λ k t j. h.probe k (size t) j; key = h.key; same = h.same }
+planned h size places = record { blocking = h.blocking; size = size; places = places; place =
+    λ k t j. h.probe k (size t) j; key = h.key; same = h.same }
 
 -- table t is the first root or some table's next, as each table of the chain is
 abbrev pub Comes : {P : Type 0} → State P → ℕ → Type 0
 Comes s t = (s.first ≡ t) ⊎ ((u : ℕ) × (s.next u ≡ t))
 
--- An entry of a log: an exchange and, where it opens or links a table, that table's length and number of places.
+-- An entry of a log: an exchange and, where it opens or links a table, that table's length and
+-- number of places.
 pub record Entry (P : Type 0) : Type 0 where
   pub by : Exchange P
   pub size : ℕ

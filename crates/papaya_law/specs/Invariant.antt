@@ -57,13 +57,17 @@ pub record IsSound {K P : Type 0} (g : Setting K P) (s : State P) : Type 0 where
   pub further : (t x : ℕ) → shut (s.slot t x) ≡ true → 0 < s.next t
 
 -- What is kept without blocking, m being the map.
-pub record IsIncrementalState {K P : Type 0} (g : Setting K P) (s : State P) (m : K → Option P) : Type 0 where
+pub record IsIncrementalState {K P : Type 0} (g : Setting K P) (s : State P)
+    (m : K → Option P) : Type 0 where
   pub sound : IsSound g s
   pub open sound use *
   -- tables before the root are finished, and so are the slots below `done` of the next table
-  pub settled : (t x : ℕ) → IsOn s.first s.next t → t < s.root → x < g.size t → finished (s.slot t x) ≡ true
-  pub done : (t x : ℕ) → IsOn s.first s.next t → x < s.done (s.next t) → x < g.size t → finished (s.slot t x) ≡ true
-  pub class : (k : K) → IsIncrementalClass (IsOn s.first s.next) g.places (g.place k) (look g s k) (m k)
+  pub settled : (t x : ℕ) → IsOn s.first s.next t → t < s.root → x < g.size t
+      → finished (s.slot t x) ≡ true
+  pub done : (t x : ℕ) → IsOn s.first s.next t → x < s.done (s.next t) → x < g.size t
+      → finished (s.slot t x) ≡ true
+  pub class : (k : K) → IsIncrementalClass (IsOn s.first s.next) g.places (g.place k) (look g s k)
+      (m k)
 
 -- table t was given up: a pair of the root doesn't fit
 pub record IsGivenUp {K P : Type 0} (g : Setting K P) (s : State P) (t : ℕ) : Type 0 where
@@ -80,19 +84,24 @@ pub record IsDoneTo {K P : Type 0} (g : Setting K P) (s : State P) (t : ℕ) : T
   pub settled : (x : ℕ) → x < s.done t → x < g.size s.root → IsSettled g s t (s.slot s.root x)
 
 -- What is kept with blocking, m being the map.
-pub record IsBlockingState {K P : Type 0} (g : Setting K P) (s : State P) (m : K → Option P) : Type 0 where
+pub record IsBlockingState {K P : Type 0} (g : Setting K P) (s : State P)
+    (m : K → Option P) : Type 0 where
   pub sound : IsSound g s
   pub open sound use *
   -- no table that was the root is aborted, and those before the root don't change
   pub alive : (t : ℕ) → s.was_root t ≡ true → s.aborted t ≡ false
-  pub frozen : (t x : ℕ) → s.was_root t ≡ true → t < s.root → x < g.size t → plain (s.slot t x) ≡ false
+  pub frozen : (t x : ℕ) → s.was_root t ≡ true → t < s.root → x < g.size t
+      → plain (s.slot t x) ≡ false
   -- a table that never was the root holds copies alone, and nothing is Copied
   pub fresh : (t x : ℕ) → s.was_root t ≡ false → plain (s.slot t x) ≡ true
   pub copied : (t x : ℕ) (p : P) → s.slot t x ≡ Copied p → ⊥
   pub given_up : (t : ℕ) → s.aborted t ≡ true → s.root < t → IsGivenUp g s t
   pub done_to : (t : ℕ) → s.root < t → 0 < s.done t → IsDoneTo g s t
-  pub class : (k : K) → IsBlockingClass (IsOn s.first s.next) s.was_root s.aborted s.root g.places (g.place k) (look g s k) (m k)
+  pub class : (k : K) → IsBlockingClass (IsOn s.first s.next) s.was_root s.aborted s.root g.places
+      (g.place k) (look g s k) (m k)
 
--- The state keeps the map m, in the mode that the setting has. This is what a backend's invariant says.
+-- The state keeps the map m, in the mode that the setting has. This is what a backend's invariant
+-- says.
 abbrev pub IsKeeping : {K P : Type 0} → Setting K P → State P → (K → Option P) → Type 0
-IsKeeping g s m = ((g.blocking ≡ false) × IsIncrementalState g s m) ⊎ ((g.blocking ≡ true) × IsBlockingState g s m)
+IsKeeping g s m = ((g.blocking ≡ false) × IsIncrementalState g s m)
+    ⊎ ((g.blocking ≡ true) × IsBlockingState g s m)

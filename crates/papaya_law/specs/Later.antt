@@ -28,13 +28,17 @@ pub record IsLater {K P : Type 0} (g : Setting K P) (s s' : State P) : Type 0 wh
 
 -- Each fact that a caller may have gathered by its loads, if it was so in s, is so in s'.
 pub record IsLasting {K P : Type 0} (g : Setting K P) (s s' : State P) : Type 0 where
-  pub passed : (k : K) (t : ℕ) → IsPassed g.places (look g s k) t → IsPassed g.places (look g s' k) t
+  pub passed : (k : K) (t : ℕ) → IsPassed g.places (look g s k) t
+      → IsPassed g.places (look g s' k) t
   pub full : (k : K) (t : ℕ) → IsFull g.places (look g s k) t → IsFull g.places (look g s' k) t
   pub has : (k : K) (t : ℕ) → HasWord g.places (look g s k) t → HasWord g.places (look g s' k) t
-  pub beyond_at : (k : K) (t j : ℕ) → beyond (look g s k t j) ≡ true → beyond (look g s' k t j) ≡ true
-  pub foreign_at : (k : K) (t j : ℕ) → foreign (look g s k t j) ≡ true → foreign (look g s' k t j) ≡ true
+  pub beyond_at : (k : K) (t j : ℕ) → beyond (look g s k t j) ≡ true
+      → beyond (look g s' k t j) ≡ true
+  pub foreign_at : (k : K) (t j : ℕ) → foreign (look g s k t j) ≡ true
+      → foreign (look g s' k t j) ≡ true
   pub next_place : (k : K) (t x : ℕ) → IsNextPlace g s k beyond t x → IsNextPlace g s' k beyond t x
-  pub copy_place : (k : K) (t x : ℕ) → IsNextPlace g s k foreign t x → IsNextPlace g s' k foreign t x
+  pub copy_place : (k : K) (t x : ℕ) → IsNextPlace g s k foreign t x
+      → IsNextPlace g s' k foreign t x
   pub reached : (k : K) (t : ℕ) → IsReached g s k t → IsReached g s' k t
   pub taker : (k : K) (t n : ℕ) → IsTaker g s k t n → IsTaker g s' k t n
   pub target : (t n : ℕ) → IsTarget g s t n → IsTarget g s' t n

@@ -40,18 +40,25 @@ abbrev pub AllLegal : {K P : Type 0} → Setting K P → (K → Option P) → Li
 AllLegal g m [] = Unit {0}
 AllLegal g m (e ∷ es) = IsLegal g m e × AllLegal g (map_after g m e) es
 
--- Where a search for the key can stand, what it finds is the map's. With blocking a search stands in the root; else in each table that is reached.
-pub record IsMeaning {K P : Type 0} (g : Setting K P) (s : State P) (k : K) (value : Option P) : Type 0 where
+-- Where a search for the key can stand, what it finds is the map's. With blocking a search stands
+-- in the root; else in each table that is reached.
+pub record IsMeaning {K P : Type 0} (g : Setting K P) (s : State P) (k : K)
+    (value : Option P) : Type 0 where
   pub no_root : s.root ≡ 0 → value ≡ None
   -- its pair, Live or Marked
-  pub found : (t j : ℕ) (p : P) → IsReached g s k t → (g.blocking ≡ true → s.root ≡ t) → j < g.places t → (look g s k t j ≡ Here p) ⊎ (look g s k t j ≡ Leaving p) → value ≡ Some p
+  pub found : (t j : ℕ) (p : P) → IsReached g s k t → (g.blocking ≡ true → s.root ≡ t)
+      → j < g.places t → (look g s k t j ≡ Here p) ⊎ (look g s k t j ≡ Leaving p) → value ≡ Some p
   -- an empty place, which the search comes to
-  pub empty : (t j : ℕ) → IsReached g s k t → (g.blocking ≡ true → s.root ≡ t) → j < g.places t → ((i : ℕ) → i < j → beyond (look g s k t i) ≡ true) → look g s k t j ≡ Free → value ≡ None
+  pub empty : (t j : ℕ) → IsReached g s k t → (g.blocking ≡ true → s.root ≡ t) → j < g.places t
+      → ((i : ℕ) → i < j → beyond (look g s k t i) ≡ true) → look g s k t j ≡ Free → value ≡ None
   -- no place left, and no further table
-  pub over : (t : ℕ) → IsReached g s k t → IsPassed g.places (look g s k) t → ((g.blocking ≡ true) × (s.root ≡ t)) ⊎ ((g.blocking ≡ false) × (s.next t ≡ 0)) → value ≡ None
+  pub over : (t : ℕ) → IsReached g s k t → IsPassed g.places (look g s k) t
+      → ((g.blocking ≡ true) × (s.root ≡ t)) ⊎ ((g.blocking ≡ false) × (s.next t ≡ 0))
+      → value ≡ None
 
 -- at some moment of the exchanges fs, which begin where the map is m, the key's pair was `value`
-pub record IsAtMoment {K P : Type 0} (g : Setting K P) (m : K → Option P) (fs : List (Exchange P)) (k : K) (value : Option P) : Type 0 where
+pub record IsAtMoment {K P : Type 0} (g : Setting K P) (m : K → Option P) (fs : List (Exchange P))
+    (k : K) (value : Option P) : Type 0 where
   pub so_far : List (Exchange P)
   pub rest : List (Exchange P)
   pub is : so_far ++ rest ≡ fs

@@ -1,4 +1,5 @@
--- What the words tell a search for one key, and where that search comes. V t j is what stands at the j-th place of table t, n t is how many places t has.
+-- What the words tell a search for one key, and where that search comes. V t j is what stands at
+-- the j-th place of table t, n t is how many places t has.
 use Rattle.std.specs.Prelude.{◌≡◌, ◌⊎◌, ℕ, ◌<◌, Bool, true, false, cond}
 use Rattle.papaya_law.specs.Exchange.{Word, Empty, Closed, Live, Marked, Copied, Buried, Setting, State, walk}
 
@@ -56,7 +57,8 @@ look g s k t j = view g k (s.slot t (g.place k t j))
 
 -- the search for the key goes on to the next table
 abbrev pub IsPassed : {P : Type 0} → (ℕ → ℕ) → (ℕ → ℕ → View P) → ℕ → Type 0
-IsPassed {P = P} n V t = ((j : ℕ) × (p : P) × (j < n t) × (V t j ≡ Gone p)) ⊎ ((j : ℕ) → j < n t → beyond (V t j) ≡ true)
+IsPassed {P = P} n V t = ((j : ℕ) × (p : P) × (j < n t) × (V t j ≡ Gone p))
+    ⊎ ((j : ℕ) → j < n t → beyond (V t j) ≡ true)
 
 -- no copy of the key's pair fits
 abbrev pub IsFull : {P : Type 0} → (ℕ → ℕ) → (ℕ → ℕ → View P) → ℕ → Type 0
@@ -67,13 +69,15 @@ abbrev pub HasWord : {P : Type 0} → (ℕ → ℕ) → (ℕ → ℕ → View P)
 HasWord n V t = (j : ℕ) × (j < n t) × (own (V t j) ≡ true)
 
 -- x is the slot of a place of the key before which each place passes the test
-pub record IsNextPlace {K P : Type 0} (g : Setting K P) (s : State P) (k : K) (test : View P → Bool) (t x : ℕ) : Type 0 where
+pub record IsNextPlace {K P : Type 0} (g : Setting K P) (s : State P) (k : K) (test : View P → Bool)
+    (t x : ℕ) : Type 0 where
   pub at : ℕ
   pub within : at < g.places t
   pub is : g.place k t at ≡ x
   pub before : (i : ℕ) → i < at → test (look g s k t i) ≡ true
 
--- Table t was the root. Or, without blocking, it comes some links after one that was, and the search for the key goes past each table between.
+-- Table t was the root. Or, without blocking, it comes some links after one that was, and the
+-- search for the key goes past each table between.
 pub record IsReached {K P : Type 0} (g : Setting K P) (s : State P) (k : K) (t : ℕ) : Type 0 where
   pub from : ℕ
   pub links : ℕ
