@@ -40,3 +40,5 @@ pub mod StoreLemmas
 pub mod TellLemmas
 pub mod TiedLemmas
 pub mod TimelineLemmas
+-- an example: a made-up value is refused by what closures gave
+pub mod InventedValue
