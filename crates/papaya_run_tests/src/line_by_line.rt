@@ -7,7 +7,7 @@ const BACKENDS: [&str; 2] = ["seq inc:64 id", "shared inc:64 id"];
 
 #[test]
 fn replies(rt: HostRuntime) -> Result<(), Fail> {
-    // Old values, absent keys, the greatest numbers, leading noughts, empty lines, no last line end.
+    // Old values, absent keys, the greatest numbers, leading zeros, empty lines, no last line end.
     let script =
         b"\ng 1\nr 1\ni 1 10\ng 1\n\ni 01 11\ng 1\nr 2\nlen\nr 1\nr 1\ng 1\ni 1 12\ni 18446744073709551615 18446744073709551615\ng 0018446744073709551615\nr 18446744073709551615\nlen";
     let output =

@@ -25,7 +25,7 @@ fn a_lookup_beside_an_insertion(rt: HostRuntime) -> Result<(), Fail> {
 
 #[test]
 fn replies(rt: HostRuntime) -> Result<(), Fail> {
-    // An old value, the greatest numbers, leading noughts, empty lines, and no last line end.
+    // An old value, the greatest numbers, leading zeros, empty lines, and no last line end.
     let script =
         b"\nbegin 63 i 18446744073709551615 1\n\nfinish 63\nbegin 63 i 00018446744073709551615 18446744073709551615\nfinish 063\nbegin 0 g 18446744073709551615\nfinish 00";
     let output = "63: none\n63: old 1\n0: some 18446744073709551615\n";
@@ -124,7 +124,7 @@ fn bad_arguments(rt: HostRuntime) -> Result<(), Fail> {
 }
 
 #[test]
-fn a_chunk_of_nought(rt: HostRuntime) -> Result<(), Fail> {
+fn a_chunk_of_zero(rt: HostRuntime) -> Result<(), Fail> {
     for args in [
         "core inc:0 id",
         "core inc:000 zero",
