@@ -6,15 +6,15 @@ use Rattle.std.proofs.lemmas.List.Sums.{fold_more}
 use Rattle.std.specs.Int.{w64, int_wrap}
 use Rattle.papaya_words.specs.Counter.{Count, sum_of}
 
--- noughts add up to nought
-fold-noughts : (n : ℕ) → fold ◌+ℤ◌ (pos 0) (replicate n (pos 0)) ≡ pos 0
-fold-noughts zero = refl
-fold-noughts (suc n) = fold-noughts n
+-- zeros add up to zero
+fold-zeros : (n : ℕ) → fold ◌+ℤ◌ (pos 0) (replicate n (pos 0)) ≡ pos 0
+fold-zeros zero = refl
+fold-zeros (suc n) = fold-zeros n
 
--- new shards add up to nought
-pub sum_of-noughts : (n : ℕ) → sum_of (replicate n (pos 0)) ≡ pos 0
+-- new shards add up to zero
+pub sum_of-zeros : (n : ℕ) → sum_of (replicate n (pos 0)) ≡ pos 0
 unfolding int_wrap
-sum_of-noughts n = ap (int_wrap w64) (fold-noughts n)
+sum_of-zeros n = ap (int_wrap w64) (fold-zeros n)
 
 -- what is added before is added after
 fold-added : (a by : ℤ) (xs : List ℤ) → fold ◌+ℤ◌ (a +ℤ by) xs ≡ fold ◌+ℤ◌ a xs +ℤ by
