@@ -23,7 +23,8 @@ use Rattle.papaya_call.specs.Search.{IsWithin}
 abbrev pub nothing : Remembered
 nothing = record { fill = None; choice = None }
 
--- the pair of this number goes where its key is absent: into a first table, an empty place, or a further table
+-- the pair of this number goes where its key is absent: into a first table, an empty place, or a
+-- further table
 abbrev pub fills : Gap → ℕ → State
 fills NoRoot n = Making
 fills (At place) n = Putting (record { write = record { place = place; old = 0 }; pair = n })
@@ -54,10 +55,15 @@ provides (Replace write) n = Putting (record { write = write; pair = n })
 -- a remembered answer was given to the pair of this number, or not
 abbrev pub recalls : Option Choice → Place → (word pair : ℕ) → State
 recalls None at word n = Showing (record { place = at; word = word })
-recalls (Some (To_replace old new)) at word n = if old == n then Putting (record { write = record { place = at; old = word }; pair = new }) else Showing (record { place = at; word = word })
-recalls (Some (To_remove old)) at word n = if old == n then Burying (record { place = at; word = word }) else Showing (record { place = at; word = word })
+recalls (Some (To_replace old new)) at word n = if old == n
+    then Putting (record { write = record { place = at; old = word }; pair = new })
+    else Showing (record { place = at; word = word })
+recalls (Some (To_remove old)) at word n = if old == n
+    then Burying (record { place = at; word = word })
+    else Showing (record { place = at; word = word })
 
--- a Live word names a pair with the key: the closure is shown it, unless what it answered to it is remembered
+-- a Live word names a pair with the key: the closure is shown it, unless what it answered to it is
+-- remembered
 abbrev pub meets : Option Choice → Place → ℕ → State
 meets choice at word = recalls choice at word (pair_of word)
 

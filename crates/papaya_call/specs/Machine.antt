@@ -48,7 +48,15 @@ IsChunked Blocking = Unit {0}
 
 -- a call that begins
 abbrev pub started : Task → ℕ → ResizeMode → ℕ → Machine
-started task hash mode initial = record { task = task; hash = hash; mode = mode; initial = initial; made = Nothing; remembered = nothing; state = AtRoot }
+started task hash mode initial = record {
+  task = task;
+  hash = hash;
+  mode = mode;
+  initial = initial;
+  made = Nothing;
+  remembered = nothing;
+  state = AtRoot;
+}
 
 -- a pair of a value that the closure answered: the key is made first, once a call
 abbrev pub pairing_ask : Made → Ask
@@ -101,20 +109,24 @@ absent _ fill gap = Ended Absent
 -- the root is this table, or there is none
 abbrev pub at_root : Task → Option ℕ → ℕ → State
 at_root Get fill word = if word == 0 then absent Get fill NoRoot else Searching (Sizing word)
-at_root RemoveIf fill word = if word == 0 then absent RemoveIf fill NoRoot else Searching (Sizing word)
-at_root Compute fill word = if word == 0 then absent Compute fill NoRoot else Searching (Sizing word)
+at_root RemoveIf fill word = if word == 0 then absent RemoveIf fill NoRoot
+    else Searching (Sizing word)
+at_root Compute fill word = if word == 0 then absent Compute fill NoRoot
+    else Searching (Sizing word)
 at_root (Insert replace) fill word = if word == 0 then Making else Searching (Sizing word)
 
 -- the next table has this number, or there is none
 abbrev pub left : Task → Option ℕ → (table word : ℕ) → State
-left task fill table word = if word == 0 then absent task fill (After table) else Searching (Sizing word)
+left task fill table word = if word == 0 then absent task fill (After table)
+    else Searching (Sizing word)
 
 -- a call that looks for its key goes past a table
 abbrev pub passes : Task → ResizeMode → Option ℕ → ℕ → State
 passes task (Incremental chunk) fill table = Leaving table
 passes task Blocking fill table = absent task fill (After table)
 
--- a pair with a matching key is replaced where its word is Live; one that is marked can't be changed here
+-- a pair with a matching key is replaced where its word is Live; one that is marked can't be
+-- changed here
 abbrev pub replaces : Kind → Place → ℕ → State
 replaces Live at word = Writing (record { place = at; old = word })
 replaces _ at word = Growing at.table
@@ -161,7 +173,8 @@ exchanged Nothing write = Writing write
 exchanged Key write = Writing write
 exchanged (Pair n) write = written write n
 
--- a burial found this word in the place of its own; for a removal the key was absent where another call buried its pair
+-- a burial found this word in the place of its own; for a removal the key was absent where another
+-- call buried its pair
 abbrev pub beaten_by : Kind → Machine → Place → ℕ → State
 beaten_by Buried m at word = Ended Absent
 beaten_by _ m at word = goes m (look at m.hash word)
@@ -279,7 +292,11 @@ held_in made held n (Pairing purpose) = paired_held made held purpose n
 held_in made held n _ = held
 
 abbrev pub state_made : Machine → ℕ → Machine
-state_made m n = record m { made = made_in m.made n m.state; remembered = held_in m.made m.remembered n m.state; state = state_in m.made n m.state }
+state_made m n = record m {
+  made = made_in m.made n m.state;
+  remembered = held_in m.made m.remembered n m.state;
+  state = state_in m.made n m.state;
+}
 
 -- where the closure of a compute leads it, and what is remembered then
 abbrev pub at_op : Task → OpKind → State → State
@@ -292,7 +309,10 @@ held_at_op task held kind (Showing removal) = decided_held task held removal kin
 held_at_op task held kind _ = held
 
 abbrev pub state_op : Machine → OpKind → Machine
-state_op m kind = record m { remembered = held_at_op m.task m.remembered kind m.state; state = at_op m.task kind m.state }
+state_op m kind = record m {
+  remembered = held_at_op m.task m.remembered kind m.state;
+  state = at_op m.task kind m.state;
+}
 
 -- the machine after an answer
 abbrev pub after : Machine → Answer → Machine

@@ -1,4 +1,5 @@
--- The removal of the pair that a word names: it is shown to the closure, and its word becomes Buried.
+-- The removal of the pair that a word names: it is shown to the closure, and its word becomes
+-- Buried.
 use Rattle.std.specs.Prelude.{ℕ}
 use Rattle.papaya_words.specs.Word.{buried_word, byte_of, pair_of}
 use Rattle.papaya_call.specs.declared.ask.At.TheVariants.{Slot}
@@ -16,4 +17,5 @@ grave_word word = buried_word (byte_of word) (pair_of word)
 
 -- the pair is buried where its word stands
 abbrev pub removal_ask : Removal → Ask
-removal_ask removal = Exchange (Slot removal.place.table removal.place.probe.i) removal.word (grave_word removal.word)
+removal_ask removal = Exchange (Slot removal.place.table removal.place.probe.i) removal.word
+    (grave_word removal.word)

@@ -46,11 +46,21 @@ ask_of (Comparing at word) = SameKey (pair_of word)
 
 -- the first place of a key in a table
 abbrev pub first_place : (hash table slots limit : ℕ) → Place
-first_place hash table slots limit = record { table = table; len = slots; limit = limit; probe = record { i = place hash slots 0; len = 0 } }
+first_place hash table slots limit = record {
+  table = table;
+  len = slots;
+  limit = limit;
+  probe = record { i = place hash slots 0; len = 0 };
+}
 
 -- the place after this one
 abbrev pub next_place : Place → Place
-next_place at = record at { probe = record { i = (at.probe.i + at.probe.len + 1) % at.len; len = at.probe.len + 1 } }
+next_place at = record at {
+  probe = record {
+    i = (at.probe.i + at.probe.len + 1) % at.len;
+    len = at.probe.len + 1;
+  };
+}
 
 -- the key is not at this place: the search goes on, or is over
 abbrev pub go_on : Place → Seen
@@ -58,7 +68,8 @@ go_on at = if nat_lt at.probe.len at.limit then On (Looking (next_place at)) els
 
 -- the pair of this word has the key's hash byte, and so perhaps the key
 abbrev pub compare_byte : Place → (hash word : ℕ) → Seen
-compare_byte at hash word = if byte_of word == top_byte hash then On (Comparing at word) else go_on at
+compare_byte at hash word = if byte_of word == top_byte hash then On (Comparing at word)
+    else go_on at
 
 -- what a word of this kind tells
 abbrev pub look_at : Kind → Place → (hash word : ℕ) → Seen

@@ -24,7 +24,8 @@ new_word hash pair = live_word (top_byte hash) pair
 abbrev pub write_ask : Write → Made → ℕ → Ask
 write_ask write Nothing hash = MakeKey
 write_ask write Key hash = MakePair
-write_ask write (Pair n) hash = Exchange (Slot write.place.table write.place.probe.i) write.old (new_word hash n)
+write_ask write (Pair n) hash = Exchange (Slot write.place.table write.place.probe.i) write.old
+    (new_word hash n)
 
 -- an empty slot is claimed, a pair is replaced
 abbrev pub write_kind : Write → StepKind

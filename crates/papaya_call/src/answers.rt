@@ -25,7 +25,8 @@ pub trait Answers<K, V> {
     /// The answer of a closure that may insert, remove or abort. `None` is shown where the key is
     /// absent.
     fn op(&mut self, shown: Option<(&K, &V)>) -> Operation<V, u64>
-        ensures { op_gives self.old (option_map (λ p. (p.0.now, p.1.now)) shown.entry) result self.new };
+        ensures { op_gives self.old (option_map (λ p. (p.0.now, p.1.now)) shown.entry) result
+            self.new };
 
     /// The answer of a closure that says whether the pair that it is shown is to be removed.
     fn yes(&mut self, key: &K, value: &V) -> bool
@@ -42,9 +43,11 @@ pub struct Listed<V> {
 }
 
 impl<K, V: Drop> Answers<K, V> for Listed<V> {
-    ghost op_gives = { λ s shown answer t. (answer ≡ first_or (Operation.Abort 0) s.ops.items) × (t.ops.items ≡ rest_of s.ops.items) × (t.yes ≡ s.yes) };
+    ghost op_gives = { λ s shown answer t. (answer ≡ first_or (Operation.Abort 0) s.ops.items)
+        × (t.ops.items ≡ rest_of s.ops.items) × (t.yes ≡ s.yes) };
 
-    ghost yes_gives = { λ s key value answer t. (answer ≡ first_or false s.yes.items) × (t.yes.items ≡ rest_of s.yes.items) × (t.ops ≡ s.ops) };
+    ghost yes_gives = { λ s key value answer t. (answer ≡ first_or false s.yes.items)
+        × (t.yes.items ≡ rest_of s.yes.items) × (t.ops ≡ s.ops) };
 
     fn op(&mut self, _shown: Option<(&K, &V)>) -> Operation<V, u64> {
         if self.ops.is_empty() {

@@ -19,7 +19,8 @@ pub enum At {
     Slot(u64, usize),
 }
 
-/// What a machine asks next: one atomic step on one word at most. Each kind of ask has its own kinds
+/// What a machine asks next: one atomic step on one word at most. Each kind of ask has its own
+/// kinds
 /// of answer.
 #[derive(Clone, Copy, Debug, PartialEq, Eq)]
 pub enum Ask {

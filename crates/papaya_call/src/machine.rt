@@ -379,7 +379,8 @@ impl Machine {
         }
     }
 
-    /// A word at this place names a pair with a matching key. One that is marked can't be changed here.
+    /// A word at this place names a pair with a matching key. One that is marked can't be changed
+    /// here.
     #[inline(always)]
     fn found(&self, place: Place, word: u64) -> State
         requires within { IsWithin place }

@@ -10,10 +10,12 @@ use Rattle.papaya_call.specs.Machine.{IsChunked}
 
 -- a table for so many pairs is within the limits, or past them
 abbrev pub HasRoom : ℕ → Type 0
-HasRoom capacity = (capacity * 8 < 2 ^ 64) × (entries : ℕ) × IsEntriesFor capacity entries × (entries ≤ MAX_TABLE_LEN)
+HasRoom capacity = (capacity * 8 < 2 ^ 64) × (entries : ℕ) × IsEntriesFor capacity entries
+    × (entries ≤ MAX_TABLE_LEN)
 
 abbrev pub IsTooMuch : ℕ → Type 0
-IsTooMuch capacity = (2 ^ 64 ≤ capacity * 8) ⊎ ((entries : ℕ) × IsEntriesFor capacity entries × (MAX_TABLE_LEN < entries))
+IsTooMuch capacity = (2 ^ 64 ≤ capacity * 8) ⊎ ((entries : ℕ) × IsEntriesFor capacity entries
+    × (MAX_TABLE_LEN < entries))
 
 -- what was asked for is within the limits
 abbrev pub IsAllowed : ResizeMode → (capacity shards : ℕ) → Type 0

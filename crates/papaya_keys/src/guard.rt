@@ -12,7 +12,8 @@ use std::sync::atomic::{AtomicU64, Ordering};
 /// What a key of type `K` can be looked up by: 0.2.5's trait of that name, which it takes from the
 /// crate `equivalent`.
 ///
-/// There its law is the author's word. Here each impl proves that a query hashes as the keys that it
+/// There its law is the author's word. Here each impl proves that a query hashes as the keys that
+/// it
 /// matches, and that it matches just the keys that equal one of them.
 pub trait Equivalent<K: Hash + Eq>: Hash {
     ghost matches: { Self → K → Bool };
@@ -22,10 +23,12 @@ pub trait Equivalent<K: Hash + Eq>: Hash {
         ensures { result ≡ matches self.now key.now };
 
     // A query hashes as a key that it matches.
-    ghost hashes_as_key: { (query : Self) (key : K) → IsTrue (matches query key) → Self.hash_input query ≡ K.hash_input key };
+    ghost hashes_as_key: { (query : Self) (key : K) → IsTrue (matches query key)
+        → Self.hash_input query ≡ K.hash_input key };
 
     // A query that matches a key matches those that equal the key, and no other.
-    ghost matches_equal_keys: { (query : Self) (key other : K) → IsTrue (matches query key) → matches query other ≡ K.eq key other };
+    ghost matches_equal_keys: { (query : Self) (key other : K) → IsTrue (matches query key)
+        → matches query other ≡ K.eq key other };
 }
 
 /// A key matches the keys that equal it.
@@ -49,9 +52,11 @@ pub struct TextKey<'a>(pub &'a str);
 impl<A: Allocator> Equivalent<String<A>> for TextKey<'_> {
     ghost matches = { λ query key. bytes_eq query.0.now (string_bytes key) };
 
-    ghost hashes_as_key = { λ query key same. ap fed.str ((bytes_decides query.0.now (string_bytes key)).0 same) };
+    ghost hashes_as_key = { λ query key same. ap fed.str
+        ((bytes_decides query.0.now (string_bytes key)).0 same) };
 
-    ghost matches_equal_keys = { λ query key other. nat_list_eq_equiv.congr query.0.now (string_bytes key) (string_bytes other) };
+    ghost matches_equal_keys = { λ query key other. nat_list_eq_equiv.congr query.0.now
+        (string_bytes key) (string_bytes other) };
 
     fn equivalent(&self, key: &String<A>) -> bool {
         self.0 == key.as_str()
@@ -78,7 +83,8 @@ impl Model for Collector {
 }
 
 impl Collector {
-    /// A collector of this number. Nothing stops a second one of the same number, and its guards count
+    /// A collector of this number. Nothing stops a second one of the same number, and its guards
+    /// count
     /// as this one's.
     pub fn new(number: u64) -> Collector
         ensures { result ≡ number }
@@ -117,8 +123,10 @@ impl Collector {
 
 /// A stretch of calls, as `seize`'s trait of that name.
 ///
-/// There a guard keeps what was loaded under it from being freed. Here it holds two numbers, on which
-/// no safety rests. In place of `collector` it has `collector_number`, and in place of `thread_id` its
+/// There a guard keeps what was loaded under it from being freed. Here it holds two numbers, on
+/// which
+/// no safety rests. In place of `collector` it has `collector_number`, and in place of `thread_id`
+/// its
 /// own `number`.
 pub trait Guard {
     ghost collector_number: { Self → ℕ };
@@ -129,8 +137,10 @@ pub trait Guard {
     fn collector_number(&self) -> u64
         ensures { result ≡ collector_number self.now };
 
-    /// The guard's own number, the same at each call. It picks the shard of the count that the calls
-    /// under this guard add to. The guards of a collector mostly differ in it, but nothing promises so.
+    /// The guard's own number, the same at each call. It picks the shard of the count that the
+    /// calls
+    /// under this guard add to. The guards of a collector mostly differ in it, but nothing promises
+    /// so.
     fn number(&self) -> u64
         ensures { result ≡ number self.now };
 }

@@ -23,7 +23,8 @@ pub fn check_chunk(mode: ResizeMode) -> Result<(), Refused>
 
 /// The initial capacity, in slots, of a map that is made for so many pairs.
 pub fn initial_len(capacity: usize) -> Result<usize, Refused>
-    ensures ok { IfOk result (λ initial. (capacity * 8 < 2 ^ 64) × IsEntriesFor capacity initial × (initial ≤ MAX_TABLE_LEN)) }
+    ensures ok { IfOk result (λ initial. (capacity * 8 < 2 ^ 64) × IsEntriesFor capacity initial
+        × (initial ≤ MAX_TABLE_LEN)) }
     ensures err { IfErr result (λ e. (e ≡ Refused.Capacity) × IsTooMuch capacity) }
 {
     let initial = entries_for(capacity)?;

@@ -4,8 +4,15 @@ use Rattle.papaya_law.specs.Exchange.{Setting, Exchange, Open, Claim, Replace, B
 
 -- without blocking: two slots a table; pairs 70 to 79 have the key 7
 abbrev pub by_two : Setting ℕ ℕ
-by_two = record { blocking = false; size = λ t. 2; places = λ t. 2; place = λ k t j. j; key =
-    λ p. p / 10; same = λ k l. k == l }
+by_two = record {
+  blocking = false;
+  size = λ t. 2;
+  places = λ t. 2;
+  place = λ k t j. j;
+  key =
+      λ p. p / 10;
+  same = λ k l. k == l;
+}
 
 -- a pair is replaced, the new one copied to a second table, and removed there
 abbrev pub two_tables : List (Exchange ℕ)
@@ -14,8 +21,14 @@ two_tables = Open 1 ∷ Claim 1 0 70 ∷ Replace 1 0 70 71 ∷ Link 1 2 ∷ Mark
 
 -- with blocking: table 2 has one slot
 abbrev pub of_one : Setting ℕ ℕ
-of_one = record { blocking = true; size = λ t. cond (t == 2) 1 2; places = λ t. cond (t == 2) 1 2;
-    place = λ k t j. cond (t == 2) 0 j; key = λ p. p / 10; same = λ k l. k == l }
+of_one = record {
+  blocking = true;
+  size = λ t. cond (t == 2) 1 2;
+  places = λ t. cond (t == 2) 1 2;
+  place = λ k t j. cond (t == 2) 0 j;
+  key = λ p. p / 10;
+  same = λ k l. k == l;
+}
 
 -- two pairs don't fit into table 2, and table 3 takes both
 abbrev pub three_tables : List (Exchange ℕ)

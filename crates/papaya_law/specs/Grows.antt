@@ -31,8 +31,15 @@ pub record IsLawfulPlan {K P : Type 0} (h : Plan K P) : Type 0 where
 
 -- the setting of a plan, where table t has size t slots and places t places
 abbrev pub planned : {K P : Type 0} → Plan K P → (ℕ → ℕ) → (ℕ → ℕ) → Setting K P
-planned h size places = record { blocking = h.blocking; size = size; places = places; place =
-    λ k t j. h.probe k (size t) j; key = h.key; same = h.same }
+planned h size places = record {
+  blocking = h.blocking;
+  size = size;
+  places = places;
+  place =
+      λ k t j. h.probe k (size t) j;
+  key = h.key;
+  same = h.same;
+}
 
 -- table t is the first root or some table's next, as each table of the chain is
 abbrev pub Comes : {P : Type 0} → State P → ℕ → Type 0

@@ -5,5 +5,10 @@ use Rattle.papaya_law.specs.Grows.{Plan}
 
 -- the plan in which a search begins at the key's hash
 abbrev pub hashed : {K P : Type 0} → Bool → (P → K) → (K → K → Bool) → (K → ℕ) → Plan K P
-hashed blocking key same hash = record { blocking = blocking; key = key; same = same; probe =
-    λ k n j. place (hash k) n j }
+hashed blocking key same hash = record {
+  blocking = blocking;
+  key = key;
+  same = same;
+  probe =
+      λ k n j. place (hash k) n j;
+}

@@ -23,8 +23,10 @@ hashing_word hashing.Zero = codes "zero"
 -- the word is the mode: `block`, or `inc:` and a chunk
 abbrev pub WritesMode : List ℕ → ResizeMode → Type 0
 WritesMode word Blocking = word ≡ codes "block"
-WritesMode word (Incremental n) = (chunk : List ℕ) × WritesNumber chunk n × (word ≡ codes "inc:" ++ chunk)
+WritesMode word (Incremental n) = (chunk : List ℕ) × WritesNumber chunk n
+    × (word ≡ codes "inc:" ++ chunk)
 
 -- the arguments are three words: a backend, a mode and a way to hash
 abbrev pub WritesArguments : List (List ℕ) → Arguments → Type 0
-WritesArguments words a = (mode : List ℕ) × WritesMode mode a.mode × (words ≡ backend_word a.backend ∷ mode ∷ hashing_word a.hashing ∷ [])
+WritesArguments words a = (mode : List ℕ) × WritesMode mode a.mode
+    × (words ≡ backend_word a.backend ∷ mode ∷ hashing_word a.hashing ∷ [])

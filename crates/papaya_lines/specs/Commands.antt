@@ -38,7 +38,8 @@ WritesKeyed text word k = (key : List ℕ) × WritesNumber key k × (text ≡ sp
 
 -- the text is the command: its name, and for those that have them its key and its value
 abbrev pub WritesCommand : List ℕ → Command → Type 0
-WritesCommand text (Insert k v) = (key value : List ℕ) × WritesNumber key k × WritesNumber value v × (text ≡ spaced (codes "i" ∷ key ∷ value ∷ []))
+WritesCommand text (Insert k v) = (key value : List ℕ) × WritesNumber key k × WritesNumber value v
+    × (text ≡ spaced (codes "i" ∷ key ∷ value ∷ []))
 WritesCommand text (Get k) = WritesKeyed text (codes "g") k
 WritesCommand text (Remove k) = WritesKeyed text (codes "r") k
 WritesCommand text (Update k) = WritesKeyed text (codes "u") k

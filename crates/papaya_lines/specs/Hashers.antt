@@ -4,5 +4,6 @@ use Rattle.std.specs.Int.{from_le_bytes, w64}
 
 -- the number whose eight bytes were written, the lowest first, and 0 for any other text
 abbrev pub number_written : List ℕ → ℕ
-number_written (a ∷ b ∷ c ∷ d ∷ e ∷ f ∷ g ∷ h ∷ []) = from_le_bytes w64 (a ∷ b ∷ c ∷ d ∷ e ∷ f ∷ g ∷ h ∷ [])
+number_written (a ∷ b ∷ c ∷ d ∷ e ∷ f ∷ g ∷ h ∷ []) =
+    from_le_bytes w64 (a ∷ b ∷ c ∷ d ∷ e ∷ f ∷ g ∷ h ∷ [])
 number_written _ = 0

@@ -27,12 +27,18 @@ line_of number (Finish c most) = record { number = number; caller = c; part = pa
 
 -- the turn that the line asks for is the script's last
 abbrev pub AddsTurn : Script → ℕ → List ℕ → Script → Turn ℕ ℕ Answering → Type 0
-AddsTurn old number line new turn = WritesTurn line turn × (new.turns.items ≡ old.turns.items ++ turn ∷ []) × (new.lines.items ≡ old.lines.items ++ line_of number turn ∷ []) × (new.bad_line ≡ old.bad_line)
+AddsTurn old number line new turn = WritesTurn line turn
+    × (new.turns.items ≡ old.turns.items ++ turn ∷ [])
+    × (new.lines.items ≡ old.lines.items ++ line_of number turn ∷ [])
+    × (new.bad_line ≡ old.bad_line)
 
 -- the line asks for no turn, and the script says so by its number
 abbrev pub NotesBad : Script → ℕ → List ℕ → Script → Type 0
-NotesBad old number line new = ((turn : Turn ℕ ℕ Answering) → ¬ (WritesTurn line turn)) × (new.turns.items ≡ old.turns.items) × (new.lines.items ≡ old.lines.items) × (new.bad_line ≡ Some number)
+NotesBad old number line new = ((turn : Turn ℕ ℕ Answering) → ¬ (WritesTurn line turn))
+    × (new.turns.items ≡ old.turns.items) × (new.lines.items ≡ old.lines.items)
+    × (new.bad_line ≡ Some number)
 
 -- the script is added the line of this number
 abbrev pub Adds : Script → ℕ → List ℕ → Script → Type 0
-Adds old number line new = ((turn : Turn ℕ ℕ Answering) × AddsTurn old number line new turn) ⊎ NotesBad old number line new
+Adds old number line new = ((turn : Turn ℕ ℕ Answering) × AddsTurn old number line new turn)
+    ⊎ NotesBad old number line new

@@ -32,11 +32,13 @@ verb_word verb.Finish = codes "finish"
 
 -- the line is this word and a caller
 abbrev pub WritesVerb : List ℕ → List ℕ → ℕ → Type 0
-WritesVerb line word c = (caller : List ℕ) × WritesCaller caller c × (line ≡ spaced (word ∷ caller ∷ []))
+WritesVerb line word c = (caller : List ℕ) × WritesCaller caller c
+    × (line ≡ spaced (word ∷ caller ∷ []))
 
 -- the line asks for the turn
 abbrev pub WritesTurn : List ℕ → Turn ℕ ℕ Answering → Type 0
-WritesTurn line (Begin c what) = (caller call : List ℕ) × WritesCaller caller c × WritesCall call what × (line ≡ spaced (codes "begin" ∷ caller ∷ call ∷ []))
+WritesTurn line (Begin c what) = (caller call : List ℕ) × WritesCaller caller c
+    × WritesCall call what × (line ≡ spaced (codes "begin" ∷ caller ∷ call ∷ []))
 WritesTurn line (Step c false) = WritesVerb line (codes "step") c
 WritesTurn line (Step c true) = WritesVerb line (codes "refuse") c
 WritesTurn line (Finish c n) = WritesVerb line (codes "finish") c × (n ≡ 1000000)

@@ -39,7 +39,8 @@ pub struct Arguments {
 
 /// The backend of this word.
 fn backend_of(word: &str) -> Option<Backend>
-    ensures { MatchOption result ((backend : Backend) → word.now ≢ backend_word backend) (λ backend. word.now ≡ backend_word backend) }
+    ensures { MatchOption result ((backend : Backend) → word.now ≢ backend_word backend)
+        (λ backend. word.now ≡ backend_word backend) }
 {
     match word {
         "core" => Some(Backend::Core),
@@ -51,7 +52,8 @@ fn backend_of(word: &str) -> Option<Backend>
 
 /// The mode of this word.
 fn mode_of(word: &[u8]) -> Option<ResizeMode>
-    ensures { MatchOption result ((mode : ResizeMode) → ¬ (WritesMode word.now mode)) (WritesMode word.now) }
+    ensures { MatchOption result ((mode : ResizeMode) → ¬ (WritesMode word.now mode))
+        (WritesMode word.now) }
 {
     match word {
         b"block" => Some(ResizeMode::Blocking),
@@ -64,7 +66,8 @@ fn mode_of(word: &[u8]) -> Option<ResizeMode>
 
 /// The way to hash of this word.
 fn hashing_of(word: &str) -> Option<Hashing>
-    ensures { MatchOption result ((hashing : Hashing) → word.now ≢ hashing_word hashing) (λ hashing. word.now ≡ hashing_word hashing) }
+    ensures { MatchOption result ((hashing : Hashing) → word.now ≢ hashing_word hashing)
+        (λ hashing. word.now ≡ hashing_word hashing) }
 {
     match word {
         "id" => Some(Hashing::Identity),
@@ -77,7 +80,9 @@ impl Arguments {
     /// The arguments behind the program's name, or None where they are bad. That a chunk is not 0
     /// is for the map to see.
     pub fn from_words(words: &[String]) -> Option<Arguments>
-        ensures { MatchOption result ((arguments : Arguments) → ¬ (WritesArguments (map string_bytes words.now) arguments)) (WritesArguments (map string_bytes words.now)) }
+        ensures { MatchOption result ((arguments : Arguments)
+            → ¬ (WritesArguments (map string_bytes words.now) arguments))
+            (WritesArguments (map string_bytes words.now)) }
     {
         match words {
             [backend, mode, hashing] => Some(Arguments {

@@ -5,7 +5,8 @@ ghost use Rattle.papaya_lines.specs.Closures.{operation_of};
 
 use papaya_call::answers::{Answers, Operation};
 
-/// The closures of a script: a removal agrees to what it is shown, and an update adds 1 to the value
+/// The closures of a script: a removal agrees to what it is shown, and an update adds 1 to the
+/// value
 /// that it is shown, where 0 follows the greatest.
 #[derive(Clone, Copy, Debug, PartialEq, Eq)]
 pub struct Answering;

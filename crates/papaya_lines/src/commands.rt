@@ -41,7 +41,8 @@ enum Keyed {
 
 /// The command of this name that has a key.
 fn keyed_of(word: &[u8]) -> Option<Keyed>
-    ensures { MatchOption result ((name : Keyed) → word.now ≢ keyed_word name) (λ name. word.now ≡ keyed_word name) }
+    ensures { MatchOption result ((name : Keyed) → word.now ≢ keyed_word name)
+        (λ name. word.now ≡ keyed_word name) }
 {
     match word {
         b"g" => Some(Keyed::Get),
@@ -54,7 +55,8 @@ fn keyed_of(word: &[u8]) -> Option<Keyed>
 
 /// The command that is one word.
 fn bare_of(word: &[u8]) -> Option<Command>
-    ensures { MatchOption result ((command : Command) → ¬ (WritesBare word.now command)) (WritesBare word.now) }
+    ensures { MatchOption result ((command : Command) → ¬ (WritesBare word.now command))
+        (WritesBare word.now) }
 {
     match word {
         b"len" => Some(Command::Len),
@@ -65,7 +67,8 @@ fn bare_of(word: &[u8]) -> Option<Command>
 
 /// The command that a line writes, or None where the line is of another form.
 pub fn command_of(text: &[u8]) -> Option<Command>
-    ensures { MatchOption result ((command : Command) → ¬ (WritesCommand text.now command)) (WritesCommand text.now) }
+    ensures { MatchOption result ((command : Command) → ¬ (WritesCommand text.now command))
+        (WritesCommand text.now) }
 {
     let Some((name, rest)) = parted(text) else {
         return bare_of(text);

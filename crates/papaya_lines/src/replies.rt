@@ -61,7 +61,8 @@ impl Updates {
     }
 }
 
-/// Prints what a line prints, whose entries these are: its reply, or that its call is running still.
+/// Prints what a line prints, whose entries these are: its reply, or that its call is running
+/// still.
 fn print_line<S: BuildHasher + Drop, W: Write>(
     core: &Core<u64, u64, S, Answering>,
     line: Line,

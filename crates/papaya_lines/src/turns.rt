@@ -20,7 +20,8 @@ const MOST_STEPS: usize = 1_000_000;
 
 /// The caller of this number.
 fn caller_of(text: &[u8]) -> Option<usize>
-    ensures { MatchOption result ((caller : ℕ) → ¬ (WritesCaller text.now caller)) (WritesCaller text.now) }
+    ensures { MatchOption result ((caller : ℕ) → ¬ (WritesCaller text.now caller))
+        (WritesCaller text.now) }
 {
     let caller = number_of(text)?;
     if caller < CALLERS {
@@ -32,7 +33,8 @@ fn caller_of(text: &[u8]) -> Option<usize>
 
 /// The call that this text writes. A question is none.
 fn call_of(text: &[u8]) -> Option<Call<u64, u64, Answering>>
-    ensures { MatchOption result ((call : Call ℕ ℕ Answering) → ¬ (WritesCall text.now call)) (WritesCall text.now) }
+    ensures { MatchOption result ((call : Call ℕ ℕ Answering) → ¬ (WritesCall text.now call))
+        (WritesCall text.now) }
 {
     match command_of(text)? {
         Command::Get(key) => Some(Call::Get(key)),
@@ -53,7 +55,8 @@ enum Verb {
 
 /// The verb of this word.
 fn verb_of(word: &[u8]) -> Option<Verb>
-    ensures { MatchOption result ((verb : Verb) → word.now ≢ verb_word verb) (λ verb. word.now ≡ verb_word verb) }
+    ensures { MatchOption result ((verb : Verb) → word.now ≢ verb_word verb)
+        (λ verb. word.now ≡ verb_word verb) }
 {
     match word {
         b"begin" => Some(Verb::Begin),
@@ -67,7 +70,8 @@ fn verb_of(word: &[u8]) -> Option<Verb>
 /// The turn that a line asks for, or None where the line is of bad form. An empty line asks for
 /// none: a script passes over it.
 pub fn turn_of(line: &[u8]) -> Option<Turn<u64, u64, Answering>>
-    ensures { MatchOption result ((turn : Turn ℕ ℕ Answering) → ¬ (WritesTurn line.now turn)) (WritesTurn line.now) }
+    ensures { MatchOption result ((turn : Turn ℕ ℕ Answering) → ¬ (WritesTurn line.now turn))
+        (WritesTurn line.now) }
 {
     let (verb, rest) = parted(line)?;
     match verb_of(verb)? {

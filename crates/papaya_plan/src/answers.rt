@@ -17,7 +17,8 @@ pub fn weight(answer: Option<&u64>) -> u64
 
 /// Fails unless the other sums are equal to the first.
 pub fn compare(first: u64, others: &[u64]) -> Result<(), Failure>
-    ensures { MatchResult result (λ _. All (λ sum. sum ≡ first) others.now) (λ failure. (failure ≡ Failure.Disagreement) × ¬ (All (λ sum. sum ≡ first) others.now)) }
+    ensures { MatchResult result (λ _. All (λ sum. sum ≡ first) others.now)
+        (λ failure. (failure ≡ Failure.Disagreement) × ¬ (All (λ sum. sum ≡ first) others.now)) }
 {
     if others.iter().all(|sum| *sum == first) {
         Ok(())

@@ -15,7 +15,8 @@ pub enum Task {
 impl Task {
     /// The task of the arguments behind the program's name, or None where they are bad.
     pub fn from_words(words: &[String]) -> Option<Task>
-        ensures { MatchOption result ((task : Task) → map string_bytes words.now ≢ words_of task) (λ task. map string_bytes words.now ≡ words_of task) }
+        ensures { MatchOption result ((task : Task) → map string_bytes words.now ≢ words_of task)
+            (λ task. map string_bytes words.now ≡ words_of task) }
     {
         match words {
             [] => Some(Task::Check),

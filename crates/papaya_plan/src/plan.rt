@@ -54,7 +54,8 @@ pub struct Plan {
 }
 
 impl Plan {
-    /// How many maps are made, and how many rounds each of them has. Where a round takes away what a
+    /// How many maps are made, and how many rounds each of them has. Where a round takes away what
+    /// a
     /// further round needs, each round has a map of its own.
     pub fn maps(self) -> (u32, u32)
         ensures each { result ≡ cond (uses_up self.workload) (self.rounds, 1) (1, self.rounds) }
@@ -100,7 +101,8 @@ impl Plan {
     #[inline(always)]
     pub fn number_at(self, turn: u64) -> u64
         ensures value { IsPowerOfTwo self.keys → result ≡ (turn * 2654435761) % self.keys }
-        ensures back { IsPowerOfTwo self.keys → turn < self.keys → (result * 14962265741255716689) % self.keys ≡ turn }
+        ensures back { IsPowerOfTwo self.keys → turn < self.keys
+            → (result * 14962265741255716689) % self.keys ≡ turn }
     {
         turn.wrapping_mul(2_654_435_761) & u64::from(self.keys).wrapping_sub(1)
     }
@@ -135,7 +137,8 @@ impl Part {
 
     /// The part of this number of as many as there are threads. They follow one another.
     pub fn of_thread(plan: Plan, thread: u32) -> Part
-        ensures { (result.start ≡ plan.keys * thread / THREADS) × (result.end ≡ plan.keys * (thread + 1) / THREADS) }
+        ensures { (result.start ≡ plan.keys * thread / THREADS)
+            × (result.end ≡ plan.keys * (thread + 1) / THREADS) }
     {
         let keys = u64::from(plan.keys);
         let thread = u64::from(thread);

@@ -1,4 +1,5 @@
--- One caller alone: nobody else changes the words, so what a machine has read stands there still, and its call comes to an end.
+-- One caller alone: nobody else changes the words, so what a machine has read stands there still,
+-- and its call comes to an end.
 use Rattle.std.specs.Prelude.{◌≡◌, ◌⊎◌, ℕ, ◌+◌, ◌*◌, ◌-◌, ◌^◌, ◌==◌, Bool, false, MatchBool}
 use Rattle.papaya_words.specs.Word.{kind_of}
 use Rattle.papaya_words.specs.declared.probe.Refused.{Refused}
@@ -38,7 +39,8 @@ pub record IsPut (words : At → ℕ) (at : At) (new : ℕ) (words' : At → ℕ
 
 -- what was to be made was made, or refused
 abbrev pub IsMaking : Answer → Type 0
-IsMaking answer = ((n : ℕ) × (answer ≡ Made_number n)) ⊎ ((refused : Refused) × (answer ≡ Was_refused refused))
+IsMaking answer = ((n : ℕ) × (answer ≡ Made_number n))
+    ⊎ ((refused : Refused) × (answer ≡ Was_refused refused))
 
 -- the closure of a removal says whether it agrees, and that of a compute what to do
 abbrev pub IsSaying : Task → Answer → Type 0
@@ -51,11 +53,15 @@ IsSaying Compute answer = (kind : OpKind) × (answer ≡ Op kind)
 abbrev pub IsPrompt : Task → (At → ℕ) → Ask → Answer → (At → ℕ) → Type 0
 IsPrompt task words (Load at) answer words' = (answer ≡ Word_read (words at)) × IsSame words words'
 IsPrompt task words (Exchange at old new) answer words' =
-    MatchBool (words at == old) ((answer ≡ Exchanged) × IsPut words at new words') ((answer ≡ Found_instead (words at)) × IsSame words words')
-IsPrompt task words (SameKey n) answer words' = ((same : Bool) × (answer ≡ Yes same)) × IsSame words words'
+    MatchBool (words at == old) ((answer ≡ Exchanged) × IsPut words at new words')
+    ((answer ≡ Found_instead (words at)) × IsSame words words')
+IsPrompt task words (SameKey n) answer words' = ((same : Bool) × (answer ≡ Yes same))
+    × IsSame words words'
 IsPrompt task words ShowNone answer words' = IsSaying Compute answer × IsSame words words'
 IsPrompt task words (ShowPair n) answer words' = IsSaying task answer × IsSame words words'
-IsPrompt task words (SizeOf t) answer words' = ((slots : ℕ) × (limit : ℕ) × IsSize slots limit × (answer ≡ Size slots limit)) × IsSame words words'
+IsPrompt task words (SizeOf t) answer words' =
+    ((slots : ℕ) × (limit : ℕ) × IsSize slots limit × (answer ≡ Size slots limit))
+    × IsSame words words'
 IsPrompt task words MakeKey answer words' = IsMaking answer × IsSame words words'
 IsPrompt task words MakePair answer words' = IsMaking answer × IsSame words words'
 IsPrompt task words (MakeTable slots limit) answer words' = IsMaking answer × IsSame words words'

@@ -58,7 +58,8 @@ opened_or Exchanged table n = table
 opened_or (Found_instead word) table n = word
 opened_or _ table n = n
 
--- the number of a table that a machine was told last, where it was told n before it asked this and was answered so
+-- the number of a table that a machine was told last, where it was told n before it asked this and
+-- was answered so
 abbrev pub told_table : Ask → Answer → ℕ → ℕ
 told_table (Load Root) answer n = loaded_or answer n
 told_table (Load (Next t)) answer n = loaded_or answer n
@@ -73,7 +74,8 @@ table_asked (Load (Slot t x)) = Some t
 table_asked (Exchange (Slot t x) old new) = Some t
 table_asked _ = None
 
--- What the machine of a task asks. It loads the root, numbers of next tables and slots. It exchanges the root where it has made a table, and else slots.
+-- What the machine of a task asks. It loads the root, numbers of next tables and slots. It
+-- exchanges the root where it has made a table, and else slots.
 abbrev pub MayAsk : Task → Option StepKind → Ask → Type 0
 MayAsk task kind (Load Root) = Unit {0}
 MayAsk task kind (Load (Next t)) = Unit {0}
@@ -81,7 +83,9 @@ MayAsk task kind (Load (Slot t x)) = Unit {0}
 MayAsk task kind (Load (Aborted t)) = ⊥
 MayAsk task kind (Load (Done_word t)) = ⊥
 MayAsk task kind (Exchange Root old new) = MayInsert task × (kind ≡ Some kinds.Open) × (old ≡ 0)
-MayAsk task kind (Exchange (Slot t x) old new) = (MayInsert task × ((kind ≡ Some kinds.Claim) ⊎ (kind ≡ Some kinds.Replace))) ⊎ (HasClosure task × (kind ≡ Some kinds.Bury))
+MayAsk task kind (Exchange (Slot t x) old new) =
+    (MayInsert task × ((kind ≡ Some kinds.Claim) ⊎ (kind ≡ Some kinds.Replace)))
+    ⊎ (HasClosure task × (kind ≡ Some kinds.Bury))
 MayAsk task kind (Exchange (Next t) old new) = ⊥
 MayAsk task kind (Exchange (Aborted t) old new) = ⊥
 MayAsk task kind (Exchange (Done_word t) old new) = ⊥

@@ -21,7 +21,8 @@ abbrev pub IsRising : At → ℕ → Type 0
 IsRising (Next t) word = (word ≡ 0) ⊎ (t < word)
 IsRising _ word = Unit {0}
 
--- An answer fits what is asked. Each table has one limit, and a next one has a greater number; else any word may be loaded.
+-- An answer fits what is asked. Each table has one limit, and a next one has a greater number; else
+-- any word may be loaded.
 abbrev pub IsAnswer : (ℕ → ℕ) → Ask → Answer → Type 0
 IsAnswer limit (Load at) answer = (word : ℕ) × (answer ≡ Word word) × IsRising at word
 IsAnswer limit (SizeOf t) answer = (slots : ℕ) × (answer ≡ Size slots (limit t))
@@ -32,7 +33,8 @@ IsAnswer limit _ answer = Unit {0}
 -- each answer fits what the machine asks when it is given
 abbrev pub AreAnswers : (ℕ → ℕ) → Machine → List Answer → Type 0
 AreAnswers limit m [] = Unit {0}
-AreAnswers limit m (answer ∷ rest) = IsAnswer limit (ask_of m) answer × AreAnswers limit (after m answer) rest
+AreAnswers limit m (answer ∷ rest) = IsAnswer limit (ask_of m) answer
+    × AreAnswers limit (after m answer) rest
 
 -- the table that an ask enters
 abbrev pub table_entered : Ask → Option ℕ

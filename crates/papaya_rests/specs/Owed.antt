@@ -12,7 +12,8 @@ abbrev pub owed_by : Ask → ℤ
 owed_by (AddToShard by) = by
 owed_by _ = pos 0
 
--- by how many pairs an exchange of this kind lets the map grow: a claim by one, and a burial by one less
+-- by how many pairs an exchange of this kind lets the map grow: a claim by one, and a burial by one
+-- less
 abbrev pub grows_of : Option StepKind → ℤ
 grows_of (Some kinds.Claim) = pos 1
 grows_of (Some kinds.Bury) = negsuc 0

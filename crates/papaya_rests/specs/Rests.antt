@@ -1,4 +1,5 @@
--- What a machine rests on: facts of the words that stay true whatever exchanges follow, and facts about a moment since its call began.
+-- What a machine rests on: facts of the words that stay true whatever exchanges follow, and facts
+-- about a moment since its call began.
 use Rattle.std.specs.Prelude.{◌≡◌, ◌⊎◌, ℕ, ◌+◌, ◌<◌, Bool, true, false, Option, None, Some, List, ◌++◌}
 use Rattle.papaya_words.specs.Word.{kind_of, pair_of}
 use Rattle.papaya_words.specs.declared.word.Kind.TheVariants as word_kinds
@@ -46,7 +47,8 @@ IsModeOf (Incremental chunk) blocking = blocking ≡ false
 IsModeOf Blocking blocking = blocking ≡ true
 
 -- The exchanges when the call began are `begun`, and those since then `since`.
-module _ {K P : Type 0} (g : Setting K P) (c : Coding K P) (begun since : List (Exchange P)) (k : K) where
+module _ {K P : Type 0} (g : Setting K P) (c : Coding K P) (begun since : List (Exchange P))
+    (k : K) where
   -- the state after all exchanges
   abbrev pub now : State P
   now = run (begun ++ since) start
@@ -55,11 +57,13 @@ module _ {K P : Type 0} (g : Setting K P) (c : Coding K P) (begun since : List (
   abbrev pub WasAtMoment : Option P → Type 0
   WasAtMoment value = IsAtMoment g (map_left g begun) since k value
 
-  -- The search for the key has come to table t. With blocking t was the root at a moment of the call; else t is reached.
+  -- The search for the key has come to table t. With blocking t was the root at a moment of the
+  -- call; else t is reached.
   pub record HasComeTo (t : ℕ) : Type 0 where
     pub some : 0 < t
     pub is : ((g.blocking ≡ false) × IsReached g now k t)
-        ⊎ ((g.blocking ≡ true) × ((es : List (Exchange P)) × (fs : List (Exchange P)) × (es ++ fs ≡ since) × ((run (begun ++ es) start).root ≡ t)))
+        ⊎ ((g.blocking ≡ true) × ((es : List (Exchange P)) × (fs : List (Exchange P))
+        × (es ++ fs ≡ since) × ((run (begun ++ es) start).root ≡ t)))
 
   -- the search stands at this place of its table, and passed the places before
   pub record IsAt (at : Place) : Type 0 where
@@ -79,7 +83,8 @@ module _ {K P : Type 0} (g : Setting K P) (c : Coding K P) (begun since : List (
     -- a Buried word isn't compared
     pub unburied : kind_of word ≡ word_kinds.Buried → ⊥
     -- it stood there at a moment of the call
-    pub stood : (so_far : List (Exchange P)) × ((rest : List (Exchange P)) × (so_far ++ rest ≡ since) × ((run (begun ++ so_far) start).slot at.table at.probe.i ≡ was))
+    pub stood : (so_far : List (Exchange P)) × ((rest : List (Exchange P))
+        × (so_far ++ rest ≡ since) × ((run (begun ++ so_far) start).slot at.table at.probe.i ≡ was))
     -- what stands there now came of it
     pub became : Becomes g was (now.slot at.table at.probe.i)
     -- where p is the key's and was held there, the map had it at a moment of the call
@@ -88,7 +93,8 @@ module _ {K P : Type 0} (g : Setting K P) (c : Coding K P) (begun since : List (
   -- a write takes the place of nothing or, where it may replace, of a Live word of the key
   pub record MayWrite (replace : Bool) (write : Write) : Type 0 where
     pub stands : IsAt write.place
-    pub old : (write.old ≡ 0) ⊎ ((replace ≡ true) × (kind_of write.old ≡ word_kinds.Live) × (own (look g now k write.place.table write.place.probe.len) ≡ true))
+    pub old : (write.old ≡ 0) ⊎ ((replace ≡ true) × (kind_of write.old ≡ word_kinds.Live)
+        × (own (look g now k write.place.table write.place.probe.len) ≡ true))
 
   abbrev pub RestsWriting : Task → Write → Type 0
   RestsWriting (Insert replace) write = MayWrite replace write
@@ -135,17 +141,20 @@ module _ {K P : Type 0} (g : Setting K P) (c : Coding K P) (begun since : List (
 
   -- the key's pair is being copied from table t, or was
   abbrev pub IsMovingFrom : ℕ → Type 0
-  IsMovingFrom t = (j : ℕ) × (p : P) × (j < g.places t) × ((look g now k t j ≡ View_leaving p) ⊎ (look g now k t j ≡ Gone p))
+  IsMovingFrom t = (j : ℕ) × (p : P) × (j < g.places t)
+      × ((look g now k t j ≡ View_leaving p) ⊎ (look g now k t j ≡ Gone p))
 
   -- a call that looks for its key leaves a table that it passed
   abbrev pub RestsLeaving : Task → ℕ → Type 0
   RestsLeaving (Insert replace) t = ⊥
   RestsLeaving _ t = (g.blocking ≡ false) × HasComeTo t × IsPassed g.places (look g now k) t
 
-  -- a call that inserts needs a further table where its key has no place in this one or its pair is being copied, and a removal only where its pair is
+  -- a call that inserts needs a further table where its key has no place in this one or its pair is
+  -- being copied, and a removal only where its pair is
   abbrev pub RestsGrowing : Task → ℕ → Type 0
   RestsGrowing Get t = ⊥
-  RestsGrowing (Insert replace) t = HasComeTo t × (IsPassed g.places (look g now k) t ⊎ IsMovingFrom t)
+  RestsGrowing (Insert replace) t = HasComeTo t
+      × (IsPassed g.places (look g now k) t ⊎ IsMovingFrom t)
   RestsGrowing RemoveIf t = HasComeTo t × IsMovingFrom t
   RestsGrowing Compute t = HasComeTo t × (IsPassed g.places (look g now k) t ⊎ IsMovingFrom t)
 
@@ -163,7 +172,8 @@ module _ {K P : Type 0} (g : Setting K P) (c : Coding K P) (begun since : List (
   abbrev pub HadPair : ℕ → Type 0
   HadPair n = (p : P) × (c.number p ≡ n) × WasAtMoment (Some p)
 
-  -- A reply that fits the task: what a call found was the map's at a moment of the call, and a pair that was put in is the one that the call made.
+  -- A reply that fits the task: what a call found was the map's at a moment of the call, and a pair
+  -- that was put in is the one that the call made.
   abbrev pub IsReply : Hands P → Task → Reply → Type 0
   IsReply hands Get Absent = WasAtMoment None
   IsReply hands Get (Found n) = HadPair n
@@ -191,7 +201,8 @@ module _ {K P : Type 0} (g : Setting K P) (c : Coding K P) (begun since : List (
   RestsStage hands task (Offering gap) = IsComputer task × RestsGap gap × WasAtMoment None
   RestsStage hands task (Showing removal) = HasClosure task × MayRemove hands removal
   RestsStage hands task (Pairing purpose) = IsComputer task × RestsPurpose purpose
-  RestsStage hands task (Putting put) = IsComputer task × MayWrite true put.write × IsOwnPair hands put.pair
+  RestsStage hands task (Putting put) = IsComputer task × MayWrite true put.write
+      × IsOwnPair hands put.pair
   RestsStage hands task (Burying removal) = HasClosure task × MayRemove hands removal
   RestsStage hands task (Counting n) = MayInsert task × IsOwnPair hands n
   RestsStage hands task (Uncounting n) = HasClosure task
@@ -231,7 +242,8 @@ change_of_kind (Some kinds.Replace) old new = Some (Some (pair_of old), Some (pa
 change_of_kind (Some kinds.Bury) old new = Some (Some (pair_of old), None)
 change_of_kind _ old new = None
 
--- the change that a call has made after one of its asks was answered so, where it had made this one before
+-- the change that a call has made after one of its asks was answered so, where it had made this one
+-- before
 abbrev pub change_after : Option StepKind → Ask → Answer → Change → Change
 change_after kind (Ask_exchange at old new) Exchanged before = change_of_kind kind old new
 change_after kind _ _ before = before

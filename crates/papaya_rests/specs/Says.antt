@@ -20,7 +20,8 @@ use Rattle.papaya_call.specs.declared.machine.State.{State}
 use Rattle.papaya_call.specs.declared.machine.State.TheVariants.{AtRoot, Making, Opening, Searching, Writing, Offering, Showing, Pairing, Putting, Burying, Counting, Uncounting, Leaving, Growing, Ended}
 use Rattle.papaya_call.specs.Machine.{after, ask_of, kind_of_ask}
 
--- What a closure said. Where its key was absent it was shown None, and else the pair of this number.
+-- What a closure said. Where its key was absent it was shown None, and else the pair of this
+-- number.
 pub data Said : Type 0 where
   -- shown this pair it agreed to its removal, or it didn't
   Agrees : (n : ℕ) (agrees : Bool) → Said
@@ -91,7 +92,9 @@ said_to_choose (Some (To_remove old)) = Some (Removes old)
 
 -- the machine stands on this: its state does, or what it remembers
 abbrev pub StandsOn : Machine → Said → Type 0
-StandsOn m said = (said_in m.task m.state ≡ Some said) ⊎ (said_to_fill m.remembered.fill ≡ Some said) ⊎ (said_to_choose m.remembered.choice ≡ Some said)
+StandsOn m said = (said_in m.task m.state ≡ Some said)
+    ⊎ (said_to_fill m.remembered.fill ≡ Some said)
+    ⊎ (said_to_choose m.remembered.choice ≡ Some said)
 
 -- the word of a pair that the closure was shown is no empty one
 abbrev pub IsToPair : Purpose → Type 0
@@ -109,11 +112,13 @@ abbrev pub show : Option ℕ → Ask
 show None = ShowNone
 show (Some n) = ShowPair n
 
--- the closure says this with the answer to what the machine asks; a pair is made of what it said before
+-- the closure says this with the answer to what the machine asks; a pair is made of what it said
+-- before
 abbrev pub IsSaidBy : Machine → Answer → Said → Type 0
 IsSaidBy m answer (Agrees n agrees) = (ask_of m ≡ ShowPair n) × (answer ≡ Yes agrees)
 IsSaidBy m answer (Inserts shown) = (ask_of m ≡ show shown) × (answer ≡ Op ops.Insert)
-IsSaidBy m answer (Makes shown n) = StandsOn m (Inserts shown) × (ask_of m ≡ MakePair) × (answer ≡ Made n)
+IsSaidBy m answer (Makes shown n) = StandsOn m (Inserts shown) × (ask_of m ≡ MakePair)
+    × (answer ≡ Made n)
 IsSaidBy m answer (Removes n) = (ask_of m ≡ ShowPair n) × (answer ≡ Op ops.Remove)
 
 -- of what a machine stood on, the pair for an absent key
@@ -122,15 +127,21 @@ KeepsFill m said = (i : ℕ) × (said ≡ Makes None i) × StandsOn m said
 
 -- and what was answered of the pair last shown
 abbrev pub KeepsChoice : Machine → Said → Type 0
-KeepsChoice m said = StandsOn m said × ((i : ℕ) → said ≡ Makes None i → ⊥) × ((shown : Option ℕ) → said ≡ Inserts shown → ⊥)
+KeepsChoice m said = StandsOn m said × ((i : ℕ) → said ≡ Makes None i → ⊥)
+    × ((shown : Option ℕ) → said ≡ Inserts shown → ⊥)
 
--- a pair that was made of what the closure answered to None is the pair for an absent key; what was answered of a pair stays
+-- a pair that was made of what the closure answered to None is the pair for an absent key; what was
+-- answered of a pair stays
 abbrev pub IsFilledBy : Machine → ℕ → Type 0
-IsFilledBy m n = StandsOn m (Inserts None) × ((said : Said) → StandsOn (after m (Made n)) said → (said ≡ Makes None n) ⊎ KeepsChoice m said)
+IsFilledBy m n = StandsOn m (Inserts None) × ((said : Said) → StandsOn (after m (Made n)) said
+    → (said ≡ Makes None n) ⊎ KeepsChoice m said)
 
--- one that was made of what it answered to a pair takes the place of any older answer of a pair; the pair for an absent key stays
+-- one that was made of what it answered to a pair takes the place of any older answer of a pair;
+-- the pair for an absent key stays
 abbrev pub IsReplacedBy : Machine → ℕ → Type 0
-IsReplacedBy m n = (i : ℕ) × StandsOn m (Inserts (Some i)) × ((said : Said) → StandsOn (after m (Made n)) said → (said ≡ Makes (Some i) n) ⊎ KeepsFill m said)
+IsReplacedBy m n = (i : ℕ) × StandsOn m (Inserts (Some i))
+    × ((said : Said) → StandsOn (after m (Made n)) said
+    → (said ≡ Makes (Some i) n) ⊎ KeepsFill m said)
 
 -- what a compute stands on once the pair of this number was made
 abbrev pub IsPaired : Machine → ℕ → Type 0
@@ -139,7 +150,9 @@ IsPaired m n = IsFilledBy m n ⊎ IsReplacedBy m n
 -- an exchange of a slot, of this old pair for this new one, is what the closure of a compute said
 abbrev pub IsSaidExchange : Machine → (old new : ℕ) → Type 0
 IsSaidExchange m old new =
-    ((kind_of_ask m ≡ Some kinds.Claim) × StandsOn m (Makes None new)) ⊎ ((kind_of_ask m ≡ Some kinds.Replace) × StandsOn m (Makes (Some old) new)) ⊎ ((kind_of_ask m ≡ Some kinds.Bury) × StandsOn m (Removes old))
+    ((kind_of_ask m ≡ Some kinds.Claim) × StandsOn m (Makes None new))
+    ⊎ ((kind_of_ask m ≡ Some kinds.Replace) × StandsOn m (Makes (Some old) new))
+    ⊎ ((kind_of_ask m ≡ Some kinds.Bury) × StandsOn m (Removes old))
 
 -- a change of a call that has a closure: what goes and what comes is what the closure said
 abbrev pub IsSaidChange : Task → Machine → (old new : Option ℕ) → Type 0

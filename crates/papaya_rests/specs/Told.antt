@@ -17,7 +17,8 @@ use Rattle.papaya_law.specs.Invariant.{named}
 use Rattle.papaya_law.specs.Meaning.{IsLawful}
 use Rattle.papaya_law.specs.Code.{Coding, IsLawfulCoding, code}
 
--- The pairs that a machine has been told of: the one that the word last loaded names, and those that it made, the newest first.
+-- The pairs that a machine has been told of: the one that the word last loaded names, and those
+-- that it made, the newest first.
 pub record Hands (P : Type 0) : Type 0 where
   pub last : Option P
   pub made : List P
@@ -55,16 +56,22 @@ told_of s (Slot t x) hands = record hands { last = or_last (named (s.slot t x)) 
 told_of s _ hands = hands
 
 -- the pair q was made by the call, and the new word names it
-pub record IsOwnWord {K P : Type 0} (c : Coding K P) (hands : Hands P) (new : ℕ) (q : P) : Type 0 where
+pub record IsOwnWord {K P : Type 0} (c : Coding K P) (hands : Hands P) (new : ℕ)
+    (q : P) : Type 0 where
   pub made : IsOneOf hands.made q
   pub named : c.number q ≡ pair_of new
 
--- the exchange of the law that a machine asks for, by its kind: a pair that comes is one that the machine made, and one that goes is the one that stands there
-abbrev pub IsAsked : {K P : Type 0} → Coding K P → Option StepKind → At → ℕ → State P → Hands P → Exchange P → Type 0
+-- the exchange of the law that a machine asks for, by its kind: a pair that comes is one that the
+-- machine made, and one that goes is the one that stands there
+abbrev pub IsAsked : {K P : Type 0} → Coding K P → Option StepKind → At → ℕ → State P → Hands P
+    → Exchange P → Type 0
 IsAsked c (Some kinds.Open) Root new s hands e = e ≡ Open new
-IsAsked {P = P} c (Some kinds.Claim) (Slot t x) new s hands e = (q : P) × IsOwnWord c hands new q × (e ≡ Claim t x q)
-IsAsked {P = P} c (Some kinds.Replace) (Slot t x) new s hands e = (p : P) × (q : P) × (s.slot t x ≡ Live p) × IsOwnWord c hands new q × (e ≡ Replace t x p q)
-IsAsked {P = P} c (Some kinds.Bury) (Slot t x) new s hands e = (p : P) × (s.slot t x ≡ Live p) × (e ≡ Bury t x p)
+IsAsked {P = P} c (Some kinds.Claim) (Slot t x) new s hands e = (q : P) × IsOwnWord c hands new q
+    × (e ≡ Claim t x q)
+IsAsked {P = P} c (Some kinds.Replace) (Slot t x) new s hands e = (p : P) × (q : P)
+    × (s.slot t x ≡ Live p) × IsOwnWord c hands new q × (e ≡ Replace t x p q)
+IsAsked {P = P} c (Some kinds.Bury) (Slot t x) new s hands e = (p : P) × (s.slot t x ≡ Live p)
+    × (e ≡ Bury t x p)
 IsAsked c _ _ new s hands e = ⊥
 
 module _ {K P : Type 0} (g : Setting K P) (c : Coding K P) (k : K) where
@@ -78,23 +85,35 @@ module _ {K P : Type 0} (g : Setting K P) (c : Coding K P) (k : K) where
 
   -- a closure answers as it likes; where there is none, it doesn't
   abbrev pub IsSaying : Answer → Type 0
-  IsSaying answer = ((agrees : Bool) × (answer ≡ Yes agrees)) ⊎ ((kind : OpKind) × (answer ≡ Op kind)) ⊎ (answer ≡ Ok_done)
+  IsSaying answer = ((agrees : Bool) × (answer ≡ Yes agrees))
+      ⊎ ((kind : OpKind) × (answer ≡ Op kind)) ⊎ (answer ≡ Ok_done)
 
-  -- The answer to an ask is true of the words in s, for a call with key k: a load and an exchange are answered by the word that stands there. es has the exchange, if one was made.
-  abbrev pub IsTold : State P → Option StepKind → Hands P → Ask → Answer → List (Exchange P) → Hands P → Type 0
-  IsTold s kind hands (Load at) answer es hands' = (answer ≡ Word_read (word_of g c s at)) × (es ≡ []) × (hands' ≡ told_of s at hands)
+  -- The answer to an ask is true of the words in s, for a call with key k: a load and an exchange
+  -- are answered by the word that stands there. es has the exchange, if one was made.
+  abbrev pub IsTold : State P → Option StepKind → Hands P → Ask → Answer → List (Exchange P)
+      → Hands P → Type 0
+  IsTold s kind hands (Load at) answer es hands' = (answer ≡ Word_read (word_of g c s at))
+      × (es ≡ []) × (hands' ≡ told_of s at hands)
   IsTold s kind hands (Ask_exchange at old new) answer es hands' =
       MatchBool (word_of g c s at == old)
-      ((answer ≡ Exchanged) × ((e : Exchange P) × IsAsked c kind at new s hands e × (es ≡ e ∷ [])) × (hands' ≡ hands))
+      ((answer ≡ Exchanged) × ((e : Exchange P) × IsAsked c kind at new s hands e × (es ≡ e ∷ []))
+      × (hands' ≡ hands))
       ((answer ≡ Found_instead (word_of g c s at)) × (es ≡ []) × (hands' ≡ told_of s at hands))
-  IsTold s kind hands (SameKey n) answer es hands' = ((p : P) → hands.last ≡ Some p → c.number p ≡ n → answer ≡ Yes (g.same k (g.key p))) × Quiet hands es hands'
+  IsTold s kind hands (SameKey n) answer es hands' =
+      ((p : P) → hands.last ≡ Some p → c.number p ≡ n → answer ≡ Yes (g.same k (g.key p)))
+      × Quiet hands es hands'
   IsTold s kind hands ShowNone answer es hands' = IsSaying answer × Quiet hands es hands'
   IsTold s kind hands (ShowPair n) answer es hands' = IsSaying answer × Quiet hands es hands'
-  IsTold s kind hands (SizeOf t) answer es hands' = ((limit : ℕ) × (limit + 1 ≡ g.places t) × (answer ≡ Size (g.size t) limit)) × Quiet hands es hands'
-  IsTold s kind hands MakeKey answer es hands' = (IsUnmade answer ⊎ ((n : ℕ) × (answer ≡ Made_number n))) × Quiet hands es hands'
+  IsTold s kind hands (SizeOf t) answer es hands' =
+      ((limit : ℕ) × (limit + 1 ≡ g.places t) × (answer ≡ Size (g.size t) limit))
+      × Quiet hands es hands'
+  IsTold s kind hands MakeKey answer es hands' =
+      (IsUnmade answer ⊎ ((n : ℕ) × (answer ≡ Made_number n))) × Quiet hands es hands'
   IsTold s kind hands MakePair answer es hands' =
       (IsUnmade answer × Quiet hands es hands')
-      ⊎ ((q : P) × (g.key q ≡ k) × (answer ≡ Made_number (c.number q)) × (es ≡ []) × (hands' ≡ record hands { made = q ∷ hands.made }))
-  IsTold s kind hands (MakeTable slots limit) answer es hands' = (IsUnmade answer ⊎ ((n : ℕ) × (0 < n) × (answer ≡ Made_number n))) × Quiet hands es hands'
+      ⊎ ((q : P) × (g.key q ≡ k) × (answer ≡ Made_number (c.number q)) × (es ≡ [])
+      × (hands' ≡ record hands { made = q ∷ hands.made }))
+  IsTold s kind hands (MakeTable slots limit) answer es hands' =
+      (IsUnmade answer ⊎ ((n : ℕ) × (0 < n) × (answer ≡ Made_number n))) × Quiet hands es hands'
   IsTold s kind hands (AddToShard by) answer es hands' = (answer ≡ Ok_done) × Quiet hands es hands'
   IsTold s kind hands (Ask_done reply) answer es hands' = (answer ≡ Ok_done) × Quiet hands es hands'

@@ -10,5 +10,7 @@ ghost use Rattle.papaya_rests.specs.Loads.{AreAnswers, IsBounded, asked};
 /// a table's limit of each table, and only of tables that it entered; it enters no table twice,
 /// since each has a greater number than the one before; and it changes and makes nothing.
 pub fn lookups_are_bounded()
-    ensures { (hash initial : ℕ) (mode : ResizeMode) (limit : ℕ → ℕ) (answers : List Answer) → AreAnswers limit (started Get hash mode initial) answers → IsBounded limit (asked (started Get hash mode initial) answers) }
+    ensures { (hash initial : ℕ) (mode : ResizeMode) (limit : ℕ → ℕ) (answers : List Answer)
+        → AreAnswers limit (started Get hash mode initial) answers
+        → IsBounded limit (asked (started Get hash mode initial) answers) }
 {}
