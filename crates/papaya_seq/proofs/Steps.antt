@@ -26,7 +26,7 @@ use Rattle.papaya_core.specs.Advances.{Advances, event_of, goes_on, reply_in}
 use Rattle.papaya_core.specs.Begins.{Begins, begun, key_of_call}
 use Rattle.papaya_core.specs.Core.{CoreState}
 use Rattle.papaya_core.specs.Kept.{IsLawfulCore, begun_tales, told_tales}
-use Rattle.papaya_core.specs.Performs.{Performs, Refuses, size_of}
+use Rattle.papaya_core.specs.Performs.{Performs, Refuses, own_key, size_of}
 use Rattle.papaya_core.specs.Runs.{History, StepsRun, with_event, with_step}
 use Rattle.papaya_core.specs.Solo.{RunsAlone, whatever}
 use Rattle.papaya_core.specs.Store.{StoreState}
@@ -53,6 +53,8 @@ module _ {K V S : Type 0} (eq : K → K → Bool) (hash : S → K → ℕ) (s : 
     pub runs : StepsRun eq whatever hash 1 0 steps (seated s.store (Some (begun (hash s.store.hasher) s.mode s.initial call)) s.mode s.initial) (with_event 0 0 Begun []) (seated store (still r) s.mode s.initial) history
     pub replied : (reply : Reply) → reply_in (ask_of r.machine) ≡ Some reply → (last : Entry) × (before : History) × (history ≡ last ∷ before) × (last.event ≡ Replied reply)
     pub lawful : IsLawfulCore eq (hash s.store.hasher) store (record { caller = 0; call = still r } ∷ []) s.mode
+    -- its key is the call's, logged or not
+    pub own : own_key store r ≡ Some (key_of_call call)
 
   -- so from a map that is in order
   abbrev pub IsMade : StoreState K V S → Running K V (Unit {0}) → Type 0
@@ -73,6 +75,7 @@ module _ {K V S : Type 0} (eq : K → K → Bool) (hash : S → K → ℕ) (s : 
           core = begin-core (hash s.store.hasher) (core_of s) 0 call begun_seat begins lawful.lawful.core;
           law = (es, (begun_tales tales 0 es, kept_begin eq (hash s.store.hasher) keys (core_of s) 0 call begun_seat begins fits es tales kept));
         };
+        own = refl;
       }
 
   -- the last of a step's entries is its reply
@@ -113,6 +116,7 @@ module _ {K V S : Type 0} (eq : K → K → Bool) (hash : S → K → ℕ) (s : 
         steps = suc made.steps;
         history = with_step 1 0 event reply made.history;
         runs = (now, made.history, made.runs, inl (event, reply, advances, refl));
+        own = step.own.own ∙ ap Some step.own_key ∙ sym step.call.own ∙ made.own;
         replied = λ told e. last_entry event reply made.history told e;
       }
 
