@@ -145,7 +145,7 @@ module _ {K V S A : Type 0} (eq : K → K → Bool) (hash : K → ℕ) (law : Is
   pub writes_absent : (write : Write) → r.machine.task ≡ Insert false → r.machine.state ≡ Writing write → word_at s.store.words (Slot write.place.table write.place.probe.i) ≡ write.old → map_in eq s.store call.key ≡ None
   writes_absent write inserts writes read =
       let may_write = subst (λ task. RestsStage g c (tales caller).begun (tales caller).since call.key (tales caller).hands task (Writing write)) inserts
-          (subst (RestsStage g c (tales caller).begun (tales caller).since call.key (tales caller).hands r.machine.task) writes call.rests.stage) in
+      (subst (RestsStage g c (tales caller).begun (tales caller).since call.key (tales caller).hands r.machine.task) writes call.rests.stage) in
       let at = may_write.stands in
       let zero_word : write.old ≡ 0 = elim may_write.old [ inl none ↦ none | inr replaced ↦ let never = replaced.0 in absurd cc ] in
       let place_is : write.place.probe.i ≡ g.place call.key write.place.table write.place.probe.len = at.slot in

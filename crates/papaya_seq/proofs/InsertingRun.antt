@@ -42,11 +42,11 @@ use Rattle.papaya_core.specs.Tables.{Tables, table_of, word_at}
 use Rattle.papaya_core.proofs.KeptSettings.{IsLawfulKeys}
 use Rattle.papaya_core.proofs.RefusedLemmas.{call, no_place, writes_absent}
 use Rattle.papaya_core.proofs.StoreLemmas.{numbered, performed, unnumbered}
-use Rattle.papaya_seq.specs.Map.{IsCause, IsLawfulMap, MapState, core_of, insertion}
+use Rattle.papaya_seq.specs.Map.{IsCause, IsLawfulMap, KeepsSlots, MapState, core_of, insertion}
 use Rattle.papaya_seq.proofs.Inserting.{IsAtHand, IsEnd, IsPlain, IsRefusal, IsStage, refused_absent}
 use Rattle.papaya_seq.proofs.InsertingSteps.{answerable_in, leads_in, refused_in}
 use Rattle.papaya_seq.proofs.Lawful.{bare, single, sized}
-use Rattle.papaya_seq.proofs.Steps.{HasCome, IsAnswerable, IsMade, answering, answering_performs, made_alone, made_more, made_none, prompt_single, prompted, seated, still, unreplied, words_of}
+use Rattle.papaya_seq.proofs.Steps.{HasCome, IsAnswerable, IsMade, answering, answering_performs, came_slots, made_alone, made_more, made_none, prompt_single, prompted, seated, still, unreplied, words_of}
 use Rattle.papaya_seq.proofs.Words.{rooted, uncopied, unmarked}
 
 -- an insertion as it begins
@@ -264,3 +264,7 @@ module _ {K V S A : Type 0} (eq : K → K → Bool) (hash : S → K → ℕ) (s 
     -- and says what it does of the key
     pub inserting_refusal : (refused : Refused) → reply ≡ Reply_refused refused → IsRefusal eq s.store k replace store refused
     inserting_refusal refused is = now.refusal refused (ended_in r.machine.made r.machine.hash r.machine.state reply (sym e) ∙ ap Ended is)
+
+    -- the root table's slots
+    pub inserting_slots : hash s.store.hasher k < 2 ^ 64 → KeepsSlots s.store store
+    inserting_slots fits = came_slots eq hash s (insertion replace k value) keys lawful (subst (λ (x : K). hash s.store.hasher x < 2 ^ 64) (sym (key_of_insertion replace k value)) fits) store (answering None r) now.steps

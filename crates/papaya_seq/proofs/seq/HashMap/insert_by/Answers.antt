@@ -13,7 +13,7 @@ use Rattle.papaya_core.proofs.KeptSettings.{IsLawfulKeys}
 use Rattle.papaya_seq.specs.Map.{IsLawfulMap, MapState, core_of, insertion}
 use Rattle.papaya_seq.proofs.Alone.{map_answered, map_hasher, map_lawful, map_logged}
 use Rattle.papaya_seq.proofs.Inserting.{cause_at}
-use Rattle.papaya_seq.proofs.InsertingRun.{IsInserting, inserting_alone, inserting_begin, inserting_cause, inserting_fit, inserting_left, inserting_more, inserting_nears, inserting_refusal}
+use Rattle.papaya_seq.proofs.InsertingRun.{IsInserting, inserting_alone, inserting_begin, inserting_cause, inserting_fit, inserting_left, inserting_more, inserting_nears, inserting_refusal, inserting_slots}
 use Rattle.papaya_seq.proofs.Steps.{seated}
 use Rattle.papaya_seq.proofs.seq.HashMap.insert_by.Goals as goal
 use Rattle.papaya_seq.proofs.seq.HashMap.insert_by.Goals.{After-answer, After-new, After-value_left}
@@ -131,4 +131,5 @@ returns-in-Done-clause-keeps g c =
       mode = c.loop-reply.invariant.1;
       initial = c.loop-reply.invariant.2;
       pairs = (map_logged g.K.PartialEq.eq g.K.Hash.hash_input g.S.BuildHasher.build_hasher g.S.Hasher.Hasher.write g.S.Hasher.Hasher.finish g.met.K.Eq.laws g.met.K.Hash.respects_eq c.args.self.now (insertion c.args.replace c.args.key c.args.value) c.in-Done.reply c.loop-reply.self-inside.store (lawful g n) a).1;
+      slots = inserting_slots g.K.PartialEq.eq (hash g) c.args.self.now c.args.replace c.args.key c.args.value (keys g c.args.self.now.store.hasher) (lawful g n) c.loop-reply.self-inside.store c.loop-reply.running c.in-Done.reply c.in-Done.ensures.value c.loop-reply.invariant.0 (fits g n);
     }
