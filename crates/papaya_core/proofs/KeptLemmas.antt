@@ -21,6 +21,7 @@ use Rattle.papaya_call.specs.declared.call.Reply.{Reply}
 use Rattle.papaya_core.proofs.KeptSettings.{tables_hashed}
 use Rattle.papaya_core.proofs.KeptBegin.{begin_kept, new_kept}
 use Rattle.papaya_core.proofs.KeptMap.{kept_map}
+use Rattle.papaya_core.proofs.KeptTables.{HasMoreTables}
 use Rattle.papaya_core.proofs.KeptStep as step
 use Rattle.papaya_core.specs.New.{HasCapacity}
 pub use Rattle.papaya_core.proofs.KeptSettings.{IsLawfulKeys}
@@ -50,6 +51,8 @@ module _ {K V S A : Type 0} (eq : K → K → Bool) (hash : K → ℕ) (law : Is
     -- longer logs keep their pairs
     pub logged : (p : Stored K V) → pair_of s.store p.number ≡ Some p → pair_of s'.store p.number ≡ Some p
     pub longer : length s.store.pairs ≤ length s'.store.pairs
+    -- and so do the tables
+    pub grown : HasMoreTables s.store.words.tables s'.store.words.tables
     -- a pair that was made in this step has the number after all others, and the value that was at hand, and is logged
     pub new : (q : Stored K V) → IsOneOf hands.made q → IsOneOf (tales caller).hands.made q ⊎ ((q.number ≡ length s.store.pairs) × (a.before.value ≡ Some q.value) × (pair_of s'.store q.number ≡ Some q))
 
@@ -71,6 +74,7 @@ module _ {K V S A : Type 0} (eq : K → K → Bool) (hash : K → ℕ) (law : Is
         map_same = step.same_map eq hash law says refuse s caller s' a.before a.answer a.later a.was a.performs a.mode es tales core kept;
         logged = λ p h. left.logged p.number p h;
         longer = left.longer;
+        grown = left.grown;
         new = λ q h. left.new q h;
       }
 

@@ -9,7 +9,8 @@ use Rattle.papaya_call.specs.declared.ask.At.TheVariants.{Next, Slot}
 use Rattle.papaya_call.specs.declared.call.Reply.TheVariants.{Refused as Reply_refused}
 use Rattle.papaya_call.specs.declared.call.Task.{Task}
 use Rattle.papaya_call.specs.declared.call.Task.TheVariants.{Get, Insert, RemoveIf, Compute}
-use Rattle.papaya_call.specs.declared.machine.State.TheVariants.{Growing}
+use Rattle.papaya_call.specs.declared.machine.State.TheVariants.{Growing, Writing}
+use Rattle.papaya_call.specs.declared.write.Write.{Write}
 use Rattle.papaya_call.specs.Machine.{MayInsert, after, ask_of, asks}
 use Rattle.papaya_law.specs.Allows.{AllAllowed}
 use Rattle.papaya_law.specs.Class.{IsOn}
@@ -33,7 +34,7 @@ use Rattle.papaya_core.specs.Content.{map_in}
 use Rattle.papaya_core.specs.Core.{CoreState, IsCore}
 use Rattle.papaya_core.specs.Kept.{IsCall, IsKept, Tale, coding_of, low, places_in, setting_of, slots_in}
 use Rattle.papaya_core.specs.Store.{Stored}
-use Rattle.papaya_core.specs.Tables.{word_in}
+use Rattle.papaya_core.specs.Tables.{word_at, word_in}
 use Rattle.papaya_core.proofs.CoreLemmas.{reply_asked}
 use Rattle.papaya_core.proofs.KeptLemmas.{IsLawfulKeys, hashed_setting, map_kept}
 
@@ -52,7 +53,7 @@ module _ {K V S A : Type 0} (eq : K → K → Bool) (hash : K → ℕ) (law : Is
   hashed : IsHashed g c
   hashed = hashed_setting eq hash law s core
 
-  call : IsCall eq hash s.mode s.store r es (tales caller)
+  pub call : IsCall eq hash s.mode s.store r es (tales caller)
   call = kept.calls caller r was
 
   -- the exchanges so far, and the words that they leave
@@ -77,7 +78,7 @@ module _ {K V S A : Type 0} (eq : K → K → Bool) (hash : K → ℕ) (law : Is
   passes Compute t (come, inl passed) = (tt, come, passed)
   passes Compute t (come, inr moving) = let more = moving_further g c hashed.lawful (tales caller).begun (tales caller).since may call.key t moving in let none = single t in absurd (omega (arith, more, none))
 
-  module _ (t : ℕ) (come : HasComeTo g c (tales caller).begun (tales caller).since call.key t) (passed : IsPassed g.places (look g now call.key) t) where
+  module _ (t : ℕ) (come : HasComeTo g c (tales caller).begun (tales caller).since call.key t) where
     on_chain : IsOn now.first now.next t
     on_chain = come_on g c hashed (tales caller).begun (tales caller).since may call.key t come
 
@@ -88,13 +89,24 @@ module _ {K V S A : Type 0} (eq : K → K → Bool) (hash : K → ℕ) (law : Is
       | inr on ↦ on_first now.first now.next now.root single on ∙ sym (on_first now.first now.next t single on_chain)
     ]
 
+    -- what the exchanges leave of the key is what the map has
+    left_in_map : map_in eq s.store call.key ≡ map_left g all call.key
+    left_in_map = map_kept eq hash law s es tales core kept call.key ∙ ap (λ (l : List (Exchange (Stored K V))). map_left g l call.key) (sym call.split)
+
+    -- where an Empty place of the key is met in it, its key is not in the map
+    empty_absent : (j : ℕ) → j < g.places t → ((i : ℕ) → i < j → beyond (look g now call.key t i) ≡ true) → now.slot t (g.place call.key t j) ≡ Empty → map_in eq s.store call.key ≡ None
+    empty_absent j lt before empty =
+        left_in_map
+        ∙ (means_map g hashed.lawful all may call.key).empty t j (come_reached g c hashed (tales caller).begun (tales caller).since may call.key t come) (λ _. is_root) lt before
+        (ap (view g call.key) empty)
+
+  module _ (t : ℕ) (come : HasComeTo g c (tales caller).begun (tales caller).since call.key t) (passed : IsPassed g.places (look g now call.key) t) where
     -- so its key is not in the map
     absent : map_in eq s.store call.key ≡ None
     absent =
-        map_kept eq hash law s es tales core kept call.key
-        ∙ ap (λ (l : List (Exchange (Stored K V))). map_left g l call.key) (sym call.split)
+        left_in_map t come
         ∙ (means_map g hashed.lawful all may call.key).over t (come_reached g c hashed (tales caller).begun (tales caller).since may call.key t come) passed
-        (elim (cases_Bool g.blocking) [ inl blocking ↦ inl (blocking, is_root) | inr going ↦ inr (going, single t) ])
+        (elim (cases_Bool g.blocking) [ inl blocking ↦ inl (blocking, is_root t come) | inr going ↦ inr (going, single t) ])
 
     -- and each of its places is filled
     place_filled : (j : ℕ) → j < g.places t → now.slot t (g.place call.key t j) ≡ Empty → ⊥
@@ -105,10 +117,10 @@ module _ {K V S A : Type 0} (eq : K → K → Bool) (hash : K → ℕ) (law : Is
         let f : false ≡ true = sym (ap (λ (w : Word (Stored K V)). beyond (view g call.key w)) empty) ∙ over j lt in absurd cc)
         passed
 
-  no_place : (t : ℕ) → r.machine.state ≡ Growing t → HasNoPlace eq s.store r t
+  pub no_place : (t : ℕ) → r.machine.state ≡ Growing t → HasNoPlace eq s.store r t
   no_place t grows =
       let (inserts, come, passed) = passes r.machine.task t (subst (RestsStage g c (tales caller).begun (tales caller).since call.key (tales caller).hands r.machine.task) grows call.rests.stage) in
-      let (words, there) = kept.made t come.some (on_comes (run es first_state) t (subst (λ (l : List (Exchange (Stored K V))). IsOn (run l first_state).first (run l first_state).next t) call.split (on_chain t come passed))) in
+      let (words, there) = kept.made t come.some (on_comes (run es first_state) t (subst (λ (l : List (Exchange (Stored K V))). IsOn (run l first_state).first (run l first_state).next t) call.split (on_chain t come))) in
       record {
         asks = ap (asks r.machine.made r.machine.hash) grows;
         next = sym (kept.coded (Next t)) ∙ kept.single t;
@@ -128,6 +140,17 @@ module _ {K V S A : Type 0} (eq : K → K → Bool) (hash : K → ℕ) (law : Is
             ∙ ap (slice_index words.slots) (hashed.places call.key t j ∙ ap (λ h. place h (g.size t) j) (sym call.rests.hash) ∙ ap (λ o. place r.machine.hash (slots_in o) j) there)
             ∙ empty));
       }
+
+  -- An insertion that replaces nothing and is about to write has found a place for its key, which is not in the map.
+  pub writes_absent : (write : Write) → r.machine.task ≡ Insert false → r.machine.state ≡ Writing write → word_at s.store.words (Slot write.place.table write.place.probe.i) ≡ write.old → map_in eq s.store call.key ≡ None
+  writes_absent write inserts writes read =
+      let may_write = subst (λ task. RestsStage g c (tales caller).begun (tales caller).since call.key (tales caller).hands task (Writing write)) inserts
+      (subst (RestsStage g c (tales caller).begun (tales caller).since call.key (tales caller).hands r.machine.task) writes call.rests.stage) in
+      let at = may_write.stands in
+      let zero_word : write.old ≡ 0 = elim may_write.old [ inl none ↦ none | inr replaced ↦ let never = replaced.0 in absurd cc ] in
+      let place_is : write.place.probe.i ≡ g.place call.key write.place.table write.place.probe.len = at.slot in
+      let word : word_of g c now (Slot write.place.table write.place.probe.i) ≡ 0 = ap (λ (l : List (Exchange (Stored K V))). word_of g c (run l first_state) (Slot write.place.table write.place.probe.i)) call.split ∙ kept.coded (Slot write.place.table write.place.probe.i) ∙ read ∙ zero_word in
+      empty_absent write.place.table at.come write.place.probe.len at.within at.before (ap (now.slot write.place.table) (sym place_is) ∙ code_empty g c (now.slot write.place.table write.place.probe.i) word)
 
   -- a call that goes on is refused for a cause
   pub caused : (answer : Answer) (refused : Refused) → reply_in (ask_of (after r.machine answer)) ≡ Some (Reply_refused refused) → IsCause eq s.store r answer refused

@@ -42,7 +42,7 @@ use Rattle.papaya_core.proofs.KeptSettings.{IsLawfulKeys}
 use Rattle.papaya_core.proofs.StoreLemmas.{numbered, performed, unnumbered}
 use Rattle.papaya_seq.specs.Computes.{Says}
 use Rattle.papaya_seq.specs.Computing.{IsKept}
-use Rattle.papaya_seq.specs.Map.{IsLawfulMap, MapState, core_of}
+use Rattle.papaya_seq.specs.Map.{IsLawfulMap, KeepsSlots, MapState, core_of}
 use Rattle.papaya_seq.proofs.ComputeShown.{asking, compute_of}
 use Rattle.papaya_seq.proofs.ComputeStages.{IsAsked, IsEnd, IsGapThere, IsInserting, IsRemoving, IsUnasked, unasked_goes_on}
 use Rattle.papaya_seq.proofs.ComputeSteps.{Goes, aborting_ended, call_at, inserting_leads, inserting_there, machine, removing_leads, removing_there, unasked_goes, unasked_there}
@@ -50,7 +50,7 @@ use Rattle.papaya_seq.proofs.Lawful.{bare, single, sized}
 use Rattle.papaya_seq.proofs.Past.{IsSlotThere}
 use Rattle.papaya_seq.proofs.RemovalTurns.{IsFound}
 use Rattle.papaya_seq.proofs.Removing.{open_kind}
-use Rattle.papaya_seq.proofs.Steps.{IsAnswerable, IsMade, answering_performs, made_alone, made_more, made_none, prompt_single, prompted, seated, unreplied, words_of}
+use Rattle.papaya_seq.proofs.Steps.{IsAnswerable, IsMade, answering_performs, came_slots, made_alone, made_more, made_none, prompt_single, prompted, seated, unreplied, words_of}
 use Rattle.papaya_seq.proofs.Words.{rooted, uncopied, unmarked}
 
 -- a machine's mode and initial capacity stay
@@ -342,6 +342,10 @@ module _ {K V S A F T : Type 0} (eq : K → K → Bool) (hash : S → K → ℕ)
     -- it has replied: it was made alone
     pub computing_alone : hash s.store.hasher k < 2 ^ 64 → RunsAlone eq hash (core_of s) (compute_of k) reply (seated store None s.mode s.initial)
     computing_alone fits = made_alone eq hash s (compute_of k) keys lawful fits store (asking r) reply (sym e) now.steps
+
+    -- the root table's slots
+    pub computing_slots : hash s.store.hasher k < 2 ^ 64 → KeepsSlots s.store store
+    computing_slots fits = came_slots eq hash s (compute_of k) keys lawful fits store (asking r) now.steps
 
     -- its closure was called
     pub did : IsDoing eq hash s k post f store r shown aborted

@@ -1,9 +1,11 @@
 -- An insertion of a map for one caller, between two answers: what stands in the words where it is, and what it has at hand.
-use Rattle.std.proofs.Common.{◌≡◌, ℕ, ◌<◌, ◌==◌, Bool, true, false, Option, Some, List, length, ◌⊎◌, inl, refl, sym, ◌∙◌, ap, subst, arith}
+use Rattle.std.proofs.Common.{◌≡◌, ℕ, ◌<◌, ◌≤◌, ◌==◌, Bool, true, false, Option, None, Some, List, length, ◌⊎◌, inl, inr, refl, sym, ◌∙◌, ap, subst, arith}
 use Rattle.std.proofs.lemmas.Bool.{cond_both, eq-eqb}
 use Rattle.papaya_words.specs.Table.{TableWords}
 use Rattle.papaya_words.specs.Word.{byte_of, kind_of, pair_of, top_byte}
+use Rattle.papaya_words.specs.declared.limits.TheConstants.{MAX_LOG_LEN}
 use Rattle.papaya_words.specs.declared.probe.Refused.{Refused}
+use Rattle.papaya_words.specs.declared.probe.Refused.TheVariants.{Memory, Capacity}
 use Rattle.papaya_words.specs.declared.probe.ResizeMode.{ResizeMode}
 use Rattle.papaya_words.specs.declared.word.Kind.{Kind}
 use Rattle.papaya_words.specs.declared.word.Kind.TheVariants as kinds
@@ -29,8 +31,32 @@ use Rattle.papaya_core.specs.declared.pairs.Pair.{Pair as LoggedPair}
 use Rattle.papaya_core.specs.declared.pairs.KeyOf.TheVariants.{Own, Logged}
 use Rattle.papaya_core.specs.Store.{StoreState}
 use Rattle.papaya_core.specs.Tables.{Tables, table_of, word_at}
-use Rattle.papaya_seq.specs.Map.{IsCause, IsFull}
+use Rattle.papaya_core.specs.Content.{map_in}
+use Rattle.papaya_seq.specs.Map.{IsCause, IsCauseAt, IsFull, Unchanged}
 use Rattle.papaya_seq.proofs.Past.{IsBlank, IsFirst, IsPast, IsSlotThere, blank_word, gone_past, not_zero, slot_there}
+
+module _ {K V S : Type 0} (eq : K → K → Bool) (s : StoreState K V S) (k : K) (replace : Bool) where
+  -- An insertion that replaces nothing is refused only where the map has no pair of its key, and one that replaces so or for want of room in a log.
+  pub record IsRefusal (store : StoreState K V S) (refused : Refused) : Type 0 where
+    pub alone : replace ≡ false → map_in eq store k ≡ None
+    pub why : (refused ≡ Memory) ⊎ (MAX_LOG_LEN ≤ length s.keys) ⊎ (MAX_LOG_LEN ≤ length s.pairs) ⊎ (map_in eq store k ≡ None)
+
+  -- where the map has no pair of the key both are so
+  pub refused_absent : (store : StoreState K V S) (refused : Refused) → map_in eq store k ≡ None → IsRefusal store refused
+  refused_absent store refused none = record { alone = λ _. none; why = inr (inr (inr none)) }
+
+  -- so there is a cause for what the key has
+  pub cause_at : (hash : ℕ) (store : StoreState K V S) (refused : Refused) → Unchanged eq s store → IsRefusal store refused → IsCause hash s refused → IsCauseAt hash s (map_in eq s k) refused
+  cause_at hash store refused same refusal cause = at cause refusal.why
+    where
+      at : IsCause hash s refused → (refused ≡ Memory) ⊎ (MAX_LOG_LEN ≤ length s.keys) ⊎ (MAX_LOG_LEN ≤ length s.pairs) ⊎ (map_in eq store k ≡ None) → IsCauseAt hash s (map_in eq s k) refused
+      at (inl memory) why = inl memory
+      at (inr (full, inl keys)) why = inr (full, inl keys)
+      at (inr (full, inr (inl pairs))) why = inr (full, inr (inl pairs))
+      at (inr (full, inr (inr last))) (inl memory) = let f : Memory ≡ Capacity = sym memory ∙ full in absurd cc
+      at (inr (full, inr (inr last))) (inr (inl keys)) = inr (full, inl keys)
+      at (inr (full, inr (inr last))) (inr (inr (inl pairs))) = inr (full, inr (inl pairs))
+      at (inr (full, inr (inr last))) (inr (inr (inr none))) = inr (full, inr (inr (sym (same k) ∙ none, last)))
 
 module _ {K V S : Type 0} (hash : ℕ) (s : StoreState K V S) (value : V) where
   -- The root table as it was when the call began, or the one that the call made.

@@ -1,44 +1,52 @@
 -- An insertion of a map for one caller, from its begin to its reply.
-use Rattle.std.proofs.Common.{◌≡◌, ℕ, ◌^◌, ◌<◌, Bool, true, false, Option, None, Some, length, refl, sym, ◌∙◌, ap, subst}
+use Rattle.std.proofs.Common.{◌≡◌, ℕ, ◌^◌, ◌<◌, Bool, true, false, Option, None, Some, inl, inr, length, refl, sym, ◌∙◌, ap, subst}
 use Rattle.papaya_words.specs.Table.{TableWords}
 use Rattle.papaya_words.specs.declared.probe.Refused.{Refused}
 use Rattle.papaya_words.specs.declared.probe.ResizeMode.{ResizeMode}
-use Rattle.papaya_rests.specs.Alone.{IsCurrent, IsPrompt, left}
+use Rattle.papaya_rests.specs.Alone.{IsCurrent, IsPrompt, IsRead, left}
 use Rattle.papaya_call.specs.Answers.{Says}
 use Rattle.papaya_call.specs.declared.ask.Ask.{Ask}
-use Rattle.papaya_call.specs.declared.ask.Ask.TheVariants.{Done as Ask_done}
+use Rattle.papaya_call.specs.declared.ask.Ask.TheVariants.{Load, Exchange, SameKey, ShowNone, ShowPair, SizeOf, MakeKey, MakePair, MakeTable, AddToShard, Done as Ask_done}
 use Rattle.papaya_call.specs.declared.ask.Answer.{Answer}
-use Rattle.papaya_call.specs.declared.ask.At.TheVariants.{Next}
+use Rattle.papaya_call.specs.declared.ask.At.TheVariants.{Next, Slot}
 use Rattle.papaya_call.specs.declared.call.Reply.{Reply}
 use Rattle.papaya_call.specs.declared.call.Reply.TheVariants.{Occupied, Refused as Reply_refused}
 use Rattle.papaya_call.specs.declared.call.Task.TheVariants.{Insert}
+use Rattle.papaya_call.specs.declared.compute.Gap.{Gap}
 use Rattle.papaya_call.specs.declared.machine.Machine.{Machine}
 use Rattle.papaya_call.specs.declared.machine.State.{State}
 use Rattle.papaya_call.specs.declared.machine.State.TheVariants.{AtRoot, Making, Opening, Searching, Writing, Offering, Showing, Pairing, Putting, Burying, Counting, Uncounting, Leaving, Growing, Ended}
 use Rattle.papaya_call.specs.declared.search.Search.TheVariants.{Sizing, Looking, Comparing}
 use Rattle.papaya_call.specs.declared.write.Made.{Made}
 use Rattle.papaya_call.specs.declared.write.Made.TheVariants.{Nothing, Key, Pair}
+use Rattle.papaya_call.specs.declared.write.Write.{Write}
 use Rattle.papaya_call.specs.Machine.{IsFit, IsStanding, after, ask_of, asks, started}
 use Rattle.papaya_call.specs.Search.{IsSize}
 use Rattle.papaya_rests.proofs.AloneCurrent.{machine_stays}
 use Rattle.papaya_rests.proofs.AloneSteps.{machine_nears}
+use Rattle.papaya_rests.proofs.RestsHeld.{ended_in}
+use Rattle.papaya_rests.proofs.RestsReplyRefused.{IsReason, machine_reason}
 use Rattle.papaya_rests.proofs.Standing.{machine_ask_fits, machine_stands}
 use Rattle.papaya_rests.proofs.Tasks.{same_task}
 use Rattle.papaya_core.specs.declared.pairs.KeyOf.TheVariants.{Own}
 use Rattle.papaya_core.specs.declared.pairs.Running.{Running}
-use Rattle.papaya_core.specs.Advances.{reply_in}
+use Rattle.papaya_core.specs.Advances.{goes_on, reply_in}
 use Rattle.papaya_core.specs.Begins.{begun, key_of_call}
-use Rattle.papaya_core.specs.Performs.{Performs}
+use Rattle.papaya_core.specs.Callers.{running}
+use Rattle.papaya_core.specs.Content.{map_in}
+use Rattle.papaya_core.specs.Core.{CoreState}
+use Rattle.papaya_core.specs.Performs.{Performs, own_key}
 use Rattle.papaya_core.specs.Solo.{RunsAlone}
 use Rattle.papaya_core.specs.Store.{StoreState}
 use Rattle.papaya_core.specs.Tables.{Tables, table_of, word_at}
 use Rattle.papaya_core.proofs.KeptSettings.{IsLawfulKeys}
+use Rattle.papaya_core.proofs.RefusedLemmas.{call, no_place, writes_absent}
 use Rattle.papaya_core.proofs.StoreLemmas.{numbered, performed, unnumbered}
-use Rattle.papaya_seq.specs.Map.{IsCause, IsLawfulMap, MapState, core_of, insertion}
-use Rattle.papaya_seq.proofs.Inserting.{IsAtHand, IsEnd, IsPlain, IsStage}
-use Rattle.papaya_seq.proofs.InsertingSteps.{answerable_in, leads_in}
+use Rattle.papaya_seq.specs.Map.{IsCause, IsLawfulMap, KeepsSlots, MapState, core_of, insertion}
+use Rattle.papaya_seq.proofs.Inserting.{IsAtHand, IsEnd, IsPlain, IsRefusal, IsStage, refused_absent}
+use Rattle.papaya_seq.proofs.InsertingSteps.{answerable_in, leads_in, refused_in}
 use Rattle.papaya_seq.proofs.Lawful.{bare, single, sized}
-use Rattle.papaya_seq.proofs.Steps.{IsAnswerable, IsMade, answering, answering_performs, made_alone, made_more, made_none, prompt_single, prompted, seated, unreplied, words_of}
+use Rattle.papaya_seq.proofs.Steps.{HasCome, IsAnswerable, IsMade, answering, answering_performs, came_slots, made_alone, made_more, made_none, prompt_single, prompted, seated, still, unreplied, words_of}
 use Rattle.papaya_seq.proofs.Words.{rooted, uncopied, unmarked}
 
 -- an insertion as it begins
@@ -58,6 +66,8 @@ module _ {K V S A : Type 0} (eq : K → K → Bool) (hash : S → K → ℕ) (s 
     pub sizes : (n : ℕ) (t : TableWords) → table_of store.words.tables n ≡ Some t → IsSize (length t.slots) t.limit
     pub hand : IsAtHand (hash s.store.hasher k) s.store value r.machine.made store.keys store.pairs r.key r.value
     pub stage : IsStage (hash s.store.hasher k) s.store value store.words r.value r.machine.made r.machine.state
+    -- where it was refused, what that says of its key
+    pub refusal : (refused : Refused) → r.machine.state ≡ Ended (Reply_refused refused) → IsRefusal eq s.store k replace store refused
 
 -- the call of an insertion begins so
 begun_insertion : {K V : Type 0} (hash : K → ℕ) (mode : ResizeMode) (initial : ℕ) (replace : Bool) (k : K) (value : V) → begun hash mode initial (insertion replace k value) ≡ insertion_begun (hash k) mode initial replace k value
@@ -108,9 +118,41 @@ module _ {K V S A : Type 0} (eq : K → K → Bool) (hash : S → K → ℕ) (s 
         sizes = sized eq (hash s.store.hasher) s.mode s.store lawful;
         hand = ((k, refl), refl, refl, refl);
         stage = (refl, refl);
+        refusal = λ refused e. absurd cc;
       })
 
-  module _ (says : Says K V A) (store : StoreState K V S) (r : Running K V A) (answer : Answer) (store' : StoreState K V S) (later : Running K V A) (ask : Ask) (is : ask ≡ ask_of r.machine) (open_still : (reply : Reply) → ask ≡ Ask_done reply → ⊥) (performed_is : Performs eq says false ask store r answer store' later) (same : later.machine ≡ r.machine) (now : IsInserting eq hash s replace k value store r) where
+  -- the core whose one seat has the call, in order
+  module _ (fits : hash s.store.hasher k < 2 ^ 64) (store : StoreState K V S) (r : Running K V A) (going : reply_in (ask_of r.machine) ≡ None) (made : IsMade eq hash s (insertion replace k value) store (answering None r)) where
+    -- the call as it came there
+    came : HasCome eq hash s (insertion replace k value) store (answering None r)
+    came = made keys lawful (subst (λ (x : K). hash s.store.hasher x < 2 ^ 64) (sym (key_of_insertion replace k value)) fits)
+
+    abbrev now_core : CoreState K V S (Unit {0})
+    now_core = seated store (still (answering None r)) s.mode s.initial
+
+    -- it goes on
+    goes : running now_core.callers 0 ≡ Some (answering None r)
+    goes = ap (λ o. goes_on o (answering None r)) going
+
+    -- this key of the law is its key
+    own_is : (other : K) → own_key {A = Unit {0}} store (answering None r) ≡ Some other → other ≡ k
+    own_is other is = let f : Some other ≡ Some k = sym is ∙ came.own ∙ ap Some (key_of_insertion replace k value) in cc f
+
+    -- it is about to write for the first time
+    writes : (write : Write) → r.machine.task ≡ Insert false → r.machine.state ≡ Writing write → word_at store.words (Slot write.place.table write.place.probe.i) ≡ write.old → map_in eq store k ≡ None
+    writes write task state read =
+        let (es, (tales, kept)) = came.lawful.law in
+        let core_call = call eq (hash s.store.hasher) keys now_core came.lawful.core es tales kept 0 (answering None r) goes in
+        subst (λ (x : K). map_in eq store x ≡ None) (own_is core_call.key core_call.own) (writes_absent eq (hash s.store.hasher) keys now_core came.lawful.core es tales kept 0 (answering None r) goes write task state read)
+
+    -- it has met a full table
+    grows : (t : ℕ) → r.machine.state ≡ Growing t → map_in eq store k ≡ None
+    grows t state =
+        let (es, (tales, kept)) = came.lawful.law in
+        let nowhere = no_place eq (hash s.store.hasher) keys now_core came.lawful.core es tales kept 0 (answering None r) goes t state in
+        subst (λ (x : K). map_in eq store x ≡ None) (own_is nowhere.key nowhere.own) nowhere.absent
+
+  module _ (fits : hash s.store.hasher k < 2 ^ 64) (says : Says K V A) (store : StoreState K V S) (r : Running K V A) (answer : Answer) (store' : StoreState K V S) (later : Running K V A) (ask : Ask) (is : ask ≡ ask_of r.machine) (open_still : (reply : Reply) → ask ≡ Ask_done reply → ⊥) (performed_is : Performs eq says false ask store r answer store' later) (same : later.machine ≡ r.machine) (now : IsInserting eq hash s replace k value store r) where
     -- it has not replied
     going : reply_in (ask_of r.machine) ≡ None
     going = ap reply_in (sym is) ∙ unreplied ask open_still
@@ -138,6 +180,46 @@ module _ {K V S A : Type 0} (eq : K → K → Bool) (hash : S → K → ℕ) (s 
     pub inserting_nears : left (after r.machine answer) < left r.machine
     inserting_nears = machine_nears (words_of store) (words_of store') r.machine answer now.current.read now.no_next told
 
+    -- its key in the hand of the machine's own hash
+    hand_here : IsAtHand r.machine.hash s.store value r.machine.made store.keys store.pairs r.key r.value
+    hand_here = subst (λ h. IsAtHand h s.store value r.machine.made store.keys store.pairs r.key r.value) (sym now.hash_is) now.hand
+
+    stage_here : IsStage r.machine.hash s.store value store.words r.value r.machine.made r.machine.state
+    stage_here = subst (λ h. IsStage h s.store value store.words r.value r.machine.made r.machine.state) (sym now.hash_is) now.stage
+
+    -- a refusal after this answer
+    refused_next : (refused : Refused) → (after r.machine answer).state ≡ Ended (Reply_refused refused) → IsRefusal eq s.store k replace store' refused
+    refused_next refused e =
+        by_reason (machine_reason r.machine refused answer (λ reply done. open_still reply (is ∙ done)) (ap (asks (after r.machine answer).made (after r.machine answer).hash) e))
+      where
+        -- a load leaves the store
+        loaded : (t : ℕ) (ask : Ask) → ask ≡ Load (Next t) → Performs eq says false ask store r answer store' later → store' ≡ store
+        loaded t (Load at) e (told, (same_store, stays)) = same_store
+        loaded t (Exchange at old new) e done = absurd cc
+        loaded t (SameKey n) e done = absurd cc
+        loaded t ShowNone e done = absurd cc
+        loaded t (ShowPair n) e done = absurd cc
+        loaded t (SizeOf n) e done = absurd cc
+        loaded t MakeKey e done = absurd cc
+        loaded t MakePair e done = absurd cc
+        loaded t (MakeTable slots limit) e done = absurd cc
+        loaded t (AddToShard by) e done = absurd cc
+        loaded t (Ask_done reply) e done = absurd cc
+
+        -- nothing is offered by an insertion
+        not_offering : (gap : Gap) (state : State) → state ≡ Offering gap → IsStage r.machine.hash s.store value store.words r.value r.machine.made state → ⊥
+        not_offering gap state e stage = subst (IsStage r.machine.hash s.store value store.words r.value r.machine.made) e stage
+
+        by_reason : IsReason r.machine refused r.machine.state answer → IsRefusal eq s.store k replace store' refused
+        by_reason (inl (refuses, making)) =
+            refused_in eq says s.store value replace k store r refused r.machine.made r.machine.state store' later making now.current.read hand_here stage_here
+            (λ write state only. writes fits store r going now.steps write (now.task ∙ ap Insert only) state (subst (IsRead (words_of store)) state now.current.read))
+            (subst (λ a. Performs eq says false (ask_of r.machine) store r a store' later) refuses performs)
+        by_reason (inr (inl (full, (t, state)))) =
+            refused_absent eq s.store k replace store' refused
+            (ap (λ (y : StoreState K V S). map_in eq y k) (loaded t (ask_of r.machine) (ap (asks r.machine.made r.machine.hash) state) performs) ∙ grows fits store r going now.steps t state)
+        by_reason (inr (inr (none, (gap, state), removes))) = absurd (not_offering gap r.machine.state state stage_here)
+
     -- and it goes on
     pub inserting_more : IsInserting eq hash s replace k value store' (record later { machine = after r.machine answer })
     inserting_more =
@@ -159,6 +241,7 @@ module _ {K V S A : Type 0} (eq : K → K → Bool) (hash : S → K → ℕ) (s 
           sizes = numbered store'.words.tables kept.sized;
           hand = subst (λ h. IsAtHand h s.store value (after r.machine answer).made store'.keys store'.pairs later.key later.value) now.hash_is leads.0;
           stage = subst (λ h. IsStage h s.store value store'.words later.value (after r.machine answer).made (after r.machine answer).state) now.hash_is leads.1;
+          refusal = refused_next;
         }
 
   module _ (store : StoreState K V S) (r : Running K V A) (reply : Reply) (e : Ask_done reply ≡ ask_of r.machine) (now : IsInserting eq hash s replace k value store r) where
@@ -177,3 +260,11 @@ module _ {K V S A : Type 0} (eq : K → K → Bool) (hash : S → K → ℕ) (s 
     -- where the key is in the map, the value is left
     pub inserting_left : (n : ℕ) → reply ≡ Occupied n → r.value ≡ Some value
     inserting_left = ends.1
+
+    -- and says what it does of the key
+    pub inserting_refusal : (refused : Refused) → reply ≡ Reply_refused refused → IsRefusal eq s.store k replace store refused
+    inserting_refusal refused is = now.refusal refused (ended_in r.machine.made r.machine.hash r.machine.state reply (sym e) ∙ ap Ended is)
+
+    -- the root table's slots
+    pub inserting_slots : hash s.store.hasher k < 2 ^ 64 → KeepsSlots s.store store
+    inserting_slots fits = came_slots eq hash s (insertion replace k value) keys lawful (subst (λ (x : K). hash s.store.hasher x < 2 ^ 64) (sym (key_of_insertion replace k value)) fits) store (answering None r) now.steps

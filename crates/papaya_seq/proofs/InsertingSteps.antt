@@ -7,7 +7,7 @@ use Rattle.papaya_words.specs.declared.probe.Refused.{Refused}
 use Rattle.papaya_words.specs.declared.probe.Refused.TheVariants.{Memory, Capacity}
 use Rattle.papaya_call.specs.Answers.{Says}
 use Rattle.papaya_call.specs.declared.ask.Answer.{Answer}
-use Rattle.papaya_call.specs.declared.ask.Answer.TheVariants.{Yes, Size, Refused as Was_refused}
+use Rattle.papaya_call.specs.declared.ask.Answer.TheVariants.{Exchanged, Yes, Size, Refused as Was_refused}
 use Rattle.papaya_call.specs.declared.ask.At.TheVariants.{Root, Slot}
 use Rattle.papaya_call.specs.declared.call.Reply.TheVariants.{Refused as Reply_refused}
 use Rattle.papaya_call.specs.declared.call.Task.TheVariants.{Insert}
@@ -21,16 +21,19 @@ use Rattle.papaya_call.specs.declared.write.Write.{Write}
 use Rattle.papaya_rests.specs.Alone.{IsRead}
 use Rattle.papaya_call.specs.Machine.{IsStandingState, after, asks, goes_as}
 use Rattle.papaya_call.specs.Search.{IsSize, look, at_yes as search_compared}
+use Rattle.papaya_law.specs.Content.{lookup}
 use Rattle.papaya_rests.proofs.AloneSteps.{exchange_done}
+use Rattle.papaya_rests.proofs.RestsReplyRefused.{IsMaking}
+use Rattle.papaya_core.specs.Content.{map_in, pairs_of_table}
 use Rattle.papaya_core.specs.declared.pairs.KeyOf.TheVariants.{Own, Logged}
 use Rattle.papaya_core.specs.declared.pairs.Running.{Running}
 use Rattle.papaya_core.specs.Advances.{reply_in}
 use Rattle.papaya_core.specs.Performs.{Performs, Refuses, own_key, same as same_keys, size_of}
-use Rattle.papaya_core.specs.Store.{StoreState, pair_of}
+use Rattle.papaya_core.specs.Store.{StoreState, Stored, pair_of}
 use Rattle.papaya_core.specs.Tables.{Tables, table_of, word_at}
 use Rattle.papaya_core.proofs.KeptTables.{index-zeros, made-there}
 use Rattle.papaya_seq.specs.Map.{IsCause}
-use Rattle.papaya_seq.proofs.Inserting.{IsAtHand, IsEnd, IsPlain, IsSized, IsStage, blank_stage, carried, compared_stage, looked_stage, root_stage, value_at_hand, written_stage}
+use Rattle.papaya_seq.proofs.Inserting.{IsAtHand, IsEnd, IsPlain, IsRefusal, IsSized, IsStage, blank_stage, carried, compared_stage, looked_stage, refused_absent, root_stage, value_at_hand, written_stage}
 use Rattle.papaya_seq.proofs.Past.{IsFirst, IsPast}
 use Rattle.papaya_seq.proofs.Steps.{IsAnswerable, words_of}
 
@@ -174,3 +177,53 @@ module _ {K V S A : Type 0} (eq : K → K → Bool) (says : Says K V A) (s : Sto
   answerable_in made (Leaving t) sized hand stage going = absurd stage
   answerable_in made (Growing t) sized hand stage going = tt
   answerable_in made (Ended reply) sized hand stage going = absurd cc
+
+module _ {K V S A : Type 0} (eq : K → K → Bool) (says : Says K V A) (s : StoreState K V S) (value : V) (replace : Bool) (k : K) (store : StoreState K V S) (r : Running K V A) (refused : Refused) where
+  -- what a refused making leaves
+  abbrev LeavesSo : StoreState K V S → Type 0
+  LeavesSo store' = (store' ≡ store) × ((refused ≡ Memory) ⊎ (MAX_LOG_LEN ≤ length s.keys) ⊎ (MAX_LOG_LEN ≤ length s.pairs))
+
+  -- a log that is full
+  log_full : (most count : ℕ) → Refuses most count (Was_refused refused) → (refused ≡ Memory) ⊎ (most ≤ count)
+  log_full most count (inl e) = inl cc
+  log_full most count (inr (e, full)) = inr full
+
+  -- where the key or the pair of a write was refused, memory is short or its log is full
+  write_refused : (made : Made) (write : Write) (store' : StoreState K V S) (later : Running K V A) → IsRead (words_of store) (Writing write) → IsAtHand r.machine.hash s value made store.keys store.pairs r.key r.value → Performs eq says false (asks made r.machine.hash (Writing write)) store r (Was_refused refused) store' later → LeavesSo store'
+  write_refused Nothing write store' later read hand (inl (full, (same, stays))) =
+      (same, elim (log_full MAX_LOG_LEN (length store.keys) full) [ inl memory ↦ inl memory | inr most ↦ inr (inl (subst (λ (l : List K). MAX_LOG_LEN ≤ length l) hand.2 most)) ])
+  write_refused Nothing write store' later read hand (inr (inl (has, stays))) = let e = has.0 in absurd cc
+  write_refused Nothing write store' later read hand (inr (inr (key, own, e, few, same, goes))) = absurd cc
+  write_refused Key write store' later read hand (inl (full, (same, stays))) =
+      (same, elim (log_full MAX_LOG_LEN (length store.pairs) full) [ inl memory ↦ inl memory | inr most ↦ inr (inr (subst (λ l. MAX_LOG_LEN ≤ l) (ap length hand.2) most)) ])
+  write_refused Key write store' later read hand (inr (inl (has, stays))) = let e = has.0 in absurd cc
+  write_refused Key write store' later read hand (inr (inr (n, v, logged, has, e, few, same, goes))) = absurd cc
+  write_refused (Pair n) write store' later read hand (made, stays) = let done = exchange_done _ _ (word_at store.words (Slot write.place.table write.place.probe.i)) write.old read made in let f : Was_refused refused ≡ Exchanged = done.0 in absurd cc
+
+  -- what a refusal leaves of the store: it stays, and where an insertion was about to write why
+  pub refused_in : (made : Made) (state : State) (store' : StoreState K V S) (later : Running K V A) → IsMaking state → IsRead (words_of store) state → IsAtHand r.machine.hash s value made store.keys store.pairs r.key r.value → IsStage r.machine.hash s value store.words r.value made state
+      → ((write : Write) → state ≡ Writing write → replace ≡ false → map_in eq store k ≡ None) → Performs eq says false (asks made r.machine.hash state) store r (Was_refused refused) store' later → IsRefusal eq s k replace store' refused
+  refused_in made Making store' later making read hand stage writes (inl (full, same), stays) = refused_absent eq s k replace store' refused (ap (λ (y : StoreState K V S). map_in eq y k) same ∙ rootless)
+    where
+      rootless : map_in eq store k ≡ None
+      rootless = ap (λ n. lookup eq (λ (p : Stored K V). p.key) (pairs_of_table store (table_of store.words.tables n)) k) read
+  refused_in made Making store' later making read hand stage writes (inr (e, few, same), stays) = absurd cc
+  refused_in made (Writing write) store' later making read hand stage writes performs =
+      let left = write_refused made write store' later read hand performs in
+      record {
+        alone = λ only. ap (λ (y : StoreState K V S). map_in eq y k) left.0 ∙ writes write refl only;
+        why = elim left.1 [ inl memory ↦ inl memory | inr (inl keys) ↦ inr (inl keys) | inr (inr pairs) ↦ inr (inr (inl pairs)) ];
+      }
+  refused_in made (Pairing purpose) store' later making read hand stage writes performs = absurd stage
+  refused_in made AtRoot store' later making read hand stage writes performs = absurd making
+  refused_in made (Opening t) store' later making read hand stage writes performs = absurd making
+  refused_in made (Searching search) store' later making read hand stage writes performs = absurd making
+  refused_in made (Offering gap) store' later making read hand stage writes performs = absurd making
+  refused_in made (Showing removal) store' later making read hand stage writes performs = absurd making
+  refused_in made (Putting given) store' later making read hand stage writes performs = absurd making
+  refused_in made (Burying removal) store' later making read hand stage writes performs = absurd making
+  refused_in made (Counting n) store' later making read hand stage writes performs = absurd making
+  refused_in made (Uncounting n) store' later making read hand stage writes performs = absurd making
+  refused_in made (Leaving t) store' later making read hand stage writes performs = absurd making
+  refused_in made (Growing t) store' later making read hand stage writes performs = absurd making
+  refused_in made (Ended reply) store' later making read hand stage writes performs = absurd making

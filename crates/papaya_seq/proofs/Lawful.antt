@@ -21,11 +21,23 @@ use Rattle.papaya_law.proofs.CodeViews.{word_of_kind}
 use Rattle.papaya_law.proofs.Logs.{on_comes}
 use Rattle.papaya_law.proofs.OneMap.{sound}
 use Rattle.papaya_core.specs.Content.{content, listed, pairs_of_kind, pairs_of_slots, pairs_of_table}
-use Rattle.papaya_core.specs.Kept.{setting_of, coding_of, low}
+use Rattle.papaya_core.specs.declared.callers.Seat.{Seat}
+use Rattle.papaya_core.specs.Kept.{IsLawfulCore, setting_of, coding_of, low}
 use Rattle.papaya_core.specs.Store.{StoreState, Stored, pair_of, stored_at, stored_in}
 use Rattle.papaya_core.specs.Tables.{table_of, word_at}
 use Rattle.papaya_core.proofs.KeptSettings.{IsLawfulKeys, tables_hashed}
 use Rattle.papaya_seq.specs.Map.{HasNone, Holds, IsLawfulMap}
+
+-- the table that the root of a core names is there
+pub core_root_there : {K V S A : Type 0} (eq : K → K → Bool) (hash : K → ℕ) (callers : List (Seat K V A)) (mode : ResizeMode) (store : StoreState K V S) → IsLawfulKeys eq hash → IsLawfulCore eq hash store callers mode → (store.words.root ≡ 0 → ⊥) → (t : TableWords) × (table_of store.words.tables store.words.root ≡ Some t)
+core_root_there {V = V} eq hash callers mode store keys lawful some =
+    let (es, (tales, kept)) = lawful.law in
+    let hashed = tables_hashed {V = V} eq hash keys mode store.words.tables lawful.core.sizes in
+    let g = setting_of {V = V} eq (low hash) mode store.words.tables in
+    let now : State (Stored _ V) = run es start in
+    let is : now.root ≡ store.words.root = kept.coded Root in
+    let comes : Comes now now.root = ⊎_elim (λ (none : (now.root ≡ 0) × (now.first ≡ 0)). absurd (some (sym is ∙ none.0))) (on_comes now now.root) (sound g hashed.lawful es kept.allowed).root in
+    subst (λ n. (t : TableWords) × (table_of store.words.tables n ≡ Some t)) is (kept.made now.root (⊎_elim (λ (positive : 0 < now.root). positive) (λ (least : now.root ≤ 0). absurd (some (sym is ∙ omega arith))) (cases_lt 0 now.root)) comes)
 
 module _ {K V S : Type 0} (eq : K → K → Bool) (hash : K → ℕ) (mode : ResizeMode) (store : StoreState K V S) (lawful : IsLawfulMap eq hash store mode) where
   -- no table has a next one
@@ -44,14 +56,7 @@ module _ {K V S : Type 0} (eq : K → K → Bool) (hash : K → ℕ) (mode : Res
 
   -- the table that the root names is there
   pub root_there : IsLawfulKeys eq hash → (store.words.root ≡ 0 → ⊥) → (t : TableWords) × (table_of store.words.tables store.words.root ≡ Some t)
-  root_there keys some =
-      let (es, (tales, kept)) = lawful.lawful.law in
-      let hashed = tables_hashed {V = V} eq hash keys mode store.words.tables lawful.lawful.core.sizes in
-      let g = setting_of {V = V} eq (low hash) mode store.words.tables in
-      let now : State (Stored K V) = run es start in
-      let is : now.root ≡ store.words.root = kept.coded Root in
-      let comes : Comes now now.root = ⊎_elim (λ (none : (now.root ≡ 0) × (now.first ≡ 0)). absurd (some (sym is ∙ none.0))) (on_comes now now.root) (sound g hashed.lawful es kept.allowed).root in
-      subst (λ n. (t : TableWords) × (table_of store.words.tables n ≡ Some t)) is (kept.made now.root (⊎_elim (λ (positive : 0 < now.root). positive) (λ (least : now.root ≤ 0). absurd (some (sym is ∙ omega arith))) (cases_lt 0 now.root)) comes)
+  root_there keys = core_root_there eq hash [] mode store keys lawful.lawful
 
   -- each table has the size of a table
   pub sized : (n : ℕ) (t : TableWords) → table_of store.words.tables n ≡ Some t → IsSize (length t.slots) t.limit

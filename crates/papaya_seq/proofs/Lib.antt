@@ -24,6 +24,7 @@ pub mod RemovalRun
 pub mod RemovalTurns
 pub mod Removed
 pub mod Removing
+pub mod Slots
 pub mod Steps
 pub mod UpdatesDone
 pub mod Words

@@ -18,11 +18,11 @@ use Rattle.papaya_call.specs.declared.write.Made.{Made}
 use Rattle.papaya_core.proofs.KeptSettings.{IsLawfulKeys}
 use Rattle.papaya_core.specs.Solo.{RunsAlone}
 use Rattle.papaya_core.specs.Store.{StoreState, pair_of, stored_in}
-use Rattle.papaya_seq.specs.Map.{IsLawfulMap, MapState, core_of}
+use Rattle.papaya_seq.specs.Map.{IsLawfulMap, KeepsSlots, MapState, core_of}
 use Rattle.papaya_seq.proofs.Lawful.{MatchesNone}
 use Rattle.papaya_seq.proofs.RemovalTurns.{IsFound, IsJudged, Turns, machine_turns}
 use Rattle.papaya_seq.proofs.Removing.{IsAnswer, IsEnd, IsLogOf, IsStage, answered_going, performed, removal_by, removing}
-use Rattle.papaya_seq.proofs.Steps.{IsMade, made_alone, made_more, made_none, seated, words_of}
+use Rattle.papaya_seq.proofs.Steps.{IsMade, came_slots, made_alone, made_more, made_none, seated, words_of}
 
 module _ {K V S F : Type 0} (g : Mut F (Bor K × (Bor V × Unit {0})) Bool) (eq : K → K → Bool) (hash : S → K → ℕ) (matches : K → Bool) (hashed : ℕ) (map : MapState K V S) (agrees : F) where
   -- A removal by what matches keys so, and hashes so. Where it matches as an owned key is equal, it is the removal by that key; where it matches no logged pair, nothing happens.
@@ -120,6 +120,10 @@ module _ {K V S F : Type 0} (g : Mut F (Bor K × (Bor V × Unit {0})) Bool) (eq 
     -- by an owned key it is a call made alone
     pub alone : IsLawfulKeys eq (hash map.store.hasher) → IsLawfulMap eq (hash map.store.hasher) map.store map.mode → (k : K) → ((l : K) → matches l ≡ eq k l) → hash map.store.hasher k ≡ hashed → hash map.store.hasher k < 2 ^ 64 → RunsAlone eq hash (core_of map) (removal_by k) reply (seated s None map.mode map.initial)
     alone keys lawful k alike same fits = made_alone eq hash map (removal_by k) keys lawful fits s (removing m k) reply e (now.matched k alike same)
+
+    -- the root table's slots
+    pub removal_slots : IsLawfulKeys eq (hash map.store.hasher) → IsLawfulMap eq (hash map.store.hasher) map.store map.mode → (k : K) → ((l : K) → matches l ≡ eq k l) → hash map.store.hasher k ≡ hashed → hash map.store.hasher k < 2 ^ 64 → KeepsSlots map.store s
+    removal_slots keys lawful k alike same fits = came_slots eq hash map (removal_by k) keys lawful fits s (removing m k) (now.matched k alike same)
 
     -- and by what matches no pair, it finds nothing
     pub unmet : MatchesNone map.store matches → (reply ≡ Absent) × (s ≡ map.store)

@@ -1,5 +1,5 @@
 -- The call of a map for one caller as the steps of a core with one seat.
-use Rattle.std.proofs.Common.{◌≡◌, ℕ, suc, ◌+◌, ◌^◌, ◌<◌, ◌==◌, Bool, true, false, Option, None, Some, List, [], ◌∷◌, ◌++◌, length, inl, inr, refl, sym, ◌∙◌, ap, subst}
+use Rattle.std.proofs.Common.{◌≡◌, ℕ, suc, ◌+◌, ◌^◌, ◌<◌, ◌==◌, Bool, true, false, Option, None, Some, List, [], ◌∷◌, ◌++◌, length, replicate, inl, inr, refl, sym, ◌∙◌, ap, subst}
 use Rattle.std.specs.Prelude.{MatchBool}
 use Rattle.papaya_words.specs.Table.{TableWords}
 use Rattle.papaya_words.specs.declared.probe.Refused.TheVariants.{Memory, Capacity}
@@ -26,7 +26,7 @@ use Rattle.papaya_core.specs.Advances.{Advances, event_of, goes_on, reply_in}
 use Rattle.papaya_core.specs.Begins.{Begins, begun, key_of_call}
 use Rattle.papaya_core.specs.Core.{CoreState}
 use Rattle.papaya_core.specs.Kept.{IsLawfulCore, begun_tales, told_tales}
-use Rattle.papaya_core.specs.Performs.{Performs, Refuses, size_of}
+use Rattle.papaya_core.specs.Performs.{Performs, Refuses, own_key, size_of}
 use Rattle.papaya_core.specs.Runs.{History, StepsRun, with_event, with_step}
 use Rattle.papaya_core.specs.Solo.{RunsAlone, whatever}
 use Rattle.papaya_core.specs.Store.{StoreState}
@@ -35,7 +35,11 @@ use Rattle.papaya_core.proofs.HeadlineLemmas.{advance-core, begin-core}
 use Rattle.papaya_core.proofs.KeptLemmas.{IsLawfulKeys, kept_begin, kept_step}
 use Rattle.papaya_core.proofs.RefusedLemmas.{caused}
 use Rattle.papaya_core.proofs.KeptTables.{word-here, word-made, word-other}
-use Rattle.papaya_seq.specs.Map.{IsLawfulMap, MapState, core_of}
+use Rattle.papaya_words.specs.declared.limits.TheConstants.{FIRST_TABLE_LEN}
+use Rattle.papaya_core.proofs.MachineLemmas.{machine_opens}
+use Rattle.papaya_seq.specs.Map.{IsLawfulMap, KeepsSlots, MapState, core_of, slots_in}
+use Rattle.papaya_seq.proofs.Lawful.{core_root_there}
+use Rattle.papaya_seq.proofs.Slots.{keeps_more, made_slots, makes_first, opens_none, slots_step}
 
 -- a core whose one seat has this call
 abbrev pub seated : {K V S A : Type 0} → StoreState K V S → Option (Running K V A) → ResizeMode → ℕ → CoreState K V S A
@@ -53,6 +57,11 @@ module _ {K V S : Type 0} (eq : K → K → Bool) (hash : S → K → ℕ) (s : 
     pub runs : StepsRun eq whatever hash 1 0 steps (seated s.store (Some (begun (hash s.store.hasher) s.mode s.initial call)) s.mode s.initial) (with_event 0 0 Begun []) (seated store (still r) s.mode s.initial) history
     pub replied : (reply : Reply) → reply_in (ask_of r.machine) ≡ Some reply → (last : Entry) × (before : History) × (history ≡ last ∷ before) × (last.event ≡ Replied reply)
     pub lawful : IsLawfulCore eq (hash s.store.hasher) store (record { caller = 0; call = still r } ∷ []) s.mode
+    -- its key is the call's, logged or not
+    pub own : own_key store r ≡ Some (key_of_call call)
+    -- the root table has the slots that it had, or is the first one, as is the table that is about to be opened
+    pub slots : KeepsSlots s.store store
+    pub opens : (t : ℕ) → ask_of r.machine ≡ Exchange Root 0 t → slots_in (table_of store.words.tables t) ≡ FIRST_TABLE_LEN
 
   -- so from a map that is in order
   abbrev pub IsMade : StoreState K V S → Running K V (Unit {0}) → Type 0
@@ -73,6 +82,9 @@ module _ {K V S : Type 0} (eq : K → K → Bool) (hash : S → K → ℕ) (s : 
           core = begin-core (hash s.store.hasher) (core_of s) 0 call begun_seat begins lawful.lawful.core;
           law = (es, (begun_tales tales 0 es, kept_begin eq (hash s.store.hasher) keys (core_of s) 0 call begun_seat begins fits es tales kept));
         };
+        own = refl;
+        slots = inl refl;
+        opens = λ t e. absurd cc;
       }
 
   -- the last of a step's entries is its reply
@@ -81,6 +93,12 @@ module _ {K V S : Type 0} (eq : K → K → Bool) (hash : S → K → ℕ) (s : 
   last_entry event (Some told) before reply e =
       let same : told ≡ reply = cc in
       (record { turn = 1; caller = 0; event = Replied told }, with_event 1 0 event before, refl, ap Replied same)
+
+  -- the table that is about to be opened is the first one
+  opened : {store : StoreState K V S} {r : Running K V (Unit {0})} → HasCome store r → (old new : ℕ) → ask_of r.machine ≡ Exchange Root old new → (old ≡ 0) × (slots_in (table_of store.words.tables new) ≡ FIRST_TABLE_LEN)
+  opened {store} {r} made old new e =
+      let none : old ≡ 0 = opens_none r.machine.made r.machine.hash r.machine.state old new e in
+      (none, made.opens new (e ∙ ap (λ n. Exchange Root n new) none))
 
   -- one more ask is answered
   pub made_more : (store : StoreState K V S) (r : Running K V (Unit {0})) (answer : Answer) (store' : StoreState K V S) (later : Running K V (Unit {0})) → reply_in (ask_of r.machine) ≡ None → Performs eq whatever false (ask_of r.machine) store r answer store' later → later.machine ≡ r.machine → IsMade store r → IsMade store' (record later { machine = after r.machine answer })
@@ -113,8 +131,25 @@ module _ {K V S : Type 0} (eq : K → K → Bool) (hash : S → K → ℕ) (s : 
         steps = suc made.steps;
         history = with_step 1 0 event reply made.history;
         runs = (now, made.history, made.runs, inl (event, reply, advances, refl));
+        own = step.own.own ∙ ap Some step.own_key ∙ sym step.call.own ∙ made.own;
+        slots = keeps_more s.store store store' made.slots
+            (slots_step eq whatever store r answer store' later (ask_of r.machine) performs (opened made) step.grown
+            (core_root_there eq (hash s.store.hasher) (record { caller = 0; call = still r } ∷ []) s.mode store keys made.lawful));
+        opens = λ t e. elim (machine_opens r.machine answer t e) [
+          | inl old ↦
+              let (table, there) = step.call.opens t old in
+              let (table', now_there, len, limit) = step.grown t table there in
+              ap slots_in now_there ∙ len ∙ sym (ap slots_in there) ∙ made.opens t old
+          | inr (is, slots, limit, making) ↦
+              let first : slots ≡ FIRST_TABLE_LEN = makes_first r.machine.made r.machine.hash r.machine.state slots limit making in
+              made_slots eq whatever store r answer store' later slots limit t (subst (λ ask. Performs eq whatever false ask store r answer store' later) making performs) is ∙ ap (λ n. length {A = ℕ} (replicate n 0)) first
+        ];
         replied = λ told e. last_entry event reply made.history told e;
       }
+
+  -- the root table's slots then
+  pub came_slots : IsLawfulKeys eq (hash s.store.hasher) → IsLawfulMap eq (hash s.store.hasher) s.store s.mode → hash s.store.hasher (key_of_call call) < 2 ^ 64 → (store : StoreState K V S) (r : Running K V (Unit {0})) → IsMade store r → KeepsSlots s.store store
+  came_slots keys lawful fits store r came = (came keys lawful fits).slots
 
   -- the call has replied: it was made alone
   pub made_alone : IsLawfulKeys eq (hash s.store.hasher) → IsLawfulMap eq (hash s.store.hasher) s.store s.mode → hash s.store.hasher (key_of_call call) < 2 ^ 64 → (store : StoreState K V S) (r : Running K V (Unit {0})) (reply : Reply) → ask_of r.machine ≡ Ask_done reply → IsMade store r → RunsAlone eq hash (core_of s) call reply (seated store None s.mode s.initial)

@@ -1,5 +1,5 @@
 -- Calls that are handed in as values, one after the other.
-use Rattle.std.specs.Prelude.{◌≡◌, ◌⊎◌, ℕ, Bool, true, false, Option, Some, List, [], ◌∷◌, option_map}
+use Rattle.std.specs.Prelude.{◌≡◌, ◌⊎◌, ℕ, Bool, true, false, Option, Some, None, List, [], ◌∷◌, option_map}
 use Rattle.papaya_words.specs.declared.probe.Refused as words
 use Rattle.papaya_words.specs.declared.probe.Refused.TheVariants as refusals
 use Rattle.papaya_call.specs.Answers.{Says}
@@ -8,11 +8,11 @@ use Rattle.papaya_call.specs.declared.answers.Operation.TheVariants as ops
 use Rattle.papaya_call.specs.declared.call.Call.{Call}
 use Rattle.papaya_call.specs.declared.call.Call.TheVariants.{Get, Insert, TryInsert, RemoveIf, Compute}
 use Rattle.papaya_call.specs.declared.call.Reply.{Reply}
-use Rattle.papaya_call.specs.declared.call.Reply.TheVariants.{Absent, Found, Inserted, Replaced, Occupied, Removed, Kept, Aborted, Refused}
+use Rattle.papaya_call.specs.declared.call.Reply.TheVariants.{Inserted, Replaced, Removed, Kept, Aborted, Refused}
 use Rattle.papaya_core.specs.Content.{map_in}
 use Rattle.papaya_core.specs.Solo.{IsAnswered, IsNewIn}
 use Rattle.papaya_core.specs.Store.{StoreState, Stored, pair_of}
-use Rattle.papaya_seq.specs.Map.{IsCause, Keeps, MapState, entry_of, next_of}
+use Rattle.papaya_seq.specs.Map.{IsCause, IsCauseAt, Keeps, MapState, entry_of, next_of}
 
 -- what the closure's answers give of the pair of this number
 abbrev pub Gives : {K V S A : Type 0} → Says K V A → A → StoreState K V S → ℕ → Bool → Type 0
@@ -49,13 +49,13 @@ IsSaid eq says (RemoveIf k a) s reply s' = IsJudged says a reply s
 IsSaid eq says (Compute k a) s reply s' = IsOperated says a (map_in eq s k) s' reply
 IsSaid eq says _ s reply s' = Unit {0}
 
--- A lookup is never refused, an insertion for a cause, a removal only while the root table has a next one, and a compute as an insertion, or where its closure would remove what isn't there.
-abbrev pub MayRefuse : {K V S A : Type 0} → (K → ℕ) → StoreState K V S → Call K V A → words.Refused → Type 0
-MayRefuse hash s (Get k) refused = ⊥
-MayRefuse hash s (Insert k v) refused = IsCause (hash k) s refused
-MayRefuse hash s (TryInsert k v) refused = IsCause (hash k) s refused
-MayRefuse hash s (RemoveIf k a) refused = next_of s ≡ 0 → ⊥
-MayRefuse hash s (Compute k a) refused = IsCause (hash k) s refused ⊎ (refused ≡ refusals.RemoveNothing)
+-- A lookup is never refused, an insertion for a cause, and one that replaces nothing only where its key is absent, a removal only while the root table has a next one, and a compute as an insertion, or where its closure would remove what isn't there.
+abbrev pub MayRefuse : {K V S A : Type 0} → (K → K → Bool) → (K → ℕ) → StoreState K V S → Call K V A → words.Refused → Type 0
+MayRefuse eq hash s (Get k) refused = ⊥
+MayRefuse eq hash s (Insert k v) refused = IsCauseAt (hash k) s (map_in eq s k) refused
+MayRefuse eq hash s (TryInsert k v) refused = (map_in eq s k ≡ None) × IsCause (hash k) s refused
+MayRefuse eq hash s (RemoveIf k a) refused = next_of s ≡ 0 → ⊥
+MayRefuse eq hash s (Compute k a) refused = IsCause (hash k) s refused ⊎ (refused ≡ refusals.RemoveNothing)
 
 module _ {K V S A : Type 0} (eq : K → K → Bool) (hash : S → K → ℕ) (says : Says K V A) where
   -- a call does what the finite map does, or is refused where it may be
@@ -63,7 +63,7 @@ module _ {K V S A : Type 0} (eq : K → K → Bool) (hash : S → K → ℕ) (sa
     pub answered : IsAnswered eq call (map_in eq s.store) reply (map_in eq s'.store)
     pub fresh : IsNewIn s.store reply
     pub said : IsSaid eq says call s.store reply s'.store
-    pub cause : (refused : words.Refused) → reply ≡ Refused refused → MayRefuse (hash s.store.hasher) s.store call refused
+    pub cause : (refused : words.Refused) → reply ≡ Refused refused → MayRefuse eq (hash s.store.hasher) s.store call refused
     pub keeps : Keeps s s'
 
   -- one reply a call

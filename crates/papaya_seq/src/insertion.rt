@@ -1,10 +1,10 @@
 //! Insertions: their machine, answered by the store.
-ghost use Rattle.std.specs.Prelude.{◌≡◌, ℕ, Bool, Option, Some, None, cond};
+ghost use Rattle.std.specs.Prelude.{◌≡◌, ℕ, Bool, false, Option, Some, None, cond};
 ghost use Rattle.papaya_words.specs.declared.probe.Refused.{Refused};
 ghost use Rattle.papaya_core.specs.Content.{map_in};
 ghost use Rattle.papaya_core.specs.Solo.{IsAnswered, IsNewIn};
 ghost use Rattle.papaya_keys.specs.Hashes.{hash_of};
-ghost use Rattle.papaya_seq.specs.Map.{IsCause, Keeps, insertion};
+ghost use Rattle.papaya_seq.specs.Map.{IsCause, IsCauseAt, Keeps, insertion};
 
 use crate::seq::HashMap;
 use papaya_call::answers::Listed;
@@ -27,7 +27,8 @@ impl<K: Hash + Eq + Drop, V: Drop, S: BuildHasher> HashMap<K, V, S> {
     pub(crate) fn insert_by(&mut self, key: K, value: V, replace: bool) -> (Reply, Option<V>)
         ensures answers { IsAnswered K.eq (insertion replace key value) (map_in K.eq self.old.store) result.0 (map_in K.eq self.new.store) }
         ensures fresh { IsNewIn self.old.store result.0 }
-        ensures cause { (refused : Refused) → result.0 ≡ Reply.Refused refused → IsCause (hash_of K.hash_input S.build_hasher S.Hasher.write S.Hasher.finish self.old.store.hasher key) self.old.store refused }
+        ensures cause { (refused : Refused) → result.0 ≡ Reply.Refused refused → IsCauseAt (hash_of K.hash_input S.build_hasher S.Hasher.write S.Hasher.finish self.old.store.hasher key) self.old.store (map_in K.eq self.old.store key) refused }
+        ensures absent { replace ≡ false → (refused : Refused) → result.0 ≡ Reply.Refused refused → (map_in K.eq self.old.store key ≡ None) × IsCause (hash_of K.hash_input S.build_hasher S.Hasher.write S.Hasher.finish self.old.store.hasher key) self.old.store refused }
         ensures left { (n : ℕ) → result.0 ≡ Reply.Occupied n → result.1 ≡ Some value }
         ensures keeps { Keeps self.old self.new }
     {

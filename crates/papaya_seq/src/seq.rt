@@ -17,7 +17,7 @@ ghost use Rattle.papaya_seq.specs.Computes.{tried_answered};
 ghost use Rattle.papaya_seq.specs.Computing.{reply_of};
 ghost use Rattle.papaya_seq.specs.Looks.{LooksUp};
 ghost use Rattle.papaya_seq.specs.Removes.{IsJudged, Judges};
-ghost use Rattle.papaya_seq.specs.Map.{HasNone, HasValue, Holds, IsCause, IsInserted, IsRemoved, IsTried, IsTriedInto, core_of, deref_pair, next_of, slots_of, value_of, entry_of};
+ghost use Rattle.papaya_seq.specs.Map.{HasNone, HasValue, Holds, IsCause, IsCauseAt, IsInserted, IsRemoved, IsTried, IsTriedInto, core_of, deref_pair, next_of, slots_of, value_of, entry_of};
 
 use papaya_call::answers::Answers;
 use papaya_call::call::{Call, Reply};
@@ -262,12 +262,12 @@ impl<K: Hash + Eq + Drop, V: Drop, S: BuildHasher> HashMap<K, V, S> {
     /// key takes the old one's place too.
     ///
     /// `Refused::Memory` where a growth was refused. `Refused::Capacity` where the log of keys or of
-    /// pairs is full, and where the key has no place left in the table. The map is as it was then,
-    /// and what was handed in is dropped, at once or with the map.
+    /// pairs is full, and where the key is absent and has no place left in the table. The map is as
+    /// it was then, and what was handed in is dropped, at once or with the map.
     pub fn insert(&mut self, key: K, value: V) -> Result<Option<&V>, Refused>
         ensures* inserts { sem 𝓛 (ends_so K.row V.row S.row S.Hasher.row K.Hash S.BuildHasher S.Hasher.Hasher self.entry (IsInserted K.eq (hash_of K.hash_input S.build_hasher S.Hasher.write S.Hasher.finish self.old.store.hasher key) key value self.old (old_answered result))) }
         ensures old { IfOk result (λ old. option_map (λ v. v.now) old ≡ value_of (map_in K.eq self.old.store key)) }
-        ensures err { IfErr result (IsCause (hash_of K.hash_input S.build_hasher S.Hasher.write S.Hasher.finish self.old.store.hasher key) self.old.store) }
+        ensures err { IfErr result (IsCauseAt (hash_of K.hash_input S.build_hasher S.Hasher.write S.Hasher.finish self.old.store.hasher key) self.old.store (map_in K.eq self.old.store key)) }
     {
         let (reply, _) = self.insert_by(key, value, true);
         match reply {
@@ -281,7 +281,7 @@ impl<K: Hash + Eq + Drop, V: Drop, S: BuildHasher> HashMap<K, V, S> {
     /// value that was handed in, where the key was in the map and it was not stored.
     ///
     /// It is [`HashMap::try_insert`] with a number in place of a reference. Refused as
-    /// [`HashMap::insert`].
+    /// [`HashMap::insert`], and only where the key is absent.
     pub fn insert_absent(&mut self, key: K, value: V) -> Result<(u64, Option<V>), Refused>
         ensures { IsTried K.eq (hash_of K.hash_input S.build_hasher S.Hasher.write S.Hasher.finish self.old.store.hasher key) key value self.old result self.new }
     {
@@ -295,7 +295,8 @@ impl<K: Hash + Eq + Drop, V: Drop, S: BuildHasher> HashMap<K, V, S> {
     }
 
     /// [`HashMap::try_insert`] which leaves the value that was handed in in `left`, where the key is in
-    /// the map. So its answer owns nothing, and its clause says what the map is after it.
+    /// the map. So its answer owns nothing, and its clause says what the map is after it. Refused as
+    /// it is.
     pub fn try_insert_into(
         &mut self,
         key: K,
@@ -305,7 +306,7 @@ impl<K: Hash + Eq + Drop, V: Drop, S: BuildHasher> HashMap<K, V, S> {
         ensures* tries { sem 𝓛 (ends_so K.row V.row S.row S.Hasher.row K.Hash S.BuildHasher S.Hasher.Hasher self.entry (IsTriedInto K.eq (hash_of K.hash_input S.build_hasher S.Hasher.write S.Hasher.finish self.old.store.hasher key) key value self.old (tried_answered result) left.old left.new)) }
         ensures stored { IfOk result (λ tried. IfOk tried (λ v. (v.now ≡ value) × (map_in K.eq self.old.store key ≡ None))) }
         ensures occupied { IfOk result (λ tried. IfErr tried (λ v. (value_of (map_in K.eq self.old.store key) ≡ Some v.now) × (left.new ≡ Some value))) }
-        ensures err { IfErr result (IsCause (hash_of K.hash_input S.build_hasher S.Hasher.write S.Hasher.finish self.old.store.hasher key) self.old.store) }
+        ensures err { IfErr result (λ refused. (map_in K.eq self.old.store key ≡ None) × IsCause (hash_of K.hash_input S.build_hasher S.Hasher.write S.Hasher.finish self.old.store.hasher key) self.old.store refused) }
     {
         let (pair, unstored) = self.insert_absent(key, value)?;
         match unstored {
@@ -321,7 +322,8 @@ impl<K: Hash + Eq + Drop, V: Drop, S: BuildHasher> HashMap<K, V, S> {
     /// the key is in the map, what is there stays, and the value that was handed in is given back.
     ///
     /// It is [`HashMap::try_insert_into`], which says what the map is after it. No clause says it
-    /// here, since the answer may own a value. Refused as [`HashMap::insert`].
+    /// here, since the answer may own a value. Refused as [`HashMap::insert`], and only where the key
+    /// is absent.
     pub fn try_insert(
         &mut self,
         key: K,
@@ -329,7 +331,7 @@ impl<K: Hash + Eq + Drop, V: Drop, S: BuildHasher> HashMap<K, V, S> {
     ) -> Result<Result<&V, OccupiedError<'_, V>>, Refused>
         ensures stored { IfOk result (λ tried. IfOk tried (λ v. (v.now ≡ value) × (map_in K.eq self.old.store key ≡ None))) }
         ensures occupied { IfOk result (λ tried. IfErr tried (λ e. (value_of (map_in K.eq self.old.store key) ≡ Some e.current.now) × (e.not_inserted ≡ NotInserted.Value value))) }
-        ensures err { IfErr result (IsCause (hash_of K.hash_input S.build_hasher S.Hasher.write S.Hasher.finish self.old.store.hasher key) self.old.store) }
+        ensures err { IfErr result (λ refused. (map_in K.eq self.old.store key ≡ None) × IsCause (hash_of K.hash_input S.build_hasher S.Hasher.write S.Hasher.finish self.old.store.hasher key) self.old.store refused) }
     {
         let mut left = None;
         match self.try_insert_into(key, value, &mut left)? {
@@ -346,11 +348,11 @@ impl<K: Hash + Eq + Drop, V: Drop, S: BuildHasher> HashMap<K, V, S> {
 
     /// The value of a key, which is stored where the key is absent: `get_or_insert` of 0.2.5.
     ///
-    /// Refused as [`HashMap::insert`].
+    /// Refused as [`HashMap::insert`], and only where the key is absent.
     pub fn get_or_insert(&mut self, key: K, value: V) -> Result<&V, Refused>
         ensures* inserts { sem 𝓛 (ends_so K.row V.row S.row S.Hasher.row K.Hash S.BuildHasher S.Hasher.Hasher self.entry (HasValue K.eq (hash_of K.hash_input S.build_hasher S.Hasher.write S.Hasher.finish self.old.store.hasher key) key value self.old (value_answered result))) }
         ensures value { IfOk result (λ v. MatchOption (value_of (map_in K.eq self.old.store key)) (v.now ≡ value) (λ current. v.now ≡ current)) }
-        ensures err { IfErr result (IsCause (hash_of K.hash_input S.build_hasher S.Hasher.write S.Hasher.finish self.old.store.hasher key) self.old.store) }
+        ensures err { IfErr result (λ refused. (map_in K.eq self.old.store key ≡ None) × IsCause (hash_of K.hash_input S.build_hasher S.Hasher.write S.Hasher.finish self.old.store.hasher key) self.old.store refused) }
     {
         let (pair, _) = self.insert_absent(key, value)?;
         Ok(self.logged(pair))

@@ -1,4 +1,4 @@
-use Rattle.std.proofs.Common.{rules, ◌≡◌, ℕ, Bool, Option, None, Some, option_map, refl, sym, ◌∙◌, subst}
+use Rattle.std.proofs.Common.{rules, ◌≡◌, ℕ, Bool, Option, None, Some, option_map, inl, refl, sym, ◌∙◌, subst}
 use Rattle.papaya_law.specs.Content.{AreApart}
 use Rattle.papaya_words.specs.Table.{TableWords}
 use Rattle.papaya_core.specs.Content.{content}
@@ -50,7 +50,7 @@ returns-in-Some g c =
       fresh = tt;
       said = tt;
       cause = λ refused e. let f : Found c.in-Some.pair ≡ Refused refused = e in absurd cc;
-      keeps = record { hasher = refl; mode = refl; initial = refl; pairs = λ n p e. e };
+      keeps = record { hasher = refl; mode = refl; initial = refl; pairs = λ n p e. e; slots = inl refl };
     })
 
 pub returns-in-Get : goal.returns-in-Get
@@ -64,7 +64,7 @@ returns-in-Get g c =
       fresh = tt;
       said = tt;
       cause = λ refused e. let f : Absent ≡ Refused refused = e in absurd cc;
-      keeps = record { hasher = refl; mode = refl; initial = refl; pairs = λ n p e. e };
+      keeps = record { hasher = refl; mode = refl; initial = refl; pairs = λ n p e. e; slots = inl refl };
     })
 
 pub returns-in-RemoveIf : goal.returns-in-RemoveIf

@@ -18,7 +18,7 @@ use Rattle.papaya_seq.specs.Map.{IsLawfulMap, Keeps, MapState}
 use Rattle.papaya_seq.proofs.Alone.{map_answered, map_hasher, map_lawful, map_logged}
 use Rattle.papaya_seq.proofs.ComputeAsked.{closure_none, closure_pair, entry_are, none_are, none_fit, none_more, none_nears, pair_fit, pair_more, pair_nears}
 use Rattle.papaya_seq.proofs.ComputeReply.{replied_so, replies_so}
-use Rattle.papaya_seq.proofs.ComputeRun.{IsComputing, computing_alone, computing_begin, computing_fit, computing_more, computing_nears, did, did_end}
+use Rattle.papaya_seq.proofs.ComputeRun.{IsComputing, computing_alone, computing_begin, computing_fit, computing_more, computing_slots, computing_nears, did, did_end}
 use Rattle.papaya_seq.proofs.ComputeShown.{compute_of}
 use Rattle.papaya_seq.proofs.seq.HashMap.compute_by.Goals as goal
 use Rattle.papaya_seq.proofs.seq.HashMap.compute_by.Goals.{After-new, in-ShowNone, in-ShowPair, in_default}
@@ -147,6 +147,7 @@ returns-in-Done-clause-computes g c =
       mode = c.loop-self.invariant.1;
       initial = c.loop-self.invariant.2;
       pairs = logged.1;
+      slots = computing_slots g.K.PartialEq.eq (hash g) c.args.self.now c.args.key (post g) c.args.f (keys g c.args.self.now.store.hasher) (lawful g n) c.loop-self.self-inside.store c.loop-self.running c.in-Done.reply c.in-Done.ensures.value c.loop-self.closure c.loop-self.shown c.loop-self.aborted c.loop-self.invariant.0 (fits g n);
     } in
     replied_so g.K.PartialEq.eq g.met.K.Eq.laws (hash g c.args.self.now.store.hasher c.args.key) c.args.key (Says (post g c.args.f)) c.args.self.now later keeps d.operation c.in-Done.reply c.loop-self.aborted c.computed.result d.said end d.kept
     (map_answered g.K.PartialEq.eq g.K.Hash.hash_input g.S.BuildHasher.build_hasher g.S.Hasher.Hasher.write g.S.Hasher.Hasher.finish g.met.K.Eq.laws g.met.K.Hash.respects_eq c.args.self.now (compute_of c.args.key) c.in-Done.reply c.loop-self.self-inside.store (lawful g n) a) logged.0 c.computed.ensures

@@ -5,13 +5,15 @@ use Rattle.papaya_call.specs.declared.answers.Operation.TheVariants.{Abort}
 use Rattle.papaya_call.specs.Machine.{IsStanding, after}
 use Rattle.papaya_call.specs.declared.machine.Machine.{Machine}
 use Rattle.papaya_core.specs.declared.pairs.KeyOf.TheVariants.{Own}
-use Rattle.papaya_core.specs.Solo.{RunsAlone}
+use Rattle.papaya_core.specs.Content.{map_in}
+use Rattle.papaya_core.specs.Solo.{IsAnswered, RunsAlone}
 use Rattle.papaya_keys.specs.Hashes.{hash_of}
 use Rattle.papaya_core.proofs.KeptCore.{keys_lawful}
 use Rattle.papaya_core.proofs.KeptSettings.{IsLawfulKeys}
 use Rattle.papaya_seq.specs.Map.{IsLawfulMap, MapState, core_of, insertion}
 use Rattle.papaya_seq.proofs.Alone.{map_answered, map_hasher, map_lawful, map_logged}
-use Rattle.papaya_seq.proofs.InsertingRun.{IsInserting, inserting_alone, inserting_begin, inserting_cause, inserting_fit, inserting_left, inserting_more, inserting_nears}
+use Rattle.papaya_seq.proofs.Inserting.{cause_at}
+use Rattle.papaya_seq.proofs.InsertingRun.{IsInserting, inserting_alone, inserting_begin, inserting_cause, inserting_fit, inserting_left, inserting_more, inserting_nears, inserting_refusal, inserting_slots}
 use Rattle.papaya_seq.proofs.Steps.{seated}
 use Rattle.papaya_seq.proofs.seq.HashMap.insert_by.Goals as goal
 use Rattle.papaya_seq.proofs.seq.HashMap.insert_by.Goals.{After-answer, After-new, After-value_left}
@@ -45,7 +47,7 @@ ask-ask-requires g c = c.loop-reply.invariant.0.standing
 pub answer-requires : goal.answer-requires
 answer-requires g c = record {
   standing = subst IsStanding (sym c.perform-answer.ensures.machine) c.loop-reply.invariant.0.standing;
-  fit = inserting_fit g.K.PartialEq.eq (hash g) c.args.self.now c.args.replace c.args.key c.args.value (keys g c.args.self.now.store.hasher) (lawful g (goal.at.answer-requires g c).After-new) (record { op = λ a shown told a'. (told ≡ first_or (Abort 0) a.ops.items) × (a'.ops.items ≡ rest_of a.ops.items) × (a'.yes ≡ a.yes); yes = _ })
+  fit = inserting_fit g.K.PartialEq.eq (hash g) c.args.self.now c.args.replace c.args.key c.args.value (keys g c.args.self.now.store.hasher) (lawful g (goal.at.answer-requires g c).After-new) (fits g (goal.at.answer-requires g c).After-new) (record { op = λ a shown told a'. (told ≡ first_or (Abort 0) a.ops.items) × (a'.ops.items ≡ rest_of a.ops.items) × (a'.yes ≡ a.yes); yes = _ })
       c.loop-reply.self-inside.store c.loop-reply.running c.perform-answer.result c.perform-answer.new.self c.perform-answer.new.running c.ask-ask.result c.ask-ask.ensures.value c.in_default.not-Done c.perform-answer.ensures.performs c.perform-answer.ensures.machine c.loop-reply.invariant.0;
 }
 
@@ -56,13 +58,13 @@ answered g c = sym (c.answer.ensures.after ∙ ap (λ m. after m c.perform-answe
 pub loop-reply-smaller : goal.loop-reply-smaller
 loop-reply-smaller g c =
     subst (λ (m : Machine). left m < left c.loop-reply.running.machine) (answered g (goal.at.loop-reply-smaller g c).After-answer)
-    (inserting_nears g.K.PartialEq.eq (hash g) c.args.self.now c.args.replace c.args.key c.args.value (keys g c.args.self.now.store.hasher) (lawful g (goal.at.loop-reply-smaller g c).After-new) (record { op = λ a shown told a'. (told ≡ first_or (Abort 0) a.ops.items) × (a'.ops.items ≡ rest_of a.ops.items) × (a'.yes ≡ a.yes); yes = _ })
+    (inserting_nears g.K.PartialEq.eq (hash g) c.args.self.now c.args.replace c.args.key c.args.value (keys g c.args.self.now.store.hasher) (lawful g (goal.at.loop-reply-smaller g c).After-new) (fits g (goal.at.loop-reply-smaller g c).After-new) (record { op = λ a shown told a'. (told ≡ first_or (Abort 0) a.ops.items) × (a'.ops.items ≡ rest_of a.ops.items) × (a'.yes ≡ a.yes); yes = _ })
     c.loop-reply.self-inside.store c.loop-reply.running c.perform-answer.result c.perform-answer.new.self c.perform-answer.new.running c.ask-ask.result c.ask-ask.ensures.value c.in_default.not-Done c.perform-answer.ensures.performs c.perform-answer.ensures.machine c.loop-reply.invariant.0)
 
 pub loop-reply-preserved : goal.loop-reply-preserved
 loop-reply-preserved g c = (
   subst (λ (m : Machine). IsInserting g.K.PartialEq.eq (hash g) c.args.self.now c.args.replace c.args.key c.args.value c.perform-answer.new.self (record c.perform-answer.new.running { machine = m })) (answered g (goal.at.loop-reply-preserved g c).After-answer)
-      (inserting_more g.K.PartialEq.eq (hash g) c.args.self.now c.args.replace c.args.key c.args.value (keys g c.args.self.now.store.hasher) (lawful g (goal.at.loop-reply-preserved g c).After-new) (record { op = λ a shown told a'. (told ≡ first_or (Abort 0) a.ops.items) × (a'.ops.items ≡ rest_of a.ops.items) × (a'.yes ≡ a.yes); yes = _ })
+      (inserting_more g.K.PartialEq.eq (hash g) c.args.self.now c.args.replace c.args.key c.args.value (keys g c.args.self.now.store.hasher) (lawful g (goal.at.loop-reply-preserved g c).After-new) (fits g (goal.at.loop-reply-preserved g c).After-new) (record { op = λ a shown told a'. (told ≡ first_or (Abort 0) a.ops.items) × (a'.ops.items ≡ rest_of a.ops.items) × (a'.yes ≡ a.yes); yes = _ })
       c.loop-reply.self-inside.store c.loop-reply.running c.perform-answer.result c.perform-answer.new.self c.perform-answer.new.running c.ask-ask.result c.ask-ask.ensures.value c.in_default.not-Done c.perform-answer.ensures.performs c.perform-answer.ensures.machine c.loop-reply.invariant.0),
   c.loop-reply.invariant.1,
   c.loop-reply.invariant.2,
@@ -94,9 +96,25 @@ returns-in-Done-clause-fresh g c =
     (map_logged g.K.PartialEq.eq g.K.Hash.hash_input g.S.BuildHasher.build_hasher g.S.Hasher.Hasher.write g.S.Hasher.Hasher.finish g.met.K.Eq.laws g.met.K.Hash.respects_eq c.args.self.now (insertion c.args.replace c.args.key c.args.value) c.in-Done.reply c.loop-reply.self-inside.store (lawful g n) a).0
 
 pub returns-in-Done-clause-cause : goal.returns-in-Done-clause-cause
-returns-in-Done-clause-cause g c =
-    inserting_cause g.K.PartialEq.eq (hash g) c.args.self.now c.args.replace c.args.key c.args.value (keys g c.args.self.now.store.hasher) (lawful g (goal.at.returns-in-Done-clause-cause g c).After-new)
-    c.loop-reply.self-inside.store c.loop-reply.running c.in-Done.reply c.in-Done.ensures.value c.loop-reply.invariant.0
+returns-in-Done-clause-cause g c = λ refused e.
+    let n = (goal.at.returns-in-Done-clause-cause g c).After-new in
+    let a = alone g (goal.at.returns-in-Done-clause-cause g c).After-value_left (lawful g n) (fits g n) in
+    let answered = subst (λ r. IsAnswered g.K.PartialEq.eq (insertion c.args.replace c.args.key c.args.value) (map_in g.K.PartialEq.eq c.args.self.now.store) r (map_in g.K.PartialEq.eq c.loop-reply.self-inside.store)) e
+    (map_answered g.K.PartialEq.eq g.K.Hash.hash_input g.S.BuildHasher.build_hasher g.S.Hasher.Hasher.write g.S.Hasher.Hasher.finish g.met.K.Eq.laws g.met.K.Hash.respects_eq c.args.self.now (insertion c.args.replace c.args.key c.args.value) c.in-Done.reply c.loop-reply.self-inside.store (lawful g n) a) in
+    cause_at g.K.PartialEq.eq c.args.self.now.store c.args.key c.args.replace (hash g c.args.self.now.store.hasher c.args.key) c.loop-reply.self-inside.store refused answered.0
+    (inserting_refusal g.K.PartialEq.eq (hash g) c.args.self.now c.args.replace c.args.key c.args.value (keys g c.args.self.now.store.hasher) (lawful g n) c.loop-reply.self-inside.store c.loop-reply.running c.in-Done.reply c.in-Done.ensures.value c.loop-reply.invariant.0 refused e)
+    (inserting_cause g.K.PartialEq.eq (hash g) c.args.self.now c.args.replace c.args.key c.args.value (keys g c.args.self.now.store.hasher) (lawful g n) c.loop-reply.self-inside.store c.loop-reply.running c.in-Done.reply c.in-Done.ensures.value c.loop-reply.invariant.0 refused e)
+
+pub returns-in-Done-clause-absent : goal.returns-in-Done-clause-absent
+returns-in-Done-clause-absent g c = λ only refused e.
+    let n = (goal.at.returns-in-Done-clause-absent g c).After-new in
+    let a = alone g (goal.at.returns-in-Done-clause-absent g c).After-value_left (lawful g n) (fits g n) in
+    let answered = subst (λ r. IsAnswered g.K.PartialEq.eq (insertion c.args.replace c.args.key c.args.value) (map_in g.K.PartialEq.eq c.args.self.now.store) r (map_in g.K.PartialEq.eq c.loop-reply.self-inside.store)) e
+    (map_answered g.K.PartialEq.eq g.K.Hash.hash_input g.S.BuildHasher.build_hasher g.S.Hasher.Hasher.write g.S.Hasher.Hasher.finish g.met.K.Eq.laws g.met.K.Hash.respects_eq c.args.self.now (insertion c.args.replace c.args.key c.args.value) c.in-Done.reply c.loop-reply.self-inside.store (lawful g n) a) in
+    let refusal = inserting_refusal g.K.PartialEq.eq (hash g) c.args.self.now c.args.replace c.args.key c.args.value (keys g c.args.self.now.store.hasher) (lawful g n) c.loop-reply.self-inside.store c.loop-reply.running c.in-Done.reply c.in-Done.ensures.value c.loop-reply.invariant.0 refused e in (
+      sym (answered.0 c.args.key) ∙ refusal.alone only,
+      inserting_cause g.K.PartialEq.eq (hash g) c.args.self.now c.args.replace c.args.key c.args.value (keys g c.args.self.now.store.hasher) (lawful g n) c.loop-reply.self-inside.store c.loop-reply.running c.in-Done.reply c.in-Done.ensures.value c.loop-reply.invariant.0 refused e,
+    )
 
 pub returns-in-Done-clause-left : goal.returns-in-Done-clause-left
 returns-in-Done-clause-left g c = λ n e.
@@ -113,4 +131,5 @@ returns-in-Done-clause-keeps g c =
       mode = c.loop-reply.invariant.1;
       initial = c.loop-reply.invariant.2;
       pairs = (map_logged g.K.PartialEq.eq g.K.Hash.hash_input g.S.BuildHasher.build_hasher g.S.Hasher.Hasher.write g.S.Hasher.Hasher.finish g.met.K.Eq.laws g.met.K.Hash.respects_eq c.args.self.now (insertion c.args.replace c.args.key c.args.value) c.in-Done.reply c.loop-reply.self-inside.store (lawful g n) a).1;
+      slots = inserting_slots g.K.PartialEq.eq (hash g) c.args.self.now c.args.replace c.args.key c.args.value (keys g c.args.self.now.store.hasher) (lawful g n) c.loop-reply.self-inside.store c.loop-reply.running c.in-Done.reply c.in-Done.ensures.value c.loop-reply.invariant.0 (fits g n);
     }

@@ -1,4 +1,4 @@
-use Rattle.std.proofs.Common.{◌≡◌, ⊎_elim, ℕ, ◌<◌, ◌^◌, ℤ, negsuc, fold, None, ◌+ℤ◌, Bool, Option, rules, sym, ◌∙◌, ap, subst}
+use Rattle.std.proofs.Common.{◌≡◌, ⊎_elim, ℕ, ◌<◌, ◌^◌, ℤ, negsuc, fold, inl, None, ◌+ℤ◌, Bool, Option, rules, sym, ◌∙◌, ap, subst}
 use denote.Ref.{Bor}
 use Rattle.std.specs.Fn.{Mut}
 use mir.Val.{SFits}
@@ -17,13 +17,13 @@ use Rattle.papaya_keys.specs.Hashes.{hash_of}
 use Rattle.papaya_core.specs.Tables.{Tables}
 use Rattle.papaya_core.proofs.KeptCore.{keys_lawful}
 use Rattle.papaya_core.proofs.SoloLaw.{alone_answered, alone_lawful}
-use Rattle.papaya_seq.specs.Map.{IsLawfulMap, MapState, core_of}
+use Rattle.papaya_seq.specs.Map.{IsLawfulMap, MapState, core_of, slots_of}
 use Rattle.papaya_seq.specs.Removes.{IsShown, Judges}
 use Rattle.papaya_seq.proofs.Lawful.{IsMatched, MatchesNone, bare, decided, single, sized}
 use Rattle.papaya_seq.proofs.Removing.{IsAnswer, IsEnd, open_kind, removal_by}
 use Rattle.papaya_seq.proofs.RemovalReply.{removal_done, removal_none}
 use Rattle.papaya_seq.proofs.Steps.{seated}
-use Rattle.papaya_seq.proofs.RemovalRun.{IsUnderWay, alone, counts_out, ends, judged_reply, log_kept, next_turn, under_way, under_way_more, unmet}
+use Rattle.papaya_seq.proofs.RemovalRun.{IsUnderWay, alone, counts_out, ends, judged_reply, log_kept, next_turn, removal_slots, under_way, under_way_more, unmet}
 use Rattle.papaya_seq.proofs.RemovalTurns.{IsFound}
 use Rattle.papaya_seq.proofs.Words.{rooted, uncopied, unmarked}
 use Rattle.papaya_seq.proofs.seq.HashMap.remove_by.Goals as goal
@@ -208,4 +208,13 @@ returns-in-Done-clause-keeps g c =
       mode = c.loop-at.invariant.2;
       initial = c.loop-at.invariant.3;
       pairs = λ n p e. log_kept g.F.FnMut g.K.PartialEq.eq hash matches c.hash-hash.result c.args.self.now c.args.agrees c.loop-at.self-inside.store c.loop-at.agrees c.loop-at.machine c.loop-at.invariant.4 c.in-Done.reply (ends_with g c) n ∙ e;
+      slots = ⊎_elim
+          (λ (m : IsMatched c.args.self.now.store matches).
+          removal_slots g.F.FnMut g.K.PartialEq.eq hash matches c.hash-hash.result c.args.self.now c.args.agrees c.loop-at.self-inside.store c.loop-at.agrees c.loop-at.machine c.loop-at.invariant.4 c.in-Done.reply (ends_with g c)
+          (keys_lawful g.K.PartialEq.eq g.K.Hash.hash_input g.S.BuildHasher.build_hasher g.S.Hasher.Hasher.write g.S.Hasher.Hasher.finish g.met.K.Eq.laws g.met.K.Hash.respects_eq c.args.self.now.store.hasher)
+          (lawful g (goal.at.returns-in-Done-clause-keeps g c).After-new-machine) m.pair.key (alike g c m) (hashed g c m) (subst (λ n. n < 2 ^ 64) (sym (hashed g c m)) c.hash-hash.ensures.fits))
+          (λ (none : MatchesNone c.args.self.now.store matches).
+          let nothing = unmet g.F.FnMut g.K.PartialEq.eq hash matches c.hash-hash.result c.args.self.now c.args.agrees c.loop-at.self-inside.store c.loop-at.agrees c.loop-at.machine c.loop-at.invariant.4 c.in-Done.reply (ends_with g c) none in
+          inl (ap (λ (y : StoreState g.row.K.Denot g.row.V.Denot g.row.S.Denot). slots_of y) nothing.1))
+          (decided c.args.self.now.store matches);
     }
