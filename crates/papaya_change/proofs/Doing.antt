@@ -252,9 +252,9 @@ module _ {K V S H : Type 0} {d : keyed.Ghosts S K H} where
   left_alone _ counts asked e answer w = absurd counts
 
   -- An exchange was tried, and where it was made the call is told so.
-  pub tried : (b : Bool) (answer : Answer) {P Q : Type 0} (found : ℕ) → MatchBool b ((answer ≡ Exchanged) × P) ((answer ≡ Found_instead found) × Q) → (w w' : Window K V S H d) → Does b w w' → Does (was_made answer) w w'
-  tried true answer found h w w' does = rw h.0 does
-  tried false answer found h w w' does = rw h.0 does
+  pub tried : (b : Bool) (answer : Answer) (P Q : Type 0) (found : ℕ) → MatchBool b ((answer ≡ Exchanged) × P) ((answer ≡ Found_instead found) × Q) → (w w' : Window K V S H d) → Does b w w' → Does (was_made answer) w w'
+  tried true answer P Q found h w w' does = rw h.0 does
+  tried false answer P Q found h w w' does = rw h.0 does
 
   -- what the call did goes on
   pub does_on : (m : Machine) (answer : Answer) (a w w' : Window K V S H d) → Does (has_changed m) a w → Answers (ask_of m) (Some answer) w w' → Does (has_changed (after m answer)) a w'
@@ -291,10 +291,10 @@ module _ {K V S : Type 0} (eq : K → K → Bool) (begun log : List (Event K V S
   pub same_last : changes_by (last_in (steps_of log)) ≡ last_in (history_of log)
   same_last = last_made ∙ sym last_history
 
-module _ {K V S H : Type 0} {d : keyed.Ghosts S K H} (eq : K → K → Bool) (begun : List (Event K V S)) (taken put : Option (Stored K V)) where
-  changes_split : (xs ys : List (Step K V)) → changes_by (xs ++ ys) ≡ changes_by xs ++ changes_by ys
-  changes_split xs ys = ap (changes_of key_of) (map-append exchange_of xs ys) ∙ changes-append key_of (map exchange_of xs) (map exchange_of ys)
+changes_split : {K V : Type 0} (xs ys : List (Step K V)) → changes_by (xs ++ ys) ≡ changes_by xs ++ changes_by ys
+changes_split xs ys = ap (changes_of key_of) (map-append exchange_of xs ys) ∙ changes-append key_of (map exchange_of xs) (map exchange_of ys)
 
+module _ {K V S H : Type 0} {d : keyed.Ghosts S K H} (eq : K → K → Bool) (begun : List (Event K V S)) (taken put : Option (Stored K V)) where
   makes_as : (o : Option (Option ℕ × Option ℕ)) (a w : Window K V S H d) → ((change : Option ℕ × Option ℕ) → o ≡ Some change → HasChanged eq begun w.sight.log taken put change) → Does (is_some o) a w → Makes (is_some o) (own a) (own w) (past w)
   makes_as None a w h does = ap changes_by does ∙ changes_split a.own.done []
   makes_as (Some change) a w h does = ap changes_by does ∙ (changes_split a.own.done (last_in (steps_of w.sight.log)) ∙ ap (λ (cs : List (Change K (Stored K V))). own a ++ cs) (same_last eq begun w.sight.log taken put change (h change refl)))
