@@ -9,6 +9,7 @@ pub mod Rule
 pub mod Plays
 pub mod Makers
 pub mod Trade
+pub mod Own
 pub mod Parts
 pub mod Calls
 -- the same by the keys of the map and the book

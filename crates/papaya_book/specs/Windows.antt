@@ -1,5 +1,5 @@
 -- What a call sees of a map, and what a step adds to it.
-use Rattle.std.specs.Prelude.{◌≡◌, ℕ, Option, Some}
+use Rattle.std.specs.Prelude.{◌≡◌, ℕ, Bool, Option, Some, ◌++◌}
 use mathlib.Core.List.{IsPrefix}
 use denote.Bor.{Bor}
 use Rattle.boxcar.specs.Table.{Where}
@@ -9,8 +9,9 @@ use Rattle.papaya_book.specs.declared.rule.entry.Named.{Named}
 use Rattle.papaya_book.specs.declared.window.Window.{Window}
 use Rattle.papaya_book.specs.Books as books
 use Rattle.papaya_book.specs.Calls as calls
-use Rattle.papaya_book.specs.Logs.{Stored}
+use Rattle.papaya_book.specs.Logs.{Stored, steps_of}
 use Rattle.papaya_book.specs.Makers as makers
+use Rattle.papaya_book.specs.Own.{last_if}
 use Rattle.papaya_book.specs.Sheets.{Sheet}
 
 module _ {K V S H : Type 0} {d : keyed.Ghosts S K H} where
@@ -18,6 +19,10 @@ module _ {K V S H : Type 0} {d : keyed.Ghosts S K H} where
   pub record Sees (old new : Window K V S H d) : Type 0 where
     pub book : new.book ≡ old.book
     pub log : IsPrefix old.sight.log new.sight.log
+
+  -- Of slots, where so told, one exchange was made through it: the last that is seen then. Else none was.
+  abbrev pub Does : Bool → (old new : Window K V S H d) → Type 0
+  Does exchanged old new = new.own.done ≡ old.own.done ++ last_if exchanged (steps_of new.sight.log)
 
   -- the rule of the book holds of what is seen
   abbrev pub IsLawful : Window K V S H d → Type 0

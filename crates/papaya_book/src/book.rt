@@ -65,7 +65,7 @@ impl<K: Hash + Eq, V, S: BuildHasher> Book<K, V, S> {
     }
 
     /// One atomic exchange with which nothing comes: the word found there.
-    pub fn exchange(
+    pub(crate) fn exchange(
         &self,
         word: &Cell<K, V, S>,
         wish: &Wish,
@@ -91,7 +91,7 @@ impl<K: Hash + Eq, V, S: BuildHasher> Book<K, V, S> {
     }
 
     /// One atomic exchange with which the pair comes that the call has made: the word found there.
-    pub fn put(
+    pub(crate) fn put(
         &self,
         word: &Cell<K, V, S>,
         wish: &Put<K, V>,

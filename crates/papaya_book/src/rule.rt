@@ -2,6 +2,7 @@
 
 pub mod entry;
 pub mod law;
+pub mod own;
 pub mod steps;
 pub mod token;
 pub mod trade;

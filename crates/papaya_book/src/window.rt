@@ -4,7 +4,8 @@ ghost use Rattle.papaya_book.specs.Keys.{IsLawful as AreLawful};
 
 use crate::book::Book;
 use crate::keyed::Keyed;
-use crate::rule::entry::Stored;
+use crate::rule::entry::{Step, Stored};
+use crate::rule::own::{Own, with_last};
 use crate::rule::trade::Sight;
 use crate::table::Table;
 use boxcar::Pushed;
@@ -15,32 +16,40 @@ use std::alloc::Global;
 use std::hash::{BuildHasher, Hash};
 use std::sync::Wait;
 
-/// The book that a call works on, and what it has seen of that book's log.
+/// The book that a call works on, what it has seen of that book's log, and the exchanges of slots
+/// that it made itself: only through a window can others exchange a slot.
 #[derive(Drop)]
 pub struct Window<'a, K: Hash + Eq, V, S: Keyed<K>> {
     pub book: &'a Book<K, V, S>,
     pub sight: Sight<K, V, S>,
+    pub own: Own<Step<K, V>>,
     ghost same_book: { sight.book ≡ book.now.begun.book },
     ghost keyed: { AreLawful S.keys },
 }
 
 impl<'a, K: Hash + Eq, V, S: BuildHasher> Window<'a, K, V, S> {
-    ghost use Rattle.std.specs.Prelude.{◌⊎◌, ◌<◌, IfErr, IfOk, length};
+    ghost use Rattle.std.specs.Prelude.{◌⊎◌, ◌<◌, ◌==◌, Bool, IfErr, IfOk, length};
     ghost use Rattle.papaya_call.specs.Search.{IsSize};
     ghost use Rattle.papaya_book.specs.Books.{IsLeft, Seals, root_then};
-    ghost use Rattle.papaya_book.specs.Windows.{CanPutSlot, CanTrySlot, IsIn, IsLawful, IsMade, IsNext, IsRoot, IsSlot, IsTable, Opens, PutsSlot, Sees, TriesSlot};
+    ghost use Rattle.papaya_book.specs.Windows.{CanPutSlot, CanTrySlot, Does, IsIn, IsLawful, IsMade, IsNext, IsRoot, IsSlot, IsTable, Opens, PutsSlot, Sees, TriesSlot};
     ghost use Rattle.papaya_book.specs.declared.rule.entry.Named.TheVariants.{Pair as PairNamed, Table as TableNamed};
 
-    /// What one who has seen so much sees of the book.
+    /// What one who has seen so much, and made these exchanges, sees of the book.
     #[inline(always)]
-    pub fn new(book: &'a Book<K, V, S>, sight: &Sight<K, V, S>) -> Window<'a, K, V, S>
+    pub fn new(
+        book: &'a Book<K, V, S>,
+        sight: &Sight<K, V, S>,
+        own: &Own<Step<K, V>>,
+    ) -> Window<'a, K, V, S>
         requires { sight.now.book ≡ book.now.begun.book }
         ensures book { result.book ≡ book.entry }
         ensures sight { result.sight ≡ sight.now }
+        ensures own { result.own.done ≡ own.now.done }
     {
         Window {
             book,
             sight: sight.again(),
+            own: own.again(),
         }
     }
 
@@ -49,6 +58,7 @@ impl<'a, K: Hash + Eq, V, S: BuildHasher> Window<'a, K, V, S> {
     pub fn learn(&mut self)
         ensures sees { Sees self.old self.new }
         ensures lawful { IsLawful self.new }
+        ensures own { self.new.own ≡ self.old.own }
     {
         self.book.learn(&mut self.sight);
     }
@@ -58,6 +68,7 @@ impl<'a, K: Hash + Eq, V, S: BuildHasher> Window<'a, K, V, S> {
     pub fn root(&mut self) -> (u64, Option<&'a Table<K, V, S>>)
         ensures sees { Sees self.old self.new }
         ensures root { IsRoot self.old self.new result.0 result.1 }
+        ensures own { self.new.own ≡ self.old.own }
     {
         self.book.root(&mut self.sight)
     }
@@ -68,6 +79,7 @@ impl<'a, K: Hash + Eq, V, S: BuildHasher> Window<'a, K, V, S> {
         requires table { IsTable self.old number table.now }
         ensures sees { Sees self.old self.new }
         ensures next { IsNext self.old self.new number result.0 result.1 }
+        ensures own { self.new.own ≡ self.old.own }
     {
         self.book.next(table, number, &mut self.sight)
     }
@@ -84,6 +96,7 @@ impl<'a, K: Hash + Eq, V, S: BuildHasher> Window<'a, K, V, S> {
         requires place { place < length table.now.slots }
         ensures sees { Sees self.old self.new }
         ensures slot { IsSlot self.old self.new number place result.0 result.1 }
+        ensures own { self.new.own ≡ self.old.own }
     {
         self.book.slot(table, number, place, &mut self.sight)
     }
@@ -103,9 +116,13 @@ impl<'a, K: Hash + Eq, V, S: BuildHasher> Window<'a, K, V, S> {
         requires can { CanTrySlot self.old number place kind words }
         ensures sees { Sees self.old self.new }
         ensures tried { TriesSlot self.old self.new number place kind words result.0 result.1 }
+        ensures does { Does (result.0 == words.0) self.old self.new }
     {
-        self.book
-            .exchange_slot(table, number, place, kind, words, &mut self.sight)
+        let (found, before) = self
+            .book
+            .exchange_slot(table, number, place, kind, words, &mut self.sight);
+        self.keep(found == words.0);
+        (found, before)
     }
 
     /// One atomic exchange of a slot, with which the pair comes that the call has made: the word found
@@ -125,9 +142,24 @@ impl<'a, K: Hash + Eq, V, S: BuildHasher> Window<'a, K, V, S> {
         requires can { CanPutSlot self.old number place kind made.now words }
         ensures sees { Sees self.old self.new }
         ensures tried { PutsSlot self.old self.new number place kind made.now words result.0 result.1 }
+        ensures does { Does (result.0 == words.0) self.old self.new }
     {
-        self.book
-            .put_slot(table, number, place, kind, made, words, &mut self.sight)
+        let (found, before) = self
+            .book
+            .put_slot(table, number, place, kind, made, words, &mut self.sight);
+        self.keep(found == words.0);
+        (found, before)
+    }
+
+    /// Keeps the last exchange that was seen, where it is the caller's.
+    #[inline(always)]
+    fn keep(&mut self, exchanged: bool)
+        ensures sight { (self.new.sight ≡ self.old.sight) × (self.new.book ≡ self.old.book) }
+        ensures does { Does exchanged self.old self.new }
+    {
+        if exchanged {
+            self.own = with_last(&self.own, &self.sight);
+        }
     }
 
     /// A table of so many slots, all Empty, in the log of tables, with the pen of its seal.
@@ -144,6 +176,7 @@ impl<'a, K: Hash + Eq, V, S: BuildHasher> Window<'a, K, V, S> {
         ensures made { IfOk result (λ r. IsMade self.new r.0.value) }
         ensures placed { IfOk result (λ r. IsIn self.old (TableNamed r.0)) }
         ensures pen { IfOk result (λ r. Seals self.old.book.now r.1 r.0.value) }
+        ensures own { self.new.own ≡ self.old.own }
     {
         self.book.make_table(rt, alloc, len, limit, &mut self.sight)
     }
@@ -161,6 +194,7 @@ impl<'a, K: Hash + Eq, V, S: BuildHasher> Window<'a, K, V, S> {
         ensures sees { Sees self.old self.new }
         ensures tried { Opens self.old self.new table.now result.0 }
         ensures held { IsTable self.new (root_then table.now result.0) result.1.now }
+        ensures own { self.new.own ≡ self.old.own }
     {
         self.book.open_root(table, seal, &mut self.sight)
     }

@@ -1,5 +1,5 @@
 -- What an insertion has put in when it replies.
-use Rattle.std.proofs.Common.{◌≡◌, ℕ, Bool, true, MatchOption, Option, None, Some, List, [], ◌∷◌, ◌++◌, append-nil, refl, sym, ap, ◌∙◌, subst}
+use Rattle.std.proofs.Common.{◌≡◌, ℕ, Bool, true, MatchOption, is_some, Option, None, Some, List, [], ◌∷◌, ◌++◌, append-nil, refl, sym, ap, ◌∙◌, subst}
 use Rattle.std.specs.Cmp.{IsEquivalence}
 use mathlib.Core.List.{IsPrefix}
 use denote.Bor.{Bor}
@@ -17,6 +17,7 @@ use Rattle.papaya_book.specs.declared.rule.entry.Event.{Event}
 use Rattle.papaya_change.specs.declared.insertion.Insertion.{Insertion}
 use Rattle.papaya_change.specs.Changing.{hands_with}
 use Rattle.papaya_change.specs.Changes.{IsPut}
+use Rattle.papaya_change.specs.Doing.{has_changed}
 use Rattle.papaya_book.specs.Hashes.{hash_of}
 use Rattle.papaya_lookup.specs.History.{Change, changes_of, history_of, key_of}
 use Rattle.papaya_change.specs.Inserting.{IsInserting}
@@ -83,6 +84,15 @@ module _ {K V S H : Type 0} (eq : K → K → Bool) (input : K → List (List �
         let fits = subst (λ (z : Task). IsReply g c (exchanges_of begun) r.writing.calling.since (Some key) (hands_with x.writer.call.last (made_list x.made)) z reply) r.task_is all.0 in
         let done = put_reply reply fits some in
         put_changed done.0 done.1 done.2 (all.1 ∙ done.3) answer taken
+
+    -- and has changed the map
+    pub has_put : (reply : Reply) → ask_of x.writer.call.machine ≡ Done reply → ((refused : _) → reply ≡ Refused refused → ⊥) → has_changed x.writer.call.machine ≡ true
+    has_put reply asks some =
+        let g = Wide eq input build write finish classes respects b (eq key) (input key) query (Some key) name begun log in
+        let c = Coded eq input build write finish classes respects b (eq key) (input key) query (Some key) name begun in
+        let all = machine_replies g c (exchanges_of begun) r.writing.calling.since (Some key) (hands_with x.writer.call.last (made_list x.made)) x.writer.call.machine r.writing.calling.rests reply asks in
+        let fits = subst (λ (z : Task). IsReply g c (exchanges_of begun) r.writing.calling.since (Some key) (hands_with x.writer.call.last (made_list x.made)) z reply) r.task_is all.0 in
+        ap is_some (all.1 ∙ (put_reply reply fits some).3)
 
     -- it took out this pair
     pub replaced : (reply : Reply) → ask_of x.writer.call.machine ≡ Done reply → ((refused : _) → reply ≡ Refused refused → ⊥) → (lent : Bor V) (p : Stored K V) → x.writer.call.taken ≡ Some p → lent.now ≡ p.value.value → IsPut eq key value (history_of begun) (history_of log) (Some lent)

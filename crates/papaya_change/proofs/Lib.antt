@@ -1,5 +1,6 @@
 -- changing calls
 pub mod Changing
+pub mod Doing
 pub mod Exchanging
 pub mod Opens
 pub mod OnePair

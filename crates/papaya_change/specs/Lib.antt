@@ -1,5 +1,6 @@
 pub mod Changes
 pub mod Changing
+pub mod Doing
 pub mod Writing
 pub mod Inserting
 pub mod Showings

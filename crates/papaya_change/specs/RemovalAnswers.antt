@@ -8,6 +8,16 @@ use Rattle.papaya_lookup.specs.History.{Change}
 use Rattle.papaya_book.specs.Logs.{Member, Stored}
 use Rattle.papaya_change.specs.Showings.{AllShown, AreOf, HasSaid, WasHeld, WasSaid}
 
+-- a pair went
+abbrev pub went : {E : Type 0} → Result (Result (Option E) E) Refused → Bool
+went (Ok (Ok (Some entry))) = true
+went _ = false
+
+-- and of a removal that asks no closure, its value
+abbrev pub took : {A : Type 0} → Result (Option A) Refused → Bool
+took (Ok (Some value)) = true
+took _ = false
+
 module _ {K V : Type 0} (eq : K → K → Bool) (matches : K → Bool) (old new : List (Change K (Stored K V))) where
   -- the call's change took out this pair
   abbrev pub IsTaken : Stored K V → Type 0

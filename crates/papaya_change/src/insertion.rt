@@ -1,8 +1,10 @@
 //! Insertions: their machine, answered by steps on the book.
-ghost use Rattle.papaya_lookup.specs.Drivers.{past};
-ghost use Rattle.papaya_book.specs.Windows.{IsLawful, Sees};
+ghost use Rattle.papaya_lookup.specs.Drivers.{own, past};
+ghost use Rattle.papaya_lookup.specs.History.{Makes};
+ghost use Rattle.papaya_book.specs.Windows.{Does, IsLawful, Sees};
+ghost use Rattle.papaya_change.specs.Doing.{Answers, has_changed, was_made};
 ghost use Rattle.papaya_change.specs.Insertions.{CanInsert, HasPut, Inserts};
-ghost use Rattle.std.specs.Prelude.{◌≡◌, Some, IfErr, IfOk};
+ghost use Rattle.std.specs.Prelude.{◌≡◌, is_ok, Some, IfErr, IfOk};
 ghost use Rattle.papaya_call.specs.Machine.{IsStanding, ask_of};
 ghost use Rattle.papaya_call.specs.declared.ask.Ask.TheVariants.{Done, Exchange, MakePair};
 ghost use Rattle.papaya_call.specs.declared.ask.At.TheVariants.{Slot};
@@ -60,6 +62,7 @@ impl<'a, K: Hash + Eq + Drop, V: Drop, S: BuildHasher> Insertion<'a, K, V, S> {
         requires can { CanInsert window.old self.old }
         requires asks { ask_of self.old.writer.call.machine ≡ Exchange (Slot number place) words.0 words.1 }
         ensures sees { Sees window.old window.new }
+        ensures does { Does (was_made result) window.old window.new }
         ensures machine { self.new.writer.call.machine ≡ self.old.writer.call.machine }
         ensures inserts { Inserts window.old self.old window.new self.new (Some result) }
     {
@@ -80,6 +83,7 @@ impl<'a, K: Hash + Eq + Drop, V: Drop, S: BuildHasher> Insertion<'a, K, V, S> {
         requires standing { IsStanding self.old.writer.call.machine }
         requires can { CanInsert window.old self.old }
         ensures sees { Sees window.old window.new }
+        ensures answers { Answers (ask_of self.old.writer.call.machine) result window.old window.new }
         ensures machine { self.new.writer.call.machine ≡ self.old.writer.call.machine }
         ensures inserts { Inserts window.old self.old window.new self.new result }
     {
@@ -112,6 +116,7 @@ impl<'a, K: Hash + Eq + Drop, V: Drop, S: BuildHasher> Insertion<'a, K, V, S> {
         requires done { (reply : _) × (ask_of self.now.writer.call.machine ≡ Done reply) }
         ensures put { IfOk result (λ answer. HasPut window.now self.now answer) }
         ensures refused { IfErr result (λ refused. IsCause refused) }
+        ensures changed { is_ok result ≡ has_changed self.now.writer.call.machine }
     {
         if let Ask::Done(Reply::Refused(refused)) = self.writer.call.machine.ask() {
             return Err(refused);
@@ -138,6 +143,7 @@ pub fn insert<'a, R: Wait, K: Hash + Eq + Drop, V: Drop, S: BuildHasher>(
     ensures lawful { IsLawful window.new }
     ensures put { IfOk result (λ answer. IsPut K.eq key value (past window.old) (past window.new) answer) }
     ensures refused { IfErr result (λ refused. IsCause refused) }
+    ensures made { Makes (is_ok result) (own window.old) (own window.new) (past window.new) }
 {
     window.learn();
     let book = window.book;

@@ -1,14 +1,16 @@
 //! Removals: their machine, answered by steps on the book and by a closure.
-ghost use Rattle.papaya_lookup.specs.Drivers.{past};
-ghost use Rattle.papaya_book.specs.Windows.{IsLawful, Sees};
+ghost use Rattle.papaya_lookup.specs.Drivers.{own, past};
+ghost use Rattle.papaya_lookup.specs.History.{Makes};
+ghost use Rattle.papaya_book.specs.Windows.{Does, IsLawful, Sees};
 ghost use Rattle.papaya_book.specs.Books.{IsIn};
+ghost use Rattle.papaya_change.specs.Doing.{Answers, has_changed, was_made};
 ghost use Rattle.papaya_change.specs.Removals.{CanRemove, Removes, Replies};
 ghost use Rattle.std.specs.Prelude.{◌≡◌, ℕ, Some};
 ghost use Rattle.papaya_call.specs.Machine.{IsStanding, ask_of};
 ghost use Rattle.papaya_call.specs.declared.ask.Ask.TheVariants.{Done, Exchange, Load, SameKey, ShowPair, SizeOf};
 ghost use Rattle.papaya_call.specs.declared.ask.At.TheVariants.{Slot};
 ghost use Rattle.papaya_book.specs.Logs.{pair_named};
-ghost use Rattle.papaya_change.specs.RemovalAnswers.{IsRemovalBy};
+ghost use Rattle.papaya_change.specs.RemovalAnswers.{IsRemovalBy, went};
 ghost use Rattle.papaya_change.specs.Showings.{AreOf, Judges};
 
 use crate::count::Shard;
@@ -58,6 +60,7 @@ impl<'a, K: Hash + Eq, V, S: BuildHasher> Removal<'a, K, V, S> {
         requires asks { ask_of self.old.call.machine ≡ Load at }
         requires standing { IsStanding self.old.call.machine }
         ensures sees { Sees window.old window.new }
+        ensures own { window.new.own ≡ window.old.own }
         ensures machine { self.new.call.machine ≡ self.old.call.machine }
         ensures removes { Removes (⟦<S as Asked<K, Q>>⟧.query key.now) (Judges F.FnMut) window.old self.old agrees.now window.new self.new agrees.now (Some result) }
     {
@@ -148,6 +151,7 @@ impl<'a, K: Hash + Eq, V, S: BuildHasher> Removal<'a, K, V, S> {
         requires asks { ask_of self.old.call.machine ≡ Exchange (Slot number place) words.0 words.1 }
         requires standing { IsStanding self.old.call.machine }
         ensures sees { Sees window.old window.new }
+        ensures does { Does (was_made result) window.old window.new }
         ensures machine { self.new.call.machine ≡ self.old.call.machine }
         ensures removes { Removes (⟦<S as Asked<K, Q>>⟧.query key.now) (Judges F.FnMut) window.old self.old agrees.now window.new self.new agrees.now (Some result) }
     {
@@ -173,6 +177,7 @@ impl<'a, K: Hash + Eq, V, S: BuildHasher> Removal<'a, K, V, S> {
         requires can { CanRemove (⟦<S as Asked<K, Q>>⟧.query key.now) (Judges F.FnMut) window.old self.old agrees.old }
         requires standing { IsStanding self.old.call.machine }
         ensures sees { Sees window.old window.new }
+        ensures answers { Answers (ask_of self.old.call.machine) result window.old window.new }
         ensures machine { self.new.call.machine ≡ self.old.call.machine }
         ensures callable { F.IsAlwaysCallable agrees.new }
         ensures removes { Removes (⟦<S as Asked<K, Q>>⟧.query key.now) (Judges F.FnMut) window.old self.old agrees.old window.new self.new agrees.new result }
@@ -208,7 +213,8 @@ impl<'a, K: Hash + Eq, V, S: BuildHasher> Removal<'a, K, V, S> {
     ) -> Result<Result<Option<(&'a K, &'a V)>, (&'a K, &'a V)>, Refused>
         requires can { CanRemove (⟦<S as Asked<K, Q>>⟧.query key.now) (Judges F.FnMut) window.now self.now agrees.now }
         requires done { (reply : _) × (ask_of self.now.call.machine ≡ Done reply) }
-        ensures { Replies (⟦<S as Asked<K, Q>>⟧.query key.now) (Judges F.FnMut) window.now self.now agrees.now result }
+        ensures changed { went result ≡ has_changed self.now.call.machine }
+        ensures replies { Replies (⟦<S as Asked<K, Q>>⟧.query key.now) (Judges F.FnMut) window.now self.now agrees.now result }
     {
         let _ = key;
         let _ = agrees;
@@ -245,6 +251,7 @@ pub fn remove<
     requires callable { F.IsAlwaysCallable agrees }
     ensures sees { Sees window.old window.new }
     ensures lawful { IsLawful window.new }
+    ensures made { Makes (went result) (own window.old) (own window.new) (past window.new) }
     ensures removed { IsRemovalBy K.eq (Q.matches key.now) (past window.old) (past window.new) (Judges F.FnMut) agrees result }
 {
     window.learn();

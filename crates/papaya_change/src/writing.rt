@@ -1,5 +1,5 @@
 //! What calls that insert have in common: their machine's asks, answered by steps on the book.
-ghost use Rattle.papaya_book.specs.Windows.{IsIn, Sees};
+ghost use Rattle.papaya_book.specs.Windows.{Does, IsIn, Sees};
 ghost use Rattle.papaya_change.specs.Writers.{CanPut, CanWrite, Pairs, Puts, Writes};
 ghost use Rattle.std.specs.Prelude.{◌≡◌, ◌⊎◌, ℕ, ◌<◌, ◌^◌, IfErr, IfOk, None, Some};
 ghost use Rattle.papaya_call.specs.Machine.{IsStanding, ask_of, kind_of_ask};
@@ -9,6 +9,7 @@ ghost use Rattle.papaya_call.specs.declared.ask.At.TheVariants.{Root, Slot};
 ghost use Rattle.papaya_call.specs.declared.ask.StepKind.TheVariants.{Bury};
 ghost use Rattle.papaya_words.specs.Word.{pair_of};
 ghost use Rattle.papaya_book.specs.Plays.{IsPutting};
+ghost use Rattle.papaya_change.specs.Doing.{was_made};
 ghost use Rattle.papaya_change.specs.Writing.{IsUnlogged, IsUnsaid};
 ghost use Rattle.papaya_book.specs.declared.rule.entry.Named.TheVariants.{Pair as PairNamed};
 
@@ -43,6 +44,7 @@ impl<'a, K: Hash + Eq + Drop, V: Drop, S: BuildHasher> Writer<'a, K, V, S> {
         requires asks { ask_of self.old.call.machine ≡ Load at }
         requires standing { IsStanding self.old.call.machine }
         ensures sees { Sees window.old window.new }
+        ensures own { window.new.own ≡ window.old.own }
         ensures machine { self.new.call.machine ≡ self.old.call.machine }
         ensures value { self.new.value ≡ self.old.value }
         ensures unsaid { IsUnsaid result }
@@ -170,6 +172,7 @@ impl<'a, K: Hash + Eq + Drop, V: Drop, S: BuildHasher> Writer<'a, K, V, S> {
         requires standing { IsStanding self.old.call.machine }
         requires size { IsSize len limit }
         ensures sees { Sees window.old window.new }
+        ensures own { window.new.own ≡ window.old.own }
         ensures machine { self.new.call.machine ≡ self.old.call.machine }
         ensures value { self.new.value ≡ self.old.value }
         ensures unsaid { IsUnsaid result }
@@ -194,6 +197,7 @@ impl<'a, K: Hash + Eq + Drop, V: Drop, S: BuildHasher> Writer<'a, K, V, S> {
         requires asks { (old : ℕ) × (new : ℕ) × (ask_of self.old.call.machine ≡ Exchange Root old new) }
         requires standing { IsStanding self.old.call.machine }
         ensures sees { Sees window.old window.new }
+        ensures own { window.new.own ≡ window.old.own }
         ensures machine { self.new.call.machine ≡ self.old.call.machine }
         ensures value { self.new.value ≡ self.old.value }
         ensures unsaid { IsUnsaid result }
@@ -227,6 +231,7 @@ impl<'a, K: Hash + Eq + Drop, V: Drop, S: BuildHasher> Writer<'a, K, V, S> {
         requires kind { IsPutting (kind_of_ask self.old.call.machine) }
         requires standing { IsStanding self.old.call.machine }
         ensures sees { Sees window.old window.new }
+        ensures does { Does (was_made result) window.old window.new }
         ensures machine { self.new.call.machine ≡ self.old.call.machine }
         ensures value { self.new.value ≡ self.old.value }
         ensures unsaid { IsUnsaid result }
@@ -255,6 +260,7 @@ impl<'a, K: Hash + Eq + Drop, V: Drop, S: BuildHasher> Writer<'a, K, V, S> {
         requires kind { kind_of_ask self.old.call.machine ≡ Some Bury }
         requires standing { IsStanding self.old.call.machine }
         ensures sees { Sees window.old window.new }
+        ensures does { Does (was_made result) window.old window.new }
         ensures machine { self.new.call.machine ≡ self.old.call.machine }
         ensures value { self.new.value ≡ self.old.value }
         ensures unsaid { IsUnsaid result }

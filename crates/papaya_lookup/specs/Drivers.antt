@@ -10,13 +10,17 @@ use Rattle.papaya_book.specs.Parts.{begun_of}
 use Rattle.papaya_lookup.specs.declared.driver.Driver.{Driver}
 use Rattle.papaya_lookup.specs.declared.lookup.Lookup.{Lookup}
 use Rattle.papaya_lookup.specs.Driver as driver
-use Rattle.papaya_lookup.specs.History.{Change, history_of}
+use Rattle.papaya_lookup.specs.History.{Change, changes_by, history_of}
 use Rattle.papaya_lookup.specs.Lookups as lookups
 
 module _ {K V S H : Type 0} {d : keyed.Ghosts S K H} where
   -- the history that is seen
   abbrev pub past : Window K V S H d → List (Change K (Stored K V))
   past w = history_of w.sight.log
+
+  -- the changes that were made through it
+  abbrev pub own : Window K V S H d → List (Change K (Stored K V))
+  own w = changes_by w.own.done
 
   -- the table is held, and where a slot is asked for it has the slot
   abbrev pub Holds : At → Window K V S H d → Driver K V S H → Type 0

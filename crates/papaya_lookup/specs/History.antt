@@ -1,10 +1,12 @@
 -- The history of a map: its changes, oldest first. It knows no word and no table.
-use Rattle.std.specs.Prelude.{◌≡◌, Bool, true, cond, Option, None, Some, List, [], ◌∷◌, ◌++◌}
+use Rattle.std.specs.Prelude.{◌≡◌, Bool, true, cond, Option, None, Some, List, [], ◌∷◌, ◌++◌, map}
 use Rattle.logbook.specs.Pages.{Book}
 use Rattle.papaya_law.specs.Exchange as law
 use Rattle.papaya_law.specs.Exchange.{Exchange}
 use Rattle.papaya_book.specs.declared.rule.entry.Event.{Event}
-use Rattle.papaya_book.specs.Logs.{Stored, exchanges_of}
+use Rattle.papaya_book.specs.declared.rule.entry.Step.{Step}
+use Rattle.papaya_book.specs.Logs.{Stored, exchange_of, exchanges_of}
+use Rattle.papaya_book.specs.Own.{last_if}
 
 -- A change of what a class of equal keys has, named by a key of the class: the pair that goes, if any, and the pair that comes, if any.
 pub record Change (K P : Type 0) : Type 0 where
@@ -60,7 +62,16 @@ key_of p = p.value.key.value
 abbrev pub history_of : {K V S : Type 0} → List (Event K V S) → List (Change K (Stored K V))
 history_of log = changes_of key_of (exchanges_of log)
 
--- What a pass shows: the book of the map that it was made by, and the history that it has seen.
+-- the changes that exchanges make
+abbrev pub changes_by : {K V : Type 0} → List (Step K V) → List (Change K (Stored K V))
+changes_by es = changes_of key_of (map exchange_of es)
+
+-- What a pass shows: the book of the map that it was made by, the history that it has seen, and of its changes those that were made by this pass, oldest first.
 pub record Past (K V : Type 0) : Type 0 where
   pub book : Book
   pub history : List (Change K (Stored K V))
+  pub made : List (Change K (Stored K V))
+
+-- What a call made: where it changed the map, one change, which is the last of the history that is seen then; and else none.
+abbrev pub Makes : {K V : Type 0} → Bool → (old new history : List (Change K (Stored K V))) → Type 0
+Makes changed old new history = new ≡ old ++ last_if changed history

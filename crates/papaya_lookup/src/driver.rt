@@ -59,6 +59,7 @@ impl<'a, K: Hash + Eq, V, S: BuildHasher> Driver<'a, K, V, S> {
     pub fn load(&mut self, at: At, window: &mut Window<'a, K, V, S>) -> u64
         requires held { Holds at window.old self.old }
         ensures sees { Sees window.old window.new }
+        ensures own { window.new.own ≡ window.old.own }
         ensures loaded { Loads at result window.old self.old window.new self.new }
         ensures rest { (self.new.machine ≡ self.old.machine) × (self.new.taken ≡ self.old.taken) × (self.new.put ≡ self.old.put) }
     {

@@ -66,6 +66,7 @@ impl<'a, K: Hash + Eq, V, S: BuildHasher> Lookup<'a, K, V, S> {
         requires standing { IsStanding self.old.machine }
         requires reading { IsReading (⟦<S as Asked<K, Q>>⟧.query key.now) window.old self.old }
         ensures sees { Sees window.old window.new }
+        ensures own { window.new.own ≡ window.old.own }
         ensures machine { (self.new.machine ≡ self.old.machine) × (self.new.began ≡ self.old.began) }
         ensures reading { IsReadingOn (⟦<S as Asked<K, Q>>⟧.query key.now) window.old self.old window.new self.new result }
     {
@@ -113,6 +114,7 @@ pub fn look_up<'a, K: Hash + Eq, V, S: BuildHasher, Q: Equivalent<K>>(
 ) -> Option<&'a V>
     ensures sees { Sees window.old window.new }
     ensures lawful { IsLawful window.new }
+    ensures own { window.new.own ≡ window.old.own }
     ensures answered { IsAnsweredBetween K.eq (Q.matches key.now) (past window.old) (past window.new) result }
 {
     window.learn();

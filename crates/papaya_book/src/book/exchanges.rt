@@ -37,7 +37,7 @@ fn pair_in<K: Hash + Eq, V, S: BuildHasher>(
 impl<K: Hash + Eq, V, S: BuildHasher> Book<K, V, S> {
     /// One atomic exchange of a slot, with which nothing comes: the word found there, and the token of
     /// the pair that it names.
-    pub fn exchange_slot(
+    pub(crate) fn exchange_slot(
         &self,
         table: &Table<K, V, S>,
         number: u64,
@@ -66,7 +66,7 @@ impl<K: Hash + Eq, V, S: BuildHasher> Book<K, V, S> {
 
     /// One atomic exchange of a slot, with which the pair comes that the call has made: the word found
     /// there, and the token of the pair that it names.
-    pub fn put_slot(
+    pub(crate) fn put_slot(
         &self,
         table: &Table<K, V, S>,
         number: u64,

@@ -1,8 +1,12 @@
-use Rattle.std.proofs.Common.{true, Result, Ok, Err, IfOk, refl, ap, ◌∙◌}
+use Rattle.std.proofs.Common.{true, Result, Ok, Err, IfOk, refl, sym, ap, ◌∙◌, subst}
 use Rattle.papaya_call.specs.declared.call.Task.TheVariants.{Insert}
+use Rattle.papaya_call.specs.declared.machine.Machine.{Machine}
 use Rattle.papaya_call.specs.Machine.{started}
 use Rattle.papaya_book.specs.Hashes.{hash_of}
 use Rattle.papaya_book.specs.Parts.{begun_of}
+use Rattle.papaya_book.specs.Windows.{Does}
+use Rattle.papaya_change.specs.Doing.{has_changed}
+use Rattle.papaya_change.proofs.Doing.{does_on, does_still, idles, makes}
 use Rattle.papaya_change.proofs.Inserting.{begins}
 use Rattle.papaya_change.proofs.InsertingReplies.{put_since}
 use Rattle.papaya_book.proofs.Windows.{sees_trans}
@@ -23,6 +27,7 @@ loop-init g c =
       ),
       c.new.ensures.standing,
       c.learn.ensures.sees,
+      subst (λ (m : Machine). Does (has_changed m) c.args.window.now c.learn.new.self) (sym machine) (idles c.args.window.now c.learn.new.self c.learn.ensures.own),
     )
 
 pub answer-requires-in-Some-answer-clause-fit : goal.answer-requires-in-Some-answer-clause-fit
@@ -34,6 +39,7 @@ loop-preserved g c =
       (u.0, u.1, rw (c.answer.ensures.sees.book, c.answer-in-Some-answer.ensures.after) on),
       c.answer-in-Some-answer.ensures.standing,
       sees_trans _ _ _ c.loop.invariant.2 c.answer.ensures.sees,
+      rw (c.answer-in-Some-answer.ensures.after, c.answer.ensures.machine) (does_on c.loop.insertion.writer.call.machine c.in-Some-answer.answer c.args.window.now c.loop.window c.answer.new.window c.loop.invariant.3 c.in-Some-answer.ensures.answers),
     )
 
 pub replied-requires-clause-can : goal.replied-requires-clause-can
@@ -49,3 +55,9 @@ pub returns-in-None-answer-clause-put : goal.returns-in-None-answer-clause-put
 returns-in-None-answer-clause-put g c =
     let u = c.loop.invariant.0 in let r = (c.in-None-answer.ensures.inserts c.args.key c.args.value u.0 u.2).0 in
     if_ok _ _ c.replied.result c.replied.ensures.put (λ a h. put_since g.K.PartialEq.eq c.args.key c.args.value c.args.window.now.sight.log u.0 c.answer.new.window.sight.log a u.1 (h c.args.key c.args.value u.0 (rw c.answer.ensures.sees.book r)))
+
+pub returns-in-None-answer-clause-made : goal.returns-in-None-answer-clause-made
+returns-in-None-answer-clause-made g c =
+    let u = c.loop.invariant.0 in let r = (c.in-None-answer.ensures.inserts c.args.key c.args.value u.0 u.2).0 in let call = c.answer.new.self.writer.call in
+    let does = does_still c.loop.insertion.writer.call.machine c.args.window.now c.loop.window c.answer.new.window c.loop.invariant.3 c.in-None-answer.ensures.answers in
+    rw c.replied.ensures.changed (makes g.K.PartialEq.eq u.0 call.taken call.put call.machine c.args.window.now c.answer.new.window r.writing.calling.changed (rw c.answer.ensures.machine does))

@@ -2,7 +2,8 @@ use denote.Param.Always.{always_mut}
 use Rattle.papaya_call.specs.Machine.{IsStanding}
 use Rattle.papaya_book.specs.Hashes.{hash_of}
 use Rattle.papaya_book.specs.Parts.{begun_of}
-use Rattle.papaya_book.specs.Windows.{Sees}
+use Rattle.papaya_book.specs.Windows.{Does, Sees}
+use Rattle.papaya_change.specs.Doing.{has_changed}
 use Rattle.papaya_change.specs.Removing.{IsUnderWay}
 use Rattle.papaya_change.specs.Showings.{Judges}
 use Rattle.papaya_change.proofs.removal.remove.Given as goal
@@ -14,3 +15,4 @@ invariant-loop g l =
     × IsStanding l.removal.call.machine
     × Sees l.fn.window l.window
     × always_mut g.F.FnMut l.agrees
+    × Does (has_changed l.removal.call.machine) l.fn.window l.window

@@ -19,7 +19,7 @@ loop-answer-init g c =
     let log = c.learn.new.self.sight.log in
     let machine : c.new-lookup.result.machine ≡ started Get fed w.parts.mode 0 = c.new-lookup.ensures.machine ∙ ap (λ h. started Get h w.parts.mode 0) c.hash-hash.ensures in
     let all = begins g.K.PartialEq.eq hash (begun_of w.parts) (g.Q.Equivalent.matches c.args.key.now) fed log c.learn.ensures.lawful c.new-lookup.result.machine machine in
-    (rw (c.new-lookup.ensures.held.0, c.new-lookup.ensures.held.1, c.new-lookup.ensures.began, c.again.ensures) all, c.new-lookup.ensures.standing, c.learn.ensures.sees, rw (c.new-lookup.ensures.began, c.again.ensures) c.learn.ensures.sees.log)
+    (rw (c.new-lookup.ensures.held.0, c.new-lookup.ensures.held.1, c.new-lookup.ensures.began, c.again.ensures) all, c.new-lookup.ensures.standing, c.learn.ensures.sees, rw (c.new-lookup.ensures.began, c.again.ensures) c.learn.ensures.sees.log, c.learn.ensures.own)
 
 pub returns-in-Some-pair-clause-answered : goal.returns-in-Some-pair-clause-answered
 returns-in-Some-pair-clause-answered g c =

@@ -1,3 +1,4 @@
+use Rattle.std.proofs.Common.{◌≡◌}
 use mathlib.Core.List.{IsPrefix}
 use Rattle.papaya_call.specs.Machine.{IsStanding}
 use Rattle.papaya_book.specs.Hashes.{hash_of}
@@ -14,6 +15,7 @@ invariant-loop-answer g l =
     × IsStanding l.lookup.machine
     × Sees l.fn.window l.window
     × IsPrefix l.fn.window.sight.log l.lookup.began.log
+    × (l.window.own ≡ l.fn.window.own)
 
 abbrev pub decreases-loop-answer : goal.decreases-loop-answer
 decreases-loop-answer g l = left_of l.lookup.machine.state

@@ -1,8 +1,12 @@
-use Rattle.std.proofs.Common.{refl, sym, ◌∙◌}
+use Rattle.std.proofs.Common.{◌≡◌, Some, refl, sym, ◌∙◌, rules}
 use Rattle.papaya_call.specs.declared.ask.Answer.TheVariants.{Ok}
+use Rattle.papaya_call.specs.declared.ask.Ask.TheVariants.{AddToShard, Exchange, Load, MakeKey, MakePair, MakeTable, SameKey, SizeOf}
+use Rattle.papaya_call.specs.declared.ask.At.TheVariants.{Root, Slot}
+use Rattle.papaya_call.specs.Machine.{ask_of}
 use Rattle.papaya_book.specs.Hashes.{hash_of}
 use Rattle.papaya_book.specs.Parts.{begun_of}
 use Rattle.papaya_book.specs.Plays.{made_list}
+use Rattle.papaya_change.proofs.Doing.{exchanges_slot, idle, left_alone}
 use Rattle.papaya_change.proofs.Inserting.{goes_on}
 use Rattle.papaya_change.proofs.WritingSteps.{counted_on}
 use Rattle.papaya_change.proofs.insertion.Insertion.answer.Goals as goal
@@ -27,3 +31,27 @@ returns-in-Exchange-Root-default-default-clause-inserts g c = λ key value begun
 
 pub returns-in-AddToShard-clause-inserts : goal.returns-in-AddToShard-clause-inserts
 returns-in-AddToShard-clause-inserts g c = λ key value begun r. goes_on g.K.PartialEq.eq (hash_of g.K.Hash.hash_input g.S.BuildHasher.build_hasher g.S.Hasher.Hasher.write g.S.Hasher.Hasher.finish) (begun_of c.args.window.now.book.now.parts) c.args.window.now.book.now.begun.book key value begun c.args.window.now.sight.log c.args.self.now r c.args.window.now.sight.log c.args.self.now.writer Ok refl refl refl c.requires.standing (λ reply h. let f = c.in-AddToShard.ensures.value ∙ h in cc f) (λ cause e. absurd (cc e)) (counted_on g.K.PartialEq.eq g.K.Hash.hash_input g.S.BuildHasher.build_hasher g.S.Hasher.Hasher.write g.S.Hasher.Hasher.finish g.met.K.Eq.laws g.met.K.Hash.respects_eq (begun_of c.args.window.now.book.now.parts) c.args.window.now.book.now.begun.book key (made_list c.args.self.now.made) begun c.args.window.now.sight.log c.args.self.now.writer r.writing c.in-AddToShard.by (sym c.in-AddToShard.ensures.value))
+
+pub returns-in-Load-clause-answers : goal.returns-in-Load-clause-answers
+returns-in-Load-clause-answers g c = idle (Load c.in-Load.at) _ c.in-Load.ensures.value tt (Some c.load.result) c.args.window.now c.load.new.window c.load.ensures.own
+
+pub returns-in-SizeOf-clause-answers : goal.returns-in-SizeOf-clause-answers
+returns-in-SizeOf-clause-answers g c = idle (SizeOf _) _ c.in-SizeOf.ensures.value tt (Some c.size.result) c.args.window.now c.args.window.now refl
+
+pub returns-in-SameKey-clause-answers : goal.returns-in-SameKey-clause-answers
+returns-in-SameKey-clause-answers g c = idle (SameKey _) _ c.in-SameKey.ensures.value tt (Some c.same.result) c.args.window.now c.args.window.now refl
+
+pub returns-in-MakeKey-clause-answers : goal.returns-in-MakeKey-clause-answers
+returns-in-MakeKey-clause-answers g c = idle (MakeKey) _ c.in-MakeKey.ensures.value tt (Some c.make_key.result) c.args.window.now c.args.window.now refl
+
+pub returns-in-MakePair-clause-answers : goal.returns-in-MakePair-clause-answers
+returns-in-MakePair-clause-answers g c = idle (MakePair) _ c.in-MakePair.ensures.value tt (Some c.make_pair.result) c.args.window.now c.args.window.now refl
+
+pub returns-in-MakeTable-clause-answers : goal.returns-in-MakeTable-clause-answers
+returns-in-MakeTable-clause-answers g c = idle (MakeTable c.in-MakeTable.len c.in-MakeTable.limit) _ c.in-MakeTable.ensures.value tt (Some c.make_table.result) c.args.window.now c.make_table.new.window c.make_table.ensures.own
+
+pub returns-in-Exchange-Root-default-default-clause-answers : goal.returns-in-Exchange-Root-default-default-clause-answers
+returns-in-Exchange-Root-default-default-clause-answers g c = let asks : Exchange Root c.in-Exchange-Root-default-default.field-1 c.in-Exchange-Root-default-default.field-2 ≡ ask_of c.args.self.now.writer.call.machine = search rules in idle (Exchange Root c.in-Exchange-Root-default-default.field-1 c.in-Exchange-Root-default-default.field-2) _ asks tt (Some c.open.result) c.args.window.now c.open.new.window c.open.ensures.own
+
+pub returns-in-AddToShard-clause-answers : goal.returns-in-AddToShard-clause-answers
+returns-in-AddToShard-clause-answers g c = left_alone (AddToShard c.in-AddToShard.by) tt _ c.in-AddToShard.ensures.value (Some Ok) c.args.window.now

@@ -1,4 +1,4 @@
-use Rattle.std.proofs.Common.{◌<◌, MatchOption, Option, length, subst, None}
+use Rattle.std.proofs.Common.{◌==◌, ◌<◌, MatchOption, Option, length, subst, None}
 use denote.Bor.{Bor}
 use Rattle.papaya_call.specs.declared.ask.StepKind.{StepKind}
 use Rattle.papaya_book.specs.Calls.{IsSlotTried, IsTable}
@@ -9,6 +9,7 @@ use Rattle.papaya_change.specs.Showings.{Judges}
 use Rattle.papaya_book.specs.declared.rule.entry.Named.TheVariants.{Nothing}
 use Rattle.papaya_lookup.proofs.Readings.{IsQuery}
 use Rattle.papaya_change.proofs.Removing.{bury_can, bury_held, bury_on}
+use Rattle.papaya_change.proofs.Doing.{tried}
 use Rattle.papaya_change.proofs.removal.Removal.bury.Goals as goal
 
 pub exchange_slot-found-requires-clause-place : goal.exchange_slot-found-requires-clause-place
@@ -30,3 +31,6 @@ returns-clause-removes g c = λ first begun r.
     let found = c.exchange_slot-found in
     let tried = subst (λ (z : Option StepKind). IsSlotTried g.K.PartialEq.eq hash (begun_of c.args.window.now.book.now.parts) c.args.window.now.book.now.begun.book c.args.number c.args.place z c.args.words.0 c.args.words.1 None Nothing c.args.window.now.sight.log found.result.0 found.new.self.sight.log found.result.1) c.kind-kind.ensures found.ensures.tried in
     bury_on g.K.PartialEq.eq g.K.Hash.hash_input g.S.BuildHasher.build_hasher g.S.Hasher.Hasher.write g.S.Hasher.Hasher.finish g.met.K.Eq.laws g.met.K.Hash.respects_eq (begun_of c.args.window.now.book.now.parts) c.args.window.now.book.now.begun.book (g.Q.Equivalent.matches c.args.key.now) (g.Q.Hash.hash_input c.args.key.now) lawful (Judges g.F.FnMut) first begun c.args.window.now.sight.log c.args.self.now c.args.agrees.now r c.requires.standing c.args.number c.args.place c.args.words.0 c.args.words.1 c.requires.asks found.new.self.sight.log found.ensures.sees.log found.result.0 found.result.1 tried c.tried.new.self c.tried.result c.tried.ensures
+
+pub returns-clause-does : goal.returns-clause-does
+returns-clause-does g c = tried (c.exchange_slot-found.result.0 == c.args.words.0) c.tried.result _ _ c.exchange_slot-found.result.0 c.tried.ensures c.args.window.now c.exchange_slot-found.new.self c.exchange_slot-found.ensures.does

@@ -1,4 +1,4 @@
-use Rattle.std.proofs.Common.{◌≡◌, ℕ, Some, ◌∙◌, rules, subst}
+use Rattle.std.proofs.Common.{◌≡◌, ℕ, Some, sym, ◌∙◌, rules, subst}
 use Rattle.papaya_call.specs.declared.ask.Ask.TheVariants.{Done}
 use Rattle.papaya_call.specs.declared.call.Reply.{Reply}
 use Rattle.papaya_call.specs.declared.call.Reply.TheVariants.{Absent, Kept, Refused, Removed}
@@ -8,6 +8,7 @@ use Rattle.papaya_book.specs.Parts.{begun_of}
 use Rattle.papaya_book.specs.Rule.{IsPlaced}
 use Rattle.papaya_change.specs.Showings.{Judges}
 use Rattle.papaya_lookup.proofs.Readings.{IsQuery}
+use Rattle.papaya_change.proofs.Doing.{replied}
 use Rattle.papaya_change.proofs.RemovingReplies.{IsNoRemoval, absent, kept, kept_shown, no_other, refused, same_number, was_shown, was_taken, went}
 use Rattle.papaya_change.proofs.removal.Removal.replied.Goals.{in_default-via-in-Done+in-Removed+in-Some+in_default, in_default-via-in-Done+in-Removed+in_default, in_default-via-in-Done+in-Kept+in_default, in_default-via-in-Done+in_default, in_default-via-in_default}
 use Rattle.papaya_change.proofs.removal.Removal.replied.Goals as goal
@@ -33,28 +34,40 @@ unreachable-requires g c =
       | in_default-via-in_default w ↦ let same : c.ask.result ≡ Done c.requires.done.0 = c.ask.ensures.value ∙ c.requires.done.1 in w.in_default.not-Done-0 _ same
     ]
 
-pub returns-in-Done-Removed-Some-Some : goal.returns-in-Done-Removed-Some-Some
-returns-in-Done-Removed-Some-Some g c = λ first begun r.
+pub returns-in-Done-Removed-Some-Some-clause-replies : goal.returns-in-Done-Removed-Some-Some-clause-replies
+returns-in-Done-Removed-Some-Some-clause-replies g c = λ first begun r.
     let lawful : IsQuery g.K.PartialEq.eq g.K.Hash.hash_input (g.Q.Equivalent.matches c.args.key.now) (g.Q.Hash.hash_input c.args.key.now) = record { feeds = g.met.Q.Equivalent.hashes_as_key c.args.key.now; class = λ k l. g.met.Q.Equivalent.matches_equal_keys c.args.key.now k l } in
     let at = c.in-Done-Removed-Some-Some in
     let asks : (n : ℕ) × (ask_of c.args.self.now.call.machine ≡ Done (Removed n)) = search rules in
     went g.K.PartialEq.eq g.K.Hash.hash_input g.S.BuildHasher.build_hasher g.S.Hasher.Hasher.write g.S.Hasher.Hasher.finish g.met.K.Eq.laws g.met.K.Hash.respects_eq (begun_of c.args.window.now.book.now.parts) c.args.window.now.book.now.begun.book (g.Q.Equivalent.matches c.args.key.now) (g.Q.Hash.hash_input c.args.key.now) lawful (Judges g.F.FnMut) first begun c.args.window.now.sight.log c.args.self.now c.args.agrees.now r asks.0 asks.1 at.shown at.taken at.is-1 at.is-2 c.agrees.ensures _ c.entry.ensures
 
-pub returns-in-Done-Kept-Some-default : goal.returns-in-Done-Kept-Some-default
-returns-in-Done-Kept-Some-default g c = λ first begun r.
+pub returns-in-Done-Kept-Some-default-clause-replies : goal.returns-in-Done-Kept-Some-default-clause-replies
+returns-in-Done-Kept-Some-default-clause-replies g c = λ first begun r.
     let lawful : IsQuery g.K.PartialEq.eq g.K.Hash.hash_input (g.Q.Equivalent.matches c.args.key.now) (g.Q.Hash.hash_input c.args.key.now) = record { feeds = g.met.Q.Equivalent.hashes_as_key c.args.key.now; class = λ k l. g.met.Q.Equivalent.matches_equal_keys c.args.key.now k l } in
     let at = c.in-Done-Kept-Some-default in
     let asks : (n : ℕ) × (ask_of c.args.self.now.call.machine ≡ Done (Kept n)) = search rules in
     kept g.K.PartialEq.eq g.K.Hash.hash_input g.S.BuildHasher.build_hasher g.S.Hasher.Hasher.write g.S.Hasher.Hasher.finish g.met.K.Eq.laws g.met.K.Hash.respects_eq (begun_of c.args.window.now.book.now.parts) c.args.window.now.book.now.begun.book (g.Q.Equivalent.matches c.args.key.now) (g.Q.Hash.hash_input c.args.key.now) lawful (Judges g.F.FnMut) first begun c.args.window.now.sight.log c.args.self.now c.args.agrees.now r asks.0 asks.1 at.shown at.is-1 _ c.entry-in-Done-Kept-Some-default.ensures
 
-pub returns-in-Done-Absent-default-default : goal.returns-in-Done-Absent-default-default
-returns-in-Done-Absent-default-default g c = λ first begun r.
+pub returns-in-Done-Absent-default-default-clause-replies : goal.returns-in-Done-Absent-default-default-clause-replies
+returns-in-Done-Absent-default-default-clause-replies g c = λ first begun r.
     let lawful : IsQuery g.K.PartialEq.eq g.K.Hash.hash_input (g.Q.Equivalent.matches c.args.key.now) (g.Q.Hash.hash_input c.args.key.now) = record { feeds = g.met.Q.Equivalent.hashes_as_key c.args.key.now; class = λ k l. g.met.Q.Equivalent.matches_equal_keys c.args.key.now k l } in
     let asks : ask_of c.args.self.now.call.machine ≡ Done Absent = search rules in
     absent g.K.PartialEq.eq g.K.Hash.hash_input g.S.BuildHasher.build_hasher g.S.Hasher.Hasher.write g.S.Hasher.Hasher.finish g.met.K.Eq.laws g.met.K.Hash.respects_eq (begun_of c.args.window.now.book.now.parts) c.args.window.now.book.now.begun.book (g.Q.Equivalent.matches c.args.key.now) (g.Q.Hash.hash_input c.args.key.now) lawful (Judges g.F.FnMut) first begun c.args.window.now.sight.log c.args.self.now c.args.agrees.now r asks
 
-pub returns-in-Done-Refused-default-default : goal.returns-in-Done-Refused-default-default
-returns-in-Done-Refused-default-default g c = λ first begun r.
+pub returns-in-Done-Refused-default-default-clause-replies : goal.returns-in-Done-Refused-default-default-clause-replies
+returns-in-Done-Refused-default-default-clause-replies g c = λ first begun r.
     let lawful : IsQuery g.K.PartialEq.eq g.K.Hash.hash_input (g.Q.Equivalent.matches c.args.key.now) (g.Q.Hash.hash_input c.args.key.now) = record { feeds = g.met.Q.Equivalent.hashes_as_key c.args.key.now; class = λ k l. g.met.Q.Equivalent.matches_equal_keys c.args.key.now k l } in
     let asks : ask_of c.args.self.now.call.machine ≡ Done (Refused c.in-Done-Refused-default-default.refused) = search rules in
     refused g.K.PartialEq.eq g.K.Hash.hash_input g.S.BuildHasher.build_hasher g.S.Hasher.Hasher.write g.S.Hasher.Hasher.finish g.met.K.Eq.laws g.met.K.Hash.respects_eq (begun_of c.args.window.now.book.now.parts) c.args.window.now.book.now.begun.book (g.Q.Equivalent.matches c.args.key.now) (g.Q.Hash.hash_input c.args.key.now) lawful (Judges g.F.FnMut) first begun c.args.window.now.sight.log c.args.self.now c.args.agrees.now r c.in-Done-Refused-default-default.refused asks
+
+pub returns-in-Done-Removed-Some-Some-clause-changed : goal.returns-in-Done-Removed-Some-Some-clause-changed
+returns-in-Done-Removed-Some-Some-clause-changed g c = let asks : (n : ℕ) × (ask_of c.args.self.now.call.machine ≡ Done (Removed n)) = search rules in sym (replied c.args.self.now.call.machine (Removed asks.0) asks.1)
+
+pub returns-in-Done-Kept-Some-default-clause-changed : goal.returns-in-Done-Kept-Some-default-clause-changed
+returns-in-Done-Kept-Some-default-clause-changed g c = let asks : (n : ℕ) × (ask_of c.args.self.now.call.machine ≡ Done (Kept n)) = search rules in sym (replied c.args.self.now.call.machine (Kept asks.0) asks.1)
+
+pub returns-in-Done-Absent-default-default-clause-changed : goal.returns-in-Done-Absent-default-default-clause-changed
+returns-in-Done-Absent-default-default-clause-changed g c = let asks : ask_of c.args.self.now.call.machine ≡ Done Absent = search rules in sym (replied c.args.self.now.call.machine Absent asks)
+
+pub returns-in-Done-Refused-default-default-clause-changed : goal.returns-in-Done-Refused-default-default-clause-changed
+returns-in-Done-Refused-default-default-clause-changed g c = let asks : (refused : _) × (ask_of c.args.self.now.call.machine ≡ Done (Refused refused)) = search rules in sym (replied c.args.self.now.call.machine (Refused asks.0) asks.1)

@@ -1,4 +1,4 @@
-use Rattle.std.proofs.Common.{◌<◌, MatchOption, None, Option, length, subst}
+use Rattle.std.proofs.Common.{◌==◌, ◌<◌, MatchOption, None, Option, length, subst}
 use denote.Bor.{Bor}
 use Rattle.papaya_call.specs.declared.ask.StepKind.{StepKind}
 use Rattle.papaya_book.specs.Sheets.{Sheet}
@@ -7,6 +7,7 @@ use Rattle.papaya_book.specs.Hashes.{hash_of}
 use Rattle.papaya_book.specs.Parts.{begun_of}
 use Rattle.papaya_book.specs.declared.rule.entry.Named.TheVariants.{Nothing}
 use Rattle.papaya_change.proofs.WritingSteps.{bury_can, slot_held, tried_on}
+use Rattle.papaya_change.proofs.Doing.{tried}
 use Rattle.papaya_change.proofs.writing.Writer.bury.Goals as goal
 
 pub unreachable-requires : goal.unreachable-requires
@@ -29,3 +30,6 @@ returns-clause-writes g c = λ key made begun r.
     let found = c.exchange_slot-found in
     let tried = subst (λ (z : Option StepKind). IsSlotTried g.K.PartialEq.eq hash (begun_of c.args.window.now.book.now.parts) c.args.window.now.book.now.begun.book c.args.number c.args.place z c.args.words.0 c.args.words.1 None Nothing c.args.window.now.sight.log found.result.0 found.new.self.sight.log found.result.1) c.kind-kind.ensures found.ensures.tried in
     tried_on g.K.PartialEq.eq g.K.Hash.hash_input g.S.BuildHasher.build_hasher g.S.Hasher.Hasher.write g.S.Hasher.Hasher.finish g.met.K.Eq.laws g.met.K.Hash.respects_eq (begun_of c.args.window.now.book.now.parts) c.args.window.now.book.now.begun.book key made begun c.args.window.now.sight.log c.args.self.now r c.args.number c.args.place c.args.words.0 c.args.words.1 c.requires.asks None (λ q none. absurd (cc none)) found.new.self.sight.log found.result.0 found.result.1 tried c.tried.new.self c.tried.result c.tried.ensures
+
+pub returns-clause-does : goal.returns-clause-does
+returns-clause-does g c = tried (c.exchange_slot-found.result.0 == c.args.words.0) c.tried.result _ _ c.exchange_slot-found.result.0 c.tried.ensures c.args.window.now c.exchange_slot-found.new.self c.exchange_slot-found.ensures.does

@@ -1,4 +1,4 @@
-use Rattle.std.proofs.Common.{◌≡◌, ◌<◌, MatchOption, Option, Some, length, sym, subst}
+use Rattle.std.proofs.Common.{◌==◌, ◌≡◌, ◌<◌, MatchOption, Option, Some, length, sym, subst}
 use denote.Bor.{Bor}
 use Rattle.papaya_call.specs.declared.ask.At.TheVariants.{Slot}
 use Rattle.papaya_call.specs.declared.ask.StepKind.{StepKind}
@@ -10,6 +10,7 @@ use Rattle.papaya_book.specs.Parts.{begun_of}
 use Rattle.papaya_book.specs.Plays.{CanExchange}
 use Rattle.papaya_book.specs.declared.rule.entry.Named.TheVariants.{Pair}
 use Rattle.papaya_change.proofs.WritingSteps.{put_can, slot_held, tried_on}
+use Rattle.papaya_change.proofs.Doing.{tried}
 use Rattle.papaya_change.proofs.writing.Writer.put.Goals as goal
 
 pub unreachable-requires : goal.unreachable-requires
@@ -36,3 +37,6 @@ returns-clause-writes g c = λ key made begun r one.
     let q = c.args.pair.now in let log = c.put_slot-found.new.self.sight.log in let found = c.put_slot-found.result.0 in let before = c.put_slot-found.result.1 in
     let tried = subst (λ (k : Option StepKind). IsSlotTried g.K.PartialEq.eq hash (begun_of c.args.window.now.book.now.parts) c.args.window.now.book.now.begun.book c.args.number c.args.place k c.args.words.0 c.args.words.1 (Some q) (Pair q) c.args.window.now.sight.log found log before) c.kind-kind.ensures c.put_slot-found.ensures.tried in
     tried_on g.K.PartialEq.eq g.K.Hash.hash_input g.S.BuildHasher.build_hasher g.S.Hasher.Hasher.write g.S.Hasher.Hasher.finish g.met.K.Eq.laws g.met.K.Hash.respects_eq (begun_of c.args.window.now.book.now.parts) c.args.window.now.book.now.begun.book key made begun c.args.window.now.sight.log c.args.self.now r c.args.number c.args.place c.args.words.0 c.args.words.1 c.requires.asks (Some q) (λ p e. let is : q ≡ p = cc e in subst (IsOneOf made) is one) log found before tried c.tried.new.self c.tried.result (rw (← c.again-put.ensures) c.tried.ensures)
+
+pub returns-clause-does : goal.returns-clause-does
+returns-clause-does g c = tried (c.put_slot-found.result.0 == c.args.words.0) c.tried.result _ _ c.put_slot-found.result.0 c.tried.ensures c.args.window.now c.put_slot-found.new.self c.put_slot-found.ensures.does

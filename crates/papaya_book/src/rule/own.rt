@@ -1,0 +1,63 @@
+//! What a caller did by its own steps. Only contracts see it: it has no bytes.
+ghost use Rattle.std.specs.Prelude.{◌≡◌, List, [], ◌++◌};
+ghost use base.Fml.{ftrue};
+ghost use base.Stored.{coded_list};
+ghost use Rattle.papaya_book.specs.Own.{last_step};
+
+use crate::rule::entry::Step;
+use crate::rule::trade::Sight;
+use std::hash::{BuildHasher, Hash};
+use std::marker::{Model, PhantomData};
+
+/// Steps that a caller made, oldest first.
+pub struct Own<T> {
+    marker: PhantomData<T>,
+    pub ghost done: { List T } by { coded_list T.code },
+}
+
+impl<T> Model for Own<T> {
+    ghost also_owns = { λ own. ftrue };
+}
+
+// It owns nothing.
+unsafe impl<T> Send for Own<T> {}
+
+impl<T> Drop for Own<T> {
+    fn drop(self) {
+        let Self { marker: _ } = self;
+    }
+}
+
+impl<T> Own<T> {
+    /// No step.
+    pub fn nothing() -> Own<T>
+        ensures { result.done ≡ [] }
+    {
+        Own {
+            marker: PhantomData,
+        }
+    }
+
+    /// The same steps.
+    pub fn again(&self) -> Own<T>
+        ensures { result.done ≡ self.now.done }
+    {
+        Own {
+            marker: PhantomData,
+        }
+    }
+}
+
+/// These steps, and after them the last of what was seen.
+pub fn with_last<K: Hash + Eq, V, S: BuildHasher>(
+    own: &Own<Step<K, V>>,
+    sight: &Sight<K, V, S>,
+) -> Own<Step<K, V>>
+    ensures { result.done ≡ own.now.done ++ last_step sight.now.log }
+{
+    let _ = own;
+    let _ = sight;
+    Own {
+        marker: PhantomData,
+    }
+}

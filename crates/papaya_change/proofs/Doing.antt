@@ -1,0 +1,331 @@
+-- A changing call exchanges a slot once at most, and it has changed the map then.
+use Rattle.std.proofs.Common.{◌≡◌, ℕ, ◌==◌, Bool, true, false, cond, MatchBool, MatchOption, is_some, Option, None, Some, List, [], ◌∷◌, ◌++◌, map, append-nil, refl, sym, ap, ◌∙◌, subst}
+use Rattle.std.proofs.lemmas.List.{map-append}
+use mathlib.Core.List.{IsPrefix}
+use Rattle.papaya_call.specs.declared.ask.Answer.{Answer}
+use Rattle.papaya_call.specs.declared.ask.Answer.TheVariants.{Word as Word_read, Exchanged, Found as Found_instead, Yes, Op, Made as Made_number, Ok as Ok_done, Refused as Was_refused}
+use Rattle.papaya_call.specs.declared.ask.Ask.{Ask}
+use Rattle.papaya_call.specs.declared.ask.Ask.TheVariants.{Load, Exchange, SameKey, ShowNone, ShowPair, SizeOf, MakeKey, MakePair, MakeTable, AddToShard, Done}
+use Rattle.papaya_call.specs.declared.ask.At.TheVariants.{Root, Next, Aborted, Done as Done_word, Slot}
+use Rattle.papaya_call.specs.declared.ask.OpKind.{OpKind}
+use Rattle.papaya_call.specs.declared.ask.OpKind.TheVariants as ops
+use Rattle.papaya_call.specs.declared.call.Reply.{Reply}
+use Rattle.papaya_call.specs.declared.call.Reply.TheVariants.{Replaced}
+use Rattle.papaya_call.specs.declared.call.Task.{Task}
+use Rattle.papaya_call.specs.declared.call.Task.TheVariants.{Get, Insert, RemoveIf, Compute}
+use Rattle.papaya_call.specs.declared.compute.Gap.{Gap}
+use Rattle.papaya_call.specs.declared.remove.Removal.{Removal}
+use Rattle.papaya_call.specs.declared.search.Search.TheVariants.{Sizing, Looking, Comparing}
+use Rattle.papaya_call.specs.declared.write.Made.{Made}
+use Rattle.papaya_call.specs.declared.write.Made.TheVariants.{Nothing, Key, Pair}
+use Rattle.papaya_call.specs.declared.machine.Machine.{Machine}
+use Rattle.papaya_call.specs.declared.machine.State.{State}
+use Rattle.papaya_call.specs.declared.machine.State.TheVariants.{AtRoot, Making, Opening, Searching, Writing, Offering, Showing, Pairing, Putting, Burying, Counting, Uncounting, Leaving, Growing, Ended}
+use Rattle.papaya_call.specs.Compute.{offered}
+use Rattle.papaya_call.specs.Machine.{after, ask_of, asks, decided, judged}
+use Rattle.papaya_call.specs.Search.{look as look_seen, at_word as search_loaded, at_yes as search_compared}
+use Rattle.papaya_law.specs.Exchange.{Exchange as Law_exchange}
+use Rattle.papaya_law.specs.Grows.{exchanges}
+use Rattle.papaya_rests.specs.Followed.{IsCounting}
+use Rattle.papaya_rests.specs.Rests.{change_in, change_of_reply}
+use Rattle.papaya_rests.proofs.Followed.{counts_after}
+use Rattle.papaya_rests.proofs.Leads.{HoldsOfLeads, beaten_leads, goes_leads, left_leads, provides_leads, root_leads}
+use Rattle.papaya_book.specs.declared.keyed.Keyed as keyed
+use Rattle.papaya_book.specs.declared.rule.entry.Event.{Event}
+use Rattle.papaya_book.specs.declared.rule.entry.Step.{Step}
+use Rattle.papaya_book.specs.declared.window.Window.{Window}
+use Rattle.papaya_book.specs.Logs.{Stored, entry_of, exchange_of, exchanges_of, steps_of}
+use Rattle.papaya_book.specs.Own.{last_if, last_in}
+use Rattle.papaya_book.specs.Windows.{Does}
+use Rattle.papaya_lookup.specs.Drivers.{own, past}
+use Rattle.papaya_lookup.specs.History.{Change, Makes, changes_by, changes_of, history_of, key_of}
+use Rattle.papaya_lookup.proofs.Histories.{changes-append}
+use Rattle.papaya_change.specs.Changing.{HasChanged}
+use Rattle.papaya_change.specs.Doing.{Answers, exchanged, has_changed, was_made}
+
+-- nothing is changed yet
+abbrev IsUnchanged : State → Type 0
+IsUnchanged s = is_some (change_in s) ≡ false
+
+leads_unchanged : HoldsOfLeads IsUnchanged
+leads_unchanged = record {
+  ended_absent = refl;
+  ended_found = λ n. refl;
+  ended_occupied = λ n. refl;
+  making = refl;
+  searching = λ search. refl;
+  writing = λ write. refl;
+  offering = λ gap. refl;
+  showing = λ removal. refl;
+  putting = λ put. refl;
+  burying = λ removal. refl;
+  leaving = λ t. refl;
+  growing = λ t. refl;
+}
+
+judged_unchanged : (task : Task) (removal : Removal) (agrees : Bool) → IsUnchanged (judged task removal agrees)
+judged_unchanged Get removal agrees = refl
+judged_unchanged (Insert replace) removal agrees = refl
+judged_unchanged RemoveIf removal true = refl
+judged_unchanged RemoveIf removal false = refl
+judged_unchanged Compute removal agrees = refl
+
+decided_unchanged : (task : Task) (removal : Removal) (kind : OpKind) → IsUnchanged (decided task removal kind)
+decided_unchanged Get removal kind = refl
+decided_unchanged (Insert replace) removal kind = refl
+decided_unchanged RemoveIf removal kind = refl
+decided_unchanged Compute removal ops.Insert = refl
+decided_unchanged Compute removal ops.Remove = refl
+decided_unchanged Compute removal (ops.Abort t) = refl
+
+offered_unchanged : (gap : Gap) (kind : OpKind) → IsUnchanged (offered gap kind)
+offered_unchanged gap ops.Insert = refl
+offered_unchanged gap ops.Remove = refl
+offered_unchanged gap (ops.Abort t) = refl
+
+-- a pair that was written is in the map
+written_changed : (b : Bool) (old n : ℕ) → is_some (change_in (cond b (Counting n) (Ended (Replaced old n)))) ≡ true
+written_changed true old n = refl
+written_changed false old n = refl
+
+-- whether the map is changed after an exchange that was made, or after something else
+abbrev Moves : Bool → (before later : Bool) → Type 0
+Moves made before later = MatchBool made ((before ≡ false) × (later ≡ true)) (later ≡ before)
+
+module _ (m : Machine) where
+  abbrev Step_by : Made → State → Answer → Type 0
+  Step_by made s answer = Moves (exchanged (asks made m.hash s) (Some answer)) (is_some (change_in s)) (is_some (change_in (after (record m { made = made; state = s }) answer).state))
+
+  step : (made : Made) (s : State) (answer : Answer) → Step_by made s answer
+  step made AtRoot (Word_read word) = root_leads IsUnchanged leads_unchanged m.task m.remembered.fill word
+  step made AtRoot answer = refl
+  step made Making (Made_number n) = refl
+  step made Making answer = refl
+  step made (Opening t) Exchanged = refl
+  step made (Opening t) answer = refl
+  step made (Searching (Sizing t)) (Word_read word) = goes_leads IsUnchanged leads_unchanged m.task m.mode m.remembered (search_loaded (Sizing t) m.hash word)
+  step made (Searching (Sizing t)) (Yes same) = goes_leads IsUnchanged leads_unchanged m.task m.mode m.remembered (search_compared (Sizing t) same)
+  step made (Searching (Sizing t)) answer = refl
+  step made (Searching (Looking at)) (Word_read word) = goes_leads IsUnchanged leads_unchanged m.task m.mode m.remembered (search_loaded (Looking at) m.hash word)
+  step made (Searching (Looking at)) (Yes same) = goes_leads IsUnchanged leads_unchanged m.task m.mode m.remembered (search_compared (Looking at) same)
+  step made (Searching (Looking at)) answer = refl
+  step made (Searching (Comparing at by)) (Word_read word) = goes_leads IsUnchanged leads_unchanged m.task m.mode m.remembered (search_loaded (Comparing at by) m.hash word)
+  step made (Searching (Comparing at by)) (Yes same) = goes_leads IsUnchanged leads_unchanged m.task m.mode m.remembered (search_compared (Comparing at by) same)
+  step made (Searching (Comparing at by)) answer = refl
+  step Nothing (Writing write) (Found_instead word) = goes_leads IsUnchanged leads_unchanged m.task m.mode m.remembered (look_seen write.place m.hash word)
+  step Nothing (Writing write) answer = refl
+  step Key (Writing write) (Found_instead word) = goes_leads IsUnchanged leads_unchanged m.task m.mode m.remembered (look_seen write.place m.hash word)
+  step Key (Writing write) answer = refl
+  step (Pair n) (Writing write) (Found_instead word) = goes_leads IsUnchanged leads_unchanged m.task m.mode m.remembered (look_seen write.place m.hash word)
+  step (Pair n) (Writing write) Exchanged = (refl, written_changed (write.old == 0) (Rattle.papaya_words.specs.Word.pair_of write.old) n)
+  step (Pair n) (Writing write) answer = refl
+  step made (Offering gap) (Op kind) = offered_unchanged gap kind
+  step made (Offering gap) answer = refl
+  step made (Showing removal) (Yes agrees) = judged_unchanged m.task removal agrees
+  step made (Showing removal) (Op kind) = decided_unchanged m.task removal kind
+  step made (Showing removal) answer = refl
+  step Nothing (Pairing purpose) (Made_number n) = refl
+  step Nothing (Pairing purpose) answer = refl
+  step Key (Pairing purpose) (Made_number n) = provides_leads IsUnchanged leads_unchanged purpose n
+  step Key (Pairing purpose) answer = refl
+  step (Pair i) (Pairing purpose) (Made_number n) = provides_leads IsUnchanged leads_unchanged purpose n
+  step (Pair i) (Pairing purpose) answer = refl
+  step made (Putting put) (Found_instead word) = goes_leads IsUnchanged leads_unchanged m.task m.mode m.remembered (look_seen put.write.place m.hash word)
+  step made (Putting put) Exchanged = (refl, written_changed (put.write.old == 0) (Rattle.papaya_words.specs.Word.pair_of put.write.old) put.pair)
+  step made (Putting put) answer = refl
+  step made (Burying removal) (Found_instead word) = beaten_leads IsUnchanged leads_unchanged (record m { made = made; state = Burying removal }) removal word
+  step made (Burying removal) Exchanged = (refl, refl)
+  step made (Burying removal) answer = refl
+  step made (Counting n) Ok_done = refl
+  step made (Counting n) answer = refl
+  step made (Uncounting n) Ok_done = refl
+  step made (Uncounting n) answer = refl
+  step made (Leaving t) (Word_read word) = left_leads IsUnchanged leads_unchanged m.task m.remembered.fill t word
+  step made (Leaving t) answer = refl
+  step made (Growing t) (Word_read word) = refl
+  step made (Growing t) answer = refl
+  step made (Ended reply) Ok_done = refl
+  step made (Ended reply) answer = refl
+
+-- after an answer
+moved : (m : Machine) (answer : Answer) → Moves (exchanged (ask_of m) (Some answer)) (has_changed m) (has_changed (after m answer))
+moved m answer = step m m.made m.state answer
+
+some_then : {X Goal : Type 0} (o : Option X) → is_some o ≡ true → ((x : X) → o ≡ Some x → Goal) → Goal
+some_then None e f = absurd (cc e)
+some_then (Some x) e f = f x refl
+
+-- one that changed the map only counts
+counting : (m : Machine) → has_changed m ≡ true → IsCounting (ask_of m)
+counting m e = some_then (change_in m.state) e (λ change is. counts_after m change is)
+
+module _ {X : Type 0} where
+  joined : (xs ys zs l l' : List X) (before made later : Bool) → ys ≡ xs ++ last_if before l → zs ≡ ys ++ last_if made l' → Moves made before later → (before ≡ true → l' ≡ l) → zs ≡ xs ++ last_if later l'
+  joined xs ys zs l l' before true later p q mv same = q ∙ (ap (λ (z : List X). z ++ last_in l') (p ∙ (ap (λ (b : Bool). xs ++ last_if b l) mv.0 ∙ append-nil xs)) ∙ ap (λ (b : Bool). xs ++ last_if b l') (sym mv.1))
+  joined xs ys zs l l' true false later p q mv same = q ∙ (append-nil ys ∙ (p ∙ (ap (λ (z : List X). xs ++ last_in z) (sym (same refl)) ∙ ap (λ (b : Bool). xs ++ last_if b l') (sym mv))))
+  joined xs ys zs l l' false false later p q mv same = q ∙ (append-nil ys ∙ (p ∙ ap (λ (b : Bool). xs ++ last_if b l') (sym mv)))
+
+  last_snoc : (xs : List X) (x : X) → last_in (xs ++ x ∷ []) ≡ x ∷ []
+  last_snoc [] x = refl
+  last_snoc (y ∷ []) x = refl
+  last_snoc (y ∷ (z ∷ zs)) x = last_snoc (z ∷ zs) x
+
+last_map : {X Y : Type 0} (f : X → Y) (xs : List X) → map f (last_in xs) ≡ last_in (map f xs)
+last_map f [] = refl
+last_map f (x ∷ []) = refl
+last_map f (x ∷ (y ∷ ys)) = last_map f (y ∷ ys)
+
+-- something else is asked for than an exchange of a slot or a count
+abbrev pub IsIdle : Ask → Type 0
+IsIdle (Exchange (Slot t x) old new) = ⊥
+IsIdle (AddToShard by) = ⊥
+IsIdle (Done reply) = ⊥
+IsIdle _ = Unit {0}
+
+idle_made : (ask : Ask) → IsIdle ask → (answer : Option Answer) → exchanged ask answer ≡ false
+idle_made (Load at) i answer = refl
+idle_made (Exchange Root old new) i answer = refl
+idle_made (Exchange (Next t) old new) i answer = refl
+idle_made (Exchange (Aborted t) old new) i answer = refl
+idle_made (Exchange (Done_word t) old new) i answer = refl
+idle_made (Exchange (Slot t x) old new) i answer = absurd i
+idle_made (SameKey n) i answer = refl
+idle_made ShowNone i answer = refl
+idle_made (ShowPair n) i answer = refl
+idle_made (SizeOf t) i answer = refl
+idle_made MakeKey i answer = refl
+idle_made MakePair i answer = refl
+idle_made (MakeTable slots limit) i answer = refl
+idle_made (AddToShard by) i answer = absurd i
+idle_made (Done reply) i answer = absurd i
+
+idle_busy : (ask : Ask) → IsIdle ask → IsCounting ask → ⊥
+idle_busy (AddToShard by) i counts = i
+idle_busy (Done reply) i counts = i
+idle_busy (Load at) i counts = counts
+idle_busy (Exchange Root old new) i counts = counts
+idle_busy (Exchange (Next t) old new) i counts = counts
+idle_busy (Exchange (Aborted t) old new) i counts = counts
+idle_busy (Exchange (Done_word t) old new) i counts = counts
+idle_busy (Exchange (Slot t x) old new) i counts = counts
+idle_busy (SameKey n) i counts = counts
+idle_busy ShowNone i counts = counts
+idle_busy (ShowPair n) i counts = counts
+idle_busy (SizeOf t) i counts = counts
+idle_busy MakeKey i counts = counts
+idle_busy MakePair i counts = counts
+idle_busy (MakeTable slots limit) i counts = counts
+
+unanswered : (ask : Ask) → exchanged ask None ≡ false
+unanswered (Exchange (Slot t x) old new) = refl
+unanswered (Exchange Root old new) = refl
+unanswered (Exchange (Next t) old new) = refl
+unanswered (Exchange (Aborted t) old new) = refl
+unanswered (Exchange (Done_word t) old new) = refl
+unanswered (Load at) = refl
+unanswered (SameKey n) = refl
+unanswered ShowNone = refl
+unanswered (ShowPair n) = refl
+unanswered (SizeOf t) = refl
+unanswered MakeKey = refl
+unanswered MakePair = refl
+unanswered (MakeTable slots limit) = refl
+unanswered (AddToShard by) = refl
+unanswered (Done reply) = refl
+
+module _ {K V S H : Type 0} {d : keyed.Ghosts S K H} where
+  -- nothing is done where what it did is the same
+  pub idles : (w w' : Window K V S H d) → w'.own ≡ w.own → Does false w w'
+  idles w w' e = ap (λ o. o.done) e ∙ sym (append-nil w.own.done)
+
+  pub idle : (ask asked : Ask) → ask ≡ asked → IsIdle ask → (answer : Option Answer) (w w' : Window K V S H d) → w'.own ≡ w.own → Answers asked answer w w'
+  idle ask asked e i answer w w' same = subst (λ (a : Ask). Answers a answer w w') e (record { does = rw (idle_made ask i answer) (idles w w' same); still = λ counts. absurd (idle_busy ask i counts) })
+
+  -- an exchange of a slot
+  pub exchanges_slot : (t x old new : ℕ) (asked : Ask) → Exchange (Slot t x) old new ≡ asked → (answer : Answer) (w w' : Window K V S H d) → Does (was_made answer) w w' → Answers asked (Some answer) w w'
+  exchanges_slot t x old new asked e answer w w' does = subst (λ (a : Ask). Answers a (Some answer) w w') e (record { does = does; still = λ counts. absurd counts })
+
+  -- where the window is left alone
+  pub left_alone : (ask : Ask) → IsCounting ask → (asked : Ask) → ask ≡ asked → (answer : Option Answer) (w : Window K V S H d) → Answers asked answer w w
+  left_alone (AddToShard by) counts asked e answer w = subst (λ (a : Ask). Answers a answer w w) e (record { does = idles w w refl; still = λ counts. refl })
+  left_alone (Done reply) counts asked e answer w = subst (λ (a : Ask). Answers a answer w w) e (record { does = idles w w refl; still = λ counts. refl })
+  left_alone _ counts asked e answer w = absurd counts
+
+  -- An exchange was tried, and where it was made the call is told so.
+  pub tried : (b : Bool) (answer : Answer) (P Q : Type 0) (found : ℕ) → MatchBool b ((answer ≡ Exchanged) × P) ((answer ≡ Found_instead found) × Q) → (w w' : Window K V S H d) → Does b w w' → Does (was_made answer) w w'
+  tried true answer P Q found h w w' does = rw h.0 does
+  tried false answer P Q found h w w' does = rw h.0 does
+
+  -- what the call did goes on
+  pub does_on : (m : Machine) (answer : Answer) (a w w' : Window K V S H d) → Does (has_changed m) a w → Answers (ask_of m) (Some answer) w w' → Does (has_changed (after m answer)) a w'
+  does_on m answer a w w' h h' =
+      joined a.own.done w.own.done w'.own.done (steps_of w.sight.log) (steps_of w'.sight.log) (has_changed m) (exchanged (ask_of m) (Some answer)) (has_changed (after m answer)) h h'.does (moved m answer)
+      (λ e. ap steps_of (h'.still (counting m e)))
+
+  -- and is what it was where there is no answer
+  pub does_still : (m : Machine) (a w w' : Window K V S H d) → Does (has_changed m) a w → Answers (ask_of m) None w w' → Does (has_changed m) a w'
+  does_still m a w w' h h' =
+      joined a.own.done w.own.done w'.own.done (steps_of w.sight.log) (steps_of w'.sight.log) (has_changed m) false (has_changed m) h (subst (λ (b : Bool). Does b w w') (unanswered (ask_of m)) h'.does) refl
+      (λ e. ap steps_of (h'.still (counting m e)))
+
+-- the exchanges of a log are those of its steps
+exchanges_are : {K V : Type 0} (es : List (Step K V)) → exchanges (map entry_of es) ≡ map exchange_of es
+exchanges_are [] = refl
+exchanges_are (e ∷ es) = ap (λ (xs : List (Law_exchange (Stored _ _))). exchange_of e ∷ xs) (exchanges_are es)
+
+module _ {K V S : Type 0} (eq : K → K → Bool) (begun log : List (Event K V S)) (taken put : Option (Stored K V)) (change : Option ℕ × Option ℕ) (h : HasChanged eq begun log taken put change) where
+  abbrev made : Change K (Stored K V)
+  made = record { class = h.class; taken = taken; put = put }
+
+  -- the last exchange of the log makes the call's change
+  last_made : changes_by (last_in (steps_of log)) ≡ made ∷ []
+  last_made =
+      let last : map exchange_of (last_in (steps_of log)) ≡ h.by ∷ [] = last_map exchange_of (steps_of log) ∙ (ap last_in (sym (exchanges_are (steps_of log)) ∙ h.is) ∙ last_snoc (exchanges_of h.before) h.by) in
+      ap (changes_of key_of) last ∙ (append-nil _ ∙ h.change_is)
+
+  -- which is the last of the history
+  last_history : last_in (history_of log) ≡ made ∷ []
+  last_history =
+      ap (λ es. last_in (changes_of key_of es)) h.is ∙ (ap last_in (changes-append key_of (exchanges_of h.before) (h.by ∷ []) ∙ ap (λ (cs : List (Change K (Stored K V))). history_of h.before ++ cs) (append-nil _ ∙ h.change_is)) ∙ last_snoc (history_of h.before) made)
+
+  pub same_last : changes_by (last_in (steps_of log)) ≡ last_in (history_of log)
+  same_last = last_made ∙ sym last_history
+
+changes_split : {K V : Type 0} (xs ys : List (Step K V)) → changes_by (xs ++ ys) ≡ changes_by xs ++ changes_by ys
+changes_split xs ys = ap (changes_of key_of) (map-append exchange_of xs ys) ∙ changes-append key_of (map exchange_of xs) (map exchange_of ys)
+
+module _ {K V S H : Type 0} {d : keyed.Ghosts S K H} (eq : K → K → Bool) (begun : List (Event K V S)) (taken put : Option (Stored K V)) where
+  makes_as : (o : Option (Option ℕ × Option ℕ)) (a w : Window K V S H d) → ((change : Option ℕ × Option ℕ) → o ≡ Some change → HasChanged eq begun w.sight.log taken put change) → Does (is_some o) a w → Makes (is_some o) (own a) (own w) (past w)
+  makes_as None a w h does = ap changes_by does ∙ changes_split a.own.done []
+  makes_as (Some change) a w h does = ap changes_by does ∙ (changes_split a.own.done (last_in (steps_of w.sight.log)) ∙ ap (λ (cs : List (Change K (Stored K V))). own a ++ cs) (same_last eq begun w.sight.log taken put change (h change refl)))
+
+  -- what it did is its change
+  pub makes : (m : Machine) (a w : Window K V S H d) → ((change : Option ℕ × Option ℕ) → change_in m.state ≡ Some change → HasChanged eq begun w.sight.log taken put change) → Does (has_changed m) a w → Makes (has_changed m) (own a) (own w) (past w)
+  makes m a w h does = makes_as (change_in m.state) a w h does
+
+-- what a call with this reply has changed
+replied_in : (made : Made) (hash : ℕ) (s : State) (reply : Reply) → asks made hash s ≡ Done reply → change_in s ≡ change_of_reply reply
+replied_in made hash AtRoot reply e = absurd (cc e)
+replied_in made hash Making reply e = absurd (cc e)
+replied_in made hash (Opening t) reply e = absurd (cc e)
+replied_in made hash (Searching (Sizing t)) reply e = absurd (cc e)
+replied_in made hash (Searching (Looking at)) reply e = absurd (cc e)
+replied_in made hash (Searching (Comparing at word)) reply e = absurd (cc e)
+replied_in Nothing hash (Writing write) reply e = absurd (cc e)
+replied_in Key hash (Writing write) reply e = absurd (cc e)
+replied_in (Pair n) hash (Writing write) reply e = absurd (cc e)
+replied_in made hash (Offering gap) reply e = absurd (cc e)
+replied_in made hash (Showing removal) reply e = absurd (cc e)
+replied_in Nothing hash (Pairing purpose) reply e = absurd (cc e)
+replied_in Key hash (Pairing purpose) reply e = absurd (cc e)
+replied_in (Pair n) hash (Pairing purpose) reply e = absurd (cc e)
+replied_in made hash (Putting put) reply e = absurd (cc e)
+replied_in made hash (Burying removal) reply e = absurd (cc e)
+replied_in made hash (Counting n) reply e = absurd (cc e)
+replied_in made hash (Uncounting n) reply e = absurd (cc e)
+replied_in made hash (Leaving t) reply e = absurd (cc e)
+replied_in made hash (Growing t) reply e = absurd (cc e)
+replied_in made hash (Ended given) reply e = let same : given ≡ reply = cc e in ap change_of_reply same
+
+pub replied : (m : Machine) (reply : Reply) → ask_of m ≡ Done reply → has_changed m ≡ is_some (change_of_reply reply)
+replied m reply e = ap is_some (replied_in m.made m.hash m.state reply e)
