@@ -3,5 +3,7 @@ pub mod ComputeAnswers
 pub mod Computing
 -- why a map is not made
 pub mod Asked
+-- what of a map is fixed when it is made
+pub mod Fixed
 -- the same by what is seen of the map
 pub mod Computes

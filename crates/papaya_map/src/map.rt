@@ -5,6 +5,7 @@ ghost use Rattle.logbook.specs.Pages.{Book as BookName};
 ghost use Rattle.papaya_words.specs.declared.limits.TheConstants.{DEFAULT_CHUNK, DEFAULT_SHARDS};
 ghost use Rattle.papaya_keys.specs.Sizes.{IsAllowed};
 ghost use Rattle.papaya_map.specs.Asked.{IsRefused};
+ghost use Rattle.papaya_map.specs.Fixed.{Fixed, IsFor};
 ghost use Rattle.papaya_change.specs.Changes.{IsPut};
 ghost use Rattle.papaya_map.specs.ComputeAnswers.{IsComputeBy};
 ghost use Rattle.papaya_lookup.specs.History.{IsLegalHistory, Past, history_of, key_of};
@@ -32,7 +33,8 @@ use std::hash::{BuildHasher, BuildHasherDefault, FoldHasher, Hash};
 use std::marker::Model;
 use std::sync::Wait;
 
-/// A map that threads share. Contracts see which book it has.
+/// A map that threads share. Contracts see what of it is fixed when it is made: which book it has,
+/// how it resizes, and the initial capacity by which its first table is sized.
 #[derive(Drop)]
 pub struct HashMap<K: Hash + Eq, V, S: BuildHasher = BuildHasherDefault<FoldHasher>> {
     alloc: Global,
@@ -43,9 +45,9 @@ pub struct HashMap<K: Hash + Eq, V, S: BuildHasher = BuildHasherDefault<FoldHash
 }
 
 impl<K: Hash + Eq, V, S: BuildHasher> Model for HashMap<K, V, S> {
-    ghost Value = { BookName };
+    ghost Value = { Fixed };
 
-    ghost view = { λ m. m.book.begun.book };
+    ghost view = { λ m. record { book = m.book.begun.book; mode = m.book.parts.mode; initial = m.initial } };
 }
 
 /// What a caller has seen of a map's history. It has no bytes. Contracts see that history, which is
@@ -66,7 +68,8 @@ impl<K: Hash + Eq, V, S: BuildHasher> Model for Pass<K, V, S> {
     ghost invariant = { λ p. IsLegalHistory K.eq key_of (history_of p.sight.log) };
 }
 
-/// A map, as calls take it. What it answers stays for as long as the map does.
+/// A map, as calls take it. What it answers stays for as long as the map does. Contracts see which
+/// book the map has.
 #[derive(Drop)]
 pub struct HashMapRef<'a, K: Hash + Eq, V, S: BuildHasher> {
     map: &'a HashMap<K, V, S>,
@@ -76,7 +79,7 @@ pub struct HashMapRef<'a, K: Hash + Eq, V, S: BuildHasher> {
 impl<'a, K: Hash + Eq, V, S: BuildHasher> Model for HashMapRef<'a, K, V, S> {
     ghost Value = { BookName };
 
-    ghost view = { λ r. r.map.now };
+    ghost view = { λ r. r.map.now.book };
 }
 
 impl<K: Hash + Eq + Drop, V: Drop, S: BuildHasher + Drop> HashMap<K, V, S> {
@@ -95,6 +98,7 @@ impl<K: Hash + Eq + Drop, V: Drop, S: BuildHasher + Drop> HashMap<K, V, S> {
         hasher: S,
     ) -> Result<HashMap<K, V, S>, Refused>
         ensures ok { IfOk result (λ map. IsAllowed mode capacity shards) }
+        ensures made { IfOk result (IsFor mode capacity) }
         ensures err { IfErr result (λ e. IsRefused mode capacity shards e) }
     {
         check_chunk(mode)?;
@@ -124,6 +128,7 @@ impl<K: Hash + Eq + Drop, V: Drop> HashMap<K, V, BuildHasherDefault<FoldHasher>>
         rt: &R,
         alloc: Global,
     ) -> Result<HashMap<K, V, BuildHasherDefault<FoldHasher>>, Refused>
+        ensures made { IfOk result (IsFor (ResizeMode.Incremental DEFAULT_CHUNK) 0) }
         ensures err { IfErr result (λ e. e ≡ Refused.Memory) }
     {
         HashMap::with_capacity(rt, alloc, 0)
@@ -137,6 +142,7 @@ impl<K: Hash + Eq + Drop, V: Drop> HashMap<K, V, BuildHasherDefault<FoldHasher>>
         capacity: usize,
     ) -> Result<HashMap<K, V, BuildHasherDefault<FoldHasher>>, Refused>
         ensures ok { IfOk result (λ map. IsAllowed (ResizeMode.Incremental DEFAULT_CHUNK) capacity DEFAULT_SHARDS) }
+        ensures made { IfOk result (IsFor (ResizeMode.Incremental DEFAULT_CHUNK) capacity) }
         ensures err { IfErr result (λ e. IsRefused (ResizeMode.Incremental DEFAULT_CHUNK) capacity DEFAULT_SHARDS e) }
     {
         HashMap::with_parts(
@@ -154,7 +160,7 @@ impl<K: Hash + Eq, V, S: BuildHasher> HashMap<K, V, S> {
     /// The map, as calls take it.
     #[inline]
     pub fn pin(&self) -> HashMapRef<'_, K, V, S>
-        ensures { result ≡ self.now }
+        ensures { result ≡ self.now.book }
     {
         HashMapRef {
             map: self,
@@ -174,7 +180,7 @@ impl<K: Hash + Eq, V, S: BuildHasher> HashMap<K, V, S> {
 
     /// A new pass of this map.
     pub fn pass(&self) -> Pass<K, V, S>
-        ensures { result.book ≡ self.now }
+        ensures { result.book ≡ self.now.book }
     {
         let mut sight = self.book.begun.again();
         self.book.learn(&mut sight);
@@ -183,6 +189,21 @@ impl<K: Hash + Eq, V, S: BuildHasher> HashMap<K, V, S> {
 }
 
 impl<'a, K: Hash + Eq, V, S: BuildHasher> HashMapRef<'a, K, V, S> {
+    /// Tells each of two passes of this map what the other has seen. Afterwards both have seen one
+    /// history, which begins with what each had seen. Nothing is done when the program runs, and the
+    /// call is never refused.
+    pub fn meet(&self, a: &mut Pass<K, V, S>, b: &mut Pass<K, V, S>)
+        requires first { a.old.book ≡ self.now }
+        requires second { b.old.book ≡ self.now }
+        ensures books { (a.new.book ≡ a.old.book) × (b.new.book ≡ b.old.book) }
+        ensures one { a.new.history ≡ b.new.history }
+        ensures first { IsPrefix a.old.history a.new.history }
+        ensures second { IsPrefix b.old.history b.new.history }
+    {
+        a.sight.learn(&b.sight);
+        b.sight = a.sight.again();
+    }
+
     /// The value of a key: `get` of 0.2.5. It loads words and nothing else: it waits for nobody, and
     /// takes no lock and no memory.
     #[inline]

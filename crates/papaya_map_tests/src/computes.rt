@@ -32,7 +32,7 @@ fn turns<R: Wait + Abort>(
     pass: &mut NumbersPass,
     wanted: Compute<'_, u64, u64, ()>,
 )
-    requires { pass.old.book ≡ map.now }
+    requires { pass.old.book ≡ map.now.book }
     ensures { pass.new.book ≡ pass.old.book }
 {
     let found = map.pin().compute_as(rt, 65, |shown| by_parity(shown), pass);

@@ -36,7 +36,7 @@ fn a_map_past_a_limit_is_refused(rt: HostRuntime) {
 
 /// Key 1 has no value, and then 10, and then 20.
 fn replaces<R: Wait + Abort>(rt: &R, map: &Numbers, pass: &mut NumbersPass)
-    requires { pass.old.book ≡ map.now }
+    requires { pass.old.book ≡ map.now.book }
     ensures { pass.new.book ≡ pass.old.book }
 {
     finds(rt, map, 1, pass, None);
@@ -57,9 +57,33 @@ fn a_pass_sees_its_own_insertions(rt: HostRuntime) {
     counts(&rt, &map, 2);
 }
 
+/// Each of two keys has the value that one of two callers gave it.
+fn finds_both(rt: &impl Abort, map: &Numbers, pass: &mut NumbersPass)
+    requires { pass.old.book ≡ map.now.book }
+    ensures { pass.new.book ≡ pass.old.book }
+{
+    finds(rt, map, 1, pass, Some(&10));
+    finds(rt, map, 2, pass, Some(&20));
+}
+
+#[test]
+fn two_passes_meet(rt: HostRuntime) {
+    let map = numbers(&rt, rt.alloc());
+    let mut first = map.pass();
+    let mut second = map.pass();
+    map.pin().meet(&mut first, &mut second);
+    finds(&rt, &map, 2, &mut first, None);
+    finds(&rt, &map, 1, &mut second, None);
+    inserts(&rt, &map, 1, 10, &mut first, Ok(None));
+    inserts(&rt, &map, 2, 20, &mut second, Ok(None));
+    map.pin().meet(&mut first, &mut second);
+    finds_both(&rt, &map, &mut first);
+    finds_both(&rt, &map, &mut second);
+}
+
 /// The keys below 26 have themselves.
 fn fills<R: Wait + Abort>(rt: &R, map: &Numbers, pass: &mut NumbersPass)
-    requires { pass.old.book ≡ map.now }
+    requires { pass.old.book ≡ map.now.book }
     ensures { pass.new.book ≡ pass.old.book }
 {
     for key in 0..26u64 {

@@ -33,7 +33,7 @@ pub fn numbers<R: Wait + Abort>(rt: &R, alloc: Global) -> Numbers {
 
 /// A lookup answers so.
 pub fn finds(rt: &impl Abort, map: &Numbers, key: u64, pass: &mut NumbersPass, wanted: Option<&u64>)
-    requires { pass.old.book ≡ map.now }
+    requires { pass.old.book ≡ map.now.book }
     ensures { pass.new.book ≡ pass.old.book }
 {
     is(rt, map.pin().get_as(&key, pass), wanted);
@@ -48,7 +48,7 @@ pub fn inserts<R: Wait + Abort>(
     pass: &mut NumbersPass,
     wanted: Result<Option<&u64>, Refused>,
 )
-    requires { pass.old.book ≡ map.now }
+    requires { pass.old.book ≡ map.now.book }
     ensures { pass.new.book ≡ pass.old.book }
 {
     is(rt, map.pin().insert_as(rt, key, value, pass), wanted);
@@ -62,7 +62,7 @@ pub fn removes<R: Wait + Abort>(
     pass: &mut NumbersPass,
     wanted: Result<Option<&u64>, Refused>,
 )
-    requires { pass.old.book ≡ map.now }
+    requires { pass.old.book ≡ map.now.book }
     ensures { pass.new.book ≡ pass.old.book }
 {
     is(rt, map.pin().remove_as(rt, &key, pass), wanted);

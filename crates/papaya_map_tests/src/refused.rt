@@ -52,7 +52,7 @@ fn insert_again<R: Wait>(
     key: u64,
     pass: &mut NumbersPass,
 ) -> Result<bool, Refused>
-    requires { pass.old.book ≡ map.now }
+    requires { pass.old.book ≡ map.now.book }
     ensures { pass.new.book ≡ pass.old.book }
 {
     let value = key.wrapping_mul(10);

@@ -23,7 +23,7 @@ fn remove_answers_the_value_once(rt: HostRuntime) {
 
 /// Of the keys 1 and 2 the first is removed.
 fn removes_one<R: Wait + Abort>(rt: &R, map: &Numbers, pass: &mut NumbersPass)
-    requires { pass.old.book ≡ map.now }
+    requires { pass.old.book ≡ map.now.book }
     ensures { pass.new.book ≡ pass.old.book }
 {
     inserts(rt, map, 1, 10, pass, Ok(None));
@@ -80,7 +80,7 @@ fn remove_if<R: Wait, F: FnMut(&u64, &u64) -> bool>(
     agrees: F,
     pass: &mut NumbersPass,
 ) -> Told
-    requires book { pass.old.book ≡ map.now }
+    requires book { pass.old.book ≡ map.now.book }
     requires callable { F.IsAlwaysCallable agrees }
     ensures { pass.new.book ≡ pass.old.book }
 {

@@ -32,7 +32,7 @@ fn inserts<R: Wait + Abort>(
     value: u64,
     pass: &mut TextsPass,
 ) -> Result<(), Fail>
-    requires { pass.old.book ≡ map.now }
+    requires { pass.old.book ≡ map.now.book }
     ensures { pass.new.book ≡ pass.old.book }
 {
     let key = key.to_string(alloc)?;
@@ -42,7 +42,7 @@ fn inserts<R: Wait + Abort>(
 
 /// A lookup by this text answers so.
 fn finds(rt: &impl Abort, map: &Texts, key: &str, pass: &mut TextsPass, wanted: Option<&u64>)
-    requires { pass.old.book ≡ map.now }
+    requires { pass.old.book ≡ map.now.book }
     ensures { pass.new.book ≡ pass.old.book }
 {
     is(rt, map.pin().get_as(&TextKey(key), pass), wanted);
@@ -56,7 +56,7 @@ fn removes<R: Wait + Abort>(
     pass: &mut TextsPass,
     wanted: Option<&u64>,
 )
-    requires { pass.old.book ≡ map.now }
+    requires { pass.old.book ≡ map.now.book }
     ensures { pass.new.book ≡ pass.old.book }
 {
     is(rt, map.pin().remove_as(rt, &TextKey(key), pass), Ok(wanted));

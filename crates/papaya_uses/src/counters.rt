@@ -35,7 +35,7 @@ impl<'a> Model for Adder<'a> {
 impl<'a> Adder<'a> {
     /// An adder of the thread's own.
     pub fn new(counters: &'a Counters) -> Adder<'a>
-        ensures { result.book ≡ counters.now }
+        ensures { result.book ≡ counters.now.book }
     {
         Adder {
             counters: counters.pin(),

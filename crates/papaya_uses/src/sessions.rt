@@ -34,7 +34,7 @@ impl<'a> Model for Desk<'a> {
 impl<'a> Desk<'a> {
     /// A desk of the thread's own.
     pub fn new(sessions: &'a Sessions) -> Desk<'a>
-        ensures { result.book ≡ sessions.now }
+        ensures { result.book ≡ sessions.now.book }
     {
         Desk {
             sessions: sessions.pin(),
