@@ -1,5 +1,7 @@
 pub mod Answers
+pub mod Carry
 pub mod Compute
+pub mod Link
 pub mod Machine
 pub mod Remove
 pub mod Search

@@ -7,7 +7,10 @@
 pub mod answers;
 pub mod ask;
 pub mod call;
+pub mod carry;
 pub mod compute;
+pub mod copy_ask;
+pub mod link;
 pub mod machine;
 pub mod remove;
 pub mod search;
