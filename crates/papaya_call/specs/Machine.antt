@@ -8,10 +8,10 @@ use Rattle.papaya_words.specs.declared.probe.Refused.TheVariants.{Capacity}
 use Rattle.papaya_words.specs.declared.probe.ResizeMode.{ResizeMode}
 use Rattle.papaya_words.specs.declared.probe.ResizeMode.TheVariants.{Incremental, Blocking}
 use Rattle.papaya_words.specs.declared.word.Kind.{Kind}
-use Rattle.papaya_words.specs.declared.word.Kind.TheVariants.{Empty as Is_empty, Live, Marked, Copied, Buried, Closed}
+use Rattle.papaya_words.specs.declared.word.Kind.TheVariants.{Live, Buried}
 use Rattle.papaya_call.specs.declared.ask.At.TheVariants.{Root, Next}
 use Rattle.papaya_call.specs.declared.ask.Ask.{Ask}
-use Rattle.papaya_call.specs.declared.ask.Ask.TheVariants.{Load, Exchange, SameKey, ShowNone, ShowPair, SizeOf, MakeKey, MakePair, MakeTable, AddToShard, Done}
+use Rattle.papaya_call.specs.declared.ask.Ask.TheVariants.{Load, Exchange, SameKey, ShowNone, SizeOf, MakeKey, MakePair, MakeTable, AddToShard, Done}
 use Rattle.papaya_call.specs.declared.ask.Answer.{Answer}
 use Rattle.papaya_call.specs.declared.ask.Answer.TheVariants.{Word as Word_read, Exchanged, Found as Found_instead, Yes, Op, Size, Made as Made_number, Ok as Ok_done, Refused as Was_refused}
 use Rattle.papaya_call.specs.declared.ask.OpKind.{OpKind}

@@ -4,7 +4,7 @@ use Rattle.std.specs.Int.{IsPowerOfTwo}
 use Rattle.papaya_words.specs.Word.{kind_of, byte_of, pair_of, top_byte}
 use Rattle.papaya_words.specs.Probe.{place}
 use Rattle.papaya_words.specs.declared.word.Kind.{Kind}
-use Rattle.papaya_words.specs.declared.word.Kind.TheVariants.{Empty as Is_empty, Live, Marked, Copied, Buried, Closed}
+use Rattle.papaya_words.specs.declared.word.Kind.TheVariants.{Empty as Is_empty, Copied, Buried, Closed}
 use Rattle.papaya_call.specs.declared.ask.At.TheVariants.{Slot}
 use Rattle.papaya_call.specs.declared.ask.Ask.{Ask}
 use Rattle.papaya_call.specs.declared.ask.Ask.TheVariants.{Load, SameKey, SizeOf}

@@ -7,8 +7,14 @@
 pub mod answers;
 pub mod ask;
 pub mod call;
+pub mod carry;
 pub mod compute;
+pub mod copy_ask;
+pub mod copying;
+pub mod link;
 pub mod machine;
 pub mod remove;
 pub mod search;
+pub mod settle;
+pub mod step;
 pub mod write;

@@ -24,6 +24,7 @@ pub mod Onward
 pub mod Turns
 pub mod Walks
 pub mod Copies
+pub mod CopierFacts
 -- tables that come later, and logs
 pub mod Carries
 pub mod Grows

@@ -3,7 +3,7 @@ use Rattle.std.specs.Prelude.{◌≡◌, ℕ, ◌<◌, ◌^◌, true, Some}
 use Rattle.papaya_words.specs.declared.word.Kind.{Kind}
 use Rattle.papaya_words.specs.declared.word.Kind.TheVariants as kinds
 use Rattle.papaya_words.specs.Word.{live_word, marked_word, copied_word, buried_word, top_byte}
-use Rattle.papaya_law.specs.Exchange.{Word, Empty, Closed, Live, Marked, Copied, Buried, Setting, Exchange, Open, Claim, Replace, Bury, Link, Mark, Close, Place, Finish, Advance, Promote, Abort}
+use Rattle.papaya_law.specs.Exchange.{Word, Empty, Closed, Live, Marked, Copied, Buried, Setting, Exchange, Claim, Replace, Bury, Mark, Close, Place, Finish}
 use Rattle.papaya_law.specs.Invariant.{named}
 use Rattle.papaya_law.specs.Meaning.{IsLawful}
 use Rattle.papaya_words.specs.Probe.{place}

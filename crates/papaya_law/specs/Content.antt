@@ -1,6 +1,6 @@
 -- What the table of the root has, as a list of pairs, and the map that such a list is.
 use Rattle.std.specs.Prelude.{◌≡◌, ℕ, zero, suc, ◌++◌, Bool, cond, Option, None, Some, List, [], ◌∷◌}
-use Rattle.papaya_law.specs.Exchange.{Word, Empty, Closed, Live, Marked, Copied, Buried, Setting, State, Exchange, Claim, Bury}
+use Rattle.papaya_law.specs.Exchange.{Word, Live, Marked, Setting, State, Exchange, Claim, Bury}
 
 -- the pair that a search finds in a slot, if there is one
 abbrev pub pairs_of_word : {P : Type 0} → Word P → List P

@@ -1,6 +1,6 @@
 -- Where copies go, and what a copier knows.
 use Rattle.std.specs.Prelude.{◌≡◌, ◌⊎◌, ℕ, suc, ◌<◌, true, false}
-use Rattle.papaya_law.specs.Exchange.{Word, Empty, Closed, Live, Marked, Copied, Buried, Setting, State, walk}
+use Rattle.papaya_law.specs.Exchange.{Word, Empty, Live, Marked, Copied, Setting, State, walk}
 use Rattle.papaya_law.specs.View.{look, foreign, IsFull, HasWord}
 
 -- Copies from t go to n: n comes some links after t, and the tables between are aborted or, without

@@ -1,7 +1,7 @@
 -- Tables that come later: settings that agree on the tables of the chain, and the setting that a
 -- growing list of tables or a log gives.
 use Rattle.std.specs.Prelude.{◌≡◌, ◌⊎◌, ℕ, ◌<◌, ◌==◌, ◌||◌, Bool, true, false, cond, List, [], ◌∷◌}
-use Rattle.papaya_law.specs.Exchange.{Setting, State, Exchange, Open, Claim, Replace, Bury, Link, Mark, Close, Place, Finish, Advance, Promote, Abort}
+use Rattle.papaya_law.specs.Exchange.{Setting, State, Exchange, Open, Link}
 
 -- g' says of modes, keys and the tables of the chain what g says; of other tables it may say
 -- anything

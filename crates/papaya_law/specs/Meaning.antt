@@ -1,6 +1,6 @@
 -- The map that a list of exchanges leaves, and what it is for words to mean a map.
 use Rattle.std.specs.Prelude.{◌≡◌, ◌⊎◌, ℕ, ◌<◌, ◌++◌, true, false, cond, Option, None, Some, List, [], ◌∷◌}
-use Rattle.papaya_law.specs.Exchange.{Setting, Exchange, Open, Claim, Replace, Bury, Link, Mark, Close, Place, Finish, Advance, Promote, Abort, State}
+use Rattle.papaya_law.specs.Exchange.{Setting, Exchange, Claim, Replace, Bury, State}
 use Rattle.papaya_law.specs.View.{Free, Here, Leaving, look, beyond, IsPassed, IsReached}
 
 -- Equal keys have equal places, and a search looks within the table, at one place at least.

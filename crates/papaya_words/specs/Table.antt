@@ -1,5 +1,6 @@
 -- The words of one table, and the lengths of tables.
-use Rattle.std.specs.Prelude.{ℕ, ◌*◌, ◌/◌, Bool, ◌||◌, nat_le, if◌then◌else◌, max, List, replicate}
+use Rattle.std.specs.Prelude.{ℕ, ◌*◌, ◌/◌, ◌-◌, Bool, ◌||◌, nat_le, if◌then◌else◌, max, List, replicate}
+use Rattle.papaya_words.specs.Probe.{limit_of}
 
 -- a table: its number, how far a search of it goes, its slot words, the number of the next table or 0, 1 where it was aborted, and how many slots of the table before it are copied
 pub record TableWords : Type 0 where
@@ -20,3 +21,7 @@ length_after len count initial did_not_fit =
     if did_not_fit || nat_le (len / 2) count then 2 * len
     else if nat_le count (len / 8) then max initial (len / 2)
     else len
+
+-- the limit of the table after one of so many slots: every slot is probed where a pair did not fit or the table grows no longer
+abbrev pub limit_after : (len before : ℕ) → Bool → ℕ
+limit_after len before did_not_fit = if did_not_fit || nat_le len before then len - 1 else limit_of len

@@ -1,7 +1,8 @@
 //! One table of slots, and how long tables are.
-ghost use Rattle.std.specs.Prelude.{◌≡◌, ◌-◌, ◌^◌, ◌<◌, ◌≤◌, ◌⊎◌, true, false, max, MatchResult, IfOk, IfErr, length, slice_get, Some, slice_set};
+ghost use Rattle.std.specs.Prelude.{◌≡◌, ℕ, Bool, ◌-◌, ◌^◌, ◌<◌, ◌≤◌, ◌⊎◌, true, false, max, MatchResult, IfOk, IfErr, length, slice_get, Some, slice_set};
 ghost use Rattle.papaya_words.specs.Probe.{IsLimit};
-ghost use Rattle.papaya_words.specs.Table.{length_after};
+ghost use Rattle.std.specs.Int.{IsPowerOfTwo};
+ghost use Rattle.papaya_words.specs.Table.{length_after, limit_after};
 
 use crate::limits::{LEAST_TABLE_LEN, MAX_TABLE_LEN};
 use crate::probe::{Refused, limit};
@@ -183,6 +184,8 @@ pub fn next_len(
 /// is probed.
 pub fn next_limit(len: usize, before: usize, did_not_fit: bool) -> usize
     requires { 1 ≤ len }
+    ensures value { result ≡ limit_after len before did_not_fit }
+    ensures small { len ≤ 2 ^ 32 → result < 2 ^ 32 }
     ensures whole { (did_not_fit ≡ true) ⊎ (len ≤ before) → result ≡ len - 1 }
     ensures grown { did_not_fit ≡ false → before < len → IsLimit len result }
 {
@@ -192,3 +195,8 @@ pub fn next_limit(len: usize, before: usize, did_not_fit: bool) -> usize
         limit(len)
     }
 }
+
+/// A law, with nothing to run: the lengths of tables that follow one another are powers of two.
+pub fn lengths_are_powers()
+    ensures { (len count initial : ℕ) (did_not_fit : Bool) → IsPowerOfTwo len → IsPowerOfTwo initial → IsPowerOfTwo (max (length_after len count initial did_not_fit) 8) }
+{}

@@ -1,0 +1,316 @@
+//! A copier puts the pair of a marked word into a table.
+ghost use Rattle.std.specs.Prelude.{◌≡◌};
+ghost use Rattle.std.specs.Int.{IsPowerOfTwo};
+ghost use Rattle.papaya_call.specs.Carry.{IsStandingCarry, IsStandingCarried, at_count, at_exchanged, at_found, at_hash, at_made, at_refused, at_size, at_word, at_yes, carried_on, carry_ask, carry_follows, carry_kind, goes_on, look, passed};
+ghost use Rattle.papaya_call.specs.Link.{IsFitCopyAsk, IsStandingLinked};
+ghost use Rattle.papaya_call.specs.Search.{IsSize, IsWithin};
+
+use crate::ask::{At, StepKind};
+use crate::copy_ask::CopyAsk;
+use crate::link::{Link, Linked};
+use crate::search::Place;
+use papaya_words::probe::{Refused, ResizeMode};
+use papaya_words::word::{Kind, Word, h2};
+
+/// Where it stands, between two answers.
+///
+/// In 0.2.5 this is `insert_copy`.
+#[derive(Clone, Copy)]
+pub enum Carry {
+    /// It asks for the hash of the pair's key, to go to this table.
+    Hashing(u64),
+    /// It asks for the size of this table.
+    Sizing { hash: u64, table: u64 },
+    /// It loads the word at this place.
+    Looking { hash: u64, place: Place },
+    /// It compares the key of the pair that this word names, which was loaded at this place.
+    Comparing { hash: u64, place: Place, word: u64 },
+    /// It puts the pair into this place.
+    Placing { hash: u64, place: Place },
+    /// There is no place left in this table, and it loads the number of the next.
+    Passing { hash: u64, table: u64 },
+    /// It makes the next table.
+    Linking { hash: u64, link: Link },
+    /// There is no place left in this table, and it gives the table up.
+    Aborting(u64),
+}
+
+/// Where an answer led.
+#[derive(Clone, Copy)]
+pub enum Carried {
+    /// It goes on.
+    On(Carry),
+    /// A word of the pair's key stands in a table that takes the pair.
+    Carried,
+    /// This table was given up.
+    Unfit(u64),
+    /// A next table could not be made.
+    Refused(Refused),
+}
+
+impl Carry {
+    /// What is asked next, for the pair of this marked word.
+    #[inline]
+    pub fn ask(self, marked: u64) -> CopyAsk
+        requires { IsStandingCarry self }
+        ensures value { result ≡ carry_ask self marked }
+        ensures size { IsFitCopyAsk result }
+    {
+        let pair = Word(marked).pair();
+        match self {
+            Carry::Hashing(_) => CopyAsk::HashOf(pair),
+            Carry::Sizing { table, .. } => CopyAsk::SizeOf(table),
+            Carry::Looking { place, .. } => CopyAsk::Load(At::Slot(place.table, place.probe.i)),
+            Carry::Comparing { word, .. } => CopyAsk::SamePair(pair, Word(word).pair()),
+            Carry::Placing { place, .. } => CopyAsk::Exchange(
+                At::Slot(place.table, place.probe.i),
+                0,
+                Word::live(Word(marked).hash_byte(), pair).0,
+            ),
+            Carry::Passing { table, .. } => CopyAsk::Load(At::Next(table)),
+            Carry::Linking { link, .. } => link.ask(),
+            Carry::Aborting(table) => CopyAsk::Exchange(At::Aborted(table), 0, 1),
+        }
+    }
+
+    /// The kind of the exchange that is asked for, if one is.
+    #[inline]
+    pub fn kind(self) -> Option<StepKind>
+        ensures { result ≡ carry_kind self }
+    {
+        match self {
+            Carry::Placing { .. } => Some(StepKind::Place),
+            Carry::Linking { link, .. } => link.kind(),
+            Carry::Aborting(_) => Some(StepKind::Abort),
+            _ => None,
+        }
+    }
+
+    /// The table that one in the making is to follow, 0 where none is made.
+    #[inline]
+    pub fn follows(self) -> u64
+        ensures { result ≡ carry_follows self }
+    {
+        match self {
+            Carry::Linking { link, .. } => link.follows(),
+            _ => 0,
+        }
+    }
+
+    /// The pair's key has this hash.
+    #[inline]
+    pub fn at_hash(self, hash: u64) -> Carry
+        requires { IsStandingCarry self }
+        ensures value { result ≡ at_hash self hash }
+        ensures standing { IsStandingCarry result }
+    {
+        match self {
+            Carry::Hashing(table) => Carry::Sizing { hash, table },
+            carry => carry,
+        }
+    }
+
+    /// The table has this size.
+    #[inline]
+    pub fn at_size(self, len: usize, limit: usize) -> Carry
+        requires standing { IsStandingCarry self }
+        requires size { IsSize len limit }
+        ensures value { result ≡ at_size self len limit }
+        ensures standing { IsStandingCarry result }
+    {
+        match self {
+            Carry::Sizing { hash, table } => Carry::Looking {
+                hash,
+                place: Place::first(hash, table, len, limit),
+            },
+            Carry::Linking { hash, link } => Carry::Linking {
+                hash,
+                link: link.at_size(len, limit),
+            },
+            carry => carry,
+        }
+    }
+
+    /// This word was loaded.
+    #[inline]
+    pub fn at_word(self, mode: ResizeMode, word: u64) -> Carried
+        requires { IsStandingCarry self }
+        ensures value { result ≡ at_word self mode word }
+        ensures standing { IsStandingCarried result }
+    {
+        match self {
+            Carry::Looking { hash, place } => Carry::look(hash, place, mode, word),
+            Carry::Passing { hash, table } => Carried::On(Carry::passed(hash, table, word)),
+            carry => Carried::On(carry),
+        }
+    }
+
+    /// The keys match, or they do not.
+    #[inline]
+    pub fn at_yes(self, mode: ResizeMode, yes: bool) -> Carried
+        requires { IsStandingCarry self }
+        ensures value { result ≡ at_yes self mode yes }
+        ensures standing { IsStandingCarried result }
+    {
+        match self {
+            Carry::Comparing { hash, place, .. } => {
+                if yes {
+                    Carried::Carried
+                } else {
+                    Carry::goes_on(hash, place, mode)
+                }
+            }
+            carry => Carried::On(carry),
+        }
+    }
+
+    /// The exchange was made.
+    #[inline]
+    pub fn at_exchanged(self) -> Carried
+        requires { IsStandingCarry self }
+        ensures value { result ≡ at_exchanged self }
+        ensures standing { IsStandingCarried result }
+    {
+        match self {
+            Carry::Placing { .. } => Carried::Carried,
+            Carry::Linking { hash, link } => Carry::linked(hash, link.at_exchanged()),
+            Carry::Aborting(table) => Carried::Unfit(table),
+            carry => Carried::On(carry),
+        }
+    }
+
+    /// The exchange was not made: this word stands there.
+    #[inline]
+    pub fn at_found(self, mode: ResizeMode, word: u64) -> Carried
+        requires { IsStandingCarry self }
+        ensures value { result ≡ at_found self mode word }
+        ensures standing { IsStandingCarried result }
+    {
+        match self {
+            Carry::Placing { hash, place } => Carry::look(hash, place, mode, word),
+            Carry::Linking { hash, link } => Carry::linked(hash, link.at_found(word)),
+            Carry::Aborting(table) => Carried::Unfit(table),
+            carry => Carried::On(carry),
+        }
+    }
+
+    /// The map counts so many pairs, and its initial capacity is this.
+    #[inline]
+    pub fn at_count(self, count: usize, initial: usize) -> Carried
+        requires standing { IsStandingCarry self }
+        requires initial { IsPowerOfTwo initial }
+        ensures value { result ≡ at_count self count initial }
+        ensures standing { IsStandingCarried result }
+    {
+        match self {
+            Carry::Linking { hash, link } => Carry::linked(hash, link.at_count(count, initial)),
+            carry => Carried::On(carry),
+        }
+    }
+
+    /// A table was made, and has this number.
+    #[inline]
+    pub fn at_made(self, number: u64) -> Carry
+        requires { IsStandingCarry self }
+        ensures value { result ≡ at_made self number }
+        ensures standing { IsStandingCarry result }
+    {
+        match self {
+            Carry::Linking { hash, link } => Carry::Linking {
+                hash,
+                link: link.at_made(number),
+            },
+            carry => carry,
+        }
+    }
+
+    /// A table was not made.
+    #[inline]
+    pub fn at_refused(self, refused: Refused) -> Carried
+        requires { IsStandingCarry self }
+        ensures value { result ≡ at_refused self refused }
+        ensures standing { IsStandingCarried result }
+    {
+        match self {
+            Carry::Linking { hash, link } => Carry::linked(hash, link.at_refused(refused)),
+            carry => Carried::On(carry),
+        }
+    }
+}
+
+impl Carry {
+    /// This word stands at the place. A word of the pair's key says that the pair came there
+    /// before, also where it was removed since.
+    #[inline]
+    fn look(hash: u64, place: Place, mode: ResizeMode, word: u64) -> Carried
+        requires { IsWithin place }
+        ensures value { result ≡ look hash place mode word }
+        ensures standing { IsStandingCarried result }
+    {
+        match Word(word).kind() {
+            Kind::Empty => Carried::On(Carry::Placing { hash, place }),
+            Kind::Closed => Carry::goes_on(hash, place, mode),
+            Kind::Live | Kind::Marked | Kind::Copied | Kind::Buried => {
+                if Word(word).hash_byte() == h2(hash) {
+                    Carried::On(Carry::Comparing { hash, place, word })
+                } else {
+                    Carry::goes_on(hash, place, mode)
+                }
+            }
+        }
+    }
+
+    /// The pair's key is not at this place, so the next one is looked at, while there is one. With
+    /// `Blocking` a table into which a pair does not fit is given up.
+    #[inline]
+    fn goes_on(hash: u64, mut place: Place, mode: ResizeMode) -> Carried
+        requires { IsWithin place }
+        ensures value { result ≡ goes_on hash place mode }
+        ensures standing { IsStandingCarried result }
+    {
+        if place.probe.len < place.limit {
+            place.probe.next(place.len - 1);
+            return Carried::On(Carry::Looking { hash, place });
+        }
+        match mode {
+            ResizeMode::Incremental(_) => Carried::On(Carry::Passing {
+                hash,
+                table: place.table,
+            }),
+            ResizeMode::Blocking => Carried::On(Carry::Aborting(place.table)),
+        }
+    }
+
+    /// The next table has this number, or there is none.
+    #[inline]
+    fn passed(hash: u64, table: u64, next: u64) -> Carry
+        ensures value { result ≡ passed hash table next }
+        ensures standing { IsStandingCarry result }
+    {
+        if next == 0 {
+            Carry::Linking {
+                hash,
+                link: Link::Sizing {
+                    after: table,
+                    unfit: true,
+                },
+            }
+        } else {
+            Carry::Sizing { hash, table: next }
+        }
+    }
+
+    /// The making of the next table leads here.
+    #[inline]
+    fn linked(hash: u64, linked: Linked) -> Carried
+        requires { IsStandingLinked linked }
+        ensures value { result ≡ carried_on hash linked }
+        ensures standing { IsStandingCarried result }
+    {
+        match linked {
+            Linked::On(link) => Carried::On(Carry::Linking { hash, link }),
+            Linked::Table(table) => Carried::On(Carry::Sizing { hash, table }),
+            Linked::Refused(refused) => Carried::Refused(refused),
+        }
+    }
+}

@@ -1,0 +1,22 @@
+//! What the machines of a resize ask. They are made for the copy of tables alone, and no call asks
+//! so yet.
+use crate::ask::At;
+
+/// What a copier asks next: one atomic step on one word at most.
+#[derive(Clone, Copy, Debug, PartialEq, Eq)]
+pub enum CopyAsk {
+    /// The word that stands there.
+    Load(At),
+    /// The second word in place of the first, if the first stands there.
+    Exchange(At, u64, u64),
+    /// The size of a table, which never changes.
+    SizeOf(u64),
+    /// The hash of the key of the pair of this number, which was loaded last and is carried from now on.
+    HashOf(u64),
+    /// Have the pair that is carried and the one loaded last, of these numbers, equal keys?
+    SamePair(u64, u64),
+    /// How many pairs the map counts.
+    Count,
+    /// Make a table of so many slots, all empty, which a search looks at in `limit + 1` places.
+    MakeTable { len: usize, limit: usize },
+}

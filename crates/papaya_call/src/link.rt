@@ -1,0 +1,187 @@
+//! The making of the table after another.
+ghost use Rattle.std.specs.Prelude.{◌≡◌};
+ghost use Rattle.std.specs.Int.{IsPowerOfTwo};
+ghost use Rattle.papaya_call.specs.Search.{IsSize};
+ghost use Rattle.papaya_call.specs.Link.{IsFitCopyAsk, IsStandingLink, IsStandingLinked, at_count, at_exchanged, at_found, at_made, at_refused, at_size, link_ask, link_kind, follows};
+
+use crate::ask::{At, StepKind};
+use crate::copy_ask::CopyAsk;
+use papaya_words::probe::Refused;
+use papaya_words::table::{next_len, next_limit, table_len};
+
+/// Where it stands, between two answers.
+///
+/// In 0.2.5 this is `get_or_alloc_next`. There one caller makes the table and the others wait for
+/// it; here each makes one, and all go on with the one that was put in first.
+#[derive(Clone, Copy)]
+pub enum Link {
+    /// It asks for the size of this table, which is to get a next one. `unfit` says that a pair
+    /// found no place, or that this table was given up.
+    Sizing {
+        after: u64,
+        unfit: bool,
+    },
+    /// It asks for the count of pairs.
+    Counting {
+        after: u64,
+        unfit: bool,
+        /// How many slots that table has.
+        len: usize,
+    },
+    /// It makes a table of so many slots.
+    Making {
+        after: u64,
+        len: usize,
+        limit: usize,
+    },
+    /// It puts this table, which it made, in as the next.
+    Linking {
+        after: u64,
+        table: u64,
+    },
+}
+
+/// Where an answer led.
+#[derive(Clone, Copy)]
+pub enum Linked {
+    /// It goes on.
+    On(Link),
+    /// This is the next table.
+    Table(u64),
+    /// No table could be made.
+    Refused(Refused),
+}
+
+impl Link {
+    /// What is asked next.
+    #[inline]
+    pub fn ask(self) -> CopyAsk
+        requires { IsStandingLink self }
+        ensures value { result ≡ link_ask self }
+        ensures size { IsFitCopyAsk result }
+    {
+        match self {
+            Link::Sizing { after, .. } => CopyAsk::SizeOf(after),
+            Link::Counting { .. } => CopyAsk::Count,
+            Link::Making { len, limit, .. } => CopyAsk::MakeTable { len, limit },
+            Link::Linking { after, table } => CopyAsk::Exchange(At::Next(after), 0, table),
+        }
+    }
+
+    /// The kind of the exchange that is asked for, if one is.
+    #[inline]
+    pub fn kind(self) -> Option<StepKind>
+        ensures { result ≡ link_kind self }
+    {
+        match self {
+            Link::Linking { .. } => Some(StepKind::Link),
+            _ => None,
+        }
+    }
+
+    /// The table that is to get a next one: the one that is made has a greater number.
+    #[inline]
+    pub fn follows(self) -> u64
+        ensures { result ≡ follows self }
+    {
+        match self {
+            Link::Sizing { after, .. }
+            | Link::Counting { after, .. }
+            | Link::Making { after, .. }
+            | Link::Linking { after, .. } => after,
+        }
+    }
+
+    /// The table has so many slots.
+    #[inline]
+    pub fn at_size(self, len: usize, limit: usize) -> Link
+        requires standing { IsStandingLink self }
+        requires size { IsSize len limit }
+        ensures value { result ≡ at_size self len }
+        ensures standing { IsStandingLink result }
+    {
+        match self {
+            Link::Sizing { after, unfit } => Link::Counting { after, unfit, len },
+            link => link,
+        }
+    }
+
+    /// The map counts so many pairs, and its initial capacity is this.
+    #[inline]
+    pub fn at_count(self, count: usize, initial: usize) -> Linked
+        requires standing { IsStandingLink self }
+        requires initial { IsPowerOfTwo initial }
+        ensures value { result ≡ at_count self count initial }
+        ensures standing { IsStandingLinked result }
+    {
+        match self {
+            Link::Counting { after, unfit, len } => match next_len(len, count, initial, unfit) {
+                Ok(next) => {
+                    let next = table_len(next);
+                    Linked::On(Link::Making {
+                        after,
+                        len: next,
+                        limit: next_limit(next, len, unfit),
+                    })
+                }
+                Err(refused) => Linked::Refused(refused),
+            },
+            link => Linked::On(link),
+        }
+    }
+
+    /// The table was made, and has this number.
+    #[inline]
+    pub fn at_made(self, number: u64) -> Link
+        requires { IsStandingLink self }
+        ensures value { result ≡ at_made self number }
+        ensures standing { IsStandingLink result }
+    {
+        match self {
+            Link::Making { after, .. } => Link::Linking {
+                after,
+                table: number,
+            },
+            link => link,
+        }
+    }
+
+    /// The table was not made.
+    #[inline]
+    pub fn at_refused(self, refused: Refused) -> Linked
+        requires { IsStandingLink self }
+        ensures value { result ≡ at_refused self refused }
+        ensures standing { IsStandingLinked result }
+    {
+        match self {
+            Link::Making { .. } => Linked::Refused(refused),
+            link => Linked::On(link),
+        }
+    }
+
+    /// The table was put in.
+    #[inline]
+    pub fn at_exchanged(self) -> Linked
+        requires { IsStandingLink self }
+        ensures value { result ≡ at_exchanged self }
+        ensures standing { IsStandingLinked result }
+    {
+        match self {
+            Link::Linking { table, .. } => Linked::Table(table),
+            link => Linked::On(link),
+        }
+    }
+
+    /// Another caller put this table in before.
+    #[inline]
+    pub fn at_found(self, word: u64) -> Linked
+        requires { IsStandingLink self }
+        ensures value { result ≡ at_found self word }
+        ensures standing { IsStandingLinked result }
+    {
+        match self {
+            Link::Linking { .. } => Linked::Table(word),
+            link => Linked::On(link),
+        }
+    }
+}

@@ -1,0 +1,282 @@
+//! The copy of one slot.
+ghost use Rattle.std.specs.Prelude.{◌≡◌};
+ghost use Rattle.std.specs.Int.{IsPowerOfTwo};
+ghost use Rattle.papaya_call.specs.Carry.{IsStandingCarried};
+ghost use Rattle.papaya_call.specs.Link.{IsFitCopyAsk};
+ghost use Rattle.papaya_call.specs.Search.{IsSize};
+ghost use Rattle.papaya_call.specs.Settle.{IsStandingSettle, IsStandingSettled, at_count, at_exchanged, at_found, at_hash, at_made, at_refused, at_size, at_word, at_yes, look, marked_as, settle_ask, settle_follows, settle_kind, settled_by};
+
+use crate::ask::{At, StepKind};
+use crate::carry::{Carried, Carry};
+use crate::copy_ask::CopyAsk;
+use papaya_words::probe::{Refused, ResizeMode};
+use papaya_words::word::{Kind, Word};
+
+/// A slot that is copied.
+#[derive(Clone, Copy)]
+pub struct Slot {
+    /// The table it is in.
+    pub from: u64,
+    /// Its place in that table, from 0.
+    pub index: usize,
+    /// The table to which its pair goes first.
+    pub to: u64,
+}
+
+/// Where its copy stands, between two answers.
+///
+/// In 0.2.5 this is `copy_at_incremental` and `copy_at_blocking`. There a caller that meets a mark
+/// waits for the one that set it; here each carries the copy on.
+#[derive(Clone, Copy)]
+pub enum Settle {
+    /// It loads the slot's word.
+    Looking,
+    /// It shuts the slot, which is empty.
+    Closing,
+    /// It marks this word.
+    Marking(u64),
+    /// It puts the pair of this word, which is marked, into another table.
+    Carrying(u64, Carry),
+    /// The pair of this word was put there, and the word is to say so.
+    Finishing(u64),
+}
+
+/// Where an answer led.
+#[derive(Clone, Copy)]
+pub enum Settled {
+    /// It goes on.
+    On(Settle),
+    /// The slot is settled: whoever looks for its pair finds it further on.
+    Settled,
+    /// This table, to which copies go, was given up.
+    Unfit(u64),
+    /// A further table could not be made.
+    Refused(Refused),
+}
+
+impl Settle {
+    /// What is asked next.
+    #[inline]
+    pub fn ask(self, slot: Slot) -> CopyAsk
+        requires { IsStandingSettle self }
+        ensures value { result ≡ settle_ask self slot }
+        ensures size { IsFitCopyAsk result }
+    {
+        let at = At::Slot(slot.from, slot.index);
+        match self {
+            Settle::Looking => CopyAsk::Load(at),
+            Settle::Closing => CopyAsk::Exchange(at, 0, Word::CLOSED.0),
+            Settle::Marking(word) => CopyAsk::Exchange(at, word, Settle::marked(word)),
+            Settle::Carrying(word, carry) => carry.ask(word),
+            Settle::Finishing(word) => CopyAsk::Exchange(
+                at,
+                word,
+                Word::copied(Word(word).hash_byte(), Word(word).pair()).0,
+            ),
+        }
+    }
+
+    /// The kind of the exchange that is asked for, if one is.
+    #[inline]
+    pub fn kind(self) -> Option<StepKind>
+        ensures { result ≡ settle_kind self }
+    {
+        match self {
+            Settle::Closing => Some(StepKind::Close),
+            Settle::Marking(_) => Some(StepKind::Mark),
+            Settle::Carrying(_, carry) => carry.kind(),
+            Settle::Finishing(_) => Some(StepKind::Finish),
+            Settle::Looking => None,
+        }
+    }
+
+    /// The table that one in the making is to follow, 0 where none is made.
+    #[inline]
+    pub fn follows(self) -> u64
+        ensures { result ≡ settle_follows self }
+    {
+        match self {
+            Settle::Carrying(_, carry) => carry.follows(),
+            _ => 0,
+        }
+    }
+
+    /// The key of the pair that is carried has this hash.
+    #[inline]
+    pub fn at_hash(self, hash: u64) -> Settle
+        requires { IsStandingSettle self }
+        ensures value { result ≡ at_hash self hash }
+        ensures standing { IsStandingSettle result }
+    {
+        match self {
+            Settle::Carrying(word, carry) => Settle::Carrying(word, carry.at_hash(hash)),
+            settle => settle,
+        }
+    }
+
+    /// A table has this size.
+    #[inline]
+    pub fn at_size(self, len: usize, limit: usize) -> Settle
+        requires standing { IsStandingSettle self }
+        requires size { IsSize len limit }
+        ensures value { result ≡ at_size self len limit }
+        ensures standing { IsStandingSettle result }
+    {
+        match self {
+            Settle::Carrying(word, carry) => Settle::Carrying(word, carry.at_size(len, limit)),
+            settle => settle,
+        }
+    }
+
+    /// This word was loaded.
+    #[inline]
+    pub fn at_word(self, slot: Slot, mode: ResizeMode, word: u64) -> Settled
+        requires { IsStandingSettle self }
+        ensures value { result ≡ at_word self slot mode word }
+        ensures standing { IsStandingSettled result }
+    {
+        match self {
+            Settle::Looking => Settle::look(slot, word),
+            Settle::Carrying(marked, carry) => {
+                Settle::carried(marked, mode, carry.at_word(mode, word))
+            }
+            settle => Settled::On(settle),
+        }
+    }
+
+    /// The keys match, or they do not.
+    #[inline]
+    pub fn at_yes(self, mode: ResizeMode, yes: bool) -> Settled
+        requires { IsStandingSettle self }
+        ensures value { result ≡ at_yes self mode yes }
+        ensures standing { IsStandingSettled result }
+    {
+        match self {
+            Settle::Carrying(marked, carry) => {
+                Settle::carried(marked, mode, carry.at_yes(mode, yes))
+            }
+            settle => Settled::On(settle),
+        }
+    }
+
+    /// The exchange was made. A pair that was marked is carried on by whoever marked it.
+    #[inline]
+    pub fn at_exchanged(self, slot: Slot, mode: ResizeMode) -> Settled
+        requires { IsStandingSettle self }
+        ensures value { result ≡ at_exchanged self slot mode }
+        ensures standing { IsStandingSettled result }
+    {
+        match self {
+            Settle::Looking => Settled::On(Settle::Looking),
+            Settle::Closing | Settle::Finishing(_) => Settled::Settled,
+            Settle::Marking(word) => Settled::On(Settle::Carrying(
+                Settle::marked(word),
+                Carry::Hashing(slot.to),
+            )),
+            Settle::Carrying(marked, carry) => Settle::carried(marked, mode, carry.at_exchanged()),
+        }
+    }
+
+    /// The exchange was not made: this word stands there.
+    #[inline]
+    pub fn at_found(self, slot: Slot, mode: ResizeMode, word: u64) -> Settled
+        requires { IsStandingSettle self }
+        ensures value { result ≡ at_found self slot mode word }
+        ensures standing { IsStandingSettled result }
+    {
+        match self {
+            Settle::Looking => Settled::On(Settle::Looking),
+            Settle::Closing | Settle::Marking(_) => Settle::look(slot, word),
+            Settle::Carrying(marked, carry) => {
+                Settle::carried(marked, mode, carry.at_found(mode, word))
+            }
+            Settle::Finishing(_) => Settled::Settled,
+        }
+    }
+
+    /// The map counts so many pairs, and its initial capacity is this.
+    #[inline]
+    pub fn at_count(self, mode: ResizeMode, count: usize, initial: usize) -> Settled
+        requires standing { IsStandingSettle self }
+        requires initial { IsPowerOfTwo initial }
+        ensures value { result ≡ at_count self mode count initial }
+        ensures standing { IsStandingSettled result }
+    {
+        match self {
+            Settle::Carrying(marked, carry) => {
+                Settle::carried(marked, mode, carry.at_count(count, initial))
+            }
+            settle => Settled::On(settle),
+        }
+    }
+
+    /// A table was made, and has this number.
+    #[inline]
+    pub fn at_made(self, number: u64) -> Settle
+        requires { IsStandingSettle self }
+        ensures value { result ≡ at_made self number }
+        ensures standing { IsStandingSettle result }
+    {
+        match self {
+            Settle::Carrying(marked, carry) => Settle::Carrying(marked, carry.at_made(number)),
+            settle => settle,
+        }
+    }
+
+    /// A table was not made.
+    #[inline]
+    pub fn at_refused(self, mode: ResizeMode, refused: Refused) -> Settled
+        requires { IsStandingSettle self }
+        ensures value { result ≡ at_refused self mode refused }
+        ensures standing { IsStandingSettled result }
+    {
+        match self {
+            Settle::Carrying(marked, carry) => {
+                Settle::carried(marked, mode, carry.at_refused(refused))
+            }
+            settle => Settled::On(settle),
+        }
+    }
+}
+
+impl Settle {
+    /// This word stands in the slot.
+    #[inline]
+    fn look(slot: Slot, word: u64) -> Settled
+        ensures value { result ≡ look slot word }
+        ensures standing { IsStandingSettled result }
+    {
+        match Word(word).kind() {
+            Kind::Empty => Settled::On(Settle::Closing),
+            Kind::Live => Settled::On(Settle::Marking(word)),
+            Kind::Marked => Settled::On(Settle::Carrying(word, Carry::Hashing(slot.to))),
+            Kind::Copied | Kind::Buried | Kind::Closed => Settled::Settled,
+        }
+    }
+
+    /// This word, with its pair marked.
+    #[inline]
+    fn marked(word: u64) -> u64
+        ensures { result ≡ marked_as word }
+    {
+        Word::marked(Word(word).hash_byte(), Word(word).pair()).0
+    }
+
+    /// The carry of the pair of this marked word leads here.
+    #[inline]
+    fn carried(marked: u64, mode: ResizeMode, carried: Carried) -> Settled
+        requires { IsStandingCarried carried }
+        ensures value { result ≡ settled_by marked mode carried }
+        ensures standing { IsStandingSettled result }
+    {
+        match carried {
+            Carried::On(carry) => Settled::On(Settle::Carrying(marked, carry)),
+            Carried::Carried => match mode {
+                ResizeMode::Incremental(_) => Settled::On(Settle::Finishing(marked)),
+                ResizeMode::Blocking => Settled::Settled,
+            },
+            Carried::Unfit(table) => Settled::Unfit(table),
+            Carried::Refused(refused) => Settled::Refused(refused),
+        }
+    }
+}
