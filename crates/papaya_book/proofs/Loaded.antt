@@ -99,11 +99,11 @@ table_since v log t sheet pre h = (h.0, ap (λ (l : List (Event _ _ _)). table_i
 pub next_key : {K V S : Type 0} (log : List (Event K V S)) (t : ℕ) (sheet : Sheet) → IsTable log t sheet → key_at (steps_of log) (Next t) ≡ Some sheet.next
 next_key log t sheet h = ap (in_table (λ s. Some s.next)) h.1 ∙ ap (λ (s : Sheet). Some s.next) h.2
 
-module _ {K V S : Type 0} (eq : K → K → Bool) (hash : S → K → ℕ) (b : Begun K V S) (log : List (Event K V S)) (hashed : IsHashed (setting_of eq (hash b.hasher) b.mode log) (coding_of (hash b.hasher))) (name : Book) (called : name_in log ≡ Some name) (found : ℕ) (state : Option (Named K V)) (t x : ℕ) (r : IsRead eq hash b (Slot t x) found log state) where
-  -- the pair of a slot's word may be taken
-  pub names_pair : NamesPair found state
-  names_pair m n = let s = slot_told eq hash b log hashed name called found state t x r m n in (s.pair, s.gained, s.number)
+one_told : {K V : Type 0} (o : Option (Stored K V)) (p : Stored K V) → pair_named o ≡ names.Pair p → o ≡ Some p
+one_told None p e = absurd (cc e)
+one_told (Some q) p e = ap (λ z. Some z) (cc e)
 
+module _ {K V S : Type 0} (eq : K → K → Bool) (hash : S → K → ℕ) (b : Begun K V S) (log : List (Event K V S)) (found : ℕ) (state : Option (Named K V)) (t x : ℕ) (r : IsRead eq hash b (Slot t x) found log state) where
   kind_here : (w : Word (Stored K V)) → (state_of log).slot t x ≡ w → kind_of found ≡ kind w
   kind_here w e = ap kind_of (sym r.is) ∙ (ap (λ (z : Word (Stored K V)). kind_of (code (setting_of eq (hash b.hasher) b.mode log) (coding_of (hash b.hasher)) z)) e ∙ code_kind (setting_of eq (hash b.hasher) b.mode log) (coding_of (hash b.hasher)) w)
 
@@ -126,6 +126,15 @@ module _ {K V S : Type 0} (eq : K → K → Bool) (hash : S → K → ℕ) (b : 
   -- and it is the one that the slot names
   pub found_pair : (o : Option (Stored K V)) → IsPairOf found state o → named ((state_of log).slot t x) ≡ o
   found_pair o i = found_by o i ((state_of log).slot t x) refl
+
+  -- so is the pair that was told
+  pub told_pair : (p : Stored K V) → state ≡ Some (names.Pair p) → named ((state_of log).slot t x) ≡ Some p
+  told_pair p e = one_told (named ((state_of log).slot t x)) p (cc (sym r.state_is ∙ e))
+
+module _ {K V S : Type 0} (eq : K → K → Bool) (hash : S → K → ℕ) (b : Begun K V S) (log : List (Event K V S)) (hashed : IsHashed (setting_of eq (hash b.hasher) b.mode log) (coding_of (hash b.hasher))) (name : Book) (called : name_in log ≡ Some name) (found : ℕ) (state : Option (Named K V)) (t x : ℕ) (r : IsRead eq hash b (Slot t x) found log state) where
+  -- the pair of a slot's word may be taken
+  pub names_pair : NamesPair found state
+  names_pair m n = let s = slot_told eq hash b log hashed name called found state t x r m n in (s.pair, s.gained, s.number)
 
   -- which lies in the logs
   pub found_placed : (o : Option (Stored K V)) → named ((state_of log).slot t x) ≡ o → IsPlaced b (Some name) (pair_named o)

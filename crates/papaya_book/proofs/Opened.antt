@@ -1,16 +1,8 @@
 -- What the log says after a table was tried to be opened.
 use Rattle.std.proofs.Common.{◌≡◌, ⊎_elim, ℕ, ◌==◌, Bool, true, false, MatchBool, Option, None, Some, List, [], ◌∷◌, ◌++◌, refl, sym, ap, ◌∙◌, subst}
 use Rattle.std.proofs.lemmas.Bool.{cases_Bool, cond-true, eqb-true, eqb-false}
-use Rattle.std.specs.Cmp.{IsEquivalence}
-use mathlib.Core.List.{IsPrefix}
-use denote.Bor.{Bor}
 use Rattle.boxcar.specs.Table.{Where}
-use Rattle.logbook.specs.Pages.{Book}
 use Rattle.papaya_call.specs.declared.ask.At.TheVariants.{Root}
-use Rattle.papaya_call.specs.declared.ask.Ask.{Ask}
-use Rattle.papaya_call.specs.declared.ask.Ask.TheVariants.{Exchange as Ask_exchange}
-use Rattle.papaya_call.specs.declared.ask.Answer.TheVariants.{Exchanged, Found as Found_instead}
-use Rattle.papaya_call.specs.declared.ask.StepKind.{StepKind}
 use Rattle.papaya_call.specs.declared.ask.StepKind.TheVariants as kinds
 use Rattle.papaya_book.specs.Sheets.{Sheet}
 use Rattle.papaya_book.specs.declared.rule.entry.Begun.{Begun}
@@ -20,10 +12,9 @@ use Rattle.papaya_book.specs.declared.rule.entry.Named.{Named}
 use Rattle.papaya_book.specs.declared.rule.entry.Named.TheVariants as names
 use Rattle.papaya_book.specs.declared.rule.entry.Step.{Step}
 use Rattle.papaya_book.specs.Calls.{IsTable, IsTried}
-use Rattle.papaya_book.specs.Hashes.{hash_of}
-use Rattle.papaya_book.specs.Logs.{Stored, comes, exchange_of, exchanges_of, number_of, or_else, state_of, steps_of, table_if, table_in}
+use Rattle.papaya_book.specs.Logs.{comes, number_of, or_else, state_of, steps_of, table_if, table_in}
 use Rattle.papaya_book.specs.Plays.{IsMeant}
-use Rattle.papaya_book.proofs.Logs.{exchanges_of-append, prefix_trans, steps-append, table_append}
+use Rattle.papaya_book.proofs.Logs.{steps-append, table_append}
 
 -- a number equals itself, as the test says it
 same_number : (n : ℕ) → (n == n) ≡ true

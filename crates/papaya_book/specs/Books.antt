@@ -52,6 +52,9 @@ module _ {K V S H : Type 0} (keys : Keys K S) (book : Book K V S H) where
   abbrev pub IsSlot : ℕ → ℕ → ℕ → List (Event K V S) → Option (Stored K V) → Type 0
   IsSlot = calls.IsSlot keys.eq keys.hash (begun_of book.parts) book.begun.book
 
+  abbrev pub IsSlotWord : ℕ → ℕ → ℕ → List (Event K V S) → Option (Named K V) → Type 0
+  IsSlotWord = calls.IsSlotWord keys.eq keys.hash (begun_of book.parts) book.begun.book
+
   abbrev pub IsRoot : ℕ → List (Event K V S) → Option (Bor Sheet) → Type 0
   IsRoot = calls.IsRoot keys.eq keys.hash (begun_of book.parts) book.begun.book
 

@@ -30,6 +30,10 @@ pair_seen (Some r) = Some r.now
 abbrev pub IsTable : {K V S : Type 0} → List (Event K V S) → ℕ → Sheet → Type 0
 IsTable log t sheet = (w : Where Sheet) × (table_in (steps_of log) t ≡ Some w) × (w.value ≡ sheet)
 
+-- where the word is a pair's, the pair that it names was told, and has its number
+abbrev pub NamesPair : {K V : Type 0} → ℕ → Option (Named K V) → Type 0
+NamesPair {K} {V} found state = (kind_of found ≡ word_kinds.Empty → ⊥) → (kind_of found ≡ word_kinds.Closed → ⊥) → (p : Stored K V) × (state ≡ Some (names.Pair p)) × (pair_of found ≡ p.index)
+
 module _ {K V S : Type 0} (eq : K → K → Bool) (hash : S → K → ℕ) (b : Begun K V S) where
   -- the word that stands at a place after the log, and what it names
   pub record IsRead (at : At) (found : ℕ) (log : List (Event K V S)) (state : Option (Named K V)) : Type 0 where
@@ -54,6 +58,12 @@ module _ {K V S : Type 0} (eq : K → K → Bool) (hash : S → K → ℕ) (b : 
     pub names : named ((state_of log).slot t x) ≡ pair
     pub placed : IsPlaced b (Some name) (pair_named pair)
 
+  -- the word of a slot, and what tells the pair that it names, which lies in the logs
+  pub record IsSlotWord (name : Book) (t x found : ℕ) (log : List (Event K V S)) (state : Option (Named K V)) : Type 0 where
+    pub read : IsRead (Slot t x) found log state
+    pub some : NamesPair found state
+    pub placed : IsPlaced b (Some name) (pair_named (named ((state_of log).slot t x)))
+
   -- the number of the root, and its table
   pub record IsRoot (name : Book) (found : ℕ) (log : List (Event K V S)) (table : Option (Bor Sheet)) : Type 0 where
     pub lawful : IsLawfulLog eq hash b log
@@ -72,10 +82,6 @@ module _ {K V S : Type 0} (eq : K → K → Bool) (hash : S → K → ℕ) (b : 
     pub tried : IsTried (Slot t x) kind old new made brings seen found log state
     pub names : named ((state_of tried.before).slot t x) ≡ pair
     pub placed : IsPlaced b (Some name) (pair_named pair)
-
--- where the word is a pair's, the pair that it names was told, and has its number
-abbrev pub NamesPair : {K V : Type 0} → ℕ → Option (Named K V) → Type 0
-NamesPair {K} {V} found state = (kind_of found ≡ word_kinds.Empty → ⊥) → (kind_of found ≡ word_kinds.Closed → ⊥) → (p : Stored K V) × (state ≡ Some (names.Pair p)) × (pair_of found ≡ p.index)
 
 -- the pair of a word, if the word is a pair's
 pub record IsPairOf {K V : Type 0} (found : ℕ) (state : Option (Named K V)) (pair : Option (Stored K V)) : Type 0 where

@@ -20,7 +20,7 @@ use Rattle.papaya_book.specs.declared.rule.entry.Named.TheVariants as names
 use Rattle.papaya_book.specs.declared.rule.entry.Step.{Step}
 use Rattle.papaya_book.specs.declared.rule.entry.Step.TheVariants as steps
 use Rattle.papaya_book.specs.declared.rule.entry.Event.{Event}
-use Rattle.papaya_book.specs.declared.rule.entry.Event.TheVariants.{Wish, Begin, Called, Born, Home, Stepped}
+use Rattle.papaya_book.specs.declared.rule.entry.Event.TheVariants.{Wish, Called, Born, Stepped}
 
 -- a pair as the law's words name it
 abbrev pub Stored : Type 0 → Type 0 → Type 0

@@ -47,6 +47,9 @@ module _ {K V S H : Type 0} {d : keyed.Ghosts S K H} where
     abbrev pub IsSlot : ℕ → ℕ → ℕ → Option (Stored K V) → Type 0
     IsSlot number place word = books.IsSlot d.keys w.book.now number place word w'.sight.log
 
+    abbrev pub IsSlotWord : ℕ → ℕ → ℕ → Option (Named K V) → Type 0
+    IsSlotWord number place word state = books.IsSlotWord d.keys w.book.now number place word w'.sight.log state
+
     abbrev pub Opens : Where Sheet → ℕ → Type 0
     Opens table found = (state : Option (Named K V)) × books.Opens d.keys w.book.now table w.sight.log found w'.sight.log state
 

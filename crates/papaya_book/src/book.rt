@@ -9,11 +9,13 @@ ghost use Rattle.papaya_book.specs.declared.rule.entry.Event.TheVariants.{Begin}
 ghost use Rattle.papaya_book.specs.declared.rule.entry.Named.TheVariants.{Nothing, Pair as PairNamed};
 
 pub mod exchanges;
+pub mod gains;
 pub mod layer;
 pub mod logs;
 pub mod maker;
 pub mod parts;
 
+use crate::book::gains::pair_in;
 use crate::book::parts::Parts;
 use crate::keyed::Keyed;
 use crate::rule::entry::Stored;
@@ -24,7 +26,6 @@ use crate::rule::trade;
 use crate::rule::trade::{Sight, Trade};
 use crate::table::{Cell, Table};
 use papaya_call::ask::At;
-use papaya_words::word::{Kind, Word};
 use std::hash::{BuildHasher, Hash};
 
 /// What all callers of a map share: what its book was opened with, the root and the word that only
@@ -42,7 +43,7 @@ pub struct Book<K: Hash + Eq, V, S: BuildHasher> {
 }
 
 impl<K: Hash + Eq, V, S: BuildHasher> Book<K, V, S> {
-    ghost use Rattle.papaya_book.specs.Books.{CanPut, CanTry, IsIn, IsLawfulLog, IsNext, IsRead, IsRoot, IsSlot, Puts, Tries};
+    ghost use Rattle.papaya_book.specs.Books.{CanPut, CanTry, IsIn, IsLawfulLog, IsNext, IsRead, IsRoot, IsSlot, IsSlotWord, Puts, Tries};
 
     /// One atomic load: the word that stands there. The trade gains what it names.
     pub fn read(
@@ -117,6 +118,29 @@ impl<K: Hash + Eq, V, S: BuildHasher> Book<K, V, S> {
         (found, trade)
     }
 
+    /// One atomic load of a table's slot: the word, and what gains the token of the pair that it names.
+    #[inline(always)]
+    pub fn slot_word(
+        &self,
+        table: &Table<K, V, S>,
+        number: u64,
+        place: usize,
+        sight: &mut Sight<K, V, S>,
+    ) -> (u64, Trade<K, V, S>)
+        requires book { sight.old.book ≡ self.now.begun.book }
+        requires table { IsTable sight.old.log number table.now }
+        requires place { place < length table.now.slots }
+        ensures book { sight.new.book ≡ sight.old.book }
+        ensures seen { IsPrefix sight.old.log sight.new.log }
+        ensures slot { IsSlotWord ⟦<S as Keyed<K>>⟧.keys self.now number place result.0 sight.new.log result.1.state }
+    {
+        sight.learn(&self.begun);
+        let sought = Sought {
+            at: At::Slot(number, place),
+        };
+        self.read(table.slot(place), &sought, sight)
+    }
+
     /// One atomic load of a table's slot: the word, and the token of the pair that it names.
     pub fn slot(
         &self,
@@ -132,18 +156,8 @@ impl<K: Hash + Eq, V, S: BuildHasher> Book<K, V, S> {
         ensures seen { IsPrefix sight.old.log sight.new.log }
         ensures slot { IsSlot ⟦<S as Keyed<K>>⟧.keys self.now number place result.0 sight.new.log result.1 }
     {
-        sight.learn(&self.begun);
-        let sought = Sought {
-            at: At::Slot(number, place),
-        };
-        let (found, trade) = self.read(table.slot(place), &sought, sight);
-        match Word(found).kind() {
-            Kind::Empty | Kind::Closed => (found, None),
-            _ => {
-                let known = trade::pair_known(trade.into_gain());
-                (found, Some(token(known, Word(found).pair() as usize)))
-            }
-        }
+        let (found, trade) = self.slot_word(table, number, place, sight);
+        (found, pair_in(found, trade))
     }
 
     /// One atomic load of the root: its number, and its table.

@@ -6,7 +6,7 @@ use crate::book::Book;
 use crate::keyed::Keyed;
 use crate::rule::entry::{Step, Stored};
 use crate::rule::own::{Own, with_last};
-use crate::rule::trade::Sight;
+use crate::rule::trade::{Sight, Trade};
 use crate::table::Table;
 use boxcar::Pushed;
 use logbook::Pen;
@@ -31,7 +31,7 @@ impl<'a, K: Hash + Eq, V, S: BuildHasher> Window<'a, K, V, S> {
     ghost use Rattle.std.specs.Prelude.{◌⊎◌, ◌<◌, ◌==◌, Bool, IfErr, IfOk, length};
     ghost use Rattle.papaya_call.specs.Search.{IsSize};
     ghost use Rattle.papaya_book.specs.Books.{IsLeft, Seals, root_then};
-    ghost use Rattle.papaya_book.specs.Windows.{CanPutSlot, CanTrySlot, Does, IsIn, IsLawful, IsMade, IsNext, IsRoot, IsSlot, IsTable, Opens, PutsSlot, Sees, TriesSlot};
+    ghost use Rattle.papaya_book.specs.Windows.{CanPutSlot, CanTrySlot, Does, IsIn, IsLawful, IsMade, IsNext, IsRoot, IsSlot, IsSlotWord, IsTable, Opens, PutsSlot, Sees, TriesSlot};
     ghost use Rattle.papaya_book.specs.declared.rule.entry.Named.TheVariants.{Pair as PairNamed, Table as TableNamed};
 
     /// What one who has seen so much, and made these exchanges, sees of the book.
@@ -82,6 +82,23 @@ impl<'a, K: Hash + Eq, V, S: BuildHasher> Window<'a, K, V, S> {
         ensures own { self.new.own ≡ self.old.own }
     {
         self.book.next(table, number, &mut self.sight)
+    }
+
+    /// One atomic load of a table's slot: the word, and what gains the token of the pair that it names.
+    #[inline(always)]
+    pub fn slot_word(
+        &mut self,
+        table: &Table<K, V, S>,
+        number: u64,
+        place: usize,
+    ) -> (u64, Trade<K, V, S>)
+        requires table { IsTable self.old number table.now }
+        requires place { place < length table.now.slots }
+        ensures sees { Sees self.old self.new }
+        ensures slot { IsSlotWord self.old self.new number place result.0 result.1.state }
+        ensures own { self.new.own ≡ self.old.own }
+    {
+        self.book.slot_word(table, number, place, &mut self.sight)
     }
 
     /// One atomic load of a table's slot: the word, and the token of the pair that it names.

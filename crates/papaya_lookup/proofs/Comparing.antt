@@ -1,5 +1,5 @@
 -- A lookup is told of the size of a table, and whether the key of the pair last told of matches.
-use Rattle.std.proofs.Common.{◌≡◌, inl, ⊎_elim, ℕ, ◌+◌, ◌<◌, Bool, true, Option, None, Some, List, [], ◌++◌, length, refl, sym, ap, ◌∙◌, subst, arith}
+use Rattle.std.proofs.Common.{◌≡◌, inl, ⊎_elim, ℕ, ◌+◌, ◌<◌, Bool, true, Option, None, Some, List, [], ◌++◌, length, refl, sym, ap, ◌∙◌, subst}
 use Rattle.std.specs.Cmp.{IsEquivalence}
 use mathlib.Core.List.{IsPrefix}
 use denote.Bor.{Bor}
@@ -119,10 +119,6 @@ module _ {K V S H : Type 0} (eq : K → K → Bool) (input : K → List (List �
       let hashed = hashed_with eq input build write finish classes respects b matches query lawful log r.lawful in
       let named = slot_named g c hashed begun r.since may None (ask_of m) (ask_named g c hashed begun r.since may None r.hands m.task m.hash m.made m.state r.rests.stage) t x (inl e) in
       (came, subst (λ n. x < n) ((sizes (steps_of log) t came.0 came.1).0 ∙ ap (λ (z : Sheet). length z.slots) came.2) named.1)
-
-  -- so is a table whose size is asked for
-  pub size_held : (t : ℕ) (lent : Bor Sheet) → table ≡ Some lent → ask_of m ≡ SizeOf t → IsTable log t lent.now
-  size_held t lent has e = table_held t (size_step m.hash m.initial m.mode m.made m.remembered m.state (stands_get m r.task_is stands) t 0 0 (omega arith) e).0.names lent has
 
   -- the table has the size that it says
   pub size_read : (t : ℕ) (sheet : Sheet) → IsTable log t sheet → (slots limit : ℕ) → slots ≡ length sheet.slots → limit ≡ sheet.limit → IsSize slots limit → ask_of m ≡ SizeOf t

@@ -11,3 +11,4 @@ pub mod Answering
 pub mod Comparing
 pub mod Moments
 pub mod LookupReplies
+pub mod Turning

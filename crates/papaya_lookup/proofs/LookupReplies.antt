@@ -81,12 +81,6 @@ module _ {K V S H : Type 0} (eq : K → K → Bool) (input : K → List (List �
       let one : q ≡ p = cc (has, r.holds_pair.0, last.1) in
       record { seen = h.seen; since = h.since; until = h.until; is = (p, match', h.had p.value.key.value match', is ∙ ap (λ (z : Stored K V). z.value.value) one) }
 
-  -- a pair that was found is held
-  pub found_held : (n : ℕ) → ask_of m ≡ Done (Found n) → pair ≡ None → ⊥
-  found_held n e none =
-      let last = r.found n (done_state m.made m.hash m.state (stands_get m r.task_is stands) (Found n) e) in
-      cc (none, r.holds_pair.0, last.1)
-
   -- none was found
   pub absent_answer : (reply : Reply) → ask_of m ≡ Done reply → ((n : ℕ) → reply ≡ Found n → ⊥) → IsAnsweredBetween {V = V} eq matches (history_of old) (history_of log) None
   absent_answer reply e none =

@@ -7,7 +7,7 @@ use Rattle.papaya_words.specs.declared.word.Kind.TheVariants as kinds
 use Rattle.papaya_words.specs.declared.probe.ResizeMode.{ResizeMode}
 use Rattle.papaya_words.specs.declared.probe.ResizeMode.TheVariants.{Incremental, Blocking}
 use Rattle.papaya_call.specs.declared.ask.At.TheVariants.{Root, Next, Slot}
-use Rattle.papaya_call.specs.declared.ask.Ask.TheVariants.{Load, SameKey, SizeOf, Done}
+use Rattle.papaya_call.specs.declared.ask.Ask.TheVariants.{Load, SameKey, SizeOf}
 use Rattle.papaya_call.specs.declared.ask.Answer.TheVariants.{Word, Yes, Size}
 use Rattle.papaya_call.specs.declared.call.Reply.{Reply}
 use Rattle.papaya_call.specs.declared.call.Reply.TheVariants.{Absent, Found}
@@ -234,23 +234,3 @@ module _ (hash initial : ℕ) (mode : ResizeMode) (made : Made) (held : Remember
       let is : u ≡ t = cc e in (ap Some is, numbered (Leaving u) word (omega arith) (λ some. let h = up some in let lt = h.0 in let le = h.1 in omega (arith, lt, le, is)))
   next_step (Growing u) stands t word up e = absurd stands
   next_step (Ended reply) stands t word up e = absurd (cc e)
-
-  -- a lookup that asks for nothing else has replied
-  pub done_else : (s : State) → IsStandingState Get s → (asks made hash s ≡ Load Root → ⊥) → ((t : ℕ) → asks made hash s ≡ Load (Next t) → ⊥) → ((t x : ℕ) → asks made hash s ≡ Load (Slot t x) → ⊥) → ((t : ℕ) → asks made hash s ≡ SizeOf t → ⊥) → ((n : ℕ) → asks made hash s ≡ SameKey n → ⊥) → (reply : Reply) × (asks made hash s ≡ Done reply)
-  done_else AtRoot stands root next slot size same = absurd (root refl)
-  done_else Making stands root next slot size same = absurd stands
-  done_else (Opening u) stands root next slot size same = absurd stands
-  done_else (Searching (Sizing u)) stands root next slot size same = absurd (size u refl)
-  done_else (Searching (Looking at)) stands root next slot size same = absurd (slot at.table at.probe.i refl)
-  done_else (Searching (Comparing at word)) stands root next slot size same = absurd (same (pair_of word) refl)
-  done_else (Writing write) stands root next slot size same = absurd stands.0
-  done_else (Offering gap) stands root next slot size same = absurd stands.0
-  done_else (Showing removal) stands root next slot size same = absurd stands.0
-  done_else (Pairing purpose) stands root next slot size same = absurd stands.0
-  done_else (Putting put) stands root next slot size same = absurd stands.0
-  done_else (Burying removal) stands root next slot size same = absurd stands.0
-  done_else (Counting n) stands root next slot size same = absurd stands
-  done_else (Uncounting n) stands root next slot size same = absurd stands
-  done_else (Leaving u) stands root next slot size same = absurd (next u refl)
-  done_else (Growing u) stands root next slot size same = absurd stands
-  done_else (Ended reply) stands root next slot size same = (reply, refl)

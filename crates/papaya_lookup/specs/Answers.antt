@@ -1,5 +1,5 @@
 -- What a lookup on the shared map answers.
-use Rattle.std.specs.Prelude.{◌≡◌, ◌-◌, Bool, true, MatchOption, Option, None, Some, List}
+use Rattle.std.specs.Prelude.{◌≡◌, Bool, true, MatchOption, Option, None, Some, List}
 use mathlib.Core.List.{IsPrefix}
 use denote.Bor.{Bor}
 use Rattle.papaya_lookup.specs.History.{Change, key_of, replay}

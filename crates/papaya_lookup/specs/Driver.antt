@@ -1,17 +1,15 @@
 -- What a call under way holds, and what a load gives it.
-use Rattle.std.specs.Prelude.{◌≡◌, ℕ, Bool, true, MatchOption, Option, None, Some, List, [], ◌∷◌, ◌++◌, ◌<◌, length}
-use mathlib.Core.List.{IsPrefix}
+use Rattle.std.specs.Prelude.{◌≡◌, ℕ, Bool, MatchOption, Option, List, ◌<◌, length}
 use denote.Bor.{Bor}
 use Rattle.logbook.specs.Pages.{Book}
 use Rattle.papaya_call.specs.declared.ask.At.{At}
 use Rattle.papaya_call.specs.declared.ask.At.TheVariants.{Root, Next, Aborted, Done, Slot}
-use Rattle.papaya_rests.specs.Told.{Hands, IsOneOf, or_last}
+use Rattle.papaya_rests.specs.Told.{or_last}
 use Rattle.papaya_book.specs.Sheets.{Sheet}
 use Rattle.papaya_book.specs.declared.rule.entry.Begun.{Begun}
 use Rattle.papaya_book.specs.declared.rule.entry.Event.{Event}
 use Rattle.papaya_book.specs.Calls.{IsNext, IsRoot, IsSlot, IsTable}
-use Rattle.papaya_book.specs.Logs.{Stored, exchanges_of, pair_named}
-use Rattle.papaya_book.specs.Rule.{IsLawfulLog, IsPlaced}
+use Rattle.papaya_book.specs.Logs.{Stored}
 
 module _ {K V S : Type 0} where
   -- the table is held, and where a slot is asked for it has the slot

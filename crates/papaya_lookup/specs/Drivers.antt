@@ -1,14 +1,16 @@
 -- What a call under way holds and is told, by what it sees of the map.
-use Rattle.std.specs.Prelude.{ℕ, Option, List}
-use Rattle.papaya_call.specs.declared.ask.Answer.{Answer}
+use Rattle.std.specs.Prelude.{ℕ, List}
 use Rattle.papaya_call.specs.declared.ask.At.{At}
+use Rattle.papaya_call.specs.declared.machine.State.{State as Stage}
+use Rattle.papaya_book.specs.declared.rule.entry.Event.{Event}
 use Rattle.papaya_book.specs.declared.keyed.Keyed as keyed
 use Rattle.papaya_book.specs.declared.window.Window.{Window}
 use Rattle.papaya_book.specs.Keys.{Query}
 use Rattle.papaya_book.specs.Logs.{Stored, exchanges_of}
 use Rattle.papaya_book.specs.Parts.{begun_of}
+use Rattle.papaya_book.specs.Sheets.{Sheet}
 use Rattle.papaya_lookup.specs.declared.driver.Driver.{Driver}
-use Rattle.papaya_lookup.specs.declared.lookup.Lookup.{Lookup}
+use Rattle.papaya_lookup.specs.declared.lookup.Turn.{Turn}
 use Rattle.papaya_lookup.specs.Driver as driver
 use Rattle.papaya_lookup.specs.History.{Change, changes_by, history_of}
 use Rattle.papaya_lookup.specs.Lookups as lookups
@@ -30,9 +32,15 @@ module _ {K V S H : Type 0} {d : keyed.Ghosts S K H} where
   abbrev pub Loads : At → ℕ → Window K V S H d → Driver K V S H → Window K V S H d → Driver K V S H → Type 0
   Loads at word w c w' c' = driver.IsLoaded d.keys.eq d.keys.hash (begun_of w.book.now.parts) w.book.now.begun.book at word w'.sight.log c.table c'.table c.last c'.last
 
-  module _ (query : Query K S) where
-    abbrev pub IsReading : Window K V S H d → Lookup K V S H → Type 0
-    IsReading w r = lookups.IsReading d.keys.eq d.keys.hash (begun_of w.book.now.parts) query.matches (query.hash w.book.now.parts.hasher) (exchanges_of r.began.log) w.sight.log r.machine r.table r.pair
+  -- what a lookup has left to do after a turn
+  abbrev pub left_after : Window K V S H d → Turn V → ℕ
+  left_after w turn = lookups.left_of (lookups.led_to w.book.now.parts.mode 0 turn)
 
-    abbrev pub IsReadingOn : Window K V S H d → Lookup K V S H → Window K V S H d → Lookup K V S H → Option Answer → Type 0
-    IsReadingOn w r w' r' answer = lookups.IsReadingOn d.keys.eq d.keys.hash (begun_of w.book.now.parts) query.matches (query.hash w.book.now.parts.hasher) (exchanges_of r.began.log) w'.sight.log r.machine answer r'.table r'.pair
+  module _ (query : Query K S) (began : List (Event K V S)) where
+    -- the lookup that began at this log would stand here, with this table
+    abbrev pub IsReadingAt : Window K V S H d → ℕ → Stage → Sheet → Type 0
+    IsReadingAt w hash stage table = lookups.IsReadingAt d.keys.eq d.keys.hash (begun_of w.book.now.parts) query.matches (query.hash w.book.now.parts.hasher) (exchanges_of began) hash w.sight.log stage table
+
+    -- a turn led it on, as is seen by now
+    abbrev pub IsTurned : Window K V S H d → ℕ → Sheet → Turn V → Type 0
+    IsTurned w hash table turn = lookups.IsTurned d.keys.eq d.keys.hash (begun_of w.book.now.parts) query.matches (query.hash w.book.now.parts.hasher) (exchanges_of began) hash w.sight.log table turn

@@ -1,19 +1,21 @@
 -- What a lookup on the shared map holds and rests on, and what it answers.
-use Rattle.std.specs.Prelude.{◌≡◌, ℕ, ◌+◌, ◌*◌, ◌-◌, ◌^◌, ◌<◌, Bool, Option, None, Some, List, ◌++◌}
+use Rattle.std.specs.Prelude.{◌≡◌, ℕ, ◌+◌, ◌*◌, ◌-◌, ◌^◌, Bool, Option, None, Some, List, ◌++◌}
 use denote.Bor.{Bor}
-use Rattle.papaya_call.specs.declared.call.Reply.{Reply}
-use Rattle.papaya_call.specs.declared.call.Reply.TheVariants.{Found}
+use Rattle.papaya_call.specs.declared.call.Reply.TheVariants.{Absent, Found}
 use Rattle.papaya_call.specs.declared.call.Task.TheVariants.{Get}
 use Rattle.papaya_call.specs.declared.machine.Machine.{Machine}
 use Rattle.papaya_call.specs.declared.machine.State.{State as Stage}
-use Rattle.papaya_call.specs.declared.machine.State.TheVariants.{AtRoot, Making, Opening, Searching, Writing, Offering, Showing, Pairing, Putting, Burying, Counting, Uncounting, Leaving, Growing, Ended}
+use Rattle.papaya_call.specs.declared.machine.State.TheVariants.{AtRoot, Searching, Leaving, Ended}
+use Rattle.papaya_call.specs.declared.search.Place.{Place}
 use Rattle.papaya_call.specs.declared.search.Search.TheVariants.{Sizing, Looking, Comparing}
+use Rattle.papaya_call.specs.declared.search.Seen.{Seen}
+use Rattle.papaya_call.specs.declared.search.Seen.TheVariants.{On, Over}
+use Rattle.papaya_call.specs.Search.{IsWithin}
+use Rattle.papaya_words.specs.declared.probe.ResizeMode.{ResizeMode}
 use Rattle.papaya_law.specs.Exchange.{Exchange, Setting}
 use Rattle.papaya_law.specs.Code.{Coding}
 use Rattle.papaya_law.specs.Further.{coding_with, with_key}
-use Rattle.papaya_call.specs.Machine.{IsFit, after, ask_of}
-use Rattle.papaya_call.specs.declared.ask.Answer.{Answer}
-use Rattle.papaya_call.specs.declared.ask.Ask.TheVariants.{Done}
+use Rattle.papaya_call.specs.Machine.{passes, started}
 use Rattle.papaya_rests.specs.Rests.{Rests, WasAtMoment}
 use Rattle.papaya_rests.specs.Told.{Hands}
 use Rattle.papaya_book.specs.Sheets.{Sheet}
@@ -22,6 +24,8 @@ use Rattle.papaya_book.specs.declared.rule.entry.Event.{Event}
 use Rattle.papaya_book.specs.Calls.{IsTable}
 use Rattle.papaya_book.specs.Logs.{Stored, coding_of, exchanges_of, pair_named, setting_of}
 use Rattle.papaya_book.specs.Rule.{IsLawfulLog, IsPlaced}
+use Rattle.papaya_lookup.specs.declared.lookup.Turn.{Turn}
+use Rattle.papaya_lookup.specs.declared.lookup.Turn.TheVariants as turns
 
 -- the table that a lookup searches or leaves
 abbrev pub table_of : Stage → Option ℕ
@@ -74,7 +78,33 @@ pub record IsReading {K V S : Type 0} (eq : K → K → Bool) (hash : S → K �
   pub holds_pair : HoldsPair b hands.last pair
   pub found : (n : ℕ) → m.state ≡ Ended (Found n) → (p : Stored K V) × (hands.last ≡ Some p) × WasAtMoment (setting_for eq hash b matches fed log) (coding_for hash b.hasher fed) begun since None (Some p)
 
--- The lookup has replied; or this is an answer to what it asks, after which it rests again and has less left to do.
-abbrev pub IsReadingOn : {K V S : Type 0} → (K → K → Bool) → (S → K → ℕ) → Begun K V S → (K → Bool) → ℕ → List (Exchange (Stored K V)) → List (Event K V S) → Machine → Option Answer → Option (Bor Sheet) → Option (Stored K V) → Type 0
-IsReadingOn eq hash b matches fed begun log m None table pair = IsReading eq hash b matches fed begun log m table pair × ((reply : Reply) × (ask_of m ≡ Done reply))
-IsReadingOn eq hash b matches fed begun log m (Some answer) table pair = IsReading eq hash b matches fed begun log (after m answer) table pair × IsFit answer × (left_of (after m answer).state < left_of m.state)
+-- the machine of a lookup that stands here
+abbrev pub lookup_at : (hash : ℕ) → ResizeMode → Stage → Machine
+lookup_at hash mode stage = record (started Get hash mode 0) { state = stage }
+
+-- The lookup's machine, that nothing runs, would stand here by now. It rests on this table, and on some pair that it was told of last.
+abbrev pub IsReadingAt : {K V S : Type 0} → (K → K → Bool) → (S → K → ℕ) → Begun K V S → (K → Bool) → ℕ → List (Exchange (Stored K V)) → ℕ → List (Event K V S) → Stage → Sheet → Type 0
+IsReadingAt {K} {V} eq hash b matches fed begun h log stage table = (lent : Bor Sheet) × (lent.now ≡ table) × (pair : Option (Stored K V)) × IsReading eq hash b matches fed begun log (lookup_at h b.mode stage) (Some lent) pair
+
+-- where a search goes on that has found no pair
+abbrev pub turn_of : {V : Type 0} → Seen → Turn V
+turn_of (On (Looking at)) = turns.Next at
+turn_of (Over t) = turns.Over t
+turn_of _ = turns.Absent
+
+-- where a turn leads the lookup's machine, with the number of the pair that was found
+abbrev pub led_to : {V : Type 0} → ResizeMode → ℕ → Turn V → Stage
+led_to mode number (turns.Next at) = Searching (Looking at)
+led_to mode number (turns.Found value) = Ended (Found number)
+led_to mode number turns.Absent = Ended Absent
+led_to mode number (turns.Over t) = passes Get mode None t
+
+-- A turn of a search led the lookup's machine on. Where a pair was found, this is its value.
+pub record IsTurned {K V S : Type 0} (eq : K → K → Bool) (hash : S → K → ℕ) (b : Begun K V S) (matches : K → Bool) (fed : ℕ) (begun : List (Exchange (Stored K V))) (h : ℕ) (log : List (Event K V S)) (table : Sheet) (turn : Turn V) : Type 0 where
+  pub lent : Bor Sheet
+  pub lent_is : lent.now ≡ table
+  pub pair : Option (Stored K V)
+  pub number : ℕ
+  pub reading : IsReading eq hash b matches fed begun log (lookup_at h b.mode (led_to b.mode number turn)) (Some lent) pair
+  pub within : (at : Place) → turn ≡ turns.Next at → IsWithin at
+  pub found : (value : Bor V) → turn ≡ turns.Found value → (p : Stored K V) × (pair ≡ Some p) × (value.now ≡ p.value.value)

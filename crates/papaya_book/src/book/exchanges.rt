@@ -2,37 +2,18 @@
 ghost use Rattle.papaya_book.specs.Books.{CanPutSlot, CanTrySlot, IsIn, PutsSlot, TriesSlot};
 ghost use Rattle.std.specs.Prelude.{◌≡◌, ◌<◌, length};
 ghost use mathlib.Core.List.{IsPrefix};
-ghost use Rattle.papaya_book.specs.Calls.{IsPairOf, IsTable, NamesPair};
+ghost use Rattle.papaya_book.specs.Calls.{IsTable};
 ghost use Rattle.papaya_book.specs.declared.rule.entry.Named.TheVariants.{Pair as PairNamed};
 
 use crate::book::Book;
+use crate::book::gains::pair_in;
 use crate::keyed::Keyed;
 use crate::rule::entry::Stored;
 use crate::rule::steps::{Put, Wish};
-use crate::rule::token::token;
-use crate::rule::trade;
-use crate::rule::trade::{Sight, Trade};
+use crate::rule::trade::Sight;
 use crate::table::Table;
 use papaya_call::ask::{At, StepKind};
-use papaya_words::word::{Kind, Word};
 use std::hash::{BuildHasher, Hash};
-
-/// The token of the pair that a slot's word names, if it names one.
-fn pair_in<K: Hash + Eq, V, S: BuildHasher>(
-    found: u64,
-    trade: Trade<K, V, S>,
-) -> Option<Stored<K, V>>
-    requires { NamesPair found trade.state }
-    ensures { IsPairOf found trade.state result }
-{
-    match Word(found).kind() {
-        Kind::Empty | Kind::Closed => None,
-        _ => {
-            let known = trade::pair_known(trade.into_gain());
-            Some(token(known, Word(found).pair() as usize))
-        }
-    }
-}
 
 impl<K: Hash + Eq, V, S: BuildHasher> Book<K, V, S> {
     /// One atomic exchange of a slot, with which nothing comes: the word found there, and the token of

@@ -54,7 +54,7 @@ returns-clause-tried g c =
     let hashed = is_hashed g.K.PartialEq.eq g.K.Hash.hash_input g.S.BuildHasher.build_hasher g.S.Hasher.Hasher.write g.S.Hasher.Hasher.finish g.met.K.Eq.laws g.met.K.Hash.respects_eq b t.before t.lawful in
     let called = name_since w.begun.log t.before w.begun.book (prefix_trans w.begun.log c.learn.new.self.log t.before c.learn.ensures.3 t.since) w.called in
     let read : IsRead g.K.PartialEq.eq hash b (Slot c.args.number c.args.place) found t.before state = record { lawful = t.lawful; is = t.is; state_is = t.state_is } in
-    let names = found_pair g.K.PartialEq.eq hash b t.before hashed w.begun.book called found state c.args.number c.args.place read c.pair_in.result c.pair_in.ensures in record {
+    let names = found_pair g.K.PartialEq.eq hash b t.before found state c.args.number c.args.place read c.pair_in.result c.pair_in.ensures in record {
       state = state;
       tried = record { before = t.before; since = prefix_trans c.args.sight.now.log c.learn.new.self.log t.before c.learn.ensures.2 t.since; lawful = t.lawful; now = t.now; is = t.is; state_is = t.state_is; after = t.after };
       names = names;

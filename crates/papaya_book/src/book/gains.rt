@@ -1,0 +1,40 @@
+//! The pairs that the words of slots name, as steps on such words gain them.
+ghost use Rattle.std.specs.Prelude.{◌≡◌, Some};
+ghost use Rattle.papaya_words.specs.Word.{pair_of};
+ghost use Rattle.papaya_book.specs.Calls.{IsPairOf, NamesPair};
+ghost use Rattle.papaya_book.specs.declared.rule.entry.Named.TheVariants.{Pair as PairNamed};
+
+use crate::rule::entry::Stored;
+use crate::rule::token::token;
+use crate::rule::trade;
+use crate::rule::trade::Trade;
+use papaya_words::word::{Kind, Word};
+use std::hash::{BuildHasher, Hash};
+
+/// The token of the pair that a slot's word names.
+#[inline(always)]
+pub fn named_pair<K: Hash + Eq, V, S: BuildHasher>(
+    found: u64,
+    trade: Trade<K, V, S>,
+) -> Stored<K, V>
+    requires { (p : _) × (trade.state ≡ Some (PairNamed p)) × (pair_of found ≡ p.index) }
+    ensures { trade.state ≡ Some (PairNamed result) }
+{
+    let known = trade::pair_known(trade.into_gain());
+    token(known, Word(found).pair() as usize)
+}
+
+/// The token of the pair that a slot's word names, if it names one.
+#[inline(always)]
+pub fn pair_in<K: Hash + Eq, V, S: BuildHasher>(
+    found: u64,
+    trade: Trade<K, V, S>,
+) -> Option<Stored<K, V>>
+    requires { NamesPair found trade.state }
+    ensures { IsPairOf found trade.state result }
+{
+    match Word(found).kind() {
+        Kind::Empty | Kind::Closed => None,
+        _ => Some(named_pair(found, trade)),
+    }
+}
