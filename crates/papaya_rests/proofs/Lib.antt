@@ -49,3 +49,8 @@ pub mod FurtherWords
 -- which table it names, and what it asks
 pub mod Followed
 pub mod RestsHeld
+-- what a copier rests on
+pub mod CopierStays
+pub mod CopierTables
+pub mod CopierMay
+pub mod CopierExchange

@@ -8,3 +8,5 @@ pub mod Owed
 -- how much a lookup loads, and a call whose words nobody else changes
 pub mod Loads
 pub mod Alone
+-- what a copier rests on
+pub mod Copier

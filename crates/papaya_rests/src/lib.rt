@@ -6,5 +6,6 @@
 #![tactic(auto)]
 
 pub mod alone;
+pub mod copies;
 pub mod loads;
 pub mod rests;

@@ -1,0 +1,168 @@
+-- What a copier rests on stays so, whatever tables come later.
+use Rattle.std.proofs.Common.{◌≡◌, inl, inr, ⊎_elim, ℕ, ◌<◌, ◌≤◌, true, Option, refl, sym, ap, ◌∙◌, subst}
+use Rattle.papaya_words.specs.Word.{top_byte, live_word, marked_word, copied_word, buried_word}
+use Rattle.papaya_law.specs.Class.{IsOn}
+use Rattle.papaya_law.specs.Code.{Coding, byte_of_pair, code}
+use Rattle.papaya_law.specs.Copying.{IsPutting}
+use Rattle.papaya_law.specs.Exchange.{Word, Empty, Closed, Live, Marked, Copied, Buried, Setting, State}
+use Rattle.papaya_law.specs.Grows.{Agrees}
+use Rattle.papaya_law.specs.Invariant.{IsSound}
+use Rattle.papaya_law.specs.View.{look, foreign}
+use Rattle.papaya_call.specs.declared.copying.Aim.{Aim}
+use Rattle.papaya_call.specs.declared.copying.Aim.TheVariants as aims
+use Rattle.papaya_call.specs.declared.copying.Copying.{Copying}
+use Rattle.papaya_call.specs.declared.copying.Copying.TheVariants as copyings
+use Rattle.papaya_call.specs.Link.{follows}
+use Rattle.papaya_call.specs.Step.{slot_of}
+use Rattle.papaya_rests.specs.Copier.{HasCompared, IsAimed, IsChunk, IsFor, IsMoving, IsSource, RestsAim, RestsCarry, RestsCopying, RestsLink, RestsSettle, RestsStep}
+use Rattle.papaya_call.specs.declared.carry.Carry.{Carry}
+use Rattle.papaya_call.specs.declared.carry.Carry.TheVariants as carries
+use Rattle.papaya_call.specs.declared.step.Chunk.{Chunk}
+use Rattle.papaya_call.specs.declared.step.Step.{Step}
+use Rattle.papaya_call.specs.declared.step.Step.TheVariants as steps
+use Rattle.papaya_call.specs.declared.link.Link.{Link}
+use Rattle.papaya_call.specs.declared.search.Place.{Place}
+use Rattle.papaya_call.specs.declared.settle.Settle.{Settle}
+use Rattle.papaya_call.specs.declared.settle.Settle.TheVariants as settles
+use Rattle.papaya_call.specs.declared.settle.Slot.{Slot}
+use Rattle.papaya_law.proofs.Carries.{has_carries, look_pair, settled_carries}
+use Rattle.papaya_law.proofs.CopierFacts.{taker_on, target_on}
+use Rattle.papaya_law.proofs.Grows.{becomes_carries, taker_carries, target_carries}
+
+module _ {K P : Type 0} (g g' : Setting K P) (c : Coding K P) (s : State P) (sound : IsSound g s) (agrees : Agrees (IsOn s.first s.next) g g') (last kept : Option P) where
+  -- the byte of a pair's key
+  byte_same : (p : P) → byte_of_pair g' c p ≡ byte_of_pair g c p
+  byte_same p = ap (λ l. top_byte (c.hash l)) (agrees.key p)
+
+  -- the number of a word
+  code_same : (w : Word P) → code g' c w ≡ code g c w
+  code_same Empty = refl
+  code_same Closed = refl
+  code_same (Live p) = ap (λ b. live_word b (c.number p)) (byte_same p)
+  code_same (Marked p) = ap (λ b. marked_word b (c.number p)) (byte_same p)
+  code_same (Copied p) = ap (λ b. copied_word b (c.number p)) (byte_same p)
+  code_same (Buried p) = ap (λ b. buried_word b (c.number p)) (byte_same p)
+
+  -- the hash of a pair's key
+  hash_same : (p : P) (hash : ℕ) → hash ≡ c.hash (g.key p) → hash ≡ c.hash (g'.key p)
+  hash_same p hash e = e ∙ ap c.hash (sym (agrees.key p))
+
+  link_carries : (link : Link) → RestsLink g c s link → RestsLink g' c s link
+  link_carries link r = record { on = r.on; rises = r.rises }
+
+  source_carries : (from n : ℕ) → IsSource g c s from n → IsSource g' c s from n
+  source_carries from n r = record { was = r.was; target = target_carries g g' s sound agrees from n r.target }
+
+  aimed_carries : (from behind : ℕ) → IsAimed g c s from behind → IsAimed g' c s from behind
+  aimed_carries from behind r = record {
+    was = r.was;
+    given_up = ⊎_elim (λ e. inl e) (λ h. inr (agrees.blocking ∙ h.0, target_carries g g' s sound agrees from behind h.1, h.2)) r.given_up;
+  }
+
+  -- a table that was the root is on the chain
+  root_on : (t : ℕ) → s.was_root t ≡ true → IsOn s.first s.next t
+  root_on t was = (sound.was t was).0
+
+  chunk_carries : (chunk : Chunk) (upto : ℕ) → IsChunk g c s chunk upto → IsChunk g' c s chunk upto
+  chunk_carries chunk upto r =
+      let on : IsOn s.first s.next chunk.from = root_on chunk.from r.source.was in
+      record {
+        source = source_carries chunk.from chunk.to r.source;
+        len = r.len ∙ sym (agrees.size chunk.from on);
+        some = r.some;
+        within = r.within;
+        settled = λ x lo hi. settled_carries g g' s sound agrees chunk.to (target_on g s sound.rises chunk.from chunk.to on r.source.target) (s.slot chunk.from x) (r.settled x lo hi);
+      }
+
+  compared_carries : (at : Place) (word : ℕ) → HasCompared g c s last kept at word → HasCompared g' c s last kept at word
+  compared_carries at word r = record {
+    pair = r.pair;
+    told = r.told;
+    was = r.was;
+    loaded = r.loaded ∙ sym (code_same r.was);
+    names = r.names;
+    became = becomes_carries g g' (IsOn s.first s.next) agrees r.was (s.slot at.table at.probe.i) r.became;
+  }
+
+  -- the slot's table is on the chain
+  module _ (slot : Slot) (on : IsOn s.first s.next slot.from) where
+    putting_carries : (p : P) (n j : ℕ) → IsPutting g s slot.from slot.index p n j → IsPutting g' s slot.from slot.index p n j
+    putting_carries p n j r = record {
+      stood = r.stood;
+      taker = taker_carries g g' s sound agrees p slot.from n on r.taker;
+      before = λ i lt. ap (λ V. foreign (V n i)) (look_pair g g' s sound agrees p) ∙ r.before i lt;
+    }
+
+    -- the table that the pair is put into is on it too
+    put_on : (p : P) (n j : ℕ) → IsPutting g s slot.from slot.index p n j → IsOn s.first s.next n
+    put_on p n j r = taker_on g s sound.rises (g.key p) slot.from n on r.taker
+
+    -- up to the last place
+    whole_carries : (p : P) (n : ℕ) → IsPutting g s slot.from slot.index p n (g.places n) → IsPutting g' s slot.from slot.index p n (g'.places n)
+    whole_carries p n r = subst (λ y. IsPutting g' s slot.from slot.index p n y) (sym (agrees.places n (put_on p n (g.places n) r))) (putting_carries p n (g.places n) r)
+
+    for_carries : (p : P) (hash : ℕ) (at : Place) → IsOn s.first s.next at.table → IsFor g c s p hash at → IsFor g' c s p hash at
+    for_carries p hash at there f = record {
+      hashed = hash_same p hash f.hashed;
+      len = f.len ∙ sym (agrees.size at.table there);
+      limit = f.limit ∙ sym (agrees.places at.table there);
+      slot = f.slot ∙ (ap (λ l. g.place l at.table at.probe.len) (sym (agrees.key p)) ∙ sym (agrees.place (g'.key p) at.table at.probe.len there));
+      within = subst (λ y. at.probe.len < y) (sym (agrees.places at.table there)) f.within;
+    }
+
+    carry_carries : (p : P) (carry : Carry) → RestsCarry g c s last kept slot p carry → RestsCarry g' c s last kept slot p carry
+    carry_carries p (carries.Hashing table) r = (r.0, putting_carries p table 0 r.1)
+    carry_carries p (carries.Sizing hash table) r = (r.0, hash_same p hash r.1, putting_carries p table 0 r.2)
+    carry_carries p (carries.Looking hash at) r = (r.0, for_carries p hash at (put_on p at.table at.probe.len r.2) r.1, putting_carries p at.table at.probe.len r.2)
+    carry_carries p (carries.Comparing hash at word) r = (r.0, for_carries p hash at (put_on p at.table at.probe.len r.2) r.1, putting_carries p at.table at.probe.len r.2, compared_carries at word r.3)
+    carry_carries p (carries.Placing hash at) r = (r.0, for_carries p hash at (put_on p at.table at.probe.len r.2) r.1, putting_carries p at.table at.probe.len r.2)
+    carry_carries p (carries.Passing hash table) r = (agrees.blocking ∙ r.0, r.1, hash_same p hash r.2, whole_carries p table r.3)
+    carry_carries p (carries.Linking hash link) r = (agrees.blocking ∙ r.0, r.1, hash_same p hash r.2, whole_carries p (follows link) r.3, link_carries link r.4)
+    carry_carries p (carries.Aborting table) r = (agrees.blocking ∙ r.0, r.1, whole_carries p table r.2)
+
+    settle_carries : (settle : Settle) → RestsSettle g c s last kept slot settle → RestsSettle g' c s last kept slot settle
+    settle_carries settles.Looking r = tt
+    settle_carries settles.Closing r = tt
+    settle_carries (settles.Marking word) r = r
+    settle_carries (settles.Carrying word carry) r = record { pair = r.pair; marked = r.marked ∙ sym (code_same (Marked r.pair)); here = λ b. r.here (sym agrees.blocking ∙ b); rests = carry_carries r.pair carry r.rests }
+    settle_carries (settles.Finishing word) (mode, r) = (agrees.blocking ∙ mode, record {
+      pair = r.pair;
+      table = r.table;
+      marked = r.marked ∙ sym (code_same (Marked r.pair));
+      stood = r.stood;
+      taker = taker_carries g g' s sound agrees r.pair slot.from r.table on r.taker;
+      has = has_carries g g' s sound agrees (look g s (g.key r.pair)) (look g' s (g'.key r.pair)) (look_pair g g' s sound agrees r.pair) r.table (taker_on g s sound.rises (g.key r.pair) slot.from r.table on r.taker) r.has;
+      here = λ b. r.here (sym agrees.blocking ∙ b);
+    })
+
+  moving_carries : (slot : Slot) → IsMoving g c s slot → IsMoving g' c s slot
+  moving_carries slot r = record {
+    mode = agrees.blocking ∙ r.mode;
+    on = r.on;
+    within = subst (λ y. slot.index < y) (sym (agrees.size slot.from r.on)) r.within;
+    target = target_carries g g' s sound agrees slot.from slot.to r.target;
+    pair = r.pair;
+    stood = r.stood;
+  }
+
+  -- whatever step the copy is at
+  step_carries : (step : Step) → RestsStep g c s last kept step → RestsStep g' c s last kept step
+  step_carries steps.AtRoot r = tt
+  step_carries (steps.Aiming from behind) r = aimed_carries from behind r
+  step_carries (steps.Linking from link) r = (agrees.blocking ∙ r.0, aimed_carries from (follows link) r.1, link_carries link r.2)
+  step_carries (steps.Judging from to) r = (agrees.blocking ∙ r.0, source_carries from to r.1)
+  step_carries (steps.Sizing from to) r = source_carries from to r
+  step_carries (steps.Counting from to len) r = (source_carries from to r.0, r.1 ∙ sym (agrees.size from (root_on from r.0.was)))
+  step_carries (steps.Settling chunk settle) r = (chunk_carries chunk chunk.at r.0, r.1, r.2, settle_carries (slot_of chunk) (root_on chunk.from r.0.source.was) settle r.3)
+  step_carries (steps.Advancing chunk) r = chunk_carries chunk chunk.end r
+  step_carries (steps.Promoting from to) r = (source_carries from to r.0, subst (λ y. y ≤ s.done to) (sym (agrees.size from (root_on from r.0.was))) r.1)
+
+  aim_carries : (aim : Aim) → RestsAim g c s last kept aim → RestsAim g' c s last kept aim
+  aim_carries (aims.Search table) r = tt
+  aim_carries (aims.Settle slot) r = moving_carries slot r
+  aim_carries aims.Chunk r = tt
+  aim_carries (aims.All met) r = tt
+
+  pub copying_carries : (copying : Copying) → RestsCopying g c s last kept copying → RestsCopying g' c s last kept copying
+  copying_carries (copyings.Stepping aim step) r = (aim_carries aim r.0, step_carries step r.1)
+  copying_carries (copyings.Lone slot settle) r = (moving_carries slot r.0, settle_carries slot r.0.on settle r.1)

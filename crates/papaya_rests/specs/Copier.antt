@@ -1,0 +1,244 @@
+-- What a copier rests on: facts of the words alone, which no exchange undoes.
+use Rattle.std.specs.Prelude.{◌≡◌, ◌⊎◌, ℕ, ◌+◌, ◌<◌, ◌≤◌, true, false, Option, Some}
+use Rattle.papaya_words.specs.Word.{kind_of, pair_of}
+use Rattle.papaya_words.specs.declared.word.Kind.TheVariants as word_kinds
+use Rattle.papaya_call.specs.declared.ask.At.{At}
+use Rattle.papaya_call.specs.declared.ask.At.TheVariants.{Root, Next, Aborted, Done, Slot as Slot_word}
+use Rattle.papaya_call.specs.declared.ask.StepKind.{StepKind}
+use Rattle.papaya_call.specs.declared.ask.StepKind.TheVariants as kinds
+use Rattle.papaya_call.specs.declared.carry.Carried.{Carried}
+use Rattle.papaya_call.specs.declared.carry.Carried.TheVariants as carried
+use Rattle.papaya_call.specs.declared.carry.Carry.{Carry}
+use Rattle.papaya_call.specs.declared.carry.Carry.TheVariants as carries
+use Rattle.papaya_call.specs.declared.copying.Aim.{Aim}
+use Rattle.papaya_call.specs.declared.copying.Aim.TheVariants as aims
+use Rattle.papaya_call.specs.declared.copying.Copied.{Copied as Copied_end}
+use Rattle.papaya_call.specs.declared.copying.Copied.TheVariants as copied
+use Rattle.papaya_call.specs.declared.copying.Copying.{Copying}
+use Rattle.papaya_call.specs.declared.copying.Copying.TheVariants as copyings
+use Rattle.papaya_call.specs.declared.link.Link.{Link}
+use Rattle.papaya_call.specs.declared.link.Link.TheVariants as links
+use Rattle.papaya_call.specs.declared.link.Linked.{Linked}
+use Rattle.papaya_call.specs.declared.link.Linked.TheVariants as linked
+use Rattle.papaya_call.specs.declared.search.Place.{Place}
+use Rattle.papaya_call.specs.declared.settle.Settle.{Settle}
+use Rattle.papaya_call.specs.declared.settle.Settle.TheVariants as settles
+use Rattle.papaya_call.specs.declared.settle.Settled.{Settled}
+use Rattle.papaya_call.specs.declared.settle.Settled.TheVariants as settled
+use Rattle.papaya_call.specs.declared.settle.Slot.{Slot}
+use Rattle.papaya_call.specs.declared.step.Chunk.{Chunk}
+use Rattle.papaya_call.specs.declared.step.Step.{Step}
+use Rattle.papaya_call.specs.declared.step.Step.TheVariants as steps
+use Rattle.papaya_call.specs.declared.step.Stepped.{Stepped}
+use Rattle.papaya_call.specs.declared.step.Stepped.TheVariants as stepped
+use Rattle.papaya_call.specs.Link.{follows}
+use Rattle.papaya_call.specs.Step.{slot_of}
+use Rattle.papaya_law.specs.Class.{IsOn}
+use Rattle.papaya_law.specs.Code.{Coding, code}
+use Rattle.papaya_law.specs.Copying.{IsPutting, IsSettled, IsTaker, IsTarget}
+use Rattle.papaya_law.specs.Exchange.{Word, Live, Marked, Copied, Setting, State, Exchange, Link as Link_to, Mark, Close, Place as Place_pair, Finish, Advance, Promote, Abort}
+use Rattle.papaya_law.specs.Invariant.{named}
+use Rattle.papaya_law.specs.Later.{Becomes}
+use Rattle.papaya_law.specs.View.{look, HasWord}
+use Rattle.papaya_rests.specs.Told.{or_last}
+
+-- a made table has a greater number
+abbrev pub Rises_to : Link → Type 0
+Rises_to (links.Linking after table) = after < table
+Rises_to _ = Unit {0}
+
+-- the table that a carry is in
+abbrev pub carried_to : Carry → ℕ
+carried_to (carries.Hashing table) = table
+carried_to (carries.Sizing hash table) = table
+carried_to (carries.Looking hash at) = at.table
+carried_to (carries.Comparing hash at word) = at.table
+carried_to (carries.Placing hash at) = at.table
+carried_to (carries.Passing hash table) = table
+carried_to (carries.Linking hash link) = follows link
+carried_to (carries.Aborting table) = table
+
+module _ {K P : Type 0} (g : Setting K P) (c : Coding K P) (s : State P) where
+  -- the table that is to get a next one is on the chain
+  pub record RestsLink (link : Link) : Type 0 where
+    pub on : IsOn s.first s.next (follows link)
+    pub rises : Rises_to link
+
+  -- from was the root, and its copies go to n
+  pub record IsSource (from n : ℕ) : Type 0 where
+    pub was : s.was_root from ≡ true
+    pub target : IsTarget g s from n
+
+  -- from was the root, and its copies go behind this table: from itself, or a table that was given up
+  pub record IsAimed (from behind : ℕ) : Type 0 where
+    pub was : s.was_root from ≡ true
+    pub given_up : (behind ≡ from) ⊎ ((g.blocking ≡ true) × IsTarget g s from behind × (s.aborted behind ≡ true))
+
+  -- the slots of the chunk are settled as far as this one
+  pub record IsChunk (chunk : Chunk) (upto : ℕ) : Type 0 where
+    pub source : IsSource chunk.from chunk.to
+    pub len : chunk.len ≡ g.size chunk.from
+    pub some : chunk.begun < chunk.end
+    pub within : chunk.end ≤ chunk.len
+    pub settled : (x : ℕ) → chunk.begun ≤ x → x < upto → IsSettled g s chunk.to (s.slot chunk.from x)
+
+  -- without blocking: the pair of the slot is marked or copied, and goes to the next table first
+  pub record IsMoving (slot : Slot) : Type 0 where
+    pub mode : g.blocking ≡ false
+    pub on : IsOn s.first s.next slot.from
+    pub within : slot.index < g.size slot.from
+    pub target : IsTarget g s slot.from slot.to
+    pub pair : P
+    pub stood : (s.slot slot.from slot.index ≡ Marked pair) ⊎ (s.slot slot.from slot.index ≡ Copied pair)
+
+  -- the place is one of p's key
+  pub record IsFor (p : P) (hash : ℕ) (at : Place) : Type 0 where
+    pub hashed : hash ≡ c.hash (g.key p)
+    pub len : at.len ≡ g.size at.table
+    pub limit : at.limit + 1 ≡ g.places at.table
+    pub slot : at.probe.i ≡ g.place (g.key p) at.table at.probe.len
+    pub within : at.probe.len < g.places at.table
+
+  -- the pair of the marked word came to a table that takes it; with blocking that is the target
+  pub record HasCarried (slot : Slot) (word : ℕ) : Type 0 where
+    pub pair : P
+    pub table : ℕ
+    pub marked : word ≡ code g c (Marked pair)
+    pub stood : (s.slot slot.from slot.index ≡ Marked pair) ⊎ (s.slot slot.from slot.index ≡ Copied pair)
+    pub taker : IsTaker g s (g.key pair) slot.from table
+    pub has : HasWord g.places (look g s (g.key pair)) table
+    pub here : g.blocking ≡ true → table ≡ slot.to
+
+-- `last` is the pair last told of, `kept` the one that is carried.
+module _ {K P : Type 0} (g : Setting K P) (c : Coding K P) (s : State P) (last kept : Option P) where
+  -- the word that was loaded at the place named the pair last told of
+  pub record HasCompared (at : Place) (word : ℕ) : Type 0 where
+    pub pair : P
+    pub told : last ≡ Some pair
+    pub was : Word P
+    pub loaded : word ≡ code g c was
+    pub names : named was ≡ Some pair
+    pub became : Becomes g was (s.slot at.table at.probe.i)
+
+  -- how far the carry of p is
+  abbrev pub RestsCarry : Slot → P → Carry → Type 0
+  RestsCarry slot p (carries.Hashing table) = (last ≡ Some p) × IsPutting g s slot.from slot.index p table 0
+  RestsCarry slot p (carries.Sizing hash table) = (kept ≡ Some p) × (hash ≡ c.hash (g.key p)) × IsPutting g s slot.from slot.index p table 0
+  RestsCarry slot p (carries.Looking hash at) = (kept ≡ Some p) × IsFor g c s p hash at × IsPutting g s slot.from slot.index p at.table at.probe.len
+  RestsCarry slot p (carries.Comparing hash at word) = (kept ≡ Some p) × IsFor g c s p hash at × IsPutting g s slot.from slot.index p at.table at.probe.len × HasCompared at word
+  RestsCarry slot p (carries.Placing hash at) = (kept ≡ Some p) × IsFor g c s p hash at × IsPutting g s slot.from slot.index p at.table at.probe.len
+  RestsCarry slot p (carries.Passing hash table) = (g.blocking ≡ false) × (kept ≡ Some p) × (hash ≡ c.hash (g.key p)) × IsPutting g s slot.from slot.index p table (g.places table)
+  RestsCarry slot p (carries.Linking hash link) = (g.blocking ≡ false) × (kept ≡ Some p) × (hash ≡ c.hash (g.key p)) × IsPutting g s slot.from slot.index p (follows link) (g.places (follows link)) × RestsLink g c s link
+  RestsCarry slot p (carries.Aborting table) = (g.blocking ≡ true) × (kept ≡ Some p) × IsPutting g s slot.from slot.index p table (g.places table)
+
+  -- the marked word names the pair that is carried; with blocking it is carried to the target alone
+  pub record IsCarrying (slot : Slot) (word : ℕ) (carry : Carry) : Type 0 where
+    pub pair : P
+    pub marked : word ≡ code g c (Marked pair)
+    pub here : g.blocking ≡ true → carried_to carry ≡ slot.to
+    pub rests : RestsCarry slot pair carry
+
+  abbrev pub RestsSettle : Slot → Settle → Type 0
+  RestsSettle slot settles.Looking = Unit {0}
+  RestsSettle slot settles.Closing = Unit {0}
+  RestsSettle slot (settles.Marking word) = kind_of word ≡ word_kinds.Live
+  RestsSettle slot (settles.Carrying word carry) = IsCarrying slot word carry
+  RestsSettle slot (settles.Finishing word) = (g.blocking ≡ false) × HasCarried g c s slot word
+
+  abbrev pub RestsStep : Step → Type 0
+  RestsStep steps.AtRoot = Unit {0}
+  RestsStep (steps.Aiming from behind) = IsAimed g c s from behind
+  RestsStep (steps.Linking from link) = (g.blocking ≡ true) × IsAimed g c s from (follows link) × RestsLink g c s link
+  RestsStep (steps.Judging from to) = (g.blocking ≡ true) × IsSource g c s from to
+  RestsStep (steps.Sizing from to) = IsSource g c s from to
+  RestsStep (steps.Counting from to len) = IsSource g c s from to × (len ≡ g.size from)
+  RestsStep (steps.Settling chunk settle) = IsChunk g c s chunk chunk.at × (chunk.begun ≤ chunk.at) × (chunk.at < chunk.end) × RestsSettle (slot_of chunk) settle
+  RestsStep (steps.Advancing chunk) = IsChunk g c s chunk chunk.end
+  RestsStep (steps.Promoting from to) = IsSource g c s from to × (g.size from ≤ s.done to)
+
+  -- what a call copies for: the slot in which it met its key's pair is one that is moving
+  abbrev pub RestsAim : Aim → Type 0
+  RestsAim (aims.Settle slot) = IsMoving g c s slot
+  RestsAim _ = Unit {0}
+
+  abbrev pub RestsCopying : Copying → Type 0
+  RestsCopying (copyings.Stepping aim step) = RestsAim aim × RestsStep step
+  RestsCopying (copyings.Lone slot settle) = IsMoving g c s slot × RestsSettle slot settle
+
+  -- where an answer led the making of the table after this one
+  abbrev pub RestsLinked : (after : ℕ) → Linked → Type 0
+  RestsLinked after (linked.On link) = (follows link ≡ after) × RestsLink g c s link
+  RestsLinked after (linked.Table table) = (s.next after ≡ table) × (0 < table)
+  RestsLinked after (linked.Refused refused) = Unit {0}
+
+  -- with blocking, this table was given up, to which copies went
+  abbrev pub IsUnfit : Slot → ℕ → Type 0
+  IsUnfit slot table = (table ≡ slot.to) × (g.blocking ≡ true) × (s.aborted table ≡ true)
+
+  -- the carry of the pair of this word
+  abbrev pub RestsCarried : Slot → ℕ → Carried → Type 0
+  RestsCarried slot word (carried.On carry) = IsCarrying slot word carry
+  RestsCarried slot word carried.Carried = HasCarried g c s slot word
+  RestsCarried slot word (carried.Unfit table) = IsUnfit slot table
+  RestsCarried slot word (carried.Refused refused) = Unit {0}
+
+  -- the copy of this slot
+  abbrev pub RestsSettled : Slot → Settled → Type 0
+  RestsSettled slot (settled.On settle) = RestsSettle slot settle
+  RestsSettled slot settled.Settled = IsSettled g s slot.to (s.slot slot.from slot.index)
+  RestsSettled slot (settled.Unfit table) = IsUnfit slot table
+  RestsSettled slot (settled.Refused refused) = Unit {0}
+
+  -- the copy of a chunk
+  abbrev pub RestsStepped : Stepped → Type 0
+  RestsStepped (stepped.On step) = RestsStep step
+  RestsStepped (stepped.Root table) = s.root ≡ table
+  RestsStepped (stepped.Last table) = (s.was_root table ≡ true) × (s.next table ≡ 0)
+  RestsStepped stepped.Over = Unit {0}
+  RestsStepped (stepped.Refused refused) = Unit {0}
+
+-- what a call copies for
+abbrev pub aim_of : Copying → Aim
+aim_of (copyings.Stepping aim step) = aim
+aim_of (copyings.Lone slot settle) = aims.Settle slot
+
+-- what it goes on copying for: the same, or all
+abbrev pub IsStillAimed : Aim → Aim → Type 0
+IsStillAimed (aims.All met) aim = (root : ℕ) × (aim ≡ aims.All root)
+IsStillAimed old aim = aim ≡ old
+
+module _ {K P : Type 0} (g : Setting K P) (c : Coding K P) (s : State P) (last kept : Option P) where
+  -- a call looks on in this table: the one that it was to look in, or the one to which a slot's pair went, which is settled
+  abbrev pub IsLedTo : Aim → ℕ → Type 0
+  IsLedTo (aims.Search table) n = n ≡ table
+  IsLedTo (aims.Settle slot) n = (n ≡ slot.to) × IsSettled g s slot.to (s.slot slot.from slot.index)
+  IsLedTo _ n = ⊥
+
+  -- where an answer led a call that copied for this
+  abbrev pub RestsCopied : Aim → Copied_end → Type 0
+  RestsCopied aim (copied.On copying) = IsStillAimed aim (aim_of copying) × RestsCopying g c s last kept copying
+  RestsCopied aim (copied.Search table) = IsLedTo aim table
+  RestsCopied aim (copied.Root table) = s.root ≡ table
+  RestsCopied aim _ = Unit {0}
+
+-- the pair last told of, after the word at a place
+abbrev pub told_last : {P : Type 0} → State P → At → Option P → Option P
+told_last s (Slot_word t x) last = or_last (named (s.slot t x)) last
+told_last s _ last = last
+
+-- the exchange of the law that a copier asks for, by its kind
+abbrev pub IsCopyAsked : {K P : Type 0} → Coding K P → Option StepKind → At → ℕ → State P → Option P → Exchange P → Type 0
+IsCopyAsked c (Some kinds.Link) (Next t) new s kept e = e ≡ Link_to t new
+IsCopyAsked {P = P} c (Some kinds.Mark) (Slot_word t x) new s kept e = (p : P) × (s.slot t x ≡ Live p) × (e ≡ Mark t x p)
+IsCopyAsked c (Some kinds.Close) (Slot_word t x) new s kept e = e ≡ Close t x
+IsCopyAsked {P = P} c (Some kinds.Place) (Slot_word t x) new s kept e = (p : P) × (kept ≡ Some p) × (c.number p ≡ pair_of new) × (e ≡ Place_pair t x p)
+IsCopyAsked {P = P} c (Some kinds.Finish) (Slot_word t x) new s kept e = (p : P) × (s.slot t x ≡ Marked p) × (e ≡ Finish t x p)
+IsCopyAsked c (Some kinds.Advance) (Done n) new s kept e = e ≡ Advance n (s.done n) new
+IsCopyAsked c (Some kinds.Promote) Root new s kept e = e ≡ Promote s.root new
+IsCopyAsked c (Some kinds.Abort) (Aborted n) new s kept e = e ≡ Abort n
+IsCopyAsked c _ _ new s kept e = ⊥
+
+-- the pair last told of, after an exchange: the one that stood there, where it was marked
+abbrev pub last_after : {P : Type 0} → Exchange P → Option P → Option P
+last_after (Mark t x p) last = Some p
+last_after _ last = last
