@@ -49,7 +49,7 @@ returns-in-On-Comparing g c =
     let seen : IsSeen (at_yes (Comparing c.args.at s.result.0) c.equivalent-same.result) = subst IsSeen c.at_yes-compared.ensures.value c.at_yes-compared.ensures.seen in
     let all = other_pair g.K.PartialEq.eq g.K.Hash.hash_input g.S.BuildHasher.build_hasher g.S.Hasher.Hasher.write g.S.Hasher.Hasher.finish g.met.K.Eq.laws g.met.K.Hash.respects_eq (begun_of w.parts) (g.Q.Equivalent.matches c.args.key.now) (g.Q.Hash.hash_input c.args.key.now) lawful (exchanges_of c.args.began.now.log) c.args.hash c.args.window.now.sight.log c.args.at c.requires.within c.args.table.now c.requires.reading
     s.new.self.sight.log s.ensures.sees.log w.begun.book s.result.0 s.result.1.state s.ensures.slot c.in-On-Comparing.field-0-0 c.in-On-Comparing.field-0-1 looks c.named_pair-stored.result c.named_pair-stored.ensures c.equivalent-same.result same seen none in
-    record { sees = s.ensures.sees; turned = rw (s.ensures.sees.book, c.without.ensures, c.at_yes-compared.ensures.value) all.0; fewer = rw (c.without.ensures, c.at_yes-compared.ensures.value) all.1 }
+    record { sees = s.ensures.sees; own = s.ensures.own; turned = rw (s.ensures.sees.book, c.without.ensures, c.at_yes-compared.ensures.value) all.0; fewer = rw (c.without.ensures, c.at_yes-compared.ensures.value) all.1 }
 
 pub returns-clause-turned : goal.returns-clause-turned
 returns-clause-turned g c =
