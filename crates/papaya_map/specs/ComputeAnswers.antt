@@ -1,5 +1,5 @@
 -- What a compute on the shared map answers.
-use Rattle.std.specs.Prelude.{◌≡◌, ◌⊎◌, Bool, Option, None, Some, Result, Ok, Err, List}
+use Rattle.std.specs.Prelude.{◌≡◌, ◌⊎◌, Bool, true, false, Option, None, Some, Result, Ok, Err, List}
 use Rattle.papaya_words.specs.declared.probe.Refused.{Refused}
 use Rattle.papaya_words.specs.declared.probe.Refused.TheVariants.{RemoveNothing}
 use Rattle.papaya_call.specs.declared.answers.Operation.{Operation}
@@ -12,6 +12,14 @@ use Rattle.papaya_lookup.specs.History.{Change, key_of}
 use Rattle.papaya_book.specs.Logs.{Member, Stored}
 use Rattle.papaya_change.specs.Showings.{AllShown, AreOf, HasSaid, IsNoneOnce, IsSamePair, WasHeld, WasLast}
 use Rattle.papaya_change.specs.Writing.{IsCause}
+
+-- the compute changed the map
+abbrev pub changes : {K V T : Type 0} → Result (Computed K V T) Refused → Bool
+changes (Ok (Inserted k v)) = true
+changes (Ok (Updated before after)) = true
+changes (Ok (Removed k v)) = true
+changes (Ok (Aborted with)) = false
+changes (Err refused) = false
 
 -- A compute is refused as an insertion is, or since its closure last would remove where there is nothing.
 abbrev pub IsRefusedBy : {K V T : Type 0} → List (Option (Stored K V) × Operation V T) → Refused → Type 0

@@ -1,6 +1,7 @@
 //! Computes: their machine, answered by steps on the book and by a closure.
-ghost use Rattle.papaya_lookup.specs.Drivers.{past};
-ghost use Rattle.papaya_book.specs.Windows.{IsLawful, Sees};
+ghost use Rattle.papaya_lookup.specs.Drivers.{own, past};
+ghost use Rattle.papaya_lookup.specs.History.{Makes};
+ghost use Rattle.papaya_book.specs.Windows.{Does, IsLawful, Sees};
 ghost use Rattle.papaya_map.specs.Computes.{CanCompute, Computes, Replies};
 ghost use Rattle.std.specs.Prelude.{◌≡◌, ◌⊎◌, ℕ, Bool, None, Some, Option, Ok};
 ghost use Rattle.papaya_call.specs.Machine.{IsFitAsk, IsStanding, ask_of, kind_of_ask};
@@ -9,7 +10,8 @@ ghost use Rattle.papaya_call.specs.declared.call.Reply.TheVariants.{Inserted, Re
 ghost use Rattle.papaya_call.specs.declared.ask.Ask.TheVariants.{Done, Exchange, MakePair, ShowNone, ShowPair};
 ghost use Rattle.papaya_call.specs.declared.ask.At.TheVariants.{Slot};
 ghost use Rattle.papaya_map.specs.Computing.{IsKept, IsWriters, chosen_after, pair_for};
-ghost use Rattle.papaya_map.specs.ComputeAnswers.{IsComputeBy};
+ghost use Rattle.papaya_map.specs.ComputeAnswers.{IsComputeBy, changes};
+ghost use Rattle.papaya_change.specs.Doing.{Answers, has_changed, was_made};
 ghost use Rattle.papaya_change.specs.Showings.{Operates};
 
 use papaya_book::book::Book;
@@ -183,6 +185,7 @@ impl<'a, K: Hash + Eq + Drop, V: Drop, S: BuildHasher, T: Drop> Computing<'a, K,
         requires asks { ask_of self.old.writer.call.machine ≡ Exchange (Slot number place) words.0 words.1 }
         requires kind { (kind_of_ask self.old.writer.call.machine ≡ Some Claim) ⊎ (kind_of_ask self.old.writer.call.machine ≡ Some Replace) }
         ensures sees { Sees window.old window.new }
+        ensures does { Does (was_made result) window.old window.new }
         ensures machine { self.new.writer.call.machine ≡ self.old.writer.call.machine }
         ensures computes { Computes (Operates F.FnMut) window.old self.old compute.now window.new self.new compute.now (Some result) }
     {
@@ -207,6 +210,7 @@ impl<'a, K: Hash + Eq + Drop, V: Drop, S: BuildHasher, T: Drop> Computing<'a, K,
         requires standing { IsStanding self.old.writer.call.machine }
         requires asks { ask_of self.old.writer.call.machine ≡ Exchange (Slot number place) words.0 words.1 }
         ensures sees { Sees window.old window.new }
+        ensures does { Does (was_made result) window.old window.new }
         ensures machine { self.new.writer.call.machine ≡ self.old.writer.call.machine }
         ensures computes { Computes (Operates F.FnMut) window.old self.old compute.now window.new self.new compute.now (Some result) }
     {
@@ -230,6 +234,7 @@ impl<'a, K: Hash + Eq + Drop, V: Drop, S: BuildHasher, T: Drop> Computing<'a, K,
         requires asks { (ask_of self.old.writer.call.machine ≡ ask) × IsWriters ask }
         requires fit { IsFitAsk ask }
         ensures sees { Sees window.old window.new }
+        ensures own { window.new.own ≡ window.old.own }
         ensures machine { self.new.writer.call.machine ≡ self.old.writer.call.machine }
         ensures computes { Computes (Operates F.FnMut) window.old self.old compute.now window.new self.new compute.now (Some result) }
     {
@@ -260,6 +265,7 @@ impl<'a, K: Hash + Eq + Drop, V: Drop, S: BuildHasher, T: Drop> Computing<'a, K,
         requires can { CanCompute (Operates F.FnMut) window.old self.old compute.old }
         requires standing { IsStanding self.old.writer.call.machine }
         ensures sees { Sees window.old window.new }
+        ensures answers { Answers (ask_of self.old.writer.call.machine) result window.old window.new }
         ensures machine { self.new.writer.call.machine ≡ self.old.writer.call.machine }
         ensures callable { F.IsAlwaysCallable compute.new }
         ensures computes { Computes (Operates F.FnMut) window.old self.old compute.old window.new self.new compute.new result }
@@ -290,7 +296,8 @@ impl<'a, K: Hash + Eq + Drop, V: Drop, S: BuildHasher, T: Drop> Computing<'a, K,
         requires standing { IsStanding self.now.writer.call.machine }
         requires can { CanCompute (Operates F.FnMut) window.now self.now compute.now }
         requires done { (n : ℕ) × (ask_of self.now.writer.call.machine ≡ Done (Inserted n)) }
-        ensures { Replies (Operates F.FnMut) window.now self.now compute.now (Ok result) }
+        ensures changed { changes (Ok result) ≡ has_changed self.now.writer.call.machine }
+        ensures replies { Replies (Operates F.FnMut) window.now self.now compute.now (Ok result) }
     {
         let _ = compute;
         let book = window.book;
@@ -313,7 +320,8 @@ impl<'a, K: Hash + Eq + Drop, V: Drop, S: BuildHasher, T: Drop> Computing<'a, K,
         requires standing { IsStanding self.now.writer.call.machine }
         requires can { CanCompute (Operates F.FnMut) window.now self.now compute.now }
         requires done { (m : ℕ) × (n : ℕ) × (ask_of self.now.writer.call.machine ≡ Done (Replaced m n)) }
-        ensures { Replies (Operates F.FnMut) window.now self.now compute.now (Ok result) }
+        ensures changed { changes (Ok result) ≡ has_changed self.now.writer.call.machine }
+        ensures replies { Replies (Operates F.FnMut) window.now self.now compute.now (Ok result) }
     {
         let _ = compute;
         let (Some(chosen), Some(taken)) = (&self.chosen, &self.writer.call.taken) else {
@@ -340,7 +348,8 @@ impl<'a, K: Hash + Eq + Drop, V: Drop, S: BuildHasher, T: Drop> Computing<'a, K,
         requires standing { IsStanding self.now.writer.call.machine }
         requires can { CanCompute (Operates F.FnMut) window.now self.now compute.now }
         requires done { (n : ℕ) × (ask_of self.now.writer.call.machine ≡ Done (Removed n)) }
-        ensures { Replies (Operates F.FnMut) window.now self.now compute.now (Ok result) }
+        ensures changed { changes (Ok result) ≡ has_changed self.now.writer.call.machine }
+        ensures replies { Replies (Operates F.FnMut) window.now self.now compute.now (Ok result) }
     {
         let _ = compute;
         let book = window.book;
@@ -363,7 +372,8 @@ impl<'a, K: Hash + Eq + Drop, V: Drop, S: BuildHasher, T: Drop> Computing<'a, K,
         requires standing { IsStanding self.old.writer.call.machine }
         requires can { CanCompute (Operates F.FnMut) window.now self.old compute.now }
         requires done { (reply : _) × (ask_of self.old.writer.call.machine ≡ Done reply) }
-        ensures { Replies (Operates F.FnMut) window.now self.old compute.now result }
+        ensures changed { changes result ≡ has_changed self.old.writer.call.machine }
+        ensures replies { Replies (Operates F.FnMut) window.now self.old compute.now result }
     {
         let _ = compute;
         match self.writer.call.machine.ask() {
@@ -401,6 +411,7 @@ pub fn compute<
     requires callable { F.IsAlwaysCallable f }
     ensures sees { Sees window.old window.new }
     ensures lawful { IsLawful window.new }
+    ensures made { Makes (changes result) (own window.old) (own window.new) (past window.new) }
     ensures computed { IsComputeBy K.eq key (past window.old) (past window.new) (Operates F.FnMut) f result }
 {
     window.learn();

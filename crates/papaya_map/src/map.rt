@@ -1,5 +1,5 @@
 //! The map that threads share, and the passes of its callers.
-ghost use Rattle.std.specs.Prelude.{◌≡◌, ◌⊎◌, true, IfErr, IfOk};
+ghost use Rattle.std.specs.Prelude.{◌≡◌, ◌⊎◌, true, is_ok, [], IfErr, IfOk};
 ghost use mathlib.Core.List.{IsPrefix};
 ghost use Rattle.logbook.specs.Pages.{Book as BookName};
 ghost use Rattle.papaya_words.specs.declared.limits.TheConstants.{DEFAULT_CHUNK, DEFAULT_SHARDS};
@@ -7,15 +7,17 @@ ghost use Rattle.papaya_keys.specs.Sizes.{IsAllowed};
 ghost use Rattle.papaya_map.specs.Asked.{IsRefused};
 ghost use Rattle.papaya_map.specs.Fixed.{Fixed, IsFor};
 ghost use Rattle.papaya_change.specs.Changes.{IsPut};
-ghost use Rattle.papaya_map.specs.ComputeAnswers.{IsComputeBy};
-ghost use Rattle.papaya_lookup.specs.History.{IsLegalHistory, Past, history_of, key_of};
+ghost use Rattle.papaya_map.specs.ComputeAnswers.{IsComputeBy, changes};
+ghost use Rattle.papaya_lookup.specs.History.{IsLegalHistory, Makes, Past, changes_by, history_of, key_of};
 ghost use Rattle.papaya_lookup.specs.Answers.{IsAnsweredBetween};
-ghost use Rattle.papaya_change.specs.RemovalAnswers.{IsRemovalBy, IsRemoved};
+ghost use Rattle.papaya_change.specs.RemovalAnswers.{IsRemovalBy, IsRemoved, took, went};
 ghost use Rattle.papaya_change.specs.Showings.{Judges, Operates};
 
 use crate::computing::compute;
 use papaya_book::book::Book;
 use papaya_book::book::parts::Parts;
+use papaya_book::rule::entry::Step;
+use papaya_book::rule::own::Own;
 use papaya_book::rule::trade::Sight;
 use papaya_book::window::Window;
 use papaya_call::answers::Operation;
@@ -50,20 +52,23 @@ impl<K: Hash + Eq, V, S: BuildHasher> Model for HashMap<K, V, S> {
     ghost view = { λ m. record { book = m.book.begun.book; mode = m.book.parts.mode; initial = m.initial } };
 }
 
-/// What a caller has seen of a map's history. It has no bytes. Contracts see that history, which is
-/// legal, and which book it is of.
+/// What a caller has seen of a map's history, and what it changed itself. It has no bytes. Contracts
+/// see that history, which is legal, the changes that were made by this pass, oldest first, and which
+/// book they are of.
 ///
 /// Each call by a pass stands in the history after all that the pass had seen before, and afterwards
-/// the pass has seen the call's own moment.
+/// the pass has seen the call's own moment. A call that changes the map makes one change by its pass,
+/// and any other call makes none.
 #[derive(Drop)]
 pub struct Pass<K: Hash + Eq, V, S: BuildHasher> {
     sight: Sight<K, V, S>,
+    own: Own<Step<K, V>>,
 }
 
 impl<K: Hash + Eq, V, S: BuildHasher> Model for Pass<K, V, S> {
     ghost Value = { Past K V };
 
-    ghost view = { λ p. record { book = p.sight.book; history = history_of p.sight.log } };
+    ghost view = { λ p. record { book = p.sight.book; history = history_of p.sight.log; made = changes_by p.own.done } };
 
     ghost invariant = { λ p. IsLegalHistory K.eq key_of (history_of p.sight.log) };
 }
@@ -180,11 +185,15 @@ impl<K: Hash + Eq, V, S: BuildHasher> HashMap<K, V, S> {
 
     /// A new pass of this map.
     pub fn pass(&self) -> Pass<K, V, S>
-        ensures { result.book ≡ self.now.book }
+        ensures book { result.book ≡ self.now.book }
+        ensures made { result.made ≡ [] }
     {
         let mut sight = self.book.begun.again();
         self.book.learn(&mut sight);
-        Pass { sight }
+        Pass {
+            sight,
+            own: Own::nothing(),
+        }
     }
 }
 
@@ -211,12 +220,14 @@ impl<'a, K: Hash + Eq, V, S: BuildHasher> HashMapRef<'a, K, V, S> {
         requires { pass.old.book ≡ self.now }
         ensures book { pass.new.book ≡ pass.old.book }
         ensures seen { IsPrefix pass.old.history pass.new.history }
+        ensures made { pass.new.made ≡ pass.old.made }
         ensures answered { IsAnsweredBetween K.eq (Q.matches key.now) pass.old.history pass.new.history result }
     {
         let map: &'a HashMap<K, V, S> = self.map;
-        let mut window = Window::new(&map.book, &pass.sight);
+        let mut window = Window::new(&map.book, &pass.sight, &pass.own);
         let found = look_up(&mut window, key);
         pass.sight = window.sight;
+        pass.own = window.own;
         found
     }
 
@@ -238,13 +249,15 @@ impl<'a, K: Hash + Eq, V, S: BuildHasher> HashMapRef<'a, K, V, S> {
         requires callable { F.IsAlwaysCallable should_remove }
         ensures book { pass.new.book ≡ pass.old.book }
         ensures seen { IsPrefix pass.old.history pass.new.history }
+        ensures made { Makes (went result) pass.old.made pass.new.made pass.new.history }
         ensures removed { IsRemovalBy K.eq (Q.matches key.now) pass.old.history pass.new.history (Judges F.FnMut) should_remove result }
     {
         let map: &'a HashMap<K, V, S> = self.map;
         let shard = map.count.shard(self.guard);
-        let mut window = Window::new(&map.book, &pass.sight);
+        let mut window = Window::new(&map.book, &pass.sight, &pass.own);
         let removed = remove(rt, &shard, &mut window, key, should_remove);
         pass.sight = window.sight;
+        pass.own = window.own;
         removed
     }
 
@@ -259,6 +272,7 @@ impl<'a, K: Hash + Eq, V, S: BuildHasher> HashMapRef<'a, K, V, S> {
         requires { pass.old.book ≡ self.now }
         ensures book { pass.new.book ≡ pass.old.book }
         ensures seen { IsPrefix pass.old.history pass.new.history }
+        ensures made { Makes (took result) pass.old.made pass.new.made pass.new.history }
         ensures removed { IsRemoved K.eq (Q.matches key.now) pass.old.history pass.new.history result }
     {
         let removed = self.remove_if_as(
@@ -294,14 +308,16 @@ impl<'a, K: Hash + Eq + Drop, V: Drop, S: BuildHasher> HashMapRef<'a, K, V, S> {
         requires { pass.old.book ≡ self.now }
         ensures book { pass.new.book ≡ pass.old.book }
         ensures seen { IsPrefix pass.old.history pass.new.history }
+        ensures made { Makes (is_ok result) pass.old.made pass.new.made pass.new.history }
         ensures put { IfOk result (λ answer. IsPut K.eq key value pass.old.history pass.new.history answer) }
         ensures refused { IfErr result (λ refused. (refused ≡ Refused.Memory) ⊎ (refused ≡ Refused.Capacity)) }
     {
         let map: &'a HashMap<K, V, S> = self.map;
         let shard = map.count.shard(self.guard);
-        let mut window = Window::new(&map.book, &pass.sight);
+        let mut window = Window::new(&map.book, &pass.sight, &pass.own);
         let before = insert(rt, map.alloc, map.initial, &shard, &mut window, key, value);
         pass.sight = window.sight;
+        pass.own = window.own;
         before
     }
 
@@ -326,13 +342,15 @@ impl<'a, K: Hash + Eq + Drop, V: Drop, S: BuildHasher> HashMapRef<'a, K, V, S> {
         requires callable { F.IsAlwaysCallable f }
         ensures book { pass.new.book ≡ pass.old.book }
         ensures seen { IsPrefix pass.old.history pass.new.history }
+        ensures made { Makes (changes result) pass.old.made pass.new.made pass.new.history }
         ensures computed { IsComputeBy K.eq key pass.old.history pass.new.history (Operates F.FnMut) f result }
     {
         let map: &'a HashMap<K, V, S> = self.map;
         let shard = map.count.shard(self.guard);
-        let mut window = Window::new(&map.book, &pass.sight);
+        let mut window = Window::new(&map.book, &pass.sight, &pass.own);
         let computed = compute(rt, map.alloc, map.initial, &shard, &mut window, key, f);
         pass.sight = window.sight;
+        pass.own = window.own;
         computed
     }
 }

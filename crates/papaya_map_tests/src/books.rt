@@ -3,6 +3,7 @@ use crate::expect::is;
 use crate::hashing::{APART, Times};
 use papaya_book::book::Book;
 use papaya_book::book::parts::Parts;
+use papaya_book::rule::own::Own;
 use papaya_book::window::Window;
 use papaya_keys::sizes::initial_len;
 use papaya_lookup::lookup::look_up;
@@ -12,7 +13,7 @@ use std::test::*;
 
 /// The book has no pair of this key.
 fn lacks(rt: &impl Abort, book: &Book<u64, u64, Times>, key: u64) {
-    let mut window = Window::new(book, &book.pass());
+    let mut window = Window::new(book, &book.pass(), &Own::nothing());
     is(rt, look_up(&mut window, &key).is_none(), true);
 }
 

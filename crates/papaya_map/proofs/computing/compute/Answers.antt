@@ -1,9 +1,13 @@
-use Rattle.std.proofs.Common.{refl, ap, ◌∙◌}
+use Rattle.std.proofs.Common.{refl, sym, ap, ◌∙◌, subst}
 use Rattle.papaya_call.specs.declared.call.Task.TheVariants.{Compute}
+use Rattle.papaya_call.specs.declared.machine.Machine.{Machine}
 use Rattle.papaya_call.specs.Machine.{started}
 use Rattle.papaya_book.specs.Hashes.{hash_of}
 use Rattle.papaya_book.specs.Parts.{begun_of}
+use Rattle.papaya_book.specs.Windows.{Does}
+use Rattle.papaya_change.specs.Doing.{has_changed}
 use Rattle.papaya_change.specs.Showings.{Operates}
+use Rattle.papaya_change.proofs.Doing.{does_on, does_still, idles, makes}
 use Rattle.papaya_map.proofs.ComputeReplies.{begins, compute_since}
 use Rattle.papaya_lookup.proofs.Histories.{history_since}
 use Rattle.papaya_book.proofs.Windows.{sees_trans}
@@ -21,6 +25,7 @@ loop-init g c =
       c.new.ensures.standing,
       c.learn.ensures.sees,
       c.requires.callable,
+      subst (λ (m : Machine). Does (has_changed m) c.args.window.now c.learn.new.self) (sym machine) (idles c.args.window.now c.learn.new.self c.learn.ensures.own),
     )
 
 pub answer-requires-in-Some-answer-clause-fit : goal.answer-requires-in-Some-answer-clause-fit
@@ -33,6 +38,7 @@ loop-preserved g c =
       c.answer-in-Some-answer.ensures.standing,
       sees_trans _ _ _ c.loop.invariant.2 c.answer.ensures.sees,
       c.answer.ensures.callable,
+      rw (c.answer-in-Some-answer.ensures.after, c.answer.ensures.machine) (does_on c.loop.computing.writer.call.machine c.in-Some-answer.answer c.args.window.now c.loop.window c.answer.new.window c.loop.invariant.4 c.in-Some-answer.ensures.answers),
     )
 
 pub replied-requires : goal.replied-requires
@@ -46,4 +52,10 @@ returns-in-None-answer-clause-lawful g c = let u = c.loop.invariant.0 in rw c.an
 pub returns-in-None-answer-clause-computed : goal.returns-in-None-answer-clause-computed
 returns-in-None-answer-clause-computed g c =
     let u = c.loop.invariant.0 in let r = (c.in-None-answer.ensures.computes c.args.key c.args.f u.0 u.2).0 in
-    compute_since g.K.PartialEq.eq c.args.key _ _ _ (history_since c.args.window.now.sight.log u.0 u.1) (Operates g.F.FnMut) c.args.f c.replied.result (c.replied.ensures c.args.key c.args.f u.0 (rw c.answer.ensures.sees.book r))
+    compute_since g.K.PartialEq.eq c.args.key _ _ _ (history_since c.args.window.now.sight.log u.0 u.1) (Operates g.F.FnMut) c.args.f c.replied.result (c.replied.ensures.replies c.args.key c.args.f u.0 (rw c.answer.ensures.sees.book r))
+
+pub returns-in-None-answer-clause-made : goal.returns-in-None-answer-clause-made
+returns-in-None-answer-clause-made g c =
+    let u = c.loop.invariant.0 in let r = (c.in-None-answer.ensures.computes c.args.key c.args.f u.0 u.2).0 in let call = c.answer.new.self.writer.call in
+    let does = does_still c.loop.computing.writer.call.machine c.args.window.now c.loop.window c.answer.new.window c.loop.invariant.4 c.in-None-answer.ensures.answers in
+    rw c.replied.ensures.changed (makes g.K.PartialEq.eq u.0 call.taken call.put call.machine c.args.window.now c.answer.new.window r.writing.calling.changed (rw c.answer.ensures.machine does))

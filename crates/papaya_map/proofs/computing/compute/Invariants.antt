@@ -3,7 +3,8 @@ use Rattle.papaya_call.specs.Machine.{IsStanding}
 use Rattle.papaya_map.specs.Computing.{IsUnderWay}
 use Rattle.papaya_book.specs.Hashes.{hash_of}
 use Rattle.papaya_book.specs.Parts.{begun_of}
-use Rattle.papaya_book.specs.Windows.{Sees}
+use Rattle.papaya_book.specs.Windows.{Does, Sees}
+use Rattle.papaya_change.specs.Doing.{has_changed}
 use Rattle.papaya_change.specs.Showings.{Operates}
 use Rattle.papaya_map.proofs.computing.compute.Given as goal
 
@@ -14,3 +15,4 @@ invariant-loop g l =
     × IsStanding l.computing.writer.call.machine
     × Sees l.fn.window l.window
     × always_mut g.F.FnMut l.f
+    × Does (has_changed l.computing.writer.call.machine) l.fn.window l.window
