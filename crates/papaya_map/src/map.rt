@@ -1,5 +1,5 @@
 //! The map that threads share, and the passes of its callers.
-ghost use Rattle.std.specs.Prelude.{◌≡◌, ◌⊎◌, true, IfErr, IfOk};
+ghost use Rattle.std.specs.Prelude.{◌≡◌, ◌⊎◌, true, [], IfErr, IfOk};
 ghost use mathlib.Core.List.{IsPrefix};
 ghost use Rattle.logbook.specs.Pages.{Book as BookName};
 ghost use Rattle.papaya_words.specs.declared.limits.TheConstants.{DEFAULT_CHUNK, DEFAULT_SHARDS};
@@ -178,13 +178,15 @@ impl<K: Hash + Eq, V, S: BuildHasher> HashMap<K, V, S> {
         self.len() == 0
     }
 
-    /// A new pass of this map.
+    /// A new pass of this map. It has seen no change yet: each history of a map begins as that of the
+    /// empty one.
     pub fn pass(&self) -> Pass<K, V, S>
-        ensures { result.book ≡ self.now.book }
+        ensures book { result.book ≡ self.now.book }
+        ensures new { result.history ≡ [] }
     {
-        let mut sight = self.book.begun.again();
-        self.book.learn(&mut sight);
-        Pass { sight }
+        Pass {
+            sight: self.book.unseen(),
+        }
     }
 }
 
@@ -225,8 +227,7 @@ impl<'a, K: Hash + Eq, V, S: BuildHasher> HashMapRef<'a, K, V, S> {
     /// `Ok(None)` where the key is absent, `Ok(Some(pair))` where that very pair was removed, and
     /// `Err(pair)` where the closure answered false for it. The closure may be asked again, where
     /// another call was first to replace or remove the pair that it was shown. A removal takes no
-    /// memory, and while the map has one table it is not refused; else `Refused::Capacity`, where its
-    /// search would go on to a table that cannot be had.
+    /// memory, and it is never refused: while a map has one table, there is no cause.
     pub fn remove_if_as<R: Wait, Q: Equivalent<K>, F: FnMut(&K, &V) -> bool>(
         &self,
         rt: &R,
@@ -249,7 +250,7 @@ impl<'a, K: Hash + Eq, V, S: BuildHasher> HashMapRef<'a, K, V, S> {
     }
 
     /// Removes a key's pair, and answers its value: `remove` of 0.2.5. It takes no memory, and is
-    /// refused as [`HashMapRef::remove_if_as`].
+    /// never refused, as [`HashMapRef::remove_if_as`].
     pub fn remove_as<R: Wait, Q: Equivalent<K>>(
         &self,
         rt: &R,
