@@ -29,17 +29,21 @@ use papaya_call::ask::At;
 use std::hash::{BuildHasher, Hash};
 
 /// What all callers of a map share: what its book was opened with, the root and the word that only
-/// makers of tables use.
+/// makers of tables use. `origin` has seen the first entry of the log alone, and `begun` also the
+/// book's name.
 #[derive(Drop)]
 pub struct Book<K: Hash + Eq, V, S: BuildHasher> {
     pub parts: Parts<K, V, S>,
     pub root: Cell<K, V, S>,
     pub maker: Cell<K, V, S>,
     pub begun: Sight<K, V, S>,
+    pub origin: Sight<K, V, S>,
     ghost root_is: { root ≡ word_named begun.book 0 },
     ghost maker_is: { maker ≡ word_named begun.book 1 },
     ghost begins: { first_in begun.log ≡ Some (Begin (begun_of parts)) },
     ghost called: { name_in begun.log ≡ Some begun.book },
+    ghost origin_book: { origin.book ≡ begun.book },
+    ghost origin_log: { origin.log ≡ Begin (begun_of parts) ∷ [] },
 }
 
 impl<K: Hash + Eq, V, S: BuildHasher> Book<K, V, S> {

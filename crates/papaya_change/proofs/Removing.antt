@@ -1,26 +1,25 @@
 -- After each answer a removal rests again, and what its machine stands on was said of the pair shown last.
-use Rattle.std.proofs.Common.{◌≡◌, inl, inr, ⊎_elim, ℕ, ◌==◌, Bool, true, false, MatchBool, MatchOption, Option, None, Some, List, [], ◌∷◌, length, append-nil, refl, sym, ap, ◌∙◌, subst}
+use Rattle.std.proofs.Common.{◌≡◌, inl, inr, ⊎_elim, ℕ, ◌==◌, Bool, true, false, MatchBool, MatchOption, Option, None, Some, List, [], ◌∷◌, ◌++◌, length, append-nil, refl, sym, ap, ◌∙◌, subst}
 use Rattle.std.proofs.lemmas.Bool.{cases_Bool}
 use Rattle.std.specs.Cmp.{IsEquivalence}
 use mathlib.Core.List.{IsPrefix}
 use denote.Bor.{Bor}
 use Rattle.logbook.specs.Pages.{Book}
 use Rattle.papaya_words.specs.declared.probe.Refused.{Refused as Cause}
-use Rattle.papaya_words.specs.declared.probe.Refused.TheVariants.{Capacity}
 use Rattle.papaya_call.specs.declared.ask.At.{At}
 use Rattle.papaya_call.specs.declared.ask.At.TheVariants.{Slot}
 use Rattle.papaya_call.specs.declared.ask.Ask.{Ask}
 use Rattle.papaya_call.specs.declared.ask.Ask.TheVariants.{Load, Exchange as Ask_exchange, SizeOf, SameKey, ShowPair, AddToShard, Done}
 use Rattle.papaya_call.specs.declared.ask.StepKind.TheVariants as kinds
 use Rattle.papaya_call.specs.declared.ask.Answer.{Answer}
-use Rattle.papaya_call.specs.declared.ask.Answer.TheVariants.{Word as Word_read, Exchanged, Found as Found_instead, Size, Yes, Ok as Ok_done, Refused as Was_refused}
+use Rattle.papaya_call.specs.declared.ask.Answer.TheVariants.{Word as Word_read, Exchanged, Found as Found_instead, Size, Yes, Ok as Ok_done}
 use Rattle.papaya_call.specs.declared.call.Reply.{Reply}
 use Rattle.papaya_call.specs.declared.call.Reply.TheVariants.{Refused}
 use Rattle.papaya_call.specs.declared.call.Task.{Task}
 use Rattle.papaya_call.specs.declared.call.Task.TheVariants.{RemoveIf}
 use Rattle.papaya_call.specs.declared.machine.Machine.{Machine}
 use Rattle.papaya_rests.specs.Followed.{MayAsk}
-use Rattle.papaya_call.specs.Machine.{IsComputer, IsFit, IsStanding, after, ask_of, asks, kind_of_ask}
+use Rattle.papaya_call.specs.Machine.{IsFit, IsStanding, after, ask_of, asks, kind_of_ask}
 use Rattle.papaya_rests.specs.Rests.{WasAtMoment}
 use Rattle.papaya_rests.specs.Told.{or_last}
 use Rattle.papaya_rests.specs.Says.{Agrees, ShowsPairs, StandsOn}
@@ -53,17 +52,11 @@ use Rattle.papaya_rests.proofs.Silent.{IsSilent, not_done, stood_before}
 use Rattle.papaya_lookup.proofs.Driving.{can_bury}
 use Rattle.papaya_change.proofs.Exchanging.{exchanged, lost}
 use Rattle.papaya_lookup.proofs.Histories.{history_since}
-use Rattle.papaya_lookup.proofs.Readings.{IsQuery, fed, hashed_with}
-use Rattle.papaya_change.proofs.Refusals.{refused_for, shows_none}
+use Rattle.papaya_law.specs.Allows.{AllAllowed}
+use Rattle.papaya_law.specs.Exchange.{Exchange, run, start}
+use Rattle.papaya_rests.proofs.RestsRemovals.{removal_unrefused}
+use Rattle.papaya_lookup.proofs.Readings.{IsQuery, allowed_with, fed, hashed_with}
 use Rattle.papaya_change.proofs.Showings.{all_shown, held_then, held_wider}
-
--- the answer isn't that something was refused
-abbrev IsGiven : Answer → Type 0
-IsGiven answer = (cause : Cause) → answer ≡ Was_refused cause → ⊥
-
--- a removal to which nothing is refused is itself refused only where it needs a further table
-refused_full : (m : Machine) (answer : Answer) → IsStanding m → m.task ≡ RemoveIf → ((reply : Reply) → ask_of m ≡ Done reply → ⊥) → IsGiven answer → (cause : Cause) → ask_of (after m answer) ≡ Done (Refused cause) → cause ≡ Capacity
-refused_full m answer standing task_is open_still given = refused_for (λ cause. cause ≡ Capacity) m answer (λ e. subst IsComputer task_is (shows_none m standing e)) open_still refl (λ cause e. absurd (given cause e))
 
 module _ {K V S H F : Type 0} (eq : K → K → Bool) (input : K → List (List ℕ)) (build : S → H) (write : H → List ℕ → H) (finish : H → ℕ) (classes : IsEquivalence eq) (respects : (x y : K) → eq x y ≡ true → input x ≡ input y)
     (b : Begun K V S) (name : Book) (matches : K → Bool) (query : List (List ℕ)) (lawful : IsQuery eq input matches query) (judges : F → Stored K V → Bool → F → Type 0) (first : F) (begun : List (Event K V S)) where
@@ -90,11 +83,21 @@ module _ {K V S H F : Type 0} (eq : K → K → Bool) (input : K → List (List 
     held_later : (log' : List (Event K V S)) → IsPrefix log log' → (p : Stored K V) → HeldOn log p → HeldOn log' p
     held_later log' pre p h = held_wider eq matches (history_of begun) (history_of begun) (history_of log) (history_of log') ([], append-nil (history_of begun)) (history_since log log' pre) (Some p) h
 
+    -- no table has a next one, so no answer has it refused
+    not_refused : ((reply : Reply) → ask_of m ≡ Done reply → ⊥) → (answer : Answer) (cause : Cause) → ask_of (after m answer) ≡ Done (Refused cause) → ⊥
+    not_refused open_still answer cause e =
+        let s = Wide eq input build write finish classes respects b matches query lawful None name begun log in
+        let c = Coded eq input build write finish classes respects b matches query lawful None name begun in
+        let hashed = hashed_with eq input build write finish classes respects b matches query lawful log r.calling.lawful in
+        let may = subst (AllAllowed s start) (sym r.calling.is) (allowed_with eq input build write finish classes respects b matches query lawful log r.calling.lawful) in
+        let alone : (t : ℕ) → (run (exchanges_of begun ++ r.calling.since) start).next t ≡ 0 = subst (λ (es : List (Exchange (Stored K V))). (t : ℕ) → (run es start).next t ≡ 0) (sym r.calling.is) r.calling.lawful.unlinked in
+        removal_unrefused s c hashed.lawful (exchanges_of begun) r.calling.since may None (hands_with x.call.last []) alone m r.calling.rests r.task_is open_still answer cause e
+
     module _ (standing : IsStanding m) where
       -- it goes on after an answer that shows nothing
-      pub goes_on : (log' : List (Event K V S)) → IsPrefix log log' → (y : Driver K V S H) (answer : Answer) → y.machine ≡ m → IsFit answer → (after m answer).task ≡ m.task → IsSilent (ask_of m) → IsGiven answer
+      pub goes_on : (log' : List (Event K V S)) → IsPrefix log log' → (y : Driver K V S H) (answer : Answer) → y.machine ≡ m → IsFit answer → (after m answer).task ≡ m.task → IsSilent (ask_of m)
           → IsCalling eq hash b name matches fed_to None begun log' (after m answer) y.table y.last [] y.taken y.put → RemovingOn log' (record x { call = y }) f (Some answer)
-      goes_on log' pre y answer machine fit task silent given calling =
+      goes_on log' pre y answer machine fit task silent calling =
           let same : after m answer ≡ after y.machine answer = ap (λ (z : Machine). after z answer) (sym machine) in (
             record {
               calling = subst (λ (z : Machine). IsCalling eq hash b name matches fed_to None begun log' z y.table y.last [] y.taken y.put) same calling;
@@ -105,7 +108,7 @@ module _ {K V S H F : Type 0} (eq : K → K → Bool) (input : K → List (List 
               has_said = r.has_said;
               held = all_shown (HeldOn log) (HeldOn log') (held_later log' pre) r.said r.held;
               stood = λ n agrees stands. r.stood n agrees (stood_before m answer silent standing r.words (Agrees n agrees) (subst (λ (z : Machine). StandsOn z (Agrees n agrees)) (sym same) stands));
-              refuses = λ cause e. refused_full m answer standing r.task_is (not_done m answer silent) given cause (ap ask_of same ∙ e);
+              unrefused = λ cause e. not_refused (not_done m answer silent) answer cause (ap ask_of same ∙ e);
             },
             fit,
           )
@@ -120,7 +123,7 @@ module _ {K V S H F : Type 0} (eq : K → K → Bool) (input : K → List (List 
       pub loaded_as : (log' : List (Event K V S)) → IsPrefix log log' → (at : At) (word : ℕ) (y : Driver K V S H) → y.machine ≡ m → y.taken ≡ x.call.taken → y.put ≡ x.call.put → ask_of m ≡ Load at → IsLoaded eq hash b name at word log' x.call.table y.table x.call.last y.last → RemovingOn log' (record x { call = y }) f (Some (Word_read word))
       loaded_as log' pre at word y machine taken put asks is =
           let calling = loads eq input build write finish classes respects b matches query lawful None name begun log log' pre (loaded_lawful eq hash b name log' at word x.call.table y.table x.call.last y.last is) m x.call.table x.call.last [] x.call.taken x.call.put r.calling at word y.table y.last asks is in
-          goes_on log' pre y (Word_read word) machine tt refl (subst IsSilent (sym asks) tt) (λ cause h. absurd (cc h))
+          goes_on log' pre y (Word_read word) machine tt refl (subst IsSilent (sym asks) tt)
           (subst (λ (o : Option (Stored K V) × Option (Stored K V)). IsCalling eq hash b name matches fed_to None begun log' (after m (Word_read word)) y.table y.last [] o.0 o.1) (λ i. (sym taken i, sym put i)) calling)
 
       -- a table whose size is asked for is held
@@ -130,19 +133,19 @@ module _ {K V S H F : Type 0} (eq : K → K → Bool) (input : K → List (List 
       -- its size was told
       pub sized_on : (t : ℕ) (lent : Bor Sheet) → x.call.table ≡ Some lent → (slots limit : ℕ) → slots ≡ length lent.now.slots → limit ≡ lent.now.limit → IsSize slots limit → ask_of m ≡ SizeOf t → RemovingOn log x f (Some (Size slots limit))
       sized_on t lent has slots limit slots_is limit_is size asks =
-          goes_on log ([], append-nil log) x.call (Size slots limit) refl size refl (subst IsSilent (sym asks) tt) (λ cause h. absurd (cc h))
+          goes_on log ([], append-nil log) x.call (Size slots limit) refl size refl (subst IsSilent (sym asks) tt)
           (sized eq input build write finish classes respects b matches query lawful None name begun log m x.call.table x.call.last [] x.call.taken x.call.put r.calling t lent has slots limit slots_is limit_is asks)
 
       -- the pair last told of was compared
       pub compared_on : (n : ℕ) (same : Bool) → ((p : Stored K V) → x.call.last ≡ Some p → same ≡ matches (key_of p)) → ask_of m ≡ SameKey n → RemovingOn log x f (Some (Yes same))
       compared_on n same is asks =
-          goes_on log ([], append-nil log) x.call (Yes same) refl tt refl (subst IsSilent (sym asks) tt) (λ cause h. absurd (cc h))
+          goes_on log ([], append-nil log) x.call (Yes same) refl tt refl (subst IsSilent (sym asks) tt)
           (compared eq input build write finish classes respects b matches query lawful None name begun log m x.call.table x.call.last [] x.call.taken x.call.put r.calling n same is asks)
 
       -- the change was counted
       pub counted_on : (by : _) → ask_of m ≡ AddToShard by → RemovingOn log x f (Some Ok_done)
       counted_on by asks =
-          goes_on log ([], append-nil log) x.call Ok_done refl tt refl (subst IsSilent (sym asks) tt) (λ cause h. absurd (cc h))
+          goes_on log ([], append-nil log) x.call Ok_done refl tt refl (subst IsSilent (sym asks) tt)
           (counted eq input build write finish classes respects b matches query lawful None name begun log m x.call.table x.call.last [] x.call.taken x.call.put r.calling by asks)
 
       -- the pair last told of was shown
@@ -168,7 +171,7 @@ module _ {K V S H F : Type 0} (eq : K → K → Bool) (input : K → List (List 
                   (λ h. absurd (unsaid m n i agrees showing h))
                   (λ h. let e = h.1 in let same : agreed ≡ agrees = cc e in (p, refl, is i h.0, inl (ap (λ (z : Bool). (p, z)) (sym same))))
                   (machine_said m (Yes agreed) (Agrees i agrees) standing r.words stands);
-              refuses = refused_full m (Yes agreed) standing r.task_is (λ reply h. let e = sym showing ∙ h in cc e) (λ cause h. absurd (cc h));
+              unrefused = not_refused (λ reply h. let e = sym showing ∙ h in cc e) (Yes agreed);
             },
             tt,
           )
@@ -188,12 +191,12 @@ module _ {K V S H F : Type 0} (eq : K → K → Bool) (input : K → List (List 
         module _ (log' : List (Event K V S)) (pre : IsPrefix log log') (found : ℕ) (pair : Option (Stored K V)) (s : IsSlotTried eq hash b name t i (kind_of_ask m) old new None names.Nothing log found log' pair) where
           -- it was buried
           buried : (found == old) ≡ true → RemovingOn log' (record x { call = record x.call { taken = pair; put = None } }) f (Some Exchanged)
-          buried is = goes_on log' pre (record x.call { taken = pair; put = None }) Exchanged refl tt refl (subst IsSilent (sym tries) tt) (λ cause h. absurd (cc h))
+          buried is = goes_on log' pre (record x.call { taken = pair; put = None }) Exchanged refl tt refl (subst IsSilent (sym tries) tt)
               (exchanged eq input build write finish classes respects b matches query lawful None name begun log log' m x.call.table x.call.last [] x.call.taken x.call.put r.calling t i old new found None pair tries s (λ q none. absurd (cc none)) is)
 
           -- it was not
           not_buried : (found == old) ≡ false → RemovingOn log' (record x { call = record x.call { last = or_last pair x.call.last } }) f (Some (Found_instead found))
-          not_buried is = goes_on log' pre (record x.call { last = or_last pair x.call.last }) (Found_instead found) refl tt refl (subst IsSilent (sym tries) tt) (λ cause h. absurd (cc h))
+          not_buried is = goes_on log' pre (record x.call { last = or_last pair x.call.last }) (Found_instead found) refl tt refl (subst IsSilent (sym tries) tt)
               (lost eq input build write finish classes respects b matches query lawful None name begun log log' m x.call.table x.call.last [] x.call.taken x.call.put r.calling t i old new found None pair tries s is)
 
           -- as the call holds it afterwards

@@ -5,7 +5,6 @@ use mathlib.Core.List.{IsPrefix}
 use denote.Bor.{Bor}
 use Rattle.logbook.specs.Pages.{Book}
 use Rattle.papaya_words.specs.declared.probe.Refused.{Refused as Cause}
-use Rattle.papaya_words.specs.declared.probe.Refused.TheVariants.{Capacity}
 use Rattle.papaya_call.specs.declared.ask.Ask.TheVariants.{Done}
 use Rattle.papaya_call.specs.declared.call.Reply.{Reply}
 use Rattle.papaya_call.specs.declared.call.Reply.TheVariants.{Absent, Found, Inserted, Replaced, Occupied, Removed, Kept, Aborted, Refused}
@@ -79,9 +78,9 @@ module _ {K V S H F : Type 0} (eq : K → K → Bool) (input : K → List (List 
   pub absent : ask_of m ≡ Done Absent → IsRemovalBy eq matches (history_of begun) (history_of log) judges first (Ok (Ok None))
   absent e = answers (Ok (Ok None)) (held_then eq input build write finish classes respects b matches query lawful begun log r.calling.lawful r.calling.since r.calling.is None (replies Absent e).0)
 
-  -- it was refused
+  -- were it refused, that would be its answer
   pub refused : (cause : Cause) → ask_of m ≡ Done (Refused cause) → IsRemovalBy eq matches (history_of begun) (history_of log) judges first (Err cause)
-  refused cause e = answers (Err cause) (r.refuses cause e)
+  refused cause e = answers (Err cause) (r.unrefused cause e)
 
   -- the pair stays
   pub kept : (n : ℕ) → ask_of m ≡ Done (Kept n) → (p : Stored K V) → x.shown ≡ Some p → (entry : Bor K × Bor V) → AreOf entry p → IsRemovalBy eq matches (history_of begun) (history_of log) judges first (Ok (Err entry))
@@ -183,8 +182,8 @@ module _ {K V : Type 0} (eq : K → K → Bool) (matches : K → Bool) (older ol
     answered = judged_since r.said answer r.answered;
   }
 
--- why a removal was refused
-pub refused_removed : {K V F : Type 0} (eq : K → K → Bool) (matches : K → Bool) (old new : List (Change K (Stored K V))) (judges : F → Stored K V → Bool → F → Type 0) (first : F) (answer : Result (Result (Option (Bor K × Bor V)) (Bor K × Bor V)) Cause) → IsRemovalBy eq matches old new judges first answer → (cause : Cause) → answer ≡ Err cause → cause ≡ Capacity
+-- no removal was refused
+pub refused_removed : {K V F : Type 0} (eq : K → K → Bool) (matches : K → Bool) (old new : List (Change K (Stored K V))) (judges : F → Stored K V → Bool → F → Type 0) (first : F) (answer : Result (Result (Option (Bor K × Bor V)) (Bor K × Bor V)) Cause) → IsRemovalBy eq matches old new judges first answer → (cause : Cause) → answer ≡ Err cause → ⊥
 refused_removed eq matches old new judges first answer r cause is = subst (IsJudged eq matches old new r.said) is r.answered
 
 module _ {K V F : Type 0} (eq : K → K → Bool) (matches : K → Bool) (old new : List (Change K (Stored K V))) (judges : F → Stored K V → Bool → F → Type 0) (first : F) (answer : Result (Result (Option (Bor K × Bor V)) (Bor K × Bor V)) Cause) (entry : Bor K × Bor V) (r : IsRemovalBy eq matches old new judges first answer) where
@@ -208,7 +207,7 @@ begins eq hash b name matches fed judges first log x l machine table last taken 
   has_said = refl;
   held = tt;
   stood = λ n agrees stands. absurd (nothing_said (subst (λ (z : Machine). StandsOn z (Agrees n agrees)) machine stands));
-  refuses = λ cause e. let f = sym (ap ask_of machine) ∙ e in absurd (cc f);
+  unrefused = λ cause e. let f = sym (ap ask_of machine) ∙ e in absurd (cc f);
 }
   where
     nothing_said : {n : ℕ} {agrees : Bool} → StandsOn (started RemoveIf fed b.mode 0) (Agrees n agrees) → ⊥

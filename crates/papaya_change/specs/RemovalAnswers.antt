@@ -2,7 +2,6 @@
 use Rattle.std.specs.Prelude.{◌≡◌, Bool, true, false, Option, None, Some, Result, Ok, Err, List}
 use denote.Bor.{Bor}
 use Rattle.papaya_words.specs.declared.probe.Refused.{Refused}
-use Rattle.papaya_words.specs.declared.probe.Refused.TheVariants.{Capacity}
 use Rattle.papaya_change.specs.Changes.{IsChangeOf}
 use Rattle.papaya_lookup.specs.History.{Change}
 use Rattle.papaya_book.specs.Logs.{Member, Stored}
@@ -23,12 +22,12 @@ module _ {K V : Type 0} (eq : K → K → Bool) (matches : K → Bool) (old new 
   abbrev pub IsTaken : Stored K V → Type 0
   IsTaken p = IsChangeOf matches old new (Some p) None
 
-  -- What a removal answers, by what its closure was shown and answered: the pair that it agreed to and that went, or that there was none, or the pair that stays. It makes nothing, so the one refusal is that of a search that would go on to a table which cannot be had; whether that was so isn't said here.
+  -- What a removal answers, by what its closure was shown and answered: the pair that it agreed to and that went, or that there was none, or the pair that stays. It is never refused: it makes nothing, and no table has a next one to which its search would go on.
   abbrev pub IsJudged : List (Stored K V × Bool) → Result (Result (Option (Bor K × Bor V)) (Bor K × Bor V)) Refused → Type 0
   IsJudged said (Ok (Ok None)) = WasHeld eq matches old new None
   IsJudged said (Ok (Ok (Some entry))) = (p : Stored K V) × IsTaken p × WasSaid p true said × AreOf entry p
   IsJudged said (Ok (Err entry)) = (p : Stored K V) × Member (p, false) said × AreOf entry p
-  IsJudged said (Err refused) = refused ≡ Capacity
+  IsJudged said (Err refused) = ⊥
 
   -- A removal whose closure was `first`. Each pair that it was shown was the map's between the two histories.
   pub record IsRemovalBy {F : Type 0} (judges : F → Stored K V → Bool → F → Type 0) (first : F) (answer : Result (Result (Option (Bor K × Bor V)) (Bor K × Bor V)) Refused) : Type 0 where
@@ -38,8 +37,8 @@ module _ {K V : Type 0} (eq : K → K → Bool) (matches : K → Bool) (old new 
     pub held : AllShown (λ p. WasHeld eq matches old new (Some p)) said
     pub answered : IsJudged said answer
 
-  -- what a removal answers that asks no closure: the value of the pair that went, or that there was none, or the one refusal
+  -- what a removal answers that asks no closure: the value of the pair that went, or that there was none
   abbrev pub IsRemoved : Result (Option (Bor V)) Refused → Type 0
   IsRemoved (Ok None) = WasHeld eq matches old new None
   IsRemoved (Ok (Some value)) = (p : Stored K V) × IsTaken p × (value.now ≡ p.value.value)
-  IsRemoved (Err refused) = refused ≡ Capacity
+  IsRemoved (Err refused) = ⊥

@@ -4,7 +4,6 @@ use mathlib.Core.List.{IsPrefix}
 use denote.Bor.{Bor}
 use Rattle.logbook.specs.Pages.{Book}
 use Rattle.papaya_words.specs.declared.probe.Refused.{Refused}
-use Rattle.papaya_words.specs.declared.probe.Refused.TheVariants.{Capacity}
 use Rattle.papaya_call.specs.declared.ask.Answer.{Answer}
 use Rattle.papaya_call.specs.declared.ask.Ask.TheVariants.{Done}
 use Rattle.papaya_call.specs.declared.call.Reply.{Reply}
@@ -33,7 +32,7 @@ module _ {K V S H F : Type 0} (eq : K → K → Bool) (hash : S → K → ℕ) (
     pub has_said : HasSaid judges first said f
     pub held : AllShown (λ p. WasHeld eq matches (history_of begun) (history_of log) (Some p)) said
     pub stood : (n : ℕ) (agrees : Bool) → StandsOn x.call.machine (Agrees n agrees) → (p : Stored K V) × (x.shown ≡ Some p) × (p.index ≡ n) × Member (p, agrees) said
-    pub refuses : (refused : Refused) → ask_of x.call.machine ≡ Done (reply.Refused refused) → refused ≡ Capacity
+    pub unrefused : (refused : Refused) → ask_of x.call.machine ≡ Done (reply.Refused refused) → ⊥
 
   -- the removal after its machine was answered
   abbrev pub answered : Removal K V S H → Answer → Removal K V S H

@@ -183,15 +183,15 @@ impl<K: Hash + Eq, V, S: BuildHasher> HashMap<K, V, S> {
         self.len() == 0
     }
 
-    /// A new pass of this map.
+    /// A new pass of this map. It has seen no change yet: each history of a map begins as that of the
+    /// empty one.
     pub fn pass(&self) -> Pass<K, V, S>
         ensures book { result.book ≡ self.now.book }
+        ensures new { result.history ≡ [] }
         ensures made { result.made ≡ [] }
     {
-        let mut sight = self.book.begun.again();
-        self.book.learn(&mut sight);
         Pass {
-            sight,
+            sight: self.book.unseen(),
             own: Own::nothing(),
         }
     }
@@ -236,8 +236,7 @@ impl<'a, K: Hash + Eq, V, S: BuildHasher> HashMapRef<'a, K, V, S> {
     /// `Ok(None)` where the key is absent, `Ok(Some(pair))` where that very pair was removed, and
     /// `Err(pair)` where the closure answered false for it. The closure may be asked again, where
     /// another call was first to replace or remove the pair that it was shown. A removal takes no
-    /// memory, and while the map has one table it is not refused; else `Refused::Capacity`, where its
-    /// search would go on to a table that cannot be had.
+    /// memory, and it is never refused: while a map has one table, there is no cause.
     pub fn remove_if_as<R: Wait, Q: Equivalent<K>, F: FnMut(&K, &V) -> bool>(
         &self,
         rt: &R,
@@ -262,7 +261,7 @@ impl<'a, K: Hash + Eq, V, S: BuildHasher> HashMapRef<'a, K, V, S> {
     }
 
     /// Removes a key's pair, and answers its value: `remove` of 0.2.5. It takes no memory, and is
-    /// refused as [`HashMapRef::remove_if_as`].
+    /// never refused, as [`HashMapRef::remove_if_as`].
     pub fn remove_as<R: Wait, Q: Equivalent<K>>(
         &self,
         rt: &R,

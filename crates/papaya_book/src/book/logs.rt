@@ -1,7 +1,9 @@
 //! Opening the book of a map, and logging what callers put into it.
 ghost use Rattle.papaya_book.specs.Books.{IsIn};
-ghost use Rattle.std.specs.Prelude.{◌≡◌, ◌^◌, ◌<◌, Some, IfOk, IfErr};
+ghost use Rattle.std.specs.Prelude.{◌≡◌, ◌^◌, ◌<◌, Some, IfOk, IfErr, [], ◌∷◌};
 ghost use Rattle.boxcar.specs.Table.{Shows};
+ghost use Rattle.papaya_book.specs.Parts.{begun_of};
+ghost use Rattle.papaya_book.specs.declared.rule.entry.Event.TheVariants.{Begin};
 ghost use Rattle.papaya_book.specs.declared.rule.entry.Named.TheVariants.{Pair as PairNamed};
 
 use crate::book::Book;
@@ -61,6 +63,14 @@ impl<K: Hash + Eq, V, S: BuildHasher> Book<K, V, S> {
         ensures { result.now ≡ pair.now.key.value }
     {
         self.parts.keys.value(&pair.key)
+    }
+
+    /// What one has seen who saw the book opened, and no more: no exchange.
+    pub fn unseen(&self) -> Sight<K, V, S>
+        ensures book { result.book ≡ self.now.begun.book }
+        ensures log { result.log ≡ Begin (begun_of self.now.parts) ∷ [] }
+    {
+        self.origin.again()
     }
 
     /// A new pass. What it has seen begins what every other has seen.

@@ -55,6 +55,7 @@ impl<K: Hash + Eq, V, S: BuildHasher> Book<K, V, S> {
             root,
             maker,
             begun,
+            origin: known,
         })
     }
 

@@ -1,6 +1,7 @@
-use Rattle.papaya_book.specs.Parts.{begun_of}
-use Rattle.papaya_lookup.proofs.Histories.{history_legal}
 use Rattle.papaya_map.proofs.map.HashMap.pass.Goals as goal
 
 pub invariant_of-result : goal.invariant_of-result
-invariant_of-result g c = history_legal g.K.PartialEq.eq g.K.Hash.hash_input g.S.BuildHasher.build_hasher g.S.Hasher.Hasher.write g.S.Hasher.Hasher.finish g.met.K.Eq.laws g.met.K.Hash.respects_eq (begun_of c.self.inside.book.parts) c.learn.new.sight.log c.learn.ensures.lawful
+invariant_of-result g c = rw c.unseen.ensures.log tt
+
+pub returns-clause-new : goal.returns-clause-new
+returns-clause-new g c = rw c.unseen.ensures.log refl
