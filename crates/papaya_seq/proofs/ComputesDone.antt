@@ -9,6 +9,7 @@ use Rattle.papaya_call.specs.declared.answers.Operation.TheVariants.{Insert, Rem
 use Rattle.papaya_core.specs.Content.{map_in}
 use Rattle.papaya_core.specs.Maps.{IsUpdate}
 use Rattle.papaya_core.specs.Store.{Stored, pair_of}
+use Rattle.papaya_seq.specs.Answered.{IsParted}
 use Rattle.papaya_seq.specs.Computes.{ComputesBy, IsNew, Operates, Says, answer_map}
 use Rattle.papaya_seq.specs.Map.{Inserts, IsCause, Keeps, MapState, Unchanged, deref_pair, entry_of, value_of}
 use Rattle.papaya_keys.specs.declared.compute.Computed.{Computed}
@@ -200,3 +201,19 @@ module _ {K V S T : Type 0} (post : Option (Bor K × Bor V) → Operation V T �
       let logged = (facts done c.held c.operation c.next c.answered c.operates c.update c.keeps).1 in
       let told : Shows (answer_map (λ p. p.number) done) shown = subst (λ (a : Result (Computed ℕ T) Refused). Shows a shown) (sym is ∙ names) shows in
       (done, shown_as done shown logged told, c)
+
+-- the answer that was parted, by what is shown of it and what is left
+abbrev pub IsWhole : {R T : Type 0} → Result (Computed R (Unit {0})) Refused → Option T → Result (Computed R T) Refused → Type 0
+IsWhole (Ok (Inserted q)) left answer = answer ≡ Ok (Inserted q)
+IsWhole (Ok (Updated p q)) left answer = answer ≡ Ok (Updated p q)
+IsWhole (Ok (Removed p)) left answer = answer ≡ Ok (Removed p)
+IsWhole {T = T} (Ok (Aborted u)) left answer = (t : T) × (left ≡ Some t) × (answer ≡ Ok (Aborted t))
+IsWhole (Err refused) left answer = answer ≡ Err refused
+
+-- what was parted makes it whole
+pub parted_whole : {R T : Type 0} (answer : Result (Computed R T) Refused) (shown known : Result (Computed R (Unit {0})) Refused) (left : Option T) → shown ≡ known → IsParted answer shown None left → IsWhole known left answer
+parted_whole (Ok (Inserted q)) shown known left is (e, was) = subst (λ x. IsWhole x left (Ok (Inserted q))) (sym e ∙ is) refl
+parted_whole (Ok (Updated p q)) shown known left is (e, was) = subst (λ x. IsWhole x left (Ok (Updated p q))) (sym e ∙ is) refl
+parted_whole (Ok (Removed p)) shown known left is (e, was) = subst (λ x. IsWhole x left (Ok (Removed p))) (sym e ∙ is) refl
+parted_whole (Ok (Aborted t)) shown known left is (e, was) = subst (λ x. IsWhole x left (Ok (Aborted t))) (sym e ∙ is) (t, was, refl)
+parted_whole (Err refused) shown known left is (e, was) = subst (λ x. IsWhole x left (Err refused)) (sym e ∙ is) refl

@@ -50,8 +50,10 @@ impl<K: Hash + Eq + Drop, V: Drop, S: BuildHasher> HashMap<K, V, S> {
     /// is changed. Its references last for that one call of it.
     ///
     /// Refused as [`HashMap::insert`], and with `Refused::RemoveNothing` where the closure would
-    /// remove and there is no pair. No clause says here what the map is after it, since the answer
-    /// may own a `T`: [`HashMap::compute_numbered`] says it.
+    /// remove and there is no pair.
+    ///
+    /// It is [`HashMap::compute_into`], which says what the map is after it: take that where a proof
+    /// needs it. No clause says it here, since the answer may own a `T`.
     pub fn compute<T: Drop, F: FnMut(Option<(&K, &V)>) -> Operation<V, T>>(
         &mut self,
         key: K,
@@ -60,20 +62,15 @@ impl<K: Hash + Eq + Drop, V: Drop, S: BuildHasher> HashMap<K, V, S> {
         requires { Takes (F.pre f) (map_in K.eq self.old.store key) }
         ensures { (after : MapState _ _ _) × ComputesBy K.eq (hash_of K.hash_input S.build_hasher S.Hasher.write S.Hasher.finish self.old.store.hasher key) key entry_of (Says (F.post f)) self.old (compute_answered result) after }
     {
-        match self.compute_numbered(key, f)? {
-            Computed::Inserted(pair) => {
-                let (key, value) = self.entry(pair);
-                Ok(Compute::Inserted(key, value))
-            }
-            Computed::Updated { old, new } => Ok(Compute::Updated {
-                old: self.entry(old),
-                new: self.entry(new),
-            }),
-            Computed::Removed(pair) => {
-                let (key, value) = self.entry(pair);
-                Ok(Compute::Removed(key, value))
-            }
-            Computed::Aborted(with) => Ok(Compute::Aborted(with)),
+        let mut aborted = None;
+        match self.compute_into(key, f, &mut aborted)? {
+            Compute::Inserted(key, value) => Ok(Compute::Inserted(key, value)),
+            Compute::Updated { old, new } => Ok(Compute::Updated { old, new }),
+            Compute::Removed(key, value) => Ok(Compute::Removed(key, value)),
+            Compute::Aborted(()) => match aborted {
+                Some(with) => Ok(Compute::Aborted(with)),
+                None => unreachable!(),
+            },
         }
     }
 

@@ -1,36 +1,39 @@
-use Rattle.std.proofs.Common.{Ok, Err, refl, ◌∙◌, ap}
+use Rattle.std.proofs.Common.{◌≡◌, Ok, Err, Some, sym, ◌∙◌, ap}
 use Rattle.std.proofs.lemmas.Result.{err_from_is_err_and}
+use Rattle.papaya_seq.specs.Computes.{compute_answered}
 use Rattle.papaya_seq.specs.Map.{deref_pair}
 use Rattle.papaya_keys.specs.declared.compute.Computed.TheVariants.{Inserted, Updated, Removed, Aborted}
-use Rattle.papaya_seq.proofs.ComputesDone.{computes_shown}
-use Rattle.papaya_seq.proofs.UpdatesDone.{removed_logged, updated_logged}
+use Rattle.papaya_seq.proofs.ComputesDone.{parted_whole}
 use Rattle.papaya_seq.proofs.seq.HashMap.compute.Goals as goal
 
-pub returns-in_err-pair : goal.returns-in_err-pair
-returns-in_err-pair g c =
+pub returns-in_err-key : goal.returns-in_err-key
+returns-in_err-key g c =
     let p = err_from_is_err_and c.from_residual.result c.from_residual.ensures.1 in
-    rw (p.1, p.2) (c.compute_numbered.new.self, computes_shown _ g.K.PartialEq.eq g.met.K.Eq.laws _ c.args.key c.args.self.now c.compute_numbered.new.self c.compute_numbered.result (Err c.in_err-pair.field-0.0) (Err c.in_err-pair.field-0.0) c.in_err-pair.was c.compute_numbered.ensures refl)
-
-pub entry-requires-in-Updated : goal.entry-requires-in-Updated
-entry-requires-in-Updated g c =
-    (updated_logged g.K.PartialEq.eq g.met.K.Eq.laws c.args.key c.args.self.now c.compute_numbered.new.self c.compute_numbered.result c.in-Updated.old c.in-Updated.new (c.in_ok-pair.was ∙ ap Ok c.in-Updated.is) c.compute_numbered.ensures).0
-
-pub entry-requires-in-Removed : goal.entry-requires-in-Removed
-entry-requires-in-Removed g c =
-    removed_logged g.K.PartialEq.eq g.met.K.Eq.laws c.args.key c.args.self.now c.compute_numbered.new.self c.compute_numbered.result c.in-Removed.pair (c.in_ok-pair.was ∙ ap Ok c.in-Removed.is) c.compute_numbered.ensures
+    let (answer, after, (done, is, computes), parted) = c.compute_into.ensures.parted in
+    let whole = parted_whole answer (compute_answered c.compute_into.result) (Err c.in_err-key.field-0.0) c.compute_into.new.aborted (ap compute_answered c.in_err-key.was) parted in
+    rw (p.1, p.2) (after, (done, sym whole ∙ is, computes))
 
 pub returns-in-Inserted : goal.returns-in-Inserted
 returns-in-Inserted g c =
-    (c.compute_numbered.new.self, computes_shown _ g.K.PartialEq.eq g.met.K.Eq.laws _ c.args.key c.args.self.now c.compute_numbered.new.self c.compute_numbered.result (Ok (Inserted c.in-Inserted.pair)) (Ok (Inserted (deref_pair c.entry.result))) (c.in_ok-pair.was ∙ ap Ok c.in-Inserted.is) c.compute_numbered.ensures c.entry.ensures)
+    let (answer, after, (done, is, computes), parted) = c.compute_into.ensures.parted in
+    let whole = parted_whole answer (compute_answered c.compute_into.result) (Ok (Inserted (c.in-Inserted.key.now, c.in-Inserted.value.now))) c.compute_into.new.aborted (ap compute_answered (c.in_ok-key.was ∙ ap Ok c.in-Inserted.is)) parted in
+    (after, (done, sym whole ∙ is, computes))
 
 pub returns-in-Updated : goal.returns-in-Updated
 returns-in-Updated g c =
-    (c.compute_numbered.new.self, computes_shown _ g.K.PartialEq.eq g.met.K.Eq.laws _ c.args.key c.args.self.now c.compute_numbered.new.self c.compute_numbered.result (Ok (Updated c.in-Updated.old c.in-Updated.new)) (Ok (Updated (deref_pair c.entry-in-Updated.result) (deref_pair c.entry-in-Updated-2.result))) (c.in_ok-pair.was ∙ ap Ok c.in-Updated.is) c.compute_numbered.ensures (c.entry-in-Updated.ensures, c.entry-in-Updated-2.ensures))
+    let (answer, after, (done, is, computes), parted) = c.compute_into.ensures.parted in
+    let whole = parted_whole answer (compute_answered c.compute_into.result) (Ok (Updated (deref_pair c.in-Updated.old) (deref_pair c.in-Updated.new))) c.compute_into.new.aborted (ap compute_answered (c.in_ok-key.was ∙ ap Ok c.in-Updated.is)) parted in
+    (after, (done, sym whole ∙ is, computes))
 
 pub returns-in-Removed : goal.returns-in-Removed
 returns-in-Removed g c =
-    (c.compute_numbered.new.self, computes_shown _ g.K.PartialEq.eq g.met.K.Eq.laws _ c.args.key c.args.self.now c.compute_numbered.new.self c.compute_numbered.result (Ok (Removed c.in-Removed.pair)) (Ok (Removed (deref_pair c.entry-in-Removed.result))) (c.in_ok-pair.was ∙ ap Ok c.in-Removed.is) c.compute_numbered.ensures c.entry-in-Removed.ensures)
+    let (answer, after, (done, is, computes), parted) = c.compute_into.ensures.parted in
+    let whole = parted_whole answer (compute_answered c.compute_into.result) (Ok (Removed (c.in-Removed.key.now, c.in-Removed.value.now))) c.compute_into.new.aborted (ap compute_answered (c.in_ok-key.was ∙ ap Ok c.in-Removed.is)) parted in
+    (after, (done, sym whole ∙ is, computes))
 
-pub returns-in-Aborted : goal.returns-in-Aborted
-returns-in-Aborted g c =
-    (c.compute_numbered.new.self, computes_shown _ g.K.PartialEq.eq g.met.K.Eq.laws _ c.args.key c.args.self.now c.compute_numbered.new.self c.compute_numbered.result (Ok (Aborted c.in-Aborted.with)) (Ok (Aborted c.in-Aborted.with)) (c.in_ok-pair.was ∙ ap Ok c.in-Aborted.is) c.compute_numbered.ensures refl)
+pub returns-in-Some : goal.returns-in-Some
+returns-in-Some g c =
+    let (answer, after, (done, is, computes), parted) = c.compute_into.ensures.parted in
+    let (with, left, whole) = parted_whole answer (compute_answered c.compute_into.result) (Ok (Aborted c.in-Aborted.field-0)) c.compute_into.new.aborted (ap compute_answered (c.in_ok-key.was ∙ ap Ok c.in-Aborted.is)) parted in
+    let same : with ≡ c.in-Some.with = let f : Some with ≡ Some c.in-Some.with = sym left ∙ c.in-Some.is in cc f in
+    (after, (done, ap (λ t. Ok (Aborted t)) (sym same) ∙ sym whole ∙ is, computes))
