@@ -205,6 +205,7 @@ impl<'a, K: Hash + Eq, V, S: BuildHasher> HashMapRef<'a, K, V, S> {
         requires first { a.old.book ≡ self.now }
         requires second { b.old.book ≡ self.now }
         ensures books { (a.new.book ≡ a.old.book) × (b.new.book ≡ b.old.book) }
+        ensures made { (a.new.made ≡ a.old.made) × (b.new.made ≡ b.old.made) }
         ensures one { a.new.history ≡ b.new.history }
         ensures first { IsPrefix a.old.history a.new.history }
         ensures second { IsPrefix b.old.history b.new.history }
