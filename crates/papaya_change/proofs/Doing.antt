@@ -1,9 +1,8 @@
 -- A changing call exchanges a slot once at most, and it has changed the map then.
-use Rattle.std.proofs.Common.{◌≡◌, ℕ, ◌==◌, Bool, true, false, cond, MatchBool, MatchOption, is_some, Option, None, Some, List, [], ◌∷◌, ◌++◌, map, append-nil, refl, sym, ap, ◌∙◌, subst}
+use Rattle.std.proofs.Common.{◌≡◌, ℕ, ◌==◌, Bool, true, false, cond, MatchBool, is_some, Option, None, Some, List, [], ◌∷◌, ◌++◌, map, append-nil, refl, sym, ap, ◌∙◌, subst}
 use Rattle.std.proofs.lemmas.List.{map-append}
-use mathlib.Core.List.{IsPrefix}
 use Rattle.papaya_call.specs.declared.ask.Answer.{Answer}
-use Rattle.papaya_call.specs.declared.ask.Answer.TheVariants.{Word as Word_read, Exchanged, Found as Found_instead, Yes, Op, Made as Made_number, Ok as Ok_done, Refused as Was_refused}
+use Rattle.papaya_call.specs.declared.ask.Answer.TheVariants.{Word as Word_read, Exchanged, Found as Found_instead, Yes, Op, Made as Made_number, Ok as Ok_done}
 use Rattle.papaya_call.specs.declared.ask.Ask.{Ask}
 use Rattle.papaya_call.specs.declared.ask.Ask.TheVariants.{Load, Exchange, SameKey, ShowNone, ShowPair, SizeOf, MakeKey, MakePair, MakeTable, AddToShard, Done}
 use Rattle.papaya_call.specs.declared.ask.At.TheVariants.{Root, Next, Aborted, Done as Done_word, Slot}
@@ -240,10 +239,6 @@ module _ {K V S H : Type 0} {d : keyed.Ghosts S K H} where
 
   pub idle : (ask asked : Ask) → ask ≡ asked → IsIdle ask → (answer : Option Answer) (w w' : Window K V S H d) → w'.own ≡ w.own → Answers asked answer w w'
   idle ask asked e i answer w w' same = subst (λ (a : Ask). Answers a answer w w') e (record { does = rw (idle_made ask i answer) (idles w w' same); still = λ counts. absurd (idle_busy ask i counts) })
-
-  -- an exchange of a slot
-  pub exchanges_slot : (t x old new : ℕ) (asked : Ask) → Exchange (Slot t x) old new ≡ asked → (answer : Answer) (w w' : Window K V S H d) → Does (was_made answer) w w' → Answers asked (Some answer) w w'
-  exchanges_slot t x old new asked e answer w w' does = subst (λ (a : Ask). Answers a (Some answer) w w') e (record { does = does; still = λ counts. absurd counts })
 
   -- where the window is left alone
   pub left_alone : (ask : Ask) → IsCounting ask → (asked : Ask) → ask ≡ asked → (answer : Option Answer) (w : Window K V S H d) → Answers asked answer w w

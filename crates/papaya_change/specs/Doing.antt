@@ -1,5 +1,5 @@
 -- What a changing call does to the words of slots, of which its window keeps the exchanges.
-use Rattle.std.specs.Prelude.{◌≡◌, Bool, true, false, is_some, Option, None, Some}
+use Rattle.std.specs.Prelude.{◌≡◌, Bool, true, false, is_some, Option, Some}
 use Rattle.papaya_call.specs.declared.ask.Answer.{Answer}
 use Rattle.papaya_call.specs.declared.ask.Answer.TheVariants.{Exchanged}
 use Rattle.papaya_call.specs.declared.ask.Ask.{Ask}

@@ -237,7 +237,8 @@ impl<'a, K: Hash + Eq, V, S: BuildHasher> HashMapRef<'a, K, V, S> {
     /// `Ok(None)` where the key is absent, `Ok(Some(pair))` where that very pair was removed, and
     /// `Err(pair)` where the closure answered false for it. The closure may be asked again, where
     /// another call was first to replace or remove the pair that it was shown. A removal takes no
-    /// memory, and it is never refused: while a map has one table, there is no cause.
+    /// memory, and it is never refused: while a map has one table, there is no cause. The pass makes one
+    /// change where a pair was removed, and else none.
     pub fn remove_if_as<R: Wait, Q: Equivalent<K>, F: FnMut(&K, &V) -> bool>(
         &self,
         rt: &R,
@@ -297,7 +298,8 @@ impl<'a, K: Hash + Eq + Drop, V: Drop, S: BuildHasher> HashMapRef<'a, K, V, S> {
     /// key takes the old one's place too.
     ///
     /// `Refused::Memory` where a growth was refused. `Refused::Capacity` where the log of keys, of
-    /// pairs or of tables is full, and where the key has no place left in the table.
+    /// pairs or of tables is full, and where the key has no place left in the table. Refused, the
+    /// pass makes no change, and else this one.
     pub fn insert_as<R: Wait>(
         &self,
         rt: &R,
@@ -330,7 +332,8 @@ impl<'a, K: Hash + Eq + Drop, V: Drop, S: BuildHasher> HashMapRef<'a, K, V, S> {
     /// it is shown once at most, since its insertion is remembered.
     ///
     /// Refused as [`HashMapRef::insert_as`], and with `Refused::RemoveNothing` where the closure
-    /// would remove and there is no pair.
+    /// would remove and there is no pair. The pass makes one change where the answer is one, and
+    /// where it is refused or aborted none.
     pub fn compute_as<R: Wait, T: Drop, F: FnMut(Option<(&'a K, &'a V)>) -> Operation<V, T>>(
         &self,
         rt: &R,

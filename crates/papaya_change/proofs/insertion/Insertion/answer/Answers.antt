@@ -1,12 +1,12 @@
 use Rattle.std.proofs.Common.{◌≡◌, Some, refl, sym, ◌∙◌, rules}
 use Rattle.papaya_call.specs.declared.ask.Answer.TheVariants.{Ok}
 use Rattle.papaya_call.specs.declared.ask.Ask.TheVariants.{AddToShard, Exchange, Load, MakeKey, MakePair, MakeTable, SameKey, SizeOf}
-use Rattle.papaya_call.specs.declared.ask.At.TheVariants.{Root, Slot}
+use Rattle.papaya_call.specs.declared.ask.At.TheVariants.{Root}
 use Rattle.papaya_call.specs.Machine.{ask_of}
 use Rattle.papaya_book.specs.Hashes.{hash_of}
 use Rattle.papaya_book.specs.Parts.{begun_of}
 use Rattle.papaya_book.specs.Plays.{made_list}
-use Rattle.papaya_change.proofs.Doing.{exchanges_slot, idle, left_alone}
+use Rattle.papaya_change.proofs.Doing.{idle, left_alone}
 use Rattle.papaya_change.proofs.Inserting.{goes_on}
 use Rattle.papaya_change.proofs.WritingSteps.{counted_on}
 use Rattle.papaya_change.proofs.insertion.Insertion.answer.Goals as goal

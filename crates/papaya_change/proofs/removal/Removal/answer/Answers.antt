@@ -1,11 +1,10 @@
 use Rattle.std.proofs.Common.{Some, refl, sym}
 use Rattle.papaya_call.specs.declared.ask.Answer.TheVariants.{Ok}
-use Rattle.papaya_call.specs.declared.ask.Ask.TheVariants.{AddToShard, Exchange, Load, SameKey, ShowPair, SizeOf}
-use Rattle.papaya_call.specs.declared.ask.At.TheVariants.{Slot}
+use Rattle.papaya_call.specs.declared.ask.Ask.TheVariants.{AddToShard, Load, SameKey, ShowPair, SizeOf}
 use Rattle.papaya_book.specs.Parts.{begun_of}
 use Rattle.papaya_change.specs.Showings.{Judges}
 use Rattle.papaya_lookup.proofs.Readings.{IsQuery}
-use Rattle.papaya_change.proofs.Doing.{exchanges_slot, idle, left_alone}
+use Rattle.papaya_change.proofs.Doing.{idle, left_alone}
 use Rattle.papaya_change.proofs.Removing.{counted_on}
 use Rattle.papaya_change.proofs.removal.Removal.answer.Goals as goal
 
