@@ -1,3 +1,4 @@
+use Rattle.std.proofs.Common.{refl}
 use Rattle.papaya_map.proofs.map.HashMap.pass.Goals as goal
 
 pub invariant_of-result : goal.invariant_of-result
