@@ -23,7 +23,7 @@ use Rattle.papaya_core.specs.Headline.{HasTimeline}
 use Rattle.papaya_core.specs.Kept.{IsKept, IsLawfulCore, Tale, setting_of, coding_of, low}
 use Rattle.papaya_core.specs.Maps.{Map}
 use Rattle.papaya_core.specs.Moves.{MovesMap}
-use Rattle.papaya_core.specs.Runs.{History, StepRuns, BeginRuns, StepsRun, TurnRuns, TurnsRun}
+use Rattle.papaya_core.specs.Runs.{History, StepRuns, BeginRuns, StepsRun, TurnRuns, TurnsRun, IsCutShort, StopsEarly}
 use Rattle.papaya_core.specs.Store.{KeepsPairs, StoreState, Stored}
 use Rattle.papaya_keys.specs.Hashes.{hash_of}
 use Rattle.papaya_core.proofs.CallersLemmas.{same_item}
@@ -111,6 +111,12 @@ module _ {K V S A : Type 0} (eq : K → K → Bool) (says : Says K V A) (hash : 
   turns_run (suc turn) s s' h (what, middle, so_far, there, runs, last) good =
       turn_runs turn what middle s' so_far h there last (turns_run turn s middle so_far runs good)
 
+  -- a turn that was cut short leaves the pairs of the first log there
+  cut_short : (turn : ℕ) (what : Turn K V A) (s s' : CoreState K V S A) (before : History) → IsCutShort eq says hash turn what s before s' → Good s before → KeepsPairs first s'.store
+  cut_short turn (Begin caller call) s s' before same good = subst (λ (y : CoreState K V S A). KeepsPairs first y.store) (sym same) good.1.kept_pairs
+  cut_short turn (Step caller refuse) s s' before same good = subst (λ (y : CoreState K V S A). KeepsPairs first y.store) (sym same) good.1.kept_pairs
+  cut_short turn (Finish caller steps) s s' before (made, few, after, runs) good = (steps_run turn caller made s s' before after runs good).1.kept_pairs
+
 -- The maps of a run are a legal timeline with its history.
 pub run_timeline : {K V S A : Type 0} (eq : K → K → Bool) (says : Says K V A) (hash : S → K → ℕ) (schedule : List (Turn K V A)) (turns : ℕ) (s s' : CoreState K V S A) (h : History) → IsLawfulKeys eq (hash s.store.hasher) → IsCore s.store s.callers s.mode → (es : List (Exchange (Stored K V))) (tales : ℕ → Tale K V) → IsKept eq (hash s.store.hasher) s.mode s.store s.callers es tales → TurnsRun eq says hash schedule turns s s' h → HasTimeline eq says schedule s h s'
 run_timeline eq says hash schedule turns s s' h law core es tales kept runs =
@@ -128,6 +134,20 @@ module _ {K V S A H : Type 0} (eq : K → K → Bool) (input : K → List (List 
   lawful_timeline says schedule turns s s' h always runs =
       let (es, (tales, kept)) = always.law in
       run_timeline eq says (hash_of input build write finish) schedule turns s s' h (keys_lawful eq input build write finish classes respects s.store.hasher) always.core es tales kept runs
+
+  -- no pair is gone from the log after a run, nor after a run that stopped
+  pub lawful_logs : (says : Says K V A) (schedule : List (Turn K V A)) (turns : ℕ) (s s' : CoreState K V S A) (h : History) → Always s → TurnsRun eq says (hash_of input build write finish) schedule turns s s' h → KeepsPairs s.store s'.store
+  lawful_logs says schedule turns s s' h always runs =
+      let (es, (tales, kept)) = always.law in
+      let law = keys_lawful eq input build write finish classes respects s.store.hasher in
+      (turns_run eq says (hash_of input build write finish) s.store.hasher law schedule s.store (map_of eq s) turns s s' h runs (refl, good_start eq (hash_of input build write finish s.store.hasher) law says schedule s es tales always.core kept)).1.kept_pairs
+
+  pub lawful_stops : (says : Says K V A) (schedule : List (Turn K V A)) (s s' : CoreState K V S A) → Always s → StopsEarly eq says (hash_of input build write finish) schedule s s' → KeepsPairs s.store s'.store
+  lawful_stops says schedule s s' always (turn, what, middle, so_far, there, runs, cut) =
+      let (es, (tales, kept)) = always.law in
+      let law = keys_lawful eq input build write finish classes respects s.store.hasher in
+      cut_short eq says (hash_of input build write finish) s.store.hasher law schedule s.store (map_of eq s) turn what middle s' so_far cut
+      (turns_run eq says (hash_of input build write finish) s.store.hasher law schedule s.store (map_of eq s) turn s middle so_far runs (refl, good_start eq (hash_of input build write finish s.store.hasher) law says schedule s es tales always.core kept))
 
   -- a step moves the map in the class of its call's key alone
   pub lawful_moves : (says : Says K V A) (refuse : Bool) (s s' : CoreState K V S A) (caller : ℕ) (event : Event) (reply : Option Reply) → Always s → Advances eq says refuse s caller s' event reply → MovesMap eq s caller s' event

@@ -3,7 +3,7 @@ use Rattle.std.specs.Prelude.{ℕ, ◌++◌, Bool, Option, None, Some, List, [],
 use Rattle.papaya_words.specs.Word.{kind_of, pair_of as number_of}
 use Rattle.papaya_words.specs.Table.{TableWords}
 use Rattle.papaya_words.specs.declared.word.Kind.{Kind}
-use Rattle.papaya_words.specs.declared.word.Kind.TheVariants.{Empty, Live, Marked, Copied, Buried, Closed}
+use Rattle.papaya_words.specs.declared.word.Kind.TheVariants.{Live, Marked}
 use Rattle.papaya_law.specs.Content.{lookup}
 use Rattle.papaya_core.specs.Tables.{table_of}
 use Rattle.papaya_core.specs.Store.{StoreState, Stored, pair_of}

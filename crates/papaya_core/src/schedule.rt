@@ -214,6 +214,7 @@ impl<K: Hash + Eq + Drop, V: Drop, S: BuildHasher, A: Answers<K, V> + Drop> Core
         ensures ok { IfOk result (λ trace. TurnsRun K.eq (record { op = A.op_gives; yes = A.yes_gives }) (hash_of K.hash_input S.build_hasher S.Hasher.write S.Hasher.finish) schedule.items (length schedule.items) self.old self.new (reverse trace.entries.items)) }
         ensures timeline { IfOk result (λ trace. HasTimeline K.eq (record { op = A.op_gives; yes = A.yes_gives }) schedule.items self.old (reverse trace.entries.items) self.new) }
         ensures err { IfErr result (λ e. (e ≡ Refused.Memory) × StopsEarly K.eq (record { op = A.op_gives; yes = A.yes_gives }) (hash_of K.hash_input S.build_hasher S.Hasher.write S.Hasher.finish) schedule.items self.old self.new) }
+        ensures keeps { KeepsPairs self.old.store self.new.store }
         ensures counted { IsCounted self.new.store self.new.callers }
     {
         let mut entries = Vec::new(self.alloc);

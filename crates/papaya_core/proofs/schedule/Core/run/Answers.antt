@@ -12,7 +12,7 @@ use Rattle.papaya_words.specs.declared.probe.Refused.TheVariants.{Memory}
 use Rattle.papaya_keys.specs.Hashes.{hash_of}
 use Rattle.papaya_core.specs.Kept.{IsLawfulCore}
 use Rattle.papaya_core.specs.Runs.{TurnsRun, StopsEarly}
-use Rattle.papaya_core.proofs.HeadlineLemmas.{lawful_timeline}
+use Rattle.papaya_core.proofs.HeadlineLemmas.{lawful_logs, lawful_stops, lawful_timeline}
 use Rattle.papaya_core.proofs.RunLemmas.{numbered_item, TurnsRun-more, StopsEarly-at}
 use Rattle.papaya_core.proofs.schedule.Core.run.Goals as goal
 use Rattle.papaya_core.proofs.schedule.Core.run.Goals.{After-into_iter-turn-iterator, After-next}
@@ -60,3 +60,21 @@ returns-clause-timeline g c =
     (record { op = g.A.Answers.op_gives; yes = g.A.Answers.yes_gives }) c.args.schedule.items (length c.loop-turn.yielded) c.args.self.now c.loop-turn.self (reverse c.loop-turn.entries.items)
     (subst (λ s. IsLawfulCore g.K.PartialEq.eq (hash_of g.K.Hash.hash_input g.S.BuildHasher.build_hasher g.S.Hasher.Hasher.write g.S.Hasher.Hasher.finish s.store.hasher) s.store s.callers s.mode) c.self.view_is c.self.invariant.0)
     c.loop-turn.invariant.0
+
+pub returns-clause-keeps : goal.returns-clause-keeps
+returns-clause-keeps g c =
+    lawful_logs g.K.PartialEq.eq g.K.Hash.hash_input g.S.BuildHasher.build_hasher g.S.Hasher.Hasher.write g.S.Hasher.Hasher.finish g.met.K.Eq.laws g.met.K.Hash.respects_eq
+    (record { op = g.A.Answers.op_gives; yes = g.A.Answers.yes_gives }) c.args.schedule.items (length c.loop-turn.yielded) c.args.self.now c.loop-turn.self (reverse c.loop-turn.entries.items)
+    (subst (λ s. IsLawfulCore g.K.PartialEq.eq (hash_of g.K.Hash.hash_input g.S.BuildHasher.build_hasher g.S.Hasher.Hasher.write g.S.Hasher.Hasher.finish s.store.hasher) s.store s.callers s.mode) c.self.view_is c.self.invariant.0)
+    c.loop-turn.invariant.0
+
+pub returns-in_err-turn_into-clause-keeps : goal.returns-in_err-turn_into-clause-keeps
+returns-in_err-turn_into-clause-keeps g c =
+    let t = YieldsList-turn (turns g (goal.at.returns-in_err-turn_into-clause-keeps g c).After-into_iter-turn-iterator) c.loop-turn.yielded c.loop-turn.turn-iterator c.loop-turn.yielded_by c.next.result c.next.new.self (c.in-Some.turn, c.in-Some.what) c.in-Some.is c.next.ensures.steps in
+    let there = numbered_item c.args.schedule.items (length c.loop-turn.yielded) (c.in-Some.turn, c.in-Some.what) t.0 t.1 in
+    let stops = StopsEarly-at g.K.PartialEq.eq (record { op = g.A.Answers.op_gives; yes = g.A.Answers.yes_gives }) (hash_of g.K.Hash.hash_input g.S.BuildHasher.build_hasher g.S.Hasher.Hasher.write g.S.Hasher.Hasher.finish) c.args.schedule.items (length c.loop-turn.yielded) c.in-Some.turn c.in-Some.what
+    c.args.self.now c.loop-turn.self (reverse c.loop-turn.entries.items) c.turn_into.new.self there.1 there.0 c.loop-turn.invariant.0 c.in_err-turn_into.ensures.err.1 in
+    lawful_stops g.K.PartialEq.eq g.K.Hash.hash_input g.S.BuildHasher.build_hasher g.S.Hasher.Hasher.write g.S.Hasher.Hasher.finish g.met.K.Eq.laws g.met.K.Hash.respects_eq
+    (record { op = g.A.Answers.op_gives; yes = g.A.Answers.yes_gives }) c.args.schedule.items c.args.self.now c.turn_into.new.self
+    (subst (λ s. IsLawfulCore g.K.PartialEq.eq (hash_of g.K.Hash.hash_input g.S.BuildHasher.build_hasher g.S.Hasher.Hasher.write g.S.Hasher.Hasher.finish s.store.hasher) s.store s.callers s.mode) c.self.view_is c.self.invariant.0)
+    stops
