@@ -17,7 +17,7 @@ use std::hash::{BuildHasher, Hash};
 use std::sync::Wait;
 
 /// The book that a call works on, what it has seen of that book's log, and the exchanges of slots
-/// that it made itself: only through a window can others exchange a slot.
+/// that were made through this window.
 #[derive(Drop)]
 pub struct Window<'a, K: Hash + Eq, V, S: Keyed<K>> {
     pub book: &'a Book<K, V, S>,
