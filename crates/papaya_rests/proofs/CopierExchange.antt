@@ -40,7 +40,7 @@ use Rattle.papaya_rests.specs.Told.{IsWritten, word_of}
 use Rattle.papaya_rests.proofs.CopierMay.{advances, aborts, finishes, links_on, places, promotes, root_on}
 
 -- what was put there stands there
-put_here : {Y : Type 0} → (f : ℕ → Y) (a : ℕ) (y : Y) → at_put f a y a ≡ y
+pub put_here : {Y : Type 0} → (f : ℕ → Y) (a : ℕ) (y : Y) → at_put f a y a ≡ y
 put_here f a y = cond-true (a == a) y (f a) (eq-eqb a a refl)
 
 -- and elsewhere what stood before
