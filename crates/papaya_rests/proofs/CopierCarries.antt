@@ -49,27 +49,27 @@ pub above : (n : ℕ) → (n == 0) ≡ false → 0 < n
 above n e = ⊎_elim (λ (lt : 0 < n). lt) (λ (le : n ≤ 0). let z : n ≡ 0 = omega (arith, le) in absurd (let y = eq-eqb n 0 z in cc (y, e))) (cases_lt 0 n)
 
 -- what makes a table loads nothing
-no_load : (link : Link) (at : At) → link_ask link ≡ Load at → ⊥
+pub no_load : (link : Link) (at : At) → link_ask link ≡ Load at → ⊥
 no_load (links.Sizing behind unfit) at e = cc e
 no_load (links.Counting behind unfit len) at e = cc e
 no_load (links.Making behind len limit) at e = cc e
 no_load (links.Linking behind table) at e = cc e
 
 -- what it exchanges is a next table
-links_next : (link : Link) (at : At) (old new : ℕ) → link_ask link ≡ Ask_exchange at old new → (t : ℕ) × (at ≡ Next t)
+pub links_next : (link : Link) (at : At) (old new : ℕ) → link_ask link ≡ Ask_exchange at old new → (t : ℕ) × (at ≡ Next t)
 links_next (links.Sizing behind unfit) at old new e = absurd cc
 links_next (links.Counting behind unfit len) at old new e = absurd cc
 links_next (links.Making behind len limit) at old new e = absurd cc
 links_next (links.Linking behind table) at old new e = (behind, cc e)
 
 -- it hashes and compares nothing
-no_hash : (link : Link) (n : ℕ) → link_ask link ≡ HashOf n → ⊥
+pub no_hash : (link : Link) (n : ℕ) → link_ask link ≡ HashOf n → ⊥
 no_hash (links.Sizing behind unfit) n e = cc e
 no_hash (links.Counting behind unfit len) n e = cc e
 no_hash (links.Making behind len limit) n e = cc e
 no_hash (links.Linking behind table) n e = cc e
 
-no_same : (link : Link) (i n : ℕ) → link_ask link ≡ SamePair i n → ⊥
+pub no_same : (link : Link) (i n : ℕ) → link_ask link ≡ SamePair i n → ⊥
 no_same (links.Sizing behind unfit) i n e = cc e
 no_same (links.Counting behind unfit len) i n e = cc e
 no_same (links.Making behind len limit) i n e = cc e

@@ -47,7 +47,7 @@ use Rattle.papaya_rests.proofs.CopierMay.{settled_blocking, settled_incremental}
 use Rattle.papaya_rests.proofs.CopierStays.{carry_stays}
 
 -- an exchange of a next table tells of no pair
-link_last : {K P : Type 0} → (c : Coding K P) (s : State P) (last kept : Option P) (link : Link) (at : At) (old new : ℕ) → link_ask link ≡ Ask_exchange at old new → (e : Exchange P) → IsCopyAsked c (link_kind link) at new s kept e → last_after e last ≡ last
+pub link_last : {K P : Type 0} → (c : Coding K P) (s : State P) (last kept : Option P) (link : Link) (at : At) (old new : ℕ) → link_ask link ≡ Ask_exchange at old new → (e : Exchange P) → IsCopyAsked c (link_kind link) at new s kept e → last_after e last ≡ last
 link_last c s last kept (links.Sizing behind unfit) at old new q e asked = absurd cc
 link_last c s last kept (links.Counting behind unfit len) at old new q e asked = absurd cc
 link_last c s last kept (links.Making behind len limit) at old new q e asked = absurd cc

@@ -58,3 +58,4 @@ pub mod CopierLinks
 pub mod CopierCarries
 pub mod CopierSettles
 pub mod CopierSettlesMade
+pub mod CopierSteps
