@@ -121,7 +121,7 @@ module _ {K P : Type 0} (g : Setting K P) (c : Coding K P) (hashed : IsHashed g 
   copied_of p word e = let parts = code_pair g c hashed.coding (Marked p) p refl in ap (λ b. copied_word b (c.number p)) (sym parts.1) ∙ ap (copied_word (byte_of (code g c (Marked p)))) (sym parts.0) ∙ ap copied_as (sym e)
 
   -- the number of the pair that is carried
-  carried_number : (p : P) (word : ℕ) → word ≡ code g c (Marked p) → pair_of word ≡ c.number p
+  pub carried_number : (p : P) (word : ℕ) → word ≡ code g c (Marked p) → pair_of word ≡ c.number p
   carried_number p word e = ap pair_of e ∙ (code_pair g c hashed.coding (Marked p) p refl).0
 
   -- the new word of a copy names it
@@ -267,3 +267,9 @@ one_asked c (Some kinds.Advance) (Done n) new s kept e e' a b = a ∙ sym b
 one_asked c (Some kinds.Promote) Root new s kept e e' a b = a ∙ sym b
 one_asked c (Some kinds.Abort) (Aborted n) new s kept e e' a b = a ∙ sym b
 one_asked c _ _ new s kept e e' a b = absurd a
+
+-- so what is asked for is allowed
+pub asked_allowed : {K P : Type 0} → (g : Setting K P) (c : Coding K P) (hashed : IsHashed g c) (s : State P) (m : K → Option P) (keeps : IsKeeping g s m) (last kept : Option P) (copying : Copying) → RestsCopying g c s last kept copying → (at : At) (old new : ℕ) → copying_ask copying ≡ Ask_exchange at old new → word_of g c s at ≡ old → (e : Exchange P) → IsCopyAsked c (copying_kind copying) at new s kept e → Allows g s e
+asked_allowed g c hashed s m keeps last kept copying r at old new q stands e asked =
+    let h = copying_may g c hashed s m keeps last kept copying r at old new q stands in
+    subst (Allows g s) (one_asked c (copying_kind copying) at new s kept h.0 e h.1 asked) h.2

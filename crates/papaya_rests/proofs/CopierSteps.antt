@@ -67,13 +67,13 @@ module _ {K P : Type 0} (g : Setting K P) (c : Coding K P) (hashed : IsHashed g 
       r.given_up)
 
   -- and it is on the chain
-  aimed_on : (from behind : ℕ) → IsAimed g c s from behind → IsOn s.first s.next behind
+  pub aimed_on : (from behind : ℕ) → IsAimed g c s from behind → IsOn s.first s.next behind
   aimed_on from behind r =
       let on : IsOn s.first s.next from = root_on g c s m keeps from r.was in
       ⊎_elim (λ (e : behind ≡ from). subst (IsOn s.first s.next) (sym e) on) (λ h. target_on g s (keeping_sound g s m keeps).rises from behind on h.1) r.given_up
 
   -- the slot that is copied now
-  known_slot : (chunk : Chunk) → IsChunk g c s chunk chunk.at → chunk.at < chunk.end → IsKnown g c hashed s m keeps (slot_of chunk)
+  pub known_slot : (chunk : Chunk) → IsChunk g c s chunk chunk.at → chunk.at < chunk.end → IsKnown g c hashed s m keeps (slot_of chunk)
   known_slot chunk r lt = chunk_known g c hashed s m keeps (slot_of chunk) r.source (let b = r.within in let d = r.len in omega (arith, lt, b, d))
 
   module _ (last kept : Option P) where

@@ -59,3 +59,4 @@ pub mod CopierCarries
 pub mod CopierSettles
 pub mod CopierSettlesMade
 pub mod CopierSteps
+pub mod CopierCopies

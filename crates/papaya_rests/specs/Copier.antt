@@ -10,6 +10,8 @@ use Rattle.papaya_call.specs.declared.carry.Carried.{Carried}
 use Rattle.papaya_call.specs.declared.carry.Carried.TheVariants as carried
 use Rattle.papaya_call.specs.declared.carry.Carry.{Carry}
 use Rattle.papaya_call.specs.declared.carry.Carry.TheVariants as carries
+use Rattle.papaya_call.specs.declared.copy_ask.CopyAsk.{CopyAsk}
+use Rattle.papaya_call.specs.declared.copy_ask.CopyAsk.TheVariants as asks
 use Rattle.papaya_call.specs.declared.copying.Aim.{Aim}
 use Rattle.papaya_call.specs.declared.copying.Aim.TheVariants as aims
 use Rattle.papaya_call.specs.declared.copying.Copied.{Copied as Copied_end}
@@ -242,3 +244,21 @@ IsCopyAsked c _ _ new s kept e = ⊥
 abbrev pub last_after : {P : Type 0} → Exchange P → Option P → Option P
 last_after (Mark t x p) last = Some p
 last_after _ last = last
+
+module _ {K P : Type 0} (g : Setting K P) (c : Coding K P) (s : State P) (last kept : Option P) where
+  -- the word is that of a table on the chain, and of a slot within it
+  abbrev pub IsThere : At → Type 0
+  IsThere Root = Unit {0}
+  IsThere (Next t) = IsOn s.first s.next t
+  IsThere (Aborted t) = IsOn s.first s.next t
+  IsThere (Done t) = IsOn s.first s.next t
+  IsThere (Slot_word t x) = IsOn s.first s.next t × (x < g.size t)
+
+  -- what is named in an ask is there: such words, the pair last told of, and the one that is carried
+  abbrev pub AreThere : CopyAsk → Type 0
+  AreThere (asks.Load at) = IsThere at
+  AreThere (asks.Exchange at old new) = IsThere at
+  AreThere (asks.SizeOf t) = IsOn s.first s.next t
+  AreThere (asks.HashOf n) = (p : P) × (last ≡ Some p) × (c.number p ≡ n)
+  AreThere (asks.SamePair i n) = (o : P) × (q : P) × (kept ≡ Some o) × (last ≡ Some q) × (c.number o ≡ i) × (c.number q ≡ n)
+  AreThere _ = Unit {0}
