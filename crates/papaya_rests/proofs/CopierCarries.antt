@@ -1,47 +1,45 @@
 -- What the carry of a marked pair rests on after each answer.
-use Rattle.std.proofs.Common.{◌≡◌, ◌⊎◌, inl, inr, ⊎_elim, ℕ, suc, ◌+◌, ◌%◌, ◌<◌, ◌≤◌, ◌==◌, nat_lt, ltb-true, ltb-false, Bool, true, false, cond, Option, Some, refl, sym, ap, ◌∙◌, subst, arith, eq-eqb}
-use Rattle.std.proofs.lemmas.Bool.{cases_lt, cond_both, cond-true}
+use Rattle.std.proofs.Common.{◌≡◌, ⊎_elim, ℕ, suc, ◌+◌, ◌%◌, ◌<◌, ◌≤◌, ◌==◌, nat_lt, ltb-true, ltb-false, Bool, true, false, Option, Some, refl, sym, ap, ◌∙◌, subst, arith, eq-eqb}
+use Rattle.std.proofs.lemmas.Bool.{cases_lt, cond_both}
 use Rattle.papaya_words.specs.Probe.{place}
-use Rattle.papaya_words.specs.Word.{byte_of, kind_of, live_word, pair_of, top_byte}
+use Rattle.papaya_words.specs.Word.{byte_of, top_byte}
 use Rattle.papaya_words.specs.declared.probe.Refused.{Refused}
 use Rattle.papaya_words.specs.declared.probe.ResizeMode.{ResizeMode}
 use Rattle.papaya_words.specs.declared.probe.ResizeMode.TheVariants.{Incremental, Blocking}
 use Rattle.papaya_words.proofs.Places.{place-next}
 use Rattle.papaya_call.specs.declared.ask.At.{At}
 use Rattle.papaya_call.specs.declared.ask.At.TheVariants.{Aborted, Next, Slot as Slot_word}
-use Rattle.papaya_call.specs.declared.ask.StepKind.TheVariants as kinds
 use Rattle.papaya_call.specs.declared.carry.Carried.TheVariants as carried
 use Rattle.papaya_call.specs.declared.carry.Carry.{Carry}
 use Rattle.papaya_call.specs.declared.carry.Carry.TheVariants as carries
-use Rattle.papaya_call.specs.declared.copy_ask.CopyAsk.TheVariants.{Exchange as Ask_exchange, HashOf, Load, MakeTable, SamePair, SizeOf}
+use Rattle.papaya_call.specs.declared.copy_ask.CopyAsk.TheVariants.{Exchange as Ask_exchange, HashOf, Load, SamePair, SizeOf}
 use Rattle.papaya_call.specs.declared.link.Link.TheVariants as links
 use Rattle.papaya_call.specs.declared.link.Linked.{Linked}
 use Rattle.papaya_call.specs.declared.link.Linked.TheVariants as linked
 use Rattle.papaya_call.specs.declared.search.Place.{Place}
 use Rattle.papaya_call.specs.declared.settle.Slot.{Slot}
-use Rattle.papaya_call.specs.Carry.{at_count, at_exchanged, at_found, at_hash, at_made, at_refused, at_size, at_word, at_yes, carried_on, carry_ask, carry_follows, carry_kind, compare_byte, compared, fills, goes_on, look as look_word, look_at, passed}
+use Rattle.papaya_call.specs.Carry.{at_count, at_found, at_hash, at_made, at_refused, at_size, at_word, at_yes, carried_on, carry_ask, carry_follows, compare_byte, compared, fills, goes_on, look as look_word, look_at}
 use Rattle.papaya_call.specs.Link.{follows, link_ask, at_count as link_at_count, at_found as link_lost, at_refused as link_at_refused}
-use Rattle.papaya_call.specs.Search.{first_place, next_place}
+use Rattle.papaya_call.specs.Search.{next_place}
 use Rattle.papaya_call.specs.declared.link.Link.{Link}
 use Rattle.papaya_law.specs.Class.{IsOn}
 use Rattle.papaya_law.specs.Code.{Coding, IsHashed, code, kind}
 use Rattle.papaya_law.specs.Copying.{IsPutting}
-use Rattle.papaya_law.specs.Exchange.{Word, Empty, Closed, Live, Marked, Copied, Buried, Setting, State, Exchange, Place as Place_pair, Abort, after}
+use Rattle.papaya_law.specs.Exchange.{Word, Empty, Closed, Live, Marked, Copied, Buried, Setting, State}
 use Rattle.papaya_law.specs.Invariant.{IsKeeping, named}
 use Rattle.papaya_law.specs.Later.{Becomes}
-use Rattle.papaya_law.specs.View.{Foreign, Here, foreign, look, own, view, HasWord}
+use Rattle.papaya_law.specs.View.{foreign, look, view}
 use Rattle.papaya_law.proofs.Codes.{code_kind}
 use Rattle.papaya_law.proofs.CodeViews.{other_byte}
 use Rattle.papaya_law.proofs.Copies.{put_next}
 use Rattle.papaya_law.proofs.CopierFacts.{taker_on}
 use Rattle.papaya_law.proofs.OneMap.{keeping_sound}
 use Rattle.papaya_law.proofs.Later.{later_itself}
-use Rattle.papaya_law.proofs.Slots.{put_there}
-use Rattle.papaya_rests.specs.Copier.{HasCarried, HasCompared, IsCarrying, IsCopyAsked, IsFor, RestsCarried, RestsCarry, RestsLinked, carried_to, last_after, told_last}
+use Rattle.papaya_rests.specs.Copier.{IsCarrying, IsFor, RestsCarried, RestsCarry, RestsLinked, carried_to, told_last}
 use Rattle.papaya_rests.specs.Rests.{IsModeOf}
 use Rattle.papaya_rests.specs.Told.{or_last, word_of}
-use Rattle.papaya_rests.proofs.CopierExchange.{aborted_some, put_here}
-use Rattle.papaya_rests.proofs.CopierLinks.{link_counted, link_exchanged, link_found, link_made, link_refused, link_sized, made_follows, sized_follows}
+use Rattle.papaya_rests.proofs.CopierExchange.{aborted_some}
+use Rattle.papaya_rests.proofs.CopierLinks.{link_counted, link_found, link_made, link_refused, link_sized, made_follows, sized_follows}
 use Rattle.papaya_rests.proofs.CopierMay.{compared_no, compared_yes, passes_place}
 
 -- a number that isn't 0

@@ -1,5 +1,5 @@
 -- What a call that copies rests on after each answer, and what it names.
-use Rattle.std.proofs.Common.{◌≡◌, ◌⊎◌, inl, inr, ⊎_elim, ℕ, ◌+◌, ◌<◌, ◌≤◌, ◌==◌, ◌||◌, true, false, cond, Option, Some, refl, sym, ap, ◌∙◌, subst, arith, eqb-true}
+use Rattle.std.proofs.Common.{◌≡◌, inl, ℕ, ◌+◌, ◌<◌, ◌==◌, ◌||◌, true, cond, Option, Some, refl, sym, ap, ◌∙◌, subst, eqb-true}
 use Rattle.std.proofs.lemmas.Bool.{cond_both}
 use Rattle.papaya_words.specs.Word.{pair_of}
 use Rattle.papaya_words.specs.declared.probe.Refused.{Refused}
@@ -42,7 +42,7 @@ use Rattle.papaya_law.specs.Meaning.{map_after}
 use Rattle.papaya_law.proofs.Codes.{code_pair}
 use Rattle.papaya_law.proofs.CopierFacts.{last_root, taker_on, target_on}
 use Rattle.papaya_law.proofs.OneMap.{keeping_sound}
-use Rattle.papaya_rests.specs.Copier.{AreThere, IsCopyAsked, IsFor, IsMoving, IsStillAimed, IsThere, RestsAim, RestsCarry, RestsCopied, RestsCopying, RestsLink, RestsSettle, RestsSettled, RestsStep, RestsStepped, aim_of, last_after, told_last}
+use Rattle.papaya_rests.specs.Copier.{AreThere, IsCopyAsked, IsFor, IsMoving, IsStillAimed, RestsAim, RestsCarry, RestsCopied, RestsCopying, RestsLink, RestsSettle, RestsSettled, RestsStep, RestsStepped, aim_of, last_after, told_last}
 use Rattle.papaya_rests.specs.Rests.{IsModeOf}
 use Rattle.papaya_rests.specs.Told.{word_of}
 use Rattle.papaya_rests.proofs.CopierCarries.{above}
@@ -50,7 +50,7 @@ use Rattle.papaya_rests.proofs.CopierExchange.{IsKnown, carried_number, moving_k
 use Rattle.papaya_rests.proofs.CopierMay.{root_on}
 use Rattle.papaya_rests.proofs.CopierSettles.{keeps', later, settle_compared, settle_counted, settle_found, settle_hashed, settle_loaded, settle_made, settle_refused, settle_sized, still_on, zero_next}
 use Rattle.papaya_rests.proofs.CopierSettlesMade.{settle_exchanged}
-use Rattle.papaya_rests.proofs.CopierStays.{aim_stays, moving_stays}
+use Rattle.papaya_rests.proofs.CopierStays.{moving_stays}
 use Rattle.papaya_rests.proofs.CopierSteps.{aimed_on, known_slot, step_compared, step_counted, step_exchanged, step_found, step_hashed, step_loaded, step_made, step_refused, step_sized}
 
 -- it copies for the same still
@@ -65,15 +65,15 @@ module _ {K P : Type 0} (g : Setting K P) (c : Coding K P) (s : State P) (m : K 
   over_on : (aim : Aim) → RestsAim g c s last kept aim → RestsCopied g c s last kept aim (over aim)
   over_on (aims.Search table) r = refl
   over_on (aims.Settle slot) r = (refl, (r, tt))
-  over_on aims.Chunk r = tt
+  over_on aims.Chunk r = refl
   over_on (aims.All met) r = ((met, refl), (tt, tt))
 
   -- the root has no next table, so it is the root still
   last_on : (aim : Aim) → RestsAim g c s last kept aim → (t : ℕ) → s.was_root t ≡ true → s.next t ≡ 0 → RestsCopied g c s last kept aim (last_of aim t)
   last_on (aims.Search table) r t was none = refl
   last_on (aims.Settle slot) r t was none = (refl, (r, tt))
-  last_on aims.Chunk r t was none = tt
-  last_on (aims.All met) r t was none = last_root g s m keeps t was none
+  last_on aims.Chunk r t was none = refl
+  last_on (aims.All met) r t was none = (last_root g s m keeps t was none, (met, refl))
 
   -- a root is to be copied
   roots : (t : ℕ) → s.root ≡ t → 0 < t → s.was_root t ≡ true
@@ -84,7 +84,7 @@ module _ {K P : Type 0} (g : Setting K P) (c : Coding K P) (s : State P) (m : K 
   all_on Blocking met t is some =
       cond_both ((met == 0) || (met == t)) (copied.On (copyings.Stepping (aims.All t) (steps.Aiming t t))) (copied.Root t) (RestsCopied g c s last kept (aims.All met))
       (λ e. ((t, refl), (tt, record { was = roots t is some; given_up = inl refl })))
-      (λ e. is)
+      (λ e. (is, (met, refl)))
 
   one_on : (aim : Aim) → RestsAim g c s last kept aim → (t : ℕ) → s.root ≡ t → RestsCopied g c s last kept aim (cond (t == 0) (over aim) (copied.On (copyings.Stepping aim (steps.Aiming t t))))
   one_on aim r t is =
@@ -98,7 +98,7 @@ module _ {K P : Type 0} (g : Setting K P) (c : Coding K P) (s : State P) (m : K 
   root_on_to how aims.Chunk r t is = one_on aims.Chunk r t is
   root_on_to how (aims.All met) r t is =
       cond_both (t == 0) (copied.Root 0) (all_of met how t) (RestsCopied g c s last kept (aims.All met))
-      (λ e. is ∙ eqb-true t 0 e)
+      (λ e. (is ∙ eqb-true t 0 e, (met, refl)))
       (λ e. all_on how met t is (above t e))
 
   -- the copy of a chunk leads on

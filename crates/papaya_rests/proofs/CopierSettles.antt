@@ -1,7 +1,6 @@
 -- What the copy of a slot rests on after each answer.
-use Rattle.std.proofs.Common.{◌≡◌, ◌⊎◌, inl, inr, ⊎_elim, ℕ, ◌+◌, ◌<◌, true, false, cond, Option, Some, List, [], ◌∷◌, refl, sym, ap, ◌∙◌, subst, arith}
+use Rattle.std.proofs.Common.{◌≡◌, inl, ℕ, ◌+◌, ◌<◌, true, Option, Some, [], ◌∷◌, refl, sym, ap, ◌∙◌, subst, arith}
 use Rattle.std.proofs.lemmas.Bool.{cond-true}
-use Rattle.papaya_words.specs.Word.{kind_of, live_word, byte_of, pair_of}
 use Rattle.papaya_words.specs.declared.probe.Refused.{Refused}
 use Rattle.papaya_words.specs.declared.probe.ResizeMode.{ResizeMode}
 use Rattle.papaya_words.specs.declared.probe.ResizeMode.TheVariants.{Incremental, Blocking}
@@ -20,16 +19,16 @@ use Rattle.papaya_call.specs.declared.settle.Settle.TheVariants as settles
 use Rattle.papaya_call.specs.declared.settle.Slot.{Slot}
 use Rattle.papaya_call.specs.Carry.{at_count as carry_at_count, at_exchanged as carry_at_exchanged, at_found as carry_at_found, at_refused as carry_at_refused, at_word as carry_at_word, at_yes as carry_at_yes, carry_ask, carry_kind}
 use Rattle.papaya_call.specs.Link.{follows, link_ask, link_kind, at_exchanged as link_at_exchanged}
-use Rattle.papaya_call.specs.Settle.{at_count, at_exchanged, at_found, at_hash, at_made, at_refused, at_size, at_word, at_yes, look as look_word, look_at, marked_as, settle_ask, settle_follows, settle_kind, settled_by}
+use Rattle.papaya_call.specs.Settle.{at_count, at_found, at_hash, at_made, at_refused, at_size, at_word, at_yes, look as look_word, look_at, settle_ask, settle_follows, settled_by}
 use Rattle.papaya_law.specs.Allows.{Allows}
 use Rattle.papaya_law.specs.Class.{IsOn}
 use Rattle.papaya_law.specs.Code.{Coding, IsHashed, code, kind}
-use Rattle.papaya_law.specs.Copying.{IsPutting, IsSettled, IsTarget}
-use Rattle.papaya_law.specs.Exchange.{Word, Empty, Closed, Live, Marked, Copied, Buried, Setting, State, Exchange, Link as Link_to, Mark, Close, Place as Place_pair, Finish, Abort, after}
+use Rattle.papaya_law.specs.Copying.{IsSettled, IsTarget}
+use Rattle.papaya_law.specs.Exchange.{Word, Empty, Closed, Live, Marked, Copied, Buried, Setting, State, Exchange, Link as Link_to, Place as Place_pair, Abort, after}
 use Rattle.papaya_law.specs.Invariant.{IsKeeping, named}
 use Rattle.papaya_law.specs.Later.{IsLater}
 use Rattle.papaya_law.specs.Meaning.{map_after}
-use Rattle.papaya_law.specs.View.{Foreign, Here, look, own, view}
+use Rattle.papaya_law.specs.View.{Foreign, Here, own, view}
 use Rattle.papaya_law.proofs.Chain.{next_zero}
 use Rattle.papaya_law.proofs.Codes.{code_kind}
 use Rattle.papaya_law.proofs.Copies.{target_takes}
@@ -37,11 +36,11 @@ use Rattle.papaya_law.proofs.Grows.{on_run}
 use Rattle.papaya_law.proofs.Later.{later_step}
 use Rattle.papaya_law.proofs.OneMap.{keeping_sound, step_keeps}
 use Rattle.papaya_law.proofs.Slots.{put_there}
-use Rattle.papaya_rests.specs.Copier.{HasCarried, IsCarrying, IsCopyAsked, RestsCarried, RestsCarry, RestsLink, RestsSettle, RestsSettled, carried_to, last_after, told_last}
+use Rattle.papaya_rests.specs.Copier.{IsCarrying, IsCopyAsked, RestsCarried, RestsCarry, RestsSettle, RestsSettled, carried_to, last_after, told_last}
 use Rattle.papaya_rests.specs.Rests.{IsModeOf}
 use Rattle.papaya_rests.specs.Told.{or_last, word_of}
 use Rattle.papaya_rests.proofs.CopierCarries.{carry_compared, carry_counted, carry_found, carry_hashed, carry_loaded, carry_made, carry_refused, carry_sized, leads_on}
-use Rattle.papaya_rests.proofs.CopierExchange.{IsKnown, marked_of, put_here}
+use Rattle.papaya_rests.proofs.CopierExchange.{IsKnown, put_here}
 use Rattle.papaya_rests.proofs.CopierLinks.{link_exchanged}
 use Rattle.papaya_rests.proofs.CopierMay.{settled_blocking, settled_incremental}
 use Rattle.papaya_rests.proofs.CopierStays.{carry_stays}

@@ -13,7 +13,7 @@ use Rattle.papaya_call.specs.Settle.{at_exchanged, marked_as, settle_ask, settle
 use Rattle.papaya_law.specs.Allows.{Allows}
 use Rattle.papaya_law.specs.Code.{Coding, IsHashed, code}
 use Rattle.papaya_law.specs.Copying.{IsSettled}
-use Rattle.papaya_law.specs.Exchange.{Closed, Marked, Copied, Setting, State, Exchange, Close, Finish, Mark, after}
+use Rattle.papaya_law.specs.Exchange.{Closed, Marked, Copied, Setting, State, Exchange, Close, after}
 use Rattle.papaya_law.specs.Invariant.{IsKeeping}
 use Rattle.papaya_law.specs.Meaning.{map_after}
 use Rattle.papaya_law.proofs.Later.{lasts}

@@ -1,5 +1,5 @@
 -- What the copy of a chunk rests on after each answer.
-use Rattle.std.proofs.Common.{◌≡◌, ◌⊎◌, inl, inr, ⊎_elim, ℕ, ◌+◌, ◌-◌, ◌<◌, ◌≤◌, ◌==◌, nat_lt, nat_le, not, ltb-true, ltb-false, leb-true, leb-false, true, false, cond, Option, Some, refl, sym, ap, ◌∙◌, subst, arith, eq-eqb, eqb-true}
+use Rattle.std.proofs.Common.{◌≡◌, inr, ⊎_elim, ℕ, ◌+◌, ◌-◌, ◌<◌, ◌≤◌, ◌==◌, nat_lt, nat_le, not, ltb-true, ltb-false, leb-true, leb-false, true, Option, Some, refl, sym, ap, ◌∙◌, subst, arith, eq-eqb, eqb-true}
 use Rattle.std.proofs.lemmas.Bool.{cases_lt, cond_both}
 use Rattle.papaya_words.specs.declared.probe.Refused.{Refused}
 use Rattle.papaya_words.specs.declared.probe.ResizeMode.{ResizeMode}
@@ -21,12 +21,12 @@ use Rattle.papaya_call.specs.declared.step.Stepped.TheVariants as stepped
 use Rattle.papaya_call.specs.Link.{follows, at_count as link_at_count, at_exchanged as link_at_exchanged, at_found as link_at_found, at_refused as link_at_refused}
 use Rattle.papaya_call.specs.Machine.{IsChunked}
 use Rattle.papaya_call.specs.Settle.{at_count as settle_at_count, at_exchanged as settle_at_exchanged, at_found as settle_at_found, at_refused as settle_at_refused, at_word as settle_at_word, at_yes as settle_at_yes}
-use Rattle.papaya_call.specs.Step.{advanced, aimed, at_count, at_exchanged, at_found, at_hash, at_made, at_refused, at_size, at_word, at_yes, chunk_at, chunk_of, counted, end_of, judged, linked_to, next_slot, settled_to, slot_of, step_ask, step_follows, step_kind}
+use Rattle.papaya_call.specs.Step.{advanced, aimed, at_count, at_exchanged, at_found, at_hash, at_made, at_refused, at_size, at_word, at_yes, chunk_at, chunk_of, counted, end_of, linked_to, next_slot, settled_to, slot_of, step_ask, step_follows, step_kind}
 use Rattle.papaya_law.specs.Allows.{Allows}
 use Rattle.papaya_law.specs.Class.{IsOn}
 use Rattle.papaya_law.specs.Code.{Coding, IsHashed}
 use Rattle.papaya_law.specs.Copying.{IsSettled, IsTarget}
-use Rattle.papaya_law.specs.Exchange.{Setting, State, Exchange, Advance, after}
+use Rattle.papaya_law.specs.Exchange.{Setting, State, Exchange, after}
 use Rattle.papaya_law.specs.Invariant.{IsKeeping}
 use Rattle.papaya_law.specs.Meaning.{map_after}
 use Rattle.papaya_law.proofs.Copies.{first_target, next_target}
@@ -88,10 +88,10 @@ module _ {K P : Type 0} (g : Setting K P) (c : Coding K P) (hashed : IsHashed g 
     settled_on chunk r lo hi (settled.On settle) h = (r, lo, hi, h)
     settled_on chunk r lo hi settled.Settled h =
         let more : (x : ℕ) → chunk.begun ≤ x → x < chunk.at + 1 → IsSettled g s chunk.to (s.slot chunk.from x) = λ x a b.
-            ⊎_elim
-            (λ (lt : x < chunk.at). r.settled x a lt)
-            (λ (le : chunk.at ≤ x). let is : chunk.at ≡ x = omega (arith, b, le) in subst (λ y. IsSettled g s chunk.to (s.slot chunk.from y)) is h)
-            (cases_lt x chunk.at)
+        ⊎_elim
+        (λ (lt : x < chunk.at). r.settled x a lt)
+        (λ (le : chunk.at ≤ x). let is : chunk.at ≡ x = omega (arith, b, le) in subst (λ y. IsSettled g s chunk.to (s.slot chunk.from y)) is h)
+        (cases_lt x chunk.at)
         in
         cond_both (nat_lt (chunk.at + 1) chunk.end) (stepped.On (steps.Settling (next_slot chunk) settles.Looking)) (stepped.On (steps.Advancing (next_slot chunk))) (RestsStepped g c s last kept)
         (λ e. (
@@ -135,8 +135,7 @@ module _ {K P : Type 0} (g : Setting K P) (c : Coding K P) (hashed : IsHashed g 
         (λ e. let le : len ≤ done = leb-true len done e in (r, omega (arith, le, is)))
         (λ e.
         let lt : done < len = leb-false len done e in
-        let end = end_after len done (chunk_of mode) (chunk_some mode chunked) lt in
-        (
+        let end = end_after len done (chunk_of mode) (chunk_some mode chunked) lt in (
           record { source = r; len = is; some = end.0; within = end.1; settled = λ x a b. absurd (omega (arith, a, b)) },
           omega arith,
           end.0,

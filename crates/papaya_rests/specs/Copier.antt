@@ -220,8 +220,9 @@ module _ {K P : Type 0} (g : Setting K P) (c : Coding K P) (s : State P) (last k
   abbrev pub RestsCopied : Aim → Copied_end → Type 0
   RestsCopied aim (copied.On copying) = IsStillAimed aim (aim_of copying) × RestsCopying g c s last kept copying
   RestsCopied aim (copied.Search table) = IsLedTo aim table
-  RestsCopied aim (copied.Root table) = s.root ≡ table
-  RestsCopied aim _ = Unit {0}
+  RestsCopied aim (copied.Root table) = (s.root ≡ table) × ((met : ℕ) × (aim ≡ aims.All met))
+  RestsCopied aim copied.Chunk = aim ≡ aims.Chunk
+  RestsCopied aim (copied.Refused refused) = Unit {0}
 
 -- the pair last told of, after the word at a place
 abbrev pub told_last : {P : Type 0} → State P → At → Option P → Option P
