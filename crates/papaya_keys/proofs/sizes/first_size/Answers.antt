@@ -7,5 +7,5 @@ use Rattle.papaya_keys.proofs.sizes.first_size.Goals as goal
 
 pub returns : goal.returns
 returns c =
-    let limit : IsLimit (max c.args.initial 8) c.limit.result = subst (λ (n : ℕ). IsLimit n c.limit.result) c.table_len-len.ensures c.limit.ensures in
+    let limit : IsLimit (max c.args.initial 8) c.limit.result = subst (λ (n : ℕ). IsLimit n c.limit.result) c.table_len-len.ensures c.limit.ensures.log in
     subst (λ (n : ℕ). IsSize n c.limit.result) (sym c.table_len-len.ensures) (table_size c.args.initial c.limit.result c.requires.0.0 c.requires.1 limit)
