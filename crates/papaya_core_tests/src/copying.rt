@@ -49,7 +49,7 @@ enum Told {
 }
 
 /// Where a copy ends.
-#[derive(Debug, PartialEq)]
+#[derive(Clone, Copy, Debug, PartialEq)]
 enum End {
     On,
     Search(u64),
@@ -58,7 +58,7 @@ enum End {
     Refused(Refused),
 }
 
-fn end(copied: Copied) -> End {
+fn end_of(copied: Copied) -> End {
     match copied {
         Copied::On(_) => End::On,
         Copied::Search(table) => End::Search(table),
@@ -89,7 +89,7 @@ fn led(copying: Copying, mode: ResizeMode, told: Told) -> Copied
 }
 
 /// The copier asks this, and goes on after this answer.
-fn told(rt: &impl Abort, copying: &mut Copying, mode: ResizeMode, ask: CopyAsk, told: Told)
+fn asks(rt: &impl Abort, copying: &mut Copying, mode: ResizeMode, ask: CopyAsk, told: Told)
     requires standing { IsStandingCopying copying.old }
     requires chunked { IsChunked mode }
     ensures { IsStandingCopying copying.new }
@@ -97,7 +97,7 @@ fn told(rt: &impl Abort, copying: &mut Copying, mode: ResizeMode, ask: CopyAsk, 
     is(rt, copying.ask(), ask);
     match led(*copying, mode, told) {
         Copied::On(next) => *copying = next,
-        other => is(rt, end(other), End::On),
+        other => is(rt, end_of(other), End::On),
     }
 }
 
@@ -107,7 +107,7 @@ fn ends(rt: &impl Abort, copying: Copying, mode: ResizeMode, ask: CopyAsk, told:
     requires chunked { IsChunked mode }
 {
     is(rt, copying.ask(), ask);
-    is(rt, end(led(copying, mode, told)), wanted);
+    is(rt, end_of(led(copying, mode, told)), wanted);
 }
 
 /// It loads a word.
@@ -116,7 +116,7 @@ fn loads(rt: &impl Abort, copying: &mut Copying, mode: ResizeMode, at: At, word:
     requires chunked { IsChunked mode }
     ensures { IsStandingCopying copying.new }
 {
-    told(rt, copying, mode, CopyAsk::Load(at), Told::Word(word));
+    asks(rt, copying, mode, CopyAsk::Load(at), Told::Word(word));
 }
 
 /// It exchanges a word, by an exchange of this kind.
@@ -135,7 +135,7 @@ fn puts(
     ensures { IsStandingCopying copying.new }
 {
     is(rt, copying.kind(), Some(kind));
-    told(rt, copying, mode, CopyAsk::Exchange(at, old, new), answer);
+    asks(rt, copying, mode, CopyAsk::Exchange(at, old, new), answer);
 }
 
 /// It copies table 1, of 8 slots, into table 2, from this slot on.
@@ -146,7 +146,7 @@ fn comes_to(rt: &impl Abort, copying: &mut Copying, mode: ResizeMode, done: u64)
 {
     loads(rt, copying, mode, At::Root, 1);
     loads(rt, copying, mode, At::Next(1), 2);
-    told(rt, copying, mode, CopyAsk::SizeOf(1), Told::Eight);
+    asks(rt, copying, mode, CopyAsk::SizeOf(1), Told::Eight);
     loads(rt, copying, mode, At::Done(2), done);
 }
 
@@ -177,12 +177,12 @@ fn a_chunk_of_two_slots(rt: HostRuntime) {
         MARKED,
         Told::Exchanged,
     );
-    told(&rt, c, TWO, CopyAsk::HashOf(3), Told::Hash(HASH));
-    told(&rt, c, TWO, CopyAsk::SizeOf(2), Told::Eight);
+    asks(&rt, c, TWO, CopyAsk::HashOf(3), Told::Hash(HASH));
+    asks(&rt, c, TWO, CopyAsk::SizeOf(2), Told::Eight);
     loads(&rt, c, TWO, At::Slot(2, 2), CLOSED);
     loads(&rt, c, TWO, At::Slot(2, 3), LIVE_9);
     loads(&rt, c, TWO, At::Slot(2, 5), BURIED_4);
-    told(&rt, c, TWO, CopyAsk::SamePair(3, 4), Told::Yes(false));
+    asks(&rt, c, TWO, CopyAsk::SamePair(3, 4), Told::Yes(false));
     loads(&rt, c, TWO, At::Slot(2, 0), EMPTY);
     puts(
         &rt,
@@ -214,10 +214,10 @@ fn a_buried_word_says_that_the_pair_came(rt: HostRuntime) {
     let c = &mut copying;
     comes_to(&rt, c, TWO, 7);
     loads(&rt, c, TWO, At::Slot(1, 7), MARKED);
-    told(&rt, c, TWO, CopyAsk::HashOf(3), Told::Hash(HASH));
-    told(&rt, c, TWO, CopyAsk::SizeOf(2), Told::Eight);
+    asks(&rt, c, TWO, CopyAsk::HashOf(3), Told::Hash(HASH));
+    asks(&rt, c, TWO, CopyAsk::SizeOf(2), Told::Eight);
     loads(&rt, c, TWO, At::Slot(2, 2), BURIED_4);
-    told(&rt, c, TWO, CopyAsk::SamePair(3, 4), Told::Yes(true));
+    asks(&rt, c, TWO, CopyAsk::SamePair(3, 4), Told::Yes(true));
     puts(
         &rt,
         c,
@@ -248,14 +248,14 @@ fn a_full_table_is_followed_by_a_longer_one(rt: HostRuntime) {
     let c = &mut copying;
     comes_to(&rt, c, TWO, 0);
     loads(&rt, c, TWO, At::Slot(1, 0), MARKED);
-    told(&rt, c, TWO, CopyAsk::HashOf(3), Told::Hash(HASH));
-    told(&rt, c, TWO, CopyAsk::SizeOf(2), Told::EightOfOnePlace);
+    asks(&rt, c, TWO, CopyAsk::HashOf(3), Told::Hash(HASH));
+    asks(&rt, c, TWO, CopyAsk::SizeOf(2), Told::EightOfOnePlace);
     loads(&rt, c, TWO, At::Slot(2, 2), LIVE_9);
     loads(&rt, c, TWO, At::Next(2), 0);
-    told(&rt, c, TWO, CopyAsk::SizeOf(2), Told::EightOfOnePlace);
-    told(&rt, c, TWO, CopyAsk::Count, Told::Count(0));
+    asks(&rt, c, TWO, CopyAsk::SizeOf(2), Told::EightOfOnePlace);
+    asks(&rt, c, TWO, CopyAsk::Count, Told::Count(0));
     is(&rt, c.follows(), 2);
-    told(
+    asks(
         &rt,
         c,
         TWO,
@@ -272,7 +272,7 @@ fn a_full_table_is_followed_by_a_longer_one(rt: HostRuntime) {
         3,
         Told::Exchanged,
     );
-    told(&rt, c, TWO, CopyAsk::SizeOf(3), Told::Eight);
+    asks(&rt, c, TWO, CopyAsk::SizeOf(3), Told::Eight);
     loads(&rt, c, TWO, At::Slot(3, 2), EMPTY);
 }
 
@@ -283,9 +283,9 @@ fn with_blocking_it_is_given_up(rt: HostRuntime) {
     let c = &mut copying;
     loads(&rt, c, mode, At::Root, 1);
     loads(&rt, c, mode, At::Next(1), 0);
-    told(&rt, c, mode, CopyAsk::SizeOf(1), Told::Eight);
-    told(&rt, c, mode, CopyAsk::Count, Told::Count(3));
-    told(
+    asks(&rt, c, mode, CopyAsk::SizeOf(1), Told::Eight);
+    asks(&rt, c, mode, CopyAsk::Count, Told::Count(3));
+    asks(
         &rt,
         c,
         mode,
@@ -303,11 +303,11 @@ fn with_blocking_it_is_given_up(rt: HostRuntime) {
         Told::Found(3),
     );
     loads(&rt, c, mode, At::Aborted(3), 0);
-    told(&rt, c, mode, CopyAsk::SizeOf(1), Told::Eight);
+    asks(&rt, c, mode, CopyAsk::SizeOf(1), Told::Eight);
     loads(&rt, c, mode, At::Done(3), 0);
     loads(&rt, c, mode, At::Slot(1, 0), MARKED);
-    told(&rt, c, mode, CopyAsk::HashOf(3), Told::Hash(HASH));
-    told(&rt, c, mode, CopyAsk::SizeOf(3), Told::EightOfOnePlace);
+    asks(&rt, c, mode, CopyAsk::HashOf(3), Told::Hash(HASH));
+    asks(&rt, c, mode, CopyAsk::SizeOf(3), Told::EightOfOnePlace);
     loads(&rt, c, mode, At::Slot(3, 2), LIVE_9);
     puts(
         &rt,
@@ -320,8 +320,8 @@ fn with_blocking_it_is_given_up(rt: HostRuntime) {
         Told::Exchanged,
     );
     loads(&rt, c, mode, At::Next(3), 0);
-    told(&rt, c, mode, CopyAsk::SizeOf(3), Told::Eight);
-    told(&rt, c, mode, CopyAsk::Count, Told::Count(3));
+    asks(&rt, c, mode, CopyAsk::SizeOf(3), Told::Eight);
+    asks(&rt, c, mode, CopyAsk::Count, Told::Count(3));
     let ask = CopyAsk::MakeTable { len: 16, limit: 15 };
     let end = End::Refused(Refused::Memory);
     ends(&rt, copying, mode, ask, Told::Refused(Refused::Memory), end);
