@@ -58,7 +58,7 @@ try_twin() {
         echo "twin $name: NOT REFUSED by the laws"
         return 1
     fi
-    if ! grep -q "^fn papaya_rests::rests::$law: not proved" "$log"; then
+    if ! grep -Eq "^fn papaya_rests::(rests|copies)::$law: not proved" "$log"; then
         echo "twin $name: the law $law did not refuse it"
         tail -n 20 "$log"
         return 1

@@ -75,6 +75,7 @@ compare_byte hash at mode word = if byte_of word == top_byte hash then On (Compa
 abbrev pub look_at : Kind → (hash : ℕ) → Place → ResizeMode → ℕ → Carried
 look_at word_kinds.Empty hash at mode word = On (Placing hash at)
 look_at word_kinds.Closed hash at mode word = goes_on hash at mode
+look_at word_kinds.Buried hash at mode word = compare_byte hash at mode word
 look_at _ hash at mode word = compare_byte hash at mode word
 
 abbrev pub look : (hash : ℕ) → Place → ResizeMode → ℕ → Carried

@@ -4,7 +4,7 @@
 ghost use Rattle.papaya_law.specs.Allows.{AllAllowed, Allows, MayAbort, MayClaim, MayFinish, MayPlace};
 ghost use Rattle.papaya_law.specs.Code.{AreAlike, ChangesSlot, Coding, IsLawfulCoding, IsOfKind, byte_of_pair, code, kind};
 ghost use Rattle.papaya_law.specs.Content.{AreApart, IsCountAfter, content, lookup, pairs_in};
-ghost use Rattle.papaya_law.specs.Copying.{IsPutting, IsTaker, IsTarget};
+ghost use Rattle.papaya_law.specs.Copying.{IsPutting, IsSettled, IsTaker, IsTarget};
 ghost use Rattle.papaya_law.specs.Example.{by_two, two_tables, of_one, three_tables};
 ghost use Rattle.papaya_law.specs.Exchange.{Empty, Marked, Exchange, Setting, State, Word, after, run, start};
 ghost use Rattle.papaya_law.specs.Further.{IsLawfulKey, IsMapWith, IsMatchedAtMoment, coding_with, hash_with, same_with, with_key};
@@ -177,6 +177,17 @@ pub fn copiers<K, P>()
     ensures finish { (g : Setting K P) (s : State P) (t x : ℕ) (p : P) (n j : ℕ)
         → IsPutting g s t x p n j → HasWord g.places (look g s (g.key p)) n → g.blocking ≡ false
         → s.slot t x ≡ Marked p → MayFinish g s t x p }
+{}
+
+/// What a root without a next table is, and where a search goes on once the slot was settled in
+/// which it met its key's pair leaving.
+pub fn after_copies<K, P>()
+    ensures last_root { (g : Setting K P) (s : State P) (m : K → Option P) → IsKeeping g s m
+        → (t : ℕ) → s.was_root t ≡ true → s.next t ≡ 0 → s.root ≡ t }
+    ensures moved { (g : Setting K P) (s : State P) → g.blocking ≡ false
+        → (k : K) (t j n : ℕ) (p : P) → j < g.places t
+        → (look g s k t j ≡ Leaving p) ⊎ (look g s k t j ≡ Gone p)
+        → IsSettled g s n (s.slot t (g.place k t j)) → IsPassed g.places (look g s k) t }
 {}
 
 /// What the numbers that stand in memory say of the words, and that each exchange of a slot is a

@@ -26,7 +26,7 @@ use Rattle.papaya_call.specs.Settle.{copied_as, marked_as, settle_ask, settle_ki
 use Rattle.papaya_call.specs.Step.{slot_of, step_ask, step_kind}
 use Rattle.papaya_law.specs.Allows.{Allows}
 use Rattle.papaya_law.specs.Class.{IsOn}
-use Rattle.papaya_law.specs.Code.{Coding, IsHashed, IsOfKind, byte_of_pair, code}
+use Rattle.papaya_law.specs.Code.{Coding, IsHashed, IsOfKind, code}
 use Rattle.papaya_law.specs.Copying.{IsTarget}
 use Rattle.papaya_law.specs.Exchange.{Word, Empty, Closed, Live, Marked, Copied, Setting, State, Exchange, Link as Link_to, Mark, Close, Place, Finish, Advance, Promote, Abort, after, at_put, slot_put}
 use Rattle.papaya_law.specs.Invariant.{IsKeeping}
@@ -35,12 +35,12 @@ use Rattle.papaya_law.proofs.CodeViews.{word_of_kind}
 use Rattle.papaya_law.proofs.CopierFacts.{target_further}
 use Rattle.papaya_law.proofs.OneMap.{keeping_sound}
 use Rattle.papaya_law.proofs.Slots.{put_there, put_elsewhere}
-use Rattle.papaya_rests.specs.Copier.{HasCarried, IsCarrying, IsChunk, IsCopyAsked, IsMoving, IsSource, RestsCarry, RestsCopying, RestsLink, RestsSettle, RestsStep}
+use Rattle.papaya_rests.specs.Copier.{IsCopyAsked, IsMoving, IsSource, RestsCarry, RestsCopying, RestsLink, RestsSettle, RestsStep}
 use Rattle.papaya_rests.specs.Told.{IsWritten, word_of}
 use Rattle.papaya_rests.proofs.CopierMay.{advances, aborts, finishes, links_on, places, promotes, root_on}
 
 -- what was put there stands there
-put_here : {Y : Type 0} → (f : ℕ → Y) (a : ℕ) (y : Y) → at_put f a y a ≡ y
+pub put_here : {Y : Type 0} → (f : ℕ → Y) (a : ℕ) (y : Y) → at_put f a y a ≡ y
 put_here f a y = cond-true (a == a) y (f a) (eq-eqb a a refl)
 
 -- and elsewhere what stood before
@@ -121,7 +121,7 @@ module _ {K P : Type 0} (g : Setting K P) (c : Coding K P) (hashed : IsHashed g 
   copied_of p word e = let parts = code_pair g c hashed.coding (Marked p) p refl in ap (λ b. copied_word b (c.number p)) (sym parts.1) ∙ ap (copied_word (byte_of (code g c (Marked p)))) (sym parts.0) ∙ ap copied_as (sym e)
 
   -- the number of the pair that is carried
-  carried_number : (p : P) (word : ℕ) → word ≡ code g c (Marked p) → pair_of word ≡ c.number p
+  pub carried_number : (p : P) (word : ℕ) → word ≡ code g c (Marked p) → pair_of word ≡ c.number p
   carried_number p word e = ap pair_of e ∙ (code_pair g c hashed.coding (Marked p) p refl).0
 
   -- the new word of a copy names it
@@ -194,38 +194,38 @@ module _ {K P : Type 0} (g : Setting K P) (c : Coding K P) (hashed : IsHashed g 
           let t : ℕ = slot.from in
           let x : ℕ = slot.index in
           same_ask (Some kinds.Close) (Slot_word t x) at 0 old 5 new e (λ none.
-            let empty : s.slot t x ≡ Empty = code_empty g c (s.slot t x) none in (
-              Close t x,
-              refl,
-              record { empty = empty; was = shut_was slot known (λ p h. ⊎_elim (λ a. cc (a, empty)) (λ b. cc (b, empty)) h); further = target_further g s (keeping_sound g s m keeps).rises t slot.to known.target },
-              slot_written g c s t x Closed,
-            ))
+          let empty : s.slot t x ≡ Empty = code_empty g c (s.slot t x) none in (
+            Close t x,
+            refl,
+            record { empty = empty; was = shut_was slot known (λ p h. ⊎_elim (λ a. cc (a, empty)) (λ b. cc (b, empty)) h); further = target_further g s (keeping_sound g s m keeps).rises t slot.to known.target },
+            slot_written g c s t x Closed,
+          ))
       settle_may slot known (settles.Marking word) r at old new e =
           let t : ℕ = slot.from in
           let x : ℕ = slot.index in
           same_ask (Some kinds.Mark) (Slot_word t x) at word old (marked_as word) new e (λ stands.
-            let live : IsOfKind word_kinds.Live (s.slot t x) = subst (λ y. IsOfKind y (s.slot t x)) (ap kind_of stands ∙ r) (word_of_kind g c (s.slot t x)) in
-            let p : P = live.0 in
-            let there : s.slot t x ≡ Live p = live.1 in (
-              Mark t x p,
-              (p, there, refl),
-              record { live = there; was = shut_was slot known (λ q h. ⊎_elim (λ a. cc (a, there)) (λ b. cc (b, there)) h); further = target_further g s (keeping_sound g s m keeps).rises t slot.to known.target },
-              subst (λ y. IsWritten g c s (Slot_word t x) y (slot_put s t x (Marked p))) (marked_of p word (ap (code g c) (sym there) ∙ stands)) (slot_written g c s t x (Marked p)),
-            ))
+          let live : IsOfKind word_kinds.Live (s.slot t x) = subst (λ y. IsOfKind y (s.slot t x)) (ap kind_of stands ∙ r) (word_of_kind g c (s.slot t x)) in
+          let p : P = live.0 in
+          let there : s.slot t x ≡ Live p = live.1 in (
+            Mark t x p,
+            (p, there, refl),
+            record { live = there; was = shut_was slot known (λ q h. ⊎_elim (λ a. cc (a, there)) (λ b. cc (b, there)) h); further = target_further g s (keeping_sound g s m keeps).rises t slot.to known.target },
+            subst (λ y. IsWritten g c s (Slot_word t x) y (slot_put s t x (Marked p))) (marked_of p word (ap (code g c) (sym there) ∙ stands)) (slot_written g c s t x (Marked p)),
+          ))
       settle_may slot known (settles.Carrying word carry) r at old new e = carry_may slot word r.pair r.marked carry r.rests at old new e
       settle_may slot known (settles.Finishing word) (mode, r) at old new e =
           let t : ℕ = slot.from in
           let x : ℕ = slot.index in
           let p : P = r.pair in
           same_ask (Some kinds.Finish) (Slot_word t x) at word old (copied_as word) new e (λ stands.
-            let of_kind : IsOfKind (kind_of (code g c (Marked p))) (s.slot t x) = subst (λ y. IsOfKind (kind_of y) (s.slot t x)) (stands ∙ r.marked) (word_of_kind g c (s.slot t x)) in
-            let marked : IsOfKind word_kinds.Marked (s.slot t x) = subst (λ y. IsOfKind y (s.slot t x)) (code_kind g c (Marked p)) of_kind in
-            let there : s.slot t x ≡ Marked p = ⊎_elim (λ a. a) (λ b. let q = marked.1 in absurd (cc (b, q))) r.stood in (
-              Finish t x p,
-              (p, there, refl),
-              finishes g c s m keeps slot word p r mode there,
-              subst (λ y. IsWritten g c s (Slot_word t x) y (slot_put s t x (Copied p))) (copied_of p word r.marked) (slot_written g c s t x (Copied p)),
-            ))
+          let of_kind : IsOfKind (kind_of (code g c (Marked p))) (s.slot t x) = subst (λ y. IsOfKind (kind_of y) (s.slot t x)) (stands ∙ r.marked) (word_of_kind g c (s.slot t x)) in
+          let marked : IsOfKind word_kinds.Marked (s.slot t x) = subst (λ y. IsOfKind y (s.slot t x)) (code_kind g c (Marked p)) of_kind in
+          let there : s.slot t x ≡ Marked p = ⊎_elim (λ a. a) (λ b. let q = marked.1 in absurd (cc (b, q))) r.stood in (
+            Finish t x p,
+            (p, there, refl),
+            finishes g c s m keeps slot word p r mode there,
+            subst (λ y. IsWritten g c s (Slot_word t x) y (slot_put s t x (Copied p))) (copied_of p word r.marked) (slot_written g c s t x (Copied p)),
+          ))
 
       -- slots are counted as copied, or the table of the copies becomes the root
       step_may : (step : Step) → RestsStep g c s last kept step → (at : At) (old new : ℕ) → step_ask step ≡ Ask_exchange at old new → MayDo (step_kind step) at old new
@@ -267,3 +267,9 @@ one_asked c (Some kinds.Advance) (Done n) new s kept e e' a b = a ∙ sym b
 one_asked c (Some kinds.Promote) Root new s kept e e' a b = a ∙ sym b
 one_asked c (Some kinds.Abort) (Aborted n) new s kept e e' a b = a ∙ sym b
 one_asked c _ _ new s kept e e' a b = absurd a
+
+-- so what is asked for is allowed
+pub asked_allowed : {K P : Type 0} → (g : Setting K P) (c : Coding K P) (hashed : IsHashed g c) (s : State P) (m : K → Option P) (keeps : IsKeeping g s m) (last kept : Option P) (copying : Copying) → RestsCopying g c s last kept copying → (at : At) (old new : ℕ) → copying_ask copying ≡ Ask_exchange at old new → word_of g c s at ≡ old → (e : Exchange P) → IsCopyAsked c (copying_kind copying) at new s kept e → Allows g s e
+asked_allowed g c hashed s m keeps last kept copying r at old new q stands e asked =
+    let h = copying_may g c hashed s m keeps last kept copying r at old new q stands in
+    subst (Allows g s) (one_asked c (copying_kind copying) at new s kept h.0 e h.1 asked) h.2

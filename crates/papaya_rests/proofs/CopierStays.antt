@@ -41,16 +41,16 @@ module _ {K P : Type 0} (g : Setting K P) (c : Coding K P) (law : IsLawful g) (s
   link_stays : (link : Link) → RestsLink g c s link → RestsLink g c s' link
   link_stays link r = record { on = on (follows link) r.on; rises = r.rises }
 
-  source_stays : (from n : ℕ) → IsSource g c s from n → IsSource g c s' from n
+  pub source_stays : (from n : ℕ) → IsSource g c s from n → IsSource g c s' from n
   source_stays from n r = record { was = later.was from r.was; target = all.target from n r.target }
 
-  aimed_stays : (from behind : ℕ) → IsAimed g c s from behind → IsAimed g c s' from behind
+  pub aimed_stays : (from behind : ℕ) → IsAimed g c s from behind → IsAimed g c s' from behind
   aimed_stays from behind r = record {
     was = later.was from r.was;
     given_up = ⊎_elim (λ e. inl e) (λ h. inr (h.0, all.target from behind h.1, later.aborted behind h.2)) r.given_up;
   }
 
-  chunk_stays : (chunk : Chunk) (upto : ℕ) → IsChunk g c s chunk upto → IsChunk g c s' chunk upto
+  pub chunk_stays : (chunk : Chunk) (upto : ℕ) → IsChunk g c s chunk upto → IsChunk g c s' chunk upto
   chunk_stays chunk upto r = record {
     source = source_stays chunk.from chunk.to r.source;
     len = r.len;
@@ -69,7 +69,7 @@ module _ {K P : Type 0} (g : Setting K P) (c : Coding K P) (law : IsLawful g) (s
     became = becomes_through g law r.was (s.slot at.table at.probe.i) (s'.slot at.table at.probe.i) r.became (later.words at.table at.probe.i);
   }
 
-  carry_stays : (slot : Slot) (p : P) (carry : Carry) → RestsCarry g c s last kept slot p carry → RestsCarry g c s' last kept slot p carry
+  pub carry_stays : (slot : Slot) (p : P) (carry : Carry) → RestsCarry g c s last kept slot p carry → RestsCarry g c s' last kept slot p carry
   carry_stays slot p (carries.Hashing table) r = (r.0, putting slot.from slot.index p table 0 r.1)
   carry_stays slot p (carries.Sizing hash table) r = (r.0, r.1, putting slot.from slot.index p table 0 r.2)
   carry_stays slot p (carries.Looking hash at) r = (r.0, record { hashed = r.1.hashed; len = r.1.len; limit = r.1.limit; slot = r.1.slot; within = r.1.within }, putting slot.from slot.index p at.table at.probe.len r.2)
@@ -79,7 +79,7 @@ module _ {K P : Type 0} (g : Setting K P) (c : Coding K P) (law : IsLawful g) (s
   carry_stays slot p (carries.Linking hash link) r = (r.0, r.1, r.2, putting slot.from slot.index p (follows link) (g.places (follows link)) r.3, link_stays link r.4)
   carry_stays slot p (carries.Aborting table) r = (r.0, r.1, putting slot.from slot.index p table (g.places table) r.2)
 
-  settle_stays : (slot : Slot) (settle : Settle) → RestsSettle g c s last kept slot settle → RestsSettle g c s' last kept slot settle
+  pub settle_stays : (slot : Slot) (settle : Settle) → RestsSettle g c s last kept slot settle → RestsSettle g c s' last kept slot settle
   settle_stays slot settles.Looking r = tt
   settle_stays slot settles.Closing r = tt
   settle_stays slot (settles.Marking word) r = r
@@ -97,7 +97,7 @@ module _ {K P : Type 0} (g : Setting K P) (c : Coding K P) (law : IsLawful g) (s
     },
   )
 
-  moving_stays : (slot : Slot) → IsMoving g c s slot → IsMoving g c s' slot
+  pub moving_stays : (slot : Slot) → IsMoving g c s slot → IsMoving g c s' slot
   moving_stays slot r = record {
     mode = r.mode;
     on = on slot.from r.on;
@@ -108,7 +108,7 @@ module _ {K P : Type 0} (g : Setting K P) (c : Coding K P) (law : IsLawful g) (s
   }
 
   -- whatever step the copy is at
-  step_stays : (step : Step) → RestsStep g c s last kept step → RestsStep g c s' last kept step
+  pub step_stays : (step : Step) → RestsStep g c s last kept step → RestsStep g c s' last kept step
   step_stays steps.AtRoot r = tt
   step_stays (steps.Aiming from behind) r = aimed_stays from behind r
   step_stays (steps.Linking from link) r = (r.0, aimed_stays from (follows link) r.1, link_stays link r.2)
@@ -119,7 +119,7 @@ module _ {K P : Type 0} (g : Setting K P) (c : Coding K P) (law : IsLawful g) (s
   step_stays (steps.Advancing chunk) r = chunk_stays chunk chunk.end r
   step_stays (steps.Promoting from to) r = let d = later.done to in let l = r.1 in (source_stays from to r.0, omega (arith, d, l))
 
-  aim_stays : (aim : Aim) → RestsAim g c s last kept aim → RestsAim g c s' last kept aim
+  pub aim_stays : (aim : Aim) → RestsAim g c s last kept aim → RestsAim g c s' last kept aim
   aim_stays (aims.Search table) r = tt
   aim_stays (aims.Settle slot) r = moving_stays slot r
   aim_stays aims.Chunk r = tt

@@ -125,15 +125,18 @@ module _ {K P : Type 0} (g g' : Setting K P) (c : Coding K P) (s : State P) (sou
     settle_carries settles.Closing r = tt
     settle_carries (settles.Marking word) r = r
     settle_carries (settles.Carrying word carry) r = record { pair = r.pair; marked = r.marked ∙ sym (code_same (Marked r.pair)); here = λ b. r.here (sym agrees.blocking ∙ b); rests = carry_carries r.pair carry r.rests }
-    settle_carries (settles.Finishing word) (mode, r) = (agrees.blocking ∙ mode, record {
-      pair = r.pair;
-      table = r.table;
-      marked = r.marked ∙ sym (code_same (Marked r.pair));
-      stood = r.stood;
-      taker = taker_carries g g' s sound agrees r.pair slot.from r.table on r.taker;
-      has = has_carries g g' s sound agrees (look g s (g.key r.pair)) (look g' s (g'.key r.pair)) (look_pair g g' s sound agrees r.pair) r.table (taker_on g s sound.rises (g.key r.pair) slot.from r.table on r.taker) r.has;
-      here = λ b. r.here (sym agrees.blocking ∙ b);
-    })
+    settle_carries (settles.Finishing word) (mode, r) = (
+      agrees.blocking ∙ mode,
+      record {
+        pair = r.pair;
+        table = r.table;
+        marked = r.marked ∙ sym (code_same (Marked r.pair));
+        stood = r.stood;
+        taker = taker_carries g g' s sound agrees r.pair slot.from r.table on r.taker;
+        has = has_carries g g' s sound agrees (look g s (g.key r.pair)) (look g' s (g'.key r.pair)) (look_pair g g' s sound agrees r.pair) r.table (taker_on g s sound.rises (g.key r.pair) slot.from r.table on r.taker) r.has;
+        here = λ b. r.here (sym agrees.blocking ∙ b);
+      },
+    )
 
   moving_carries : (slot : Slot) → IsMoving g c s slot → IsMoving g' c s slot
   moving_carries slot r = record {

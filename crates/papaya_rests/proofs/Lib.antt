@@ -54,3 +54,9 @@ pub mod CopierStays
 pub mod CopierTables
 pub mod CopierMay
 pub mod CopierExchange
+pub mod CopierLinks
+pub mod CopierCarries
+pub mod CopierSettles
+pub mod CopierSettlesMade
+pub mod CopierSteps
+pub mod CopierCopies

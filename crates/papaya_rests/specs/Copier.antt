@@ -10,6 +10,8 @@ use Rattle.papaya_call.specs.declared.carry.Carried.{Carried}
 use Rattle.papaya_call.specs.declared.carry.Carried.TheVariants as carried
 use Rattle.papaya_call.specs.declared.carry.Carry.{Carry}
 use Rattle.papaya_call.specs.declared.carry.Carry.TheVariants as carries
+use Rattle.papaya_call.specs.declared.copy_ask.CopyAsk.{CopyAsk}
+use Rattle.papaya_call.specs.declared.copy_ask.CopyAsk.TheVariants as asks
 use Rattle.papaya_call.specs.declared.copying.Aim.{Aim}
 use Rattle.papaya_call.specs.declared.copying.Aim.TheVariants as aims
 use Rattle.papaya_call.specs.declared.copying.Copied.{Copied as Copied_end}
@@ -218,8 +220,9 @@ module _ {K P : Type 0} (g : Setting K P) (c : Coding K P) (s : State P) (last k
   abbrev pub RestsCopied : Aim → Copied_end → Type 0
   RestsCopied aim (copied.On copying) = IsStillAimed aim (aim_of copying) × RestsCopying g c s last kept copying
   RestsCopied aim (copied.Search table) = IsLedTo aim table
-  RestsCopied aim (copied.Root table) = s.root ≡ table
-  RestsCopied aim _ = Unit {0}
+  RestsCopied aim (copied.Root table) = (s.root ≡ table) × ((met : ℕ) × (aim ≡ aims.All met))
+  RestsCopied aim copied.Chunk = aim ≡ aims.Chunk
+  RestsCopied aim (copied.Refused refused) = Unit {0}
 
 -- the pair last told of, after the word at a place
 abbrev pub told_last : {P : Type 0} → State P → At → Option P → Option P
@@ -242,3 +245,21 @@ IsCopyAsked c _ _ new s kept e = ⊥
 abbrev pub last_after : {P : Type 0} → Exchange P → Option P → Option P
 last_after (Mark t x p) last = Some p
 last_after _ last = last
+
+module _ {K P : Type 0} (g : Setting K P) (c : Coding K P) (s : State P) (last kept : Option P) where
+  -- the word is that of a table on the chain, and of a slot within it
+  abbrev pub IsThere : At → Type 0
+  IsThere Root = Unit {0}
+  IsThere (Next t) = IsOn s.first s.next t
+  IsThere (Aborted t) = IsOn s.first s.next t
+  IsThere (Done t) = IsOn s.first s.next t
+  IsThere (Slot_word t x) = IsOn s.first s.next t × (x < g.size t)
+
+  -- what is named in an ask is there: such words, the pair last told of, and the one that is carried
+  abbrev pub AreThere : CopyAsk → Type 0
+  AreThere (asks.Load at) = IsThere at
+  AreThere (asks.Exchange at old new) = IsThere at
+  AreThere (asks.SizeOf t) = IsOn s.first s.next t
+  AreThere (asks.HashOf n) = (p : P) × (last ≡ Some p) × (c.number p ≡ n)
+  AreThere (asks.SamePair i n) = (o : P) × (q : P) × (kept ≡ Some o) × (last ≡ Some q) × (c.number o ≡ i) × (c.number q ≡ n)
+  AreThere _ = Unit {0}

@@ -15,7 +15,7 @@ use Rattle.papaya_call.specs.declared.compute.Purpose.TheVariants.{Fill, Replace
 use Rattle.papaya_call.specs.declared.search.Search.{Search}
 use Rattle.papaya_call.specs.declared.search.Search.TheVariants.{Sizing, Looking, Comparing}
 use Rattle.papaya_call.specs.declared.machine.State.{State}
-use Rattle.papaya_call.specs.declared.machine.State.TheVariants.{AtRoot, Making, Opening, Searching, Writing, Offering, Showing, Pairing, Putting, Burying, Counting, Uncounting, Leaving, Growing, Ended}
+use Rattle.papaya_call.specs.declared.machine.State.TheVariants.{Searching, Writing, Offering, Showing, Pairing, Putting, Burying, Leaving, Growing}
 use Rattle.papaya_call.specs.Machine.{HasClosure, IsChanger, IsComputer, MayInsert}
 
 -- the table that a search is in

@@ -1,7 +1,7 @@
 -- What a call that changed the map has yet to add to the count of pairs.
 use Rattle.std.specs.Prelude.{ℤ, pos, negsuc, Option, Some}
 use Rattle.papaya_call.specs.declared.ask.Ask.{Ask}
-use Rattle.papaya_call.specs.declared.ask.Ask.TheVariants.{Load, Exchange, SameKey, ShowNone, ShowPair, SizeOf, MakeKey, MakePair, MakeTable, AddToShard, Done}
+use Rattle.papaya_call.specs.declared.ask.Ask.TheVariants.{Exchange, AddToShard}
 use Rattle.papaya_call.specs.declared.ask.Answer.{Answer}
 use Rattle.papaya_call.specs.declared.ask.Answer.TheVariants.{Exchanged}
 use Rattle.papaya_call.specs.declared.ask.StepKind.{StepKind}

@@ -1,6 +1,5 @@
 -- What an answer tells a machine of the words.
 use Rattle.std.specs.Prelude.{◌≡◌, ◌⊎◌, ℕ, ◌+◌, ◌<◌, ◌==◌, cond, Bool, Option, None, Some, List, [], ◌∷◌, MatchBool}
-use Rattle.papaya_words.specs.Probe.{place}
 use Rattle.papaya_words.specs.Word.{pair_of}
 use Rattle.papaya_words.specs.declared.probe.Refused.{Refused}
 use Rattle.papaya_call.specs.declared.ask.At.{At}
@@ -14,8 +13,7 @@ use Rattle.papaya_call.specs.declared.ask.StepKind.{StepKind}
 use Rattle.papaya_call.specs.declared.ask.StepKind.TheVariants as kinds
 use Rattle.papaya_law.specs.Exchange.{Live, Setting, State, Exchange, Open, Claim, Replace, Bury}
 use Rattle.papaya_law.specs.Invariant.{named}
-use Rattle.papaya_law.specs.Meaning.{IsLawful}
-use Rattle.papaya_law.specs.Code.{Coding, IsLawfulCoding, code}
+use Rattle.papaya_law.specs.Code.{Coding, code}
 
 -- The pairs that a machine has been told of: the one that the word last loaded names, and those
 -- that it made, the newest first.
