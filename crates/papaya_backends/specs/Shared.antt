@@ -30,18 +30,29 @@ IsMissing (command.Update k) = ⊥
 IsMissing command.Len = ⊥
 IsMissing command.Slots = Unit {0}
 
--- An update of the key k: its change, the last that was seen, put in a pair of the key whose value, which is the answer, follows that of the pair that it took out. Or the key was absent at a moment between the two.
+-- An update of the key k: its change, the last that was seen, put in a pair of the key whose value,
+-- which is the answer, follows that of the pair that it took out. Or the key was absent at a moment
+-- between the two.
 abbrev pub IsFollowed : ℕ → Seen → Seen → Result (Option ℕ) Refused → Type 0
 IsFollowed k old new (Ok None) = WasHeld (λ a b. a == b) (λ key. k == key) old new None
-IsFollowed k old new (Ok (Some value)) = (p q : Stored ℕ ℕ) × IsChangeOf (λ key. k == key) old new (Some p) (Some q) × (key_of q ≡ k) × (q.value.value ≡ value) × (value ≡ follower p.value.value)
+IsFollowed k old new (Ok (Some value)) = (p q : Stored ℕ ℕ)
+    × IsChangeOf (λ key. k == key) old new (Some p) (Some q) × (key_of q ≡ k)
+    × (q.value.value ≡ value) × (value ≡ follower p.value.value)
 IsFollowed k old new (Err refused) = Unit {0}
 
--- The command was done by a pass that had seen the one history before and has seen the other then, and this is printed. What was counted is no part of a history.
+-- The command was done by a pass that had seen the one history before and has seen the other then,
+-- and this is printed. What was counted is no part of a history.
 abbrev pub Obeys : Command → Seen → Printed → Seen → Type 0
-Obeys (command.Insert k v) old text new = (answer : Result (Option (Bor ℕ)) Refused) × (text ≡ of_insertion (old_answered answer)) × IfOk answer (IsPut (λ a b. a == b) k v old new)
-Obeys (command.Get k) old text new = (found : Option (Bor ℕ)) × (text ≡ of_lookup (option_map (λ v. v.now) found)) × IsAnsweredBetween (λ a b. a == b) (λ key. k == key) old new found
-Obeys (command.Remove k) old text new = (answer : Result (Option (Bor ℕ)) Refused) × (text ≡ of_removal (old_answered answer)) × IsRemoved (λ a b. a == b) (λ key. k == key) old new answer
-Obeys (command.Update k) old text new = (answer : Result (Option ℕ) Refused) × (text ≡ of_update answer) × IsFollowed k old new answer
+Obeys (command.Insert k v) old text new = (answer : Result (Option (Bor ℕ)) Refused)
+    × (text ≡ of_insertion (old_answered answer)) × IfOk answer (IsPut (λ a b. a == b) k v old new)
+Obeys (command.Get k) old text new = (found : Option (Bor ℕ))
+    × (text ≡ of_lookup (option_map (λ v. v.now) found))
+    × IsAnsweredBetween (λ a b. a == b) (λ key. k == key) old new found
+Obeys (command.Remove k) old text new = (answer : Result (Option (Bor ℕ)) Refused)
+    × (text ≡ of_removal (old_answered answer)) × IsRemoved (λ a b. a == b) (λ key. k == key) old
+    new answer
+Obeys (command.Update k) old text new = (answer : Result (Option ℕ) Refused)
+    × (text ≡ of_update answer) × IsFollowed k old new answer
 Obeys command.Len old text new = (count : ℕ) × (text ≡ printed.Length count) × (new ≡ old)
 Obeys command.Slots old text new = ⊥
 

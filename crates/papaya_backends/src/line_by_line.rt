@@ -22,10 +22,12 @@ pub trait Obey {
     /// does nothing.
     fn obey_line(&mut self, number: u64, line: &[u8]) -> Result<Printed, Failure>
         ensures done { IfOk result (λ printed. does self.old line.now printed self.new) }
-        ensures bad { IfErr result (λ failure. is_bad line.now × (failure ≡ Failure.Line number) × (self.new ≡ self.old)) };
+        ensures bad { IfErr result (λ failure. is_bad line.now × (failure ≡ Failure.Line number)
+            × (self.new ≡ self.old)) };
 }
 
-/// Has the lines done, and prints their replies. A reply is written out before the reader may have to
+/// Has the lines done, and prints their replies. A reply is written out before the reader may have
+/// to
 /// wait, so that whoever types a line sees its reply.
 fn obey_lines<B: Obey, R: Read, W: Write>(
     alloc: Global,

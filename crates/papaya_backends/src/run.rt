@@ -24,7 +24,8 @@ fn run<H: Wait, R: Read, W: Write>(
     input: &mut R,
     output: &mut W,
 ) -> Result<(), Failure>
-    ensures { ((arguments : Arguments) → ¬ (WritesArguments (map string_bytes args.now) arguments)) → result ≡ Err Failure.Arguments }
+    ensures { ((arguments : Arguments) → ¬ (WritesArguments (map string_bytes args.now) arguments))
+        → result ≡ Err Failure.Arguments }
 {
     let Some(arguments) = Arguments::from_words(args) else {
         return Err(Failure::Arguments);
@@ -53,7 +54,8 @@ pub fn run_on<H: Wait, R: Read, W: Write, E: Write>(
     output: &mut W,
     errors: &mut E,
 ) -> u8
-    ensures bad_arguments { ((arguments : Arguments) → ¬ (WritesArguments (map string_bytes args.now) arguments)) → result ≡ 2 }
+    ensures bad_arguments { ((arguments : Arguments)
+        → ¬ (WritesArguments (map string_bytes args.now) arguments)) → result ≡ 2 }
     ensures bound { result ≤ 2 }
 {
     ended(run(rt, alloc, args, input, output), PROGRAM, errors)

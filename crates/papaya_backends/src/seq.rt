@@ -25,7 +25,8 @@ fn follower(value: &u64) -> u64
 
 /// Does what a command asks for, and answers what is printed of it.
 fn obey<S: BuildHasher + Drop>(map: &mut HashMap<u64, u64, S>, command: Command) -> Printed
-    ensures { Obeys (hash_of fed.u64 S.build_hasher S.Hasher.write S.Hasher.finish map.old.store.hasher) command map.old result map.new }
+    ensures { Obeys (hash_of fed.u64 S.build_hasher S.Hasher.write S.Hasher.finish
+        map.old.store.hasher) command map.old result map.new }
 {
     match command {
         Command::Insert(key, value) => match map.insert(key, value) {
@@ -53,7 +54,9 @@ fn obey<S: BuildHasher + Drop>(map: &mut HashMap<u64, u64, S>, command: Command)
 }
 
 impl<S: BuildHasher + Drop> Obey for HashMap<u64, u64, S> {
-    ghost does = { λ old line printed new. ObeysLine (hash_of fed.u64 S.build_hasher S.Hasher.write S.Hasher.finish old.store.hasher) line old printed new };
+    ghost does = { λ old line printed new. ObeysLine
+        (hash_of fed.u64 S.build_hasher S.Hasher.write S.Hasher.finish old.store.hasher) line old
+        printed new };
 
     ghost is_bad = { WritesNone };
 

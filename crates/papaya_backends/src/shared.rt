@@ -80,7 +80,8 @@ impl<'a, H: Wait, S: BuildHasher + Drop> Caller<'a, H, S> {
     fn insert(&mut self, key: u64, value: u64) -> Printed
         ensures map { self.new.pinned ≡ self.old.pinned }
         ensures seen { IsPrefix self.old.pass.history self.new.pass.history }
-        ensures obeys { Obeys (asked.Insert key value) self.old.pass.history result self.new.pass.history }
+        ensures obeys { Obeys (asked.Insert key value) self.old.pass.history result
+            self.new.pass.history }
     {
         match self.pinned.insert_as(self.rt, key, value, &mut self.pass) {
             Ok(Some(old)) => Printed::Old(*old),
@@ -105,7 +106,8 @@ impl<'a, H: Wait, S: BuildHasher + Drop> Caller<'a, H, S> {
     fn remove(&mut self, key: u64) -> Printed
         ensures map { self.new.pinned ≡ self.old.pinned }
         ensures seen { IsPrefix self.old.pass.history self.new.pass.history }
-        ensures obeys { Obeys (asked.Remove key) self.old.pass.history result self.new.pass.history }
+        ensures obeys { Obeys (asked.Remove key) self.old.pass.history result
+            self.new.pass.history }
     {
         match self.pinned.remove_as(self.rt, &key, &mut self.pass) {
             Ok(Some(value)) => Printed::Removed(*value),
@@ -118,7 +120,8 @@ impl<'a, H: Wait, S: BuildHasher + Drop> Caller<'a, H, S> {
     fn follow(&mut self, key: u64) -> Printed
         ensures map { self.new.pinned ≡ self.old.pinned }
         ensures seen { IsPrefix self.old.pass.history self.new.pass.history }
-        ensures obeys { Obeys (asked.Update key) self.old.pass.history result self.new.pass.history }
+        ensures obeys { Obeys (asked.Update key) self.old.pass.history result
+            self.new.pass.history }
     {
         match self.update(key) {
             Ok(Some(value)) => Printed::New(value),
@@ -132,7 +135,8 @@ impl<'a, H: Wait, S: BuildHasher + Drop> Caller<'a, H, S> {
     fn obey(&mut self, command: Command) -> Option<Printed>
         ensures map { self.new.pinned ≡ self.old.pinned }
         ensures seen { IsPrefix self.old.pass.history self.new.pass.history }
-        ensures obeys { MatchOption result (IsMissing command × (self.new ≡ self.old)) (λ printed. Obeys command self.old.pass.history printed self.new.pass.history) }
+        ensures obeys { MatchOption result (IsMissing command × (self.new ≡ self.old))
+            (λ printed. Obeys command self.old.pass.history printed self.new.pass.history) }
     {
         match command {
             Command::Insert(key, value) => Some(self.insert(key, value)),
@@ -146,7 +150,9 @@ impl<'a, H: Wait, S: BuildHasher + Drop> Caller<'a, H, S> {
 }
 
 impl<H: Wait, S: BuildHasher + Drop> Obey for Caller<'_, H, S> {
-    ghost does = { λ old line printed new. (new.pinned ≡ old.pinned) × IsPrefix old.pass.history new.pass.history × ObeysLine line old.pass.history printed new.pass.history };
+    ghost does = { λ old line printed new. (new.pinned ≡ old.pinned)
+        × IsPrefix old.pass.history new.pass.history
+        × ObeysLine line old.pass.history printed new.pass.history };
 
     ghost is_bad = { IsBad };
 

@@ -116,7 +116,8 @@ fn run<R: Clock + Threads + Wait + Sync, W: Write>(
     args: &[String],
     output: &mut W,
 ) -> Result<(), Failure>
-    ensures { ((task : Task) → map string_bytes args.now ≢ words_of task) → result ≡ Err Failure.Arguments }
+    ensures { ((task : Task) → map string_bytes args.now ≢ words_of task)
+        → result ≡ Err Failure.Arguments }
 {
     match Task::from_words(args) {
         None => Err(Failure::Arguments),
@@ -134,7 +135,8 @@ pub fn run_on<R: Clock + Threads + Wait + Sync, W: Write, E: Write>(
     output: &mut W,
     errors: &mut E,
 ) -> u8
-    ensures bad_arguments { ((task : Task) → map string_bytes args.now ≢ words_of task) → result ≡ 2 }
+    ensures bad_arguments { ((task : Task) → map string_bytes args.now ≢ words_of task)
+        → result ≡ 2 }
     ensures bound { result ≤ 2 }
 {
     ended(run(rt, alloc, args, output), PROGRAM, errors)

@@ -35,7 +35,8 @@ module _ {K V S H : Type 0} (book : Book K V S H) where
 
 -- the pen is left where another word was found
 abbrev pub IsLeft : (old new : Pen) → (found expected : ℕ) → Type 0
-IsLeft old new found expected = (new.book ≡ old.book) × ((found == expected) ≡ false → new.nib ≡ old.nib)
+IsLeft old new found expected = (new.book ≡ old.book)
+    × ((found == expected) ≡ false → new.nib ≡ old.nib)
 
 -- the number of the root once this table was tried to be opened, where this number was found
 abbrev pub root_then : Where Sheet → ℕ → ℕ
@@ -63,38 +64,57 @@ module _ {K V S H : Type 0} (keys : Keys K S) (book : Book K V S H) where
 
   -- an exchange with which nothing comes
   abbrev pub CanTry : Wish → (old new : ℕ) → List (Event K V S) → Type 0
-  CanTry wish old new = plays.CanExchange keys.eq keys.hash (begun_of book.parts) wish.at wish.kind old new None names.Nothing
+  CanTry wish old new = plays.CanExchange keys.eq keys.hash (begun_of book.parts) wish.at wish.kind
+      old new None names.Nothing
 
-  abbrev pub Tries : Wish → (old new : ℕ) → List (Event K V S) → ℕ → List (Event K V S) → Option (Named K V) → Type 0
-  Tries wish old new = calls.IsTried keys.eq keys.hash (begun_of book.parts) wish.at wish.kind old new None names.Nothing
+  abbrev pub Tries : Wish → (old new : ℕ) → List (Event K V S) → ℕ → List (Event K V S)
+      → Option (Named K V) → Type 0
+  Tries wish old new = calls.IsTried keys.eq keys.hash (begun_of book.parts) wish.at wish.kind old
+      new None names.Nothing
 
   -- an exchange with which the pair comes that the call has made
   abbrev pub CanPut : Put K V → (old new : ℕ) → List (Event K V S) → Type 0
-  CanPut put old new = plays.CanExchange keys.eq keys.hash (begun_of book.parts) put.at put.kind old new (Some put.made.now) (names.Pair put.made.now)
+  CanPut put old new = plays.CanExchange keys.eq keys.hash (begun_of book.parts) put.at put.kind old
+      new (Some put.made.now) (names.Pair put.made.now)
 
-  abbrev pub Puts : Put K V → (old new : ℕ) → List (Event K V S) → ℕ → List (Event K V S) → Option (Named K V) → Type 0
-  Puts put old new = calls.IsTried keys.eq keys.hash (begun_of book.parts) put.at put.kind old new (Some put.made.now) (names.Pair put.made.now)
+  abbrev pub Puts : Put K V → (old new : ℕ) → List (Event K V S) → ℕ → List (Event K V S)
+      → Option (Named K V) → Type 0
+  Puts put old new = calls.IsTried keys.eq keys.hash (begun_of book.parts) put.at put.kind old new
+      (Some put.made.now) (names.Pair put.made.now)
 
   -- an exchange with which the table comes
   abbrev pub CanBring : Laying K V S H → (old new : ℕ) → List (Event K V S) → Type 0
-  CanBring laying old new = makers.CanBring keys.eq keys.hash (begun_of book.parts) laying.at laying.kind old new None laying.table.now
+  CanBring laying old new = makers.CanBring keys.eq keys.hash (begun_of book.parts) laying.at
+      laying.kind old new None laying.table.now
 
-  abbrev pub Brings : Laying K V S H → (old new : ℕ) → List (Event K V S) → ℕ → List (Event K V S) → Option (Named K V) → Type 0
-  Brings laying old new = calls.IsTried keys.eq keys.hash (begun_of book.parts) laying.at laying.kind old new None (names.Table laying.table.now)
+  abbrev pub Brings : Laying K V S H → (old new : ℕ) → List (Event K V S) → ℕ → List (Event K V S)
+      → Option (Named K V) → Type 0
+  Brings laying old new = calls.IsTried keys.eq keys.hash (begun_of book.parts) laying.at
+      laying.kind old new None (names.Table laying.table.now)
 
   -- an exchange that makes the table the root, if there is none
-  abbrev pub Opens : Where Sheet → List (Event K V S) → ℕ → List (Event K V S) → Option (Named K V) → Type 0
-  Opens table = calls.IsTried keys.eq keys.hash (begun_of book.parts) Root (Some Open) 0 (table.index + 1) None (names.Table table)
+  abbrev pub Opens : Where Sheet → List (Event K V S) → ℕ → List (Event K V S) → Option (Named K V)
+      → Type 0
+  Opens table = calls.IsTried keys.eq keys.hash (begun_of book.parts) Root (Some Open) 0
+      (table.index + 1) None (names.Table table)
 
   -- the same exchanges of a slot, which tell the pair that it named
-  abbrev pub CanTrySlot : (t x : ℕ) → Option StepKind → (words : ℕ × ℕ) → List (Event K V S) → Type 0
-  CanTrySlot t x kind words = plays.CanExchange keys.eq keys.hash (begun_of book.parts) (Slot t x) kind words.0 words.1 None names.Nothing
+  abbrev pub CanTrySlot : (t x : ℕ) → Option StepKind → (words : ℕ × ℕ) → List (Event K V S)
+      → Type 0
+  CanTrySlot t x kind words = plays.CanExchange keys.eq keys.hash (begun_of book.parts) (Slot t x)
+      kind words.0 words.1 None names.Nothing
 
-  abbrev pub TriesSlot : (t x : ℕ) → Option StepKind → (words : ℕ × ℕ) → List (Event K V S) → ℕ → List (Event K V S) → Option (Stored K V) → Type 0
-  TriesSlot t x kind words = calls.IsSlotTried keys.eq keys.hash (begun_of book.parts) book.begun.book t x kind words.0 words.1 None names.Nothing
+  abbrev pub TriesSlot : (t x : ℕ) → Option StepKind → (words : ℕ × ℕ) → List (Event K V S) → ℕ
+      → List (Event K V S) → Option (Stored K V) → Type 0
+  TriesSlot t x kind words = calls.IsSlotTried keys.eq keys.hash (begun_of book.parts)
+      book.begun.book t x kind words.0 words.1 None names.Nothing
 
-  abbrev pub CanPutSlot : (t x : ℕ) → Option StepKind → Stored K V → (words : ℕ × ℕ) → List (Event K V S) → Type 0
-  CanPutSlot t x kind made words = plays.CanExchange keys.eq keys.hash (begun_of book.parts) (Slot t x) kind words.0 words.1 (Some made) (names.Pair made)
+  abbrev pub CanPutSlot : (t x : ℕ) → Option StepKind → Stored K V → (words : ℕ × ℕ)
+      → List (Event K V S) → Type 0
+  CanPutSlot t x kind made words = plays.CanExchange keys.eq keys.hash (begun_of book.parts)
+      (Slot t x) kind words.0 words.1 (Some made) (names.Pair made)
 
-  abbrev pub PutsSlot : (t x : ℕ) → Option StepKind → Stored K V → (words : ℕ × ℕ) → List (Event K V S) → ℕ → List (Event K V S) → Option (Stored K V) → Type 0
-  PutsSlot t x kind made words = calls.IsSlotTried keys.eq keys.hash (begun_of book.parts) book.begun.book t x kind words.0 words.1 (Some made) (names.Pair made)
+  abbrev pub PutsSlot : (t x : ℕ) → Option StepKind → Stored K V → (words : ℕ × ℕ)
+      → List (Event K V S) → ℕ → List (Event K V S) → Option (Stored K V) → Type 0
+  PutsSlot t x kind made words = calls.IsSlotTried keys.eq keys.hash (begun_of book.parts)
+      book.begun.book t x kind words.0 words.1 (Some made) (names.Pair made)

@@ -15,7 +15,8 @@ pub record Query (K S : Type 0) : Type 0 where
   pub matches : K → Bool
   pub hash : S → ℕ
 
-abbrev pub keys_of : {K S H : Type 0} → HashMembers K → builder.Ghosts S H → hasher.Ghosts H → Keys K S
+abbrev pub keys_of : {K S H : Type 0} → HashMembers K → builder.Ghosts S H → hasher.Ghosts H
+    → Keys K S
 keys_of k b h = record { eq = k.eq; hash = hash_of k.hash_input b.build_hasher h.write h.finish }
 
 -- equal keys have one hash

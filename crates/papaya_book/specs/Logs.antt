@@ -1,4 +1,5 @@
--- What a log says: its exchanges, with the setting that they make; the tables that came, with their words' keys; and the words that were added.
+-- What a log says: its exchanges, with the setting that they make; the tables that came, with their
+-- words' keys; and the words that were added.
 use Rattle.std.specs.Prelude.{◌≡◌, ◌⊎◌, ℕ, ◌+◌, ◌-◌, ◌==◌, Bool, true, false, cond, Option, None, Some, List, [], ◌∷◌, ◌++◌, length, map, slice_get}
 use Rattle.boxcar.specs.Table.{Where}
 use Rattle.logbook.specs.Pages.{Book}
@@ -89,7 +90,11 @@ module _ {K V : Type 0} where
   places_of (names.Table w) = w.value.limit + 1
 
   abbrev pub entry_of : Step K V → Entry (Stored K V)
-  entry_of e = record { by = exchange_of e; size = slots_of (comes e); places = places_of (comes e) }
+  entry_of e = record {
+    by = exchange_of e;
+    size = slots_of (comes e);
+    places = places_of (comes e);
+  }
 
   -- the table that comes, if it has this number
   abbrev pub table_if : Named K V → ℕ → Option (Where Sheet)
@@ -173,8 +178,10 @@ module _ {K V S : Type 0} where
   state_of log = run (exchanges_of log) start
 
   -- the setting that a log makes
-  abbrev pub setting_of : (K → K → Bool) → (K → ℕ) → ResizeMode → List (Event K V S) → Setting K (Stored K V)
-  setting_of eq hash mode log = setting_in (hashed (is_blocking mode) (λ p. p.value.key.value) eq hash) (entries_of log)
+  abbrev pub setting_of : (K → K → Bool) → (K → ℕ) → ResizeMode → List (Event K V S)
+      → Setting K (Stored K V)
+  setting_of eq hash mode log = setting_in (hashed (is_blocking mode) (λ p. p.value.key.value) eq
+      hash) (entries_of log)
 
   -- the name that the book was told first
   abbrev pub name_of : Event K V S → Option Book

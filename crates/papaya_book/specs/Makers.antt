@@ -1,4 +1,5 @@
--- What the steps of makers of tables tell: a word is added, comes home, and joins a table; the book is told its name.
+-- What the steps of makers of tables tell: a word is added, comes home, and joins a table; the book
+-- is told its name.
 use Rattle.std.specs.Prelude.{◌≡◌, ◌⊎◌, ℕ, ◌+◌, ◌<◌, ◌≤◌, ◌==◌, Bool, MatchBool, Option, None, Some, List, [], ◌∷◌, ◌++◌, length, slice_get}
 use mathlib.Core.List.{IsPrefix}
 use Rattle.logbook.specs.Pages.{View, Step as Book_step, nib, no_nib, may_make}
@@ -17,7 +18,8 @@ use Rattle.papaya_book.specs.Plays.{MayStep, Tried}
 use Rattle.papaya_book.specs.Rule.{IsLawfulLog, word_in}
 
 module _ {K V S : Type 0} where
-  -- A word was added, with the number of words as its key: for the table that will have this seal, and with it the pen to make it.
+  -- A word was added, with the number of words as its key: for the table that will have this seal,
+  -- and with it the pen to make it.
   pub record IsAdded (seal : ℕ) (seen log : List (Event K V S)) (key : ℕ) : Type 0 where
     pub before : List (Event K V S)
     pub since : IsPrefix seen before
@@ -25,19 +27,24 @@ module _ {K V S : Type 0} where
     pub key_is : key ≡ 2 + length (seals_of before)
 
   -- a seal: the word is for the table of this very word
-  abbrev pub Seals : Book_step (Event K V S) → View (Event K V S) (Named K V) → ℕ → View (Event K V S) (Named K V) → Type 0
+  abbrev pub Seals : Book_step (Event K V S) → View (Event K V S) (Named K V) → ℕ
+      → View (Event K V S) (Named K V) → Type 0
   Seals s v found w = (k : ℕ) × (w.1.0 ≡ nib may_make k 0) × IsAdded k v.0 w.0 k
 
   -- another word of a table, whose seal was asked for
-  abbrev pub Adds : Book_step (Event K V S) → View (Event K V S) (Named K V) → ℕ → View (Event K V S) (Named K V) → Type 0
-  Adds s v found w = (seal : ℕ) × (s.ask ≡ Born seal) × ((k : ℕ) × (w.1.0 ≡ nib may_make k 0) × IsAdded seal v.0 w.0 k)
+  abbrev pub Adds : Book_step (Event K V S) → View (Event K V S) (Named K V) → ℕ
+      → View (Event K V S) (Named K V) → Type 0
+  Adds s v found w = (seal : ℕ) × (s.ask ≡ Born seal)
+      × ((k : ℕ) × (w.1.0 ≡ nib may_make k 0) × IsAdded seal v.0 w.0 k)
 
   -- the pen's word came home
-  abbrev pub Homes : Book_step (Event K V S) → View (Event K V S) (Named K V) → ℕ → View (Event K V S) (Named K V) → Type 0
+  abbrev pub Homes : Book_step (Event K V S) → View (Event K V S) (Named K V) → ℕ
+      → View (Event K V S) (Named K V) → Type 0
   Homes s v found w = (w.1.0 ≡ no_nib) × Member (Home v.1.0.key) w.0
 
   -- the book has the name, if it had none
-  abbrev pub Calls : Book_step (Event K V S) → View (Event K V S) (Named K V) → ℕ → View (Event K V S) (Named K V) → Type 0
+  abbrev pub Calls : Book_step (Event K V S) → View (Event K V S) (Named K V) → ℕ
+      → View (Event K V S) (Named K V) → Type 0
   Calls s v found w = MatchBool (found == s.old) (name_in w.0 ≡ name_of s.ask) (Unit {0})
 
 -- the key of a word of a table
@@ -62,18 +69,30 @@ pub record IsMade {K V S : Type 0} (sheet : Sheet) (log : List (Event K V S)) : 
   pub past : (at : At) (k : ℕ) → key_of sheet at ≡ Some k → 2 ≤ k
   pub owned : (at : At) (k : ℕ) → key_of sheet at ≡ Some k → owner k log ≡ Some sheet.seal
   pub home : (at : At) (k : ℕ) → key_of sheet at ≡ Some k → (k ≡ sheet.seal) ⊎ Member (Home k) log
-  pub apart : (at at' : At) (k : ℕ) → table_of at ≡ table_of at' → key_of sheet at ≡ Some k → key_of sheet at' ≡ Some k → at ≡ at'
+  pub apart : (at at' : At) (k : ℕ) → table_of at ≡ table_of at' → key_of sheet at ≡ Some k
+      → key_of sheet at' ≡ Some k → at ≡ at'
 
 module _ {K V S : Type 0} where
   -- words that were made one after the other for one table, each with a greater key
   abbrev pub AreMade : List ℕ → (least seal : ℕ) → List (Event K V S) → Type 0
   AreMade [] least seal log = Unit {0}
-  AreMade (k ∷ ks) least seal log = (least < k) × (owner k log ≡ Some seal) × Member (Home k) log × AreMade ks k seal log
+  AreMade (k ∷ ks) least seal log = (least < k) × (owner k log ≡ Some seal) × Member (Home k) log
+      × AreMade ks k seal log
 
--- An exchange with which the table w comes, that may be made at any time when its old word stands there: its number is no other table's.
-abbrev pub CanBring : {K V S : Type 0} → (K → K → Bool) → (S → K → ℕ) → Begun K V S → At → Option StepKind → (old new : ℕ) → Option (Stored K V) → Where Sheet → List (Event K V S) → Type 0
-CanBring eq hash b at kind old new made w seen = (log : List (Event _ _ _)) → IsPrefix seen log → IsLawfulLog eq hash b log → word_in eq hash b log at ≡ old → MayStep eq hash b at kind new made (names.Table w) log × (table_in (steps_of log) (number_of w) ≡ None)
+-- An exchange with which the table w comes, that may be made at any time when its old word stands
+-- there: its number is no other table's.
+abbrev pub CanBring : {K V S : Type 0} → (K → K → Bool) → (S → K → ℕ) → Begun K V S → At
+    → Option StepKind → (old new : ℕ) → Option (Stored K V) → Where Sheet → List (Event K V S)
+    → Type 0
+CanBring eq hash b at kind old new made w seen = (log : List (Event _ _ _)) → IsPrefix seen log
+    → IsLawfulLog eq hash b log → word_in eq hash b log at ≡ old
+    → MayStep eq hash b at kind new made (names.Table w) log
+    × (table_in (steps_of log) (number_of w) ≡ None)
 
--- a table came with an exchange, which took the pen of its seal; or another word was found, and the pen is left
-abbrev pub Brings : {K V S : Type 0} → (K → K → Bool) → (S → K → ℕ) → Book_step (Event K V S) → View (Event K V S) (Named K V) → ℕ → View (Event K V S) (Named K V) → Type 0
-Brings eq hash s v found w = Tried eq hash (place_of s.ask) (kind_of s.ask) s.old s.new (made_of s.ask) (brought s.ask) v.0 found w.0 w.1.1 × MatchBool (found == s.old) (w.1.0 ≡ no_nib) (w.1.0 ≡ v.1.0)
+-- a table came with an exchange, which took the pen of its seal; or another word was found, and the
+-- pen is left
+abbrev pub Brings : {K V S : Type 0} → (K → K → Bool) → (S → K → ℕ) → Book_step (Event K V S)
+    → View (Event K V S) (Named K V) → ℕ → View (Event K V S) (Named K V) → Type 0
+Brings eq hash s v found w = Tried eq hash (place_of s.ask) (kind_of s.ask) s.old s.new
+    (made_of s.ask) (brought s.ask) v.0 found w.0 w.1.1
+    × MatchBool (found == s.old) (w.1.0 ≡ no_nib) (w.1.0 ≡ v.1.0)

@@ -3,4 +3,10 @@ use Rattle.papaya_book.specs.declared.rule.entry.Begun.{Begun}
 use Rattle.papaya_book.specs.declared.book.parts.Parts.{Parts}
 
 abbrev pub begun_of : {K V S H : Type 0} → Parts K V S H → Begun K V S
-begun_of p = record { hasher = p.hasher; mode = p.mode; keys = p.keys; pairs = p.pairs; tables = p.tables }
+begun_of p = record {
+  hasher = p.hasher;
+  mode = p.mode;
+  keys = p.keys;
+  pairs = p.pairs;
+  tables = p.tables;
+}

@@ -36,32 +36,45 @@ Numbered = coding_of (λ k. 0)
 
 module _ {K V S : Type 0} (eq : K → K → Bool) (hash : S → K → ℕ) where
   -- a load tells the word that stands at the place, and what it names
-  pub record Looked (at : At) (found : ℕ) (log : List (Event K V S)) (state : Option (Named K V)) : Type 0 where
+  pub record Looked (at : At) (found : ℕ) (log : List (Event K V S))
+      (state : Option (Named K V)) : Type 0 where
     pub begun : Begun K V S
     pub lawful : IsLawfulLog eq hash begun log
     pub is : word_in eq hash begun log at ≡ found
     pub state_is : state ≡ Some (word_names (steps_of log) (state_of log) at)
 
-  abbrev pub Looks : Book_step (Event K V S) → View (Event K V S) (Named K V) → ℕ → View (Event K V S) (Named K V) → Type 0
+  abbrev pub Looks : Book_step (Event K V S) → View (Event K V S) (Named K V) → ℕ
+      → View (Event K V S) (Named K V) → Type 0
   Looks s v found w = Looked (place_of s.ask) found w.0 w.1.1
 
-  -- the exchange is of the kind that was asked for, with the pair that the call made, and what comes with it was handed over
-  pub record IsMeant (at : At) (kind : Option StepKind) (new : ℕ) (made : Option (Stored K V)) (brings : Named K V) (before : List (Event K V S)) (e : Step K V) : Type 0 where
+  -- the exchange is of the kind that was asked for, with the pair that the call made, and what
+  -- comes with it was handed over
+  pub record IsMeant (at : At) (kind : Option StepKind) (new : ℕ) (made : Option (Stored K V))
+      (brings : Named K V) (before : List (Event K V S)) (e : Step K V) : Type 0 where
     pub asked : IsAsked Numbered kind at new (state_of before) (hands_of made) (exchange_of e)
     pub with_it : comes e ≡ brings
 
-  -- An exchange that may be made at any time when its old word stands there: there is one of the law, allowed, which writes just this word.
-  pub record MayStep (b : Begun K V S) (at : At) (kind : Option StepKind) (new : ℕ) (made : Option (Stored K V)) (brings : Named K V) (log : List (Event K V S)) : Type 0 where
+  -- An exchange that may be made at any time when its old word stands there: there is one of the
+  -- law, allowed, which writes just this word.
+  pub record MayStep (b : Begun K V S) (at : At) (kind : Option StepKind) (new : ℕ)
+      (made : Option (Stored K V)) (brings : Named K V) (log : List (Event K V S)) : Type 0 where
     pub step : Step K V
     pub meant : IsMeant at kind new made brings log step
-    pub allowed : Allows (setting_of eq (hash b.hasher) b.mode log) (state_of log) (exchange_of step)
-    pub written : IsWritten (setting_of eq (hash b.hasher) b.mode log) (coding_of (hash b.hasher)) (state_of log) at new (after (state_of log) (exchange_of step))
+    pub allowed : Allows (setting_of eq (hash b.hasher) b.mode log) (state_of log)
+        (exchange_of step)
+    pub written : IsWritten (setting_of eq (hash b.hasher) b.mode log) (coding_of (hash b.hasher))
+        (state_of log) at new (after (state_of log) (exchange_of step))
 
-  abbrev pub CanExchange : Begun K V S → At → Option StepKind → (old new : ℕ) → Option (Stored K V) → Named K V → List (Event K V S) → Type 0
-  CanExchange b at kind old new made brings seen = (log : List (Event K V S)) → IsPrefix seen log → IsLawfulLog eq hash b log → word_in eq hash b log at ≡ old → MayStep b at kind new made brings log
+  abbrev pub CanExchange : Begun K V S → At → Option StepKind → (old new : ℕ) → Option (Stored K V)
+      → Named K V → List (Event K V S) → Type 0
+  CanExchange b at kind old new made brings seen = (log : List (Event K V S)) → IsPrefix seen log
+      → IsLawfulLog eq hash b log → word_in eq hash b log at ≡ old
+      → MayStep b at kind new made brings log
 
   -- an exchange was made after a log that goes on from what was seen, or another word was found
-  pub record Tried (at : At) (kind : Option StepKind) (old new : ℕ) (made : Option (Stored K V)) (brings : Named K V) (seen : List (Event K V S)) (found : ℕ) (log : List (Event K V S)) (state : Option (Named K V)) : Type 0 where
+  pub record Tried (at : At) (kind : Option StepKind) (old new : ℕ) (made : Option (Stored K V))
+      (brings : Named K V) (seen : List (Event K V S)) (found : ℕ) (log : List (Event K V S))
+      (state : Option (Named K V)) : Type 0 where
     pub before : List (Event K V S)
     pub since : IsPrefix seen before
     pub begun : Begun K V S
@@ -69,7 +82,10 @@ module _ {K V S : Type 0} (eq : K → K → Bool) (hash : S → K → ℕ) where
     pub now : IsLawfulLog eq hash begun log
     pub is : word_in eq hash begun before at ≡ found
     pub state_is : state ≡ Some (word_names (steps_of before) (state_of before) at)
-    pub after : MatchBool (found == old) ((e : Step K V) × IsMeant at kind new made brings before e × (log ≡ before ++ Stepped e ∷ [])) (log ≡ before)
+    pub after : MatchBool (found == old) ((e : Step K V) × IsMeant at kind new made brings before e
+        × (log ≡ before ++ Stepped e ∷ [])) (log ≡ before)
 
-  abbrev pub Tries : Book_step (Event K V S) → View (Event K V S) (Named K V) → ℕ → View (Event K V S) (Named K V) → Type 0
-  Tries s v found w = Tried (place_of s.ask) (kind_of s.ask) s.old s.new (made_of s.ask) (brought s.ask) v.0 found w.0 w.1.1
+  abbrev pub Tries : Book_step (Event K V S) → View (Event K V S) (Named K V) → ℕ
+      → View (Event K V S) (Named K V) → Type 0
+  Tries s v found w = Tried (place_of s.ask) (kind_of s.ask) s.old s.new (made_of s.ask)
+      (brought s.ask) v.0 found w.0 w.1.1

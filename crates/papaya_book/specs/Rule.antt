@@ -37,14 +37,17 @@ flag None = 0
 flag (Some b) = 1
 
 module _ {K V S : Type 0} where
-  -- What has come is in the logs that the book was opened with. The words of a table are of the book that has this name.
+  -- What has come is in the logs that the book was opened with. The words of a table are of the
+  -- book that has this name.
   abbrev pub IsPlaced : Begun K V S → Option Book → Named K V → Type 0
   IsPlaced b name names.Nothing = Unit {0}
   IsPlaced b name (names.Pair p) = Shows b.pairs p × Shows b.keys p.value.key
-  IsPlaced b name (names.Table w) = Shows b.tables w × (w.index < 2 ^ 32) × (name ≡ Some w.value.book)
+  IsPlaced b name (names.Table w) = Shows b.tables w × (w.index < 2 ^ 32)
+      × (name ≡ Some w.value.book)
 
   module _ (eq : K → K → Bool) (hash : S → K → ℕ) where
-    -- What the rule says of the log alone, where the book was opened with b: its exchanges are allowed, and what it names is where it says.
+    -- What the rule says of the log alone, where the book was opened with b: its exchanges are
+    -- allowed, and what it names is where it says.
     pub record IsLawfulLog (b : Begun K V S) (log : List (Event K V S)) : Type 0 where
       pub rest : List (Event K V S)
       pub is : log ≡ Begin b ∷ rest
@@ -57,11 +60,13 @@ module _ {K V S : Type 0} where
       -- no table has a next one, as long as no call links one
       pub unlinked : (t : ℕ) → (state_of log).next t ≡ 0
       -- no two places share a word
-      pub apart : (at at' : At) (k : ℕ) → key_at (steps_of log) at ≡ Some k → key_at (steps_of log) at' ≡ Some k → at ≡ at'
+      pub apart : (at at' : At) (k : ℕ) → key_at (steps_of log) at ≡ Some k
+          → key_at (steps_of log) at' ≡ Some k → at ≡ at'
 
     -- the word that stands at a place after a log
     abbrev pub word_in : Begun K V S → List (Event K V S) → At → ℕ
-    word_in b log at = word_of (setting_of eq (hash b.hasher) b.mode log) (coding_of (hash b.hasher)) (state_of log) at
+    word_in b log at = word_of (setting_of eq (hash b.hasher) b.mode log)
+        (coding_of (hash b.hasher)) (state_of log) at
 
     -- The words in the book are the codes of what the exchanges leave.
     pub record IsKept (cells : List Cell) (log : List (Event K V S)) : Type 0 where
@@ -69,10 +74,14 @@ module _ {K V S : Type 0} where
       pub lawful : IsLawfulLog begun log
       pub many : length cells ≡ 2 + length (seals_of log)
       pub maker : cell cells 1 ≡ (flag (name_in log), true)
-      pub coded : (at : At) (k : ℕ) → key_at (steps_of log) at ≡ Some k → cell cells k ≡ (word_in begun log at, true)
-      pub counted : (at : At) (k : ℕ) → key_at (steps_of log) at ≡ Some k → (k < length cells) × ((at ≡ Root) ⊎ (2 ≤ k))
+      pub coded : (at : At) (k : ℕ) → key_at (steps_of log) at ≡ Some k
+          → cell cells k ≡ (word_in begun log at, true)
+      pub counted : (at : At) (k : ℕ) → key_at (steps_of log) at ≡ Some k
+          → (k < length cells) × ((at ≡ Root) ⊎ (2 ≤ k))
       -- a table's words were added for its seal
-      pub owned : (at : At) (k : ℕ) → key_at (steps_of log) at ≡ Some k → (at ≡ Root) ⊎ (owner k log ≡ seal_at (steps_of log) at)
+      pub owned : (at : At) (k : ℕ) → key_at (steps_of log) at ≡ Some k
+          → (at ≡ Root) ⊎ (owner k log ≡ seal_at (steps_of log) at)
       -- words that came home stay there, and hold 0 while they are in no table
       pub homes : (k : ℕ) → Member (Home k) log → (k < length cells) × ((cell cells k).1 ≡ true)
-      pub fresh : (k : ℕ) → 2 ≤ k → (cell cells k).1 ≡ true → ((at : At) → key_at (steps_of log) at ≡ Some k → ⊥) → (cell cells k).0 ≡ 0
+      pub fresh : (k : ℕ) → 2 ≤ k → (cell cells k).1 ≡ true
+          → ((at : At) → key_at (steps_of log) at ≡ Some k → ⊥) → (cell cells k).0 ≡ 0

@@ -16,18 +16,30 @@ use Rattle.std.specs.contracts.impls.GlobalAllocator.TheImpl as GlobalAllocator
 use Rattle.std.specs.contracts.vec.Vec as Vec
 
 abbrev pub token_row : RattleType → RattleType
-token_row R = Placed.the_row R Anything.the_row Global.the_row (AnythingKeeps.ghosts R) GlobalAllocator.ghosts
+token_row R = Placed.the_row R Anything.the_row Global.the_row (AnythingKeeps.ghosts R)
+    GlobalAllocator.ghosts
 
 abbrev pub fields_row : RattleType → RattleType
-fields_row R = Inside.the_row R Anything.the_row Global.the_row (AnythingKeeps.ghosts R) GlobalAllocator.ghosts
+fields_row R = Inside.the_row R Anything.the_row Global.the_row (AnythingKeeps.ghosts R)
+    GlobalAllocator.ghosts
 
 -- the bucket that a slot lies in
 abbrev pub bucket_row : RattleType → RattleType
-bucket_row R = Vec.the_row (OnceSlot.the_row R (Entry.the_row Anything.the_row) (EntrySlotRule.ghosts R Anything.the_row (AnythingKeeps.ghosts R) EntrySlotRule.no_dict)) Global.the_row GlobalAllocator.ghosts
+bucket_row R = Vec.the_row (OnceSlot.the_row R (Entry.the_row Anything.the_row)
+    (EntrySlotRule.ghosts R Anything.the_row (AnythingKeeps.ghosts R) EntrySlotRule.no_dict))
+    Global.the_row GlobalAllocator.ghosts
 
 -- the private fields of a token that shows this, and what holds of them
 abbrev pub Fields : (R : RattleType) → Where R.Denot → Type 0
-Fields R w = (a : (fields_row R).Denot) × ((record { index = a.index; value = a.item.value; bucket = a.bucket; row = a.row.of; item = a.item.of } ≡ w) × (IsAt a.index a.bucket a.slot × (a.item.of ≡ id_at a.row.value.items a.slot)))
+Fields R w = (a : (fields_row R).Denot) × ((record {
+  index = a.index;
+  value = a.item.value;
+  bucket = a.bucket;
+  row = a.row.of;
+  item = a.item.of;
+} ≡ w) × (IsAt a.index a.bucket a.slot
+    × (a.item.of ≡ id_at a.row.value.items a.slot)))
 
 abbrev pub stands : (R : RattleType) → Where R.Denot → Fml
-stands R w = fex (Fields R w) (λ x. fsep (written (bucket_row R) x.0.row.of x.0.row.value) (written R x.0.item.of x.0.item.value))
+stands R w = fex (Fields R w) (λ x. fsep (written (bucket_row R) x.0.row.of x.0.row.value)
+    (written R x.0.item.of x.0.item.value))

@@ -1,4 +1,5 @@
--- What the book keeps beside the log: of each entry, what shows what came with it. And how a client's update moves the log.
+-- What the book keeps beside the log: of each entry, what shows what came with it. And how a
+-- client's update moves the log.
 use Rattle.std.specs.Prelude.{◌≡◌, ◌⊎◌, List, [], ◌∷◌, ◌++◌}
 use base.Fml.{Fml, ftrue, fsep}
 use Rattle.boxcar.specs.Table.{Where}
@@ -22,7 +23,8 @@ module _ {K V : Type 0} (pair : Stored K V → Fml) (table : Where Sheet → Fml
 module _ {K V S : Type 0} where
   -- an entry was added with which that came which was asked for, or none
   abbrev pub Added : Event K V S → List (Event K V S) → List (Event K V S) → Type 0
-  Added ask xs ys = (ys ≡ xs) ⊎ ((e : Event K V S) × (brought e ≡ brought ask) × (ys ≡ xs ++ e ∷ []))
+  Added ask xs ys = (ys ≡ xs) ⊎ ((e : Event K V S) × (brought e ≡ brought ask)
+      × (ys ≡ xs ++ e ∷ []))
 
   -- what is answered came some time
   abbrev pub Answered : List (Event K V S) → Named K V → Type 0

@@ -20,7 +20,8 @@ module _ {K V S H : Type 0} {d : keyed.Ghosts S K H} where
     pub book : new.book ≡ old.book
     pub log : IsPrefix old.sight.log new.sight.log
 
-  -- Of slots, where so told, one exchange was made through it: the last that is seen then. Else none was.
+  -- Of slots, where so told, one exchange was made through it: the last that is seen then. Else
+  -- none was.
   abbrev pub Does : Bool → (old new : Window K V S H d) → Type 0
   Does exchanged old new = new.own.done ≡ old.own.done ++ last_if exchanged (steps_of new.sight.log)
 
@@ -48,19 +49,27 @@ module _ {K V S H : Type 0} {d : keyed.Ghosts S K H} where
     IsSlot number place word = books.IsSlot d.keys w.book.now number place word w'.sight.log
 
     abbrev pub IsSlotWord : ℕ → ℕ → ℕ → Option (Named K V) → Type 0
-    IsSlotWord number place word state = books.IsSlotWord d.keys w.book.now number place word w'.sight.log state
+    IsSlotWord number place word state = books.IsSlotWord d.keys w.book.now number place word
+        w'.sight.log state
 
     abbrev pub Opens : Where Sheet → ℕ → Type 0
-    Opens table found = (state : Option (Named K V)) × books.Opens d.keys w.book.now table w.sight.log found w'.sight.log state
+    Opens table found = (state : Option (Named K V))
+        × books.Opens d.keys w.book.now table w.sight.log found w'.sight.log state
 
-    abbrev pub TriesSlot : (t x : ℕ) → Option StepKind → (words : ℕ × ℕ) → ℕ → Option (Stored K V) → Type 0
-    TriesSlot t x kind words found = books.TriesSlot d.keys w.book.now t x kind words w.sight.log found w'.sight.log
+    abbrev pub TriesSlot : (t x : ℕ) → Option StepKind → (words : ℕ × ℕ) → ℕ → Option (Stored K V)
+        → Type 0
+    TriesSlot t x kind words found = books.TriesSlot d.keys w.book.now t x kind words w.sight.log
+        found w'.sight.log
 
-    abbrev pub PutsSlot : (t x : ℕ) → Option StepKind → Stored K V → (words : ℕ × ℕ) → ℕ → Option (Stored K V) → Type 0
-    PutsSlot t x kind made words found = books.PutsSlot d.keys w.book.now t x kind made words w.sight.log found w'.sight.log
+    abbrev pub PutsSlot : (t x : ℕ) → Option StepKind → Stored K V → (words : ℕ × ℕ) → ℕ
+        → Option (Stored K V) → Type 0
+    PutsSlot t x kind made words found = books.PutsSlot d.keys w.book.now t x kind made words
+        w.sight.log found w'.sight.log
 
   abbrev pub CanTrySlot : Window K V S H d → (t x : ℕ) → Option StepKind → (words : ℕ × ℕ) → Type 0
   CanTrySlot w t x kind words = books.CanTrySlot d.keys w.book.now t x kind words w.sight.log
 
-  abbrev pub CanPutSlot : Window K V S H d → (t x : ℕ) → Option StepKind → Stored K V → (words : ℕ × ℕ) → Type 0
-  CanPutSlot w t x kind made words = books.CanPutSlot d.keys w.book.now t x kind made words w.sight.log
+  abbrev pub CanPutSlot : Window K V S H d → (t x : ℕ) → Option StepKind → Stored K V
+      → (words : ℕ × ℕ) → Type 0
+  CanPutSlot w t x kind made words = books.CanPutSlot d.keys w.book.now t x kind made words
+      w.sight.log

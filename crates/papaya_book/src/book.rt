@@ -61,7 +61,8 @@ impl<K: Hash + Eq, V, S: BuildHasher> Book<K, V, S> {
         requires key { key_at (steps_of sight.old.log) sought.now.at ≡ Some word.now.key }
         ensures book { sight.new.book ≡ sight.old.book }
         ensures seen { IsPrefix sight.old.log sight.new.log }
-        ensures read { IsRead ⟦<S as Keyed<K>>⟧.keys self.now sought.now.at result.0 sight.new.log result.1.state }
+        ensures read { IsRead ⟦<S as Keyed<K>>⟧.keys self.now sought.now.at result.0 sight.new.log
+            result.1.state }
     {
         sight.learn(&self.begun);
         let mut trade = trade::bare::<K, V, S, Sought, Look>(sight, sought);
@@ -84,7 +85,8 @@ impl<K: Hash + Eq, V, S: BuildHasher> Book<K, V, S> {
         requires can { CanTry ⟦<S as Keyed<K>>⟧.keys self.now wish.now old new sight.old.log }
         ensures book { sight.new.book ≡ sight.old.book }
         ensures seen { IsPrefix sight.old.log sight.new.log }
-        ensures tried { Tries ⟦<S as Keyed<K>>⟧.keys self.now wish.now old new sight.old.log result.0 sight.new.log result.1.state }
+        ensures tried { Tries ⟦<S as Keyed<K>>⟧.keys self.now wish.now old new sight.old.log
+            result.0 sight.new.log result.1.state }
     {
         sight.learn(&self.begun);
         let mut trade = trade::bare::<K, V, S, Wish, Try>(sight, wish);
@@ -111,7 +113,8 @@ impl<K: Hash + Eq, V, S: BuildHasher> Book<K, V, S> {
         requires can { CanPut ⟦<S as Keyed<K>>⟧.keys self.now wish.now old new sight.old.log }
         ensures book { sight.new.book ≡ sight.old.book }
         ensures seen { IsPrefix sight.old.log sight.new.log }
-        ensures tried { Puts ⟦<S as Keyed<K>>⟧.keys self.now wish.now old new sight.old.log result.0 sight.new.log result.1.state }
+        ensures tried { Puts ⟦<S as Keyed<K>>⟧.keys self.now wish.now old new sight.old.log result.0
+            sight.new.log result.1.state }
     {
         sight.learn(&self.begun);
         let mut trade = trade::with_pair::<K, V, S, Put<K, V>, Try>(sight, wish, tell(wish.made));
@@ -122,7 +125,8 @@ impl<K: Hash + Eq, V, S: BuildHasher> Book<K, V, S> {
         (found, trade)
     }
 
-    /// One atomic load of a table's slot: the word, and what gains the token of the pair that it names.
+    /// One atomic load of a table's slot: the word, and what gains the token of the pair that it
+    /// names.
     #[inline(always)]
     pub fn slot_word(
         &self,
@@ -136,7 +140,8 @@ impl<K: Hash + Eq, V, S: BuildHasher> Book<K, V, S> {
         requires place { place < length table.now.slots }
         ensures book { sight.new.book ≡ sight.old.book }
         ensures seen { IsPrefix sight.old.log sight.new.log }
-        ensures slot { IsSlotWord ⟦<S as Keyed<K>>⟧.keys self.now number place result.0 sight.new.log result.1.state }
+        ensures slot { IsSlotWord ⟦<S as Keyed<K>>⟧.keys self.now number place result.0
+            sight.new.log result.1.state }
     {
         sight.learn(&self.begun);
         let sought = Sought {
@@ -158,7 +163,8 @@ impl<K: Hash + Eq, V, S: BuildHasher> Book<K, V, S> {
         requires place { place < length table.now.slots }
         ensures book { sight.new.book ≡ sight.old.book }
         ensures seen { IsPrefix sight.old.log sight.new.log }
-        ensures slot { IsSlot ⟦<S as Keyed<K>>⟧.keys self.now number place result.0 sight.new.log result.1 }
+        ensures slot { IsSlot ⟦<S as Keyed<K>>⟧.keys self.now number place result.0 sight.new.log
+            result.1 }
     {
         let (found, trade) = self.slot_word(table, number, place, sight);
         (found, pair_in(found, trade))
@@ -193,7 +199,8 @@ impl<K: Hash + Eq, V, S: BuildHasher> Book<K, V, S> {
         requires table { IsTable sight.old.log number table.now }
         ensures book { sight.new.book ≡ sight.old.book }
         ensures seen { IsPrefix sight.old.log sight.new.log }
-        ensures next { IsNext ⟦<S as Keyed<K>>⟧.keys self.now number result.0 sight.new.log result.1 }
+        ensures next { IsNext ⟦<S as Keyed<K>>⟧.keys self.now number result.0 sight.new.log
+            result.1 }
     {
         sight.learn(&self.begun);
         let sought = Sought {

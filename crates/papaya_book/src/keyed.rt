@@ -38,5 +38,8 @@ pub trait Asked<K: Hash + Eq, Q: Equivalent<K>>: BuildHasher {
 impl<K: Hash + Eq, Q: Equivalent<K>, S: BuildHasher> Asked<K, Q> for S {
     ghost use Rattle.papaya_book.specs.Hashes.{hash_of};
 
-    ghost query = { λ q. record { matches = Q.matches q; hash = λ s. hash_of Q.hash_input S.build_hasher S.Hasher.write S.Hasher.finish s q } };
+    ghost query = { λ q. record {
+      matches = Q.matches q;
+      hash = λ s. hash_of Q.hash_input S.build_hasher S.Hasher.write S.Hasher.finish s q;
+    } };
 }

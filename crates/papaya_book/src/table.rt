@@ -28,9 +28,19 @@ impl<K: Hash + Eq, V, S: BuildHasher> Model for Table<K, V, S> {
 
     ghost coded = { sheet_coded };
 
-    ghost view = { λ t. record { book = t.done.book; limit = t.limit; next = t.next.key; aborted = t.aborted.key; seal = t.done.key; slots = map (λ w. w.key) t.slots.items } };
+    ghost view = { λ t. record {
+      book = t.done.book;
+      limit = t.limit;
+      next = t.next.key;
+      aborted = t.aborted.key;
+      seal = t.done.key;
+      slots = map (λ w. w.key) t.slots.items;
+    } };
 
-    ghost invariant = { λ t. (t.next ≡ word_named t.done.book t.next.key) × (t.aborted ≡ word_named t.done.book t.aborted.key) × (t.done ≡ word_named t.done.book t.done.key) × AllOf t.done.book t.slots.items × IsSize (length t.slots.items) t.limit };
+    ghost invariant = { λ t. (t.next ≡ word_named t.done.book t.next.key)
+        × (t.aborted ≡ word_named t.done.book t.aborted.key)
+        × (t.done ≡ word_named t.done.book t.done.key) × AllOf t.done.book t.slots.items
+        × IsSize (length t.slots.items) t.limit };
 }
 
 impl<K: Hash + Eq, V, S: BuildHasher> Table<K, V, S> {
@@ -60,7 +70,8 @@ impl<K: Hash + Eq, V, S: BuildHasher> Table<K, V, S> {
     /// The word of a slot.
     pub fn slot(&self, place: usize) -> &Cell<K, V, S>
         requires { place < length self.now.slots }
-        ensures { (k : ℕ) × (slice_get self.now.slots place ≡ Some k) × (result.now ≡ word_named self.now.book k) }
+        ensures { (k : ℕ) × (slice_get self.now.slots place ≡ Some k)
+            × (result.now ≡ word_named self.now.book k) }
     {
         &self.slots[place]
     }

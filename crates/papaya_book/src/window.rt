@@ -84,7 +84,8 @@ impl<'a, K: Hash + Eq, V, S: BuildHasher> Window<'a, K, V, S> {
         self.book.next(table, number, &mut self.sight)
     }
 
-    /// One atomic load of a table's slot: the word, and what gains the token of the pair that it names.
+    /// One atomic load of a table's slot: the word, and what gains the token of the pair that it
+    /// names.
     #[inline(always)]
     pub fn slot_word(
         &mut self,
@@ -118,7 +119,8 @@ impl<'a, K: Hash + Eq, V, S: BuildHasher> Window<'a, K, V, S> {
         self.book.slot(table, number, place, &mut self.sight)
     }
 
-    /// One atomic exchange of a slot, with which nothing comes: the word found there, and the token of
+    /// One atomic exchange of a slot, with which nothing comes: the word found there, and the token
+    /// of
     /// the pair that it names.
     pub fn exchange_slot(
         &mut self,
@@ -142,7 +144,8 @@ impl<'a, K: Hash + Eq, V, S: BuildHasher> Window<'a, K, V, S> {
         (found, before)
     }
 
-    /// One atomic exchange of a slot, with which the pair comes that the call has made: the word found
+    /// One atomic exchange of a slot, with which the pair comes that the call has made: the word
+    /// found
     /// there, and the token of the pair that it names.
     pub fn put_slot(
         &mut self,
@@ -158,7 +161,8 @@ impl<'a, K: Hash + Eq, V, S: BuildHasher> Window<'a, K, V, S> {
         requires placed { IsIn self.old (PairNamed made.now) }
         requires can { CanPutSlot self.old number place kind made.now words }
         ensures sees { Sees self.old self.new }
-        ensures tried { PutsSlot self.old self.new number place kind made.now words result.0 result.1 }
+        ensures tried { PutsSlot self.old self.new number place kind made.now words result.0
+            result.1 }
         ensures does { Does (result.0 == words.0) self.old self.new }
     {
         let (found, before) = self

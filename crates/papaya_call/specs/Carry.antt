@@ -1,4 +1,5 @@
--- A copier puts the pair of a marked word into a table: what it asks, and where each answer leads it.
+-- A copier puts the pair of a marked word into a table: what it asks, and where each answer leads
+-- it.
 use Rattle.std.specs.Prelude.{ℕ, ◌==◌, nat_lt, Bool, true, false, if◌then◌else◌, Option, Some, None}
 use Rattle.papaya_words.specs.Word.{kind_of, byte_of, pair_of, top_byte, live_word}
 use Rattle.papaya_words.specs.declared.probe.Refused.{Refused}
@@ -41,7 +42,8 @@ carry_ask (Hashing table) marked = HashOf (pair_of marked)
 carry_ask (Sizing hash table) marked = SizeOf table
 carry_ask (Looking hash at) marked = Load (Slot at.table at.probe.i)
 carry_ask (Comparing hash at word) marked = SamePair (pair_of marked) (pair_of word)
-carry_ask (Placing hash at) marked = Exchange (Slot at.table at.probe.i) 0 (live_word (byte_of marked) (pair_of marked))
+carry_ask (Placing hash at) marked = Exchange (Slot at.table at.probe.i) 0
+    (live_word (byte_of marked) (pair_of marked))
 carry_ask (Passing hash table) marked = Load (Next table)
 carry_ask (Linking hash link) marked = link_ask link
 carry_ask (Aborting table) marked = Exchange (Aborted table) 0 1
@@ -65,11 +67,13 @@ fills hash table Blocking = Aborting table
 
 -- the pair's key is not at this place
 abbrev pub goes_on : (hash : ℕ) → Place → ResizeMode → Carried
-goes_on hash at mode = if nat_lt at.probe.len at.limit then On (Looking hash (next_place at)) else On (fills hash at.table mode)
+goes_on hash at mode = if nat_lt at.probe.len at.limit then On (Looking hash (next_place at))
+    else On (fills hash at.table mode)
 
 -- a word with the hash byte may be of the pair's key
 abbrev pub compare_byte : (hash : ℕ) → Place → ResizeMode → ℕ → Carried
-compare_byte hash at mode word = if byte_of word == top_byte hash then On (Comparing hash at word) else goes_on hash at mode
+compare_byte hash at mode word = if byte_of word == top_byte hash then On (Comparing hash at word)
+    else goes_on hash at mode
 
 -- what a word of this kind tells: one of the pair's key is met whatever its kind, Buried too
 abbrev pub look_at : Kind → (hash : ℕ) → Place → ResizeMode → ℕ → Carried
@@ -83,7 +87,8 @@ look hash at mode word = look_at (kind_of word) hash at mode word
 
 -- the next table has this number; where there is none it is made
 abbrev pub passed : (hash table next : ℕ) → Carry
-passed hash table next = if next == 0 then Linking hash (Link_sizing table true) else Sizing hash next
+passed hash table next = if next == 0 then Linking hash (Link_sizing table true)
+    else Sizing hash next
 
 -- the making of the next table leads here
 abbrev pub carried_on : (hash : ℕ) → Linked → Carried

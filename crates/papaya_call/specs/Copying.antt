@@ -62,7 +62,8 @@ last aim table = over aim
 -- all of this root is to be copied; with blocking, where another one was met before, that one is
 abbrev pub all_of : (met : ℕ) → ResizeMode → (root : ℕ) → Copied
 all_of met (Incremental chunk) root = On (Stepping (aims.All met) (Aiming root root))
-all_of met Blocking root = if met == 0 || met == root then On (Stepping (aims.All root) (Aiming root root)) else Root root
+all_of met Blocking root = if met == 0 || met == root
+    then On (Stepping (aims.All root) (Aiming root root)) else Root root
 
 -- the root is this table, or there is none
 abbrev pub at_root : Aim → ResizeMode → ℕ → Copied
@@ -110,8 +111,10 @@ at_found (Stepping aim step) mode word = leads aim mode (steps.at_found step mod
 at_found (Lone slot settle) mode word = lone slot (settles.at_found settle slot mode word)
 
 abbrev pub at_count : Copying → ResizeMode → (count initial : ℕ) → Copied
-at_count (Stepping aim step) mode count initial = leads aim mode (steps.at_count step mode count initial)
-at_count (Lone slot settle) mode count initial = lone slot (settles.at_count settle mode count initial)
+at_count (Stepping aim step) mode count initial =
+    leads aim mode (steps.at_count step mode count initial)
+at_count (Lone slot settle) mode count initial =
+    lone slot (settles.at_count settle mode count initial)
 
 abbrev pub at_made : Copying → ℕ → Copying
 at_made (Stepping aim step) number = Stepping aim (steps.at_made step number)

@@ -56,13 +56,16 @@ at_size link slots = link
 
 -- the table to be made, after one of `before` slots
 abbrev pub making : (after before : ℕ) (unfit : Bool) (asked : ℕ) → Link
-making after before unfit asked = Making after (max asked 8) (limit_after (max asked 8) before unfit)
+making after before unfit asked = Making after (max asked 8)
+    (limit_after (max asked 8) before unfit)
 
 abbrev pub counted : (after before : ℕ) (unfit : Bool) (asked : ℕ) → Linked
-counted after before unfit asked = if nat_le asked (2 ^ 32) then On (making after before unfit asked) else Was_refused Capacity
+counted after before unfit asked = if nat_le asked (2 ^ 32)
+    then On (making after before unfit asked) else Was_refused Capacity
 
 abbrev pub at_count : Link → (count initial : ℕ) → Linked
-at_count (Counting after unfit len) count initial = counted after len unfit (length_after len count initial unfit)
+at_count (Counting after unfit len) count initial =
+    counted after len unfit (length_after len count initial unfit)
 at_count link count initial = On link
 
 abbrev pub at_made : Link → ℕ → Link

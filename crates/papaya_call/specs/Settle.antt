@@ -92,7 +92,8 @@ at_size settle slots limit = settle
 
 abbrev pub at_word : Settle → Slot → ResizeMode → ℕ → Settled
 at_word Looking slot mode word = look slot word
-at_word (Carrying marked carry) slot mode word = settled_by marked mode (carries.at_word carry mode word)
+at_word (Carrying marked carry) slot mode word =
+    settled_by marked mode (carries.at_word carry mode word)
 at_word settle slot mode word = On settle
 
 abbrev pub at_yes : Settle → ResizeMode → Bool → Settled
@@ -110,11 +111,13 @@ abbrev pub at_found : Settle → Slot → ResizeMode → ℕ → Settled
 at_found Looking slot mode word = On Looking
 at_found Closing slot mode word = look slot word
 at_found (Marking old) slot mode word = look slot word
-at_found (Carrying marked carry) slot mode word = settled_by marked mode (carries.at_found carry mode word)
+at_found (Carrying marked carry) slot mode word =
+    settled_by marked mode (carries.at_found carry mode word)
 at_found (Finishing old) slot mode word = Was_settled
 
 abbrev pub at_count : Settle → ResizeMode → (count initial : ℕ) → Settled
-at_count (Carrying marked carry) mode count initial = settled_by marked mode (carries.at_count carry count initial)
+at_count (Carrying marked carry) mode count initial =
+    settled_by marked mode (carries.at_count carry count initial)
 at_count settle mode count initial = On settle
 
 abbrev pub at_made : Settle → ℕ → Settle
@@ -122,5 +125,6 @@ at_made (Carrying marked carry) number = Carrying marked (carries.at_made carry 
 at_made settle number = settle
 
 abbrev pub at_refused : Settle → ResizeMode → Refused → Settled
-at_refused (Carrying marked carry) mode refused = settled_by marked mode (carries.at_refused carry refused)
+at_refused (Carrying marked carry) mode refused =
+    settled_by marked mode (carries.at_refused carry refused)
 at_refused settle mode refused = On settle

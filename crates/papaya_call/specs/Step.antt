@@ -78,10 +78,12 @@ abbrev pub chunk_of : ResizeMode → ℕ
 chunk_of (Incremental chunk) = chunk
 chunk_of Blocking = BLOCKING_CHUNK
 
--- the table behind has this number: without blocking copies go there, else they do if it isn't given up, and it is made where there is none
+-- the table behind has this number: without blocking copies go there, else they do if it isn't
+-- given up, and it is made where there is none
 abbrev pub aimed : (from behind : ℕ) → ResizeMode → (next : ℕ) → Stepped
 aimed from behind (Incremental chunk) next = if next == 0 then Last from else On (Sizing from next)
-aimed from behind Blocking next = if next == 0 then On (Linking from (Link_sizing behind (not (behind == from)))) else On (Judging from next)
+aimed from behind Blocking next = if next == 0
+    then On (Linking from (Link_sizing behind (not (behind == from)))) else On (Judging from next)
 
 -- the table was given up, or not
 abbrev pub judged : (from to word : ℕ) → Step
@@ -92,18 +94,27 @@ abbrev pub end_of : (len done slots : ℕ) → ℕ
 end_of len done slots = if nat_lt slots (len - done) then done + slots else len
 
 abbrev pub chunk_at : (from to len done slots : ℕ) → Chunk
-chunk_at from to len done slots = record { from = from; to = to; len = len; begun = done; at = done; end = end_of len done slots }
+chunk_at from to len done slots = record {
+  from = from;
+  to = to;
+  len = len;
+  begun = done;
+  at = done;
+  end = end_of len done slots;
+}
 
 -- so many slots were copied
 abbrev pub counted : (from to len : ℕ) → ResizeMode → (done : ℕ) → Step
-counted from to len mode done = if nat_le len done then Promoting from to else Settling (chunk_at from to len done (chunk_of mode)) Looking
+counted from to len mode done = if nat_le len done then Promoting from to
+    else Settling (chunk_at from to len done (chunk_of mode)) Looking
 
 -- the next slot of the chunk, while there is one
 abbrev pub next_slot : Chunk → Chunk
 next_slot chunk = record chunk { at = chunk.at + 1 }
 
 abbrev pub next_in : Chunk → Stepped
-next_in chunk = if nat_lt chunk.at chunk.end then On (Settling chunk Looking) else On (Advancing chunk)
+next_in chunk = if nat_lt chunk.at chunk.end then On (Settling chunk Looking)
+    else On (Advancing chunk)
 
 -- the copy of a slot leads here
 abbrev pub settled_to : Chunk → Settled → Stepped
@@ -138,7 +149,8 @@ at_word AtRoot mode word = At_root word
 at_word (Aiming from behind) mode word = aimed from behind mode word
 at_word (Judging from to) mode word = On (judged from to word)
 at_word (Counting from to len) mode word = On (counted from to len mode word)
-at_word (Settling chunk settle) mode word = settled_to chunk (settles.at_word settle (slot_of chunk) mode word)
+at_word (Settling chunk settle) mode word = settled_to chunk
+    (settles.at_word settle (slot_of chunk) mode word)
 at_word step mode word = On step
 
 abbrev pub at_yes : Step → ResizeMode → Bool → Stepped
@@ -147,21 +159,24 @@ at_yes step mode same = On step
 
 abbrev pub at_exchanged : Step → ResizeMode → Stepped
 at_exchanged (Linking from link) mode = linked_to from (links.at_exchanged link)
-at_exchanged (Settling chunk settle) mode = settled_to chunk (settles.at_exchanged settle (slot_of chunk) mode)
+at_exchanged (Settling chunk settle) mode = settled_to chunk
+    (settles.at_exchanged settle (slot_of chunk) mode)
 at_exchanged (Advancing chunk) mode = advanced chunk chunk.end
 at_exchanged (Promoting from to) mode = Over
 at_exchanged step mode = On step
 
 abbrev pub at_found : Step → ResizeMode → ℕ → Stepped
 at_found (Linking from link) mode word = linked_to from (links.at_found link word)
-at_found (Settling chunk settle) mode word = settled_to chunk (settles.at_found settle (slot_of chunk) mode word)
+at_found (Settling chunk settle) mode word = settled_to chunk
+    (settles.at_found settle (slot_of chunk) mode word)
 at_found (Advancing chunk) mode word = advanced chunk word
 at_found (Promoting from to) mode word = Over
 at_found step mode word = On step
 
 abbrev pub at_count : Step → ResizeMode → (count initial : ℕ) → Stepped
 at_count (Linking from link) mode count initial = linked_to from (links.at_count link count initial)
-at_count (Settling chunk settle) mode count initial = settled_to chunk (settles.at_count settle mode count initial)
+at_count (Settling chunk settle) mode count initial =
+    settled_to chunk (settles.at_count settle mode count initial)
 at_count step mode count initial = On step
 
 abbrev pub at_made : Step → ℕ → Step
@@ -171,5 +186,6 @@ at_made step number = step
 
 abbrev pub at_refused : Step → ResizeMode → Refused → Stepped
 at_refused (Linking from link) mode refused = linked_to from (links.at_refused link refused)
-at_refused (Settling chunk settle) mode refused = settled_to chunk (settles.at_refused settle mode refused)
+at_refused (Settling chunk settle) mode refused =
+    settled_to chunk (settles.at_refused settle mode refused)
 at_refused step mode refused = On step

@@ -11,7 +11,8 @@ pub enum CopyAsk {
     Exchange(At, u64, u64),
     /// The size of a table, which never changes.
     SizeOf(u64),
-    /// The hash of the key of the pair of this number, which was loaded last and is carried from now on.
+    /// The hash of the key of the pair of this number, which was loaded last and is carried from
+    /// now on.
     HashOf(u64),
     /// Have the pair that is carried and the one loaded last, of these numbers, equal keys?
     SamePair(u64, u64),

@@ -27,7 +27,9 @@ abbrev pub has_changed : Machine → Bool
 has_changed m = is_some (change_in m.state)
 
 module _ {K V S H : Type 0} {d : keyed.Ghosts S K H} where
-  -- What a call does that was asked this and answers so: the one exchange of a slot, if that was asked for and made. Where only the count is left to do, it sees nothing further.
-  pub record Answers (ask : Ask) (answer : Option Answer) (old new : Window K V S H d) : Type 0 where
+  -- What a call does that was asked this and answers so: the one exchange of a slot, if that was
+  -- asked for and made. Where only the count is left to do, it sees nothing further.
+  pub record Answers (ask : Ask) (answer : Option Answer)
+      (old new : Window K V S H d) : Type 0 where
     pub does : Does (exchanged ask answer) old new
     pub still : IsCounting ask → new.sight.log ≡ old.sight.log

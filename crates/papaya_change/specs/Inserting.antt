@@ -27,37 +27,52 @@ IsUnpaired Nothing = Unit {0}
 IsUnpaired Key = Unit {0}
 IsUnpaired (Pair n) = ⊥
 
-module _ {K V S H : Type 0} (eq : K → K → Bool) (hash : S → K → ℕ) (b : Begun K V S) (name : Book) where
-  -- An insertion of this key and value. It holds the value until its pair is logged, and then the pair.
-  pub record IsInserting (key : K) (value : V) (begun log : List (Event K V S)) (x : Insertion K V S H) : Type 0 where
+module _ {K V S H : Type 0} (eq : K → K → Bool) (hash : S → K → ℕ) (b : Begun K V S)
+    (name : Book) where
+  -- An insertion of this key and value. It holds the value until its pair is logged, and then the
+  -- pair.
+  pub record IsInserting (key : K) (value : V) (begun log : List (Event K V S))
+      (x : Insertion K V S H) : Type 0 where
     pub writing : IsWriting eq hash b name key (made_list x.made) begun log x.writer
     pub task_is : x.writer.call.machine.task ≡ Insert true
     pub left_is : (v : V) → x.writer.value ≡ Some v → v ≡ value
     pub made_is : (q : Stored K V) → x.made ≡ Some q → (key_of q ≡ key) × (q.value.value ≡ value)
-    pub put_is : (q : Stored K V) → x.writer.call.put ≡ Some q → (key_of q ≡ key) × (q.value.value ≡ value)
+    pub put_is : (q : Stored K V) → x.writer.call.put ≡ Some q
+        → (key_of q ≡ key) × (q.value.value ≡ value)
     pub unmade : IsUnpaired x.writer.call.machine.made → x.made ≡ None
-    pub refuses : (cause : Cause) → ask_of x.writer.call.machine ≡ Done (Refused cause) → IsCause cause
+    pub refuses : (cause : Cause) → ask_of x.writer.call.machine ≡ Done (Refused cause)
+        → IsCause cause
 
   -- the insertion after its machine was answered
   abbrev pub answered : Insertion K V S H → Answer → Insertion K V S H
   answered x answer = record x { writer = answered_writer x.writer answer }
 
   -- it has replied, or this is an answer to what it asks
-  abbrev pub IsInsertingOn : K → V → List (Event K V S) → List (Event K V S) → Insertion K V S H → Option Answer → Type 0
-  IsInsertingOn key value begun log x None = IsInserting key value begun log x × ((reply : Reply) × (ask_of x.writer.call.machine ≡ Done reply))
-  IsInsertingOn key value begun log x (Some answer) = IsInserting key value begun log (answered x answer) × IsFit answer
+  abbrev pub IsInsertingOn : K → V → List (Event K V S) → List (Event K V S) → Insertion K V S H
+      → Option Answer → Type 0
+  IsInsertingOn key value begun log x None = IsInserting key value begun log x
+      × ((reply : Reply) × (ask_of x.writer.call.machine ≡ Done reply))
+  IsInsertingOn key value begun log x (Some answer) =
+      IsInserting key value begun log (answered x answer) × IsFit answer
 
   -- some insertion is under way, and each that is goes on so
   abbrev pub CanInsert : List (Event K V S) → Insertion K V S H → Type 0
-  CanInsert log x = (key : K) × (value : V) × (begun : List (Event K V S)) × IsInserting key value begun log x
+  CanInsert log x = (key : K) × (value : V) × (begun : List (Event K V S))
+      × IsInserting key value begun log x
 
-  abbrev pub Inserts : List (Event K V S) → Insertion K V S H → List (Event K V S) → Insertion K V S H → Option Answer → Type 0
-  Inserts log x log' x' answer = (key : K) (value : V) (begun : List (Event K V S)) → IsInserting key value begun log x → IsInsertingOn key value begun log' x' answer
+  abbrev pub Inserts : List (Event K V S) → Insertion K V S H → List (Event K V S)
+      → Insertion K V S H → Option Answer → Type 0
+  Inserts log x log' x' answer = (key : K) (value : V) (begun : List (Event K V S))
+      → IsInserting key value begun log x → IsInsertingOn key value begun log' x' answer
 
   -- what each insertion that is under way has put in
   abbrev pub HasPut : List (Event K V S) → Insertion K V S H → Option (Bor V) → Type 0
-  HasPut log x answer = (key : K) (value : V) (begun : List (Event K V S)) → IsInserting key value begun log x → IsPut eq key value (history_of begun) (history_of log) answer
+  HasPut log x answer = (key : K) (value : V) (begun : List (Event K V S))
+      → IsInserting key value begun log x → IsPut eq key value (history_of begun) (history_of log)
+      answer
 
   -- an insertion that began after all that was seen of this log
-  abbrev pub IsUnderWay : K → V → List (Event K V S) → List (Event K V S) → Insertion K V S H → Type 0
-  IsUnderWay key value old log x = (begun : List (Event K V S)) × IsPrefix old begun × IsInserting key value begun log x
+  abbrev pub IsUnderWay : K → V → List (Event K V S) → List (Event K V S) → Insertion K V S H
+      → Type 0
+  IsUnderWay key value old log x = (begun : List (Event K V S)) × IsPrefix old begun
+      × IsInserting key value begun log x

@@ -10,10 +10,14 @@ use Rattle.papaya_change.specs.Inserting as inserting
 
 module _ {K V S H : Type 0} {d : keyed.Ghosts S K H} where
   abbrev pub CanInsert : Window K V S H d → Insertion K V S H → Type 0
-  CanInsert w x = inserting.CanInsert d.keys.eq d.keys.hash (begun_of w.book.now.parts) w.book.now.begun.book w.sight.log x
+  CanInsert w x = inserting.CanInsert d.keys.eq d.keys.hash (begun_of w.book.now.parts)
+      w.book.now.begun.book w.sight.log x
 
-  abbrev pub Inserts : Window K V S H d → Insertion K V S H → Window K V S H d → Insertion K V S H → Option Answer → Type 0
-  Inserts w x w' x' answer = inserting.Inserts d.keys.eq d.keys.hash (begun_of w.book.now.parts) w.book.now.begun.book w.sight.log x w'.sight.log x' answer
+  abbrev pub Inserts : Window K V S H d → Insertion K V S H → Window K V S H d → Insertion K V S H
+      → Option Answer → Type 0
+  Inserts w x w' x' answer = inserting.Inserts d.keys.eq d.keys.hash (begun_of w.book.now.parts)
+      w.book.now.begun.book w.sight.log x w'.sight.log x' answer
 
   abbrev pub HasPut : Window K V S H d → Insertion K V S H → Option (Bor V) → Type 0
-  HasPut w x answer = inserting.HasPut d.keys.eq d.keys.hash (begun_of w.book.now.parts) w.book.now.begun.book w.sight.log x answer
+  HasPut w x answer = inserting.HasPut d.keys.eq d.keys.hash (begun_of w.book.now.parts)
+      w.book.now.begun.book w.sight.log x answer

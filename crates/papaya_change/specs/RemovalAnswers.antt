@@ -17,27 +17,35 @@ abbrev pub took : {A : Type 0} → Result (Option A) Refused → Bool
 took (Ok (Some value)) = true
 took _ = false
 
-module _ {K V : Type 0} (eq : K → K → Bool) (matches : K → Bool) (old new : List (Change K (Stored K V))) where
+module _ {K V : Type 0} (eq : K → K → Bool) (matches : K → Bool)
+    (old new : List (Change K (Stored K V))) where
   -- the call's change took out this pair
   abbrev pub IsTaken : Stored K V → Type 0
   IsTaken p = IsChangeOf matches old new (Some p) None
 
-  -- What a removal answers, by what its closure was shown and answered: the pair that it agreed to and that went, or that there was none, or the pair that stays. It is never refused: it makes nothing, and no table has a next one to which its search would go on.
-  abbrev pub IsJudged : List (Stored K V × Bool) → Result (Result (Option (Bor K × Bor V)) (Bor K × Bor V)) Refused → Type 0
+  -- What a removal answers, by what its closure was shown and answered: the pair that it agreed to
+  -- and that went, or that there was none, or the pair that stays. It is never refused: it makes
+  -- nothing, and no table has a next one to which its search would go on.
+  abbrev pub IsJudged : List (Stored K V × Bool)
+      → Result (Result (Option (Bor K × Bor V)) (Bor K × Bor V)) Refused → Type 0
   IsJudged said (Ok (Ok None)) = WasHeld eq matches old new None
-  IsJudged said (Ok (Ok (Some entry))) = (p : Stored K V) × IsTaken p × WasSaid p true said × AreOf entry p
+  IsJudged said (Ok (Ok (Some entry))) = (p : Stored K V) × IsTaken p × WasSaid p true said
+      × AreOf entry p
   IsJudged said (Ok (Err entry)) = (p : Stored K V) × Member (p, false) said × AreOf entry p
   IsJudged said (Err refused) = ⊥
 
-  -- A removal whose closure was `first`. Each pair that it was shown was the map's between the two histories.
-  pub record IsRemovalBy {F : Type 0} (judges : F → Stored K V → Bool → F → Type 0) (first : F) (answer : Result (Result (Option (Bor K × Bor V)) (Bor K × Bor V)) Refused) : Type 0 where
+  -- A removal whose closure was `first`. Each pair that it was shown was the map's between the two
+  -- histories.
+  pub record IsRemovalBy {F : Type 0} (judges : F → Stored K V → Bool → F → Type 0) (first : F)
+      (answer : Result (Result (Option (Bor K × Bor V)) (Bor K × Bor V)) Refused) : Type 0 where
     pub said : List (Stored K V × Bool)
     pub left : F
     pub has_said : HasSaid judges first said left
     pub held : AllShown (λ p. WasHeld eq matches old new (Some p)) said
     pub answered : IsJudged said answer
 
-  -- what a removal answers that asks no closure: the value of the pair that went, or that there was none
+  -- what a removal answers that asks no closure: the value of the pair that went, or that there was
+  -- none
   abbrev pub IsRemoved : Result (Option (Bor V)) Refused → Type 0
   IsRemoved (Ok None) = WasHeld eq matches old new None
   IsRemoved (Ok (Some value)) = (p : Stored K V) × IsTaken p × (value.now ≡ p.value.value)

@@ -1,4 +1,5 @@
--- What a removal on the shared map holds and rests on, by what is asked for and what it sees of the map.
+-- What a removal on the shared map holds and rests on, by what is asked for and what it sees of the
+-- map.
 use Rattle.std.specs.Prelude.{Bool, Option, Result}
 use denote.Bor.{Bor}
 use Rattle.papaya_words.specs.declared.probe.Refused.{Refused}
@@ -11,12 +12,21 @@ use Rattle.papaya_book.specs.Parts.{begun_of}
 use Rattle.papaya_change.specs.declared.removal.Removal.{Removal}
 use Rattle.papaya_change.specs.Removing as removing
 
-module _ {K V S H F : Type 0} {d : keyed.Ghosts S K H} (query : Query K S) (judges : F → Stored K V → Bool → F → Type 0) where
+module _ {K V S H F : Type 0} {d : keyed.Ghosts S K H} (query : Query K S)
+    (judges : F → Stored K V → Bool → F → Type 0) where
   abbrev pub CanRemove : Window K V S H d → Removal K V S H → F → Type 0
-  CanRemove w x f = removing.CanRemove d.keys.eq d.keys.hash (begun_of w.book.now.parts) w.book.now.begun.book query.matches (query.hash w.book.now.parts.hasher) judges w.sight.log x f
+  CanRemove w x f = removing.CanRemove d.keys.eq d.keys.hash (begun_of w.book.now.parts)
+      w.book.now.begun.book query.matches (query.hash w.book.now.parts.hasher) judges w.sight.log x
+      f
 
-  abbrev pub Removes : Window K V S H d → Removal K V S H → F → Window K V S H d → Removal K V S H → F → Option Answer → Type 0
-  Removes w x f w' x' f' answer = removing.Removes d.keys.eq d.keys.hash (begun_of w.book.now.parts) w.book.now.begun.book query.matches (query.hash w.book.now.parts.hasher) judges w.sight.log x f w'.sight.log x' f' answer
+  abbrev pub Removes : Window K V S H d → Removal K V S H → F → Window K V S H d → Removal K V S H
+      → F → Option Answer → Type 0
+  Removes w x f w' x' f' answer = removing.Removes d.keys.eq d.keys.hash (begun_of w.book.now.parts)
+      w.book.now.begun.book query.matches (query.hash w.book.now.parts.hasher) judges w.sight.log x
+      f w'.sight.log x' f' answer
 
-  abbrev pub Replies : Window K V S H d → Removal K V S H → F → Result (Result (Option (Bor K × Bor V)) (Bor K × Bor V)) Refused → Type 0
-  Replies w x f answer = removing.Replies d.keys.eq d.keys.hash (begun_of w.book.now.parts) w.book.now.begun.book query.matches (query.hash w.book.now.parts.hasher) judges w.sight.log x f answer
+  abbrev pub Replies : Window K V S H d → Removal K V S H → F
+      → Result (Result (Option (Bor K × Bor V)) (Bor K × Bor V)) Refused → Type 0
+  Replies w x f answer = removing.Replies d.keys.eq d.keys.hash (begun_of w.book.now.parts)
+      w.book.now.begun.book query.matches (query.hash w.book.now.parts.hasher) judges w.sight.log x
+      f answer

@@ -21,17 +21,22 @@ use Rattle.papaya_book.specs.Rule.{IsPlaced}
 use Rattle.papaya_change.specs.Showings.{AllShown, HasSaid, WasHeld}
 use Rattle.papaya_change.specs.RemovalAnswers.{IsRemovalBy}
 
-module _ {K V S H F : Type 0} (eq : K → K → Bool) (hash : S → K → ℕ) (b : Begun K V S) (name : Book) (matches : K → Bool) (fed : ℕ) (judges : F → Stored K V → Bool → F → Type 0) where
-  -- A removal whose closure was `first` and is f now. What its machine stands on, the closure answered of the pair that it was shown last.
-  pub record IsRemoving (first : F) (begun log : List (Event K V S)) (x : Removal K V S H) (f : F) : Type 0 where
-    pub calling : IsCalling eq hash b name matches fed None begun log x.call.machine x.call.table x.call.last [] x.call.taken x.call.put
+module _ {K V S H F : Type 0} (eq : K → K → Bool) (hash : S → K → ℕ) (b : Begun K V S) (name : Book)
+    (matches : K → Bool) (fed : ℕ) (judges : F → Stored K V → Bool → F → Type 0) where
+  -- A removal whose closure was `first` and is f now. What its machine stands on, the closure
+  -- answered of the pair that it was shown last.
+  pub record IsRemoving (first : F) (begun log : List (Event K V S)) (x : Removal K V S H)
+      (f : F) : Type 0 where
+    pub calling : IsCalling eq hash b name matches fed None begun log x.call.machine x.call.table
+        x.call.last [] x.call.taken x.call.put
     pub task_is : x.call.machine.task ≡ RemoveIf
     pub words : ShowsPairs x.call.machine.state
     pub shown_placed : IsPlaced b (Some name) (pair_named x.shown)
     pub said : List (Stored K V × Bool)
     pub has_said : HasSaid judges first said f
     pub held : AllShown (λ p. WasHeld eq matches (history_of begun) (history_of log) (Some p)) said
-    pub stood : (n : ℕ) (agrees : Bool) → StandsOn x.call.machine (Agrees n agrees) → (p : Stored K V) × (x.shown ≡ Some p) × (p.index ≡ n) × Member (p, agrees) said
+    pub stood : (n : ℕ) (agrees : Bool) → StandsOn x.call.machine (Agrees n agrees)
+        → (p : Stored K V) × (x.shown ≡ Some p) × (p.index ≡ n) × Member (p, agrees) said
     pub unrefused : (refused : Refused) → ask_of x.call.machine ≡ Done (reply.Refused refused) → ⊥
 
   -- the removal after its machine was answered
@@ -39,21 +44,29 @@ module _ {K V S H F : Type 0} (eq : K → K → Bool) (hash : S → K → ℕ) (
   answered x answer = record x { call = record x.call { machine = after x.call.machine answer } }
 
   -- it has replied, or this is an answer to what it asks
-  abbrev pub IsRemovingOn : F → List (Event K V S) → List (Event K V S) → Removal K V S H → F → Option Answer → Type 0
-  IsRemovingOn first begun log x f None = IsRemoving first begun log x f × ((reply : Reply) × (ask_of x.call.machine ≡ Done reply))
-  IsRemovingOn first begun log x f (Some answer) = IsRemoving first begun log (answered x answer) f × IsFit answer
+  abbrev pub IsRemovingOn : F → List (Event K V S) → List (Event K V S) → Removal K V S H → F
+      → Option Answer → Type 0
+  IsRemovingOn first begun log x f None = IsRemoving first begun log x f
+      × ((reply : Reply) × (ask_of x.call.machine ≡ Done reply))
+  IsRemovingOn first begun log x f (Some answer) = IsRemoving first begun log (answered x answer) f
+      × IsFit answer
 
   -- some removal is under way, and each that is goes on so
   abbrev pub CanRemove : List (Event K V S) → Removal K V S H → F → Type 0
   CanRemove log x f = (first : F) × (begun : List (Event K V S)) × IsRemoving first begun log x f
 
-  abbrev pub Removes : List (Event K V S) → Removal K V S H → F → List (Event K V S) → Removal K V S H → F → Option Answer → Type 0
-  Removes log x f log' x' f' answer = (first : F) (begun : List (Event K V S)) → IsRemoving first begun log x f → IsRemovingOn first begun log' x' f' answer
+  abbrev pub Removes : List (Event K V S) → Removal K V S H → F → List (Event K V S)
+      → Removal K V S H → F → Option Answer → Type 0
+  Removes log x f log' x' f' answer = (first : F) (begun : List (Event K V S))
+      → IsRemoving first begun log x f → IsRemovingOn first begun log' x' f' answer
 
   -- what each removal that is under way answers
-  abbrev pub Replies : List (Event K V S) → Removal K V S H → F → Result (Result (Option (Bor K × Bor V)) (Bor K × Bor V)) Refused → Type 0
-  Replies log x f answer = (first : F) (begun : List (Event K V S)) → IsRemoving first begun log x f → IsRemovalBy eq matches (history_of begun) (history_of log) judges first answer
+  abbrev pub Replies : List (Event K V S) → Removal K V S H → F
+      → Result (Result (Option (Bor K × Bor V)) (Bor K × Bor V)) Refused → Type 0
+  Replies log x f answer = (first : F) (begun : List (Event K V S)) → IsRemoving first begun log x f
+      → IsRemovalBy eq matches (history_of begun) (history_of log) judges first answer
 
   -- a removal that began after all that was seen of this log
   abbrev pub IsUnderWay : F → List (Event K V S) → List (Event K V S) → Removal K V S H → F → Type 0
-  IsUnderWay first old log x f = (begun : List (Event K V S)) × IsPrefix old begun × IsRemoving first begun log x f
+  IsUnderWay first old log x f = (begun : List (Event K V S)) × IsPrefix old begun
+      × IsRemoving first begun log x f

@@ -9,16 +9,23 @@ use Rattle.papaya_change.specs.Writing as writing
 
 module _ {K V S H : Type 0} {d : keyed.Ghosts S K H} where
   abbrev pub CanWrite : Window K V S H d → Writer K V S H → Type 0
-  CanWrite w c = writing.CanWrite d.keys.eq d.keys.hash (begun_of w.book.now.parts) w.book.now.begun.book w.sight.log c
+  CanWrite w c = writing.CanWrite d.keys.eq d.keys.hash (begun_of w.book.now.parts)
+      w.book.now.begun.book w.sight.log c
 
-  abbrev pub Writes : Window K V S H d → Writer K V S H → Window K V S H d → Writer K V S H → Answer → Type 0
-  Writes w c w' c' answer = writing.Writes d.keys.eq d.keys.hash (begun_of w.book.now.parts) w.book.now.begun.book w.sight.log c w'.sight.log c' answer
+  abbrev pub Writes : Window K V S H d → Writer K V S H → Window K V S H d → Writer K V S H → Answer
+      → Type 0
+  Writes w c w' c' answer = writing.Writes d.keys.eq d.keys.hash (begun_of w.book.now.parts)
+      w.book.now.begun.book w.sight.log c w'.sight.log c' answer
 
   abbrev pub Pairs : Window K V S H d → Writer K V S H → Writer K V S H → Stored K V → Type 0
-  Pairs w c c' q = writing.Pairs d.keys.eq d.keys.hash (begun_of w.book.now.parts) w.book.now.begun.book w.sight.log c c' q
+  Pairs w c c' q = writing.Pairs d.keys.eq d.keys.hash (begun_of w.book.now.parts)
+      w.book.now.begun.book w.sight.log c c' q
 
   abbrev pub CanPut : Window K V S H d → Writer K V S H → Stored K V → Type 0
-  CanPut w c q = writing.CanPut d.keys.eq d.keys.hash (begun_of w.book.now.parts) w.book.now.begun.book w.sight.log c q
+  CanPut w c q = writing.CanPut d.keys.eq d.keys.hash (begun_of w.book.now.parts)
+      w.book.now.begun.book w.sight.log c q
 
-  abbrev pub Puts : Window K V S H d → Writer K V S H → Stored K V → Window K V S H d → Writer K V S H → Answer → Type 0
-  Puts w c q w' c' answer = writing.Puts d.keys.eq d.keys.hash (begun_of w.book.now.parts) w.book.now.begun.book w.sight.log c q w'.sight.log c' answer
+  abbrev pub Puts : Window K V S H d → Writer K V S H → Stored K V → Window K V S H d
+      → Writer K V S H → Answer → Type 0
+  Puts w c q w' c' answer = writing.Puts d.keys.eq d.keys.hash (begun_of w.book.now.parts)
+      w.book.now.begun.book w.sight.log c q w'.sight.log c' answer

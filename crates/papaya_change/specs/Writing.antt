@@ -23,7 +23,8 @@ use Rattle.papaya_book.specs.Makers.{IsMade}
 use Rattle.papaya_book.specs.Rule.{IsPlaced}
 
 -- the table of this number was made, and its seal is at hand
-pub record IsOpening {K V S : Type 0} (b : Begun K V S) (name : Book) (log : List (Event K V S)) (n : ℕ) (opening : Option (Where Sheet × Pen)) : Type 0 where
+pub record IsOpening {K V S : Type 0} (b : Begun K V S) (name : Book) (log : List (Event K V S))
+    (n : ℕ) (opening : Option (Where Sheet × Pen)) : Type 0 where
   pub table : Where Sheet
   pub seal : Pen
   pub is : opening ≡ Some (table, seal)
@@ -49,34 +50,49 @@ IsCause cause = (cause ≡ Memory) ⊎ (cause ≡ Capacity)
 abbrev pub IsUnsaid : Answer → Type 0
 IsUnsaid answer = (cause : Cause) → answer ≡ Refused cause → IsCause cause
 
-module _ {K V S H : Type 0} (eq : K → K → Bool) (hash : S → K → ℕ) (b : Begun K V S) (name : Book) where
-  -- A call by this key that has made these pairs. It holds the key as it was handed in, or as it was logged.
-  pub record IsWriting (key : K) (made : List (Stored K V)) (begun log : List (Event K V S)) (w : Writer K V S H) : Type 0 where
-    pub calling : IsCalling eq hash b name (eq key) (hash b.hasher key) (Some key) begun log w.call.machine w.call.table w.call.last made w.call.taken w.call.put
+module _ {K V S H : Type 0} (eq : K → K → Bool) (hash : S → K → ℕ) (b : Begun K V S)
+    (name : Book) where
+  -- A call by this key that has made these pairs. It holds the key as it was handed in, or as it
+  -- was logged.
+  pub record IsWriting (key : K) (made : List (Stored K V)) (begun log : List (Event K V S))
+      (w : Writer K V S H) : Type 0 where
+    pub calling : IsCalling eq hash b name (eq key) (hash b.hasher key) (Some key) begun log
+        w.call.machine w.call.table w.call.last made w.call.taken w.call.put
     pub own_is : (k : K) → w.key ≡ Some k → k ≡ key
     pub logged_is : (p : Where K) → w.logged ≡ Some p → (p.value ≡ key) × Shows b.keys p
     pub some_key : w.key ≡ None → (p : Where K) × (w.logged ≡ Some p)
     pub put_placed : IsPlaced b (Some name) (pair_named w.call.put)
-    pub opens : (n : ℕ) → ask_of w.call.machine ≡ Exchange Root 0 n → IsOpening b name log n w.opening
+    pub opens : (n : ℕ) → ask_of w.call.machine ≡ Exchange Root 0 n
+        → IsOpening b name log n w.opening
 
   -- this is an answer to what it asks
-  abbrev pub IsWritingOn : K → List (Stored K V) → List (Event K V S) → List (Event K V S) → Writer K V S H → Answer → Type 0
-  IsWritingOn key made begun log w answer = IsWriting key made begun log (answered w answer) × IsFit answer
+  abbrev pub IsWritingOn : K → List (Stored K V) → List (Event K V S) → List (Event K V S)
+      → Writer K V S H → Answer → Type 0
+  IsWritingOn key made begun log w answer = IsWriting key made begun log (answered w answer)
+      × IsFit answer
 
   -- some such call is under way, and each that is goes on so
   abbrev pub CanWrite : List (Event K V S) → Writer K V S H → Type 0
-  CanWrite log w = (key : K) × (made : List (Stored K V)) × (begun : List (Event K V S)) × IsWriting key made begun log w
+  CanWrite log w = (key : K) × (made : List (Stored K V)) × (begun : List (Event K V S))
+      × IsWriting key made begun log w
 
-  abbrev pub Writes : List (Event K V S) → Writer K V S H → List (Event K V S) → Writer K V S H → Answer → Type 0
-  Writes log w log' w' answer = (key : K) (made : List (Stored K V)) (begun : List (Event K V S)) → IsWriting key made begun log w → IsWritingOn key made begun log' w' answer
+  abbrev pub Writes : List (Event K V S) → Writer K V S H → List (Event K V S) → Writer K V S H
+      → Answer → Type 0
+  Writes log w log' w' answer = (key : K) (made : List (Stored K V)) (begun : List (Event K V S))
+      → IsWriting key made begun log w → IsWritingOn key made begun log' w' answer
 
   -- each such call has made this further pair, by its key
   abbrev pub Pairs : List (Event K V S) → Writer K V S H → Writer K V S H → Stored K V → Type 0
-  Pairs log w w' q = (key : K) (made : List (Stored K V)) (begun : List (Event K V S)) → IsWriting key made begun log w → (key_of q ≡ key) × IsWritingOn key (q ∷ made) begun log w' (Made q.index)
+  Pairs log w w' q = (key : K) (made : List (Stored K V)) (begun : List (Event K V S))
+      → IsWriting key made begun log w → (key_of q ≡ key)
+      × IsWritingOn key (q ∷ made) begun log w' (Made q.index)
 
   -- some such call that has made this pair is under way, and each that has goes on so
   abbrev pub CanPut : List (Event K V S) → Writer K V S H → Stored K V → Type 0
-  CanPut log w q = (key : K) × (made : List (Stored K V)) × (begun : List (Event K V S)) × IsWriting key made begun log w × IsOneOf made q
+  CanPut log w q = (key : K) × (made : List (Stored K V)) × (begun : List (Event K V S))
+      × IsWriting key made begun log w × IsOneOf made q
 
-  abbrev pub Puts : List (Event K V S) → Writer K V S H → Stored K V → List (Event K V S) → Writer K V S H → Answer → Type 0
-  Puts log w q log' w' answer = (key : K) (made : List (Stored K V)) (begun : List (Event K V S)) → IsWriting key made begun log w → IsOneOf made q → IsWritingOn key made begun log' w' answer
+  abbrev pub Puts : List (Event K V S) → Writer K V S H → Stored K V → List (Event K V S)
+      → Writer K V S H → Answer → Type 0
+  Puts log w q log' w' answer = (key : K) (made : List (Stored K V)) (begun : List (Event K V S))
+      → IsWriting key made begun log w → IsOneOf made q → IsWritingOn key made begun log' w' answer

@@ -60,7 +60,8 @@ impl<'a, K: Hash + Eq + Drop, V: Drop, S: BuildHasher> Insertion<'a, K, V, S> {
     ) -> Answer
         requires standing { IsStanding self.old.writer.call.machine }
         requires can { CanInsert window.old self.old }
-        requires asks { ask_of self.old.writer.call.machine ≡ Exchange (Slot number place) words.0 words.1 }
+        requires asks { ask_of self.old.writer.call.machine ≡ Exchange (Slot number place) words.0
+            words.1 }
         ensures sees { Sees window.old window.new }
         ensures does { Does (was_made result) window.old window.new }
         ensures machine { self.new.writer.call.machine ≡ self.old.writer.call.machine }
@@ -83,7 +84,8 @@ impl<'a, K: Hash + Eq + Drop, V: Drop, S: BuildHasher> Insertion<'a, K, V, S> {
         requires standing { IsStanding self.old.writer.call.machine }
         requires can { CanInsert window.old self.old }
         ensures sees { Sees window.old window.new }
-        ensures answers { Answers (ask_of self.old.writer.call.machine) result window.old window.new }
+        ensures answers { Answers (ask_of self.old.writer.call.machine) result window.old
+            window.new }
         ensures machine { self.new.writer.call.machine ≡ self.old.writer.call.machine }
         ensures inserts { Inserts window.old self.old window.new self.new result }
     {
@@ -141,7 +143,8 @@ pub fn insert<'a, R: Wait, K: Hash + Eq + Drop, V: Drop, S: BuildHasher>(
 ) -> Result<Option<&'a V>, Refused>
     ensures sees { Sees window.old window.new }
     ensures lawful { IsLawful window.new }
-    ensures put { IfOk result (λ answer. IsPut K.eq key value (past window.old) (past window.new) answer) }
+    ensures put { IfOk result (λ answer. IsPut K.eq key value (past window.old) (past window.new)
+        answer) }
     ensures refused { IfErr result (λ refused. IsCause refused) }
     ensures made { Makes (is_ok result) (own window.old) (own window.new) (past window.new) }
 {

@@ -56,13 +56,15 @@ impl<'a, K: Hash + Eq, V, S: BuildHasher> Removal<'a, K, V, S> {
         agrees: &F,
         window: &mut Window<'a, K, V, S>,
     ) -> Answer
-        requires can { CanRemove (⟦<S as Asked<K, Q>>⟧.query key.now) (Judges F.FnMut) window.old self.old agrees.now }
+        requires can { CanRemove (⟦<S as Asked<K, Q>>⟧.query key.now) (Judges F.FnMut) window.old
+            self.old agrees.now }
         requires asks { ask_of self.old.call.machine ≡ Load at }
         requires standing { IsStanding self.old.call.machine }
         ensures sees { Sees window.old window.new }
         ensures own { window.new.own ≡ window.old.own }
         ensures machine { self.new.call.machine ≡ self.old.call.machine }
-        ensures removes { Removes (⟦<S as Asked<K, Q>>⟧.query key.now) (Judges F.FnMut) window.old self.old agrees.now window.new self.new agrees.now (Some result) }
+        ensures removes { Removes (⟦<S as Asked<K, Q>>⟧.query key.now) (Judges F.FnMut) window.old
+            self.old agrees.now window.new self.new agrees.now (Some result) }
     {
         let _ = key;
         let _ = agrees;
@@ -76,11 +78,13 @@ impl<'a, K: Hash + Eq, V, S: BuildHasher> Removal<'a, K, V, S> {
         agrees: &F,
         window: &Window<'a, K, V, S>,
     ) -> Answer
-        requires can { CanRemove (⟦<S as Asked<K, Q>>⟧.query key.now) (Judges F.FnMut) window.now self.old agrees.now }
+        requires can { CanRemove (⟦<S as Asked<K, Q>>⟧.query key.now) (Judges F.FnMut) window.now
+            self.old agrees.now }
         requires asks { (t : ℕ) × (ask_of self.old.call.machine ≡ SizeOf t) }
         requires standing { IsStanding self.old.call.machine }
         ensures machine { self.new.call.machine ≡ self.old.call.machine }
-        ensures removes { Removes (⟦<S as Asked<K, Q>>⟧.query key.now) (Judges F.FnMut) window.now self.old agrees.now window.now self.new agrees.now (Some result) }
+        ensures removes { Removes (⟦<S as Asked<K, Q>>⟧.query key.now) (Judges F.FnMut) window.now
+            self.old agrees.now window.now self.new agrees.now (Some result) }
     {
         let _ = key;
         let _ = agrees;
@@ -98,11 +102,13 @@ impl<'a, K: Hash + Eq, V, S: BuildHasher> Removal<'a, K, V, S> {
         agrees: &F,
         window: &Window<'a, K, V, S>,
     ) -> Answer
-        requires can { CanRemove (⟦<S as Asked<K, Q>>⟧.query key.now) (Judges F.FnMut) window.now self.old agrees.now }
+        requires can { CanRemove (⟦<S as Asked<K, Q>>⟧.query key.now) (Judges F.FnMut) window.now
+            self.old agrees.now }
         requires asks { (n : ℕ) × (ask_of self.old.call.machine ≡ SameKey n) }
         requires standing { IsStanding self.old.call.machine }
         ensures machine { self.new.call.machine ≡ self.old.call.machine }
-        ensures removes { Removes (⟦<S as Asked<K, Q>>⟧.query key.now) (Judges F.FnMut) window.now self.old agrees.now window.now self.new agrees.now (Some result) }
+        ensures removes { Removes (⟦<S as Asked<K, Q>>⟧.query key.now) (Judges F.FnMut) window.now
+            self.old agrees.now window.now self.new agrees.now (Some result) }
     {
         let _ = agrees;
         let Some(last) = &self.call.last else {
@@ -120,12 +126,14 @@ impl<'a, K: Hash + Eq, V, S: BuildHasher> Removal<'a, K, V, S> {
         window: &Window<'a, K, V, S>,
     ) -> Answer
         requires callable { F.IsAlwaysCallable agrees.old }
-        requires can { CanRemove (⟦<S as Asked<K, Q>>⟧.query key.now) (Judges F.FnMut) window.now self.old agrees.old }
+        requires can { CanRemove (⟦<S as Asked<K, Q>>⟧.query key.now) (Judges F.FnMut) window.now
+            self.old agrees.old }
         requires asks { (n : ℕ) × (ask_of self.old.call.machine ≡ ShowPair n) }
         requires standing { IsStanding self.old.call.machine }
         ensures machine { self.new.call.machine ≡ self.old.call.machine }
         ensures callable { F.IsAlwaysCallable agrees.new }
-        ensures removes { Removes (⟦<S as Asked<K, Q>>⟧.query key.now) (Judges F.FnMut) window.now self.old agrees.old window.now self.new agrees.new (Some result) }
+        ensures removes { Removes (⟦<S as Asked<K, Q>>⟧.query key.now) (Judges F.FnMut) window.now
+            self.old agrees.old window.now self.new agrees.new (Some result) }
     {
         let _ = key;
         let Some(last) = &self.call.last else {
@@ -147,13 +155,16 @@ impl<'a, K: Hash + Eq, V, S: BuildHasher> Removal<'a, K, V, S> {
         agrees: &F,
         window: &mut Window<'a, K, V, S>,
     ) -> Answer
-        requires can { CanRemove (⟦<S as Asked<K, Q>>⟧.query key.now) (Judges F.FnMut) window.old self.old agrees.now }
-        requires asks { ask_of self.old.call.machine ≡ Exchange (Slot number place) words.0 words.1 }
+        requires can { CanRemove (⟦<S as Asked<K, Q>>⟧.query key.now) (Judges F.FnMut) window.old
+            self.old agrees.now }
+        requires asks { ask_of self.old.call.machine ≡ Exchange (Slot number place) words.0
+            words.1 }
         requires standing { IsStanding self.old.call.machine }
         ensures sees { Sees window.old window.new }
         ensures does { Does (was_made result) window.old window.new }
         ensures machine { self.new.call.machine ≡ self.old.call.machine }
-        ensures removes { Removes (⟦<S as Asked<K, Q>>⟧.query key.now) (Judges F.FnMut) window.old self.old agrees.now window.new self.new agrees.now (Some result) }
+        ensures removes { Removes (⟦<S as Asked<K, Q>>⟧.query key.now) (Judges F.FnMut) window.old
+            self.old agrees.now window.new self.new agrees.now (Some result) }
     {
         let _ = key;
         let _ = agrees;
@@ -174,13 +185,15 @@ impl<'a, K: Hash + Eq, V, S: BuildHasher> Removal<'a, K, V, S> {
         window: &mut Window<'a, K, V, S>,
     ) -> Option<Answer>
         requires callable { F.IsAlwaysCallable agrees.old }
-        requires can { CanRemove (⟦<S as Asked<K, Q>>⟧.query key.now) (Judges F.FnMut) window.old self.old agrees.old }
+        requires can { CanRemove (⟦<S as Asked<K, Q>>⟧.query key.now) (Judges F.FnMut) window.old
+            self.old agrees.old }
         requires standing { IsStanding self.old.call.machine }
         ensures sees { Sees window.old window.new }
         ensures answers { Answers (ask_of self.old.call.machine) result window.old window.new }
         ensures machine { self.new.call.machine ≡ self.old.call.machine }
         ensures callable { F.IsAlwaysCallable agrees.new }
-        ensures removes { Removes (⟦<S as Asked<K, Q>>⟧.query key.now) (Judges F.FnMut) window.old self.old agrees.old window.new self.new agrees.new result }
+        ensures removes { Removes (⟦<S as Asked<K, Q>>⟧.query key.now) (Judges F.FnMut) window.old
+            self.old agrees.old window.new self.new agrees.new result }
     {
         match self.call.machine.ask() {
             Ask::Load(at) => Some(self.load(at, key, agrees, window)),
@@ -211,10 +224,12 @@ impl<'a, K: Hash + Eq, V, S: BuildHasher> Removal<'a, K, V, S> {
         agrees: &F,
         window: &Window<'a, K, V, S>,
     ) -> Result<Result<Option<(&'a K, &'a V)>, (&'a K, &'a V)>, Refused>
-        requires can { CanRemove (⟦<S as Asked<K, Q>>⟧.query key.now) (Judges F.FnMut) window.now self.now agrees.now }
+        requires can { CanRemove (⟦<S as Asked<K, Q>>⟧.query key.now) (Judges F.FnMut) window.now
+            self.now agrees.now }
         requires done { (reply : _) × (ask_of self.now.call.machine ≡ Done reply) }
         ensures changed { went result ≡ has_changed self.now.call.machine }
-        ensures replies { Replies (⟦<S as Asked<K, Q>>⟧.query key.now) (Judges F.FnMut) window.now self.now agrees.now result }
+        ensures replies { Replies (⟦<S as Asked<K, Q>>⟧.query key.now) (Judges F.FnMut) window.now
+            self.now agrees.now result }
     {
         let _ = key;
         let _ = agrees;
@@ -252,7 +267,8 @@ pub fn remove<
     ensures sees { Sees window.old window.new }
     ensures lawful { IsLawful window.new }
     ensures made { Makes (went result) (own window.old) (own window.new) (past window.new) }
-    ensures removed { IsRemovalBy K.eq (Q.matches key.now) (past window.old) (past window.new) (Judges F.FnMut) agrees result }
+    ensures removed { IsRemovalBy K.eq (Q.matches key.now) (past window.old) (past window.new)
+        (Judges F.FnMut) agrees result }
 {
     window.learn();
     let book = window.book;

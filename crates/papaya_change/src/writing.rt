@@ -120,7 +120,8 @@ impl<'a, K: Hash + Eq + Drop, V: Drop, S: BuildHasher> Writer<'a, K, V, S> {
         }
     }
 
-    /// Logs the pair of the logged key and the value, and hands it out. Where there is none, what the
+    /// Logs the pair of the logged key and the value, and hands it out. Where there is none, what
+    /// the
     /// machine is to be answered.
     pub fn log_pair<R: Wait>(
         &mut self,
@@ -135,11 +136,14 @@ impl<'a, K: Hash + Eq + Drop, V: Drop, S: BuildHasher> Writer<'a, K, V, S> {
         ensures left { (v : _) → self.new.value ≡ Some v → self.old.value ≡ Some v }
         ensures number { IfOk result (λ q. q.index < 2 ^ 48) }
         ensures placed { IfOk result (λ q. IsIn window.now (PairNamed q)) }
-        ensures value { IfOk result (λ q. (self.old.value ≡ Some q.value.value) × (self.new.value ≡ None)) }
+        ensures value { IfOk result (λ q. (self.old.value ≡ Some q.value.value)
+            × (self.new.value ≡ None)) }
         ensures pairs { IfOk result (λ q. Pairs window.now self.old self.new q) }
         ensures unlogged { IfErr result (λ answer. IsUnlogged answer) }
-        ensures kept { IfErr result (λ answer. answer ≡ Answer.Ok → self.new.value ≡ self.old.value) }
-        ensures writes { IfErr result (λ answer. Writes window.now self.old window.now self.new answer) }
+        ensures kept { IfErr result (λ answer. answer ≡ Answer.Ok
+            → self.new.value ≡ self.old.value) }
+        ensures writes { IfErr result (λ answer. Writes window.now self.old window.now self.new
+            answer) }
     {
         let Some(key) = &self.logged else {
             return Err(Answer::Ok);
@@ -194,7 +198,8 @@ impl<'a, K: Hash + Eq + Drop, V: Drop, S: BuildHasher> Writer<'a, K, V, S> {
     /// Tries to make the table that was made the root.
     pub fn open(&mut self, window: &mut Window<'a, K, V, S>) -> Answer
         requires can { CanWrite window.old self.old }
-        requires asks { (old : ℕ) × (new : ℕ) × (ask_of self.old.call.machine ≡ Exchange Root old new) }
+        requires asks { (old : ℕ) × (new : ℕ)
+            × (ask_of self.old.call.machine ≡ Exchange Root old new) }
         requires standing { IsStanding self.old.call.machine }
         ensures sees { Sees window.old window.new }
         ensures own { window.new.own ≡ window.old.own }
@@ -227,7 +232,8 @@ impl<'a, K: Hash + Eq + Drop, V: Drop, S: BuildHasher> Writer<'a, K, V, S> {
     ) -> Answer
         requires can { CanPut window.old self.old pair.now }
         requires number { pair_of words.1 ≡ pair.now.index }
-        requires asks { ask_of self.old.call.machine ≡ Exchange (Slot number place) words.0 words.1 }
+        requires asks { ask_of self.old.call.machine ≡ Exchange (Slot number place) words.0
+            words.1 }
         requires kind { IsPutting (kind_of_ask self.old.call.machine) }
         requires standing { IsStanding self.old.call.machine }
         ensures sees { Sees window.old window.new }
@@ -235,7 +241,8 @@ impl<'a, K: Hash + Eq + Drop, V: Drop, S: BuildHasher> Writer<'a, K, V, S> {
         ensures machine { self.new.call.machine ≡ self.old.call.machine }
         ensures value { self.new.value ≡ self.old.value }
         ensures unsaid { IsUnsaid result }
-        ensures put { (self.new.call.put ≡ self.old.call.put) ⊎ (self.new.call.put ≡ Some pair.now) }
+        ensures put { (self.new.call.put ≡ self.old.call.put)
+            ⊎ (self.new.call.put ≡ Some pair.now) }
         ensures writes { Puts window.old self.old pair.now window.new self.new result }
     {
         let Some(table) = self.call.table else {
@@ -256,7 +263,8 @@ impl<'a, K: Hash + Eq + Drop, V: Drop, S: BuildHasher> Writer<'a, K, V, S> {
         window: &mut Window<'a, K, V, S>,
     ) -> Answer
         requires can { CanWrite window.old self.old }
-        requires asks { ask_of self.old.call.machine ≡ Exchange (Slot number place) words.0 words.1 }
+        requires asks { ask_of self.old.call.machine ≡ Exchange (Slot number place) words.0
+            words.1 }
         requires kind { kind_of_ask self.old.call.machine ≡ Some Bury }
         requires standing { IsStanding self.old.call.machine }
         ensures sees { Sees window.old window.new }

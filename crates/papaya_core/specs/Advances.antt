@@ -27,7 +27,8 @@ use Rattle.papaya_core.specs.Core.{CoreState, call_of}
 use Rattle.papaya_core.specs.Store.{StoreState}
 use Rattle.papaya_core.specs.Tables.{table_of, word_at}
 
--- the event of an exchange of this kind that was made: a change of the map names the pair that went and the one that came
+-- the event of an exchange of this kind that was made: a change of the map names the pair that went
+-- and the one that came
 abbrev pub exchange_event : StepKind → (old new : ℕ) → Event
 exchange_event Claim old new = Changed Claim None (Some (pair_of new))
 exchange_event Replace old new = Changed Replace (Some (pair_of old)) (Some (pair_of new))
@@ -79,8 +80,10 @@ abbrev pub goes_on : {A : Type 0} → Option Reply → A → Option A
 goes_on None r = Some r
 goes_on (Some reply) r = None
 
--- Table t has no next one, the call inserts or computes, and its key is not in the map and has no place: each place of it in the table is filled.
-pub record HasNoPlace {K V S A : Type 0} (eq : K → K → Bool) (s : StoreState K V S) (r : Running K V A) (t : ℕ) : Type 0 where
+-- Table t has no next one, the call inserts or computes, and its key is not in the map and has no
+-- place: each place of it in the table is filled.
+pub record HasNoPlace {K V S A : Type 0} (eq : K → K → Bool) (s : StoreState K V S)
+    (r : Running K V A) (t : ℕ) : Type 0 where
   pub asks : ask_of r.machine ≡ Load (Next t)
   pub next : word_at s.words (Next t) ≡ 0
   pub inserts : MayInsert r.machine.task
@@ -89,23 +92,34 @@ pub record HasNoPlace {K V S A : Type 0} (eq : K → K → Bool) (s : StoreState
   pub absent : map_in eq s key ≡ None
   pub table : TableWords
   pub there : table_of s.words.tables t ≡ Some table
-  pub filled : (j : ℕ) → j ≤ table.limit → slice_index table.slots (place r.machine.hash (length table.slots) j) ≡ 0 → ⊥
+  pub filled : (j : ℕ) → j ≤ table.limit → slice_index table.slots
+      (place r.machine.hash (length table.slots) j) ≡ 0 → ⊥
 
--- why a call is refused: what it asked to be made was refused so, its key has no place and there is no next table, or its closure would remove where it was shown that nothing is
-abbrev pub IsCause : {K V S A : Type 0} → (K → K → Bool) → StoreState K V S → Running K V A → Answer → Refused → Type 0
-IsCause eq s r answer refused = (answer ≡ Was_refused refused) ⊎ ((refused ≡ Capacity) × ((t : ℕ) × HasNoPlace eq s r t)) ⊎ ((refused ≡ RemoveNothing) × (ask_of r.machine ≡ ShowNone) × (answer ≡ Op kinds.Remove))
+-- why a call is refused: what it asked to be made was refused so, its key has no place and there is
+-- no next table, or its closure would remove where it was shown that nothing is
+abbrev pub IsCause : {K V S A : Type 0} → (K → K → Bool) → StoreState K V S → Running K V A → Answer
+    → Refused → Type 0
+IsCause eq s r answer refused = (answer ≡ Was_refused refused)
+    ⊎ ((refused ≡ Capacity) × ((t : ℕ) × HasNoPlace eq s r t))
+    ⊎ ((refused ≡ RemoveNothing) × (ask_of r.machine ≡ ShowNone) × (answer ≡ Op kinds.Remove))
 
--- Just one ask of the caller's machine is answered, a load or an exchange by the word that stands there. A reply is the one in the machine's Done. No other caller's call changes.
-pub record Advances {K V S A : Type 0} (eq : K → K → Bool) (says : Says K V A) (refuse : Bool) (s : CoreState K V S A) (caller : ℕ) (s' : CoreState K V S A) (event : Event) (reply : Option Reply) : Type 0 where
+-- Just one ask of the caller's machine is answered, a load or an exchange by the word that stands
+-- there. A reply is the one in the machine's Done. No other caller's call changes.
+pub record Advances {K V S A : Type 0} (eq : K → K → Bool) (says : Says K V A) (refuse : Bool)
+    (s : CoreState K V S A) (caller : ℕ) (s' : CoreState K V S A) (event : Event)
+    (reply : Option Reply) : Type 0 where
   pub before : Running K V A
   pub was : call_of s caller ≡ Some before
   pub answer : Answer
   pub later : Running K V A
-  pub performs : Performs eq says refuse (ask_of before.machine) s.store before answer s'.store later
+  pub performs : Performs eq says refuse (ask_of before.machine) s.store before answer s'.store
+      later
   pub machine : later.machine ≡ before.machine
   pub event_is : event ≡ event_of (kind_of_ask before.machine) (ask_of before.machine) answer
   pub reply_is : reply ≡ reply_in (ask_of (after before.machine answer))
-  pub callers : s'.callers ≡ with_call s.callers caller (goes_on reply (record later { machine = after before.machine answer }))
+  pub callers : s'.callers ≡ with_call s.callers caller
+      (goes_on reply (record later { machine = after before.machine answer }))
   pub mode : s'.mode ≡ s.mode
   pub initial : s'.initial ≡ s.initial
-  pub cause : (refused : Refused) → reply ≡ Some (Reply_refused refused) → IsCause eq s.store before answer refused
+  pub cause : (refused : Refused) → reply ≡ Some (Reply_refused refused)
+      → IsCause eq s.store before answer refused

@@ -47,9 +47,11 @@ begun hash mode initial call =
     }
 
 -- a begin changes no word, no log and no other caller's call
-pub record Begins {K V S A : Type 0} (hash : K → ℕ) (s : CoreState K V S A) (caller : ℕ) (call : Call K V A) (s' : CoreState K V S A) : Type 0 where
+pub record Begins {K V S A : Type 0} (hash : K → ℕ) (s : CoreState K V S A) (caller : ℕ)
+    (call : Call K V A) (s' : CoreState K V S A) : Type 0 where
   pub store : s'.store ≡ s.store
-  pub callers : s'.callers ≡ with_call (with_seat s.callers caller) caller (Some (begun hash s.mode s.initial call))
+  pub callers : s'.callers ≡ with_call (with_seat s.callers caller) caller
+      (Some (begun hash s.mode s.initial call))
   pub mode : s'.mode ≡ s.mode
   pub initial : s'.initial ≡ s.initial
   -- the key's hash has 64 bits

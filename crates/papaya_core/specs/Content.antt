@@ -25,7 +25,8 @@ module _ {K V S : Type 0} (store : StoreState K V S) where
   -- the pairs of a table's slots, in their order
   abbrev pub pairs_of_slots : List ℕ → List (Stored K V)
   pairs_of_slots [] = []
-  pairs_of_slots (word ∷ words) = pairs_of_kind (kind_of word) (number_of word) ++ pairs_of_slots words
+  pairs_of_slots (word ∷ words) = pairs_of_kind (kind_of word) (number_of word) ++ pairs_of_slots
+      words
 
   abbrev pub pairs_of_table : Option TableWords → List (Stored K V)
   pairs_of_table None = []

@@ -13,7 +13,8 @@ use Rattle.papaya_core.specs.Callers.{running}
 use Rattle.papaya_core.specs.Tables.{table_of}
 use Rattle.papaya_core.specs.Store.{StoreState}
 
--- the words, the logs and the count; the callers with what they have under way; and how the core resizes
+-- the words, the logs and the count; the callers with what they have under way; and how the core
+-- resizes
 pub record CoreState (K V S A : Type 0) : Type 0 where
   pub store : StoreState K V S
   pub callers : List (Seat K V A)
@@ -28,9 +29,13 @@ call_of s caller = running s.callers caller
 abbrev pub IsGoing : Machine → Type 0
 IsGoing m = (reply : Reply) → ask_of m ≡ Ask_done reply → ⊥
 
--- each table has the size of a table, each machine stands within its table, and no call under way has replied
-pub record IsCore {K V S A : Type 0} (store : StoreState K V S) (callers : List (Seat K V A)) (mode : ResizeMode) : Type 0 where
+-- each table has the size of a table, each machine stands within its table, and no call under way
+-- has replied
+pub record IsCore {K V S A : Type 0} (store : StoreState K V S) (callers : List (Seat K V A))
+    (mode : ResizeMode) : Type 0 where
   pub chunked : IsChunked mode
-  pub sizes : (n : ℕ) (t : TableWords) → table_of store.words.tables n ≡ Some t → IsSize (length t.slots) t.limit
-  pub standing : (caller : ℕ) (r : Running K V A) → running callers caller ≡ Some r → IsStanding r.machine
+  pub sizes : (n : ℕ) (t : TableWords) → table_of store.words.tables n ≡ Some t
+      → IsSize (length t.slots) t.limit
+  pub standing : (caller : ℕ) (r : Running K V A) → running callers caller ≡ Some r
+      → IsStanding r.machine
   pub going : (caller : ℕ) (r : Running K V A) → running callers caller ≡ Some r → IsGoing r.machine

@@ -31,13 +31,16 @@ module _ {K V : Type 0} where
   IsMadeWith k n q = (v : V) × IsMadeOf k v n q
 
 module _ {K V A : Type 0} where
-  -- What a call on one key does where the class of its key has `here`: what it replies, and which pair the class has next.
+  -- What a call on one key does where the class of its key has `here`: what it replies, and which
+  -- pair the class has next.
   abbrev pub Does : Call K V A → Option (Stored K V) → Reply → Option (Stored K V) → Type 0
   Does (Get k) None Absent next = next ≡ None
   Does (Get k) (Some p) (Found n) next = (p.number ≡ n) × (next ≡ Some p)
   Does (Insert k v) None (Inserted n) next = (q : Stored K V) × IsMadeOf k v n q × (next ≡ Some q)
-  Does (Insert k v) (Some p) (Replaced m n) next = (p.number ≡ m) × ((q : Stored K V) × IsMadeOf k v n q × (next ≡ Some q))
-  Does (TryInsert k v) None (Inserted n) next = (q : Stored K V) × IsMadeOf k v n q × (next ≡ Some q)
+  Does (Insert k v) (Some p) (Replaced m n) next = (p.number ≡ m)
+      × ((q : Stored K V) × IsMadeOf k v n q × (next ≡ Some q))
+  Does (TryInsert k v) None (Inserted n) next = (q : Stored K V) × IsMadeOf k v n q
+      × (next ≡ Some q)
   Does (TryInsert k v) (Some p) (Occupied n) next = (p.number ≡ n) × (next ≡ Some p)
   Does (RemoveIf k a) None Absent next = next ≡ None
   Does (RemoveIf k a) (Some p) (Kept n) next = (p.number ≡ n) × (next ≡ Some p)
@@ -45,7 +48,8 @@ module _ {K V A : Type 0} where
   Does (Compute k a) None (Inserted n) next = (q : Stored K V) × IsMadeWith k n q × (next ≡ Some q)
   Does (Compute k a) None (Aborted t) next = next ≡ None
   Does (Compute k a) None (Refused RemoveNothing) next = next ≡ None
-  Does (Compute k a) (Some p) (Replaced m n) next = (p.number ≡ m) × ((q : Stored K V) × IsMadeWith k n q × (next ≡ Some q))
+  Does (Compute k a) (Some p) (Replaced m n) next = (p.number ≡ m)
+      × ((q : Stored K V) × IsMadeWith k n q × (next ≡ Some q))
   Does (Compute k a) (Some p) (Removed n) next = (p.number ≡ n) × (next ≡ None)
   Does (Compute k a) (Some p) (Aborted t) next = next ≡ Some p
   Does _ _ _ _ = ⊥
@@ -55,7 +59,8 @@ abbrev pub Same : {K V : Type 0} → Map K V → Map K V → Type 0
 Same {K = K} m m' = (j : K) → m' j ≡ m j
 
 -- the class of this key, which had `old`, has `new`, and every other class has what it had
-pub record IsUpdate {K V : Type 0} (eq : K → K → Bool) (k : K) (old new : Option (Stored K V)) (m m' : Map K V) : Type 0 where
+pub record IsUpdate {K V : Type 0} (eq : K → K → Bool) (k : K) (old new : Option (Stored K V))
+    (m m' : Map K V) : Type 0 where
   pub before : m k ≡ old
   pub class : (j : K) → eq j k ≡ true → m' j ≡ new
   pub others : (j : K) → eq j k ≡ false → m' j ≡ m j

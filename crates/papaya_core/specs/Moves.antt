@@ -15,8 +15,10 @@ use Rattle.papaya_core.specs.Performs.{own_key}
 use Rattle.papaya_core.specs.Store.{Stored}
 use Rattle.papaya_core.specs.Timeline.{IsFresh, number_in}
 
-module _ {K V S A : Type 0} (eq : K → K → Bool) (s : CoreState K V S A) (caller : ℕ) (s' : CoreState K V S A) where
-  -- The class of the key of the caller's own call has another pair, as such a call does, and no other class changes.
+module _ {K V S A : Type 0} (eq : K → K → Bool) (s : CoreState K V S A) (caller : ℕ)
+    (s' : CoreState K V S A) where
+  -- The class of the key of the caller's own call has another pair, as such a call does, and no
+  -- other class changes.
   pub record IsOwnChange (old new : Option ℕ) : Type 0 where
     pub running_call : Running K V A
     pub is_running : call_of s caller ≡ Some running_call
@@ -37,7 +39,8 @@ module _ {K V S A : Type 0} (eq : K → K → Bool) (s : CoreState K V S A) (cal
     pub does : Does call went reply came
     pub tells : change_of_reply reply ≡ Some (old, new)
 
-  -- a step whose event is a change of the map changes the class of its own call's key, and every other step leaves the map
+  -- a step whose event is a change of the map changes the class of its own call's key, and every
+  -- other step leaves the map
   abbrev pub MovesMap : Event → Type 0
   MovesMap (Changed kind old new) = IsOwnChange old new
   MovesMap _ = Same (map_of eq s) (map_of eq s')

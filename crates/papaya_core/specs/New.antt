@@ -11,15 +11,18 @@ use Rattle.papaya_core.specs.Store.{StoreState}
 
 -- the first table: it is the root, and as long as was asked for, or of the least length
 abbrev pub IsOpened : ℕ → Tables → Type 0
-IsOpened asked words = (limit : ℕ) × IsLimit (max asked LEAST_TABLE_LEN) limit × (words ≡ record { root = 1; tables = new_table 1 (max asked LEAST_TABLE_LEN) limit ∷ [] })
+IsOpened asked words = (limit : ℕ) × IsLimit (max asked LEAST_TABLE_LEN) limit
+    × (words ≡ record { root = 1; tables = new_table 1 (max asked LEAST_TABLE_LEN) limit ∷ [] })
 
 -- a capacity of 0 makes no table
 abbrev pub HasCapacity : (capacity initial : ℕ) → Tables → Type 0
 HasCapacity zero initial words = words ≡ record { root = 0; tables = [] }
 HasCapacity (suc n) initial words = IsOpened initial words
 
--- no pairs, a count of 0 in as many shards as were asked for, rounded up, and a table for the capacity
-pub record IsNewStore {K V S : Type 0} (capacity shards : ℕ) (hasher : S) (entries : ℕ) (s : StoreState K V S) : Type 0 where
+-- no pairs, a count of 0 in as many shards as were asked for, rounded up, and a table for the
+-- capacity
+pub record IsNewStore {K V S : Type 0} (capacity shards : ℕ) (hasher : S) (entries : ℕ)
+    (s : StoreState K V S) : Type 0 where
   pub initial : IsEntriesFor capacity entries
   pub words : HasCapacity capacity entries s.words
   pub keys : s.keys ≡ []
@@ -29,7 +32,8 @@ pub record IsNewStore {K V S : Type 0} (capacity shards : ℕ) (hasher : S) (ent
   pub hasher_is : s.hasher ≡ hasher
 
 -- and no callers
-pub record IsNew {K V S A : Type 0} (mode : ResizeMode) (capacity shards : ℕ) (hasher : S) (s : CoreState K V S A) : Type 0 where
+pub record IsNew {K V S A : Type 0} (mode : ResizeMode) (capacity shards : ℕ) (hasher : S)
+    (s : CoreState K V S A) : Type 0 where
   pub store_is : IsNewStore capacity shards hasher s.initial s.store
   pub mode_is : s.mode ≡ mode
   pub callers : s.callers ≡ []

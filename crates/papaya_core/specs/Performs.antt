@@ -43,9 +43,11 @@ size_of (Some t) = Size (length t.slots) t.limit
 
 -- nothing is made for want of memory, or where as many are made as there may be
 abbrev pub Refuses : (most count : ℕ) → Answer → Type 0
-Refuses most count answer = (answer ≡ Was_refused Memory) ⊎ ((answer ≡ Was_refused Capacity) × (most ≤ count))
+Refuses most count answer = (answer ≡ Was_refused Memory)
+    ⊎ ((answer ≡ Was_refused Capacity) × (most ≤ count))
 
--- nothing is left to make: the key is in the log, or there is no value or no key in the log for a pair; no machine asks for it then
+-- nothing is left to make: the key is in the log, or there is no value or no key in the log for a
+-- pair; no machine asks for it then
 abbrev pub HasKey : {K V A : Type 0} → Answer → Running K V A → Type 0
 HasKey answer r = (answer ≡ Ok_done) × (n : ℕ) × (r.key ≡ Logged n)
 
@@ -54,7 +56,8 @@ HasNoPair answer r = (answer ≡ Ok_done) × (((k : _) × (r.key ≡ Own k)) ⊎
 
 module _ {K V S : Type 0} where
   -- an exchange writes the new word where the old one stands, and else nothing
-  abbrev pub Exchanges : (found old : ℕ) → Tables → Answer → StoreState K V S → StoreState K V S → Type 0
+  abbrev pub Exchanges : (found old : ℕ) → Tables → Answer → StoreState K V S → StoreState K V S
+      → Type 0
   Exchanges found old after answer s s' =
       MatchBool (found == old)
       ((answer ≡ Exchanged) × (s' ≡ record s { words = after }))
@@ -65,7 +68,10 @@ module _ {K V S : Type 0} where
   MakesTable answer slots limit s s' =
       let n = length s.words.tables + 1 in
       (answer ≡ Made_number n) × (length s.words.tables < MAX_TABLES)
-      × (s' ≡ record s { words = record s.words { tables = s.words.tables ++ new_table n slots limit ∷ [] } })
+      × (s' ≡ record s {
+        words = record s.words
+            { tables = s.words.tables ++ new_table n slots limit ∷ [] };
+      })
 
 -- the value of an insertion that a closure answered
 abbrev pub value_answered : {V : Type 0} → Operation V ℕ → Option V → Option V
@@ -79,71 +85,102 @@ module _ {K V S A : Type 0} where
   Stays s r s' r' = (s' ≡ s) × (r' ≡ r)
 
   -- the key goes to the end of the key log
-  abbrev pub LogsKey : Answer → StoreState K V S → Running K V A → StoreState K V S → Running K V A → Type 0
+  abbrev pub LogsKey : Answer → StoreState K V S → Running K V A → StoreState K V S → Running K V A
+      → Type 0
   LogsKey answer s r s' r' =
-      (k : K) × (r.key ≡ Own k) × (answer ≡ Made_number (length s.keys)) × (length s.keys < MAX_LOG_LEN)
-      × (s' ≡ record s { keys = s.keys ++ k ∷ [] }) × (r' ≡ record r { key = Logged (length s.keys) })
+      (k : K) × (r.key ≡ Own k) × (answer ≡ Made_number (length s.keys))
+      × (length s.keys < MAX_LOG_LEN)
+      × (s' ≡ record s { keys = s.keys ++ k ∷ [] })
+      × (r' ≡ record r { key = Logged (length s.keys) })
 
   -- the pair goes to the end of the pair log
-  abbrev pub LogsPair : Answer → StoreState K V S → Running K V A → StoreState K V S → Running K V A → Type 0
+  abbrev pub LogsPair : Answer → StoreState K V S → Running K V A → StoreState K V S → Running K V A
+      → Type 0
   LogsPair answer s r s' r' =
-      (n : ℕ) × (v : V) × (r.key ≡ Logged n) × (r.value ≡ Some v) × (answer ≡ Made_number (length s.pairs)) × (length s.pairs < MAX_LOG_LEN)
-      × (s' ≡ record s { pairs = s.pairs ++ record { key = n; value = v } ∷ [] }) × (r' ≡ record r { value = None })
+      (n : ℕ) × (v : V) × (r.key ≡ Logged n) × (r.value ≡ Some v)
+      × (answer ≡ Made_number (length s.pairs)) × (length s.pairs < MAX_LOG_LEN)
+      × (s' ≡ record s { pairs = s.pairs ++ record { key = n; value = v } ∷ [] })
+      × (r' ≡ record r { value = None })
 
   -- nothing is answered where there is no closure, or no such pair; no machine asks then
-  abbrev pub ShowsNothing : Answer → StoreState K V S → Running K V A → StoreState K V S → Running K V A → Type 0
+  abbrev pub ShowsNothing : Answer → StoreState K V S → Running K V A → StoreState K V S
+      → Running K V A → Type 0
   ShowsNothing answer s r s' r' = (answer ≡ Ok_done) × Stays s r s' r'
 
   -- the closure of a removal is asked of the pair
-  abbrev pub Judges : Says K V A → ℕ → StoreState K V S → Running K V A → Answer → StoreState K V S → Running K V A → Type 0
+  abbrev pub Judges : Says K V A → ℕ → StoreState K V S → Running K V A → Answer → StoreState K V S
+      → Running K V A → Type 0
   Judges says n s r answer s' r' =
       (((r.answers ≡ None) ⊎ (pair_of s n ≡ None)) × ShowsNothing answer s r s' r')
-      ⊎ ((a : A) × (p : Stored K V) × (agrees : Bool) × (a' : A) × (r.answers ≡ Some a) × (pair_of s n ≡ Some p) × says.yes a p.key p.value agrees a'
+      ⊎ ((a : A) × (p : Stored K V) × (agrees : Bool) × (a' : A) × (r.answers ≡ Some a)
+      × (pair_of s n ≡ Some p) × says.yes a p.key p.value agrees a'
       × (answer ≡ Yes agrees) × (s' ≡ s) × (r' ≡ record r { answers = Some a' }))
 
-  -- the closure of a compute is shown the key and the value of a pair, or that there is none, and an insertion's value is kept
-  abbrev pub Decides : Says K V A → Option (K × V) → StoreState K V S → Running K V A → Answer → StoreState K V S → Running K V A → Type 0
+  -- the closure of a compute is shown the key and the value of a pair, or that there is none, and
+  -- an insertion's value is kept
+  abbrev pub Decides : Says K V A → Option (K × V) → StoreState K V S → Running K V A → Answer
+      → StoreState K V S → Running K V A → Type 0
   Decides says shown s r answer s' r' =
       (a : A) × (op : Operation V ℕ) × (a' : A) × (r.answers ≡ Some a) × says.op a shown op a'
-      × (answer ≡ Op (op_kind op)) × (s' ≡ s) × (r' ≡ record r { value = value_answered op r.value; answers = Some a' })
+      × (answer ≡ Op (op_kind op)) × (s' ≡ s)
+      × (r' ≡ record r { value = value_answered op r.value; answers = Some a' })
 
-  abbrev pub DecidesNone : Says K V A → StoreState K V S → Running K V A → Answer → StoreState K V S → Running K V A → Type 0
-  DecidesNone says s r answer s' r' = ((r.answers ≡ None) × ShowsNothing answer s r s' r') ⊎ Decides says None s r answer s' r'
+  abbrev pub DecidesNone : Says K V A → StoreState K V S → Running K V A → Answer → StoreState K V S
+      → Running K V A → Type 0
+  DecidesNone says s r answer s' r' = ((r.answers ≡ None) × ShowsNothing answer s r s' r')
+      ⊎ Decides says None s r answer s' r'
 
-  abbrev pub DecidesPair : Says K V A → ℕ → StoreState K V S → Running K V A → Answer → StoreState K V S → Running K V A → Type 0
+  abbrev pub DecidesPair : Says K V A → ℕ → StoreState K V S → Running K V A → Answer
+      → StoreState K V S → Running K V A → Type 0
   DecidesPair says n s r answer s' r' =
       (((r.answers ≡ None) ⊎ (pair_of s n ≡ None)) × ShowsNothing answer s r s' r')
-      ⊎ ((p : Stored K V) × (pair_of s n ≡ Some p) × Decides says (Some (p.key, p.value)) s r answer s' r')
+      ⊎ ((p : Stored K V) × (pair_of s n ≡ Some p)
+      × Decides says (Some (p.key, p.value)) s r answer s' r')
 
   -- which of them depends on the call
-  abbrev pub ShowsPair : Task → Says K V A → ℕ → StoreState K V S → Running K V A → Answer → StoreState K V S → Running K V A → Type 0
+  abbrev pub ShowsPair : Task → Says K V A → ℕ → StoreState K V S → Running K V A → Answer
+      → StoreState K V S → Running K V A → Type 0
   ShowsPair tasks.RemoveIf says n s r answer s' r' = Judges says n s r answer s' r'
   ShowsPair tasks.Compute says n s r answer s' r' = DecidesPair says n s r answer s' r'
   ShowsPair tasks.Get says n s r answer s' r' = ShowsNothing answer s r s' r'
   ShowsPair (tasks.Insert replace) says n s r answer s' r' = ShowsNothing answer s r s' r'
 
   -- a growth is refused where the step has no memory
-  abbrev pub MakesOr : Bool → Answer → StoreState K V S → Running K V A → StoreState K V S → Running K V A → Type 0 → Type 0
-  MakesOr refuse answer s r s' r' Makes = MatchBool refuse ((answer ≡ Was_refused Memory) × Stays s r s' r') Makes
+  abbrev pub MakesOr : Bool → Answer → StoreState K V S → Running K V A → StoreState K V S
+      → Running K V A → Type 0 → Type 0
+  MakesOr refuse answer s r s' r' Makes = MatchBool refuse
+      ((answer ≡ Was_refused Memory) × Stays s r s' r') Makes
 
-  -- just one ask is answered: a load and an exchange by the word that stands there, a size by the table, a showing by the closure's answers
-  abbrev pub Performs : (K → K → Bool) → Says K V A → Bool → Ask → StoreState K V S → Running K V A → Answer → StoreState K V S → Running K V A → Type 0
-  Performs eq says refuse (Load at) s r answer s' r' = (answer ≡ Word_read (word_at s.words at)) × Stays s r s' r'
-  Performs eq says refuse (Exchange at old new) s r answer s' r' = Exchanges (word_at s.words at) old (put s.words at new) answer s s' × (r' ≡ r)
-  Performs eq says refuse (SameKey n) s r answer s' r' = (answer ≡ Yes (same eq (own_key s r) (pair_of s n))) × Stays s r s' r'
+  -- just one ask is answered: a load and an exchange by the word that stands there, a size by the
+  -- table, a showing by the closure's answers
+  abbrev pub Performs : (K → K → Bool) → Says K V A → Bool → Ask → StoreState K V S → Running K V A
+      → Answer → StoreState K V S → Running K V A → Type 0
+  Performs eq says refuse (Load at) s r answer s' r' = (answer ≡ Word_read (word_at s.words at))
+      × Stays s r s' r'
+  Performs eq says refuse (Exchange at old new) s r answer s' r' =
+      Exchanges (word_at s.words at) old (put s.words at new) answer s s' × (r' ≡ r)
+  Performs eq says refuse (SameKey n) s r answer s' r' =
+      (answer ≡ Yes (same eq (own_key s r) (pair_of s n))) × Stays s r s' r'
   Performs eq says refuse ShowNone s r answer s' r' = DecidesNone says s r answer s' r'
-  Performs eq says refuse (ShowPair n) s r answer s' r' = ShowsPair r.machine.task says n s r answer s' r'
-  Performs eq says refuse (SizeOf n) s r answer s' r' = (answer ≡ size_of (table_of s.words.tables n)) × Stays s r s' r'
+  Performs eq says refuse (ShowPair n) s r answer s' r' =
+      ShowsPair r.machine.task says n s r answer s' r'
+  Performs eq says refuse (SizeOf n) s r answer s' r' =
+      (answer ≡ size_of (table_of s.words.tables n)) × Stays s r s' r'
   Performs eq says refuse MakeKey s r answer s' r' =
       MakesOr refuse answer s r s' r'
-      ((Refuses MAX_LOG_LEN (length s.keys) answer × Stays s r s' r') ⊎ (HasKey answer r × Stays s r s' r') ⊎ LogsKey answer s r s' r')
+      ((Refuses MAX_LOG_LEN (length s.keys) answer × Stays s r s' r')
+      ⊎ (HasKey answer r × Stays s r s' r') ⊎ LogsKey answer s r s' r')
   Performs eq says refuse MakePair s r answer s' r' =
       MakesOr refuse answer s r s' r'
-      ((Refuses MAX_LOG_LEN (length s.pairs) answer × Stays s r s' r') ⊎ (HasNoPair answer r × Stays s r s' r') ⊎ LogsPair answer s r s' r')
+      ((Refuses MAX_LOG_LEN (length s.pairs) answer × Stays s r s' r')
+      ⊎ (HasNoPair answer r × Stays s r s' r') ⊎ LogsPair answer s r s' r')
   Performs eq says refuse (MakeTable slots limit) s r answer s' r' =
       MakesOr refuse answer s r s' r'
-      (((Refuses MAX_TABLES (length s.words.tables) answer × (s' ≡ s)) ⊎ MakesTable answer slots limit s s') × (r' ≡ r))
-  Performs eq says refuse (AddToShard by) s r answer s' r' = (answer ≡ Ok_done) × (s' ≡ record s { count = record s.count { sum = int_wrap w64 (s.count.sum +ℤ by) } }) × (r' ≡ r)
+      (((Refuses MAX_TABLES (length s.words.tables) answer × (s' ≡ s))
+      ⊎ MakesTable answer slots limit s s') × (r' ≡ r))
+  Performs eq says refuse (AddToShard by) s r answer s' r' = (answer ≡ Ok_done)
+      × (s' ≡ record s { count = record s.count { sum = int_wrap w64 (s.count.sum +ℤ by) } })
+      × (r' ≡ r)
   Performs eq says refuse (Ask_done reply) s r answer s' r' = (answer ≡ Ok_done) × Stays s r s' r'
 
 -- an ask for something to be made

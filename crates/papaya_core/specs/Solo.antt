@@ -13,16 +13,22 @@ use Rattle.papaya_core.specs.Maps.{Map, Does, IsUpdate, Same, key_of}
 use Rattle.papaya_core.specs.Runs.{History, TurnsRun}
 use Rattle.papaya_core.specs.Store.{StoreState, Stored, pair_of}
 
--- What the finite map does in a call: the class of the call's key has another pair, or the same, and the reply says so.
-pub record CallDoes {K V A : Type 0} (eq : K → K → Bool) (call : Call K V A) (m : Map K V) (reply : Reply) (m' : Map K V) : Type 0 where
+-- What the finite map does in a call: the class of the call's key has another pair, or the same,
+-- and the reply says so.
+pub record CallDoes {K V A : Type 0} (eq : K → K → Bool) (call : Call K V A) (m : Map K V)
+    (reply : Reply) (m' : Map K V) : Type 0 where
   pub went : Option (Stored K V)
   pub came : Option (Stored K V)
   pub update : IsUpdate eq (key_of call) went came m m'
   pub does : Does call went reply came
 
--- a call that is refused leaves the map, and every other does what the finite map does; a removal of nothing is refused where nothing is
-abbrev pub IsAnswered : {K V A : Type 0} → (K → K → Bool) → Call K V A → Map K V → Reply → Map K V → Type 0
-IsAnswered eq call m (Refused refused) m' = Same m m' × (refused ≡ RemoveNothing → Does call (m (key_of call)) (Refused RemoveNothing) (m (key_of call)))
+-- a call that is refused leaves the map, and every other does what the finite map does; a removal
+-- of nothing is refused where nothing is
+abbrev pub IsAnswered : {K V A : Type 0} → (K → K → Bool) → Call K V A → Map K V → Reply → Map K V
+    → Type 0
+IsAnswered eq call m (Refused refused) m' = Same m m'
+    × (refused ≡ RemoveNothing → Does call (m (key_of call)) (Refused RemoveNothing)
+    (m (key_of call)))
 IsAnswered eq call m (Aborted t) m' = CallDoes eq call m (Aborted t) m'
 IsAnswered eq call m Absent m' = CallDoes eq call m Absent m'
 IsAnswered eq call m (Found n) m' = CallDoes eq call m (Found n) m'
@@ -42,8 +48,11 @@ IsNewIn store _ = Unit {0}
 abbrev pub whatever : {K V A : Type 0} → Says K V A
 whatever = record { op = λ a shown answer a'. Unit {0}; yes = λ a key value agrees a'. Unit {0} }
 
--- The one caller begins this call, and the last of so many steps gave the reply. Of what a closure answers nothing is asked.
-pub record RunsAlone {K V S A : Type 0} (eq : K → K → Bool) (hash : S → K → ℕ) (s : CoreState K V S A) (call : Call K V A) (reply : Reply) (s' : CoreState K V S A) : Type 0 where
+-- The one caller begins this call, and the last of so many steps gave the reply. Of what a closure
+-- answers nothing is asked.
+pub record RunsAlone {K V S A : Type 0} (eq : K → K → Bool) (hash : S → K → ℕ)
+    (s : CoreState K V S A) (call : Call K V A) (reply : Reply)
+    (s' : CoreState K V S A) : Type 0 where
   pub idle : s.callers ≡ []
   pub steps : ℕ
   pub last : Entry

@@ -32,4 +32,5 @@ pair_of s n = stored_in s.keys n (slice_get s.pairs n)
 
 -- each pair of the one log stands in the other, under its number
 abbrev pub KeepsPairs : {K V S : Type 0} → StoreState K V S → StoreState K V S → Type 0
-KeepsPairs {K = K} {V = V} store store' = (n : ℕ) (p : Stored K V) → pair_of store n ≡ Some p → pair_of store' n ≡ Some p
+KeepsPairs {K = K} {V = V} store store' = (n : ℕ) (p : Stored K V) → pair_of store n ≡ Some p
+    → pair_of store' n ≡ Some p

@@ -31,7 +31,8 @@ written Root t word = t
 written (Next n) t word = record t { next = word }
 written (Aborted n) t word = record t { aborted = word }
 written (Done n) t word = record t { done = word }
-written (Slot n i) t word = if nat_lt i (length t.slots) then record t { slots = slice_set t.slots i word } else t
+written (Slot n i) t word = if nat_lt i (length t.slots)
+    then record t { slots = slice_set t.slots i word } else t
 
 -- the tables after a word of the one at place k was written
 abbrev pub put_in : At → Option TableWords → List TableWords → ℕ → ℕ → List TableWords
@@ -39,7 +40,8 @@ put_in at None tables k word = tables
 put_in at (Some t) tables k word = slice_set tables k (written at t word)
 
 abbrev pub put_at : At → ℕ → Tables → ℕ → Tables
-put_at at n w word = if n == 0 then w else record w { tables = put_in at (slice_get w.tables (n - 1)) w.tables (n - 1) word }
+put_at at n w word = if n == 0 then w else record w
+    { tables = put_in at (slice_get w.tables (n - 1)) w.tables (n - 1) word }
 
 -- the words after one of them was written
 abbrev pub put : Tables → At → ℕ → Tables

@@ -47,7 +47,10 @@ fn add_seat<K: Drop, V: Drop, A: Drop>(
     seats: &mut Vec<Seat<K, V, A>>,
     caller: usize,
 ) -> Result<(), Refused>
-    ensures ok { OnOk result (seats.new.items ≡ seats.old.items ++ record { caller = caller; call = None } ∷ []) }
+    ensures ok { OnOk result (seats.new.items ≡ seats.old.items ++ record {
+      caller = caller;
+      call = None;
+    } ∷ []) }
     ensures err { IfErr result (λ e. (e ≡ Refused.Memory) × (seats.new.items ≡ seats.old.items)) }
 {
     match seats.push(Seat { caller, call: None }) {
@@ -59,7 +62,9 @@ fn add_seat<K: Drop, V: Drop, A: Drop>(
 /// Takes a call out of a seat.
 fn take_call<K, V, A>(seats: &mut Vec<Seat<K, V, A>>, place: usize) -> Option<Running<K, V, A>>
     requires { place < length seats.old.items }
-    ensures seat { (seat : Seat K V A) → slice_get seats.old.items place ≡ Some seat → (result ≡ seat.call) × (seats.new.items ≡ slice_set seats.old.items place (record seat { call = None })) }
+    ensures seat { (seat : Seat K V A) → slice_get seats.old.items place ≡ Some seat
+        → (result ≡ seat.call) × (seats.new.items ≡ slice_set seats.old.items place
+        (record seat { call = None })) }
 {
     seats[place].call.take()
 }
@@ -71,7 +76,8 @@ fn put_call<K: Drop, V: Drop, A: Drop>(
     running: Running<K, V, A>,
 )
     requires { place < length seats.old.items }
-    ensures { (seat : Seat K V A) → slice_get seats.old.items place ≡ Some seat → seats.new.items ≡ slice_set seats.old.items place (record seat { call = Some running }) }
+    ensures { (seat : Seat K V A) → slice_get seats.old.items place ≡ Some seat
+        → seats.new.items ≡ slice_set seats.old.items place (record seat { call = Some running }) }
 {
     seats[place].call = Some(running);
 }
@@ -114,7 +120,8 @@ impl<K, V, A> Callers<K, V, A> {
 impl<K: Drop, V: Drop, A: Drop> Callers<K, V, A> {
     /// Makes a seat for this caller, where it has none.
     pub fn seat(&mut self, caller: usize) -> Result<(), Refused>
-        ensures ok { OnOk result ((self.new ≡ with_seat self.old caller) × IsSeated self.new caller) }
+        ensures ok { OnOk result ((self.new ≡ with_seat self.old caller)
+            × IsSeated self.new caller) }
         ensures err { IfErr result (λ e. (e ≡ Refused.Memory) × (self.new ≡ self.old)) }
     {
         if place_of(&self.seats, caller) < self.seats.len() {

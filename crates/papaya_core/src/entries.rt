@@ -85,7 +85,8 @@ pub(crate) fn push_step(
     reply: Option<Reply>,
 )
     requires { vec_len entries.old + 2 ≤ vec_capacity entries.old }
-    ensures { reverse entries.new.items ≡ with_step turn caller event reply (reverse entries.old.items) }
+    ensures { reverse entries.new.items ≡ with_step turn caller event reply
+        (reverse entries.old.items) }
 {
     push_entry(
         entries,

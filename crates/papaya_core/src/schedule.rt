@@ -54,9 +54,16 @@ impl<K: Hash + Eq, V, S: BuildHasher, A> Model for Core<K, V, S, A> {
 
     ghost Value = { CoreState K V S A };
 
-    ghost view = { λ c. record { store = c.store; callers = c.callers; mode = c.mode; initial = c.initial } };
+    ghost view = { λ c. record {
+      store = c.store;
+      callers = c.callers;
+      mode = c.mode;
+      initial = c.initial;
+    } };
 
-    ghost invariant = { λ c. IsLawfulCore K.eq (hash_of K.hash_input S.build_hasher S.Hasher.write S.Hasher.finish c.store.hasher) c.store c.callers c.mode × IsCounted c.store c.callers };
+    ghost invariant = { λ c. IsLawfulCore K.eq
+        (hash_of K.hash_input S.build_hasher S.Hasher.write S.Hasher.finish c.store.hasher) c.store
+        c.callers c.mode × IsCounted c.store c.callers };
 }
 
 /// A call as it begins.
@@ -67,7 +74,8 @@ fn begin_call<K: Hash + Eq, V: Drop, S: BuildHasher, A>(
     call: Call<K, V, A>,
 ) -> Running<K, V, A>
     requires { IsChunked mode }
-    ensures begun { result ≡ begun (hash_of K.hash_input S.build_hasher S.Hasher.write S.Hasher.finish store.now.hasher) mode initial call }
+    ensures begun { result ≡ begun (hash_of K.hash_input S.build_hasher S.Hasher.write
+        S.Hasher.finish store.now.hasher) mode initial call }
     ensures fits { result.machine.hash < 2 ^ 64 }
     ensures standing { IsStanding result.machine }
 {
@@ -114,7 +122,9 @@ impl<K: Hash + Eq, V, S: BuildHasher, A> Core<K, V, S, A> {
 
     /// The key and the value of a pair, by its number.
     pub fn pair(&self, n: u64) -> Option<(&K, &V)>
-        ensures { MatchOption result (pair_of self.now.store n ≡ None) (λ p. pair_of self.now.store n ≡ Some (record { number = n; key = p.0.now; value = p.1.now })) }
+        ensures { MatchOption result (pair_of self.now.store n ≡ None)
+            (λ p. pair_of self.now.store n ≡ Some (record
+            { number = n; key = p.0.now; value = p.1.now })) }
     {
         self.store.pair(n)
     }
@@ -135,7 +145,8 @@ impl<K: Hash + Eq + Drop, V: Drop, S: BuildHasher + Drop, A> Core<K, V, S, A> {
         shards: usize,
         hasher: S,
     ) -> Result<Core<K, V, S, A>, Refused>
-        ensures ok { IfOk result (λ core. IsAllowed mode capacity shards × IsNew mode capacity shards hasher core) }
+        ensures ok { IfOk result (λ core. IsAllowed mode capacity shards
+            × IsNew mode capacity shards hasher core) }
         ensures err { IfErr result (λ e. IsRefused mode capacity shards e) }
         ensures content { IfOk result (λ core. content core.store ≡ []) }
         ensures counted { IfOk result (λ core. IsCounted core.store core.callers) }
@@ -157,7 +168,8 @@ impl<K: Hash + Eq + Drop, V: Drop, S: BuildHasher, A: Answers<K, V> + Drop> Core
     /// `Refused::Memory` where a growth was refused: the call and what it was handed are dropped.
     pub fn begin(&mut self, caller: usize, call: Call<K, V, A>) -> Result<(), Refused>
         requires { call_of self.old caller ≡ None }
-        ensures ok { OnOk result (Begins (hash_of K.hash_input S.build_hasher S.Hasher.write S.Hasher.finish self.old.store.hasher) self.old caller call self.new) }
+        ensures ok { OnOk result (Begins (hash_of K.hash_input S.build_hasher S.Hasher.write
+            S.Hasher.finish self.old.store.hasher) self.old caller call self.new) }
         ensures err { IfErr result (λ e. (e ≡ Refused.Memory) × (self.new ≡ self.old)) }
         ensures counted { IsCounted self.new.store self.new.callers }
     {
@@ -170,7 +182,8 @@ impl<K: Hash + Eq + Drop, V: Drop, S: BuildHasher, A: Answers<K, V> + Drop> Core
     /// One step of a caller: what happened, and the reply where there is one.
     fn advance(&mut self, caller: usize, refuse: bool) -> (Event, Option<Reply>)
         requires { IsSome (call_of self.old caller) }
-        ensures advances { Advances K.eq (record { op = A.op_gives; yes = A.yes_gives }) refuse self.old caller self.new result.0 result.1 }
+        ensures advances { Advances K.eq (record { op = A.op_gives; yes = A.yes_gives }) refuse
+            self.old caller self.new result.0 result.1 }
         ensures moves { MovesMap K.eq self.old caller self.new result.0 }
         ensures keeps { KeepsPairs self.old.store self.new.store }
         ensures counted { IsCounted self.new.store self.new.callers }
@@ -197,7 +210,9 @@ impl<K: Hash + Eq + Drop, V: Drop, S: BuildHasher, A: Answers<K, V> + Drop> Core
     /// `Refused::Memory`, and any other step is an ordinary one.
     pub fn step(&mut self, caller: usize, refuse_memory: bool) -> Option<Reply>
         requires { IsSome (call_of self.old caller) }
-        ensures advances { (event : _) × Advances K.eq (record { op = A.op_gives; yes = A.yes_gives }) refuse_memory self.old caller self.new event result × MovesMap K.eq self.old caller self.new event }
+        ensures advances { (event : _) × Advances K.eq
+            (record { op = A.op_gives; yes = A.yes_gives }) refuse_memory self.old caller self.new
+            event result × MovesMap K.eq self.old caller self.new event }
         ensures keeps { KeepsPairs self.old.store self.new.store }
         ensures counted { IsCounted self.new.store self.new.callers }
     {
@@ -211,9 +226,17 @@ impl<K: Hash + Eq + Drop, V: Drop, S: BuildHasher, A: Answers<K, V> + Drop> Core
     /// `Refused::Memory` where a growth was refused to a `Begin` or to the trace: the turns
     /// before were made, and of a `Finish` perhaps some steps.
     pub fn run(&mut self, schedule: Vec<Turn<K, V, A>>) -> Result<Trace, Refused>
-        ensures ok { IfOk result (λ trace. TurnsRun K.eq (record { op = A.op_gives; yes = A.yes_gives }) (hash_of K.hash_input S.build_hasher S.Hasher.write S.Hasher.finish) schedule.items (length schedule.items) self.old self.new (reverse trace.entries.items)) }
-        ensures timeline { IfOk result (λ trace. HasTimeline K.eq (record { op = A.op_gives; yes = A.yes_gives }) schedule.items self.old (reverse trace.entries.items) self.new) }
-        ensures err { IfErr result (λ e. (e ≡ Refused.Memory) × StopsEarly K.eq (record { op = A.op_gives; yes = A.yes_gives }) (hash_of K.hash_input S.build_hasher S.Hasher.write S.Hasher.finish) schedule.items self.old self.new) }
+        ensures ok { IfOk result (λ trace. TurnsRun K.eq
+            (record { op = A.op_gives; yes = A.yes_gives })
+            (hash_of K.hash_input S.build_hasher S.Hasher.write S.Hasher.finish) schedule.items
+            (length schedule.items) self.old self.new (reverse trace.entries.items)) }
+        ensures timeline { IfOk result (λ trace. HasTimeline K.eq
+            (record { op = A.op_gives; yes = A.yes_gives }) schedule.items self.old
+            (reverse trace.entries.items) self.new) }
+        ensures err { IfErr result (λ e. (e ≡ Refused.Memory)
+            × StopsEarly K.eq (record { op = A.op_gives; yes = A.yes_gives })
+            (hash_of K.hash_input S.build_hasher S.Hasher.write S.Hasher.finish) schedule.items
+            self.old self.new) }
         ensures keeps { KeepsPairs self.old.store self.new.store }
         ensures counted { IsCounted self.new.store self.new.callers }
     {
@@ -231,9 +254,15 @@ impl<K: Hash + Eq + Drop, V: Drop, S: BuildHasher, A: Answers<K, V> + Drop> Core
         turn: usize,
         what: Turn<K, V, A>,
     ) -> Result<(), Refused>
-        ensures ok { OnOk result (TurnRuns K.eq (record { op = A.op_gives; yes = A.yes_gives }) (hash_of K.hash_input S.build_hasher S.Hasher.write S.Hasher.finish) turn what self.old (reverse entries.old.items) self.new (reverse entries.new.items)) }
-        ensures err { IfErr result (λ e. (e ≡ Refused.Memory) × IsCutShort K.eq (record { op = A.op_gives; yes = A.yes_gives }) (hash_of K.hash_input S.build_hasher S.Hasher.write S.Hasher.finish) turn what self.old (reverse entries.old.items) self.new) }
-        ensures counted { IsCounted self.old.store self.old.callers → IsCounted self.new.store self.new.callers }
+        ensures ok { OnOk result (TurnRuns K.eq (record { op = A.op_gives; yes = A.yes_gives })
+            (hash_of K.hash_input S.build_hasher S.Hasher.write S.Hasher.finish) turn what self.old
+            (reverse entries.old.items) self.new (reverse entries.new.items)) }
+        ensures err { IfErr result (λ e. (e ≡ Refused.Memory)
+            × IsCutShort K.eq (record { op = A.op_gives; yes = A.yes_gives })
+            (hash_of K.hash_input S.build_hasher S.Hasher.write S.Hasher.finish) turn what self.old
+            (reverse entries.old.items) self.new) }
+        ensures counted { IsCounted self.old.store self.old.callers
+            → IsCounted self.new.store self.new.callers }
     {
         match what {
             Turn::Begin(caller, call) => {
@@ -260,9 +289,12 @@ impl<K: Hash + Eq + Drop, V: Drop, S: BuildHasher, A: Answers<K, V> + Drop> Core
         call: Call<K, V, A>,
     ) -> Result<(), Refused>
         requires { call_of self.old caller ≡ None }
-        ensures ok { OnOk result (BeginRuns K.eq (record { op = A.op_gives; yes = A.yes_gives }) (hash_of K.hash_input S.build_hasher S.Hasher.write S.Hasher.finish) turn caller call self.old (reverse entries.old.items) self.new (reverse entries.new.items)) }
+        ensures ok { OnOk result (BeginRuns K.eq (record { op = A.op_gives; yes = A.yes_gives })
+            (hash_of K.hash_input S.build_hasher S.Hasher.write S.Hasher.finish) turn caller call
+            self.old (reverse entries.old.items) self.new (reverse entries.new.items)) }
         ensures err { IfErr result (λ e. (e ≡ Refused.Memory) × (self.new ≡ self.old)) }
-        ensures counted { IsCounted self.old.store self.old.callers → IsCounted self.new.store self.new.callers }
+        ensures counted { IsCounted self.old.store self.old.callers
+            → IsCounted self.new.store self.new.callers }
     {
         reserve_entries(entries, 1)?;
         self.begin(caller, call)?;
@@ -287,9 +319,13 @@ impl<K: Hash + Eq + Drop, V: Drop, S: BuildHasher, A: Answers<K, V> + Drop> Core
         refuse_memory: bool,
     ) -> Result<(), Refused>
         requires { IsSome (call_of self.old caller) }
-        ensures ok { OnOk result (StepRuns K.eq (record { op = A.op_gives; yes = A.yes_gives }) (hash_of K.hash_input S.build_hasher S.Hasher.write S.Hasher.finish) turn caller refuse_memory self.old (reverse entries.old.items) self.new (reverse entries.new.items)) }
+        ensures ok { OnOk result (StepRuns K.eq (record { op = A.op_gives; yes = A.yes_gives })
+            (hash_of K.hash_input S.build_hasher S.Hasher.write S.Hasher.finish) turn caller
+            refuse_memory self.old (reverse entries.old.items) self.new
+            (reverse entries.new.items)) }
         ensures err { IfErr result (λ e. (e ≡ Refused.Memory) × (self.new ≡ self.old)) }
-        ensures counted { IsCounted self.old.store self.old.callers → IsCounted self.new.store self.new.callers }
+        ensures counted { IsCounted self.old.store self.old.callers
+            → IsCounted self.new.store self.new.callers }
     {
         // The room is there before the step, so no step goes unrecorded.
         reserve_entries(entries, 2)?;
@@ -306,9 +342,16 @@ impl<K: Hash + Eq + Drop, V: Drop, S: BuildHasher, A: Answers<K, V> + Drop> Core
         caller: usize,
         steps: usize,
     ) -> Result<(), Refused>
-        ensures ok { OnOk result (StepsRun K.eq (record { op = A.op_gives; yes = A.yes_gives }) (hash_of K.hash_input S.build_hasher S.Hasher.write S.Hasher.finish) turn caller steps self.old (reverse entries.old.items) self.new (reverse entries.new.items)) }
-        ensures err { IfErr result (λ e. (e ≡ Refused.Memory) × ((made : _) × (made < steps) × (after : _) × StepsRun K.eq (record { op = A.op_gives; yes = A.yes_gives }) (hash_of K.hash_input S.build_hasher S.Hasher.write S.Hasher.finish) turn caller made self.old (reverse entries.old.items) self.new after)) }
-        ensures counted { IsCounted self.old.store self.old.callers → IsCounted self.new.store self.new.callers }
+        ensures ok { OnOk result (StepsRun K.eq (record { op = A.op_gives; yes = A.yes_gives })
+            (hash_of K.hash_input S.build_hasher S.Hasher.write S.Hasher.finish) turn caller steps
+            self.old (reverse entries.old.items) self.new (reverse entries.new.items)) }
+        ensures err { IfErr result (λ e. (e ≡ Refused.Memory)
+            × ((made : _) × (made < steps) × (after : _)
+            × StepsRun K.eq (record { op = A.op_gives; yes = A.yes_gives })
+            (hash_of K.hash_input S.build_hasher S.Hasher.write S.Hasher.finish) turn caller made
+            self.old (reverse entries.old.items) self.new after)) }
+        ensures counted { IsCounted self.old.store self.old.callers
+            → IsCounted self.new.store self.new.callers }
     {
         for _made in 0..steps {
             if !self.running(caller) {

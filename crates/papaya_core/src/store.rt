@@ -1,4 +1,5 @@
-//! What the machines of all callers ask about: the words of the tables, the logs of keys and pairs, and the count.
+//! What the machines of all callers ask about: the words of the tables, the logs of keys and pairs,
+//! and the count.
 ghost use Rattle.std.specs.Prelude.{◌≡◌, ◌+◌, ◌-◌, ◌<◌, ◌^◌, ◌⊎◌, [], ◌∷◌, ◌++◌, ◌+ℤ◌, length, vec_len, vec_capacity, Some, None, FitsSigned, MatchOption, OnOk, IfOk, IfErr, ◌*◌, ◌≤◌, slice_get};
 ghost use Rattle.std.specs.Int.{w64, int_wrap};
 ghost use Rattle.papaya_words.specs.Counter.{count_of};
@@ -97,13 +98,25 @@ impl<K: Hash + Eq, V, S: BuildHasher> Model for Store<K, V, S> {
 
     ghost Value = { StoreState K V S };
 
-    ghost view = { λ s. record { words = record { root = s.root; tables = s.tables.items }; keys = s.keys.items; pairs = s.pairs.items; count = s.counter; hasher = s.hasher } };
+    ghost view = { λ s. record {
+      words = record { root = s.root; tables = s.tables.items };
+      keys = s.keys.items;
+      pairs = s.pairs.items;
+      count = s.counter;
+      hasher = s.hasher;
+    } };
 }
 
 impl<K: Hash + Eq, V, S: BuildHasher> Store<K, V, S> {
     /// No words and no pairs.
     fn new(alloc: Global, counter: Counter, hasher: S) -> Store<K, V, S>
-        ensures { result ≡ record { words = record { root = 0; tables = [] }; keys = []; pairs = []; count = counter; hasher = hasher } }
+        ensures { result ≡ record {
+          words = record { root = 0; tables = [] };
+          keys = [];
+          pairs = [];
+          count = counter;
+          hasher = hasher;
+        } }
     {
         Store {
             root: 0,
@@ -118,7 +131,8 @@ impl<K: Hash + Eq, V, S: BuildHasher> Store<K, V, S> {
     /// The hash of a key, or of what a key is looked up by.
     #[inline(always)]
     pub fn hash<Q: Hash>(&self, key: &Q) -> u64
-        ensures value { result ≡ hash_of Q.hash_input S.build_hasher S.Hasher.write S.Hasher.finish self.now.hasher key.now }
+        ensures value { result ≡ hash_of Q.hash_input S.build_hasher S.Hasher.write S.Hasher.finish
+            self.now.hasher key.now }
         ensures fits { result < 2 ^ 64 }
     {
         let mut state = self.hasher.build_hasher();
@@ -129,7 +143,12 @@ impl<K: Hash + Eq, V, S: BuildHasher> Store<K, V, S> {
     /// A pair by its number.
     #[inline(always)]
     pub fn pair(&self, n: u64) -> Option<(&K, &V)>
-        ensures { MatchOption result (pair_of self.now n ≡ None) (λ p. pair_of self.now n ≡ Some (record { number = n; key = p.0.now; value = p.1.now })) }
+        ensures { MatchOption result (pair_of self.now n ≡ None)
+            (λ p. pair_of self.now n ≡ Some (record {
+              number = n;
+              key = p.0.now;
+              value = p.1.now;
+            })) }
     {
         let pair = self.pairs.get(n as usize)?;
         let key = self.keys.get(pair.key)?;
@@ -139,7 +158,8 @@ impl<K: Hash + Eq, V, S: BuildHasher> Store<K, V, S> {
     /// A table by its number.
     #[inline(always)]
     fn table(&self, n: u64) -> Option<&Table>
-        ensures { MatchOption result (table_of self.now.words.tables n ≡ None) (λ t. table_of self.now.words.tables n ≡ Some t.now) }
+        ensures { MatchOption result (table_of self.now.words.tables n ≡ None)
+            (λ t. table_of self.now.words.tables n ≡ Some t.now) }
     {
         if n == 0 {
             None
@@ -172,7 +192,8 @@ impl<K: Hash + Eq, V, S: BuildHasher> Store<K, V, S> {
 
     /// The root table.
     pub fn root(&self) -> Option<&Table>
-        ensures { MatchOption result (table_of self.now.words.tables self.now.words.root ≡ None) (λ t. table_of self.now.words.tables self.now.words.root ≡ Some t.now) }
+        ensures { MatchOption result (table_of self.now.words.tables self.now.words.root ≡ None)
+            (λ t. table_of self.now.words.tables self.now.words.root ≡ Some t.now) }
     {
         self.table(self.root)
     }
@@ -214,7 +235,8 @@ impl<K: Hash + Eq, V, S: BuildHasher> Store<K, V, S> {
     /// An exchange, which is made if the word that stands there is the old one.
     #[inline(always)]
     pub fn exchange(&mut self, at: At, old: u64, new: u64) -> Answer
-        ensures { Exchanges (word_at self.old.words at) old (put self.old.words at new) result self.old self.new }
+        ensures { Exchanges (word_at self.old.words at) old (put self.old.words at new) result
+            self.old self.new }
     {
         let found = self.word(at);
         if found == old {
@@ -246,7 +268,10 @@ impl<K: Hash + Eq, V, S: BuildHasher> Store<K, V, S> {
     /// Adds to the shard of this caller.
     #[inline(always)]
     pub fn add_to_shard(&mut self, caller: usize, by: i64)
-        ensures { self.new ≡ record self.old { count = record self.old.count { sum = int_wrap w64 (self.old.count.sum +ℤ by) } } }
+        ensures { self.new ≡ record self.old {
+          count = record self.old.count
+              { sum = int_wrap w64 (self.old.count.sum +ℤ by) };
+        } }
     {
         let place = self.counter.get(caller as u64);
         self.counter.add(place, by);
@@ -266,7 +291,8 @@ impl<K: Hash + Eq + Drop, V: Drop, S: BuildHasher + Drop> Store<K, V, S> {
         shards: usize,
         hasher: S,
     ) -> Result<(Store<K, V, S>, usize), Refused>
-        ensures ok { IfOk result (λ made. IsAllowed mode capacity shards × IsNewStore capacity shards hasher made.1 made.0 × (made.1 ≤ MAX_TABLE_LEN)) }
+        ensures ok { IfOk result (λ made. IsAllowed mode capacity shards
+            × IsNewStore capacity shards hasher made.1 made.0 × (made.1 ≤ MAX_TABLE_LEN)) }
         ensures err { IfErr result (λ e. IsRefused mode capacity shards e) }
     {
         check_chunk(mode)?;
@@ -280,7 +306,8 @@ impl<K: Hash + Eq + Drop, V: Drop, S: BuildHasher + Drop> Store<K, V, S> {
     /// Makes the first table where there is a capacity, for this length, and opens it.
     fn open(&mut self, alloc: Global, capacity: usize, initial: usize) -> Result<(), Refused>
         requires { self.old.words ≡ record { root = 0; tables = [] } }
-        ensures ok { OnOk result (HasCapacity capacity initial self.new.words × (self.new ≡ record self.old { words = self.new.words })) }
+        ensures ok { OnOk result (HasCapacity capacity initial self.new.words
+            × (self.new ≡ record self.old { words = self.new.words })) }
         ensures err { IfErr result (λ e. e ≡ Refused.Memory) }
     {
         if capacity == 0 {
@@ -301,7 +328,10 @@ impl<K: Hash + Eq + Drop, V: Drop, S: BuildHasher> Store<K, V, S> {
     #[inline(always)]
     fn make_key<A>(&mut self, running: &mut Running<K, V, A>) -> Answer
         ensures machine { running.new.machine ≡ running.old.machine }
-        ensures makes { (Refuses MAX_LOG_LEN (length self.old.keys) result × Stays self.old running.old self.new running.new) ⊎ (HasKey result running.old × Stays self.old running.old self.new running.new) ⊎ LogsKey result self.old running.old self.new running.new }
+        ensures makes { (Refuses MAX_LOG_LEN (length self.old.keys) result
+            × Stays self.old running.old self.new running.new)
+            ⊎ (HasKey result running.old × Stays self.old running.old self.new running.new)
+            ⊎ LogsKey result self.old running.old self.new running.new }
     {
         if let KeyOf::Logged(_) = running.key {
             return Answer::Ok;
@@ -323,7 +353,10 @@ impl<K: Hash + Eq + Drop, V: Drop, S: BuildHasher> Store<K, V, S> {
     #[inline(always)]
     fn make_pair<A>(&mut self, running: &mut Running<K, V, A>) -> Answer
         ensures machine { running.new.machine ≡ running.old.machine }
-        ensures makes { (Refuses MAX_LOG_LEN (length self.old.pairs) result × Stays self.old running.old self.new running.new) ⊎ (HasNoPair result running.old × Stays self.old running.old self.new running.new) ⊎ LogsPair result self.old running.old self.new running.new }
+        ensures makes { (Refuses MAX_LOG_LEN (length self.old.pairs) result
+            × Stays self.old running.old self.new running.new)
+            ⊎ (HasNoPair result running.old × Stays self.old running.old self.new running.new)
+            ⊎ LogsPair result self.old running.old self.new running.new }
     {
         let key = match running.key {
             KeyOf::Own(_) => return Answer::Ok,
@@ -347,7 +380,8 @@ impl<K: Hash + Eq + Drop, V: Drop, S: BuildHasher> Store<K, V, S> {
 
     /// Makes a table of empty slots.
     fn make_table(&mut self, alloc: Global, len: usize, limit: usize) -> Answer
-        ensures { (Refuses MAX_TABLES (length self.old.words.tables) result × (self.new ≡ self.old)) ⊎ MakesTable result len limit self.old self.new }
+        ensures { (Refuses MAX_TABLES (length self.old.words.tables) result × (self.new ≡ self.old))
+            ⊎ MakesTable result len limit self.old self.new }
     {
         let n = self.tables.len() as u64;
         if n >= MAX_TABLES {
@@ -365,7 +399,8 @@ impl<K: Hash + Eq + Drop, V: Drop, S: BuildHasher> Store<K, V, S> {
     /// Asks the closure of a removal whether it agrees to the removal of pair `n`.
     fn judge<A: Answers<K, V>>(&self, n: u64, running: &mut Running<K, V, A>) -> Answer
         ensures machine { running.new.machine ≡ running.old.machine }
-        ensures judges { Judges (record { op = A.op_gives; yes = A.yes_gives }) n self.now running.old result self.now running.new }
+        ensures judges { Judges (record { op = A.op_gives; yes = A.yes_gives }) n self.now
+            running.old result self.now running.new }
     {
         let Some(answers) = running.answers.as_mut() else {
             return Answer::Ok;
@@ -379,7 +414,8 @@ impl<K: Hash + Eq + Drop, V: Drop, S: BuildHasher> Store<K, V, S> {
     /// Shows pair `n` to the closure of a compute.
     fn decide<A: Answers<K, V>>(&self, n: u64, running: &mut Running<K, V, A>) -> Answer
         ensures machine { running.new.machine ≡ running.old.machine }
-        ensures decides { DecidesPair (record { op = A.op_gives; yes = A.yes_gives }) n self.now running.old result self.now running.new }
+        ensures decides { DecidesPair (record { op = A.op_gives; yes = A.yes_gives }) n self.now
+            running.old result self.now running.new }
     {
         let Some(answers) = running.answers.as_mut() else {
             return Answer::Ok;
@@ -403,7 +439,8 @@ impl<K: Hash + Eq + Drop, V: Drop, S: BuildHasher> Store<K, V, S> {
     /// Shows the closure of a compute that its key is absent.
     fn decide_none<A: Answers<K, V>>(&self, running: &mut Running<K, V, A>) -> Answer
         ensures machine { running.new.machine ≡ running.old.machine }
-        ensures decides { DecidesNone (record { op = A.op_gives; yes = A.yes_gives }) self.now running.old result self.now running.new }
+        ensures decides { DecidesNone (record { op = A.op_gives; yes = A.yes_gives }) self.now
+            running.old result self.now running.new }
     {
         match running.answers.as_mut() {
             Some(answers) => {
@@ -417,7 +454,9 @@ impl<K: Hash + Eq + Drop, V: Drop, S: BuildHasher> Store<K, V, S> {
     /// Shows pair `n` to the closure of a call.
     fn show<A: Answers<K, V>>(&self, n: u64, running: &mut Running<K, V, A>) -> Answer
         ensures machine { running.new.machine ≡ running.old.machine }
-        ensures shows { ShowsPair running.old.machine.task (record { op = A.op_gives; yes = A.yes_gives }) n self.now running.old result self.now running.new }
+        ensures shows { ShowsPair running.old.machine.task
+            (record { op = A.op_gives; yes = A.yes_gives }) n self.now running.old result self.now
+            running.new }
     {
         match running.machine.task {
             Task::RemoveIf => self.judge(n, running),
@@ -437,7 +476,8 @@ impl<K: Hash + Eq + Drop, V: Drop, S: BuildHasher> Store<K, V, S> {
     ) -> Answer
         requires { IsMake ask }
         ensures machine { running.new.machine ≡ running.old.machine }
-        ensures performs { Performs K.eq (record { op = A.op_gives; yes = A.yes_gives }) refuse ask self.old running.old result self.new running.new }
+        ensures performs { Performs K.eq (record { op = A.op_gives; yes = A.yes_gives }) refuse ask
+            self.old running.old result self.new running.new }
     {
         if refuse {
             return Answer::Refused(Refused::Memory);
@@ -461,7 +501,8 @@ impl<K: Hash + Eq + Drop, V: Drop, S: BuildHasher> Store<K, V, S> {
         refuse: bool,
     ) -> Answer
         ensures machine { running.new.machine ≡ running.old.machine }
-        ensures performs { Performs K.eq (record { op = A.op_gives; yes = A.yes_gives }) refuse ask self.old running.old result self.new running.new }
+        ensures performs { Performs K.eq (record { op = A.op_gives; yes = A.yes_gives }) refuse ask
+            self.old running.old result self.new running.new }
     {
         match ask {
             Ask::Load(at) => Answer::Word(self.word(at)),

@@ -4,7 +4,8 @@
 // one replied before the other began. Of calls that overlap each of both orders has to be met.
 //
 // Two callers make one call each, on the keys 0 and 1. Their first turns come in every order: ten
-// of an insertion and eleven of a compute, which is the whole of one that meets nobody, and seven of
+// of an insertion and eleven of a compute, which is the whole of one that meets nobody, and seven
+// of
 // a lookup, which is the whole of any. Then at most one of them has not replied, and it goes on
 // alone.
 ghost use Rattle.std.specs.Prelude.{◌≡◌, ◌≤◌, ◌<◌};

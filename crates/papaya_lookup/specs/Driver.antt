@@ -16,14 +16,21 @@ module _ {K V S : Type 0} where
   abbrev pub IsHeldAt : At → List (Event K V S) → Option (Bor Sheet) → Type 0
   IsHeldAt Root log table = Unit {0}
   IsHeldAt (Next t) log table = MatchOption table ⊥ (λ r. IsTable log t r.now)
-  IsHeldAt (Slot t x) log table = MatchOption table ⊥ (λ r. IsTable log t r.now × (x < length r.now.slots))
+  IsHeldAt (Slot t x) log table = MatchOption table ⊥
+      (λ r. IsTable log t r.now × (x < length r.now.slots))
   IsHeldAt (Aborted t) log table = ⊥
   IsHeldAt (Done t) log table = ⊥
 
-  -- What a load of a place tells, and which table and pair the call holds then: those that were loaded, or those of before where there is none.
-  abbrev pub IsLoaded : (K → K → Bool) → (S → K → ℕ) → Begun K V S → Book → At → ℕ → List (Event K V S) → (table table' : Option (Bor Sheet)) → (last last' : Option (Stored K V)) → Type 0
-  IsLoaded eq hash b name Root word log table table' last last' = (loaded : Option (Bor Sheet)) × IsRoot eq hash b name word log loaded × (table' ≡ or_last loaded table) × (last' ≡ last)
-  IsLoaded eq hash b name (Next t) word log table table' last last' = (loaded : Option (Bor Sheet)) × IsNext eq hash b name t word log loaded × (table' ≡ or_last loaded table) × (last' ≡ last)
-  IsLoaded eq hash b name (Slot t x) word log table table' last last' = (pair : Option (Stored K V)) × IsSlot eq hash b name t x word log pair × (last' ≡ or_last pair last) × (table' ≡ table)
+  -- What a load of a place tells, and which table and pair the call holds then: those that were
+  -- loaded, or those of before where there is none.
+  abbrev pub IsLoaded : (K → K → Bool) → (S → K → ℕ) → Begun K V S → Book → At → ℕ
+      → List (Event K V S) → (table table' : Option (Bor Sheet))
+      → (last last' : Option (Stored K V)) → Type 0
+  IsLoaded eq hash b name Root word log table table' last last' = (loaded : Option (Bor Sheet))
+      × IsRoot eq hash b name word log loaded × (table' ≡ or_last loaded table) × (last' ≡ last)
+  IsLoaded eq hash b name (Next t) word log table table' last last' = (loaded : Option (Bor Sheet))
+      × IsNext eq hash b name t word log loaded × (table' ≡ or_last loaded table) × (last' ≡ last)
+  IsLoaded eq hash b name (Slot t x) word log table table' last last' = (pair : Option (Stored K V))
+      × IsSlot eq hash b name t x word log pair × (last' ≡ or_last pair last) × (table' ≡ table)
   IsLoaded eq hash b name (Aborted t) word log table table' last last' = ⊥
   IsLoaded eq hash b name (Done t) word log table table' last last' = ⊥

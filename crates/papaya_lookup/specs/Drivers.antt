@@ -29,8 +29,10 @@ module _ {K V S H : Type 0} {d : keyed.Ghosts S K H} where
   Holds at w c = driver.IsHeldAt at w.sight.log c.table
 
   -- the call loaded this word from this place, and holds the table and the pair that it names
-  abbrev pub Loads : At → ℕ → Window K V S H d → Driver K V S H → Window K V S H d → Driver K V S H → Type 0
-  Loads at word w c w' c' = driver.IsLoaded d.keys.eq d.keys.hash (begun_of w.book.now.parts) w.book.now.begun.book at word w'.sight.log c.table c'.table c.last c'.last
+  abbrev pub Loads : At → ℕ → Window K V S H d → Driver K V S H → Window K V S H d → Driver K V S H
+      → Type 0
+  Loads at word w c w' c' = driver.IsLoaded d.keys.eq d.keys.hash (begun_of w.book.now.parts)
+      w.book.now.begun.book at word w'.sight.log c.table c'.table c.last c'.last
 
   -- what a lookup has left to do after a turn
   abbrev pub left_after : Window K V S H d → Turn V → ℕ
@@ -39,8 +41,12 @@ module _ {K V S H : Type 0} {d : keyed.Ghosts S K H} where
   module _ (query : Query K S) (began : List (Event K V S)) where
     -- the lookup that began at this log would stand here, with this table
     abbrev pub IsReadingAt : Window K V S H d → ℕ → Stage → Sheet → Type 0
-    IsReadingAt w hash stage table = lookups.IsReadingAt d.keys.eq d.keys.hash (begun_of w.book.now.parts) query.matches (query.hash w.book.now.parts.hasher) (exchanges_of began) hash w.sight.log stage table
+    IsReadingAt w hash stage table = lookups.IsReadingAt d.keys.eq d.keys.hash
+        (begun_of w.book.now.parts) query.matches (query.hash w.book.now.parts.hasher)
+        (exchanges_of began) hash w.sight.log stage table
 
     -- a turn led it on, as is seen by now
     abbrev pub IsTurned : Window K V S H d → ℕ → Sheet → Turn V → Type 0
-    IsTurned w hash table turn = lookups.IsTurned d.keys.eq d.keys.hash (begun_of w.book.now.parts) query.matches (query.hash w.book.now.parts.hasher) (exchanges_of began) hash w.sight.log table turn
+    IsTurned w hash table turn = lookups.IsTurned d.keys.eq d.keys.hash (begun_of w.book.now.parts)
+        query.matches (query.hash w.book.now.parts.hasher) (exchanges_of began) hash w.sight.log
+        table turn

@@ -8,7 +8,8 @@ use Rattle.papaya_book.specs.declared.rule.entry.Step.{Step}
 use Rattle.papaya_book.specs.Logs.{Stored, exchange_of, exchanges_of}
 use Rattle.papaya_book.specs.Own.{last_if}
 
--- A change of what a class of equal keys has, named by a key of the class: the pair that goes, if any, and the pair that comes, if any.
+-- A change of what a class of equal keys has, named by a key of the class: the pair that goes, if
+-- any, and the pair that comes, if any.
 pub record Change (K P : Type 0) : Type 0 where
   pub class : K
   pub taken : Option P
@@ -16,7 +17,8 @@ pub record Change (K P : Type 0) : Type 0 where
 
 module _ {K P : Type 0} where
   module _ (key : P → K) where
-    -- the change that an exchange makes: a claim, a replacement or a burial makes one, and no other exchange does
+    -- the change that an exchange makes: a claim, a replacement or a burial makes one, and no other
+    -- exchange does
     abbrev pub change_of : Exchange P → List (Change K P)
     change_of (law.Claim t x p) = record { class = key p; taken = None; put = Some p } ∷ []
     change_of (law.Replace t x p q) = record { class = key p; taken = Some p; put = Some q } ∷ []
@@ -40,7 +42,8 @@ module _ {K P : Type 0} where
     abbrev pub replay : List (Change K P) → K → Option P
     replay cs = replay_from (λ k. None) cs
 
-    -- A change takes out what the map has there, puts in or takes out a pair at least, and puts in a pair of its class.
+    -- A change takes out what the map has there, puts in or takes out a pair at least, and puts in
+    -- a pair of its class.
     pub record IsLegalChange (key : P → K) (m : K → Option P) (c : Change K P) : Type 0 where
       pub taken_is : m c.class ≡ c.taken
       pub some : c.taken ≡ None → c.put ≡ None → ⊥
@@ -66,12 +69,14 @@ history_of log = changes_of key_of (exchanges_of log)
 abbrev pub changes_by : {K V : Type 0} → List (Step K V) → List (Change K (Stored K V))
 changes_by es = changes_of key_of (map exchange_of es)
 
--- What a pass shows: the book of the map that it was made by, the history that it has seen, and of its changes those that were made by this pass, oldest first.
+-- What a pass shows: the book of the map that it was made by, the history that it has seen, and of
+-- its changes those that were made by this pass, oldest first.
 pub record Past (K V : Type 0) : Type 0 where
   pub book : Book
   pub history : List (Change K (Stored K V))
   pub made : List (Change K (Stored K V))
 
--- What a call made: where it changed the map, one change, which is the last of the history that is seen then; and else none.
+-- What a call made: where it changed the map, one change, which is the last of the history that is
+-- seen then; and else none.
 abbrev pub Makes : {K V : Type 0} → Bool → (old new history : List (Change K (Stored K V))) → Type 0
 Makes changed old new history = new ≡ old ++ last_if changed history

@@ -39,7 +39,8 @@ table_of _ = None
 abbrev pub left_in : (t more : ℕ) → ℕ
 left_in t more = (2 ^ 32 + 1 - t) * 2 ^ 34 + more
 
--- What a lookup has left to do. It goes down with each answer: a search looks at each place once, and the next table has a greater number.
+-- What a lookup has left to do. It goes down with each answer: a search looks at each place once,
+-- and the next table has a greater number.
 abbrev pub left_of : Stage → ℕ
 left_of AtRoot = left_in 0 (2 ^ 33 + 5)
 left_of (Searching (Sizing t)) = left_in t (2 ^ 33 + 4)
@@ -60,31 +61,44 @@ module _ {K V S : Type 0} where
   HoldsPair b last pair = (pair ≡ last) × IsPlaced b None (pair_named pair)
 
   -- the setting of a log, with what is looked up as a further key
-  abbrev pub setting_for : (K → K → Bool) → (S → K → ℕ) → Begun K V S → (K → Bool) → ℕ → List (Event K V S) → Setting (Option K) (Stored K V)
-  setting_for eq hash b matches fed log = with_key (setting_of eq (hash b.hasher) b.mode log) matches fed
+  abbrev pub setting_for : (K → K → Bool) → (S → K → ℕ) → Begun K V S → (K → Bool) → ℕ
+      → List (Event K V S) → Setting (Option K) (Stored K V)
+  setting_for eq hash b matches fed log = with_key (setting_of eq (hash b.hasher) b.mode log)
+      matches fed
 
 abbrev pub coding_for : {K V S : Type 0} → (S → K → ℕ) → S → ℕ → Coding (Option K) (Stored K V)
 coding_for hash hasher fed = coding_with (coding_of (hash hasher)) fed
 
--- A lookup of what matches these keys, and hashes so, rests on the log since its call began, and holds the table and the pair of which it was told last.
-pub record IsReading {K V S : Type 0} (eq : K → K → Bool) (hash : S → K → ℕ) (b : Begun K V S) (matches : K → Bool) (fed : ℕ) (begun : List (Exchange (Stored K V))) (log : List (Event K V S)) (m : Machine) (table : Option (Bor Sheet)) (pair : Option (Stored K V)) : Type 0 where
+-- A lookup of what matches these keys, and hashes so, rests on the log since its call began, and
+-- holds the table and the pair of which it was told last.
+pub record IsReading {K V S : Type 0} (eq : K → K → Bool) (hash : S → K → ℕ) (b : Begun K V S)
+    (matches : K → Bool) (fed : ℕ) (begun : List (Exchange (Stored K V))) (log : List (Event K V S))
+    (m : Machine) (table : Option (Bor Sheet)) (pair : Option (Stored K V)) : Type 0 where
   pub lawful : IsLawfulLog eq hash b log
   pub since : List (Exchange (Stored K V))
   pub is : begun ++ since ≡ exchanges_of log
   pub hands : Hands (Stored K V)
   pub task_is : m.task ≡ Get
-  pub rests : Rests (setting_for eq hash b matches fed log) (coding_for hash b.hasher fed) begun since None m hands
+  pub rests : Rests (setting_for eq hash b matches fed log) (coding_for hash b.hasher fed) begun
+      since None m hands
   pub holds_table : HoldsTable log (table_of m.state) table
   pub holds_pair : HoldsPair b hands.last pair
-  pub found : (n : ℕ) → m.state ≡ Ended (Found n) → (p : Stored K V) × (hands.last ≡ Some p) × WasAtMoment (setting_for eq hash b matches fed log) (coding_for hash b.hasher fed) begun since None (Some p)
+  pub found : (n : ℕ) → m.state ≡ Ended (Found n)
+      → (p : Stored K V) × (hands.last ≡ Some p) × WasAtMoment
+      (setting_for eq hash b matches fed log) (coding_for hash b.hasher fed) begun since None
+      (Some p)
 
 -- the machine of a lookup that stands here
 abbrev pub lookup_at : (hash : ℕ) → ResizeMode → Stage → Machine
 lookup_at hash mode stage = record (started Get hash mode 0) { state = stage }
 
--- The lookup's machine, that nothing runs, would stand here by now. It rests on this table, and on some pair that it was told of last.
-abbrev pub IsReadingAt : {K V S : Type 0} → (K → K → Bool) → (S → K → ℕ) → Begun K V S → (K → Bool) → ℕ → List (Exchange (Stored K V)) → ℕ → List (Event K V S) → Stage → Sheet → Type 0
-IsReadingAt {K} {V} eq hash b matches fed begun h log stage table = (lent : Bor Sheet) × (lent.now ≡ table) × (pair : Option (Stored K V)) × IsReading eq hash b matches fed begun log (lookup_at h b.mode stage) (Some lent) pair
+-- The lookup's machine, that nothing runs, would stand here by now. It rests on this table, and on
+-- some pair that it was told of last.
+abbrev pub IsReadingAt : {K V S : Type 0} → (K → K → Bool) → (S → K → ℕ) → Begun K V S → (K → Bool)
+    → ℕ → List (Exchange (Stored K V)) → ℕ → List (Event K V S) → Stage → Sheet → Type 0
+IsReadingAt {K} {V} eq hash b matches fed begun h log stage table = (lent : Bor Sheet)
+    × (lent.now ≡ table) × (pair : Option (Stored K V))
+    × IsReading eq hash b matches fed begun log (lookup_at h b.mode stage) (Some lent) pair
 
 -- where a search goes on that has found no pair
 abbrev pub turn_of : {V : Type 0} → Seen → Turn V
@@ -100,11 +114,15 @@ led_to mode number turns.Absent = Ended Absent
 led_to mode number (turns.Over t) = passes Get mode None t
 
 -- A turn of a search led the lookup's machine on. Where a pair was found, this is its value.
-pub record IsTurned {K V S : Type 0} (eq : K → K → Bool) (hash : S → K → ℕ) (b : Begun K V S) (matches : K → Bool) (fed : ℕ) (begun : List (Exchange (Stored K V))) (h : ℕ) (log : List (Event K V S)) (table : Sheet) (turn : Turn V) : Type 0 where
+pub record IsTurned {K V S : Type 0} (eq : K → K → Bool) (hash : S → K → ℕ) (b : Begun K V S)
+    (matches : K → Bool) (fed : ℕ) (begun : List (Exchange (Stored K V))) (h : ℕ)
+    (log : List (Event K V S)) (table : Sheet) (turn : Turn V) : Type 0 where
   pub lent : Bor Sheet
   pub lent_is : lent.now ≡ table
   pub pair : Option (Stored K V)
   pub number : ℕ
-  pub reading : IsReading eq hash b matches fed begun log (lookup_at h b.mode (led_to b.mode number turn)) (Some lent) pair
+  pub reading : IsReading eq hash b matches fed begun log
+      (lookup_at h b.mode (led_to b.mode number turn)) (Some lent) pair
   pub within : (at : Place) → turn ≡ turns.Next at → IsWithin at
-  pub found : (value : Bor V) → turn ≡ turns.Found value → (p : Stored K V) × (pair ≡ Some p) × (value.now ≡ p.value.value)
+  pub found : (value : Bor V) → turn ≡ turns.Found value
+      → (p : Stored K V) × (pair ≡ Some p) × (value.now ≡ p.value.value)

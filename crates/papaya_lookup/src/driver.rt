@@ -16,7 +16,8 @@ use papaya_call::write::Made;
 use papaya_words::probe::ResizeMode;
 use std::hash::{BuildHasher, Hash};
 
-/// A changing call under way: its machine, the table and the pair that it loaded last, and the pairs
+/// A changing call under way: its machine, the table and the pair that it loaded last, and the
+/// pairs
 /// that its change took out and put in. A machine names no others but those that the call has made,
 /// so this takes no memory.
 #[derive(Drop)]
@@ -61,7 +62,8 @@ impl<'a, K: Hash + Eq, V, S: BuildHasher> Driver<'a, K, V, S> {
         ensures sees { Sees window.old window.new }
         ensures own { window.new.own ≡ window.old.own }
         ensures loaded { Loads at result window.old self.old window.new self.new }
-        ensures rest { (self.new.machine ≡ self.old.machine) × (self.new.taken ≡ self.old.taken) × (self.new.put ≡ self.old.put) }
+        ensures rest { (self.new.machine ≡ self.old.machine) × (self.new.taken ≡ self.old.taken)
+            × (self.new.put ≡ self.old.put) }
     {
         match (at, self.table) {
             (At::Root, _) => {
@@ -103,7 +105,8 @@ impl<'a, K: Hash + Eq, V, S: BuildHasher> Driver<'a, K, V, S> {
         }
     }
 
-    /// The call tried an exchange with which the pair comes that is to be put in, if one is, and found
+    /// The call tried an exchange with which the pair comes that is to be put in, if one is, and
+    /// found
     /// this word and this pair.
     #[inline(always)]
     pub fn tried(
@@ -113,7 +116,10 @@ impl<'a, K: Hash + Eq, V, S: BuildHasher> Driver<'a, K, V, S> {
         pair: Option<Stored<K, V>>,
         put: Option<Stored<K, V>>,
     ) -> Answer
-        ensures { MatchBool (found == old) ((result ≡ Answer.Exchanged) × (self.new ≡ record self.old { taken = pair; put = put })) ((result ≡ Answer.Found found) × (self.new ≡ record self.old { last = or_last pair self.old.last })) }
+        ensures { MatchBool (found == old) ((result ≡ Answer.Exchanged)
+            × (self.new ≡ record self.old { taken = pair; put = put }))
+            ((result ≡ Answer.Found found) × (self.new ≡ record self.old
+            { last = or_last pair self.old.last })) }
     {
         if found == old {
             self.taken = pair;

@@ -10,7 +10,10 @@ ghost use Rattle.papaya_lookup.specs.History.{IsLegalHistory, changes_of, replay
 /// The changes of allowed exchanges are a legal history, whose replay is the map that the exchanges
 /// leave; and more exchanges only add to it.
 pub fn exchanges_have_a_history<K, P>()
-    ensures replay { (g : Setting K P) (es : List (Exchange P)) (k : K) → replay g.same (changes_of g.key es) k ≡ map_left g es k }
-    ensures legal { (g : Setting K P) → IsLawful g → (es : List (Exchange P)) → AllAllowed g start es → IsLegalHistory g.same g.key (changes_of g.key es) }
-    ensures grows { (g : Setting K P) (es fs : List (Exchange P)) → IsPrefix (changes_of g.key es) (changes_of g.key (es ++ fs)) }
+    ensures replay { (g : Setting K P) (es : List (Exchange P)) (k : K)
+        → replay g.same (changes_of g.key es) k ≡ map_left g es k }
+    ensures legal { (g : Setting K P) → IsLawful g → (es : List (Exchange P))
+        → AllAllowed g start es → IsLegalHistory g.same g.key (changes_of g.key es) }
+    ensures grows { (g : Setting K P) (es fs : List (Exchange P))
+        → IsPrefix (changes_of g.key es) (changes_of g.key (es ++ fs)) }
 {}

@@ -1,4 +1,5 @@
-//! Lookups, by atomic loads alone. The machine of a lookup stands in the proof: it is answered by what
+//! Lookups, by atomic loads alone. The machine of a lookup stands in the proof: it is answered by
+//! what
 //! is loaded.
 ghost use Rattle.std.specs.Prelude.{◌≡◌, ◌<◌, ◌≤◌};
 ghost use Rattle.papaya_call.specs.Search.{IsWithin};
@@ -57,10 +58,12 @@ fn look_at<'a, K: Hash + Eq, V, S: BuildHasher, Q: Equivalent<K>>(
     at: Place,
 ) -> Turn<'a, V>
     requires within { IsWithin at }
-    requires reading { IsReadingAt (⟦<S as Asked<K, Q>>⟧.query key.now) began.now.log window.old hash (Searching (Looking at)) table.now }
+    requires reading { IsReadingAt (⟦<S as Asked<K, Q>>⟧.query key.now) began.now.log window.old
+        hash (Searching (Looking at)) table.now }
     ensures sees { Sees window.old window.new }
     ensures own { window.new.own ≡ window.old.own }
-    ensures turned { IsTurned (⟦<S as Asked<K, Q>>⟧.query key.now) began.now.log window.new hash table.now result }
+    ensures turned { IsTurned (⟦<S as Asked<K, Q>>⟧.query key.now) began.now.log window.new hash
+        table.now result }
     ensures fewer { left_after window.old result < left_of (Searching (Looking at)) }
 {
     let _ = began;
@@ -93,10 +96,12 @@ fn search<'a, K: Hash + Eq, V, S: BuildHasher, Q: Equivalent<K>>(
     at: Place,
 ) -> Turn<'a, V>
     requires within { IsWithin at }
-    requires reading { IsReadingAt (⟦<S as Asked<K, Q>>⟧.query key.now) began.now.log window.old hash (Searching (Looking at)) table.now }
+    requires reading { IsReadingAt (⟦<S as Asked<K, Q>>⟧.query key.now) began.now.log window.old
+        hash (Searching (Looking at)) table.now }
     ensures sees { Sees window.old window.new }
     ensures own { window.new.own ≡ window.old.own }
-    ensures turned { IsTurned (⟦<S as Asked<K, Q>>⟧.query key.now) began.now.log window.new hash table.now result }
+    ensures turned { IsTurned (⟦<S as Asked<K, Q>>⟧.query key.now) began.now.log window.new hash
+        table.now result }
     ensures over { (at : _) → result ≡ Next at → ⊥ }
     ensures fewer { left_after window.old result ≤ left_of (Searching (Looking at)) }
 {
@@ -120,7 +125,8 @@ pub fn look_up<'a, K: Hash + Eq, V, S: BuildHasher, Q: Equivalent<K>>(
     ensures sees { Sees window.old window.new }
     ensures own { window.new.own ≡ window.old.own }
     ensures lawful { IsLawful window.new }
-    ensures answered { IsAnsweredBetween K.eq (Q.matches key.now) (past window.old) (past window.new) result }
+    ensures answered { IsAnsweredBetween K.eq (Q.matches key.now) (past window.old)
+        (past window.new) result }
 {
     window.learn();
     let began = window.sight.again();

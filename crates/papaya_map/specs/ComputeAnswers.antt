@@ -21,25 +21,40 @@ changes (Ok (Removed k v)) = true
 changes (Ok (Aborted with)) = false
 changes (Err refused) = false
 
--- A compute is refused as an insertion is, or since its closure last would remove where there is nothing.
-abbrev pub IsRefusedBy : {K V T : Type 0} → List (Option (Stored K V) × Operation V T) → Refused → Type 0
-IsRefusedBy said refused = IsCause refused ⊎ ((refused ≡ RemoveNothing) × WasLast None operation.Remove said)
+-- A compute is refused as an insertion is, or since its closure last would remove where there is
+-- nothing.
+abbrev pub IsRefusedBy : {K V T : Type 0} → List (Option (Stored K V) × Operation V T) → Refused
+    → Type 0
+IsRefusedBy said refused = IsCause refused ⊎ ((refused ≡ RemoveNothing)
+    × WasLast None operation.Remove said)
 
-module _ {K V T : Type 0} (eq : K → K → Bool) (key : K) (old new : List (Change K (Stored K V))) where
+module _ {K V T : Type 0} (eq : K → K → Bool) (key : K)
+    (old new : List (Change K (Stored K V))) where
   -- the closure was shown this very pair, and answered this
-  abbrev pub WasOperated : Stored K V → Operation V T → List (Option (Stored K V) × Operation V T) → Type 0
-  WasOperated p done said = (shown : Stored K V) × IsSamePair shown p × Member (Some shown, done) said
+  abbrev pub WasOperated : Stored K V → Operation V T → List (Option (Stored K V) × Operation V T)
+      → Type 0
+  WasOperated p done said = (shown : Stored K V) × IsSamePair shown p
+      × Member (Some shown, done) said
 
-  -- What a compute answers, by what its closure was shown and answered. A new pair has the key that was handed in, and the value of the closure's answer to just what it takes the place of.
-  abbrev pub IsOperated : List (Option (Stored K V) × Operation V T) → Result (Computed K V T) Refused → Type 0
-  IsOperated said (Ok (Inserted k v)) = (q : Stored K V) × IsChangeOf (eq key) old new None (Some q) × (key_of q ≡ key) × Member (None, operation.Insert q.value.value) said × AreOf (k, v) q
-  IsOperated said (Ok (Updated before after)) = (p : Stored K V) × (q : Stored K V) × IsChangeOf (eq key) old new (Some p) (Some q) × (key_of q ≡ key) × WasOperated p (operation.Insert q.value.value) said × AreOf before p × AreOf after q
-  IsOperated said (Ok (Removed k v)) = (p : Stored K V) × IsChangeOf (eq key) old new (Some p) None × WasOperated p operation.Remove said × AreOf (k, v) p
-  IsOperated said (Ok (Aborted t)) = (held : Option (Stored K V)) × WasLast held (operation.Abort t) said
+  -- What a compute answers, by what its closure was shown and answered. A new pair has the key that
+  -- was handed in, and the value of the closure's answer to just what it takes the place of.
+  abbrev pub IsOperated : List (Option (Stored K V) × Operation V T)
+      → Result (Computed K V T) Refused → Type 0
+  IsOperated said (Ok (Inserted k v)) = (q : Stored K V) × IsChangeOf (eq key) old new None (Some q)
+      × (key_of q ≡ key) × Member (None, operation.Insert q.value.value) said × AreOf (k, v) q
+  IsOperated said (Ok (Updated before after)) = (p : Stored K V) × (q : Stored K V)
+      × IsChangeOf (eq key) old new (Some p) (Some q) × (key_of q ≡ key)
+      × WasOperated p (operation.Insert q.value.value) said × AreOf before p × AreOf after q
+  IsOperated said (Ok (Removed k v)) = (p : Stored K V) × IsChangeOf (eq key) old new (Some p) None
+      × WasOperated p operation.Remove said × AreOf (k, v) p
+  IsOperated said (Ok (Aborted t)) = (held : Option (Stored K V))
+      × WasLast held (operation.Abort t) said
   IsOperated said (Err refused) = IsRefusedBy said refused
 
-  -- A compute whose closure was `first`. What it was shown was the map's between the two histories, and at most once that there is none.
-  pub record IsComputeBy {F : Type 0} (operates : F → Option (Stored K V) → Operation V T → F → Type 0) (first : F) (answer : Result (Computed K V T) Refused) : Type 0 where
+  -- A compute whose closure was `first`. What it was shown was the map's between the two histories,
+  -- and at most once that there is none.
+  pub record IsComputeBy {F : Type 0} (operates : F → Option (Stored K V) → Operation V T → F
+      → Type 0) (first : F) (answer : Result (Computed K V T) Refused) : Type 0 where
     pub said : List (Option (Stored K V) × Operation V T)
     pub left : F
     pub has_said : HasSaid operates first said left

@@ -4,7 +4,8 @@ use Rattle.logbook.specs.Pages.{Book}
 use Rattle.papaya_words.specs.Probe.{IsEntriesFor}
 use Rattle.papaya_words.specs.declared.probe.ResizeMode.{ResizeMode}
 
--- Which book it has, how it resizes, and the initial capacity, in slots, by which its first table is sized.
+-- Which book it has, how it resizes, and the initial capacity, in slots, by which its first table
+-- is sized.
 pub record Fixed : Type 0 where
   pub book : Book
   pub mode : ResizeMode

@@ -32,7 +32,8 @@ use std::hash::{BuildHasher, Hash};
 use std::sync::Wait;
 
 /// A compute under way: the pair that its closure was shown last, if it was one; the pair that it
-/// would put in where there is none; the pair of which it was answered what is to become, and the one
+/// would put in where there is none; the pair of which it was answered what is to become, and the
+/// one
 /// that is to take its place; and what its closure ended it with.
 #[derive(Drop)]
 pub struct Computing<'a, K: Hash + Eq, V, S: BuildHasher, T> {
@@ -111,7 +112,8 @@ impl<'a, K: Hash + Eq + Drop, V: Drop, S: BuildHasher, T: Drop> Computing<'a, K,
         requires asks { ask_of self.old.writer.call.machine ≡ ShowNone }
         ensures machine { self.new.writer.call.machine ≡ self.old.writer.call.machine }
         ensures callable { F.IsAlwaysCallable compute.new }
-        ensures computes { Computes (Operates F.FnMut) window.now self.old compute.old window.now self.new compute.new (Some result) }
+        ensures computes { Computes (Operates F.FnMut) window.now self.old compute.old window.now
+            self.new compute.new (Some result) }
     {
         let operation = compute(no_entry(window.book));
         self.shown = None;
@@ -130,7 +132,8 @@ impl<'a, K: Hash + Eq + Drop, V: Drop, S: BuildHasher, T: Drop> Computing<'a, K,
         requires asks { (n : ℕ) × (ask_of self.old.writer.call.machine ≡ ShowPair n) }
         ensures machine { self.new.writer.call.machine ≡ self.old.writer.call.machine }
         ensures callable { F.IsAlwaysCallable compute.new }
-        ensures computes { Computes (Operates F.FnMut) window.now self.old compute.old window.now self.new compute.new (Some result) }
+        ensures computes { Computes (Operates F.FnMut) window.now self.old compute.old window.now
+            self.new compute.new (Some result) }
     {
         let Some(last) = &self.writer.call.last else {
             unreachable!()
@@ -154,7 +157,8 @@ impl<'a, K: Hash + Eq + Drop, V: Drop, S: BuildHasher, T: Drop> Computing<'a, K,
         requires standing { IsStanding self.old.writer.call.machine }
         requires asks { ask_of self.old.writer.call.machine ≡ MakePair }
         ensures machine { self.new.writer.call.machine ≡ self.old.writer.call.machine }
-        ensures computes { Computes (Operates F.FnMut) window.now self.old compute.now window.now self.new compute.now (Some result) }
+        ensures computes { Computes (Operates F.FnMut) window.now self.old compute.now window.now
+            self.new compute.now (Some result) }
     {
         let _ = compute;
         let pair = match self.writer.log_pair(rt, window) {
@@ -182,12 +186,15 @@ impl<'a, K: Hash + Eq + Drop, V: Drop, S: BuildHasher, T: Drop> Computing<'a, K,
     ) -> Answer
         requires can { CanCompute (Operates F.FnMut) window.old self.old compute.now }
         requires standing { IsStanding self.old.writer.call.machine }
-        requires asks { ask_of self.old.writer.call.machine ≡ Exchange (Slot number place) words.0 words.1 }
-        requires kind { (kind_of_ask self.old.writer.call.machine ≡ Some Claim) ⊎ (kind_of_ask self.old.writer.call.machine ≡ Some Replace) }
+        requires asks { ask_of self.old.writer.call.machine ≡ Exchange (Slot number place) words.0
+            words.1 }
+        requires kind { (kind_of_ask self.old.writer.call.machine ≡ Some Claim)
+            ⊎ (kind_of_ask self.old.writer.call.machine ≡ Some Replace) }
         ensures sees { Sees window.old window.new }
         ensures does { Does (was_made result) window.old window.new }
         ensures machine { self.new.writer.call.machine ≡ self.old.writer.call.machine }
-        ensures computes { Computes (Operates F.FnMut) window.old self.old compute.now window.new self.new compute.now (Some result) }
+        ensures computes { Computes (Operates F.FnMut) window.old self.old compute.now window.new
+            self.new compute.now (Some result) }
     {
         let _ = compute;
         let kind = self.writer.call.machine.kind();
@@ -208,11 +215,13 @@ impl<'a, K: Hash + Eq + Drop, V: Drop, S: BuildHasher, T: Drop> Computing<'a, K,
     ) -> Answer
         requires can { CanCompute (Operates F.FnMut) window.old self.old compute.now }
         requires standing { IsStanding self.old.writer.call.machine }
-        requires asks { ask_of self.old.writer.call.machine ≡ Exchange (Slot number place) words.0 words.1 }
+        requires asks { ask_of self.old.writer.call.machine ≡ Exchange (Slot number place) words.0
+            words.1 }
         ensures sees { Sees window.old window.new }
         ensures does { Does (was_made result) window.old window.new }
         ensures machine { self.new.writer.call.machine ≡ self.old.writer.call.machine }
-        ensures computes { Computes (Operates F.FnMut) window.old self.old compute.now window.new self.new compute.now (Some result) }
+        ensures computes { Computes (Operates F.FnMut) window.old self.old compute.now window.new
+            self.new compute.now (Some result) }
     {
         match self.writer.call.machine.kind() {
             Some(StepKind::Bury) => self.writer.bury(number, place, words, window),
@@ -236,7 +245,8 @@ impl<'a, K: Hash + Eq + Drop, V: Drop, S: BuildHasher, T: Drop> Computing<'a, K,
         ensures sees { Sees window.old window.new }
         ensures own { window.new.own ≡ window.old.own }
         ensures machine { self.new.writer.call.machine ≡ self.old.writer.call.machine }
-        ensures computes { Computes (Operates F.FnMut) window.old self.old compute.now window.new self.new compute.now (Some result) }
+        ensures computes { Computes (Operates F.FnMut) window.old self.old compute.now window.new
+            self.new compute.now (Some result) }
     {
         let _ = compute;
         match ask {
@@ -265,10 +275,12 @@ impl<'a, K: Hash + Eq + Drop, V: Drop, S: BuildHasher, T: Drop> Computing<'a, K,
         requires can { CanCompute (Operates F.FnMut) window.old self.old compute.old }
         requires standing { IsStanding self.old.writer.call.machine }
         ensures sees { Sees window.old window.new }
-        ensures answers { Answers (ask_of self.old.writer.call.machine) result window.old window.new }
+        ensures answers { Answers (ask_of self.old.writer.call.machine) result window.old
+            window.new }
         ensures machine { self.new.writer.call.machine ≡ self.old.writer.call.machine }
         ensures callable { F.IsAlwaysCallable compute.new }
-        ensures computes { Computes (Operates F.FnMut) window.old self.old compute.old window.new self.new compute.new result }
+        ensures computes { Computes (Operates F.FnMut) window.old self.old compute.old window.new
+            self.new compute.new result }
     {
         let ask = self.writer.call.machine.ask();
         match ask {
@@ -319,7 +331,8 @@ impl<'a, K: Hash + Eq + Drop, V: Drop, S: BuildHasher, T: Drop> Computing<'a, K,
     ) -> Compute<'a, K, V, T>
         requires standing { IsStanding self.now.writer.call.machine }
         requires can { CanCompute (Operates F.FnMut) window.now self.now compute.now }
-        requires done { (m : ℕ) × (n : ℕ) × (ask_of self.now.writer.call.machine ≡ Done (Replaced m n)) }
+        requires done { (m : ℕ) × (n : ℕ) × (ask_of self.now.writer.call.machine ≡ Done
+            (Replaced m n)) }
         ensures changed { changes (Ok result) ≡ has_changed self.now.writer.call.machine }
         ensures replies { Replies (Operates F.FnMut) window.now self.now compute.now (Ok result) }
     {
@@ -412,7 +425,8 @@ pub fn compute<
     ensures sees { Sees window.old window.new }
     ensures lawful { IsLawful window.new }
     ensures made { Makes (changes result) (own window.old) (own window.new) (past window.new) }
-    ensures computed { IsComputeBy K.eq key (past window.old) (past window.new) (Operates F.FnMut) f result }
+    ensures computed { IsComputeBy K.eq key (past window.old) (past window.new) (Operates F.FnMut) f
+        result }
 {
     window.learn();
     let book = window.book;

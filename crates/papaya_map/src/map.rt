@@ -49,15 +49,23 @@ pub struct HashMap<K: Hash + Eq, V, S: BuildHasher = BuildHasherDefault<FoldHash
 impl<K: Hash + Eq, V, S: BuildHasher> Model for HashMap<K, V, S> {
     ghost Value = { Fixed };
 
-    ghost view = { λ m. record { book = m.book.begun.book; mode = m.book.parts.mode; initial = m.initial } };
+    ghost view = { λ m. record {
+      book = m.book.begun.book;
+      mode = m.book.parts.mode;
+      initial = m.initial;
+    } };
 }
 
-/// What a caller has seen of a map's history, and what it changed itself. It has no bytes. Contracts
-/// see that history, which is legal, the changes that were made by this pass, oldest first, and which
+/// What a caller has seen of a map's history, and what it changed itself. It has no bytes.
+/// Contracts
+/// see that history, which is legal, the changes that were made by this pass, oldest first, and
+/// which
 /// book they are of.
 ///
-/// Each call by a pass stands in the history after all that the pass had seen before, and afterwards
-/// the pass has seen the call's own moment. A call that changes the map makes one change by its pass,
+/// Each call by a pass stands in the history after all that the pass had seen before, and
+/// afterwards
+/// the pass has seen the call's own moment. A call that changes the map makes one change by its
+/// pass,
 /// and any other call makes none.
 #[derive(Drop)]
 pub struct Pass<K: Hash + Eq, V, S: BuildHasher> {
@@ -68,7 +76,11 @@ pub struct Pass<K: Hash + Eq, V, S: BuildHasher> {
 impl<K: Hash + Eq, V, S: BuildHasher> Model for Pass<K, V, S> {
     ghost Value = { Past K V };
 
-    ghost view = { λ p. record { book = p.sight.book; history = history_of p.sight.log; made = changes_by p.own.done } };
+    ghost view = { λ p. record {
+      book = p.sight.book;
+      history = history_of p.sight.log;
+      made = changes_by p.own.done;
+    } };
 
     ghost invariant = { λ p. IsLegalHistory K.eq key_of (history_of p.sight.log) };
 }
@@ -88,7 +100,8 @@ impl<'a, K: Hash + Eq, V, S: BuildHasher> Model for HashMapRef<'a, K, V, S> {
 }
 
 impl<K: Hash + Eq + Drop, V: Drop, S: BuildHasher + Drop> HashMap<K, V, S> {
-    /// A map of all its parts. `capacity` is for how many pairs its first table is made at once; with
+    /// A map of all its parts. `capacity` is for how many pairs its first table is made at once;
+    /// with
     /// 0 the first change makes one. `shards` is rounded up to a power of two.
     ///
     /// `Refused::ZeroChunk` for chunks of no slots. `Refused::Capacity` for more shards than
@@ -127,7 +140,8 @@ impl<K: Hash + Eq + Drop, V: Drop, S: BuildHasher + Drop> HashMap<K, V, S> {
 }
 
 impl<K: Hash + Eq + Drop, V: Drop> HashMap<K, V, BuildHasherDefault<FoldHasher>> {
-    /// A map that makes its first table at its first change: `new` of 0.2.5, but for the hasher, which
+    /// A map that makes its first table at its first change: `new` of 0.2.5, but for the hasher,
+    /// which
     /// is the same in each run.
     pub fn new<R: Wait>(
         rt: &R,
@@ -139,16 +153,19 @@ impl<K: Hash + Eq + Drop, V: Drop> HashMap<K, V, BuildHasherDefault<FoldHasher>>
         HashMap::with_capacity(rt, alloc, 0)
     }
 
-    /// A map for so many pairs: `with_capacity` of 0.2.5. It resizes as [`ResizeMode::default`] says,
+    /// A map for so many pairs: `with_capacity` of 0.2.5. It resizes as [`ResizeMode::default`]
+    /// says,
     /// and counts its pairs over [`DEFAULT_SHARDS`] shards. Refused as [`HashMap::with_parts`].
     pub fn with_capacity<R: Wait>(
         rt: &R,
         alloc: Global,
         capacity: usize,
     ) -> Result<HashMap<K, V, BuildHasherDefault<FoldHasher>>, Refused>
-        ensures ok { IfOk result (λ map. IsAllowed (ResizeMode.Incremental DEFAULT_CHUNK) capacity DEFAULT_SHARDS) }
+        ensures ok { IfOk result (λ map. IsAllowed (ResizeMode.Incremental DEFAULT_CHUNK) capacity
+            DEFAULT_SHARDS) }
         ensures made { IfOk result (IsFor (ResizeMode.Incremental DEFAULT_CHUNK) capacity) }
-        ensures err { IfErr result (λ e. IsRefused (ResizeMode.Incremental DEFAULT_CHUNK) capacity DEFAULT_SHARDS e) }
+        ensures err { IfErr result (λ e. IsRefused (ResizeMode.Incremental DEFAULT_CHUNK) capacity
+            DEFAULT_SHARDS e) }
     {
         HashMap::with_parts(
             rt,
@@ -183,7 +200,8 @@ impl<K: Hash + Eq, V, S: BuildHasher> HashMap<K, V, S> {
         self.len() == 0
     }
 
-    /// A new pass of this map. It has seen no change yet: each history of a map begins as that of the
+    /// A new pass of this map. It has seen no change yet: each history of a map begins as that of
+    /// the
     /// empty one.
     pub fn pass(&self) -> Pass<K, V, S>
         ensures book { result.book ≡ self.now.book }
@@ -199,7 +217,8 @@ impl<K: Hash + Eq, V, S: BuildHasher> HashMap<K, V, S> {
 
 impl<'a, K: Hash + Eq, V, S: BuildHasher> HashMapRef<'a, K, V, S> {
     /// Tells each of two passes of this map what the other has seen. Afterwards both have seen one
-    /// history, which begins with what each had seen. Nothing is done when the program runs, and the
+    /// history, which begins with what each had seen. Nothing is done when the program runs, and
+    /// the
     /// call is never refused.
     pub fn meet(&self, a: &mut Pass<K, V, S>, b: &mut Pass<K, V, S>)
         requires first { a.old.book ≡ self.now }
@@ -214,7 +233,8 @@ impl<'a, K: Hash + Eq, V, S: BuildHasher> HashMapRef<'a, K, V, S> {
         b.sight = a.sight.again();
     }
 
-    /// The value of a key: `get` of 0.2.5. It loads words and nothing else: it waits for nobody, and
+    /// The value of a key: `get` of 0.2.5. It loads words and nothing else: it waits for nobody,
+    /// and
     /// takes no lock and no memory.
     #[inline]
     pub fn get_as<Q: Equivalent<K>>(&self, key: &Q, pass: &mut Pass<K, V, S>) -> Option<&'a V>
@@ -222,7 +242,8 @@ impl<'a, K: Hash + Eq, V, S: BuildHasher> HashMapRef<'a, K, V, S> {
         ensures book { pass.new.book ≡ pass.old.book }
         ensures seen { IsPrefix pass.old.history pass.new.history }
         ensures made { pass.new.made ≡ pass.old.made }
-        ensures answered { IsAnsweredBetween K.eq (Q.matches key.now) pass.old.history pass.new.history result }
+        ensures answered { IsAnsweredBetween K.eq (Q.matches key.now) pass.old.history
+            pass.new.history result }
     {
         let map: &'a HashMap<K, V, S> = self.map;
         let mut window = Window::new(&map.book, &pass.sight, &pass.own);
@@ -237,7 +258,8 @@ impl<'a, K: Hash + Eq, V, S: BuildHasher> HashMapRef<'a, K, V, S> {
     /// `Ok(None)` where the key is absent, `Ok(Some(pair))` where that very pair was removed, and
     /// `Err(pair)` where the closure answered false for it. The closure may be asked again, where
     /// another call was first to replace or remove the pair that it was shown. A removal takes no
-    /// memory, and it is never refused: while a map has one table, there is no cause. The pass makes one
+    /// memory, and it is never refused: while a map has one table, there is no cause. The pass
+    /// makes one
     /// change where a pair was removed, and else none.
     pub fn remove_if_as<R: Wait, Q: Equivalent<K>, F: FnMut(&K, &V) -> bool>(
         &self,
@@ -251,7 +273,8 @@ impl<'a, K: Hash + Eq, V, S: BuildHasher> HashMapRef<'a, K, V, S> {
         ensures book { pass.new.book ≡ pass.old.book }
         ensures seen { IsPrefix pass.old.history pass.new.history }
         ensures made { Makes (went result) pass.old.made pass.new.made pass.new.history }
-        ensures removed { IsRemovalBy K.eq (Q.matches key.now) pass.old.history pass.new.history (Judges F.FnMut) should_remove result }
+        ensures removed { IsRemovalBy K.eq (Q.matches key.now) pass.old.history pass.new.history
+            (Judges F.FnMut) should_remove result }
     {
         let map: &'a HashMap<K, V, S> = self.map;
         let shard = map.count.shard(self.guard);
@@ -274,7 +297,8 @@ impl<'a, K: Hash + Eq, V, S: BuildHasher> HashMapRef<'a, K, V, S> {
         ensures book { pass.new.book ≡ pass.old.book }
         ensures seen { IsPrefix pass.old.history pass.new.history }
         ensures made { Makes (took result) pass.old.made pass.new.made pass.new.history }
-        ensures removed { IsRemoved K.eq (Q.matches key.now) pass.old.history pass.new.history result }
+        ensures removed { IsRemoved K.eq (Q.matches key.now) pass.old.history pass.new.history
+            result }
     {
         let removed = self.remove_if_as(
             rt,
@@ -311,8 +335,10 @@ impl<'a, K: Hash + Eq + Drop, V: Drop, S: BuildHasher> HashMapRef<'a, K, V, S> {
         ensures book { pass.new.book ≡ pass.old.book }
         ensures seen { IsPrefix pass.old.history pass.new.history }
         ensures made { Makes (is_ok result) pass.old.made pass.new.made pass.new.history }
-        ensures put { IfOk result (λ answer. IsPut K.eq key value pass.old.history pass.new.history answer) }
-        ensures refused { IfErr result (λ refused. (refused ≡ Refused.Memory) ⊎ (refused ≡ Refused.Capacity)) }
+        ensures put { IfOk result (λ answer. IsPut K.eq key value pass.old.history pass.new.history
+            answer) }
+        ensures refused { IfErr result (λ refused. (refused ≡ Refused.Memory)
+            ⊎ (refused ≡ Refused.Capacity)) }
     {
         let map: &'a HashMap<K, V, S> = self.map;
         let shard = map.count.shard(self.guard);
@@ -328,7 +354,8 @@ impl<'a, K: Hash + Eq + Drop, V: Drop, S: BuildHasher> HashMapRef<'a, K, V, S> {
     /// nothing is changed.
     ///
     /// The closure may be asked again, where another call was first to replace or remove the pair
-    /// that it was shown: what it answered of one pair is done to that pair alone. That there is none
+    /// that it was shown: what it answered of one pair is done to that pair alone. That there is
+    /// none
     /// it is shown once at most, since its insertion is remembered.
     ///
     /// Refused as [`HashMapRef::insert_as`], and with `Refused::RemoveNothing` where the closure
@@ -346,7 +373,8 @@ impl<'a, K: Hash + Eq + Drop, V: Drop, S: BuildHasher> HashMapRef<'a, K, V, S> {
         ensures book { pass.new.book ≡ pass.old.book }
         ensures seen { IsPrefix pass.old.history pass.new.history }
         ensures made { Makes (changes result) pass.old.made pass.new.made pass.new.history }
-        ensures computed { IsComputeBy K.eq key pass.old.history pass.new.history (Operates F.FnMut) f result }
+        ensures computed { IsComputeBy K.eq key pass.old.history pass.new.history (Operates F.FnMut)
+            f result }
     {
         let map: &'a HashMap<K, V, S> = self.map;
         let shard = map.count.shard(self.guard);

@@ -92,7 +92,8 @@ fn operation(says: Says) -> Operation<u64, ()> {
     }
 }
 
-/// What the closure of a compute was shown: how often that there is none, how often a pair, and which
+/// What the closure of a compute was shown: how often that there is none, how often a pair, and
+/// which
 /// pair last.
 fn shown_by<R: Wait>(
     rt: &R,

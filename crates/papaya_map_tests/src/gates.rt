@@ -112,7 +112,8 @@ fn a_removal_shows_what_replaced_its_pair(rt: HostRuntime) {
     counts(&rt, &map, 0);
 }
 
-/// What the closure of a compute was shown, and the values that the compute answered of the old pair
+/// What the closure of a compute was shown, and the values that the compute answered of the old
+/// pair
 /// and of the new one.
 #[derive(Drop)]
 struct Update {
@@ -193,7 +194,8 @@ fn update_at_gate<R: Threads + Wait + Sync>(
     )
 }
 
-/// A value that is replaced while it is shown is not added to: the closure is shown the one that took
+/// A value that is replaced while it is shown is not added to: the closure is shown the one that
+/// took
 /// its place.
 #[test]
 fn a_compute_shows_what_replaced_its_pair(rt: HostRuntime) {

@@ -79,7 +79,8 @@ fn fills<R: Wait>(rt: &R, map: &Numbers) -> Result<bool, Refused> {
     Ok(true)
 }
 
-/// Empties a map of the keys below 20, the highest first: was it as it should be after each? A removal
+/// Empties a map of the keys below 20, the highest first: was it as it should be after each? A
+/// removal
 /// takes no memory.
 fn empties<R: Wait>(rt: &R, map: &Numbers) -> Result<bool, Refused> {
     let mut pass = map.pass();

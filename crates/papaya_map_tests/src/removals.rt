@@ -1,4 +1,5 @@
-// Removals by one caller: what they answer, what they show their closure, and what is there after them.
+// Removals by one caller: what they answer, what they show their closure, and what is there after
+// them.
 ghost use Rattle.std.specs.Prelude.{◌≡◌};
 
 use crate::expect::is;

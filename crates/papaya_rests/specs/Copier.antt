@@ -71,10 +71,12 @@ module _ {K P : Type 0} (g : Setting K P) (c : Coding K P) (s : State P) where
     pub was : s.was_root from ≡ true
     pub target : IsTarget g s from n
 
-  -- from was the root, and its copies go behind this table: from itself, or a table that was given up
+  -- from was the root, and its copies go behind this table: from itself, or a table that was given
+  -- up
   pub record IsAimed (from behind : ℕ) : Type 0 where
     pub was : s.was_root from ≡ true
-    pub given_up : (behind ≡ from) ⊎ ((g.blocking ≡ true) × IsTarget g s from behind × (s.aborted behind ≡ true))
+    pub given_up : (behind ≡ from) ⊎ ((g.blocking ≡ true) × IsTarget g s from behind
+        × (s.aborted behind ≡ true))
 
   -- the slots of the chunk are settled as far as this one
   pub record IsChunk (chunk : Chunk) (upto : ℕ) : Type 0 where
@@ -82,7 +84,8 @@ module _ {K P : Type 0} (g : Setting K P) (c : Coding K P) (s : State P) where
     pub len : chunk.len ≡ g.size chunk.from
     pub some : chunk.begun < chunk.end
     pub within : chunk.end ≤ chunk.len
-    pub settled : (x : ℕ) → chunk.begun ≤ x → x < upto → IsSettled g s chunk.to (s.slot chunk.from x)
+    pub settled : (x : ℕ) → chunk.begun ≤ x → x < upto
+        → IsSettled g s chunk.to (s.slot chunk.from x)
 
   -- without blocking: the pair of the slot is marked or copied, and goes to the next table first
   pub record IsMoving (slot : Slot) : Type 0 where
@@ -91,7 +94,8 @@ module _ {K P : Type 0} (g : Setting K P) (c : Coding K P) (s : State P) where
     pub within : slot.index < g.size slot.from
     pub target : IsTarget g s slot.from slot.to
     pub pair : P
-    pub stood : (s.slot slot.from slot.index ≡ Marked pair) ⊎ (s.slot slot.from slot.index ≡ Copied pair)
+    pub stood : (s.slot slot.from slot.index ≡ Marked pair)
+        ⊎ (s.slot slot.from slot.index ≡ Copied pair)
 
   -- the place is one of p's key
   pub record IsFor (p : P) (hash : ℕ) (at : Place) : Type 0 where
@@ -106,13 +110,15 @@ module _ {K P : Type 0} (g : Setting K P) (c : Coding K P) (s : State P) where
     pub pair : P
     pub table : ℕ
     pub marked : word ≡ code g c (Marked pair)
-    pub stood : (s.slot slot.from slot.index ≡ Marked pair) ⊎ (s.slot slot.from slot.index ≡ Copied pair)
+    pub stood : (s.slot slot.from slot.index ≡ Marked pair)
+        ⊎ (s.slot slot.from slot.index ≡ Copied pair)
     pub taker : IsTaker g s (g.key pair) slot.from table
     pub has : HasWord g.places (look g s (g.key pair)) table
     pub here : g.blocking ≡ true → table ≡ slot.to
 
 -- `last` is the pair last told of, `kept` the one that is carried.
-module _ {K P : Type 0} (g : Setting K P) (c : Coding K P) (s : State P) (last kept : Option P) where
+module _ {K P : Type 0} (g : Setting K P) (c : Coding K P) (s : State P)
+    (last kept : Option P) where
   -- the word that was loaded at the place named the pair last told of
   pub record HasCompared (at : Place) (word : ℕ) : Type 0 where
     pub pair : P
@@ -124,14 +130,23 @@ module _ {K P : Type 0} (g : Setting K P) (c : Coding K P) (s : State P) (last k
 
   -- how far the carry of p is
   abbrev pub RestsCarry : Slot → P → Carry → Type 0
-  RestsCarry slot p (carries.Hashing table) = (last ≡ Some p) × IsPutting g s slot.from slot.index p table 0
-  RestsCarry slot p (carries.Sizing hash table) = (kept ≡ Some p) × (hash ≡ c.hash (g.key p)) × IsPutting g s slot.from slot.index p table 0
-  RestsCarry slot p (carries.Looking hash at) = (kept ≡ Some p) × IsFor g c s p hash at × IsPutting g s slot.from slot.index p at.table at.probe.len
-  RestsCarry slot p (carries.Comparing hash at word) = (kept ≡ Some p) × IsFor g c s p hash at × IsPutting g s slot.from slot.index p at.table at.probe.len × HasCompared at word
-  RestsCarry slot p (carries.Placing hash at) = (kept ≡ Some p) × IsFor g c s p hash at × IsPutting g s slot.from slot.index p at.table at.probe.len
-  RestsCarry slot p (carries.Passing hash table) = (g.blocking ≡ false) × (kept ≡ Some p) × (hash ≡ c.hash (g.key p)) × IsPutting g s slot.from slot.index p table (g.places table)
-  RestsCarry slot p (carries.Linking hash link) = (g.blocking ≡ false) × (kept ≡ Some p) × (hash ≡ c.hash (g.key p)) × IsPutting g s slot.from slot.index p (follows link) (g.places (follows link)) × RestsLink g c s link
-  RestsCarry slot p (carries.Aborting table) = (g.blocking ≡ true) × (kept ≡ Some p) × IsPutting g s slot.from slot.index p table (g.places table)
+  RestsCarry slot p (carries.Hashing table) = (last ≡ Some p)
+      × IsPutting g s slot.from slot.index p table 0
+  RestsCarry slot p (carries.Sizing hash table) = (kept ≡ Some p) × (hash ≡ c.hash (g.key p))
+      × IsPutting g s slot.from slot.index p table 0
+  RestsCarry slot p (carries.Looking hash at) = (kept ≡ Some p) × IsFor g c s p hash at
+      × IsPutting g s slot.from slot.index p at.table at.probe.len
+  RestsCarry slot p (carries.Comparing hash at word) = (kept ≡ Some p) × IsFor g c s p hash at
+      × IsPutting g s slot.from slot.index p at.table at.probe.len × HasCompared at word
+  RestsCarry slot p (carries.Placing hash at) = (kept ≡ Some p) × IsFor g c s p hash at
+      × IsPutting g s slot.from slot.index p at.table at.probe.len
+  RestsCarry slot p (carries.Passing hash table) = (g.blocking ≡ false) × (kept ≡ Some p)
+      × (hash ≡ c.hash (g.key p)) × IsPutting g s slot.from slot.index p table (g.places table)
+  RestsCarry slot p (carries.Linking hash link) = (g.blocking ≡ false) × (kept ≡ Some p)
+      × (hash ≡ c.hash (g.key p)) × IsPutting g s slot.from slot.index p (follows link)
+      (g.places (follows link)) × RestsLink g c s link
+  RestsCarry slot p (carries.Aborting table) = (g.blocking ≡ true) × (kept ≡ Some p)
+      × IsPutting g s slot.from slot.index p table (g.places table)
 
   -- the marked word names the pair that is carried; with blocking it is carried to the target alone
   pub record IsCarrying (slot : Slot) (word : ℕ) (carry : Carry) : Type 0 where
@@ -150,11 +165,13 @@ module _ {K P : Type 0} (g : Setting K P) (c : Coding K P) (s : State P) (last k
   abbrev pub RestsStep : Step → Type 0
   RestsStep steps.AtRoot = Unit {0}
   RestsStep (steps.Aiming from behind) = IsAimed g c s from behind
-  RestsStep (steps.Linking from link) = (g.blocking ≡ true) × IsAimed g c s from (follows link) × RestsLink g c s link
+  RestsStep (steps.Linking from link) = (g.blocking ≡ true) × IsAimed g c s from (follows link)
+      × RestsLink g c s link
   RestsStep (steps.Judging from to) = (g.blocking ≡ true) × IsSource g c s from to
   RestsStep (steps.Sizing from to) = IsSource g c s from to
   RestsStep (steps.Counting from to len) = IsSource g c s from to × (len ≡ g.size from)
-  RestsStep (steps.Settling chunk settle) = IsChunk g c s chunk chunk.at × (chunk.begun ≤ chunk.at) × (chunk.at < chunk.end) × RestsSettle (slot_of chunk) settle
+  RestsStep (steps.Settling chunk settle) = IsChunk g c s chunk chunk.at × (chunk.begun ≤ chunk.at)
+      × (chunk.at < chunk.end) × RestsSettle (slot_of chunk) settle
   RestsStep (steps.Advancing chunk) = IsChunk g c s chunk chunk.end
   RestsStep (steps.Promoting from to) = IsSource g c s from to × (g.size from ≤ s.done to)
 
@@ -209,8 +226,10 @@ abbrev pub IsStillAimed : Aim → Aim → Type 0
 IsStillAimed (aims.All met) aim = (root : ℕ) × (aim ≡ aims.All root)
 IsStillAimed old aim = aim ≡ old
 
-module _ {K P : Type 0} (g : Setting K P) (c : Coding K P) (s : State P) (last kept : Option P) where
-  -- a call looks on in this table: the one that it was to look in, or the one to which a slot's pair went, which is settled
+module _ {K P : Type 0} (g : Setting K P) (c : Coding K P) (s : State P)
+    (last kept : Option P) where
+  -- a call looks on in this table: the one that it was to look in, or the one to which a slot's
+  -- pair went, which is settled
   abbrev pub IsLedTo : Aim → ℕ → Type 0
   IsLedTo (aims.Search table) n = n ≡ table
   IsLedTo (aims.Settle slot) n = (n ≡ slot.to) × IsSettled g s slot.to (s.slot slot.from slot.index)
@@ -218,7 +237,8 @@ module _ {K P : Type 0} (g : Setting K P) (c : Coding K P) (s : State P) (last k
 
   -- where an answer led a call that copied for this
   abbrev pub RestsCopied : Aim → Copied_end → Type 0
-  RestsCopied aim (copied.On copying) = IsStillAimed aim (aim_of copying) × RestsCopying g c s last kept copying
+  RestsCopied aim (copied.On copying) = IsStillAimed aim (aim_of copying)
+      × RestsCopying g c s last kept copying
   RestsCopied aim (copied.Search table) = IsLedTo aim table
   RestsCopied aim (copied.Root table) = (s.root ≡ table) × ((met : ℕ) × (aim ≡ aims.All met))
   RestsCopied aim copied.Chunk = aim ≡ aims.Chunk
@@ -230,12 +250,16 @@ told_last s (Slot_word t x) last = or_last (named (s.slot t x)) last
 told_last s _ last = last
 
 -- the exchange of the law that a copier asks for, by its kind
-abbrev pub IsCopyAsked : {K P : Type 0} → Coding K P → Option StepKind → At → ℕ → State P → Option P → Exchange P → Type 0
+abbrev pub IsCopyAsked : {K P : Type 0} → Coding K P → Option StepKind → At → ℕ → State P → Option P
+    → Exchange P → Type 0
 IsCopyAsked c (Some kinds.Link) (Next t) new s kept e = e ≡ Link_to t new
-IsCopyAsked {P = P} c (Some kinds.Mark) (Slot_word t x) new s kept e = (p : P) × (s.slot t x ≡ Live p) × (e ≡ Mark t x p)
+IsCopyAsked {P = P} c (Some kinds.Mark) (Slot_word t x) new s kept e = (p : P)
+    × (s.slot t x ≡ Live p) × (e ≡ Mark t x p)
 IsCopyAsked c (Some kinds.Close) (Slot_word t x) new s kept e = e ≡ Close t x
-IsCopyAsked {P = P} c (Some kinds.Place) (Slot_word t x) new s kept e = (p : P) × (kept ≡ Some p) × (c.number p ≡ pair_of new) × (e ≡ Place_pair t x p)
-IsCopyAsked {P = P} c (Some kinds.Finish) (Slot_word t x) new s kept e = (p : P) × (s.slot t x ≡ Marked p) × (e ≡ Finish t x p)
+IsCopyAsked {P = P} c (Some kinds.Place) (Slot_word t x) new s kept e = (p : P) × (kept ≡ Some p)
+    × (c.number p ≡ pair_of new) × (e ≡ Place_pair t x p)
+IsCopyAsked {P = P} c (Some kinds.Finish) (Slot_word t x) new s kept e = (p : P)
+    × (s.slot t x ≡ Marked p) × (e ≡ Finish t x p)
 IsCopyAsked c (Some kinds.Advance) (Done n) new s kept e = e ≡ Advance n (s.done n) new
 IsCopyAsked c (Some kinds.Promote) Root new s kept e = e ≡ Promote s.root new
 IsCopyAsked c (Some kinds.Abort) (Aborted n) new s kept e = e ≡ Abort n
@@ -246,7 +270,8 @@ abbrev pub last_after : {P : Type 0} → Exchange P → Option P → Option P
 last_after (Mark t x p) last = Some p
 last_after _ last = last
 
-module _ {K P : Type 0} (g : Setting K P) (c : Coding K P) (s : State P) (last kept : Option P) where
+module _ {K P : Type 0} (g : Setting K P) (c : Coding K P) (s : State P)
+    (last kept : Option P) where
   -- the word is that of a table on the chain, and of a slot within it
   abbrev pub IsThere : At → Type 0
   IsThere Root = Unit {0}
@@ -255,11 +280,13 @@ module _ {K P : Type 0} (g : Setting K P) (c : Coding K P) (s : State P) (last k
   IsThere (Done t) = IsOn s.first s.next t
   IsThere (Slot_word t x) = IsOn s.first s.next t × (x < g.size t)
 
-  -- what is named in an ask is there: such words, the pair last told of, and the one that is carried
+  -- what is named in an ask is there: such words, the pair last told of, and the one that is
+  -- carried
   abbrev pub AreThere : CopyAsk → Type 0
   AreThere (asks.Load at) = IsThere at
   AreThere (asks.Exchange at old new) = IsThere at
   AreThere (asks.SizeOf t) = IsOn s.first s.next t
   AreThere (asks.HashOf n) = (p : P) × (last ≡ Some p) × (c.number p ≡ n)
-  AreThere (asks.SamePair i n) = (o : P) × (q : P) × (kept ≡ Some o) × (last ≡ Some q) × (c.number o ≡ i) × (c.number q ≡ n)
+  AreThere (asks.SamePair i n) = (o : P) × (q : P) × (kept ≡ Some o) × (last ≡ Some q)
+      × (c.number o ≡ i) × (c.number q ≡ n)
   AreThere _ = Unit {0}

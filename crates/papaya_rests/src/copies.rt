@@ -2,7 +2,8 @@
 //!
 //! The machines of a resize ask and are answered as those of calls are. What they rest on are facts
 //! of the words alone, which no exchange undoes, so no list of exchanges and no moment comes into
-//! these laws. `last` is the pair that a copier was told of last, `kept` the one that it carries. The
+//! these laws. `last` is the pair that a copier was told of last, `kept` the one that it carries.
+//! The
 //! functions do nothing: their contracts are the laws.
 ghost use Rattle.std.specs.Prelude.{◌≡◌, ℕ, ◌+◌, ◌<◌, List, Option, Some};
 ghost use Rattle.papaya_words.specs.declared.probe.Refused.{Refused};
@@ -28,20 +29,36 @@ ghost use Rattle.papaya_rests.specs.Told.{IsWritten, word_of};
 
 /// What a copier rests on stays so, whatever others exchange and whichever tables are made.
 pub fn copiers_stay<K, P>()
-    ensures exchanges { (g : Setting K P) (c : Coding K P) → IsHashed g c → (s : State P) (m : K → Option P) → IsKeeping g s m → (es : List (Exchange P)) → AllAllowed g s es → (last kept : Option P) (copying : Copying) → RestsCopying g c s last kept copying → RestsCopying g c (run es s) last kept copying }
-    ensures tables { (g g' : Setting K P) (c : Coding K P) (s : State P) (m : K → Option P) → IsKeeping g s m → Agrees (IsOn s.first s.next) g g' → (last kept : Option P) (copying : Copying) → RestsCopying g c s last kept copying → RestsCopying g' c s last kept copying }
+    ensures exchanges { (g : Setting K P) (c : Coding K P) → IsHashed g c
+        → (s : State P) (m : K → Option P) → IsKeeping g s m → (es : List (Exchange P))
+        → AllAllowed g s es → (last kept : Option P) (copying : Copying)
+        → RestsCopying g c s last kept copying → RestsCopying g c (run es s) last kept copying }
+    ensures tables { (g g' : Setting K P) (c : Coding K P) (s : State P) (m : K → Option P)
+        → IsKeeping g s m → Agrees (IsOn s.first s.next) g g'
+        → (last kept : Option P) (copying : Copying) → RestsCopying g c s last kept copying
+        → RestsCopying g' c s last kept copying }
 {}
 
 /// An exchange whose old word stands there is one of the law, allowed, and writes just its word.
 pub fn copiers_may_exchange<K, P>()
-    ensures may { (g : Setting K P) (c : Coding K P) → IsHashed g c → (s : State P) (m : K → Option P) → IsKeeping g s m → (last kept : Option P) (copying : Copying) → RestsCopying g c s last kept copying → (at : At) (old new : ℕ) → copying_ask copying ≡ asks.Exchange at old new → word_of g c s at ≡ old → (e : Exchange P) × IsCopyAsked c (copying_kind copying) at new s kept e × Allows g s e × IsWritten g c s at new (after s e) }
-    ensures one { (c : Coding K P) (kind : Option StepKind) (at : At) (new : ℕ) (s : State P) (kept : Option P) (e e' : Exchange P) → IsCopyAsked c kind at new s kept e → IsCopyAsked c kind at new s kept e' → e ≡ e' }
+    ensures may { (g : Setting K P) (c : Coding K P) → IsHashed g c
+        → (s : State P) (m : K → Option P) → IsKeeping g s m
+        → (last kept : Option P) (copying : Copying) → RestsCopying g c s last kept copying
+        → (at : At) (old new : ℕ) → copying_ask copying ≡ asks.Exchange at old new
+        → word_of g c s at ≡ old → (e : Exchange P)
+        × IsCopyAsked c (copying_kind copying) at new s kept e × Allows g s e
+        × IsWritten g c s at new (after s e) }
+    ensures one { (c : Coding K P) (kind : Option StepKind) (at : At) (new : ℕ) (s : State P)
+        (kept : Option P) (e e' : Exchange P) → IsCopyAsked c kind at new s kept e
+        → IsCopyAsked c kind at new s kept e' → e ≡ e' }
 {}
 
 /// A copier names only words of tables that were opened or linked, slots within them, the pair last
 /// told of and the one that it carries.
 pub fn copiers_name<K, P>()
-    ensures { (g : Setting K P) (c : Coding K P) → IsHashed g c → (s : State P) (m : K → Option P) → IsKeeping g s m → (last kept : Option P) (copying : Copying) → RestsCopying g c s last kept copying → AreThere g c s last kept (copying_ask copying) }
+    ensures { (g : Setting K P) (c : Coding K P) → IsHashed g c → (s : State P) (m : K → Option P)
+        → IsKeeping g s m → (last kept : Option P) (copying : Copying)
+        → RestsCopying g c s last kept copying → AreThere g c s last kept (copying_ask copying) }
 {}
 
 /// After an answer that is true of the words a copier rests again, or it tells what was copied: the
@@ -51,14 +68,63 @@ pub fn copiers_name<K, P>()
 /// carries the pair that it was told of last. What makes a table gives it a number above the one
 /// that it follows.
 pub fn copiers_learn<K, P>()
-    ensures begins { (g : Setting K P) (c : Coding K P) (s : State P) (last kept : Option P) (aim : Aim) → RestsAim g c s last kept aim → RestsCopying g c s last kept (copyings.Stepping aim steps.AtRoot) }
-    ensures load { (g : Setting K P) (c : Coding K P) → IsHashed g c → (s : State P) (m : K → Option P) → IsKeeping g s m → (mode : ResizeMode) → IsModeOf mode g.blocking → (last kept : Option P) (copying : Copying) → RestsCopying g c s last kept copying → (at : At) → IsChunked mode → copying_ask copying ≡ asks.Load at → RestsCopied g c s (told_last s at last) kept (aim_of copying) (at_word copying mode (word_of g c s at)) }
-    ensures exchanged { (g : Setting K P) (c : Coding K P) → IsHashed g c → (s : State P) (m : K → Option P) → IsKeeping g s m → (mode : ResizeMode) → IsModeOf mode g.blocking → (last kept : Option P) (copying : Copying) → RestsCopying g c s last kept copying → (at : At) (old new : ℕ) → copying_ask copying ≡ asks.Exchange at old new → word_of g c s at ≡ old → (e : Exchange P) → IsCopyAsked c (copying_kind copying) at new s kept e → RestsCopied g c (after s e) (last_after e last) kept (aim_of copying) (at_exchanged copying mode) }
-    ensures found { (g : Setting K P) (c : Coding K P) → IsHashed g c → (s : State P) (m : K → Option P) → IsKeeping g s m → (mode : ResizeMode) → IsModeOf mode g.blocking → (last kept : Option P) (copying : Copying) → RestsCopying g c s last kept copying → (at : At) (old new : ℕ) → copying_ask copying ≡ asks.Exchange at old new → (word_of g c s at ≡ old → ⊥) → RestsCopied g c s (told_last s at last) kept (aim_of copying) (at_found copying mode (word_of g c s at)) }
-    ensures size { (g : Setting K P) (c : Coding K P) → IsHashed g c → (s : State P) (m : K → Option P) → IsKeeping g s m → (mode : ResizeMode) → IsModeOf mode g.blocking → (last kept : Option P) (copying : Copying) → RestsCopying g c s last kept copying → (t limit : ℕ) → copying_ask copying ≡ asks.SizeOf t → limit + 1 ≡ g.places t → (aim_of (at_size copying (g.size t) limit) ≡ aim_of copying) × RestsCopying g c s last kept (at_size copying (g.size t) limit) }
-    ensures hash { (g : Setting K P) (c : Coding K P) → IsHashed g c → (s : State P) (m : K → Option P) → IsKeeping g s m → (mode : ResizeMode) → IsModeOf mode g.blocking → (last kept : Option P) (copying : Copying) → RestsCopying g c s last kept copying → (n : ℕ) → copying_ask copying ≡ asks.HashOf n → (q : P) → last ≡ Some q → (aim_of (at_hash copying (c.hash (g.key q))) ≡ aim_of copying) × RestsCopying g c s last last (at_hash copying (c.hash (g.key q))) }
-    ensures same { (g : Setting K P) (c : Coding K P) → IsHashed g c → (s : State P) (m : K → Option P) → IsKeeping g s m → (mode : ResizeMode) → IsModeOf mode g.blocking → (last kept : Option P) (copying : Copying) → RestsCopying g c s last kept copying → (i n : ℕ) → copying_ask copying ≡ asks.SamePair i n → (p q : P) → kept ≡ Some p → last ≡ Some q → RestsCopied g c s last kept (aim_of copying) (at_yes copying mode (g.same (g.key p) (g.key q))) }
-    ensures count { (g : Setting K P) (c : Coding K P) → IsHashed g c → (s : State P) (m : K → Option P) → IsKeeping g s m → (mode : ResizeMode) → IsModeOf mode g.blocking → (last kept : Option P) (copying : Copying) → RestsCopying g c s last kept copying → (count initial : ℕ) → RestsCopied g c s last kept (aim_of copying) (at_count copying mode count initial) }
-    ensures made { (g : Setting K P) (c : Coding K P) → IsHashed g c → (s : State P) (m : K → Option P) → IsKeeping g s m → (mode : ResizeMode) → IsModeOf mode g.blocking → (last kept : Option P) (copying : Copying) → RestsCopying g c s last kept copying → (n : ℕ) → copying_follows copying < n → (aim_of (at_made copying n) ≡ aim_of copying) × RestsCopying g c s last kept (at_made copying n) }
-    ensures refused { (g : Setting K P) (c : Coding K P) → IsHashed g c → (s : State P) (m : K → Option P) → IsKeeping g s m → (mode : ResizeMode) → IsModeOf mode g.blocking → (last kept : Option P) (copying : Copying) → RestsCopying g c s last kept copying → (refused : Refused) → RestsCopied g c s last kept (aim_of copying) (at_refused copying mode refused) }
+    ensures begins { (g : Setting K P) (c : Coding K P) (s : State P) (last kept : Option P)
+        (aim : Aim) → RestsAim g c s last kept aim
+        → RestsCopying g c s last kept (copyings.Stepping aim steps.AtRoot) }
+    ensures load { (g : Setting K P) (c : Coding K P) → IsHashed g c
+        → (s : State P) (m : K → Option P) → IsKeeping g s m → (mode : ResizeMode)
+        → IsModeOf mode g.blocking → (last kept : Option P) (copying : Copying)
+        → RestsCopying g c s last kept copying → (at : At) → IsChunked mode
+        → copying_ask copying ≡ asks.Load at → RestsCopied g c s (told_last s at last) kept
+        (aim_of copying) (at_word copying mode (word_of g c s at)) }
+    ensures exchanged { (g : Setting K P) (c : Coding K P) → IsHashed g c
+        → (s : State P) (m : K → Option P) → IsKeeping g s m → (mode : ResizeMode)
+        → IsModeOf mode g.blocking → (last kept : Option P) (copying : Copying)
+        → RestsCopying g c s last kept copying → (at : At) (old new : ℕ)
+        → copying_ask copying ≡ asks.Exchange at old new → word_of g c s at ≡ old → (e : Exchange P)
+        → IsCopyAsked c (copying_kind copying) at new s kept e
+        → RestsCopied g c (after s e) (last_after e last) kept (aim_of copying)
+        (at_exchanged copying mode) }
+    ensures found { (g : Setting K P) (c : Coding K P) → IsHashed g c
+        → (s : State P) (m : K → Option P) → IsKeeping g s m → (mode : ResizeMode)
+        → IsModeOf mode g.blocking → (last kept : Option P) (copying : Copying)
+        → RestsCopying g c s last kept copying → (at : At) (old new : ℕ)
+        → copying_ask copying ≡ asks.Exchange at old new → (word_of g c s at ≡ old → ⊥)
+        → RestsCopied g c s (told_last s at last) kept (aim_of copying)
+        (at_found copying mode (word_of g c s at)) }
+    ensures size { (g : Setting K P) (c : Coding K P) → IsHashed g c
+        → (s : State P) (m : K → Option P) → IsKeeping g s m → (mode : ResizeMode)
+        → IsModeOf mode g.blocking → (last kept : Option P) (copying : Copying)
+        → RestsCopying g c s last kept copying → (t limit : ℕ) → copying_ask copying ≡ asks.SizeOf t
+        → limit + 1 ≡ g.places t → (aim_of (at_size copying (g.size t) limit) ≡ aim_of copying)
+        × RestsCopying g c s last kept (at_size copying (g.size t) limit) }
+    ensures hash { (g : Setting K P) (c : Coding K P) → IsHashed g c
+        → (s : State P) (m : K → Option P) → IsKeeping g s m → (mode : ResizeMode)
+        → IsModeOf mode g.blocking → (last kept : Option P) (copying : Copying)
+        → RestsCopying g c s last kept copying → (n : ℕ) → copying_ask copying ≡ asks.HashOf n
+        → (q : P) → last ≡ Some q → (aim_of (at_hash copying (c.hash (g.key q))) ≡ aim_of copying)
+        × RestsCopying g c s last last (at_hash copying (c.hash (g.key q))) }
+    ensures same { (g : Setting K P) (c : Coding K P) → IsHashed g c
+        → (s : State P) (m : K → Option P) → IsKeeping g s m → (mode : ResizeMode)
+        → IsModeOf mode g.blocking → (last kept : Option P) (copying : Copying)
+        → RestsCopying g c s last kept copying → (i n : ℕ) → copying_ask copying ≡ asks.SamePair i n
+        → (p q : P) → kept ≡ Some p → last ≡ Some q
+        → RestsCopied g c s last kept (aim_of copying)
+        (at_yes copying mode (g.same (g.key p) (g.key q))) }
+    ensures count { (g : Setting K P) (c : Coding K P) → IsHashed g c
+        → (s : State P) (m : K → Option P) → IsKeeping g s m → (mode : ResizeMode)
+        → IsModeOf mode g.blocking → (last kept : Option P) (copying : Copying)
+        → RestsCopying g c s last kept copying → (count initial : ℕ)
+        → RestsCopied g c s last kept (aim_of copying) (at_count copying mode count initial) }
+    ensures made { (g : Setting K P) (c : Coding K P) → IsHashed g c
+        → (s : State P) (m : K → Option P) → IsKeeping g s m → (mode : ResizeMode)
+        → IsModeOf mode g.blocking → (last kept : Option P) (copying : Copying)
+        → RestsCopying g c s last kept copying → (n : ℕ) → copying_follows copying < n
+        → (aim_of (at_made copying n) ≡ aim_of copying)
+        × RestsCopying g c s last kept (at_made copying n) }
+    ensures refused { (g : Setting K P) (c : Coding K P) → IsHashed g c
+        → (s : State P) (m : K → Option P) → IsKeeping g s m → (mode : ResizeMode)
+        → IsModeOf mode g.blocking → (last kept : Option P) (copying : Copying)
+        → RestsCopying g c s last kept copying → (refused : Refused)
+        → RestsCopied g c s last kept (aim_of copying) (at_refused copying mode refused) }
 {}

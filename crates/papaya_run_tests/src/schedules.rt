@@ -221,7 +221,8 @@ fn lines_for_another_caller(rt: HostRuntime) -> Result<(), Fail> {
         (b"begin 0 g 1\nbegin 0 g 1\nfinish 0\n", "", 2),
         (b"begin 0 g 1\nfinish 0\nfinish 0\n", "0: none\n", 3),
         (b"begin 0 g 1\nfinish 0\nstep 0\nx\n", "0: none\n", 3),
-        // A line of bad form ends the schedule, but one before it that was passed over is the first.
+        // A line of bad form ends the schedule, but one before it that was passed over is the
+        // first.
         (b"begin 0 g 1\nfinish 0\nx\nstep 0\n", "0: none\n", 3),
     ];
     for (script, output, line) in scripts {

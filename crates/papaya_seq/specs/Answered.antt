@@ -17,18 +17,22 @@ old_answered (Ok shown) = Ok (option_map (λ v. v.now) shown)
 old_answered (Err refused) = Err refused
 
 -- the entry that is shown, if there is one, or a refusal
-abbrev pub entry_answered : {K V : Type 0} → Result (Option (Bor K × Bor V)) Refused → Result (Option (K × V)) Refused
+abbrev pub entry_answered : {K V : Type 0} → Result (Option (Bor K × Bor V)) Refused
+    → Result (Option (K × V)) Refused
 entry_answered (Ok shown) = Ok (option_map deref_pair shown)
 entry_answered (Err refused) = Err refused
 
 -- the entry that was removed, if there was one, or the one that stays, or a refusal
-abbrev pub judged_answered : {K V : Type 0} → Result (Result (Option (Bor K × Bor V)) (Bor K × Bor V)) Refused → Result (Result (Option (K × V)) (K × V)) Refused
+abbrev pub judged_answered : {K V : Type 0} → Result
+    (Result (Option (Bor K × Bor V)) (Bor K × Bor V)) Refused
+    → Result (Result (Option (K × V)) (K × V)) Refused
 judged_answered (Ok (Ok removed)) = Ok (Ok (option_map deref_pair removed))
 judged_answered (Ok (Err kept)) = Ok (Err (deref_pair kept))
 judged_answered (Err refused) = Err refused
 
 -- what a compute did, without what its closure aborted with, or a refusal
-abbrev pub answer_without : {R T : Type 0} → Result (Computed R T) Refused → Result (Computed R (Unit {0})) Refused
+abbrev pub answer_without : {R T : Type 0} → Result (Computed R T) Refused
+    → Result (Computed R (Unit {0})) Refused
 answer_without (Ok (Inserted q)) = Ok (Inserted q)
 answer_without (Ok (Updated p q)) = Ok (Updated p q)
 answer_without (Ok (Removed p)) = Ok (Removed p)
@@ -44,5 +48,6 @@ left_in (Ok (Aborted t)) was = Some t
 left_in (Err refused) was = was
 
 -- a compute's answer, parted into what is shown of it and what is left of an abort
-abbrev pub IsParted : {R T : Type 0} → Result (Computed R T) Refused → Result (Computed R (Unit {0})) Refused → Option T → Option T → Type 0
+abbrev pub IsParted : {R T : Type 0} → Result (Computed R T) Refused
+    → Result (Computed R (Unit {0})) Refused → Option T → Option T → Type 0
 IsParted answer shown was now = (shown ≡ answer_without answer) × (now ≡ left_in answer was)

@@ -16,18 +16,23 @@ use Rattle.papaya_seq.specs.Map.{IsCause, IsCauseAt, Keeps, MapState, entry_of, 
 
 -- what the closure's answers give of the pair of this number
 abbrev pub Gives : {K V S A : Type 0} → Says K V A → A → StoreState K V S → ℕ → Bool → Type 0
-Gives {K = K} {V = V} {A = A} says a s n agrees = (p : Stored K V) × (a' : A) × (pair_of s n ≡ Some p) × says.yes a p.key p.value agrees a'
+Gives {K = K} {V = V} {A = A} says a s n agrees = (p : Stored K V) × (a' : A)
+    × (pair_of s n ≡ Some p) × says.yes a p.key p.value agrees a'
 
 -- what they give where they are shown this pair, or that there is none
-abbrev pub Answers : {K V A : Type 0} → Says K V A → A → Option (Stored K V) → Operation V ℕ → Type 0
+abbrev pub Answers : {K V A : Type 0} → Says K V A → A → Option (Stored K V) → Operation V ℕ
+    → Type 0
 Answers {A = A} says a held operation = (a' : A) × says.op a (option_map entry_of held) operation a'
 
-module _ {K V S A : Type 0} (says : Says K V A) (a : A) (held : Option (Stored K V)) (s' : StoreState K V S) where
+module _ {K V S A : Type 0} (says : Says K V A) (a : A) (held : Option (Stored K V))
+    (s' : StoreState K V S) where
   -- they gave the value of the pair of this number
   abbrev GivesValue : ℕ → Type 0
-  GivesValue n = (q : Stored K V) × (pair_of s' n ≡ Some q) × Answers says a held (ops.Insert q.value)
+  GivesValue n = (q : Stored K V) × (pair_of s' n ≡ Some q)
+      × Answers says a held (ops.Insert q.value)
 
-  -- a compute's reply is what its closure's answers gave where they were shown what the class of its key has
+  -- a compute's reply is what its closure's answers gave where they were shown what the class of
+  -- its key has
   abbrev pub IsOperated : Reply → Type 0
   IsOperated (Inserted n) = GivesValue n
   IsOperated (Replaced m n) = GivesValue n
@@ -44,26 +49,33 @@ IsJudged says a (Kept n) s = Gives says a s n false
 IsJudged says a _ s = Unit {0}
 
 -- the reply of a call that has a closure is what its answers gave
-abbrev pub IsSaid : {K V S A : Type 0} → (K → K → Bool) → Says K V A → Call K V A → StoreState K V S → Reply → StoreState K V S → Type 0
+abbrev pub IsSaid : {K V S A : Type 0} → (K → K → Bool) → Says K V A → Call K V A → StoreState K V S
+    → Reply → StoreState K V S → Type 0
 IsSaid eq says (RemoveIf k a) s reply s' = IsJudged says a reply s
 IsSaid eq says (Compute k a) s reply s' = IsOperated says a (map_in eq s k) s' reply
 IsSaid eq says _ s reply s' = Unit {0}
 
--- A lookup is never refused, an insertion for a cause, and one that replaces nothing only where its key is absent, a removal only while the root table has a next one, and a compute as an insertion, or where its closure would remove what isn't there.
-abbrev pub MayRefuse : {K V S A : Type 0} → (K → K → Bool) → (K → ℕ) → StoreState K V S → Call K V A → words.Refused → Type 0
+-- A lookup is never refused, an insertion for a cause, and one that replaces nothing only where its
+-- key is absent, a removal only while the root table has a next one, and a compute as an insertion,
+-- or where its closure would remove what isn't there.
+abbrev pub MayRefuse : {K V S A : Type 0} → (K → K → Bool) → (K → ℕ) → StoreState K V S → Call K V A
+    → words.Refused → Type 0
 MayRefuse eq hash s (Get k) refused = ⊥
 MayRefuse eq hash s (Insert k v) refused = IsCauseAt (hash k) s (map_in eq s k) refused
 MayRefuse eq hash s (TryInsert k v) refused = (map_in eq s k ≡ None) × IsCause (hash k) s refused
 MayRefuse eq hash s (RemoveIf k a) refused = next_of s ≡ 0 → ⊥
-MayRefuse eq hash s (Compute k a) refused = IsCause (hash k) s refused ⊎ (refused ≡ refusals.RemoveNothing)
+MayRefuse eq hash s (Compute k a) refused = IsCause (hash k) s refused
+    ⊎ (refused ≡ refusals.RemoveNothing)
 
 module _ {K V S A : Type 0} (eq : K → K → Bool) (hash : S → K → ℕ) (says : Says K V A) where
   -- a call does what the finite map does, or is refused where it may be
-  pub record IsCalled (s : MapState K V S) (call : Call K V A) (reply : Reply) (s' : MapState K V S) : Type 0 where
+  pub record IsCalled (s : MapState K V S) (call : Call K V A) (reply : Reply)
+      (s' : MapState K V S) : Type 0 where
     pub answered : IsAnswered eq call (map_in eq s.store) reply (map_in eq s'.store)
     pub fresh : IsNewIn s.store reply
     pub said : IsSaid eq says call s.store reply s'.store
-    pub cause : (refused : words.Refused) → reply ≡ Refused refused → MayRefuse eq (hash s.store.hasher) s.store call refused
+    pub cause : (refused : words.Refused) → reply ≡ Refused refused
+        → MayRefuse eq (hash s.store.hasher) s.store call refused
     pub keeps : Keeps s s'
 
   -- one reply a call
@@ -71,4 +83,5 @@ module _ {K V S A : Type 0} (eq : K → K → Bool) (hash : S → K → ℕ) (sa
   AreCalled s [] [] s' = s' ≡ s
   AreCalled s [] (reply ∷ replies) s' = ⊥
   AreCalled s (call ∷ calls) [] s' = ⊥
-  AreCalled s (call ∷ calls) (reply ∷ replies) s' = (middle : MapState K V S) × IsCalled s call reply middle × AreCalled middle calls replies s'
+  AreCalled s (call ∷ calls) (reply ∷ replies) s' = (middle : MapState K V S)
+      × IsCalled s call reply middle × AreCalled middle calls replies s'

@@ -23,21 +23,27 @@ abbrev pub Takes : {K V : Type 0} → (Option (Bor K × Bor V) → Type 0) → O
 Takes {K = K} {V = V} pre held = (shown : Option (Bor K × Bor V)) → AreOf shown held → pre shown
 
 -- and may answer this then
-abbrev pub Says : {K V T : Type 0} → (Option (Bor K × Bor V) → Operation V T → Type 0) → Option (Stored K V) → Operation V T → Type 0
-Says {K = K} {V = V} post held operation = (shown : Option (Bor K × Bor V)) × AreOf shown held × post shown operation
+abbrev pub Says : {K V T : Type 0} → (Option (Bor K × Bor V) → Operation V T → Type 0)
+    → Option (Stored K V) → Operation V T → Type 0
+Says {K = K} {V = V} post held operation = (shown : Option (Bor K × Bor V)) × AreOf shown held
+    × post shown operation
 
 -- a pair of the key that was handed in and of this value, with a number never used before
-pub record IsNew {K V S : Type 0} (k : K) (v : V) (s s' : StoreState K V S) (q : Stored K V) : Type 0 where
+pub record IsNew {K V S : Type 0} (k : K) (v : V) (s s' : StoreState K V S)
+    (q : Stored K V) : Type 0 where
   pub key : q.key ≡ k
   pub value : q.value ≡ v
   pub fresh : pair_of s q.number ≡ None
   pub logged : pair_of s' q.number ≡ Some q
 
 module _ {K V S T : Type 0} (hash : ℕ) (k : K) where
-  -- What a compute does where the class of its key has `held` and its closure answered so: what it answers, and which pair the class has next.
-  abbrev pub Operates : StoreState K V S → StoreState K V S → Option (Stored K V) → Operation V T → Result (Computed (Stored K V) T) Refused → Option (Stored K V) → Type 0
+  -- What a compute does where the class of its key has `held` and its closure answered so: what it
+  -- answers, and which pair the class has next.
+  abbrev pub Operates : StoreState K V S → StoreState K V S → Option (Stored K V) → Operation V T
+      → Result (Computed (Stored K V) T) Refused → Option (Stored K V) → Type 0
   Operates s s' None (Insert v) (Ok (Inserted q)) next = IsNew k v s s' q × (next ≡ Some q)
-  Operates s s' (Some p) (Insert v) (Ok (Updated old q)) next = (old ≡ p) × IsNew k v s s' q × (next ≡ Some q)
+  Operates s s' (Some p) (Insert v) (Ok (Updated old q)) next = (old ≡ p) × IsNew k v s s' q
+      × (next ≡ Some q)
   Operates s s' held (Insert v) (Err refused) next = IsCause hash s refused × (next ≡ held)
   Operates s s' None Remove (Err refused) next = (refused ≡ RemoveNothing) × (next ≡ None)
   Operates s s' (Some p) Remove (Ok (Removed old)) next = (old ≡ p) × (next ≡ None)
@@ -45,8 +51,10 @@ module _ {K V S T : Type 0} (hash : ℕ) (k : K) where
   Operates _ _ _ _ _ _ = ⊥
 
 module _ {K V S T : Type 0} (eq : K → K → Bool) (hash : ℕ) (k : K) where
-  -- A compute, of whose closure `said` says what it may answer where it is shown what the class of the key has. It was called once, and answered `operation`.
-  pub record Computes (said : Option (Stored K V) → Operation V T → Type 0) (s : MapState K V S) (answer : Result (Computed (Stored K V) T) Refused) (s' : MapState K V S) : Type 0 where
+  -- A compute, of whose closure `said` says what it may answer where it is shown what the class of
+  -- the key has. It was called once, and answered `operation`.
+  pub record Computes (said : Option (Stored K V) → Operation V T → Type 0) (s : MapState K V S)
+      (answer : Result (Computed (Stored K V) T) Refused) (s' : MapState K V S) : Type 0 where
     pub held : Option (Stored K V)
     pub operation : Operation V T
     pub answered : said held operation
@@ -63,49 +71,68 @@ computed_map shows (Removed p) = Removed (shows p)
 computed_map shows (Aborted t) = Aborted t
 
 -- the same where it was done or refused
-abbrev pub answer_map : {P R T : Type 0} → (P → R) → Result (Computed P T) Refused → Result (Computed R T) Refused
+abbrev pub answer_map : {P R T : Type 0} → (P → R) → Result (Computed P T) Refused
+    → Result (Computed R T) Refused
 answer_map shows (Ok done) = Ok (computed_map shows done)
 answer_map shows (Err refused) = Err refused
 
 -- a compute that answers something of each pair, as its number
-abbrev pub ComputesBy : {K V S T R : Type 0} → (K → K → Bool) → ℕ → K → (Stored K V → R) → (Option (Stored K V) → Operation V T → Type 0) → MapState K V S → Result (Computed R T) Refused → MapState K V S → Type 0
-ComputesBy {K = K} {V = V} {T = T} eq hash k shows said s answer s' = (done : Result (Computed (Stored K V) T) Refused) × (answer ≡ answer_map shows done) × Computes eq hash k said s done s'
+abbrev pub ComputesBy : {K V S T R : Type 0} → (K → K → Bool) → ℕ → K → (Stored K V → R)
+    → (Option (Stored K V) → Operation V T → Type 0) → MapState K V S
+    → Result (Computed R T) Refused → MapState K V S → Type 0
+ComputesBy {K = K} {V = V} {T = T} eq hash k shows said s answer s' =
+    (done : Result (Computed (Stored K V) T) Refused) × (answer ≡ answer_map shows done)
+    × Computes eq hash k said s done s'
 
 module _ {K V S : Type 0} (eq : K → K → Bool) (hash : ℕ) (k : K) where
   -- refused, for a cause, with the map as it was
   abbrev pub IsRefused : MapState K V S → Refused → MapState K V S → Type 0
   IsRefused s refused s' = IsCause hash s.store refused × Unchanged eq s.store s'.store × Keeps s s'
 
-  -- What an update answers: the value that it computed of the key's, or that the key is absent, or a refusal. `computes` says what the closure may answer of a value.
-  abbrev pub IsUpdated : (V → V → Type 0) → MapState K V S → Result (Option V) Refused → MapState K V S → Type 0
-  IsUpdated computes s (Ok None) s' = (map_in eq s.store k ≡ None) × Unchanged eq s.store s'.store × Keeps s s'
-  IsUpdated computes s (Ok (Some v)) s' = (old : V) × computes old v × Inserts eq k v s.store (Some old) s'.store × Keeps s s'
-  IsUpdated computes s (Err refused) s' = (p : Stored K V) × (map_in eq s.store k ≡ Some p) × IsRefused s refused s'
+  -- What an update answers: the value that it computed of the key's, or that the key is absent, or
+  -- a refusal. `computes` says what the closure may answer of a value.
+  abbrev pub IsUpdated : (V → V → Type 0) → MapState K V S → Result (Option V) Refused
+      → MapState K V S → Type 0
+  IsUpdated computes s (Ok None) s' = (map_in eq s.store k ≡ None) × Unchanged eq s.store s'.store
+      × Keeps s s'
+  IsUpdated computes s (Ok (Some v)) s' = (old : V) × computes old v
+      × Inserts eq k v s.store (Some old) s'.store × Keeps s s'
+  IsUpdated computes s (Err refused) s' = (p : Stored K V) × (map_in eq s.store k ≡ Some p)
+      × IsRefused s refused s'
 
-  -- What an update answers that stores a value where the key is absent: the value that the key has then, or a refusal. `makes` says which value is stored.
-  abbrev pub IsUpdatedOrInserted : (V → V → Type 0) → (V → Type 0) → MapState K V S → Result V Refused → MapState K V S → Type 0
-  IsUpdatedOrInserted computes makes s (Ok v) s' = (((old : V) × computes old v × Inserts eq k v s.store (Some old) s'.store) ⊎ (makes v × Inserts eq k v s.store None s'.store)) × Keeps s s'
+  -- What an update answers that stores a value where the key is absent: the value that the key has
+  -- then, or a refusal. `makes` says which value is stored.
+  abbrev pub IsUpdatedOrInserted : (V → V → Type 0) → (V → Type 0) → MapState K V S
+      → Result V Refused → MapState K V S → Type 0
+  IsUpdatedOrInserted computes makes s (Ok v) s' =
+      (((old : V) × computes old v × Inserts eq k v s.store (Some old) s'.store)
+      ⊎ (makes v × Inserts eq k v s.store None s'.store)) × Keeps s s'
   IsUpdatedOrInserted computes makes s (Err refused) s' = IsRefused s refused s'
 
-  -- What an insertion of an absent key answers whose value a closure makes: the value that was stored, or the one that is there, or a refusal. `makes` says what the closure may answer.
-  abbrev pub IsTriedWith : (V → Type 0) → MapState K V S → Result (Result V V) Refused → MapState K V S → Type 0
+  -- What an insertion of an absent key answers whose value a closure makes: the value that was
+  -- stored, or the one that is there, or a refusal. `makes` says what the closure may answer.
+  abbrev pub IsTriedWith : (V → Type 0) → MapState K V S → Result (Result V V) Refused
+      → MapState K V S → Type 0
   IsTriedWith makes s (Ok (Ok v)) s' = makes v × Inserts eq k v s.store None s'.store × Keeps s s'
   IsTriedWith makes s (Ok (Err current)) s' = IsOccupied eq k s.store current s'.store × Keeps s s'
   IsTriedWith makes s (Err refused) s' = (map_in eq s.store k ≡ None) × IsRefused s refused s'
 
   -- the same where it is not told which of the two it is
   abbrev pub HasValueOf : (V → Type 0) → MapState K V S → Result V Refused → MapState K V S → Type 0
-  HasValueOf makes s (Ok v) s' = IsTriedWith makes s (Ok (Ok v)) s' ⊎ IsTriedWith makes s (Ok (Err v)) s'
+  HasValueOf makes s (Ok v) s' = IsTriedWith makes s (Ok (Ok v)) s'
+      ⊎ IsTriedWith makes s (Ok (Err v)) s'
   HasValueOf makes s (Err refused) s' = IsTriedWith makes s (Err refused) s'
 
 -- the value that was stored, or the one that is there, or a refusal
-abbrev pub tried_answered : {V : Type 0} → Result (Result (Bor V) (Bor V)) Refused → Result (Result V V) Refused
+abbrev pub tried_answered : {V : Type 0} → Result (Result (Bor V) (Bor V)) Refused
+    → Result (Result V V) Refused
 tried_answered (Ok (Ok stored)) = Ok (Ok stored.now)
 tried_answered (Ok (Err current)) = Ok (Err current.now)
 tried_answered (Err refused) = Err refused
 
 -- what a compute did, with entries in the place of references to them, or a refusal
-abbrev pub compute_answered : {K V T : Type 0} → Result (Compute K V T) Refused → Result (Computed (K × V) T) Refused
+abbrev pub compute_answered : {K V T : Type 0} → Result (Compute K V T) Refused
+    → Result (Computed (K × V) T) Refused
 compute_answered (Ok (shown.Inserted key value)) = Ok (Inserted (key.now, value.now))
 compute_answered (Ok (shown.Updated old new)) = Ok (Updated (deref_pair old) (deref_pair new))
 compute_answered (Ok (shown.Removed key value)) = Ok (Removed (key.now, value.now))

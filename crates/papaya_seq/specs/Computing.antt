@@ -1,4 +1,5 @@
--- How a compute goes: what is kept of its closure's answer, and what is answered of its machine's reply.
+-- How a compute goes: what is kept of its closure's answer, and what is answered of its machine's
+-- reply.
 use Rattle.std.specs.Prelude.{◌≡◌, ℕ, Option, Some, Result, Ok, Err}
 use Rattle.papaya_words.specs.declared.probe.Refused.{Refused}
 use Rattle.papaya_call.specs.declared.answers.Operation.{Operation}
@@ -11,11 +12,16 @@ use Rattle.papaya_call.specs.declared.call.Reply.TheVariants as replies
 use Rattle.papaya_keys.specs.declared.compute.Computed.{Computed}
 use Rattle.papaya_keys.specs.declared.compute.Computed.TheVariants.{Inserted, Updated, Removed, Aborted}
 
--- a closure's answer is told without what it owns, and that is kept: the value of an insertion, and what the call is ended with
-abbrev pub IsKept : {V T : Type 0} → Operation V T → Answer → Option V → Option V → Option T → Option T → Type 0
-IsKept (Insert v) answer value value' aborted aborted' = (answer ≡ Op kinds.Insert) × (value' ≡ Some v) × (aborted' ≡ aborted)
-IsKept Remove answer value value' aborted aborted' = (answer ≡ Op kinds.Remove) × (value' ≡ value) × (aborted' ≡ aborted)
-IsKept (Abort t) answer value value' aborted aborted' = (answer ≡ Op (kinds.Abort 0)) × (value' ≡ value) × (aborted' ≡ Some t)
+-- a closure's answer is told without what it owns, and that is kept: the value of an insertion, and
+-- what the call is ended with
+abbrev pub IsKept : {V T : Type 0} → Operation V T → Answer → Option V → Option V → Option T
+    → Option T → Type 0
+IsKept (Insert v) answer value value' aborted aborted' = (answer ≡ Op kinds.Insert)
+    × (value' ≡ Some v) × (aborted' ≡ aborted)
+IsKept Remove answer value value' aborted aborted' = (answer ≡ Op kinds.Remove) × (value' ≡ value)
+    × (aborted' ≡ aborted)
+IsKept (Abort t) answer value value' aborted aborted' = (answer ≡ Op (kinds.Abort 0))
+    × (value' ≡ value) × (aborted' ≡ Some t)
 
 -- a compute replies so: where its closure ended it, what it ended it with was kept
 abbrev pub Replies : {T : Type 0} → Reply → Option T → Type 0
@@ -34,7 +40,8 @@ abbrev pub IsComputed : {T : Type 0} → Reply → Option T → Result (Computed
 IsComputed (replies.Inserted n) aborted answer = answer ≡ Ok (Inserted n)
 IsComputed (replies.Replaced m n) aborted answer = answer ≡ Ok (Updated m n)
 IsComputed (replies.Removed n) aborted answer = answer ≡ Ok (Removed n)
-IsComputed {T = T} (replies.Aborted u) aborted answer = (t : T) × (aborted ≡ Some t) × (answer ≡ Ok (Aborted t))
+IsComputed {T = T} (replies.Aborted u) aborted answer = (t : T) × (aborted ≡ Some t)
+    × (answer ≡ Ok (Aborted t))
 IsComputed (replies.Refused refused) aborted answer = answer ≡ Err refused
 IsComputed replies.Absent aborted answer = ⊥
 IsComputed (replies.Found n) aborted answer = ⊥

@@ -8,11 +8,14 @@ use mathlib.Core.Option.{none}
 use Rattle.papaya_seq.specs.Map.{MapState}
 use Rattle.papaya_seq.specs.contracts.seq.HashMap.{the_row}
 
-module _ (K V S H : RattleType) (key : HashMembers K.Denot) (build : builder.Ghosts S.Denot H.Denot) (hash : hasher.Ghosts H.Denot) where
+module _ (K V S H : RattleType) (key : HashMembers K.Denot) (build : builder.Ghosts S.Denot H.Denot)
+    (hash : hasher.Ghosts H.Denot) where
   -- the map's type, as the logic holds it
   abbrev pub map_row : RattleType
-  map_row = the_row K V S H (record { hash_input = key.hash_input }) (record { eq = key.eq }) build hash
+  map_row = the_row K V S H (record { hash_input = key.hash_input }) (record { eq = key.eq }) build
+      hash
 
   -- this holds of what it is
-  abbrev pub ends_so : MutBor (MapState K.Denot V.Denot S.Denot) → (MapState K.Denot V.Denot S.Denot → Type 0) → Fml
+  abbrev pub ends_so : MutBor (MapState K.Denot V.Denot S.Denot)
+      → (MapState K.Denot V.Denot S.Denot → Type 0) → Fml
   ends_so m P = follows_so map_row map_row m.ghost_name none (λ _ _. ⊤) P

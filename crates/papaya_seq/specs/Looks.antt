@@ -47,6 +47,8 @@ module _ {K V S : Type 0} (matches : K → Bool) (store : StoreState K V S) wher
   IsFound None = HasNone matches store
   IsFound (Some p) = Holds matches store p × (pair_of store p.number ≡ Some p)
 
-  -- A lookup by this machine finds the map's pair, or that there is none, and this is what the machine replies when each of its asks is answered by what stands in the tables.
+  -- A lookup by this machine finds the map's pair, or that there is none, and this is what the
+  -- machine replies when each of its asks is answered by what stands in the tables.
   abbrev pub LooksUp : Machine → Option (Stored K V) → Type 0
-  LooksUp m found = IsFound found × ((answers : List Answer) × Replies matches store m answers (reply_of found))
+  LooksUp m found = IsFound found × ((answers : List Answer)
+      × Replies matches store m answers (reply_of found))

@@ -11,13 +11,18 @@ use Rattle.papaya_core.specs.Store.{StoreState, Stored, pair_of}
 use Rattle.papaya_seq.specs.Map.{HasNone, Holds, Keeps, MapState, Removes, Unchanged, entry_of}
 
 -- the closure, as it is, may answer this of the pair that it is shown
-abbrev pub Judges : {F K V : Type 0} → Mut F (Bor K × (Bor V × Unit {0})) Bool → F → Stored K V → Bool → Type 0
-Judges {F = F} {K = K} {V = V} g f p agrees = (key : Bor K) × (value : Bor V) × (f' : F) × (key.now ≡ p.key) × (value.now ≡ p.value) × Called g f (key, (value, tt)) agrees f'
+abbrev pub Judges : {F K V : Type 0} → Mut F (Bor K × (Bor V × Unit {0})) Bool → F → Stored K V
+    → Bool → Type 0
+Judges {F = F} {K = K} {V = V} g f p agrees = (key : Bor K) × (value : Bor V) × (f' : F)
+    × (key.now ≡ p.key) × (value.now ≡ p.value) × Called g f (key, (value, tt)) agrees f'
 
 -- the closure is called once, at the pair where there is one, and what it answers is passed on
-abbrev pub IsShown : {F K V : Type 0} → Mut F (Bor K × (Bor V × Unit {0})) Bool → Option (Stored K V) → F → Answer → F → Type 0
+abbrev pub IsShown : {F K V : Type 0} → Mut F (Bor K × (Bor V × Unit {0})) Bool
+    → Option (Stored K V) → F → Answer → F → Type 0
 IsShown g None f answer f' = (answer ≡ Ok_done) × (f' ≡ f)
-IsShown {K = K} {V = V} g (Some p) f answer f' = (key : Bor K) × (value : Bor V) × (agrees : Bool) × (key.now ≡ p.key) × (value.now ≡ p.value) × (answer ≡ Yes agrees) × Called g f (key, (value, tt)) agrees f'
+IsShown {K = K} {V = V} g (Some p) f answer f' = (key : Bor K) × (value : Bor V) × (agrees : Bool)
+    × (key.now ≡ p.key) × (value.now ≡ p.value) × (answer ≡ Yes agrees)
+    × Called g f (key, (value, tt)) agrees f'
 
 module _ {K V S : Type 0} (eq : K → K → Bool) (matches : K → Bool) where
   -- the pair of this number is the map's pair whose key matches
@@ -25,22 +30,34 @@ module _ {K V S : Type 0} (eq : K → K → Bool) (matches : K → Bool) where
     pub held : Holds matches s p
     pub logged : pair_of s n ≡ Some p
 
-  -- A removal by this key: the pair that the closure agreed to went, or the map is as it was. `said` is what the closure answered of a pair.
-  abbrev pub IsRemoval : (Stored K V → Bool → Type 0) → StoreState K V S → Reply → StoreState K V S → Type 0
+  -- A removal by this key: the pair that the closure agreed to went, or the map is as it was.
+  -- `said` is what the closure answered of a pair.
+  abbrev pub IsRemoval : (Stored K V → Bool → Type 0) → StoreState K V S → Reply → StoreState K V S
+      → Type 0
   IsRemoval said s Absent s' = HasNone matches s × Unchanged eq s s'
-  IsRemoval said s (Removed n) s' = (p : Stored K V) × IsHeld n s p × Removes eq matches s p s' × said p true
+  IsRemoval said s (Removed n) s' = (p : Stored K V) × IsHeld n s p × Removes eq matches s p s'
+      × said p true
   IsRemoval said s (Kept n) s' = (p : Stored K V) × IsHeld n s p × Unchanged eq s s' × said p false
   IsRemoval said s (Refused refused) s' = Unchanged eq s s'
   IsRemoval said s _ s' = ⊥
 
 -- the same as one fact, of which a proof can read what the closure may answer
-pub record IsRemovalBy {K V S : Type 0} (eq : K → K → Bool) (matches : K → Bool) (said : Stored K V → Bool → Type 0) (s : StoreState K V S) (reply : Reply) (s' : StoreState K V S) : Type 0 where
+pub record IsRemovalBy {K V S : Type 0} (eq : K → K → Bool) (matches : K → Bool)
+    (said : Stored K V → Bool → Type 0) (s : StoreState K V S) (reply : Reply)
+    (s' : StoreState K V S) : Type 0 where
   pub removal : IsRemoval eq matches said s reply s'
 
-module _ {K V S : Type 0} (eq : K → K → Bool) (matches : K → Bool) (said : Stored K V → Bool → Type 0) where
-  -- What a removal answers whose closure judges: the entry that it agreed to and that went, or that there is none, or the entry that stays, or a refusal. `said` is what the closure answered of a pair.
-  abbrev pub IsJudged : MapState K V S → Result (Result (Option (K × V)) (K × V)) words.Refused → MapState K V S → Type 0
-  IsJudged s (Ok (Ok None)) s' = HasNone matches s.store × Unchanged eq s.store s'.store × Keeps s s'
-  IsJudged s (Ok (Ok (Some entry))) s' = (p : Stored K V) × (entry_of p ≡ entry) × Removes eq matches s.store p s'.store × said p true × Keeps s s'
-  IsJudged s (Ok (Err entry)) s' = (p : Stored K V) × (entry_of p ≡ entry) × Holds matches s.store p × said p false × Unchanged eq s.store s'.store × Keeps s s'
+module _ {K V S : Type 0} (eq : K → K → Bool) (matches : K → Bool)
+    (said : Stored K V → Bool → Type 0) where
+  -- What a removal answers whose closure judges: the entry that it agreed to and that went, or that
+  -- there is none, or the entry that stays, or a refusal. `said` is what the closure answered of a
+  -- pair.
+  abbrev pub IsJudged : MapState K V S → Result (Result (Option (K × V)) (K × V)) words.Refused
+      → MapState K V S → Type 0
+  IsJudged s (Ok (Ok None)) s' = HasNone matches s.store × Unchanged eq s.store s'.store
+      × Keeps s s'
+  IsJudged s (Ok (Ok (Some entry))) s' = (p : Stored K V) × (entry_of p ≡ entry)
+      × Removes eq matches s.store p s'.store × said p true × Keeps s s'
+  IsJudged s (Ok (Err entry)) s' = (p : Stored K V) × (entry_of p ≡ entry) × Holds matches s.store p
+      × said p false × Unchanged eq s.store s'.store × Keeps s s'
   IsJudged s (Err refused) s' = Unchanged eq s.store s'.store × Keeps s s'

@@ -29,7 +29,9 @@ impl<K: Hash + Eq + Drop, V: Drop, S: BuildHasher> HashMap<K, V, S> {
         f: F,
     ) -> Result<Computed<u64, T>, Refused>
         requires { Takes (F.pre f) (map_in K.eq self.old.store key) }
-        ensures { ComputesBy K.eq (hash_of K.hash_input S.build_hasher S.Hasher.write S.Hasher.finish self.old.store.hasher key) key (λ p. p.number) (Says (F.post f)) self.old result self.new }
+        ensures { ComputesBy K.eq (hash_of K.hash_input S.build_hasher S.Hasher.write
+            S.Hasher.finish self.old.store.hasher key) key (λ p. p.number) (Says (F.post f))
+            self.old result self.new }
     {
         self.compute_by(key, f).1
     }
@@ -37,7 +39,8 @@ impl<K: Hash + Eq + Drop, V: Drop, S: BuildHasher> HashMap<K, V, S> {
     /// The key and the value of a pair that is in the log.
     fn entry(&self, n: u64) -> (&K, &V)
         requires { IsSome (pair_of self.now.store n) }
-        ensures { pair_of self.now.store n ≡ Some (record { number = n; key = result.0.now; value = result.1.now }) }
+        ensures { pair_of self.now.store n ≡ Some
+            (record { number = n; key = result.0.now; value = result.1.now }) }
     {
         match self.store.pair(n) {
             Some(entry) => entry,
@@ -46,13 +49,15 @@ impl<K: Hash + Eq + Drop, V: Drop, S: BuildHasher> HashMap<K, V, S> {
     }
 
     /// What the closure makes of the key's pair, or of its absence: `compute` of 0.2.5. It is shown
-    /// the pair, if there is one, and says what is stored, that the pair is removed, or that nothing
+    /// the pair, if there is one, and says what is stored, that the pair is removed, or that
+    /// nothing
     /// is changed. Its references last for that one call of it.
     ///
     /// Refused as [`HashMap::insert`], and with `Refused::RemoveNothing` where the closure would
     /// remove and there is no pair.
     ///
-    /// It is [`HashMap::compute_into`], which says what the map is after it: take that where a proof
+    /// It is [`HashMap::compute_into`], which says what the map is after it: take that where a
+    /// proof
     /// needs it. No clause says it here, since the answer may own a `T`.
     pub fn compute<T: Drop, F: FnMut(Option<(&K, &V)>) -> Operation<V, T>>(
         &mut self,
@@ -60,7 +65,10 @@ impl<K: Hash + Eq + Drop, V: Drop, S: BuildHasher> HashMap<K, V, S> {
         f: F,
     ) -> Result<Compute<'_, K, V, T>, Refused>
         requires { Takes (F.pre f) (map_in K.eq self.old.store key) }
-        ensures { (after : MapState _ _ _) × ComputesBy K.eq (hash_of K.hash_input S.build_hasher S.Hasher.write S.Hasher.finish self.old.store.hasher key) key entry_of (Says (F.post f)) self.old (compute_answered result) after }
+        ensures { (after : MapState _ _ _) × ComputesBy K.eq
+            (hash_of K.hash_input S.build_hasher S.Hasher.write S.Hasher.finish
+            self.old.store.hasher key) key entry_of (Says (F.post f)) self.old
+            (compute_answered result) after }
     {
         let mut aborted = None;
         match self.compute_into(key, f, &mut aborted)? {
@@ -74,7 +82,8 @@ impl<K: Hash + Eq + Drop, V: Drop, S: BuildHasher> HashMap<K, V, S> {
         }
     }
 
-    /// [`HashMap::compute`] which leaves what its closure aborts with in `aborted`. So its answer owns
+    /// [`HashMap::compute`] which leaves what its closure aborts with in `aborted`. So its answer
+    /// owns
     /// nothing, and its clause says what the map is after it.
     pub fn compute_into<T: Drop, F: FnMut(Option<(&K, &V)>) -> Operation<V, T>>(
         &mut self,
@@ -83,8 +92,15 @@ impl<K: Hash + Eq + Drop, V: Drop, S: BuildHasher> HashMap<K, V, S> {
         aborted: &mut Option<T>,
     ) -> Result<Compute<'_, K, V, ()>, Refused>
         requires { Takes (F.pre f) (map_in K.eq self.old.store key) }
-        ensures* computes { sem 𝓛 (ends_so K.row V.row S.row S.Hasher.row K.Hash S.BuildHasher S.Hasher.Hasher self.entry (λ after. (answer : _) × ComputesBy K.eq (hash_of K.hash_input S.build_hasher S.Hasher.write S.Hasher.finish self.old.store.hasher key) key entry_of (Says (F.post f)) self.old answer after × IsParted answer (compute_answered result) aborted.old aborted.new)) }
-        ensures parted { (answer : _) × (after : MapState _ _ _) × ComputesBy K.eq (hash_of K.hash_input S.build_hasher S.Hasher.write S.Hasher.finish self.old.store.hasher key) key entry_of (Says (F.post f)) self.old answer after × IsParted answer (compute_answered result) aborted.old aborted.new }
+        ensures* computes { sem 𝓛 (ends_so K.row V.row S.row S.Hasher.row K.Hash S.BuildHasher
+            S.Hasher.Hasher self.entry (λ after. (answer : _)
+            × ComputesBy K.eq (hash_of K.hash_input S.build_hasher S.Hasher.write S.Hasher.finish
+            self.old.store.hasher key) key entry_of (Says (F.post f)) self.old answer after
+            × IsParted answer (compute_answered result) aborted.old aborted.new)) }
+        ensures parted { (answer : _) × (after : MapState _ _ _)
+            × ComputesBy K.eq (hash_of K.hash_input S.build_hasher S.Hasher.write S.Hasher.finish
+            self.old.store.hasher key) key entry_of (Says (F.post f)) self.old answer after
+            × IsParted answer (compute_answered result) aborted.old aborted.new }
     {
         let computed = self.compute_numbered(key, f)?;
         match computed {
@@ -116,15 +132,22 @@ impl<K: Hash + Eq + Drop, V: Drop, S: BuildHasher> HashMap<K, V, S> {
     /// Refused as [`HashMap::insert`], and only where the key is in the map.
     pub fn update<F: Fn(&V) -> V>(&mut self, key: K, f: F) -> Result<Option<&V>, Refused>
         requires { F.IsAlwaysCallable f }
-        ensures* updates { sem 𝓛 (ends_so K.row V.row S.row S.Hasher.row K.Hash S.BuildHasher S.Hasher.Hasher self.entry (IsUpdated K.eq (hash_of K.hash_input S.build_hasher S.Hasher.write S.Hasher.finish self.old.store.hasher key) key (FnReturnsAt F.Fn f) self.old (old_answered result))) }
-        ensures new { IfOk result (λ new. MatchOption new (map_in K.eq self.old.store key ≡ None) (λ v. (p : _) × (map_in K.eq self.old.store key ≡ Some p) × FnReturnsAt F.Fn f p.value v.now)) }
-        ensures err { IfErr result (IsCause (hash_of K.hash_input S.build_hasher S.Hasher.write S.Hasher.finish self.old.store.hasher key) self.old.store) }
+        ensures* updates { sem 𝓛 (ends_so K.row V.row S.row S.Hasher.row K.Hash S.BuildHasher
+            S.Hasher.Hasher self.entry (IsUpdated K.eq
+            (hash_of K.hash_input S.build_hasher S.Hasher.write S.Hasher.finish
+            self.old.store.hasher key) key (FnReturnsAt F.Fn f) self.old (old_answered result))) }
+        ensures new { IfOk result (λ new. MatchOption new (map_in K.eq self.old.store key ≡ None)
+            (λ v. (p : _) × (map_in K.eq self.old.store key ≡ Some p)
+            × FnReturnsAt F.Fn f p.value v.now)) }
+        ensures err { IfErr result (IsCause (hash_of K.hash_input S.build_hasher S.Hasher.write
+            S.Hasher.finish self.old.store.hasher key) self.old.store) }
     {
         let (_, computed) = self.compute_by(
             key,
             |shown|
                 requires { F.IsAlwaysCallable f }
-                ensures { MatchOption shown.entry (result ≡ Operation.Abort tt) (λ p. (v : V) × FnReturnsAt F.Fn f p.1.now v × (result ≡ Operation.Insert v)) }
+                ensures { MatchOption shown.entry (result ≡ Operation.Abort tt)
+                    (λ p. (v : V) × FnReturnsAt F.Fn f p.1.now v × (result ≡ Operation.Insert v)) }
             {
                 match shown {
                     Some((_, value)) => Operation::Insert(f(value)),
@@ -150,14 +173,21 @@ impl<K: Hash + Eq + Drop, V: Drop, S: BuildHasher> HashMap<K, V, S> {
         value: V,
     ) -> Result<&V, Refused>
         requires { U.IsAlwaysCallable update }
-        ensures* stores { sem 𝓛 (ends_so K.row V.row S.row S.Hasher.row K.Hash S.BuildHasher S.Hasher.Hasher self.entry (IsUpdatedOrInserted K.eq (hash_of K.hash_input S.build_hasher S.Hasher.write S.Hasher.finish self.old.store.hasher key) key (FnReturnsAt U.Fn update) (λ v. v ≡ value) self.old (value_answered result))) }
-        ensures value { IfOk result (λ v. MatchOption (map_in K.eq self.old.store key) (v.now ≡ value) (λ p. FnReturnsAt U.Fn update p.value v.now)) }
-        ensures err { IfErr result (IsCause (hash_of K.hash_input S.build_hasher S.Hasher.write S.Hasher.finish self.old.store.hasher key) self.old.store) }
+        ensures* stores { sem 𝓛 (ends_so K.row V.row S.row S.Hasher.row K.Hash S.BuildHasher
+            S.Hasher.Hasher self.entry (IsUpdatedOrInserted K.eq
+            (hash_of K.hash_input S.build_hasher S.Hasher.write S.Hasher.finish
+            self.old.store.hasher key) key (FnReturnsAt U.Fn update) (λ v. v ≡ value) self.old
+            (value_answered result))) }
+        ensures value { IfOk result (λ v. MatchOption (map_in K.eq self.old.store key)
+            (v.now ≡ value) (λ p. FnReturnsAt U.Fn update p.value v.now)) }
+        ensures err { IfErr result (IsCause (hash_of K.hash_input S.build_hasher S.Hasher.write
+            S.Hasher.finish self.old.store.hasher key) self.old.store) }
     {
         self.update_or_insert_with(key, update, || value)
     }
 
-    /// The same where a closure makes the value: `update_or_insert_with` of 0.2.5. It is called only
+    /// The same where a closure makes the value: `update_or_insert_with` of 0.2.5. It is called
+    /// only
     /// where the key is absent.
     ///
     /// Refused as [`HashMap::insert`].
@@ -169,16 +199,25 @@ impl<K: Hash + Eq + Drop, V: Drop, S: BuildHasher> HashMap<K, V, S> {
     ) -> Result<&V, Refused>
         requires update { U.IsAlwaysCallable update }
         requires absent { map_in K.eq self.old.store key ≡ None → F.pre f }
-        ensures* stores { sem 𝓛 (ends_so K.row V.row S.row S.Hasher.row K.Hash S.BuildHasher S.Hasher.Hasher self.entry (IsUpdatedOrInserted K.eq (hash_of K.hash_input S.build_hasher S.Hasher.write S.Hasher.finish self.old.store.hasher key) key (FnReturnsAt U.Fn update) (F.post f) self.old (value_answered result))) }
-        ensures value { IfOk result (λ v. MatchOption (map_in K.eq self.old.store key) (F.post f v.now) (λ p. FnReturnsAt U.Fn update p.value v.now)) }
-        ensures err { IfErr result (IsCause (hash_of K.hash_input S.build_hasher S.Hasher.write S.Hasher.finish self.old.store.hasher key) self.old.store) }
+        ensures* stores { sem 𝓛 (ends_so K.row V.row S.row S.Hasher.row K.Hash S.BuildHasher
+            S.Hasher.Hasher self.entry (IsUpdatedOrInserted K.eq
+            (hash_of K.hash_input S.build_hasher S.Hasher.write S.Hasher.finish
+            self.old.store.hasher key) key (FnReturnsAt U.Fn update) (F.post f) self.old
+            (value_answered result))) }
+        ensures value { IfOk result (λ v. MatchOption (map_in K.eq self.old.store key)
+            (F.post f v.now) (λ p. FnReturnsAt U.Fn update p.value v.now)) }
+        ensures err { IfErr result (IsCause (hash_of K.hash_input S.build_hasher S.Hasher.write
+            S.Hasher.finish self.old.store.hasher key) self.old.store) }
     {
         let (_, computed) = self.compute_by(
             key,
             |shown|
                 requires update { U.IsAlwaysCallable update }
                 requires absent { shown ≡ None → F.pre f }
-                ensures { MatchOption shown.entry ((v : V) × F.post f v × (result ≡ Operation.Insert v)) (λ p. (v : V) × FnReturnsAt U.Fn update p.1.now v × (result ≡ Operation.Insert v)) }
+                ensures { MatchOption shown.entry
+                    ((v : V) × F.post f v × (result ≡ Operation.Insert v))
+                    (λ p. (v : V) × FnReturnsAt U.Fn update p.1.now v
+                    × (result ≡ Operation.Insert v)) }
             {
                 match shown {
                     Some((_, value)) => Operation::<V, ()>::Insert(update(value)),
@@ -204,16 +243,24 @@ impl<K: Hash + Eq + Drop, V: Drop, S: BuildHasher> HashMap<K, V, S> {
         f: F,
     ) -> Result<Result<&V, &V>, Refused>
         requires { map_in K.eq self.old.store key ≡ None → F.pre f }
-        ensures* stores { sem 𝓛 (ends_so K.row V.row S.row S.Hasher.row K.Hash S.BuildHasher S.Hasher.Hasher self.entry (IsTriedWith K.eq (hash_of K.hash_input S.build_hasher S.Hasher.write S.Hasher.finish self.old.store.hasher key) key (F.post f) self.old (tried_answered result))) }
-        ensures stored { IfOk result (λ tried. IfOk tried (λ v. F.post f v.now × (map_in K.eq self.old.store key ≡ None))) }
-        ensures occupied { IfOk result (λ tried. IfErr tried (λ v. (p : _) × (map_in K.eq self.old.store key ≡ Some p) × (p.value ≡ v.now))) }
-        ensures err { IfErr result (IsCause (hash_of K.hash_input S.build_hasher S.Hasher.write S.Hasher.finish self.old.store.hasher key) self.old.store) }
+        ensures* stores { sem 𝓛 (ends_so K.row V.row S.row S.Hasher.row K.Hash S.BuildHasher
+            S.Hasher.Hasher self.entry (IsTriedWith K.eq
+            (hash_of K.hash_input S.build_hasher S.Hasher.write S.Hasher.finish
+            self.old.store.hasher key) key (F.post f) self.old (tried_answered result))) }
+        ensures stored { IfOk result (λ tried. IfOk tried
+            (λ v. F.post f v.now × (map_in K.eq self.old.store key ≡ None))) }
+        ensures occupied { IfOk result (λ tried. IfErr tried
+            (λ v. (p : _) × (map_in K.eq self.old.store key ≡ Some p) × (p.value ≡ v.now))) }
+        ensures err { IfErr result (IsCause (hash_of K.hash_input S.build_hasher S.Hasher.write
+            S.Hasher.finish self.old.store.hasher key) self.old.store) }
     {
         let (shown, computed) = self.compute_by(
             key,
             |shown|
                 requires { shown ≡ None → F.pre f }
-                ensures { MatchOption shown.entry ((v : V) × F.post f v × (result ≡ Operation.Insert v)) (λ _. result ≡ Operation.Abort tt) }
+                ensures { MatchOption shown.entry
+                    ((v : V) × F.post f v × (result ≡ Operation.Insert v))
+                    (λ _. result ≡ Operation.Abort tt) }
             {
                 match shown {
                     Some(_) => Operation::Abort(()),
@@ -234,9 +281,14 @@ impl<K: Hash + Eq + Drop, V: Drop, S: BuildHasher> HashMap<K, V, S> {
     /// Refused as [`HashMap::insert`], and only where the key is absent.
     pub fn get_or_insert_with<F: FnOnce() -> V>(&mut self, key: K, f: F) -> Result<&V, Refused>
         requires { map_in K.eq self.old.store key ≡ None → F.pre f }
-        ensures* stores { sem 𝓛 (ends_so K.row V.row S.row S.Hasher.row K.Hash S.BuildHasher S.Hasher.Hasher self.entry (HasValueOf K.eq (hash_of K.hash_input S.build_hasher S.Hasher.write S.Hasher.finish self.old.store.hasher key) key (F.post f) self.old (value_answered result))) }
-        ensures value { IfOk result (λ v. MatchOption (map_in K.eq self.old.store key) (F.post f v.now) (λ p. p.value ≡ v.now)) }
-        ensures err { IfErr result (IsCause (hash_of K.hash_input S.build_hasher S.Hasher.write S.Hasher.finish self.old.store.hasher key) self.old.store) }
+        ensures* stores { sem 𝓛 (ends_so K.row V.row S.row S.Hasher.row K.Hash S.BuildHasher
+            S.Hasher.Hasher self.entry (HasValueOf K.eq
+            (hash_of K.hash_input S.build_hasher S.Hasher.write S.Hasher.finish
+            self.old.store.hasher key) key (F.post f) self.old (value_answered result))) }
+        ensures value { IfOk result (λ v. MatchOption (map_in K.eq self.old.store key)
+            (F.post f v.now) (λ p. p.value ≡ v.now)) }
+        ensures err { IfErr result (IsCause (hash_of K.hash_input S.build_hasher S.Hasher.write
+            S.Hasher.finish self.old.store.hasher key) self.old.store) }
     {
         match self.try_insert_with(key, f)? {
             Ok(value) | Err(value) => Ok(value),

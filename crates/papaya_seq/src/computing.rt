@@ -31,7 +31,9 @@ fn show<K, V: Drop, T: Drop, F: FnOnce(Option<(&K, &V)>) -> Operation<V, T>>(
     aborted: &mut Option<T>,
 ) -> Answer
     requires { (f : F) × (closure.old ≡ Some f) × F.pre f shown }
-    ensures { (f : F) × (operation : Operation V T) × (closure.old ≡ Some f) × (closure.new ≡ None) × F.post f shown.entry operation × IsKept operation result value.old value.new aborted.old aborted.new }
+    ensures { (f : F) × (operation : Operation V T) × (closure.old ≡ Some f) × (closure.new ≡ None)
+        × F.post f shown.entry operation × IsKept operation result value.old value.new aborted.old
+        aborted.new }
 {
     let Some(f) = closure.take() else {
         unreachable!()
@@ -73,7 +75,9 @@ impl<K: Hash + Eq + Drop, V: Drop, S: BuildHasher> HashMap<K, V, S> {
     ) -> (Option<u64>, Result<Computed<u64, T>, Refused>)
         requires { Takes (F.pre f) (map_in K.eq self.old.store key) }
         ensures shown { result.0 ≡ option_map (λ p. p.number) (map_in K.eq self.old.store key) }
-        ensures computes { ComputesBy K.eq (hash_of K.hash_input S.build_hasher S.Hasher.write S.Hasher.finish self.old.store.hasher key) key (λ p. p.number) (Says (F.post f)) self.old result.1 self.new }
+        ensures computes { ComputesBy K.eq (hash_of K.hash_input S.build_hasher S.Hasher.write
+            S.Hasher.finish self.old.store.hasher key) key (λ p. p.number) (Says (F.post f))
+            self.old result.1 self.new }
     {
         let hash = self.store.hash(&key);
         let mut running: Running<K, V, Listed<V>> = Running {

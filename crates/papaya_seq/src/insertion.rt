@@ -25,10 +25,16 @@ fn value_left<K: Drop, V, A: Drop>(running: Running<K, V, A>) -> Option<V>
 impl<K: Hash + Eq + Drop, V: Drop, S: BuildHasher> HashMap<K, V, S> {
     /// Inserts a pair: what the machine replies, and the value where it was not logged.
     pub(crate) fn insert_by(&mut self, key: K, value: V, replace: bool) -> (Reply, Option<V>)
-        ensures answers { IsAnswered K.eq (insertion replace key value) (map_in K.eq self.old.store) result.0 (map_in K.eq self.new.store) }
+        ensures answers { IsAnswered K.eq (insertion replace key value) (map_in K.eq self.old.store)
+            result.0 (map_in K.eq self.new.store) }
         ensures fresh { IsNewIn self.old.store result.0 }
-        ensures cause { (refused : Refused) → result.0 ≡ Reply.Refused refused → IsCauseAt (hash_of K.hash_input S.build_hasher S.Hasher.write S.Hasher.finish self.old.store.hasher key) self.old.store (map_in K.eq self.old.store key) refused }
-        ensures absent { replace ≡ false → (refused : Refused) → result.0 ≡ Reply.Refused refused → (map_in K.eq self.old.store key ≡ None) × IsCause (hash_of K.hash_input S.build_hasher S.Hasher.write S.Hasher.finish self.old.store.hasher key) self.old.store refused }
+        ensures cause { (refused : Refused) → result.0 ≡ Reply.Refused refused
+            → IsCauseAt (hash_of K.hash_input S.build_hasher S.Hasher.write S.Hasher.finish
+            self.old.store.hasher key) self.old.store (map_in K.eq self.old.store key) refused }
+        ensures absent { replace ≡ false → (refused : Refused) → result.0 ≡ Reply.Refused refused
+            → (map_in K.eq self.old.store key ≡ None)
+            × IsCause (hash_of K.hash_input S.build_hasher S.Hasher.write S.Hasher.finish
+            self.old.store.hasher key) self.old.store refused }
         ensures left { (n : ℕ) → result.0 ≡ Reply.Occupied n → result.1 ≡ Some value }
         ensures keeps { Keeps self.old self.new }
     {

@@ -13,8 +13,14 @@ use std::hash::Hash;
 /// [`crate::seq::HashMap::get`] answers what the finite map has, so an insertion and then a lookup
 /// of its key finds its value.
 pub fn changes_are_found<K: Hash + Eq, V, S>()
-    ensures inserted { (k : K) (v : V) (went : Option V) (s s' : StoreState K V S) → Inserts K.eq k v s went s' → value_of (map_in K.eq s' k) ≡ Some v }
-    ensures beside { (k : K) (v : V) (went : Option V) (s s' : StoreState K V S) → Inserts K.eq k v s went s' → (j : K) → K.eq j k ≡ false → map_in K.eq s' j ≡ map_in K.eq s j }
-    ensures removed { (matches : K → Bool) (p : Stored K V) (s s' : StoreState K V S) → Removes K.eq matches s p s' → map_in K.eq s' p.key ≡ None }
-    ensures left { (matches : K → Bool) (p : Stored K V) (s s' : StoreState K V S) → Removes K.eq matches s p s' → (j : K) → K.eq j p.key ≡ false → map_in K.eq s' j ≡ map_in K.eq s j }
+    ensures inserted { (k : K) (v : V) (went : Option V) (s s' : StoreState K V S)
+        → Inserts K.eq k v s went s' → value_of (map_in K.eq s' k) ≡ Some v }
+    ensures beside { (k : K) (v : V) (went : Option V) (s s' : StoreState K V S)
+        → Inserts K.eq k v s went s' → (j : K) → K.eq j k ≡ false
+        → map_in K.eq s' j ≡ map_in K.eq s j }
+    ensures removed { (matches : K → Bool) (p : Stored K V) (s s' : StoreState K V S)
+        → Removes K.eq matches s p s' → map_in K.eq s' p.key ≡ None }
+    ensures left { (matches : K → Bool) (p : Stored K V) (s s' : StoreState K V S)
+        → Removes K.eq matches s p s' → (j : K) → K.eq j p.key ≡ false
+        → map_in K.eq s' j ≡ map_in K.eq s j }
 {}

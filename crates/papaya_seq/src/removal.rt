@@ -40,8 +40,10 @@ impl<K: Hash + Eq, V, S: BuildHasher> HashMap<K, V, S> {
         mut agrees: F,
     ) -> Reply
         requires { F.IsAlwaysCallable agrees }
-        ensures whole { IsRemovalBy K.eq (Q.matches key.now) (Judges F.FnMut agrees) self.old.store result self.new.store }
-        ensures never { next_of self.old.store ≡ 0 → (refused : Refused) → result ≡ Reply.Refused refused → ⊥ }
+        ensures whole { IsRemovalBy K.eq (Q.matches key.now) (Judges F.FnMut agrees) self.old.store
+            result self.new.store }
+        ensures never { next_of self.old.store ≡ 0 → (refused : Refused)
+            → result ≡ Reply.Refused refused → ⊥ }
         ensures keeps { Keeps self.old self.new }
     {
         let hash = self.store.hash(key);

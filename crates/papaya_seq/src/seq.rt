@@ -55,7 +55,8 @@ fn replied(computed: Result<Computed<u64, u64>, Refused>) -> Reply
 /// A hash map for one caller: the machines of the shared map, on plain words.
 ///
 /// It ports `papaya::HashMap` for where a `&mut` will do: no guard, no atomic, and what is answered
-/// borrows the map. Contracts see its words and logs, and by `map_in` the finite map that they mean.
+/// borrows the map. Contracts see its words and logs, and by `map_in` the finite map that they
+/// mean.
 ///
 /// Pairs that were replaced or removed stay in the log, until the map is dropped.
 #[derive(Drop)]
@@ -74,7 +75,9 @@ impl<K: Hash + Eq, V, S: BuildHasher> Model for HashMap<K, V, S> {
 
     ghost view = { λ m. record { store = m.store; mode = m.mode; initial = m.initial } };
 
-    ghost invariant = { λ m. IsLawfulMap K.eq (hash_of K.hash_input S.build_hasher S.Hasher.write S.Hasher.finish m.store.hasher) m.store m.mode };
+    ghost invariant = { λ m. IsLawfulMap K.eq
+        (hash_of K.hash_input S.build_hasher S.Hasher.write S.Hasher.finish m.store.hasher) m.store
+        m.mode };
 }
 
 impl<K: Hash + Eq + Drop, V: Drop, S: BuildHasher + Drop> HashMap<K, V, S> {
@@ -91,7 +94,8 @@ impl<K: Hash + Eq + Drop, V: Drop, S: BuildHasher + Drop> HashMap<K, V, S> {
         shards: usize,
         hasher: S,
     ) -> Result<HashMap<K, V, S>, Refused>
-        ensures ok { IfOk result (λ map. IsAllowed mode capacity shards × IsNew {A = Unit {0}} mode capacity shards hasher (core_of map)) }
+        ensures ok { IfOk result (λ map. IsAllowed mode capacity shards
+            × IsNew {A = Unit {0}} mode capacity shards hasher (core_of map)) }
         ensures empty { IfOk result (λ map. content map.store ≡ []) }
         ensures err { IfErr result (λ e. IsRefused mode capacity shards e) }
     {
@@ -110,16 +114,19 @@ impl<K: Hash + Eq + Drop, V: Drop, S: BuildHasher + Drop> HashMap<K, V, S> {
         capacity: usize,
         hasher: S,
     ) -> Result<HashMap<K, V, S>, Refused>
-        ensures ok { IfOk result (λ map. IsNew {A = Unit {0}} (ResizeMode.Incremental DEFAULT_CHUNK) capacity 1 hasher (core_of map)) }
+        ensures ok { IfOk result (λ map. IsNew {A = Unit {0}} (ResizeMode.Incremental DEFAULT_CHUNK)
+            capacity 1 hasher (core_of map)) }
         ensures empty { IfOk result (λ map. content map.store ≡ []) }
-        ensures err { IfErr result (λ e. IsRefused (ResizeMode.Incremental DEFAULT_CHUNK) capacity 1 e) }
+        ensures err { IfErr result (λ e. IsRefused (ResizeMode.Incremental DEFAULT_CHUNK) capacity 1
+            e) }
     {
         HashMap::with_parts(alloc, ResizeMode::default(), capacity, 1, hasher)
     }
 
     /// A map with this hasher: `with_hasher` of 0.2.5. The first change makes its first table.
     pub fn with_hasher(alloc: Global, hasher: S) -> Result<HashMap<K, V, S>, Refused>
-        ensures ok { IfOk result (λ map. IsNew {A = Unit {0}} (ResizeMode.Incremental DEFAULT_CHUNK) 0 1 hasher (core_of map)) }
+        ensures ok { IfOk result (λ map. IsNew {A = Unit {0}}
+            (ResizeMode.Incremental DEFAULT_CHUNK) 0 1 hasher (core_of map)) }
         ensures empty { IfOk result (λ map. content map.store ≡ []) }
         ensures err { IfErr result (λ e. e ≡ Refused.Memory) }
     {
@@ -131,7 +138,8 @@ impl<K: Hash + Eq + Drop, V: Drop> HashMap<K, V, BuildHasherDefault<FoldHasher>>
     /// A map that makes its first table at its first change: `new` of 0.2.5, but for the hasher,
     /// which is the same in each run.
     pub fn new(alloc: Global) -> Result<HashMap<K, V, BuildHasherDefault<FoldHasher>>, Refused>
-        ensures new { IfOk result (λ map. IsNew {A = Unit {0}} (ResizeMode.Incremental DEFAULT_CHUNK) 0 1 map.store.hasher (core_of map)) }
+        ensures new { IfOk result (λ map. IsNew {A = Unit {0}}
+            (ResizeMode.Incremental DEFAULT_CHUNK) 0 1 map.store.hasher (core_of map)) }
         ensures empty { IfOk result (λ map. (content map.store ≡ []) × (slots_of map.store ≡ 0)) }
         ensures err { IfErr result (λ e. e ≡ Refused.Memory) }
     {
@@ -143,16 +151,19 @@ impl<K: Hash + Eq + Drop, V: Drop> HashMap<K, V, BuildHasherDefault<FoldHasher>>
         alloc: Global,
         capacity: usize,
     ) -> Result<HashMap<K, V, BuildHasherDefault<FoldHasher>>, Refused>
-        ensures new { IfOk result (λ map. IsNew {A = Unit {0}} (ResizeMode.Incremental DEFAULT_CHUNK) capacity 1 map.store.hasher (core_of map)) }
+        ensures new { IfOk result (λ map. IsNew {A = Unit {0}}
+            (ResizeMode.Incremental DEFAULT_CHUNK) capacity 1 map.store.hasher (core_of map)) }
         ensures empty { IfOk result (λ map. content map.store ≡ []) }
-        ensures err { IfErr result (λ e. IsRefused (ResizeMode.Incremental DEFAULT_CHUNK) capacity 1 e) }
+        ensures err { IfErr result (λ e. IsRefused (ResizeMode.Incremental DEFAULT_CHUNK) capacity 1
+            e) }
     {
         HashMap::with_capacity_and_hasher(alloc, capacity, BuildHasherDefault::new())
     }
 
     /// The same as [`HashMap::new`]: what the trait `Default` gives in 0.2.5.
     pub fn default(alloc: Global) -> Result<HashMap<K, V, BuildHasherDefault<FoldHasher>>, Refused>
-        ensures new { IfOk result (λ map. IsNew {A = Unit {0}} (ResizeMode.Incremental DEFAULT_CHUNK) 0 1 map.store.hasher (core_of map)) }
+        ensures new { IfOk result (λ map. IsNew {A = Unit {0}}
+            (ResizeMode.Incremental DEFAULT_CHUNK) 0 1 map.store.hasher (core_of map)) }
         ensures empty { IfOk result (λ map. (content map.store ≡ []) × (slots_of map.store ≡ 0)) }
         ensures err { IfErr result (λ e. e ≡ Refused.Memory) }
     {
@@ -194,20 +205,28 @@ impl<K: Hash + Eq, V, S: BuildHasher> HashMap<K, V, S> {
     /// The key and the value of a pair, by its number in the log, also of one that was replaced or
     /// removed.
     pub fn pair(&self, n: u64) -> Option<(&K, &V)>
-        ensures { MatchOption result (pair_of self.now.store n ≡ None) (λ p. pair_of self.now.store n ≡ Some (record { number = n; key = p.0.now; value = p.1.now })) }
+        ensures { MatchOption result (pair_of self.now.store n ≡ None)
+            (λ p. pair_of self.now.store n ≡ Some (record
+            { number = n; key = p.0.now; value = p.1.now })) }
     {
         self.store.pair(n)
     }
 
     /// The value of a key: `get` of 0.2.5. It takes no memory and is never refused.
     ///
-    /// The answer is what the machine of a lookup replies where each of its loads is answered by the
+    /// The answer is what the machine of a lookup replies where each of its loads is answered by
+    /// the
     /// word that stands in the tables.
     #[inline(always)]
     pub fn get<Q: Equivalent<K>>(&self, key: &Q) -> Option<&V>
-        ensures map { (k : _) → Q.matches key.now k ≡ true → option_map (λ v. v.now) result ≡ value_of (map_in K.eq self.now.store k) }
-        ensures answer { MatchOption result (HasNone (Q.matches key.now) self.now.store) (λ v. (p : _) × Holds (Q.matches key.now) self.now.store p × (p.value ≡ v.now)) }
-        ensures machine { (found : _) × LooksUp (Q.matches key.now) self.now.store (started Get (hash_of Q.hash_input S.build_hasher S.Hasher.write S.Hasher.finish self.now.store.hasher key.now) self.now.mode self.now.initial) found × (option_map (λ v. v.now) result ≡ value_of found) }
+        ensures map { (k : _) → Q.matches key.now k ≡ true
+            → option_map (λ v. v.now) result ≡ value_of (map_in K.eq self.now.store k) }
+        ensures answer { MatchOption result (HasNone (Q.matches key.now) self.now.store)
+            (λ v. (p : _) × Holds (Q.matches key.now) self.now.store p × (p.value ≡ v.now)) }
+        ensures machine { (found : _) × LooksUp (Q.matches key.now) self.now.store
+            (started Get (hash_of Q.hash_input S.build_hasher S.Hasher.write S.Hasher.finish
+            self.now.store.hasher key.now) self.now.mode self.now.initial) found
+            × (option_map (λ v. v.now) result ≡ value_of found) }
     {
         match self.get_key_value(key) {
             Some((_, value)) => Some(value),
@@ -218,9 +237,15 @@ impl<K: Hash + Eq, V, S: BuildHasher> HashMap<K, V, S> {
     /// The stored key and the value of a key: `get_key_value` of 0.2.5.
     #[inline(always)]
     pub fn get_key_value<Q: Equivalent<K>>(&self, key: &Q) -> Option<(&K, &V)>
-        ensures map { (k : _) → Q.matches key.now k ≡ true → option_map deref_pair result ≡ option_map entry_of (map_in K.eq self.now.store k) }
-        ensures answer { MatchOption result (HasNone (Q.matches key.now) self.now.store) (λ found. (p : _) × Holds (Q.matches key.now) self.now.store p × (p.key ≡ found.0.now) × (p.value ≡ found.1.now)) }
-        ensures machine { (found : _) × LooksUp (Q.matches key.now) self.now.store (started Get (hash_of Q.hash_input S.build_hasher S.Hasher.write S.Hasher.finish self.now.store.hasher key.now) self.now.mode self.now.initial) found × (option_map deref_pair result ≡ option_map entry_of found) }
+        ensures map { (k : _) → Q.matches key.now k ≡ true
+            → option_map deref_pair result ≡ option_map entry_of (map_in K.eq self.now.store k) }
+        ensures answer { MatchOption result (HasNone (Q.matches key.now) self.now.store)
+            (λ found. (p : _) × Holds (Q.matches key.now) self.now.store p × (p.key ≡ found.0.now)
+            × (p.value ≡ found.1.now)) }
+        ensures machine { (found : _) × LooksUp (Q.matches key.now) self.now.store
+            (started Get (hash_of Q.hash_input S.build_hasher S.Hasher.write S.Hasher.finish
+            self.now.store.hasher key.now) self.now.mode self.now.initial) found
+            × (option_map deref_pair result ≡ option_map entry_of found) }
     {
         match self.look_up(key) {
             Some(pair) => self.store.pair(pair),
@@ -231,9 +256,14 @@ impl<K: Hash + Eq, V, S: BuildHasher> HashMap<K, V, S> {
     /// Is the key in the map? `contains_key` of 0.2.5.
     #[inline(always)]
     pub fn contains_key<Q: Equivalent<K>>(&self, key: &Q) -> bool
-        ensures map { (k : _) → Q.matches key.now k ≡ true → result ≡ is_some (map_in K.eq self.now.store k) }
-        ensures answer { MatchBool result ((p : _) × Holds (Q.matches key.now) self.now.store p) (HasNone (Q.matches key.now) self.now.store) }
-        ensures machine { (found : _) × LooksUp (Q.matches key.now) self.now.store (started Get (hash_of Q.hash_input S.build_hasher S.Hasher.write S.Hasher.finish self.now.store.hasher key.now) self.now.mode self.now.initial) found × (result ≡ is_some found) }
+        ensures map { (k : _) → Q.matches key.now k ≡ true
+            → result ≡ is_some (map_in K.eq self.now.store k) }
+        ensures answer { MatchBool result ((p : _) × Holds (Q.matches key.now) self.now.store p)
+            (HasNone (Q.matches key.now) self.now.store) }
+        ensures machine { (found : _) × LooksUp (Q.matches key.now) self.now.store
+            (started Get (hash_of Q.hash_input S.build_hasher S.Hasher.write S.Hasher.finish
+            self.now.store.hasher key.now) self.now.mode self.now.initial) found
+            × (result ≡ is_some found) }
     {
         // By this read the map is known to be in order.
         let _mode = self.mode;
@@ -261,13 +291,20 @@ impl<K: Hash + Eq + Drop, V: Drop, S: BuildHasher> HashMap<K, V, S> {
     /// Stores a pair, and answers the value that its key had: `insert` of 0.2.5. As there, the new
     /// key takes the old one's place too.
     ///
-    /// `Refused::Memory` where a growth was refused. `Refused::Capacity` where the log of keys or of
+    /// `Refused::Memory` where a growth was refused. `Refused::Capacity` where the log of keys or
+    /// of
     /// pairs is full, and where the key is absent and has no place left in the table. The map is as
     /// it was then, and what was handed in is dropped, at once or with the map.
     pub fn insert(&mut self, key: K, value: V) -> Result<Option<&V>, Refused>
-        ensures* inserts { sem 𝓛 (ends_so K.row V.row S.row S.Hasher.row K.Hash S.BuildHasher S.Hasher.Hasher self.entry (IsInserted K.eq (hash_of K.hash_input S.build_hasher S.Hasher.write S.Hasher.finish self.old.store.hasher key) key value self.old (old_answered result))) }
-        ensures old { IfOk result (λ old. option_map (λ v. v.now) old ≡ value_of (map_in K.eq self.old.store key)) }
-        ensures err { IfErr result (IsCauseAt (hash_of K.hash_input S.build_hasher S.Hasher.write S.Hasher.finish self.old.store.hasher key) self.old.store (map_in K.eq self.old.store key)) }
+        ensures* inserts { sem 𝓛 (ends_so K.row V.row S.row S.Hasher.row K.Hash S.BuildHasher
+            S.Hasher.Hasher self.entry (IsInserted K.eq
+            (hash_of K.hash_input S.build_hasher S.Hasher.write S.Hasher.finish
+            self.old.store.hasher key) key value self.old (old_answered result))) }
+        ensures old { IfOk result (λ old. option_map (λ v. v.now) old ≡ value_of
+            (map_in K.eq self.old.store key)) }
+        ensures err { IfErr result (IsCauseAt
+            (hash_of K.hash_input S.build_hasher S.Hasher.write S.Hasher.finish
+            self.old.store.hasher key) self.old.store (map_in K.eq self.old.store key)) }
     {
         let (reply, _) = self.insert_by(key, value, true);
         match reply {
@@ -283,7 +320,8 @@ impl<K: Hash + Eq + Drop, V: Drop, S: BuildHasher> HashMap<K, V, S> {
     /// It is [`HashMap::try_insert`] with a number in place of a reference. Refused as
     /// [`HashMap::insert`], and only where the key is absent.
     pub fn insert_absent(&mut self, key: K, value: V) -> Result<(u64, Option<V>), Refused>
-        ensures { IsTried K.eq (hash_of K.hash_input S.build_hasher S.Hasher.write S.Hasher.finish self.old.store.hasher key) key value self.old result self.new }
+        ensures { IsTried K.eq (hash_of K.hash_input S.build_hasher S.Hasher.write S.Hasher.finish
+            self.old.store.hasher key) key value self.old result self.new }
     {
         let (reply, left) = self.insert_by(key, value, false);
         match reply {
@@ -294,8 +332,10 @@ impl<K: Hash + Eq + Drop, V: Drop, S: BuildHasher> HashMap<K, V, S> {
         }
     }
 
-    /// [`HashMap::try_insert`] which leaves the value that was handed in in `left`, where the key is in
-    /// the map. So its answer owns nothing, and its clause says what the map is after it. Refused as
+    /// [`HashMap::try_insert`] which leaves the value that was handed in in `left`, where the key
+    /// is in
+    /// the map. So its answer owns nothing, and its clause says what the map is after it. Refused
+    /// as
     /// it is.
     pub fn try_insert_into(
         &mut self,
@@ -303,10 +343,19 @@ impl<K: Hash + Eq + Drop, V: Drop, S: BuildHasher> HashMap<K, V, S> {
         value: V,
         left: &mut Option<V>,
     ) -> Result<Result<&V, &V>, Refused>
-        ensures* tries { sem 𝓛 (ends_so K.row V.row S.row S.Hasher.row K.Hash S.BuildHasher S.Hasher.Hasher self.entry (IsTriedInto K.eq (hash_of K.hash_input S.build_hasher S.Hasher.write S.Hasher.finish self.old.store.hasher key) key value self.old (tried_answered result) left.old left.new)) }
-        ensures stored { IfOk result (λ tried. IfOk tried (λ v. (v.now ≡ value) × (map_in K.eq self.old.store key ≡ None))) }
-        ensures occupied { IfOk result (λ tried. IfErr tried (λ v. (value_of (map_in K.eq self.old.store key) ≡ Some v.now) × (left.new ≡ Some value))) }
-        ensures err { IfErr result (λ refused. (map_in K.eq self.old.store key ≡ None) × IsCause (hash_of K.hash_input S.build_hasher S.Hasher.write S.Hasher.finish self.old.store.hasher key) self.old.store refused) }
+        ensures* tries { sem 𝓛 (ends_so K.row V.row S.row S.Hasher.row K.Hash S.BuildHasher
+            S.Hasher.Hasher self.entry (IsTriedInto K.eq
+            (hash_of K.hash_input S.build_hasher S.Hasher.write S.Hasher.finish
+            self.old.store.hasher key) key value self.old (tried_answered result) left.old
+            left.new)) }
+        ensures stored { IfOk result (λ tried. IfOk tried
+            (λ v. (v.now ≡ value) × (map_in K.eq self.old.store key ≡ None))) }
+        ensures occupied { IfOk result (λ tried. IfErr tried
+            (λ v. (value_of (map_in K.eq self.old.store key) ≡ Some v.now)
+            × (left.new ≡ Some value))) }
+        ensures err { IfErr result (λ refused. (map_in K.eq self.old.store key ≡ None)
+            × IsCause (hash_of K.hash_input S.build_hasher S.Hasher.write S.Hasher.finish
+            self.old.store.hasher key) self.old.store refused) }
     {
         let (pair, unstored) = self.insert_absent(key, value)?;
         match unstored {
@@ -322,16 +371,22 @@ impl<K: Hash + Eq + Drop, V: Drop, S: BuildHasher> HashMap<K, V, S> {
     /// the key is in the map, what is there stays, and the value that was handed in is given back.
     ///
     /// It is [`HashMap::try_insert_into`], which says what the map is after it. No clause says it
-    /// here, since the answer may own a value. Refused as [`HashMap::insert`], and only where the key
+    /// here, since the answer may own a value. Refused as [`HashMap::insert`], and only where the
+    /// key
     /// is absent.
     pub fn try_insert(
         &mut self,
         key: K,
         value: V,
     ) -> Result<Result<&V, OccupiedError<'_, V>>, Refused>
-        ensures stored { IfOk result (λ tried. IfOk tried (λ v. (v.now ≡ value) × (map_in K.eq self.old.store key ≡ None))) }
-        ensures occupied { IfOk result (λ tried. IfErr tried (λ e. (value_of (map_in K.eq self.old.store key) ≡ Some e.current.now) × (e.not_inserted ≡ NotInserted.Value value))) }
-        ensures err { IfErr result (λ refused. (map_in K.eq self.old.store key ≡ None) × IsCause (hash_of K.hash_input S.build_hasher S.Hasher.write S.Hasher.finish self.old.store.hasher key) self.old.store refused) }
+        ensures stored { IfOk result (λ tried. IfOk tried
+            (λ v. (v.now ≡ value) × (map_in K.eq self.old.store key ≡ None))) }
+        ensures occupied { IfOk result (λ tried. IfErr tried
+            (λ e. (value_of (map_in K.eq self.old.store key) ≡ Some e.current.now)
+            × (e.not_inserted ≡ NotInserted.Value value))) }
+        ensures err { IfErr result (λ refused. (map_in K.eq self.old.store key ≡ None)
+            × IsCause (hash_of K.hash_input S.build_hasher S.Hasher.write S.Hasher.finish
+            self.old.store.hasher key) self.old.store refused) }
     {
         let mut left = None;
         match self.try_insert_into(key, value, &mut left)? {
@@ -350,9 +405,15 @@ impl<K: Hash + Eq + Drop, V: Drop, S: BuildHasher> HashMap<K, V, S> {
     ///
     /// Refused as [`HashMap::insert`], and only where the key is absent.
     pub fn get_or_insert(&mut self, key: K, value: V) -> Result<&V, Refused>
-        ensures* inserts { sem 𝓛 (ends_so K.row V.row S.row S.Hasher.row K.Hash S.BuildHasher S.Hasher.Hasher self.entry (HasValue K.eq (hash_of K.hash_input S.build_hasher S.Hasher.write S.Hasher.finish self.old.store.hasher key) key value self.old (value_answered result))) }
-        ensures value { IfOk result (λ v. MatchOption (value_of (map_in K.eq self.old.store key)) (v.now ≡ value) (λ current. v.now ≡ current)) }
-        ensures err { IfErr result (λ refused. (map_in K.eq self.old.store key ≡ None) × IsCause (hash_of K.hash_input S.build_hasher S.Hasher.write S.Hasher.finish self.old.store.hasher key) self.old.store refused) }
+        ensures* inserts { sem 𝓛 (ends_so K.row V.row S.row S.Hasher.row K.Hash S.BuildHasher
+            S.Hasher.Hasher self.entry (HasValue K.eq
+            (hash_of K.hash_input S.build_hasher S.Hasher.write S.Hasher.finish
+            self.old.store.hasher key) key value self.old (value_answered result))) }
+        ensures value { IfOk result (λ v. MatchOption (value_of (map_in K.eq self.old.store key))
+            (v.now ≡ value) (λ current. v.now ≡ current)) }
+        ensures err { IfErr result (λ refused. (map_in K.eq self.old.store key ≡ None)
+            × IsCause (hash_of K.hash_input S.build_hasher S.Hasher.write S.Hasher.finish
+            self.old.store.hasher key) self.old.store refused) }
     {
         let (pair, _) = self.insert_absent(key, value)?;
         Ok(self.logged(pair))
@@ -360,8 +421,12 @@ impl<K: Hash + Eq + Drop, V: Drop, S: BuildHasher> HashMap<K, V, S> {
 
     /// Removes a key's pair, and answers its value: `remove` of 0.2.5. It takes no memory.
     pub fn remove<Q: Equivalent<K>>(&mut self, key: &Q) -> Result<Option<&V>, Refused>
-        ensures* removes { sem 𝓛 (ends_so K.row V.row S.row S.Hasher.row K.Hash S.BuildHasher S.Hasher.Hasher self.entry (IsRemoved K.eq (Q.matches key.now) (λ p. p.value) self.old (old_answered result))) }
-        ensures removed { IfOk result (λ removed. MatchOption removed (HasNone (Q.matches key.now) self.old.store) (λ v. (p : _) × Holds (Q.matches key.now) self.old.store p × (p.value ≡ v.now))) }
+        ensures* removes { sem 𝓛 (ends_so K.row V.row S.row S.Hasher.row K.Hash S.BuildHasher
+            S.Hasher.Hasher self.entry (IsRemoved K.eq (Q.matches key.now) (λ p. p.value) self.old
+            (old_answered result))) }
+        ensures removed { IfOk result (λ removed. MatchOption removed
+            (HasNone (Q.matches key.now) self.old.store)
+            (λ v. (p : _) × Holds (Q.matches key.now) self.old.store p × (p.value ≡ v.now))) }
         ensures never { next_of self.old.store ≡ 0 → IsOk result }
     {
         match self.remove_entry(key)? {
@@ -372,8 +437,13 @@ impl<K: Hash + Eq + Drop, V: Drop, S: BuildHasher> HashMap<K, V, S> {
 
     /// Removes a key's pair, and answers the stored key and the value: `remove_entry` of 0.2.5.
     pub fn remove_entry<Q: Equivalent<K>>(&mut self, key: &Q) -> Result<Option<(&K, &V)>, Refused>
-        ensures* removes { sem 𝓛 (ends_so K.row V.row S.row S.Hasher.row K.Hash S.BuildHasher S.Hasher.Hasher self.entry (IsRemoved K.eq (Q.matches key.now) entry_of self.old (entry_answered result))) }
-        ensures removed { IfOk result (λ removed. MatchOption removed (HasNone (Q.matches key.now) self.old.store) (λ found. (p : _) × Holds (Q.matches key.now) self.old.store p × (p.key ≡ found.0.now) × (p.value ≡ found.1.now))) }
+        ensures* removes { sem 𝓛 (ends_so K.row V.row S.row S.Hasher.row K.Hash S.BuildHasher
+            S.Hasher.Hasher self.entry (IsRemoved K.eq (Q.matches key.now) entry_of self.old
+            (entry_answered result))) }
+        ensures removed { IfOk result (λ removed. MatchOption removed
+            (HasNone (Q.matches key.now) self.old.store)
+            (λ found. (p : _) × Holds (Q.matches key.now) self.old.store p × (p.key ≡ found.0.now)
+            × (p.value ≡ found.1.now))) }
         ensures never { next_of self.old.store ≡ 0 → IsOk result }
     {
         match self.remove_by(key, |_, _| true) {
@@ -393,9 +463,16 @@ impl<K: Hash + Eq + Drop, V: Drop, S: BuildHasher> HashMap<K, V, S> {
         agrees: F,
     ) -> Result<Result<Option<(&K, &V)>, (&K, &V)>, Refused>
         requires { F.IsAlwaysCallable agrees }
-        ensures* removes { sem 𝓛 (ends_so K.row V.row S.row S.Hasher.row K.Hash S.BuildHasher S.Hasher.Hasher self.entry (IsJudged K.eq (Q.matches key.now) (Judges F.FnMut agrees) self.old (judged_answered result))) }
-        ensures removed { IfOk result (λ answered. IfOk answered (λ removed. MatchOption removed (HasNone (Q.matches key.now) self.old.store) (λ found. (p : _) × Holds (Q.matches key.now) self.old.store p × Judges F.FnMut agrees p true × (p.key ≡ found.0.now) × (p.value ≡ found.1.now)))) }
-        ensures kept { IfOk result (λ answered. IfErr answered (λ found. (p : _) × Holds (Q.matches key.now) self.old.store p × Judges F.FnMut agrees p false × (p.key ≡ found.0.now) × (p.value ≡ found.1.now))) }
+        ensures* removes { sem 𝓛 (ends_so K.row V.row S.row S.Hasher.row K.Hash S.BuildHasher
+            S.Hasher.Hasher self.entry (IsJudged K.eq (Q.matches key.now) (Judges F.FnMut agrees)
+            self.old (judged_answered result))) }
+        ensures removed { IfOk result (λ answered. IfOk answered
+            (λ removed. MatchOption removed (HasNone (Q.matches key.now) self.old.store)
+            (λ found. (p : _) × Holds (Q.matches key.now) self.old.store p
+            × Judges F.FnMut agrees p true × (p.key ≡ found.0.now) × (p.value ≡ found.1.now)))) }
+        ensures kept { IfOk result (λ answered. IfErr answered
+            (λ found. (p : _) × Holds (Q.matches key.now) self.old.store p
+            × Judges F.FnMut agrees p false × (p.key ≡ found.0.now) × (p.value ≡ found.1.now))) }
         ensures never { next_of self.old.store ≡ 0 → IsOk result }
     {
         match self.remove_by(key, agrees) {
@@ -411,7 +488,8 @@ impl<K: Hash + Eq + Drop, V: Drop, S: BuildHasher> HashMap<K, V, S> {
 
     /// Makes one call that was handed in as a value.
     fn call<A: Answers<K, V> + Drop>(&mut self, call: Call<K, V, A>) -> Reply
-        ensures { IsCalled K.eq (hash_of K.hash_input S.build_hasher S.Hasher.write S.Hasher.finish) (record { op = A.op_gives; yes = A.yes_gives }) self.old call result self.new }
+        ensures { IsCalled K.eq (hash_of K.hash_input S.build_hasher S.Hasher.write S.Hasher.finish)
+            (record { op = A.op_gives; yes = A.yes_gives }) self.old call result self.new }
     {
         // The proof reads the map's invariant here.
         let _ = &self.store;
@@ -439,7 +517,10 @@ impl<K: Hash + Eq + Drop, V: Drop, S: BuildHasher> HashMap<K, V, S> {
         &mut self,
         calls: Vec<Call<K, V, A>>,
     ) -> Result<Vec<Reply>, Refused>
-        ensures ok { IfOk result (λ replies. AreCalled K.eq (hash_of K.hash_input S.build_hasher S.Hasher.write S.Hasher.finish) (record { op = A.op_gives; yes = A.yes_gives }) self.old calls.items replies.items self.new) }
+        ensures ok { IfOk result (λ replies. AreCalled K.eq
+            (hash_of K.hash_input S.build_hasher S.Hasher.write S.Hasher.finish)
+            (record { op = A.op_gives; yes = A.yes_gives }) self.old calls.items replies.items
+            self.new) }
         ensures err { IfErr result (λ e. (e ≡ Refused.Memory) × (self.new ≡ self.old)) }
     {
         let mut replies = Vec::with_capacity(self.alloc, calls.len()).map_err(|_| Refused::Memory)?;

@@ -59,7 +59,8 @@ fn stores<K: Hash + Eq + Drop, V: Drop, S: BuildHasher>(
     key: K,
     value: V,
 ) -> Result<bool, Refused>
-    ensures ok { IfOk result (λ replaced. (went : _) × Inserts K.eq key value map.old.store went map.new.store × (is_some went ≡ replaced)) }
+    ensures ok { IfOk result (λ replaced. (went : _)
+        × Inserts K.eq key value map.old.store went map.new.store × (is_some went ≡ replaced)) }
     ensures err { IfErr result (λ _. Unchanged K.eq map.old.store map.new.store) }
 {
     let old = map.insert(key, value)?;
@@ -71,7 +72,9 @@ fn removes<K: Hash + Eq + Drop, V: Drop, S: BuildHasher, Q: Equivalent<K>>(
     map: &mut HashMap<K, V, S>,
     key: &Q,
 ) -> Result<bool, Refused>
-    ensures { IfOk result (λ removed. MatchBool removed ((p : _) × Removes K.eq (Q.matches key.now) map.old.store p map.new.store) (Unchanged K.eq map.old.store map.new.store)) }
+    ensures { IfOk result (λ removed. MatchBool removed
+        ((p : _) × Removes K.eq (Q.matches key.now) map.old.store p map.new.store)
+        (Unchanged K.eq map.old.store map.new.store)) }
 {
     match map.remove(key)? {
         Some(_) => Ok(true),

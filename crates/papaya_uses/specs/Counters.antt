@@ -13,6 +13,9 @@ abbrev pub next_count : ℕ → Option ℕ → ℕ
 next_count by None = by % 2 ^ 64
 next_count by (Some count) = (count + by) % 2 ^ 64
 
--- The last change that was seen put in the counter's new count, which is the answer: the sum of just the count that it took out, if there was one, and of what was added.
+-- The last change that was seen put in the counter's new count, which is the answer: the sum of
+-- just the count that it took out, if there was one, and of what was added.
 abbrev pub HasAdded : (counter by : ℕ) → Seen → Seen → ℕ → Type 0
-HasAdded counter by old new count = (taken : Option (Stored ℕ ℕ)) × (q : Stored ℕ ℕ) × IsChangeOf (λ key. counter == key) old new taken (Some q) × (key_of q ≡ counter) × (q.value.value ≡ count) × (count ≡ next_count by (option_map (λ p. p.value.value) taken))
+HasAdded counter by old new count = (taken : Option (Stored ℕ ℕ)) × (q : Stored ℕ ℕ)
+    × IsChangeOf (λ key. counter == key) old new taken (Some q) × (key_of q ≡ counter)
+    × (q.value.value ≡ count) × (count ≡ next_count by (option_map (λ p. p.value.value) taken))

@@ -10,14 +10,19 @@ use Rattle.papaya_lookup.specs.Answers.{IsAnsweredBetween}
 abbrev pub Seen : Type 0
 Seen = List (Change ℕ (Stored ℕ ℕ))
 
--- The last change that was seen gave the token to the user; the answer is the user whose session it ended.
+-- The last change that was seen gave the token to the user; the answer is the user whose session it
+-- ended.
 abbrev pub IsSignedIn : (token user : ℕ) → Seen → Seen → Option ℕ → Type 0
-IsSignedIn token user old new before = (answer : Option (Bor ℕ)) × (option_map (λ v. v.now) answer ≡ before) × IsPut (λ a b. a == b) token user old new answer
+IsSignedIn token user old new before = (answer : Option (Bor ℕ))
+    × (option_map (λ v. v.now) answer ≡ before) × IsPut (λ a b. a == b) token user old new answer
 
 -- at a moment between the two the token had this user, or none
 abbrev pub IsUserBetween : ℕ → Seen → Seen → Option ℕ → Type 0
-IsUserBetween token old new user = (found : Option (Bor ℕ)) × (option_map (λ v. v.now) found ≡ user) × IsAnsweredBetween (λ a b. a == b) (λ key. token == key) old new found
+IsUserBetween token old new user = (found : Option (Bor ℕ)) × (option_map (λ v. v.now) found ≡ user)
+    × IsAnsweredBetween (λ a b. a == b) (λ key. token == key) old new found
 
 -- the last change that was seen took the token from just this user
 abbrev pub IsSignedOut : (token user : ℕ) → Seen → Seen → Bool → Type 0
-IsSignedOut token user old new gone = MatchBool gone ((p : Stored ℕ ℕ) × IsChangeOf (λ key. token == key) old new (Some p) None × (p.value.value ≡ user)) (Unit {0})
+IsSignedOut token user old new gone = MatchBool gone
+    ((p : Stored ℕ ℕ) × IsChangeOf (λ key. token == key) old new (Some p) None
+    × (p.value.value ≡ user)) (Unit {0})

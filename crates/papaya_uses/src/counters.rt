@@ -53,7 +53,8 @@ impl<'a> Adder<'a> {
             rt,
             counter,
             |shown|
-                ensures { result ≡ Operation.Insert (next_count by (option_map (λ p. p.1.now) shown.entry)) }
+                ensures { result ≡ Operation.Insert
+                    (next_count by (option_map (λ p. p.1.now) shown.entry)) }
             {
                 let before = match shown {
                     Some((_, count)) => *count,

@@ -20,7 +20,8 @@ pub fn count_words<W: Hash + Eq + Copy + Drop>(
     alloc: Global,
     words: &[W],
 ) -> Result<HashMap<W, u64>, Refused>
-    ensures { IfOk result (λ counts. (w : W) → count_in W.eq counts.store w ≡ count_by (W.eq w) words.now) }
+    ensures { IfOk result (λ counts. (w : W) → count_in W.eq counts.store w ≡ count_by (W.eq w)
+        words.now) }
 {
     let mut counts = HashMap::new(alloc)?;
     for word in words {

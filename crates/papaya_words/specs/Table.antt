@@ -2,7 +2,8 @@
 use Rattle.std.specs.Prelude.{ℕ, ◌*◌, ◌/◌, ◌-◌, Bool, ◌||◌, nat_le, if◌then◌else◌, max, List, replicate}
 use Rattle.papaya_words.specs.Probe.{limit_of}
 
--- a table: its number, how far a search of it goes, its slot words, the number of the next table or 0, 1 where it was aborted, and how many slots of the table before it are copied
+-- a table: its number, how far a search of it goes, its slot words, the number of the next table or
+-- 0, 1 where it was aborted, and how many slots of the table before it are copied
 pub record TableWords : Type 0 where
   pub number : ℕ
   pub limit : ℕ
@@ -13,15 +14,25 @@ pub record TableWords : Type 0 where
 
 -- a table as it is made: each slot is empty, and the other words are 0
 abbrev pub new_table : ℕ → ℕ → ℕ → TableWords
-new_table number len limit = record { number = number; limit = limit; slots = replicate len 0; next = 0; aborted = 0; done = 0 }
+new_table number len limit = record {
+  number = number;
+  limit = limit;
+  slots = replicate len 0;
+  next = 0;
+  aborted = 0;
+  done = 0;
+}
 
--- the length that follows a table's length, by the count of the map's pairs, the initial capacity, and whether a pair did not fit: it doubles from half full on, and halves up to an eighth
+-- the length that follows a table's length, by the count of the map's pairs, the initial capacity,
+-- and whether a pair did not fit: it doubles from half full on, and halves up to an eighth
 abbrev pub length_after : ℕ → ℕ → ℕ → Bool → ℕ
 length_after len count initial did_not_fit =
     if did_not_fit || nat_le (len / 2) count then 2 * len
     else if nat_le count (len / 8) then max initial (len / 2)
     else len
 
--- the limit of the table after one of so many slots: every slot is probed where a pair did not fit or the table grows no longer
+-- the limit of the table after one of so many slots: every slot is probed where a pair did not fit
+-- or the table grows no longer
 abbrev pub limit_after : (len before : ℕ) → Bool → ℕ
-limit_after len before did_not_fit = if did_not_fit || nat_le len before then len - 1 else limit_of len
+limit_after len before did_not_fit = if did_not_fit || nat_le len before then len - 1
+    else limit_of len

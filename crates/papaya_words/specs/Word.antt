@@ -6,7 +6,8 @@ use Rattle.papaya_words.specs.declared.word.Kind.TheVariants.{Empty, Live, Marke
 -- the kind, from its code; 6 and 7 stand in no table
 abbrev pub kind_of_code : ℕ → Kind
 kind_of_code n =
-    if n == 0 then Empty else if n == 1 then Live else if n == 2 then Marked else if n == 3 then Copied
+    if n == 0 then Empty else if n == 1 then Live else if n == 2 then Marked else if n == 3
+    then Copied
     else if n == 4 then Buried else Closed
 
 -- the kind of a word, from bits 0 to 2

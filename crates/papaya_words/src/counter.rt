@@ -92,7 +92,8 @@ impl Counter {
 // Apart from `Counter`, so that it is proved over the bare list.
 fn add_at(shards: &mut Vec<i64>, place: usize, by: i64)
     requires { place < length shards.old.items }
-    ensures { shards.new.items ≡ slice_set shards.old.items place (int_wrap w64 (slice_index_or shards.old.items place (pos 0) +ℤ by)) }
+    ensures { shards.new.items ≡ slice_set shards.old.items place
+        (int_wrap w64 (slice_index_or shards.old.items place (pos 0) +ℤ by)) }
 {
     shards[place] = shards[place].wrapping_add(by);
 }

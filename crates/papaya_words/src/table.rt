@@ -28,7 +28,14 @@ impl Model for Table {
 
     ghost Value = { TableWords };
 
-    ghost view = { λ t. record { number = t.number; limit = t.limit; slots = t.slots.items; next = t.next; aborted = t.aborted; done = t.done } };
+    ghost view = { λ t. record {
+      number = t.number;
+      limit = t.limit;
+      slots = t.slots.items;
+      next = t.next;
+      aborted = t.aborted;
+      done = t.done;
+    } };
 }
 
 impl Table {
@@ -162,7 +169,9 @@ pub fn next_len(
     initial: usize,
     did_not_fit: bool,
 ) -> Result<usize, Refused>
-    ensures { let wanted = length_after len count initial did_not_fit in MatchResult result (λ next. (next ≡ wanted) × (wanted ≤ 2 ^ 32)) (λ refused. (refused ≡ Refused.Capacity) × (2 ^ 32 < wanted)) }
+    ensures { let wanted = length_after len count initial did_not_fit in MatchResult result
+        (λ next. (next ≡ wanted) × (wanted ≤ 2 ^ 32))
+        (λ refused. (refused ≡ Refused.Capacity) × (2 ^ 32 < wanted)) }
 {
     let next = if did_not_fit || count >= len / 2 {
         len.saturating_mul(2)
@@ -198,5 +207,6 @@ pub fn next_limit(len: usize, before: usize, did_not_fit: bool) -> usize
 
 /// A law, with nothing to run: the lengths of tables that follow one another are powers of two.
 pub fn lengths_are_powers()
-    ensures { (len count initial : ℕ) (did_not_fit : Bool) → IsPowerOfTwo len → IsPowerOfTwo initial → IsPowerOfTwo (max (length_after len count initial did_not_fit) 8) }
+    ensures { (len count initial : ℕ) (did_not_fit : Bool) → IsPowerOfTwo len → IsPowerOfTwo initial
+        → IsPowerOfTwo (max (length_after len count initial did_not_fit) 8) }
 {}

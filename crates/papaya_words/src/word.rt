@@ -132,9 +132,12 @@ pub fn legal(old: Word, new: Word) -> bool
 /// A law, with nothing to run: a word says what it was made of, and a filled
 /// word is made of what it says.
 pub fn words_read_back()
-    ensures kind { (code byte pair : ℕ) → code < 8 → kind_of (filled_word code byte pair) ≡ kind_of_code code }
-    ensures byte { (code byte pair : ℕ) → code < 8 → byte < 128 → byte_of (filled_word code byte pair) ≡ byte }
-    ensures pair { (code byte pair : ℕ) → code < 8 → byte < 128 → pair_of (filled_word code byte pair) ≡ pair }
+    ensures kind { (code byte pair : ℕ) → code < 8
+        → kind_of (filled_word code byte pair) ≡ kind_of_code code }
+    ensures byte { (code byte pair : ℕ) → code < 8 → byte < 128
+        → byte_of (filled_word code byte pair) ≡ byte }
+    ensures pair { (code byte pair : ℕ) → code < 8 → byte < 128
+        → pair_of (filled_word code byte pair) ≡ pair }
     ensures bare { (kind_of 0 ≡ Empty) × (kind_of 5 ≡ Closed) }
     ensures live { (w : ℕ) → kind_of w ≡ Live → w ≡ live_word (byte_of w) (pair_of w) }
     ensures marked { (w : ℕ) → kind_of w ≡ Marked → w ≡ marked_word (byte_of w) (pair_of w) }

@@ -16,7 +16,8 @@ use papaya_call::ask::{At, StepKind};
 use std::hash::{BuildHasher, Hash};
 
 impl<K: Hash + Eq, V, S: BuildHasher> Book<K, V, S> {
-    /// One atomic exchange of a slot, with which nothing comes: the word found there, and the token of
+    /// One atomic exchange of a slot, with which nothing comes: the word found there, and the token
+    /// of
     /// the pair that it names.
     pub(crate) fn exchange_slot(
         &self,
@@ -30,10 +31,12 @@ impl<K: Hash + Eq, V, S: BuildHasher> Book<K, V, S> {
         requires book { sight.old.book ≡ self.now.begun.book }
         requires table { IsTable sight.old.log number table.now }
         requires place { place < length table.now.slots }
-        requires can { CanTrySlot ⟦<S as Keyed<K>>⟧.keys self.now number place kind words sight.old.log }
+        requires can { CanTrySlot ⟦<S as Keyed<K>>⟧.keys self.now number place kind words
+            sight.old.log }
         ensures book { sight.new.book ≡ sight.old.book }
         ensures seen { IsPrefix sight.old.log sight.new.log }
-        ensures tried { TriesSlot ⟦<S as Keyed<K>>⟧.keys self.now number place kind words sight.old.log result.0 sight.new.log result.1 }
+        ensures tried { TriesSlot ⟦<S as Keyed<K>>⟧.keys self.now number place kind words
+            sight.old.log result.0 sight.new.log result.1 }
     {
         let wish = Wish {
             at: At::Slot(number, place),
@@ -45,7 +48,8 @@ impl<K: Hash + Eq, V, S: BuildHasher> Book<K, V, S> {
         (found, pair_in(found, trade))
     }
 
-    /// One atomic exchange of a slot, with which the pair comes that the call has made: the word found
+    /// One atomic exchange of a slot, with which the pair comes that the call has made: the word
+    /// found
     /// there, and the token of the pair that it names.
     pub(crate) fn put_slot(
         &self,
@@ -61,10 +65,12 @@ impl<K: Hash + Eq, V, S: BuildHasher> Book<K, V, S> {
         requires table { IsTable sight.old.log number table.now }
         requires place { place < length table.now.slots }
         requires placed { IsIn self.now (PairNamed made.now) }
-        requires can { CanPutSlot ⟦<S as Keyed<K>>⟧.keys self.now number place kind made.now words sight.old.log }
+        requires can { CanPutSlot ⟦<S as Keyed<K>>⟧.keys self.now number place kind made.now words
+            sight.old.log }
         ensures book { sight.new.book ≡ sight.old.book }
         ensures seen { IsPrefix sight.old.log sight.new.log }
-        ensures tried { PutsSlot ⟦<S as Keyed<K>>⟧.keys self.now number place kind made.now words sight.old.log result.0 sight.new.log result.1 }
+        ensures tried { PutsSlot ⟦<S as Keyed<K>>⟧.keys self.now number place kind made.now words
+            sight.old.log result.0 sight.new.log result.1 }
     {
         sight.learn(&self.begun);
         let wish = Put {

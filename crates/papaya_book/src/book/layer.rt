@@ -42,7 +42,8 @@ impl<K: Hash + Eq, V, S: BuildHasher> Book<K, V, S> {
         ensures seen { IsPrefix sight.old.log sight.new.log }
         ensures len { IfOk result (λ v. length v.items ≡ len) }
         ensures words { IfOk result (λ v. AllOf self.now.begun.book v.items) }
-        ensures made { IfOk result (λ v. (least : ℕ) → least < 2 + length (seals_of sight.old.log) → AreMade (map (λ w. w.key) v.items) least seal.now.nib.key sight.new.log) }
+        ensures made { IfOk result (λ v. (least : ℕ) → least < 2 + length (seals_of sight.old.log)
+            → AreMade (map (λ w. w.key) v.items) least seal.now.nib.key sight.new.log) }
     {
         let mut slots = Vec::with_capacity(alloc, len)?;
         for _ in 0..len {
@@ -53,7 +54,8 @@ impl<K: Hash + Eq, V, S: BuildHasher> Book<K, V, S> {
 
     /// A table of so many slots, all Empty, in the log of tables, with the pen of its seal.
     ///
-    /// `Refused::Memory` where a growth was refused, and `Refused::Capacity` where the number that the
+    /// `Refused::Memory` where a growth was refused, and `Refused::Capacity` where the number that
+    /// the
     /// log gave it would pass [`MAX_TABLES`].
     pub fn make_table<R: Wait>(
         &self,
@@ -67,7 +69,8 @@ impl<K: Hash + Eq, V, S: BuildHasher> Book<K, V, S> {
         requires size { IsSize len limit }
         ensures book { sight.new.book ≡ sight.old.book }
         ensures seen { IsPrefix sight.old.log sight.new.log }
-        ensures size { IfOk result (λ r. (length r.0.value.slots ≡ len) × (r.0.value.limit ≡ limit)) }
+        ensures size { IfOk result (λ r. (length r.0.value.slots ≡ len)
+            × (r.0.value.limit ≡ limit)) }
         ensures made { IfOk result (λ r. IsMade r.0.value sight.new.log) }
         ensures err { IfErr result (λ e. (e ≡ Refused.Memory) ⊎ (e ≡ Refused.Capacity)) }
         ensures placed { IfOk result (λ r. IsIn self.now (TableNamed r.0)) }
@@ -95,7 +98,8 @@ impl<K: Hash + Eq, V, S: BuildHasher> Book<K, V, S> {
         Ok((token, seal))
     }
 
-    /// One atomic exchange: the table becomes the root, if there is none. The number found, and what
+    /// One atomic exchange: the table becomes the root, if there is none. The number found, and
+    /// what
     /// gains the table that was first.
     pub fn open(
         &self,
@@ -109,7 +113,8 @@ impl<K: Hash + Eq, V, S: BuildHasher> Book<K, V, S> {
         requires pen { Seals self.now seal.old table.now.value }
         ensures book { sight.new.book ≡ sight.old.book }
         ensures seen { IsPrefix sight.old.log sight.new.log }
-        ensures tried { Opens ⟦<S as Keyed<K>>⟧.keys self.now table.now sight.old.log result.0 sight.new.log result.1.state }
+        ensures tried { Opens ⟦<S as Keyed<K>>⟧.keys self.now table.now sight.old.log result.0
+            sight.new.log result.1.state }
         ensures pen { IsLeft seal.old seal.new result.0 0 }
     {
         let laying = Laying {
@@ -135,7 +140,8 @@ impl<K: Hash + Eq, V, S: BuildHasher> Book<K, V, S> {
         requires pen { Seals self.now seal.old table.now.value }
         ensures book { sight.new.book ≡ sight.old.book }
         ensures seen { IsPrefix sight.old.log sight.new.log }
-        ensures tried { (state : _) × Opens ⟦<S as Keyed<K>>⟧.keys self.now table.now sight.old.log result.0 sight.new.log state }
+        ensures tried { (state : _) × Opens ⟦<S as Keyed<K>>⟧.keys self.now table.now sight.old.log
+            result.0 sight.new.log state }
         ensures held { IsTable sight.new.log (root_then table.now result.0) result.1.now }
     {
         sight.learn(&self.begun);

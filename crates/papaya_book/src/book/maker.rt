@@ -27,7 +27,8 @@ use logbook::{Pen, Seen, Word};
 use std::hash::{BuildHasher, Hash};
 
 impl<K: Hash + Eq, V, S: BuildHasher> Book<K, V, S> {
-    /// A new book. The parts come back where it got another name first, which no thread could give it.
+    /// A new book. The parts come back where it got another name first, which no thread could give
+    /// it.
     pub fn begin(parts: Parts<K, V, S>) -> Result<Book<K, V, S>, Parts<K, V, S>>
         ensures ok { IfOk result (λ book. book.parts ≡ parts) }
         ensures err { IfErr result (λ back. back ≡ parts) }
@@ -65,7 +66,8 @@ impl<K: Hash + Eq, V, S: BuildHasher> Book<K, V, S> {
         ensures book { sight.new.book ≡ sight.old.book }
         ensures seen { IsPrefix sight.old.log sight.new.log }
         ensures word { result.0 ≡ word_named self.now.begun.book result.0.key }
-        ensures pen { (result.1.book ≡ self.now.begun.book) × (result.1.nib ≡ nib may_write result.0.key 0) }
+        ensures pen { (result.1.book ≡ self.now.begun.book)
+            × (result.1.nib ≡ nib may_write result.0.key 0) }
         ensures owner { owner result.0.key sight.new.log ≡ Some result.0.key }
         ensures after { 2 + length (seals_of sight.old.log) ≤ result.0.key }
     {
@@ -98,7 +100,8 @@ impl<K: Hash + Eq, V, S: BuildHasher> Book<K, V, S> {
         word
     }
 
-    /// One atomic exchange with which a table comes, which is opened or linked by it: the word found
+    /// One atomic exchange with which a table comes, which is opened or linked by it: the word
+    /// found
     /// there. It takes the pen of the table's seal, unless it is lost.
     pub fn bring(
         &self,
@@ -119,7 +122,8 @@ impl<K: Hash + Eq, V, S: BuildHasher> Book<K, V, S> {
         requires can { CanBring ⟦<S as Keyed<K>>⟧.keys self.now laying.now old new sight.old.log }
         ensures book { sight.new.book ≡ sight.old.book }
         ensures seen { IsPrefix sight.old.log sight.new.log }
-        ensures tried { Brings ⟦<S as Keyed<K>>⟧.keys self.now laying.now old new sight.old.log result.0 sight.new.log result.1.state }
+        ensures tried { Brings ⟦<S as Keyed<K>>⟧.keys self.now laying.now old new sight.old.log
+            result.0 sight.new.log result.1.state }
         ensures pen { IsLeft seal.old seal.new result.0 old }
     {
         sight.learn(&self.begun);

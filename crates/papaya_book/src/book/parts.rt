@@ -5,7 +5,8 @@ use logbook::Opening;
 use papaya_words::probe::ResizeMode;
 use std::hash::{BuildHasher, Hash};
 
-/// The hasher, how the map resizes, and the logs of keys, of pairs and of tables. A key, a pair or a
+/// The hasher, how the map resizes, and the logs of keys, of pairs and of tables. A key, a pair or
+/// a
 /// table stays where it was logged.
 #[derive(Drop)]
 pub struct Parts<K: Hash + Eq, V, S: BuildHasher> {

@@ -37,7 +37,14 @@ impl Model for Sheet {
 
     ghost coded = { sheet_coded };
 
-    ghost view = { λ s. record { book = s.book; limit = s.limit; next = s.next; aborted = s.aborted; seal = s.seal; slots = s.slots } };
+    ghost view = { λ s. record {
+      book = s.book;
+      limit = s.limit;
+      next = s.next;
+      aborted = s.aborted;
+      seal = s.seal;
+      slots = s.slots;
+    } };
 }
 
 /// A table as the log names it.
@@ -93,7 +100,8 @@ pub struct Begun<K, V, S> {
 
 /// An entry of the log.
 pub enum Event<K, V, S> {
-    /// What a load or an exchange asks for: a word, the kind of the exchange, the pair that the call
+    /// What a load or an exchange asks for: a word, the kind of the exchange, the pair that the
+    /// call
     /// has made, and what comes with the step. No log has it.
     Wish(At, Option<StepKind>, Option<Stored<K, V>>, Named<K, V>),
     /// The book was opened.

@@ -4,7 +4,8 @@ use logbook::{Gain, Rule};
 use std::hash::{BuildHasher, Hash};
 use std::marker::PhantomData;
 
-/// The rule: the log's exchanges are allowed, the words are those that they leave, and the book keeps
+/// The rule: the log's exchanges are allowed, the words are those that they leave, and the book
+/// keeps
 /// the tokens of all pairs and tables that came.
 pub struct Law<K, V, S> {
     of: PhantomData<(K, V, S)>,
@@ -19,7 +20,8 @@ impl<K: Hash + Eq, V, S: BuildHasher> Rule<Event<K, V, S>, Named<K, V>> for Law<
     ghost use Rattle.papaya_book.specs.contracts.rule.entry.Pair.{the_row as PairOf};
     ghost use Rattle.papaya_book.specs.contracts.rule.entry.Sheet.{the_row as SheetRow};
 
-    ghost holds = { λ cells log. IsKept K.eq (hash_of K.hash_input S.build_hasher S.Hasher.write S.Hasher.finish) cells log };
+    ghost holds = { λ cells log. IsKept K.eq (hash_of K.hash_input S.build_hasher S.Hasher.write
+        S.Hasher.finish) cells log };
 
     ghost first = { [] };
 
@@ -43,5 +45,6 @@ impl<K, V, S> Gain<Event<K, V, S>, Named<K, V>> for Found<K, V> {
     ghost use Rattle.papaya_book.specs.contracts.rule.entry.Pair.{the_row as PairOf};
     ghost use Rattle.papaya_book.specs.contracts.rule.entry.Sheet.{the_row as SheetRow};
 
-    ghost after = { λ names about answer. shown (stands (PairOf K.row V.row)) (stands SheetRow) answer };
+    ghost after = { λ names about answer. shown (stands (PairOf K.row V.row)) (stands SheetRow)
+        answer };
 }

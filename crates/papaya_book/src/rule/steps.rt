@@ -45,7 +45,8 @@ impl<K: Hash + Eq, V, S: BuildHasher> Play<Event<K, V, S>, Named<K, V>> for Look
     ghost use Rattle.papaya_book.specs.Hashes.{hash_of};
     ghost use Rattle.papaya_book.specs.Plays.{Looks};
 
-    ghost then = { Looks K.eq (hash_of K.hash_input S.build_hasher S.Hasher.write S.Hasher.finish) };
+    ghost then = { Looks K.eq (hash_of K.hash_input S.build_hasher S.Hasher.write
+        S.Hasher.finish) };
 }
 
 /// An exchange.
@@ -75,7 +76,8 @@ impl<K: Hash + Eq, V, S: BuildHasher> Play<Event<K, V, S>, Named<K, V>> for Try 
     ghost use Rattle.papaya_book.specs.Hashes.{hash_of};
     ghost use Rattle.papaya_book.specs.Plays.{Tries};
 
-    ghost then = { Tries K.eq (hash_of K.hash_input S.build_hasher S.Hasher.write S.Hasher.finish) };
+    ghost then = { Tries K.eq (hash_of K.hash_input S.build_hasher S.Hasher.write
+        S.Hasher.finish) };
 }
 
 /// A step that adds the first word of a table, whose key is the table's seal.
@@ -167,5 +169,6 @@ impl<K: Hash + Eq, V, S: BuildHasher> Play<Event<K, V, S>, Named<K, V>> for Brin
     ghost use Rattle.papaya_book.specs.Hashes.{hash_of};
     ghost use Rattle.papaya_book.specs.Makers.{Brings};
 
-    ghost then = { Brings K.eq (hash_of K.hash_input S.build_hasher S.Hasher.write S.Hasher.finish) };
+    ghost then = { Brings K.eq (hash_of K.hash_input S.build_hasher S.Hasher.write
+        S.Hasher.finish) };
 }

@@ -1,4 +1,5 @@
-//! What passes between a step and the book: tokens go to the book with what comes, and whoever finds
+//! What passes between a step and the book: tokens go to the book with what comes, and whoever
+//! finds
 //! a name in a word has its token.
 ghost use Rattle.std.specs.Prelude.{◌≡◌, [], ◌∷◌, None};
 ghost use Rattle.papaya_book.specs.declared.rule.entry.Named.TheVariants.{Nothing, Pair as PairNamed, Table as TableNamed};
@@ -27,7 +28,8 @@ pub fn bare<K: Hash + Eq, V, S: BuildHasher, X, M: Plain<X, Event<K, V, S>, Name
     about: &X,
 ) -> Trade<K, V, S>
     requires { brought (M.ask about.now) ≡ Nothing }
-    ensures { (result.names ≡ seen.now.names) × (result.ask ≡ M.ask about.now) × (result.about ≡ []) × (result.state ≡ None) }
+    ensures { (result.names ≡ seen.now.names) × (result.ask ≡ M.ask about.now) × (result.about ≡ [])
+        × (result.state ≡ None) }
 {
     let _ = seen;
     let _ = about;
@@ -43,7 +45,8 @@ pub fn with_pair<K: Hash + Eq, V, S: BuildHasher, X, M: Plain<X, Event<K, V, S>,
     known: Known<Pair<K, V>>,
 ) -> Trade<K, V, S>
     requires { brought (M.ask about.now) ≡ PairNamed known.at }
-    ensures { (result.names ≡ seen.now.names) × (result.ask ≡ M.ask about.now) × (result.about ≡ []) × (result.state ≡ None) }
+    ensures { (result.names ≡ seen.now.names) × (result.ask ≡ M.ask about.now) × (result.about ≡ [])
+        × (result.state ≡ None) }
 {
     let _ = seen;
     let _ = about;
@@ -60,7 +63,8 @@ pub fn with_table<K: Hash + Eq, V, S: BuildHasher, X, M: Plain<X, Event<K, V, S>
     known: Known<Table<K, V, S>>,
 ) -> Trade<K, V, S>
     requires { brought (M.ask about.now) ≡ TableNamed known.at }
-    ensures { (result.names ≡ seen.now.names) × (result.ask ≡ M.ask about.now) × (result.about ≡ []) × (result.state ≡ None) }
+    ensures { (result.names ≡ seen.now.names) × (result.ask ≡ M.ask about.now) × (result.about ≡ [])
+        × (result.state ≡ None) }
 {
     let _ = seen;
     let _ = about;
