@@ -31,7 +31,7 @@ use Rattle.papaya_book.specs.Logs.{Stored, exchanges_of}
 use Rattle.papaya_book.specs.Plays.{IsPutting, made_list}
 use Rattle.papaya_lookup.specs.Lookups.{coding_for, setting_for}
 use Rattle.papaya_book.specs.Rule.{IsLawfulLog}
-use Rattle.papaya_change.specs.Writing.{CanPut, IsCause, IsUnlogged, IsUnsaid, IsWriting, IsWritingOn}
+use Rattle.papaya_change.specs.Writing.{CanPut, IsMemoryOrCapacity, IsUnlogged, IsUnsaid, IsWriting, IsWritingOn}
 use Rattle.papaya_lookup.proofs.AskedPairs.{asked_pair}
 use Rattle.papaya_change.proofs.Changing.{Coded, Wide}
 use Rattle.papaya_lookup.proofs.Driving.{is_made, one_made}
@@ -63,8 +63,8 @@ module _ {K V S H : Type 0} (eq : K → K → Bool) (hash : S → K → ℕ) (b 
     IsOpen = (reply : Reply) → ask_of m ≡ Done reply → ⊥
 
     -- it is refused by itself
-    by_itself : (answer : Answer) → IsStanding m → IsOpen → IsUnsaid answer → (cause : Cause) → ask_of (after m answer) ≡ Done (Refused cause) → IsCause cause
-    by_itself answer standing open_still unsaid = refused_for IsCause m answer (λ e. subst IsComputer r.task_is (shows_none m standing e)) open_still (inr refl) unsaid
+    by_itself : (answer : Answer) → IsStanding m → IsOpen → IsUnsaid answer → (cause : Cause) → ask_of (after m answer) ≡ Done (Refused cause) → IsMemoryOrCapacity cause
+    by_itself answer standing open_still unsaid = refused_for IsMemoryOrCapacity m answer (λ e. subst IsComputer r.task_is (shows_none m standing e)) open_still (inr refl) unsaid
 
     -- it goes on, where it puts in no other pair
     kept : (log' : List (Event K V S)) (w : Writer K V S H) (answer : Answer) → w.call.machine ≡ m → ((v : V) → w.value ≡ Some v → x.writer.value ≡ Some v) → ((q : Stored K V) → w.call.put ≡ Some q → (key_of q ≡ key) × (q.value.value ≡ value)) → IsStanding m → IsOpen → IsUnsaid answer

@@ -19,7 +19,7 @@ use Rattle.papaya_change.specs.Changes.{IsPut}
 use Rattle.papaya_lookup.specs.History.{history_of, key_of}
 use Rattle.papaya_book.specs.Logs.{Stored}
 use Rattle.papaya_book.specs.Plays.{made_list}
-use Rattle.papaya_change.specs.Writing.{IsCause, IsWriting, answered as answered_writer}
+use Rattle.papaya_change.specs.Writing.{IsMemoryOrCapacity, IsWriting, answered as answered_writer}
 
 -- no pair is made yet
 abbrev pub IsUnpaired : Made → Type 0
@@ -41,7 +41,7 @@ module _ {K V S H : Type 0} (eq : K → K → Bool) (hash : S → K → ℕ) (b 
         → (key_of q ≡ key) × (q.value.value ≡ value)
     pub unmade : IsUnpaired x.writer.call.machine.made → x.made ≡ None
     pub refuses : (cause : Cause) → ask_of x.writer.call.machine ≡ Done (Refused cause)
-        → IsCause cause
+        → IsMemoryOrCapacity cause
 
   -- the insertion after its machine was answered
   abbrev pub answered : Insertion K V S H → Answer → Insertion K V S H

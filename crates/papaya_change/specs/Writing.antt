@@ -43,12 +43,12 @@ abbrev pub answered : {K V S H : Type 0} → Writer K V S H → Answer → Write
 answered w answer = record w { call = record w.call { machine = after w.call.machine answer } }
 
 -- as a call that inserts is refused by itself: there was no memory, or no number or place left
-abbrev pub IsCause : Cause → Type 0
-IsCause cause = (cause ≡ Memory) ⊎ (cause ≡ Capacity)
+abbrev pub IsMemoryOrCapacity : Cause → Type 0
+IsMemoryOrCapacity cause = (cause ≡ Memory) ⊎ (cause ≡ Capacity)
 
 -- no closure had a part in it: where it is a refusal, it is one of the call by itself
 abbrev pub IsUnsaid : Answer → Type 0
-IsUnsaid answer = (cause : Cause) → answer ≡ Refused cause → IsCause cause
+IsUnsaid answer = (cause : Cause) → answer ≡ Refused cause → IsMemoryOrCapacity cause
 
 module _ {K V S H : Type 0} (eq : K → K → Bool) (hash : S → K → ℕ) (b : Begun K V S)
     (name : Book) where

@@ -9,7 +9,7 @@ ghost use Rattle.papaya_call.specs.Machine.{IsStanding, ask_of};
 ghost use Rattle.papaya_call.specs.declared.ask.Ask.TheVariants.{Done, Exchange, MakePair};
 ghost use Rattle.papaya_call.specs.declared.ask.At.TheVariants.{Slot};
 ghost use Rattle.papaya_change.specs.Changes.{IsPut};
-ghost use Rattle.papaya_change.specs.Writing.{IsCause};
+ghost use Rattle.papaya_change.specs.Writing.{IsMemoryOrCapacity};
 
 use crate::count::Shard;
 use crate::writing::Writer;
@@ -117,7 +117,7 @@ impl<'a, K: Hash + Eq + Drop, V: Drop, S: BuildHasher> Insertion<'a, K, V, S> {
         requires can { CanInsert window.now self.now }
         requires done { (reply : _) × (ask_of self.now.writer.call.machine ≡ Done reply) }
         ensures put { IfOk result (λ answer. HasPut window.now self.now answer) }
-        ensures refused { IfErr result (λ refused. IsCause refused) }
+        ensures refused { IfErr result (λ refused. IsMemoryOrCapacity refused) }
         ensures changed { is_ok result ≡ has_changed self.now.writer.call.machine }
     {
         if let Ask::Done(Reply::Refused(refused)) = self.writer.call.machine.ask() {
@@ -145,7 +145,7 @@ pub fn insert<'a, R: Wait, K: Hash + Eq + Drop, V: Drop, S: BuildHasher>(
     ensures lawful { IsLawful window.new }
     ensures put { IfOk result (λ answer. IsPut K.eq key value (past window.old) (past window.new)
         answer) }
-    ensures refused { IfErr result (λ refused. IsCause refused) }
+    ensures refused { IfErr result (λ refused. IsMemoryOrCapacity refused) }
     ensures made { Makes (is_ok result) (own window.old) (own window.new) (past window.new) }
 {
     window.learn();

@@ -22,7 +22,7 @@ use Rattle.papaya_rests.proofs.SaysChanges.{machine_aborted}
 use Rattle.papaya_rests.proofs.Tasks.{same_task}
 use Rattle.papaya_core.specs.declared.pairs.Running.{Running}
 use Rattle.papaya_core.specs.declared.trace.Event.{Event}
-use Rattle.papaya_core.specs.Advances.{IsCause, event_of}
+use Rattle.papaya_core.specs.Advances.{IsStepCause, event_of}
 use Rattle.papaya_core.specs.Maps.{Map, key_of}
 use Rattle.papaya_core.specs.Performs.{Performs, HasKey, HasNoPair, LogsKey, LogsPair, Refuses, ShowsPair, Stays, size_of}
 use Rattle.papaya_core.specs.Runs.{History}
@@ -93,7 +93,7 @@ module _ {K V S A : Type 0} (eq : K → K → Bool) (says : Says K V A) (refuse 
   unrefused (Ask_done reply) (e, stays) is = cc
 
 -- why a call is refused that would remove nothing: its closure was just shown that there is none
-pub removes_nothing : {K V S A : Type 0} (eq : K → K → Bool) (s : StoreState K V S) (r : Running K V A) (a : Answer) → (a ≡ Was_refused RemoveNothing → ⊥) → IsCause eq s r a RemoveNothing → (ask_of r.machine ≡ ShowNone) × (a ≡ Op op_kinds.Remove)
+pub removes_nothing : {K V S A : Type 0} (eq : K → K → Bool) (s : StoreState K V S) (r : Running K V A) (a : Answer) → (a ≡ Was_refused RemoveNothing → ⊥) → IsStepCause eq s r a RemoveNothing → (ask_of r.machine ≡ ShowNone) × (a ≡ Op op_kinds.Remove)
 removes_nothing eq s r a never (inl refuses) = absurd (never refuses)
 removes_nothing eq s r a never (inr (inl (full, (t, place)))) = let f : RemoveNothing ≡ Capacity = full in absurd cc
 removes_nothing eq s r a never (inr (inr (same, asks, is))) = (asks, is)

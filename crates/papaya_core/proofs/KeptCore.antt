@@ -16,7 +16,7 @@ use Rattle.papaya_core.specs.declared.pairs.Running.{Running}
 use Rattle.papaya_core.specs.declared.trace.Event.{Event}
 use Rattle.papaya_call.specs.declared.call.Reply.TheVariants.{Refused as Reply_refused}
 use Rattle.papaya_words.specs.declared.probe.Refused.{Refused}
-use Rattle.papaya_core.specs.Advances.{Advances, IsCause, event_of, goes_on, reply_in}
+use Rattle.papaya_core.specs.Advances.{Advances, IsStepCause, event_of, goes_on, reply_in}
 use Rattle.papaya_core.specs.Begins.{Begins, key_of_call}
 use Rattle.papaya_core.specs.Callers.{running, with_call}
 use Rattle.papaya_core.specs.Core.{CoreState, IsCore}
@@ -91,7 +91,7 @@ module _ {K V S A H : Type 0} (eq : K → K → Bool) (input : K → List (List 
       record { core = core; law = subst (λ h. (es : _) × ((tales : _) × IsKept eq (hash_of input build write finish h) s'.mode s'.store s'.callers es tales)) same (es ++ step.made, (_, step.kept)) }
 
   -- a call that goes on is refused for a cause
-  pub lawful_caused : (s : CoreState K V S A) → Lawful s → (caller : ℕ) (r : Running K V A) → running s.callers caller ≡ Some r → (answer : Answer) (refused : Refused) → reply_in (ask_of (after r.machine answer)) ≡ Some (Reply_refused refused) → IsCause eq s.store r answer refused
+  pub lawful_caused : (s : CoreState K V S A) → Lawful s → (caller : ℕ) (r : Running K V A) → running s.callers caller ≡ Some r → (answer : Answer) (refused : Refused) → reply_in (ask_of (after r.machine answer)) ≡ Some (Reply_refused refused) → IsStepCause eq s.store r answer refused
   lawful_caused s lawful caller r was answer refused e =
       let (es, (tales, kept)) = lawful.law in
       caused eq (hash_of input build write finish s.store.hasher) (keys_lawful eq input build write finish classes respects s.store.hasher) s lawful.core es tales kept caller r was answer refused e

@@ -28,7 +28,7 @@ use Rattle.papaya_rests.proofs.RestsNames.{come_on, come_reached}
 use Rattle.papaya_rests.proofs.RestsRemovals.{moving_further}
 use Rattle.papaya_rests.proofs.RestsReplyRefused.{machine_reason}
 use Rattle.papaya_core.specs.declared.pairs.Running.{Running}
-use Rattle.papaya_core.specs.Advances.{HasNoPlace, IsCause, reply_in}
+use Rattle.papaya_core.specs.Advances.{HasNoPlace, IsStepCause, reply_in}
 use Rattle.papaya_core.specs.Callers.{running}
 use Rattle.papaya_core.specs.Content.{map_in}
 use Rattle.papaya_core.specs.Core.{CoreState, IsCore}
@@ -153,7 +153,7 @@ module _ {K V S A : Type 0} (eq : K → K → Bool) (hash : K → ℕ) (law : Is
       empty_absent write.place.table at.come write.place.probe.len at.within at.before (ap (now.slot write.place.table) (sym place_is) ∙ code_empty g c (now.slot write.place.table write.place.probe.i) word)
 
   -- a call that goes on is refused for a cause
-  pub caused : (answer : Answer) (refused : Refused) → reply_in (ask_of (after r.machine answer)) ≡ Some (Reply_refused refused) → IsCause eq s.store r answer refused
+  pub caused : (answer : Answer) (refused : Refused) → reply_in (ask_of (after r.machine answer)) ≡ Some (Reply_refused refused) → IsStepCause eq s.store r answer refused
   caused answer refused e = ⊎_elim
       (λ made. inl made.0)
       (λ rest. ⊎_elim

@@ -97,9 +97,10 @@ pub record HasNoPlace {K V S A : Type 0} (eq : K → K → Bool) (s : StoreState
 
 -- why a call is refused: what it asked to be made was refused so, its key has no place and there is
 -- no next table, or its closure would remove where it was shown that nothing is
-abbrev pub IsCause : {K V S A : Type 0} → (K → K → Bool) → StoreState K V S → Running K V A → Answer
+abbrev pub IsStepCause : {K V S A : Type 0} → (K → K → Bool) → StoreState K V S → Running K V A
+    → Answer
     → Refused → Type 0
-IsCause eq s r answer refused = (answer ≡ Was_refused refused)
+IsStepCause eq s r answer refused = (answer ≡ Was_refused refused)
     ⊎ ((refused ≡ Capacity) × ((t : ℕ) × HasNoPlace eq s r t))
     ⊎ ((refused ≡ RemoveNothing) × (ask_of r.machine ≡ ShowNone) × (answer ≡ Op kinds.Remove))
 
@@ -122,4 +123,4 @@ pub record Advances {K V S A : Type 0} (eq : K → K → Bool) (says : Says K V 
   pub mode : s'.mode ≡ s.mode
   pub initial : s'.initial ≡ s.initial
   pub cause : (refused : Refused) → reply ≡ Some (Reply_refused refused)
-      → IsCause eq s.store before answer refused
+      → IsStepCause eq s.store before answer refused

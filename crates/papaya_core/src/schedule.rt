@@ -13,7 +13,7 @@ ghost use Rattle.papaya_core.specs.Advances.{Advances, event_of, reply_in};
 ghost use Rattle.papaya_core.specs.Headline.{HasTimeline};
 ghost use Rattle.papaya_core.specs.Moves.{MovesMap};
 ghost use Rattle.papaya_core.specs.New.{IsNew};
-ghost use Rattle.papaya_keys.specs.Sizes.{IsRefused};
+ghost use Rattle.papaya_keys.specs.Sizes.{IsSizeRefusal};
 ghost use Rattle.papaya_keys.specs.Sizes.{IsAllowed};
 ghost use Rattle.papaya_core.specs.Runs.{TurnsRun, StopsEarly, TurnRuns, IsCutShort, BeginRuns, StepRuns, StepsRun};
 
@@ -147,7 +147,7 @@ impl<K: Hash + Eq + Drop, V: Drop, S: BuildHasher + Drop, A> Core<K, V, S, A> {
     ) -> Result<Core<K, V, S, A>, Refused>
         ensures ok { IfOk result (λ core. IsAllowed mode capacity shards
             × IsNew mode capacity shards hasher core) }
-        ensures err { IfErr result (λ e. IsRefused mode capacity shards e) }
+        ensures err { IfErr result (λ e. IsSizeRefusal mode capacity shards e) }
         ensures content { IfOk result (λ core. content core.store ≡ []) }
         ensures counted { IfOk result (λ core. IsCounted core.store core.callers) }
     {

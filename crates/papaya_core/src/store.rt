@@ -8,7 +8,7 @@ ghost use Rattle.papaya_words.specs.Probe.{IsEntriesFor};
 ghost use Rattle.papaya_call.specs.Answers.{op_kind};
 ghost use Rattle.papaya_call.specs.Machine.{IsChunked};
 ghost use Rattle.papaya_core.specs.New.{HasCapacity, IsNewStore};
-ghost use Rattle.papaya_keys.specs.Sizes.{IsRefused};
+ghost use Rattle.papaya_keys.specs.Sizes.{IsSizeRefusal};
 ghost use Rattle.papaya_keys.specs.Sizes.{IsAllowed};
 ghost use Rattle.papaya_keys.specs.Sizes.{IsTooMuch};
 ghost use Rattle.papaya_core.specs.Tables.{table_of, word_at, put, put_in, written};
@@ -293,7 +293,7 @@ impl<K: Hash + Eq + Drop, V: Drop, S: BuildHasher + Drop> Store<K, V, S> {
     ) -> Result<(Store<K, V, S>, usize), Refused>
         ensures ok { IfOk result (λ made. IsAllowed mode capacity shards
             × IsNewStore capacity shards hasher made.1 made.0 × (made.1 ≤ MAX_TABLE_LEN)) }
-        ensures err { IfErr result (λ e. IsRefused mode capacity shards e) }
+        ensures err { IfErr result (λ e. IsSizeRefusal mode capacity shards e) }
     {
         check_chunk(mode)?;
         let initial = initial_len(capacity)?;

@@ -22,8 +22,8 @@ abbrev pub IsAllowed : ResizeMode → (capacity shards : ℕ) → Type 0
 IsAllowed mode capacity shards = IsChunked mode × HasRoom capacity × (shards ≤ MAX_SHARDS)
 
 -- a chunk of no slots comes before what is past a limit, and that before a want of memory
-abbrev pub IsRefused : ResizeMode → (capacity shards : ℕ) → Refused → Type 0
-IsRefused mode capacity shards refused =
+abbrev pub IsSizeRefusal : ResizeMode → (capacity shards : ℕ) → Refused → Type 0
+IsSizeRefusal mode capacity shards refused =
     ((refused ≡ ZeroChunk) × (mode ≡ Incremental 0))
     ⊎ ((refused ≡ Capacity) × IsChunked mode × (IsTooMuch capacity ⊎ (MAX_SHARDS < shards)))
     ⊎ ((refused ≡ Memory) × IsAllowed mode capacity shards)

@@ -25,7 +25,7 @@ use Rattle.papaya_map.specs.Computing.{Holds, IsComputing, IsComputingOn, IsWrit
 use Rattle.papaya_lookup.specs.History.{history_of}
 use Rattle.papaya_book.specs.Logs.{Stored}
 use Rattle.papaya_change.specs.Showings.{HasNoNone, WasHeld}
-use Rattle.papaya_change.specs.Writing.{IsCause, IsUnsaid, IsWritingOn}
+use Rattle.papaya_change.specs.Writing.{IsMemoryOrCapacity, IsUnsaid, IsWritingOn}
 use Rattle.papaya_lookup.proofs.Histories.{history_since}
 use Rattle.papaya_change.proofs.Refusals.{refused_for}
 use Rattle.papaya_change.proofs.Showings.{all_shown, held_wider}
@@ -112,7 +112,7 @@ module _ {K V S H T F : Type 0} (eq : K → K → Bool) (hash : S → K → ℕ)
             none_shown = subst (λ (z : Machine). HasNoNone r.said ⊎ HasShownNone z.remembered.fill z.state) (sym then) (none_later answer r.none_shown);
             stood = λ stands h. holds_still key r.made r.said x w' value stands (r.stood stands (stood_before m answer silent standing r.words stands (subst (λ (z : Machine). StandsOn z stands) then h)));
             aborts = λ with e. let s = machine_aborted m answer with (not_done m answer silent) (ap ask_of (sym then) ∙ e) in absurd (not_show m answer silent s.0 s.1);
-            refuses = λ cause e. inl (refused_for IsCause m answer (not_show m answer silent None) (not_done m answer silent) (inr refl) unsaid cause (ap ask_of (sym then) ∙ e));
+            refuses = λ cause e. inl (refused_for IsMemoryOrCapacity m answer (not_show m answer silent None) (not_done m answer silent) (inr refl) unsaid cause (ap ask_of (sym then) ∙ e));
           },
           on.1,
         )

@@ -28,7 +28,7 @@ use Rattle.papaya_lookup.specs.History.{key_of}
 use Rattle.papaya_book.specs.Logs.{Member, Stored, pair_named}
 use Rattle.papaya_book.specs.Rule.{IsPlaced}
 use Rattle.papaya_change.specs.Showings.{HasNoNone}
-use Rattle.papaya_change.specs.Writing.{IsCause, IsUnlogged, IsUnsaid, IsWritingOn}
+use Rattle.papaya_change.specs.Writing.{IsMemoryOrCapacity, IsUnlogged, IsUnsaid, IsWritingOn}
 use Rattle.papaya_change.proofs.Refusals.{refused_for, unlogged_unsaid}
 
 -- a pair that was made stays so, when another is made
@@ -48,8 +48,8 @@ module _ (m : Machine) (answer : Answer) (asks : ask_of m ≡ MakePair) where
   no_abort with e = let s = machine_aborted m answer with not_done e in not_show s.0 s.1
 
   -- and each is refused by itself
-  by_itself : IsUnsaid answer → (cause : Cause) → ask_of (after m answer) ≡ Done (Reply_refused cause) → IsCause cause
-  by_itself unsaid = refused_for IsCause m answer (not_show None) not_done (inr refl) unsaid
+  by_itself : IsUnsaid answer → (cause : Cause) → ask_of (after m answer) ≡ Done (Reply_refused cause) → IsMemoryOrCapacity cause
+  by_itself unsaid = refused_for IsMemoryOrCapacity m answer (not_show None) not_done (inr refl) unsaid
 
 module _ {K V S T H F : Type 0} (eq : K → K → Bool) (hash : S → K → ℕ) (b : Begun K V S) (name : Book) (operates : F → Option (Stored K V) → Operation V T → F → Type 0) (key : K) (first : F) (begun log : List (Event K V S)) (x : Computing K V S T H) (f : F) (r : IsComputing eq hash b name operates key first begun log x f)
     (standing : IsStanding x.writer.call.machine) (asks : ask_of x.writer.call.machine ≡ MakePair) where

@@ -11,7 +11,7 @@ use Rattle.papaya_change.specs.Changes.{IsChangeOf}
 use Rattle.papaya_lookup.specs.History.{Change, key_of}
 use Rattle.papaya_book.specs.Logs.{Member, Stored}
 use Rattle.papaya_change.specs.Showings.{AllShown, AreOf, HasSaid, IsNoneOnce, IsSamePair, WasHeld, WasLast}
-use Rattle.papaya_change.specs.Writing.{IsCause}
+use Rattle.papaya_change.specs.Writing.{IsMemoryOrCapacity}
 
 -- the compute changed the map
 abbrev pub changes : {K V T : Type 0} → Result (Computed K V T) Refused → Bool
@@ -25,7 +25,7 @@ changes (Err refused) = false
 -- nothing.
 abbrev pub IsRefusedBy : {K V T : Type 0} → List (Option (Stored K V) × Operation V T) → Refused
     → Type 0
-IsRefusedBy said refused = IsCause refused ⊎ ((refused ≡ RemoveNothing)
+IsRefusedBy said refused = IsMemoryOrCapacity refused ⊎ ((refused ≡ RemoveNothing)
     × WasLast None operation.Remove said)
 
 module _ {K V T : Type 0} (eq : K → K → Bool) (key : K)

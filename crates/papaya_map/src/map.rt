@@ -4,7 +4,7 @@ ghost use mathlib.Core.List.{IsPrefix};
 ghost use Rattle.logbook.specs.Pages.{Book as BookName};
 ghost use Rattle.papaya_words.specs.declared.limits.TheConstants.{DEFAULT_CHUNK, DEFAULT_SHARDS};
 ghost use Rattle.papaya_keys.specs.Sizes.{IsAllowed};
-ghost use Rattle.papaya_map.specs.Asked.{IsRefused};
+ghost use Rattle.papaya_map.specs.Asked.{IsMapRefusal};
 ghost use Rattle.papaya_map.specs.Fixed.{Fixed, IsFor};
 ghost use Rattle.papaya_change.specs.Changes.{IsPut};
 ghost use Rattle.papaya_map.specs.ComputeAnswers.{IsComputeBy, changes};
@@ -117,7 +117,7 @@ impl<K: Hash + Eq + Drop, V: Drop, S: BuildHasher + Drop> HashMap<K, V, S> {
     ) -> Result<HashMap<K, V, S>, Refused>
         ensures ok { IfOk result (λ map. IsAllowed mode capacity shards) }
         ensures made { IfOk result (IsFor mode capacity) }
-        ensures err { IfErr result (λ e. IsRefused mode capacity shards e) }
+        ensures err { IfErr result (λ e. IsMapRefusal mode capacity shards e) }
     {
         check_chunk(mode)?;
         let initial = initial_len(capacity)?;
@@ -164,7 +164,8 @@ impl<K: Hash + Eq + Drop, V: Drop> HashMap<K, V, BuildHasherDefault<FoldHasher>>
         ensures ok { IfOk result (λ map. IsAllowed (ResizeMode.Incremental DEFAULT_CHUNK) capacity
             DEFAULT_SHARDS) }
         ensures made { IfOk result (IsFor (ResizeMode.Incremental DEFAULT_CHUNK) capacity) }
-        ensures err { IfErr result (λ e. IsRefused (ResizeMode.Incremental DEFAULT_CHUNK) capacity
+        ensures err { IfErr result (λ e. IsMapRefusal (ResizeMode.Incremental DEFAULT_CHUNK)
+            capacity
             DEFAULT_SHARDS e) }
     {
         HashMap::with_parts(

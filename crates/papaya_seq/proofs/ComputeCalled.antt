@@ -16,7 +16,7 @@ use Rattle.papaya_core.specs.Store.{Stored}
 use Rattle.papaya_seq.specs.Calls.{Answers, IsCalled, IsOperated}
 use Rattle.papaya_seq.specs.Computes.{ComputesBy, Operates, Says, answer_map}
 use Rattle.papaya_seq.specs.Computing.{reply_of}
-use Rattle.papaya_seq.specs.Map.{IsCause, Keeps, MapState, deref_pair}
+use Rattle.papaya_seq.specs.Map.{IsWriteCause, Keeps, MapState, deref_pair}
 use Rattle.papaya_keys.specs.declared.compute.Computed.{Computed}
 use Rattle.papaya_keys.specs.declared.compute.Computed.TheVariants.{Inserted, Updated, Removed, Aborted}
 use Rattle.papaya_seq.proofs.Answered.{update_leaves}
@@ -27,12 +27,12 @@ module _ {K V S A : Type 0} (eq : K → K → Bool) (hash : S → K → ℕ) (cl
   Called reply = IsCalled eq hash says s (Compute k a) reply s'
 
   -- a cause is no want of a pair to be removed
-  caused : (refused : Refused) → IsCause (hash s.store.hasher k) s.store refused → refused ≡ RemoveNothing → ⊥
+  caused : (refused : Refused) → IsWriteCause (hash s.store.hasher k) s.store refused → refused ≡ RemoveNothing → ⊥
   caused refused (inl e) f = let g : Memory ≡ RemoveNothing = sym e ∙ f in cc
   caused refused (inr (e, full)) f = let g : Capacity ≡ RemoveNothing = sym e ∙ f in cc
 
   -- and an insertion was answered then
-  insertion_said : (held : Option (Stored K V)) (v : V) (refused : Refused) → IsCause (hash s.store.hasher k) s.store refused → Answers says a held (ops.Insert v) → IsOperated says a held s'.store (replies.Refused refused)
+  insertion_said : (held : Option (Stored K V)) (v : V) (refused : Refused) → IsWriteCause (hash s.store.hasher k) s.store refused → Answers says a held (ops.Insert v) → IsOperated says a held s'.store (replies.Refused refused)
   insertion_said held v refused (inl e) answers = subst (λ r. IsOperated says a held s'.store (replies.Refused r)) (sym e) (v, answers)
   insertion_said held v refused (inr (e, full)) answers = subst (λ r. IsOperated says a held s'.store (replies.Refused r)) (sym e) (v, answers)
 
@@ -56,14 +56,14 @@ module _ {K V S A : Type 0} (eq : K → K → Bool) (hash : S → K → ℕ) (cl
     answered = (update_leaves eq classes s.store s'.store k None (subst (λ o. IsUpdate eq k None o (map_in eq s.store) (map_in eq s'.store)) is update), λ e. absurd (caused refused cause e));
     fresh = tt;
     said = subst (λ o. IsOperated says a o s'.store (replies.Refused refused)) (sym update.before) (insertion_said None v refused cause answers);
-    cause = λ other e. inl (subst (IsCause (hash s.store.hasher k) s.store) (let f : replies.Refused refused ≡ replies.Refused other = e in cc) cause);
+    cause = λ other e. inl (subst (IsWriteCause (hash s.store.hasher k) s.store) (let f : replies.Refused refused ≡ replies.Refused other = e in cc) cause);
     keeps = keeps;
   }
   called (Some p) (ops.Insert v) (Err refused) next answers (cause, is) update = record {
     answered = (update_leaves eq classes s.store s'.store k (Some p) (subst (λ o. IsUpdate eq k (Some p) o (map_in eq s.store) (map_in eq s'.store)) is update), λ e. absurd (caused refused cause e));
     fresh = tt;
     said = subst (λ o. IsOperated says a o s'.store (replies.Refused refused)) (sym update.before) (insertion_said (Some p) v refused cause answers);
-    cause = λ other e. inl (subst (IsCause (hash s.store.hasher k) s.store) (let f : replies.Refused refused ≡ replies.Refused other = e in cc) cause);
+    cause = λ other e. inl (subst (IsWriteCause (hash s.store.hasher k) s.store) (let f : replies.Refused refused ≡ replies.Refused other = e in cc) cause);
     keeps = keeps;
   }
   called None ops.Remove (Err refused) next answers (nothing_there, is) update =

@@ -14,7 +14,7 @@ use Rattle.papaya_core.specs.Store.{StoreState, Stored, pair_of}
 use Rattle.papaya_core.proofs.SoloTimeline.{lookup_alike}
 use Rattle.papaya_seq.specs.Computes.{ComputesBy, IsNew}
 use Rattle.papaya_seq.specs.Computing.{IsComputed, Replies}
-use Rattle.papaya_seq.specs.Map.{IsCause, Keeps, MapState}
+use Rattle.papaya_seq.specs.Map.{IsWriteCause, Keeps, MapState}
 use Rattle.papaya_keys.specs.declared.compute.Computed.{Computed}
 use Rattle.papaya_keys.specs.declared.compute.Computed.TheVariants.{Inserted, Updated, Removed, Aborted}
 use Rattle.papaya_seq.proofs.Answered.{logged_there}
@@ -131,7 +131,7 @@ module _ {K V S T : Type 0} (eq : K → K → Bool) (classes : IsEquivalence eq)
   )
 
   -- where an insertion was refused
-  refused_insertion : (v : V) (refused : Refused) (o : Option (Stored K V)) → map_in eq s.store k ≡ o → said o (ops.Insert v) → Same (map_in eq s.store) (map_in eq s'.store) → IsCause hash s.store refused → Answers (Err refused)
+  refused_insertion : (v : V) (refused : Refused) (o : Option (Stored K V)) → map_in eq s.store k ≡ o → said o (ops.Insert v) → Same (map_in eq s.store) (map_in eq s'.store) → IsWriteCause hash s.store refused → Answers (Err refused)
   refused_insertion v refused None here says same cause = (
     Err refused,
     refl,

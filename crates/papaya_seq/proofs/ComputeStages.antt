@@ -36,7 +36,7 @@ use Rattle.papaya_core.specs.Store.{StoreState, Stored, pair_of}
 use Rattle.papaya_core.specs.Tables.{table_of, word_at}
 use Rattle.papaya_core.specs.declared.pairs.KeyOf.{KeyOf}
 use Rattle.papaya_core.specs.declared.pairs.KeyOf.TheVariants.{Own, Logged}
-use Rattle.papaya_seq.specs.Map.{IsCause, IsFull}
+use Rattle.papaya_seq.specs.Map.{IsWriteCause, IsFull}
 use Rattle.papaya_seq.proofs.Past.{IsBlank, IsFirst, IsPast, IsSlotThere, gone_past, not_zero, slot_there}
 use Rattle.papaya_seq.proofs.Removing.{IsOpen}
 
@@ -94,7 +94,7 @@ module _ {K V S : Type 0} (hash : ℕ) (s : StoreState K V S) where
     abbrev pub IsInserted : Reply → Type 0
     IsInserted (Inserted n) = IsPaired n
     IsInserted (Replaced m n) = IsPaired n
-    IsInserted (Reply_refused refused) = IsCause hash s refused
+    IsInserted (Reply_refused refused) = IsWriteCause hash s refused
     IsInserted Absent = ⊥
     IsInserted (Found n) = ⊥
     IsInserted (Occupied n) = ⊥

@@ -42,7 +42,7 @@ use Rattle.papaya_core.specs.Performs.{Performs, Refuses, same_stored, size_of}
 use Rattle.papaya_core.specs.Store.{StoreState, pair_of, stored_at, stored_in}
 use Rattle.papaya_core.specs.Tables.{Tables, put, table_of, word_at}
 use Rattle.papaya_core.proofs.KeptTables.{index-zeros, made-there}
-use Rattle.papaya_seq.specs.Map.{IsCause}
+use Rattle.papaya_seq.specs.Map.{IsWriteCause}
 use Rattle.papaya_seq.proofs.ComputeStages.{IsAborting, IsFilling, IsInserting, IsPaired, IsPurposeThere, IsRemoving, IsUnasked, compared_sight, goes_unasked, look_sight}
 use Rattle.papaya_seq.proofs.Past.{IsFirst, IsSlotThere, blank_word}
 use Rattle.papaya_seq.proofs.RemovalTurns.{IsFound}
@@ -172,7 +172,7 @@ module _ {K V S A : Type 0} (eq : K → K → Bool) (says : Says K V A) (s : Sto
 
     -- what is to be made is refused
     refused_leads : (made : Made) (held : Remembered) (state : State) (most count : ℕ) (answer : Answer) (store' : StoreState K V S) (later : Running K V A) → store' ≡ store → later ≡ asked made held state → Refuses most count answer
-        → ((refused : Refused) → IsCause hash s refused → Leads made held state store (asked made held state) (Was_refused refused)) → (most ≤ count → IsCause hash s Capacity) → Leads made held state store' later answer
+        → ((refused : Refused) → IsWriteCause hash s refused → Leads made held state store (asked made held state) (Was_refused refused)) → (most ≤ count → IsWriteCause hash s Capacity) → Leads made held state store' later answer
     refused_leads made held state most count answer store' later same stays (inl e) leads full = leads_by made held state answer (Was_refused Memory) store' store later (asked made held state) e same stays (leads Memory (inl refl))
     refused_leads made held state most count answer store' later same stays (inr (e, past)) leads full = leads_by made held state answer (Was_refused Capacity) store' store later (asked made held state) e same stays (leads Capacity (full past))
 

@@ -11,7 +11,7 @@ use Rattle.papaya_core.specs.Maps.{IsUpdate}
 use Rattle.papaya_core.specs.Store.{Stored, pair_of}
 use Rattle.papaya_seq.specs.Answered.{IsParted}
 use Rattle.papaya_seq.specs.Computes.{ComputesBy, IsNew, Operates, Says, answer_map}
-use Rattle.papaya_seq.specs.Map.{Inserts, IsCause, Keeps, MapState, Unchanged, deref_pair, entry_of, value_of}
+use Rattle.papaya_seq.specs.Map.{Inserts, IsWriteCause, Keeps, MapState, Unchanged, deref_pair, entry_of, value_of}
 use Rattle.papaya_keys.specs.declared.compute.Computed.{Computed}
 use Rattle.papaya_keys.specs.declared.compute.Computed.TheVariants.{Inserted, Updated, Removed, Aborted}
 use Rattle.papaya_seq.proofs.Answered.{logged_there, update_leaves}
@@ -58,7 +58,7 @@ module _ {K V S T : Type 0} (post : Option (Bor K × Bor V) → Operation V T �
 
   -- what may refuse the closure's answer
   abbrev pub Refuses : Operation V T → Refused → Type 0
-  Refuses (Insert v) refused = IsCause hash s.store refused
+  Refuses (Insert v) refused = IsWriteCause hash s.store refused
   Refuses Remove refused = refused ≡ RemoveNothing
   Refuses (Abort t) refused = ⊥
 

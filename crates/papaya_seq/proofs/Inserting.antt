@@ -32,7 +32,7 @@ use Rattle.papaya_core.specs.declared.pairs.KeyOf.TheVariants.{Own, Logged}
 use Rattle.papaya_core.specs.Store.{StoreState}
 use Rattle.papaya_core.specs.Tables.{Tables, table_of, word_at}
 use Rattle.papaya_core.specs.Content.{map_in}
-use Rattle.papaya_seq.specs.Map.{IsCause, IsCauseAt, IsFull, Unchanged}
+use Rattle.papaya_seq.specs.Map.{IsWriteCause, IsWriteCauseAt, IsFull, Unchanged}
 use Rattle.papaya_seq.proofs.Past.{IsBlank, IsFirst, IsPast, IsSlotThere, blank_word, gone_past, not_zero, slot_there}
 
 module _ {K V S : Type 0} (eq : K → K → Bool) (s : StoreState K V S) (k : K) (replace : Bool) where
@@ -46,10 +46,10 @@ module _ {K V S : Type 0} (eq : K → K → Bool) (s : StoreState K V S) (k : K)
   refused_absent store refused none = record { alone = λ _. none; why = inr (inr (inr none)) }
 
   -- so there is a cause for what the key has
-  pub cause_at : (hash : ℕ) (store : StoreState K V S) (refused : Refused) → Unchanged eq s store → IsRefusal store refused → IsCause hash s refused → IsCauseAt hash s (map_in eq s k) refused
+  pub cause_at : (hash : ℕ) (store : StoreState K V S) (refused : Refused) → Unchanged eq s store → IsRefusal store refused → IsWriteCause hash s refused → IsWriteCauseAt hash s (map_in eq s k) refused
   cause_at hash store refused same refusal cause = at cause refusal.why
     where
-      at : IsCause hash s refused → (refused ≡ Memory) ⊎ (MAX_LOG_LEN ≤ length s.keys) ⊎ (MAX_LOG_LEN ≤ length s.pairs) ⊎ (map_in eq store k ≡ None) → IsCauseAt hash s (map_in eq s k) refused
+      at : IsWriteCause hash s refused → (refused ≡ Memory) ⊎ (MAX_LOG_LEN ≤ length s.keys) ⊎ (MAX_LOG_LEN ≤ length s.pairs) ⊎ (map_in eq store k ≡ None) → IsWriteCauseAt hash s (map_in eq s k) refused
       at (inl memory) why = inl memory
       at (inr (full, inl keys)) why = inr (full, inl keys)
       at (inr (full, inr (inl pairs))) why = inr (full, inr (inl pairs))
@@ -65,7 +65,7 @@ module _ {K V S : Type 0} (hash : ℕ) (s : StoreState K V S) (value : V) where
 
   -- a refusal has a cause, and a value that was not stored is left
   abbrev pub IsEnd : Reply → Option V → Type 0
-  IsEnd reply left = ((refused : Refused) → reply ≡ Reply_refused refused → IsCause hash s refused) × ((n : ℕ) → reply ≡ Occupied n → left ≡ Some value)
+  IsEnd reply left = ((refused : Refused) → reply ≡ Reply_refused refused → IsWriteCause hash s refused) × ((n : ℕ) → reply ≡ Occupied n → left ≡ Some value)
 
   -- what stands in the words where an insertion is
   abbrev pub IsStage : Tables → Option V → Made → State → Type 0

@@ -42,7 +42,7 @@ use Rattle.papaya_core.specs.Tables.{Tables, table_of, word_at}
 use Rattle.papaya_core.proofs.KeptSettings.{IsLawfulKeys}
 use Rattle.papaya_core.proofs.RefusedLemmas.{call, no_place, writes_absent}
 use Rattle.papaya_core.proofs.StoreLemmas.{numbered, performed, unnumbered}
-use Rattle.papaya_seq.specs.Map.{IsCause, IsLawfulMap, KeepsSlots, MapState, core_of, insertion}
+use Rattle.papaya_seq.specs.Map.{IsWriteCause, IsLawfulMap, KeepsSlots, MapState, core_of, insertion}
 use Rattle.papaya_seq.proofs.Inserting.{IsAtHand, IsEnd, IsPlain, IsRefusal, IsStage, refused_absent}
 use Rattle.papaya_seq.proofs.InsertingSteps.{answerable_in, leads_in, refused_in}
 use Rattle.papaya_seq.proofs.Lawful.{bare, single, sized}
@@ -254,7 +254,7 @@ module _ {K V S A : Type 0} (eq : K → K → Bool) (hash : S → K → ℕ) (s 
     ends = end_in (hash s.store.hasher k) s.store value store.words r.value r.machine.hash r.machine.made r.machine.state reply (sym e) now.stage
 
     -- a refusal has a cause
-    pub inserting_cause : (refused : Refused) → reply ≡ Reply_refused refused → IsCause (hash s.store.hasher k) s.store refused
+    pub inserting_cause : (refused : Refused) → reply ≡ Reply_refused refused → IsWriteCause (hash s.store.hasher k) s.store refused
     inserting_cause = ends.0
 
     -- where the key is in the map, the value is left

@@ -32,15 +32,15 @@ use Rattle.papaya_core.specs.Performs.{Performs, Refuses, own_key, same as same_
 use Rattle.papaya_core.specs.Store.{StoreState, Stored, pair_of}
 use Rattle.papaya_core.specs.Tables.{Tables, table_of, word_at}
 use Rattle.papaya_core.proofs.KeptTables.{index-zeros, made-there}
-use Rattle.papaya_seq.specs.Map.{IsCause}
+use Rattle.papaya_seq.specs.Map.{IsWriteCause}
 use Rattle.papaya_seq.proofs.Inserting.{IsAtHand, IsEnd, IsPlain, IsRefusal, IsSized, IsStage, blank_stage, carried, compared_stage, looked_stage, refused_absent, root_stage, value_at_hand, written_stage}
 use Rattle.papaya_seq.proofs.Past.{IsFirst, IsPast}
 use Rattle.papaya_seq.proofs.Steps.{IsAnswerable, words_of}
 
 module _ {K V S : Type 0} (s : StoreState K V S) (value : V) where
   -- a refusal for a cause
-  refused_end : (hash : ℕ) (left : Option V) (refused : Refused) → IsCause hash s refused → IsEnd hash s value (Reply_refused refused) left
-  refused_end hash left refused cause = (λ other e. subst (IsCause hash s) (let f : refused ≡ other = cc in f) cause, λ n e. absurd cc)
+  refused_end : (hash : ℕ) (left : Option V) (refused : Refused) → IsWriteCause hash s refused → IsEnd hash s value (Reply_refused refused) left
+  refused_end hash left refused cause = (λ other e. subst (IsWriteCause hash s) (let f : refused ≡ other = cc in f) cause, λ n e. absurd cc)
 
 module _ {K V S A : Type 0} (eq : K → K → Bool) (says : Says K V A) (s : StoreState K V S) (value : V) (replace : Bool) (store : StoreState K V S) (r : Running K V A) (task_is : r.machine.task ≡ Insert replace) where
   -- the call in this state
@@ -62,7 +62,7 @@ module _ {K V S A : Type 0} (eq : K → K → Bool) (says : Says K V A) (s : Sto
 
   -- what is to be made is refused
   refused_leads : (made : Made) (state : State) (most count : ℕ) (answer : Answer) (store' : StoreState K V S) (later : Running K V A) → store' ≡ store → later ≡ at made state → Refuses most count answer
-      → ((refused : Refused) → IsCause r.machine.hash s refused → Leads made state store (at made state) (Was_refused refused)) → (most ≤ count → IsCause r.machine.hash s Capacity) → Leads made state store' later answer
+      → ((refused : Refused) → IsWriteCause r.machine.hash s refused → Leads made state store (at made state) (Was_refused refused)) → (most ≤ count → IsWriteCause r.machine.hash s Capacity) → Leads made state store' later answer
   refused_leads made state most count answer store' later same stays (inl e) leads full = leads_by made state answer (Was_refused Memory) store' store later (at made state) e same stays (leads Memory (inl refl))
   refused_leads made state most count answer store' later same stays (inr (e, past)) leads full = leads_by made state answer (Was_refused Capacity) store' store later (at made state) e same stays (leads Capacity (full past))
 

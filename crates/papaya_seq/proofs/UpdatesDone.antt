@@ -7,8 +7,8 @@ use Rattle.papaya_call.specs.declared.answers.Operation.{Operation}
 use Rattle.papaya_call.specs.declared.answers.Operation.TheVariants.{Insert, Remove, Abort}
 use Rattle.papaya_core.specs.Content.{map_in}
 use Rattle.papaya_core.specs.Store.{Stored, pair_of}
-use Rattle.papaya_seq.specs.Computes.{ComputesBy, IsRefused, IsTriedWith, IsUpdated, IsUpdatedOrInserted, Says}
-use Rattle.papaya_seq.specs.Map.{IsCause, IsOccupied, Keeps, MapState, Unchanged}
+use Rattle.papaya_seq.specs.Computes.{ComputesBy, IsComputeRefusal, IsTriedWith, IsUpdated, IsUpdatedOrInserted, Says}
+use Rattle.papaya_seq.specs.Map.{IsWriteCause, IsOccupied, Keeps, MapState, Unchanged}
 use Rattle.papaya_keys.specs.declared.compute.Computed.{Computed}
 use Rattle.papaya_keys.specs.declared.compute.Computed.TheVariants.{Inserted, Updated, Removed, Aborted}
 use Rattle.papaya_seq.proofs.Answered.{logged_there}
@@ -127,10 +127,10 @@ module _ {K V S T : Type 0} {post : Option (Bor K × Bor V) → Operation V T �
 
   -- a refused update found one
   pub update_refused : (computes : V → V → Type 0) (t : T) (refused : Refused) → result ≡ Err refused → ComputesBy eq hash k (λ p. p.number) (Says post) s result s' → ComputesOf post computes → AbortsOfNone post t
-      → IsUpdated eq hash k computes s (Err refused) s' × IsCause hash s.store refused
+      → IsUpdated eq hash k computes s (Err refused) s' × IsWriteCause hash s.store refused
   update_refused computes t refused is c computing aborting = let f = facts_of post eq law hash k s s' result (Err refused) is c in go f.0 f.1 f.2 f.3
     where
-      go : (held : Option (Stored K V)) (o : Operation V T) → Leaves post eq law hash k s s' held o → Refuses post eq law hash k s s' o refused → IsUpdated eq hash k computes s (Err refused) s' × IsCause hash s.store refused
+      go : (held : Option (Stored K V)) (o : Operation V T) → Leaves post eq law hash k s s' held o → Refuses post eq law hash k s s' o refused → IsUpdated eq hash k computes s (Err refused) s' × IsWriteCause hash s.store refused
       go (Some p) (Insert v) l r = ((p, l.before, (r, l.same, l.keeps)), r)
       go (Some p) Remove l r = absurd (computing_no_remove post computes p l.says computing)
       go None (Insert v) l r = absurd (none_no_insert post t v l.says aborting)
@@ -156,10 +156,10 @@ module _ {K V S T : Type 0} {post : Option (Bor K × Bor V) → Operation V T �
       ((inl (f.0.value, computed, stores.inserts), stores.keeps), subst (λ (o : Option (Stored K V)). MatchOption o (makes w) (λ p. computes p.value w)) (sym stores.before) computed)
 
   pub upsert_refused : (computes : V → V → Type 0) (makes : V → Type 0) (refused : Refused) → result ≡ Err refused → ComputesBy eq hash k (λ p. p.number) (Says post) s result s' → ComputesOf post computes → MakesOfNone post makes
-      → IsUpdatedOrInserted eq hash k computes makes s (Err refused) s' × IsCause hash s.store refused
+      → IsUpdatedOrInserted eq hash k computes makes s (Err refused) s' × IsWriteCause hash s.store refused
   upsert_refused computes makes refused is c computing making = let f = facts_of post eq law hash k s s' result (Err refused) is c in go f.0 f.1 f.2 f.3
     where
-      go : (held : Option (Stored K V)) (o : Operation V T) → Leaves post eq law hash k s s' held o → Refuses post eq law hash k s s' o refused → IsRefused eq hash k s refused s' × IsCause hash s.store refused
+      go : (held : Option (Stored K V)) (o : Operation V T) → Leaves post eq law hash k s s' held o → Refuses post eq law hash k s s' o refused → IsComputeRefusal eq hash k s refused s' × IsWriteCause hash s.store refused
       go held (Insert v) l r = ((r, l.same, l.keeps), r)
       go (Some p) Remove l r = absurd (computing_no_remove post computes p l.says computing)
       go None Remove l r = absurd (making_no_remove post makes l.says making)
@@ -187,10 +187,10 @@ module _ {K V S T : Type 0} {post : Option (Bor K × Bor V) → Operation V T �
           record { pair = p; there = l.before; logged = subst (λ (j : ℕ). pair_of s'.store j ≡ Some p) same (l.keeps.pairs p.number p logged); same = l.same; keeps = l.keeps }
 
   pub tried_refused : (makes : V → Type 0) (t : T) (refused : Refused) → result ≡ Err refused → ComputesBy eq hash k (λ p. p.number) (Says post) s result s' → AbortsOfSome post t → MakesOfNone post makes
-      → IsTriedWith eq hash k makes s (Err refused) s' × IsCause hash s.store refused
+      → IsTriedWith eq hash k makes s (Err refused) s' × IsWriteCause hash s.store refused
   tried_refused makes t refused is c aborting making = let f = facts_of post eq law hash k s s' result (Err refused) is c in go f.0 f.1 f.2 f.3
     where
-      go : (held : Option (Stored K V)) (o : Operation V T) → Leaves post eq law hash k s s' held o → Refuses post eq law hash k s s' o refused → IsTriedWith eq hash k makes s (Err refused) s' × IsCause hash s.store refused
+      go : (held : Option (Stored K V)) (o : Operation V T) → Leaves post eq law hash k s s' held o → Refuses post eq law hash k s s' o refused → IsTriedWith eq hash k makes s (Err refused) s' × IsWriteCause hash s.store refused
       go None (Insert v) l r = ((l.before, (r, l.same, l.keeps)), r)
       go (Some p) (Insert v) l r = absurd (some_no_insert post t p v l.says aborting)
       go (Some p) Remove l r = absurd (some_no_remove post t p l.says aborting)

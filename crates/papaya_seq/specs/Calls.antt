@@ -12,7 +12,7 @@ use Rattle.papaya_call.specs.declared.call.Reply.TheVariants.{Inserted, Replaced
 use Rattle.papaya_core.specs.Content.{map_in}
 use Rattle.papaya_core.specs.Solo.{IsAnswered, IsNewIn}
 use Rattle.papaya_core.specs.Store.{StoreState, Stored, pair_of}
-use Rattle.papaya_seq.specs.Map.{IsCause, IsCauseAt, Keeps, MapState, entry_of, next_of}
+use Rattle.papaya_seq.specs.Map.{IsWriteCause, IsWriteCauseAt, Keeps, MapState, entry_of, next_of}
 
 -- what the closure's answers give of the pair of this number
 abbrev pub Gives : {K V S A : Type 0} → Says K V A → A → StoreState K V S → ℕ → Bool → Type 0
@@ -61,10 +61,11 @@ IsSaid eq says _ s reply s' = Unit {0}
 abbrev pub MayRefuse : {K V S A : Type 0} → (K → K → Bool) → (K → ℕ) → StoreState K V S → Call K V A
     → words.Refused → Type 0
 MayRefuse eq hash s (Get k) refused = ⊥
-MayRefuse eq hash s (Insert k v) refused = IsCauseAt (hash k) s (map_in eq s k) refused
-MayRefuse eq hash s (TryInsert k v) refused = (map_in eq s k ≡ None) × IsCause (hash k) s refused
+MayRefuse eq hash s (Insert k v) refused = IsWriteCauseAt (hash k) s (map_in eq s k) refused
+MayRefuse eq hash s (TryInsert k v) refused = (map_in eq s k ≡ None)
+    × IsWriteCause (hash k) s refused
 MayRefuse eq hash s (RemoveIf k a) refused = next_of s ≡ 0 → ⊥
-MayRefuse eq hash s (Compute k a) refused = IsCause (hash k) s refused
+MayRefuse eq hash s (Compute k a) refused = IsWriteCause (hash k) s refused
     ⊎ (refused ≡ refusals.RemoveNothing)
 
 module _ {K V S A : Type 0} (eq : K → K → Bool) (hash : S → K → ℕ) (says : Says K V A) where

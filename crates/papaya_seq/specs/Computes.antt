@@ -8,7 +8,7 @@ use Rattle.papaya_call.specs.declared.answers.Operation.TheVariants.{Insert, Rem
 use Rattle.papaya_core.specs.Content.{map_in}
 use Rattle.papaya_core.specs.Maps.{IsUpdate}
 use Rattle.papaya_core.specs.Store.{StoreState, Stored, pair_of}
-use Rattle.papaya_seq.specs.Map.{Inserts, IsCause, IsOccupied, Keeps, MapState, Unchanged, deref_pair, entry_of}
+use Rattle.papaya_seq.specs.Map.{Inserts, IsWriteCause, IsOccupied, Keeps, MapState, Unchanged, deref_pair, entry_of}
 use Rattle.papaya_keys.specs.declared.compute.Compute.{Compute}
 use Rattle.papaya_keys.specs.declared.compute.Compute.TheVariants as shown
 use Rattle.papaya_keys.specs.declared.compute.Computed.{Computed}
@@ -44,7 +44,7 @@ module _ {K V S T : Type 0} (hash : ℕ) (k : K) where
   Operates s s' None (Insert v) (Ok (Inserted q)) next = IsNew k v s s' q × (next ≡ Some q)
   Operates s s' (Some p) (Insert v) (Ok (Updated old q)) next = (old ≡ p) × IsNew k v s s' q
       × (next ≡ Some q)
-  Operates s s' held (Insert v) (Err refused) next = IsCause hash s refused × (next ≡ held)
+  Operates s s' held (Insert v) (Err refused) next = IsWriteCause hash s refused × (next ≡ held)
   Operates s s' None Remove (Err refused) next = (refused ≡ RemoveNothing) × (next ≡ None)
   Operates s s' (Some p) Remove (Ok (Removed old)) next = (old ≡ p) × (next ≡ None)
   Operates s s' held (Abort t) (Ok (Aborted u)) next = (u ≡ t) × (next ≡ held)
@@ -86,8 +86,9 @@ ComputesBy {K = K} {V = V} {T = T} eq hash k shows said s answer s' =
 
 module _ {K V S : Type 0} (eq : K → K → Bool) (hash : ℕ) (k : K) where
   -- refused, for a cause, with the map as it was
-  abbrev pub IsRefused : MapState K V S → Refused → MapState K V S → Type 0
-  IsRefused s refused s' = IsCause hash s.store refused × Unchanged eq s.store s'.store × Keeps s s'
+  abbrev pub IsComputeRefusal : MapState K V S → Refused → MapState K V S → Type 0
+  IsComputeRefusal s refused s' = IsWriteCause hash s.store refused × Unchanged eq s.store s'.store
+      × Keeps s s'
 
   -- What an update answers: the value that it computed of the key's, or that the key is absent, or
   -- a refusal. `computes` says what the closure may answer of a value.
@@ -98,7 +99,7 @@ module _ {K V S : Type 0} (eq : K → K → Bool) (hash : ℕ) (k : K) where
   IsUpdated computes s (Ok (Some v)) s' = (old : V) × computes old v
       × Inserts eq k v s.store (Some old) s'.store × Keeps s s'
   IsUpdated computes s (Err refused) s' = (p : Stored K V) × (map_in eq s.store k ≡ Some p)
-      × IsRefused s refused s'
+      × IsComputeRefusal s refused s'
 
   -- What an update answers that stores a value where the key is absent: the value that the key has
   -- then, or a refusal. `makes` says which value is stored.
@@ -107,7 +108,7 @@ module _ {K V S : Type 0} (eq : K → K → Bool) (hash : ℕ) (k : K) where
   IsUpdatedOrInserted computes makes s (Ok v) s' =
       (((old : V) × computes old v × Inserts eq k v s.store (Some old) s'.store)
       ⊎ (makes v × Inserts eq k v s.store None s'.store)) × Keeps s s'
-  IsUpdatedOrInserted computes makes s (Err refused) s' = IsRefused s refused s'
+  IsUpdatedOrInserted computes makes s (Err refused) s' = IsComputeRefusal s refused s'
 
   -- What an insertion of an absent key answers whose value a closure makes: the value that was
   -- stored, or the one that is there, or a refusal. `makes` says what the closure may answer.
@@ -115,7 +116,8 @@ module _ {K V S : Type 0} (eq : K → K → Bool) (hash : ℕ) (k : K) where
       → MapState K V S → Type 0
   IsTriedWith makes s (Ok (Ok v)) s' = makes v × Inserts eq k v s.store None s'.store × Keeps s s'
   IsTriedWith makes s (Ok (Err current)) s' = IsOccupied eq k s.store current s'.store × Keeps s s'
-  IsTriedWith makes s (Err refused) s' = (map_in eq s.store k ≡ None) × IsRefused s refused s'
+  IsTriedWith makes s (Err refused) s' = (map_in eq s.store k ≡ None)
+      × IsComputeRefusal s refused s'
 
   -- the same where it is not told which of the two it is
   abbrev pub HasValueOf : (V → Type 0) → MapState K V S → Result V Refused → MapState K V S → Type 0

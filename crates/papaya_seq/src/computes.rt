@@ -7,7 +7,7 @@ ghost use Rattle.papaya_core.specs.Store.{pair_of};
 ghost use Rattle.papaya_keys.specs.Hashes.{hash_of};
 ghost use Rattle.papaya_seq.specs.Answered.{IsParted, old_answered, value_answered};
 ghost use Rattle.papaya_seq.specs.Computes.{ComputesBy, HasValueOf, IsTriedWith, IsUpdated, IsUpdatedOrInserted, Says, Takes, compute_answered, tried_answered};
-ghost use Rattle.papaya_seq.specs.Map.{IsCause, MapState, entry_of};
+ghost use Rattle.papaya_seq.specs.Map.{IsWriteCause, MapState, entry_of};
 
 use crate::seq::HashMap;
 use papaya_call::answers::Operation;
@@ -139,7 +139,7 @@ impl<K: Hash + Eq + Drop, V: Drop, S: BuildHasher> HashMap<K, V, S> {
         ensures new { IfOk result (λ new. MatchOption new (map_in K.eq self.old.store key ≡ None)
             (λ v. (p : _) × (map_in K.eq self.old.store key ≡ Some p)
             × FnReturnsAt F.Fn f p.value v.now)) }
-        ensures err { IfErr result (IsCause (hash_of K.hash_input S.build_hasher S.Hasher.write
+        ensures err { IfErr result (IsWriteCause (hash_of K.hash_input S.build_hasher S.Hasher.write
             S.Hasher.finish self.old.store.hasher key) self.old.store) }
     {
         let (_, computed) = self.compute_by(
@@ -180,7 +180,7 @@ impl<K: Hash + Eq + Drop, V: Drop, S: BuildHasher> HashMap<K, V, S> {
             (value_answered result))) }
         ensures value { IfOk result (λ v. MatchOption (map_in K.eq self.old.store key)
             (v.now ≡ value) (λ p. FnReturnsAt U.Fn update p.value v.now)) }
-        ensures err { IfErr result (IsCause (hash_of K.hash_input S.build_hasher S.Hasher.write
+        ensures err { IfErr result (IsWriteCause (hash_of K.hash_input S.build_hasher S.Hasher.write
             S.Hasher.finish self.old.store.hasher key) self.old.store) }
     {
         self.update_or_insert_with(key, update, || value)
@@ -206,7 +206,7 @@ impl<K: Hash + Eq + Drop, V: Drop, S: BuildHasher> HashMap<K, V, S> {
             (value_answered result))) }
         ensures value { IfOk result (λ v. MatchOption (map_in K.eq self.old.store key)
             (F.post f v.now) (λ p. FnReturnsAt U.Fn update p.value v.now)) }
-        ensures err { IfErr result (IsCause (hash_of K.hash_input S.build_hasher S.Hasher.write
+        ensures err { IfErr result (IsWriteCause (hash_of K.hash_input S.build_hasher S.Hasher.write
             S.Hasher.finish self.old.store.hasher key) self.old.store) }
     {
         let (_, computed) = self.compute_by(
@@ -251,7 +251,7 @@ impl<K: Hash + Eq + Drop, V: Drop, S: BuildHasher> HashMap<K, V, S> {
             (λ v. F.post f v.now × (map_in K.eq self.old.store key ≡ None))) }
         ensures occupied { IfOk result (λ tried. IfErr tried
             (λ v. (p : _) × (map_in K.eq self.old.store key ≡ Some p) × (p.value ≡ v.now))) }
-        ensures err { IfErr result (IsCause (hash_of K.hash_input S.build_hasher S.Hasher.write
+        ensures err { IfErr result (IsWriteCause (hash_of K.hash_input S.build_hasher S.Hasher.write
             S.Hasher.finish self.old.store.hasher key) self.old.store) }
     {
         let (shown, computed) = self.compute_by(
@@ -287,7 +287,7 @@ impl<K: Hash + Eq + Drop, V: Drop, S: BuildHasher> HashMap<K, V, S> {
             self.old.store.hasher key) key (F.post f) self.old (value_answered result))) }
         ensures value { IfOk result (λ v. MatchOption (map_in K.eq self.old.store key)
             (F.post f v.now) (λ p. p.value ≡ v.now)) }
-        ensures err { IfErr result (IsCause (hash_of K.hash_input S.build_hasher S.Hasher.write
+        ensures err { IfErr result (IsWriteCause (hash_of K.hash_input S.build_hasher S.Hasher.write
             S.Hasher.finish self.old.store.hasher key) self.old.store) }
     {
         match self.try_insert_with(key, f)? {

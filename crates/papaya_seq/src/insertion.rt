@@ -4,7 +4,7 @@ ghost use Rattle.papaya_words.specs.declared.probe.Refused.{Refused};
 ghost use Rattle.papaya_core.specs.Content.{map_in};
 ghost use Rattle.papaya_core.specs.Solo.{IsAnswered, IsNewIn};
 ghost use Rattle.papaya_keys.specs.Hashes.{hash_of};
-ghost use Rattle.papaya_seq.specs.Map.{IsCause, IsCauseAt, Keeps, insertion};
+ghost use Rattle.papaya_seq.specs.Map.{IsWriteCause, IsWriteCauseAt, Keeps, insertion};
 
 use crate::seq::HashMap;
 use papaya_call::answers::Listed;
@@ -29,11 +29,11 @@ impl<K: Hash + Eq + Drop, V: Drop, S: BuildHasher> HashMap<K, V, S> {
             result.0 (map_in K.eq self.new.store) }
         ensures fresh { IsNewIn self.old.store result.0 }
         ensures cause { (refused : Refused) → result.0 ≡ Reply.Refused refused
-            → IsCauseAt (hash_of K.hash_input S.build_hasher S.Hasher.write S.Hasher.finish
+            → IsWriteCauseAt (hash_of K.hash_input S.build_hasher S.Hasher.write S.Hasher.finish
             self.old.store.hasher key) self.old.store (map_in K.eq self.old.store key) refused }
         ensures absent { replace ≡ false → (refused : Refused) → result.0 ≡ Reply.Refused refused
             → (map_in K.eq self.old.store key ≡ None)
-            × IsCause (hash_of K.hash_input S.build_hasher S.Hasher.write S.Hasher.finish
+            × IsWriteCause (hash_of K.hash_input S.build_hasher S.Hasher.write S.Hasher.finish
             self.old.store.hasher key) self.old.store refused }
         ensures left { (n : ℕ) → result.0 ≡ Reply.Occupied n → result.1 ≡ Some value }
         ensures keeps { Keeps self.old self.new }

@@ -7,7 +7,7 @@ ghost use Rattle.papaya_call.specs.declared.call.Task.TheVariants.{Get};
 ghost use Rattle.papaya_law.specs.Content.{AreApart};
 ghost use Rattle.papaya_core.specs.Content.{content, map_in};
 ghost use Rattle.papaya_core.specs.New.{IsNew};
-ghost use Rattle.papaya_keys.specs.Sizes.{IsRefused};
+ghost use Rattle.papaya_keys.specs.Sizes.{IsSizeRefusal};
 ghost use Rattle.papaya_keys.specs.Sizes.{IsAllowed};
 ghost use Rattle.papaya_core.specs.Store.{pair_of};
 ghost use Rattle.papaya_keys.specs.Hashes.{hash_of};
@@ -17,7 +17,7 @@ ghost use Rattle.papaya_seq.specs.Computes.{tried_answered};
 ghost use Rattle.papaya_seq.specs.Computing.{reply_of};
 ghost use Rattle.papaya_seq.specs.Looks.{LooksUp};
 ghost use Rattle.papaya_seq.specs.Removes.{IsJudged, Judges};
-ghost use Rattle.papaya_seq.specs.Map.{HasNone, HasValue, Holds, IsCause, IsCauseAt, IsInserted, IsRemoved, IsTried, IsTriedInto, core_of, deref_pair, next_of, slots_of, value_of, entry_of};
+ghost use Rattle.papaya_seq.specs.Map.{HasNone, HasValue, Holds, IsWriteCause, IsWriteCauseAt, IsInserted, IsRemoved, IsTried, IsTriedInto, core_of, deref_pair, next_of, slots_of, value_of, entry_of};
 
 use papaya_call::answers::Answers;
 use papaya_call::call::{Call, Reply};
@@ -97,7 +97,7 @@ impl<K: Hash + Eq + Drop, V: Drop, S: BuildHasher + Drop> HashMap<K, V, S> {
         ensures ok { IfOk result (λ map. IsAllowed mode capacity shards
             × IsNew {A = Unit {0}} mode capacity shards hasher (core_of map)) }
         ensures empty { IfOk result (λ map. content map.store ≡ []) }
-        ensures err { IfErr result (λ e. IsRefused mode capacity shards e) }
+        ensures err { IfErr result (λ e. IsSizeRefusal mode capacity shards e) }
     {
         let (store, initial) = Store::with_parts(alloc, mode, capacity, shards, hasher)?;
         Ok(HashMap {
@@ -117,7 +117,8 @@ impl<K: Hash + Eq + Drop, V: Drop, S: BuildHasher + Drop> HashMap<K, V, S> {
         ensures ok { IfOk result (λ map. IsNew {A = Unit {0}} (ResizeMode.Incremental DEFAULT_CHUNK)
             capacity 1 hasher (core_of map)) }
         ensures empty { IfOk result (λ map. content map.store ≡ []) }
-        ensures err { IfErr result (λ e. IsRefused (ResizeMode.Incremental DEFAULT_CHUNK) capacity 1
+        ensures err { IfErr result (λ e. IsSizeRefusal (ResizeMode.Incremental DEFAULT_CHUNK)
+            capacity 1
             e) }
     {
         HashMap::with_parts(alloc, ResizeMode::default(), capacity, 1, hasher)
@@ -154,7 +155,8 @@ impl<K: Hash + Eq + Drop, V: Drop> HashMap<K, V, BuildHasherDefault<FoldHasher>>
         ensures new { IfOk result (λ map. IsNew {A = Unit {0}}
             (ResizeMode.Incremental DEFAULT_CHUNK) capacity 1 map.store.hasher (core_of map)) }
         ensures empty { IfOk result (λ map. content map.store ≡ []) }
-        ensures err { IfErr result (λ e. IsRefused (ResizeMode.Incremental DEFAULT_CHUNK) capacity 1
+        ensures err { IfErr result (λ e. IsSizeRefusal (ResizeMode.Incremental DEFAULT_CHUNK)
+            capacity 1
             e) }
     {
         HashMap::with_capacity_and_hasher(alloc, capacity, BuildHasherDefault::new())
@@ -302,7 +304,7 @@ impl<K: Hash + Eq + Drop, V: Drop, S: BuildHasher> HashMap<K, V, S> {
             self.old.store.hasher key) key value self.old (old_answered result))) }
         ensures old { IfOk result (λ old. option_map (λ v. v.now) old ≡ value_of
             (map_in K.eq self.old.store key)) }
-        ensures err { IfErr result (IsCauseAt
+        ensures err { IfErr result (IsWriteCauseAt
             (hash_of K.hash_input S.build_hasher S.Hasher.write S.Hasher.finish
             self.old.store.hasher key) self.old.store (map_in K.eq self.old.store key)) }
     {
@@ -354,7 +356,7 @@ impl<K: Hash + Eq + Drop, V: Drop, S: BuildHasher> HashMap<K, V, S> {
             (λ v. (value_of (map_in K.eq self.old.store key) ≡ Some v.now)
             × (left.new ≡ Some value))) }
         ensures err { IfErr result (λ refused. (map_in K.eq self.old.store key ≡ None)
-            × IsCause (hash_of K.hash_input S.build_hasher S.Hasher.write S.Hasher.finish
+            × IsWriteCause (hash_of K.hash_input S.build_hasher S.Hasher.write S.Hasher.finish
             self.old.store.hasher key) self.old.store refused) }
     {
         let (pair, unstored) = self.insert_absent(key, value)?;
@@ -385,7 +387,7 @@ impl<K: Hash + Eq + Drop, V: Drop, S: BuildHasher> HashMap<K, V, S> {
             (λ e. (value_of (map_in K.eq self.old.store key) ≡ Some e.current.now)
             × (e.not_inserted ≡ NotInserted.Value value))) }
         ensures err { IfErr result (λ refused. (map_in K.eq self.old.store key ≡ None)
-            × IsCause (hash_of K.hash_input S.build_hasher S.Hasher.write S.Hasher.finish
+            × IsWriteCause (hash_of K.hash_input S.build_hasher S.Hasher.write S.Hasher.finish
             self.old.store.hasher key) self.old.store refused) }
     {
         let mut left = None;
@@ -412,7 +414,7 @@ impl<K: Hash + Eq + Drop, V: Drop, S: BuildHasher> HashMap<K, V, S> {
         ensures value { IfOk result (λ v. MatchOption (value_of (map_in K.eq self.old.store key))
             (v.now ≡ value) (λ current. v.now ≡ current)) }
         ensures err { IfErr result (λ refused. (map_in K.eq self.old.store key ≡ None)
-            × IsCause (hash_of K.hash_input S.build_hasher S.Hasher.write S.Hasher.finish
+            × IsWriteCause (hash_of K.hash_input S.build_hasher S.Hasher.write S.Hasher.finish
             self.old.store.hasher key) self.old.store refused) }
     {
         let (pair, _) = self.insert_absent(key, value)?;
