@@ -184,9 +184,8 @@ impl<K: Hash + Eq, V, S: BuildHasher> HashMap<K, V, S> {
         ensures book { result.book ≡ self.now.book }
         ensures new { result.history ≡ [] }
     {
-        Pass {
-            sight: self.book.unseen(),
-        }
+        let sight = self.book.unseen();
+        Pass { sight }
     }
 }
 
