@@ -209,8 +209,9 @@ impl<K: Hash + Eq, V, S: BuildHasher> HashMap<K, V, S> {
         ensures new { result.history ≡ [] }
         ensures made { result.made ≡ [] }
     {
+        let sight = self.book.unseen();
         Pass {
-            sight: self.book.unseen(),
+            sight,
             own: Own::nothing(),
         }
     }
