@@ -68,7 +68,7 @@ module _ {K V S A : Type 0} (eq : K → K → Bool) (says : Says K V A) where
   sum_performed refuse (MakeTable slots limit) s r a s' r' h = matched (Adds (pos 0) s s') refuse _ _ h (λ _ none. quiet s s' none.1.0) (λ _ makes. table_made slots limit s a s' _ makes.0)
   sum_performed refuse (AddToShard by) s r a s' r' h =
       let sum : ℤ = s.count.sum +ℤ by in
-      ap (λ (y : StoreState K V S). int_wrap w64 y.count.sum) h.1 ∙ int_wrap_fits w64 (int_wrap w64 sum) (SFits-int_wrap w64 sum)
+      ap (λ (y : StoreState K V S). int_wrap w64 y.count.sum) h.1.1 ∙ int_wrap_fits w64 (int_wrap w64 sum) (SFits-int_wrap w64 sum)
   sum_performed refuse (Ask_done reply) s r a s' r' h = quiet s s' h.1.0
 
 -- where one number comes after another by an exchange, the map grew so

@@ -55,7 +55,7 @@ module _ {K V S A : Type 0} (eq : K → K → Bool) (says : Says K V A) where
   performs-hasher refuse (MakeTable slots limit) s r a s' r' h =
       matched (s'.hasher ≡ s.hasher) refuse _ _ h (λ _ none. stays-hasher s r s' r' none.1)
       (λ _ makes. elim makes.0 [ inl refused ↦ ap (λ (y : StoreState K V S). y.hasher) refused.1 | inr (is, few, same) ↦ ap (λ (y : StoreState K V S). y.hasher) same ])
-  performs-hasher refuse (AddToShard by) s r a s' r' (e, same, moved) = ap (λ (y : StoreState K V S). y.hasher) same
+  performs-hasher refuse (AddToShard by) s r a s' r' (e, (number, same), moved) = ap (λ (y : StoreState K V S). y.hasher) same
   performs-hasher refuse (Ask_done reply) s r a s' r' (e, stays) = stays-hasher s r s' r' stays
 
 -- equal keys make the same writes, so they hash alike

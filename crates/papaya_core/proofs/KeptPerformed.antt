@@ -120,7 +120,7 @@ module _ {K V S A : Type 0} (eq : K → K → Bool) (says : Says K V A) (hash : 
       matched (Leaves (MakeTable slots limit) a store' later) refuse _ _ h
       (λ _ none. none_made eq hash mode store r es tale hashed key rests.hash coded single there own (MakeTable slots limit) e a store' later (inl (inl (Memory, none.0)), (refl, refl)) refl none)
       (λ _ makes. table_made eq hash mode store r es tale hashed key rests.hash coded single there own slots limit e a store' later makes.1 makes.0)
-  answered refuse (AddToShard by) e a store' later (is, same_store, same_call) =
+  answered refuse (AddToShard by) e a store' later (is, (number, same_store), same_call) =
       quiet eq hash mode store r es tale hashed key rests.hash coded single there own (AddToShard by) e a store' later tale.hands _ same_store same_call
       (is, (refl, refl)) refl (λ p h. inl h) refl
       (λ t slots limit f asks. absurd cc)

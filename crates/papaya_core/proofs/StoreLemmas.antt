@@ -163,5 +163,5 @@ module _ {K V S A : Type 0} (eq : K → K → Bool) (says : Says K V A) where
         fit = said a _ e (let most : length s.words.tables < 2 ^ 32 = few in omega arith);
         sized = subst (λ (y : StoreState K V S). AllSized y.words.tables) (sym same) (append-sized s.words.tables _ slots limit size all);
       }
-  performed refuse (AddToShard by) s r a s' r' all fit (e, same, _) = record { fit = said a _ e tt; sized = subst (λ (y : StoreState K V S). AllSized y.words.tables) (sym same) all }
+  performed refuse (AddToShard by) s r a s' r' all fit (e, (number, same), _) = record { fit = said a _ e tt; sized = subst (λ (y : StoreState K V S). AllSized y.words.tables) (sym same) all }
   performed refuse (Ask_done reply) s r a s' r' all fit (e, stays) = quiet a s s' (said a _ e tt) stays.0 all

@@ -146,7 +146,7 @@ module _ {K V S A : Type 0} where
       (λ refused. still s r s' r' refused.1 makes.1)
       (λ table. words_changed s r s' r' (ap (λ (y : StoreState K V S). y.hasher) table.2) (ap (λ (y : StoreState K V S). y.keys) table.2) (ap (λ (y : StoreState K V S). y.pairs) table.2) makes.1)
       makes.0)
-  grown eq says refuse (AddToShard by) s r a s' r' (e, same, as_was) offers = words_changed s r s' r' (ap (λ (y : StoreState K V S). y.hasher) same) (ap (λ (y : StoreState K V S). y.keys) same) (ap (λ (y : StoreState K V S). y.pairs) same) as_was
+  grown eq says refuse (AddToShard by) s r a s' r' (e, (number, same), as_was) offers = words_changed s r s' r' (ap (λ (y : StoreState K V S). y.hasher) same) (ap (λ (y : StoreState K V S). y.keys) same) (ap (λ (y : StoreState K V S). y.pairs) same) as_was
   grown eq says refuse (Ask_done reply) s r a s' r' (e, stays) offers = still s r s' r' stays.0 stays.1
 
   -- a call's key stays

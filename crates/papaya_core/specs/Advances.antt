@@ -1,11 +1,12 @@
 -- One step of one caller.
-use Rattle.std.specs.Prelude.{◌≡◌, ◌⊎◌, ℕ, ◌≤◌, Bool, Option, Some, None, length, slice_index}
+use Rattle.std.specs.Prelude.{◌≡◌, ◌⊎◌, ℕ, ℤ, ◌≤◌, Bool, Option, Some, None, length, slice_index}
+use Rattle.papaya_words.specs.Counter.{added}
 use Rattle.papaya_call.specs.Answers.{Says}
 use Rattle.papaya_words.specs.Probe.{place}
 use Rattle.papaya_words.specs.Table.{TableWords}
 use Rattle.papaya_words.specs.Word.{pair_of}
 use Rattle.papaya_call.specs.declared.ask.Ask.{Ask}
-use Rattle.papaya_call.specs.declared.ask.Ask.TheVariants.{Load, Exchange, ShowNone, ShowPair, Done as Ask_done}
+use Rattle.papaya_call.specs.declared.ask.Ask.TheVariants.{AddToShard, Load, Exchange, ShowNone, ShowPair, Done as Ask_done}
 use Rattle.papaya_call.specs.declared.ask.Answer.{Answer}
 use Rattle.papaya_call.specs.declared.ask.Answer.TheVariants.{Exchanged, Yes, Op, Refused as Was_refused}
 use Rattle.papaya_call.specs.declared.ask.OpKind.TheVariants as kinds
@@ -94,6 +95,12 @@ pub record HasNoPlace {K V S A : Type 0} (eq : K → K → Bool) (s : StoreState
   pub there : table_of s.words.tables t ≡ Some table
   pub filled : (j : ℕ) → j ≤ table.limit → slice_index table.slots
       (place r.machine.hash (length table.slots) j) ≡ 0 → ⊥
+
+-- what a step adds to the count goes to the shard that the caller's number picks
+abbrev pub AddsToShard : {K V S A : Type 0} → CoreState K V S A → ℕ → CoreState K V S A → Type 0
+AddsToShard {K = K} {V = V} {A = A} s caller s' = (r : Running K V A) (by : ℤ)
+    → call_of s caller ≡ Some r → ask_of r.machine ≡ AddToShard by
+    → s'.store.count ≡ added s.store.count caller by
 
 -- why a call is refused: what it asked to be made was refused so, its key has no place and there is
 -- no next table, or its closure would remove where it was shown that nothing is

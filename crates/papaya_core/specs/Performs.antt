@@ -1,6 +1,6 @@
 -- One ask of one caller's machine is answered.
-use Rattle.std.specs.Prelude.{◌≡◌, ℕ, ◌+◌, ◌<◌, ◌≤◌, ◌==◌, Bool, false, List, [], ◌∷◌, ◌++◌, length, Option, Some, None, slice_get, MatchBool, ◌⊎◌, ◌+ℤ◌}
-use Rattle.std.specs.Int.{w64, int_wrap}
+use Rattle.std.specs.Prelude.{◌≡◌, ℕ, ◌+◌, ◌<◌, ◌≤◌, ◌==◌, Bool, false, List, [], ◌∷◌, ◌++◌, length, Option, Some, None, slice_get, MatchBool, ◌⊎◌}
+use Rattle.papaya_words.specs.Counter.{added}
 use Rattle.papaya_words.specs.Table.{TableWords, new_table}
 use Rattle.papaya_words.specs.declared.limits.TheConstants.{MAX_TABLES, MAX_LOG_LEN}
 use Rattle.papaya_words.specs.declared.probe.Refused.TheVariants.{Memory, Capacity}
@@ -179,8 +179,7 @@ module _ {K V S A : Type 0} where
       (((Refuses MAX_TABLES (length s.words.tables) answer × (s' ≡ s))
       ⊎ MakesTable answer slots limit s s') × (r' ≡ r))
   Performs eq says refuse (AddToShard by) s r answer s' r' = (answer ≡ Ok_done)
-      × (s' ≡ record s { count = record s.count { sum = int_wrap w64 (s.count.sum +ℤ by) } })
-      × (r' ≡ r)
+      × ((number : ℕ) × (s' ≡ record s { count = added s.count number by })) × (r' ≡ r)
   Performs eq says refuse (Ask_done reply) s r answer s' r' = (answer ≡ Ok_done) × Stays s r s' r'
 
 -- an ask for something to be made

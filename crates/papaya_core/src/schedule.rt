@@ -9,7 +9,7 @@ ghost use Rattle.papaya_core.specs.Core.{call_of};
 ghost use Rattle.papaya_core.specs.Content.{content};
 ghost use Rattle.papaya_core.specs.Counted.{IsCounted};
 ghost use Rattle.papaya_core.specs.Begins.{Begins, begun};
-ghost use Rattle.papaya_core.specs.Advances.{Advances, event_of, reply_in};
+ghost use Rattle.papaya_core.specs.Advances.{AddsToShard, Advances, event_of, reply_in};
 ghost use Rattle.papaya_core.specs.Headline.{HasTimeline};
 ghost use Rattle.papaya_core.specs.Moves.{MovesMap};
 ghost use Rattle.papaya_core.specs.New.{IsNew};
@@ -186,6 +186,7 @@ impl<K: Hash + Eq + Drop, V: Drop, S: BuildHasher, A: Answers<K, V> + Drop> Core
             self.old caller self.new result.0 result.1 }
         ensures moves { MovesMap K.eq self.old caller self.new result.0 }
         ensures keeps { KeepsPairs self.old.store self.new.store }
+        ensures shard { AddsToShard self.old caller self.new }
         ensures counted { IsCounted self.new.store self.new.callers }
     {
         let mut running = self.callers.take(caller);
@@ -214,6 +215,7 @@ impl<K: Hash + Eq + Drop, V: Drop, S: BuildHasher, A: Answers<K, V> + Drop> Core
             (record { op = A.op_gives; yes = A.yes_gives }) refuse_memory self.old caller self.new
             event result × MovesMap K.eq self.old caller self.new event }
         ensures keeps { KeepsPairs self.old.store self.new.store }
+        ensures shard { AddsToShard self.old caller self.new }
         ensures counted { IsCounted self.new.store self.new.callers }
     {
         let (_, reply) = self.advance(caller, refuse_memory);

@@ -1,8 +1,8 @@
 //! What the machines of all callers ask about: the words of the tables, the logs of keys and pairs,
 //! and the count.
-ghost use Rattle.std.specs.Prelude.{◌≡◌, ◌+◌, ◌-◌, ◌<◌, ◌^◌, ◌⊎◌, [], ◌∷◌, ◌++◌, ◌+ℤ◌, length, vec_len, vec_capacity, Some, None, FitsSigned, MatchOption, OnOk, IfOk, IfErr, ◌*◌, ◌≤◌, slice_get};
+ghost use Rattle.std.specs.Prelude.{◌≡◌, ℤ, ◌+◌, ◌-◌, ◌<◌, ◌^◌, ◌⊎◌, [], ◌∷◌, ◌++◌, ◌+ℤ◌, length, vec_len, vec_capacity, Some, None, FitsSigned, MatchOption, OnOk, IfOk, IfErr, ◌*◌, ◌≤◌, slice_get};
 ghost use Rattle.std.specs.Int.{w64, int_wrap};
-ghost use Rattle.papaya_words.specs.Counter.{count_of};
+ghost use Rattle.papaya_words.specs.Counter.{added, count_of};
 ghost use Rattle.papaya_words.specs.declared.limits.TheConstants.{MAX_TABLE_LEN};
 ghost use Rattle.papaya_words.specs.Probe.{IsEntriesFor};
 ghost use Rattle.papaya_call.specs.Answers.{op_kind};
@@ -265,13 +265,10 @@ impl<K: Hash + Eq, V, S: BuildHasher> Store<K, V, S> {
         }
     }
 
-    /// Adds to the shard of this caller.
+    /// Adds to the shard that the caller's number picks.
     #[inline(always)]
     pub fn add_to_shard(&mut self, caller: usize, by: i64)
-        ensures { self.new ≡ record self.old {
-          count = record self.old.count
-              { sum = int_wrap w64 (self.old.count.sum +ℤ by) };
-        } }
+        ensures { self.new ≡ record self.old { count = added self.old.count caller by } }
     {
         let place = self.counter.get(caller as u64);
         self.counter.add(place, by);
@@ -503,6 +500,8 @@ impl<K: Hash + Eq + Drop, V: Drop, S: BuildHasher> Store<K, V, S> {
         ensures machine { running.new.machine ≡ running.old.machine }
         ensures performs { Performs K.eq (record { op = A.op_gives; yes = A.yes_gives }) refuse ask
             self.old running.old result self.new running.new }
+        ensures shard { (by : ℤ) → ask ≡ Ask.AddToShard by
+            → self.new.count ≡ added self.old.count caller by }
     {
         match ask {
             Ask::Load(at) => Answer::Word(self.word(at)),

@@ -2,7 +2,7 @@
 use Rattle.std.proofs.Common.{◌≡◌, ℕ, ◌^◌, ◌<◌, negsuc, ◌+ℤ◌, Bool, true, Option, None, Some, List, inr, refl, sym, ◌∙◌, subst, eq-eqb}
 use Rattle.std.specs.Cmp.{IsEquivalence}
 use Rattle.std.specs.Prelude.{MatchBool}
-use Rattle.std.specs.Int.{w64, int_wrap}
+use Rattle.papaya_words.specs.Counter.{added}
 use Rattle.papaya_words.specs.Word.{pair_of as number_of}
 use Rattle.papaya_words.specs.declared.probe.Refused.TheVariants.{RemoveNothing}
 use Rattle.papaya_call.specs.declared.answers.Operation.TheVariants as ops
@@ -149,8 +149,8 @@ module _ {K V S H : Type 0} (eq : K → K → Bool) (input : K → List (List �
       let store1 : StoreState K V S = record s.store { words = put s.store.words place (grave_word removal.word) } in
       let buried = made_more eq (hash_of input build write finish) s (compute_of k) s.store (computing m1 k left) Exchanged store1 (computing m1 k left) refl (exchange_made s.store place removal.word (grave_word removal.word) read, refl) refl chosen in
       let m2 : Machine = after m1 Exchanged in
-      let store2 : StoreState K V S = record store1 { count = record store1.count { sum = int_wrap w64 (store1.count.sum +ℤ negsuc 0) } } in
-      let counted = made_more eq (hash_of input build write finish) s (compute_of k) store1 (computing m2 k left) Ok_done store2 (computing m2 k left) refl (refl, refl, refl) refl buried in
+      let store2 : StoreState K V S = record store1 { count = added store1.count 0 (negsuc 0) } in
+      let counted = made_more eq (hash_of input build write finish) s (compute_of k) store1 (computing m2 k left) Ok_done store2 (computing m2 k left) refl (refl, (0, refl), refl) refl buried in
       let alone = made_alone eq (hash_of input build write finish) s (compute_of k) (keys_lawful eq input build write finish classes respects s.store.hasher) lawful fits store2 (computing (after m2 Ok_done) k left) (Removed n) refl counted in
       let answered = map_answered eq input build write finish classes respects s (compute_of k) (Removed n) store2 lawful alone in
       let (q, went, number) = pair_there n answered.went answered.came answered.does in

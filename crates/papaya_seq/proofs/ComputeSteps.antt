@@ -242,7 +242,7 @@ module _ {K V S A : Type 0} (eq : K → K → Bool) (says : Says K V A) (s : Sto
         let done = exchange_done _ _ (word_at store.words (Slot given.write.place.table given.write.place.probe.i)) given.write.old read put_there in
         leads_by made held (Putting given) answer _ store' _ later _ done.0 done.1 stays
         (cond_both (given.write.old == 0) (Counting given.pair) (Ended (Replaced (number_of given.write.old) given.pair)) (λ state. IsInserting hash s v (record store { words = put store.words (Slot given.write.place.table given.write.place.probe.i) (new_word hash given.pair) }) key left made held state) (λ _. paired) (λ _. paired))
-    inserting_leads made held (Counting n) answer store' later read stands paired going (e, same, stays) = leads_by made held (Counting n) answer _ store' _ later _ e same stays paired
+    inserting_leads made held (Counting n) answer store' later read stands paired going (e, (number, same), stays) = leads_by made held (Counting n) answer _ store' _ later _ e same stays paired
     inserting_leads made held (Growing t) answer store' later read stands full going (e, (same, stays)) = leads_by made held (Growing t) answer _ store' store later _ e same stays (inr (refl, inr (inr (inr full))))
     inserting_leads made held (Ended reply) answer store' later read stands stage going performs = absurd cc
     inserting_leads made held (Searching (Comparing place word)) answer store' later read stands stage going performs = absurd stage
@@ -282,7 +282,7 @@ module _ {K V S A : Type 0} (eq : K → K → Bool) (says : Says K V A) (s : Sto
     removing_leads (Burying removal) answer store' later read there going (buried, stays) =
         let done = exchange_done _ _ (word_at store.words (Slot removal.place.table removal.place.probe.i)) removal.word read buried in
         subst (λ a. IsRemoving hash s store' (after (machine made held (Burying removal)) a).state) (sym done.0) tt
-    removing_leads (Uncounting n) answer store' later read there going (e, same, stays) = subst (λ a. IsRemoving hash s store' (after (machine made held (Uncounting n)) a).state) (sym e) tt
+    removing_leads (Uncounting n) answer store' later read there going (e, (number, same), stays) = subst (λ a. IsRemoving hash s store' (after (machine made held (Uncounting n)) a).state) (sym e) tt
     removing_leads (Ended reply) answer store' later read stage going performs = absurd cc
     removing_leads AtRoot answer store' later read stage going performs = absurd stage
     removing_leads Making answer store' later read stage going performs = absurd stage

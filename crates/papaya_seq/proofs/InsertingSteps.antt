@@ -147,7 +147,7 @@ module _ {K V S A : Type 0} (eq : K → K → Bool) (says : Says K V A) (s : Sto
     leads_in made (Pairing purpose) answer store' later read stands hand stage going performs = absurd stage
     leads_in made (Putting put) answer store' later read stands hand stage going performs = absurd stage
     leads_in made (Burying removal) answer store' later read stands hand stage going performs = absurd stage
-    leads_in made (Counting n) answer store' later read stands hand stage going (e, same, stays) =
+    leads_in made (Counting n) answer store' later read stands hand stage going (e, (number, same), stays) =
         leads_by made (Counting n) answer _ store' _ later _ e same stays (hand, (λ refused f. absurd cc, λ m f. absurd cc))
     leads_in made (Uncounting n) answer store' later read stands hand stage going performs = absurd stage
     leads_in made (Leaving t) answer store' later read stands hand stage going performs = absurd stage

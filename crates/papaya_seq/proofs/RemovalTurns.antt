@@ -178,7 +178,7 @@ module _ {K V S F : Type 0} (g : Mut F (Bor K × (Bor V × Unit {0})) Bool) (mat
         let place : At = Slot removal.place.table removal.place.probe.i in
         let done : (answer ≡ Exchanged) × (s' ≡ record s { words = put s.words place (grave_word removal.word) }) = exchange_done _ _ (word_at s.words place) removal.word read exchanges in
         turned (at (Burying removal)) Exchanged answer _ s' f f' done.0 (done.1 ∙ ap (λ (y : StoreState K V S). record y { words = put y.words place (grave_word removal.word) }) was) kept (burying_turn removal f judged)
-    turn_in (Uncounting n) s f answer s' f' log read judged (e, added, kept) =
+    turn_in (Uncounting n) s f answer s' f' log read judged (e, (number, added), kept) =
         turned (at (Uncounting n)) Ok_done answer s' s' f f' e refl kept
         (uncounting_turn n s s' f log (ap (λ (y : StoreState K V S). y.keys) added) (ap (λ (y : StoreState K V S). y.pairs) added) (ap (λ (y : StoreState K V S). y.hasher) added) judged)
     turn_in (Leaving t) s f answer s' f' was read alike (e, stays, kept) =

@@ -2,7 +2,7 @@
 use Rattle.std.proofs.Common.{◌≡◌, ⊎_elim, inl, inr, ℕ, ◌==◌, nat_lt, ◌+ℤ◌, Bool, true, false, Option, Some, None, refl, sym, ◌∙◌, ap, subst}
 use denote.Ref.{Bor}
 use Rattle.std.specs.Fn.{Mut}
-use Rattle.std.specs.Int.{w64, int_wrap}
+use Rattle.papaya_words.specs.Counter.{added}
 use Rattle.std.proofs.lemmas.Bool.{cases_Bool, cond_both}
 use Rattle.papaya_words.specs.Table.{TableWords}
 use Rattle.papaya_words.specs.Word.{kind_of, byte_of, pair_of as number_of, top_byte}
@@ -70,7 +70,7 @@ module _ {K V S F : Type 0} (g : Mut F (Bor K × (Bor V × Unit {0})) Bool) (mat
   IsAnswer (SameKey n) s f answer s' f' = (answer ≡ Yes (matches_in matches (pair_of s n))) × (s' ≡ s) × (f' ≡ f)
   IsAnswer (ShowPair n) s f answer s' f' = IsShown g (pair_of s n) f answer f' × (s' ≡ s)
   IsAnswer (SizeOf t) s f answer s' f' = (answer ≡ size_of (table_of s.words.tables t)) × (s' ≡ s) × (f' ≡ f)
-  IsAnswer (AddToShard by) s f answer s' f' = (answer ≡ Ok_done) × (s' ≡ record s { count = record s.count { sum = int_wrap w64 (s.count.sum +ℤ by) } }) × (f' ≡ f)
+  IsAnswer (AddToShard by) s f answer s' f' = (answer ≡ Ok_done) × ((number : ℕ) × (s' ≡ record s { count = added s.count number by })) × (f' ≡ f)
   IsAnswer MakeKey s f answer s' f' = ⊥
   IsAnswer ShowNone s f answer s' f' = ⊥
   IsAnswer MakePair s f answer s' f' = ⊥

@@ -129,7 +129,7 @@ module _ {K V S A : Type 0} (eq : K → K → Bool) (says : Says K V A) (store :
   moves_root MakePair (inr (inr (n, v, key, value, e, few, same, goes))) = inl (ap (λ (y : StoreState K V S). y.words.root) same)
   moves_root (MakeTable slots limit) (inl (refused, same), stays) = stays_there (MakeTable slots limit) same
   moves_root (MakeTable slots limit) (inr (e, few, same), stays) = inl (ap (λ (y : StoreState K V S). y.words.root) same)
-  moves_root (AddToShard by) (e, same, stays) = inl (ap (λ (y : StoreState K V S). y.words.root) same)
+  moves_root (AddToShard by) (e, (number, same), stays) = inl (ap (λ (y : StoreState K V S). y.words.root) same)
   moves_root (Ask_done reply) (e, (same, stays)) = stays_there (Ask_done reply) same
 
   -- where the root table is there, or there is none, it keeps its slots

@@ -250,7 +250,7 @@ module _ {K V S A : Type 0} where
   prompted eq says MakePair store r answer store' later there (inr (inr (n, v, key, value, e, few, same, goes))) = (inl (_, e), λ at. ap (λ (y : StoreState K V S). words_of y at) same)
   prompted eq says (MakeTable slots limit) store r answer store' later there (inl (refused, same), stays) = (refused_making _ _ answer refused, same_words store store' same)
   prompted eq says (MakeTable slots limit) store r answer store' later there (inr (e, few, same), stays) = (inl (_, e), λ at. ap (λ (y : StoreState K V S). words_of y at) same ∙ word-made store.words (length store.words.tables + 1) slots limit at)
-  prompted eq says (AddToShard by) store r answer store' later there (e, same, stays) = (e, λ at. ap (λ (y : StoreState K V S). words_of y at) same)
+  prompted eq says (AddToShard by) store r answer store' later there (e, (number, same), stays) = (e, λ at. ap (λ (y : StoreState K V S). words_of y at) same)
   prompted eq says (Ask_done reply) store r answer store' later there performs = absurd there
 
 -- the same call, with these answers of a closure

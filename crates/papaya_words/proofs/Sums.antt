@@ -4,7 +4,7 @@ use Rattle.std.proofs.Math.ListN.{length-set}
 use Rattle.std.proofs.lemmas.Int.{ints, int_wrap-add_left, int_wrap-add_right, int_wrap-add_same}
 use Rattle.std.proofs.lemmas.List.Sums.{fold_more}
 use Rattle.std.specs.Int.{w64, int_wrap}
-use Rattle.papaya_words.specs.Counter.{Count, sum_of}
+use Rattle.papaya_words.specs.Counter.{Count, added_at, sum_of}
 
 -- zeros add up to zero
 fold-zeros : (n : ℕ) → fold ◌+ℤ◌ (pos 0) (replicate n (pos 0)) ≡ pos 0
@@ -48,15 +48,16 @@ pub sum_of_more : (xs : List ℤ) (i : ℕ) → i < length xs → int_wrap w64 (
 sum_of_more xs i h =
     int_wrap-add_left w64 (fold ◌+ℤ◌ (pos 0) (take i xs)) (slice_index_or xs i (pos 0)) ∙ ap (int_wrap w64) (sym (fold_more ◌+ℤ◌ (pos 0) xs i (pos 0) h))
 
--- a counter of so many shards with this sum
-abbrev pub count_from : ℕ → ℤ → Count
-count_from shards sum = record { shards = shards; sum = sum }
+-- a counter of so many shards with this sum, and with this in each
+abbrev pub count_from : ℕ → ℤ → List ℤ → Count
+count_from shards sum each = record { shards = shards; sum = sum; each = each }
 
--- two counters with as many shards and one sum are one value
-count_is : (m n : ℕ) (y z : ℤ) → m ≡ n → y ≡ z → count_from m y ≡ count_from n z
-count_is m n y z e f = ap (λ x. count_from x y) e ∙ ap (count_from n) f
+-- two counters with as many shards, one sum and the same in each are one value
+count_is : (m n : ℕ) (y z : ℤ) (xs ys : List ℤ) → m ≡ n → y ≡ z → xs ≡ ys → count_from m y xs ≡ count_from n z ys
+count_is m n y z xs ys e f h = ap (λ x. count_from x y xs) e ∙ ap (λ x. count_from n x xs) f ∙ ap (count_from n z) h
 
 -- what an addition to one shard leaves
 pub added : (by : ℤ) (xs ys : List ℤ) (i : ℕ) → i < length xs → ys ≡ slice_set xs i (int_wrap w64 (slice_index_or xs i (pos 0) +ℤ by)) →
-    count_from (length ys) (sum_of ys) ≡ count_from (length xs) (int_wrap w64 (sum_of xs +ℤ by))
-added by xs ys i h e = count_is (length ys) (length xs) (sum_of ys) (int_wrap w64 (sum_of xs +ℤ by)) (ap length e ∙ length-set xs i _) (ap sum_of e ∙ sum_of-set by xs i h)
+    count_from (length ys) (sum_of ys) ys ≡ added_at (count_from (length xs) (sum_of xs) xs) i by
+added by xs ys i h e =
+    count_is (length ys) (length xs) (sum_of ys) (int_wrap w64 (sum_of xs +ℤ by)) ys (slice_set xs i (int_wrap w64 (slice_index_or xs i (pos 0) +ℤ by))) (ap length e ∙ length-set xs i _) (ap sum_of e ∙ sum_of-set by xs i h) e

@@ -1,15 +1,15 @@
 //! The count of a map, in shards, so that callers seldom meet at one word.
 ghost use Rattle.std.specs.Prelude.{◌≡◌, ℕ, ◌-◌, ◌<◌, ◌≤◌, length, slice_set, slice_index_or, pos, ◌+ℤ◌, bit_and, Err, FitsSigned, IfErr, IfOk};
 ghost use Rattle.std.specs.Int.{w64, int_wrap, IsPowerOfTwo, IsNextPowerOfTwo};
-ghost use Rattle.papaya_words.specs.Counter.{count_of};
+ghost use Rattle.papaya_words.specs.Counter.{added_at, count_of, shard_of};
 
 use crate::limits::MAX_SHARDS;
 use crate::probe::Refused;
 use std::alloc::Global;
 use std::marker::Model;
 
-/// A signed number in shards. Contracts see how many shards there are, and their
-/// sum, wrapped to 64 bits: the true sum of what was added wherever that fits.
+/// A signed number in shards. Contracts see how many shards there are, what each of them has, and
+/// their sum, wrapped to 64 bits: the true sum of what was added wherever that fits.
 ///
 /// Its words are plain. 0.2.5 gives each shard a cache line of its own, and takes
 /// their number from the machine's processors.
@@ -25,7 +25,11 @@ impl Model for Counter {
 
     ghost Value = { Count };
 
-    ghost view = { λ c. record { shards = length c.shards.items; sum = sum_of c.shards.items } };
+    ghost view = { λ c. record {
+      shards = length c.shards.items;
+      sum = sum_of c.shards.items;
+      each = c.shards.items;
+    } };
 
     ghost invariant = { λ c. IsPowerOfTwo (length c.shards.items) };
 }
@@ -61,7 +65,7 @@ impl Counter {
     /// The shard that a guard of this number adds to.
     #[inline(always)]
     pub fn get(&self, guard_number: u64) -> usize
-        ensures place { result ≡ bit_and guard_number (self.now.shards - 1) }
+        ensures place { result ≡ shard_of self.now guard_number }
         ensures bound { result < self.now.shards }
     {
         (guard_number & (self.shards.len() as u64 - 1)) as usize
@@ -71,7 +75,7 @@ impl Counter {
     #[inline(always)]
     pub fn add(&mut self, place: usize, by: i64)
         requires { place < self.old.shards }
-        ensures { self.new ≡ record self.old { sum = int_wrap w64 (self.old.sum +ℤ by) } }
+        ensures { self.new ≡ added_at self.old place by }
     {
         add_at(&mut self.shards, place, by);
     }

@@ -1,9 +1,11 @@
-use Rattle.std.proofs.Common.{◌≡◌, List, Some, None, refl, sym, ap, subst, ◌∙◌}
+use Rattle.std.proofs.Common.{◌≡◌, ℤ, List, Some, None, refl, sym, ap, subst, ◌∙◌}
+use Rattle.papaya_words.specs.Counter.{added}
 use Rattle.papaya_call.specs.Answers.{Says}
+use Rattle.papaya_call.specs.declared.ask.Ask.TheVariants.{AddToShard}
 use Rattle.papaya_call.specs.Machine.{IsStanding, IsFitAsk, ask_of, kind_of_ask, after}
 use Rattle.papaya_core.specs.declared.pairs.Running.{Running}
 use Rattle.papaya_core.specs.declared.callers.Seat.{Seat}
-use Rattle.papaya_core.specs.Callers.{with_call}
+use Rattle.papaya_core.specs.Callers.{running, with_call}
 use Rattle.papaya_core.specs.Performs.{Performs}
 use Rattle.papaya_call.specs.declared.call.Reply.TheVariants.{Refused as Reply_refused}
 use Rattle.papaya_core.specs.Core.{IsCore, IsGoing}
@@ -160,6 +162,22 @@ returns-in-None-clause-moves g c =
     (says g) c.args.refuse c.args.self.now (record { store = c.perform-answer.new.self; callers = c.put.new.self; mode = c.self.inside.mode; initial = c.self.inside.initial }) c.args.caller c.event_of-event.result c.reply_in-reply.result
     (subst (λ s. IsLawfulCore g.K.PartialEq.eq (hash_of g.K.Hash.hash_input g.S.BuildHasher.build_hasher g.S.Hasher.Hasher.write g.S.Hasher.Hasher.finish s.store.hasher) s.store s.callers s.mode) c.self.view_is c.self.invariant.0)
     (returns-in-None-clause-advances g c)
+
+-- what the step added went to the caller's shard
+shard_so : (g : Over) (c : After-perform-answer g) (r : Running g.row.K.Denot g.row.V.Denot g.row.A.Denot) (by : ℤ) → running c.self.inside.callers c.args.caller ≡ Some r → ask_of r.machine ≡ AddToShard by → c.perform-answer.new.self.count ≡ added c.self.inside.store.count c.args.caller by
+shard_so g c r by was asks =
+    let same : c.take-running.result ≡ r = let f : Some c.take-running.result ≡ Some r = sym c.take-running.ensures.call ∙ was in cc f in
+    c.perform-answer.ensures.shard by (c.ask-ask.ensures.value ∙ ap (λ q. ask_of q.machine) same ∙ asks)
+
+pub returns-in-Some-clause-shard : goal.returns-in-Some-clause-shard
+returns-in-Some-clause-shard g c = λ r by was asks.
+    shard_so g (goal.at.returns-in-Some-clause-shard g c).After-perform-answer r by (ap (λ s. running s.callers c.args.caller) c.self.view_is ∙ was) asks
+    ∙ ap (λ s. added s.store.count c.args.caller by) c.self.view_is
+
+pub returns-in-None-clause-shard : goal.returns-in-None-clause-shard
+returns-in-None-clause-shard g c = λ r by was asks.
+    shard_so g (goal.at.returns-in-None-clause-shard g c).After-perform-answer r by (ap (λ s. running s.callers c.args.caller) c.self.view_is ∙ was) asks
+    ∙ ap (λ s. added s.store.count c.args.caller by) c.self.view_is
 
 pub returns-in-Some-clause-keeps : goal.returns-in-Some-clause-keeps
 returns-in-Some-clause-keeps g c =

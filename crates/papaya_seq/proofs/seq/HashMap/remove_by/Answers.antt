@@ -2,7 +2,8 @@ use Rattle.std.proofs.Common.{◌≡◌, ⊎_elim, ℕ, ◌<◌, ◌^◌, ℤ, n
 use denote.Ref.{Bor}
 use Rattle.std.specs.Fn.{Mut}
 use mir.Val.{SFits}
-use Rattle.std.specs.Int.{w64, int_wrap}
+use Rattle.std.specs.Int.{w64}
+use Rattle.papaya_words.specs.Counter.{added}
 use Rattle.std.proofs.lemmas.Int.{ints, to_z-of_z}
 use Rattle.papaya_rests.specs.Alone.{left}
 use Rattle.papaya_call.specs.Machine.{ask_of}
@@ -40,8 +41,8 @@ shown : {F K V : Type 0} (g : Mut F (Bor K × (Bor V × Unit {0})) Bool) (o : Op
 shown g o f {f'} {h'} {answer} {told} e same shows = subst (λ a. IsShown g o f a f') (sym e) (subst (λ y. IsShown g o f told y) (sym same) shows)
 
 -- the store after the count was added to
-abbrev added : {K V S : Type 0} → StoreState K V S → ℤ → StoreState K V S
-added s by = record s { count = record s.count { sum = int_wrap w64 (s.count.sum +ℤ by) } }
+abbrev counted : {K V S : Type 0} → StoreState K V S → ℤ → StoreState K V S
+counted s by = record s { count = added s.count 0 by }
 
 fits : SFits w64 (negsuc 0)
 fits = search (rules, ints)
@@ -56,7 +57,7 @@ told g c =
       | in-SameKey w ↦ subst answers w.in-SameKey.ensures.value (w.answer-is ∙ ap Yes w.matches.ensures, ap (λ i. i.store) w.self-inside-is, w.agrees-is)
       | in-ShowPair w ↦ subst answers w.in-ShowPair.ensures.value (shown _ _ _ w.answer-is w.agrees-is w.show-answer.ensures.shown, ap (λ i. i.store) w.self-inside-is)
       | in-SizeOf w ↦ subst answers w.in-SizeOf.ensures.value (w.answer-is ∙ w.size_of-answer.ensures, ap (λ i. i.store) w.self-inside-is, w.agrees-is)
-      | in-AddToShard w ↦ subst answers w.in-AddToShard.ensures.value (w.answer-is, ap (λ i. i.store) w.self-inside-is ∙ w.add_to_shard.ensures ∙ ap (added c.loop-at.self-inside.store) (to_z-of_z w64 w.in-AddToShard.by (subst (SFits w64) (sym (counts_out g.F.FnMut g.K.PartialEq.eq (hash_of g.K.Hash.hash_input g.S.BuildHasher.build_hasher g.S.Hasher.Hasher.write g.S.Hasher.Hasher.finish) (g.Q.Equivalent.matches c.args.key.now) c.hash-hash.result c.args.self.now c.args.agrees c.loop-at.self-inside.store c.loop-at.agrees c.loop-at.machine c.loop-at.invariant.4 w.in-AddToShard.by w.in-AddToShard.ensures.value)) fits)), w.agrees-is)
+      | in-AddToShard w ↦ subst answers w.in-AddToShard.ensures.value (w.answer-is, (0, ap (λ i. i.store) w.self-inside-is ∙ w.add_to_shard.ensures ∙ ap (counted c.loop-at.self-inside.store) (to_z-of_z w64 w.in-AddToShard.by (subst (SFits w64) (sym (counts_out g.F.FnMut g.K.PartialEq.eq (hash_of g.K.Hash.hash_input g.S.BuildHasher.build_hasher g.S.Hasher.Hasher.write g.S.Hasher.Hasher.finish) (g.Q.Equivalent.matches c.args.key.now) c.hash-hash.result c.args.self.now c.args.agrees c.loop-at.self-inside.store c.loop-at.agrees c.loop-at.machine c.loop-at.invariant.4 w.in-AddToShard.by w.in-AddToShard.ensures.value)) fits))), w.agrees-is)
     ]
 
 -- the closure may be called again
