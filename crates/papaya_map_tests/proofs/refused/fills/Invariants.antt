@@ -3,4 +3,4 @@ use Rattle.papaya_map_tests.proofs.refused.fills.Given as goal
 
 -- the pass is of this map
 abbrev pub invariant-loop-key : goal.invariant-loop-key
-invariant-loop-key g l = l.pass.book ≡ l.map
+invariant-loop-key g l = l.pass.book ≡ l.map.book
