@@ -1,7 +1,7 @@
 #!/usr/bin/env bash
-# Tries the wrong machines of tests/twins: each changes a machine of papaya_call and the definition
-# that its contract equals alike. So papaya_call is still proved, and it is the laws of
-# papaya_rests that have to refuse it, first the law that the file names.
+# Tries the wrong machines of tests/twins: each changes a machine and the definition that its
+# contract equals alike. So the machine's crate is still proved, and it is the laws of papaya_rests
+# that have to refuse it, first the law that the file names.
 set -euo pipefail
 cd "$(dirname "$0")/.."
 
@@ -11,9 +11,9 @@ export room
 
 # What the laws stand on, without the edits that rt tries.
 mkdir -p "$room/sound/crates"
-grep -E '^papaya_(words|law|call|rests):' crates.txt >"$room/sound/crates.txt"
+grep -E '^papaya_(words|law|ask|copy|call|rests):' crates.txt >"$room/sound/crates.txt"
 cp HANDLES "$room/sound/"
-for name in words law call rests; do
+for name in words law ask copy call rests; do
     cp -r "crates/papaya_$name" "$room/sound/crates/"
     rm -rf "$room/sound/crates/papaya_$name/must-fail"
 done
@@ -22,7 +22,7 @@ done
     exit 1
 }
 
-# Applies an edit in the folder of papaya_call: each `old` stands once in its file.
+# Applies an edit in the folder of crates: each `old` stands once in its file.
 apply() {
     python3 - "$1" <<'PYTHON'
 import sys
@@ -49,8 +49,8 @@ try_twin() {
     copy="$room/$name"
     log="$copy.log"
     cp -r "$room/sound" "$copy"
-    if ! (cd "$copy/crates/papaya_call" && apply "$OLDPWD/$edit" && rt check) >"$log" 2>&1; then
-        echo "twin $name: BAD TWIN: papaya_call is not proved with it"
+    if ! (cd "$copy/crates" && apply "$OLDPWD/$edit" && cd papaya_call && rt check) >"$log" 2>&1; then
+        echo "twin $name: BAD TWIN: the machine is not proved with it"
         tail -n 20 "$log"
         return 1
     fi

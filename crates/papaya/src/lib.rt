@@ -24,16 +24,16 @@ pub mod seq {
 
 /// Any number of callers under any schedule of their steps.
 pub mod schedule {
+    pub use papaya_ask::call::{Call, Reply};
     pub use papaya_call::answers::{Answers, Listed};
-    pub use papaya_call::call::{Call, Reply};
     pub use papaya_core::schedule::Core;
     pub use papaya_core::trace::{Entry, Event, Trace, Turn};
 }
 
 /// What the maps are made of: words, places, tables and counts, and the calls as machines.
 pub mod raw {
-    pub use papaya_call::ask::{Answer, Ask, At};
-    pub use papaya_call::call::Task;
+    pub use papaya_ask::ask::{Answer, Ask, At};
+    pub use papaya_ask::call::Task;
     pub use papaya_call::machine::Machine;
     pub use papaya_words::counter::Counter;
     pub use papaya_words::probe::Probe;

@@ -5,7 +5,7 @@ use Rattle.std.proofs.lemmas.Bool.Decides.{nat_tests}
 use mathlib.Core.List.{IsPrefix}
 use prog.Atomic.{either}
 use Rattle.logbook.specs.Pages.{Cell, Book, cell, keeps, no_nib, step, Goes, Moves}
-use Rattle.papaya_call.specs.declared.ask.At.{At}
+use Rattle.papaya_ask.specs.declared.ask.At.{At}
 use Rattle.papaya_law.specs.Allows.{Allows}
 use Rattle.papaya_law.specs.Exchange.{after}
 use Rattle.papaya_law.specs.Grows.{IsLawfulPlan}

@@ -4,7 +4,7 @@ use Rattle.boxcar.specs.Table.{Where, Shows}
 use Rattle.logbook.specs.Pages.{Book}
 use Rattle.papaya_words.specs.Word.{kind_of, pair_of}
 use Rattle.papaya_words.specs.declared.word.Kind.TheVariants as kinds
-use Rattle.papaya_call.specs.declared.ask.At.TheVariants.{Next, Root, Slot}
+use Rattle.papaya_ask.specs.declared.ask.At.TheVariants.{Next, Root, Slot}
 use Rattle.papaya_law.specs.Code.{code, kind}
 use Rattle.papaya_law.specs.Exchange.{Word, Empty, Closed, Live, Marked, Copied, Buried}
 use Rattle.papaya_law.specs.Invariant.{named}

@@ -3,7 +3,7 @@ use Rattle.std.proofs.Common.{◌≡◌, ℕ, true, false, None, Some, List, [],
 use Rattle.std.proofs.lemmas.List.{append-nil, set-get_or}
 use mathlib.Core.List.{IsPrefix}
 use Rattle.logbook.specs.Pages.{Cell, cell, keeps, no_nib, step, Moves}
-use Rattle.papaya_call.specs.declared.ask.At.{At}
+use Rattle.papaya_ask.specs.declared.ask.At.{At}
 use Rattle.papaya_book.specs.declared.rule.entry.Event.{Event}
 use Rattle.papaya_book.specs.Logs.{key_at, place_of, setting_of, state_of, steps_of, word_names}
 use Rattle.papaya_book.specs.Rule.{IsKept, word_in}

@@ -7,8 +7,8 @@ use mathlib.Core.List.{IsPrefix}
 use Rattle.boxcar.specs.Table.{Where}
 use Rattle.logbook.specs.Pages.{Book}
 use Rattle.papaya_words.specs.declared.probe.ResizeMode.{ResizeMode}
-use Rattle.papaya_call.specs.declared.ask.At.{At}
-use Rattle.papaya_call.specs.declared.ask.At.TheVariants.{Root, Next, Aborted, Done, Slot}
+use Rattle.papaya_ask.specs.declared.ask.At.{At}
+use Rattle.papaya_ask.specs.declared.ask.At.TheVariants.{Root, Next, Aborted, Done, Slot}
 use Rattle.papaya_law.specs.Exchange.{Exchange, State, run, start, after}
 use Rattle.papaya_law.specs.Grows.{Entry, brings, exchanges, size_in, places_in, setting_in}
 use Rattle.papaya_law.specs.Hashing.{hashed}

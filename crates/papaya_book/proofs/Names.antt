@@ -1,8 +1,8 @@
 -- What a word names came into the book some time.
 use Rattle.std.proofs.Common.{◌≡◌, ◌⊎◌, inl, inr, ⊎_elim, ℕ, Option, None, Some, List, [], ◌∷◌, map, refl, sym, ap, ◌∙◌}
 use Rattle.boxcar.specs.Table.{Where}
-use Rattle.papaya_call.specs.declared.ask.At.{At}
-use Rattle.papaya_call.specs.declared.ask.At.TheVariants.{Root, Next, Aborted, Done, Slot}
+use Rattle.papaya_ask.specs.declared.ask.At.{At}
+use Rattle.papaya_ask.specs.declared.ask.At.TheVariants.{Root, Next, Aborted, Done, Slot}
 use Rattle.papaya_law.specs.Exchange.{Word, Closed, Live, Marked, Copied, Buried, Setting, State, after, run, slot_put, start}
 use Rattle.papaya_law.specs.Allows.{Allows, AllAllowed}
 use Rattle.papaya_law.specs.Grows.{exchanges}

@@ -4,10 +4,10 @@ use denote.Bor.{Bor}
 use Rattle.logbook.specs.Pages.{nib, may_write}
 use Rattle.logbook.specs.declared.tokens.Pen.{Pen}
 use Rattle.boxcar.specs.Table.{Where}
-use Rattle.papaya_call.specs.declared.ask.At.{At}
-use Rattle.papaya_call.specs.declared.ask.At.TheVariants.{Root, Slot}
-use Rattle.papaya_call.specs.declared.ask.StepKind.{StepKind}
-use Rattle.papaya_call.specs.declared.ask.StepKind.TheVariants.{Open}
+use Rattle.papaya_ask.specs.declared.ask.At.{At}
+use Rattle.papaya_ask.specs.declared.ask.At.TheVariants.{Root, Slot}
+use Rattle.papaya_ask.specs.declared.ask.StepKind.{StepKind}
+use Rattle.papaya_ask.specs.declared.ask.StepKind.TheVariants.{Open}
 use Rattle.papaya_book.specs.declared.book.Book.{Book}
 use Rattle.papaya_book.specs.declared.rule.entry.Event.{Event}
 use Rattle.papaya_book.specs.declared.rule.entry.Named.{Named}

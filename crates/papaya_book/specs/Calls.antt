@@ -4,9 +4,9 @@ use mathlib.Core.List.{IsPrefix}
 use denote.Bor.{Bor}
 use Rattle.boxcar.specs.Table.{Where}
 use Rattle.logbook.specs.Pages.{Book}
-use Rattle.papaya_call.specs.declared.ask.At.{At}
-use Rattle.papaya_call.specs.declared.ask.At.TheVariants.{Slot}
-use Rattle.papaya_call.specs.declared.ask.StepKind.{StepKind}
+use Rattle.papaya_ask.specs.declared.ask.At.{At}
+use Rattle.papaya_ask.specs.declared.ask.At.TheVariants.{Slot}
+use Rattle.papaya_ask.specs.declared.ask.StepKind.{StepKind}
 use Rattle.papaya_law.specs.Invariant.{named}
 use Rattle.papaya_book.specs.Sheets.{Sheet}
 use Rattle.papaya_book.specs.declared.rule.entry.Named.{Named}

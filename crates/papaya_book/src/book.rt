@@ -25,7 +25,7 @@ use crate::rule::token::{tell, token};
 use crate::rule::trade;
 use crate::rule::trade::{Sight, Trade};
 use crate::table::{Cell, Table};
-use papaya_call::ask::At;
+use papaya_ask::ask::At;
 use std::hash::{BuildHasher, Hash};
 
 /// What all callers of a map share: what its book was opened with, the root and the word that only

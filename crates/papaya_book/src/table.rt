@@ -1,6 +1,6 @@
 //! Tables of atomic words.
 ghost use Rattle.std.specs.Prelude.{◌≡◌, ◌<◌, ℕ, Some, length, map, slice_get};
-ghost use Rattle.papaya_call.specs.Search.{IsSize};
+ghost use Rattle.papaya_ask.specs.Search.{IsSize};
 ghost use Rattle.papaya_book.specs.Sheets.{Sheet, sheet_coded, AllOf, word_named};
 
 use crate::rule::entry::{Event, Named};

@@ -10,7 +10,7 @@ use crate::rule::trade::{Sight, Trade};
 use crate::table::Table;
 use boxcar::Pushed;
 use logbook::Pen;
-use papaya_call::ask::StepKind;
+use papaya_ask::ask::StepKind;
 use papaya_words::probe::Refused;
 use std::alloc::Global;
 use std::hash::{BuildHasher, Hash};
@@ -29,7 +29,7 @@ pub struct Window<'a, K: Hash + Eq, V, S: Keyed<K>> {
 
 impl<'a, K: Hash + Eq, V, S: BuildHasher> Window<'a, K, V, S> {
     ghost use Rattle.std.specs.Prelude.{◌⊎◌, ◌<◌, ◌==◌, Bool, IfErr, IfOk, length};
-    ghost use Rattle.papaya_call.specs.Search.{IsSize};
+    ghost use Rattle.papaya_ask.specs.Search.{IsSize};
     ghost use Rattle.papaya_book.specs.Books.{IsLeft, Seals, root_then};
     ghost use Rattle.papaya_book.specs.Windows.{CanPutSlot, CanTrySlot, Does, IsIn, IsLawful, IsMade, IsNext, IsRoot, IsSlot, IsSlotWord, IsTable, Opens, PutsSlot, Sees, TriesSlot};
     ghost use Rattle.papaya_book.specs.declared.rule.entry.Named.TheVariants.{Pair as PairNamed, Table as TableNamed};

@@ -1,11 +1,5 @@
 pub mod Answers
-pub mod Carry
 pub mod Compute
-pub mod Copying
-pub mod Link
 pub mod Machine
 pub mod Remove
-pub mod Search
-pub mod Settle
-pub mod Step
 pub mod Write

@@ -2,9 +2,9 @@
 -- Buried.
 use Rattle.std.specs.Prelude.{ℕ}
 use Rattle.papaya_words.specs.Word.{buried_word, byte_of, pair_of}
-use Rattle.papaya_call.specs.declared.ask.At.TheVariants.{Slot}
-use Rattle.papaya_call.specs.declared.ask.Ask.{Ask}
-use Rattle.papaya_call.specs.declared.ask.Ask.TheVariants.{Exchange, ShowPair}
+use Rattle.papaya_ask.specs.declared.ask.At.TheVariants.{Slot}
+use Rattle.papaya_ask.specs.declared.ask.Ask.{Ask}
+use Rattle.papaya_ask.specs.declared.ask.Ask.TheVariants.{Exchange, ShowPair}
 use Rattle.papaya_call.specs.declared.remove.Removal.{Removal}
 
 -- the closure is shown the pair

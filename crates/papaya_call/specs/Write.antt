@@ -1,11 +1,11 @@
 -- The write of an insertion at one place.
 use Rattle.std.specs.Prelude.{ℕ, ◌<◌, ◌^◌, ◌==◌, if◌then◌else◌}
 use Rattle.papaya_words.specs.Word.{live_word, top_byte}
-use Rattle.papaya_call.specs.declared.ask.At.TheVariants.{Slot}
-use Rattle.papaya_call.specs.declared.ask.Ask.{Ask}
-use Rattle.papaya_call.specs.declared.ask.Ask.TheVariants.{Exchange, MakeKey, MakePair}
-use Rattle.papaya_call.specs.declared.ask.StepKind.{StepKind}
-use Rattle.papaya_call.specs.declared.ask.StepKind.TheVariants.{Claim, Replace}
+use Rattle.papaya_ask.specs.declared.ask.At.TheVariants.{Slot}
+use Rattle.papaya_ask.specs.declared.ask.Ask.{Ask}
+use Rattle.papaya_ask.specs.declared.ask.Ask.TheVariants.{Exchange, MakeKey, MakePair}
+use Rattle.papaya_ask.specs.declared.ask.StepKind.{StepKind}
+use Rattle.papaya_ask.specs.declared.ask.StepKind.TheVariants.{Claim, Replace}
 use Rattle.papaya_call.specs.declared.write.Made.{Made}
 use Rattle.papaya_call.specs.declared.write.Made.TheVariants.{Nothing, Key, Pair}
 use Rattle.papaya_call.specs.declared.write.Write.{Write}

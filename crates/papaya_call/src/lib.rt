@@ -4,17 +4,10 @@
 //! same machines run for one caller, for any schedule of callers, and on threads.
 #![tactic(auto)]
 
+pub use papaya_ask::{ask, call, search};
+
 pub mod answers;
-pub mod ask;
-pub mod call;
-pub mod carry;
 pub mod compute;
-pub mod copy_ask;
-pub mod copying;
-pub mod link;
 pub mod machine;
 pub mod remove;
-pub mod search;
-pub mod settle;
-pub mod step;
 pub mod write;

@@ -1,16 +1,17 @@
 //! The machine of a call: what it asks, and what it does with each answer.
 ghost use Rattle.std.specs.Prelude.{◌≡◌, ◌<◌, ◌≤◌, ◌^◌};
-ghost use Rattle.papaya_call.specs.Search.{IsSize, IsSeen, IsWithin};
-ghost use Rattle.papaya_call.specs.declared.call.Task.{Task};
+ghost use Rattle.papaya_ask.specs.Search.{IsSize, IsSeen, IsWithin};
+ghost use Rattle.papaya_ask.specs.declared.call.Task.{Task};
 ghost use Rattle.papaya_call.specs.Compute.{IsGap};
-ghost use Rattle.papaya_call.specs.Machine.{IsChunked, IsFit, IsFitAsk, IsStanding, IsStandingState, IsLookup, MayInsert, IsComputer, started, ask_of, kind_of_ask, after, absent, at_root, goes, found, passes, left, beaten, written, at_word, at_exchanged, at_found, at_yes, at_op, state_op, at_size, state_made, at_ok, at_refused};
+ghost use Rattle.papaya_words.specs.Mode.{IsChunked};
+ghost use Rattle.papaya_call.specs.Machine.{IsFit, IsFitAsk, IsStanding, IsStandingState, IsLookup, MayInsert, IsComputer, started, ask_of, kind_of_ask, after, absent, at_root, goes, found, passes, left, beaten, written, at_word, at_exchanged, at_found, at_yes, at_op, state_op, at_size, state_made, at_ok, at_refused};
 
-use crate::ask::{Answer, Ask, At, OpKind, StepKind};
-use crate::call::{Reply, Task};
 use crate::compute::{Gap, Purpose, Put, Remembered};
 use crate::remove::Removal;
-use crate::search::{Place, Search, Seen};
 use crate::write::{Made, Write};
+use papaya_ask::ask::{Answer, Ask, At, OpKind, StepKind};
+use papaya_ask::call::{Reply, Task};
+use papaya_ask::search::{Place, Search, Seen};
 use papaya_words::limits::{FIRST_TABLE_LEN, FIRST_TABLE_LIMIT};
 use papaya_words::probe::{Refused, ResizeMode};
 use papaya_words::word::{Kind, Word};

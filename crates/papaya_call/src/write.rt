@@ -3,8 +3,8 @@ ghost use Rattle.std.specs.Prelude.{◌≡◌};
 ghost use Rattle.papaya_call.specs.Machine.{pairing_ask};
 ghost use Rattle.papaya_call.specs.Write.{IsMade, write_ask, write_kind};
 
-use crate::ask::{Ask, At, StepKind};
-use crate::search::Place;
+use papaya_ask::ask::{Ask, At, StepKind};
+use papaya_ask::search::Place;
 use papaya_words::word::{Word, h2};
 
 /// What a call has made so far. A key and a pair are made once a call, before the first word that

@@ -5,18 +5,18 @@ use Rattle.std.specs.Cmp.{IsEquivalence}
 use mathlib.Core.List.{IsPrefix}
 use denote.Bor.{Bor}
 use Rattle.logbook.specs.Pages.{Book}
-use Rattle.papaya_call.specs.declared.ask.At.{At}
-use Rattle.papaya_call.specs.declared.ask.At.TheVariants.{Root, Next, Aborted, Done, Slot}
-use Rattle.papaya_call.specs.declared.ask.Ask.{Ask}
-use Rattle.papaya_call.specs.declared.ask.Ask.TheVariants.{Load, SizeOf, SameKey, AddToShard}
-use Rattle.papaya_call.specs.declared.ask.Answer.{Answer}
-use Rattle.papaya_call.specs.declared.ask.Answer.TheVariants.{Word as Word_read, Size, Yes, Ok as Ok_done}
+use Rattle.papaya_ask.specs.declared.ask.At.{At}
+use Rattle.papaya_ask.specs.declared.ask.At.TheVariants.{Root, Next, Aborted, Done, Slot}
+use Rattle.papaya_ask.specs.declared.ask.Ask.{Ask}
+use Rattle.papaya_ask.specs.declared.ask.Ask.TheVariants.{Load, SizeOf, SameKey, AddToShard}
+use Rattle.papaya_ask.specs.declared.ask.Answer.{Answer}
+use Rattle.papaya_ask.specs.declared.ask.Answer.TheVariants.{Word as Word_read, Size, Yes, Ok as Ok_done}
 use Rattle.papaya_call.specs.declared.machine.Machine.{Machine}
 use Rattle.papaya_rests.specs.Followed.{IsAtTable, IsCounting, table_asked, told_table}
 use Rattle.papaya_law.specs.Allows.{AllAllowed}
 use Rattle.papaya_law.specs.Class.{IsOn}
 use Rattle.papaya_law.specs.Exchange.{Setting, run, start}
-use Rattle.papaya_call.specs.declared.call.Task.{Task}
+use Rattle.papaya_ask.specs.declared.call.Task.{Task}
 use Rattle.papaya_call.specs.Machine.{after, ask_of, kind_of_ask, started}
 use Rattle.papaya_words.specs.declared.probe.ResizeMode.{ResizeMode}
 use Rattle.papaya_words.specs.declared.probe.ResizeMode.TheVariants.{Incremental, Blocking}
@@ -149,7 +149,7 @@ module _ {K V S H : Type 0} (eq : K → K → Bool) (input : K → List (List �
     slot_by t x asked on = has_slot t x on.1 table (held_named log r.number t table on.0.0 (table_named m r.number t r.at_table asked) r.holds_table)
 
     -- a slot that is loaded or exchanged is one of the table that is held
-    pub slot_table : (t x : ℕ) → (ask_of m ≡ Load (Slot t x)) ⊎ ((old : ℕ) × (new : ℕ) × (ask_of m ≡ Rattle.papaya_call.specs.declared.ask.Ask.TheVariants.Exchange (Slot t x) old new)) → IsHeldAt (Slot t x) log table
+    pub slot_table : (t x : ℕ) → (ask_of m ≡ Load (Slot t x)) ⊎ ((old : ℕ) × (new : ℕ) × (ask_of m ≡ Rattle.papaya_ask.specs.declared.ask.Ask.TheVariants.Exchange (Slot t x) old new)) → IsHeldAt (Slot t x) log table
     slot_table t x e =
         let on = slot_named (Wide log) Coded (hashed_with eq input build write finish classes respects b matches query lawful log r.lawful) (exchanges_of begun) r.since may k (ask_of m) named_on t x e in
         slot_by t x (⊎_elim (λ h. ap table_asked h) (λ h. ap table_asked h.2) e) on

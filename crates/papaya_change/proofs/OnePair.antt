@@ -1,10 +1,10 @@
 -- An insertion makes one pair.
 use Rattle.std.proofs.Common.{◌≡◌, ℕ, Bool, List, refl}
-use Rattle.papaya_call.specs.declared.ask.Answer.{Answer}
-use Rattle.papaya_call.specs.declared.ask.Answer.TheVariants.{Word as Word_read, Exchanged, Found as Found_instead, Yes, Op, Size, Made as Made_number, Ok as Ok_done, Refused as Was_refused}
-use Rattle.papaya_call.specs.declared.ask.Ask.TheVariants.{MakePair}
-use Rattle.papaya_call.specs.declared.call.Task.TheVariants.{Insert}
-use Rattle.papaya_call.specs.declared.search.Search.TheVariants.{Sizing, Looking, Comparing}
+use Rattle.papaya_ask.specs.declared.ask.Answer.{Answer}
+use Rattle.papaya_ask.specs.declared.ask.Answer.TheVariants.{Word as Word_read, Exchanged, Found as Found_instead, Yes, Op, Size, Made as Made_number, Ok as Ok_done, Refused as Was_refused}
+use Rattle.papaya_ask.specs.declared.ask.Ask.TheVariants.{MakePair}
+use Rattle.papaya_ask.specs.declared.call.Task.TheVariants.{Insert}
+use Rattle.papaya_ask.specs.declared.search.Search.TheVariants.{Sizing, Looking, Comparing}
 use Rattle.papaya_call.specs.declared.write.Made.{Made}
 use Rattle.papaya_call.specs.declared.write.Made.TheVariants.{Nothing, Key, Pair}
 use Rattle.papaya_call.specs.declared.machine.Machine.{Machine}

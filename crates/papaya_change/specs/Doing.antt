@@ -1,10 +1,10 @@
 -- What a changing call does to the words of slots, of which its window keeps the exchanges.
 use Rattle.std.specs.Prelude.{◌≡◌, Bool, true, false, is_some, Option, Some}
-use Rattle.papaya_call.specs.declared.ask.Answer.{Answer}
-use Rattle.papaya_call.specs.declared.ask.Answer.TheVariants.{Exchanged}
-use Rattle.papaya_call.specs.declared.ask.Ask.{Ask}
-use Rattle.papaya_call.specs.declared.ask.Ask.TheVariants.{Exchange}
-use Rattle.papaya_call.specs.declared.ask.At.TheVariants.{Slot}
+use Rattle.papaya_ask.specs.declared.ask.Answer.{Answer}
+use Rattle.papaya_ask.specs.declared.ask.Answer.TheVariants.{Exchanged}
+use Rattle.papaya_ask.specs.declared.ask.Ask.{Ask}
+use Rattle.papaya_ask.specs.declared.ask.Ask.TheVariants.{Exchange}
+use Rattle.papaya_ask.specs.declared.ask.At.TheVariants.{Slot}
 use Rattle.papaya_call.specs.declared.machine.Machine.{Machine}
 use Rattle.papaya_rests.specs.Followed.{IsCounting}
 use Rattle.papaya_rests.specs.Rests.{change_in}

@@ -1,7 +1,7 @@
 -- What an insertion on the shared map holds and rests on, by what it sees of the map.
 use Rattle.std.specs.Prelude.{Option}
 use denote.Bor.{Bor}
-use Rattle.papaya_call.specs.declared.ask.Answer.{Answer}
+use Rattle.papaya_ask.specs.declared.ask.Answer.{Answer}
 use Rattle.papaya_book.specs.declared.keyed.Keyed as keyed
 use Rattle.papaya_book.specs.declared.window.Window.{Window}
 use Rattle.papaya_book.specs.Parts.{begun_of}

@@ -3,7 +3,7 @@
 use Rattle.std.specs.Prelude.{Bool, Option, Result}
 use denote.Bor.{Bor}
 use Rattle.papaya_words.specs.declared.probe.Refused.{Refused}
-use Rattle.papaya_call.specs.declared.ask.Answer.{Answer}
+use Rattle.papaya_ask.specs.declared.ask.Answer.{Answer}
 use Rattle.papaya_book.specs.declared.keyed.Keyed as keyed
 use Rattle.papaya_book.specs.declared.window.Window.{Window}
 use Rattle.papaya_book.specs.Keys.{Query}

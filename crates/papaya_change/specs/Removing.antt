@@ -4,11 +4,11 @@ use mathlib.Core.List.{IsPrefix}
 use denote.Bor.{Bor}
 use Rattle.logbook.specs.Pages.{Book}
 use Rattle.papaya_words.specs.declared.probe.Refused.{Refused}
-use Rattle.papaya_call.specs.declared.ask.Answer.{Answer}
-use Rattle.papaya_call.specs.declared.ask.Ask.TheVariants.{Done}
-use Rattle.papaya_call.specs.declared.call.Reply.{Reply}
-use Rattle.papaya_call.specs.declared.call.Reply.TheVariants as reply
-use Rattle.papaya_call.specs.declared.call.Task.TheVariants.{RemoveIf}
+use Rattle.papaya_ask.specs.declared.ask.Answer.{Answer}
+use Rattle.papaya_ask.specs.declared.ask.Ask.TheVariants.{Done}
+use Rattle.papaya_ask.specs.declared.call.Reply.{Reply}
+use Rattle.papaya_ask.specs.declared.call.Reply.TheVariants as reply
+use Rattle.papaya_ask.specs.declared.call.Task.TheVariants.{RemoveIf}
 use Rattle.papaya_call.specs.Machine.{IsFit, after, ask_of}
 use Rattle.papaya_rests.specs.Says.{Agrees, ShowsPairs, StandsOn}
 use Rattle.papaya_book.specs.declared.rule.entry.Begun.{Begun}

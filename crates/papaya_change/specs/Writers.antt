@@ -1,5 +1,5 @@
 -- What a call on the shared map that inserts holds and rests on, by what it sees of the map.
-use Rattle.papaya_call.specs.declared.ask.Answer.{Answer}
+use Rattle.papaya_ask.specs.declared.ask.Answer.{Answer}
 use Rattle.papaya_book.specs.declared.keyed.Keyed as keyed
 use Rattle.papaya_book.specs.declared.window.Window.{Window}
 use Rattle.papaya_book.specs.Logs.{Stored}

@@ -5,10 +5,10 @@ use Rattle.logbook.specs.Pages.{Book, nib, may_write}
 use Rattle.logbook.specs.declared.tokens.Pen.{Pen}
 use Rattle.papaya_words.specs.declared.probe.Refused.{Refused as Cause}
 use Rattle.papaya_words.specs.declared.probe.Refused.TheVariants.{Capacity, Memory}
-use Rattle.papaya_call.specs.declared.ask.Answer.{Answer}
-use Rattle.papaya_call.specs.declared.ask.Answer.TheVariants.{Made, Ok as Ok_done, Refused}
-use Rattle.papaya_call.specs.declared.ask.Ask.TheVariants.{Exchange}
-use Rattle.papaya_call.specs.declared.ask.At.TheVariants.{Root}
+use Rattle.papaya_ask.specs.declared.ask.Answer.{Answer}
+use Rattle.papaya_ask.specs.declared.ask.Answer.TheVariants.{Made, Ok as Ok_done, Refused}
+use Rattle.papaya_ask.specs.declared.ask.Ask.TheVariants.{Exchange}
+use Rattle.papaya_ask.specs.declared.ask.At.TheVariants.{Root}
 use Rattle.papaya_call.specs.Machine.{IsFit, after, ask_of}
 use Rattle.papaya_rests.specs.Told.{IsOneOf}
 use Rattle.papaya_book.specs.Sheets.{Sheet}

@@ -3,10 +3,10 @@ ghost use Rattle.papaya_book.specs.Windows.{Does, IsIn, Sees};
 ghost use Rattle.papaya_change.specs.Writers.{CanPut, CanWrite, Pairs, Puts, Writes};
 ghost use Rattle.std.specs.Prelude.{◌≡◌, ◌⊎◌, ℕ, ◌<◌, ◌^◌, IfErr, IfOk, None, Some};
 ghost use Rattle.papaya_call.specs.Machine.{IsStanding, ask_of, kind_of_ask};
-ghost use Rattle.papaya_call.specs.Search.{IsSize};
-ghost use Rattle.papaya_call.specs.declared.ask.Ask.TheVariants.{Exchange, Load, MakeKey, MakePair, MakeTable, SameKey, SizeOf};
-ghost use Rattle.papaya_call.specs.declared.ask.At.TheVariants.{Root, Slot};
-ghost use Rattle.papaya_call.specs.declared.ask.StepKind.TheVariants.{Bury};
+ghost use Rattle.papaya_ask.specs.Search.{IsSize};
+ghost use Rattle.papaya_ask.specs.declared.ask.Ask.TheVariants.{Exchange, Load, MakeKey, MakePair, MakeTable, SameKey, SizeOf};
+ghost use Rattle.papaya_ask.specs.declared.ask.At.TheVariants.{Root, Slot};
+ghost use Rattle.papaya_ask.specs.declared.ask.StepKind.TheVariants.{Bury};
 ghost use Rattle.papaya_words.specs.Word.{pair_of};
 ghost use Rattle.papaya_book.specs.Plays.{IsPutting};
 ghost use Rattle.papaya_change.specs.Doing.{was_made};
@@ -15,10 +15,10 @@ ghost use Rattle.papaya_book.specs.declared.rule.entry.Named.TheVariants.{Pair a
 
 use boxcar::Pushed;
 use logbook::Pen;
+use papaya_ask::ask::{Answer, At};
 use papaya_book::rule::entry::Stored;
 use papaya_book::table::Table;
 use papaya_book::window::Window;
-use papaya_call::ask::{Answer, At};
 use papaya_lookup::driver::Driver;
 use papaya_words::limits::MAX_LOG_LEN;
 use papaya_words::probe::Refused;

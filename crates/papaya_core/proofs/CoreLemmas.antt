@@ -4,13 +4,14 @@ use Rattle.std.proofs.lemmas.Bool.{cases_Bool, eqb-true, eqb-false}
 use Rattle.std.specs.Int.{IsPowerOfTwo}
 use Rattle.papaya_words.specs.declared.probe.ResizeMode.{ResizeMode}
 use Rattle.papaya_call.specs.Answers.{Says}
-use Rattle.papaya_call.specs.declared.ask.Answer.{Answer}
-use Rattle.papaya_call.specs.declared.ask.Ask.{Ask}
-use Rattle.papaya_call.specs.declared.ask.Ask.TheVariants.{Load, Exchange, SameKey, ShowNone, ShowPair, SizeOf, MakeKey, MakePair, MakeTable, AddToShard, Done as Ask_done}
-use Rattle.papaya_call.specs.declared.call.Reply.{Reply}
+use Rattle.papaya_ask.specs.declared.ask.Answer.{Answer}
+use Rattle.papaya_ask.specs.declared.ask.Ask.{Ask}
+use Rattle.papaya_ask.specs.declared.ask.Ask.TheVariants.{Load, Exchange, SameKey, ShowNone, ShowPair, SizeOf, MakeKey, MakePair, MakeTable, AddToShard, Done as Ask_done}
+use Rattle.papaya_ask.specs.declared.call.Reply.{Reply}
 use Rattle.papaya_call.specs.declared.machine.Machine.{Machine}
-use Rattle.papaya_call.specs.Machine.{IsChunked, IsStanding, IsFitAsk, ask_of}
-use Rattle.papaya_call.specs.declared.call.Call.{Call}
+use Rattle.papaya_words.specs.Mode.{IsChunked}
+use Rattle.papaya_call.specs.Machine.{IsStanding, IsFitAsk, ask_of}
+use Rattle.papaya_ask.specs.declared.call.Call.{Call}
 use Rattle.papaya_core.specs.Advances.{reply_in}
 use Rattle.papaya_core.specs.Begins.{begun}
 use Rattle.papaya_core.specs.declared.pairs.Running.{Running}

@@ -5,12 +5,12 @@ use Rattle.papaya_words.specs.Word.{kind_of, pair_of as number_of}
 use Rattle.papaya_words.specs.declared.probe.ResizeMode.{ResizeMode}
 use Rattle.papaya_words.specs.declared.word.Kind.{Kind}
 use Rattle.papaya_words.specs.declared.word.Kind.TheVariants as kinds
-use Rattle.papaya_call.specs.declared.ask.At.TheVariants.{Root}
+use Rattle.papaya_ask.specs.declared.ask.At.TheVariants.{Root}
 use Rattle.papaya_law.specs.Code.{Coding}
 use Rattle.papaya_law.specs.Content.{AreApart}
 use Rattle.papaya_law.specs.Exchange.{Setting, State, Exchange, run, start}
 use Rattle.papaya_law.specs.Meaning.{map_left}
-use Rattle.papaya_call.specs.Search.{IsSize}
+use Rattle.papaya_ask.specs.Search.{IsSize}
 use Rattle.papaya_law.specs.Code.{IsHashed}
 use Rattle.papaya_law.proofs.Content.{apart_in}
 use Rattle.papaya_law.proofs.OneMap.{keeping}

@@ -1,15 +1,15 @@
 -- What the event of a step is: an exchange that was made, or nothing.
 use Rattle.std.proofs.Common.{◌≡◌, ◌⊎◌, inl, inr, ⊎_elim, ℕ, ◌==◌, Bool, true, false, Option, None, Some, List, [], ◌∷◌, refl, sym, ◌∙◌, ap, eqb-true}
-use Rattle.papaya_call.specs.declared.ask.At.{At}
+use Rattle.papaya_ask.specs.declared.ask.At.{At}
 use Rattle.papaya_call.specs.Answers.{op_kind}
 use Rattle.papaya_call.specs.declared.answers.Operation.{Operation}
-use Rattle.papaya_call.specs.declared.ask.Ask.{Ask}
-use Rattle.papaya_call.specs.declared.ask.Ask.TheVariants.{Load, Exchange as Ask_exchange, SameKey, ShowNone, ShowPair, SizeOf, MakeKey, MakePair, MakeTable, AddToShard, Done as Ask_done}
-use Rattle.papaya_call.specs.declared.ask.Answer.{Answer}
-use Rattle.papaya_call.specs.declared.ask.Answer.TheVariants.{Word as Word_read, Exchanged, Found as Found_instead, Yes, Op, Size, Made as Made_number, Ok as Ok_done, Refused as Was_refused}
-use Rattle.papaya_call.specs.declared.ask.OpKind.{OpKind}
-use Rattle.papaya_call.specs.declared.ask.StepKind.{StepKind}
-use Rattle.papaya_call.specs.declared.ask.StepKind.TheVariants as kinds
+use Rattle.papaya_ask.specs.declared.ask.Ask.{Ask}
+use Rattle.papaya_ask.specs.declared.ask.Ask.TheVariants.{Load, Exchange as Ask_exchange, SameKey, ShowNone, ShowPair, SizeOf, MakeKey, MakePair, MakeTable, AddToShard, Done as Ask_done}
+use Rattle.papaya_ask.specs.declared.ask.Answer.{Answer}
+use Rattle.papaya_ask.specs.declared.ask.Answer.TheVariants.{Word as Word_read, Exchanged, Found as Found_instead, Yes, Op, Size, Made as Made_number, Ok as Ok_done, Refused as Was_refused}
+use Rattle.papaya_ask.specs.declared.ask.OpKind.{OpKind}
+use Rattle.papaya_ask.specs.declared.ask.StepKind.{StepKind}
+use Rattle.papaya_ask.specs.declared.ask.StepKind.TheVariants as kinds
 use Rattle.papaya_law.specs.Exchange.{Setting, State, Exchange}
 use Rattle.papaya_law.specs.Code.{Coding}
 use Rattle.papaya_rests.specs.Rests.{Change, change_after, change_of_kind}

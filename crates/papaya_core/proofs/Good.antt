@@ -1,12 +1,12 @@
 -- A history with its maps, and how the calls under way stand to it.
 use Rattle.std.proofs.Common.{◌≡◌, ℕ, Bool, true, None, Some, List, [], ◌∷◌, ◌++◌}
 use Rattle.papaya_words.specs.declared.probe.ResizeMode.TheVariants.{Blocking}
-use Rattle.papaya_call.specs.declared.call.Call.{Call}
+use Rattle.papaya_ask.specs.declared.call.Call.{Call}
 use Rattle.papaya_call.specs.Answers.{Says}
 use Rattle.papaya_law.specs.Exchange.{Exchange}
 use Rattle.papaya_law.specs.Meaning.{map_of}
 use Rattle.papaya_call.specs.declared.answers.Operation.TheVariants as ops
-use Rattle.papaya_call.specs.declared.call.Call.TheVariants.{Get, Insert, TryInsert, RemoveIf, Compute}
+use Rattle.papaya_ask.specs.declared.call.Call.TheVariants.{Get, Insert, TryInsert, RemoveIf, Compute}
 use Rattle.papaya_rests.specs.Rests.{change_in}
 use Rattle.papaya_rests.specs.Says.{HasShownNone, Said, Agrees, Inserts, Makes, Removes, ShowsPairs, StandsOn}
 use Rattle.papaya_rests.specs.Told.{IsOneOf}

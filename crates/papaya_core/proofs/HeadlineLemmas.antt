@@ -1,10 +1,10 @@
 -- The turns of a schedule keep a good history, and so a run has a timeline.
 use Rattle.std.proofs.Common.{◌≡◌, inl, inr, ℕ, zero, suc, Bool, true, false, Option, None, Some, List, [], slice_get, refl, sym, ◌∙◌, ap, subst}
 use Rattle.std.specs.Cmp.{IsEquivalence}
-use Rattle.papaya_call.specs.declared.ask.Ask.TheVariants.{ShowNone}
-use Rattle.papaya_call.specs.declared.call.Call.{Call}
-use Rattle.papaya_call.specs.declared.call.Reply.{Reply}
-use Rattle.papaya_call.specs.declared.call.Task.TheVariants.{Compute}
+use Rattle.papaya_ask.specs.declared.ask.Ask.TheVariants.{ShowNone}
+use Rattle.papaya_ask.specs.declared.call.Call.{Call}
+use Rattle.papaya_ask.specs.declared.call.Reply.{Reply}
+use Rattle.papaya_ask.specs.declared.call.Task.TheVariants.{Compute}
 use Rattle.papaya_call.specs.Answers.{Says}
 use Rattle.papaya_law.specs.Exchange.{Exchange}
 use Rattle.papaya_call.specs.Machine.{IsStanding, ask_of, after}

@@ -3,10 +3,10 @@
 use Rattle.std.proofs.Common.{◌≡◌, ◌⊎◌, inl, inr, ℕ, Bool, true, false, Option, Some, None, List, [], ◌∷◌, refl, sym, ◌∙◌, ap, subst}
 use Rattle.papaya_call.specs.declared.answers.Operation.{Operation}
 use Rattle.papaya_call.specs.declared.answers.Operation.TheVariants as ops
-use Rattle.papaya_call.specs.declared.ask.OpKind.TheVariants as kinds
-use Rattle.papaya_call.specs.declared.ask.StepKind.TheVariants.{Claim, Replace}
-use Rattle.papaya_call.specs.declared.call.Call.TheVariants.{Insert, Compute}
-use Rattle.papaya_call.specs.declared.call.Reply.TheVariants.{Inserted, Replaced}
+use Rattle.papaya_ask.specs.declared.ask.OpKind.TheVariants as kinds
+use Rattle.papaya_ask.specs.declared.ask.StepKind.TheVariants.{Claim, Replace}
+use Rattle.papaya_ask.specs.declared.call.Call.TheVariants.{Insert, Compute}
+use Rattle.papaya_ask.specs.declared.call.Reply.TheVariants.{Inserted, Replaced}
 use Rattle.papaya_core.specs.declared.trace.Turn.{Turn}
 use Rattle.papaya_core.specs.declared.trace.Turn.TheVariants.{Begin, Finish}
 use Rattle.papaya_core.specs.declared.trace.Entry.{Entry}

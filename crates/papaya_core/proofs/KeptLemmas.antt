@@ -2,7 +2,7 @@
 use Rattle.std.proofs.Common.{◌≡◌, ℕ, ◌<◌, ◌^◌, Bool, Option, None, Some, List, [], ◌++◌, length, ◌≤◌, ◌⊎◌, refl, sym, subst}
 use Rattle.papaya_words.specs.declared.probe.ResizeMode.{ResizeMode}
 use Rattle.papaya_call.specs.Answers.{Says}
-use Rattle.papaya_call.specs.declared.call.Call.{Call}
+use Rattle.papaya_ask.specs.declared.call.Call.{Call}
 use Rattle.papaya_law.specs.Exchange.{Exchange, run, start}
 use Rattle.papaya_law.specs.Meaning.{map_left}
 use Rattle.papaya_call.specs.Machine.{ask_of, kind_of_ask, after}
@@ -17,7 +17,7 @@ use Rattle.papaya_core.specs.Content.{map_of}
 use Rattle.papaya_core.specs.Kept.{IsKept, IsCall, Tale, setting_of, coding_of, low, told_tales, begun_tales}
 use Rattle.papaya_core.specs.Store.{StoreState, Stored, pair_of}
 use Rattle.papaya_core.specs.declared.trace.Event.{Event}
-use Rattle.papaya_call.specs.declared.call.Reply.{Reply}
+use Rattle.papaya_ask.specs.declared.call.Reply.{Reply}
 use Rattle.papaya_core.proofs.KeptSettings.{tables_hashed}
 use Rattle.papaya_core.proofs.KeptBegin.{begin_kept, new_kept}
 use Rattle.papaya_core.proofs.KeptMap.{kept_map}

@@ -5,11 +5,11 @@ use Rattle.papaya_words.specs.declared.limits.TheConstants.{MAX_TABLES, MAX_LOG_
 use Rattle.papaya_words.specs.declared.probe.Refused.{Refused}
 use Rattle.papaya_words.specs.declared.probe.Refused.TheVariants.{Memory, Capacity}
 use Rattle.papaya_words.specs.declared.probe.ResizeMode.{ResizeMode}
-use Rattle.papaya_call.specs.declared.ask.At.{At}
-use Rattle.papaya_call.specs.declared.ask.Ask.{Ask}
-use Rattle.papaya_call.specs.declared.ask.Ask.TheVariants.{MakeKey, MakePair, MakeTable}
-use Rattle.papaya_call.specs.declared.ask.Answer.{Answer}
-use Rattle.papaya_call.specs.declared.ask.Answer.TheVariants.{Made as Made_number, Refused as Was_refused}
+use Rattle.papaya_ask.specs.declared.ask.At.{At}
+use Rattle.papaya_ask.specs.declared.ask.Ask.{Ask}
+use Rattle.papaya_ask.specs.declared.ask.Ask.TheVariants.{MakeKey, MakePair, MakeTable}
+use Rattle.papaya_ask.specs.declared.ask.Answer.{Answer}
+use Rattle.papaya_ask.specs.declared.ask.Answer.TheVariants.{Made as Made_number, Refused as Was_refused}
 use Rattle.papaya_law.specs.Exchange.{Exchange}
 use Rattle.papaya_law.specs.Grows.{Comes}
 use Rattle.papaya_call.specs.Machine.{ask_of, kind_of_ask}

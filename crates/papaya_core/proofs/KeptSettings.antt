@@ -6,7 +6,7 @@ use Rattle.std.specs.Cmp.{IsEquivalence}
 use Rattle.papaya_words.specs.Table.{TableWords}
 use Rattle.papaya_words.specs.Probe.{place}
 use Rattle.papaya_words.specs.declared.probe.ResizeMode.{ResizeMode}
-use Rattle.papaya_call.specs.Search.{IsSize}
+use Rattle.papaya_ask.specs.Search.{IsSize}
 use Rattle.papaya_law.specs.Grows.{Agrees}
 use Rattle.papaya_law.specs.Hashing.{hashed}
 use Rattle.papaya_law.specs.Code.{IsHashed}

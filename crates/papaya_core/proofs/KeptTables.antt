@@ -1,8 +1,8 @@
 -- The words and the sizes of tables after a write, and after a table was made.
 use Rattle.std.proofs.Common.{◌≡◌, ◌≢◌, ℕ, zero, suc, ◌+◌, ◌-◌, ◌==◌, ◌<◌, Bool, true, false, cond, List, [], ◌∷◌, ◌++◌, length, slice_get, slice_set, slice_index, replicate, Some, None, ⊎_elim, refl, sym, ◌∙◌, ap, arith, length-set, lt-ltb}
 use Rattle.papaya_words.specs.Table.{TableWords, new_table}
-use Rattle.papaya_call.specs.declared.ask.At.{At}
-use Rattle.papaya_call.specs.declared.ask.At.TheVariants.{Root, Next, Aborted, Done, Slot}
+use Rattle.papaya_ask.specs.declared.ask.At.{At}
+use Rattle.papaya_ask.specs.declared.ask.At.TheVariants.{Root, Next, Aborted, Done, Slot}
 use Rattle.papaya_core.specs.Tables.{Tables, table_of, word_in, word_at, put, put_in}
 use Rattle.papaya_core.proofs.CallersLemmas.{differs, same_item}
 use Rattle.papaya_core.proofs.CoreLemmas.{cases_same}

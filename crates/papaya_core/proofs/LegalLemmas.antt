@@ -4,18 +4,18 @@ use Rattle.std.proofs.Common.{◌≡◌, ◌⊎◌, inl, inr, ⊎_elim, ℕ, Boo
 use Rattle.papaya_words.specs.Word.{pair_of}
 use Rattle.papaya_words.specs.Table.{TableWords}
 use Rattle.papaya_words.specs.declared.probe.ResizeMode.{ResizeMode}
-use Rattle.papaya_call.specs.declared.ask.At.{At}
-use Rattle.papaya_call.specs.declared.ask.At.TheVariants.{Root, Next, Aborted, Done, Slot}
-use Rattle.papaya_call.specs.declared.ask.Ask.TheVariants.{Exchange as Ask_exchange}
-use Rattle.papaya_call.specs.declared.ask.Answer.{Answer}
-use Rattle.papaya_call.specs.declared.ask.StepKind.{StepKind}
-use Rattle.papaya_call.specs.declared.ask.StepKind.TheVariants as kinds
-use Rattle.papaya_call.specs.declared.call.Call.{Call}
-use Rattle.papaya_call.specs.declared.call.Call.TheVariants.{Get, Insert, TryInsert, RemoveIf, Compute}
-use Rattle.papaya_call.specs.declared.call.Reply.{Reply}
-use Rattle.papaya_call.specs.declared.call.Reply.TheVariants.{Inserted, Replaced, Removed}
-use Rattle.papaya_call.specs.declared.call.Task.{Task}
-use Rattle.papaya_call.specs.declared.call.Task.TheVariants.{Insert as Insert_task, Compute as Compute_task}
+use Rattle.papaya_ask.specs.declared.ask.At.{At}
+use Rattle.papaya_ask.specs.declared.ask.At.TheVariants.{Root, Next, Aborted, Done, Slot}
+use Rattle.papaya_ask.specs.declared.ask.Ask.TheVariants.{Exchange as Ask_exchange}
+use Rattle.papaya_ask.specs.declared.ask.Answer.{Answer}
+use Rattle.papaya_ask.specs.declared.ask.StepKind.{StepKind}
+use Rattle.papaya_ask.specs.declared.ask.StepKind.TheVariants as kinds
+use Rattle.papaya_ask.specs.declared.call.Call.{Call}
+use Rattle.papaya_ask.specs.declared.call.Call.TheVariants.{Get, Insert, TryInsert, RemoveIf, Compute}
+use Rattle.papaya_ask.specs.declared.call.Reply.{Reply}
+use Rattle.papaya_ask.specs.declared.call.Reply.TheVariants.{Inserted, Replaced, Removed}
+use Rattle.papaya_ask.specs.declared.call.Task.{Task}
+use Rattle.papaya_ask.specs.declared.call.Task.TheVariants.{Insert as Insert_task, Compute as Compute_task}
 use Rattle.papaya_call.specs.declared.machine.Machine.{Machine}
 use Rattle.papaya_law.specs.Allows.{Allows, AllAllowed}
 use Rattle.papaya_law.specs.Exchange.{Live, Setting, State, Exchange, Open, Claim, Replace, Bury, run, start}

@@ -1,8 +1,8 @@
 -- The law of one call that is made alone.
 use Rattle.std.proofs.Common.{◌≡◌, ℕ, Bool, true, List, [], ◌∷◌, sym, subst}
 use Rattle.std.specs.Cmp.{IsEquivalence}
-use Rattle.papaya_call.specs.declared.call.Call.{Call}
-use Rattle.papaya_call.specs.declared.call.Reply.{Reply}
+use Rattle.papaya_ask.specs.declared.call.Call.{Call}
+use Rattle.papaya_ask.specs.declared.call.Reply.{Reply}
 use Rattle.papaya_core.specs.declared.trace.Turn.TheVariants.{Begin, Finish}
 use Rattle.papaya_core.specs.Content.{content, map_of}
 use Rattle.papaya_core.specs.Core.{CoreState}

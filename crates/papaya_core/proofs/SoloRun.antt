@@ -2,12 +2,12 @@
 use Rattle.std.proofs.Common.{◌≡◌, ◌⊎◌, inl, inr, ℕ, zero, suc, ◌≤◌, ◌<◌, ◌+ℤ◌, Bool, true, false, Option, None, Some, List, [], ◌∷◌, ◌++◌, length, slice_get, refl, sym, ◌∙◌, ap, subst, arith}
 use Rattle.std.specs.Int.{w64, int_wrap}
 use Rattle.papaya_call.specs.Answers.{Says}
-use Rattle.papaya_call.specs.declared.ask.Ask.TheVariants.{Done as Ask_done}
-use Rattle.papaya_call.specs.declared.call.Call.{Call}
-use Rattle.papaya_call.specs.declared.call.Reply.{Reply}
-use Rattle.papaya_call.specs.declared.call.Reply.TheVariants.{Absent, Found, Inserted, Replaced, Occupied, Removed, Kept, Aborted, Refused}
-use Rattle.papaya_call.specs.declared.call.Task.{Task}
-use Rattle.papaya_call.specs.declared.call.Task.TheVariants.{Insert, Compute}
+use Rattle.papaya_ask.specs.declared.ask.Ask.TheVariants.{Done as Ask_done}
+use Rattle.papaya_ask.specs.declared.call.Call.{Call}
+use Rattle.papaya_ask.specs.declared.call.Reply.{Reply}
+use Rattle.papaya_ask.specs.declared.call.Reply.TheVariants.{Absent, Found, Inserted, Replaced, Occupied, Removed, Kept, Aborted, Refused}
+use Rattle.papaya_ask.specs.declared.call.Task.{Task}
+use Rattle.papaya_ask.specs.declared.call.Task.TheVariants.{Insert, Compute}
 use Rattle.papaya_law.specs.Exchange.{Exchange, Setting}
 use Rattle.papaya_call.specs.Machine.{after, ask_of, kind_of_ask}
 use Rattle.papaya_rests.specs.Rests.{IsOwnPair, IsReply}

@@ -4,11 +4,11 @@ use Rattle.std.specs.Cmp.{IsEquivalence}
 use Rattle.papaya_law.specs.Content.{lookup}
 use Rattle.papaya_rests.specs.Rests.{Change, change_of_reply}
 use Rattle.papaya_words.specs.declared.probe.Refused.TheVariants.{RemoveNothing}
-use Rattle.papaya_call.specs.declared.ask.OpKind.{OpKind}
-use Rattle.papaya_call.specs.declared.ask.OpKind.TheVariants as kinds
-use Rattle.papaya_call.specs.declared.call.Call.{Call}
-use Rattle.papaya_call.specs.declared.call.Reply.{Reply}
-use Rattle.papaya_call.specs.declared.call.Reply.TheVariants.{Absent, Found, Inserted, Replaced, Occupied, Removed, Kept, Aborted, Refused}
+use Rattle.papaya_ask.specs.declared.ask.OpKind.{OpKind}
+use Rattle.papaya_ask.specs.declared.ask.OpKind.TheVariants as kinds
+use Rattle.papaya_ask.specs.declared.call.Call.{Call}
+use Rattle.papaya_ask.specs.declared.call.Reply.{Reply}
+use Rattle.papaya_ask.specs.declared.call.Reply.TheVariants.{Absent, Found, Inserted, Replaced, Occupied, Removed, Kept, Aborted, Refused}
 use Rattle.papaya_core.specs.declared.trace.Turn.{Turn}
 use Rattle.papaya_core.specs.declared.trace.Turn.TheVariants.{Begin, Finish}
 use Rattle.papaya_core.specs.declared.trace.Event.{Event}

@@ -1,10 +1,10 @@
 -- The begin of a call.
 use Rattle.std.specs.Prelude.{◌≡◌, ℕ, ◌<◌, ◌^◌, true, false, Option, Some, None}
 use Rattle.papaya_words.specs.declared.probe.ResizeMode.{ResizeMode}
-use Rattle.papaya_call.specs.declared.call.Call.{Call}
-use Rattle.papaya_call.specs.declared.call.Call.TheVariants.{Get, Insert, TryInsert, RemoveIf, Compute}
-use Rattle.papaya_call.specs.declared.call.Task.{Task}
-use Rattle.papaya_call.specs.declared.call.Task.TheVariants.{Get as Get_task, Insert as Insert_task, RemoveIf as RemoveIf_task, Compute as Compute_task}
+use Rattle.papaya_ask.specs.declared.call.Call.{Call}
+use Rattle.papaya_ask.specs.declared.call.Call.TheVariants.{Get, Insert, TryInsert, RemoveIf, Compute}
+use Rattle.papaya_ask.specs.declared.call.Task.{Task}
+use Rattle.papaya_ask.specs.declared.call.Task.TheVariants.{Get as Get_task, Insert as Insert_task, RemoveIf as RemoveIf_task, Compute as Compute_task}
 use Rattle.papaya_call.specs.Machine.{started}
 use Rattle.papaya_core.specs.declared.pairs.KeyOf.TheVariants.{Own}
 use Rattle.papaya_core.specs.declared.pairs.Running.{Running}

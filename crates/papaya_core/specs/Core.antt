@@ -2,11 +2,12 @@
 use Rattle.std.specs.Prelude.{◌≡◌, ℕ, List, Option, Some, length}
 use Rattle.papaya_words.specs.Table.{TableWords}
 use Rattle.papaya_words.specs.declared.probe.ResizeMode.{ResizeMode}
-use Rattle.papaya_call.specs.Search.{IsSize}
-use Rattle.papaya_call.specs.declared.ask.Ask.TheVariants.{Done as Ask_done}
-use Rattle.papaya_call.specs.declared.call.Reply.{Reply}
+use Rattle.papaya_ask.specs.Search.{IsSize}
+use Rattle.papaya_ask.specs.declared.ask.Ask.TheVariants.{Done as Ask_done}
+use Rattle.papaya_ask.specs.declared.call.Reply.{Reply}
 use Rattle.papaya_call.specs.declared.machine.Machine.{Machine}
-use Rattle.papaya_call.specs.Machine.{IsChunked, IsStanding, ask_of}
+use Rattle.papaya_words.specs.Mode.{IsChunked}
+use Rattle.papaya_call.specs.Machine.{IsStanding, ask_of}
 use Rattle.papaya_core.specs.declared.pairs.Running.{Running}
 use Rattle.papaya_core.specs.declared.callers.Seat.{Seat}
 use Rattle.papaya_core.specs.Callers.{running}

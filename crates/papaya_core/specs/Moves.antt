@@ -1,7 +1,7 @@
 -- What one step does to the map.
 use Rattle.std.specs.Prelude.{◌≡◌, ℕ, Bool, Option, Some, [], ◌∷◌}
-use Rattle.papaya_call.specs.declared.call.Call.{Call}
-use Rattle.papaya_call.specs.declared.call.Reply.{Reply}
+use Rattle.papaya_ask.specs.declared.call.Call.{Call}
+use Rattle.papaya_ask.specs.declared.call.Reply.{Reply}
 use Rattle.papaya_call.specs.Machine.{IsChanger}
 use Rattle.papaya_rests.specs.Rests.{change_of_reply}
 use Rattle.papaya_core.specs.declared.pairs.Running.{Running}

@@ -1,8 +1,8 @@
 -- The words of all tables.
 use Rattle.std.specs.Prelude.{ℕ, ◌-◌, ◌==◌, if◌then◌else◌, List, Option, Some, None, slice_get, slice_index, slice_set, nat_lt, length}
 use Rattle.papaya_words.specs.Table.{TableWords}
-use Rattle.papaya_call.specs.declared.ask.At.{At}
-use Rattle.papaya_call.specs.declared.ask.At.TheVariants.{Root, Next, Aborted, Done, Slot}
+use Rattle.papaya_ask.specs.declared.ask.At.{At}
+use Rattle.papaya_ask.specs.declared.ask.At.TheVariants.{Root, Next, Aborted, Done, Slot}
 
 -- the number of the root table, or 0, and the tables, of which the first has number 1
 pub record Tables : Type 0 where

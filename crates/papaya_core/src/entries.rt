@@ -4,8 +4,8 @@ ghost use Rattle.papaya_core.specs.Advances.{event_of, exchange_event, shown_eve
 ghost use Rattle.papaya_core.specs.Runs.{with_step};
 
 use crate::trace::{Entry, Event};
-use papaya_call::ask::{Answer, Ask, StepKind};
-use papaya_call::call::Reply;
+use papaya_ask::ask::{Answer, Ask, StepKind};
+use papaya_ask::call::Reply;
 use papaya_words::probe::Refused;
 use papaya_words::word::Word;
 

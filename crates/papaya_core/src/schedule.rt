@@ -1,7 +1,8 @@
 //! Any number of callers, and any schedule of their steps.
 ghost use Rattle.std.specs.Prelude.{◌≡◌, ◌<◌, ◌^◌, length, IfOk, IfErr, OnOk, IsSome, Some, None, is_some, MatchOption, reverse, ◌+◌, ◌*◌, ◌≤◌, []};
 ghost use Rattle.papaya_law.specs.Content.{AreApart};
-ghost use Rattle.papaya_call.specs.Machine.{IsChunked, IsStanding};
+ghost use Rattle.papaya_words.specs.Mode.{IsChunked};
+ghost use Rattle.papaya_call.specs.Machine.{IsStanding};
 ghost use Rattle.papaya_core.specs.Callers.{running};
 ghost use Rattle.papaya_core.specs.Store.{KeepsPairs, pair_of};
 ghost use Rattle.papaya_keys.specs.Hashes.{hash_of};
@@ -22,9 +23,9 @@ use crate::entries::{event_of, push_entry, push_step, reserve_entries};
 use crate::pairs::{KeyOf, Running};
 use crate::store::Store;
 use crate::trace::{Entry, Event, Trace, Turn};
+use papaya_ask::ask::Ask;
+use papaya_ask::call::{Call, Reply, Task};
 use papaya_call::answers::Answers;
-use papaya_call::ask::Ask;
-use papaya_call::call::{Call, Reply, Task};
 use papaya_call::machine::Machine;
 use papaya_words::probe::{Refused, ResizeMode};
 use std::alloc::Global;

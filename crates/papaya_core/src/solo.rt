@@ -8,7 +8,7 @@ ghost use Rattle.papaya_core.specs.Solo.{IsAnswered, IsNewIn, RunsAlone};
 ghost use Rattle.papaya_core.specs.Store.{KeepsPairs};
 ghost use Rattle.papaya_keys.specs.Hashes.{hash_of};
 
-use papaya_call::call::{Call, Reply};
+use papaya_ask::call::{Call, Reply};
 use std::hash::{BuildHasher, Hash};
 
 /// A call that is made alone does what the finite map does, and leaves the words and the count in

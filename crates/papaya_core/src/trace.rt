@@ -1,6 +1,6 @@
 //! Schedules, and what happened in them.
-use papaya_call::ask::{OpKind, StepKind};
-use papaya_call::call::{Call, Reply};
+use papaya_ask::ask::{OpKind, StepKind};
+use papaya_ask::call::{Call, Reply};
 
 /// A turn of a schedule.
 #[derive(Drop)]

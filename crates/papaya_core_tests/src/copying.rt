@@ -1,13 +1,13 @@
 // Copies of small tables, stepped by hand: which word is asked for, and which is put where.
-ghost use Rattle.papaya_call.specs.Copying.{IsStandingCopied, IsStandingCopying};
-ghost use Rattle.papaya_call.specs.Machine.{IsChunked};
+ghost use Rattle.papaya_copy.specs.Copying.{IsStandingCopied, IsStandingCopying};
+ghost use Rattle.papaya_words.specs.Mode.{IsChunked};
 
 use crate::expect::is;
-use papaya_call::ask::{At, StepKind};
-use papaya_call::copy_ask::CopyAsk;
-use papaya_call::copying::{Aim, Copied, Copying};
-use papaya_call::settle::Slot;
-use papaya_call::step::Step;
+use papaya_ask::ask::{At, StepKind};
+use papaya_ask::copy_ask::CopyAsk;
+use papaya_copy::copying::{Aim, Copied, Copying};
+use papaya_copy::settle::Slot;
+use papaya_copy::step::Step;
 use papaya_words::probe::{Refused, ResizeMode};
 use std::process::Abort;
 

@@ -1,10 +1,11 @@
 // What machines ask and reply over words that stand in tables: worked values, where specs and
 // code might agree and both be wrong.
-ghost use Rattle.papaya_call.specs.Machine.{IsChunked, IsFit, IsStanding};
+ghost use Rattle.papaya_words.specs.Mode.{IsChunked};
+ghost use Rattle.papaya_call.specs.Machine.{IsFit, IsStanding};
 
 use crate::expect::is;
-use papaya_call::ask::{Answer, Ask, At, OpKind, StepKind};
-use papaya_call::call::{Reply, Task};
+use papaya_ask::ask::{Answer, Ask, At, OpKind, StepKind};
+use papaya_ask::call::{Reply, Task};
 use papaya_call::machine::Machine;
 use papaya_words::probe::{Refused, ResizeMode};
 use std::process::Abort;

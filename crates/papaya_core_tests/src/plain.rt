@@ -14,8 +14,8 @@ mod hashing;
 
 use crate::expect::is;
 use hashing::{APART, TOGETHER, Times};
+use papaya_ask::call::{Call, Reply};
 use papaya_call::answers::{Answers, Operation};
-use papaya_call::call::{Call, Reply};
 use papaya_core::schedule::Core;
 use papaya_core::trace::{Event, Trace, Turn};
 use papaya_words::probe::ResizeMode;

@@ -1,7 +1,7 @@
 use crate::expect::{is, is_at};
+use papaya_ask::ask::StepKind;
+use papaya_ask::call::{Call, Reply};
 use papaya_call::answers::{Answers, Listed, Operation};
-use papaya_call::ask::StepKind;
-use papaya_call::call::{Call, Reply};
 use papaya_core::schedule::Core;
 use papaya_core::trace::{Entry, Event, Trace, Turn};
 use papaya_words::probe::{Refused, ResizeMode};

@@ -4,7 +4,7 @@ use Rattle.std.proofs.lemmas.Bool.{cases_lt}
 use Rattle.std.proofs.Math.Pow.{pow_mono}
 use Rattle.std.specs.Int.{IsPowerOfTwo}
 use Rattle.papaya_words.specs.Probe.{IsLimit}
-use Rattle.papaya_call.specs.Search.{IsSize}
+use Rattle.papaya_ask.specs.Search.{IsSize}
 
 -- a length that was asked for is one of tables
 pub table_size : (initial limit : ℕ) → IsPowerOfTwo initial → initial ≤ 2 ^ 32 → IsLimit (max initial 8) limit → IsSize (max initial 8) limit

@@ -6,7 +6,7 @@ use Rattle.papaya_words.specs.declared.probe.Refused.{Refused}
 use Rattle.papaya_words.specs.declared.probe.Refused.TheVariants.{Memory, Capacity, ZeroChunk}
 use Rattle.papaya_words.specs.declared.probe.ResizeMode.{ResizeMode}
 use Rattle.papaya_words.specs.declared.probe.ResizeMode.TheVariants.{Incremental}
-use Rattle.papaya_call.specs.Machine.{IsChunked}
+use Rattle.papaya_words.specs.Mode.{IsChunked}
 
 -- a table for so many pairs is within the limits, or past them
 abbrev pub HasRoom : ℕ → Type 0

@@ -1,7 +1,7 @@
 //! What is asked for of a new map, before anything is made.
 ghost use Rattle.std.specs.Prelude.{◌≡◌, ◌*◌, ◌^◌, ◌<◌, ◌≤◌, IfErr, IfOk, OnOk};
-ghost use Rattle.papaya_call.specs.Machine.{IsChunked};
-ghost use Rattle.papaya_call.specs.Search.{IsSize};
+ghost use Rattle.papaya_words.specs.Mode.{IsChunked};
+ghost use Rattle.papaya_ask.specs.Search.{IsSize};
 ghost use Rattle.papaya_keys.specs.Sizes.{IsTooMuch};
 ghost use Rattle.papaya_words.specs.Probe.{IsEntriesFor};
 ghost use Rattle.papaya_words.specs.declared.limits.TheConstants.{MAX_TABLE_LEN};

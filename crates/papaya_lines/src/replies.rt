@@ -6,7 +6,7 @@ use crate::closures::Answering;
 use crate::printed::Printed;
 use crate::script::{Line, Part};
 use crate::turns::CALLERS;
-use papaya_call::call::Reply;
+use papaya_ask::call::Reply;
 use papaya_core::schedule::Core;
 use papaya_core::trace::{Entry, Event, Trace};
 use std::hash::BuildHasher;

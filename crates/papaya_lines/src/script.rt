@@ -5,7 +5,7 @@ ghost use Rattle.papaya_lines.specs.Script.{Adds, line_of};
 use crate::closures::Answering;
 use crate::lines::next_line;
 use crate::turns::turn_of;
-use papaya_call::call::Call;
+use papaya_ask::call::Call;
 use papaya_core::trace::Turn;
 use papaya_shell::failure::Failure;
 use std::alloc::Global;

@@ -1,6 +1,6 @@
 //! The lines of a script, which are turns of callers.
 ghost use Rattle.std.specs.Prelude.{◌≡◌, ◌≢◌, ℕ, List, MatchOption};
-ghost use Rattle.papaya_call.specs.declared.call.Call.{Call};
+ghost use Rattle.papaya_ask.specs.declared.call.Call.{Call};
 ghost use Rattle.papaya_core.specs.declared.trace.Turn.{Turn};
 ghost use Rattle.papaya_lines.specs.Turns.{WritesCaller, WritesCall, WritesTurn, verb_word};
 ghost use Rattle.papaya_lines.specs.declared.closures.Answering.{Answering};
@@ -9,7 +9,7 @@ ghost use Rattle.papaya_lines.specs.declared.turns.Verb.{Verb};
 use crate::closures::Answering;
 use crate::commands::{Command, command_of, parted};
 use crate::numbers::number_of;
-use papaya_call::call::Call;
+use papaya_ask::call::Call;
 use papaya_core::trace::Turn;
 
 /// How many callers a script may name.

@@ -5,19 +5,19 @@ use mathlib.Core.List.{IsPrefix}
 use denote.Bor.{Bor}
 use Rattle.papaya_words.specs.declared.probe.ResizeMode.{ResizeMode}
 use Rattle.papaya_words.specs.declared.probe.ResizeMode.TheVariants.{Incremental, Blocking}
-use Rattle.papaya_call.specs.declared.ask.Answer.TheVariants.{Yes, Size}
-use Rattle.papaya_call.specs.declared.ask.At.TheVariants.{Slot}
-use Rattle.papaya_call.specs.declared.ask.Ask.{Ask}
-use Rattle.papaya_call.specs.declared.ask.Ask.TheVariants.{Load, SameKey, SizeOf}
-use Rattle.papaya_call.specs.declared.call.Reply.TheVariants.{Found}
-use Rattle.papaya_call.specs.declared.call.Task.TheVariants.{Get}
+use Rattle.papaya_ask.specs.declared.ask.Answer.TheVariants.{Yes, Size}
+use Rattle.papaya_ask.specs.declared.ask.At.TheVariants.{Slot}
+use Rattle.papaya_ask.specs.declared.ask.Ask.{Ask}
+use Rattle.papaya_ask.specs.declared.ask.Ask.TheVariants.{Load, SameKey, SizeOf}
+use Rattle.papaya_ask.specs.declared.call.Reply.TheVariants.{Found}
+use Rattle.papaya_ask.specs.declared.call.Task.TheVariants.{Get}
 use Rattle.papaya_call.specs.declared.machine.Machine.{Machine}
 use Rattle.papaya_call.specs.declared.machine.State.{State as Stage}
 use Rattle.papaya_call.specs.declared.machine.State.TheVariants.{AtRoot, Making, Opening, Searching, Writing, Offering, Showing, Pairing, Putting, Burying, Counting, Uncounting, Leaving, Growing, Ended}
 use Rattle.papaya_call.specs.declared.compute.Remembered.{Remembered}
-use Rattle.papaya_call.specs.declared.search.Search.TheVariants.{Sizing, Looking, Comparing}
-use Rattle.papaya_call.specs.declared.search.Seen.{Seen}
-use Rattle.papaya_call.specs.declared.search.Seen.TheVariants as seen
+use Rattle.papaya_ask.specs.declared.search.Search.TheVariants.{Sizing, Looking, Comparing}
+use Rattle.papaya_ask.specs.declared.search.Seen.{Seen}
+use Rattle.papaya_ask.specs.declared.search.Seen.TheVariants as seen
 use Rattle.papaya_call.specs.declared.write.Made.{Made}
 use Rattle.papaya_law.specs.Allows.{AllAllowed}
 use Rattle.papaya_law.specs.Code.{Coding}
@@ -25,7 +25,7 @@ use Rattle.papaya_law.specs.Exchange.{Exchange, Setting, start}
 use Rattle.papaya_law.specs.View.{Foreign, Here, Leaving as View_leaving, held, view}
 use Rattle.papaya_call.specs.Machine.{IsStanding, IsStandingState, after, ask_of, asks, goes_as, kind_of_ask, passes}
 use Rattle.papaya_rests.specs.Rests.{RestsStage, WasAtMoment}
-use Rattle.papaya_call.specs.Search.{IsSize, at_yes}
+use Rattle.papaya_ask.specs.Search.{IsSize, at_yes}
 use Rattle.papaya_rests.specs.Told.{Hands, IsTold}
 use Rattle.papaya_law.specs.Code.{IsHashed}
 use Rattle.papaya_rests.proofs.RestsLearnLook.{compared}

@@ -1,8 +1,8 @@
 -- Of two pairs with one key and one number the one may be put in instead of the other: that is allowed as well, and writes the same word.
 use Rattle.std.proofs.Common.{◌≡◌, ℕ, ◌==◌, ◌&&◌, Bool, true, false, cond, refl, sym, ◌∙◌, subst}
 use Rattle.papaya_words.specs.Word.{live_word, top_byte}
-use Rattle.papaya_call.specs.declared.ask.At.{At}
-use Rattle.papaya_call.specs.declared.ask.At.TheVariants.{Root, Next, Aborted, Done, Slot}
+use Rattle.papaya_ask.specs.declared.ask.At.{At}
+use Rattle.papaya_ask.specs.declared.ask.At.TheVariants.{Root, Next, Aborted, Done, Slot}
 use Rattle.papaya_law.specs.Allows.{Allows}
 use Rattle.papaya_law.specs.Exchange.{Setting, State, Word, Live, Claim, Replace, slot_put}
 use Rattle.papaya_law.specs.Code.{Coding, code}

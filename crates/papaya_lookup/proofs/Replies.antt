@@ -4,10 +4,10 @@ use Rattle.std.proofs.lemmas.Bool.{cases_Bool, cond-true, cond-false}
 use Rattle.boxcar.specs.Table.{Where}
 use Rattle.logbook.specs.Pages.{Book}
 use denote.Bor.{Bor}
-use Rattle.papaya_call.specs.declared.ask.At.TheVariants.{Root, Slot}
-use Rattle.papaya_call.specs.declared.ask.Ask.TheVariants.{Load, SizeOf}
-use Rattle.papaya_call.specs.declared.ask.Answer.TheVariants.{Word as Word_read, Size}
-use Rattle.papaya_call.specs.declared.ask.StepKind.{StepKind}
+use Rattle.papaya_ask.specs.declared.ask.At.TheVariants.{Root, Slot}
+use Rattle.papaya_ask.specs.declared.ask.Ask.TheVariants.{Load, SizeOf}
+use Rattle.papaya_ask.specs.declared.ask.Answer.TheVariants.{Word as Word_read, Size}
+use Rattle.papaya_ask.specs.declared.ask.StepKind.{StepKind}
 use Rattle.papaya_law.specs.Grows.{brings, places_in, size_in}
 use Rattle.papaya_rests.specs.Told.{Hands, IsTold, or_last}
 use Rattle.papaya_book.specs.Sheets.{Sheet}

@@ -10,17 +10,17 @@ use Rattle.papaya_words.specs.declared.word.Kind.{Kind}
 use Rattle.papaya_words.specs.declared.word.Kind.TheVariants as kinds
 use Rattle.papaya_words.specs.declared.probe.ResizeMode.{ResizeMode}
 use Rattle.papaya_words.specs.declared.probe.ResizeMode.TheVariants.{Incremental, Blocking}
-use Rattle.papaya_call.specs.declared.call.Reply.TheVariants as replies
-use Rattle.papaya_call.specs.declared.call.Task.TheVariants.{Get}
+use Rattle.papaya_ask.specs.declared.call.Reply.TheVariants as replies
+use Rattle.papaya_ask.specs.declared.call.Task.TheVariants.{Get}
 use Rattle.papaya_call.specs.declared.machine.State.{State as Stage}
 use Rattle.papaya_call.specs.declared.machine.State.TheVariants.{AtRoot, Searching, Leaving, Ended}
-use Rattle.papaya_call.specs.declared.search.Place.{Place}
-use Rattle.papaya_call.specs.declared.search.Search.TheVariants.{Sizing, Looking, Comparing}
-use Rattle.papaya_call.specs.declared.search.Seen.{Seen}
-use Rattle.papaya_call.specs.declared.search.Seen.TheVariants.{On, Empty, Here, Over}
+use Rattle.papaya_ask.specs.declared.search.Place.{Place}
+use Rattle.papaya_ask.specs.declared.search.Search.TheVariants.{Sizing, Looking, Comparing}
+use Rattle.papaya_ask.specs.declared.search.Seen.{Seen}
+use Rattle.papaya_ask.specs.declared.search.Seen.TheVariants.{On, Empty, Here, Over}
 use Rattle.papaya_call.specs.Compute.{nothing}
 use Rattle.papaya_call.specs.Machine.{IsStanding, IsStandingState, goes_as, passes, started}
-use Rattle.papaya_call.specs.Search.{IsSeen, IsSize, IsWithin, at_yes, compare_byte, first_place, go_on, look, look_at, match_at, next_place}
+use Rattle.papaya_ask.specs.Search.{IsSeen, IsSize, IsWithin, at_yes, compare_byte, first_place, go_on, look, look_at, match_at, next_place}
 use Rattle.papaya_rests.specs.Told.{or_last}
 use Rattle.papaya_rests.proofs.LoadsLeft.{chosen}
 use Rattle.papaya_law.specs.Exchange.{Exchange}

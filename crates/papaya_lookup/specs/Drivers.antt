@@ -1,6 +1,6 @@
 -- What a call under way holds and is told, by what it sees of the map.
 use Rattle.std.specs.Prelude.{ℕ, List}
-use Rattle.papaya_call.specs.declared.ask.At.{At}
+use Rattle.papaya_ask.specs.declared.ask.At.{At}
 use Rattle.papaya_call.specs.declared.machine.State.{State as Stage}
 use Rattle.papaya_book.specs.declared.rule.entry.Event.{Event}
 use Rattle.papaya_book.specs.declared.keyed.Keyed as keyed

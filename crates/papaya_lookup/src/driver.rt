@@ -5,11 +5,11 @@ ghost use Rattle.papaya_rests.specs.Told.{or_last};
 ghost use Rattle.papaya_book.specs.Windows.{Sees};
 ghost use Rattle.papaya_lookup.specs.Drivers.{Holds, Loads};
 
+use papaya_ask::ask::{Answer, At};
+use papaya_ask::call::Task;
 use papaya_book::rule::entry::Stored;
 use papaya_book::table::Table;
 use papaya_book::window::Window;
-use papaya_call::ask::{Answer, At};
-use papaya_call::call::Task;
 use papaya_call::compute::Remembered;
 use papaya_call::machine::{Machine, State};
 use papaya_call::write::Made;

@@ -2,21 +2,21 @@
 //! what
 //! is loaded.
 ghost use Rattle.std.specs.Prelude.{◌≡◌, ◌<◌, ◌≤◌};
-ghost use Rattle.papaya_call.specs.Search.{IsWithin};
+ghost use Rattle.papaya_ask.specs.Search.{IsWithin};
 ghost use Rattle.papaya_call.specs.declared.machine.State.TheVariants.{Searching};
-ghost use Rattle.papaya_call.specs.declared.search.Search.TheVariants.{Looking};
+ghost use Rattle.papaya_ask.specs.declared.search.Search.TheVariants.{Looking};
 ghost use Rattle.papaya_book.specs.Windows.{IsLawful, Sees};
 ghost use Rattle.papaya_lookup.specs.Answers.{IsAnsweredBetween};
 ghost use Rattle.papaya_lookup.specs.Drivers.{IsReadingAt, IsTurned, left_after, past};
 ghost use Rattle.papaya_lookup.specs.Lookups.{left_of, turn_of};
 ghost use Rattle.papaya_lookup.specs.declared.lookup.Turn.TheVariants.{Next};
 
+use papaya_ask::search::{Place, Search, Seen};
 use papaya_book::book::gains::named_pair;
 use papaya_book::keyed::{Asked, Hashed};
 use papaya_book::rule::trade::Sight;
 use papaya_book::table::Table;
 use papaya_book::window::Window;
-use papaya_call::search::{Place, Search, Seen};
 use papaya_keys::guard::Equivalent;
 use papaya_words::probe::ResizeMode;
 use std::hash::{BuildHasher, Hash, Hasher};

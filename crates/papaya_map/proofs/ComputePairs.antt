@@ -5,11 +5,11 @@ use Rattle.papaya_words.specs.declared.probe.Refused.{Refused as Cause}
 use Rattle.papaya_words.specs.declared.probe.Refused.TheVariants.{Capacity, Memory}
 use Rattle.papaya_call.specs.declared.answers.Operation.{Operation}
 use Rattle.papaya_call.specs.declared.answers.Operation.TheVariants as operation
-use Rattle.papaya_call.specs.declared.ask.Ask.TheVariants.{MakePair, Done}
-use Rattle.papaya_call.specs.declared.ask.Answer.{Answer}
-use Rattle.papaya_call.specs.declared.ask.Answer.TheVariants.{Made as Made_number, Ok as Ok_done, Refused as Was_refused}
-use Rattle.papaya_call.specs.declared.call.Reply.{Reply}
-use Rattle.papaya_call.specs.declared.call.Reply.TheVariants.{Aborted, Refused as Reply_refused}
+use Rattle.papaya_ask.specs.declared.ask.Ask.TheVariants.{MakePair, Done}
+use Rattle.papaya_ask.specs.declared.ask.Answer.{Answer}
+use Rattle.papaya_ask.specs.declared.ask.Answer.TheVariants.{Made as Made_number, Ok as Ok_done, Refused as Was_refused}
+use Rattle.papaya_ask.specs.declared.call.Reply.{Reply}
+use Rattle.papaya_ask.specs.declared.call.Reply.TheVariants.{Aborted, Refused as Reply_refused}
 use Rattle.papaya_call.specs.declared.machine.Machine.{Machine}
 use Rattle.papaya_call.specs.Machine.{IsStanding, after, ask_of}
 use Rattle.papaya_rests.specs.Says.{Agrees, HasShownNone, Inserts, IsFilledBy, IsReplacedBy, IsSaidBy, Makes, Removes, Said, ShowsPairs, StandsOn, show}

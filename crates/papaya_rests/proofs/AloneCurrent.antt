@@ -7,15 +7,15 @@ use Rattle.papaya_words.specs.declared.probe.ResizeMode.{ResizeMode}
 use Rattle.papaya_words.specs.declared.probe.ResizeMode.TheVariants.{Incremental, Blocking}
 use Rattle.papaya_words.specs.declared.word.Kind.{Kind}
 use Rattle.papaya_words.specs.declared.word.Kind.TheVariants as word_kinds
-use Rattle.papaya_call.specs.declared.ask.At.{At}
-use Rattle.papaya_call.specs.declared.ask.At.TheVariants.{Root, Next, Slot}
-use Rattle.papaya_call.specs.declared.ask.Answer.{Answer}
-use Rattle.papaya_call.specs.declared.ask.Answer.TheVariants.{Word as Word_read, Exchanged, Yes, Op, Made as Made_number, Refused as Was_refused}
-use Rattle.papaya_call.specs.declared.ask.OpKind.{OpKind}
-use Rattle.papaya_call.specs.declared.ask.OpKind.TheVariants as op_kinds
-use Rattle.papaya_call.specs.declared.call.Reply.TheVariants.{Absent, Replaced}
-use Rattle.papaya_call.specs.declared.call.Task.{Task}
-use Rattle.papaya_call.specs.declared.call.Task.TheVariants.{Get, Insert, RemoveIf, Compute}
+use Rattle.papaya_ask.specs.declared.ask.At.{At}
+use Rattle.papaya_ask.specs.declared.ask.At.TheVariants.{Root, Next, Slot}
+use Rattle.papaya_ask.specs.declared.ask.Answer.{Answer}
+use Rattle.papaya_ask.specs.declared.ask.Answer.TheVariants.{Word as Word_read, Exchanged, Yes, Op, Made as Made_number, Refused as Was_refused}
+use Rattle.papaya_ask.specs.declared.ask.OpKind.{OpKind}
+use Rattle.papaya_ask.specs.declared.ask.OpKind.TheVariants as op_kinds
+use Rattle.papaya_ask.specs.declared.call.Reply.TheVariants.{Absent, Replaced}
+use Rattle.papaya_ask.specs.declared.call.Task.{Task}
+use Rattle.papaya_ask.specs.declared.call.Task.TheVariants.{Get, Insert, RemoveIf, Compute}
 use Rattle.papaya_call.specs.declared.compute.Choice.{Choice}
 use Rattle.papaya_call.specs.declared.compute.Choice.TheVariants as choices
 use Rattle.papaya_call.specs.declared.compute.Gap.{Gap}
@@ -25,17 +25,17 @@ use Rattle.papaya_call.specs.declared.compute.Purpose.TheVariants as purposes
 use Rattle.papaya_call.specs.declared.compute.Put.{Put}
 use Rattle.papaya_call.specs.declared.compute.Remembered.{Remembered}
 use Rattle.papaya_call.specs.declared.remove.Removal.{Removal}
-use Rattle.papaya_call.specs.declared.search.Place.{Place}
-use Rattle.papaya_call.specs.declared.search.Search.TheVariants.{Sizing, Looking, Comparing}
-use Rattle.papaya_call.specs.declared.search.Seen.{Seen}
-use Rattle.papaya_call.specs.declared.search.Seen.TheVariants as seen
+use Rattle.papaya_ask.specs.declared.search.Place.{Place}
+use Rattle.papaya_ask.specs.declared.search.Search.TheVariants.{Sizing, Looking, Comparing}
+use Rattle.papaya_ask.specs.declared.search.Seen.{Seen}
+use Rattle.papaya_ask.specs.declared.search.Seen.TheVariants as seen
 use Rattle.papaya_call.specs.declared.write.Made.{Made}
 use Rattle.papaya_call.specs.declared.write.Made.TheVariants.{Nothing, Key, Pair}
 use Rattle.papaya_call.specs.declared.write.Write.{Write}
 use Rattle.papaya_call.specs.declared.machine.Machine.{Machine}
 use Rattle.papaya_call.specs.declared.machine.State.{State}
 use Rattle.papaya_call.specs.declared.machine.State.TheVariants.{AtRoot, Making, Opening, Searching, Writing, Offering, Showing, Pairing, Putting, Burying, Counting, Uncounting, Leaving, Growing, Ended}
-use Rattle.papaya_call.specs.Search.{next_place, go_on, look_at, match_at, look, at_yes as search_compared}
+use Rattle.papaya_ask.specs.Search.{next_place, go_on, look_at, match_at, look, at_yes as search_compared}
 use Rattle.papaya_call.specs.Write.{new_word}
 use Rattle.papaya_call.specs.Remove.{grave_word}
 use Rattle.papaya_call.specs.Compute.{fills, lacks, offered, chosen, provides, recalls}

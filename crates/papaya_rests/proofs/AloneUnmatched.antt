@@ -6,22 +6,22 @@ use Rattle.papaya_words.specs.declared.probe.ResizeMode.{ResizeMode}
 use Rattle.papaya_words.specs.declared.probe.ResizeMode.TheVariants.{Incremental, Blocking}
 use Rattle.papaya_words.specs.declared.word.Kind.{Kind}
 use Rattle.papaya_words.specs.declared.word.Kind.TheVariants as word_kinds
-use Rattle.papaya_call.specs.declared.ask.Answer.{Answer}
-use Rattle.papaya_call.specs.declared.ask.Answer.TheVariants.{Word as Word_read, Exchanged, Found as Found_instead, Yes, Op, Size, Made as Made_number, Ok as Ok_done, Refused as Was_refused}
-use Rattle.papaya_call.specs.declared.call.Reply.{Reply}
-use Rattle.papaya_call.specs.declared.call.Reply.TheVariants.{Absent}
-use Rattle.papaya_call.specs.declared.call.Task.{Task}
-use Rattle.papaya_call.specs.declared.call.Task.TheVariants.{Get, Insert, RemoveIf, Compute}
+use Rattle.papaya_ask.specs.declared.ask.Answer.{Answer}
+use Rattle.papaya_ask.specs.declared.ask.Answer.TheVariants.{Word as Word_read, Exchanged, Found as Found_instead, Yes, Op, Size, Made as Made_number, Ok as Ok_done, Refused as Was_refused}
+use Rattle.papaya_ask.specs.declared.call.Reply.{Reply}
+use Rattle.papaya_ask.specs.declared.call.Reply.TheVariants.{Absent}
+use Rattle.papaya_ask.specs.declared.call.Task.{Task}
+use Rattle.papaya_ask.specs.declared.call.Task.TheVariants.{Get, Insert, RemoveIf, Compute}
 use Rattle.papaya_call.specs.declared.compute.Gap.TheVariants.{After}
 use Rattle.papaya_call.specs.declared.compute.Remembered.{Remembered}
-use Rattle.papaya_call.specs.declared.search.Place.{Place}
-use Rattle.papaya_call.specs.declared.search.Search.TheVariants.{Sizing, Looking, Comparing}
-use Rattle.papaya_call.specs.declared.search.Seen.{Seen}
-use Rattle.papaya_call.specs.declared.search.Seen.TheVariants as seen
+use Rattle.papaya_ask.specs.declared.search.Place.{Place}
+use Rattle.papaya_ask.specs.declared.search.Search.TheVariants.{Sizing, Looking, Comparing}
+use Rattle.papaya_ask.specs.declared.search.Seen.{Seen}
+use Rattle.papaya_ask.specs.declared.search.Seen.TheVariants as seen
 use Rattle.papaya_call.specs.declared.machine.Machine.{Machine}
 use Rattle.papaya_call.specs.declared.machine.State.{State}
 use Rattle.papaya_call.specs.declared.machine.State.TheVariants.{AtRoot, Making, Opening, Searching, Writing, Offering, Showing, Pairing, Putting, Burying, Counting, Uncounting, Leaving, Growing, Ended}
-use Rattle.papaya_call.specs.Search.{next_place, go_on, look_at, look}
+use Rattle.papaya_ask.specs.Search.{next_place, go_on, look_at, look}
 use Rattle.papaya_call.specs.Machine.{after, ask_of, asks, absent, at_root, left as next_or_end, passes, goes_as}
 use Rattle.papaya_rests.specs.Alone.{HasMetNone, IsSeeker, IsUnmatched}
 

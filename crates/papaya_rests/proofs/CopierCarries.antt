@@ -7,21 +7,21 @@ use Rattle.papaya_words.specs.declared.probe.Refused.{Refused}
 use Rattle.papaya_words.specs.declared.probe.ResizeMode.{ResizeMode}
 use Rattle.papaya_words.specs.declared.probe.ResizeMode.TheVariants.{Incremental, Blocking}
 use Rattle.papaya_words.proofs.Places.{place-next}
-use Rattle.papaya_call.specs.declared.ask.At.{At}
-use Rattle.papaya_call.specs.declared.ask.At.TheVariants.{Aborted, Next, Slot as Slot_word}
-use Rattle.papaya_call.specs.declared.carry.Carried.TheVariants as carried
-use Rattle.papaya_call.specs.declared.carry.Carry.{Carry}
-use Rattle.papaya_call.specs.declared.carry.Carry.TheVariants as carries
-use Rattle.papaya_call.specs.declared.copy_ask.CopyAsk.TheVariants.{Exchange as Ask_exchange, HashOf, Load, SamePair, SizeOf}
-use Rattle.papaya_call.specs.declared.link.Link.TheVariants as links
-use Rattle.papaya_call.specs.declared.link.Linked.{Linked}
-use Rattle.papaya_call.specs.declared.link.Linked.TheVariants as linked
-use Rattle.papaya_call.specs.declared.search.Place.{Place}
-use Rattle.papaya_call.specs.declared.settle.Slot.{Slot}
-use Rattle.papaya_call.specs.Carry.{at_count, at_found, at_hash, at_made, at_refused, at_size, at_word, at_yes, carried_on, carry_ask, carry_follows, compare_byte, compared, fills, goes_on, look as look_word, look_at}
-use Rattle.papaya_call.specs.Link.{follows, link_ask, at_count as link_at_count, at_found as link_lost, at_refused as link_at_refused}
-use Rattle.papaya_call.specs.Search.{next_place}
-use Rattle.papaya_call.specs.declared.link.Link.{Link}
+use Rattle.papaya_ask.specs.declared.ask.At.{At}
+use Rattle.papaya_ask.specs.declared.ask.At.TheVariants.{Aborted, Next, Slot as Slot_word}
+use Rattle.papaya_copy.specs.declared.carry.Carried.TheVariants as carried
+use Rattle.papaya_copy.specs.declared.carry.Carry.{Carry}
+use Rattle.papaya_copy.specs.declared.carry.Carry.TheVariants as carries
+use Rattle.papaya_ask.specs.declared.copy_ask.CopyAsk.TheVariants.{Exchange as Ask_exchange, HashOf, Load, SamePair, SizeOf}
+use Rattle.papaya_copy.specs.declared.link.Link.TheVariants as links
+use Rattle.papaya_copy.specs.declared.link.Linked.{Linked}
+use Rattle.papaya_copy.specs.declared.link.Linked.TheVariants as linked
+use Rattle.papaya_ask.specs.declared.search.Place.{Place}
+use Rattle.papaya_copy.specs.declared.settle.Slot.{Slot}
+use Rattle.papaya_copy.specs.Carry.{at_count, at_found, at_hash, at_made, at_refused, at_size, at_word, at_yes, carried_on, carry_ask, carry_follows, compare_byte, compared, fills, goes_on, look as look_word, look_at}
+use Rattle.papaya_copy.specs.Link.{follows, link_ask, at_count as link_at_count, at_found as link_lost, at_refused as link_at_refused}
+use Rattle.papaya_ask.specs.Search.{next_place}
+use Rattle.papaya_copy.specs.declared.link.Link.{Link}
 use Rattle.papaya_law.specs.Class.{IsOn}
 use Rattle.papaya_law.specs.Code.{Coding, IsHashed, code, kind}
 use Rattle.papaya_law.specs.Copying.{IsPutting}

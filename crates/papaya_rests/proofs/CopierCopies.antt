@@ -5,33 +5,33 @@ use Rattle.papaya_words.specs.Word.{pair_of}
 use Rattle.papaya_words.specs.declared.probe.Refused.{Refused}
 use Rattle.papaya_words.specs.declared.probe.ResizeMode.{ResizeMode}
 use Rattle.papaya_words.specs.declared.probe.ResizeMode.TheVariants.{Incremental, Blocking}
-use Rattle.papaya_call.specs.declared.ask.At.{At}
-use Rattle.papaya_call.specs.declared.carry.Carry.{Carry}
-use Rattle.papaya_call.specs.declared.carry.Carry.TheVariants as carries
-use Rattle.papaya_call.specs.declared.copy_ask.CopyAsk.TheVariants.{Exchange as Ask_exchange, HashOf, Load, SamePair, SizeOf}
-use Rattle.papaya_call.specs.declared.copying.Aim.{Aim}
-use Rattle.papaya_call.specs.declared.copying.Aim.TheVariants as aims
-use Rattle.papaya_call.specs.declared.copying.Copied.TheVariants as copied
-use Rattle.papaya_call.specs.declared.copying.Copying.{Copying}
-use Rattle.papaya_call.specs.declared.copying.Copying.TheVariants as copyings
-use Rattle.papaya_call.specs.declared.link.Link.{Link}
-use Rattle.papaya_call.specs.declared.link.Link.TheVariants as links
-use Rattle.papaya_call.specs.declared.search.Place.{Place}
-use Rattle.papaya_call.specs.declared.settle.Settle.{Settle}
-use Rattle.papaya_call.specs.declared.settle.Settle.TheVariants as settles
-use Rattle.papaya_call.specs.declared.settle.Settled.{Settled}
-use Rattle.papaya_call.specs.declared.settle.Settled.TheVariants as settled
-use Rattle.papaya_call.specs.declared.settle.Slot.{Slot}
-use Rattle.papaya_call.specs.declared.step.Step.{Step}
-use Rattle.papaya_call.specs.declared.step.Step.TheVariants as steps
-use Rattle.papaya_call.specs.declared.step.Stepped.{Stepped}
-use Rattle.papaya_call.specs.declared.step.Stepped.TheVariants as stepped
-use Rattle.papaya_call.specs.Carry.{carry_ask}
-use Rattle.papaya_call.specs.Copying.{all_of, at_count, at_exchanged, at_found, at_hash, at_made, at_refused, at_root, at_size, at_word, at_yes, copying_ask, copying_follows, copying_kind, last as last_of, leads, lone, over}
-use Rattle.papaya_call.specs.Link.{link_ask}
-use Rattle.papaya_call.specs.Machine.{IsChunked}
-use Rattle.papaya_call.specs.Settle.{settle_ask, at_count as settle_at_count, at_exchanged as settle_at_exchanged, at_found as settle_at_found, at_refused as settle_at_refused, at_word as settle_at_word, at_yes as settle_at_yes}
-use Rattle.papaya_call.specs.Step.{slot_of, step_ask, at_count as step_at_count, at_exchanged as step_at_exchanged, at_found as step_at_found, at_refused as step_at_refused, at_word as step_at_word, at_yes as step_at_yes}
+use Rattle.papaya_ask.specs.declared.ask.At.{At}
+use Rattle.papaya_copy.specs.declared.carry.Carry.{Carry}
+use Rattle.papaya_copy.specs.declared.carry.Carry.TheVariants as carries
+use Rattle.papaya_ask.specs.declared.copy_ask.CopyAsk.TheVariants.{Exchange as Ask_exchange, HashOf, Load, SamePair, SizeOf}
+use Rattle.papaya_copy.specs.declared.copying.Aim.{Aim}
+use Rattle.papaya_copy.specs.declared.copying.Aim.TheVariants as aims
+use Rattle.papaya_copy.specs.declared.copying.Copied.TheVariants as copied
+use Rattle.papaya_copy.specs.declared.copying.Copying.{Copying}
+use Rattle.papaya_copy.specs.declared.copying.Copying.TheVariants as copyings
+use Rattle.papaya_copy.specs.declared.link.Link.{Link}
+use Rattle.papaya_copy.specs.declared.link.Link.TheVariants as links
+use Rattle.papaya_ask.specs.declared.search.Place.{Place}
+use Rattle.papaya_copy.specs.declared.settle.Settle.{Settle}
+use Rattle.papaya_copy.specs.declared.settle.Settle.TheVariants as settles
+use Rattle.papaya_copy.specs.declared.settle.Settled.{Settled}
+use Rattle.papaya_copy.specs.declared.settle.Settled.TheVariants as settled
+use Rattle.papaya_copy.specs.declared.settle.Slot.{Slot}
+use Rattle.papaya_copy.specs.declared.step.Step.{Step}
+use Rattle.papaya_copy.specs.declared.step.Step.TheVariants as steps
+use Rattle.papaya_copy.specs.declared.step.Stepped.{Stepped}
+use Rattle.papaya_copy.specs.declared.step.Stepped.TheVariants as stepped
+use Rattle.papaya_copy.specs.Carry.{carry_ask}
+use Rattle.papaya_copy.specs.Copying.{all_of, at_count, at_exchanged, at_found, at_hash, at_made, at_refused, at_root, at_size, at_word, at_yes, copying_ask, copying_follows, copying_kind, last as last_of, leads, lone, over}
+use Rattle.papaya_copy.specs.Link.{link_ask}
+use Rattle.papaya_words.specs.Mode.{IsChunked}
+use Rattle.papaya_copy.specs.Settle.{settle_ask, at_count as settle_at_count, at_exchanged as settle_at_exchanged, at_found as settle_at_found, at_refused as settle_at_refused, at_word as settle_at_word, at_yes as settle_at_yes}
+use Rattle.papaya_copy.specs.Step.{slot_of, step_ask, at_count as step_at_count, at_exchanged as step_at_exchanged, at_found as step_at_found, at_refused as step_at_refused, at_word as step_at_word, at_yes as step_at_yes}
 use Rattle.papaya_law.specs.Allows.{Allows}
 use Rattle.papaya_law.specs.Class.{IsOn}
 use Rattle.papaya_law.specs.Code.{Coding, IsHashed, code}

@@ -3,27 +3,27 @@ use Rattle.std.proofs.Common.{◌≡◌, ◌⊎◌, inl, inr, ⊎_elim, ℕ, ◌
 use Rattle.std.proofs.lemmas.Bool.{cases_Bool, cond-true, cond-false}
 use Rattle.papaya_words.specs.Word.{byte_of, kind_of, pair_of, live_word, marked_word, copied_word}
 use Rattle.papaya_words.specs.declared.word.Kind.TheVariants as word_kinds
-use Rattle.papaya_call.specs.declared.ask.At.{At}
-use Rattle.papaya_call.specs.declared.ask.At.TheVariants.{Root, Next, Aborted, Done, Slot as Slot_word}
-use Rattle.papaya_call.specs.declared.ask.StepKind.{StepKind}
-use Rattle.papaya_call.specs.declared.ask.StepKind.TheVariants as kinds
-use Rattle.papaya_call.specs.declared.carry.Carry.{Carry}
-use Rattle.papaya_call.specs.declared.carry.Carry.TheVariants as carries
-use Rattle.papaya_call.specs.declared.copy_ask.CopyAsk.TheVariants.{Exchange as Ask_exchange}
-use Rattle.papaya_call.specs.declared.copying.Copying.{Copying}
-use Rattle.papaya_call.specs.declared.copying.Copying.TheVariants as copyings
-use Rattle.papaya_call.specs.declared.link.Link.{Link}
-use Rattle.papaya_call.specs.declared.link.Link.TheVariants as links
-use Rattle.papaya_call.specs.declared.settle.Settle.{Settle}
-use Rattle.papaya_call.specs.declared.settle.Settle.TheVariants as settles
-use Rattle.papaya_call.specs.declared.settle.Slot.{Slot}
-use Rattle.papaya_call.specs.declared.step.Step.{Step}
-use Rattle.papaya_call.specs.declared.step.Step.TheVariants as steps
-use Rattle.papaya_call.specs.Carry.{carry_ask, carry_kind}
-use Rattle.papaya_call.specs.Copying.{copying_ask, copying_kind}
-use Rattle.papaya_call.specs.Link.{link_ask, link_kind}
-use Rattle.papaya_call.specs.Settle.{copied_as, marked_as, settle_ask, settle_kind}
-use Rattle.papaya_call.specs.Step.{slot_of, step_ask, step_kind}
+use Rattle.papaya_ask.specs.declared.ask.At.{At}
+use Rattle.papaya_ask.specs.declared.ask.At.TheVariants.{Root, Next, Aborted, Done, Slot as Slot_word}
+use Rattle.papaya_ask.specs.declared.ask.StepKind.{StepKind}
+use Rattle.papaya_ask.specs.declared.ask.StepKind.TheVariants as kinds
+use Rattle.papaya_copy.specs.declared.carry.Carry.{Carry}
+use Rattle.papaya_copy.specs.declared.carry.Carry.TheVariants as carries
+use Rattle.papaya_ask.specs.declared.copy_ask.CopyAsk.TheVariants.{Exchange as Ask_exchange}
+use Rattle.papaya_copy.specs.declared.copying.Copying.{Copying}
+use Rattle.papaya_copy.specs.declared.copying.Copying.TheVariants as copyings
+use Rattle.papaya_copy.specs.declared.link.Link.{Link}
+use Rattle.papaya_copy.specs.declared.link.Link.TheVariants as links
+use Rattle.papaya_copy.specs.declared.settle.Settle.{Settle}
+use Rattle.papaya_copy.specs.declared.settle.Settle.TheVariants as settles
+use Rattle.papaya_copy.specs.declared.settle.Slot.{Slot}
+use Rattle.papaya_copy.specs.declared.step.Step.{Step}
+use Rattle.papaya_copy.specs.declared.step.Step.TheVariants as steps
+use Rattle.papaya_copy.specs.Carry.{carry_ask, carry_kind}
+use Rattle.papaya_copy.specs.Copying.{copying_ask, copying_kind}
+use Rattle.papaya_copy.specs.Link.{link_ask, link_kind}
+use Rattle.papaya_copy.specs.Settle.{copied_as, marked_as, settle_ask, settle_kind}
+use Rattle.papaya_copy.specs.Step.{slot_of, step_ask, step_kind}
 use Rattle.papaya_law.specs.Allows.{Allows}
 use Rattle.papaya_law.specs.Class.{IsOn}
 use Rattle.papaya_law.specs.Code.{Coding, IsHashed, IsOfKind, code}

@@ -10,11 +10,11 @@ use Rattle.papaya_law.specs.Invariant.{IsKeeping}
 use Rattle.papaya_law.specs.Meaning.{IsLawful}
 use Rattle.papaya_law.specs.View.{look, view, own, foreign, HasWord}
 use Rattle.papaya_rests.specs.Copier.{HasCarried, HasCompared, IsChunk, IsFor, IsSource, RestsCarry, RestsLink}
-use Rattle.papaya_call.specs.declared.carry.Carry.TheVariants as carries
-use Rattle.papaya_call.specs.declared.step.Chunk.{Chunk}
-use Rattle.papaya_call.specs.declared.link.Link.TheVariants as links
-use Rattle.papaya_call.specs.declared.search.Place.{Place}
-use Rattle.papaya_call.specs.declared.settle.Slot.{Slot}
+use Rattle.papaya_copy.specs.declared.carry.Carry.TheVariants as carries
+use Rattle.papaya_copy.specs.declared.step.Chunk.{Chunk}
+use Rattle.papaya_copy.specs.declared.link.Link.TheVariants as links
+use Rattle.papaya_ask.specs.declared.search.Place.{Place}
+use Rattle.papaya_copy.specs.declared.settle.Slot.{Slot}
 use Rattle.papaya_law.proofs.CopierFacts.{compared_foreign, compared_own, target_further}
 use Rattle.papaya_law.proofs.Copies.{may_abort, may_place, put_next, target_takes}
 use Rattle.papaya_law.proofs.OneMap.{keeping_sound}

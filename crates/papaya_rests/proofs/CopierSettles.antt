@@ -4,22 +4,22 @@ use Rattle.std.proofs.lemmas.Bool.{cond-true}
 use Rattle.papaya_words.specs.declared.probe.Refused.{Refused}
 use Rattle.papaya_words.specs.declared.probe.ResizeMode.{ResizeMode}
 use Rattle.papaya_words.specs.declared.probe.ResizeMode.TheVariants.{Incremental, Blocking}
-use Rattle.papaya_call.specs.declared.ask.At.{At}
-use Rattle.papaya_call.specs.declared.ask.At.TheVariants.{Aborted, Next, Slot as Slot_word}
-use Rattle.papaya_call.specs.declared.ask.StepKind.TheVariants as kinds
-use Rattle.papaya_call.specs.declared.carry.Carried.{Carried}
-use Rattle.papaya_call.specs.declared.carry.Carried.TheVariants as carried
-use Rattle.papaya_call.specs.declared.carry.Carry.{Carry}
-use Rattle.papaya_call.specs.declared.carry.Carry.TheVariants as carries
-use Rattle.papaya_call.specs.declared.copy_ask.CopyAsk.TheVariants.{Exchange as Ask_exchange, HashOf, Load, SamePair, SizeOf}
-use Rattle.papaya_call.specs.declared.link.Link.{Link}
-use Rattle.papaya_call.specs.declared.link.Link.TheVariants as links
-use Rattle.papaya_call.specs.declared.settle.Settle.{Settle}
-use Rattle.papaya_call.specs.declared.settle.Settle.TheVariants as settles
-use Rattle.papaya_call.specs.declared.settle.Slot.{Slot}
-use Rattle.papaya_call.specs.Carry.{at_count as carry_at_count, at_exchanged as carry_at_exchanged, at_found as carry_at_found, at_refused as carry_at_refused, at_word as carry_at_word, at_yes as carry_at_yes, carry_ask, carry_kind}
-use Rattle.papaya_call.specs.Link.{follows, link_ask, link_kind, at_exchanged as link_at_exchanged}
-use Rattle.papaya_call.specs.Settle.{at_count, at_found, at_hash, at_made, at_refused, at_size, at_word, at_yes, look as look_word, look_at, settle_ask, settle_follows, settled_by}
+use Rattle.papaya_ask.specs.declared.ask.At.{At}
+use Rattle.papaya_ask.specs.declared.ask.At.TheVariants.{Aborted, Next, Slot as Slot_word}
+use Rattle.papaya_ask.specs.declared.ask.StepKind.TheVariants as kinds
+use Rattle.papaya_copy.specs.declared.carry.Carried.{Carried}
+use Rattle.papaya_copy.specs.declared.carry.Carried.TheVariants as carried
+use Rattle.papaya_copy.specs.declared.carry.Carry.{Carry}
+use Rattle.papaya_copy.specs.declared.carry.Carry.TheVariants as carries
+use Rattle.papaya_ask.specs.declared.copy_ask.CopyAsk.TheVariants.{Exchange as Ask_exchange, HashOf, Load, SamePair, SizeOf}
+use Rattle.papaya_copy.specs.declared.link.Link.{Link}
+use Rattle.papaya_copy.specs.declared.link.Link.TheVariants as links
+use Rattle.papaya_copy.specs.declared.settle.Settle.{Settle}
+use Rattle.papaya_copy.specs.declared.settle.Settle.TheVariants as settles
+use Rattle.papaya_copy.specs.declared.settle.Slot.{Slot}
+use Rattle.papaya_copy.specs.Carry.{at_count as carry_at_count, at_exchanged as carry_at_exchanged, at_found as carry_at_found, at_refused as carry_at_refused, at_word as carry_at_word, at_yes as carry_at_yes, carry_ask, carry_kind}
+use Rattle.papaya_copy.specs.Link.{follows, link_ask, link_kind, at_exchanged as link_at_exchanged}
+use Rattle.papaya_copy.specs.Settle.{at_count, at_found, at_hash, at_made, at_refused, at_size, at_word, at_yes, look as look_word, look_at, settle_ask, settle_follows, settled_by}
 use Rattle.papaya_law.specs.Allows.{Allows}
 use Rattle.papaya_law.specs.Class.{IsOn}
 use Rattle.papaya_law.specs.Code.{Coding, IsHashed, code, kind}

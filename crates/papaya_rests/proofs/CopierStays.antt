@@ -6,23 +6,23 @@ use Rattle.papaya_law.specs.Copying.{IsPutting}
 use Rattle.papaya_law.specs.Exchange.{Marked, Copied, Setting, State}
 use Rattle.papaya_law.specs.Later.{Becomes, IsLater, IsLasting}
 use Rattle.papaya_law.specs.Meaning.{IsLawful}
-use Rattle.papaya_call.specs.declared.copying.Aim.{Aim}
-use Rattle.papaya_call.specs.declared.copying.Aim.TheVariants as aims
-use Rattle.papaya_call.specs.declared.copying.Copying.{Copying}
-use Rattle.papaya_call.specs.declared.copying.Copying.TheVariants as copyings
-use Rattle.papaya_call.specs.Link.{follows}
-use Rattle.papaya_call.specs.Step.{slot_of}
+use Rattle.papaya_copy.specs.declared.copying.Aim.{Aim}
+use Rattle.papaya_copy.specs.declared.copying.Aim.TheVariants as aims
+use Rattle.papaya_copy.specs.declared.copying.Copying.{Copying}
+use Rattle.papaya_copy.specs.declared.copying.Copying.TheVariants as copyings
+use Rattle.papaya_copy.specs.Link.{follows}
+use Rattle.papaya_copy.specs.Step.{slot_of}
 use Rattle.papaya_rests.specs.Copier.{HasCompared, IsAimed, IsChunk, IsMoving, IsSource, RestsAim, RestsCarry, RestsCopying, RestsLink, RestsSettle, RestsStep}
-use Rattle.papaya_call.specs.declared.carry.Carry.{Carry}
-use Rattle.papaya_call.specs.declared.carry.Carry.TheVariants as carries
-use Rattle.papaya_call.specs.declared.step.Chunk.{Chunk}
-use Rattle.papaya_call.specs.declared.step.Step.{Step}
-use Rattle.papaya_call.specs.declared.step.Step.TheVariants as steps
-use Rattle.papaya_call.specs.declared.link.Link.{Link}
-use Rattle.papaya_call.specs.declared.search.Place.{Place}
-use Rattle.papaya_call.specs.declared.settle.Settle.{Settle}
-use Rattle.papaya_call.specs.declared.settle.Settle.TheVariants as settles
-use Rattle.papaya_call.specs.declared.settle.Slot.{Slot}
+use Rattle.papaya_copy.specs.declared.carry.Carry.{Carry}
+use Rattle.papaya_copy.specs.declared.carry.Carry.TheVariants as carries
+use Rattle.papaya_copy.specs.declared.step.Chunk.{Chunk}
+use Rattle.papaya_copy.specs.declared.step.Step.{Step}
+use Rattle.papaya_copy.specs.declared.step.Step.TheVariants as steps
+use Rattle.papaya_copy.specs.declared.link.Link.{Link}
+use Rattle.papaya_ask.specs.declared.search.Place.{Place}
+use Rattle.papaya_copy.specs.declared.settle.Settle.{Settle}
+use Rattle.papaya_copy.specs.declared.settle.Settle.TheVariants as settles
+use Rattle.papaya_copy.specs.declared.settle.Slot.{Slot}
 use Rattle.papaya_law.proofs.CopierFacts.{putting_lasts}
 use Rattle.papaya_law.proofs.Later.{lasts, becomes_through}
 

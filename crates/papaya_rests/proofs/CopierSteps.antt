@@ -4,24 +4,24 @@ use Rattle.std.proofs.lemmas.Bool.{cases_lt, cond_both}
 use Rattle.papaya_words.specs.declared.probe.Refused.{Refused}
 use Rattle.papaya_words.specs.declared.probe.ResizeMode.{ResizeMode}
 use Rattle.papaya_words.specs.declared.probe.ResizeMode.TheVariants.{Incremental, Blocking}
-use Rattle.papaya_call.specs.declared.ask.At.{At}
-use Rattle.papaya_call.specs.declared.ask.At.TheVariants.{Root, Next, Aborted, Done}
-use Rattle.papaya_call.specs.declared.ask.StepKind.TheVariants as kinds
-use Rattle.papaya_call.specs.declared.copy_ask.CopyAsk.TheVariants.{Exchange as Ask_exchange, HashOf, Load, SamePair, SizeOf}
-use Rattle.papaya_call.specs.declared.link.Link.TheVariants as links
-use Rattle.papaya_call.specs.declared.link.Linked.{Linked}
-use Rattle.papaya_call.specs.declared.link.Linked.TheVariants as linked
-use Rattle.papaya_call.specs.declared.settle.Settle.TheVariants as settles
-use Rattle.papaya_call.specs.declared.settle.Settled.{Settled}
-use Rattle.papaya_call.specs.declared.settle.Settled.TheVariants as settled
-use Rattle.papaya_call.specs.declared.step.Chunk.{Chunk}
-use Rattle.papaya_call.specs.declared.step.Step.{Step}
-use Rattle.papaya_call.specs.declared.step.Step.TheVariants as steps
-use Rattle.papaya_call.specs.declared.step.Stepped.TheVariants as stepped
-use Rattle.papaya_call.specs.Link.{follows, at_count as link_at_count, at_exchanged as link_at_exchanged, at_found as link_at_found, at_refused as link_at_refused}
-use Rattle.papaya_call.specs.Machine.{IsChunked}
-use Rattle.papaya_call.specs.Settle.{at_count as settle_at_count, at_exchanged as settle_at_exchanged, at_found as settle_at_found, at_refused as settle_at_refused, at_word as settle_at_word, at_yes as settle_at_yes}
-use Rattle.papaya_call.specs.Step.{advanced, aimed, at_count, at_exchanged, at_found, at_hash, at_made, at_refused, at_size, at_word, at_yes, chunk_at, chunk_of, counted, end_of, linked_to, next_slot, settled_to, slot_of, step_ask, step_follows, step_kind}
+use Rattle.papaya_ask.specs.declared.ask.At.{At}
+use Rattle.papaya_ask.specs.declared.ask.At.TheVariants.{Root, Next, Aborted, Done}
+use Rattle.papaya_ask.specs.declared.ask.StepKind.TheVariants as kinds
+use Rattle.papaya_ask.specs.declared.copy_ask.CopyAsk.TheVariants.{Exchange as Ask_exchange, HashOf, Load, SamePair, SizeOf}
+use Rattle.papaya_copy.specs.declared.link.Link.TheVariants as links
+use Rattle.papaya_copy.specs.declared.link.Linked.{Linked}
+use Rattle.papaya_copy.specs.declared.link.Linked.TheVariants as linked
+use Rattle.papaya_copy.specs.declared.settle.Settle.TheVariants as settles
+use Rattle.papaya_copy.specs.declared.settle.Settled.{Settled}
+use Rattle.papaya_copy.specs.declared.settle.Settled.TheVariants as settled
+use Rattle.papaya_copy.specs.declared.step.Chunk.{Chunk}
+use Rattle.papaya_copy.specs.declared.step.Step.{Step}
+use Rattle.papaya_copy.specs.declared.step.Step.TheVariants as steps
+use Rattle.papaya_copy.specs.declared.step.Stepped.TheVariants as stepped
+use Rattle.papaya_copy.specs.Link.{follows, at_count as link_at_count, at_exchanged as link_at_exchanged, at_found as link_at_found, at_refused as link_at_refused}
+use Rattle.papaya_words.specs.Mode.{IsChunked}
+use Rattle.papaya_copy.specs.Settle.{at_count as settle_at_count, at_exchanged as settle_at_exchanged, at_found as settle_at_found, at_refused as settle_at_refused, at_word as settle_at_word, at_yes as settle_at_yes}
+use Rattle.papaya_copy.specs.Step.{advanced, aimed, at_count, at_exchanged, at_found, at_hash, at_made, at_refused, at_size, at_word, at_yes, chunk_at, chunk_of, counted, end_of, linked_to, next_slot, settled_to, slot_of, step_ask, step_follows, step_kind}
 use Rattle.papaya_law.specs.Allows.{Allows}
 use Rattle.papaya_law.specs.Class.{IsOn}
 use Rattle.papaya_law.specs.Code.{Coding, IsHashed}

@@ -1,7 +1,7 @@
 -- One further key: the numbers that stand at the places are what they were.
 use Rattle.std.proofs.Common.{◌≡◌, ℕ, Bool, refl}
-use Rattle.papaya_call.specs.declared.ask.At.{At}
-use Rattle.papaya_call.specs.declared.ask.At.TheVariants.{Root, Next, Aborted, Done, Slot}
+use Rattle.papaya_ask.specs.declared.ask.At.{At}
+use Rattle.papaya_ask.specs.declared.ask.At.TheVariants.{Root, Next, Aborted, Done, Slot}
 use Rattle.papaya_law.specs.Exchange.{Setting, State}
 use Rattle.papaya_law.specs.Code.{Coding}
 use Rattle.papaya_law.specs.Further.{with_key, coding_with}

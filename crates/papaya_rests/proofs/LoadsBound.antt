@@ -4,11 +4,11 @@ use Rattle.std.specs.List.{All}
 use Rattle.std.proofs.lemmas.List.Elements.{All-cons, All-nil}
 use Rattle.papaya_words.specs.Word.{kind_of}
 use Rattle.papaya_words.specs.declared.probe.ResizeMode.{ResizeMode}
-use Rattle.papaya_call.specs.declared.ask.Ask.{Ask}
-use Rattle.papaya_call.specs.declared.ask.Answer.{Answer}
-use Rattle.papaya_call.specs.declared.ask.Answer.TheVariants as answers
-use Rattle.papaya_call.specs.declared.call.Task.TheVariants.{Get}
-use Rattle.papaya_call.specs.declared.search.Search.TheVariants.{Sizing, Looking, Comparing}
+use Rattle.papaya_ask.specs.declared.ask.Ask.{Ask}
+use Rattle.papaya_ask.specs.declared.ask.Answer.{Answer}
+use Rattle.papaya_ask.specs.declared.ask.Answer.TheVariants as answers
+use Rattle.papaya_ask.specs.declared.call.Task.TheVariants.{Get}
+use Rattle.papaya_ask.specs.declared.search.Search.TheVariants.{Sizing, Looking, Comparing}
 use Rattle.papaya_call.specs.declared.write.Made.{Made}
 use Rattle.papaya_call.specs.declared.write.Made.TheVariants.{Nothing}
 use Rattle.papaya_call.specs.declared.machine.State.{State}
@@ -16,7 +16,7 @@ use Rattle.papaya_call.specs.declared.machine.State.TheVariants.{AtRoot, Making,
 use Rattle.papaya_call.specs.declared.machine.Machine.{Machine}
 use Rattle.papaya_call.specs.Compute.{nothing}
 use Rattle.papaya_call.specs.Machine.{IsLookup, ask_of, after, started, at_root, left as state_left, goes_as}
-use Rattle.papaya_call.specs.Search.{first_place, look_at, at_yes as search_compared}
+use Rattle.papaya_ask.specs.Search.{first_place, look_at, at_yes as search_compared}
 use Rattle.papaya_rests.specs.Loads.{IsAnswer, AreAnswers, IsBounded, asked, tables_entered, tables_loaded}
 use Rattle.papaya_rests.proofs.LoadsLists.{count, IsFrom, from_nil}
 use Rattle.papaya_rests.proofs.LoadsSteps.{lookup, IsReader, IsBelow, left, AreKnown, IsStep, leads_look, leads_compared, step_root, step_next, step_size, step_load, step_compare, step_ended}

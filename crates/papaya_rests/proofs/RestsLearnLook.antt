@@ -3,16 +3,16 @@ use Rattle.std.proofs.Common.{◌≡◌, ◌⊎◌, inl, inr, ⊎_elim, ℕ, ◌
 use Rattle.std.proofs.lemmas.Bool.{cond_both}
 use Rattle.papaya_words.specs.Word.{kind_of, byte_of, top_byte}
 use Rattle.papaya_words.specs.declared.word.Kind.TheVariants as kinds
-use Rattle.papaya_call.specs.declared.search.Place.{Place}
-use Rattle.papaya_call.specs.declared.search.Search.TheVariants.{Comparing}
-use Rattle.papaya_call.specs.declared.search.Seen.TheVariants as seen
+use Rattle.papaya_ask.specs.declared.search.Place.{Place}
+use Rattle.papaya_ask.specs.declared.search.Search.TheVariants.{Comparing}
+use Rattle.papaya_ask.specs.declared.search.Seen.TheVariants as seen
 use Rattle.papaya_law.specs.Exchange.{Word, Empty, Closed, Live, Marked, Copied, Buried, Setting, State, Exchange, run, start}
 use Rattle.papaya_law.specs.View.{View, Foreign, Here, Leaving, Gone, look, held, beyond, view}
 use Rattle.papaya_law.specs.Allows.{AllAllowed}
 use Rattle.papaya_law.specs.Code.{Coding, code, kind}
 use Rattle.papaya_law.specs.Invariant.{named}
 use Rattle.papaya_law.specs.Later.{Becomes}
-use Rattle.papaya_call.specs.Search.{go_on, compare_byte, look_at, look as look_seen, match_at, at_yes}
+use Rattle.papaya_ask.specs.Search.{go_on, compare_byte, look_at, look as look_seen, match_at, at_yes}
 use Rattle.papaya_rests.specs.Told.{Hands, or_last}
 use Rattle.papaya_law.specs.Code.{IsHashed}
 use Rattle.papaya_rests.specs.Rests.{HasMet, IsAt}

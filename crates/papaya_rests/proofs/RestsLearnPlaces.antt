@@ -3,14 +3,14 @@ use Rattle.std.proofs.Common.{◌≡◌, ◌⊎◌, inr, ⊎_elim, ℕ, ◌+◌,
 use Rattle.std.proofs.lemmas.Bool.{cases_lt, cond_both}
 use Rattle.papaya_words.specs.Probe.{place}
 use Rattle.papaya_words.proofs.Places.{place-next}
-use Rattle.papaya_call.specs.declared.search.Place.{Place}
-use Rattle.papaya_call.specs.declared.search.Search.TheVariants.{Looking}
-use Rattle.papaya_call.specs.declared.search.Seen.{Seen}
-use Rattle.papaya_call.specs.declared.search.Seen.TheVariants as seen
+use Rattle.papaya_ask.specs.declared.search.Place.{Place}
+use Rattle.papaya_ask.specs.declared.search.Search.TheVariants.{Looking}
+use Rattle.papaya_ask.specs.declared.search.Seen.{Seen}
+use Rattle.papaya_ask.specs.declared.search.Seen.TheVariants as seen
 use Rattle.papaya_law.specs.Exchange.{Word, Empty, Live, Marked, Setting, State, Exchange, run, start}
 use Rattle.papaya_law.specs.View.{look, beyond, view, IsPassed}
 use Rattle.papaya_law.specs.Code.{Coding}
-use Rattle.papaya_call.specs.Search.{first_place, next_place, go_on}
+use Rattle.papaya_ask.specs.Search.{first_place, next_place, go_on}
 use Rattle.papaya_rests.specs.Told.{Hands}
 use Rattle.papaya_law.specs.Code.{IsHashed}
 use Rattle.papaya_rests.specs.Rests.{HasComeTo, HasMet, IsAt, RestsSearch}

@@ -3,10 +3,10 @@ use Rattle.std.proofs.Common.{◌≡◌, inl, ℕ, Bool, true, false, None, Some
 use Rattle.papaya_words.specs.Word.{kind_of}
 use Rattle.papaya_words.specs.declared.word.Kind.{Kind}
 use Rattle.papaya_words.specs.declared.word.Kind.TheVariants as word_kinds
-use Rattle.papaya_call.specs.declared.ask.StepKind.TheVariants as kinds
-use Rattle.papaya_call.specs.declared.call.Reply.TheVariants.{Removed}
-use Rattle.papaya_call.specs.declared.call.Task.{Task}
-use Rattle.papaya_call.specs.declared.call.Task.TheVariants.{Get, Insert, RemoveIf, Compute}
+use Rattle.papaya_ask.specs.declared.ask.StepKind.TheVariants as kinds
+use Rattle.papaya_ask.specs.declared.call.Reply.TheVariants.{Removed}
+use Rattle.papaya_ask.specs.declared.call.Task.{Task}
+use Rattle.papaya_ask.specs.declared.call.Task.TheVariants.{Get, Insert, RemoveIf, Compute}
 use Rattle.papaya_call.specs.declared.remove.Removal.{Removal}
 use Rattle.papaya_call.specs.declared.machine.Machine.{Machine}
 use Rattle.papaya_call.specs.declared.machine.State.TheVariants.{Ended}
@@ -16,7 +16,7 @@ use Rattle.papaya_law.specs.Code.{Coding, IsOfKind, code}
 use Rattle.papaya_law.specs.Invariant.{named}
 use Rattle.papaya_law.specs.Later.{Becomes}
 use Rattle.papaya_call.specs.Machine.{HasClosure, agreed, beaten_as, beaten_by, goes, judged}
-use Rattle.papaya_call.specs.Search.{look as look_seen}
+use Rattle.papaya_ask.specs.Search.{look as look_seen}
 use Rattle.papaya_rests.specs.Told.{Hands}
 use Rattle.papaya_law.specs.Code.{IsHashed}
 use Rattle.papaya_rests.specs.Rests.{MayRemove, MayWrite, RestsStage, WasAtMoment}

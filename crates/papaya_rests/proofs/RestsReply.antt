@@ -3,22 +3,22 @@ use Rattle.std.proofs.Common.{◌≡◌, ◌⊎◌, inl, inr, ⊎_elim, ℕ, ◌
 use Rattle.papaya_words.specs.Word.{pair_of}
 use Rattle.papaya_words.specs.declared.probe.Refused.{Refused}
 use Rattle.papaya_words.specs.declared.probe.ResizeMode.{ResizeMode}
-use Rattle.papaya_call.specs.declared.ask.Answer.{Answer}
-use Rattle.papaya_call.specs.declared.ask.Answer.TheVariants.{Exchanged, Found as Found_instead, Yes, Op, Made as Made_number, Ok as Ok_done, Refused as Was_refused}
-use Rattle.papaya_call.specs.declared.ask.At.TheVariants.{Root, Slot}
-use Rattle.papaya_call.specs.declared.ask.OpKind.{OpKind}
-use Rattle.papaya_call.specs.declared.ask.OpKind.TheVariants as ops
-use Rattle.papaya_call.specs.declared.ask.StepKind.TheVariants as kinds
-use Rattle.papaya_call.specs.declared.call.Reply.TheVariants.{Replaced}
-use Rattle.papaya_call.specs.declared.call.Task.{Task}
-use Rattle.papaya_call.specs.declared.call.Task.TheVariants.{Get, Insert, RemoveIf, Compute}
+use Rattle.papaya_ask.specs.declared.ask.Answer.{Answer}
+use Rattle.papaya_ask.specs.declared.ask.Answer.TheVariants.{Exchanged, Found as Found_instead, Yes, Op, Made as Made_number, Ok as Ok_done, Refused as Was_refused}
+use Rattle.papaya_ask.specs.declared.ask.At.TheVariants.{Root, Slot}
+use Rattle.papaya_ask.specs.declared.ask.OpKind.{OpKind}
+use Rattle.papaya_ask.specs.declared.ask.OpKind.TheVariants as ops
+use Rattle.papaya_ask.specs.declared.ask.StepKind.TheVariants as kinds
+use Rattle.papaya_ask.specs.declared.call.Reply.TheVariants.{Replaced}
+use Rattle.papaya_ask.specs.declared.call.Task.{Task}
+use Rattle.papaya_ask.specs.declared.call.Task.TheVariants.{Get, Insert, RemoveIf, Compute}
 use Rattle.papaya_call.specs.declared.compute.Gap.{Gap}
 use Rattle.papaya_call.specs.declared.compute.Purpose.{Purpose}
 use Rattle.papaya_call.specs.declared.compute.Remembered.{Remembered}
 use Rattle.papaya_call.specs.declared.remove.Removal.{Removal}
-use Rattle.papaya_call.specs.declared.search.Place.{Place}
-use Rattle.papaya_call.specs.declared.search.Search.TheVariants.{Sizing, Looking, Comparing}
-use Rattle.papaya_call.specs.declared.search.Seen.{Seen}
+use Rattle.papaya_ask.specs.declared.search.Place.{Place}
+use Rattle.papaya_ask.specs.declared.search.Search.TheVariants.{Sizing, Looking, Comparing}
+use Rattle.papaya_ask.specs.declared.search.Seen.{Seen}
 use Rattle.papaya_call.specs.declared.write.Made.{Made}
 use Rattle.papaya_call.specs.declared.write.Made.TheVariants.{Nothing, Key, Pair}
 use Rattle.papaya_call.specs.declared.write.Write.{Write}
@@ -29,7 +29,7 @@ use Rattle.papaya_law.specs.Exchange.{Setting, State, Exchange}
 use Rattle.papaya_law.specs.Code.{Coding, code}
 use Rattle.papaya_call.specs.Compute.{offered}
 use Rattle.papaya_call.specs.Machine.{after, ask_of, asks, decided, goes_as, judged, kind_asked, kind_of_ask}
-use Rattle.papaya_call.specs.Search.{look as look_seen, at_yes as search_compared}
+use Rattle.papaya_ask.specs.Search.{look as look_seen, at_yes as search_compared}
 use Rattle.papaya_rests.specs.Told.{IsAsked, IsSaying, IsTold, IsUnmade, Hands, Quiet, told_of}
 use Rattle.papaya_law.specs.Code.{IsHashed}
 use Rattle.papaya_call.specs.Remove.{grave_word}

@@ -2,39 +2,39 @@
 use Rattle.std.specs.Prelude.{◌≡◌, ◌⊎◌, ℕ, ◌+◌, ◌<◌, ◌≤◌, true, false, Option, Some}
 use Rattle.papaya_words.specs.Word.{kind_of, pair_of}
 use Rattle.papaya_words.specs.declared.word.Kind.TheVariants as word_kinds
-use Rattle.papaya_call.specs.declared.ask.At.{At}
-use Rattle.papaya_call.specs.declared.ask.At.TheVariants.{Root, Next, Aborted, Done, Slot as Slot_word}
-use Rattle.papaya_call.specs.declared.ask.StepKind.{StepKind}
-use Rattle.papaya_call.specs.declared.ask.StepKind.TheVariants as kinds
-use Rattle.papaya_call.specs.declared.carry.Carried.{Carried}
-use Rattle.papaya_call.specs.declared.carry.Carried.TheVariants as carried
-use Rattle.papaya_call.specs.declared.carry.Carry.{Carry}
-use Rattle.papaya_call.specs.declared.carry.Carry.TheVariants as carries
-use Rattle.papaya_call.specs.declared.copy_ask.CopyAsk.{CopyAsk}
-use Rattle.papaya_call.specs.declared.copy_ask.CopyAsk.TheVariants as asks
-use Rattle.papaya_call.specs.declared.copying.Aim.{Aim}
-use Rattle.papaya_call.specs.declared.copying.Aim.TheVariants as aims
-use Rattle.papaya_call.specs.declared.copying.Copied.{Copied as Copied_end}
-use Rattle.papaya_call.specs.declared.copying.Copied.TheVariants as copied
-use Rattle.papaya_call.specs.declared.copying.Copying.{Copying}
-use Rattle.papaya_call.specs.declared.copying.Copying.TheVariants as copyings
-use Rattle.papaya_call.specs.declared.link.Link.{Link}
-use Rattle.papaya_call.specs.declared.link.Link.TheVariants as links
-use Rattle.papaya_call.specs.declared.link.Linked.{Linked}
-use Rattle.papaya_call.specs.declared.link.Linked.TheVariants as linked
-use Rattle.papaya_call.specs.declared.search.Place.{Place}
-use Rattle.papaya_call.specs.declared.settle.Settle.{Settle}
-use Rattle.papaya_call.specs.declared.settle.Settle.TheVariants as settles
-use Rattle.papaya_call.specs.declared.settle.Settled.{Settled}
-use Rattle.papaya_call.specs.declared.settle.Settled.TheVariants as settled
-use Rattle.papaya_call.specs.declared.settle.Slot.{Slot}
-use Rattle.papaya_call.specs.declared.step.Chunk.{Chunk}
-use Rattle.papaya_call.specs.declared.step.Step.{Step}
-use Rattle.papaya_call.specs.declared.step.Step.TheVariants as steps
-use Rattle.papaya_call.specs.declared.step.Stepped.{Stepped}
-use Rattle.papaya_call.specs.declared.step.Stepped.TheVariants as stepped
-use Rattle.papaya_call.specs.Link.{follows}
-use Rattle.papaya_call.specs.Step.{slot_of}
+use Rattle.papaya_ask.specs.declared.ask.At.{At}
+use Rattle.papaya_ask.specs.declared.ask.At.TheVariants.{Root, Next, Aborted, Done, Slot as Slot_word}
+use Rattle.papaya_ask.specs.declared.ask.StepKind.{StepKind}
+use Rattle.papaya_ask.specs.declared.ask.StepKind.TheVariants as kinds
+use Rattle.papaya_copy.specs.declared.carry.Carried.{Carried}
+use Rattle.papaya_copy.specs.declared.carry.Carried.TheVariants as carried
+use Rattle.papaya_copy.specs.declared.carry.Carry.{Carry}
+use Rattle.papaya_copy.specs.declared.carry.Carry.TheVariants as carries
+use Rattle.papaya_ask.specs.declared.copy_ask.CopyAsk.{CopyAsk}
+use Rattle.papaya_ask.specs.declared.copy_ask.CopyAsk.TheVariants as asks
+use Rattle.papaya_copy.specs.declared.copying.Aim.{Aim}
+use Rattle.papaya_copy.specs.declared.copying.Aim.TheVariants as aims
+use Rattle.papaya_copy.specs.declared.copying.Copied.{Copied as Copied_end}
+use Rattle.papaya_copy.specs.declared.copying.Copied.TheVariants as copied
+use Rattle.papaya_copy.specs.declared.copying.Copying.{Copying}
+use Rattle.papaya_copy.specs.declared.copying.Copying.TheVariants as copyings
+use Rattle.papaya_copy.specs.declared.link.Link.{Link}
+use Rattle.papaya_copy.specs.declared.link.Link.TheVariants as links
+use Rattle.papaya_copy.specs.declared.link.Linked.{Linked}
+use Rattle.papaya_copy.specs.declared.link.Linked.TheVariants as linked
+use Rattle.papaya_ask.specs.declared.search.Place.{Place}
+use Rattle.papaya_copy.specs.declared.settle.Settle.{Settle}
+use Rattle.papaya_copy.specs.declared.settle.Settle.TheVariants as settles
+use Rattle.papaya_copy.specs.declared.settle.Settled.{Settled}
+use Rattle.papaya_copy.specs.declared.settle.Settled.TheVariants as settled
+use Rattle.papaya_copy.specs.declared.settle.Slot.{Slot}
+use Rattle.papaya_copy.specs.declared.step.Chunk.{Chunk}
+use Rattle.papaya_copy.specs.declared.step.Step.{Step}
+use Rattle.papaya_copy.specs.declared.step.Step.TheVariants as steps
+use Rattle.papaya_copy.specs.declared.step.Stepped.{Stepped}
+use Rattle.papaya_copy.specs.declared.step.Stepped.TheVariants as stepped
+use Rattle.papaya_copy.specs.Link.{follows}
+use Rattle.papaya_copy.specs.Step.{slot_of}
 use Rattle.papaya_law.specs.Class.{IsOn}
 use Rattle.papaya_law.specs.Code.{Coding, code}
 use Rattle.papaya_law.specs.Copying.{IsPutting, IsSettled, IsTaker, IsTarget}

@@ -5,16 +5,16 @@ use Rattle.papaya_words.specs.Word.{kind_of, pair_of}
 use Rattle.papaya_words.specs.declared.word.Kind.TheVariants as word_kinds
 use Rattle.papaya_words.specs.declared.probe.ResizeMode.{ResizeMode}
 use Rattle.papaya_words.specs.declared.probe.ResizeMode.TheVariants.{Incremental, Blocking}
-use Rattle.papaya_call.specs.declared.ask.Ask.{Ask}
-use Rattle.papaya_call.specs.declared.ask.Ask.TheVariants.{Exchange as Ask_exchange}
-use Rattle.papaya_call.specs.declared.ask.Answer.{Answer}
-use Rattle.papaya_call.specs.declared.ask.Answer.TheVariants.{Exchanged}
-use Rattle.papaya_call.specs.declared.ask.StepKind.{StepKind}
-use Rattle.papaya_call.specs.declared.ask.StepKind.TheVariants as kinds
-use Rattle.papaya_call.specs.declared.call.Reply.{Reply}
-use Rattle.papaya_call.specs.declared.call.Reply.TheVariants.{Absent, Found, Inserted, Replaced, Occupied, Removed, Kept, Aborted, Refused as Reply_refused}
-use Rattle.papaya_call.specs.declared.call.Task.{Task}
-use Rattle.papaya_call.specs.declared.call.Task.TheVariants.{Get, Insert, RemoveIf, Compute}
+use Rattle.papaya_ask.specs.declared.ask.Ask.{Ask}
+use Rattle.papaya_ask.specs.declared.ask.Ask.TheVariants.{Exchange as Ask_exchange}
+use Rattle.papaya_ask.specs.declared.ask.Answer.{Answer}
+use Rattle.papaya_ask.specs.declared.ask.Answer.TheVariants.{Exchanged}
+use Rattle.papaya_ask.specs.declared.ask.StepKind.{StepKind}
+use Rattle.papaya_ask.specs.declared.ask.StepKind.TheVariants as kinds
+use Rattle.papaya_ask.specs.declared.call.Reply.{Reply}
+use Rattle.papaya_ask.specs.declared.call.Reply.TheVariants.{Absent, Found, Inserted, Replaced, Occupied, Removed, Kept, Aborted, Refused as Reply_refused}
+use Rattle.papaya_ask.specs.declared.call.Task.{Task}
+use Rattle.papaya_ask.specs.declared.call.Task.TheVariants.{Get, Insert, RemoveIf, Compute}
 use Rattle.papaya_call.specs.declared.compute.Choice.{Choice}
 use Rattle.papaya_call.specs.declared.compute.Choice.TheVariants.{Replace as To_replace, Remove as To_remove}
 use Rattle.papaya_call.specs.declared.compute.Gap.{Gap}
@@ -23,9 +23,9 @@ use Rattle.papaya_call.specs.declared.compute.Purpose.{Purpose}
 use Rattle.papaya_call.specs.declared.compute.Purpose.TheVariants.{Fill, Replace as For_replace}
 use Rattle.papaya_call.specs.declared.compute.Remembered.{Remembered}
 use Rattle.papaya_call.specs.declared.remove.Removal.{Removal}
-use Rattle.papaya_call.specs.declared.search.Place.{Place}
-use Rattle.papaya_call.specs.declared.search.Search.{Search}
-use Rattle.papaya_call.specs.declared.search.Search.TheVariants.{Sizing, Looking, Comparing}
+use Rattle.papaya_ask.specs.declared.search.Place.{Place}
+use Rattle.papaya_ask.specs.declared.search.Search.{Search}
+use Rattle.papaya_ask.specs.declared.search.Search.TheVariants.{Sizing, Looking, Comparing}
 use Rattle.papaya_call.specs.declared.write.Made.{Made}
 use Rattle.papaya_call.specs.declared.write.Made.TheVariants.{Nothing, Key, Pair}
 use Rattle.papaya_call.specs.declared.write.Write.{Write}

@@ -1,8 +1,8 @@
 //! How much a lookup loads. The function does nothing; its contract is the bound.
 ghost use Rattle.std.specs.Prelude.{ℕ, List};
 ghost use Rattle.papaya_words.specs.declared.probe.ResizeMode.{ResizeMode};
-ghost use Rattle.papaya_call.specs.declared.ask.Answer.{Answer};
-ghost use Rattle.papaya_call.specs.declared.call.Task.TheVariants.{Get};
+ghost use Rattle.papaya_ask.specs.declared.ask.Answer.{Answer};
+ghost use Rattle.papaya_ask.specs.declared.call.Task.TheVariants.{Get};
 ghost use Rattle.papaya_call.specs.Machine.{started};
 ghost use Rattle.papaya_rests.specs.Loads.{AreAnswers, IsBounded, asked};
 

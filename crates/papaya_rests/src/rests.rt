@@ -21,8 +21,8 @@ ghost use Rattle.papaya_rests.specs.Says.{Agrees as Said_agrees, HasShownNone, I
 ghost use Rattle.papaya_rests.specs.Told.{IsOneOf, IsAsked, IsTold, IsWritten, Hands, no_hands, word_of};
 ghost use Rattle.papaya_law.specs.Code.{IsHashed};
 
-use papaya_call::ask::{Answer, Ask, At, OpKind, StepKind};
-use papaya_call::call::{Reply, Task};
+use papaya_ask::ask::{Answer, Ask, At, OpKind, StepKind};
+use papaya_ask::call::{Reply, Task};
 use papaya_call::machine::Machine;
 
 /// A call that begins rests on the exchanges as they are.

@@ -1,8 +1,8 @@
 -- What a call that was made alone leaves of a map for one caller.
 use Rattle.std.proofs.Common.{◌≡◌, ℕ, Bool, true, List, None}
 use Rattle.std.specs.Cmp.{IsEquivalence}
-use Rattle.papaya_call.specs.declared.call.Call.{Call}
-use Rattle.papaya_call.specs.declared.call.Reply.{Reply}
+use Rattle.papaya_ask.specs.declared.call.Call.{Call}
+use Rattle.papaya_ask.specs.declared.call.Reply.{Reply}
 use Rattle.papaya_core.specs.Content.{map_in}
 use Rattle.papaya_core.specs.Solo.{IsAnswered, IsNewIn, RunsAlone}
 use Rattle.papaya_core.specs.Store.{KeepsPairs, StoreState}

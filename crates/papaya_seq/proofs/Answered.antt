@@ -4,8 +4,8 @@ use Rattle.std.proofs.lemmas.Bool.{cases_Bool}
 use Rattle.std.specs.Cmp.{IsEquivalence}
 use Rattle.papaya_words.specs.declared.probe.Refused.{Refused}
 use Rattle.papaya_law.specs.Content.{lookup}
-use Rattle.papaya_call.specs.declared.call.Call.TheVariants.{Insert, TryInsert}
-use Rattle.papaya_call.specs.declared.call.Reply.TheVariants as replies
+use Rattle.papaya_ask.specs.declared.call.Call.TheVariants.{Insert, TryInsert}
+use Rattle.papaya_ask.specs.declared.call.Reply.TheVariants as replies
 use Rattle.papaya_core.specs.Content.{content, map_in}
 use Rattle.papaya_core.specs.Maps.{Does, IsMadeOf, IsUpdate, Same, key_of}
 use Rattle.papaya_core.specs.Solo.{IsAnswered, IsNewIn}

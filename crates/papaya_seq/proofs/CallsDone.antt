@@ -6,10 +6,10 @@ use Rattle.std.specs.List.{All, Contains}
 use Rattle.papaya_words.specs.declared.probe.Refused as words
 use Rattle.papaya_call.specs.Answers.{Says}
 use Rattle.papaya_law.specs.Content.{AreApart, lookup}
-use Rattle.papaya_call.specs.declared.call.Call.{Call}
-use Rattle.papaya_call.specs.declared.call.Call.TheVariants.{Get, RemoveIf}
-use Rattle.papaya_call.specs.declared.call.Reply.{Reply}
-use Rattle.papaya_call.specs.declared.call.Reply.TheVariants.{Absent, Found, Inserted, Replaced, Occupied, Removed, Kept, Aborted, Refused}
+use Rattle.papaya_ask.specs.declared.call.Call.{Call}
+use Rattle.papaya_ask.specs.declared.call.Call.TheVariants.{Get, RemoveIf}
+use Rattle.papaya_ask.specs.declared.call.Reply.{Reply}
+use Rattle.papaya_ask.specs.declared.call.Reply.TheVariants.{Absent, Found, Inserted, Replaced, Occupied, Removed, Kept, Aborted, Refused}
 use Rattle.papaya_core.specs.Content.{content, map_in}
 use Rattle.papaya_core.specs.Maps.{IsUpdate}
 use Rattle.papaya_core.specs.Solo.{IsAnswered, IsNewIn}

@@ -7,9 +7,9 @@ use Rattle.papaya_words.specs.declared.probe.Refused.TheVariants.{Memory, Capaci
 use Rattle.papaya_call.specs.Answers.{Says as Answers_say}
 use Rattle.papaya_call.specs.declared.answers.Operation.{Operation}
 use Rattle.papaya_call.specs.declared.answers.Operation.TheVariants as ops
-use Rattle.papaya_call.specs.declared.call.Call.TheVariants.{Compute}
-use Rattle.papaya_call.specs.declared.call.Reply.{Reply}
-use Rattle.papaya_call.specs.declared.call.Reply.TheVariants as replies
+use Rattle.papaya_ask.specs.declared.call.Call.TheVariants.{Compute}
+use Rattle.papaya_ask.specs.declared.call.Reply.{Reply}
+use Rattle.papaya_ask.specs.declared.call.Reply.TheVariants as replies
 use Rattle.papaya_core.specs.Content.{map_in}
 use Rattle.papaya_core.specs.Maps.{Does, IsUpdate}
 use Rattle.papaya_core.specs.Store.{Stored}

@@ -5,8 +5,8 @@ use Rattle.papaya_words.specs.declared.probe.Refused.{Refused}
 use Rattle.papaya_words.specs.declared.probe.Refused.TheVariants.{RemoveNothing}
 use Rattle.papaya_call.specs.declared.answers.Operation.{Operation}
 use Rattle.papaya_call.specs.declared.answers.Operation.TheVariants as ops
-use Rattle.papaya_call.specs.declared.call.Reply.{Reply}
-use Rattle.papaya_call.specs.declared.call.Reply.TheVariants as replies
+use Rattle.papaya_ask.specs.declared.call.Reply.{Reply}
+use Rattle.papaya_ask.specs.declared.call.Reply.TheVariants as replies
 use Rattle.papaya_core.specs.Content.{content, map_in}
 use Rattle.papaya_core.specs.Maps.{Does, IsMadeWith, IsUpdate, Same}
 use Rattle.papaya_core.specs.Solo.{IsAnswered, IsNewIn}

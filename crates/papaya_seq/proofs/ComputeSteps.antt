@@ -10,12 +10,12 @@ use Rattle.papaya_words.specs.declared.probe.Refused.{Refused}
 use Rattle.papaya_words.specs.declared.probe.Refused.TheVariants.{Memory, Capacity}
 use Rattle.papaya_words.specs.declared.probe.ResizeMode.{ResizeMode}
 use Rattle.papaya_call.specs.Answers.{Says}
-use Rattle.papaya_call.specs.declared.ask.Ask.TheVariants.{ShowNone, ShowPair}
-use Rattle.papaya_call.specs.declared.ask.Answer.{Answer}
-use Rattle.papaya_call.specs.declared.ask.Answer.TheVariants.{Word as Word_read, Yes, Size, Refused as Was_refused}
-use Rattle.papaya_call.specs.declared.ask.At.TheVariants.{Root, Slot}
-use Rattle.papaya_call.specs.declared.call.Reply.TheVariants.{Replaced}
-use Rattle.papaya_call.specs.declared.call.Task.TheVariants.{Compute}
+use Rattle.papaya_ask.specs.declared.ask.Ask.TheVariants.{ShowNone, ShowPair}
+use Rattle.papaya_ask.specs.declared.ask.Answer.{Answer}
+use Rattle.papaya_ask.specs.declared.ask.Answer.TheVariants.{Word as Word_read, Yes, Size, Refused as Was_refused}
+use Rattle.papaya_ask.specs.declared.ask.At.TheVariants.{Root, Slot}
+use Rattle.papaya_ask.specs.declared.call.Reply.TheVariants.{Replaced}
+use Rattle.papaya_ask.specs.declared.call.Task.TheVariants.{Compute}
 use Rattle.papaya_call.specs.declared.compute.Gap.TheVariants.{NoRoot, At as At_place, After}
 use Rattle.papaya_call.specs.declared.compute.Purpose.{Purpose}
 use Rattle.papaya_call.specs.declared.compute.Purpose.TheVariants.{Fill, Replace}
@@ -23,14 +23,14 @@ use Rattle.papaya_call.specs.declared.compute.Remembered.{Remembered}
 use Rattle.papaya_call.specs.declared.machine.Machine.{Machine}
 use Rattle.papaya_call.specs.declared.machine.State.{State}
 use Rattle.papaya_call.specs.declared.machine.State.TheVariants.{AtRoot, Making, Opening, Searching, Writing, Offering, Showing, Pairing, Putting, Burying, Counting, Uncounting, Leaving, Growing, Ended}
-use Rattle.papaya_call.specs.declared.search.Place.{Place}
-use Rattle.papaya_call.specs.declared.search.Search.TheVariants.{Sizing, Looking, Comparing}
+use Rattle.papaya_ask.specs.declared.search.Place.{Place}
+use Rattle.papaya_ask.specs.declared.search.Search.TheVariants.{Sizing, Looking, Comparing}
 use Rattle.papaya_call.specs.declared.write.Made.{Made}
 use Rattle.papaya_call.specs.declared.write.Made.TheVariants.{Nothing, Key, Pair}
 use Rattle.papaya_rests.specs.Alone.{IsRead}
 use Rattle.papaya_call.specs.Compute.{lacks, nothing, provides, with_pair}
 use Rattle.papaya_call.specs.Machine.{IsStandingState, after, asks, goes_as}
-use Rattle.papaya_call.specs.Search.{IsSize, look, look_at, at_yes as search_compared}
+use Rattle.papaya_ask.specs.Search.{IsSize, look, look_at, at_yes as search_compared}
 use Rattle.papaya_call.specs.Write.{new_word}
 use Rattle.papaya_rests.proofs.AloneSteps.{exchange_done}
 use Rattle.papaya_core.specs.declared.pairs.KeyOf.{KeyOf}

@@ -11,11 +11,11 @@ use Rattle.papaya_words.specs.declared.probe.ResizeMode.{ResizeMode}
 use Rattle.papaya_words.specs.declared.word.Kind.{Kind}
 use Rattle.papaya_words.specs.declared.word.Kind.TheVariants as kinds
 use Rattle.papaya_rests.specs.Alone.{IsBare}
-use Rattle.papaya_call.specs.declared.ask.At.TheVariants.{Next, Root, Slot}
+use Rattle.papaya_ask.specs.declared.ask.At.TheVariants.{Next, Root, Slot}
 use Rattle.papaya_law.specs.Content.{lookup}
 use Rattle.papaya_law.specs.Exchange.{Word, Empty, State, run, start}
 use Rattle.papaya_law.specs.Code.{IsOfKind, code}
-use Rattle.papaya_call.specs.Search.{IsSize}
+use Rattle.papaya_ask.specs.Search.{IsSize}
 use Rattle.papaya_law.specs.Grows.{Comes}
 use Rattle.papaya_law.proofs.CodeViews.{word_of_kind}
 use Rattle.papaya_law.proofs.Logs.{on_comes}

@@ -2,12 +2,12 @@
 use Rattle.std.proofs.Common.{◌≡◌, ⊎_elim, ℕ, ◌<◌, ◌^◌, Bool, true, List, [], ◌∷◌, Option, Some, None, option_map, refl, sym, ◌∙◌, ap, subst}
 use Rattle.std.specs.Cmp.{IsEquivalence}
 use Rattle.papaya_words.specs.declared.probe.ResizeMode.{ResizeMode}
-use Rattle.papaya_call.specs.declared.ask.Answer.{Answer}
-use Rattle.papaya_call.specs.declared.ask.Ask.TheVariants.{Done as Ask_done}
-use Rattle.papaya_call.specs.declared.call.Call.TheVariants.{Get}
-use Rattle.papaya_call.specs.declared.call.Task.TheVariants.{Get as Get_task}
-use Rattle.papaya_call.specs.declared.call.Reply.{Reply}
-use Rattle.papaya_call.specs.declared.call.Reply.TheVariants.{Absent, Found, Inserted, Replaced, Occupied, Removed, Kept, Aborted, Refused}
+use Rattle.papaya_ask.specs.declared.ask.Answer.{Answer}
+use Rattle.papaya_ask.specs.declared.ask.Ask.TheVariants.{Done as Ask_done}
+use Rattle.papaya_ask.specs.declared.call.Call.TheVariants.{Get}
+use Rattle.papaya_ask.specs.declared.call.Task.TheVariants.{Get as Get_task}
+use Rattle.papaya_ask.specs.declared.call.Reply.{Reply}
+use Rattle.papaya_ask.specs.declared.call.Reply.TheVariants.{Absent, Found, Inserted, Replaced, Occupied, Removed, Kept, Aborted, Refused}
 use Rattle.papaya_call.specs.declared.machine.Machine.{Machine}
 use Rattle.papaya_rests.specs.Alone.{HasMetNone}
 use Rattle.papaya_call.specs.Machine.{after, ask_of, started}

@@ -6,9 +6,9 @@ ghost use Rattle.papaya_seq.specs.Computes.{ComputesBy, Says, Takes};
 ghost use Rattle.papaya_seq.specs.Computing.{IsComputed, IsKept, Replies};
 
 use crate::seq::HashMap;
+use papaya_ask::ask::{Answer, Ask, OpKind};
+use papaya_ask::call::{Reply, Task};
 use papaya_call::answers::{Listed, Operation};
-use papaya_call::ask::{Answer, Ask, OpKind};
-use papaya_call::call::{Reply, Task};
 use papaya_call::machine::Machine;
 use papaya_core::pairs::{KeyOf, Running};
 use papaya_core::store::Store;

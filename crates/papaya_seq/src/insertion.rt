@@ -7,9 +7,9 @@ ghost use Rattle.papaya_keys.specs.Hashes.{hash_of};
 ghost use Rattle.papaya_seq.specs.Map.{IsWriteCause, IsWriteCauseAt, Keeps, insertion};
 
 use crate::seq::HashMap;
+use papaya_ask::ask::Ask;
+use papaya_ask::call::{Reply, Task};
 use papaya_call::answers::Listed;
-use papaya_call::ask::Ask;
-use papaya_call::call::{Reply, Task};
 use papaya_call::machine::Machine;
 use papaya_core::pairs::{KeyOf, Running};
 use std::hash::{BuildHasher, Hash};

@@ -1,14 +1,14 @@
 //! Lookups: the machine of a lookup, answered by the words that stand in the tables.
 ghost use Rattle.std.specs.Prelude.{◌≡◌, option_map};
 ghost use Rattle.papaya_call.specs.Machine.{started};
-ghost use Rattle.papaya_call.specs.declared.call.Task.TheVariants.{Get};
+ghost use Rattle.papaya_ask.specs.declared.call.Task.TheVariants.{Get};
 ghost use Rattle.papaya_core.specs.Store.{pair_of};
 ghost use Rattle.papaya_keys.specs.Hashes.{hash_of};
 ghost use Rattle.papaya_seq.specs.Looks.{LooksUp, found_number, matches_in};
 
 use crate::seq::HashMap;
-use papaya_call::ask::{Answer, Ask};
-use papaya_call::call::{Reply, Task};
+use papaya_ask::ask::{Answer, Ask};
+use papaya_ask::call::{Reply, Task};
 use papaya_call::machine::Machine;
 use papaya_core::store::Store;
 use papaya_keys::guard::Equivalent;

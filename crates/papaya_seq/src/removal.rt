@@ -8,8 +8,8 @@ ghost use Rattle.papaya_seq.specs.Removes.{IsRemovalBy, IsShown, Judges};
 
 use crate::lookup::matches;
 use crate::seq::HashMap;
-use papaya_call::ask::{Answer, Ask};
-use papaya_call::call::{Reply, Task};
+use papaya_ask::ask::{Answer, Ask};
+use papaya_ask::call::{Reply, Task};
 use papaya_call::machine::Machine;
 use papaya_core::store::Store;
 use papaya_keys::guard::Equivalent;

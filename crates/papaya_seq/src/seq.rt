@@ -3,7 +3,7 @@ ghost use Rattle.std.specs.Prelude.{◌≡◌, ◌≢◌, ℕ, ◌<◌, Bool, tr
 ghost use Rattle.std.specs.Borrow.{sem};
 ghost use Rattle.papaya_words.specs.declared.limits.TheConstants.{DEFAULT_CHUNK};
 ghost use Rattle.papaya_call.specs.Machine.{started};
-ghost use Rattle.papaya_call.specs.declared.call.Task.TheVariants.{Get};
+ghost use Rattle.papaya_ask.specs.declared.call.Task.TheVariants.{Get};
 ghost use Rattle.papaya_law.specs.Content.{AreApart};
 ghost use Rattle.papaya_core.specs.Content.{content, map_in};
 ghost use Rattle.papaya_core.specs.New.{IsNew};
@@ -19,8 +19,8 @@ ghost use Rattle.papaya_seq.specs.Looks.{LooksUp};
 ghost use Rattle.papaya_seq.specs.Removes.{IsJudged, Judges};
 ghost use Rattle.papaya_seq.specs.Map.{HasNone, HasValue, Holds, IsWriteCause, IsWriteCauseAt, IsInserted, IsRemoved, IsTried, IsTriedInto, core_of, deref_pair, next_of, slots_of, value_of, entry_of};
 
+use papaya_ask::call::{Call, Reply};
 use papaya_call::answers::Answers;
-use papaya_call::call::{Call, Reply};
 use papaya_core::store::Store;
 use papaya_keys::compute::Computed;
 use papaya_keys::guard::Equivalent;

@@ -1,4 +1,5 @@
 pub mod Counter
+pub mod Mode
 pub mod Probe
 pub mod Refusals
 pub mod Table

@@ -12,7 +12,7 @@ use crate::rule::entry::Stored;
 use crate::rule::steps::{Put, Wish};
 use crate::rule::trade::Sight;
 use crate::table::Table;
-use papaya_call::ask::{At, StepKind};
+use papaya_ask::ask::{At, StepKind};
 use std::hash::{BuildHasher, Hash};
 
 impl<K: Hash + Eq, V, S: BuildHasher> Book<K, V, S> {

@@ -2,7 +2,7 @@
 ghost use Rattle.papaya_book.specs.Books.{IsIn, IsLeft, Opens, Seals, root_then};
 ghost use Rattle.std.specs.Prelude.{◌≡◌, ℕ, ◌+◌, ◌<◌, ◌≤◌, ◌⊎◌, ◌==◌, cond, false, Some, None, IfErr, IfOk, length, map};
 ghost use mathlib.Core.List.{IsPrefix};
-ghost use Rattle.papaya_call.specs.Search.{IsSize};
+ghost use Rattle.papaya_ask.specs.Search.{IsSize};
 ghost use Rattle.papaya_book.specs.Calls.{IsTable};
 ghost use Rattle.papaya_book.specs.Makers.{AreMade, IsMade};
 ghost use Rattle.papaya_book.specs.Logs.{seals_of};
@@ -20,7 +20,7 @@ use crate::rule::trade::{Sight, Trade};
 use crate::table::{Cell, Table};
 use boxcar::Pushed;
 use logbook::Pen;
-use papaya_call::ask::{At, StepKind};
+use papaya_ask::ask::{At, StepKind};
 use papaya_keys::sizes::first_size;
 use papaya_words::limits::MAX_TABLES;
 use papaya_words::probe::Refused;

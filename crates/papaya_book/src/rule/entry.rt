@@ -6,7 +6,7 @@ ghost use Rattle.logbook.specs.Pages.{Book, book_coded};
 ghost use Rattle.papaya_book.specs.Sheets.{Sheet as SheetOf, sheet_coded};
 
 use boxcar::Pushed;
-use papaya_call::ask::{At, StepKind};
+use papaya_ask::ask::{At, StepKind};
 use papaya_words::probe::ResizeMode;
 use std::collections::LinkedList;
 use std::marker::Model;

@@ -4,7 +4,7 @@ use crate::rule::trade::Sight;
 use crate::table::Table;
 use boxcar::Pushed;
 use logbook::{Pen, Plain, Play};
-use papaya_call::ask::{At, StepKind};
+use papaya_ask::ask::{At, StepKind};
 use std::hash::{BuildHasher, Hash};
 
 /// A word that is to be loaded.

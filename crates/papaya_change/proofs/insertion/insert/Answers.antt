@@ -1,5 +1,5 @@
 use Rattle.std.proofs.Common.{true, Result, Ok, Err, IfOk, refl, sym, ap, ◌∙◌, subst}
-use Rattle.papaya_call.specs.declared.call.Task.TheVariants.{Insert}
+use Rattle.papaya_ask.specs.declared.call.Task.TheVariants.{Insert}
 use Rattle.papaya_call.specs.declared.machine.Machine.{Machine}
 use Rattle.papaya_call.specs.Machine.{started}
 use Rattle.papaya_book.specs.Hashes.{hash_of}

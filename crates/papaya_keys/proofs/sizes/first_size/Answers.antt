@@ -1,6 +1,6 @@
 use Rattle.std.proofs.Common.{ℕ, sym, subst}
 use Rattle.std.specs.Prelude.{max}
-use Rattle.papaya_call.specs.Search.{IsSize}
+use Rattle.papaya_ask.specs.Search.{IsSize}
 use Rattle.papaya_words.specs.Probe.{IsLimit}
 use Rattle.papaya_keys.proofs.TableSizes.{table_size}
 use Rattle.papaya_keys.proofs.sizes.first_size.Goals as goal

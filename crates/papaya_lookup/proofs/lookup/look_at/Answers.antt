@@ -1,8 +1,8 @@
 use Rattle.std.proofs.Common.{◌≡◌, ℕ, ap, ◌∙◌, rules, subst}
-use Rattle.papaya_call.specs.declared.search.Place.{Place}
-use Rattle.papaya_call.specs.declared.search.Search.TheVariants.{Comparing}
-use Rattle.papaya_call.specs.declared.search.Seen.TheVariants.{Here, On}
-use Rattle.papaya_call.specs.Search.{IsSeen, at_yes, look}
+use Rattle.papaya_ask.specs.declared.search.Place.{Place}
+use Rattle.papaya_ask.specs.declared.search.Search.TheVariants.{Comparing}
+use Rattle.papaya_ask.specs.declared.search.Seen.TheVariants.{Here, On}
+use Rattle.papaya_ask.specs.Search.{IsSeen, at_yes, look}
 use Rattle.papaya_book.specs.Logs.{exchanges_of}
 use Rattle.papaya_book.specs.Parts.{begun_of}
 use Rattle.papaya_lookup.proofs.Readings.{IsQuery}

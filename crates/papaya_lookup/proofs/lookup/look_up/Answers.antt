@@ -1,6 +1,6 @@
 use Rattle.std.proofs.Common.{◌≡◌, ◌<◌, ◌≤◌, None, sym, ◌∙◌, rules, subst, arith}
 use Rattle.papaya_call.specs.declared.machine.State.TheVariants.{Searching}
-use Rattle.papaya_call.specs.declared.search.Search.TheVariants.{Looking}
+use Rattle.papaya_ask.specs.declared.search.Search.TheVariants.{Looking}
 use Rattle.papaya_book.proofs.Logs.{prefix_trans}
 use Rattle.papaya_lookup.specs.Lookups.{led_to, left_of}
 use Rattle.papaya_lookup.specs.declared.lookup.Turn.{Turn}

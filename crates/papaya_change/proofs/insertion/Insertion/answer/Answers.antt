@@ -1,7 +1,7 @@
 use Rattle.std.proofs.Common.{◌≡◌, Some, refl, sym, ◌∙◌, rules}
-use Rattle.papaya_call.specs.declared.ask.Answer.TheVariants.{Ok}
-use Rattle.papaya_call.specs.declared.ask.Ask.TheVariants.{AddToShard, Exchange, Load, MakeKey, MakePair, MakeTable, SameKey, SizeOf}
-use Rattle.papaya_call.specs.declared.ask.At.TheVariants.{Root}
+use Rattle.papaya_ask.specs.declared.ask.Answer.TheVariants.{Ok}
+use Rattle.papaya_ask.specs.declared.ask.Ask.TheVariants.{AddToShard, Exchange, Load, MakeKey, MakePair, MakeTable, SameKey, SizeOf}
+use Rattle.papaya_ask.specs.declared.ask.At.TheVariants.{Root}
 use Rattle.papaya_call.specs.Machine.{ask_of}
 use Rattle.papaya_book.specs.Hashes.{hash_of}
 use Rattle.papaya_book.specs.Parts.{begun_of}

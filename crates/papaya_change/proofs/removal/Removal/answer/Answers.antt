@@ -1,6 +1,6 @@
 use Rattle.std.proofs.Common.{Some, refl, sym}
-use Rattle.papaya_call.specs.declared.ask.Answer.TheVariants.{Ok}
-use Rattle.papaya_call.specs.declared.ask.Ask.TheVariants.{AddToShard, Load, SameKey, ShowPair, SizeOf}
+use Rattle.papaya_ask.specs.declared.ask.Answer.TheVariants.{Ok}
+use Rattle.papaya_ask.specs.declared.ask.Ask.TheVariants.{AddToShard, Load, SameKey, ShowPair, SizeOf}
 use Rattle.papaya_book.specs.Parts.{begun_of}
 use Rattle.papaya_change.specs.Showings.{Judges}
 use Rattle.papaya_lookup.proofs.Readings.{IsQuery}

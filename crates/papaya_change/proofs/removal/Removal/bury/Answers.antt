@@ -1,6 +1,6 @@
 use Rattle.std.proofs.Common.{◌==◌, ◌<◌, MatchOption, Option, length, subst, None}
 use denote.Bor.{Bor}
-use Rattle.papaya_call.specs.declared.ask.StepKind.{StepKind}
+use Rattle.papaya_ask.specs.declared.ask.StepKind.{StepKind}
 use Rattle.papaya_book.specs.Calls.{IsSlotTried, IsTable}
 use Rattle.papaya_book.specs.Hashes.{hash_of}
 use Rattle.papaya_book.specs.Parts.{begun_of}

@@ -1,7 +1,7 @@
 use Rattle.std.proofs.Common.{◌≡◌, ℕ, Some, sym, ◌∙◌, rules, subst}
-use Rattle.papaya_call.specs.declared.ask.Ask.TheVariants.{Done}
-use Rattle.papaya_call.specs.declared.call.Reply.{Reply}
-use Rattle.papaya_call.specs.declared.call.Reply.TheVariants.{Absent, Kept, Refused, Removed}
+use Rattle.papaya_ask.specs.declared.ask.Ask.TheVariants.{Done}
+use Rattle.papaya_ask.specs.declared.call.Reply.{Reply}
+use Rattle.papaya_ask.specs.declared.call.Reply.TheVariants.{Absent, Kept, Refused, Removed}
 use Rattle.papaya_call.specs.Machine.{ask_of}
 use Rattle.papaya_book.specs.Logs.{pair_named}
 use Rattle.papaya_book.specs.Parts.{begun_of}

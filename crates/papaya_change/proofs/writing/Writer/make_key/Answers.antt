@@ -1,6 +1,6 @@
 use Rattle.std.proofs.Common.{◌≡◌, Some, refl, sym, ap, ◌∙◌, subst}
 use Rattle.boxcar.specs.Table.{Shows}
-use Rattle.papaya_call.specs.declared.ask.Answer.TheVariants.{Made, Ok as Ok_done, Refused}
+use Rattle.papaya_ask.specs.declared.ask.Answer.TheVariants.{Made, Ok as Ok_done, Refused}
 use Rattle.papaya_words.specs.declared.probe.Refused.TheVariants.{Capacity}
 use Rattle.papaya_book.specs.Parts.{begun_of}
 use Rattle.papaya_change.proofs.Written.{key_made}

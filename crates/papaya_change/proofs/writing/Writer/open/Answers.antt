@@ -1,6 +1,6 @@
 use Rattle.std.proofs.Common.{ℕ, ◌+◌, ◌==◌, cond, None, Some, sym, ap, ◌∙◌, subst}
-use Rattle.papaya_call.specs.declared.ask.At.TheVariants.{Root}
-use Rattle.papaya_call.specs.declared.ask.StepKind.TheVariants.{Open}
+use Rattle.papaya_ask.specs.declared.ask.At.TheVariants.{Root}
+use Rattle.papaya_ask.specs.declared.ask.StepKind.TheVariants.{Open}
 use Rattle.papaya_book.specs.Calls.{IsTable, IsTried}
 use Rattle.papaya_book.specs.Hashes.{hash_of}
 use Rattle.papaya_book.specs.Parts.{begun_of}

@@ -1,7 +1,7 @@
 use Rattle.std.proofs.Common.{◌==◌, ◌≡◌, ◌<◌, MatchOption, Option, Some, length, sym, subst}
 use denote.Bor.{Bor}
-use Rattle.papaya_call.specs.declared.ask.At.TheVariants.{Slot}
-use Rattle.papaya_call.specs.declared.ask.StepKind.{StepKind}
+use Rattle.papaya_ask.specs.declared.ask.At.TheVariants.{Slot}
+use Rattle.papaya_ask.specs.declared.ask.StepKind.{StepKind}
 use Rattle.papaya_rests.specs.Told.{IsOneOf}
 use Rattle.papaya_book.specs.Sheets.{Sheet}
 use Rattle.papaya_book.specs.Calls.{IsSlotTried, IsTable}

@@ -1,15 +1,15 @@
 use Rattle.std.proofs.Common.{◌≡◌, ℤ, List, Some, None, refl, sym, ap, subst, ◌∙◌}
 use Rattle.papaya_words.specs.Counter.{added}
 use Rattle.papaya_call.specs.Answers.{Says}
-use Rattle.papaya_call.specs.declared.ask.Ask.TheVariants.{AddToShard}
+use Rattle.papaya_ask.specs.declared.ask.Ask.TheVariants.{AddToShard}
 use Rattle.papaya_call.specs.Machine.{IsStanding, IsFitAsk, ask_of, kind_of_ask, after}
 use Rattle.papaya_core.specs.declared.pairs.Running.{Running}
 use Rattle.papaya_core.specs.declared.callers.Seat.{Seat}
 use Rattle.papaya_core.specs.Callers.{running, with_call}
 use Rattle.papaya_core.specs.Performs.{Performs}
-use Rattle.papaya_call.specs.declared.call.Reply.TheVariants.{Refused as Reply_refused}
+use Rattle.papaya_ask.specs.declared.call.Reply.TheVariants.{Refused as Reply_refused}
 use Rattle.papaya_core.specs.Core.{IsCore, IsGoing}
-use Rattle.papaya_call.specs.declared.call.Reply.{Reply}
+use Rattle.papaya_ask.specs.declared.call.Reply.{Reply}
 use Rattle.papaya_core.specs.Counted.{IsCounted}
 use Rattle.papaya_core.specs.Kept.{IsLawfulCore}
 use Rattle.papaya_keys.specs.Hashes.{hash_of}

@@ -1,6 +1,6 @@
 use Rattle.std.proofs.Common.{◌≡◌, Some, [], append-nil, refl, sym, subst}
-use Rattle.papaya_call.specs.declared.ask.Ask.TheVariants.{AddToShard, MakePair, ShowNone, ShowPair}
-use Rattle.papaya_call.specs.declared.ask.Answer.TheVariants.{Ok}
+use Rattle.papaya_ask.specs.declared.ask.Ask.TheVariants.{AddToShard, MakePair, ShowNone, ShowPair}
+use Rattle.papaya_ask.specs.declared.ask.Answer.TheVariants.{Ok}
 use Rattle.papaya_call.specs.Machine.{ask_of}
 use Rattle.papaya_book.specs.Hashes.{hash_of}
 use Rattle.papaya_book.specs.Parts.{begun_of}

@@ -1,5 +1,5 @@
 use Rattle.std.proofs.Common.{Some, sym, subst}
-use Rattle.papaya_call.specs.declared.call.Reply.TheVariants.{Removed}
+use Rattle.papaya_ask.specs.declared.call.Reply.TheVariants.{Removed}
 use Rattle.papaya_book.specs.Logs.{pair_named}
 use Rattle.papaya_book.specs.Parts.{begun_of}
 use Rattle.papaya_book.specs.Rule.{IsPlaced}

@@ -1,6 +1,6 @@
 use Rattle.std.proofs.Common.{◌≡◌, Some, sym, ap, ◌∙◌, subst}
 use Rattle.papaya_call.specs.Machine.{ask_of}
-use Rattle.papaya_call.specs.declared.ask.Ask.TheVariants.{ShowPair}
+use Rattle.papaya_ask.specs.declared.ask.Ask.TheVariants.{ShowPair}
 use Rattle.papaya_book.specs.Logs.{pair_named}
 use Rattle.papaya_book.specs.Parts.{begun_of}
 use Rattle.papaya_book.specs.Rule.{IsPlaced}

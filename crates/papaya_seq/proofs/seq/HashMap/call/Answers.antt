@@ -5,7 +5,7 @@ use Rattle.papaya_core.specs.Content.{content}
 use Rattle.papaya_core.specs.Tables.{table_of, word_in}
 use Rattle.papaya_core.specs.Store.{StoreState, Stored}
 use Rattle.papaya_keys.specs.Hashes.{hash_of}
-use Rattle.papaya_call.specs.declared.call.Reply.TheVariants.{Absent, Found, Refused}
+use Rattle.papaya_ask.specs.declared.call.Reply.TheVariants.{Absent, Found, Refused}
 use Rattle.papaya_core.proofs.CountedCore.{lawful_apart}
 use Rattle.papaya_seq.specs.Calls.{IsCalled}
 use Rattle.papaya_seq.specs.Map.{HasNone, Holds, IsLawfulMap, MapState, core_of, next_in, next_of}

@@ -1,7 +1,7 @@
 use Rattle.std.proofs.Common.{◌≡◌, ℕ, sym, ◌∙◌, ap, subst, fold, ◌<◌, ◌^◌}
-use Rattle.papaya_call.specs.declared.ask.Answer.TheVariants.{Word, Yes}
-use Rattle.papaya_call.specs.declared.ask.Ask.{Ask}
-use Rattle.papaya_call.specs.declared.call.Task.TheVariants.{Get}
+use Rattle.papaya_ask.specs.declared.ask.Answer.TheVariants.{Word, Yes}
+use Rattle.papaya_ask.specs.declared.ask.Ask.{Ask}
+use Rattle.papaya_ask.specs.declared.call.Task.TheVariants.{Get}
 use Rattle.papaya_rests.specs.Alone.{left}
 use Rattle.papaya_call.specs.Machine.{IsStanding, ask_of, started}
 use Rattle.papaya_core.specs.Performs.{size_of}

@@ -1,5 +1,5 @@
 use Rattle.papaya_rests.specs.Alone.{left}
-use Rattle.papaya_call.specs.declared.call.Task.TheVariants.{Get}
+use Rattle.papaya_ask.specs.declared.call.Task.TheVariants.{Get}
 use Rattle.papaya_call.specs.Machine.{started}
 use Rattle.papaya_keys.specs.Hashes.{hash_of}
 use Rattle.papaya_seq.proofs.LookSteps.{IsLookUp}

@@ -7,10 +7,10 @@ use Rattle.papaya_words.specs.Counter.{added}
 use Rattle.std.proofs.lemmas.Int.{ints, to_z-of_z}
 use Rattle.papaya_rests.specs.Alone.{left}
 use Rattle.papaya_call.specs.Machine.{ask_of}
-use Rattle.papaya_call.specs.declared.ask.Answer.{Answer}
-use Rattle.papaya_call.specs.declared.ask.Answer.TheVariants.{Word as Word_read, Yes}
-use Rattle.papaya_call.specs.declared.ask.Ask.{Ask}
-use Rattle.papaya_call.specs.declared.ask.Ask.TheVariants.{Done as Ask_done}
+use Rattle.papaya_ask.specs.declared.ask.Answer.{Answer}
+use Rattle.papaya_ask.specs.declared.ask.Answer.TheVariants.{Word as Word_read, Yes}
+use Rattle.papaya_ask.specs.declared.ask.Ask.{Ask}
+use Rattle.papaya_ask.specs.declared.ask.Ask.TheVariants.{Done as Ask_done}
 use Rattle.papaya_core.specs.Performs.{Exchanges}
 use Rattle.papaya_core.specs.Solo.{RunsAlone}
 use Rattle.papaya_core.specs.Store.{StoreState, Stored}

@@ -1,11 +1,11 @@
 //! The making of the table after another.
 ghost use Rattle.std.specs.Prelude.{◌≡◌};
 ghost use Rattle.std.specs.Int.{IsPowerOfTwo};
-ghost use Rattle.papaya_call.specs.Search.{IsSize};
-ghost use Rattle.papaya_call.specs.Link.{IsFitCopyAsk, IsStandingLink, IsStandingLinked, at_count, at_exchanged, at_found, at_made, at_refused, at_size, link_ask, link_kind, follows};
+ghost use Rattle.papaya_ask.specs.Search.{IsSize};
+ghost use Rattle.papaya_copy.specs.Link.{IsFitCopyAsk, IsStandingLink, IsStandingLinked, at_count, at_exchanged, at_found, at_made, at_refused, at_size, link_ask, link_kind, follows};
 
-use crate::ask::{At, StepKind};
-use crate::copy_ask::CopyAsk;
+use papaya_ask::ask::{At, StepKind};
+use papaya_ask::copy_ask::CopyAsk;
 use papaya_words::probe::Refused;
 use papaya_words::table::{next_len, next_limit, table_len};
 

@@ -7,22 +7,22 @@ use Rattle.papaya_words.specs.declared.probe.ResizeMode.{ResizeMode}
 use Rattle.papaya_words.specs.declared.probe.ResizeMode.TheVariants.{Incremental, Blocking}
 use Rattle.papaya_words.specs.declared.word.Kind.{Kind}
 use Rattle.papaya_words.specs.declared.word.Kind.TheVariants as word_kinds
-use Rattle.papaya_call.specs.declared.ask.At.TheVariants.{Next, Aborted, Slot}
-use Rattle.papaya_call.specs.declared.ask.StepKind.{StepKind}
-use Rattle.papaya_call.specs.declared.ask.StepKind.TheVariants as kinds
-use Rattle.papaya_call.specs.declared.carry.Carried.{Carried}
-use Rattle.papaya_call.specs.declared.carry.Carried.TheVariants.{On, Carried as Was_carried, Unfit, Refused as Was_refused}
-use Rattle.papaya_call.specs.declared.carry.Carry.{Carry}
-use Rattle.papaya_call.specs.declared.carry.Carry.TheVariants.{Hashing, Sizing, Looking, Comparing, Placing, Passing, Linking, Aborting}
-use Rattle.papaya_call.specs.declared.copy_ask.CopyAsk.{CopyAsk}
-use Rattle.papaya_call.specs.declared.copy_ask.CopyAsk.TheVariants.{Load, Exchange, SizeOf, HashOf, SamePair}
-use Rattle.papaya_call.specs.declared.link.Link.TheVariants.{Sizing as Link_sizing}
-use Rattle.papaya_call.specs.declared.link.Linked.{Linked}
-use Rattle.papaya_call.specs.declared.link.Linked.TheVariants.{On as Link_on, Table, Refused as Link_refused}
-use Rattle.papaya_call.specs.declared.search.Place.{Place}
-use Rattle.papaya_call.specs.Link as links
-use Rattle.papaya_call.specs.Link.{IsStandingLink, link_ask, link_kind, follows}
-use Rattle.papaya_call.specs.Search.{IsWithin, first_place, next_place}
+use Rattle.papaya_ask.specs.declared.ask.At.TheVariants.{Next, Aborted, Slot}
+use Rattle.papaya_ask.specs.declared.ask.StepKind.{StepKind}
+use Rattle.papaya_ask.specs.declared.ask.StepKind.TheVariants as kinds
+use Rattle.papaya_copy.specs.declared.carry.Carried.{Carried}
+use Rattle.papaya_copy.specs.declared.carry.Carried.TheVariants.{On, Carried as Was_carried, Unfit, Refused as Was_refused}
+use Rattle.papaya_copy.specs.declared.carry.Carry.{Carry}
+use Rattle.papaya_copy.specs.declared.carry.Carry.TheVariants.{Hashing, Sizing, Looking, Comparing, Placing, Passing, Linking, Aborting}
+use Rattle.papaya_ask.specs.declared.copy_ask.CopyAsk.{CopyAsk}
+use Rattle.papaya_ask.specs.declared.copy_ask.CopyAsk.TheVariants.{Load, Exchange, SizeOf, HashOf, SamePair}
+use Rattle.papaya_copy.specs.declared.link.Link.TheVariants.{Sizing as Link_sizing}
+use Rattle.papaya_copy.specs.declared.link.Linked.{Linked}
+use Rattle.papaya_copy.specs.declared.link.Linked.TheVariants.{On as Link_on, Table, Refused as Link_refused}
+use Rattle.papaya_ask.specs.declared.search.Place.{Place}
+use Rattle.papaya_copy.specs.Link as links
+use Rattle.papaya_copy.specs.Link.{IsStandingLink, link_ask, link_kind, follows}
+use Rattle.papaya_ask.specs.Search.{IsWithin, first_place, next_place}
 
 -- it stands within its table
 abbrev pub IsStandingCarry : Carry → Type 0

@@ -1,14 +1,14 @@
 //! The copy of one slot.
 ghost use Rattle.std.specs.Prelude.{◌≡◌};
 ghost use Rattle.std.specs.Int.{IsPowerOfTwo};
-ghost use Rattle.papaya_call.specs.Carry.{IsStandingCarried};
-ghost use Rattle.papaya_call.specs.Link.{IsFitCopyAsk};
-ghost use Rattle.papaya_call.specs.Search.{IsSize};
-ghost use Rattle.papaya_call.specs.Settle.{IsStandingSettle, IsStandingSettled, at_count, at_exchanged, at_found, at_hash, at_made, at_refused, at_size, at_word, at_yes, look, marked_as, settle_ask, settle_follows, settle_kind, settled_by};
+ghost use Rattle.papaya_copy.specs.Carry.{IsStandingCarried};
+ghost use Rattle.papaya_copy.specs.Link.{IsFitCopyAsk};
+ghost use Rattle.papaya_ask.specs.Search.{IsSize};
+ghost use Rattle.papaya_copy.specs.Settle.{IsStandingSettle, IsStandingSettled, at_count, at_exchanged, at_found, at_hash, at_made, at_refused, at_size, at_word, at_yes, look, marked_as, settle_ask, settle_follows, settle_kind, settled_by};
 
-use crate::ask::{At, StepKind};
 use crate::carry::{Carried, Carry};
-use crate::copy_ask::CopyAsk;
+use papaya_ask::ask::{At, StepKind};
+use papaya_ask::copy_ask::CopyAsk;
 use papaya_words::probe::{Refused, ResizeMode};
 use papaya_words::word::{Kind, Word};
 

@@ -1,16 +1,16 @@
 //! One chunk of the copy of the root: slots that are copied one after another.
 ghost use Rattle.std.specs.Prelude.{◌≡◌, ◌<◌, ◌≤◌, ◌^◌};
 ghost use Rattle.std.specs.Int.{IsPowerOfTwo};
-ghost use Rattle.papaya_call.specs.Link.{IsFitCopyAsk, IsStandingLink, IsStandingLinked};
-ghost use Rattle.papaya_call.specs.Machine.{IsChunked};
-ghost use Rattle.papaya_call.specs.Search.{IsSize};
-ghost use Rattle.papaya_call.specs.Settle.{IsStandingSettled};
-ghost use Rattle.papaya_call.specs.Step.{IsStandingChunk, IsStandingStep, IsStandingStepped, advanced, aimed, at_count, at_exchanged, at_found, at_hash, at_made, at_refused, at_size, at_word, at_yes, chunk_of, counted, judged, linked_to, settled_to, slot_of, step_ask, step_follows, step_kind};
+ghost use Rattle.papaya_copy.specs.Link.{IsFitCopyAsk, IsStandingLink, IsStandingLinked};
+ghost use Rattle.papaya_words.specs.Mode.{IsChunked};
+ghost use Rattle.papaya_ask.specs.Search.{IsSize};
+ghost use Rattle.papaya_copy.specs.Settle.{IsStandingSettled};
+ghost use Rattle.papaya_copy.specs.Step.{IsStandingChunk, IsStandingStep, IsStandingStepped, advanced, aimed, at_count, at_exchanged, at_found, at_hash, at_made, at_refused, at_size, at_word, at_yes, chunk_of, counted, judged, linked_to, settled_to, slot_of, step_ask, step_follows, step_kind};
 
-use crate::ask::{At, StepKind};
-use crate::copy_ask::CopyAsk;
 use crate::link::{Link, Linked};
 use crate::settle::{Settle, Settled, Slot};
+use papaya_ask::ask::{At, StepKind};
+use papaya_ask::copy_ask::CopyAsk;
 use papaya_words::limits::BLOCKING_CHUNK;
 use papaya_words::probe::{Refused, ResizeMode};
 

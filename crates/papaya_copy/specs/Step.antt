@@ -4,27 +4,27 @@ use Rattle.papaya_words.specs.declared.limits.TheConstants.{BLOCKING_CHUNK}
 use Rattle.papaya_words.specs.declared.probe.Refused.{Refused}
 use Rattle.papaya_words.specs.declared.probe.ResizeMode.{ResizeMode}
 use Rattle.papaya_words.specs.declared.probe.ResizeMode.TheVariants.{Incremental, Blocking}
-use Rattle.papaya_call.specs.declared.ask.At.TheVariants.{Root, Next, Aborted, Done}
-use Rattle.papaya_call.specs.declared.ask.StepKind.{StepKind}
-use Rattle.papaya_call.specs.declared.ask.StepKind.TheVariants as kinds
-use Rattle.papaya_call.specs.declared.copy_ask.CopyAsk.{CopyAsk}
-use Rattle.papaya_call.specs.declared.copy_ask.CopyAsk.TheVariants.{Load, Exchange, SizeOf}
-use Rattle.papaya_call.specs.declared.link.Link.TheVariants.{Sizing as Link_sizing}
-use Rattle.papaya_call.specs.declared.link.Linked.{Linked}
-use Rattle.papaya_call.specs.declared.link.Linked.TheVariants.{On as Link_on, Table, Refused as Link_refused}
-use Rattle.papaya_call.specs.declared.settle.Settle.TheVariants.{Looking}
-use Rattle.papaya_call.specs.declared.settle.Settled.{Settled}
-use Rattle.papaya_call.specs.declared.settle.Settled.TheVariants.{On as Settle_on, Settled as Was_settled, Unfit, Refused as Settle_refused}
-use Rattle.papaya_call.specs.declared.settle.Slot.{Slot}
-use Rattle.papaya_call.specs.declared.step.Chunk.{Chunk}
-use Rattle.papaya_call.specs.declared.step.Step.{Step}
-use Rattle.papaya_call.specs.declared.step.Step.TheVariants.{AtRoot, Aiming, Linking, Judging, Sizing, Counting, Settling, Advancing, Promoting}
-use Rattle.papaya_call.specs.declared.step.Stepped.{Stepped}
-use Rattle.papaya_call.specs.declared.step.Stepped.TheVariants.{On, Root as At_root, Last, Over, Refused as Was_refused}
-use Rattle.papaya_call.specs.Link as links
-use Rattle.papaya_call.specs.Link.{IsStandingLink, follows, link_ask, link_kind}
-use Rattle.papaya_call.specs.Settle as settles
-use Rattle.papaya_call.specs.Settle.{IsStandingSettle, settle_ask, settle_follows, settle_kind}
+use Rattle.papaya_ask.specs.declared.ask.At.TheVariants.{Root, Next, Aborted, Done}
+use Rattle.papaya_ask.specs.declared.ask.StepKind.{StepKind}
+use Rattle.papaya_ask.specs.declared.ask.StepKind.TheVariants as kinds
+use Rattle.papaya_ask.specs.declared.copy_ask.CopyAsk.{CopyAsk}
+use Rattle.papaya_ask.specs.declared.copy_ask.CopyAsk.TheVariants.{Load, Exchange, SizeOf}
+use Rattle.papaya_copy.specs.declared.link.Link.TheVariants.{Sizing as Link_sizing}
+use Rattle.papaya_copy.specs.declared.link.Linked.{Linked}
+use Rattle.papaya_copy.specs.declared.link.Linked.TheVariants.{On as Link_on, Table, Refused as Link_refused}
+use Rattle.papaya_copy.specs.declared.settle.Settle.TheVariants.{Looking}
+use Rattle.papaya_copy.specs.declared.settle.Settled.{Settled}
+use Rattle.papaya_copy.specs.declared.settle.Settled.TheVariants.{On as Settle_on, Settled as Was_settled, Unfit, Refused as Settle_refused}
+use Rattle.papaya_copy.specs.declared.settle.Slot.{Slot}
+use Rattle.papaya_copy.specs.declared.step.Chunk.{Chunk}
+use Rattle.papaya_copy.specs.declared.step.Step.{Step}
+use Rattle.papaya_copy.specs.declared.step.Step.TheVariants.{AtRoot, Aiming, Linking, Judging, Sizing, Counting, Settling, Advancing, Promoting}
+use Rattle.papaya_copy.specs.declared.step.Stepped.{Stepped}
+use Rattle.papaya_copy.specs.declared.step.Stepped.TheVariants.{On, Root as At_root, Last, Over, Refused as Was_refused}
+use Rattle.papaya_copy.specs.Link as links
+use Rattle.papaya_copy.specs.Link.{IsStandingLink, follows, link_ask, link_kind}
+use Rattle.papaya_copy.specs.Settle as settles
+use Rattle.papaya_copy.specs.Settle.{IsStandingSettle, settle_ask, settle_follows, settle_kind}
 
 -- a slot of the chunk is copied
 pub record IsStandingChunk (chunk : Chunk) : Type 0 where

@@ -1,17 +1,17 @@
 //! The copy of the root, for what a call wants of it.
 ghost use Rattle.std.specs.Prelude.{◌≡◌};
 ghost use Rattle.std.specs.Int.{IsPowerOfTwo};
-ghost use Rattle.papaya_call.specs.Copying.{IsStandingCopying, IsStandingCopied, at_count, at_exchanged, at_found, at_hash, at_made, at_refused, at_root, at_size, at_word, at_yes, copying_ask, copying_follows, copying_kind, last, leads, lone, over};
-ghost use Rattle.papaya_call.specs.Link.{IsFitCopyAsk};
-ghost use Rattle.papaya_call.specs.Machine.{IsChunked};
-ghost use Rattle.papaya_call.specs.Search.{IsSize};
-ghost use Rattle.papaya_call.specs.Settle.{IsStandingSettled};
-ghost use Rattle.papaya_call.specs.Step.{IsStandingStepped};
+ghost use Rattle.papaya_copy.specs.Copying.{IsStandingCopying, IsStandingCopied, at_count, at_exchanged, at_found, at_hash, at_made, at_refused, at_root, at_size, at_word, at_yes, copying_ask, copying_follows, copying_kind, last, leads, lone, over};
+ghost use Rattle.papaya_copy.specs.Link.{IsFitCopyAsk};
+ghost use Rattle.papaya_words.specs.Mode.{IsChunked};
+ghost use Rattle.papaya_ask.specs.Search.{IsSize};
+ghost use Rattle.papaya_copy.specs.Settle.{IsStandingSettled};
+ghost use Rattle.papaya_copy.specs.Step.{IsStandingStepped};
 
-use crate::ask::StepKind;
-use crate::copy_ask::CopyAsk;
 use crate::settle::{Settle, Settled, Slot};
 use crate::step::{Step, Stepped};
+use papaya_ask::ask::StepKind;
+use papaya_ask::copy_ask::CopyAsk;
 use papaya_words::probe::{Refused, ResizeMode};
 
 /// What a call copies for: how much, and where it leads.

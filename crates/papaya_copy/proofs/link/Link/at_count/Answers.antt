@@ -1,8 +1,8 @@
 use Rattle.std.proofs.Common.{◌≤◌, ◌^◌, max, ◌∙◌, sym, subst, ap, arith}
 use Rattle.std.specs.Int.{IsPowerOfTwo}
 use Rattle.papaya_words.proofs.Lengths.{table_power}
-use Rattle.papaya_call.specs.Link.{IsStandingLink}
-use Rattle.papaya_call.proofs.link.Link.at_count.Goals as goal
+use Rattle.papaya_copy.specs.Link.{IsStandingLink}
+use Rattle.papaya_copy.proofs.link.Link.at_count.Goals as goal
 
 -- the next length is a power of two as this one is
 pub returns-in-Ok-clause-standing : goal.returns-in-Ok-clause-standing

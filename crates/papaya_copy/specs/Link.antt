@@ -4,16 +4,16 @@ use Rattle.std.specs.Int.{IsPowerOfTwo}
 use Rattle.papaya_words.specs.Table.{length_after, limit_after}
 use Rattle.papaya_words.specs.declared.probe.Refused.{Refused}
 use Rattle.papaya_words.specs.declared.probe.Refused.TheVariants.{Capacity}
-use Rattle.papaya_call.specs.declared.ask.At.TheVariants.{Next}
-use Rattle.papaya_call.specs.declared.ask.StepKind.{StepKind}
-use Rattle.papaya_call.specs.declared.ask.StepKind.TheVariants as kinds
-use Rattle.papaya_call.specs.declared.copy_ask.CopyAsk.{CopyAsk}
-use Rattle.papaya_call.specs.declared.copy_ask.CopyAsk.TheVariants.{Exchange, SizeOf, Count, MakeTable}
-use Rattle.papaya_call.specs.declared.link.Link.{Link}
-use Rattle.papaya_call.specs.declared.link.Link.TheVariants.{Sizing, Counting, Making, Linking}
-use Rattle.papaya_call.specs.declared.link.Linked.{Linked}
-use Rattle.papaya_call.specs.declared.link.Linked.TheVariants.{On, Table, Refused as Was_refused}
-use Rattle.papaya_call.specs.Search.{IsSize}
+use Rattle.papaya_ask.specs.declared.ask.At.TheVariants.{Next}
+use Rattle.papaya_ask.specs.declared.ask.StepKind.{StepKind}
+use Rattle.papaya_ask.specs.declared.ask.StepKind.TheVariants as kinds
+use Rattle.papaya_ask.specs.declared.copy_ask.CopyAsk.{CopyAsk}
+use Rattle.papaya_ask.specs.declared.copy_ask.CopyAsk.TheVariants.{Exchange, SizeOf, Count, MakeTable}
+use Rattle.papaya_copy.specs.declared.link.Link.{Link}
+use Rattle.papaya_copy.specs.declared.link.Link.TheVariants.{Sizing, Counting, Making, Linking}
+use Rattle.papaya_copy.specs.declared.link.Linked.{Linked}
+use Rattle.papaya_copy.specs.declared.link.Linked.TheVariants.{On, Table, Refused as Was_refused}
+use Rattle.papaya_ask.specs.Search.{IsSize}
 
 -- a table that is asked for has a size of tables
 abbrev pub IsFitCopyAsk : CopyAsk → Type 0

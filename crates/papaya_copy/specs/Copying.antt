@@ -3,25 +3,25 @@ use Rattle.std.specs.Prelude.{ℕ, ◌==◌, ◌||◌, Bool, if◌then◌else◌
 use Rattle.papaya_words.specs.declared.probe.Refused.{Refused}
 use Rattle.papaya_words.specs.declared.probe.ResizeMode.{ResizeMode}
 use Rattle.papaya_words.specs.declared.probe.ResizeMode.TheVariants.{Incremental, Blocking}
-use Rattle.papaya_call.specs.declared.ask.StepKind.{StepKind}
-use Rattle.papaya_call.specs.declared.copy_ask.CopyAsk.{CopyAsk}
-use Rattle.papaya_call.specs.declared.copying.Aim.{Aim}
-use Rattle.papaya_call.specs.declared.copying.Aim.TheVariants as aims
-use Rattle.papaya_call.specs.declared.copying.Copied.{Copied}
-use Rattle.papaya_call.specs.declared.copying.Copied.TheVariants.{On, Search, Root, Chunk, Refused as Was_refused}
-use Rattle.papaya_call.specs.declared.copying.Copying.{Copying}
-use Rattle.papaya_call.specs.declared.copying.Copying.TheVariants.{Stepping, Lone}
-use Rattle.papaya_call.specs.declared.settle.Settle.TheVariants.{Looking}
-use Rattle.papaya_call.specs.declared.settle.Settled.{Settled}
-use Rattle.papaya_call.specs.declared.settle.Settled.TheVariants.{On as Settle_on, Settled as Was_settled, Unfit, Refused as Settle_refused}
-use Rattle.papaya_call.specs.declared.settle.Slot.{Slot}
-use Rattle.papaya_call.specs.declared.step.Stepped.{Stepped}
-use Rattle.papaya_call.specs.declared.step.Stepped.TheVariants.{On as Step_on, Root as Step_root, Last, Over, Refused as Step_refused}
-use Rattle.papaya_call.specs.declared.step.Step.TheVariants.{AtRoot, Aiming}
-use Rattle.papaya_call.specs.Settle as settles
-use Rattle.papaya_call.specs.Settle.{IsStandingSettle, settle_ask, settle_follows, settle_kind}
-use Rattle.papaya_call.specs.Step as steps
-use Rattle.papaya_call.specs.Step.{IsStandingStep, step_ask, step_follows, step_kind}
+use Rattle.papaya_ask.specs.declared.ask.StepKind.{StepKind}
+use Rattle.papaya_ask.specs.declared.copy_ask.CopyAsk.{CopyAsk}
+use Rattle.papaya_copy.specs.declared.copying.Aim.{Aim}
+use Rattle.papaya_copy.specs.declared.copying.Aim.TheVariants as aims
+use Rattle.papaya_copy.specs.declared.copying.Copied.{Copied}
+use Rattle.papaya_copy.specs.declared.copying.Copied.TheVariants.{On, Search, Root, Chunk, Refused as Was_refused}
+use Rattle.papaya_copy.specs.declared.copying.Copying.{Copying}
+use Rattle.papaya_copy.specs.declared.copying.Copying.TheVariants.{Stepping, Lone}
+use Rattle.papaya_copy.specs.declared.settle.Settle.TheVariants.{Looking}
+use Rattle.papaya_copy.specs.declared.settle.Settled.{Settled}
+use Rattle.papaya_copy.specs.declared.settle.Settled.TheVariants.{On as Settle_on, Settled as Was_settled, Unfit, Refused as Settle_refused}
+use Rattle.papaya_copy.specs.declared.settle.Slot.{Slot}
+use Rattle.papaya_copy.specs.declared.step.Stepped.{Stepped}
+use Rattle.papaya_copy.specs.declared.step.Stepped.TheVariants.{On as Step_on, Root as Step_root, Last, Over, Refused as Step_refused}
+use Rattle.papaya_copy.specs.declared.step.Step.TheVariants.{AtRoot, Aiming}
+use Rattle.papaya_copy.specs.Settle as settles
+use Rattle.papaya_copy.specs.Settle.{IsStandingSettle, settle_ask, settle_follows, settle_kind}
+use Rattle.papaya_copy.specs.Step as steps
+use Rattle.papaya_copy.specs.Step.{IsStandingStep, step_ask, step_follows, step_kind}
 
 -- it stands within its chunk
 abbrev pub IsStandingCopying : Copying → Type 0

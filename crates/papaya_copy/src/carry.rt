@@ -1,14 +1,14 @@
 //! A copier puts the pair of a marked word into a table.
 ghost use Rattle.std.specs.Prelude.{◌≡◌};
 ghost use Rattle.std.specs.Int.{IsPowerOfTwo};
-ghost use Rattle.papaya_call.specs.Carry.{IsStandingCarry, IsStandingCarried, at_count, at_exchanged, at_found, at_hash, at_made, at_refused, at_size, at_word, at_yes, carried_on, carry_ask, carry_follows, carry_kind, goes_on, look, passed};
-ghost use Rattle.papaya_call.specs.Link.{IsFitCopyAsk, IsStandingLinked};
-ghost use Rattle.papaya_call.specs.Search.{IsSize, IsWithin};
+ghost use Rattle.papaya_copy.specs.Carry.{IsStandingCarry, IsStandingCarried, at_count, at_exchanged, at_found, at_hash, at_made, at_refused, at_size, at_word, at_yes, carried_on, carry_ask, carry_follows, carry_kind, goes_on, look, passed};
+ghost use Rattle.papaya_copy.specs.Link.{IsFitCopyAsk, IsStandingLinked};
+ghost use Rattle.papaya_ask.specs.Search.{IsSize, IsWithin};
 
-use crate::ask::{At, StepKind};
-use crate::copy_ask::CopyAsk;
 use crate::link::{Link, Linked};
-use crate::search::Place;
+use papaya_ask::ask::{At, StepKind};
+use papaya_ask::copy_ask::CopyAsk;
+use papaya_ask::search::Place;
 use papaya_words::probe::{Refused, ResizeMode};
 use papaya_words::word::{Kind, Word, h2};
 

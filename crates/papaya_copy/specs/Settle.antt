@@ -6,21 +6,21 @@ use Rattle.papaya_words.specs.declared.probe.ResizeMode.{ResizeMode}
 use Rattle.papaya_words.specs.declared.probe.ResizeMode.TheVariants.{Incremental, Blocking}
 use Rattle.papaya_words.specs.declared.word.Kind.{Kind}
 use Rattle.papaya_words.specs.declared.word.Kind.TheVariants as word_kinds
-use Rattle.papaya_call.specs.declared.ask.At.TheVariants as words
-use Rattle.papaya_call.specs.declared.ask.StepKind.{StepKind}
-use Rattle.papaya_call.specs.declared.ask.StepKind.TheVariants as kinds
-use Rattle.papaya_call.specs.declared.carry.Carried.{Carried}
-use Rattle.papaya_call.specs.declared.carry.Carried.TheVariants.{On as Carry_on, Carried as Was_carried, Unfit as Carry_unfit, Refused as Carry_refused}
-use Rattle.papaya_call.specs.declared.carry.Carry.TheVariants.{Hashing}
-use Rattle.papaya_call.specs.declared.copy_ask.CopyAsk.{CopyAsk}
-use Rattle.papaya_call.specs.declared.copy_ask.CopyAsk.TheVariants.{Load, Exchange}
-use Rattle.papaya_call.specs.declared.settle.Settle.{Settle}
-use Rattle.papaya_call.specs.declared.settle.Settle.TheVariants.{Looking, Closing, Marking, Carrying, Finishing}
-use Rattle.papaya_call.specs.declared.settle.Settled.{Settled}
-use Rattle.papaya_call.specs.declared.settle.Settled.TheVariants.{On, Settled as Was_settled, Unfit, Refused as Was_refused}
-use Rattle.papaya_call.specs.declared.settle.Slot.{Slot}
-use Rattle.papaya_call.specs.Carry as carries
-use Rattle.papaya_call.specs.Carry.{IsStandingCarry, carry_ask, carry_follows, carry_kind}
+use Rattle.papaya_ask.specs.declared.ask.At.TheVariants as words
+use Rattle.papaya_ask.specs.declared.ask.StepKind.{StepKind}
+use Rattle.papaya_ask.specs.declared.ask.StepKind.TheVariants as kinds
+use Rattle.papaya_copy.specs.declared.carry.Carried.{Carried}
+use Rattle.papaya_copy.specs.declared.carry.Carried.TheVariants.{On as Carry_on, Carried as Was_carried, Unfit as Carry_unfit, Refused as Carry_refused}
+use Rattle.papaya_copy.specs.declared.carry.Carry.TheVariants.{Hashing}
+use Rattle.papaya_ask.specs.declared.copy_ask.CopyAsk.{CopyAsk}
+use Rattle.papaya_ask.specs.declared.copy_ask.CopyAsk.TheVariants.{Load, Exchange}
+use Rattle.papaya_copy.specs.declared.settle.Settle.{Settle}
+use Rattle.papaya_copy.specs.declared.settle.Settle.TheVariants.{Looking, Closing, Marking, Carrying, Finishing}
+use Rattle.papaya_copy.specs.declared.settle.Settled.{Settled}
+use Rattle.papaya_copy.specs.declared.settle.Settled.TheVariants.{On, Settled as Was_settled, Unfit, Refused as Was_refused}
+use Rattle.papaya_copy.specs.declared.settle.Slot.{Slot}
+use Rattle.papaya_copy.specs.Carry as carries
+use Rattle.papaya_copy.specs.Carry.{IsStandingCarry, carry_ask, carry_follows, carry_kind}
 
 -- the carry in it stands within its table
 abbrev pub IsStandingSettle : Settle → Type 0

@@ -1,6 +1,6 @@
 //! The search of one table for a key.
 ghost use Rattle.std.specs.Prelude.{◌≡◌, ◌<◌, ◌^◌};
-ghost use Rattle.papaya_call.specs.Search.{IsSize, IsWithin, IsSearching, IsSeen, first_place, go_on, look, ask_of, at_size, at_word, at_yes};
+ghost use Rattle.papaya_ask.specs.Search.{IsSize, IsWithin, IsSearching, IsSeen, first_place, go_on, look, ask_of, at_size, at_word, at_yes};
 
 use crate::ask::{Ask, At};
 use papaya_words::probe::Probe;

@@ -2,7 +2,7 @@
 use papaya_words::probe::Refused;
 
 /// A call that a caller begins, with what it hands in. `A` gives the answers of the closure of a
-/// call that takes one, as [`crate::answers::Listed`] does.
+/// call that takes one, as `papaya_call::answers::Listed` does.
 #[derive(Debug, Drop)]
 pub enum Call<K, V, A> {
     /// Looks a key up: `get` of 0.2.5.

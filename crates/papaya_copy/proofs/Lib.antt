@@ -1,0 +1,1 @@
+-- no lemma: the contracts of the copiers are their definitions

@@ -1,0 +1,5 @@
+pub mod Carry
+pub mod Copying
+pub mod Link
+pub mod Settle
+pub mod Step

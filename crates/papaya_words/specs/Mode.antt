@@ -1,0 +1,9 @@
+-- How a map grows.
+use Rattle.std.specs.Prelude.{◌≤◌}
+use Rattle.papaya_words.specs.declared.probe.ResizeMode.{ResizeMode}
+use Rattle.papaya_words.specs.declared.probe.ResizeMode.TheVariants.{Incremental, Blocking}
+
+-- a chunk has a slot at least
+abbrev pub IsChunked : ResizeMode → Type 0
+IsChunked (Incremental chunk) = 1 ≤ chunk
+IsChunked Blocking = Unit {0}
