@@ -15,6 +15,7 @@ use Rattle.papaya_call.specs.declared.compute.Put.{Put}
 use Rattle.papaya_call.specs.declared.compute.Remembered.{Remembered}
 use Rattle.papaya_call.specs.declared.machine.State.{State}
 use Rattle.papaya_call.specs.declared.machine.State.TheVariants.{Making, Offering, Pairing, Putting, Showing, Burying, Growing, Ended}
+use Rattle.papaya_call.specs.declared.need.Need.TheVariants.{Room}
 use Rattle.papaya_call.specs.declared.remove.Removal.{Removal}
 use Rattle.papaya_ask.specs.declared.search.Place.{Place}
 use Rattle.papaya_ask.specs.Search.{IsWithin}
@@ -28,7 +29,7 @@ nothing = record { fill = None; choice = None }
 abbrev pub fills : Gap → ℕ → State
 fills NoRoot n = Making
 fills (At place) n = Putting (record { write = record { place = place; old = 0 }; pair = n })
-fills (After table) n = Growing table
+fills (After table) n = Growing (Room table)
 
 -- the key is absent: the closure is shown so, unless its insertion is remembered
 abbrev pub lacks : Option ℕ → Gap → State

@@ -24,6 +24,8 @@ use Rattle.papaya_call.specs.declared.compute.Gap.{Gap}
 use Rattle.papaya_call.specs.declared.compute.Gap.TheVariants.{NoRoot, At, After}
 use Rattle.papaya_call.specs.declared.compute.Purpose.{Purpose}
 use Rattle.papaya_call.specs.declared.compute.Remembered.{Remembered}
+use Rattle.papaya_call.specs.declared.need.Need.{Need}
+use Rattle.papaya_call.specs.declared.need.Need.TheVariants.{Room, Pair as Pair_at}
 use Rattle.papaya_call.specs.declared.remove.Removal.{Removal}
 use Rattle.papaya_ask.specs.declared.search.Place.{Place}
 use Rattle.papaya_ask.specs.declared.search.Search.TheVariants.{Sizing}
@@ -59,6 +61,11 @@ pairing_ask Nothing = MakeKey
 pairing_ask Key = MakePair
 pairing_ask (Pair n) = MakePair
 
+-- the table whose next one is needed
+abbrev pub needed : Need → ℕ
+needed (Room table) = table
+needed (Pair_at table x) = table
+
 -- what a machine asks
 abbrev pub asks : Made → ℕ → State → Ask
 asks made hash AtRoot = Load Root
@@ -74,7 +81,7 @@ asks made hash (Burying removal) = removal_ask removal
 asks made hash (Counting pair) = AddToShard (pos 1)
 asks made hash (Uncounting pair) = AddToShard (negsuc 0)
 asks made hash (Leaving table) = Load (Next table)
-asks made hash (Growing table) = Load (Next table)
+asks made hash (Growing need) = Load (Next (needed need))
 asks made hash (Ended reply) = Done reply
 
 abbrev pub ask_of : Machine → Ask
@@ -120,21 +127,25 @@ abbrev pub passes : Task → ResizeMode → Option ℕ → ℕ → State
 passes task (Incremental chunk) fill table = Leaving table
 passes task Blocking fill table = absent task fill (After table)
 
--- a pair with a matching key is replaced where its word is Live; one that is marked can't be
--- changed here
+-- a pair with a matching key that is marked can't be changed here: it is copied, and is needed in
+-- the next table
+abbrev pub copied_from : Place → State
+copied_from at = Growing (Pair_at at.table at.probe.i)
+
+-- a pair with a matching key is replaced where its word is Live
 abbrev pub replaces : Kind → Place → ℕ → State
 replaces Live at word = Writing (record { place = at; old = word })
-replaces _ at word = Growing at.table
+replaces _ at word = copied_from at
 
 -- and is shown to the closure of a removal there
 abbrev pub removes : Kind → Place → ℕ → State
 removes Live at word = Showing (record { place = at; word = word })
-removes _ at word = Growing at.table
+removes _ at word = copied_from at
 
 -- and to the closure of a compute, or acted on as it answered before
 abbrev pub computes : Kind → Remembered → Place → ℕ → State
 computes Live held at word = meets held.choice at word
-computes _ held at word = Growing at.table
+computes _ held at word = copied_from at
 
 abbrev pub found : Task → Remembered → Place → ℕ → State
 found Get held at word = Ended (Found (pair_of word))
@@ -154,7 +165,7 @@ goes_as RemoveIf mode held (Over table) = passes RemoveIf mode held.fill table
 goes_as Compute mode held (Empty at) = absent Compute held.fill (At at)
 goes_as Compute mode held (Over table) = passes Compute mode held.fill table
 goes_as (Insert replace) mode held (Empty at) = Writing (record { place = at; old = 0 })
-goes_as (Insert replace) mode held (Over table) = Growing table
+goes_as (Insert replace) mode held (Over table) = Growing (Room table)
 
 abbrev pub goes : Machine → Seen → State
 goes m seen = goes_as m.task m.mode m.remembered seen
@@ -204,7 +215,7 @@ abbrev pub at_word : Machine → ℕ → State → State
 at_word m word AtRoot = at_root m.task m.remembered.fill word
 at_word m word (Searching search) = goes m (search_loaded search m.hash word)
 at_word m word (Leaving table) = left m.task m.remembered.fill table word
-at_word m word (Growing table) = Ended (Reply_refused Capacity)
+at_word m word (Growing need) = Ended (Reply_refused Capacity)
 at_word m word state = state
 
 abbrev pub at_exchanged : Made → State → State
@@ -368,7 +379,7 @@ IsStandingState task (Putting put) = IsComputer task × IsPut put
 IsStandingState task (Burying removal) = HasClosure task × IsWithin removal.place
 IsStandingState task (Counting pair) = MayInsert task
 IsStandingState task (Uncounting pair) = HasClosure task
-IsStandingState task (Growing table) = IsChanger task
+IsStandingState task (Growing need) = IsChanger task
 IsStandingState task _ = Unit {0}
 
 pub record IsStanding (m : Machine) : Type 0 where

@@ -7,6 +7,7 @@ ghost use Rattle.papaya_call.specs.Machine.{IsStandingState};
 ghost use Rattle.papaya_ask.specs.Search.{IsWithin};
 
 use crate::machine::State;
+use crate::need::Need;
 use crate::remove::Removal;
 use crate::write::Write;
 use papaya_ask::ask::OpKind;
@@ -147,7 +148,7 @@ impl State {
                 let write = Write { place, old: 0 };
                 State::Putting(Put { write, pair })
             }
-            Gap::After(table) => State::Growing(table),
+            Gap::After(table) => State::Growing(Need::Room(table)),
         }
     }
 

@@ -9,5 +9,6 @@ pub use papaya_ask::{ask, call, search};
 pub mod answers;
 pub mod compute;
 pub mod machine;
+pub mod need;
 pub mod remove;
 pub mod write;

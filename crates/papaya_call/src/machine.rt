@@ -7,6 +7,7 @@ ghost use Rattle.papaya_words.specs.Mode.{IsChunked};
 ghost use Rattle.papaya_call.specs.Machine.{IsFit, IsFitAsk, IsStanding, IsStandingState, IsLookup, MayInsert, IsComputer, started, ask_of, kind_of_ask, after, absent, at_root, goes, found, passes, left, beaten, written, at_word, at_exchanged, at_found, at_yes, at_op, state_op, at_size, state_made, at_ok, at_refused};
 
 use crate::compute::{Gap, Purpose, Put, Remembered};
+use crate::need::Need;
 use crate::remove::Removal;
 use crate::write::{Made, Write};
 use papaya_ask::ask::{Answer, Ask, At, OpKind, StepKind};
@@ -45,8 +46,8 @@ pub enum State {
     Uncounting(u64),
     /// Its key is not in this table, and it loads the number of the next.
     Leaving(u64),
-    /// It needs a table after this one, and loads its number.
-    Growing(u64),
+    /// It needs the table after one, and loads its number.
+    Growing(Need),
     /// It has replied.
     Ended(Reply),
 }
@@ -112,7 +113,8 @@ impl Machine {
             State::Burying(removal) => removal.ask(),
             State::Counting(_) => Ask::AddToShard(1),
             State::Uncounting(_) => Ask::AddToShard(-1),
-            State::Leaving(table) | State::Growing(table) => Ask::Load(At::Next(table)),
+            State::Leaving(table) => Ask::Load(At::Next(table)),
+            State::Growing(need) => Ask::Load(At::Next(need.table())),
             State::Ended(reply) => Ask::Done(reply),
         }
     }
@@ -374,7 +376,7 @@ impl Machine {
             },
             Seen::Here(place, word) => self.found(place, word),
             Seen::Over(table) => match self.task {
-                Task::Insert { .. } => State::Growing(table),
+                Task::Insert { .. } => State::Growing(Need::Room(table)),
                 Task::Get | Task::RemoveIf | Task::Compute => self.passes(table),
             },
         }
@@ -397,7 +399,7 @@ impl Machine {
             _ => {}
         }
         if Word(word).kind() != Kind::Live {
-            return State::Growing(place.table);
+            return State::Growing(Need::Pair(place.table, place.probe.i));
         }
         match self.task {
             Task::RemoveIf => State::Showing(Removal { place, word }),

@@ -11,7 +11,7 @@ use Rattle.papaya_ask.specs.declared.call.Task.{Task}
 use Rattle.papaya_ask.specs.declared.call.Task.TheVariants.{Get, Insert, RemoveIf, Compute}
 use Rattle.papaya_call.specs.declared.machine.State.TheVariants.{Growing, Writing}
 use Rattle.papaya_call.specs.declared.write.Write.{Write}
-use Rattle.papaya_call.specs.Machine.{MayInsert, after, ask_of, asks}
+use Rattle.papaya_call.specs.Machine.{MayInsert, after, ask_of, asks, needed}
 use Rattle.papaya_law.specs.Allows.{AllAllowed}
 use Rattle.papaya_law.specs.Class.{IsOn}
 use Rattle.papaya_law.specs.Code.{Coding, IsHashed}
@@ -22,7 +22,7 @@ use Rattle.papaya_law.proofs.Codes.{code_empty}
 use Rattle.papaya_law.proofs.Logs.{on_comes}
 use Rattle.papaya_law.proofs.OneMap.{keeping, means_map, sound}
 use Rattle.papaya_law.proofs.Onward.{gone_further}
-use Rattle.papaya_rests.specs.Rests.{HasComeTo, RestsGrowing, RestsStage}
+use Rattle.papaya_rests.specs.Rests.{HasComeTo, IsMovingFrom, RestsGrowing, RestsStage}
 use Rattle.papaya_rests.specs.Told.{word_of}
 use Rattle.papaya_rests.proofs.RestsNames.{come_on, come_reached}
 use Rattle.papaya_rests.proofs.RestsRemovals.{moving_further}
@@ -37,6 +37,8 @@ use Rattle.papaya_core.specs.Store.{Stored}
 use Rattle.papaya_core.specs.Tables.{word_at, word_in}
 use Rattle.papaya_core.proofs.CoreLemmas.{reply_asked}
 use Rattle.papaya_core.proofs.KeptLemmas.{IsLawfulKeys, hashed_setting, map_kept}
+use Rattle.papaya_call.specs.declared.need.Need.{Need}
+use Rattle.papaya_call.specs.declared.need.Need.TheVariants.{Room, Pair as Pair_at}
 
 -- where no table has a next one, the only table on the chain is the first
 on_first : (first : ℕ) (next : ℕ → ℕ) (t : ℕ) → ((n : ℕ) → next n ≡ 0) → IsOn first next t → t ≡ first
@@ -69,14 +71,17 @@ module _ {K V S A : Type 0} (eq : K → K → Bool) (hash : K → ℕ) (law : Is
   single : (t : ℕ) → now.next t ≡ 0
   single t = ap (λ (l : List (Exchange (Stored K V))). (run l first_state).next t) call.split ∙ kept.single t
 
-  -- a call that needs a further table inserts, and passed the table: no pair is being copied, as there is no next table
-  passes : (task : Task) (t : ℕ) → RestsGrowing g c (tales caller).begun (tales caller).since call.key task t → MayInsert task × HasComeTo g c (tales caller).begun (tales caller).since call.key t × IsPassed g.places (look g now call.key) t
-  passes Get t rests = absurd rests
-  passes RemoveIf t (come, moving) = let more = moving_further g c hashed.lawful (tales caller).begun (tales caller).since may call.key t moving in let none = single t in absurd (omega (arith, more, none))
-  passes (Insert replace) t (come, inl passed) = (tt, come, passed)
-  passes (Insert replace) t (come, inr moving) = let more = moving_further g c hashed.lawful (tales caller).begun (tales caller).since may call.key t moving in let none = single t in absurd (omega (arith, more, none))
-  passes Compute t (come, inl passed) = (tt, come, passed)
-  passes Compute t (come, inr moving) = let more = moving_further g c hashed.lawful (tales caller).begun (tales caller).since may call.key t moving in let none = single t in absurd (omega (arith, more, none))
+  -- no pair is being copied, as there is no next table
+  none_moves : (t x : ℕ) → IsMovingFrom g c (tales caller).begun (tales caller).since call.key t x → ⊥
+  none_moves t x moving = let more = moving_further g c hashed.lawful (tales caller).begun (tales caller).since may call.key t x moving in let none = single t in omega (arith, more, none)
+
+  -- so a call that needs a further table inserts, and passed the table
+  passes : (task : Task) (need : Need) → RestsGrowing g c (tales caller).begun (tales caller).since call.key task need → MayInsert task × HasComeTo g c (tales caller).begun (tales caller).since call.key (needed need) × IsPassed g.places (look g now call.key) (needed need)
+  passes task (Pair_at t x) (inserts, (come, moving)) = absurd (none_moves t x moving)
+  passes Get (Room t) rests = absurd rests.0
+  passes RemoveIf (Room t) rests = absurd rests.0
+  passes (Insert replace) (Room t) (inserts, (come, passed)) = (tt, come, passed)
+  passes Compute (Room t) (inserts, (come, passed)) = (tt, come, passed)
 
   module _ (t : ℕ) (come : HasComeTo g c (tales caller).begun (tales caller).since call.key t) where
     on_chain : IsOn now.first now.next t
@@ -117,9 +122,10 @@ module _ {K V S A : Type 0} (eq : K → K → Bool) (hash : K → ℕ) (law : Is
         let f : false ≡ true = sym (ap (λ (w : Word (Stored K V)). beyond (view g call.key w)) empty) ∙ over j lt in absurd cc)
         passed
 
-  pub no_place : (t : ℕ) → r.machine.state ≡ Growing t → HasNoPlace eq s.store r t
-  no_place t grows =
-      let (inserts, come, passed) = passes r.machine.task t (subst (RestsStage g c (tales caller).begun (tales caller).since call.key (tales caller).hands r.machine.task) grows call.rests.stage) in
+  pub no_place : (need : Need) → r.machine.state ≡ Growing need → HasNoPlace eq s.store r (needed need)
+  no_place need grows =
+      let t : ℕ = needed need in
+      let (inserts, come, passed) = passes r.machine.task need (subst (RestsStage g c (tales caller).begun (tales caller).since call.key (tales caller).hands r.machine.task) grows call.rests.stage) in
       let (words, there) = kept.made t come.some (on_comes (run es first_state) t (subst (λ (l : List (Exchange (Stored K V))). IsOn (run l first_state).first (run l first_state).next t) call.split (on_chain t come))) in
       record {
         asks = ap (asks r.machine.made r.machine.hash) grows;
@@ -157,7 +163,7 @@ module _ {K V S A : Type 0} (eq : K → K → Bool) (hash : K → ℕ) (law : Is
   caused answer refused e = ⊎_elim
       (λ made. inl made.0)
       (λ rest. ⊎_elim
-      (λ full. inr (inl (full.0, (full.1.0, no_place full.1.0 full.1.1))))
+      (λ full. inr (inl (full.0, (needed full.1.0, no_place full.1.0 full.1.1))))
       (λ nothing. inr (inr (nothing.0, ap (asks r.machine.made r.machine.hash) nothing.1.1, nothing.2)))
       rest)
       (machine_reason r.machine refused answer (core.going caller r was) (reply_asked (ask_of (after r.machine answer)) (Reply_refused refused) e))

@@ -37,7 +37,7 @@ use Rattle.papaya_call.specs.declared.machine.State.{State}
 use Rattle.papaya_call.specs.declared.machine.State.TheVariants.{AtRoot, Making, Opening, Searching, Writing, Offering, Showing, Pairing, Putting, Burying, Counting, Uncounting, Leaving, Growing, Ended}
 use Rattle.papaya_call.specs.Compute.{chosen, fills, lacks, offered, provides, recalls}
 use Rattle.papaya_rests.specs.Followed.{IsAtTable, IsCounting, IsGapAt, IsPurposeAt, MayAsk, table_asked, table_of, told_table}
-use Rattle.papaya_call.specs.Machine.{HasClosure, IsChanger, IsStanding, IsStandingState, MayInsert, after, absent, ask_of, asks, at_root, beaten_as, beaten_by, computes, decided, goes_as, judged, kind_asked, kind_of_ask, left, paired, passes, removes, replaces, written}
+use Rattle.papaya_call.specs.Machine.{HasClosure, IsChanger, IsStanding, IsStandingState, MayInsert, after, absent, ask_of, asks, at_root, beaten_as, beaten_by, computes, decided, goes_as, judged, kind_asked, kind_of_ask, left, needed, paired, passes, removes, replaces, written}
 use Rattle.papaya_rests.specs.Rests.{change_in}
 use Rattle.papaya_ask.specs.Search.{at_size, at_word, at_yes, go_on, look, look_at, match_at, compare_byte, next_place}
 use Rattle.papaya_rests.proofs.Standing.{computer_inserts, writer_inserts}
@@ -420,7 +420,7 @@ named_in made hash (Burying removal) n t is e = let j : removal.place.table ≡ 
 named_in made hash (Counting i) n t is e = absurd cc
 named_in made hash (Uncounting i) n t is e = absurd cc
 named_in made hash (Leaving u) n t is e = let j : u ≡ t = cc e in sym j ∙ is
-named_in made hash (Growing u) n t is e = let j : u ≡ t = cc e in sym j ∙ is
+named_in made hash (Growing need) n t is e = let j : needed need ≡ t = cc e in sym j ∙ is
 named_in made hash (Ended reply) n t is e = absurd cc
 
 pub table_named : (m : Machine) (n t : ℕ) → IsAtTable n m.state → table_asked (ask_of m) ≡ Some t → t ≡ n

@@ -30,6 +30,8 @@ use Rattle.papaya_call.specs.declared.machine.State.TheVariants.{Making, Searchi
 use Rattle.papaya_call.specs.Compute.{fills, lacks, provides, recalls}
 use Rattle.papaya_call.specs.Machine.{absent, at_root, beaten, beaten_as, beaten_by, computes, found, goes_as, left, passes, removes, replaces}
 use Rattle.papaya_ask.specs.Search.{look as look_seen}
+use Rattle.papaya_call.specs.declared.need.Need.{Need}
+use Rattle.papaya_call.specs.declared.need.Need.TheVariants.{Room, Pair as Pair_at}
 
 -- it holds of each state that a load or a search leads to
 pub record HoldsOfLeads (Holds : State → Type 0) : Type 0 where
@@ -44,14 +46,14 @@ pub record HoldsOfLeads (Holds : State → Type 0) : Type 0 where
   pub putting : (put : Put) → Holds (Putting put)
   pub burying : (removal : Removal) → Holds (Burying removal)
   pub leaving : (t : ℕ) → Holds (Leaving t)
-  pub growing : (t : ℕ) → Holds (Growing t)
+  pub growing : (need : Need) → Holds (Growing need)
 
 module _ (Holds : State → Type 0) (each : HoldsOfLeads Holds) where
   -- a pair for an absent key
   pub fills_leads : (gap : Gap) (n : ℕ) → Holds (fills gap n)
   fills_leads NoRoot n = each.making
   fills_leads (At_place at) n = each.putting (record { write = record { place = at; old = 0 }; pair = n })
-  fills_leads (After t) n = each.growing t
+  fills_leads (After t) n = each.growing (Room t)
 
   -- a pair for what its value was answered to
   pub provides_leads : (purpose : Purpose) (n : ℕ) → Holds (provides purpose n)
@@ -88,21 +90,21 @@ module _ (Holds : State → Type 0) (each : HoldsOfLeads Holds) where
 
   -- a pair that an insertion replaces
   replaces_leads : (kd : Kind) (at : Place) (word : ℕ) → Holds (replaces kd at word)
-  replaces_leads word_kinds.Empty at word = each.growing at.table
+  replaces_leads word_kinds.Empty at word = each.growing (Pair_at at.table at.probe.i)
   replaces_leads word_kinds.Live at word = each.writing (record { place = at; old = word })
-  replaces_leads word_kinds.Marked at word = each.growing at.table
-  replaces_leads word_kinds.Copied at word = each.growing at.table
-  replaces_leads word_kinds.Buried at word = each.growing at.table
-  replaces_leads word_kinds.Closed at word = each.growing at.table
+  replaces_leads word_kinds.Marked at word = each.growing (Pair_at at.table at.probe.i)
+  replaces_leads word_kinds.Copied at word = each.growing (Pair_at at.table at.probe.i)
+  replaces_leads word_kinds.Buried at word = each.growing (Pair_at at.table at.probe.i)
+  replaces_leads word_kinds.Closed at word = each.growing (Pair_at at.table at.probe.i)
 
   -- a pair that a removal shows
   removes_leads : (kd : Kind) (at : Place) (word : ℕ) → Holds (removes kd at word)
-  removes_leads word_kinds.Empty at word = each.growing at.table
+  removes_leads word_kinds.Empty at word = each.growing (Pair_at at.table at.probe.i)
   removes_leads word_kinds.Live at word = each.showing (record { place = at; word = word })
-  removes_leads word_kinds.Marked at word = each.growing at.table
-  removes_leads word_kinds.Copied at word = each.growing at.table
-  removes_leads word_kinds.Buried at word = each.growing at.table
-  removes_leads word_kinds.Closed at word = each.growing at.table
+  removes_leads word_kinds.Marked at word = each.growing (Pair_at at.table at.probe.i)
+  removes_leads word_kinds.Copied at word = each.growing (Pair_at at.table at.probe.i)
+  removes_leads word_kinds.Buried at word = each.growing (Pair_at at.table at.probe.i)
+  removes_leads word_kinds.Closed at word = each.growing (Pair_at at.table at.probe.i)
 
   -- a pair to which a compute may have an answer
   recalls_leads : (choice : Option Choice) (at : Place) (word n : ℕ) → Holds (recalls choice at word n)
@@ -118,12 +120,12 @@ module _ (Holds : State → Type 0) (each : HoldsOfLeads Holds) where
 
   -- a pair that a compute meets
   computes_leads : (kd : Kind) (held : Remembered) (at : Place) (word : ℕ) → Holds (computes kd held at word)
-  computes_leads word_kinds.Empty held at word = each.growing at.table
+  computes_leads word_kinds.Empty held at word = each.growing (Pair_at at.table at.probe.i)
   computes_leads word_kinds.Live held at word = recalls_leads held.choice at word (pair_of word)
-  computes_leads word_kinds.Marked held at word = each.growing at.table
-  computes_leads word_kinds.Copied held at word = each.growing at.table
-  computes_leads word_kinds.Buried held at word = each.growing at.table
-  computes_leads word_kinds.Closed held at word = each.growing at.table
+  computes_leads word_kinds.Marked held at word = each.growing (Pair_at at.table at.probe.i)
+  computes_leads word_kinds.Copied held at word = each.growing (Pair_at at.table at.probe.i)
+  computes_leads word_kinds.Buried held at word = each.growing (Pair_at at.table at.probe.i)
+  computes_leads word_kinds.Closed held at word = each.growing (Pair_at at.table at.probe.i)
 
   -- a pair with a matching key
   found_leads : (task : Task) (held : Remembered) (at : Place) (word : ℕ) → Holds (found task held at word)
@@ -144,7 +146,7 @@ module _ (Holds : State → Type 0) (each : HoldsOfLeads Holds) where
   goes_leads Compute mode held (seen.Empty at) = absent_leads Compute held.fill (At_place at)
   goes_leads Compute mode held (seen.Over t) = passes_leads Compute mode held.fill t
   goes_leads (Insert replace) mode held (seen.Empty at) = each.writing (record { place = at; old = 0 })
-  goes_leads (Insert replace) mode held (seen.Over t) = each.growing t
+  goes_leads (Insert replace) mode held (seen.Over t) = each.growing (Room t)
 
   -- a word that a burial found in the place of its own, by its kind
   beaten_by_leads : (kd : Kind) (m : Machine) (at : Place) (word : ℕ) → Holds (beaten_by kd m at word)

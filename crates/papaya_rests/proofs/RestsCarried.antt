@@ -25,7 +25,8 @@ use Rattle.papaya_law.specs.Exchange.{Setting, Exchange}
 use Rattle.papaya_law.specs.View.{look, IsPassed}
 use Rattle.papaya_law.specs.Code.{Coding}
 use Rattle.papaya_rests.specs.Told.{Hands}
-use Rattle.papaya_rests.specs.Rests.{now, IsModeOf, HasComeTo, IsAt, HasMet, MayRemove, MayWrite, WasAtMoment, RestsWriting, RestsMade, RestsFill, RestsChoice, RestsHands, RestsGap, RestsPurpose, RestsSearch, RestsLeaving, RestsGrowing, HadPair, IsReply, RestsStage, Rests}
+use Rattle.papaya_rests.specs.Rests.{now, IsModeOf, HasComeTo, IsAt, HasMet, MayRemove, MayWrite, WasAtMoment, RestsWriting, RestsMade, RestsFill, RestsChoice, RestsHands, RestsGap, RestsPurpose, RestsSearch, RestsLeaving, RestsNeed, HadPair, IsReply, RestsStage, Rests}
+use Rattle.papaya_call.specs.declared.need.Need.{Need}
 
 -- each part is carried from one setting, and the exchanges of a call so far, to another setting and more of them
 pub record AreCarried {K P : Type 0} (g g' : Setting K P) (c : Coding K P) (begun since since' : List (Exchange P)) (k : K) : Type 0 where
@@ -39,7 +40,7 @@ pub record AreCarried {K P : Type 0} (g g' : Setting K P) (c : Coding K P) (begu
   pub write : (replace : Bool) (write : Write) → MayWrite g c begun since k replace write → MayWrite g' c begun since' k replace write
   pub passed : (t : ℕ) → HasComeTo g c begun since k t → IsPassed g.places (look g (now g c begun since k) k) t → IsPassed g'.places (look g' (now g' c begun since' k) k) t
   pub leaving : (task : Task) (t : ℕ) → RestsLeaving g c begun since k task t → RestsLeaving g' c begun since' k task t
-  pub growing : (task : Task) (t : ℕ) → RestsGrowing g c begun since k task t → RestsGrowing g' c begun since' k task t
+  pub need : (need : Need) → RestsNeed g c begun since k need → RestsNeed g' c begun since' k need
 
 module _ {K P : Type 0} (g g' : Setting K P) (c : Coding K P) (begun since since' : List (Exchange P)) (k : K) (carried : AreCarried g g' c begun since since' k) (hands : Hands P) where
   -- the search
@@ -133,7 +134,7 @@ module _ {K P : Type 0} (g g' : Setting K P) (c : Coding K P) (begun since since
   stage_carried task (Counting n) r = r
   stage_carried task (Uncounting n) r = r
   stage_carried task (Leaving t) r = carried.leaving task t r
-  stage_carried task (Growing t) r = carried.growing task t r
+  stage_carried task (Growing need) r = (r.0, carried.need need r.1)
   stage_carried task (Ended reply) r = reply_carried task reply r
 
   -- what the call made

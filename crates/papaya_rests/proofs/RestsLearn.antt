@@ -34,7 +34,7 @@ use Rattle.papaya_rests.specs.Told.{IsAsked, IsSaying, IsTold, IsUnmade, Hands}
 use Rattle.papaya_law.specs.Code.{IsHashed}
 use Rattle.papaya_call.specs.Write.{new_word, write_kind}
 use Rattle.papaya_call.specs.Remove.{grave_word}
-use Rattle.papaya_rests.specs.Rests.{IsAt, IsModeOf, IsOwnPair, Rests, RestsFill, RestsGrowing, RestsHands, RestsLeaving, RestsStage, RestsWriting, HasComeTo, HasMet}
+use Rattle.papaya_rests.specs.Rests.{IsAt, IsModeOf, IsOwnPair, Rests, RestsFill, MayNeed, RestsHands, RestsLeaving, RestsStage, RestsWriting, HasComeTo, HasMet}
 use Rattle.papaya_law.proofs.Codes.{code_pair}
 use Rattle.papaya_rests.proofs.RestsLearnMoments.{no_root, next_come, over_last, root_come}
 use Rattle.papaya_rests.proofs.RestsLearnPlaces.{first}
@@ -44,6 +44,8 @@ use Rattle.papaya_rests.proofs.RestsLearnHands.{hands_later, hands_made, hands_m
 use Rattle.papaya_rests.proofs.RestsLearnComputes.{decided_hands, decided_rests, lacks_rests, offered_rests, pair_rests, provides_rests}
 use Rattle.papaya_rests.proofs.RestsLearnWrites.{IsSlotAsked, opens, puts, writes}
 use Rattle.papaya_rests.proofs.RestsLearnRemovals.{beaten_rests, buries, judged_rests, shown_replaceable, uncounted}
+use Rattle.papaya_call.specs.declared.need.Need.{Need}
+use Rattle.papaya_call.specs.Machine.{needed}
 
 -- by a test's outcome
 pub by_test : (b : Bool) (A B R : Type 0) → MatchBool b A B → (b ≡ true → A → R) → (b ≡ false → B → R) → R
@@ -86,11 +88,11 @@ module _ {K P : Type 0} (g : Setting K P) (c : Coding K P) (hashed : IsHashed g 
       (next_come g c hashed.lawful begun since may k t r.1 r.0 r.2)
 
   -- a call that needs a further table ends refused
-  growing_refused : (hands : Hands P) (task : Task) (t : ℕ) → RestsGrowing g c begun since k task t → (refused : _) → RestsStage g c begun since k hands task (Ended (Reply_refused refused))
-  growing_refused hands Get t r refused = absurd r
-  growing_refused hands (Insert replace) t r refused = tt
-  growing_refused hands RemoveIf t r refused = tt
-  growing_refused hands Compute t r refused = tt
+  growing_refused : (hands : Hands P) (task : Task) (need : Need) → MayNeed task need → (refused : _) → RestsStage g c begun since k hands task (Ended (Reply_refused refused))
+  growing_refused hands Get need r refused = absurd r
+  growing_refused hands (Insert replace) need r refused = tt
+  growing_refused hands RemoveIf need r refused = tt
+  growing_refused hands Compute need r refused = tt
 
   -- a refusal ends a call that may insert
   refusal_rests : (hands : Hands P) (task : Task) → MayInsert task → (refused : _) → RestsStage g c begun since k hands task (Ended (Reply_refused refused))
@@ -323,7 +325,7 @@ module _ {K P : Type 0} (g : Setting K P) (c : Coding K P) (hashed : IsHashed g 
     learns_in made n (Counting i) r answer es hands' h = quiet (in_stage made (Counting i)) answer Ok_done es hands' hands h.0 h.1.0 h.1.1 (rests hands made n (Ended (Inserted i)) (counted hands m.task i r))
     learns_in made n (Leaving t) r answer es hands' h =
         quiet (in_stage made (Leaving t)) answer (Word_read (now.next t)) es hands' hands h.0 h.1 h.2 (rests hands made n (left m.task m.remembered.fill t (now.next t)) (next_rests hands m.remembered.fill n.fill_is m.task t r))
-    learns_in made n (Growing t) r answer es hands' h = quiet (in_stage made (Growing t)) answer (Word_read (now.next t)) es hands' hands h.0 h.1 h.2 (rests hands made n (Ended (Reply_refused Capacity)) (growing_refused hands m.task t r Capacity))
+    learns_in made n (Growing need) r answer es hands' h = quiet (in_stage made (Growing need)) answer (Word_read (now.next (needed need))) es hands' hands h.0 h.1 h.2 (rests hands made n (Ended (Reply_refused Capacity)) (growing_refused hands m.task need r.0 Capacity))
     learns_in made n (Ended reply) r answer es hands' h = quiet (in_stage made (Ended reply)) answer Ok_done es hands' hands h.0 h.1.0 h.1.1 (rests hands made n (Ended reply) r)
 
   -- of the machine

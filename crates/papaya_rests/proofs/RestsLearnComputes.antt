@@ -29,7 +29,7 @@ module _ {K P : Type 0} (g : Setting K P) (c : Coding K P) (begun since : List (
   pub fills_rests : (hands : Hands P) (gap : Gap) (n : ℕ) → RestsGap g c begun since k gap → IsOwnPair g c begun since k hands n → RestsStage g c begun since k hands Compute (fills gap n)
   fills_rests hands NoRoot n r own = tt
   fills_rests hands (At at) n r own = (tt, record { stands = r; old = inl refl }, own)
-  fills_rests hands (After t) n r own = (r.0, inl r.1)
+  fills_rests hands (After t) n r own = (tt, r)
 
   -- the closure is shown that the key is absent, or was before
   pub lacks_rests : (hands : Hands P) (fill : Option ℕ) → RestsFill g c begun since k hands fill → (gap : Gap) → RestsGap g c begun since k gap → WasAtMoment g c begun since k None

@@ -56,11 +56,11 @@ module _ {K P : Type 0} (g : Setting K P) (c : Coding K P) (hashed : IsHashed g 
         ∙ own_sees (view g k h.was) (view g k w) (sees_later g hashed.lawful k h.was w h.became) (ap own (shows_live e))
 
     -- where it stood Marked the pair is being copied, or was
-    moving : h.was ≡ Marked p → IsMovingFrom g c begun since k at.table
+    moving : h.was ≡ Marked p → IsMovingFrom g c begun since k at.table at.probe.i
     moving e =
         ⊎_elim
-        (λ m. (at.probe.len, p, h.stands.within, inl (sees g c hashed begun since k at h.stands (Marked p) m ∙ ap (λ b. cond b (Leaving p) Foreign) same)))
-        (λ m. (at.probe.len, p, h.stands.within, inr (sees g c hashed begun since k at h.stands (Copied p) m ∙ ap (λ b. cond b (Gone p) Foreign) same)))
+        (λ m. (at.probe.len, p, h.stands.within, sym h.stands.slot, inl (sees g c hashed begun since k at h.stands (Marked p) m ∙ ap (λ b. cond b (Leaving p) Foreign) same)))
+        (λ m. (at.probe.len, p, h.stands.within, sym h.stands.slot, inr (sees g c hashed begun since k at h.stands (Copied p) m ∙ ap (λ b. cond b (Gone p) Foreign) same)))
         (became_of g c hashed begun since may k at word p h (Marked p) e)
 
     -- the number says how the word stood
@@ -83,13 +83,13 @@ module _ {K P : Type 0} (g : Setting K P) (c : Coding K P) (hashed : IsHashed g 
     replacing : (hands : Hands P) → (h.was ≡ Live p) ⊎ (h.was ≡ Marked p) → RestsStage g c begun since k hands (Insert true) (replaces (kind_of word) at word)
     replacing hands (inl e) = subst (λ y. RestsStage g c begun since k hands (Insert true) (replaces y at word)) (sym (live_kind e)) (replaceable e)
     replacing hands (inr e) =
-        subst (λ y. RestsStage g c begun since k hands (Insert true) (replaces y at word)) (sym (marked_kind e)) (h.stands.come, inr (moving e))
+        subst (λ y. RestsStage g c begun since k hands (Insert true) (replaces y at word)) (sym (marked_kind e)) (tt, (h.stands.come, moving e))
 
     -- a removal
     removing : (hands : Hands P) → hands.last ≡ Some p → (h.was ≡ Live p) ⊎ (h.was ≡ Marked p) → RestsStage g c begun since k hands RemoveIf (removes (kind_of word) at word)
     removing hands last (inl e) = subst (λ y. RestsStage g c begun since k hands RemoveIf (removes y at word)) (sym (live_kind e)) (tt, removable hands last e)
     removing hands last (inr e) =
-        subst (λ y. RestsStage g c begun since k hands RemoveIf (removes y at word)) (sym (marked_kind e)) (h.stands.come, moving e)
+        subst (λ y. RestsStage g c begun since k hands RemoveIf (removes y at word)) (sym (marked_kind e)) (tt, (h.stands.come, moving e))
 
     -- a compute
     computing : (hands : Hands P) → hands.last ≡ Some p → (held : Remembered) → RestsChoice g c begun since k hands held.choice → (h.was ≡ Live p) ⊎ (h.was ≡ Marked p)
@@ -98,7 +98,7 @@ module _ {K P : Type 0} (g : Setting K P) (c : Coding K P) (hashed : IsHashed g 
         subst (λ y. RestsStage g c begun since k hands Compute (computes y held at word)) (sym (live_kind e))
         (recalls_rests g c begun since k hands at word (replaceable e) (removable hands last e) held.choice own (pair_of word))
     computing hands last held own (inr e) =
-        subst (λ y. RestsStage g c begun since k hands Compute (computes y held at word)) (sym (marked_kind e)) (h.stands.come, inr (moving e))
+        subst (λ y. RestsStage g c begun since k hands Compute (computes y held at word)) (sym (marked_kind e)) (tt, (h.stands.come, moving e))
 
     -- each task
     finds : (hands : Hands P) → hands.last ≡ Some p → (held : Remembered) → RestsChoice g c begun since k hands held.choice → (task : Task) → (h.was ≡ Live p) ⊎ (h.was ≡ Marked p)
@@ -128,4 +128,4 @@ module _ {K P : Type 0} (g : Setting K P) (c : Coding K P) (hashed : IsHashed g 
     goes_rests RemoveIf Blocking is (seen.Over t) r = over_blocking g c hashed.lawful begun since may k t r.0 is r.1
     goes_rests Compute (Incremental chunk) is (seen.Over t) r = (is, r.0, r.1)
     goes_rests Compute Blocking is (seen.Over t) r = lacks_rests g c begun since k hands held.fill fill (After t) r (over_blocking g c hashed.lawful begun since may k t r.0 is r.1)
-    goes_rests (Insert replace) mode is (seen.Over t) r = (r.0, inl r.1)
+    goes_rests (Insert replace) mode is (seen.Over t) r = (tt, r)

@@ -20,10 +20,13 @@ use Rattle.papaya_law.specs.Code.{Coding}
 use Rattle.papaya_call.specs.Machine.{asks}
 use Rattle.papaya_rests.specs.Told.{Hands}
 use Rattle.papaya_law.specs.Code.{IsHashed}
-use Rattle.papaya_rests.specs.Rests.{now, HasComeTo, IsAt, RestsWriting, RestsGrowing, RestsLeaving, RestsStage}
+use Rattle.papaya_rests.specs.Rests.{now, HasComeTo, IsAt, RestsNeed, RestsWriting, RestsLeaving, RestsStage}
 use Rattle.papaya_law.proofs.Chain.{walk_on}
 use Rattle.papaya_law.proofs.Moments.{allowed_first}
 use Rattle.papaya_law.proofs.OneMap.{lasting, root_is_reached, sound}
+use Rattle.papaya_call.specs.declared.need.Need.{Need}
+use Rattle.papaya_call.specs.declared.need.Need.TheVariants.{Room, Pair as Pair_at}
+use Rattle.papaya_call.specs.Machine.{needed}
 
 module _ {K P : Type 0} (g : Setting K P) (c : Coding K P) (h : IsHashed g c) (begun since : List (Exchange P)) (may : AllAllowed g start (begun ++ since)) (k : K) where
   -- the table is opened or linked
@@ -60,11 +63,9 @@ module _ {K P : Type 0} (g : Setting K P) (c : Coding K P) (h : IsHashed g c) (b
   leaving_on Compute t r = come_on t r.1
 
   -- and what it is to grow from
-  growing_on : (task : Task) (t : ℕ) → RestsGrowing g c begun since k task t → OnChain t
-  growing_on Get t r = absurd r
-  growing_on (Insert replace) t r = come_on t r.0
-  growing_on RemoveIf t r = come_on t r.0
-  growing_on Compute t r = come_on t r.0
+  growing_on : (need : Need) → RestsNeed g c begun since k need → OnChain (needed need)
+  growing_on (Room t) r = come_on t r.0
+  growing_on (Pair_at t x) r = come_on t r.0
 
   -- the table is on the chain, and has the slot
   abbrev pub HasSlot : ℕ → ℕ → Type 0
@@ -111,7 +112,7 @@ module _ {K P : Type 0} (g : Setting K P) (c : Coding K P) (h : IsHashed g c) (b
     ask_named made (Counting n) r = tt
     ask_named made (Uncounting n) r = tt
     ask_named made (Leaving t) r = leaving_on task t r
-    ask_named made (Growing t) r = growing_on task t r
+    ask_named made (Growing need) r = growing_on need r.1
     ask_named made (Ended reply) r = tt
 
   -- a slot that is loaded or exchanged

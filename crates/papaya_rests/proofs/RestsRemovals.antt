@@ -24,6 +24,8 @@ use Rattle.papaya_rests.specs.Told.{Hands}
 use Rattle.papaya_law.proofs.OneMap.{keeping}
 use Rattle.papaya_law.proofs.Onward.{leaving_further, gone_further}
 use Rattle.papaya_rests.proofs.RestsReplyRefused.{IsMaking, machine_reason}
+use Rattle.papaya_call.specs.declared.need.Need.{Need}
+use Rattle.papaya_call.specs.declared.need.Need.TheVariants.{Room, Pair as Pair_at}
 
 module _ {K P : Type 0} (g : Setting K P) (c : Coding K P) (law : IsLawful g) (begun since : List (Exchange P)) (may : AllAllowed g start (begun ++ since)) (k : K) where
   -- the state after all exchanges
@@ -31,8 +33,8 @@ module _ {K P : Type 0} (g : Setting K P) (c : Coding K P) (law : IsLawful g) (b
   now = run (begun ++ since) start
 
   -- a pair that is being copied, or was, is copied to a next table
-  pub moving_further : (t : ℕ) → IsMovingFrom g c begun since k t → 0 < now.next t
-  moving_further t (j, p, lt, e) =
+  pub moving_further : (t x : ℕ) → IsMovingFrom g c begun since k t x → 0 < now.next t
+  moving_further t x (j, p, lt, here, e) =
       let keeps : IsKeeping g now (map_left g (begun ++ since)) = keeping g law (begun ++ since) may in
       ⊎_elim
       (λ leaving. leaving_further g now (map_left g (begun ++ since)) keeps k t j p leaving)
@@ -64,8 +66,9 @@ module _ {K P : Type 0} (g : Setting K P) (c : Coding K P) (law : IsLawful g) (b
 
     module _ (alone : (t : ℕ) → now.next t ≡ 0) where
       -- and needs a further table only where there is one
-      nothing_needed : (t : ℕ) → RestsStage g c begun since k hands RemoveIf (Growing t) → ⊥
-      nothing_needed t r = let some = moving_further t r.1 in let none = alone t in omega (arith, some, none)
+      nothing_needed : (need : Need) → RestsStage g c begun since k hands RemoveIf (Growing need) → ⊥
+      nothing_needed (Room t) r = r.0
+      nothing_needed (Pair_at t x) r = let some = moving_further t x (r.1).1 in let none = alone t in omega (arith, some, none)
 
       -- so no reason for a refusal is there
       pub removal_unrefused : (m : Machine) → Rests g c begun since k m hands → m.task ≡ RemoveIf → ((reply : Reply) → ask_of m ≡ Ask_done reply → ⊥) → (answer : Answer) (refused : Refused) → ask_of (after m answer) ≡ Ask_done (Reply_refused refused) → ⊥
@@ -75,7 +78,7 @@ module _ {K P : Type 0} (g : Setting K P) (c : Coding K P) (law : IsLawful g) (b
           (λ made. nothing_made m.state stage made.1)
           (λ rest.
           ⊎_elim
-          (λ (grows : (refused ≡ Capacity) × ((t : ℕ) × (m.state ≡ Growing t))). let last = grows.1 in nothing_needed last.0 (subst (RestsStage g c begun since k hands RemoveIf) last.1 stage))
+          (λ (grows : (refused ≡ Capacity) × ((need : Need) × (m.state ≡ Growing need))). let last = grows.1 in nothing_needed last.0 (subst (RestsStage g c begun since k hands RemoveIf) last.1 stage))
           (λ (offers : (refused ≡ RemoveNothing) × ((gap : Gap) × (m.state ≡ Offering gap)) × (answer ≡ Op ops.Remove)). let last = offers.1 in nothing_offered last.0 (subst (RestsStage g c begun since k hands RemoveIf) last.1 stage))
           rest)
           (machine_reason m refused answer open_still e)

@@ -33,6 +33,8 @@ use Rattle.papaya_call.specs.Machine.{after, ask_of, asks, at_root, beaten, deci
 use Rattle.papaya_ask.specs.Search.{look as look_seen, ask_of as search_ask, at_size as search_sized, at_word as search_loaded, at_yes as search_compared}
 use Rattle.papaya_call.specs.Write.{write_ask}
 use Rattle.papaya_rests.proofs.Leads.{HoldsOfLeads, beaten_leads, goes_leads, left_leads, provides_leads, root_leads}
+use Rattle.papaya_call.specs.declared.need.Need.{Need}
+use Rattle.papaya_call.specs.Machine.{needed}
 
 -- the refusal that a call ends with
 abbrev refusal_of_reply : Reply → Option Refused
@@ -119,7 +121,7 @@ IsMaking _ = ⊥
 module _ (m : Machine) (refused : Refused) where
   -- what was to be made was refused so, the call needs a further table, or its closure would remove nothing
   abbrev pub IsReason : Stage → Answer → Type 0
-  IsReason stage answer = ((answer ≡ Was_refused refused) × IsMaking stage) ⊎ ((refused ≡ Capacity) × ((t : ℕ) × (stage ≡ Growing t))) ⊎ ((refused ≡ RemoveNothing) × ((gap : Gap) × (stage ≡ Offering gap)) × (answer ≡ Op ops.Remove))
+  IsReason stage answer = ((answer ≡ Was_refused refused) × IsMaking stage) ⊎ ((refused ≡ Capacity) × ((need : Need) × (stage ≡ Growing need))) ⊎ ((refused ≡ RemoveNothing) × ((gap : Gap) × (stage ≡ Offering gap)) × (answer ≡ Op ops.Remove))
 
   -- what was answered so
   answered : (stage : Stage) → IsMaking stage → (refused' : Refused) → Some refused' ≡ Some refused → IsReason stage (Was_refused refused')
@@ -194,7 +196,7 @@ module _ (m : Machine) (refused : Refused) where
   -- a reason of the machine's state is one of its ask
   refusal : (answer : Answer) → IsReason m.state answer → IsRefusal answer
   refusal answer (inl made) = inl made.0
-  refusal answer (inr (inl (full, (t, grows)))) = inr (inl (full, (t, ap (asks m.made m.hash) grows)))
+  refusal answer (inr (inl (full, (need, grows)))) = inr (inl (full, (needed need, ap (asks m.made m.hash) grows)))
   refusal answer (inr (inr (none, (gap, offers), removes))) = inr (inr (none, ap (asks m.made m.hash) offers, removes))
 
   -- so it was answered, the machine loads the number of a next table, or it showed that its key is absent

@@ -12,10 +12,12 @@ use Rattle.papaya_law.specs.Later.{IsLater, IsLasting}
 use Rattle.papaya_law.specs.Code.{Coding}
 use Rattle.papaya_rests.specs.Told.{Hands}
 use Rattle.papaya_law.specs.Code.{IsHashed}
-use Rattle.papaya_rests.specs.Rests.{now, HasComeTo, IsAt, HasMet, MayWrite, WasAtMoment, IsMovingFrom, RestsGrowing, RestsLeaving, Rests}
+use Rattle.papaya_rests.specs.Rests.{now, HasComeTo, IsAt, HasMet, MayWrite, WasAtMoment, IsMovingFrom, RestsNeed, RestsLeaving, Rests}
 use Rattle.papaya_law.proofs.Later.{Sees, becomes_through, own_sees, sees_later}
 use Rattle.papaya_law.proofs.OneMap.{lasting, later}
 use Rattle.papaya_rests.proofs.RestsCarried.{rests_carried}
+use Rattle.papaya_call.specs.declared.need.Need.{Need}
+use Rattle.papaya_call.specs.declared.need.Need.TheVariants.{Room, Pair as Pair_at}
 
 module _ {K P : Type 0} (g : Setting K P) (c : Coding K P) (h : IsHashed g c) (begun since es : List (Exchange P)) (may : AllAllowed g start (begun ++ (since ++ es))) (k : K) where
   -- the exchanges in two lists, those of before and those since then
@@ -96,9 +98,9 @@ module _ {K P : Type 0} (g : Setting K P) (c : Coding K P) (h : IsHashed g c) (b
   }
 
   -- a pair that was being copied is so still, or it is copied
-  moving_stays : (t : ℕ) → IsMovingFrom g c begun since k t → IsMovingFrom g c begun (since ++ es) k t
-  moving_stays t (j, p, lt, inl e) = (j, p, lt, subst (λ v. Sees v (look g (now g c begun (since ++ es) k) k t j)) e (sees_next t j))
-  moving_stays t (j, p, lt, inr e) = (j, p, lt, inr (subst (λ v. Sees v (look g (now g c begun (since ++ es) k) k t j)) e (sees_next t j)))
+  moving_stays : (t x : ℕ) → IsMovingFrom g c begun since k t x → IsMovingFrom g c begun (since ++ es) k t x
+  moving_stays t x (j, p, lt, here, inl e) = (j, p, lt, here, subst (λ v. Sees v (look g (now g c begun (since ++ es) k) k t j)) e (sees_next t j))
+  moving_stays t x (j, p, lt, here, inr e) = (j, p, lt, here, inr (subst (λ v. Sees v (look g (now g c begun (since ++ es) k) k t j)) e (sees_next t j)))
 
   -- what a call leaves
   leaving_stays : (task : Task) (t : ℕ) → RestsLeaving g c begun since k task t → RestsLeaving g c begun (since ++ es) k task t
@@ -108,15 +110,13 @@ module _ {K P : Type 0} (g : Setting K P) (c : Coding K P) (h : IsHashed g c) (b
   leaving_stays Compute t r = (r.0, come_stays t r.1, state_lasts.passed k t r.2)
 
   -- where it needs a further table
-  growing_stays : (task : Task) (t : ℕ) → RestsGrowing g c begun since k task t → RestsGrowing g c begun (since ++ es) k task t
-  growing_stays Get t r = r
-  growing_stays (Insert replace) t r = (come_stays t r.0, ⊎_elim (λ pass. inl (state_lasts.passed k t pass)) (λ moving. inr (moving_stays t moving)) r.1)
-  growing_stays RemoveIf t r = (come_stays t r.0, moving_stays t r.1)
-  growing_stays Compute t r = (come_stays t r.0, ⊎_elim (λ pass. inl (state_lasts.passed k t pass)) (λ moving. inr (moving_stays t moving)) r.1)
+  need_stays : (need : Need) → RestsNeed g c begun since k need → RestsNeed g c begun (since ++ es) k need
+  need_stays (Room t) r = (come_stays t r.0, state_lasts.passed k t r.1)
+  need_stays (Pair_at t x) r = (come_stays t r.0, moving_stays t x r.1)
 
   -- the machine rests on what it rested on
   pub rests_stays : (m : Machine) (hands : Hands P) → Rests g c begun since k m hands → Rests g c begun (since ++ es) k m hands
   rests_stays m hands r =
       rests_carried g g c begun since (since ++ es) k
-      (record { mode = refl; key = λ p. refl; same = λ l l'. refl; moment = moment_stays; come = come_stays; stands = at_stays; met = met_stays; write = write_stays; passed = λ t r. state_lasts.passed k t; leaving = leaving_stays; growing = growing_stays })
+      (record { mode = refl; key = λ p. refl; same = λ l l'. refl; moment = moment_stays; come = come_stays; stands = at_stays; met = met_stays; write = write_stays; passed = λ t r. state_lasts.passed k t; leaving = leaving_stays; need = need_stays })
       hands m r

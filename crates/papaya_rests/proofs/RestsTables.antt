@@ -16,12 +16,14 @@ use Rattle.papaya_law.specs.Code.{Coding, byte_of_pair, code}
 use Rattle.papaya_law.specs.Grows.{Agrees}
 use Rattle.papaya_rests.specs.Told.{Hands}
 use Rattle.papaya_law.specs.Code.{IsHashed}
-use Rattle.papaya_rests.specs.Rests.{now, HasComeTo, IsAt, HasMet, MayWrite, WasAtMoment, IsMovingFrom, RestsGrowing, RestsLeaving, Rests}
+use Rattle.papaya_rests.specs.Rests.{now, HasComeTo, IsAt, HasMet, MayWrite, WasAtMoment, IsMovingFrom, RestsNeed, RestsLeaving, Rests}
 use Rattle.papaya_law.proofs.Carries.{look_agrees, view_agrees, passed_carries}
 use Rattle.papaya_law.proofs.Grows.{becomes_carries, map_of_carries, reached_carries}
 use Rattle.papaya_law.proofs.OneMap.{sound}
 use Rattle.papaya_rests.proofs.RestsCarried.{rests_carried}
 use Rattle.papaya_rests.proofs.RestsNames.{OnChain, come_on}
+use Rattle.papaya_call.specs.declared.need.Need.{Need}
+use Rattle.papaya_call.specs.declared.need.Need.TheVariants.{Room, Pair as Pair_at}
 
 module _ {K P : Type 0} (g g' : Setting K P) (c : Coding K P) (h : IsHashed g c) (begun since : List (Exchange P)) (may : AllAllowed g start (begun ++ since)) (k : K)
     (agrees : Agrees (IsOn (now g c begun since k).first (now g c begun since k).next) g g') where
@@ -104,11 +106,12 @@ module _ {K P : Type 0} (g g' : Setting K P) (c : Coding K P) (h : IsHashed g c)
   table_passed t r pass = passed_carries g g' (now g c begun since k) kept agrees (look g (now g c begun since k) k) (look g' (now g c begun since k) k) sees_same t (come_on g c h begun since may k t r) pass
 
   -- a table from where the pair is copied
-  moving_carries : (t : ℕ) → HasComeTo g c begun since k t → IsMovingFrom g c begun since k t → IsMovingFrom g' c begun since k t
-  moving_carries t r (j, p, lt, e) = (
+  moving_carries : (t x : ℕ) → HasComeTo g c begun since k t → IsMovingFrom g c begun since k t x → IsMovingFrom g' c begun since k t x
+  moving_carries t x r (j, p, lt, here, e) = (
     j,
     p,
     subst (λ y. j < y) (sym (agrees.places t (come_on g c h begun since may k t r))) lt,
+    agrees.place k t j (come_on g c h begun since may k t r) ∙ here,
     subst (λ V. (V t j ≡ View_leaving p) ⊎ (V t j ≡ Gone p)) (sym sees_same) e,
   )
 
@@ -120,15 +123,13 @@ module _ {K P : Type 0} (g g' : Setting K P) (c : Coding K P) (h : IsHashed g c)
   leaving_carries (Insert replace) t r = absurd r
 
   -- what a call that needs a further table leaves
-  growing_carries : (task : Task) (t : ℕ) → RestsGrowing g c begun since k task t → RestsGrowing g' c begun since k task t
-  growing_carries Get t r = absurd r
-  growing_carries RemoveIf t r = (come_carries t r.0, moving_carries t r.0 r.1)
-  growing_carries Compute t r = (come_carries t r.0, ⊎_elim (λ pass. inl (table_passed t r.0 pass)) (λ moving. inr (moving_carries t r.0 moving)) r.1)
-  growing_carries (Insert replace) t r = (come_carries t r.0, ⊎_elim (λ pass. inl (table_passed t r.0 pass)) (λ moving. inr (moving_carries t r.0 moving)) r.1)
+  need_carries : (need : Need) → RestsNeed g c begun since k need → RestsNeed g' c begun since k need
+  need_carries (Room t) r = (come_carries t r.0, table_passed t r.0 r.1)
+  need_carries (Pair_at t x) r = (come_carries t r.0, moving_carries t x r.0 r.1)
 
   -- the machine rests on what it rested on
   pub rests_carries : (m : Machine) (hands : Hands P) → Rests g c begun since k m hands → Rests g' c begun since k m hands
   rests_carries m hands r =
       rests_carried g g' c begun since since k
-      (record { mode = agrees.blocking; key = agrees.key; same = agrees.same; moment = moment_carries; come = come_carries; stands = at_carries; met = met_carries; write = write_carries; passed = table_passed; leaving = leaving_carries; growing = growing_carries })
+      (record { mode = agrees.blocking; key = agrees.key; same = agrees.same; moment = moment_carries; come = come_carries; stands = at_carries; met = met_carries; write = write_carries; passed = table_passed; leaving = leaving_carries; need = need_carries })
       hands m r

@@ -16,7 +16,7 @@ use Rattle.papaya_ask.specs.declared.search.Search.{Search}
 use Rattle.papaya_ask.specs.declared.search.Search.TheVariants.{Sizing, Looking, Comparing}
 use Rattle.papaya_call.specs.declared.machine.State.{State}
 use Rattle.papaya_call.specs.declared.machine.State.TheVariants.{Searching, Writing, Offering, Showing, Pairing, Putting, Burying, Leaving, Growing}
-use Rattle.papaya_call.specs.Machine.{HasClosure, IsChanger, IsComputer, MayInsert}
+use Rattle.papaya_call.specs.Machine.{HasClosure, IsChanger, IsComputer, MayInsert, needed}
 
 -- the table that a search is in
 abbrev pub table_of : Search → ℕ
@@ -44,7 +44,7 @@ IsAtTable n (Pairing purpose) = IsPurposeAt n purpose
 IsAtTable n (Putting put) = put.write.place.table ≡ n
 IsAtTable n (Burying removal) = removal.place.table ≡ n
 IsAtTable n (Leaving t) = t ≡ n
-IsAtTable n (Growing t) = t ≡ n
+IsAtTable n (Growing need) = needed need ≡ n
 IsAtTable n _ = Unit {0}
 
 -- the number of a table that was loaded, or the one of before where there is none

@@ -22,6 +22,8 @@ use Rattle.papaya_call.specs.declared.compute.Gap.TheVariants.{NoRoot, At as At_
 use Rattle.papaya_call.specs.declared.compute.Purpose.{Purpose}
 use Rattle.papaya_call.specs.declared.compute.Purpose.TheVariants.{Fill, Replace as For_replace}
 use Rattle.papaya_call.specs.declared.compute.Remembered.{Remembered}
+use Rattle.papaya_call.specs.declared.need.Need.{Need}
+use Rattle.papaya_call.specs.declared.need.Need.TheVariants.{Room, Pair as Pair_at}
 use Rattle.papaya_call.specs.declared.remove.Removal.{Removal}
 use Rattle.papaya_ask.specs.declared.search.Place.{Place}
 use Rattle.papaya_ask.specs.declared.search.Search.{Search}
@@ -45,6 +47,14 @@ use Rattle.papaya_rests.specs.Told.{Hands, IsOneOf}
 abbrev pub IsModeOf : ResizeMode → Bool → Type 0
 IsModeOf (Incremental chunk) blocking = blocking ≡ false
 IsModeOf Blocking blocking = blocking ≡ true
+
+-- a call that may insert needs room or its pair, and a removal its pair alone
+abbrev pub MayNeed : Task → Need → Type 0
+MayNeed Get need = ⊥
+MayNeed (Insert replace) need = Unit {0}
+MayNeed RemoveIf (Room t) = ⊥
+MayNeed RemoveIf (Pair_at t x) = Unit {0}
+MayNeed Compute need = Unit {0}
 
 -- The exchanges when the call began are `begun`, and those since then `since`.
 module _ {K P : Type 0} (g : Setting K P) (c : Coding K P) (begun since : List (Exchange P))
@@ -139,9 +149,9 @@ module _ {K P : Type 0} (g : Setting K P) (c : Coding K P) (begun since : List (
   RestsSearch hands (Looking at) = IsAt at
   RestsSearch hands (Comparing at word) = (p : P) × (hands.last ≡ Some p) × HasMet at word p
 
-  -- the key's pair is being copied from table t, or was
-  abbrev pub IsMovingFrom : ℕ → Type 0
-  IsMovingFrom t = (j : ℕ) × (p : P) × (j < g.places t)
+  -- the key's pair is being copied from this slot of table t, or was
+  abbrev pub IsMovingFrom : ℕ → ℕ → Type 0
+  IsMovingFrom t x = (j : ℕ) × (p : P) × (j < g.places t) × (g.place k t j ≡ x)
       × ((look g now k t j ≡ View_leaving p) ⊎ (look g now k t j ≡ Gone p))
 
   -- a call that looks for its key leaves a table that it passed
@@ -149,14 +159,14 @@ module _ {K P : Type 0} (g : Setting K P) (c : Coding K P) (begun since : List (
   RestsLeaving (Insert replace) t = ⊥
   RestsLeaving _ t = (g.blocking ≡ false) × HasComeTo t × IsPassed g.places (look g now k) t
 
-  -- a call that inserts needs a further table where its key has no place in this one or its pair is
-  -- being copied, and a removal only where its pair is
-  abbrev pub RestsGrowing : Task → ℕ → Type 0
-  RestsGrowing Get t = ⊥
-  RestsGrowing (Insert replace) t = HasComeTo t
-      × (IsPassed g.places (look g now k) t ⊎ IsMovingFrom t)
-  RestsGrowing RemoveIf t = HasComeTo t × IsMovingFrom t
-  RestsGrowing Compute t = HasComeTo t × (IsPassed g.places (look g now k) t ⊎ IsMovingFrom t)
+  -- the key has no place in the table, or its pair is being copied
+  abbrev pub RestsNeed : Need → Type 0
+  RestsNeed (Room t) = HasComeTo t × IsPassed g.places (look g now k) t
+  RestsNeed (Pair_at t x) = HasComeTo t × IsMovingFrom t x
+
+  -- a call that needs a further table, and why
+  abbrev pub RestsGrowing : Task → Need → Type 0
+  RestsGrowing task need = MayNeed task need × RestsNeed need
 
   -- where a compute would put a pair of an absent key
   abbrev pub RestsGap : Gap → Type 0
@@ -207,7 +217,7 @@ module _ {K P : Type 0} (g : Setting K P) (c : Coding K P) (begun since : List (
   RestsStage hands task (Counting n) = MayInsert task × IsOwnPair hands n
   RestsStage hands task (Uncounting n) = HasClosure task
   RestsStage hands task (Leaving t) = RestsLeaving task t
-  RestsStage hands task (Growing t) = RestsGrowing task t
+  RestsStage hands task (Growing need) = RestsGrowing task need
   RestsStage hands task (Ended reply) = IsReply hands task reply
 
   -- what the machine of a call with this key rests on

@@ -20,7 +20,7 @@ use Rattle.papaya_ask.specs.declared.search.Search.TheVariants.{Sizing, Looking,
 use Rattle.papaya_call.specs.declared.write.Made.{Made}
 use Rattle.papaya_call.specs.declared.write.Made.TheVariants.{Nothing, Key, Pair}
 use Rattle.papaya_call.specs.declared.write.Write.{Write}
-use Rattle.papaya_call.specs.Machine.{IsFit, IsStanding, after, ask_of, asks, started}
+use Rattle.papaya_call.specs.Machine.{IsFit, IsStanding, after, ask_of, asks, started, needed}
 use Rattle.papaya_ask.specs.Search.{IsSize}
 use Rattle.papaya_rests.proofs.AloneCurrent.{machine_stays}
 use Rattle.papaya_rests.proofs.AloneSteps.{machine_nears}
@@ -48,6 +48,7 @@ use Rattle.papaya_seq.proofs.InsertingSteps.{answerable_in, leads_in, refused_in
 use Rattle.papaya_seq.proofs.Lawful.{bare, single, sized}
 use Rattle.papaya_seq.proofs.Steps.{HasCome, IsAnswerable, IsMade, answering, answering_performs, came_slots, made_alone, made_more, made_none, prompt_single, prompted, seated, still, unreplied, words_of}
 use Rattle.papaya_seq.proofs.Words.{rooted, uncopied, unmarked}
+use Rattle.papaya_call.specs.declared.need.Need.{Need}
 
 -- an insertion as it begins
 abbrev insertion_begun : {K V A : Type 0} → ℕ → ResizeMode → ℕ → Bool → K → V → Running K V A
@@ -146,10 +147,10 @@ module _ {K V S A : Type 0} (eq : K → K → Bool) (hash : S → K → ℕ) (s 
         subst (λ (x : K). map_in eq store x ≡ None) (own_is core_call.key core_call.own) (writes_absent eq (hash s.store.hasher) keys now_core came.lawful.core es tales kept 0 (answering None r) goes write task state read)
 
     -- it has met a full table
-    grows : (t : ℕ) → r.machine.state ≡ Growing t → map_in eq store k ≡ None
-    grows t state =
+    grows : (need : Need) → r.machine.state ≡ Growing need → map_in eq store k ≡ None
+    grows need state =
         let (es, (tales, kept)) = came.lawful.law in
-        let nowhere = no_place eq (hash s.store.hasher) keys now_core came.lawful.core es tales kept 0 (answering None r) goes t state in
+        let nowhere = no_place eq (hash s.store.hasher) keys now_core came.lawful.core es tales kept 0 (answering None r) goes need state in
         subst (λ (x : K). map_in eq store x ≡ None) (own_is nowhere.key nowhere.own) nowhere.absent
 
   module _ (fits : hash s.store.hasher k < 2 ^ 64) (says : Says K V A) (store : StoreState K V S) (r : Running K V A) (answer : Answer) (store' : StoreState K V S) (later : Running K V A) (ask : Ask) (is : ask ≡ ask_of r.machine) (open_still : (reply : Reply) → ask ≡ Ask_done reply → ⊥) (performed_is : Performs eq says false ask store r answer store' later) (same : later.machine ≡ r.machine) (now : IsInserting eq hash s replace k value store r) where
@@ -215,9 +216,9 @@ module _ {K V S A : Type 0} (eq : K → K → Bool) (hash : S → K → ℕ) (s 
             refused_in eq says s.store value replace k store r refused r.machine.made r.machine.state store' later making now.current.read hand_here stage_here
             (λ write state only. writes fits store r going now.steps write (now.task ∙ ap Insert only) state (subst (IsRead (words_of store)) state now.current.read))
             (subst (λ a. Performs eq says false (ask_of r.machine) store r a store' later) refuses performs)
-        by_reason (inr (inl (full, (t, state)))) =
+        by_reason (inr (inl (full, (need, state)))) =
             refused_absent eq s.store k replace store' refused
-            (ap (λ (y : StoreState K V S). map_in eq y k) (loaded t (ask_of r.machine) (ap (asks r.machine.made r.machine.hash) state) performs) ∙ grows fits store r going now.steps t state)
+            (ap (λ (y : StoreState K V S). map_in eq y k) (loaded (needed need) (ask_of r.machine) (ap (asks r.machine.made r.machine.hash) state) performs) ∙ grows fits store r going now.steps need state)
         by_reason (inr (inr (none, (gap, state), removes))) = absurd (not_offering gap r.machine.state state stage_here)
 
     -- and it goes on

@@ -1,0 +1,2 @@
+-- an answer leaves the settings of a call
+pub mod Settings

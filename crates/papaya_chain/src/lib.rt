@@ -1,0 +1,9 @@
+//! Calls over a chain of tables.
+//!
+//! A call of `papaya_call` goes from table to table. Where it needs the next one it is set aside
+//! here: the next table is made, or the root is copied for a while, and then the call goes on in
+//! the next table. Nobody waits for another caller.
+#![tactic(auto)]
+
+pub mod ask;
+pub mod machine;

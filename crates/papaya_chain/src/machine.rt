@@ -1,0 +1,304 @@
+//! The machine of a call over a chain of tables.
+ghost use Rattle.std.specs.Prelude.{◌≡◌};
+ghost use Rattle.std.specs.Int.{IsPowerOfTwo};
+ghost use Rattle.papaya_words.specs.Mode.{IsChunked};
+ghost use Rattle.papaya_call.specs.Machine.{IsFit as IsCallFit};
+ghost use Rattle.papaya_copy.specs.Copying.{IsStandingCopied, IsStandingCopying};
+ghost use Rattle.papaya_copy.specs.Link.{IsStandingLink, IsStandingLinked};
+ghost use Rattle.papaya_chain.specs.Machine.{IsFit, IsFitAsk, IsStanding, after, after_copied, after_linked, ask_of, called, copying_after, enters, follows_of, grows, kind_of_ask, link_after, onward, refuses, started, stepped};
+
+use crate::ask::{Answer, Ask};
+use papaya_ask::ask::{Answer as CallAnswer, StepKind};
+use papaya_ask::call::{Reply, Task};
+use papaya_ask::search::Search;
+use papaya_call::machine::{Machine as CallMachine, State};
+use papaya_call::need::Need;
+use papaya_copy::copying::{Aim, Copied, Copying};
+use papaya_copy::link::{Link, Linked};
+use papaya_copy::settle::{Settle, Slot};
+use papaya_copy::step::Step;
+use papaya_words::probe::{Refused, ResizeMode};
+
+/// Who asks, between two answers.
+#[derive(Clone, Copy)]
+pub enum Phase {
+    /// The call itself.
+    Calling,
+    /// The call needs the table after one, and it is made.
+    Linking(Link),
+    /// The root is copied, before the call goes on in the next table.
+    Copying(Copying),
+}
+
+/// What follows an answer while a table is made. One that was not asked for leads nowhere.
+#[inline]
+fn link_after(link: Link, answer: Answer, initial: usize) -> Linked
+    requires standing { IsStandingLink link }
+    requires initial { IsPowerOfTwo initial }
+    requires fit { IsFit answer }
+    ensures value { result ≡ link_after link initial answer }
+    ensures standing { IsStandingLinked result }
+{
+    match answer {
+        Answer::Call(CallAnswer::Size { len, limit }) => Linked::On(link.at_size(len, limit)),
+        Answer::Call(CallAnswer::Made(number)) => Linked::On(link.at_made(number)),
+        Answer::Call(CallAnswer::Refused(refused)) => link.at_refused(refused),
+        Answer::Call(CallAnswer::Exchanged) => link.at_exchanged(),
+        Answer::Call(CallAnswer::Found(word)) => link.at_found(word),
+        Answer::Count(count) => link.at_count(count, initial),
+        _ => Linked::On(link),
+    }
+}
+
+/// What follows an answer while the root is copied. One that was not asked for leads nowhere.
+#[inline]
+fn copying_after(copying: Copying, answer: Answer, mode: ResizeMode, initial: usize) -> Copied
+    requires standing { IsStandingCopying copying }
+    requires chunked { IsChunked mode }
+    requires initial { IsPowerOfTwo initial }
+    requires fit { IsFit answer }
+    ensures value { result ≡ copying_after copying mode initial answer }
+    ensures standing { IsStandingCopied result }
+{
+    match answer {
+        Answer::Call(CallAnswer::Word(word)) => copying.at_word(mode, word),
+        Answer::Call(CallAnswer::Exchanged) => copying.at_exchanged(mode),
+        Answer::Call(CallAnswer::Found(word)) => copying.at_found(mode, word),
+        Answer::Call(CallAnswer::Yes(yes)) => copying.at_yes(mode, yes),
+        Answer::Call(CallAnswer::Size { len, limit }) => Copied::On(copying.at_size(len, limit)),
+        Answer::Call(CallAnswer::Made(number)) => Copied::On(copying.at_made(number)),
+        Answer::Call(CallAnswer::Refused(refused)) => copying.at_refused(mode, refused),
+        Answer::Hash(hash) => Copied::On(copying.at_hash(hash)),
+        Answer::Count(count) => copying.at_count(mode, count, initial),
+        Answer::Call(CallAnswer::Op(_) | CallAnswer::Ok) => Copied::On(copying),
+    }
+}
+
+/// A call under way, over any number of tables. It is plain data and holds no key, value or memory:
+/// what it asks is all that a backend does for it.
+///
+/// In 0.2.5 these are the loops of `get`, `insert_with`, `remove_if` and `compute_with`, with
+/// `prepare_retry_insert` and `help_copy` between two tables.
+#[derive(Clone, Copy)]
+pub struct Machine {
+    /// The call, set aside while the next table is made or the root is copied.
+    pub call: CallMachine,
+    /// A call copies one chunk of slots, and was about to.
+    pub helped: bool,
+    pub phase: Phase,
+}
+
+impl Machine {
+    /// A call that begins.
+    #[inline(always)]
+    pub fn new(task: Task, hash: u64, mode: ResizeMode, initial: usize) -> Machine
+        requires chunked { IsChunked mode }
+        requires initial { IsPowerOfTwo initial }
+        ensures value { result ≡ started task hash mode initial }
+        ensures standing { IsStanding result }
+    {
+        Machine {
+            call: CallMachine::new(task, hash, mode, initial),
+            helped: false,
+            phase: Phase::Calling,
+        }
+    }
+
+    /// What is asked next. Until it is answered the same is asked.
+    #[inline(always)]
+    pub fn ask(&self) -> Ask
+        requires { IsStanding self.now }
+        ensures value { result ≡ ask_of self.now }
+        ensures size { IsFitAsk result }
+    {
+        match self.phase {
+            Phase::Calling => Ask::Call(self.call.ask()),
+            Phase::Linking(link) => Ask::Copy(link.ask()),
+            Phase::Copying(copying) => Ask::Copy(copying.ask()),
+        }
+    }
+
+    /// The kind of the exchange that is asked for, if one is. The words alone do not tell it.
+    #[inline]
+    pub fn kind(&self) -> Option<StepKind>
+        ensures { result ≡ kind_of_ask self.now }
+    {
+        match self.phase {
+            Phase::Calling => self.call.kind(),
+            Phase::Linking(link) => link.kind(),
+            Phase::Copying(copying) => copying.kind(),
+        }
+    }
+
+    /// The table that one in the making is to follow; 0 for a first table, or where none is made.
+    #[inline]
+    pub fn follows(&self) -> u64
+        ensures { result ≡ follows_of self.now }
+    {
+        match self.phase {
+            Phase::Calling => 0,
+            Phase::Linking(link) => link.follows(),
+            Phase::Copying(copying) => copying.follows(),
+        }
+    }
+
+    /// Goes on after an answer to what was asked. A call that has replied stays as it is.
+    #[inline(always)]
+    pub fn answer(&mut self, answer: Answer)
+        requires standing { IsStanding self.old }
+        requires fit { IsFit answer }
+        ensures after { self.new ≡ after self.old answer }
+        ensures standing { IsStanding self.new }
+    {
+        match self.phase {
+            Phase::Calling => {
+                if let Answer::Call(answer) = answer {
+                    self.called(answer);
+                }
+            }
+            Phase::Linking(link) => {
+                let linked = link_after(link, answer, self.call.initial);
+                self.linked(linked);
+            }
+            Phase::Copying(copying) => {
+                let copied = copying_after(copying, answer, self.call.mode, self.call.initial);
+                self.copied(copied);
+            }
+        }
+    }
+}
+
+impl Machine {
+    /// The call goes on for itself.
+    #[inline(always)]
+    #[tactic(auto, using(crate::proofs::Settings::settings_stay))]
+    fn step(&mut self, answer: CallAnswer)
+        requires standing { IsStanding self.old }
+        requires fit { IsCallFit answer }
+        ensures after { self.new ≡ stepped self.old answer }
+        ensures standing { IsStanding self.new }
+    {
+        self.call.answer(answer);
+    }
+
+    /// The call was answered. Where it was told the number of the next table, it is set aside.
+    #[inline(always)]
+    fn called(&mut self, answer: CallAnswer)
+        requires standing { IsStanding self.old }
+        requires fit { IsCallFit answer }
+        ensures after { self.new ≡ called self.old answer }
+        ensures standing { IsStanding self.new }
+    {
+        match (self.call.state, answer) {
+            (State::Leaving(_), CallAnswer::Word(next)) if self.call.task != Task::Get => {
+                if next == 0 {
+                    self.step(answer);
+                } else {
+                    self.onward(next);
+                }
+            }
+            (State::Growing(need), CallAnswer::Word(next)) => self.grows(need, next),
+            _ => self.step(answer),
+        }
+    }
+
+    /// The call needs the next table, which has this number, or there is none.
+    #[inline]
+    fn grows(&mut self, need: Need, next: u64)
+        requires standing { IsStanding self.old }
+        ensures after { self.new ≡ grows self.old need next }
+        ensures standing { IsStanding self.new }
+    {
+        match self.call.mode {
+            ResizeMode::Blocking => self.step(CallAnswer::Word(next)),
+            ResizeMode::Incremental(_) if next == 0 => {
+                self.phase = Phase::Linking(Link::Sizing {
+                    after: need.table(),
+                    unfit: false,
+                });
+            }
+            ResizeMode::Incremental(_) => self.onward(next),
+        }
+    }
+
+    /// The call goes on in the next table, which has this number. Before that it copies a chunk,
+    /// once, and the slot in which it met its key's pair.
+    #[inline]
+    fn onward(&mut self, next: u64)
+        requires standing { IsStanding self.old }
+        ensures after { self.new ≡ onward self.old next }
+        ensures standing { IsStanding self.new }
+    {
+        let aim = match self.call.state {
+            State::Growing(Need::Pair(from, index)) => Aim::Settle(Slot {
+                from,
+                index,
+                to: next,
+            }),
+            _ => Aim::Search(next),
+        };
+        if !self.helped {
+            self.helped = true;
+            self.phase = Phase::Copying(Copying::Stepping(aim, Step::AtRoot));
+            return;
+        }
+        match aim {
+            Aim::Settle(slot) => self.phase = Phase::Copying(Copying::Lone(slot, Settle::Looking)),
+            _ => self.enter(next),
+        }
+    }
+
+    /// The call looks for its key in this table.
+    #[inline]
+    fn enter(&mut self, table: u64)
+        requires standing { IsStanding self.old }
+        ensures after { self.new ≡ enters self.old table }
+        ensures standing { IsStanding self.new }
+    {
+        self.call.state = State::Searching(Search::Sizing(table));
+        self.phase = Phase::Calling;
+    }
+
+    /// A table could not be made, and the call ends with that.
+    #[inline]
+    fn refuse(&mut self, refused: Refused)
+        requires standing { IsStanding self.old }
+        ensures after { self.new ≡ refuses self.old refused }
+        ensures standing { IsStanding self.new }
+    {
+        self.call.state = State::Ended(Reply::Refused(refused));
+        self.phase = Phase::Calling;
+    }
+
+    /// The making of the next table leads here.
+    #[inline]
+    fn linked(&mut self, linked: Linked)
+        requires standing { IsStanding self.old }
+        requires link { IsStandingLinked linked }
+        ensures after { self.new ≡ after_linked self.old linked }
+        ensures standing { IsStanding self.new }
+    {
+        match linked {
+            Linked::On(link) => self.phase = Phase::Linking(link),
+            Linked::Table(table) => self.onward(table),
+            Linked::Refused(refused) => self.refuse(refused),
+        }
+    }
+
+    /// The copy of the root leads here. The call copies for a table to look in, so it is told of no
+    /// other end than that one.
+    #[inline]
+    fn copied(&mut self, copied: Copied)
+        requires standing { IsStanding self.old }
+        requires copying { IsStandingCopied copied }
+        ensures after { self.new ≡ after_copied self.old copied }
+        ensures standing { IsStanding self.new }
+    {
+        match copied {
+            Copied::On(copying) => self.phase = Phase::Copying(copying),
+            Copied::Search(table) => self.enter(table),
+            Copied::Root(_) | Copied::Chunk => self.phase = Phase::Calling,
+            Copied::Refused(refused) => self.refuse(refused),
+        }
+    }
+}
