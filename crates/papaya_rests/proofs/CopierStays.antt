@@ -38,7 +38,7 @@ module _ {K P : Type 0} (g : Setting K P) (c : Coding K P) (law : IsLawful g) (s
   putting : (t x : ℕ) (p : P) (n j : ℕ) → IsPutting g s t x p n j → IsPutting g s' t x p n j
   putting = putting_lasts g law s s' zero_next later
 
-  link_stays : (link : Link) → RestsLink g c s link → RestsLink g c s' link
+  pub link_stays : (link : Link) → RestsLink g c s link → RestsLink g c s' link
   link_stays link r = record { on = on (follows link) r.on; rises = r.rises }
 
   pub source_stays : (from n : ℕ) → IsSource g c s from n → IsSource g c s' from n

@@ -1,0 +1,5 @@
+-- where a call stands that is set aside, and how it goes on
+pub mod Aside
+pub mod Onward
+-- what it rests on stays
+pub mod Stays
