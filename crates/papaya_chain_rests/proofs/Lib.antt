@@ -3,3 +3,8 @@ pub mod Aside
 pub mod Onward
 -- what it rests on stays
 pub mod Stays
+-- where a copy led, and what each answer tells
+pub mod Outcomes
+pub mod Making
+pub mod CopyTold
+pub mod Learns

@@ -64,6 +64,10 @@ module _ {K P : Type 0} (g : Setting K P) (c : Coding K P) (hashed : IsHashed g 
   no_first : before.next 0 ≡ 0
   no_first = next_zero before.next (keeping_sound g before (map_left g (begun ++ since)) keeps).rises
 
+  -- so is a next table
+  pub next_stays : (t : ℕ) → 0 < before.next t → (now g c begun (since ++ es) k).next t ≡ before.next t
+  next_stays = later_words.next
+
   -- what is made, or copied
   phase_stays : (m : Machine) (hands : Hands P) (phase : Phase) → RestsPhase g c begun since k m hands phase → RestsPhase g c begun (since ++ es) k m hands phase
   phase_stays m hands Calling r = tt

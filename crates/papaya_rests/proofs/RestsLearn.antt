@@ -53,7 +53,7 @@ by_test true A B R h yes_so not_so = yes_so refl h
 by_test false A B R h yes_so not_so = not_so refl h
 
 -- a number that isn't 0 is more
-more_than_none : (n : ℕ) → (n == 0) ≡ false → 0 < n
+pub more_than_none : (n : ℕ) → (n == 0) ≡ false → 0 < n
 more_than_none n e = let differs = eqb-false n 0 e in ⊎_elim (λ (some : 0 < n). some) (λ (none : n ≤ 0). absurd (differs (omega arith))) (cases_lt 0 n)
 
 module _ {K P : Type 0} (g : Setting K P) (c : Coding K P) (hashed : IsHashed g c) (begun since : List (Exchange P)) (may : AllAllowed g start (begun ++ since)) (k : K) where

@@ -34,7 +34,7 @@ module _ {K P : Type 0} (g : Setting K P) (c : Coding K P) (hashed : IsHashed g 
   one_more e allows = subst (AllAllowed g start) (append_assoc begun since (e ∷ [])) (allowed_append g (begun ++ since) (e ∷ []) start may (allows, tt))
 
   -- the state after it
-  after_more : (e : Exchange P) → run (begun ++ (since ++ e ∷ [])) start ≡ after now e
+  pub after_more : (e : Exchange P) → run (begun ++ (since ++ e ∷ [])) start ≡ after now e
   after_more e = ap (λ l. run l start) (sym (append_assoc begun since (e ∷ []))) ∙ run-append (begun ++ since) (e ∷ []) start
 
   -- the root that was put in is come to

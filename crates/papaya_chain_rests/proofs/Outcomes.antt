@@ -1,0 +1,112 @@
+-- Where the making of a table, or the copy of the root, led: the call rests again.
+use Rattle.std.proofs.Common.{◌≡◌, ℕ, ◌<◌, false, Option, Some, List, ◌++◌, refl, sym, ap, ◌∙◌, subst}
+use Rattle.papaya_words.specs.Mode.{IsChunked}
+use Rattle.papaya_words.specs.declared.probe.Refused.{Refused}
+use Rattle.papaya_ask.specs.declared.call.Reply.TheVariants.{Refused as Reply_refused}
+use Rattle.papaya_ask.specs.declared.call.Task.{Task}
+use Rattle.papaya_ask.specs.declared.call.Task.TheVariants.{Get, Insert, RemoveIf, Compute}
+use Rattle.papaya_call.specs.declared.machine.Machine.{Machine as Call_machine}
+use Rattle.papaya_call.specs.declared.machine.State.{State as Stage}
+use Rattle.papaya_call.specs.declared.machine.State.TheVariants.{Leaving, Growing, Ended}
+use Rattle.papaya_call.specs.declared.need.Need.TheVariants.{Room, Pair as Pair_at}
+use Rattle.papaya_call.specs.Machine.{IsChanger}
+use Rattle.papaya_copy.specs.declared.copying.Aim.{Aim}
+use Rattle.papaya_copy.specs.declared.copying.Aim.TheVariants as aims
+use Rattle.papaya_copy.specs.declared.copying.Copied.{Copied}
+use Rattle.papaya_copy.specs.declared.copying.Copied.TheVariants as copied
+use Rattle.papaya_copy.specs.declared.link.Linked.{Linked}
+use Rattle.papaya_copy.specs.declared.link.Linked.TheVariants as linked
+use Rattle.papaya_chain.specs.declared.machine.Machine.{Machine}
+use Rattle.papaya_chain.specs.Machine.{aim_for, after_copied, after_linked, enters, onward, refuses}
+use Rattle.papaya_law.specs.Allows.{AllAllowed}
+use Rattle.papaya_law.specs.Code.{Coding, IsHashed}
+use Rattle.papaya_law.specs.Copying.{IsSettled}
+use Rattle.papaya_law.specs.Exchange.{Setting, State, Exchange, run, start}
+use Rattle.papaya_rests.specs.Copier.{IsLedTo, IsStillAimed, RestsCopied, RestsLinked, aim_of}
+use Rattle.papaya_rests.specs.Rests.{RestsStage}
+use Rattle.papaya_rests.specs.Rests as calls
+use Rattle.papaya_rests.specs.Told as call_hands
+use Rattle.papaya_chain_rests.specs.Rests.{Rests, left_by}
+use Rattle.papaya_chain_rests.specs.Told.{Hands}
+use Rattle.papaya_chain_rests.proofs.Aside.{enters_rests}
+use Rattle.papaya_chain_rests.proofs.Onward.{onward_rests}
+
+-- a call that is set aside copies for a chunk and a table or a slot, and goes on copying for that
+same_aimed : (stage : Stage) (n : ℕ) (aim : Aim) → IsStillAimed (aim_for stage n) aim → aim ≡ aim_for stage n
+same_aimed (Growing (Pair_at t x)) n aim still = still
+same_aimed (Growing (Room t)) n aim still = still
+same_aimed stage n aim still = still
+
+-- for no chunk alone, and not for all
+not_chunk : (stage : Stage) (n : ℕ) → aim_for stage n ≡ aims.Chunk → ⊥
+not_chunk (Growing (Pair_at t x)) n e = cc e
+not_chunk (Growing (Room t)) n e = cc e
+not_chunk stage n e = cc e
+
+not_all : (stage : Stage) (n met : ℕ) → aim_for stage n ≡ aims.All met → ⊥
+not_all (Growing (Pair_at t x)) n met e = cc e
+not_all (Growing (Room t)) n met e = cc e
+not_all stage n met e = cc e
+
+module _ {K P : Type 0} (g : Setting K P) (c : Coding K P) (hashed : IsHashed g c) (begun since : List (Exchange P)) (may : AllAllowed g start (begun ++ since)) (k : K) where
+  -- the state after all exchanges
+  abbrev now : State P
+  now = run (begun ++ since) start
+
+  -- a call that may change the map may be refused
+  refused_stage : (hands : call_hands.Hands P) (task : Task) → IsChanger task → (refused : Refused) → RestsStage g c begun since k hands task (Ended (Reply_refused refused))
+  refused_stage hands Get changes refused = absurd changes
+  refused_stage hands (Insert replace) changes refused = tt
+  refused_stage hands RemoveIf changes refused = tt
+  refused_stage hands Compute changes refused = tt
+
+  module _ (inc : g.blocking ≡ false) (m : Machine) (hands : Hands P) (chunked : IsChunked m.call.mode) (r : calls.Rests g c begun since k m.call hands.call) (changes : IsChanger m.call.task) (t : ℕ) (left : left_by m.call.state ≡ Some t) where
+    -- a table could not be made
+    refuses_rests : (refused : Refused) → Rests g c begun since k (refuses m refused) hands
+    refuses_rests refused = record {
+      chunked = chunked;
+      call = record { hash = r.hash; mode = r.mode; made = r.made; stage = refused_stage hands.call m.call.task changes refused };
+      phase = tt;
+    }
+
+    -- the making of the next table led here
+    pub linked_rests : (end : Linked) → RestsLinked g c now hands.call.last hands.kept t end → Rests g c begun since k (after_linked m end) hands
+    linked_rests (linked.On link) is = record {
+      chunked = chunked;
+      call = r;
+      phase = record { mode = inc; changes = changes; left = left ∙ ap (λ n. Some n) (sym is.0); rests = is.1 };
+    }
+    linked_rests (linked.Table n) is =
+        subst (λ n. Rests g c begun since k (onward m n) hands) is.0
+        (onward_rests g c hashed begun since may k inc m hands chunked r changes t left (subst (λ n. 0 < n) (sym is.0) is.1))
+    linked_rests (linked.Refused refused) is = refuses_rests refused
+
+    module _ (some : 0 < now.next t) where
+      -- where the call was to look on, its slot is settled
+      led_settled : (stage : Stage) (n : ℕ) → IsLedTo g c now hands.call.last hands.kept (aim_for stage (now.next t)) n → (u x : ℕ) → stage ≡ Growing (Pair_at u x) → IsSettled g now (now.next t) (now.slot u x)
+      led_settled (Growing (Pair_at v y)) n led u x e =
+          let same_table : v ≡ u = cc e in
+          let same_slot : y ≡ x = cc e in
+          subst (λ a. IsSettled g now (now.next t) (now.slot a x)) same_table (subst (λ b. IsSettled g now (now.next t) (now.slot v b)) same_slot led.1)
+      led_settled (Growing (Room v)) n led u x e = absurd cc
+      led_settled stage n led u x e = absurd cc
+
+      -- and it is the next table
+      led_next : (stage : Stage) (n : ℕ) → IsLedTo g c now hands.call.last hands.kept (aim_for stage (now.next t)) n → n ≡ now.next t
+      led_next (Growing (Pair_at v y)) n led = led.0
+      led_next (Growing (Room v)) n led = led
+      led_next stage n led = led
+
+      -- the copy of the root led here
+      pub copied_rests : (end : Copied) → RestsCopied g c now hands.call.last hands.kept (aim_for m.call.state (now.next t)) end → Rests g c begun since k (after_copied m end) hands
+      copied_rests (copied.On copying) is = record {
+        chunked = chunked;
+        call = r;
+        phase = record { mode = inc; changes = changes; table = t; left = left; next = some; aim = same_aimed m.call.state (now.next t) (aim_of copying) is.0; rests = is.1 };
+      }
+      copied_rests (copied.Search n) led =
+          subst (λ y. Rests g c begun since k (enters m y) hands) (sym (led_next m.call.state n led))
+          (record { chunked = chunked; call = enters_rests g c hashed begun since may k inc m.call hands.call r t left some (led_settled m.call.state n led); phase = tt })
+      copied_rests (copied.Root root) is = absurd (not_all m.call.state (now.next t) is.1.0 is.1.1)
+      copied_rests copied.Chunk is = absurd (not_chunk m.call.state (now.next t) is)
+      copied_rests (copied.Refused refused) is = refuses_rests refused
