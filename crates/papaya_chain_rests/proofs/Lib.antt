@@ -8,3 +8,7 @@ pub mod Outcomes
 pub mod Making
 pub mod CopyTold
 pub mod Learns
+-- what a copy names and may exchange
+pub mod Names
+-- where an answer leaves its call
+pub mod Goes

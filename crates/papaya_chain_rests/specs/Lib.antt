@@ -1,3 +1,5 @@
 -- what an answer tells, and what a call over a chain of tables rests on
 pub mod Told
 pub mod Rests
+-- where an answer leaves its call
+pub mod Goes

@@ -191,7 +191,7 @@ module _ {K P : Type 0} (g : Setting K P) (c : Coding K P) (hashed : IsHashed g 
 
 module _ {K P : Type 0} (g : Setting K P) (c : Coding K P) (hashed : IsHashed g c) (s : State P) (m : K → Option P) (keeps : IsKeeping g s m) (last kept : Option P) where
   -- what the making of a table names
-  link_there : (link : Link) → RestsLink g c s link → AreThere g c s last kept (link_ask link)
+  pub link_there : (link : Link) → RestsLink g c s link → AreThere g c s last kept (link_ask link)
   link_there (links.Sizing behind unfit) r = r.on
   link_there (links.Counting behind unfit len) r = tt
   link_there (links.Making behind len limit) r = tt

@@ -158,7 +158,7 @@ module _ {K P : Type 0} (g : Setting K P) (c : Coding K P) (hashed : IsHashed g 
           subst (λ y. MayDo kind y old' new') a (subst (λ y. MayDo kind at y new') b (subst (λ y. MayDo kind at old y) d h))
 
       -- a table is linked
-      link_may : (link : Link) → RestsLink g c s link → (at : At) (old new : ℕ) → link_ask link ≡ Ask_exchange at old new → MayDo (link_kind link) at old new
+      pub link_may : (link : Link) → RestsLink g c s link → (at : At) (old new : ℕ) → link_ask link ≡ Ask_exchange at old new → MayDo (link_kind link) at old new
       link_may (links.Sizing behind unfit) r at old new e = absurd cc
       link_may (links.Counting behind unfit len) r at old new e = absurd cc
       link_may (links.Making behind len limit) r at old new e = absurd cc

@@ -1,0 +1,65 @@
+-- What a copy for a call names, and may exchange.
+use Rattle.std.proofs.Common.{◌≡◌, ℕ, Option, List, ◌++◌, refl, subst}
+use Rattle.papaya_ask.specs.declared.ask.Ask.{Ask as Call_ask}
+use Rattle.papaya_ask.specs.declared.ask.At.{At}
+use Rattle.papaya_ask.specs.declared.ask.StepKind.{StepKind}
+use Rattle.papaya_ask.specs.declared.copy_ask.CopyAsk.{CopyAsk}
+use Rattle.papaya_ask.specs.declared.copy_ask.CopyAsk.TheVariants.{Exchange as Ask_exchange}
+use Rattle.papaya_call.specs.Machine as call_machine
+use Rattle.papaya_copy.specs.Copying.{copying_ask}
+use Rattle.papaya_copy.specs.Link.{link_ask}
+use Rattle.papaya_chain.specs.declared.ask.Ask.TheVariants as asks
+use Rattle.papaya_chain.specs.declared.machine.Machine.{Machine}
+use Rattle.papaya_chain.specs.declared.machine.Phase.{Phase}
+use Rattle.papaya_chain.specs.declared.machine.Phase.TheVariants.{Calling, Linking, Copying as Copying_root}
+use Rattle.papaya_chain.specs.Machine.{ask_of, asks_in, kind_in, kind_of_ask}
+use Rattle.papaya_law.specs.Allows.{AllAllowed, Allows}
+use Rattle.papaya_law.specs.Code.{Coding, IsHashed}
+use Rattle.papaya_law.specs.Exchange.{Setting, State, Exchange, after, run, start}
+use Rattle.papaya_law.specs.Invariant.{IsKeeping}
+use Rattle.papaya_law.specs.Meaning.{map_left}
+use Rattle.papaya_law.proofs.OneMap.{keeping}
+use Rattle.papaya_rests.specs.Copier.{AreThere, IsCopyAsked}
+use Rattle.papaya_rests.specs.Told.{IsWritten, word_of}
+use Rattle.papaya_rests.proofs.CopierCopies.{copying_there, link_there}
+use Rattle.papaya_rests.proofs.CopierExchange.{copying_may, link_may}
+use Rattle.papaya_chain_rests.specs.Rests.{Rests, RestsPhase}
+use Rattle.papaya_chain_rests.specs.Told.{Hands}
+
+-- what a machine asks as its call asks is what its call asks
+own_ask : (m : Machine) (phase : Phase) (ask : Call_ask) → asks_in m.call phase ≡ asks.Call ask → (phase ≡ Calling) × (call_machine.ask_of m.call ≡ ask)
+own_ask m Calling ask e = (refl, cc e)
+own_ask m (Linking link) ask e = absurd cc
+own_ask m (Copying_root copying) ask e = absurd cc
+
+pub call_asks : (m : Machine) (ask : Call_ask) → ask_of m ≡ asks.Call ask → (m.phase ≡ Calling) × (call_machine.ask_of m.call ≡ ask)
+call_asks m ask e = own_ask m m.phase ask e
+
+module _ {K P : Type 0} (g : Setting K P) (c : Coding K P) (hashed : IsHashed g c) (begun since : List (Exchange P)) (may : AllAllowed g start (begun ++ since)) (k : K) (m : Machine) (hands : Hands P) (r : Rests g c begun since k m hands) where
+  -- the state after all exchanges
+  abbrev now : State P
+  now = run (begun ++ since) start
+
+  keeps : IsKeeping g now (map_left g (begun ++ since))
+  keeps = keeping g hashed.lawful (begun ++ since) may
+
+  -- what is named is there
+  there_in : (phase : Phase) → RestsPhase g c begun since k m hands phase → (ask : CopyAsk) → asks_in m.call phase ≡ asks.Copy ask → AreThere g c now hands.call.last hands.kept ask
+  there_in Calling at ask e = absurd cc
+  there_in (Linking link) at ask e = let is : link_ask link ≡ ask = cc e in subst (AreThere g c now hands.call.last hands.kept) is (link_there g c hashed now (map_left g (begun ++ since)) keeps hands.call.last hands.kept link at.rests)
+  there_in (Copying_root copying) at ask e = let is : copying_ask copying ≡ ask = cc e in subst (AreThere g c now hands.call.last hands.kept) is (copying_there g c hashed now (map_left g (begun ++ since)) keeps hands.call.last hands.kept copying at.rests)
+
+  pub copies_there : (ask : CopyAsk) → ask_of m ≡ asks.Copy ask → AreThere g c now hands.call.last hands.kept ask
+  copies_there ask e = there_in m.phase r.phase ask e
+
+  -- what is exchanged is allowed
+  abbrev May : Option StepKind → At → (old new : ℕ) → Type 0
+  May kind at old new = word_of g c now at ≡ old → (e : Exchange P) × IsCopyAsked c kind at new now hands.kept e × Allows g now e × IsWritten g c now at new (after now e)
+
+  may_in : (phase : Phase) → RestsPhase g c begun since k m hands phase → (at : At) (old new : ℕ) → asks_in m.call phase ≡ asks.Copy (Ask_exchange at old new) → May (kind_in m.call phase) at old new
+  may_in Calling at place old new e = absurd cc
+  may_in (Linking link) at place old new e = let is : link_ask link ≡ Ask_exchange place old new = cc e in link_may g c hashed now (map_left g (begun ++ since)) keeps hands.call.last hands.kept link at.rests place old new is
+  may_in (Copying_root copying) at place old new e = let is : copying_ask copying ≡ Ask_exchange place old new = cc e in copying_may g c hashed now (map_left g (begun ++ since)) keeps hands.call.last hands.kept copying at.rests place old new is
+
+  pub copies_may : (at : At) (old new : ℕ) → ask_of m ≡ asks.Copy (Ask_exchange at old new) → May (kind_of_ask m) at old new
+  copies_may at old new e = may_in m.phase r.phase at old new e
