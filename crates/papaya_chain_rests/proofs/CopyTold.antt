@@ -80,10 +80,11 @@ module _ {K P : Type 0} (g : Setting K P) (c : Coding K P) (hashed : IsHashed g 
     put_there : (at : At) (old new : ℕ) → copying_ask copying ≡ Ask_exchange at old new → word_of g c now at ≡ old → (e : Exchange P) → IsCopyAsked c (copying_kind copying) at new now kept e
         → HasCopied copying (answers.Call Exchanged) (e ∷ []) (told_of (last_after e last) hands)
     put_there at old new is stands e asked =
-        let allows : Allows g now e = asked_allowed g c hashed now (map_left g (begun ++ since)) keeps last kept copying r at old new is stands e asked in
-        (one_more g c hashed begun since may k e allows,
-        subst (λ s. RestsCopied g c s (last_after e last) kept (aim_of copying) (copying_after copying mode initial (answers.Call Exchanged))) (sym (after_more g c hashed begun since may k e))
-        (copying_exchanged g c hashed now (map_left g (begun ++ since)) keeps mode moded last kept e allows copying r at old new is stands asked))
+        let allows : Allows g now e = asked_allowed g c hashed now (map_left g (begun ++ since)) keeps last kept copying r at old new is stands e asked in (
+          one_more g c hashed begun since may k e allows,
+          subst (λ s. RestsCopied g c s (last_after e last) kept (aim_of copying) (copying_after copying mode initial (answers.Call Exchanged))) (sym (after_more g c hashed begun since may k e))
+              (copying_exchanged g c hashed now (map_left g (begun ++ since)) keeps mode moded last kept e allows copying r at old new is stands asked),
+        )
 
     -- after each answer
     learns_of : (answer : Answer) (es : List (Exchange P)) (hands' : Hands P) (ask : CopyAsk) → copying_ask copying ≡ ask → IsCopyTold g c now (copying_kind copying) (copying_follows copying) hands ask answer es hands' → HasCopied copying answer es hands'

@@ -116,7 +116,7 @@ module _ {K P : Type 0} (g : Setting K P) (c : Coding K P) (hashed : IsHashed g 
     steps_on stage told es call' hands' handed (allowed, r) = (
       allowed,
       subst (λ h. Rests g c begun (since ++ es) k (stepped (in_stage stage) told) h) (sym handed)
-      (record { chunked = subst IsChunked (sym (settings_stay (record call { state = stage }) told).0) chunked; call = r; phase = tt }),
+          (record { chunked = subst IsChunked (sym (settings_stay (record call { state = stage }) told).0) chunked; call = r; phase = tt }),
     )
 
     module _ (stage : Stage) (r : calls.Rests g c begun since k (record call { state = stage }) hands.call) (es : List (Exchange P)) (call' : call_told.Hands P) (hands' : Hands P) (handed : hands' ≡ record hands { call = call' }) (none : es ≡ []) (same : call' ≡ hands.call) (word : ℕ) (inner : Learned (stepped (in_stage stage) (Word_read word)) es hands') where
@@ -151,12 +151,16 @@ module _ {K P : Type 0} (g : Setting K P) (c : Coding K P) (hashed : IsHashed g 
       grows_rests (Incremental chunk) inc changes need left is =
           cond_both (word == 0) (record (in_stage stage) { phase = Linking (links.Sizing (needed need) false) }) (onward (in_stage stage) word) (λ m. Learned m es hands')
           (λ _. quiet (record (in_stage stage) { phase = Linking (links.Sizing (needed need) false) }) es hands' none as_before
-          (record { chunked = chunked; call = r; phase = record {
-            mode = inc;
-            changes = changes;
-            left = left;
-            rests = record { on = come_on g c hashed begun since may k (needed need) (left_come g c hashed begun since may k hands.call call.task stage r.stage (needed need) left); rises = tt };
-          } }))
+          (record {
+            chunked = chunked;
+            call = r;
+            phase = record {
+              mode = inc;
+              changes = changes;
+              left = left;
+              rests = record { on = come_on g c hashed begun since may k (needed need) (left_come g c hashed begun since may k hands.call call.task stage r.stage (needed need) left); rises = tt };
+            };
+          }))
           (λ more. goes_next inc changes (needed need) left is (more_than_none word more))
 
     -- the call was answered, in each stage
@@ -192,20 +196,22 @@ module _ {K P : Type 0} (g : Setting K P) (c : Coding K P) (hashed : IsHashed g 
           → Learned (after (at_phase call (Linking link)) answer) es hands'
       link_rests link at answer h =
           let out = link_learns g c hashed begun since may k call.initial hands link at.rests answer es hands' h in
-          let told = copy_hands g c now (link_kind link) (follows link) hands (link_ask link) answer es hands' h in
-          (out.0,
-          linked_rests g c hashed begun (since ++ es) out.0 k at.mode (at_phase call (Linking link)) hands' chunked (aside_later out.0 (follows link) at.left told.0 told.1) at.changes (follows link) at.left (link_after link call.initial answer) out.1)
+          let told = copy_hands g c now (link_kind link) (follows link) hands (link_ask link) answer es hands' h in (
+            out.0,
+            linked_rests g c hashed begun (since ++ es) out.0 k at.mode (at_phase call (Linking link)) hands' chunked (aside_later out.0 (follows link) at.left told.0 told.1) at.changes (follows link) at.left (link_after link call.initial answer) out.1,
+          )
 
       copying_rests : (copying : Copying) → IsHelping g c begun since k (at_phase call (Copying_root copying)) hands copying → (answer : Answer)
           → IsCopyTold g c now (copying_kind copying) (copying_follows copying) hands (copying_ask copying) answer es hands' → Learned (after (at_phase call (Copying_root copying)) answer) es hands'
       copying_rests copying at answer h =
           let out = copying_learns g c hashed begun since may k call.mode r.mode chunked call.initial hands copying at.rests answer es hands' h in
           let told = copy_hands g c now (copying_kind copying) (copying_follows copying) hands (copying_ask copying) answer es hands' h in
-          let same : (run (begun ++ (since ++ es)) start).next at.table ≡ now.next at.table = next_stays g c hashed begun since es out.0 k at.table at.next in
-          (out.0,
-          copied_rests g c hashed begun (since ++ es) out.0 k at.mode (at_phase call (Copying_root copying)) hands' chunked (aside_later out.0 at.table at.left told.0 told.1) at.changes at.table at.left (subst (λ n. 0 < n) (sym same) at.next)
-          (copying_after copying call.mode call.initial answer)
-          (subst (λ aim. RestsCopied g c (run (begun ++ (since ++ es)) start) hands'.call.last hands'.kept aim (copying_after copying call.mode call.initial answer)) (at.aim ∙ ap (aim_for call.state) (sym same)) out.1))
+          let same : (run (begun ++ (since ++ es)) start).next at.table ≡ now.next at.table = next_stays g c hashed begun since es out.0 k at.table at.next in (
+            out.0,
+            copied_rests g c hashed begun (since ++ es) out.0 k at.mode (at_phase call (Copying_root copying)) hands' chunked (aside_later out.0 at.table at.left told.0 told.1) at.changes at.table at.left (subst (λ n. 0 < n) (sym same) at.next)
+                (copying_after copying call.mode call.initial answer)
+                (subst (λ aim. RestsCopied g c (run (begun ++ (since ++ es)) start) hands'.call.last hands'.kept aim (copying_after copying call.mode call.initial answer)) (at.aim ∙ ap (aim_for call.state) (sym same)) out.1),
+          )
 
   -- in each phase
   learns_in : (call : Call_machine) → IsChunked call.mode → calls.Rests g c begun since k call hands.call → (phase : Phase) → RestsPhase g c begun since k (at_phase call phase) hands phase → (answer : Answer) (es : List (Exchange P)) (hands' : Hands P)

@@ -12,3 +12,5 @@ pub mod Learns
 pub mod Names
 -- where an answer leaves its call
 pub mod Goes
+pub mod Replies
+pub mod Order

@@ -54,10 +54,11 @@ module _ {K P : Type 0} (g : Setting K P) (c : Coding K P) (hashed : IsHashed g 
       → HasLinked (links.Linking behind table) (answers.Call Exchanged) (e ∷ []) (told_of (last_after e hands.call.last) hands)
   linked_there behind table r none e is =
       let allowed = subst (λ y. AllAllowed g start (begun ++ (since ++ y ∷ []))) (sym is)
-          (one_more g c hashed begun since may k (Link_to behind table) (links_on g c now (map_left g (begun ++ since)) keeps behind table r none)) in
-      (allowed,
-      subst (λ s. RestsLinked g c s (last_after e hands.call.last) hands.kept behind (link_after (links.Linking behind table) initial (answers.Call Exchanged))) (sym (after_more g c hashed begun since may k e))
-      (link_exchanged g c now hands.call.last hands.kept (links.Linking behind table) r (Next behind) 0 table refl e is))
+      (one_more g c hashed begun since may k (Link_to behind table) (links_on g c now (map_left g (begun ++ since)) keeps behind table r none)) in (
+        allowed,
+        subst (λ s. RestsLinked g c s (last_after e hands.call.last) hands.kept behind (link_after (links.Linking behind table) initial (answers.Call Exchanged))) (sym (after_more g c hashed begun since may k e))
+            (link_exchanged g c now hands.call.last hands.kept (links.Linking behind table) r (Next behind) 0 table refl e is),
+      )
 
   -- after each answer
   pub link_learns : (link : Link) → RestsLink g c now link → (answer : Answer) (es : List (Exchange P)) (hands' : Hands P)

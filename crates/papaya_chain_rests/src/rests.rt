@@ -1,20 +1,28 @@
 //! What a call over a chain of tables rests on. The functions do nothing: their contracts are the
 //! laws.
-ghost use Rattle.std.specs.Prelude.{◌≡◌, ℕ, List, [], Option, ◌++◌};
+ghost use Rattle.std.specs.Prelude.{◌≡◌, ◌⊎◌, ℕ, List, [], Option, ◌++◌};
 ghost use Rattle.papaya_words.specs.Mode.{IsChunked};
 ghost use Rattle.papaya_words.specs.declared.probe.ResizeMode.{ResizeMode};
-ghost use Rattle.papaya_law.specs.Allows.{AllAllowed};
+ghost use Rattle.papaya_ask.specs.declared.copy_ask.CopyAsk.TheVariants.{Exchange as Copy_exchange};
+ghost use Rattle.papaya_call.specs.Machine.{IsStanding, ask_of as call_ask_of, kind_of_ask as call_kind};
+ghost use Rattle.papaya_law.specs.Allows.{AllAllowed, Allows};
 ghost use Rattle.papaya_law.specs.Class.{IsOn};
 ghost use Rattle.papaya_law.specs.Code.{Coding, IsHashed};
-ghost use Rattle.papaya_law.specs.Exchange.{Setting, Exchange, run, start};
+ghost use Rattle.papaya_law.specs.Exchange.{Setting, Exchange, after as state_after, run, start};
 ghost use Rattle.papaya_law.specs.Grows.{Agrees};
-ghost use Rattle.papaya_rests.specs.Rests.{IsModeOf};
+ghost use Rattle.papaya_rests.specs.Copier.{AreThere, IsCopyAsked};
+ghost use Rattle.papaya_rests.specs.Rests.{IsModeOf, Rests as CallRests, change_in};
+ghost use Rattle.papaya_rests.specs.Says.{IsSaidBy, Said, ShowsPairs, StandsOn};
+ghost use Rattle.papaya_rests.specs.Told.{IsWritten, word_of};
 ghost use Rattle.papaya_chain.specs.Machine.{after, ask_of, follows_of, kind_of_ask, started};
+ghost use Rattle.papaya_chain_rests.specs.Goes.{Goes, IsOwnStep, change_by, grown_by, owed_in};
 ghost use Rattle.papaya_chain_rests.specs.Rests.{Rests};
 ghost use Rattle.papaya_chain_rests.specs.Told.{Hands, IsTold, no_hands};
 
+use papaya_ask::ask::{Ask as CallAsk, At};
 use papaya_ask::call::Task;
-use papaya_chain::ask::Answer;
+use papaya_ask::copy_ask::CopyAsk;
+use papaya_chain::ask::{Answer, Ask};
 use papaya_chain::machine::Machine;
 
 /// A call that begins rests on the exchanges as they are.
@@ -36,4 +44,74 @@ pub fn stays<K, P>()
         → Agrees (IsOn (run (begun ++ since) start).first (run (begun ++ since) start).next) g g'
         → (k : K) (m : Machine) (hands : Hands P) → Rests g c begun since k m hands
         → Rests g' c begun since k m hands }
+{}
+
+/// What is asked as the call asks is what the call asks, and it rests on what calls rest on, so the
+/// laws of `papaya_rests` hold of it. What a copy names is there.
+pub fn names<K, P>()
+    ensures calls { (g : Setting K P) (c : Coding K P) (begun since : List (Exchange P)) (k : K)
+        (m : Machine) (hands : Hands P) → Rests g c begun since k m hands → (ask : CallAsk)
+        → ask_of m ≡ Ask.Call ask → CallRests g c begun since k m.call hands.call
+        × (call_ask_of m.call ≡ ask) × (kind_of_ask m ≡ call_kind m.call) }
+    ensures copies { (g : Setting K P) (c : Coding K P) → IsHashed g c
+        → (begun since : List (Exchange P)) → AllAllowed g start (begun ++ since) → (k : K)
+        (m : Machine) (hands : Hands P) → Rests g c begun since k m hands → (ask : CopyAsk)
+        → ask_of m ≡ Ask.Copy ask
+        → AreThere g c (run (begun ++ since) start) hands.call.last hands.kept ask }
+{}
+
+/// An exchange of a copy whose old word stands there is one of the law, allowed, and writes just its
+/// word. It is a link, a mark, a shut slot, a placed copy, a finished slot, counted slots or a new
+/// root, and never a change of the map.
+pub fn copies_may_exchange<K, P>()
+    ensures { (g : Setting K P) (c : Coding K P) → IsHashed g c → (begun since : List (Exchange P))
+        → AllAllowed g start (begun ++ since) → (k : K) (m : Machine) (hands : Hands P)
+        → Rests g c begun since k m hands → (at : At) (old new : ℕ)
+        → ask_of m ≡ Ask.Copy (Copy_exchange at old new)
+        → word_of g c (run (begun ++ since) start) at ≡ old → (e : Exchange P)
+        × IsCopyAsked c (kind_of_ask m) at new (run (begun ++ since) start) hands.kept e
+        × Allows g (run (begun ++ since) start) e × IsWritten g c (run (begun ++ since) start) at
+        new (state_after (run (begun ++ since) start) e) }
+{}
+
+/// After an answer that is true of the words the call rests again, and what was exchanged was
+/// allowed.
+pub fn learns<K, P>()
+    ensures { (g : Setting K P) (c : Coding K P) → IsHashed g c → (begun since : List (Exchange P))
+        → AllAllowed g start (begun ++ since) → (k : K) (m : Machine) (hands : Hands P)
+        → Rests g c begun since k m hands → (answer : Answer) (es : List (Exchange P))
+        (hands' : Hands P) → IsTold g c k (run (begun ++ since) start) (kind_of_ask m)
+        (follows_of m) hands (ask_of m) answer es hands' → AllAllowed g start (begun ++ (since ++ es))
+        × Rests g c begun (since ++ es) k (after m answer) hands' }
+{}
+
+/// An answer is for the call itself, or the call was set aside: it waits, goes on in a further
+/// table, or ends refused. So a copy changes no pair of the map, counts none and asks no closure.
+pub fn goes<K, P>()
+    ensures leaves { (g : Setting K P) (c : Coding K P) (begun since : List (Exchange P)) (k : K)
+        (m : Machine) (hands : Hands P) → Rests g c begun since k m hands → (answer : Answer)
+        (es : List (Exchange P)) (hands' : Hands P) → IsTold g c k (run (begun ++ since) start)
+        (kind_of_ask m) (follows_of m) hands (ask_of m) answer es hands' → Goes m answer }
+    ensures changes { (g : Setting K P) (c : Coding K P) → IsHashed g c
+        → (begun since : List (Exchange P)) (k : K) (m : Machine) (hands : Hands P)
+        → Rests g c begun since k m hands → (answer : Answer) (es : List (Exchange P))
+        (hands' : Hands P) → IsTold g c k (run (begun ++ since) start) (kind_of_ask m)
+        (follows_of m) hands (ask_of m) answer es hands' → change_in (after m answer).call.state
+        ≡ change_by (kind_of_ask m) (ask_of m) answer (change_in m.call.state) }
+    ensures counts { (g : Setting K P) (c : Coding K P) (begun since : List (Exchange P)) (k : K)
+        (m : Machine) (hands : Hands P) → Rests g c begun since k m hands → (answer : Answer)
+        (es : List (Exchange P)) (hands' : Hands P) → IsTold g c k (run (begun ++ since) start)
+        (kind_of_ask m) (follows_of m) hands (ask_of m) answer es hands'
+        → owed_in (ask_of (after m answer)) ≡ grown_by (kind_of_ask m) (ask_of m) answer }
+    ensures task { (g : Setting K P) (c : Coding K P) (begun since : List (Exchange P)) (k : K)
+        (m : Machine) (hands : Hands P) → Rests g c begun since k m hands → (answer : Answer)
+        (es : List (Exchange P)) (hands' : Hands P) → IsTold g c k (run (begun ++ since) start)
+        (kind_of_ask m) (follows_of m) hands (ask_of m) answer es hands'
+        → ((after m answer).call.task ≡ m.call.task) × ((after m answer).call.hash ≡ m.call.hash) }
+    ensures says { (g : Setting K P) (c : Coding K P) (begun since : List (Exchange P)) (k : K)
+        (m : Machine) (hands : Hands P) → Rests g c begun since k m hands → (answer : Answer)
+        (es : List (Exchange P)) (hands' : Hands P) → IsTold g c k (run (begun ++ since) start)
+        (kind_of_ask m) (follows_of m) hands (ask_of m) answer es hands' → IsStanding m.call
+        → ShowsPairs m.call.state → (said : Said) → StandsOn (after m answer).call said
+        → StandsOn m.call said ⊎ ((own : IsOwnStep m answer) × IsSaidBy m.call own.told said) }
 {}
