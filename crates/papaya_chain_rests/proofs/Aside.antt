@@ -1,5 +1,5 @@
 -- Where a call stands that is set aside.
-use Rattle.std.proofs.Common.{◌≡◌, ◌⊎◌, inl, inr, ⊎_elim, ℕ, ◌<◌, true, false, Option, Some, List, ◌++◌, refl, sym, ap, ◌∙◌, subst, arith}
+use Rattle.std.proofs.Common.{◌≡◌, inl, inr, ⊎_elim, ℕ, ◌<◌, false, Some, List, ◌++◌, refl, sym, ap, ◌∙◌, subst, arith}
 use Rattle.papaya_ask.specs.declared.call.Task.{Task}
 use Rattle.papaya_ask.specs.declared.call.Task.TheVariants.{Get, Insert, RemoveIf, Compute}
 use Rattle.papaya_ask.specs.declared.search.Search.TheVariants.{Sizing}
@@ -7,12 +7,11 @@ use Rattle.papaya_call.specs.declared.machine.Machine.{Machine as Call_machine}
 use Rattle.papaya_call.specs.declared.machine.State.{State as Stage}
 use Rattle.papaya_call.specs.declared.machine.State.TheVariants.{Searching, Leaving, Growing}
 use Rattle.papaya_call.specs.declared.need.Need.TheVariants.{Room, Pair as Pair_at}
-use Rattle.papaya_copy.specs.declared.settle.Slot.{Slot}
 use Rattle.papaya_law.specs.Allows.{AllAllowed}
 use Rattle.papaya_law.specs.Code.{Coding, IsHashed}
-use Rattle.papaya_law.specs.Copying.{IsSettled, IsTarget}
-use Rattle.papaya_law.specs.Exchange.{Marked, Copied, Setting, State, Exchange, run, start}
-use Rattle.papaya_law.specs.View.{Leaving as View_leaving, Gone, look, IsPassed}
+use Rattle.papaya_law.specs.Copying.{IsSettled}
+use Rattle.papaya_law.specs.Exchange.{Setting, State, Exchange, run, start}
+use Rattle.papaya_law.specs.View.{look, IsPassed}
 use Rattle.papaya_rests.specs.Copier.{IsMoving}
 use Rattle.papaya_rests.specs.Rests.{HasComeTo, IsMovingFrom, RestsLeaving, RestsStage, Rests}
 use Rattle.papaya_rests.specs.Told.{Hands}

@@ -1,5 +1,5 @@
 -- After an answer that is true of the words a call over a chain rests again.
-use Rattle.std.proofs.Common.{◌≡◌, ℕ, ◌<◌, ◌==◌, eqb-true, Bool, true, false, cond, MatchBool, Option, Some, List, [], ◌∷◌, ◌++◌, append-nil, refl, sym, ap, ◌∙◌, subst, arith}
+use Rattle.std.proofs.Common.{◌≡◌, ℕ, ◌<◌, ◌==◌, Bool, false, cond, Option, Some, List, [], ◌∷◌, ◌++◌, append-nil, refl, sym, ap, ◌∙◌, subst}
 use Rattle.std.proofs.lemmas.Bool.{cond_both}
 use Rattle.papaya_words.specs.Mode.{IsChunked}
 use Rattle.papaya_words.specs.declared.probe.ResizeMode.{ResizeMode}
@@ -41,7 +41,7 @@ use Rattle.papaya_rests.proofs.RestsNames.{come_on}
 use Rattle.papaya_rests.proofs.RestsStay.{rests_stays}
 use Rattle.papaya_chain.proofs.Settings.{settings_stay}
 use Rattle.papaya_chain_rests.specs.Rests.{IsHelping, IsLinking, Rests, RestsPhase, left_by}
-use Rattle.papaya_chain_rests.specs.Told.{Hands, IsCallTold, IsCopyTold, IsTold, told_of}
+use Rattle.papaya_chain_rests.specs.Told.{Hands, IsCopyTold, IsTold, told_of}
 use Rattle.papaya_chain_rests.proofs.Aside.{left_come}
 use Rattle.papaya_chain_rests.proofs.CopyTold.{copying_learns}
 use Rattle.papaya_chain_rests.proofs.Making.{link_learns}

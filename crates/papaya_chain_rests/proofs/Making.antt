@@ -1,5 +1,5 @@
 -- What the making of the next table learns from an answer.
-use Rattle.std.proofs.Common.{◌≡◌, ◌⊎◌, ⊎_elim, ℕ, ◌+◌, ◌<◌, ◌==◌, eqb-true, false, MatchBool, Option, Some, List, [], ◌∷◌, ◌++◌, append-nil, refl, sym, ap, ◌∙◌, subst}
+use Rattle.std.proofs.Common.{◌≡◌, ⊎_elim, ℕ, ◌<◌, ◌==◌, eqb-true, Some, List, [], ◌∷◌, ◌++◌, append-nil, refl, sym, subst}
 use Rattle.std.proofs.lemmas.Bool.{eqb-false}
 use Rattle.papaya_words.specs.declared.probe.Refused.{Refused}
 use Rattle.papaya_ask.specs.declared.ask.Answer.TheVariants.{Exchanged, Found as Found_instead, Size, Made as Made_number, Refused as Was_refused}
@@ -7,13 +7,13 @@ use Rattle.papaya_ask.specs.declared.ask.At.TheVariants.{Next}
 use Rattle.papaya_ask.specs.declared.ask.StepKind.TheVariants as kinds
 use Rattle.papaya_copy.specs.declared.link.Link.{Link}
 use Rattle.papaya_copy.specs.declared.link.Link.TheVariants as links
-use Rattle.papaya_copy.specs.Link.{at_size, follows, link_ask, link_kind}
+use Rattle.papaya_copy.specs.Link.{follows, link_ask, link_kind}
 use Rattle.papaya_chain.specs.declared.ask.Answer.{Answer}
 use Rattle.papaya_chain.specs.declared.ask.Answer.TheVariants as answers
 use Rattle.papaya_chain.specs.Machine.{link_after}
 use Rattle.papaya_law.specs.Allows.{AllAllowed}
 use Rattle.papaya_law.specs.Code.{Coding, IsHashed}
-use Rattle.papaya_law.specs.Exchange.{Setting, State, Exchange, Link as Link_to, after, run, start}
+use Rattle.papaya_law.specs.Exchange.{Setting, State, Exchange, Link as Link_to, run, start}
 use Rattle.papaya_law.specs.Meaning.{map_left}
 use Rattle.papaya_law.specs.Invariant.{IsKeeping}
 use Rattle.papaya_law.proofs.OneMap.{keeping}

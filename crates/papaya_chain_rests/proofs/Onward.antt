@@ -1,5 +1,5 @@
 -- A call that is told of the next table copies first, or looks for its key there.
-use Rattle.std.proofs.Common.{◌≡◌, ℕ, ◌<◌, Bool, true, false, Option, Some, List, ◌++◌, refl, sym, subst}
+use Rattle.std.proofs.Common.{◌≡◌, ℕ, ◌<◌, Bool, true, false, Some, List, ◌++◌, refl, sym, subst}
 use Rattle.papaya_words.specs.Mode.{IsChunked}
 use Rattle.papaya_call.specs.declared.machine.State.{State as Stage}
 use Rattle.papaya_call.specs.declared.machine.State.TheVariants.{Leaving, Growing}

@@ -1,5 +1,5 @@
 -- A call that asks for itself is answered as calls are, and one that doesn't was set aside.
-use Rattle.std.proofs.Common.{◌≡◌, ℕ, List, Some}
+use Rattle.std.proofs.Common.{ℕ, List}
 use Rattle.papaya_copy.specs.Link.{follows}
 use Rattle.papaya_chain.specs.declared.ask.Answer.{Answer}
 use Rattle.papaya_chain.specs.declared.machine.Machine.{Machine}

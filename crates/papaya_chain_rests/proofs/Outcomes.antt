@@ -1,13 +1,12 @@
 -- Where the making of a table, or the copy of the root, led: the call rests again.
-use Rattle.std.proofs.Common.{◌≡◌, ℕ, ◌<◌, false, Option, Some, List, ◌++◌, refl, sym, ap, ◌∙◌, subst}
+use Rattle.std.proofs.Common.{◌≡◌, ℕ, ◌<◌, false, Some, List, ◌++◌, sym, ap, ◌∙◌, subst}
 use Rattle.papaya_words.specs.Mode.{IsChunked}
 use Rattle.papaya_words.specs.declared.probe.Refused.{Refused}
 use Rattle.papaya_ask.specs.declared.call.Reply.TheVariants.{Refused as Reply_refused}
 use Rattle.papaya_ask.specs.declared.call.Task.{Task}
 use Rattle.papaya_ask.specs.declared.call.Task.TheVariants.{Get, Insert, RemoveIf, Compute}
-use Rattle.papaya_call.specs.declared.machine.Machine.{Machine as Call_machine}
 use Rattle.papaya_call.specs.declared.machine.State.{State as Stage}
-use Rattle.papaya_call.specs.declared.machine.State.TheVariants.{Leaving, Growing, Ended}
+use Rattle.papaya_call.specs.declared.machine.State.TheVariants.{Growing, Ended}
 use Rattle.papaya_call.specs.declared.need.Need.TheVariants.{Room, Pair as Pair_at}
 use Rattle.papaya_call.specs.Machine.{IsChanger}
 use Rattle.papaya_copy.specs.declared.copying.Aim.{Aim}

@@ -1,10 +1,8 @@
 -- What an answer changes, counts, and stands on: what it does to the call, and nothing else.
-use Rattle.std.proofs.Common.{◌≡◌, ◌⊎◌, inl, inr, ⊎_elim, ℕ, ℤ, pos, Option, None, Some, List, refl, sym, ap, ◌∙◌, subst}
+use Rattle.std.proofs.Common.{◌≡◌, ◌⊎◌, inl, inr, ⊎_elim, ℕ, pos, None, Some, List, refl, sym, ap, ◌∙◌, subst}
 use Rattle.papaya_words.specs.declared.probe.Refused.{Refused}
-use Rattle.papaya_ask.specs.declared.ask.Answer.{Answer as Call_answer}
 use Rattle.papaya_ask.specs.declared.ask.At.TheVariants.{Next}
 use Rattle.papaya_ask.specs.declared.ask.Ask.TheVariants.{Load}
-use Rattle.papaya_ask.specs.declared.ask.StepKind.{StepKind}
 use Rattle.papaya_ask.specs.declared.call.Reply.TheVariants.{Refused as Reply_refused}
 use Rattle.papaya_ask.specs.declared.call.Task.{Task}
 use Rattle.papaya_ask.specs.declared.call.Task.TheVariants.{Get, Insert, RemoveIf, Compute}
@@ -26,14 +24,14 @@ use Rattle.papaya_chain.specs.Machine.{after, ask_of, asks_in, follows_of, kind_
 use Rattle.papaya_law.specs.Code.{Coding, IsHashed}
 use Rattle.papaya_law.specs.Exchange.{Setting, State, Exchange}
 use Rattle.papaya_rests.specs.Owed.{grows_by, owed_by}
-use Rattle.papaya_rests.specs.Rests.{Change, change_after, change_in}
+use Rattle.papaya_rests.specs.Rests.{change_after, change_in}
 use Rattle.papaya_rests.specs.Says.{IsSaidBy, Said, ShowsPairs, StandsOn, said_in, said_to_choose, said_to_fill}
 use Rattle.papaya_rests.specs.Told as call_told
 use Rattle.papaya_rests.proofs.RestsCount.{machine_owes}
 use Rattle.papaya_rests.proofs.RestsReply.{machine_changes}
 use Rattle.papaya_rests.proofs.SaysSaid.{machine_said}
 use Rattle.papaya_rests.proofs.Tasks.{same_task}
-use Rattle.papaya_chain_rests.specs.Goes.{HasEntered, IsInOrder, IsOwnStep, IsWaiting, WasRefused, change_by, grown_by, owed_in}
+use Rattle.papaya_chain_rests.specs.Goes.{IsInOrder, IsOwnStep, change_by, grown_by, owed_in}
 use Rattle.papaya_chain_rests.specs.Rests.{left_by}
 use Rattle.papaya_chain_rests.specs.Told.{Hands, IsTold}
 use Rattle.papaya_chain_rests.proofs.Goes.{machine_goes}

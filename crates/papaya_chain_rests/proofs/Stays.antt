@@ -1,6 +1,5 @@
 -- What a call rests on stays so, whatever others exchange and whichever tables are made.
-use Rattle.std.proofs.Common.{◌≡◌, ℕ, ◌<◌, Option, Some, List, ◌++◌, append_assoc, refl, sym, ap, ◌∙◌, subst}
-use Rattle.papaya_call.specs.declared.machine.State.{State as Stage}
+use Rattle.std.proofs.Common.{◌≡◌, ℕ, ◌<◌, List, ◌++◌, append_assoc, sym, ap, ◌∙◌, subst}
 use Rattle.papaya_chain.specs.declared.machine.Machine.{Machine}
 use Rattle.papaya_chain.specs.declared.machine.Phase.{Phase}
 use Rattle.papaya_chain.specs.declared.machine.Phase.TheVariants.{Calling, Linking, Copying}
@@ -18,13 +17,12 @@ use Rattle.papaya_law.proofs.Grows.{on_run}
 use Rattle.papaya_law.proofs.Later.{later_run}
 use Rattle.papaya_law.proofs.Moments.{allowed_first, allowed_rest, run-append}
 use Rattle.papaya_law.proofs.OneMap.{keeping, keeping_sound}
-use Rattle.papaya_rests.specs.Copier.{RestsCopying, RestsLink, aim_of}
-use Rattle.papaya_rests.specs.Rests as calls
+use Rattle.papaya_rests.specs.Copier.{aim_of}
 use Rattle.papaya_rests.proofs.CopierStays.{copying_stays, link_stays}
 use Rattle.papaya_rests.proofs.CopierTables.{copying_carries}
 use Rattle.papaya_rests.proofs.RestsStay.{rests_stays}
 use Rattle.papaya_rests.proofs.RestsTables.{rests_carries}
-use Rattle.papaya_chain_rests.specs.Rests.{IsHelping, IsLinking, Rests, RestsPhase, now}
+use Rattle.papaya_chain_rests.specs.Rests.{Rests, RestsPhase, now}
 use Rattle.papaya_chain_rests.specs.Told.{Hands}
 
 module _ {K P : Type 0} (g : Setting K P) (c : Coding K P) (hashed : IsHashed g c) (begun since es : List (Exchange P)) (may : AllAllowed g start (begun ++ (since ++ es))) (k : K) where
