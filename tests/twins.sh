@@ -1,7 +1,7 @@
 #!/usr/bin/env bash
 # Tries the wrong machines of tests/twins: each changes a machine and the definition that its
 # contract equals alike. So the machine's crate is still proved, and it is the laws of papaya_rests
-# that have to refuse it, first the law that the file names.
+# or papaya_chain_rests that have to refuse it, first the law that the file names.
 set -euo pipefail
 cd "$(dirname "$0")/.."
 
@@ -11,13 +11,13 @@ export room
 
 # What the laws stand on, without the edits that rt tries.
 mkdir -p "$room/sound/crates"
-grep -E '^papaya_(words|law|ask|copy|call|rests):' crates.txt >"$room/sound/crates.txt"
+grep -E '^papaya_(words|law|ask|copy|call|rests|chain|chain_rests):' crates.txt >"$room/sound/crates.txt"
 cp HANDLES "$room/sound/"
-for name in words law ask copy call rests; do
+for name in words law ask copy call rests chain chain_rests; do
     cp -r "crates/papaya_$name" "$room/sound/crates/"
     rm -rf "$room/sound/crates/papaya_$name/must-fail"
 done
-(cd "$room/sound/crates/papaya_rests" && rt check >"$room/sound.log" 2>&1) || {
+(cd "$room/sound/crates/papaya_chain_rests" && rt check >"$room/sound.log" 2>&1) || {
     cat "$room/sound.log"
     exit 1
 }
@@ -43,22 +43,23 @@ PYTHON
 
 # Tries one twin in a copy.
 try_twin() {
-    local edit="$1" name law copy log
+    local edit="$1" name law laws copy log
     name="$(basename "$edit" .edit)"
     law="$(sed -n 's/^law: //p' "$edit")"
+    laws="${law%%::*}"
     copy="$room/$name"
     log="$copy.log"
     cp -r "$room/sound" "$copy"
-    if ! (cd "$copy/crates" && apply "$OLDPWD/$edit" && cd papaya_call && rt check) >"$log" 2>&1; then
+    if ! (cd "$copy/crates" && apply "$OLDPWD/$edit" && cd papaya_chain && rt check) >"$log" 2>&1; then
         echo "twin $name: BAD TWIN: the machine is not proved with it"
         tail -n 20 "$log"
         return 1
     fi
-    if (cd "$copy/crates/papaya_rests" && rt check) >"$log" 2>&1; then
+    if (cd "$copy/crates/$laws" && rt check) >"$log" 2>&1; then
         echo "twin $name: NOT REFUSED by the laws"
         return 1
     fi
-    if ! grep -Eq "^fn papaya_rests::(rests|copies)::$law: not proved" "$log"; then
+    if ! grep -Fq "fn $law: not proved" "$log"; then
         echo "twin $name: the law $law did not refuse it"
         tail -n 20 "$log"
         return 1

@@ -30,7 +30,7 @@ use Rattle.papaya_copy.specs.Link as making
 use Rattle.papaya_copy.specs.Link.{IsFitCopyAsk, IsStandingLink, follows, link_ask, link_kind}
 use Rattle.papaya_call.specs.declared.machine.Machine.{Machine as Call_machine}
 use Rattle.papaya_call.specs.declared.machine.State.{State}
-use Rattle.papaya_call.specs.declared.machine.State.TheVariants.{Searching, Leaving, Growing, Ended}
+use Rattle.papaya_call.specs.declared.machine.State.TheVariants.{AtRoot as At_root, Searching, Leaving, Growing, Ended}
 use Rattle.papaya_call.specs.declared.need.Need.{Need}
 use Rattle.papaya_call.specs.declared.need.Need.TheVariants.{Pair as Pair_at}
 use Rattle.papaya_call.specs.Machine as calls
@@ -89,6 +89,13 @@ enters m table = record m {
   phase = Calling;
 }
 
+-- the call is told of the root, as one that begins
+abbrev pub begins_anew : Machine → (root : ℕ) → Machine
+begins_anew m root = record m {
+  call = calls.after (record m.call { state = At_root }) (Word_read root);
+  phase = Calling;
+}
+
 -- a table could not be made, and the call ends with that
 abbrev pub refuses : Machine → Refused → Machine
 refuses m refused = record m {
@@ -114,10 +121,12 @@ goes_on m true _ next = enters m next
 abbrev pub onward : Machine → (next : ℕ) → Machine
 onward m next = goes_on m m.helped (aim_for m.call.state next) next
 
--- the next table is needed, and has this number, or there is none; with blocking a call doesn't
--- make it yet
+-- the next table is needed, and has this number, or there is none; with blocking all of this table
+-- is copied first, to whichever table takes it
 abbrev pub grows_as : Machine → ResizeMode → Need → (next : ℕ) → Machine
-grows_as m Blocking need next = stepped m (Word_read next)
+grows_as m Blocking need next = record m {
+  phase = Copying_root (Stepping (aims.All (needed need)) AtRoot);
+}
 grows_as m (Incremental chunk) need next = if next == 0
     then record m { phase = Linking (links.Sizing (needed need) false) }
     else onward m next
@@ -183,7 +192,7 @@ after_linked m (linked_to.Refused refused) = refuses m refused
 abbrev pub after_copied : Machine → Copied → Machine
 after_copied m (copied_to.On copying) = record m { phase = Copying_root copying }
 after_copied m (copied_to.Search table) = enters m table
-after_copied m (copied_to.Root table) = record m { phase = Calling }
+after_copied m (copied_to.Root root) = begins_anew m root
 after_copied m copied_to.Chunk = record m { phase = Calling }
 after_copied m (copied_to.Refused refused) = refuses m refused
 

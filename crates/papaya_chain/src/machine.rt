@@ -5,7 +5,7 @@ ghost use Rattle.papaya_words.specs.Mode.{IsChunked};
 ghost use Rattle.papaya_call.specs.Machine.{IsFit as IsCallFit};
 ghost use Rattle.papaya_copy.specs.Copying.{IsStandingCopied, IsStandingCopying};
 ghost use Rattle.papaya_copy.specs.Link.{IsStandingLink, IsStandingLinked};
-ghost use Rattle.papaya_chain.specs.Machine.{IsFit, IsFitAsk, IsStanding, after, after_copied, after_linked, ask_of, called, copying_after, enters, follows_of, grows, kind_of_ask, link_after, onward, refuses, started, stepped};
+ghost use Rattle.papaya_chain.specs.Machine.{IsFit, IsFitAsk, IsStanding, after, after_copied, after_linked, ask_of, begins_anew, called, copying_after, enters, follows_of, grows, kind_of_ask, link_after, onward, refuses, started, stepped};
 
 use crate::ask::{Answer, Ask};
 use papaya_ask::ask::{Answer as CallAnswer, StepKind};
@@ -202,7 +202,8 @@ impl Machine {
         }
     }
 
-    /// The call needs the next table, which has this number, or there is none.
+    /// The call needs the next table, which has this number, or there is none. With `Blocking` all
+    /// of this table is copied first, to whichever table takes it.
     #[inline]
     fn grows(&mut self, need: Need, next: u64)
         requires standing { IsStanding self.old }
@@ -210,7 +211,10 @@ impl Machine {
         ensures standing { IsStanding self.new }
     {
         match self.call.mode {
-            ResizeMode::Blocking => self.step(CallAnswer::Word(next)),
+            ResizeMode::Blocking => {
+                let aim = Aim::All(need.table());
+                self.phase = Phase::Copying(Copying::Stepping(aim, Step::AtRoot));
+            }
             ResizeMode::Incremental(_) if next == 0 => {
                 self.phase = Phase::Linking(Link::Sizing {
                     after: need.table(),
@@ -259,6 +263,18 @@ impl Machine {
         self.phase = Phase::Calling;
     }
 
+    /// The call is told of the root, as one that begins.
+    #[inline]
+    fn begin_anew(&mut self, root: u64)
+        requires standing { IsStanding self.old }
+        ensures after { self.new ≡ begins_anew self.old root }
+        ensures standing { IsStanding self.new }
+    {
+        self.call.state = State::AtRoot;
+        self.phase = Phase::Calling;
+        self.step(CallAnswer::Word(root));
+    }
+
     /// A table could not be made, and the call ends with that.
     #[inline]
     fn refuse(&mut self, refused: Refused)
@@ -285,8 +301,8 @@ impl Machine {
         }
     }
 
-    /// The copy of the root leads here. The call copies for a table to look in, so it is told of no
-    /// other end than that one.
+    /// The copy of the root leads here: to a further table, or with `Blocking` to the root as it is
+    /// now, at which the call begins anew. No call copies a chunk for its own sake.
     #[inline]
     fn copied(&mut self, copied: Copied)
         requires standing { IsStanding self.old }
@@ -297,7 +313,8 @@ impl Machine {
         match copied {
             Copied::On(copying) => self.phase = Phase::Copying(copying),
             Copied::Search(table) => self.enter(table),
-            Copied::Root(_) | Copied::Chunk => self.phase = Phase::Calling,
+            Copied::Root(root) => self.begin_anew(root),
+            Copied::Chunk => self.phase = Phase::Calling,
             Copied::Refused(refused) => self.refuse(refused),
         }
     }

@@ -25,7 +25,7 @@ use Rattle.papaya_chain.specs.declared.ask.Answer.TheVariants as answers
 use Rattle.papaya_chain.specs.declared.machine.Machine.{Machine}
 use Rattle.papaya_chain.specs.declared.machine.Phase.{Phase}
 use Rattle.papaya_chain.specs.declared.machine.Phase.TheVariants.{Calling, Linking, Copying as Copying_root}
-use Rattle.papaya_chain.specs.Machine.{after, after_copied, after_in, after_linked, aim_for, answered, called, copying_after, enters, goes_on, grows_as, leaves, link_after, onward, refuses, stepped, told_next}
+use Rattle.papaya_chain.specs.Machine.{after, after_copied, after_in, after_linked, aim_for, answered, begins_anew, called, copying_after, enters, goes_on, grows_as, leaves, link_after, onward, refuses, stepped, told_next}
 use Rattle.papaya_chain_rests.specs.Goes.{Goes, IsInOrder}
 use Rattle.papaya_chain_rests.specs.Rests.{left_by}
 
@@ -34,6 +34,7 @@ abbrev Leaves : Machine → Answer → Machine → Type 0
 Leaves m answer m' = ((t : ℕ) × (left_by m.call.state ≡ Some t) × (m'.call ≡ m.call))
     ⊎ ((told : Call_answer) × (m.phase ≡ Calling) × (answer ≡ answers.Call told) × (m'.call ≡ call_machine.after m.call told) × (m'.phase ≡ Calling))
     ⊎ ((t : ℕ) × (left_by m.call.state ≡ Some t) × ((table : ℕ) × (m'.call ≡ (enters m table).call)))
+    ⊎ ((t : ℕ) × (left_by m.call.state ≡ Some t) × ((root : ℕ) × (m'.call ≡ (begins_anew m root).call)))
     ⊎ ((t : ℕ) × (left_by m.call.state ≡ Some t) × ((refused : Refused) × (m'.call ≡ (refuses m refused).call)))
 
 module _ (m : Machine) (answer : Answer) where
@@ -52,14 +53,14 @@ module _ (m : Machine) (answer : Answer) where
     linked_leaves : (end : Linked) → Leaves m answer (after_linked m end)
     linked_leaves (linked.On link) = inl (t, left, refl)
     linked_leaves (linked.Table n) = onward_leaves n
-    linked_leaves (linked.Refused refused) = inr (inr (inr (t, left, (refused, refl))))
+    linked_leaves (linked.Refused refused) = inr (inr (inr (inr (t, left, (refused, refl)))))
 
     copied_leaves : (end : Copied) → Leaves m answer (after_copied m end)
     copied_leaves (copied.On copying) = inl (t, left, refl)
     copied_leaves (copied.Search n) = inr (inr (inl (t, left, (n, refl))))
-    copied_leaves (copied.Root root) = inl (t, left, refl)
+    copied_leaves (copied.Root root) = inr (inr (inr (inl (t, left, (root, refl)))))
     copied_leaves copied.Chunk = inl (t, left, refl)
-    copied_leaves (copied.Refused refused) = inr (inr (inr (t, left, (refused, refl))))
+    copied_leaves (copied.Refused refused) = inr (inr (inr (inr (t, left, (refused, refl)))))
 
   module _ (phase : m.phase ≡ Calling) (told : Call_answer) (is : answer ≡ answers.Call told) where
     -- the call goes on for itself
@@ -78,7 +79,7 @@ module _ (m : Machine) (answer : Answer) where
     leaves_leaves Compute t left = either_leaves t left
 
     grows_leaves : (mode : ResizeMode) (need : Need) → left_by m.call.state ≡ Some (needed need) → Leaves m answer (grows_as m mode need word)
-    grows_leaves Blocking need left = steps_leaves phase (Word_read word) is
+    grows_leaves Blocking need left = inl (needed need, left, refl)
     grows_leaves (Incremental chunk) need left =
         cond_both (word == 0) (record m { phase = Linking (links.Sizing (needed need) false) }) (onward m word) (Leaves m answer) (λ _. inl (needed need, left, refl)) (λ _. onward_leaves (needed need) left word)
 
@@ -116,4 +117,5 @@ module _ (m : Machine) (answer : Answer) where
       named (inl (t, left, call)) = inl (record { from = t; left = left; call = call })
       named (inr (inl (told, phase, is, call, on))) = inr (inl (record { told = told; phase = phase; is = is; call = call; goes_on = on }))
       named (inr (inr (inl (t, left, (table, call))))) = inr (inr (inl (record { from = t; left = left; table = table; call = call })))
-      named (inr (inr (inr (t, left, (refused, call))))) = inr (inr (inr (record { from = t; left = left; refused = refused; call = call })))
+      named (inr (inr (inr (inl (t, left, (root, call)))))) = inr (inr (inr (inl (record { from = t; left = left; root = root; call = call }))))
+      named (inr (inr (inr (inr (t, left, (refused, call)))))) = inr (inr (inr (inr (record { from = t; left = left; refused = refused; call = call }))))

@@ -1,5 +1,5 @@
 -- After an answer that is true of the words a call over a chain rests again.
-use Rattle.std.proofs.Common.{◌≡◌, ℕ, ◌<◌, ◌==◌, Bool, false, cond, Option, Some, List, [], ◌∷◌, ◌++◌, append-nil, refl, sym, ap, ◌∙◌, subst}
+use Rattle.std.proofs.Common.{◌≡◌, inl, inr, ℕ, ◌<◌, ◌==◌, Bool, false, cond, Option, Some, List, [], ◌∷◌, ◌++◌, append-nil, refl, sym, ap, ◌∙◌, subst}
 use Rattle.std.proofs.lemmas.Bool.{cond_both}
 use Rattle.papaya_words.specs.Mode.{IsChunked}
 use Rattle.papaya_words.specs.declared.probe.ResizeMode.{ResizeMode}
@@ -17,7 +17,10 @@ use Rattle.papaya_call.specs.Machine.{IsChanger, needed}
 use Rattle.papaya_call.specs.Machine as call_machine
 use Rattle.papaya_ask.specs.declared.copy_ask.CopyAsk.{CopyAsk}
 use Rattle.papaya_ask.specs.declared.copy_ask.CopyAsk.TheVariants.{Load, Exchange as Ask_exchange, SizeOf, HashOf, SamePair, Count, MakeTable}
+use Rattle.papaya_copy.specs.declared.copying.Aim.TheVariants as aims
 use Rattle.papaya_copy.specs.declared.copying.Copying.{Copying}
+use Rattle.papaya_copy.specs.declared.copying.Copying.TheVariants.{Stepping}
+use Rattle.papaya_copy.specs.declared.step.Step.TheVariants.{AtRoot}
 use Rattle.papaya_copy.specs.declared.link.Link.{Link}
 use Rattle.papaya_copy.specs.declared.link.Link.TheVariants as links
 use Rattle.papaya_copy.specs.Copying.{copying_ask, copying_follows, copying_kind}
@@ -40,13 +43,13 @@ use Rattle.papaya_rests.proofs.RestsLearnHands.{hands_told}
 use Rattle.papaya_rests.proofs.RestsNames.{come_on}
 use Rattle.papaya_rests.proofs.RestsStay.{rests_stays}
 use Rattle.papaya_chain.proofs.Settings.{settings_stay}
-use Rattle.papaya_chain_rests.specs.Rests.{IsHelping, IsLinking, Rests, RestsPhase, left_by}
+use Rattle.papaya_chain_rests.specs.Rests.{IsCopyingAll, IsHelping, IsLinking, Rests, RestsPhase, left_by}
 use Rattle.papaya_chain_rests.specs.Told.{Hands, IsCopyTold, IsTold, told_of}
 use Rattle.papaya_chain_rests.proofs.Aside.{left_come}
 use Rattle.papaya_chain_rests.proofs.CopyTold.{copying_learns}
 use Rattle.papaya_chain_rests.proofs.Making.{link_learns}
 use Rattle.papaya_chain_rests.proofs.Onward.{onward_rests}
-use Rattle.papaya_chain_rests.proofs.Outcomes.{copied_rests, linked_rests}
+use Rattle.papaya_chain_rests.proofs.Outcomes.{all_rests, copied_rests, linked_rests}
 use Rattle.papaya_chain_rests.proofs.Stays.{next_stays}
 
 -- a call that is set aside rests on no pair that it was told of
@@ -147,7 +150,13 @@ module _ {K P : Type 0} (g : Setting K P) (c : Coding K P) (hashed : IsHashed g 
 
       -- a call that needs the next table
       grows_rests : (mode : ResizeMode) → calls.IsModeOf mode g.blocking → IsChanger call.task → (need : Need) → left_by stage ≡ Some (needed need) → word ≡ now.next (needed need) → Learned (grows_as (in_stage stage) mode need word) es hands'
-      grows_rests Blocking inc changes need left is = inner
+      grows_rests Blocking blocks changes need left is =
+          quiet (record (in_stage stage) { phase = Copying_root (Stepping (aims.All (needed need)) AtRoot) }) es hands' none as_before
+          (record {
+            chunked = chunked;
+            call = r;
+            phase = inr (record { mode = blocks; changes = changes; table = needed need; left = left; met = needed need; aim = refl; rests = (tt, tt) });
+          })
       grows_rests (Incremental chunk) inc changes need left is =
           cond_both (word == 0) (record (in_stage stage) { phase = Linking (links.Sizing (needed need) false) }) (onward (in_stage stage) word) (λ m. Learned m es hands')
           (λ _. quiet (record (in_stage stage) { phase = Linking (links.Sizing (needed need) false) }) es hands' none as_before
@@ -201,9 +210,9 @@ module _ {K P : Type 0} (g : Setting K P) (c : Coding K P) (hashed : IsHashed g 
             linked_rests g c hashed begun (since ++ es) out.0 k at.mode (at_phase call (Linking link)) hands' chunked (aside_later out.0 (follows link) at.left told.0 told.1) at.changes (follows link) at.left (link_after link call.initial answer) out.1,
           )
 
-      copying_rests : (copying : Copying) → IsHelping g c begun since k (at_phase call (Copying_root copying)) hands copying → (answer : Answer)
+      helping_rests : (copying : Copying) → IsHelping g c begun since k (at_phase call (Copying_root copying)) hands copying → (answer : Answer)
           → IsCopyTold g c now (copying_kind copying) (copying_follows copying) hands (copying_ask copying) answer es hands' → Learned (after (at_phase call (Copying_root copying)) answer) es hands'
-      copying_rests copying at answer h =
+      helping_rests copying at answer h =
           let out = copying_learns g c hashed begun since may k call.mode r.mode chunked call.initial hands copying at.rests answer es hands' h in
           let told = copy_hands g c now (copying_kind copying) (copying_follows copying) hands (copying_ask copying) answer es hands' h in
           let same : (run (begun ++ (since ++ es)) start).next at.table ≡ now.next at.table = next_stays g c hashed begun since es out.0 k at.table at.next in (
@@ -211,6 +220,17 @@ module _ {K P : Type 0} (g : Setting K P) (c : Coding K P) (hashed : IsHashed g 
             copied_rests g c hashed begun (since ++ es) out.0 k at.mode (at_phase call (Copying_root copying)) hands' chunked (aside_later out.0 at.table at.left told.0 told.1) at.changes at.table at.left (subst (λ n. 0 < n) (sym same) at.next)
                 (copying_after copying call.mode call.initial answer)
                 (subst (λ aim. RestsCopied g c (run (begun ++ (since ++ es)) start) hands'.call.last hands'.kept aim (copying_after copying call.mode call.initial answer)) (at.aim ∙ ap (aim_for call.state) (sym same)) out.1),
+          )
+
+      copying_all_rests : (copying : Copying) → IsCopyingAll g c begun since k (at_phase call (Copying_root copying)) hands copying → (answer : Answer)
+          → IsCopyTold g c now (copying_kind copying) (copying_follows copying) hands (copying_ask copying) answer es hands' → Learned (after (at_phase call (Copying_root copying)) answer) es hands'
+      copying_all_rests copying at answer h =
+          let out = copying_learns g c hashed begun since may k call.mode r.mode chunked call.initial hands copying at.rests answer es hands' h in
+          let told = copy_hands g c now (copying_kind copying) (copying_follows copying) hands (copying_ask copying) answer es hands' h in (
+            out.0,
+            all_rests g c hashed begun (since ++ es) out.0 k (at_phase call (Copying_root copying)) hands' chunked (aside_later out.0 at.table at.left told.0 told.1) at.changes at.mode at.table at.left at.met
+                (copying_after copying call.mode call.initial answer)
+                (subst (λ aim. RestsCopied g c (run (begun ++ (since ++ es)) start) hands'.call.last hands'.kept aim (copying_after copying call.mode call.initial answer)) at.aim out.1),
           )
 
   -- in each phase
@@ -222,7 +242,8 @@ module _ {K P : Type 0} (g : Setting K P) (c : Coding K P) (hashed : IsHashed g 
       (λ told is. steps_on call chunked call.state told es h.call hands' h.handed
       (machine_learns g c hashed begun since may k call hands.call r told es h.call (subst (λ a. call_told.IsTold g c k now (call_machine.kind_of_ask call) hands.call (call_machine.ask_of call) a es h.call) is h.tells))))
   learns_in call chunked r (Linking link) at answer es hands' h = link_rests call chunked r es hands' link at answer h
-  learns_in call chunked r (Copying_root copying) at answer es hands' h = copying_rests call chunked r es hands' copying at answer h
+  learns_in call chunked r (Copying_root copying) (inl at) answer es hands' h = helping_rests call chunked r es hands' copying at answer h
+  learns_in call chunked r (Copying_root copying) (inr at) answer es hands' h = copying_all_rests call chunked r es hands' copying at answer h
 
 module _ {K P : Type 0} (g : Setting K P) (c : Coding K P) (hashed : IsHashed g c) (begun since : List (Exchange P)) (may : AllAllowed g start (begun ++ since)) (k : K) where
   -- of the machine

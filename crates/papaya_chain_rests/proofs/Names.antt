@@ -1,11 +1,12 @@
 -- What a copy for a call names, and may exchange.
-use Rattle.std.proofs.Common.{◌≡◌, ℕ, Option, List, ◌++◌, refl, subst}
+use Rattle.std.proofs.Common.{◌≡◌, inl, inr, ℕ, Option, List, ◌++◌, refl, subst}
 use Rattle.papaya_ask.specs.declared.ask.Ask.{Ask as Call_ask}
 use Rattle.papaya_ask.specs.declared.ask.At.{At}
 use Rattle.papaya_ask.specs.declared.ask.StepKind.{StepKind}
 use Rattle.papaya_ask.specs.declared.copy_ask.CopyAsk.{CopyAsk}
 use Rattle.papaya_ask.specs.declared.copy_ask.CopyAsk.TheVariants.{Exchange as Ask_exchange}
 use Rattle.papaya_call.specs.Machine as call_machine
+use Rattle.papaya_copy.specs.declared.copying.Copying.{Copying}
 use Rattle.papaya_copy.specs.Copying.{copying_ask}
 use Rattle.papaya_copy.specs.Link.{link_ask}
 use Rattle.papaya_chain.specs.declared.ask.Ask.TheVariants as asks
@@ -19,7 +20,7 @@ use Rattle.papaya_law.specs.Exchange.{Setting, State, Exchange, after, run, star
 use Rattle.papaya_law.specs.Invariant.{IsKeeping}
 use Rattle.papaya_law.specs.Meaning.{map_left}
 use Rattle.papaya_law.proofs.OneMap.{keeping}
-use Rattle.papaya_rests.specs.Copier.{AreThere, IsCopyAsked}
+use Rattle.papaya_rests.specs.Copier.{AreThere, IsCopyAsked, RestsCopying}
 use Rattle.papaya_rests.specs.Told.{IsWritten, word_of}
 use Rattle.papaya_rests.proofs.CopierCopies.{copying_there, link_there}
 use Rattle.papaya_rests.proofs.CopierExchange.{copying_may, link_may}
@@ -43,11 +44,16 @@ module _ {K P : Type 0} (g : Setting K P) (c : Coding K P) (hashed : IsHashed g 
   keeps : IsKeeping g now (map_left g (begun ++ since))
   keeps = keeping g hashed.lawful (begun ++ since) may
 
+  -- a copy rests on its facts, in each mode
+  copy_rests : (copying : Copying) → RestsPhase g c begun since k m hands (Copying_root copying) → RestsCopying g c now hands.call.last hands.kept copying
+  copy_rests copying (inl at) = at.rests
+  copy_rests copying (inr at) = at.rests
+
   -- what is named is there
   there_in : (phase : Phase) → RestsPhase g c begun since k m hands phase → (ask : CopyAsk) → asks_in m.call phase ≡ asks.Copy ask → AreThere g c now hands.call.last hands.kept ask
   there_in Calling at ask e = absurd cc
   there_in (Linking link) at ask e = let is : link_ask link ≡ ask = cc e in subst (AreThere g c now hands.call.last hands.kept) is (link_there g c hashed now (map_left g (begun ++ since)) keeps hands.call.last hands.kept link at.rests)
-  there_in (Copying_root copying) at ask e = let is : copying_ask copying ≡ ask = cc e in subst (AreThere g c now hands.call.last hands.kept) is (copying_there g c hashed now (map_left g (begun ++ since)) keeps hands.call.last hands.kept copying at.rests)
+  there_in (Copying_root copying) at ask e = let is : copying_ask copying ≡ ask = cc e in subst (AreThere g c now hands.call.last hands.kept) is (copying_there g c hashed now (map_left g (begun ++ since)) keeps hands.call.last hands.kept copying (copy_rests copying at))
 
   pub copies_there : (ask : CopyAsk) → ask_of m ≡ asks.Copy ask → AreThere g c now hands.call.last hands.kept ask
   copies_there ask e = there_in m.phase r.phase ask e
@@ -59,7 +65,7 @@ module _ {K P : Type 0} (g : Setting K P) (c : Coding K P) (hashed : IsHashed g 
   may_in : (phase : Phase) → RestsPhase g c begun since k m hands phase → (at : At) (old new : ℕ) → asks_in m.call phase ≡ asks.Copy (Ask_exchange at old new) → May (kind_in m.call phase) at old new
   may_in Calling at place old new e = absurd cc
   may_in (Linking link) at place old new e = let is : link_ask link ≡ Ask_exchange place old new = cc e in link_may g c hashed now (map_left g (begun ++ since)) keeps hands.call.last hands.kept link at.rests place old new is
-  may_in (Copying_root copying) at place old new e = let is : copying_ask copying ≡ Ask_exchange place old new = cc e in copying_may g c hashed now (map_left g (begun ++ since)) keeps hands.call.last hands.kept copying at.rests place old new is
+  may_in (Copying_root copying) at place old new e = let is : copying_ask copying ≡ Ask_exchange place old new = cc e in copying_may g c hashed now (map_left g (begun ++ since)) keeps hands.call.last hands.kept copying (copy_rests copying at) place old new is
 
   pub copies_may : (at : At) (old new : ℕ) → ask_of m ≡ asks.Copy (Ask_exchange at old new) → May (kind_of_ask m) at old new
   copies_may at old new e = may_in m.phase r.phase at old new e

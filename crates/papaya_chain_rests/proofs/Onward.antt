@@ -1,5 +1,5 @@
 -- A call that is told of the next table copies first, or looks for its key there.
-use Rattle.std.proofs.Common.{◌≡◌, ℕ, ◌<◌, Bool, true, false, Some, List, ◌++◌, refl, sym, subst}
+use Rattle.std.proofs.Common.{◌≡◌, inl, ℕ, ◌<◌, Bool, true, false, Some, List, ◌++◌, refl, sym, subst}
 use Rattle.papaya_words.specs.Mode.{IsChunked}
 use Rattle.papaya_call.specs.declared.machine.State.{State as Stage}
 use Rattle.papaya_call.specs.declared.machine.State.TheVariants.{Leaving, Growing}
@@ -38,7 +38,7 @@ module _ {K P : Type 0} (g : Setting K P) (c : Coding K P) (hashed : IsHashed g 
     helps_first = record {
       chunked = chunked;
       call = r;
-      phase = record { mode = inc; changes = changes; table = t; left = left; next = some; aim = refl; rests = (aims_rest m.call.state r.stage left, tt) };
+      phase = inl (record { mode = inc; changes = changes; table = t; left = left; next = some; aim = refl; rests = (aims_rest m.call.state r.stage left, tt) });
     }
 
     -- the machine with its call in this state
@@ -59,7 +59,7 @@ module _ {K P : Type 0} (g : Setting K P) (c : Coding K P) (hashed : IsHashed g 
     helps_no_more (Growing (Pair_at u x)) stands e = record {
       chunked = chunked;
       call = record { hash = r.hash; mode = r.mode; made = r.made; stage = stands };
-      phase = record { mode = inc; changes = changes; table = t; left = e; next = some; aim = refl; rests = (aims_rest (Growing (Pair_at u x)) stands e, tt) };
+      phase = inl (record { mode = inc; changes = changes; table = t; left = e; next = some; aim = refl; rests = (aims_rest (Growing (Pair_at u x)) stands e, tt) });
     }
     helps_no_more (Growing (Room u)) stands e = entered (Growing (Room u)) stands e (λ v x is. absurd cc)
     helps_no_more (Leaving u) stands e = entered (Leaving u) stands e (λ v x is. absurd cc)

@@ -1,18 +1,21 @@
 -- What an answer changes, counts, and stands on: what it does to the call, and nothing else.
-use Rattle.std.proofs.Common.{◌≡◌, ◌⊎◌, inl, inr, ⊎_elim, ℕ, pos, None, Some, List, refl, sym, ap, ◌∙◌, subst}
+use Rattle.std.proofs.Common.{◌≡◌, ◌⊎◌, inl, inr, ⊎_elim, ℕ, ℤ, pos, ◌==◌, Option, None, Some, List, refl, sym, ap, ◌∙◌, subst}
+use Rattle.std.proofs.lemmas.Bool.{cond_both}
 use Rattle.papaya_words.specs.declared.probe.Refused.{Refused}
+use Rattle.papaya_ask.specs.declared.ask.Answer.TheVariants.{Word as Word_read}
 use Rattle.papaya_ask.specs.declared.ask.At.TheVariants.{Next}
 use Rattle.papaya_ask.specs.declared.ask.Ask.TheVariants.{Load}
-use Rattle.papaya_ask.specs.declared.call.Reply.TheVariants.{Refused as Reply_refused}
+use Rattle.papaya_ask.specs.declared.call.Reply.TheVariants.{Absent, Refused as Reply_refused}
 use Rattle.papaya_ask.specs.declared.call.Task.{Task}
 use Rattle.papaya_ask.specs.declared.call.Task.TheVariants.{Get, Insert, RemoveIf, Compute}
 use Rattle.papaya_ask.specs.declared.search.Search.TheVariants.{Sizing}
 use Rattle.papaya_call.specs.declared.machine.Machine.{Machine as Call_machine}
 use Rattle.papaya_call.specs.declared.machine.State.{State as Stage}
-use Rattle.papaya_call.specs.declared.machine.State.TheVariants.{Searching, Leaving, Growing, Ended}
+use Rattle.papaya_call.specs.declared.machine.State.TheVariants.{AtRoot, Making, Searching, Offering, Leaving, Growing, Ended}
+use Rattle.papaya_call.specs.declared.compute.Gap.TheVariants.{NoRoot}
 use Rattle.papaya_call.specs.declared.compute.Remembered.{Remembered}
 use Rattle.papaya_call.specs.declared.write.Made.{Made}
-use Rattle.papaya_call.specs.Machine.{asks, IsStanding, needed}
+use Rattle.papaya_call.specs.Machine.{IsStanding, asks, at_root, needed}
 use Rattle.papaya_call.specs.Machine as call_machine
 use Rattle.papaya_chain.specs.declared.ask.Ask.TheVariants as asked
 use Rattle.papaya_chain.specs.declared.ask.Answer.{Answer}
@@ -58,6 +61,24 @@ refused_silent Get refused = refl
 refused_silent (Insert replace) refused = refl
 refused_silent RemoveIf refused = refl
 refused_silent Compute refused = refl
+
+-- what holds where a call that was told of the root stands
+anew : (Holds : Stage → Type 0) → Holds (Ended Absent) → Holds Making → Holds (Offering NoRoot) → ((t : ℕ) → Holds (Searching (Sizing t))) → (task : Task) (fill : Option ℕ) (root : ℕ) → Holds (at_root task fill root)
+anew Holds absent making offering searching Get fill root = cond_both (root == 0) (Ended Absent) (Searching (Sizing root)) Holds (λ _. absent) (λ _. searching root)
+anew Holds absent making offering searching (Insert replace) fill root = cond_both (root == 0) Making (Searching (Sizing root)) Holds (λ _. making) (λ _. searching root)
+anew Holds absent making offering searching RemoveIf fill root = cond_both (root == 0) (Ended Absent) (Searching (Sizing root)) Holds (λ _. absent) (λ _. searching root)
+anew Holds absent making offering searching Compute None root = cond_both (root == 0) (Offering NoRoot) (Searching (Sizing root)) Holds (λ _. offering) (λ _. searching root)
+anew Holds absent making offering searching Compute (Some n) root = cond_both (root == 0) Making (Searching (Sizing root)) Holds (λ _. making) (λ _. searching root)
+
+absent_silent : (task : Task) → said_in task (Ended Absent) ≡ None
+absent_silent Get = refl
+absent_silent (Insert replace) = refl
+absent_silent RemoveIf = refl
+absent_silent Compute = refl
+
+-- the call as it is told of the root
+abbrev begun : Call_machine → ℕ → Call_machine
+begun call root = call_machine.after (record call { state = AtRoot }) (Word_read root)
 
 module _ (m : Machine) (answer : Answer) (t : ℕ) (left : left_by m.call.state ≡ Some t) where
   -- an answer to a call that is set aside changes nothing
@@ -122,7 +143,8 @@ module _ {K P : Type 0} (g : Setting K P) (c : Coding K P) (k : K) (s : State P)
         let (call', told) = own_told own in
         ap (λ (d : Call_machine). change_in d.state) own.call ∙ machine_changes g c hashed k s m.call hash hands.call es call' own.told told ∙ sym (asks_own own).0
     | inr (inr (inl enters)) ↦ aside_changes m answer enters.from enters.left (record m.call { state = Searching (Sizing enters.table) }) enters.call refl
-    | inr (inr (inr ends)) ↦ aside_changes m answer ends.from ends.left (record m.call { state = Ended (Reply_refused ends.refused) }) ends.call refl
+    | inr (inr (inr (inl begins))) ↦ aside_changes m answer begins.from begins.left (begun m.call begins.root) begins.call (anew (λ stage. change_in stage ≡ None) refl refl refl (λ _. refl) m.call.task m.call.remembered.fill begins.root)
+    | inr (inr (inr (inr ends))) ↦ aside_changes m answer ends.from ends.left (record m.call { state = Ended (Reply_refused ends.refused) }) ends.call refl
   ]
 
   -- and what it has yet to count
@@ -134,7 +156,8 @@ module _ {K P : Type 0} (g : Setting K P) (c : Coding K P) (k : K) (s : State P)
         ap (λ phase. owed_in (asks_in (after m answer).call phase)) own.goes_on ∙ ap (λ (d : Call_machine). owed_by (call_machine.ask_of d)) own.call ∙ machine_owes g c k s m.call hands.call es call' own.told told
         ∙ sym (asks_own own).1
     | inr (inr (inl enters)) ↦ aside_owes m answer enters.from enters.left (record m.call { state = Searching (Sizing enters.table) }) enters.call refl
-    | inr (inr (inr ends)) ↦ aside_owes m answer ends.from ends.left (record m.call { state = Ended (Reply_refused ends.refused) }) ends.call refl
+    | inr (inr (inr (inl begins))) ↦ aside_owes m answer begins.from begins.left (begun m.call begins.root) begins.call (anew (λ stage. owed_by (asks m.call.made m.call.hash stage) ≡ pos 0) refl refl refl (λ _. refl) m.call.task m.call.remembered.fill begins.root)
+    | inr (inr (inr (inr ends))) ↦ aside_owes m answer ends.from ends.left (record m.call { state = Ended (Reply_refused ends.refused) }) ends.call refl
   ]
 
 module _ (m : Machine) (answer : Answer) (order : IsInOrder m answer m.phase) where
@@ -144,7 +167,8 @@ module _ (m : Machine) (answer : Answer) (order : IsInOrder m answer m.phase) wh
     | inl waits ↦ (ap (λ (d : Call_machine). d.task) waits.call, ap (λ (d : Call_machine). d.hash) waits.call)
     | inr (inl own) ↦ (ap (λ (d : Call_machine). d.task) own.call ∙ (same_task m.call own.told).0, ap (λ (d : Call_machine). d.hash) own.call ∙ (same_task m.call own.told).1)
     | inr (inr (inl enters)) ↦ (ap (λ (d : Call_machine). d.task) enters.call, ap (λ (d : Call_machine). d.hash) enters.call)
-    | inr (inr (inr ends)) ↦ (ap (λ (d : Call_machine). d.task) ends.call, ap (λ (d : Call_machine). d.hash) ends.call)
+    | inr (inr (inr (inl begins))) ↦ (ap (λ (d : Call_machine). d.task) begins.call, ap (λ (d : Call_machine). d.hash) begins.call)
+    | inr (inr (inr (inr ends))) ↦ (ap (λ (d : Call_machine). d.task) ends.call, ap (λ (d : Call_machine). d.hash) ends.call)
   ]
 
   -- a call that was set aside stands on what it remembers, and says nothing new
@@ -162,5 +186,6 @@ module _ (m : Machine) (answer : Answer) (order : IsInOrder m answer m.phase) wh
     | inl waits ↦ inl (subst (λ d. StandsOn d said) waits.call stands)
     | inr (inl own) ↦ ⊎_elim (λ before. inl before) (λ says. inr (own, says)) (machine_said m.call own.told said standing shows (subst (λ d. StandsOn d said) own.call stands))
     | inr (inr (inl enters)) ↦ inl (aside_said (record m.call { state = Searching (Sizing enters.table) }) enters.call refl refl said stands)
-    | inr (inr (inr ends)) ↦ inl (aside_said (record m.call { state = Ended (Reply_refused ends.refused) }) ends.call (refused_silent m.call.task ends.refused) refl said stands)
+    | inr (inr (inr (inl begins))) ↦ inl (aside_said (begun m.call begins.root) begins.call (anew (λ stage. said_in m.call.task stage ≡ None) (absent_silent m.call.task) refl refl (λ _. refl) m.call.task m.call.remembered.fill begins.root) refl said stands)
+    | inr (inr (inr (inr ends))) ↦ inl (aside_said (record m.call { state = Ended (Reply_refused ends.refused) }) ends.call (refused_silent m.call.task ends.refused) refl said stands)
   ]

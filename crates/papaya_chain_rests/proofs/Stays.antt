@@ -1,5 +1,5 @@
 -- What a call rests on stays so, whatever others exchange and whichever tables are made.
-use Rattle.std.proofs.Common.{◌≡◌, ℕ, ◌<◌, List, ◌++◌, append_assoc, sym, ap, ◌∙◌, subst}
+use Rattle.std.proofs.Common.{◌≡◌, inl, inr, ℕ, ◌<◌, List, ◌++◌, append_assoc, sym, ap, ◌∙◌, subst}
 use Rattle.papaya_chain.specs.declared.machine.Machine.{Machine}
 use Rattle.papaya_chain.specs.declared.machine.Phase.{Phase}
 use Rattle.papaya_chain.specs.declared.machine.Phase.TheVariants.{Calling, Linking, Copying}
@@ -75,9 +75,18 @@ module _ {K P : Type 0} (g : Setting K P) (c : Coding K P) (hashed : IsHashed g 
     left = r.left;
     rests = link_stays g c hashed.lawful before (now g c begun (since ++ es) k) no_first later_words on_stays hands.call.last hands.kept link r.rests;
   }
-  phase_stays m hands (Copying copying) r =
+  phase_stays m hands (Copying copying) (inr r) = inr (record {
+    mode = r.mode;
+    changes = r.changes;
+    table = r.table;
+    left = r.left;
+    met = r.met;
+    aim = r.aim;
+    rests = copying_stays g c hashed.lawful before (now g c begun (since ++ es) k) no_first later_words on_stays hands.call.last hands.kept copying r.rests;
+  })
+  phase_stays m hands (Copying copying) (inl r) =
       let same : (now g c begun (since ++ es) k).next r.table ≡ before.next r.table = later_words.next r.table r.next in
-      record {
+      inl (record {
         mode = r.mode;
         changes = r.changes;
         table = r.table;
@@ -85,7 +94,7 @@ module _ {K P : Type 0} (g : Setting K P) (c : Coding K P) (hashed : IsHashed g 
         next = subst (λ n. 0 < n) (sym same) r.next;
         aim = subst (λ n. aim_of copying ≡ aim_for m.call.state n) (sym same) r.aim;
         rests = copying_stays g c hashed.lawful before (now g c begun (since ++ es) k) no_first later_words on_stays hands.call.last hands.kept copying r.rests;
-      }
+      })
 
   -- all that it rests on
   pub all_stays : (m : Machine) (hands : Hands P) → Rests g c begun since k m hands → Rests g c begun (since ++ es) k m hands
@@ -109,7 +118,7 @@ module _ {K P : Type 0} (g g' : Setting K P) (c : Coding K P) (hashed : IsHashed
     left = r.left;
     rests = record { on = r.rests.on; rises = r.rests.rises };
   }
-  phase_carries m hands (Copying copying) r = record {
+  phase_carries m hands (Copying copying) (inl r) = inl (record {
     mode = agrees.blocking ∙ r.mode;
     changes = r.changes;
     table = r.table;
@@ -117,7 +126,16 @@ module _ {K P : Type 0} (g g' : Setting K P) (c : Coding K P) (hashed : IsHashed
     next = r.next;
     aim = r.aim;
     rests = copying_carries g g' c (now g c begun since k) (keeping_sound g (now g c begun since k) (map_left g (begun ++ since)) keeps_now) agrees hands.call.last hands.kept copying r.rests;
-  }
+  })
+  phase_carries m hands (Copying copying) (inr r) = inr (record {
+    mode = agrees.blocking ∙ r.mode;
+    changes = r.changes;
+    table = r.table;
+    left = r.left;
+    met = r.met;
+    aim = r.aim;
+    rests = copying_carries g g' c (now g c begun since k) (keeping_sound g (now g c begun since k) (map_left g (begun ++ since)) keeps_now) agrees hands.call.last hands.kept copying r.rests;
+  })
 
   pub all_carries : (m : Machine) (hands : Hands P) → Rests g c begun since k m hands → Rests g' c begun since k m hands
   all_carries m hands r = record {

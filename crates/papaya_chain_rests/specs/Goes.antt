@@ -2,10 +2,11 @@
 use Rattle.std.specs.Prelude.{◌≡◌, ◌⊎◌, ℕ, ℤ, pos, Option, Some}
 use Rattle.papaya_words.specs.declared.probe.Refused.{Refused}
 use Rattle.papaya_ask.specs.declared.ask.Answer.{Answer as Call_answer}
+use Rattle.papaya_ask.specs.declared.ask.Answer.TheVariants.{Word as Word_read}
 use Rattle.papaya_ask.specs.declared.ask.StepKind.{StepKind}
 use Rattle.papaya_ask.specs.declared.call.Reply.TheVariants.{Refused as Reply_refused}
 use Rattle.papaya_ask.specs.declared.search.Search.TheVariants.{Sizing}
-use Rattle.papaya_call.specs.declared.machine.State.TheVariants.{Searching, Ended}
+use Rattle.papaya_call.specs.declared.machine.State.TheVariants.{AtRoot, Searching, Ended}
 use Rattle.papaya_call.specs.Machine as call_machine
 use Rattle.papaya_chain.specs.declared.ask.Ask.{Ask}
 use Rattle.papaya_chain.specs.declared.ask.Ask.TheVariants as asks
@@ -46,6 +47,14 @@ pub record HasEntered (m : Machine) (answer : Answer) : Type 0 where
   pub table : ℕ
   pub call : (after m answer).call ≡ record m.call { state = Searching (Sizing table) }
 
+-- or it was told of the root, as one that begins
+pub record HasBegunAnew (m : Machine) (answer : Answer) : Type 0 where
+  pub from : ℕ
+  pub left : left_by m.call.state ≡ Some from
+  pub root : ℕ
+  pub call : (after m answer).call
+      ≡ call_machine.after (record m.call { state = AtRoot }) (Word_read root)
+
 -- or a table could not be made, and it ended with that
 pub record WasRefused (m : Machine) (answer : Answer) : Type 0 where
   pub from : ℕ
@@ -56,7 +65,7 @@ pub record WasRefused (m : Machine) (answer : Answer) : Type 0 where
 -- an answer is for the call itself, or the call is set aside: it waits, goes on, or ends
 abbrev pub Goes : Machine → Answer → Type 0
 Goes m answer = IsWaiting m answer ⊎ IsOwnStep m answer ⊎ HasEntered m answer
-    ⊎ WasRefused m answer
+    ⊎ HasBegunAnew m answer ⊎ WasRefused m answer
 
 -- the change that a call has made after one of its asks was answered so: no copy changes the map
 abbrev pub change_by : Option StepKind → Ask → Answer → Change → Change

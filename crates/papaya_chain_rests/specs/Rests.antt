@@ -1,9 +1,10 @@
 -- What a call over a chain of tables rests on, while others exchange words between its asks.
-use Rattle.std.specs.Prelude.{◌≡◌, ℕ, ◌<◌, false, Option, None, Some, List, ◌++◌}
+use Rattle.std.specs.Prelude.{◌≡◌, ◌⊎◌, ℕ, ◌<◌, true, false, Option, None, Some, List, ◌++◌}
 use Rattle.papaya_words.specs.Mode.{IsChunked}
 use Rattle.papaya_call.specs.declared.machine.State.{State as Stage}
 use Rattle.papaya_call.specs.declared.machine.State.TheVariants.{Leaving, Growing}
 use Rattle.papaya_call.specs.Machine.{IsChanger, needed}
+use Rattle.papaya_copy.specs.declared.copying.Aim.TheVariants.{All}
 use Rattle.papaya_copy.specs.declared.copying.Copying.{Copying}
 use Rattle.papaya_copy.specs.declared.link.Link.{Link}
 use Rattle.papaya_copy.specs.Link.{follows}
@@ -37,7 +38,7 @@ module _ {K P : Type 0} (g : Setting K P) (c : Coding K P) (begun since : List (
     pub left : left_by m.call.state ≡ Some (follows link)
     pub rests : RestsLink g c now link
 
-  -- or it copies, and goes on in the next table then
+  -- or it copies a chunk, or its slot, and goes on in the next table then
   pub record IsHelping (m : Machine) (hands : Hands P) (copying : Copying) : Type 0 where
     pub mode : g.blocking ≡ false
     pub changes : IsChanger m.call.task
@@ -47,10 +48,21 @@ module _ {K P : Type 0} (g : Setting K P) (c : Coding K P) (begun since : List (
     pub aim : aim_of copying ≡ aim_for m.call.state (now.next table)
     pub rests : RestsCopying g c now hands.call.last hands.kept copying
 
+  -- with blocking it copies all, and begins anew then
+  pub record IsCopyingAll (m : Machine) (hands : Hands P) (copying : Copying) : Type 0 where
+    pub mode : g.blocking ≡ true
+    pub changes : IsChanger m.call.task
+    pub table : ℕ
+    pub left : left_by m.call.state ≡ Some table
+    pub met : ℕ
+    pub aim : aim_of copying ≡ All met
+    pub rests : RestsCopying g c now hands.call.last hands.kept copying
+
   abbrev pub RestsPhase : Machine → Hands P → Phase → Type 0
   RestsPhase m hands Calling = Unit {0}
   RestsPhase m hands (Linking link) = IsLinking m link
   RestsPhase m hands (Copying_root copying) = IsHelping m hands copying
+      ⊎ IsCopyingAll m hands copying
 
   pub record Rests (m : Machine) (hands : Hands P) : Type 0 where
     pub chunked : IsChunked m.call.mode

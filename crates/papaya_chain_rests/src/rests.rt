@@ -86,7 +86,7 @@ pub fn learns<K, P>()
 {}
 
 /// An answer is for the call itself, or the call was set aside: it waits, goes on in a further
-/// table, or ends refused. So a copy changes no pair of the map, counts none and asks no closure.
+/// table, begins anew at the root, or ends refused. So a copy changes no pair of the map, counts none and asks no closure.
 pub fn goes<K, P>()
     ensures leaves { (g : Setting K P) (c : Coding K P) (begun since : List (Exchange P)) (k : K)
         (m : Machine) (hands : Hands P) → Rests g c begun since k m hands → (answer : Answer)
