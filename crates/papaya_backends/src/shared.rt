@@ -30,14 +30,14 @@ struct Caller<'a, H: Wait, S: BuildHasher> {
     map: &'a HashMap<u64, u64, S>,
     pinned: HashMapRef<'a, u64, u64, S>,
     pass: Pass<u64, u64, S>,
-    ghost of_map: { pinned ≡ map.now.book },
-    ghost made_by: { pass.book ≡ pinned },
+    ghost of_map: { pinned ≡ map.now },
+    ghost made_by: { pass.book ≡ pinned.book },
 }
 
 impl<'a, H: Wait, S: BuildHasher + Drop> Caller<'a, H, S> {
     /// A caller with a new pass.
     fn new(rt: &'a H, map: &'a HashMap<u64, u64, S>) -> Caller<'a, H, S>
-        ensures { result.pinned ≡ map.now.book }
+        ensures { result.pinned ≡ map.now }
     {
         Caller {
             rt,

@@ -62,7 +62,7 @@ fn step<R: Wait>(
     number: u64,
     round: u32,
 ) -> Result<u64, Refused>
-    requires { pass.old.book ≡ map.now }
+    requires { pass.old.book ≡ map.now.book }
     ensures { pass.new.book ≡ pass.old.book }
 {
     let key = key_of(number);

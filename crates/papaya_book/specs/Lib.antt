@@ -10,6 +10,7 @@ pub mod Plays
 pub mod Makers
 pub mod Trade
 pub mod Own
+pub mod Limits
 pub mod Parts
 pub mod Calls
 -- the same by the keys of the map and the book

@@ -1,5 +1,5 @@
 -- What a call sees of a map, and what a step adds to it.
-use Rattle.std.specs.Prelude.{◌≡◌, ℕ, Bool, Option, Some, ◌++◌}
+use Rattle.std.specs.Prelude.{◌≡◌, ℕ, Bool, Option, ◌++◌}
 use mathlib.Core.List.{IsPrefix}
 use denote.Bor.{Bor}
 use Rattle.boxcar.specs.Table.{Where}

@@ -5,7 +5,7 @@ ghost use Rattle.papaya_book.specs.Keys.{IsLawful as AreLawful};
 use crate::book::Book;
 use crate::keyed::Keyed;
 use crate::rule::entry::{Step, Stored};
-use crate::rule::own::{Own, with_last};
+use crate::rule::own::{Given, Own, with_last};
 use crate::rule::trade::{Sight, Trade};
 use crate::table::Table;
 use boxcar::Pushed;
@@ -31,6 +31,7 @@ impl<'a, K: Hash + Eq, V, S: BuildHasher> Window<'a, K, V, S> {
     ghost use Rattle.std.specs.Prelude.{◌⊎◌, ◌<◌, ◌==◌, Bool, IfErr, IfOk, length};
     ghost use Rattle.papaya_ask.specs.Search.{IsSize};
     ghost use Rattle.papaya_book.specs.Books.{IsLeft, Seals, root_then};
+    ghost use Rattle.papaya_book.specs.Limits.{IsFull};
     ghost use Rattle.papaya_book.specs.Windows.{CanPutSlot, CanTrySlot, Does, IsIn, IsLawful, IsMade, IsNext, IsRoot, IsSlot, IsSlotWord, IsTable, Opens, PutsSlot, Sees, TriesSlot};
     ghost use Rattle.papaya_book.specs.declared.rule.entry.Named.TheVariants.{Pair as PairNamed, Table as TableNamed};
 
@@ -190,16 +191,19 @@ impl<'a, K: Hash + Eq, V, S: BuildHasher> Window<'a, K, V, S> {
         alloc: Global,
         len: usize,
         limit: usize,
+        given: &mut Own<Given>,
     ) -> Result<(Pushed<Table<K, V, S>>, Pen), Refused>
         requires size { IsSize len limit }
         ensures sees { Sees self.old self.new }
-        ensures err { IfErr result (λ e. (e ≡ Refused.Memory) ⊎ (e ≡ Refused.Capacity)) }
+        ensures err { IfErr result (λ e. (e ≡ Refused.Memory)
+            ⊎ ((e ≡ Refused.Capacity) × IsFull given.new.done)) }
         ensures made { IfOk result (λ r. IsMade self.new r.0.value) }
         ensures placed { IfOk result (λ r. IsIn self.old (TableNamed r.0)) }
         ensures pen { IfOk result (λ r. Seals self.old.book.now r.1 r.0.value) }
         ensures own { self.new.own ≡ self.old.own }
     {
-        self.book.make_table(rt, alloc, len, limit, &mut self.sight)
+        self.book
+            .make_table(rt, alloc, len, limit, &mut self.sight, given)
     }
 
     /// One atomic exchange: the table becomes the root, if there is none. The number found, and the

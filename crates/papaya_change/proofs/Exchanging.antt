@@ -21,7 +21,7 @@ use Rattle.papaya_law.specs.Exchange.{Exchange, Setting, Word, Live, Bury, start
 use Rattle.papaya_law.specs.Invariant.{named}
 use Rattle.papaya_call.specs.Machine.{after, ask_of, kind_of_ask}
 use Rattle.papaya_rests.specs.Rests.{change_after, change_in, change_of_kind}
-use Rattle.papaya_rests.specs.Told.{Hands, IsAsked, IsOneOf, IsTold, or_last, told_of, word_of}
+use Rattle.papaya_rests.specs.Told.{IsAsked, IsOneOf, IsTold, or_last, told_of, word_of}
 use Rattle.papaya_rests.proofs.Followed.{table_told}
 use Rattle.papaya_law.proofs.Codes.{code_pair}
 use Rattle.papaya_law.proofs.Moments.{allowed_rest}

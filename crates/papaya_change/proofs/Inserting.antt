@@ -1,9 +1,11 @@
 -- After each answer an insertion rests again. It makes one pair, of what it was handed, and puts in no other.
-use Rattle.std.proofs.Common.{◌≡◌, ◌⊎◌, inr, ⊎_elim, ℕ, Bool, true, Option, None, Some, List, [], ◌∷◌, refl, sym, ap, ◌∙◌, subst}
+use Rattle.std.proofs.Common.{◌≡◌, ◌⊎◌, inr, ⊎_elim, ℕ, Bool, true, Option, None, Some, List, [], ◌∷◌, append-nil, refl, sym, ap, ◌∙◌, subst}
 use Rattle.std.specs.Cmp.{IsEquivalence}
+use mathlib.Core.List.{IsPrefix}
 use Rattle.logbook.specs.Pages.{Book}
 use Rattle.papaya_words.specs.Word.{pair_of}
 use Rattle.papaya_words.specs.declared.probe.Refused.{Refused as Cause}
+use Rattle.papaya_words.specs.declared.probe.Refused.TheVariants.{Capacity}
 use Rattle.papaya_ask.specs.declared.ask.At.TheVariants.{Slot}
 use Rattle.papaya_ask.specs.declared.ask.Ask.{Ask}
 use Rattle.papaya_ask.specs.declared.ask.Ask.TheVariants.{Exchange as Ask_exchange, MakePair, Done}
@@ -15,29 +17,34 @@ use Rattle.papaya_ask.specs.declared.call.Task.{Task}
 use Rattle.papaya_ask.specs.declared.call.Task.TheVariants.{Insert}
 use Rattle.papaya_call.specs.declared.write.Made.TheVariants.{Pair}
 use Rattle.papaya_call.specs.declared.machine.Machine.{Machine}
+use Rattle.papaya_call.specs.declared.machine.State.TheVariants.{Growing}
 use Rattle.papaya_rests.specs.Followed.{MayAsk}
-use Rattle.papaya_call.specs.Machine.{IsComputer, IsStanding, after, ask_of, kind_of_ask, made_in, started}
+use Rattle.papaya_call.specs.Machine.{IsComputer, IsStanding, MayInsert, after, ask_of, kind_of_ask, made_in, started}
 use Rattle.papaya_rests.specs.Rests.{RestsStage}
 use Rattle.papaya_rests.proofs.Followed.{asked_of_task}
 use Rattle.papaya_book.specs.declared.rule.entry.Begun.{Begun}
 use Rattle.papaya_book.specs.declared.rule.entry.Event.{Event}
+use Rattle.papaya_book.specs.declared.rule.own.Given.{Given}
 use Rattle.papaya_change.specs.declared.insertion.Insertion.{Insertion}
 use Rattle.papaya_change.specs.declared.writing.Writer.{Writer}
 use Rattle.papaya_change.specs.Changing.{hands_with}
 use Rattle.papaya_book.specs.Hashes.{hash_of}
-use Rattle.papaya_lookup.specs.History.{key_of}
+use Rattle.papaya_lookup.specs.History.{history_of, key_of}
 use Rattle.papaya_change.specs.Inserting.{IsInserting, IsInsertingOn, IsUnpaired}
 use Rattle.papaya_book.specs.Logs.{Stored, exchanges_of}
 use Rattle.papaya_book.specs.Plays.{IsPutting, made_list}
 use Rattle.papaya_lookup.specs.Lookups.{coding_for, setting_for}
 use Rattle.papaya_book.specs.Rule.{IsLawfulLog}
-use Rattle.papaya_change.specs.Writing.{CanPut, IsMemoryOrCapacity, IsUnlogged, IsUnsaid, IsWriting, IsWritingOn}
+use Rattle.papaya_change.specs.NoRoom.{HasNoPlace, HasNoRoom}
+use Rattle.papaya_change.specs.Writing.{CanPut, IsMemoryOrCapacity, IsUnsaid, IsWriting, IsWritingOn}
 use Rattle.papaya_lookup.proofs.AskedPairs.{asked_pair}
 use Rattle.papaya_change.proofs.Changing.{Coded, Wide}
 use Rattle.papaya_lookup.proofs.Driving.{is_made, one_made}
+use Rattle.papaya_lookup.proofs.Histories.{history_since}
 use Rattle.papaya_change.proofs.OnePair.{pairs_once, unpaired_before}
 use Rattle.papaya_lookup.proofs.Readings.{IsQuery, hashed_with}
-use Rattle.papaya_change.proofs.Refusals.{refused_for, shows_none, unlogged_unsaid}
+use Rattle.papaya_change.proofs.NoRoom.{no_place, no_place_wider, refused_room}
+use Rattle.papaya_change.proofs.Refusals.{refused_for, shows_none, unsaid_cause}
 use Rattle.papaya_change.proofs.Written.{own_query}
 use Rattle.papaya_change.proofs.WritingSteps.{begins as begins_writing}
 
@@ -53,7 +60,11 @@ task_stays m (Made_number n) = refl
 task_stays m Ok_done = refl
 task_stays m (Was_refused refused) = refl
 
-module _ {K V S H : Type 0} (eq : K → K → Bool) (hash : S → K → ℕ) (b : Begun K V S) (name : Book) (key : K) (value : V) where
+module _ {K V S H : Type 0} (eq : K → K → Bool) (input : K → List (List ℕ)) (build : S → H) (write : H → List ℕ → H) (finish : H → ℕ) (classes : IsEquivalence eq) (respects : (x y : K) → eq x y ≡ true → input x ≡ input y)
+    (b : Begun K V S) (name : Book) (key : K) (value : V) where
+  abbrev hash : S → K → ℕ
+  hash = hash_of input build write finish
+
   module _ (begun log : List (Event K V S)) (x : Insertion K V S H) (r : IsInserting eq hash b name key value begun log x) where
     abbrev m : Machine
     m = x.writer.call.machine
@@ -63,13 +74,23 @@ module _ {K V S H : Type 0} (eq : K → K → Bool) (hash : S → K → ℕ) (b 
     IsOpen = (reply : Reply) → ask_of m ≡ Done reply → ⊥
 
     -- it is refused by itself
-    by_itself : (answer : Answer) → IsStanding m → IsOpen → IsUnsaid answer → (cause : Cause) → ask_of (after m answer) ≡ Done (Refused cause) → IsMemoryOrCapacity cause
-    by_itself answer standing open_still unsaid = refused_for IsMemoryOrCapacity m answer (λ e. subst IsComputer r.task_is (shows_none m standing e)) open_still (inr refl) unsaid
+    by_itself : (given : List Given) (answer : Answer) → IsStanding m → IsOpen → IsUnsaid given answer → (cause : Cause) → ask_of (after m answer) ≡ Done (Refused cause) → IsMemoryOrCapacity cause
+    by_itself given answer standing open_still unsaid = refused_for IsMemoryOrCapacity m answer (λ e. subst IsComputer r.task_is (shows_none m standing e)) open_still (inr refl) (unsaid_cause given answer unsaid)
+
+    -- where a table is needed further, its key has no place
+    none_left : (log' : List (Event K V S)) → IsPrefix log log' → (t : ℕ) → m.state ≡ Growing t → HasNoPlace eq hash b key (history_of begun) (history_of log')
+    none_left log' pre t e =
+        no_place_wider eq hash b key (history_of begun) (history_of begun) (history_of log) (history_of log') ([], append-nil (history_of begun)) (history_since log log' pre)
+        (no_place eq input build write finish classes respects b name key (made_list x.made) begun log x.writer r.writing (subst MayInsert (sym r.task_is) tt) t e)
+
+    -- there is no room for it
+    no_room : (log' : List (Event K V S)) → IsPrefix log log' → (given : List Given) (answer : Answer) → IsOpen → IsUnsaid given answer → ask_of (after m answer) ≡ Done (Refused Capacity) → HasNoRoom eq hash b key (history_of begun) (history_of log') given
+    no_room log' pre given answer open_still unsaid e = refused_room (HasNoPlace eq hash b key (history_of begun) (history_of log')) given m answer open_still unsaid (none_left log' pre) e
 
     -- it goes on, where it puts in no other pair
-    kept : (log' : List (Event K V S)) (w : Writer K V S H) (answer : Answer) → w.call.machine ≡ m → ((v : V) → w.value ≡ Some v → x.writer.value ≡ Some v) → ((q : Stored K V) → w.call.put ≡ Some q → (key_of q ≡ key) × (q.value.value ≡ value)) → IsStanding m → IsOpen → IsUnsaid answer
+    kept : (log' : List (Event K V S)) → IsPrefix log log' → (w : Writer K V S H) (answer : Answer) → w.call.machine ≡ m → ((v : V) → w.value ≡ Some v → x.writer.value ≡ Some v) → ((q : Stored K V) → w.call.put ≡ Some q → (key_of q ≡ key) × (q.value.value ≡ value)) → IsStanding m → IsOpen → IsUnsaid w.given.done answer
         → IsWritingOn eq hash b name key (made_list x.made) begun log' w answer → IsInsertingOn eq hash b name key value begun log' (record x { writer = w }) (Some answer)
-    kept log' w answer machine left put standing open_still unsaid on = (
+    kept log' pre w answer machine left put standing open_still unsaid on = (
       record {
         writing = on.0;
         task_is = task_stays w.call.machine answer ∙ (ap (λ (z : Machine). z.task) machine ∙ r.task_is);
@@ -77,26 +98,27 @@ module _ {K V S H : Type 0} (eq : K → K → Bool) (hash : S → K → ℕ) (b 
         made_is = r.made_is;
         put_is = put;
         unmade = λ u. r.unmade (subst (λ (z : Machine). IsUnpaired z.made) machine (unpaired_before w.call.machine answer u));
-        refuses = λ cause e. by_itself answer standing open_still unsaid cause (ap (λ (z : Machine). ask_of (after z answer)) (sym machine) ∙ e);
+        refuses = λ cause e. by_itself w.given.done answer standing open_still unsaid cause (ap (λ (z : Machine). ask_of (after z answer)) (sym machine) ∙ e);
+        crowded = λ e. no_room log' pre w.given.done answer open_still unsaid (ap (λ (z : Machine). ask_of (after z answer)) (sym machine) ∙ e);
       },
       on.1,
     )
 
     -- so it does after an answer that leaves its value and what it put in
-    pub goes_on : (log' : List (Event K V S)) (w : Writer K V S H) (answer : Answer) → w.call.machine ≡ m → w.value ≡ x.writer.value → w.call.put ≡ x.writer.call.put → IsStanding m → IsOpen → IsUnsaid answer
+    pub goes_on : (log' : List (Event K V S)) → IsPrefix log log' → (w : Writer K V S H) (answer : Answer) → w.call.machine ≡ m → w.value ≡ x.writer.value → w.call.put ≡ x.writer.call.put → IsStanding m → IsOpen → IsUnsaid w.given.done answer
         → IsWritingOn eq hash b name key (made_list x.made) begun log' w answer → IsInsertingOn eq hash b name key value begun log' (record x { writer = w }) (Some answer)
-    goes_on log' w answer machine left put standing open_still unsaid on = kept log' w answer machine (λ v e. sym left ∙ e) (λ q e. r.put_is q (sym put ∙ e)) standing open_still unsaid on
+    goes_on log' pre w answer machine left put standing open_still unsaid on = kept log' pre w answer machine (λ v e. sym left ∙ e) (λ q e. r.put_is q (sym put ∙ e)) standing open_still unsaid on
 
     -- the pair was not logged
-    pub pair_unmade : (w : Writer K V S H) (answer : Answer) → w.call.machine ≡ m → ((v : V) → w.value ≡ Some v → x.writer.value ≡ Some v) → w.call.put ≡ x.writer.call.put → IsStanding m → IsOpen → IsUnlogged answer
+    pub pair_unmade : (w : Writer K V S H) (answer : Answer) → w.call.machine ≡ m → ((v : V) → w.value ≡ Some v → x.writer.value ≡ Some v) → w.call.put ≡ x.writer.call.put → IsStanding m → IsOpen → IsUnsaid w.given.done answer
         → IsWritingOn eq hash b name key (made_list x.made) begun log w answer → IsInsertingOn eq hash b name key value begun log (record x { writer = w }) (Some answer)
-    pair_unmade w answer machine left put standing open_still unlogged on = kept log w answer machine left (λ q e. r.put_is q (sym put ∙ e)) standing open_still (unlogged_unsaid answer unlogged) on
+    pair_unmade w answer machine left put standing open_still unsaid on = kept log ([], append-nil log) w answer machine left (λ q e. r.put_is q (sym put ∙ e)) standing open_still unsaid on
 
     -- its pair was tried to be put in
-    pub pair_tried : (log' : List (Event K V S)) (w : Writer K V S H) (answer : Answer) (q : Stored K V) → x.made ≡ Some q → w.call.machine ≡ m → w.value ≡ x.writer.value → (w.call.put ≡ x.writer.call.put) ⊎ (w.call.put ≡ Some q) → IsStanding m → IsOpen → IsUnsaid answer
+    pub pair_tried : (log' : List (Event K V S)) → IsPrefix log log' → (w : Writer K V S H) (answer : Answer) (q : Stored K V) → x.made ≡ Some q → w.call.machine ≡ m → w.value ≡ x.writer.value → (w.call.put ≡ x.writer.call.put) ⊎ (w.call.put ≡ Some q) → IsStanding m → IsOpen → IsUnsaid w.given.done answer
         → IsWritingOn eq hash b name key (made_list x.made) begun log' w answer → IsInsertingOn eq hash b name key value begun log' (record x { writer = w }) (Some answer)
-    pair_tried log' w answer q made machine left put standing open_still unsaid on =
-        kept log' w answer machine (λ v e. sym left ∙ e) (λ p e. ⊎_elim (λ same. r.put_is p (sym same ∙ e)) (λ is. r.made_is p (made ∙ (sym is ∙ e))) put) standing open_still unsaid on
+    pair_tried log' pre w answer q made machine left put standing open_still unsaid on =
+        kept log' pre w answer machine (λ v e. sym left ∙ e) (λ p e. ⊎_elim (λ same. r.put_is p (sym same ∙ e)) (λ is. r.made_is p (made ∙ (sym is ∙ e))) put) standing open_still unsaid on
 
     -- it makes its pair once
     once : ask_of m ≡ MakePair → IsUnpaired m.made × ((n : ℕ) → made_in m.made n m.state ≡ Pair n)
@@ -120,11 +142,13 @@ module _ {K V S H : Type 0} (eq : K → K → Bool) (hash : S → K → ℕ) (b 
             made_is = λ p e. let is : q ≡ p = cc e in (ap key_of (sym is) ∙ key_is, ap (λ (z : Stored K V). z.value.value) (sym is) ∙ r.left_is q.value.value had);
             put_is = λ p e. r.put_is p (sym put ∙ e);
             unmade = λ u. absurd (subst IsUnpaired ((once asks).1 n) (subst (λ (z : Machine). IsUnpaired (made_in z.made n z.state)) machine u));
-            refuses = λ cause e. by_itself (Made_number n) standing (λ reply h. let f = sym asks ∙ h in cc f) (λ c h. absurd (cc h)) cause (ap (λ (z : Machine). ask_of (after z (Made_number n))) (sym machine) ∙ e);
+            refuses = λ cause e. by_itself [] (Made_number n) standing (λ reply h. let f = sym asks ∙ h in cc f) (λ c h. absurd (cc h)) cause (ap (λ (z : Machine). ask_of (after z (Made_number n))) (sym machine) ∙ e);
+            crowded = λ e. no_room log ([], append-nil log) w.given.done (Made_number n) (λ reply h. let f = sym asks ∙ h in cc f) (λ c h. absurd (cc h)) (ap (λ (z : Machine). ask_of (after z (Made_number n))) (sym machine) ∙ e);
           },
           going.1,
         )
 
+module _ {K V S H : Type 0} (eq : K → K → Bool) (hash : S → K → ℕ) (b : Begun K V S) (name : Book) (key : K) (value : V) where
   -- an insertion that begins
   pub begins : (log : List (Event K V S)) (x : Insertion K V S H) → IsLawfulLog eq hash b log → (initial : ℕ) → x.writer.call.machine ≡ started (Insert true) (hash b.hasher key) b.mode initial → x.writer.call.table ≡ None → x.writer.call.last ≡ None → x.writer.call.taken ≡ None → x.writer.call.put ≡ None
       → x.made ≡ None → x.writer.key ≡ Some key → x.writer.logged ≡ None → x.writer.value ≡ Some value → IsInserting eq hash b name key value log log x
@@ -136,6 +160,7 @@ module _ {K V S H : Type 0} (eq : K → K → Bool) (hash : S → K → ℕ) (b 
     put_is = λ q e. let f = sym put ∙ e in absurd (cc f);
     unmade = λ u. made;
     refuses = λ cause e. let f = sym (ap ask_of machine) ∙ e in absurd (cc f);
+    crowded = λ e. let f = sym (ap ask_of machine) ∙ e in absurd (cc f);
   }
 
 module _ {K V S H : Type 0} (eq : K → K → Bool) (input : K → List (List ℕ)) (build : S → H) (write : H → List ℕ → H) (finish : H → ℕ) (classes : IsEquivalence eq) (respects : (x y : K) → eq x y ≡ true → input x ≡ input y)

@@ -7,6 +7,7 @@ pub mod OnePair
 pub mod Written
 pub mod WritingSteps
 pub mod Refusals
+pub mod NoRoom
 pub mod Inserting
 pub mod InsertingReplies
 -- what closures are shown

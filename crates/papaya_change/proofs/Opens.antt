@@ -1,6 +1,5 @@
 -- After it tried to open a table a call rests again, and holds the root's table.
-use Rattle.std.proofs.Common.{◌≡◌, ⊎_elim, ℕ, ◌==◌, Bool, true, false, MatchBool, Option, None, Some, List, [], ◌∷◌, ◌++◌, refl, sym, ap, ◌∙◌, subst}
-use Rattle.std.proofs.lemmas.Bool.{cases_Bool, cond-true, eqb-true, eqb-false}
+use Rattle.std.proofs.Common.{◌≡◌, ℕ, ◌==◌, Bool, true, false, Option, None, Some, List, [], ◌∷◌, ◌++◌, refl, sym, ap, ◌∙◌, subst}
 use Rattle.std.specs.Cmp.{IsEquivalence}
 use mathlib.Core.List.{IsPrefix}
 use denote.Bor.{Bor}
@@ -26,17 +25,15 @@ use Rattle.papaya_book.specs.declared.rule.entry.Event.{Event}
 use Rattle.papaya_book.specs.declared.rule.entry.Event.TheVariants.{Stepped}
 use Rattle.papaya_book.specs.declared.rule.entry.Named.{Named}
 use Rattle.papaya_book.specs.declared.rule.entry.Named.TheVariants as names
-use Rattle.papaya_book.specs.declared.rule.entry.Step.{Step}
 use Rattle.papaya_book.specs.Calls.{IsTable, IsTried}
 use Rattle.papaya_change.specs.Changing.{hands_with}
 use Rattle.papaya_book.specs.Hashes.{hash_of}
-use Rattle.papaya_book.specs.Logs.{Stored, comes, exchange_of, exchanges_of, number_of, or_else, state_of, steps_of, table_if, table_in}
-use Rattle.papaya_book.specs.Plays.{IsMeant}
+use Rattle.papaya_book.specs.Logs.{Stored, exchange_of, exchanges_of, state_of}
 use Rattle.papaya_change.proofs.Changing.{Calling, Coded, Wide, quiet, rests_of}
 use Rattle.papaya_lookup.proofs.Driving.{resting_later, resting_told, word_wide}
-use Rattle.papaya_book.proofs.Logs.{exchanges_of-append, prefix_trans, steps-append, table_append}
+use Rattle.papaya_book.proofs.Logs.{exchanges_of-append, prefix_trans}
 use Rattle.papaya_lookup.proofs.Readings.{IsQuery, hashed_with}
-use Rattle.papaya_book.proofs.Opened.{After, opened_here, opened_lost}
+use Rattle.papaya_book.proofs.Opened.{After, opened_lost}
 
 module _ {K V S H : Type 0} (eq : K → K → Bool) (input : K → List (List ℕ)) (build : S → H) (write : H → List ℕ → H) (finish : H → ℕ) (classes : IsEquivalence eq) (respects : (x y : K) → eq x y ≡ true → input x ≡ input y)
     (b : Begun K V S) (matches : K → Bool) (query : List (List ℕ)) (lawful : IsQuery eq input matches query) (k : Option K) (name : Book) (begun : List (Event K V S)) where

@@ -1,5 +1,5 @@
 -- Why a call is refused: by what its driver's answer says, or for want of a further table.
-use Rattle.std.proofs.Common.{◌≡◌, inl, inr, ⊎_elim, sym, ◌∙◌, subst}
+use Rattle.std.proofs.Common.{◌≡◌, inl, inr, ⊎_elim, List, sym, subst}
 use Rattle.papaya_words.specs.declared.probe.Refused.{Refused as Cause}
 use Rattle.papaya_words.specs.declared.probe.Refused.TheVariants.{Capacity}
 use Rattle.papaya_ask.specs.declared.ask.Answer.{Answer}
@@ -13,7 +13,8 @@ use Rattle.papaya_rests.specs.Followed.{MayAsk}
 use Rattle.papaya_call.specs.Machine.{IsComputer, IsStanding, after, ask_of, kind_of_ask}
 use Rattle.papaya_rests.proofs.Followed.{asked_of_task}
 use Rattle.papaya_rests.proofs.RestsReplyRefused.{machine_refused}
-use Rattle.papaya_change.specs.Writing.{IsUnlogged, IsUnsaid}
+use Rattle.papaya_book.specs.declared.rule.own.Given.{Given}
+use Rattle.papaya_change.specs.Writing.{IsMemoryOrCapacity, IsUnsaid}
 
 -- only a compute shows that there is none
 pub shows_none : (m : Machine) → IsStanding m → ask_of m ≡ ShowNone → IsComputer m.task
@@ -23,6 +24,6 @@ shows_none m standing e = subst (λ (a : Ask). MayAsk m.task (kind_of_ask m) a) 
 pub refused_for : (holds : Cause → Type 0) (m : Machine) (answer : Answer) → (ask_of m ≡ ShowNone → ⊥) → ((reply : Reply) → ask_of m ≡ Done reply → ⊥) → holds Capacity → ((cause : Cause) → answer ≡ Was_refused cause → holds cause) → (cause : Cause) → ask_of (after m answer) ≡ Done (Refused cause) → holds cause
 refused_for holds m answer never open_still full told cause e = ⊎_elim (told cause) (λ h. ⊎_elim (λ a. subst holds (sym a.0) full) (λ a. absurd (never a.1)) h) (machine_refused m cause answer open_still e)
 
--- where no pair was logged, no closure had a part in it
-pub unlogged_unsaid : (answer : Answer) → IsUnlogged answer → IsUnsaid answer
-unlogged_unsaid answer u cause e = ⊎_elim (λ k. ⊎_elim (λ i. let g = sym e ∙ i in inl (cc g)) (λ i. let g = sym e ∙ i in inr (cc g)) k) (λ i. let g = sym i ∙ e in absurd (cc g)) u
+-- where no closure had a part in it, there was no memory, or no number or place left
+pub unsaid_cause : (given : List Given) (answer : Answer) → IsUnsaid given answer → (cause : Cause) → answer ≡ Was_refused cause → IsMemoryOrCapacity cause
+unsaid_cause given answer unsaid cause e = ⊎_elim (λ memory. inl memory) (λ full. inr full.0) (unsaid cause e)

@@ -17,6 +17,7 @@ use Rattle.papaya_book.specs.Sheets.{Sheet}
 use Rattle.papaya_book.specs.declared.rule.entry.Begun.{Begun}
 use Rattle.papaya_book.specs.declared.rule.entry.Event.{Event}
 use Rattle.papaya_book.specs.declared.rule.entry.Named.TheVariants as names
+use Rattle.papaya_book.specs.declared.rule.own.Given.{Given}
 use Rattle.papaya_change.specs.declared.writing.Writer.{Writer}
 use Rattle.papaya_change.specs.Changing.{IsCalling}
 use Rattle.papaya_book.specs.Hashes.{hash_of}
@@ -27,6 +28,21 @@ use Rattle.papaya_book.specs.Rule.{IsLawfulLog, IsPlaced}
 use Rattle.papaya_change.specs.Writing.{IsOpening, IsWriting, IsWritingOn}
 use Rattle.papaya_change.proofs.Changing.{compared, held_later, quiet}
 use Rattle.papaya_lookup.proofs.Readings.{IsQuery}
+
+-- what a call rests on doesn't depend on what it was given
+module _ {K V S H : Type 0} (eq : K → K → Bool) (hash : S → K → ℕ) (b : Begun K V S) (name : Book) (key : K) (made : List (Stored K V)) (begun log : List (Event K V S)) (w : Writer K V S H) (given : Rattle.papaya_book.specs.declared.rule.own.Own.Own Given) where
+  pub with_given : (answer : Answer) → IsWritingOn eq hash b name key made begun log w answer → IsWritingOn eq hash b name key made begun log (record w { given = given }) answer
+  with_given answer on = (
+    record {
+      calling = on.0.calling;
+      own_is = on.0.own_is;
+      logged_is = on.0.logged_is;
+      some_key = on.0.some_key;
+      put_placed = on.0.put_placed;
+      opens = on.0.opens;
+    },
+    on.1,
+  )
 
 -- an answer to an ask for something made
 abbrev pub IsPlainAnswer : Answer → Type 0

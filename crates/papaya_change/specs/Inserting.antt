@@ -2,6 +2,7 @@
 use Rattle.std.specs.Prelude.{◌≡◌, ℕ, Bool, true, Option, None, Some, List}
 use Rattle.logbook.specs.Pages.{Book}
 use Rattle.papaya_words.specs.declared.probe.Refused.{Refused as Cause}
+use Rattle.papaya_words.specs.declared.probe.Refused.TheVariants.{Capacity}
 use Rattle.papaya_ask.specs.declared.ask.Answer.{Answer}
 use Rattle.papaya_ask.specs.declared.ask.Ask.TheVariants.{Done}
 use Rattle.papaya_ask.specs.declared.call.Reply.{Reply}
@@ -19,6 +20,7 @@ use Rattle.papaya_change.specs.Changes.{IsPut}
 use Rattle.papaya_lookup.specs.History.{history_of, key_of}
 use Rattle.papaya_book.specs.Logs.{Stored}
 use Rattle.papaya_book.specs.Plays.{made_list}
+use Rattle.papaya_change.specs.NoRoom.{HasNoRoom}
 use Rattle.papaya_change.specs.Writing.{IsMemoryOrCapacity, IsWriting, answered as answered_writer}
 
 -- no pair is made yet
@@ -42,6 +44,8 @@ module _ {K V S H : Type 0} (eq : K → K → Bool) (hash : S → K → ℕ) (b 
     pub unmade : IsUnpaired x.writer.call.machine.made → x.made ≡ None
     pub refuses : (cause : Cause) → ask_of x.writer.call.machine ≡ Done (Refused cause)
         → IsMemoryOrCapacity cause
+    pub crowded : ask_of x.writer.call.machine ≡ Done (Refused Capacity)
+        → HasNoRoom eq hash b key (history_of begun) (history_of log) x.writer.given.done
 
   -- the insertion after its machine was answered
   abbrev pub answered : Insertion K V S H → Answer → Insertion K V S H

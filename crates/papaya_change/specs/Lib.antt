@@ -1,6 +1,7 @@
 pub mod Changes
 pub mod Changing
 pub mod Doing
+pub mod NoRoom
 pub mod Writing
 pub mod Inserting
 pub mod Showings

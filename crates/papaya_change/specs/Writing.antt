@@ -15,10 +15,12 @@ use Rattle.papaya_book.specs.Sheets.{Sheet}
 use Rattle.papaya_book.specs.declared.rule.entry.Begun.{Begun}
 use Rattle.papaya_book.specs.declared.rule.entry.Event.{Event}
 use Rattle.papaya_book.specs.declared.rule.entry.Named.TheVariants.{Table}
+use Rattle.papaya_book.specs.declared.rule.own.Given.{Given}
 use Rattle.papaya_change.specs.declared.writing.Writer.{Writer}
 use Rattle.papaya_change.specs.Changing.{IsCalling}
 use Rattle.papaya_lookup.specs.History.{key_of}
 use Rattle.papaya_book.specs.Logs.{Stored, number_of, pair_named}
+use Rattle.papaya_book.specs.Limits.{IsFull}
 use Rattle.papaya_book.specs.Makers.{IsMade}
 use Rattle.papaya_book.specs.Rule.{IsPlaced}
 
@@ -46,9 +48,11 @@ answered w answer = record w { call = record w.call { machine = after w.call.mac
 abbrev pub IsMemoryOrCapacity : Cause → Type 0
 IsMemoryOrCapacity cause = (cause ≡ Memory) ⊎ (cause ≡ Capacity)
 
--- no closure had a part in it: where it is a refusal, it is one of the call by itself
-abbrev pub IsUnsaid : Answer → Type 0
-IsUnsaid answer = (cause : Cause) → answer ≡ Refused cause → IsMemoryOrCapacity cause
+-- No closure had a part in it: where it is a refusal, there was no memory, or a log that is full
+-- gave this number.
+abbrev pub IsUnsaid : List Given → Answer → Type 0
+IsUnsaid given answer = (cause : Cause) → answer ≡ Refused cause → (cause ≡ Memory)
+    ⊎ ((cause ≡ Capacity) × IsFull given)
 
 module _ {K V S H : Type 0} (eq : K → K → Bool) (hash : S → K → ℕ) (b : Begun K V S)
     (name : Book) where

@@ -3,11 +3,12 @@ ghost use Rattle.papaya_lookup.specs.Drivers.{own, past};
 ghost use Rattle.papaya_lookup.specs.History.{Makes};
 ghost use Rattle.papaya_book.specs.Windows.{Does, IsLawful, Sees};
 ghost use Rattle.papaya_change.specs.Doing.{Answers, has_changed, was_made};
-ghost use Rattle.papaya_change.specs.Insertions.{CanInsert, HasPut, Inserts};
-ghost use Rattle.std.specs.Prelude.{◌≡◌, is_ok, Some, IfErr, IfOk};
+ghost use Rattle.papaya_change.specs.Insertions.{CanInsert, HasNoRoom, HasPut, Inserts};
+ghost use Rattle.std.specs.Prelude.{◌≡◌, is_ok, Some, Err, IfErr, IfOk};
 ghost use Rattle.papaya_call.specs.Machine.{IsStanding, ask_of};
 ghost use Rattle.papaya_ask.specs.declared.ask.Ask.TheVariants.{Done, Exchange, MakePair};
 ghost use Rattle.papaya_ask.specs.declared.ask.At.TheVariants.{Slot};
+ghost use Rattle.papaya_ask.specs.declared.call.Reply.TheVariants.{Refused as ReplyRefused};
 ghost use Rattle.papaya_change.specs.Changes.{IsPut};
 ghost use Rattle.papaya_change.specs.Writing.{IsMemoryOrCapacity};
 
@@ -16,6 +17,7 @@ use crate::writing::Writer;
 use papaya_ask::ask::{Answer, Ask, At};
 use papaya_ask::call::{Reply, Task};
 use papaya_book::rule::entry::Stored;
+use papaya_book::rule::own::{Given, Own};
 use papaya_book::window::Window;
 use papaya_lookup::driver::Driver;
 use papaya_lookup::lookup::hash;
@@ -118,6 +120,8 @@ impl<'a, K: Hash + Eq + Drop, V: Drop, S: BuildHasher> Insertion<'a, K, V, S> {
         requires done { (reply : _) × (ask_of self.now.writer.call.machine ≡ Done reply) }
         ensures put { IfOk result (λ answer. HasPut window.now self.now answer) }
         ensures refused { IfErr result (λ refused. IsMemoryOrCapacity refused) }
+        ensures refusal { IfErr result (λ refused. ask_of self.now.writer.call.machine ≡ Done
+            (ReplyRefused refused)) }
         ensures changed { is_ok result ≡ has_changed self.now.writer.call.machine }
     {
         if let Ask::Done(Reply::Refused(refused)) = self.writer.call.machine.ask() {
@@ -131,13 +135,15 @@ impl<'a, K: Hash + Eq + Drop, V: Drop, S: BuildHasher> Insertion<'a, K, V, S> {
     }
 }
 
-/// Inserts a pair: the value that its key had.
+/// Inserts a pair: the value that its key had. Where it is refused since a log is full, `given` tells
+/// the number that the log gave.
 pub fn insert<'a, R: Wait, K: Hash + Eq + Drop, V: Drop, S: BuildHasher>(
     rt: &R,
     alloc: Global,
     initial: usize,
     shard: &Shard<'_>,
     window: &mut Window<'a, K, V, S>,
+    given: &mut Own<Given>,
     key: K,
     value: V,
 ) -> Result<Option<&'a V>, Refused>
@@ -146,6 +152,8 @@ pub fn insert<'a, R: Wait, K: Hash + Eq + Drop, V: Drop, S: BuildHasher>(
     ensures put { IfOk result (λ answer. IsPut K.eq key value (past window.old) (past window.new)
         answer) }
     ensures refused { IfErr result (λ refused. IsMemoryOrCapacity refused) }
+    ensures crowded { result ≡ Err Refused.Capacity → HasNoRoom window.new key (past window.old)
+        given.new.done }
     ensures made { Makes (is_ok result) (own window.old) (own window.new) (past window.new) }
 {
     window.learn();
@@ -159,13 +167,17 @@ pub fn insert<'a, R: Wait, K: Hash + Eq + Drop, V: Drop, S: BuildHasher>(
             logged: None,
             value: Some(value),
             opening: None,
+            given: Own::nothing(),
         },
         made: None,
     };
     for _ in rt.forever() {
         match insertion.answer(rt, alloc, shard, window) {
             Some(answer) => insertion.writer.call.machine.answer(answer),
-            None => return insertion.replied(window),
+            None => {
+                *given = insertion.writer.given.again();
+                return insertion.replied(window);
+            }
         }
     }
     unreachable!()

@@ -17,6 +17,7 @@ use boxcar::Pushed;
 use logbook::Pen;
 use papaya_ask::ask::{Answer, At};
 use papaya_book::rule::entry::Stored;
+use papaya_book::rule::own::{Given, Own};
 use papaya_book::table::Table;
 use papaya_book::window::Window;
 use papaya_lookup::driver::Driver;
@@ -27,7 +28,8 @@ use std::hash::{BuildHasher, Hash};
 use std::sync::Wait;
 
 /// A call that inserts, under way: its key until that is logged, and the value of the pair that it
-/// makes next until that is. A table that it has made is opened by its next step.
+/// makes next until that is. A table that it has made is opened by its next step. Where a log gave
+/// it a number past the log's limit, contracts see that number.
 #[derive(Drop)]
 pub struct Writer<'a, K: Hash + Eq, V, S: BuildHasher> {
     pub call: Driver<'a, K, V, S>,
@@ -35,6 +37,7 @@ pub struct Writer<'a, K: Hash + Eq, V, S: BuildHasher> {
     pub logged: Option<Pushed<K>>,
     pub value: Option<V>,
     pub opening: Option<(Pushed<Table<K, V, S>>, Pen)>,
+    pub given: Own<Given>,
 }
 
 impl<'a, K: Hash + Eq + Drop, V: Drop, S: BuildHasher> Writer<'a, K, V, S> {
@@ -47,7 +50,7 @@ impl<'a, K: Hash + Eq + Drop, V: Drop, S: BuildHasher> Writer<'a, K, V, S> {
         ensures own { window.new.own ≡ window.old.own }
         ensures machine { self.new.call.machine ≡ self.old.call.machine }
         ensures value { self.new.value ≡ self.old.value }
-        ensures unsaid { IsUnsaid result }
+        ensures unsaid { IsUnsaid self.new.given.done result }
         ensures put { self.new.call.put ≡ self.old.call.put }
         ensures writes { Writes window.old self.old window.new self.new result }
     {
@@ -59,7 +62,7 @@ impl<'a, K: Hash + Eq + Drop, V: Drop, S: BuildHasher> Writer<'a, K, V, S> {
         requires can { CanWrite window.now self.now }
         requires asks { (t : ℕ) × (ask_of self.now.call.machine ≡ SizeOf t) }
         requires standing { IsStanding self.now.call.machine }
-        ensures unsaid { IsUnsaid result }
+        ensures unsaid { IsUnsaid self.now.given.done result }
         ensures writes { Writes window.now self.now window.now self.now result }
     {
         let Some(table) = self.call.table else {
@@ -74,7 +77,7 @@ impl<'a, K: Hash + Eq + Drop, V: Drop, S: BuildHasher> Writer<'a, K, V, S> {
         requires can { CanWrite window.now self.now }
         requires asks { (n : ℕ) × (ask_of self.now.call.machine ≡ SameKey n) }
         requires standing { IsStanding self.now.call.machine }
-        ensures unsaid { IsUnsaid result }
+        ensures unsaid { IsUnsaid self.now.given.done result }
         ensures writes { Writes window.now self.now window.now self.now result }
     {
         let Some(last) = &self.call.last else {
@@ -97,7 +100,7 @@ impl<'a, K: Hash + Eq + Drop, V: Drop, S: BuildHasher> Writer<'a, K, V, S> {
         requires standing { IsStanding self.old.call.machine }
         ensures machine { self.new.call.machine ≡ self.old.call.machine }
         ensures value { self.new.value ≡ self.old.value }
-        ensures unsaid { IsUnsaid result }
+        ensures unsaid { IsUnsaid self.new.given.done result }
         ensures put { self.new.call.put ≡ self.old.call.put }
         ensures writes { Writes window.now self.old window.now self.new result }
     {
@@ -107,10 +110,12 @@ impl<'a, K: Hash + Eq + Drop, V: Drop, S: BuildHasher> Writer<'a, K, V, S> {
         match window.book.log_key(rt, key) {
             Ok(token) => {
                 let number = token.index();
-                self.logged = Some(token);
                 if number >= MAX_LOG_LEN {
+                    self.given = window.book.gave_key(&token);
+                    self.logged = Some(token);
                     return Answer::Refused(Refused::Capacity);
                 }
+                self.logged = Some(token);
                 Answer::Made(number as u64)
             }
             Err(key) => {
@@ -140,6 +145,7 @@ impl<'a, K: Hash + Eq + Drop, V: Drop, S: BuildHasher> Writer<'a, K, V, S> {
             × (self.new.value ≡ None)) }
         ensures pairs { IfOk result (λ q. Pairs window.now self.old self.new q) }
         ensures unlogged { IfErr result (λ answer. IsUnlogged answer) }
+        ensures unsaid { IfErr result (λ answer. IsUnsaid self.new.given.done answer) }
         ensures kept { IfErr result (λ answer. answer ≡ Answer.Ok
             → self.new.value ≡ self.old.value) }
         ensures writes { IfErr result (λ answer. Writes window.now self.old window.now self.new
@@ -157,6 +163,7 @@ impl<'a, K: Hash + Eq + Drop, V: Drop, S: BuildHasher> Writer<'a, K, V, S> {
         };
         let number = pair.index();
         if number >= MAX_LOG_LEN {
+            self.given = window.book.gave_pair(&pair);
             return Err(Answer::Refused(Refused::Capacity));
         }
         Ok(pair)
@@ -179,11 +186,11 @@ impl<'a, K: Hash + Eq + Drop, V: Drop, S: BuildHasher> Writer<'a, K, V, S> {
         ensures own { window.new.own ≡ window.old.own }
         ensures machine { self.new.call.machine ≡ self.old.call.machine }
         ensures value { self.new.value ≡ self.old.value }
-        ensures unsaid { IsUnsaid result }
+        ensures unsaid { IsUnsaid self.new.given.done result }
         ensures put { self.new.call.put ≡ self.old.call.put }
         ensures writes { Writes window.old self.old window.new self.new result }
     {
-        let made = window.make_table(rt, alloc, len, limit);
+        let made = window.make_table(rt, alloc, len, limit, &mut self.given);
         window.learn();
         match made {
             Ok((table, seal)) => {
@@ -205,7 +212,7 @@ impl<'a, K: Hash + Eq + Drop, V: Drop, S: BuildHasher> Writer<'a, K, V, S> {
         ensures own { window.new.own ≡ window.old.own }
         ensures machine { self.new.call.machine ≡ self.old.call.machine }
         ensures value { self.new.value ≡ self.old.value }
-        ensures unsaid { IsUnsaid result }
+        ensures unsaid { IsUnsaid self.new.given.done result }
         ensures put { self.new.call.put ≡ self.old.call.put }
         ensures writes { Writes window.old self.old window.new self.new result }
     {
@@ -240,7 +247,7 @@ impl<'a, K: Hash + Eq + Drop, V: Drop, S: BuildHasher> Writer<'a, K, V, S> {
         ensures does { Does (was_made result) window.old window.new }
         ensures machine { self.new.call.machine ≡ self.old.call.machine }
         ensures value { self.new.value ≡ self.old.value }
-        ensures unsaid { IsUnsaid result }
+        ensures unsaid { IsUnsaid self.new.given.done result }
         ensures put { (self.new.call.put ≡ self.old.call.put)
             ⊎ (self.new.call.put ≡ Some pair.now) }
         ensures writes { Puts window.old self.old pair.now window.new self.new result }
@@ -271,7 +278,7 @@ impl<'a, K: Hash + Eq + Drop, V: Drop, S: BuildHasher> Writer<'a, K, V, S> {
         ensures does { Does (was_made result) window.old window.new }
         ensures machine { self.new.call.machine ≡ self.old.call.machine }
         ensures value { self.new.value ≡ self.old.value }
-        ensures unsaid { IsUnsaid result }
+        ensures unsaid { IsUnsaid self.new.given.done result }
         ensures put { (self.new.call.put ≡ self.old.call.put) ⊎ (self.new.call.put ≡ None) }
         ensures writes { Writes window.old self.old window.new self.new result }
     {

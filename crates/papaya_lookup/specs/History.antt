@@ -5,6 +5,7 @@ use Rattle.papaya_law.specs.Exchange as law
 use Rattle.papaya_law.specs.Exchange.{Exchange}
 use Rattle.papaya_book.specs.declared.rule.entry.Event.{Event}
 use Rattle.papaya_book.specs.declared.rule.entry.Step.{Step}
+use Rattle.papaya_book.specs.declared.rule.own.Given.{Given}
 use Rattle.papaya_book.specs.Logs.{Stored, exchange_of, exchanges_of}
 use Rattle.papaya_book.specs.Own.{last_if}
 
@@ -70,11 +71,13 @@ abbrev pub changes_by : {K V : Type 0} → List (Step K V) → List (Change K (S
 changes_by es = changes_of key_of (map exchange_of es)
 
 -- What a pass shows: the book of the map that it was made by, the history that it has seen, and of
--- its changes those that were made by this pass, oldest first.
+-- its changes those that were made by this pass, oldest first. And where its last insertion or
+-- compute was refused since a log is full, the number that the log gave.
 pub record Past (K V : Type 0) : Type 0 where
   pub book : Book
   pub history : List (Change K (Stored K V))
   pub made : List (Change K (Stored K V))
+  pub given : List Given
 
 -- What a call made: where it changed the map, one change, which is the last of the history that is
 -- seen then; and else none.

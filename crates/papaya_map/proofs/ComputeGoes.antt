@@ -1,5 +1,6 @@
 -- A compute goes on after an answer that neither shows its closure anything nor makes a pair.
-use Rattle.std.proofs.Common.{◌≡◌, ◌⊎◌, inl, inr, ⊎_elim, ℕ, Bool, Option, None, Some, List, [], append-nil, refl, sym, ap, ◌∙◌, subst}
+use Rattle.std.proofs.Common.{◌≡◌, ◌⊎◌, inl, inr, ⊎_elim, ℕ, Bool, true, Option, None, Some, List, [], append-nil, refl, sym, ap, ◌∙◌, subst}
+use Rattle.std.specs.Cmp.{IsEquivalence}
 use mathlib.Core.List.{IsPrefix}
 use Rattle.logbook.specs.Pages.{Book}
 use Rattle.papaya_call.specs.declared.answers.Operation.{Operation}
@@ -8,13 +9,12 @@ use Rattle.papaya_ask.specs.declared.ask.Ask.TheVariants.{Load, Exchange, SameKe
 use Rattle.papaya_ask.specs.declared.ask.Answer.{Answer}
 use Rattle.papaya_ask.specs.declared.ask.Answer.TheVariants.{Word as Word_read, Exchanged, Found as Found_instead, Yes, Op, Size, Made as Made_number, Ok as Ok_done, Refused as Was_refused}
 use Rattle.papaya_ask.specs.declared.ask.At.TheVariants.{Root, Next, Aborted as Aborted_word, Done as Done_word, Slot}
-use Rattle.papaya_ask.specs.declared.call.Reply.{Reply}
 use Rattle.papaya_call.specs.declared.machine.Machine.{Machine}
-use Rattle.papaya_call.specs.Machine.{IsStanding, after, ask_of}
-use Rattle.papaya_rests.specs.Says.{Agrees, HasShownNone, Inserts, IsSaidBy, Makes, Removes, Said, ShowsPairs, StandsOn, show}
+use Rattle.papaya_call.specs.declared.machine.State.TheVariants.{Growing}
+use Rattle.papaya_call.specs.Machine.{IsStanding, MayInsert, after, ask_of}
+use Rattle.papaya_rests.specs.Says.{Agrees, HasShownNone, Inserts, Makes, Removes, Said, ShowsPairs, StandsOn}
 use Rattle.papaya_rests.proofs.SaysChanges.{machine_aborted}
 use Rattle.papaya_rests.proofs.SaysOnce.{machine_shown}
-use Rattle.papaya_rests.proofs.SaysSaid.{machine_said}
 use Rattle.papaya_rests.proofs.Silent.{IsSilent, not_done, not_show, stood_before}
 use Rattle.papaya_rests.proofs.SaysWords.{machine_shows}
 use Rattle.papaya_map.specs.declared.computing.Computing.{Computing}
@@ -22,12 +22,15 @@ use Rattle.papaya_book.specs.declared.rule.entry.Begun.{Begun}
 use Rattle.papaya_book.specs.declared.rule.entry.Event.{Event}
 use Rattle.papaya_change.specs.declared.writing.Writer.{Writer}
 use Rattle.papaya_map.specs.Computing.{Holds, IsComputing, IsComputingOn, IsWriters}
+use Rattle.papaya_book.specs.Hashes.{hash_of}
 use Rattle.papaya_lookup.specs.History.{history_of}
 use Rattle.papaya_book.specs.Logs.{Stored}
+use Rattle.papaya_change.specs.NoRoom.{HasNoPlace}
 use Rattle.papaya_change.specs.Showings.{HasNoNone, WasHeld}
 use Rattle.papaya_change.specs.Writing.{IsMemoryOrCapacity, IsUnsaid, IsWritingOn}
 use Rattle.papaya_lookup.proofs.Histories.{history_since}
-use Rattle.papaya_change.proofs.Refusals.{refused_for}
+use Rattle.papaya_change.proofs.NoRoom.{no_place, no_place_wider, refused_room}
+use Rattle.papaya_change.proofs.Refusals.{refused_for, unsaid_cause}
 use Rattle.papaya_change.proofs.Showings.{all_shown, held_wider}
 
 -- what any call asks that inserts is silent
@@ -70,7 +73,11 @@ module _ {K V S H T : Type 0} (key : K) (made : List (Stored K V)) (said : List 
   holds_still w same (Makes (Some m) n) h = h
   holds_still w same (Removes n) h = h
 
-module _ {K V S H T F : Type 0} (eq : K → K → Bool) (hash : S → K → ℕ) (b : Begun K V S) (name : Book) (operates : F → Option (Stored K V) → Operation V T → F → Type 0) (key : K) (first : F) (begun : List (Event K V S)) where
+module _ {K V S H T F : Type 0} (eq : K → K → Bool) (input : K → List (List ℕ)) (build : S → H) (write : H → List ℕ → H) (finish : H → ℕ) (classes : IsEquivalence eq) (respects : (x y : K) → eq x y ≡ true → input x ≡ input y)
+    (b : Begun K V S) (name : Book) (operates : F → Option (Stored K V) → Operation V T → F → Type 0) (key : K) (first : F) (begun : List (Event K V S)) where
+  abbrev hash : S → K → ℕ
+  hash = hash_of input build write finish
+
   abbrev Computing_at : List (Event K V S) → Computing K V S T H → F → Type 0
   Computing_at log x f = IsComputing eq hash b name operates key first begun log x f
 
@@ -92,8 +99,14 @@ module _ {K V S H T F : Type 0} (eq : K → K → Bool) (hash : S → K → ℕ)
     pub none_later : (answer : Answer) → HasNoNone r.said ⊎ HasShownNone m.remembered.fill m.state → HasNoNone r.said ⊎ HasShownNone (after m answer).remembered.fill (after m answer).state
     none_later answer h = ⊎_elim (λ never. inl never) (λ shown. inr (machine_shown m answer shown).1) h
 
+    -- where a table is needed further, its key has no place
+    none_left : (log' : List (Event K V S)) → IsPrefix log log' → (t : ℕ) → m.state ≡ Growing t → HasNoPlace eq hash b key (history_of begun) (history_of log')
+    none_left log' pre t e =
+        no_place_wider eq hash b key (history_of begun) (history_of begun) (history_of log) (history_of log') ([], append-nil (history_of begun)) (history_since log log' pre)
+        (no_place eq input build write finish classes respects b name key r.made begun log x.writer r.writing (subst MayInsert (sym r.task_is) tt) t e)
+
     -- it goes on after an answer to a silent ask
-    pub goes_on : IsStanding m → IsSilent (ask_of m) → (log' : List (Event K V S)) → IsPrefix log log' → (w : Writer K V S H) (answer : Answer) → w.call.machine ≡ m → w.value ≡ x.writer.value → IsUnsaid answer
+    pub goes_on : IsStanding m → IsSilent (ask_of m) → (log' : List (Event K V S)) → IsPrefix log log' → (w : Writer K V S H) (answer : Answer) → w.call.machine ≡ m → w.value ≡ x.writer.value → IsUnsaid w.given.done answer
         → IsWritingOn eq hash b name key r.made begun log' w answer → ComputingOn log' (record x { writer = w }) f (Some answer)
     goes_on standing silent log' pre w answer same value unsaid on =
         let then : after w.call.machine answer ≡ after m answer = ap (λ (z : Machine). after z answer) same in
@@ -112,7 +125,8 @@ module _ {K V S H T F : Type 0} (eq : K → K → Bool) (hash : S → K → ℕ)
             none_shown = subst (λ (z : Machine). HasNoNone r.said ⊎ HasShownNone z.remembered.fill z.state) (sym then) (none_later answer r.none_shown);
             stood = λ stands h. holds_still key r.made r.said x w' value stands (r.stood stands (stood_before m answer silent standing r.words stands (subst (λ (z : Machine). StandsOn z stands) then h)));
             aborts = λ with e. let s = machine_aborted m answer with (not_done m answer silent) (ap ask_of (sym then) ∙ e) in absurd (not_show m answer silent s.0 s.1);
-            refuses = λ cause e. inl (refused_for IsMemoryOrCapacity m answer (not_show m answer silent None) (not_done m answer silent) (inr refl) unsaid cause (ap ask_of (sym then) ∙ e));
+            refuses = λ cause e. inl (refused_for IsMemoryOrCapacity m answer (not_show m answer silent None) (not_done m answer silent) (inr refl) (unsaid_cause w.given.done answer unsaid) cause (ap ask_of (sym then) ∙ e));
+            crowded = λ e. refused_room (HasNoPlace eq hash b key (history_of begun) (history_of log')) w.given.done m answer (not_done m answer silent) unsaid (none_left log' pre) (ap ask_of (sym then) ∙ e);
           },
           on.1,
         )

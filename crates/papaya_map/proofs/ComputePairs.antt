@@ -14,6 +14,7 @@ use Rattle.papaya_call.specs.declared.machine.Machine.{Machine}
 use Rattle.papaya_call.specs.Machine.{IsStanding, after, ask_of}
 use Rattle.papaya_rests.specs.Says.{Agrees, HasShownNone, Inserts, IsFilledBy, IsReplacedBy, IsSaidBy, Makes, Removes, Said, ShowsPairs, StandsOn, show}
 use Rattle.papaya_rests.proofs.RestsHeld.{machine_refused_pair}
+use Rattle.papaya_rests.proofs.RestsReplyRefused.{machine_refused}
 use Rattle.papaya_rests.proofs.SaysChanges.{machine_aborted}
 use Rattle.papaya_rests.proofs.SaysOnce.{machine_shown}
 use Rattle.papaya_rests.proofs.SaysOver.{machine_paired}
@@ -22,6 +23,8 @@ use Rattle.papaya_rests.proofs.SaysWords.{machine_shows}
 use Rattle.papaya_map.specs.declared.computing.Computing.{Computing}
 use Rattle.papaya_book.specs.declared.rule.entry.Begun.{Begun}
 use Rattle.papaya_book.specs.declared.rule.entry.Event.{Event}
+use Rattle.papaya_book.specs.declared.rule.own.Given.{Given}
+use Rattle.papaya_book.specs.Limits.{IsFull}
 use Rattle.papaya_change.specs.declared.writing.Writer.{Writer}
 use Rattle.papaya_map.specs.Computing.{Holds, IsComputing, IsComputingOn, IsMadeOf}
 use Rattle.papaya_lookup.specs.History.{key_of}
@@ -29,7 +32,7 @@ use Rattle.papaya_book.specs.Logs.{Member, Stored, pair_named}
 use Rattle.papaya_book.specs.Rule.{IsPlaced}
 use Rattle.papaya_change.specs.Showings.{HasNoNone}
 use Rattle.papaya_change.specs.Writing.{IsMemoryOrCapacity, IsUnlogged, IsUnsaid, IsWritingOn}
-use Rattle.papaya_change.proofs.Refusals.{refused_for, unlogged_unsaid}
+use Rattle.papaya_change.proofs.Refusals.{refused_for, unsaid_cause}
 
 -- a pair that was made stays so, when another is made
 made_still : {K V T : Type 0} (key : K) (made : List (Stored K V)) (said : List (Option (Stored K V) × Operation V T)) (q : Stored K V) (held : Option (Stored K V)) (n : ℕ) (p : Stored K V) → IsMadeOf key made said held n p → IsMadeOf key (q ∷ made) said held n p
@@ -48,8 +51,16 @@ module _ (m : Machine) (answer : Answer) (asks : ask_of m ≡ MakePair) where
   no_abort with e = let s = machine_aborted m answer with not_done e in not_show s.0 s.1
 
   -- and each is refused by itself
-  by_itself : IsUnsaid answer → (cause : Cause) → ask_of (after m answer) ≡ Done (Reply_refused cause) → IsMemoryOrCapacity cause
-  by_itself unsaid = refused_for IsMemoryOrCapacity m answer (not_show None) not_done (inr refl) unsaid
+  by_itself : (given : List Given) → IsUnsaid given answer → (cause : Cause) → ask_of (after m answer) ≡ Done (Reply_refused cause) → IsMemoryOrCapacity cause
+  by_itself given unsaid = refused_for IsMemoryOrCapacity m answer (not_show None) not_done (inr refl) (unsaid_cause given answer unsaid)
+
+  -- for want of room where a log is full
+  full_log : (given : List Given) → IsUnsaid given answer → ask_of (after m answer) ≡ Done (Reply_refused Capacity) → IsFull given
+  full_log given unsaid e =
+      ⊎_elim
+      (λ told. ⊎_elim (λ i. absurd (cc i)) (λ h. h.1) (unsaid Capacity told))
+      (λ rest. ⊎_elim (λ a. let f = sym asks ∙ a.1.1 in absurd (cc f)) (λ a. let f = a.0 in absurd (cc f)) rest)
+      (machine_refused m Capacity answer not_done e)
 
 module _ {K V S T H F : Type 0} (eq : K → K → Bool) (hash : S → K → ℕ) (b : Begun K V S) (name : Book) (operates : F → Option (Stored K V) → Operation V T → F → Type 0) (key : K) (first : F) (begun log : List (Event K V S)) (x : Computing K V S T H) (f : F) (r : IsComputing eq hash b name operates key first begun log x f)
     (standing : IsStanding x.writer.call.machine) (asks : ask_of x.writer.call.machine ≡ MakePair) where
@@ -63,7 +74,7 @@ module _ {K V S T H F : Type 0} (eq : K → K → Bool) (hash : S → K → ℕ)
   abbrev with_pairs : Writer K V S H → (chosen fill made : Option (Stored K V)) → Computing K V S T H
   with_pairs w chosen fill made = record x { writer = w; chosen = chosen; fill = fill; made = made }
 
-  goes_on : (made' : List (Stored K V)) (w : Writer K V S H) (chosen fill made : Option (Stored K V)) (answer : Answer) → w.call.machine ≡ m → IsUnsaid answer → (after m answer).task ≡ m.task → IsWritingOn eq hash b name key made' begun log w answer → IsPlaced b (Some name) (pair_named chosen)
+  goes_on : (made' : List (Stored K V)) (w : Writer K V S H) (chosen fill made : Option (Stored K V)) (answer : Answer) → w.call.machine ≡ m → IsUnsaid w.given.done answer → (after m answer).task ≡ m.task → IsWritingOn eq hash b name key made' begun log w answer → IsPlaced b (Some name) (pair_named chosen)
       → ((stands : Said) → StandsOn (after m answer) stands → Holds key made' r.said (with_pairs w chosen fill made) stands) → On (with_pairs w chosen fill made) answer
   goes_on made' w chosen fill made answer same unsaid task on placed stood =
       let then : after w.call.machine answer ≡ after m answer = ap (λ (z : Machine). after z answer) same in (
@@ -81,7 +92,8 @@ module _ {K V S T H F : Type 0} (eq : K → K → Bool) (hash : S → K → ℕ)
           none_shown = subst (λ (z : Machine). HasNoNone r.said ⊎ HasShownNone z.remembered.fill z.state) (sym then) (⊎_elim (λ none. inl none) (λ shown. inr (machine_shown m answer shown).1) r.none_shown);
           stood = λ stands h. stood stands (subst (λ (z : Machine). StandsOn z stands) then h);
           aborts = λ with e. absurd (no_abort m answer asks with (ap ask_of (sym then) ∙ e));
-          refuses = λ cause e. inl (by_itself m answer asks unsaid cause (ap ask_of (sym then) ∙ e));
+          refuses = λ cause e. inl (by_itself m answer asks w.given.done unsaid cause (ap ask_of (sym then) ∙ e));
+          crowded = λ e. inl (full_log m answer asks w.given.done unsaid (ap ask_of (sym then) ∙ e));
         },
         on.1,
       )
@@ -148,8 +160,8 @@ module _ {K V S T H F : Type 0} (eq : K → K → Bool) (hash : S → K → ℕ)
   still w (Removes n) e h = h
 
   -- no pair was made
-  pub unmade : (w : Writer K V S H) (answer : Answer) → w.call.machine ≡ m → IsUnlogged answer → (answer ≡ Ok_done → w.value ≡ x.writer.value) → IsWritingOn eq hash b name key r.made begun log w answer → On (with_pairs w x.chosen x.fill x.made) answer
-  unmade w answer same unlogged kept on = goes_on r.made w x.chosen x.fill x.made answer same (unlogged_unsaid answer unlogged) (task_of answer unlogged) on r.chosen_placed stood
+  pub unmade : (w : Writer K V S H) (answer : Answer) → w.call.machine ≡ m → IsUnlogged answer → IsUnsaid w.given.done answer → (answer ≡ Ok_done → w.value ≡ x.writer.value) → IsWritingOn eq hash b name key r.made begun log w answer → On (with_pairs w x.chosen x.fill x.made) answer
+  unmade w answer same unlogged unsaid kept on = goes_on r.made w x.chosen x.fill x.made answer same unsaid (task_of answer unlogged) on r.chosen_placed stood
     where
       task_of : (a : Answer) → IsUnlogged a → (after m a).task ≡ m.task
       task_of a u = ⊎_elim (λ k. ⊎_elim (λ i. ap (λ (z : Answer). (after m z).task) i) (λ i. ap (λ (z : Answer). (after m z).task) i) k) (λ i. ap (λ (z : Answer). (after m z).task) i) u

@@ -303,6 +303,7 @@ begins eq hash b name operates key first log x l initial machine table last take
   stood = λ stands h. absurd (nothing_said (subst (λ (z : Machine). StandsOn z stands) machine h));
   aborts = λ with e. let g = sym (ap ask_of machine) ∙ e in absurd (cc g);
   refuses = λ cause e. let g = sym (ap ask_of machine) ∙ e in absurd (cc g);
+  crowded = λ e. let g = sym (ap ask_of machine) ∙ e in absurd (cc g);
 }
   where
     nothing_said : {stands : Said} → StandsOn (started Compute (hash b.hasher key) b.mode initial) stands → ⊥

@@ -2,6 +2,7 @@
 use Rattle.std.proofs.Common.{◌≡◌, ◌⊎◌, inl, inr, ⊎_elim, ℕ, Bool, true, Option, None, Some, List, [], ◌∷◌, append-nil, refl, sym, ap, ◌∙◌, subst}
 use Rattle.std.specs.Cmp.{IsEquivalence}
 use Rattle.logbook.specs.Pages.{Book}
+use Rattle.papaya_words.specs.declared.probe.Refused.TheVariants.{Capacity}
 use Rattle.papaya_call.specs.declared.answers.Operation.{Operation}
 use Rattle.papaya_call.specs.declared.answers.Operation.TheVariants as operation
 use Rattle.papaya_ask.specs.declared.ask.Ask.TheVariants.{Exchange, Load, ShowNone, ShowPair, Done}
@@ -258,6 +259,10 @@ module _ {K V S T H F : Type 0} (eq : K → K → Bool) (input : K → List (Lis
             (λ h. absurd (cc h))
             (λ h. ⊎_elim (λ a. absurd (not_load (number_of held) asks a.1.0 a.1.1)) (λ a. inr (a.0, (λ j. (none_asked m held asks a.1 j, removes done (op_is done kinds.Remove a.2) j)))) h)
             (machine_refused m cause (Op (kind_of done)) (not_done (number_of held) asks) e);
+        crowded = λ e. ⊎_elim
+            (λ h. absurd (cc h))
+            (λ h. ⊎_elim (λ a. absurd (not_load (number_of held) asks a.1.0 a.1.1)) (λ a. let f = a.0 in absurd (cc f)) h)
+            (machine_refused m Capacity (Op (kind_of done)) (not_done (number_of held) asks) e);
       },
       tt,
     )

@@ -3,6 +3,7 @@ use Rattle.std.specs.Prelude.{◌≡◌, ◌⊎◌, ℕ, Bool, Option, None, Som
 use mathlib.Core.List.{IsPrefix}
 use Rattle.logbook.specs.Pages.{Book}
 use Rattle.papaya_words.specs.declared.probe.Refused.{Refused}
+use Rattle.papaya_words.specs.declared.probe.Refused.TheVariants.{Capacity}
 use Rattle.papaya_call.specs.declared.answers.Operation.{Operation}
 use Rattle.papaya_call.specs.declared.answers.Operation.TheVariants as operation
 use Rattle.papaya_ask.specs.declared.ask.Answer.{Answer}
@@ -21,13 +22,13 @@ use Rattle.papaya_call.specs.Machine.{IsFit, after, ask_of}
 use Rattle.papaya_rests.specs.Says.{Agrees, HasShownNone, Inserts, Makes, Removes, Said, ShowsPairs, StandsOn}
 use Rattle.papaya_rests.specs.Told.{IsOneOf}
 use Rattle.papaya_keys.specs.declared.compute.Compute.{Compute as Computed}
-use Rattle.papaya_keys.specs.declared.compute.Compute.TheVariants.{Aborted}
 use Rattle.papaya_map.specs.declared.computing.Computing.{Computing}
 use Rattle.papaya_book.specs.declared.rule.entry.Begun.{Begun}
 use Rattle.papaya_book.specs.declared.rule.entry.Event.{Event}
 use Rattle.papaya_lookup.specs.History.{history_of, key_of}
 use Rattle.papaya_book.specs.Logs.{Member, Stored, pair_named}
 use Rattle.papaya_book.specs.Rule.{IsPlaced}
+use Rattle.papaya_change.specs.NoRoom.{HasNoRoom}
 use Rattle.papaya_change.specs.Showings.{AllShown, HasNoNone, HasSaid, IsNoneOnce, WasHeld, WasLast}
 use Rattle.papaya_change.specs.Writing.{IsWriting}
 use Rattle.papaya_map.specs.ComputeAnswers.{IsRefusedBy, IsComputeBy}
@@ -134,6 +135,8 @@ module _ {K V S H T F : Type 0} (eq : K → K → Bool) (hash : S → K → ℕ)
         × WasLast held (operation.Abort t) said)
     pub refuses : (refused : Refused) → ask_of x.writer.call.machine ≡ Done (reply.Refused refused)
         → IsRefusedBy said refused
+    pub crowded : ask_of x.writer.call.machine ≡ Done (reply.Refused Capacity)
+        → HasNoRoom eq hash b key (history_of begun) (history_of log) x.writer.given.done
 
   -- the compute after its machine was answered
   abbrev pub answered : Computing K V S T H → Answer → Computing K V S T H

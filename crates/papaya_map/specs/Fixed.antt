@@ -3,14 +3,16 @@ use Rattle.std.specs.Prelude.{◌≡◌, ℕ}
 use Rattle.logbook.specs.Pages.{Book}
 use Rattle.papaya_words.specs.Probe.{IsEntriesFor}
 use Rattle.papaya_words.specs.declared.probe.ResizeMode.{ResizeMode}
+use Rattle.papaya_book.specs.declared.rule.entry.Begun.{Begun}
 
--- Which book it has, how it resizes, and the initial capacity, in slots, by which its first table
--- is sized.
-pub record Fixed : Type 0 where
+-- Which book it has; what that was opened with: the hasher, how the map resizes, and the logs of
+-- keys, of pairs and of tables; and the initial capacity, in slots, by which its first table is
+-- sized.
+pub record Fixed (K V S : Type 0) : Type 0 where
   pub book : Book
-  pub mode : ResizeMode
+  pub begun : Begun K V S
   pub initial : ℕ
 
 -- it resizes so, and is made for so many pairs
-abbrev pub IsFor : ResizeMode → (capacity : ℕ) → Fixed → Type 0
-IsFor mode capacity map = (map.mode ≡ mode) × IsEntriesFor capacity map.initial
+abbrev pub IsFor : {K V S : Type 0} → ResizeMode → (capacity : ℕ) → Fixed K V S → Type 0
+IsFor mode capacity map = (map.begun.mode ≡ mode) × IsEntriesFor capacity map.initial

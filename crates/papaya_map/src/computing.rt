@@ -3,21 +3,23 @@ ghost use Rattle.papaya_lookup.specs.Drivers.{own, past};
 ghost use Rattle.papaya_lookup.specs.History.{Makes};
 ghost use Rattle.papaya_book.specs.Windows.{Does, IsLawful, Sees};
 ghost use Rattle.papaya_map.specs.Computes.{CanCompute, Computes, Replies};
-ghost use Rattle.std.specs.Prelude.{◌≡◌, ◌⊎◌, ℕ, Bool, None, Some, Option, Ok};
+ghost use Rattle.std.specs.Prelude.{◌≡◌, ◌⊎◌, ℕ, Bool, None, Some, Option, Ok, Err, IfErr};
 ghost use Rattle.papaya_call.specs.Machine.{IsFitAsk, IsStanding, ask_of, kind_of_ask};
 ghost use Rattle.papaya_ask.specs.declared.ask.StepKind.TheVariants.{Claim, Replace};
-ghost use Rattle.papaya_ask.specs.declared.call.Reply.TheVariants.{Inserted, Removed, Replaced};
+ghost use Rattle.papaya_ask.specs.declared.call.Reply.TheVariants.{Inserted, Removed, Replaced, Refused as ReplyRefused};
 ghost use Rattle.papaya_ask.specs.declared.ask.Ask.TheVariants.{Done, Exchange, MakePair, ShowNone, ShowPair};
 ghost use Rattle.papaya_ask.specs.declared.ask.At.TheVariants.{Slot};
 ghost use Rattle.papaya_map.specs.Computing.{IsKept, IsWriters, chosen_after, pair_for};
 ghost use Rattle.papaya_map.specs.ComputeAnswers.{IsComputeBy, changes};
 ghost use Rattle.papaya_change.specs.Doing.{Answers, has_changed, was_made};
+ghost use Rattle.papaya_change.specs.Insertions.{HasNoRoom};
 ghost use Rattle.papaya_change.specs.Showings.{Operates};
 
 use papaya_ask::ask::{Answer, Ask, At, OpKind, StepKind};
 use papaya_ask::call::{Reply, Task};
 use papaya_book::book::Book;
 use papaya_book::rule::entry::Stored;
+use papaya_book::rule::own::{Given, Own};
 use papaya_book::window::Window;
 use papaya_call::answers::Operation;
 use papaya_change::count::Shard;
@@ -385,6 +387,8 @@ impl<'a, K: Hash + Eq + Drop, V: Drop, S: BuildHasher, T: Drop> Computing<'a, K,
         requires standing { IsStanding self.old.writer.call.machine }
         requires can { CanCompute (Operates F.FnMut) window.now self.old compute.now }
         requires done { (reply : _) × (ask_of self.old.writer.call.machine ≡ Done reply) }
+        ensures refusal { IfErr result (λ refused. ask_of self.old.writer.call.machine ≡ Done
+            (ReplyRefused refused)) }
         ensures changed { changes result ≡ has_changed self.old.writer.call.machine }
         ensures replies { Replies (Operates F.FnMut) window.now self.old compute.now result }
     {
@@ -403,7 +407,8 @@ impl<'a, K: Hash + Eq + Drop, V: Drop, S: BuildHasher, T: Drop> Computing<'a, K,
     }
 }
 
-/// Does with a key's pair, or where it has none, what the closure answers that is shown it.
+/// Does with a key's pair, or where it has none, what the closure answers that is shown it. Where it
+/// is refused since a log is full, `given` tells the number that the log gave.
 pub fn compute<
     'a,
     R: Wait,
@@ -418,6 +423,7 @@ pub fn compute<
     initial: usize,
     shard: &Shard<'_>,
     window: &mut Window<'a, K, V, S>,
+    given: &mut Own<Given>,
     key: K,
     mut f: F,
 ) -> Result<Compute<'a, K, V, T>, Refused>
@@ -425,6 +431,8 @@ pub fn compute<
     ensures sees { Sees window.old window.new }
     ensures lawful { IsLawful window.new }
     ensures made { Makes (changes result) (own window.old) (own window.new) (past window.new) }
+    ensures crowded { result ≡ Err Refused.Capacity → HasNoRoom window.new key (past window.old)
+        given.new.done }
     ensures computed { IsComputeBy K.eq key (past window.old) (past window.new) (Operates F.FnMut) f
         result }
 {
@@ -438,6 +446,7 @@ pub fn compute<
             logged: None,
             value: None,
             opening: None,
+            given: Own::nothing(),
         },
         shown: None,
         fill: None,
@@ -448,7 +457,10 @@ pub fn compute<
     for _ in rt.forever() {
         match computing.answer(rt, alloc, shard, &mut f, window) {
             Some(answer) => computing.writer.call.machine.answer(answer),
-            None => return computing.replied(&f, window),
+            None => {
+                *given = computing.writer.given.again();
+                return computing.replied(&f, window);
+            }
         }
     }
     unreachable!()

@@ -1,11 +1,12 @@
 //! The map that threads share, and the passes of its callers.
-ghost use Rattle.std.specs.Prelude.{◌≡◌, ◌⊎◌, true, is_ok, [], IfErr, IfOk};
+ghost use Rattle.std.specs.Prelude.{◌≡◌, ◌⊎◌, true, is_ok, [], Err, IfErr, IfOk};
 ghost use mathlib.Core.List.{IsPrefix};
-ghost use Rattle.logbook.specs.Pages.{Book as BookName};
 ghost use Rattle.papaya_words.specs.declared.limits.TheConstants.{DEFAULT_CHUNK, DEFAULT_SHARDS};
 ghost use Rattle.papaya_keys.specs.Sizes.{IsAllowed};
 ghost use Rattle.papaya_map.specs.Asked.{IsMapRefusal};
 ghost use Rattle.papaya_map.specs.Fixed.{Fixed, IsFor};
+ghost use Rattle.papaya_book.specs.Parts.{begun_of};
+ghost use Rattle.papaya_change.specs.NoRoom.{HasNoRoom};
 ghost use Rattle.papaya_change.specs.Changes.{IsPut};
 ghost use Rattle.papaya_map.specs.ComputeAnswers.{IsComputeBy, changes};
 ghost use Rattle.papaya_lookup.specs.History.{IsLegalHistory, Makes, Past, changes_by, history_of, key_of};
@@ -16,8 +17,9 @@ ghost use Rattle.papaya_change.specs.Showings.{Judges, Operates};
 use crate::computing::compute;
 use papaya_book::book::Book;
 use papaya_book::book::parts::Parts;
+use papaya_book::keyed::Keyed;
 use papaya_book::rule::entry::Step;
-use papaya_book::rule::own::Own;
+use papaya_book::rule::own::{Given, Own};
 use papaya_book::rule::trade::Sight;
 use papaya_book::window::Window;
 use papaya_call::answers::Operation;
@@ -36,7 +38,7 @@ use std::marker::Model;
 use std::sync::Wait;
 
 /// A map that threads share. Contracts see what of it is fixed when it is made: which book it has,
-/// how it resizes, and the initial capacity by which its first table is sized.
+/// the hasher, how it resizes, its logs, and the initial capacity by which its first table is sized.
 #[derive(Drop)]
 pub struct HashMap<K: Hash + Eq, V, S: BuildHasher = BuildHasherDefault<FoldHasher>> {
     alloc: Global,
@@ -47,30 +49,28 @@ pub struct HashMap<K: Hash + Eq, V, S: BuildHasher = BuildHasherDefault<FoldHash
 }
 
 impl<K: Hash + Eq, V, S: BuildHasher> Model for HashMap<K, V, S> {
-    ghost Value = { Fixed };
+    ghost Value = { Fixed K V S };
 
     ghost view = { λ m. record {
       book = m.book.begun.book;
-      mode = m.book.parts.mode;
+      begun = begun_of m.book.parts;
       initial = m.initial;
     } };
 }
 
 /// What a caller has seen of a map's history, and what it changed itself. It has no bytes.
-/// Contracts
-/// see that history, which is legal, the changes that were made by this pass, oldest first, and
-/// which
-/// book they are of.
+/// Contracts see that history, which is legal, the changes that were made by this pass, oldest
+/// first, and which book they are of. Where its last insertion or compute was refused since a log
+/// is full, they see the number that the log gave.
 ///
 /// Each call by a pass stands in the history after all that the pass had seen before, and
-/// afterwards
-/// the pass has seen the call's own moment. A call that changes the map makes one change by its
-/// pass,
-/// and any other call makes none.
+/// afterwards the pass has seen the call's own moment. A call that changes the map makes one change
+/// by its pass, and any other call makes none.
 #[derive(Drop)]
 pub struct Pass<K: Hash + Eq, V, S: BuildHasher> {
     sight: Sight<K, V, S>,
     own: Own<Step<K, V>>,
+    given: Own<Given>,
 }
 
 impl<K: Hash + Eq, V, S: BuildHasher> Model for Pass<K, V, S> {
@@ -80,13 +80,14 @@ impl<K: Hash + Eq, V, S: BuildHasher> Model for Pass<K, V, S> {
       book = p.sight.book;
       history = history_of p.sight.log;
       made = changes_by p.own.done;
+      given = p.given.done;
     } };
 
     ghost invariant = { λ p. IsLegalHistory K.eq key_of (history_of p.sight.log) };
 }
 
-/// A map, as calls take it. What it answers stays for as long as the map does. Contracts see which
-/// book the map has.
+/// A map, as calls take it. What it answers stays for as long as the map does. Contracts see what
+/// they see of the map.
 #[derive(Drop)]
 pub struct HashMapRef<'a, K: Hash + Eq, V, S: BuildHasher> {
     map: &'a HashMap<K, V, S>,
@@ -94,9 +95,9 @@ pub struct HashMapRef<'a, K: Hash + Eq, V, S: BuildHasher> {
 }
 
 impl<'a, K: Hash + Eq, V, S: BuildHasher> Model for HashMapRef<'a, K, V, S> {
-    ghost Value = { BookName };
+    ghost Value = { Fixed K V S };
 
-    ghost view = { λ r. r.map.now.book };
+    ghost view = { λ r. r.map.now };
 }
 
 impl<K: Hash + Eq + Drop, V: Drop, S: BuildHasher + Drop> HashMap<K, V, S> {
@@ -183,7 +184,7 @@ impl<K: Hash + Eq, V, S: BuildHasher> HashMap<K, V, S> {
     /// The map, as calls take it.
     #[inline]
     pub fn pin(&self) -> HashMapRef<'_, K, V, S>
-        ensures { result ≡ self.now.book }
+        ensures { result ≡ self.now }
     {
         HashMapRef {
             map: self,
@@ -208,11 +209,13 @@ impl<K: Hash + Eq, V, S: BuildHasher> HashMap<K, V, S> {
         ensures book { result.book ≡ self.now.book }
         ensures new { result.history ≡ [] }
         ensures made { result.made ≡ [] }
+        ensures given { result.given ≡ [] }
     {
         let sight = self.book.unseen();
         Pass {
             sight,
             own: Own::nothing(),
+            given: Own::nothing(),
         }
     }
 }
@@ -223,8 +226,8 @@ impl<'a, K: Hash + Eq, V, S: BuildHasher> HashMapRef<'a, K, V, S> {
     /// the
     /// call is never refused.
     pub fn meet(&self, a: &mut Pass<K, V, S>, b: &mut Pass<K, V, S>)
-        requires first { a.old.book ≡ self.now }
-        requires second { b.old.book ≡ self.now }
+        requires first { a.old.book ≡ self.now.book }
+        requires second { b.old.book ≡ self.now.book }
         ensures books { (a.new.book ≡ a.old.book) × (b.new.book ≡ b.old.book) }
         ensures made { (a.new.made ≡ a.old.made) × (b.new.made ≡ b.old.made) }
         ensures one { a.new.history ≡ b.new.history }
@@ -240,7 +243,7 @@ impl<'a, K: Hash + Eq, V, S: BuildHasher> HashMapRef<'a, K, V, S> {
     /// takes no lock and no memory.
     #[inline]
     pub fn get_as<Q: Equivalent<K>>(&self, key: &Q, pass: &mut Pass<K, V, S>) -> Option<&'a V>
-        requires { pass.old.book ≡ self.now }
+        requires { pass.old.book ≡ self.now.book }
         ensures book { pass.new.book ≡ pass.old.book }
         ensures seen { IsPrefix pass.old.history pass.new.history }
         ensures made { pass.new.made ≡ pass.old.made }
@@ -270,7 +273,7 @@ impl<'a, K: Hash + Eq, V, S: BuildHasher> HashMapRef<'a, K, V, S> {
         should_remove: F,
         pass: &mut Pass<K, V, S>,
     ) -> Result<Result<Option<(&'a K, &'a V)>, (&'a K, &'a V)>, Refused>
-        requires book { pass.old.book ≡ self.now }
+        requires book { pass.old.book ≡ self.now.book }
         requires callable { F.IsAlwaysCallable should_remove }
         ensures book { pass.new.book ≡ pass.old.book }
         ensures seen { IsPrefix pass.old.history pass.new.history }
@@ -295,7 +298,7 @@ impl<'a, K: Hash + Eq, V, S: BuildHasher> HashMapRef<'a, K, V, S> {
         key: &Q,
         pass: &mut Pass<K, V, S>,
     ) -> Result<Option<&'a V>, Refused>
-        requires { pass.old.book ≡ self.now }
+        requires { pass.old.book ≡ self.now.book }
         ensures book { pass.new.book ≡ pass.old.book }
         ensures seen { IsPrefix pass.old.history pass.new.history }
         ensures made { Makes (took result) pass.old.made pass.new.made pass.new.history }
@@ -324,8 +327,9 @@ impl<'a, K: Hash + Eq + Drop, V: Drop, S: BuildHasher> HashMapRef<'a, K, V, S> {
     /// key takes the old one's place too.
     ///
     /// `Refused::Memory` where a growth was refused. `Refused::Capacity` where the log of keys, of
-    /// pairs or of tables is full, and where the key has no place left in the table. Refused, the
-    /// pass makes no change, and else this one.
+    /// pairs or of tables is full: it gave a number past its limit, which the pass shows then. Or
+    /// where the key has no pair, and each of its places in the table is filled. Refused, the pass
+    /// makes no change, and else this one.
     pub fn insert_as<R: Wait>(
         &self,
         rt: &R,
@@ -333,7 +337,7 @@ impl<'a, K: Hash + Eq + Drop, V: Drop, S: BuildHasher> HashMapRef<'a, K, V, S> {
         value: V,
         pass: &mut Pass<K, V, S>,
     ) -> Result<Option<&'a V>, Refused>
-        requires { pass.old.book ≡ self.now }
+        requires { pass.old.book ≡ self.now.book }
         ensures book { pass.new.book ≡ pass.old.book }
         ensures seen { IsPrefix pass.old.history pass.new.history }
         ensures made { Makes (is_ok result) pass.old.made pass.new.made pass.new.history }
@@ -341,13 +345,27 @@ impl<'a, K: Hash + Eq + Drop, V: Drop, S: BuildHasher> HashMapRef<'a, K, V, S> {
             answer) }
         ensures refused { IfErr result (λ refused. (refused ≡ Refused.Memory)
             ⊎ (refused ≡ Refused.Capacity)) }
+        ensures crowded { result ≡ Err Refused.Capacity → HasNoRoom K.eq
+            ⟦<S as Keyed<K>>⟧.keys.hash self.now.begun key pass.old.history pass.new.history
+            pass.new.given }
     {
         let map: &'a HashMap<K, V, S> = self.map;
         let shard = map.count.shard(self.guard);
         let mut window = Window::new(&map.book, &pass.sight, &pass.own);
-        let before = insert(rt, map.alloc, map.initial, &shard, &mut window, key, value);
+        let mut given = Own::nothing();
+        let before = insert(
+            rt,
+            map.alloc,
+            map.initial,
+            &shard,
+            &mut window,
+            &mut given,
+            key,
+            value,
+        );
         pass.sight = window.sight;
         pass.own = window.own;
+        pass.given = given;
         before
     }
 
@@ -370,20 +388,34 @@ impl<'a, K: Hash + Eq + Drop, V: Drop, S: BuildHasher> HashMapRef<'a, K, V, S> {
         f: F,
         pass: &mut Pass<K, V, S>,
     ) -> Result<Compute<'a, K, V, T>, Refused>
-        requires book { pass.old.book ≡ self.now }
+        requires book { pass.old.book ≡ self.now.book }
         requires callable { F.IsAlwaysCallable f }
         ensures book { pass.new.book ≡ pass.old.book }
         ensures seen { IsPrefix pass.old.history pass.new.history }
         ensures made { Makes (changes result) pass.old.made pass.new.made pass.new.history }
+        ensures crowded { result ≡ Err Refused.Capacity → HasNoRoom K.eq
+            ⟦<S as Keyed<K>>⟧.keys.hash self.now.begun key pass.old.history pass.new.history
+            pass.new.given }
         ensures computed { IsComputeBy K.eq key pass.old.history pass.new.history (Operates F.FnMut)
             f result }
     {
         let map: &'a HashMap<K, V, S> = self.map;
         let shard = map.count.shard(self.guard);
         let mut window = Window::new(&map.book, &pass.sight, &pass.own);
-        let computed = compute(rt, map.alloc, map.initial, &shard, &mut window, key, f);
+        let mut given = Own::nothing();
+        let computed = compute(
+            rt,
+            map.alloc,
+            map.initial,
+            &shard,
+            &mut window,
+            &mut given,
+            key,
+            f,
+        );
         pass.sight = window.sight;
         pass.own = window.own;
+        pass.given = given;
         computed
     }
 }

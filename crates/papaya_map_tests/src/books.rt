@@ -22,14 +22,15 @@ fn the_first_table_is_opened_once(rt: HostRuntime) -> Result<(), Fail> {
     let parts: Parts<u64, u64, Times> = Parts::new(rt.alloc(), ResizeMode::Blocking, APART)?;
     let book = Book::opened(&rt, parts);
     let mut pass = book.pass();
+    let mut given = Own::nothing();
     let (none, table) = book.root(&mut pass);
     is(&rt, none, 0);
     is(&rt, table.is_none(), true);
     let (first, mut seal) = book
-        .make_table(&rt, rt.alloc(), 8, 15, &mut pass)
+        .make_table(&rt, rt.alloc(), 8, 15, &mut pass, &mut given)
         .expect(&rt, "memory");
     let (second, mut other) = book
-        .make_table(&rt, rt.alloc(), 16, 20, &mut pass)
+        .make_table(&rt, rt.alloc(), 16, 20, &mut pass, &mut given)
         .expect(&rt, "memory");
     let (found, _) = book.open(&second, &mut other, &mut pass);
     is(&rt, found, 0);
@@ -52,9 +53,10 @@ fn a_key_is_absent_before_and_after_the_first_table(rt: HostRuntime) -> Result<(
     let parts: Parts<u64, u64, Times> = Parts::new(rt.alloc(), mode, APART)?;
     let book = Book::opened(&rt, parts);
     let mut pass = book.pass();
+    let mut given = Own::nothing();
     lacks(&rt, &book, 5);
     let (table, mut seal) = book
-        .make_table(&rt, rt.alloc(), 8, 15, &mut pass)
+        .make_table(&rt, rt.alloc(), 8, 15, &mut pass, &mut given)
         .expect(&rt, "memory");
     let (found, _) = book.open(&table, &mut seal, &mut pass);
     is(&rt, found, 0);

@@ -29,7 +29,7 @@ impl<'a> Model for Adder<'a> {
 
     ghost view = { λ adder. adder.pass };
 
-    ghost invariant = { λ adder. adder.pass.book ≡ adder.counters };
+    ghost invariant = { λ adder. adder.pass.book ≡ adder.counters.book };
 }
 
 impl<'a> Adder<'a> {

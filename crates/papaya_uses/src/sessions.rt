@@ -28,7 +28,7 @@ impl<'a> Model for Desk<'a> {
 
     ghost view = { λ desk. desk.pass };
 
-    ghost invariant = { λ desk. desk.pass.book ≡ desk.sessions };
+    ghost invariant = { λ desk. desk.pass.book ≡ desk.sessions.book };
 }
 
 impl<'a> Desk<'a> {

@@ -1,18 +1,22 @@
 //! Making and opening tables.
 ghost use Rattle.papaya_book.specs.Books.{IsIn, IsLeft, Opens, Seals, root_then};
-ghost use Rattle.std.specs.Prelude.{◌≡◌, ℕ, ◌+◌, ◌<◌, ◌≤◌, ◌⊎◌, ◌==◌, cond, false, Some, None, IfErr, IfOk, length, map};
+ghost use Rattle.std.specs.Prelude.{◌≡◌, ℕ, ◌+◌, ◌<◌, ◌≤◌, ◌⊎◌, ◌==◌, cond, false, Some, None, [], ◌∷◌, IfErr, IfOk, length, map};
 ghost use mathlib.Core.List.{IsPrefix};
 ghost use Rattle.papaya_ask.specs.Search.{IsSize};
 ghost use Rattle.papaya_book.specs.Calls.{IsTable};
 ghost use Rattle.papaya_book.specs.Makers.{AreMade, IsMade};
+ghost use Rattle.boxcar.specs.Table.{Shows};
+ghost use Rattle.papaya_book.specs.Limits.{IsFull};
 ghost use Rattle.papaya_book.specs.Logs.{seals_of};
 ghost use Rattle.papaya_book.specs.Sheets.{AllOf};
 ghost use Rattle.papaya_book.specs.declared.rule.entry.Named.TheVariants.{Table as TableNamed};
+ghost use Rattle.papaya_book.specs.declared.rule.own.Given.TheVariants as numbers;
 ghost use Rattle.papaya_words.specs.Probe.{IsEntriesFor};
 ghost use Rattle.papaya_words.specs.declared.limits.TheConstants.{MAX_TABLE_LEN};
 
 use crate::book::Book;
 use crate::keyed::Keyed;
+use crate::rule::own::{Given, Own};
 use crate::rule::steps::Laying;
 use crate::rule::token::token;
 use crate::rule::trade;
@@ -52,11 +56,19 @@ impl<K: Hash + Eq, V, S: BuildHasher> Book<K, V, S> {
         Ok(slots)
     }
 
+    /// What tells that the log of tables gave this number.
+    fn gave_table(&self, table: &Pushed<Table<K, V, S>>) -> Own<Given>
+        requires { Shows self.now.parts.tables table.now }
+        ensures { result.done ≡ numbers.Table table.now.index ∷ [] }
+    {
+        let number = Given::Table(table.index());
+        Own::only(&number)
+    }
+
     /// A table of so many slots, all Empty, in the log of tables, with the pen of its seal.
     ///
     /// `Refused::Memory` where a growth was refused, and `Refused::Capacity` where the number that
-    /// the
-    /// log gave it would pass [`MAX_TABLES`].
+    /// the log gave it would pass [`MAX_TABLES`]: then `given` tells that number.
     pub fn make_table<R: Wait>(
         &self,
         rt: &R,
@@ -64,6 +76,7 @@ impl<K: Hash + Eq, V, S: BuildHasher> Book<K, V, S> {
         len: usize,
         limit: usize,
         sight: &mut Sight<K, V, S>,
+        given: &mut Own<Given>,
     ) -> Result<(Pushed<Table<K, V, S>>, Pen), Refused>
         requires book { sight.old.book ≡ self.now.begun.book }
         requires size { IsSize len limit }
@@ -72,7 +85,8 @@ impl<K: Hash + Eq, V, S: BuildHasher> Book<K, V, S> {
         ensures size { IfOk result (λ r. (length r.0.value.slots ≡ len)
             × (r.0.value.limit ≡ limit)) }
         ensures made { IfOk result (λ r. IsMade r.0.value sight.new.log) }
-        ensures err { IfErr result (λ e. (e ≡ Refused.Memory) ⊎ (e ≡ Refused.Capacity)) }
+        ensures err { IfErr result (λ e. (e ≡ Refused.Memory)
+            ⊎ ((e ≡ Refused.Capacity) × IsFull given.new.done)) }
         ensures placed { IfOk result (λ r. IsIn self.now (TableNamed r.0)) }
         ensures pen { IfOk result (λ r. Seals self.now r.1 r.0.value) }
     {
@@ -93,6 +107,7 @@ impl<K: Hash + Eq, V, S: BuildHasher> Book<K, V, S> {
             return Err(Refused::Memory);
         };
         if token.index() as u64 >= MAX_TABLES {
+            *given = self.gave_table(&token);
             return Err(Refused::Capacity);
         }
         Ok((token, seal))
@@ -167,7 +182,8 @@ impl<K: Hash + Eq, V, S: BuildHasher> Book<K, V, S> {
     {
         let (len, limit) = first_size(capacity, initial);
         let mut sight = self.pass();
-        let (table, mut seal) = self.make_table(rt, alloc, len, limit, &mut sight)?;
+        let mut given = Own::nothing();
+        let (table, mut seal) = self.make_table(rt, alloc, len, limit, &mut sight, &mut given)?;
         self.open(&table, &mut seal, &mut sight);
         Ok(())
     }

@@ -5,10 +5,12 @@ ghost use Rattle.boxcar.specs.Table.{Shows};
 ghost use Rattle.papaya_book.specs.Parts.{begun_of};
 ghost use Rattle.papaya_book.specs.declared.rule.entry.Event.TheVariants.{Begin};
 ghost use Rattle.papaya_book.specs.declared.rule.entry.Named.TheVariants.{Pair as PairNamed};
+ghost use Rattle.papaya_book.specs.declared.rule.own.Given.TheVariants as given;
 
 use crate::book::Book;
 use crate::book::parts::Parts;
 use crate::rule::entry::{Pair, Stored};
+use crate::rule::own::{Given, Own};
 use crate::rule::trade::Sight;
 use boxcar::Pushed;
 use papaya_words::probe::ResizeMode;
@@ -63,6 +65,24 @@ impl<K: Hash + Eq, V, S: BuildHasher> Book<K, V, S> {
         ensures { result.now ≡ pair.now.key.value }
     {
         self.parts.keys.value(&pair.key)
+    }
+
+    /// What tells that the log of keys gave this number.
+    pub fn gave_key(&self, key: &Pushed<K>) -> Own<Given>
+        requires { Shows self.now.parts.keys key.now }
+        ensures { result.done ≡ given.Key key.now.index ∷ [] }
+    {
+        let number = Given::Key(key.index());
+        Own::only(&number)
+    }
+
+    /// What tells that the log of pairs gave this number.
+    pub fn gave_pair(&self, stored: &Stored<K, V>) -> Own<Given>
+        requires { IsIn self.now (PairNamed stored.now) }
+        ensures { result.done ≡ given.Pair stored.now.index ∷ [] }
+    {
+        let number = Given::Pair(stored.index());
+        Own::only(&number)
     }
 
     /// What one has seen who saw the book opened, and no more: no exchange.

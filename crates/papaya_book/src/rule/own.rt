@@ -1,5 +1,6 @@
-//! What a caller did by its own steps. Only contracts see it: it has no bytes.
-ghost use Rattle.std.specs.Prelude.{◌≡◌, List, [], ◌++◌};
+//! What a caller did by its own steps, and what it was given. Only contracts see it: it has no
+//! bytes.
+ghost use Rattle.std.specs.Prelude.{◌≡◌, List, [], ◌∷◌, ◌++◌};
 ghost use base.Fml.{ftrue};
 ghost use base.Stored.{coded_list};
 ghost use Rattle.papaya_book.specs.Own.{last_step};
@@ -9,7 +10,15 @@ use crate::rule::trade::Sight;
 use std::hash::{BuildHasher, Hash};
 use std::marker::{Model, PhantomData};
 
-/// Steps that a caller made, oldest first.
+/// A number that one of a book's logs gave to what was put into it.
+#[derive(Clone, Copy)]
+pub enum Given {
+    Key(usize),
+    Pair(usize),
+    Table(usize),
+}
+
+/// Steps that a caller made, or what it was given, oldest first.
 pub struct Own<T> {
     marker: PhantomData<T>,
     pub ghost done: { List T } by { coded_list T.code },
@@ -33,6 +42,16 @@ impl<T> Own<T> {
     pub fn nothing() -> Own<T>
         ensures { result.done ≡ [] }
     {
+        Own {
+            marker: PhantomData,
+        }
+    }
+
+    /// This alone. Only who may tell so calls it.
+    pub(crate) fn only(x: &T) -> Own<T>
+        ensures { result.done ≡ x.now ∷ [] }
+    {
+        let _ = x;
         Own {
             marker: PhantomData,
         }

@@ -3,4 +3,4 @@ use Rattle.papaya_bench.proofs.shared.fill.Given as goal
 
 -- the pass is the map's
 abbrev pub invariant-loop-number : goal.invariant-loop-number
-invariant-loop-number g l = l.pass.book ≡ l.pinned
+invariant-loop-number g l = l.pass.book ≡ l.pinned.book

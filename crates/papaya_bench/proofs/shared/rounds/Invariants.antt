@@ -3,7 +3,7 @@ use Rattle.papaya_bench.proofs.shared.rounds.Given as goal
 
 -- the pass is the map's
 abbrev pub invariant-loop-turn : goal.invariant-loop-turn
-invariant-loop-turn g l = l.pass.book ≡ l.pinned
+invariant-loop-turn g l = l.pass.book ≡ l.pinned.book
 
 abbrev pub invariant-loop-round : goal.invariant-loop-round
-invariant-loop-round g l = l.pass.book ≡ l.pinned
+invariant-loop-round g l = l.pass.book ≡ l.pinned.book

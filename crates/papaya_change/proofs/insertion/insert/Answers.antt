@@ -1,13 +1,19 @@
-use Rattle.std.proofs.Common.{true, Result, Ok, Err, IfOk, refl, sym, ap, ◌∙◌, subst}
+use Rattle.std.proofs.Common.{◌≡◌, true, Result, Ok, Err, IfOk, [], append-nil, refl, sym, ap, ◌∙◌, subst}
+use Rattle.std.specs.Prelude.{IfErr}
+use Rattle.papaya_ask.specs.declared.ask.Ask.TheVariants.{Done}
+use Rattle.papaya_ask.specs.declared.call.Reply.TheVariants.{Refused}
 use Rattle.papaya_ask.specs.declared.call.Task.TheVariants.{Insert}
 use Rattle.papaya_call.specs.declared.machine.Machine.{Machine}
-use Rattle.papaya_call.specs.Machine.{started}
+use Rattle.papaya_call.specs.Machine.{ask_of, started}
 use Rattle.papaya_book.specs.Hashes.{hash_of}
 use Rattle.papaya_book.specs.Parts.{begun_of}
 use Rattle.papaya_book.specs.Windows.{Does}
 use Rattle.papaya_change.specs.Doing.{has_changed}
+use Rattle.papaya_lookup.specs.History.{history_of}
+use Rattle.papaya_lookup.proofs.Histories.{history_since}
 use Rattle.papaya_change.proofs.Doing.{does_on, does_still, idles, makes}
 use Rattle.papaya_change.proofs.Inserting.{begins}
+use Rattle.papaya_change.proofs.NoRoom.{no_room_wider}
 use Rattle.papaya_change.proofs.InsertingReplies.{put_since}
 use Rattle.papaya_book.proofs.Windows.{sees_trans}
 use Rattle.papaya_change.proofs.insertion.insert.Goals as goal
@@ -61,3 +67,11 @@ returns-in-None-answer-clause-made g c =
     let u = c.loop.invariant.0 in let r = (c.in-None-answer.ensures.inserts c.args.key c.args.value u.0 u.2).0 in let call = c.answer.new.self.writer.call in
     let does = does_still c.loop.insertion.writer.call.machine c.args.window.now c.loop.window c.answer.new.window c.loop.invariant.3 c.in-None-answer.ensures.answers in
     rw c.replied.ensures.changed (makes g.K.PartialEq.eq u.0 call.taken call.put call.machine c.args.window.now c.answer.new.window r.writing.calling.changed (rw c.answer.ensures.machine does))
+
+pub returns-in-None-answer-clause-crowded : goal.returns-in-None-answer-clause-crowded
+returns-in-None-answer-clause-crowded g c = λ e.
+    let u = c.loop.invariant.0 in let r = (c.in-None-answer.ensures.inserts c.args.key c.args.value u.0 u.2).0 in
+    let log = c.answer.new.window.sight.log in
+    let refused = subst (λ (z : _). IfErr z (λ cause. ask_of c.answer.new.self.writer.call.machine ≡ Done (Refused cause))) e c.replied.ensures.refusal in
+    rw (c.answer.ensures.sees.book, c.again.ensures)
+    (no_room_wider g.K.PartialEq.eq (hash_of g.K.Hash.hash_input g.S.BuildHasher.build_hasher g.S.Hasher.Hasher.write g.S.Hasher.Hasher.finish) (begun_of c.loop.window.book.now.parts) c.args.key (history_of c.args.window.now.sight.log) (history_of u.0) (history_of log) (history_of log) (history_since c.args.window.now.sight.log u.0 u.1) ([], append-nil (history_of log)) c.answer.new.self.writer.given.done (r.crowded refused))

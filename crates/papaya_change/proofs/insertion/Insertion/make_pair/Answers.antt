@@ -1,5 +1,4 @@
 use Rattle.std.proofs.Common.{sym, ◌∙◌}
-use Rattle.papaya_book.specs.Hashes.{hash_of}
 use Rattle.papaya_book.specs.Parts.{begun_of}
 use Rattle.papaya_book.specs.Plays.{made_list}
 use Rattle.papaya_change.proofs.Inserting.{pair_made, pair_unmade}
@@ -11,9 +10,9 @@ log_pair-requires-clause-can g c = (c.requires.can.0, made_list c.args.self.now.
 pub returns-in-Ok-clause-inserts : goal.returns-in-Ok-clause-inserts
 returns-in-Ok-clause-inserts g c = λ key value begun r.
     let logged = c.in-Ok.ensures in let on = logged.pairs key (made_list c.args.self.now.made) begun r.writing in
-    pair_made g.K.PartialEq.eq (hash_of g.K.Hash.hash_input g.S.BuildHasher.build_hasher g.S.Hasher.Hasher.write g.S.Hasher.Hasher.finish) (begun_of c.args.window.now.book.now.parts) c.args.window.now.book.now.begun.book key value begun c.args.window.now.sight.log c.args.self.now r c.log_pair.new.self c.in-Ok.pair c.index-number.result c.index-number.ensures c.requires.asks logged.machine logged.value.0 logged.value.1 logged.put on.0 c.requires.standing on.1
+    pair_made g.K.PartialEq.eq g.K.Hash.hash_input g.S.BuildHasher.build_hasher g.S.Hasher.Hasher.write g.S.Hasher.Hasher.finish g.met.K.Eq.laws g.met.K.Hash.respects_eq (begun_of c.args.window.now.book.now.parts) c.args.window.now.book.now.begun.book key value begun c.args.window.now.sight.log c.args.self.now r c.log_pair.new.self c.in-Ok.pair c.index-number.result c.index-number.ensures c.requires.asks logged.machine logged.value.0 logged.value.1 logged.put on.0 c.requires.standing on.1
 
 pub returns-in-Err-clause-inserts : goal.returns-in-Err-clause-inserts
 returns-in-Err-clause-inserts g c = λ key value begun r.
     let same = c.log_pair.ensures in
-    pair_unmade g.K.PartialEq.eq (hash_of g.K.Hash.hash_input g.S.BuildHasher.build_hasher g.S.Hasher.Hasher.write g.S.Hasher.Hasher.finish) (begun_of c.args.window.now.book.now.parts) c.args.window.now.book.now.begun.book key value begun c.args.window.now.sight.log c.args.self.now r c.log_pair.new.self c.in-Err.answer same.machine same.left same.put c.requires.standing (λ reply h. let f = sym c.requires.asks ∙ h in cc f) c.in-Err.ensures.unlogged (c.in-Err.ensures.writes key (made_list c.args.self.now.made) begun r.writing)
+    pair_unmade g.K.PartialEq.eq g.K.Hash.hash_input g.S.BuildHasher.build_hasher g.S.Hasher.Hasher.write g.S.Hasher.Hasher.finish g.met.K.Eq.laws g.met.K.Hash.respects_eq (begun_of c.args.window.now.book.now.parts) c.args.window.now.book.now.begun.book key value begun c.args.window.now.sight.log c.args.self.now r c.log_pair.new.self c.in-Err.answer same.machine same.left same.put c.requires.standing (λ reply h. let f = sym c.requires.asks ∙ h in cc f) c.in-Err.ensures.unsaid (c.in-Err.ensures.writes key (made_list c.args.self.now.made) begun r.writing)

@@ -1,5 +1,4 @@
 use Rattle.std.proofs.Common.{sym, ◌∙◌}
-use Rattle.papaya_book.specs.Hashes.{hash_of}
 use Rattle.papaya_book.specs.Parts.{begun_of}
 use Rattle.papaya_book.specs.Plays.{made_list}
 use Rattle.papaya_lookup.proofs.Driving.{is_made}
@@ -21,5 +20,5 @@ put-requires-clause-kind g c = put_kind g.K.PartialEq.eq g.K.Hash.hash_input g.S
 pub returns-clause-inserts : goal.returns-clause-inserts
 returns-clause-inserts g c = λ key value begun r.
     let on = c.put.ensures in let q = c.in-Some.made in
-    pair_tried g.K.PartialEq.eq (hash_of g.K.Hash.hash_input g.S.BuildHasher.build_hasher g.S.Hasher.Hasher.write g.S.Hasher.Hasher.finish) (begun_of c.args.window.now.book.now.parts) c.args.window.now.book.now.begun.book key value begun c.args.window.now.sight.log c.args.self.now r c.put.new.window.sight.log c.put.new.self c.put.result q c.in-Some.is on.machine on.value on.put c.requires.standing (λ reply h. let f = sym c.requires.asks ∙ h in cc f) on.unsaid
+    pair_tried g.K.PartialEq.eq g.K.Hash.hash_input g.S.BuildHasher.build_hasher g.S.Hasher.Hasher.write g.S.Hasher.Hasher.finish g.met.K.Eq.laws g.met.K.Hash.respects_eq (begun_of c.args.window.now.book.now.parts) c.args.window.now.book.now.begun.book key value begun c.args.window.now.sight.log c.args.self.now r c.put.new.window.sight.log on.sees.log c.put.new.self c.put.result q c.in-Some.is on.machine on.value on.put c.requires.standing (λ reply h. let f = sym c.requires.asks ∙ h in cc f) on.unsaid
     (on.writes key (made_list c.args.self.now.made) begun r.writing (is_made c.args.self.now.made q c.in-Some.is))

@@ -2,7 +2,6 @@ use Rattle.std.proofs.Common.{◌≡◌, Some, [], append-nil, refl, sym, subst}
 use Rattle.papaya_ask.specs.declared.ask.Ask.TheVariants.{AddToShard, MakePair, ShowNone, ShowPair}
 use Rattle.papaya_ask.specs.declared.ask.Answer.TheVariants.{Ok}
 use Rattle.papaya_call.specs.Machine.{ask_of}
-use Rattle.papaya_book.specs.Hashes.{hash_of}
 use Rattle.papaya_book.specs.Parts.{begun_of}
 use Rattle.papaya_change.specs.Showings.{Operates}
 use Rattle.papaya_change.proofs.Doing.{idle, left_alone}
@@ -15,7 +14,7 @@ pub returns-in-AddToShard-clause-computes : goal.returns-in-AddToShard-clause-co
 returns-in-AddToShard-clause-computes g c = λ key first begun r.
     let asks : ask_of c.args.self.now.writer.call.machine ≡ AddToShard c.in-AddToShard.by = sym c.in-AddToShard.ensures.value in
     let on = counted_on g.K.PartialEq.eq g.K.Hash.hash_input g.S.BuildHasher.build_hasher g.S.Hasher.Hasher.write g.S.Hasher.Hasher.finish g.met.K.Eq.laws g.met.K.Hash.respects_eq (begun_of c.args.window.now.book.now.parts) c.args.window.now.book.now.begun.book key r.made begun c.args.window.now.sight.log c.args.self.now.writer r.writing c.in-AddToShard.by asks in
-    goes_on g.K.PartialEq.eq (hash_of g.K.Hash.hash_input g.S.BuildHasher.build_hasher g.S.Hasher.Hasher.write g.S.Hasher.Hasher.finish) (begun_of c.args.window.now.book.now.parts) c.args.window.now.book.now.begun.book (Operates g.F.FnMut) key first begun c.args.window.now.sight.log c.args.self.now c.args.compute.now r c.requires.standing (subst IsSilent (sym asks) tt) c.args.window.now.sight.log ([], append-nil c.args.window.now.sight.log) c.args.self.now.writer Ok refl refl (λ cause e. absurd (cc e)) on
+    goes_on g.K.PartialEq.eq g.K.Hash.hash_input g.S.BuildHasher.build_hasher g.S.Hasher.Hasher.write g.S.Hasher.Hasher.finish g.met.K.Eq.laws g.met.K.Hash.respects_eq (begun_of c.args.window.now.book.now.parts) c.args.window.now.book.now.begun.book (Operates g.F.FnMut) key first begun c.args.window.now.sight.log c.args.self.now c.args.compute.now r c.requires.standing (subst IsSilent (sym asks) tt) c.args.window.now.sight.log ([], append-nil c.args.window.now.sight.log) c.args.self.now.writer Ok refl refl (λ cause e. absurd (cc e)) on
 
 pub returns-in-ShowNone-clause-answers : goal.returns-in-ShowNone-clause-answers
 returns-in-ShowNone-clause-answers g c = idle (ShowNone) _ c.in-ShowNone.ensures.value tt (Some c.show_none.result) c.args.window.now c.args.window.now refl

@@ -7,7 +7,7 @@ use Rattle.papaya_map.proofs.computing.Computing.make_pair.Goals as goal
 pub returns-in-Err-clause-computes : goal.returns-in-Err-clause-computes
 returns-in-Err-clause-computes g c = λ key first begun r.
     let e = c.in-Err.ensures in
-    unmade g.K.PartialEq.eq (hash_of g.K.Hash.hash_input g.S.BuildHasher.build_hasher g.S.Hasher.Hasher.write g.S.Hasher.Hasher.finish) (begun_of c.args.window.now.book.now.parts) c.args.window.now.book.now.begun.book (Operates g.F.FnMut) key first begun c.args.window.now.sight.log c.args.self.now c.args.compute.now r c.requires.standing c.requires.asks c.log_pair.new.self c.in-Err.answer e.machine e.unlogged e.kept (e.writes key r.made begun r.writing)
+    unmade g.K.PartialEq.eq (hash_of g.K.Hash.hash_input g.S.BuildHasher.build_hasher g.S.Hasher.Hasher.write g.S.Hasher.Hasher.finish) (begun_of c.args.window.now.book.now.parts) c.args.window.now.book.now.begun.book (Operates g.F.FnMut) key first begun c.args.window.now.sight.log c.args.self.now c.args.compute.now r c.requires.standing c.requires.asks c.log_pair.new.self c.in-Err.answer e.machine e.unlogged e.unsaid e.kept (e.writes key r.made begun r.writing)
 
 pub returns-in_default-clause-computes : goal.returns-in_default-clause-computes
 returns-in_default-clause-computes g c = λ key first begun r.
