@@ -1,18 +1,12 @@
 //! The callers, and the calls that they have under way.
 ghost use Rattle.std.specs.Prelude.{◌≡◌, ◌<◌, length, [], ◌∷◌, ◌++◌, None, Some, is_some, IsSome, OnOk, IfErr, slice_get, slice_set};
-ghost use Rattle.papaya_core.specs.Callers.{running, with_call, with_seat, IsSeated, IsSeatAt};
+ghost use Rattle.papaya_timeline.specs.Callers.{running, with_call, with_seat, IsSeated, IsSeatAt};
 
-use crate::pairs::Running;
+use papaya_store::pairs::Running;
+pub use papaya_timeline::seat::Seat;
 use papaya_words::probe::Refused;
 use std::alloc::Global;
 use std::marker::Model;
-
-/// A caller that has begun a call at some time, and the call that it has under way.
-#[derive(Drop)]
-pub struct Seat<K, V, A> {
-    pub caller: usize,
-    pub call: Option<Running<K, V, A>>,
-}
 
 /// The callers that ever began a call, in the order of their first begins. A large number of a
 /// caller takes no more memory than a small one.
@@ -23,7 +17,7 @@ pub struct Callers<K, V, A> {
 
 impl<K, V, A> Model for Callers<K, V, A> {
     ghost use Rattle.std.specs.Prelude.{List};
-    ghost use Rattle.papaya_core.specs.declared.callers.Seat.{Seat};
+    ghost use Rattle.papaya_timeline.specs.declared.seat.Seat.{Seat};
 
     ghost Value = { List (Seat K V A) };
 

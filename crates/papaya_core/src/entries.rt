@@ -1,11 +1,11 @@
 //! The entries of a trace.
 ghost use Rattle.std.specs.Prelude.{◌≡◌, ◌+◌, ◌<◌, ◌≤◌, ◌∷◌, reverse, OnOk, IfErr, vec_len, vec_capacity};
-ghost use Rattle.papaya_core.specs.Advances.{event_of, exchange_event, shown_event};
-ghost use Rattle.papaya_core.specs.Runs.{with_step};
+ghost use Rattle.papaya_timeline.specs.Advances.{event_of, exchange_event, shown_event};
+ghost use Rattle.papaya_timeline.specs.Runs.{with_step};
 
-use crate::trace::{Entry, Event};
 use papaya_ask::ask::{Answer, Ask, StepKind};
 use papaya_ask::call::Reply;
+use papaya_timeline::trace::{Entry, Event};
 use papaya_words::probe::Refused;
 use papaya_words::word::Word;
 

@@ -3,30 +3,30 @@ ghost use Rattle.std.specs.Prelude.{◌≡◌, ◌<◌, ◌^◌, length, IfOk, I
 ghost use Rattle.papaya_law.specs.Content.{AreApart};
 ghost use Rattle.papaya_words.specs.Mode.{IsChunked};
 ghost use Rattle.papaya_call.specs.Machine.{IsStanding};
-ghost use Rattle.papaya_core.specs.Callers.{running};
-ghost use Rattle.papaya_core.specs.Store.{KeepsPairs, pair_of};
+ghost use Rattle.papaya_timeline.specs.Callers.{running};
+ghost use Rattle.papaya_store.specs.Store.{KeepsPairs, pair_of};
 ghost use Rattle.papaya_keys.specs.Hashes.{hash_of};
-ghost use Rattle.papaya_core.specs.Core.{call_of};
-ghost use Rattle.papaya_core.specs.Content.{content};
-ghost use Rattle.papaya_core.specs.Counted.{IsCounted};
-ghost use Rattle.papaya_core.specs.Begins.{Begins, begun};
-ghost use Rattle.papaya_core.specs.Advances.{AddsToShard, Advances, event_of, reply_in};
-ghost use Rattle.papaya_core.specs.Headline.{HasTimeline};
-ghost use Rattle.papaya_core.specs.Moves.{MovesMap};
-ghost use Rattle.papaya_core.specs.New.{IsNew};
+ghost use Rattle.papaya_timeline.specs.Core.{call_of};
+ghost use Rattle.papaya_timeline.specs.Content.{content};
+ghost use Rattle.papaya_timeline.specs.Counted.{IsCounted};
+ghost use Rattle.papaya_timeline.specs.Begins.{Begins, begun};
+ghost use Rattle.papaya_timeline.specs.Advances.{AddsToShard, Advances, event_of, reply_in};
+ghost use Rattle.papaya_timeline.specs.Headline.{HasTimeline};
+ghost use Rattle.papaya_timeline.specs.Moves.{MovesMap};
+ghost use Rattle.papaya_timeline.specs.New.{IsNew};
 ghost use Rattle.papaya_keys.specs.Sizes.{IsSizeRefusal};
 ghost use Rattle.papaya_keys.specs.Sizes.{IsAllowed};
-ghost use Rattle.papaya_core.specs.Runs.{TurnsRun, StopsEarly, TurnRuns, IsCutShort, BeginRuns, StepRuns, StepsRun};
+ghost use Rattle.papaya_timeline.specs.Runs.{TurnsRun, StopsEarly, TurnRuns, IsCutShort, BeginRuns, StepRuns, StepsRun};
 
 use crate::callers::Callers;
 use crate::entries::{event_of, push_entry, push_step, reserve_entries};
-use crate::pairs::{KeyOf, Running};
-use crate::store::Store;
-use crate::trace::{Entry, Event, Trace, Turn};
 use papaya_ask::ask::Ask;
 use papaya_ask::call::{Call, Reply, Task};
 use papaya_call::answers::Answers;
 use papaya_call::machine::Machine;
+use papaya_store::pairs::{KeyOf, Running};
+use papaya_store::store::Store;
+use papaya_timeline::trace::{Entry, Event, Trace, Turn};
 use papaya_words::probe::{Refused, ResizeMode};
 use std::alloc::Global;
 use std::hash::{BuildHasher, Hash};
@@ -48,9 +48,9 @@ pub struct Core<K: Hash + Eq, V, S: BuildHasher, A> {
 }
 
 impl<K: Hash + Eq, V, S: BuildHasher, A> Model for Core<K, V, S, A> {
-    ghost use Rattle.papaya_core.specs.Core.{CoreState};
-    ghost use Rattle.papaya_core.specs.Counted.{IsCounted};
-    ghost use Rattle.papaya_core.specs.Kept.{IsLawfulCore};
+    ghost use Rattle.papaya_timeline.specs.Core.{CoreState};
+    ghost use Rattle.papaya_timeline.specs.Counted.{IsCounted};
+    ghost use Rattle.papaya_timeline.specs.Kept.{IsLawfulCore};
     ghost use Rattle.papaya_keys.specs.Hashes.{hash_of};
 
     ghost Value = { CoreState K V S A };

@@ -3,8 +3,8 @@ use Rattle.std.proofs.Common.{◌≡◌, ◌≢◌, ℕ, List, ◌∷◌, ◌++�
 use Rattle.std.specs.Prelude.{◌⊎◌, Option, None, MatchOption}
 use Rattle.papaya_ask.specs.declared.call.Call.{Call}
 use Rattle.papaya_ask.specs.declared.call.Call.TheVariants.{Get, Insert, TryInsert, RemoveIf, Compute}
-use Rattle.papaya_core.specs.declared.trace.Turn.{Turn}
-use Rattle.papaya_core.specs.declared.trace.Turn.TheVariants.{Begin, Step, Finish}
+use Rattle.papaya_timeline.specs.declared.trace.Turn.{Turn}
+use Rattle.papaya_timeline.specs.declared.trace.Turn.TheVariants.{Begin, Step, Finish}
 use Rattle.papaya_lines.specs.Commands.{Parts, WritesCommand}
 use Rattle.papaya_lines.specs.Turns.{WritesCaller, WritesCall, WritesTurn, verb_word}
 use Rattle.papaya_lines.specs.declared.closures.Answering.{Answering}

@@ -2,7 +2,7 @@
 use Rattle.std.specs.Prelude.{ℕ, Bool, true, false, Option, Some, option_map}
 use Rattle.papaya_ask.specs.declared.call.Reply.{Reply}
 use Rattle.papaya_ask.specs.declared.call.Reply.TheVariants.{Absent, Found, Inserted, Replaced, Occupied, Removed, Kept, Aborted, Refused}
-use Rattle.papaya_core.specs.Store.{StoreState, pair_of}
+use Rattle.papaya_store.specs.Store.{StoreState, pair_of}
 use Rattle.papaya_lines.specs.declared.printed.Printed.{Printed}
 use Rattle.papaya_lines.specs.declared.printed.Printed.TheVariants as printed
 

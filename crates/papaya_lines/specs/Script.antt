@@ -1,7 +1,7 @@
 -- What a script keeps of its lines.
 use Rattle.std.specs.Prelude.{◌≡◌, ℕ, List, [], ◌∷◌, ◌++◌, Some, ◌⊎◌}
-use Rattle.papaya_core.specs.declared.trace.Turn.{Turn}
-use Rattle.papaya_core.specs.declared.trace.Turn.TheVariants.{Begin, Step, Finish}
+use Rattle.papaya_timeline.specs.declared.trace.Turn.{Turn}
+use Rattle.papaya_timeline.specs.declared.trace.Turn.TheVariants.{Begin, Step, Finish}
 use Rattle.papaya_lines.specs.declared.closures.Answering.{Answering}
 use Rattle.papaya_ask.specs.declared.call.Call.{Call}
 use Rattle.papaya_ask.specs.declared.call.Call.TheVariants.{Get, Insert, TryInsert, RemoveIf, Compute}

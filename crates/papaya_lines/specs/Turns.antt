@@ -2,8 +2,8 @@
 use Rattle.std.specs.Prelude.{◌≡◌, ℕ, ◌<◌, true, false, List, [], ◌∷◌, codes}
 use Rattle.papaya_ask.specs.declared.call.Call.{Call}
 use Rattle.papaya_ask.specs.declared.call.Call.TheVariants.{Get, Insert, TryInsert, RemoveIf, Compute}
-use Rattle.papaya_core.specs.declared.trace.Turn.{Turn}
-use Rattle.papaya_core.specs.declared.trace.Turn.TheVariants.{Begin, Step, Finish}
+use Rattle.papaya_timeline.specs.declared.trace.Turn.{Turn}
+use Rattle.papaya_timeline.specs.declared.trace.Turn.TheVariants.{Begin, Step, Finish}
 use Rattle.papaya_lines.specs.Commands.{WritesCommand, spaced}
 use Rattle.papaya_lines.specs.Numbers.{WritesNumber}
 use Rattle.papaya_lines.specs.declared.closures.Answering.{Answering}

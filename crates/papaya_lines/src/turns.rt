@@ -1,7 +1,7 @@
 //! The lines of a script, which are turns of callers.
 ghost use Rattle.std.specs.Prelude.{◌≡◌, ◌≢◌, ℕ, List, MatchOption};
 ghost use Rattle.papaya_ask.specs.declared.call.Call.{Call};
-ghost use Rattle.papaya_core.specs.declared.trace.Turn.{Turn};
+ghost use Rattle.papaya_timeline.specs.declared.trace.Turn.{Turn};
 ghost use Rattle.papaya_lines.specs.Turns.{WritesCaller, WritesCall, WritesTurn, verb_word};
 ghost use Rattle.papaya_lines.specs.declared.closures.Answering.{Answering};
 ghost use Rattle.papaya_lines.specs.declared.turns.Verb.{Verb};

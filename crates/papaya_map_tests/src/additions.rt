@@ -115,18 +115,28 @@ fn checks(rt: &impl Abort, key: u64, first: &Counts, second: &Counts) {
     }
 }
 
+/// Each key ends at the last value, and each value of it was answered once.
+fn ends(rt: &impl Abort, map: &Numbers, first: &Counts, second: &Counts) {
+    is(rt, (first.legal, second.legal), (true, true));
+    counts(rt, map, 4);
+    for key in 0..KEYS {
+        let mut pass = map.pass();
+        finds(rt, map, key, &mut pass, Some(&LAST));
+        checks(rt, key, first, second);
+    }
+}
+
+/// Two threads add to a map of no pairs.
+fn adds<R: Threads + Wait + Sync + Abort>(rt: &R, alloc: Global, map: &Numbers) {
+    let (first, second) = add_both(rt, alloc, map);
+    let first = first.expect(rt, "counts");
+    let second = second.expect(rt, "counts");
+    ends(rt, map, &first, &second);
+}
+
 /// No addition of two threads is lost, and none is made twice.
 #[test]
 fn each_addition_is_made_once(rt: HostRuntime) {
     let map = numbers(&rt, rt.alloc());
-    let (first, second) = add_both(&rt, rt.alloc(), &map);
-    let first = first.expect(&rt, "counts");
-    let second = second.expect(&rt, "counts");
-    is(&rt, (first.legal, second.legal), (true, true));
-    counts(&rt, &map, 4);
-    for key in 0..KEYS {
-        let mut pass = map.pass();
-        finds(&rt, &map, key, &mut pass, Some(&LAST));
-        checks(&rt, key, &first, &second);
-    }
+    adds(&rt, rt.alloc(), &map);
 }

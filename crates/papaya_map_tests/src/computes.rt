@@ -39,40 +39,82 @@ fn turns<R: Wait + Abort>(
     is(rt, found, Ok(wanted));
 }
 
-#[test]
-fn a_compute_does_what_its_closure_answers(rt: HostRuntime) {
-    let map = numbers(&rt, rt.alloc());
-    let mut pass = map.pass();
-    turns(&rt, &map, &mut pass, Compute::Aborted(()));
-    counts(&rt, &map, 0);
-    inserts(&rt, &map, 65, 1, &mut pass, Ok(None));
+/// Where there is no pair the closure aborts, and an odd value is updated.
+fn updates_odd<R: Wait + Abort>(rt: &R, map: &Numbers, pass: &mut NumbersPass)
+    requires { pass.old.book ≡ map.now.book }
+    ensures { pass.new.book ≡ pass.old.book }
+{
+    turns(rt, map, pass, Compute::Aborted(()));
+    counts(rt, map, 0);
+    inserts(rt, map, 65, 1, pass, Ok(None));
     let updated = Compute::Updated {
         old: (&65, &1),
         new: (&65, &2),
     };
-    turns(&rt, &map, &mut pass, updated);
-    counts(&rt, &map, 1);
-    finds(&rt, &map, 65, &mut pass, Some(&2));
-    turns(&rt, &map, &mut pass, Compute::Removed(&65, &2));
-    finds(&rt, &map, 65, &mut pass, None);
-    counts(&rt, &map, 0);
+    turns(rt, map, pass, updated);
+    counts(rt, map, 1);
+    finds(rt, map, 65, pass, Some(&2));
+}
+
+/// An even value is removed.
+fn removes_even<R: Wait + Abort>(rt: &R, map: &Numbers, pass: &mut NumbersPass)
+    requires { pass.old.book ≡ map.now.book }
+    ensures { pass.new.book ≡ pass.old.book }
+{
+    turns(rt, map, pass, Compute::Removed(&65, &2));
+    finds(rt, map, 65, pass, None);
+    counts(rt, map, 0);
+}
+
+/// Both, by one pass.
+fn turns_by_parity<R: Wait + Abort>(rt: &R, map: &Numbers) {
+    let mut pass = map.pass();
+    updates_odd(rt, map, &mut pass);
+    removes_even(rt, map, &mut pass);
+}
+
+#[test]
+fn a_compute_does_what_its_closure_answers(rt: HostRuntime) {
+    let map = numbers(&rt, rt.alloc());
+    turns_by_parity(&rt, &map);
+}
+
+/// A removal by a compute is refused where there is no pair.
+fn removes_nothing<R: Wait + Abort>(rt: &R, map: &Numbers, pass: &mut NumbersPass)
+    requires { pass.old.book ≡ map.now.book }
+    ensures { pass.new.book ≡ pass.old.book }
+{
+    let removed: Result<Compute<u64, u64, ()>, Refused> = map
+        .pin()
+        .compute_as(rt, 1, |_| Operation::Remove, pass);
+    is(rt, removed, Err(Refused::RemoveNothing));
+}
+
+/// An abort of a compute is answered with what it was given.
+fn aborts_with_five<R: Wait + Abort>(rt: &R, map: &Numbers, pass: &mut NumbersPass)
+    requires { pass.old.book ≡ map.now.book }
+    ensures { pass.new.book ≡ pass.old.book }
+{
+    let aborted = map
+        .pin()
+        .compute_as(rt, 1, |_| Operation::Abort(5u64), pass);
+    is(rt, aborted, Ok(Compute::Aborted(5)));
+}
+
+/// Both, by one pass, on a map of no pairs.
+fn changes_nothing<R: Wait + Abort>(rt: &R, map: &Numbers) {
+    let mut pass = map.pass();
+    removes_nothing(rt, map, &mut pass);
+    counts(rt, map, 0);
+    aborts_with_five(rt, map, &mut pass);
+    counts(rt, map, 0);
+    finds(rt, map, 1, &mut pass, None);
 }
 
 #[test]
 fn a_compute_has_nothing_to_remove(rt: HostRuntime) {
     let map = numbers(&rt, rt.alloc());
-    let mut pass = map.pass();
-    let removed: Result<Compute<u64, u64, ()>, Refused> = map
-        .pin()
-        .compute_as(&rt, 1, |_| Operation::Remove, &mut pass);
-    is(&rt, removed, Err(Refused::RemoveNothing));
-    counts(&rt, &map, 0);
-    let aborted = map
-        .pin()
-        .compute_as(&rt, 1, |_| Operation::Abort(5u64), &mut pass);
-    is(&rt, aborted, Ok(Compute::Aborted(5)));
-    counts(&rt, &map, 0);
-    finds(&rt, &map, 1, &mut pass, None);
+    changes_nothing(&rt, &map);
 }
 
 /// What a closure of the tests answers.
@@ -123,10 +165,8 @@ fn shown_by<R: Wait>(
     (nones, pairs, last)
 }
 
-/// Where nobody else acts, a closure is called once, whatever it answers.
-#[test]
-fn a_closure_is_called_once(rt: HostRuntime) {
-    let map = numbers(&rt, rt.alloc());
+/// What the closures of a line of computes are shown.
+fn shows_each_once<R: Wait + Abort>(rt: &R, map: &Numbers) {
     for (says, shown) in [
         (Says::Leave, (1, 0, None)),
         (Says::Remove, (1, 0, None)),
@@ -136,19 +176,27 @@ fn a_closure_is_called_once(rt: HostRuntime) {
         (Says::Remove, (0, 1, Some((7, 71)))),
         (Says::Leave, (1, 0, None)),
     ] {
-        is(&rt, shown_by(&rt, &map, 7, says), shown);
+        is(rt, shown_by(rt, map, 7, says), shown);
     }
+}
+
+/// Where nobody else acts, a closure is called once, whatever it answers.
+#[test]
+fn a_closure_is_called_once(rt: HostRuntime) {
+    let map = numbers(&rt, rt.alloc());
+    shows_each_once(&rt, &map);
     counts(&rt, &map, 0);
 }
 
-#[test]
-fn a_compute_inserts_where_there_is_none(rt: HostRuntime) -> Result<(), Fail> {
-    let map = made(&rt, rt.alloc(), ResizeMode::Incremental(64), 0, 4)?;
-    let mut pass = map.pass();
+/// A compute stores a value where there is none, and is shown none, once.
+fn stores_where_none_is<R: Wait + Abort>(rt: &R, map: &Numbers, pass: &mut NumbersPass)
+    requires { pass.old.book ≡ map.now.book }
+    ensures { pass.new.book ≡ pass.old.book }
+{
     let mut nones = 0u64;
     let mut pairs = 0u64;
     let inserted: Result<Compute<u64, u64, ()>, Refused> = map.pin().compute_as(
-        &rt,
+        rt,
         3,
         |shown| {
             match shown {
@@ -157,11 +205,23 @@ fn a_compute_inserts_where_there_is_none(rt: HostRuntime) -> Result<(), Fail> {
             }
             Operation::Insert(30)
         },
-        &mut pass,
+        pass,
     );
-    is(&rt, inserted, Ok(Compute::Inserted(&3, &30)));
-    is(&rt, (nones, pairs), (1, 0));
-    finds(&rt, &map, 3, &mut pass, Some(&30));
-    counts(&rt, &map, 1);
+    is(rt, inserted, Ok(Compute::Inserted(&3, &30)));
+    is(rt, (nones, pairs), (1, 0));
+}
+
+/// The same, and then a lookup by the pass.
+fn stores_and_finds<R: Wait + Abort>(rt: &R, map: &Numbers) {
+    let mut pass = map.pass();
+    stores_where_none_is(rt, map, &mut pass);
+    finds(rt, map, 3, &mut pass, Some(&30));
+    counts(rt, map, 1);
+}
+
+#[test]
+fn a_compute_inserts_where_there_is_none(rt: HostRuntime) -> Result<(), Fail> {
+    let map = made(&rt, rt.alloc(), ResizeMode::Incremental(64), 0, 4)?;
+    stores_and_finds(&rt, &map);
     Ok(())
 }

@@ -5,6 +5,7 @@ use crate::threads::turn_until;
 use papaya_call::answers::Operation;
 use papaya_keys::compute::Compute;
 use papaya_words::probe::Refused;
+use std::process::Abort;
 use std::sync::Wait;
 use std::sync::atomic::{AtomicBool, Ordering};
 use std::thread::{Threads, join};
@@ -95,21 +96,31 @@ fn removal_at_gate<R: Threads + Wait + Sync>(
     )
 }
 
+/// The closure was shown both pairs, and the second one was removed.
+fn removed_the_second(rt: &impl Abort, gated: &Removal) {
+    is(rt, (gated.met, gated.times), (true, 2));
+    is(rt, gated.first, Some((1, 10)));
+    is(rt, gated.last, Some((1, 20)));
+    is(rt, gated.removed, Some((1, 20)));
+}
+
+/// A pair is stored, and then removed and replaced at once.
+fn removes_what_replaced<R: Threads + Wait + Sync + Abort>(rt: &R, map: &Numbers) {
+    let mut pass = map.pass();
+    inserts(rt, map, 1, 10, &mut pass, Ok(None));
+    let (gated, other) = removal_at_gate(rt, map);
+    is(rt, other, (true, Some(10), Some(10)));
+    removed_the_second(rt, &gated);
+    finds(rt, map, 1, &mut pass, None);
+    counts(rt, map, 0);
+}
+
 /// A pair that is replaced while it is shown is not removed: the closure is shown the one that took
 /// its place.
 #[test]
 fn a_removal_shows_what_replaced_its_pair(rt: HostRuntime) {
     let map = numbers(&rt, rt.alloc());
-    let mut pass = map.pass();
-    inserts(&rt, &map, 1, 10, &mut pass, Ok(None));
-    let (gated, other) = removal_at_gate(&rt, &map);
-    is(&rt, other, (true, Some(10), Some(10)));
-    is(&rt, (gated.met, gated.times), (true, 2));
-    is(&rt, gated.first, Some((1, 10)));
-    is(&rt, gated.last, Some((1, 20)));
-    is(&rt, gated.removed, Some((1, 20)));
-    finds(&rt, &map, 1, &mut pass, None);
-    counts(&rt, &map, 0);
+    removes_what_replaced(&rt, &map);
 }
 
 /// What the closure of a compute was shown, and the values that the compute answered of the old
@@ -194,21 +205,30 @@ fn update_at_gate<R: Threads + Wait + Sync>(
     )
 }
 
+/// The closure was shown both pairs, and the second one was updated.
+fn updated_the_second(rt: &impl Abort, gated: &Update) {
+    is(rt, gated.met, true);
+    is(rt, (gated.nones, gated.pairs), (0, 2));
+    is(rt, gated.first, Some((1, 10)));
+    is(rt, gated.last, Some((1, 20)));
+    is(rt, gated.updated, Some((20, 21)));
+}
+
+/// A pair is stored, and then added to and replaced at once.
+fn updates_what_replaced<R: Threads + Wait + Sync + Abort>(rt: &R, map: &Numbers) {
+    let mut pass = map.pass();
+    inserts(rt, map, 1, 10, &mut pass, Ok(None));
+    let (gated, other) = update_at_gate(rt, map);
+    is(rt, other, (true, Some(10), Some(10)));
+    updated_the_second(rt, &gated);
+    finds(rt, map, 1, &mut pass, Some(&21));
+    counts(rt, map, 1);
+}
+
 /// A value that is replaced while it is shown is not added to: the closure is shown the one that
-/// took
-/// its place.
+/// took its place.
 #[test]
 fn a_compute_shows_what_replaced_its_pair(rt: HostRuntime) {
     let map = numbers(&rt, rt.alloc());
-    let mut pass = map.pass();
-    inserts(&rt, &map, 1, 10, &mut pass, Ok(None));
-    let (gated, other) = update_at_gate(&rt, &map);
-    is(&rt, other, (true, Some(10), Some(10)));
-    is(&rt, gated.met, true);
-    is(&rt, (gated.nones, gated.pairs), (0, 2));
-    is(&rt, gated.first, Some((1, 10)));
-    is(&rt, gated.last, Some((1, 20)));
-    is(&rt, gated.updated, Some((20, 21)));
-    finds(&rt, &map, 1, &mut pass, Some(&21));
-    counts(&rt, &map, 1);
+    updates_what_replaced(&rt, &map);
 }

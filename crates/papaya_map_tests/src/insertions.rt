@@ -10,14 +10,18 @@ use std::process::Abort;
 use std::sync::Wait;
 use std::test::Fail;
 
+/// A new pass finds no value of key 5.
+fn lacks_five(rt: &impl Abort, map: &Numbers) {
+    let mut pass = map.pass();
+    finds(rt, map, 5, &mut pass, None);
+}
+
 #[test]
 fn a_map_is_made_with_a_capacity(rt: HostRuntime) -> Result<(), Fail> {
-    let map = made(&rt, rt.alloc(), ResizeMode::Blocking, 10, 4)?;
-    let mut pass = map.pass();
-    finds(&rt, &map, 5, &mut pass, None);
-    let map = made(&rt, rt.alloc(), ResizeMode::Incremental(64), 0, 4)?;
-    let mut pass = map.pass();
-    finds(&rt, &map, 5, &mut pass, None);
+    for (mode, capacity) in [(ResizeMode::Blocking, 10), (ResizeMode::Incremental(64), 0)] {
+        let map = made(&rt, rt.alloc(), mode, capacity, 4)?;
+        lacks_five(&rt, &map);
+    }
     Ok(())
 }
 
@@ -45,15 +49,20 @@ fn replaces<R: Wait + Abort>(rt: &R, map: &Numbers, pass: &mut NumbersPass)
     inserts(rt, map, 1, 20, pass, Ok(Some(&10)));
 }
 
+/// A second key is stored beside the first.
+fn stores_beside<R: Wait + Abort>(rt: &R, map: &Numbers) {
+    let mut pass = map.pass();
+    replaces(rt, map, &mut pass);
+    inserts(rt, map, 2, 30, &mut pass, Ok(None));
+    finds(rt, map, 1, &mut pass, Some(&20));
+    finds(rt, map, 2, &mut pass, Some(&30));
+}
+
 #[test]
 fn a_pass_sees_its_own_insertions(rt: HostRuntime) {
     let map = numbers(&rt, rt.alloc());
-    let mut pass = map.pass();
     counts(&rt, &map, 0);
-    replaces(&rt, &map, &mut pass);
-    inserts(&rt, &map, 2, 30, &mut pass, Ok(None));
-    finds(&rt, &map, 1, &mut pass, Some(&20));
-    finds(&rt, &map, 2, &mut pass, Some(&30));
+    stores_beside(&rt, &map);
     counts(&rt, &map, 2);
 }
 
@@ -66,19 +75,39 @@ fn finds_both(rt: &impl Abort, map: &Numbers, pass: &mut NumbersPass)
     finds(rt, map, 2, pass, Some(&20));
 }
 
-#[test]
-fn two_passes_meet(rt: HostRuntime) {
-    let map = numbers(&rt, rt.alloc());
+/// Each of two callers has no value of the other's key, and stores its own.
+fn store_apart<R: Wait + Abort>(
+    rt: &R,
+    map: &Numbers,
+    first: &mut NumbersPass,
+    second: &mut NumbersPass,
+)
+    requires first { first.old.book ≡ map.now.book }
+    requires second { second.old.book ≡ map.now.book }
+    ensures first { first.new.book ≡ first.old.book }
+    ensures second { second.new.book ≡ second.old.book }
+{
+    finds(rt, map, 2, first, None);
+    finds(rt, map, 1, second, None);
+    inserts(rt, map, 1, 10, first, Ok(None));
+    inserts(rt, map, 2, 20, second, Ok(None));
+}
+
+/// Two passes meet, before these insertions and after them.
+fn meet_twice<R: Wait + Abort>(rt: &R, map: &Numbers) {
     let mut first = map.pass();
     let mut second = map.pass();
     map.pin().meet(&mut first, &mut second);
-    finds(&rt, &map, 2, &mut first, None);
-    finds(&rt, &map, 1, &mut second, None);
-    inserts(&rt, &map, 1, 10, &mut first, Ok(None));
-    inserts(&rt, &map, 2, 20, &mut second, Ok(None));
+    store_apart(rt, map, &mut first, &mut second);
     map.pin().meet(&mut first, &mut second);
-    finds_both(&rt, &map, &mut first);
-    finds_both(&rt, &map, &mut second);
+    finds_both(rt, map, &mut first);
+    finds_both(rt, map, &mut second);
+}
+
+#[test]
+fn two_passes_meet(rt: HostRuntime) {
+    let map = numbers(&rt, rt.alloc());
+    meet_twice(&rt, &map);
 }
 
 /// The keys below 26 have themselves.
@@ -91,17 +120,30 @@ fn fills<R: Wait + Abort>(rt: &R, map: &Numbers, pass: &mut NumbersPass)
     }
 }
 
+/// The first key, the last one and the one behind it.
+fn finds_the_ends(rt: &impl Abort, map: &Numbers, pass: &mut NumbersPass)
+    requires { pass.old.book ≡ map.now.book }
+    ensures { pass.new.book ≡ pass.old.book }
+{
+    finds(rt, map, 0, pass, Some(&0));
+    finds(rt, map, 25, pass, Some(&7));
+    finds(rt, map, 26, pass, None);
+}
+
+/// A path is filled, and takes no further key then.
+fn fills_a_path<R: Wait + Abort>(rt: &R, map: &Numbers) {
+    let mut pass = map.pass();
+    fills(rt, map, &mut pass);
+    inserts(rt, map, 26, 26, &mut pass, Err(Refused::Capacity));
+    inserts(rt, map, 25, 7, &mut pass, Ok(Some(&25)));
+    finds_the_ends(rt, map, &mut pass);
+    counts(rt, map, 26);
+}
+
 #[test]
 fn a_path_of_the_first_table_has_26_places(rt: HostRuntime) -> Result<(), Fail> {
     let mode = ResizeMode::Incremental(64);
     let map: Numbers = HashMap::with_parts(&rt, rt.alloc(), mode, 0, 1, TOGETHER)?;
-    let mut pass = map.pass();
-    fills(&rt, &map, &mut pass);
-    inserts(&rt, &map, 26, 26, &mut pass, Err(Refused::Capacity));
-    inserts(&rt, &map, 25, 7, &mut pass, Ok(Some(&25)));
-    finds(&rt, &map, 0, &mut pass, Some(&0));
-    finds(&rt, &map, 25, &mut pass, Some(&7));
-    finds(&rt, &map, 26, &mut pass, None);
-    counts(&rt, &map, 26);
+    fills_a_path(&rt, &map);
     Ok(())
 }

@@ -2,6 +2,7 @@
 // as by `rt try --test --fail-alloc N`, a call here meets it.
 ghost use Rattle.std.specs.Prelude.{◌≡◌};
 
+use crate::expect::{is, is_at};
 use crate::hashing::TOGETHER;
 use crate::numbers::{Numbers, NumbersPass};
 use papaya_map::map::HashMap;
@@ -94,13 +95,21 @@ fn empties<R: Wait>(rt: &R, map: &Numbers) -> Result<bool, Refused> {
     Ok(true)
 }
 
+/// Fills a map of no pairs and empties it: was it as it should be after each step?
+fn fills_and_empties<R: Wait>(rt: &R, map: &Numbers) -> Result<(bool, bool, bool), Refused> {
+    Ok((has_below(map, 0), fills(rt, map)?, empties(rt, map)?))
+}
+
 #[test]
 fn refused_growth_leaves_the_map(rt: HostRuntime) -> Result<(), Fail> {
     for capacity in [0usize, 20] {
         let map = made(&rt, rt.alloc(), ResizeMode::Blocking, capacity)?;
-        assert!(rt; has_below(&map, 0), "for {capacity}");
-        assert!(rt; fills(&rt, &map)?, "for {capacity}");
-        assert!(rt; empties(&rt, &map)?, "for {capacity}");
+        is_at(
+            &rt,
+            capacity,
+            fills_and_empties(&rt, &map)?,
+            (true, true, true),
+        );
     }
     Ok(())
 }
@@ -127,11 +136,16 @@ fn replaces<R: Wait>(rt: &R, map: &Numbers) -> Result<bool, Refused> {
     Ok(true)
 }
 
+/// Inserts a key, and then again and again: was the map as it should be?
+fn inserts_and_replaces<R: Wait>(rt: &R, map: &Numbers) -> Result<(bool, bool), Refused> {
+    let mut pass = map.pass();
+    let inserted = insert_again(rt, map, 0, &mut pass)?;
+    Ok((inserted, replaces(rt, map)?))
+}
+
 #[test]
 fn refused_replacement_leaves_the_value(rt: HostRuntime) -> Result<(), Fail> {
     let map = made(&rt, rt.alloc(), ResizeMode::Incremental(64), 0)?;
-    let mut pass = map.pass();
-    assert!(rt; insert_again(&rt, &map, 0, &mut pass)?);
-    assert!(rt; replaces(&rt, &map)?);
+    is(&rt, inserts_and_replaces(&rt, &map)?, (true, true));
     Ok(())
 }

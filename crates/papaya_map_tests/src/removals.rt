@@ -9,17 +9,22 @@ use std::process::Abort;
 use std::sync::Wait;
 use std::test::Fail;
 
+/// Key 1 is removed once: before that it is stored, and then it is absent.
+fn removes_once<R: Wait + Abort>(rt: &R, map: &Numbers) {
+    let mut pass = map.pass();
+    removes(rt, map, 1, &mut pass, Ok(None));
+    inserts(rt, map, 1, 10, &mut pass, Ok(None));
+    finds(rt, map, 1, &mut pass, Some(&10));
+    counts(rt, map, 1);
+    removes(rt, map, 1, &mut pass, Ok(Some(&10)));
+    finds(rt, map, 1, &mut pass, None);
+}
+
 #[test]
 fn remove_answers_the_value_once(rt: HostRuntime) {
     let map = numbers(&rt, rt.alloc());
-    let mut pass = map.pass();
-    removes(&rt, &map, 1, &mut pass, Ok(None));
-    inserts(&rt, &map, 1, 10, &mut pass, Ok(None));
-    counts(&rt, &map, 1);
-    finds(&rt, &map, 1, &mut pass, Some(&10));
-    removes(&rt, &map, 1, &mut pass, Ok(Some(&10)));
+    removes_once(&rt, &map);
     counts(&rt, &map, 0);
-    finds(&rt, &map, 1, &mut pass, None);
 }
 
 /// Of the keys 1 and 2 the first is removed.
@@ -35,32 +40,57 @@ fn removes_one<R: Wait + Abort>(rt: &R, map: &Numbers, pass: &mut NumbersPass)
     finds(rt, map, 1, pass, None);
 }
 
+/// A later pass finds the second key alone.
+fn finds_the_second(rt: &impl Abort, map: &Numbers, later: &mut NumbersPass)
+    requires { later.old.book ≡ map.now.book }
+    ensures { later.new.book ≡ later.old.book }
+{
+    finds(rt, map, 1, later, None);
+    finds(rt, map, 2, later, Some(&20));
+}
+
+/// The first key is removed, and neither its own pass nor a later one finds it again.
+fn stays_out<R: Wait + Abort>(rt: &R, map: &Numbers) {
+    let mut pass = map.pass();
+    removes_one(rt, map, &mut pass);
+    let mut later = map.pass();
+    finds_the_second(rt, map, &mut later);
+    removes(rt, map, 1, &mut pass, Ok(None));
+    removes(rt, map, 1, &mut later, Ok(None));
+}
+
 /// What is removed stays out, for its own pass and for one that is made afterwards.
 #[test]
 fn a_removed_pair_stays_out(rt: HostRuntime) -> Result<(), Fail> {
     let map = made(&rt, rt.alloc(), ResizeMode::Incremental(64), 10, 4)?;
-    let mut pass = map.pass();
-    removes_one(&rt, &map, &mut pass);
-    let mut later = map.pass();
-    finds(&rt, &map, 1, &mut later, None);
-    finds(&rt, &map, 2, &mut later, Some(&20));
-    removes(&rt, &map, 1, &mut pass, Ok(None));
-    removes(&rt, &map, 1, &mut later, Ok(None));
+    stays_out(&rt, &map);
     counts(&rt, &map, 1);
     Ok(())
+}
+
+/// Key 1 is stored and removed.
+fn stores_and_removes<R: Wait + Abort>(rt: &R, map: &Numbers, value: &u64, pass: &mut NumbersPass)
+    requires { pass.old.book ≡ map.now.book }
+    ensures { pass.new.book ≡ pass.old.book }
+{
+    inserts(rt, map, 1, *value, pass, Ok(None));
+    counts(rt, map, 1);
+    finds(rt, map, 1, pass, Some(value));
+    removes(rt, map, 1, pass, Ok(Some(value)));
+    counts(rt, map, 0);
+}
+
+/// The same twice, by one pass.
+fn stores_after_a_removal<R: Wait + Abort>(rt: &R, map: &Numbers) {
+    let mut pass = map.pass();
+    stores_and_removes(rt, map, &10, &mut pass);
+    stores_and_removes(rt, map, &11, &mut pass);
 }
 
 #[test]
 fn an_insertion_after_a_removal_finds_no_old_value(rt: HostRuntime) -> Result<(), Fail> {
     let map = made(&rt, rt.alloc(), ResizeMode::Blocking, 0, 1)?;
-    let mut pass = map.pass();
-    inserts(&rt, &map, 1, 10, &mut pass, Ok(None));
-    removes(&rt, &map, 1, &mut pass, Ok(Some(&10)));
-    inserts(&rt, &map, 1, 11, &mut pass, Ok(None));
-    counts(&rt, &map, 1);
-    finds(&rt, &map, 1, &mut pass, Some(&11));
-    removes(&rt, &map, 1, &mut pass, Ok(Some(&11)));
-    counts(&rt, &map, 0);
+    stores_after_a_removal(&rt, &map);
     Ok(())
 }
 
@@ -93,22 +123,40 @@ fn remove_if<R: Wait, F: FnMut(&u64, &u64) -> bool>(
     }
 }
 
+/// A key whose pair the closure agrees to is absent, or is told so.
+fn tells<R: Wait + Abort>(rt: &R, map: &Numbers, key: u64, pass: &mut NumbersPass, wanted: Told)
+    requires { pass.old.book ≡ map.now.book }
+    ensures { pass.new.book ≡ pass.old.book }
+{
+    is(rt, remove_if(rt, map, key, |_, v| *v == 0, pass), wanted);
+}
+
+/// A pair stays where its closure does not agree.
+fn keeps<R: Wait + Abort>(rt: &R, map: &Numbers, pass: &mut NumbersPass)
+    requires { pass.old.book ≡ map.now.book }
+    ensures { pass.new.book ≡ pass.old.book }
+{
+    let kept = remove_if(rt, map, 1, |_, _| false, pass);
+    is(rt, kept, Told::Kept(1, 0));
+    counts(rt, map, 1);
+    finds(rt, map, 1, pass, Some(&0));
+}
+
+/// Key 1 is kept, removed and absent, and another key is absent.
+fn asks<R: Wait + Abort>(rt: &R, map: &Numbers) {
+    let mut pass = map.pass();
+    inserts(rt, map, 1, 0, &mut pass, Ok(None));
+    tells(rt, map, 0, &mut pass, Told::Absent);
+    keeps(rt, map, &mut pass);
+    tells(rt, map, 1, &mut pass, Told::Removed(1, 0));
+    counts(rt, map, 0);
+    tells(rt, map, 1, &mut pass, Told::Absent);
+}
+
 #[test]
 fn remove_if_asks_its_closure(rt: HostRuntime) {
     let map = numbers(&rt, rt.alloc());
-    let mut pass = map.pass();
-    inserts(&rt, &map, 1, 0, &mut pass, Ok(None));
-    let absent = remove_if(&rt, &map, 0, |_, _| true, &mut pass);
-    is(&rt, absent, Told::Absent);
-    let kept = remove_if(&rt, &map, 1, |_, _| false, &mut pass);
-    is(&rt, kept, Told::Kept(1, 0));
-    counts(&rt, &map, 1);
-    finds(&rt, &map, 1, &mut pass, Some(&0));
-    let removed = remove_if(&rt, &map, 1, |_, v| *v == 0, &mut pass);
-    is(&rt, removed, Told::Removed(1, 0));
-    counts(&rt, &map, 0);
-    let again = remove_if(&rt, &map, 1, |_, _| true, &mut pass);
-    is(&rt, again, Told::Absent);
+    asks(&rt, &map);
     counts(&rt, &map, 0);
 }
 
@@ -139,22 +187,32 @@ fn shown_by<R: Wait>(
     }
 }
 
-/// Where nobody else acts, a closure is shown the stored pair, once, and nothing for an absent key.
-#[test]
-fn a_closure_is_shown_the_pair_once(rt: HostRuntime) {
-    let map = numbers(&rt, rt.alloc());
-    let mut pass = map.pass();
-    inserts(&rt, &map, 7, 70, &mut pass, Ok(None));
-    inserts(&rt, &map, 8, 80, &mut pass, Ok(None));
+/// What the closures of a line of removals are shown.
+fn shows_each_once<R: Wait + Abort>(rt: &R, map: &Numbers) {
     for (key, agrees, shown) in [
         (9, true, (0, None)),
         (7, false, (1, Some((7, 70)))),
         (7, true, (1, Some((7, 70)))),
         (7, true, (0, None)),
     ] {
-        is(&rt, shown_by(&rt, &map, key, agrees), Some(shown));
+        is(rt, shown_by(rt, map, key, agrees), Some(shown));
     }
+}
+
+/// Of two keys the first is shown and removed.
+fn shows_the_first<R: Wait + Abort>(rt: &R, map: &Numbers) {
+    let mut pass = map.pass();
+    inserts(rt, map, 7, 70, &mut pass, Ok(None));
+    inserts(rt, map, 8, 80, &mut pass, Ok(None));
+    shows_each_once(rt, map);
     let mut later = map.pass();
-    finds(&rt, &map, 8, &mut later, Some(&80));
+    finds(rt, map, 8, &mut later, Some(&80));
+}
+
+/// Where nobody else acts, a closure is shown the stored pair, once, and nothing for an absent key.
+#[test]
+fn a_closure_is_shown_the_pair_once(rt: HostRuntime) {
+    let map = numbers(&rt, rt.alloc());
+    shows_the_first(&rt, &map);
     counts(&rt, &map, 1);
 }

@@ -62,19 +62,53 @@ fn removes<R: Wait + Abort>(
     is(rt, map.pin().remove_as(rt, &TextKey(key), pass), Ok(wanted));
 }
 
+/// Two texts are stored.
+fn stores_two<R: Wait + Abort>(
+    rt: &R,
+    alloc: Global,
+    map: &Texts,
+    pass: &mut TextsPass,
+) -> Result<(), Fail>
+    requires { pass.old.book ≡ map.now.book }
+    ensures { pass.new.book ≡ pass.old.book }
+{
+    inserts(rt, alloc, map, "red", 1, pass)?;
+    inserts(rt, alloc, map, "blue", 2, pass)
+}
+
+/// The first of them is removed, and a text that is not there is not.
+fn removes_one<R: Wait + Abort>(rt: &R, map: &Texts, pass: &mut TextsPass)
+    requires { pass.old.book ≡ map.now.book }
+    ensures { pass.new.book ≡ pass.old.book }
+{
+    finds(rt, map, "red", pass, Some(&1));
+    finds(rt, map, "green", pass, None);
+    removes(rt, map, "green", pass, None);
+    removes(rt, map, "red", pass, Some(&1));
+    finds(rt, map, "red", pass, None);
+}
+
+/// The second one is found by a key of its own.
+fn finds_blue(rt: &impl Abort, alloc: Global, map: &Texts, pass: &mut TextsPass) -> Result<(), Fail>
+    requires { pass.old.book ≡ map.now.book }
+{
+    let blue = "blue".to_string(alloc)?;
+    is(rt, map.pin().get_as(&blue, pass), Some(&2));
+    Ok(())
+}
+
+/// All of this, by one pass.
+fn keeps_blue<R: Wait + Abort>(rt: &R, alloc: Global, map: &Texts) -> Result<(), Fail> {
+    let mut pass = map.pass();
+    stores_two(rt, alloc, map, &mut pass)?;
+    removes_one(rt, map, &mut pass);
+    finds_blue(rt, alloc, map, &mut pass)
+}
+
 #[test]
 fn texts_are_removed_by_text(rt: HostRuntime) -> Result<(), Fail> {
     let map = texts(&rt, rt.alloc())?;
-    let mut pass = map.pass();
-    inserts(&rt, rt.alloc(), &map, "red", 1, &mut pass)?;
-    inserts(&rt, rt.alloc(), &map, "blue", 2, &mut pass)?;
-    finds(&rt, &map, "red", &mut pass, Some(&1));
-    finds(&rt, &map, "green", &mut pass, None);
-    removes(&rt, &map, "green", &mut pass, None);
-    removes(&rt, &map, "red", &mut pass, Some(&1));
-    finds(&rt, &map, "red", &mut pass, None);
-    let blue = "blue".to_string(rt.alloc())?;
-    is(&rt, map.pin().get_as(&blue, &mut pass), Some(&2));
+    keeps_blue(&rt, rt.alloc(), &map)?;
     is(&rt, map.len(), 1);
     Ok(())
 }

@@ -3,6 +3,7 @@ use crate::expect::{is, is_at};
 use crate::numbers::{Numbers, made};
 use papaya_words::probe::ResizeMode;
 use std::alloc::Global;
+use std::process::Abort;
 use std::sync::Wait;
 use std::sync::atomic::{AtomicBool, AtomicU64, Ordering};
 use std::thread::{Threads, join, yield_now};
@@ -142,22 +143,35 @@ fn left_in(alloc: Global, map: &Numbers) -> Option<(Tally, usize)> {
     Some((tally, left))
 }
 
-/// Each value is taken out once or is left, and none is lost or taken twice.
-#[test]
-fn each_value_is_taken_out_once(rt: HostRuntime) {
-    let map = made(&rt, rt.alloc(), ResizeMode::Blocking, 4096, 4).expect(&rt, "a map");
-    let (first, second) = churn_both(&rt, rt.alloc(), &map);
-    let first = first.expect(&rt, "a tally");
-    let second = second.expect(&rt, "a tally");
-    is(&rt, (first.legal, second.legal), (true, true));
-    let (last, left) = left_in(rt.alloc(), &map).expect(&rt, "a tally");
-    is(&rt, last.legal, true);
-    is(&rt, map.len(), left);
+/// Each value was taken out once, by one of the threads or at last.
+fn took_each_once(rt: &impl Abort, first: &Tally, second: &Tally, last: &Tally) {
+    is(
+        rt,
+        (first.legal, second.legal, last.legal),
+        (true, true, true),
+    );
     for value in 0..VALUES {
         let taken = first
             .count(value)
             .wrapping_add(second.count(value))
             .wrapping_add(last.count(value));
-        is_at(&rt, value as usize, taken, 1);
+        is_at(rt, value as usize, taken, 1);
     }
+}
+
+/// Two threads change a map of no pairs.
+fn churns<R: Threads + Wait + Sync + Abort>(rt: &R, alloc: Global, map: &Numbers) {
+    let (first, second) = churn_both(rt, alloc, map);
+    let first = first.expect(rt, "a tally");
+    let second = second.expect(rt, "a tally");
+    let (last, left) = left_in(alloc, map).expect(rt, "a tally");
+    is(rt, map.len(), left);
+    took_each_once(rt, &first, &second, &last);
+}
+
+/// Each value is taken out once or is left, and none is lost or taken twice.
+#[test]
+fn each_value_is_taken_out_once(rt: HostRuntime) {
+    let map = made(&rt, rt.alloc(), ResizeMode::Blocking, 4096, 4).expect(&rt, "a map");
+    churns(&rt, rt.alloc(), &map);
 }

@@ -3,11 +3,11 @@ use Rattle.std.proofs.Common.{◌≡◌, ℕ, Bool, true, List, None}
 use Rattle.std.specs.Cmp.{IsEquivalence}
 use Rattle.papaya_ask.specs.declared.call.Call.{Call}
 use Rattle.papaya_ask.specs.declared.call.Reply.{Reply}
-use Rattle.papaya_core.specs.Content.{map_in}
-use Rattle.papaya_core.specs.Solo.{IsAnswered, IsNewIn, RunsAlone}
-use Rattle.papaya_core.specs.Store.{KeepsPairs, StoreState}
+use Rattle.papaya_timeline.specs.Content.{map_in}
+use Rattle.papaya_timeline.specs.Solo.{IsAnswered, IsNewIn, RunsAlone}
+use Rattle.papaya_store.specs.Store.{KeepsPairs, StoreState}
 use Rattle.papaya_keys.specs.Hashes.{hash_of}
-use Rattle.papaya_core.proofs.SoloLaw.{alone_answered, alone_lawful, alone_logged}
+use Rattle.papaya_timeline.proofs.SoloLaw.{alone_answered, alone_lawful, alone_logged}
 use Rattle.papaya_seq.specs.Map.{IsLawfulMap, MapState, core_of}
 use Rattle.papaya_seq.proofs.Steps.{seated}
 

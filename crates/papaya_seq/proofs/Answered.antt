@@ -6,10 +6,10 @@ use Rattle.papaya_words.specs.declared.probe.Refused.{Refused}
 use Rattle.papaya_law.specs.Content.{lookup}
 use Rattle.papaya_ask.specs.declared.call.Call.TheVariants.{Insert, TryInsert}
 use Rattle.papaya_ask.specs.declared.call.Reply.TheVariants as replies
-use Rattle.papaya_core.specs.Content.{content, map_in}
-use Rattle.papaya_core.specs.Maps.{Does, IsMadeOf, IsUpdate, Same, key_of}
-use Rattle.papaya_core.specs.Solo.{IsAnswered, IsNewIn}
-use Rattle.papaya_core.specs.Store.{StoreState, Stored, pair_of}
+use Rattle.papaya_timeline.specs.Content.{content, map_in}
+use Rattle.papaya_timeline.specs.Maps.{Does, IsMadeOf, IsUpdate, Same, key_of}
+use Rattle.papaya_timeline.specs.Solo.{IsAnswered, IsNewIn}
+use Rattle.papaya_store.specs.Store.{StoreState, Stored, pair_of}
 use Rattle.papaya_seq.specs.Map.{Inserts, IsOccupied, IsTried, Keeps, MapState, insertion, value_of}
 use Rattle.papaya_seq.proofs.Lawful.{logged_content, lookup_some}
 

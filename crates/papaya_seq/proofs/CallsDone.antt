@@ -10,11 +10,11 @@ use Rattle.papaya_ask.specs.declared.call.Call.{Call}
 use Rattle.papaya_ask.specs.declared.call.Call.TheVariants.{Get, RemoveIf}
 use Rattle.papaya_ask.specs.declared.call.Reply.{Reply}
 use Rattle.papaya_ask.specs.declared.call.Reply.TheVariants.{Absent, Found, Inserted, Replaced, Occupied, Removed, Kept, Aborted, Refused}
-use Rattle.papaya_core.specs.Content.{content, map_in}
-use Rattle.papaya_core.specs.Maps.{IsUpdate}
-use Rattle.papaya_core.specs.Solo.{IsAnswered, IsNewIn}
-use Rattle.papaya_core.specs.Store.{StoreState, Stored}
-use Rattle.papaya_core.proofs.SoloTimeline.{lookup_alike}
+use Rattle.papaya_timeline.specs.Content.{content, map_in}
+use Rattle.papaya_timeline.specs.Maps.{IsUpdate}
+use Rattle.papaya_timeline.specs.Solo.{IsAnswered, IsNewIn}
+use Rattle.papaya_store.specs.Store.{StoreState, Stored}
+use Rattle.papaya_timeline.proofs.SoloTimeline.{lookup_alike}
 use Rattle.papaya_seq.specs.Calls.{AreCalled, IsCalled, IsSaid}
 use Rattle.papaya_seq.specs.Map.{HasNone, Holds, Keeps, MapState, Unchanged, next_of}
 use Rattle.papaya_seq.specs.Removes.{IsRemoval, IsRemovalBy}

@@ -21,14 +21,14 @@ use Rattle.papaya_rests.proofs.AloneCurrent.{machine_stays}
 use Rattle.papaya_rests.proofs.AloneSteps.{machine_nears}
 use Rattle.papaya_rests.proofs.Standing.{machine_stands}
 use Rattle.papaya_rests.proofs.Tasks.{same_task}
-use Rattle.papaya_core.specs.declared.pairs.KeyOf.{KeyOf}
-use Rattle.papaya_core.specs.declared.pairs.KeyOf.TheVariants.{Own}
-use Rattle.papaya_core.specs.declared.pairs.Running.{Running}
-use Rattle.papaya_core.specs.Advances.{reply_in}
-use Rattle.papaya_core.specs.Content.{map_in}
-use Rattle.papaya_core.specs.Performs.{Performs, ShowsPair, value_answered}
-use Rattle.papaya_core.specs.Solo.{whatever}
-use Rattle.papaya_core.specs.Store.{StoreState, Stored, pair_of}
+use Rattle.papaya_store.specs.declared.pairs.KeyOf.{KeyOf}
+use Rattle.papaya_store.specs.declared.pairs.KeyOf.TheVariants.{Own}
+use Rattle.papaya_store.specs.declared.pairs.Running.{Running}
+use Rattle.papaya_timeline.specs.Advances.{reply_in}
+use Rattle.papaya_timeline.specs.Content.{map_in}
+use Rattle.papaya_store.specs.Performs.{Performs, ShowsPair, value_answered}
+use Rattle.papaya_timeline.specs.Solo.{whatever}
+use Rattle.papaya_store.specs.Store.{StoreState, Stored, pair_of}
 use Rattle.papaya_keys.specs.Hashes.{hash_of}
 use Rattle.papaya_seq.specs.Computes.{AreOf, Says}
 use Rattle.papaya_seq.specs.Computing.{IsKept}

@@ -10,9 +10,9 @@ use Rattle.papaya_call.specs.declared.answers.Operation.TheVariants as ops
 use Rattle.papaya_ask.specs.declared.call.Call.TheVariants.{Compute}
 use Rattle.papaya_ask.specs.declared.call.Reply.{Reply}
 use Rattle.papaya_ask.specs.declared.call.Reply.TheVariants as replies
-use Rattle.papaya_core.specs.Content.{map_in}
-use Rattle.papaya_core.specs.Maps.{Does, IsUpdate}
-use Rattle.papaya_core.specs.Store.{Stored}
+use Rattle.papaya_timeline.specs.Content.{map_in}
+use Rattle.papaya_timeline.specs.Maps.{Does, IsUpdate}
+use Rattle.papaya_store.specs.Store.{Stored}
 use Rattle.papaya_seq.specs.Calls.{Answers, IsCalled, IsOperated}
 use Rattle.papaya_seq.specs.Computes.{ComputesBy, Operates, Says, answer_map}
 use Rattle.papaya_seq.specs.Computing.{reply_of}

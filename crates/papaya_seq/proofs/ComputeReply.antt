@@ -7,11 +7,11 @@ use Rattle.papaya_call.specs.declared.answers.Operation.{Operation}
 use Rattle.papaya_call.specs.declared.answers.Operation.TheVariants as ops
 use Rattle.papaya_ask.specs.declared.call.Reply.{Reply}
 use Rattle.papaya_ask.specs.declared.call.Reply.TheVariants as replies
-use Rattle.papaya_core.specs.Content.{content, map_in}
-use Rattle.papaya_core.specs.Maps.{Does, IsMadeWith, IsUpdate, Same}
-use Rattle.papaya_core.specs.Solo.{IsAnswered, IsNewIn}
-use Rattle.papaya_core.specs.Store.{StoreState, Stored, pair_of}
-use Rattle.papaya_core.proofs.SoloTimeline.{lookup_alike}
+use Rattle.papaya_timeline.specs.Content.{content, map_in}
+use Rattle.papaya_timeline.specs.Maps.{Does, IsMadeWith, IsUpdate, Same}
+use Rattle.papaya_timeline.specs.Solo.{IsAnswered, IsNewIn}
+use Rattle.papaya_store.specs.Store.{StoreState, Stored, pair_of}
+use Rattle.papaya_timeline.proofs.SoloTimeline.{lookup_alike}
 use Rattle.papaya_seq.specs.Computes.{ComputesBy, IsNew}
 use Rattle.papaya_seq.specs.Computing.{IsComputed, Replies}
 use Rattle.papaya_seq.specs.Map.{IsWriteCause, Keeps, MapState}

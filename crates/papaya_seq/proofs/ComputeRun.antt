@@ -29,17 +29,17 @@ use Rattle.papaya_rests.proofs.AloneCurrent.{machine_stays}
 use Rattle.papaya_rests.proofs.AloneSteps.{machine_nears}
 use Rattle.papaya_rests.proofs.Standing.{machine_ask_fits, machine_stands}
 use Rattle.papaya_rests.proofs.Tasks.{same_task}
-use Rattle.papaya_core.specs.declared.pairs.KeyOf.{KeyOf}
-use Rattle.papaya_core.specs.declared.pairs.KeyOf.TheVariants.{Own}
-use Rattle.papaya_core.specs.declared.pairs.Running.{Running}
-use Rattle.papaya_core.specs.Advances.{reply_in}
-use Rattle.papaya_core.specs.Content.{map_in}
-use Rattle.papaya_core.specs.Performs.{Performs, value_answered}
-use Rattle.papaya_core.specs.Solo.{RunsAlone}
-use Rattle.papaya_core.specs.Store.{StoreState}
-use Rattle.papaya_core.specs.Tables.{table_of, word_at}
-use Rattle.papaya_core.proofs.KeptSettings.{IsLawfulKeys}
-use Rattle.papaya_core.proofs.StoreLemmas.{numbered, performed, unnumbered}
+use Rattle.papaya_store.specs.declared.pairs.KeyOf.{KeyOf}
+use Rattle.papaya_store.specs.declared.pairs.KeyOf.TheVariants.{Own}
+use Rattle.papaya_store.specs.declared.pairs.Running.{Running}
+use Rattle.papaya_timeline.specs.Advances.{reply_in}
+use Rattle.papaya_timeline.specs.Content.{map_in}
+use Rattle.papaya_store.specs.Performs.{Performs, value_answered}
+use Rattle.papaya_timeline.specs.Solo.{RunsAlone}
+use Rattle.papaya_store.specs.Store.{StoreState}
+use Rattle.papaya_store.specs.Tables.{table_of, word_at}
+use Rattle.papaya_timeline.proofs.KeptSettings.{IsLawfulKeys}
+use Rattle.papaya_timeline.proofs.StoreLemmas.{numbered, performed, unnumbered}
 use Rattle.papaya_seq.specs.Computes.{Says}
 use Rattle.papaya_seq.specs.Computing.{IsKept}
 use Rattle.papaya_seq.specs.Map.{IsLawfulMap, KeepsSlots, MapState, core_of}

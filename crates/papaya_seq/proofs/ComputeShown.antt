@@ -28,15 +28,15 @@ use Rattle.papaya_rests.specs.Alone.{IsRead, word_of_place}
 use Rattle.papaya_call.specs.Compute.{nothing}
 use Rattle.papaya_call.specs.Machine.{after, asks}
 use Rattle.papaya_call.specs.Remove.{grave_word}
-use Rattle.papaya_core.proofs.KeptCore.{keys_lawful}
-use Rattle.papaya_core.specs.Content.{map_in}
-use Rattle.papaya_core.specs.Maps.{Does}
-use Rattle.papaya_core.specs.Performs.{Exchanges}
-use Rattle.papaya_core.specs.Store.{StoreState, Stored, pair_of}
+use Rattle.papaya_timeline.proofs.KeptCore.{keys_lawful}
+use Rattle.papaya_timeline.specs.Content.{map_in}
+use Rattle.papaya_timeline.specs.Maps.{Does}
+use Rattle.papaya_store.specs.Performs.{Exchanges}
+use Rattle.papaya_store.specs.Store.{StoreState, Stored, pair_of}
 use Rattle.papaya_keys.specs.Hashes.{hash_of}
-use Rattle.papaya_core.specs.Tables.{put, word_at}
-use Rattle.papaya_core.specs.declared.pairs.KeyOf.TheVariants.{Own}
-use Rattle.papaya_core.specs.declared.pairs.Running.{Running}
+use Rattle.papaya_store.specs.Tables.{put, word_at}
+use Rattle.papaya_store.specs.declared.pairs.KeyOf.TheVariants.{Own}
+use Rattle.papaya_store.specs.declared.pairs.Running.{Running}
 use Rattle.papaya_seq.specs.Map.{IsLawfulMap, MapState}
 use Rattle.papaya_seq.proofs.Alone.{map_answered}
 use Rattle.papaya_seq.proofs.Answered.{logged_there}

@@ -31,11 +31,11 @@ use Rattle.papaya_call.specs.declared.write.Made.TheVariants.{Nothing, Key, Pair
 use Rattle.papaya_call.specs.Compute.{nothing}
 use Rattle.papaya_call.specs.Machine.{asks, computes, goes_as, passes}
 use Rattle.papaya_ask.specs.Search.{IsWithin, at_yes as search_compared, go_on, look_at, match_at}
-use Rattle.papaya_core.specs.Performs.{same_stored}
-use Rattle.papaya_core.specs.Store.{StoreState, Stored, pair_of}
-use Rattle.papaya_core.specs.Tables.{table_of, word_at}
-use Rattle.papaya_core.specs.declared.pairs.KeyOf.{KeyOf}
-use Rattle.papaya_core.specs.declared.pairs.KeyOf.TheVariants.{Own, Logged}
+use Rattle.papaya_store.specs.Performs.{same_stored}
+use Rattle.papaya_store.specs.Store.{StoreState, Stored, pair_of}
+use Rattle.papaya_store.specs.Tables.{table_of, word_at}
+use Rattle.papaya_store.specs.declared.pairs.KeyOf.{KeyOf}
+use Rattle.papaya_store.specs.declared.pairs.KeyOf.TheVariants.{Own, Logged}
 use Rattle.papaya_seq.specs.Map.{IsWriteCause, IsFull}
 use Rattle.papaya_seq.proofs.Past.{IsBlank, IsFirst, IsPast, IsSlotThere, gone_past, not_zero, slot_there}
 use Rattle.papaya_seq.proofs.Removing.{IsOpen}

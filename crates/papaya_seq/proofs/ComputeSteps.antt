@@ -33,15 +33,15 @@ use Rattle.papaya_call.specs.Machine.{IsStandingState, after, asks, goes_as}
 use Rattle.papaya_ask.specs.Search.{IsSize, look, look_at, at_yes as search_compared}
 use Rattle.papaya_call.specs.Write.{new_word}
 use Rattle.papaya_rests.proofs.AloneSteps.{exchange_done}
-use Rattle.papaya_core.specs.declared.pairs.KeyOf.{KeyOf}
-use Rattle.papaya_core.specs.declared.pairs.KeyOf.TheVariants.{Own, Logged}
-use Rattle.papaya_core.specs.declared.pairs.Pair.{Pair as LoggedPair}
-use Rattle.papaya_core.specs.declared.pairs.Running.{Running}
-use Rattle.papaya_core.specs.Advances.{reply_in}
-use Rattle.papaya_core.specs.Performs.{Performs, Refuses, same_stored, size_of}
-use Rattle.papaya_core.specs.Store.{StoreState, pair_of, stored_at, stored_in}
-use Rattle.papaya_core.specs.Tables.{Tables, put, table_of, word_at}
-use Rattle.papaya_core.proofs.KeptTables.{index-zeros, made-there}
+use Rattle.papaya_store.specs.declared.pairs.KeyOf.{KeyOf}
+use Rattle.papaya_store.specs.declared.pairs.KeyOf.TheVariants.{Own, Logged}
+use Rattle.papaya_store.specs.declared.pairs.Pair.{Pair as LoggedPair}
+use Rattle.papaya_store.specs.declared.pairs.Running.{Running}
+use Rattle.papaya_timeline.specs.Advances.{reply_in}
+use Rattle.papaya_store.specs.Performs.{Performs, Refuses, same_stored, size_of}
+use Rattle.papaya_store.specs.Store.{StoreState, pair_of, stored_at, stored_in}
+use Rattle.papaya_store.specs.Tables.{Tables, put, table_of, word_at}
+use Rattle.papaya_timeline.proofs.KeptTables.{index-zeros, made-there}
 use Rattle.papaya_seq.specs.Map.{IsWriteCause}
 use Rattle.papaya_seq.proofs.ComputeStages.{IsAborting, IsFilling, IsInserting, IsPaired, IsPurposeThere, IsRemoving, IsUnasked, compared_sight, goes_unasked, look_sight}
 use Rattle.papaya_seq.proofs.Past.{IsFirst, IsSlotThere, blank_word}

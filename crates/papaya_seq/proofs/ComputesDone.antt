@@ -6,9 +6,9 @@ use Rattle.papaya_words.specs.declared.probe.Refused.{Refused}
 use Rattle.papaya_words.specs.declared.probe.Refused.TheVariants.{RemoveNothing}
 use Rattle.papaya_call.specs.declared.answers.Operation.{Operation}
 use Rattle.papaya_call.specs.declared.answers.Operation.TheVariants.{Insert, Remove, Abort}
-use Rattle.papaya_core.specs.Content.{map_in}
-use Rattle.papaya_core.specs.Maps.{IsUpdate}
-use Rattle.papaya_core.specs.Store.{Stored, pair_of}
+use Rattle.papaya_timeline.specs.Content.{map_in}
+use Rattle.papaya_timeline.specs.Maps.{IsUpdate}
+use Rattle.papaya_store.specs.Store.{Stored, pair_of}
 use Rattle.papaya_seq.specs.Answered.{IsParted}
 use Rattle.papaya_seq.specs.Computes.{ComputesBy, IsNew, Operates, Says, answer_map}
 use Rattle.papaya_seq.specs.Map.{Inserts, IsWriteCause, Keeps, MapState, Unchanged, deref_pair, entry_of, value_of}

@@ -26,12 +26,12 @@ use Rattle.papaya_call.specs.declared.write.Made.TheVariants.{Nothing, Key, Pair
 use Rattle.papaya_call.specs.declared.write.Write.{Write}
 use Rattle.papaya_call.specs.Machine.{at_root, goes_as, replaces, written}
 use Rattle.papaya_ask.specs.Search.{IsWithin, go_on, look_at, match_at, at_yes as search_compared}
-use Rattle.papaya_core.specs.declared.pairs.KeyOf.{KeyOf}
-use Rattle.papaya_core.specs.declared.pairs.Pair.{Pair as LoggedPair}
-use Rattle.papaya_core.specs.declared.pairs.KeyOf.TheVariants.{Own, Logged}
-use Rattle.papaya_core.specs.Store.{StoreState}
-use Rattle.papaya_core.specs.Tables.{Tables, table_of, word_at}
-use Rattle.papaya_core.specs.Content.{map_in}
+use Rattle.papaya_store.specs.declared.pairs.KeyOf.{KeyOf}
+use Rattle.papaya_store.specs.declared.pairs.Pair.{Pair as LoggedPair}
+use Rattle.papaya_store.specs.declared.pairs.KeyOf.TheVariants.{Own, Logged}
+use Rattle.papaya_store.specs.Store.{StoreState}
+use Rattle.papaya_store.specs.Tables.{Tables, table_of, word_at}
+use Rattle.papaya_timeline.specs.Content.{map_in}
 use Rattle.papaya_seq.specs.Map.{IsWriteCause, IsWriteCauseAt, IsFull, Unchanged}
 use Rattle.papaya_seq.proofs.Past.{IsBlank, IsFirst, IsPast, IsSlotThere, blank_word, gone_past, not_zero, slot_there}
 

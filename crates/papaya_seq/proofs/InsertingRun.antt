@@ -28,20 +28,20 @@ use Rattle.papaya_rests.proofs.RestsHeld.{ended_in}
 use Rattle.papaya_rests.proofs.RestsReplyRefused.{IsReason, machine_reason}
 use Rattle.papaya_rests.proofs.Standing.{machine_ask_fits, machine_stands}
 use Rattle.papaya_rests.proofs.Tasks.{same_task}
-use Rattle.papaya_core.specs.declared.pairs.KeyOf.TheVariants.{Own}
-use Rattle.papaya_core.specs.declared.pairs.Running.{Running}
-use Rattle.papaya_core.specs.Advances.{goes_on, reply_in}
-use Rattle.papaya_core.specs.Begins.{begun, key_of_call}
-use Rattle.papaya_core.specs.Callers.{running}
-use Rattle.papaya_core.specs.Content.{map_in}
-use Rattle.papaya_core.specs.Core.{CoreState}
-use Rattle.papaya_core.specs.Performs.{Performs, own_key}
-use Rattle.papaya_core.specs.Solo.{RunsAlone}
-use Rattle.papaya_core.specs.Store.{StoreState}
-use Rattle.papaya_core.specs.Tables.{Tables, table_of, word_at}
-use Rattle.papaya_core.proofs.KeptSettings.{IsLawfulKeys}
-use Rattle.papaya_core.proofs.RefusedLemmas.{call, no_place, writes_absent}
-use Rattle.papaya_core.proofs.StoreLemmas.{numbered, performed, unnumbered}
+use Rattle.papaya_store.specs.declared.pairs.KeyOf.TheVariants.{Own}
+use Rattle.papaya_store.specs.declared.pairs.Running.{Running}
+use Rattle.papaya_timeline.specs.Advances.{goes_on, reply_in}
+use Rattle.papaya_timeline.specs.Begins.{begun, key_of_call}
+use Rattle.papaya_timeline.specs.Callers.{running}
+use Rattle.papaya_timeline.specs.Content.{map_in}
+use Rattle.papaya_timeline.specs.Core.{CoreState}
+use Rattle.papaya_store.specs.Performs.{Performs, own_key}
+use Rattle.papaya_timeline.specs.Solo.{RunsAlone}
+use Rattle.papaya_store.specs.Store.{StoreState}
+use Rattle.papaya_store.specs.Tables.{Tables, table_of, word_at}
+use Rattle.papaya_timeline.proofs.KeptSettings.{IsLawfulKeys}
+use Rattle.papaya_timeline.proofs.RefusedLemmas.{call, no_place, writes_absent}
+use Rattle.papaya_timeline.proofs.StoreLemmas.{numbered, performed, unnumbered}
 use Rattle.papaya_seq.specs.Map.{IsWriteCause, IsLawfulMap, KeepsSlots, MapState, core_of, insertion}
 use Rattle.papaya_seq.proofs.Inserting.{IsAtHand, IsEnd, IsPlain, IsRefusal, IsStage, refused_absent}
 use Rattle.papaya_seq.proofs.InsertingSteps.{answerable_in, leads_in, refused_in}

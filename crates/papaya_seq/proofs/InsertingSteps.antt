@@ -24,14 +24,14 @@ use Rattle.papaya_ask.specs.Search.{IsSize, look, at_yes as search_compared}
 use Rattle.papaya_law.specs.Content.{lookup}
 use Rattle.papaya_rests.proofs.AloneSteps.{exchange_done}
 use Rattle.papaya_rests.proofs.RestsReplyRefused.{IsMaking}
-use Rattle.papaya_core.specs.Content.{map_in, pairs_of_table}
-use Rattle.papaya_core.specs.declared.pairs.KeyOf.TheVariants.{Own, Logged}
-use Rattle.papaya_core.specs.declared.pairs.Running.{Running}
-use Rattle.papaya_core.specs.Advances.{reply_in}
-use Rattle.papaya_core.specs.Performs.{Performs, Refuses, own_key, same as same_keys, size_of}
-use Rattle.papaya_core.specs.Store.{StoreState, Stored, pair_of}
-use Rattle.papaya_core.specs.Tables.{Tables, table_of, word_at}
-use Rattle.papaya_core.proofs.KeptTables.{index-zeros, made-there}
+use Rattle.papaya_timeline.specs.Content.{map_in, pairs_of_table}
+use Rattle.papaya_store.specs.declared.pairs.KeyOf.TheVariants.{Own, Logged}
+use Rattle.papaya_store.specs.declared.pairs.Running.{Running}
+use Rattle.papaya_timeline.specs.Advances.{reply_in}
+use Rattle.papaya_store.specs.Performs.{Performs, Refuses, own_key, same as same_keys, size_of}
+use Rattle.papaya_store.specs.Store.{StoreState, Stored, pair_of}
+use Rattle.papaya_store.specs.Tables.{Tables, table_of, word_at}
+use Rattle.papaya_timeline.proofs.KeptTables.{index-zeros, made-there}
 use Rattle.papaya_seq.specs.Map.{IsWriteCause}
 use Rattle.papaya_seq.proofs.Inserting.{IsAtHand, IsEnd, IsPlain, IsRefusal, IsSized, IsStage, blank_stage, carried, compared_stage, looked_stage, refused_absent, root_stage, value_at_hand, written_stage}
 use Rattle.papaya_seq.proofs.Past.{IsFirst, IsPast}

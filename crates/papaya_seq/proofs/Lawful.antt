@@ -20,12 +20,12 @@ use Rattle.papaya_law.specs.Grows.{Comes}
 use Rattle.papaya_law.proofs.CodeViews.{word_of_kind}
 use Rattle.papaya_law.proofs.Logs.{on_comes}
 use Rattle.papaya_law.proofs.OneMap.{sound}
-use Rattle.papaya_core.specs.Content.{content, listed, pairs_of_kind, pairs_of_slots, pairs_of_table}
-use Rattle.papaya_core.specs.declared.callers.Seat.{Seat}
-use Rattle.papaya_core.specs.Kept.{IsLawfulCore, setting_of, coding_of, low}
-use Rattle.papaya_core.specs.Store.{StoreState, Stored, pair_of, stored_at, stored_in}
-use Rattle.papaya_core.specs.Tables.{table_of, word_at}
-use Rattle.papaya_core.proofs.KeptSettings.{IsLawfulKeys, tables_hashed}
+use Rattle.papaya_timeline.specs.Content.{content, listed, pairs_of_kind, pairs_of_slots, pairs_of_table}
+use Rattle.papaya_timeline.specs.declared.seat.Seat.{Seat}
+use Rattle.papaya_timeline.specs.Kept.{IsLawfulCore, setting_of, coding_of, low}
+use Rattle.papaya_store.specs.Store.{StoreState, Stored, pair_of, stored_at, stored_in}
+use Rattle.papaya_store.specs.Tables.{table_of, word_at}
+use Rattle.papaya_timeline.proofs.KeptSettings.{IsLawfulKeys, tables_hashed}
 use Rattle.papaya_seq.specs.Map.{HasNone, Holds, IsLawfulMap}
 
 -- the table that the root of a core names is there

@@ -12,14 +12,14 @@ use Rattle.papaya_call.specs.declared.machine.Machine.{Machine}
 use Rattle.papaya_rests.specs.Alone.{HasMetNone}
 use Rattle.papaya_call.specs.Machine.{after, ask_of, started}
 use Rattle.papaya_rests.proofs.Tasks.{same_task}
-use Rattle.papaya_core.specs.Content.{map_of}
-use Rattle.papaya_core.specs.Maps.{Map, Does}
-use Rattle.papaya_core.specs.Solo.{IsAnswered}
-use Rattle.papaya_core.specs.Store.{StoreState, Stored}
+use Rattle.papaya_timeline.specs.Content.{map_of}
+use Rattle.papaya_timeline.specs.Maps.{Map, Does}
+use Rattle.papaya_timeline.specs.Solo.{IsAnswered}
+use Rattle.papaya_store.specs.Store.{StoreState, Stored}
 use Rattle.papaya_keys.specs.Hashes.{hash_of}
-use Rattle.papaya_core.proofs.SoloLaw.{alone_answered}
-use Rattle.papaya_core.proofs.KeptCore.{keys_lawful}
-use Rattle.papaya_core.proofs.KeptSettings.{IsLawfulKeys}
+use Rattle.papaya_timeline.proofs.SoloLaw.{alone_answered}
+use Rattle.papaya_timeline.proofs.KeptCore.{keys_lawful}
+use Rattle.papaya_timeline.proofs.KeptSettings.{IsLawfulKeys}
 use Rattle.papaya_seq.specs.Looks.{IsFound, LooksUp, Replies, found_number, reply_of}
 use Rattle.papaya_seq.specs.Map.{Holds, IsLawfulMap, MapState, core_of}
 use Rattle.papaya_seq.proofs.Lawful.{IsMatched, MatchesNone, decided, logged_content, lookup_has_none, lookup_holds, none_held}

@@ -12,19 +12,19 @@ use Rattle.papaya_ask.specs.declared.call.Reply.TheVariants.{Refused as Reply_re
 use Rattle.papaya_call.specs.declared.machine.Machine.{Machine}
 use Rattle.papaya_call.specs.Machine.{after, ask_of, kind_of_ask, started}
 use Rattle.papaya_rests.proofs.Tasks.{same_task}
-use Rattle.papaya_core.specs.declared.pairs.KeyOf.TheVariants.{Own}
-use Rattle.papaya_core.specs.declared.pairs.Running.{Running}
-use Rattle.papaya_core.specs.declared.trace.Entry.{Entry}
-use Rattle.papaya_core.specs.declared.trace.Event.{Event}
-use Rattle.papaya_core.specs.declared.trace.Event.TheVariants.{Begun, Replied}
-use Rattle.papaya_core.specs.declared.trace.Turn.TheVariants.{Begin, Finish}
-use Rattle.papaya_core.specs.Advances.{Advances, event_of, goes_on, reply_in}
-use Rattle.papaya_core.specs.Core.{CoreState}
-use Rattle.papaya_core.specs.Performs.{Performs, same_stored}
-use Rattle.papaya_core.specs.Runs.{History, StepsRun, with_event}
-use Rattle.papaya_core.specs.Solo.{RunsAlone, whatever}
-use Rattle.papaya_core.specs.Store.{Stored, pair_of}
-use Rattle.papaya_core.proofs.KeptSettings.{IsLawfulKeys}
+use Rattle.papaya_store.specs.declared.pairs.KeyOf.TheVariants.{Own}
+use Rattle.papaya_store.specs.declared.pairs.Running.{Running}
+use Rattle.papaya_timeline.specs.declared.trace.Entry.{Entry}
+use Rattle.papaya_timeline.specs.declared.trace.Event.{Event}
+use Rattle.papaya_timeline.specs.declared.trace.Event.TheVariants.{Begun, Replied}
+use Rattle.papaya_timeline.specs.declared.trace.Turn.TheVariants.{Begin, Finish}
+use Rattle.papaya_timeline.specs.Advances.{Advances, event_of, goes_on, reply_in}
+use Rattle.papaya_timeline.specs.Core.{CoreState}
+use Rattle.papaya_store.specs.Performs.{Performs, same_stored}
+use Rattle.papaya_timeline.specs.Runs.{History, StepsRun, with_event}
+use Rattle.papaya_timeline.specs.Solo.{RunsAlone, whatever}
+use Rattle.papaya_store.specs.Store.{Stored, pair_of}
+use Rattle.papaya_timeline.proofs.KeptSettings.{IsLawfulKeys}
 use Rattle.papaya_seq.specs.Looks.{IsToldBy, Replies, matches_in}
 use Rattle.papaya_seq.specs.Map.{IsLawfulMap, MapState, core_of}
 use Rattle.papaya_seq.proofs.LookSteps.{IsLooking, IsLookReply, look_replies, lookup_looks}

@@ -31,11 +31,11 @@ use Rattle.papaya_rests.proofs.AloneSteps.{machine_nears}
 use Rattle.papaya_rests.proofs.AloneUnmatched.{machine_meets_none}
 use Rattle.papaya_ask.specs.Search.{IsSize, next_place, go_on, look_at, look, match_at, at_yes as search_compared}
 use Rattle.papaya_rests.proofs.Tasks.{same_task}
-use Rattle.papaya_core.specs.Performs.{size_of}
-use Rattle.papaya_core.specs.Store.{StoreState, Stored, pair_of}
-use Rattle.papaya_core.specs.Tables.{table_of, word_at}
+use Rattle.papaya_store.specs.Performs.{size_of}
+use Rattle.papaya_store.specs.Store.{StoreState, Stored, pair_of}
+use Rattle.papaya_store.specs.Tables.{table_of, word_at}
 use Rattle.papaya_seq.specs.Looks.{IsToldBy, Replies, matches_in}
-use Rattle.papaya_core.proofs.KeptSettings.{IsLawfulKeys}
+use Rattle.papaya_timeline.proofs.KeptSettings.{IsLawfulKeys}
 use Rattle.papaya_seq.specs.Map.{IsLawfulMap}
 use Rattle.papaya_seq.proofs.Lawful.{MatchesNone, bare, root_there, single, sized}
 

@@ -12,8 +12,8 @@ use Rattle.papaya_ask.specs.declared.search.Search.TheVariants.{Looking}
 use Rattle.papaya_ask.specs.declared.search.Seen.{Seen}
 use Rattle.papaya_ask.specs.declared.search.Seen.TheVariants as seen
 use Rattle.papaya_ask.specs.Search.{IsWithin, go_on, next_place}
-use Rattle.papaya_core.specs.Store.{StoreState}
-use Rattle.papaya_core.specs.Tables.{Tables, table_of, word_at, word_in}
+use Rattle.papaya_store.specs.Store.{StoreState}
+use Rattle.papaya_store.specs.Tables.{Tables, table_of, word_at, word_in}
 use Rattle.papaya_seq.specs.Map.{IsFull}
 
 -- the search is at this place of the root table, and each place of the key before it is filled

@@ -7,11 +7,11 @@ use Rattle.std.specs.Fn.{Mut}
 use Rattle.papaya_rests.specs.Says.{Agrees, said_of_removal}
 use Rattle.papaya_ask.specs.declared.call.Reply.{Reply}
 use Rattle.papaya_ask.specs.declared.call.Reply.TheVariants.{Absent, Found, Inserted, Replaced, Occupied, Removed, Kept, Aborted, Refused}
-use Rattle.papaya_core.specs.Content.{content, map_in}
-use Rattle.papaya_core.specs.Maps.{Does, IsUpdate}
-use Rattle.papaya_core.specs.Solo.{IsAnswered}
-use Rattle.papaya_core.specs.Store.{StoreState, Stored, pair_of}
-use Rattle.papaya_core.proofs.SoloTimeline.{lookup_alike}
+use Rattle.papaya_timeline.specs.Content.{content, map_in}
+use Rattle.papaya_timeline.specs.Maps.{Does, IsUpdate}
+use Rattle.papaya_timeline.specs.Solo.{IsAnswered}
+use Rattle.papaya_store.specs.Store.{StoreState, Stored, pair_of}
+use Rattle.papaya_timeline.proofs.SoloTimeline.{lookup_alike}
 use Rattle.papaya_seq.specs.Map.{Removes, Unchanged}
 use Rattle.papaya_seq.specs.Removes.{IsHeld, IsRemoval, Judges}
 use Rattle.papaya_seq.proofs.Lawful.{MatchesNone, logged_content, lookup_has_none, lookup_holds, none_held}

@@ -15,9 +15,9 @@ use Rattle.papaya_call.specs.declared.machine.State.{State}
 use Rattle.papaya_call.specs.declared.machine.State.TheVariants.{AtRoot, Making, Opening, Searching, Writing, Offering, Showing, Pairing, Putting, Burying, Counting, Uncounting, Leaving, Growing, Ended}
 use Rattle.papaya_ask.specs.declared.search.Search.TheVariants.{Sizing, Looking, Comparing}
 use Rattle.papaya_call.specs.declared.write.Made.{Made}
-use Rattle.papaya_core.proofs.KeptSettings.{IsLawfulKeys}
-use Rattle.papaya_core.specs.Solo.{RunsAlone}
-use Rattle.papaya_core.specs.Store.{StoreState, pair_of, stored_in}
+use Rattle.papaya_timeline.proofs.KeptSettings.{IsLawfulKeys}
+use Rattle.papaya_timeline.specs.Solo.{RunsAlone}
+use Rattle.papaya_store.specs.Store.{StoreState, pair_of, stored_in}
 use Rattle.papaya_seq.specs.Map.{IsLawfulMap, KeepsSlots, MapState, core_of}
 use Rattle.papaya_seq.proofs.Lawful.{MatchesNone}
 use Rattle.papaya_seq.proofs.RemovalTurns.{IsFound, IsJudged, Turns, machine_turns}

@@ -29,9 +29,9 @@ use Rattle.papaya_call.specs.declared.write.Made.{Made}
 use Rattle.papaya_rests.proofs.AloneCurrent.{machine_stays}
 use Rattle.papaya_rests.proofs.AloneSteps.{exchange_done, machine_nears}
 use Rattle.papaya_rests.proofs.AloneUnmatched.{machine_meets_none}
-use Rattle.papaya_core.specs.Performs.{size_of}
-use Rattle.papaya_core.specs.Store.{StoreState, Stored, pair_of}
-use Rattle.papaya_core.specs.Tables.{put, table_of, word_at}
+use Rattle.papaya_store.specs.Performs.{size_of}
+use Rattle.papaya_store.specs.Store.{StoreState, Stored, pair_of}
+use Rattle.papaya_store.specs.Tables.{put, table_of, word_at}
 use Rattle.papaya_seq.specs.Looks.{matches_in}
 use Rattle.papaya_seq.specs.Removes.{IsShown, Judges}
 use Rattle.papaya_seq.proofs.Lawful.{MatchesNone}

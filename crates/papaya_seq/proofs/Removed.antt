@@ -2,7 +2,7 @@
 use Rattle.std.proofs.Common.{◌≡◌, ℕ, Bool, true, false, Option, Some, None, Result, Ok, Err, MatchOption, Bor, sym, ◌∙◌, ap, subst, option_map}
 use Rattle.papaya_words.specs.declared.probe.Refused.{Refused}
 use Rattle.papaya_ask.specs.declared.call.Reply.TheVariants as replies
-use Rattle.papaya_core.specs.Store.{StoreState, Stored, pair_of}
+use Rattle.papaya_store.specs.Store.{StoreState, Stored, pair_of}
 use Rattle.papaya_seq.specs.Answered.{entry_answered}
 use Rattle.papaya_seq.specs.Map.{HasNone, Holds, IsRemoved, Keeps, MapState, Removes, deref_pair, entry_of}
 use Rattle.papaya_seq.specs.Removes.{IsHeld, IsJudged, IsRemoval}

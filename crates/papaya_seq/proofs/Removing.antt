@@ -30,13 +30,13 @@ use Rattle.papaya_ask.specs.declared.search.Place.{Place}
 use Rattle.papaya_ask.specs.declared.search.Search.TheVariants.{Sizing, Looking, Comparing}
 use Rattle.papaya_ask.specs.declared.search.Seen.{Seen}
 use Rattle.papaya_ask.specs.declared.search.Seen.TheVariants as seen
-use Rattle.papaya_core.specs.Performs.{Exchanges, Judges, Performs, ShowsPair, same, size_of}
-use Rattle.papaya_core.specs.Solo.{whatever}
-use Rattle.papaya_core.specs.Store.{StoreState, Stored, pair_of}
-use Rattle.papaya_core.specs.Tables.{put, table_of, word_at}
-use Rattle.papaya_core.specs.declared.pairs.KeyOf.TheVariants.{Own}
-use Rattle.papaya_core.specs.declared.pairs.Running.{Running}
-use Rattle.papaya_core.specs.Advances.{reply_in}
+use Rattle.papaya_store.specs.Performs.{Exchanges, Judges, Performs, ShowsPair, same, size_of}
+use Rattle.papaya_timeline.specs.Solo.{whatever}
+use Rattle.papaya_store.specs.Store.{StoreState, Stored, pair_of}
+use Rattle.papaya_store.specs.Tables.{put, table_of, word_at}
+use Rattle.papaya_store.specs.declared.pairs.KeyOf.TheVariants.{Own}
+use Rattle.papaya_store.specs.declared.pairs.Running.{Running}
+use Rattle.papaya_timeline.specs.Advances.{reply_in}
 use Rattle.papaya_seq.specs.Looks.{matches_in}
 use Rattle.papaya_seq.specs.Removes.{IsShown}
 

@@ -18,11 +18,11 @@ use Rattle.papaya_call.specs.declared.machine.State.TheVariants.{AtRoot, Making,
 use Rattle.papaya_ask.specs.declared.search.Search.TheVariants.{Sizing, Looking, Comparing}
 use Rattle.papaya_call.specs.declared.write.Made.{Made}
 use Rattle.papaya_call.specs.declared.write.Made.TheVariants.{Nothing, Key, Pair}
-use Rattle.papaya_core.specs.declared.pairs.Running.{Running}
-use Rattle.papaya_core.specs.Performs.{Performs, ShowsPair}
-use Rattle.papaya_core.specs.Store.{StoreState}
-use Rattle.papaya_core.specs.Tables.{Tables, put, put_in, table_of, word_at}
-use Rattle.papaya_core.proofs.KeptTables.{HasMoreTables, made-there}
+use Rattle.papaya_store.specs.declared.pairs.Running.{Running}
+use Rattle.papaya_store.specs.Performs.{Performs, ShowsPair}
+use Rattle.papaya_store.specs.Store.{StoreState}
+use Rattle.papaya_store.specs.Tables.{Tables, put, put_in, table_of, word_at}
+use Rattle.papaya_timeline.proofs.KeptTables.{HasMoreTables, made-there}
 use Rattle.papaya_seq.specs.Map.{KeepsSlots, slots_in, slots_of}
 
 -- one after the other

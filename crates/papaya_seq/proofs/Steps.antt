@@ -16,27 +16,27 @@ use Rattle.papaya_ask.specs.declared.call.Call.{Call}
 use Rattle.papaya_ask.specs.declared.call.Reply.{Reply}
 use Rattle.papaya_call.specs.Machine.{after, ask_of, kind_of_ask}
 use Rattle.papaya_ask.specs.Search.{IsSize}
-use Rattle.papaya_core.specs.declared.pairs.KeyOf.TheVariants.{Own, Logged}
-use Rattle.papaya_core.specs.declared.pairs.Running.{Running}
-use Rattle.papaya_core.specs.declared.trace.Entry.{Entry}
-use Rattle.papaya_core.specs.declared.trace.Event.{Event}
-use Rattle.papaya_core.specs.declared.trace.Event.TheVariants.{Begun, Replied}
-use Rattle.papaya_core.specs.declared.trace.Turn.TheVariants.{Begin, Finish}
-use Rattle.papaya_core.specs.Advances.{Advances, event_of, goes_on, reply_in}
-use Rattle.papaya_core.specs.Begins.{Begins, begun, key_of_call}
-use Rattle.papaya_core.specs.Core.{CoreState}
-use Rattle.papaya_core.specs.Kept.{IsLawfulCore, begun_tales, told_tales}
-use Rattle.papaya_core.specs.Performs.{Performs, Refuses, own_key, size_of}
-use Rattle.papaya_core.specs.Runs.{History, StepsRun, with_event, with_step}
-use Rattle.papaya_core.specs.Solo.{RunsAlone, whatever}
-use Rattle.papaya_core.specs.Store.{StoreState}
-use Rattle.papaya_core.specs.Tables.{Tables, put, table_of, word_at}
-use Rattle.papaya_core.proofs.HeadlineLemmas.{advance-core, begin-core}
-use Rattle.papaya_core.proofs.KeptLemmas.{IsLawfulKeys, kept_begin, kept_step}
-use Rattle.papaya_core.proofs.RefusedLemmas.{caused}
-use Rattle.papaya_core.proofs.KeptTables.{word-here, word-made, word-other}
+use Rattle.papaya_store.specs.declared.pairs.KeyOf.TheVariants.{Own, Logged}
+use Rattle.papaya_store.specs.declared.pairs.Running.{Running}
+use Rattle.papaya_timeline.specs.declared.trace.Entry.{Entry}
+use Rattle.papaya_timeline.specs.declared.trace.Event.{Event}
+use Rattle.papaya_timeline.specs.declared.trace.Event.TheVariants.{Begun, Replied}
+use Rattle.papaya_timeline.specs.declared.trace.Turn.TheVariants.{Begin, Finish}
+use Rattle.papaya_timeline.specs.Advances.{Advances, event_of, goes_on, reply_in}
+use Rattle.papaya_timeline.specs.Begins.{Begins, begun, key_of_call}
+use Rattle.papaya_timeline.specs.Core.{CoreState}
+use Rattle.papaya_timeline.specs.Kept.{IsLawfulCore, begun_tales, told_tales}
+use Rattle.papaya_store.specs.Performs.{Performs, Refuses, own_key, size_of}
+use Rattle.papaya_timeline.specs.Runs.{History, StepsRun, with_event, with_step}
+use Rattle.papaya_timeline.specs.Solo.{RunsAlone, whatever}
+use Rattle.papaya_store.specs.Store.{StoreState}
+use Rattle.papaya_store.specs.Tables.{Tables, put, table_of, word_at}
+use Rattle.papaya_timeline.proofs.HeadlineLemmas.{advance-core, begin-core}
+use Rattle.papaya_timeline.proofs.KeptLemmas.{IsLawfulKeys, kept_begin, kept_step}
+use Rattle.papaya_timeline.proofs.RefusedLemmas.{caused}
+use Rattle.papaya_timeline.proofs.KeptTables.{word-here, word-made, word-other}
 use Rattle.papaya_words.specs.declared.limits.TheConstants.{FIRST_TABLE_LEN}
-use Rattle.papaya_core.proofs.MachineLemmas.{machine_opens}
+use Rattle.papaya_timeline.proofs.MachineLemmas.{machine_opens}
 use Rattle.papaya_seq.specs.Map.{IsLawfulMap, KeepsSlots, MapState, core_of, slots_in}
 use Rattle.papaya_seq.proofs.Lawful.{core_root_there}
 use Rattle.papaya_seq.proofs.Slots.{keeps_more, made_slots, makes_first, opens_none, slots_step}

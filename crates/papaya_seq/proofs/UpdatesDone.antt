@@ -5,8 +5,8 @@ use Rattle.std.specs.Cmp.{IsEquivalence}
 use Rattle.papaya_words.specs.declared.probe.Refused.{Refused}
 use Rattle.papaya_call.specs.declared.answers.Operation.{Operation}
 use Rattle.papaya_call.specs.declared.answers.Operation.TheVariants.{Insert, Remove, Abort}
-use Rattle.papaya_core.specs.Content.{map_in}
-use Rattle.papaya_core.specs.Store.{Stored, pair_of}
+use Rattle.papaya_timeline.specs.Content.{map_in}
+use Rattle.papaya_store.specs.Store.{Stored, pair_of}
 use Rattle.papaya_seq.specs.Computes.{ComputesBy, IsComputeRefusal, IsTriedWith, IsUpdated, IsUpdatedOrInserted, Says}
 use Rattle.papaya_seq.specs.Map.{IsWriteCause, IsOccupied, Keeps, MapState, Unchanged}
 use Rattle.papaya_keys.specs.declared.compute.Computed.{Computed}

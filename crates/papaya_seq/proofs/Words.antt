@@ -11,10 +11,10 @@ use Rattle.papaya_law.specs.Invariant.{IsSound, shut}
 use Rattle.papaya_law.proofs.CodeViews.{word_of_kind}
 use Rattle.papaya_law.proofs.Logs.{on_comes}
 use Rattle.papaya_law.proofs.OneMap.{sound}
-use Rattle.papaya_core.specs.Kept.{coding_of, low, setting_of}
-use Rattle.papaya_core.specs.Store.{StoreState}
-use Rattle.papaya_core.specs.Tables.{table_of, word_at}
-use Rattle.papaya_core.proofs.KeptSettings.{IsLawfulKeys, tables_hashed}
+use Rattle.papaya_timeline.specs.Kept.{coding_of, low, setting_of}
+use Rattle.papaya_store.specs.Store.{StoreState}
+use Rattle.papaya_store.specs.Tables.{table_of, word_at}
+use Rattle.papaya_timeline.proofs.KeptSettings.{IsLawfulKeys, tables_hashed}
 use Rattle.papaya_seq.specs.Map.{IsLawfulMap}
 
 module _ {K V S : Type 0} (eq : K → K → Bool) (hash : K → ℕ) (mode : ResizeMode) (store : StoreState K V S) (keys : IsLawfulKeys eq hash) (lawful : IsLawfulMap eq hash store mode) where

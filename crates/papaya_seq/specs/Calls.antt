@@ -9,9 +9,9 @@ use Rattle.papaya_ask.specs.declared.call.Call.{Call}
 use Rattle.papaya_ask.specs.declared.call.Call.TheVariants.{Get, Insert, TryInsert, RemoveIf, Compute}
 use Rattle.papaya_ask.specs.declared.call.Reply.{Reply}
 use Rattle.papaya_ask.specs.declared.call.Reply.TheVariants.{Inserted, Replaced, Removed, Kept, Aborted, Refused}
-use Rattle.papaya_core.specs.Content.{map_in}
-use Rattle.papaya_core.specs.Solo.{IsAnswered, IsNewIn}
-use Rattle.papaya_core.specs.Store.{StoreState, Stored, pair_of}
+use Rattle.papaya_timeline.specs.Content.{map_in}
+use Rattle.papaya_timeline.specs.Solo.{IsAnswered, IsNewIn}
+use Rattle.papaya_store.specs.Store.{StoreState, Stored, pair_of}
 use Rattle.papaya_seq.specs.Map.{IsWriteCause, IsWriteCauseAt, Keeps, MapState, entry_of, next_of}
 
 -- what the closure's answers give of the pair of this number

@@ -8,9 +8,9 @@ use Rattle.papaya_ask.specs.declared.call.Reply.{Reply}
 use Rattle.papaya_ask.specs.declared.call.Reply.TheVariants.{Absent, Found}
 use Rattle.papaya_call.specs.declared.machine.Machine.{Machine}
 use Rattle.papaya_call.specs.Machine.{after, ask_of}
-use Rattle.papaya_core.specs.Performs.{size_of}
-use Rattle.papaya_core.specs.Store.{StoreState, Stored, pair_of}
-use Rattle.papaya_core.specs.Tables.{table_of, word_at}
+use Rattle.papaya_store.specs.Performs.{size_of}
+use Rattle.papaya_store.specs.Store.{StoreState, Stored, pair_of}
+use Rattle.papaya_store.specs.Tables.{table_of, word_at}
 use Rattle.papaya_seq.specs.Map.{HasNone, Holds}
 
 -- does the key that is looked for match the pair's, where there is one

@@ -7,7 +7,7 @@ use Rattle.papaya_ask.specs.declared.ask.Answer.{Answer}
 use Rattle.papaya_ask.specs.declared.ask.Answer.TheVariants.{Yes, Ok as Ok_done}
 use Rattle.papaya_ask.specs.declared.call.Reply.{Reply}
 use Rattle.papaya_ask.specs.declared.call.Reply.TheVariants.{Absent, Removed, Kept, Refused}
-use Rattle.papaya_core.specs.Store.{StoreState, Stored, pair_of}
+use Rattle.papaya_store.specs.Store.{StoreState, Stored, pair_of}
 use Rattle.papaya_seq.specs.Map.{HasNone, Holds, Keeps, MapState, Removes, Unchanged, entry_of}
 
 -- the closure, as it is, may answer this of the pair that it is shown

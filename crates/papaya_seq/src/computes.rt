@@ -2,8 +2,8 @@
 ghost use Rattle.std.specs.Prelude.{◌≡◌, Some, None, IfOk, IfErr, IsSome, MatchOption};
 ghost use Rattle.std.specs.Borrow.{sem};
 ghost use Rattle.std.specs.Fn.{FnReturnsAt};
-ghost use Rattle.papaya_core.specs.Content.{map_in};
-ghost use Rattle.papaya_core.specs.Store.{pair_of};
+ghost use Rattle.papaya_timeline.specs.Content.{map_in};
+ghost use Rattle.papaya_store.specs.Store.{pair_of};
 ghost use Rattle.papaya_keys.specs.Hashes.{hash_of};
 ghost use Rattle.papaya_seq.specs.Answered.{IsParted, old_answered, value_answered};
 ghost use Rattle.papaya_seq.specs.Computes.{ComputesBy, HasValueOf, IsTriedWith, IsUpdated, IsUpdatedOrInserted, Says, Takes, compute_answered, tried_answered};

@@ -1,6 +1,6 @@
 //! Computes: their machine, answered by the store and by one call of a closure.
 ghost use Rattle.std.specs.Prelude.{◌≡◌, Some, None, option_map};
-ghost use Rattle.papaya_core.specs.Content.{map_in};
+ghost use Rattle.papaya_timeline.specs.Content.{map_in};
 ghost use Rattle.papaya_keys.specs.Hashes.{hash_of};
 ghost use Rattle.papaya_seq.specs.Computes.{ComputesBy, Says, Takes};
 ghost use Rattle.papaya_seq.specs.Computing.{IsComputed, IsKept, Replies};
@@ -10,9 +10,9 @@ use papaya_ask::ask::{Answer, Ask, OpKind};
 use papaya_ask::call::{Reply, Task};
 use papaya_call::answers::{Listed, Operation};
 use papaya_call::machine::Machine;
-use papaya_core::pairs::{KeyOf, Running};
-use papaya_core::store::Store;
 use papaya_keys::compute::Computed;
+use papaya_store::pairs::{KeyOf, Running};
+use papaya_store::store::Store;
 use papaya_words::probe::Refused;
 use std::hash::{BuildHasher, Hash};
 

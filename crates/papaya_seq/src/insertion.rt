@@ -1,8 +1,8 @@
 //! Insertions: their machine, answered by the store.
 ghost use Rattle.std.specs.Prelude.{◌≡◌, ℕ, Bool, false, Option, Some, None, cond};
 ghost use Rattle.papaya_words.specs.declared.probe.Refused.{Refused};
-ghost use Rattle.papaya_core.specs.Content.{map_in};
-ghost use Rattle.papaya_core.specs.Solo.{IsAnswered, IsNewIn};
+ghost use Rattle.papaya_timeline.specs.Content.{map_in};
+ghost use Rattle.papaya_timeline.specs.Solo.{IsAnswered, IsNewIn};
 ghost use Rattle.papaya_keys.specs.Hashes.{hash_of};
 ghost use Rattle.papaya_seq.specs.Map.{IsWriteCause, IsWriteCauseAt, Keeps, insertion};
 
@@ -11,7 +11,7 @@ use papaya_ask::ask::Ask;
 use papaya_ask::call::{Reply, Task};
 use papaya_call::answers::Listed;
 use papaya_call::machine::Machine;
-use papaya_core::pairs::{KeyOf, Running};
+use papaya_store::pairs::{KeyOf, Running};
 use std::hash::{BuildHasher, Hash};
 
 /// The value that a call was handed and has not logged.

@@ -1,8 +1,8 @@
 //! What follows from the contracts of the calls together. The functions do nothing: their contracts
 //! are the laws.
 ghost use Rattle.std.specs.Prelude.{◌≡◌, ℕ, Bool, Option, Some, None, false};
-ghost use Rattle.papaya_core.specs.Content.{map_in};
-ghost use Rattle.papaya_core.specs.Store.{StoreState, Stored};
+ghost use Rattle.papaya_timeline.specs.Content.{map_in};
+ghost use Rattle.papaya_store.specs.Store.{StoreState, Stored};
 ghost use Rattle.papaya_seq.specs.Map.{Inserts, Removes, value_of};
 
 use std::hash::Hash;

@@ -2,7 +2,7 @@
 ghost use Rattle.std.specs.Prelude.{◌≡◌, option_map};
 ghost use Rattle.papaya_call.specs.Machine.{started};
 ghost use Rattle.papaya_ask.specs.declared.call.Task.TheVariants.{Get};
-ghost use Rattle.papaya_core.specs.Store.{pair_of};
+ghost use Rattle.papaya_store.specs.Store.{pair_of};
 ghost use Rattle.papaya_keys.specs.Hashes.{hash_of};
 ghost use Rattle.papaya_seq.specs.Looks.{LooksUp, found_number, matches_in};
 
@@ -10,8 +10,8 @@ use crate::seq::HashMap;
 use papaya_ask::ask::{Answer, Ask};
 use papaya_ask::call::{Reply, Task};
 use papaya_call::machine::Machine;
-use papaya_core::store::Store;
 use papaya_keys::guard::Equivalent;
+use papaya_store::store::Store;
 use std::hash::{BuildHasher, Hash};
 
 /// Does the key of this pair match?

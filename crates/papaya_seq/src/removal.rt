@@ -1,7 +1,7 @@
 //! Removals: their machine, answered by the words that stand in the tables and by a closure.
 ghost use Rattle.std.specs.Prelude.{◌≡◌, ℕ, Option, Some, None};
 ghost use Rattle.papaya_words.specs.declared.probe.Refused.{Refused};
-ghost use Rattle.papaya_core.specs.Store.{pair_of};
+ghost use Rattle.papaya_store.specs.Store.{pair_of};
 ghost use Rattle.papaya_keys.specs.Hashes.{hash_of};
 ghost use Rattle.papaya_seq.specs.Map.{Keeps, next_of};
 ghost use Rattle.papaya_seq.specs.Removes.{IsRemovalBy, IsShown, Judges};
@@ -11,8 +11,8 @@ use crate::seq::HashMap;
 use papaya_ask::ask::{Answer, Ask};
 use papaya_ask::call::{Reply, Task};
 use papaya_call::machine::Machine;
-use papaya_core::store::Store;
 use papaya_keys::guard::Equivalent;
+use papaya_store::store::Store;
 use std::hash::{BuildHasher, Hash};
 
 /// Shows a pair to the closure of a removal.

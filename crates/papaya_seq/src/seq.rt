@@ -5,11 +5,11 @@ ghost use Rattle.papaya_words.specs.declared.limits.TheConstants.{DEFAULT_CHUNK}
 ghost use Rattle.papaya_call.specs.Machine.{started};
 ghost use Rattle.papaya_ask.specs.declared.call.Task.TheVariants.{Get};
 ghost use Rattle.papaya_law.specs.Content.{AreApart};
-ghost use Rattle.papaya_core.specs.Content.{content, map_in};
-ghost use Rattle.papaya_core.specs.New.{IsNew};
+ghost use Rattle.papaya_timeline.specs.Content.{content, map_in};
+ghost use Rattle.papaya_timeline.specs.New.{IsNew};
 ghost use Rattle.papaya_keys.specs.Sizes.{IsSizeRefusal};
 ghost use Rattle.papaya_keys.specs.Sizes.{IsAllowed};
-ghost use Rattle.papaya_core.specs.Store.{pair_of};
+ghost use Rattle.papaya_store.specs.Store.{pair_of};
 ghost use Rattle.papaya_keys.specs.Hashes.{hash_of};
 ghost use Rattle.papaya_seq.specs.Answered.{entry_answered, judged_answered, old_answered, value_answered};
 ghost use Rattle.papaya_seq.specs.Calls.{AreCalled, IsCalled};
@@ -21,10 +21,10 @@ ghost use Rattle.papaya_seq.specs.Map.{HasNone, HasValue, Holds, IsWriteCause, I
 
 use papaya_ask::call::{Call, Reply};
 use papaya_call::answers::Answers;
-use papaya_core::store::Store;
 use papaya_keys::compute::Computed;
 use papaya_keys::guard::Equivalent;
 use papaya_keys::occupied::{NotInserted, OccupiedError};
+use papaya_store::store::Store;
 use papaya_words::probe::{Refused, ResizeMode};
 use std::alloc::Global;
 use std::hash::{BuildHasher, BuildHasherDefault, FoldHasher, Hash};

@@ -1,8 +1,8 @@
 use Rattle.std.proofs.Common.{◌≡◌, ◌<◌, ◌≤◌, List, length, Some, slice_get, get_or, is_some, ltb-true, ltb-false, refl, sym, ap, subst, ◌∙◌, arith}
 use Rattle.std.proofs.lemmas.Option.{slice_get_read}
-use Rattle.papaya_core.specs.declared.callers.Seat.{Seat}
-use Rattle.papaya_core.specs.Callers.{running, IsSeatAt}
-use Rattle.papaya_core.proofs.CallersLemmas.{running-at, running-none}
+use Rattle.papaya_timeline.specs.declared.seat.Seat.{Seat}
+use Rattle.papaya_timeline.specs.Callers.{running, IsSeatAt}
+use Rattle.papaya_timeline.proofs.CallersLemmas.{running-at, running-none}
 use Rattle.papaya_core.proofs.callers.Callers.is_running.Goals as goal
 
 pub returns-in-Some : goal.returns-in-Some

@@ -1,7 +1,7 @@
 use Rattle.std.proofs.Common.{List, Some, sym, ap, subst, ◌∙◌}
-use Rattle.papaya_core.specs.declared.callers.Seat.{Seat}
-use Rattle.papaya_core.specs.Callers.{with_call, IsSeated, IsSeatAt}
-use Rattle.papaya_core.proofs.CallersLemmas.{item_there, seated-within, with_call-at}
+use Rattle.papaya_timeline.specs.declared.seat.Seat.{Seat}
+use Rattle.papaya_timeline.specs.Callers.{with_call, IsSeated, IsSeatAt}
+use Rattle.papaya_timeline.proofs.CallersLemmas.{item_there, seated-within, with_call-at}
 use Rattle.papaya_core.proofs.callers.Callers.put.Goals as goal
 
 pub put_call-requires : goal.put_call-requires

@@ -1,7 +1,7 @@
 use Rattle.std.proofs.Common.{◌≡◌, List, None, is_some, true, sym, ap, subst, ◌∙◌}
-use Rattle.papaya_core.specs.declared.callers.Seat.{Seat}
-use Rattle.papaya_core.specs.Callers.{running, with_call, IsSeated, IsSeatAt}
-use Rattle.papaya_core.proofs.CallersLemmas.{item_there, not_none, running-at, running-within, with_call-at, with_call-seated}
+use Rattle.papaya_timeline.specs.declared.seat.Seat.{Seat}
+use Rattle.papaya_timeline.specs.Callers.{running, with_call, IsSeated, IsSeatAt}
+use Rattle.papaya_timeline.proofs.CallersLemmas.{item_there, not_none, running-at, running-within, with_call-at, with_call-seated}
 use Rattle.papaya_core.proofs.callers.Callers.take.Goals as goal
 
 pub take_call-requires : goal.take_call-requires

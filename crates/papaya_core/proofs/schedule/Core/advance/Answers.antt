@@ -3,23 +3,23 @@ use Rattle.papaya_words.specs.Counter.{added}
 use Rattle.papaya_call.specs.Answers.{Says}
 use Rattle.papaya_ask.specs.declared.ask.Ask.TheVariants.{AddToShard}
 use Rattle.papaya_call.specs.Machine.{IsStanding, IsFitAsk, ask_of, kind_of_ask, after}
-use Rattle.papaya_core.specs.declared.pairs.Running.{Running}
-use Rattle.papaya_core.specs.declared.callers.Seat.{Seat}
-use Rattle.papaya_core.specs.Callers.{running, with_call}
-use Rattle.papaya_core.specs.Performs.{Performs}
+use Rattle.papaya_store.specs.declared.pairs.Running.{Running}
+use Rattle.papaya_timeline.specs.declared.seat.Seat.{Seat}
+use Rattle.papaya_timeline.specs.Callers.{running, with_call}
+use Rattle.papaya_store.specs.Performs.{Performs}
 use Rattle.papaya_ask.specs.declared.call.Reply.TheVariants.{Refused as Reply_refused}
-use Rattle.papaya_core.specs.Core.{IsCore, IsGoing}
+use Rattle.papaya_timeline.specs.Core.{IsCore, IsGoing}
 use Rattle.papaya_ask.specs.declared.call.Reply.{Reply}
-use Rattle.papaya_core.specs.Counted.{IsCounted}
-use Rattle.papaya_core.specs.Kept.{IsLawfulCore}
+use Rattle.papaya_timeline.specs.Counted.{IsCounted}
+use Rattle.papaya_timeline.specs.Kept.{IsLawfulCore}
 use Rattle.papaya_keys.specs.Hashes.{hash_of}
-use Rattle.papaya_core.specs.Advances.{Advances, event_of, reply_in, goes_on}
-use Rattle.papaya_core.proofs.CallersLemmas.{with_call-twice}
-use Rattle.papaya_core.proofs.CoreLemmas.{still_going, with_call-core, performed-core}
-use Rattle.papaya_core.proofs.HeadlineLemmas.{lawful_keeps, lawful_moves}
-use Rattle.papaya_core.proofs.StoreLemmas.{performed, unnumbered}
-use Rattle.papaya_core.proofs.CountedCore.{stepped_sound}
-use Rattle.papaya_core.proofs.KeptCore.{lawful_caused}
+use Rattle.papaya_timeline.specs.Advances.{Advances, event_of, reply_in, goes_on}
+use Rattle.papaya_timeline.proofs.CallersLemmas.{with_call-twice}
+use Rattle.papaya_timeline.proofs.CoreLemmas.{still_going, with_call-core, performed-core}
+use Rattle.papaya_timeline.proofs.HeadlineLemmas.{lawful_keeps, lawful_moves}
+use Rattle.papaya_timeline.proofs.StoreLemmas.{performed, unnumbered}
+use Rattle.papaya_timeline.proofs.CountedCore.{stepped_sound}
+use Rattle.papaya_timeline.proofs.KeptCore.{lawful_caused}
 use Rattle.papaya_core.proofs.schedule.Core.advance.Goals as goal
 use Rattle.papaya_core.proofs.schedule.Core.advance.Goals.{After-perform-answer, After-put}
 use Rattle.papaya_core.proofs.schedule.Core.advance.Given.{Over}

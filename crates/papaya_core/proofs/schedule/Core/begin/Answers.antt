@@ -1,15 +1,15 @@
 use Rattle.std.proofs.Common.{◌<◌, ◌^◌, List, Some, refl, sym, ap, subst, ◌∙◌}
-use Rattle.papaya_core.specs.declared.callers.Seat.{Seat}
-use Rattle.papaya_core.specs.declared.pairs.Running.{Running}
-use Rattle.papaya_core.specs.Callers.{with_call, with_seat}
-use Rattle.papaya_core.specs.Begins.{Begins}
-use Rattle.papaya_core.specs.Core.{CoreState, IsCore, IsGoing, call_of}
-use Rattle.papaya_core.specs.Counted.{IsCounted}
-use Rattle.papaya_core.specs.Kept.{IsLawfulCore}
+use Rattle.papaya_timeline.specs.declared.seat.Seat.{Seat}
+use Rattle.papaya_store.specs.declared.pairs.Running.{Running}
+use Rattle.papaya_timeline.specs.Callers.{with_call, with_seat}
+use Rattle.papaya_timeline.specs.Begins.{Begins}
+use Rattle.papaya_timeline.specs.Core.{CoreState, IsCore, IsGoing, call_of}
+use Rattle.papaya_timeline.specs.Counted.{IsCounted}
+use Rattle.papaya_timeline.specs.Kept.{IsLawfulCore}
 use Rattle.papaya_keys.specs.Hashes.{hash_of}
-use Rattle.papaya_core.proofs.CoreLemmas.{begun-core, begun-going}
-use Rattle.papaya_core.proofs.CountedLemmas.{counted_begin}
-use Rattle.papaya_core.proofs.KeptCore.{begin_lawful}
+use Rattle.papaya_timeline.proofs.CoreLemmas.{begun-core, begun-going}
+use Rattle.papaya_timeline.proofs.CountedLemmas.{counted_begin}
+use Rattle.papaya_timeline.proofs.KeptCore.{begin_lawful}
 use Rattle.papaya_core.proofs.schedule.Core.begin.Goals as goal
 use Rattle.papaya_core.proofs.schedule.Core.begin.Goals.{After-put}
 use Rattle.papaya_core.proofs.schedule.Core.begin.Given.{Over}

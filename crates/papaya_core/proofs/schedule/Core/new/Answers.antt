@@ -1,7 +1,7 @@
 use Rattle.std.proofs.Common.{refl}
-use Rattle.papaya_core.proofs.CoreLemmas.{new-core}
-use Rattle.papaya_core.proofs.CountedLemmas.{counted_new, new_content}
-use Rattle.papaya_core.proofs.KeptCore.{new_lawful}
+use Rattle.papaya_timeline.proofs.CoreLemmas.{new-core}
+use Rattle.papaya_timeline.proofs.CountedLemmas.{counted_new, new_content}
+use Rattle.papaya_timeline.proofs.KeptCore.{new_lawful}
 use Rattle.papaya_core.proofs.schedule.Core.new.Goals as goal
 
 pub invariant_of-result : goal.invariant_of-result

@@ -1,8 +1,8 @@
 use Rattle.std.proofs.Common.{subst}
 use Rattle.papaya_law.specs.Content.{AreApart}
-use Rattle.papaya_core.specs.Content.{content}
-use Rattle.papaya_core.specs.Core.{CoreState}
-use Rattle.papaya_core.proofs.CountedCore.{lawful_apart}
+use Rattle.papaya_timeline.specs.Content.{content}
+use Rattle.papaya_timeline.specs.Core.{CoreState}
+use Rattle.papaya_timeline.proofs.CountedCore.{lawful_apart}
 use Rattle.papaya_core.proofs.schedule.Core.running.Goals as goal
 
 pub returns-clause-apart : goal.returns-clause-apart

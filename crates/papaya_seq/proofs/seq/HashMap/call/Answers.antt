@@ -1,12 +1,12 @@
 use Rattle.std.proofs.Common.{rules, ◌≡◌, ℕ, Bool, Option, None, Some, option_map, inl, refl, sym, ◌∙◌, subst}
 use Rattle.papaya_law.specs.Content.{AreApart}
 use Rattle.papaya_words.specs.Table.{TableWords}
-use Rattle.papaya_core.specs.Content.{content}
-use Rattle.papaya_core.specs.Tables.{table_of, word_in}
-use Rattle.papaya_core.specs.Store.{StoreState, Stored}
+use Rattle.papaya_timeline.specs.Content.{content}
+use Rattle.papaya_store.specs.Tables.{table_of, word_in}
+use Rattle.papaya_store.specs.Store.{StoreState, Stored}
 use Rattle.papaya_keys.specs.Hashes.{hash_of}
 use Rattle.papaya_ask.specs.declared.call.Reply.TheVariants.{Absent, Found, Refused}
-use Rattle.papaya_core.proofs.CountedCore.{lawful_apart}
+use Rattle.papaya_timeline.proofs.CountedCore.{lawful_apart}
 use Rattle.papaya_seq.specs.Calls.{IsCalled}
 use Rattle.papaya_seq.specs.Map.{HasNone, Holds, IsLawfulMap, MapState, core_of, next_in, next_of}
 use Rattle.papaya_seq.specs.Looks.{IsFound}

@@ -7,12 +7,12 @@ use Rattle.papaya_call.specs.declared.answers.Operation.{Operation}
 use Rattle.papaya_call.specs.declared.answers.Operation.TheVariants.{Abort}
 use Rattle.papaya_ask.specs.declared.ask.Answer.{Answer}
 use Rattle.papaya_call.specs.declared.machine.Machine.{Machine}
-use Rattle.papaya_core.specs.declared.pairs.KeyOf.TheVariants.{Own}
-use Rattle.papaya_core.specs.declared.pairs.Running.{Running}
-use Rattle.papaya_core.specs.Store.{StoreState}
+use Rattle.papaya_store.specs.declared.pairs.KeyOf.TheVariants.{Own}
+use Rattle.papaya_store.specs.declared.pairs.Running.{Running}
+use Rattle.papaya_store.specs.Store.{StoreState}
 use Rattle.papaya_keys.specs.Hashes.{hash_of}
-use Rattle.papaya_core.proofs.KeptCore.{keys_lawful}
-use Rattle.papaya_core.proofs.KeptSettings.{IsLawfulKeys}
+use Rattle.papaya_timeline.proofs.KeptCore.{keys_lawful}
+use Rattle.papaya_timeline.proofs.KeptSettings.{IsLawfulKeys}
 use Rattle.papaya_seq.specs.Computes.{Says}
 use Rattle.papaya_seq.specs.Map.{IsLawfulMap, Keeps, MapState}
 use Rattle.papaya_seq.proofs.Alone.{map_answered, map_hasher, map_lawful, map_logged}

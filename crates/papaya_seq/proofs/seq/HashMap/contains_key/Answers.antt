@@ -1,6 +1,6 @@
 use Rattle.std.proofs.Common.{is_some, sym, ◌∙◌, ap, subst}
 use Rattle.papaya_keys.specs.Hashes.{hash_of}
-use Rattle.papaya_core.proofs.CountedCore.{lawful_apart}
+use Rattle.papaya_timeline.proofs.CountedCore.{lawful_apart}
 use Rattle.papaya_seq.specs.Map.{IsLawfulMap, MapState, core_of}
 use Rattle.papaya_seq.proofs.LookResults.{contains_found, found_map, number_there}
 use Rattle.papaya_seq.proofs.seq.HashMap.contains_key.Goals as goal

@@ -1,7 +1,7 @@
 use Rattle.std.proofs.Common.{◌≡◌, Some, None, MatchOption, false, is_some, sym, ◌∙◌, ap, subst}
-use Rattle.papaya_core.specs.Store.{pair_of}
+use Rattle.papaya_store.specs.Store.{pair_of}
 use Rattle.papaya_keys.specs.Hashes.{hash_of}
-use Rattle.papaya_core.proofs.CountedCore.{lawful_apart}
+use Rattle.papaya_timeline.proofs.CountedCore.{lawful_apart}
 use Rattle.papaya_seq.specs.Map.{IsLawfulMap, MapState, core_of}
 use Rattle.papaya_seq.proofs.LookResults.{contains_found, refers_found, refers_map}
 use Rattle.papaya_seq.proofs.seq.HashMap.get_key_value.Goals as goal

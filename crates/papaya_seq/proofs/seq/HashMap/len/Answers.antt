@@ -1,8 +1,8 @@
 use Rattle.std.proofs.Common.{◌∙◌, ap, length, subst}
 use Rattle.papaya_words.specs.Counter.{count_of}
 use Rattle.papaya_law.specs.Content.{AreApart}
-use Rattle.papaya_core.specs.Content.{content}
-use Rattle.papaya_core.proofs.CountedCore.{lawful_apart}
+use Rattle.papaya_timeline.specs.Content.{content}
+use Rattle.papaya_timeline.proofs.CountedCore.{lawful_apart}
 use Rattle.papaya_seq.specs.Map.{MapState, core_of}
 use Rattle.papaya_seq.proofs.Counting.{counted_sum}
 use Rattle.papaya_seq.proofs.seq.HashMap.len.Goals as goal

@@ -4,12 +4,12 @@ use Rattle.papaya_ask.specs.declared.ask.Ask.{Ask}
 use Rattle.papaya_ask.specs.declared.call.Task.TheVariants.{Get}
 use Rattle.papaya_rests.specs.Alone.{left}
 use Rattle.papaya_call.specs.Machine.{IsStanding, ask_of, started}
-use Rattle.papaya_core.specs.Performs.{size_of}
-use Rattle.papaya_core.specs.Store.{pair_of}
+use Rattle.papaya_store.specs.Performs.{size_of}
+use Rattle.papaya_store.specs.Store.{pair_of}
 use Rattle.papaya_keys.specs.Hashes.{hash_of}
-use Rattle.papaya_core.specs.Tables.{table_of, word_at}
-use Rattle.papaya_core.proofs.KeptCore.{keys_lawful}
-use Rattle.papaya_core.proofs.KeptSettings.{IsLawfulKeys}
+use Rattle.papaya_store.specs.Tables.{table_of, word_at}
+use Rattle.papaya_timeline.proofs.KeptCore.{keys_lawful}
+use Rattle.papaya_timeline.proofs.KeptSettings.{IsLawfulKeys}
 use Rattle.papaya_seq.specs.Looks.{IsToldBy, found_number, matches_in}
 use Rattle.papaya_seq.specs.Map.{IsLawfulMap, MapState}
 use Rattle.papaya_seq.proofs.LookFinds.{look_up_finds, number_found}

@@ -11,13 +11,13 @@ use Rattle.papaya_ask.specs.declared.ask.Answer.{Answer}
 use Rattle.papaya_ask.specs.declared.ask.Answer.TheVariants.{Word as Word_read, Yes}
 use Rattle.papaya_ask.specs.declared.ask.Ask.{Ask}
 use Rattle.papaya_ask.specs.declared.ask.Ask.TheVariants.{Done as Ask_done}
-use Rattle.papaya_core.specs.Performs.{Exchanges}
-use Rattle.papaya_core.specs.Solo.{RunsAlone}
-use Rattle.papaya_core.specs.Store.{StoreState, Stored}
+use Rattle.papaya_store.specs.Performs.{Exchanges}
+use Rattle.papaya_timeline.specs.Solo.{RunsAlone}
+use Rattle.papaya_store.specs.Store.{StoreState, Stored}
 use Rattle.papaya_keys.specs.Hashes.{hash_of}
-use Rattle.papaya_core.specs.Tables.{Tables}
-use Rattle.papaya_core.proofs.KeptCore.{keys_lawful}
-use Rattle.papaya_core.proofs.SoloLaw.{alone_answered, alone_lawful}
+use Rattle.papaya_store.specs.Tables.{Tables}
+use Rattle.papaya_timeline.proofs.KeptCore.{keys_lawful}
+use Rattle.papaya_timeline.proofs.SoloLaw.{alone_answered, alone_lawful}
 use Rattle.papaya_seq.specs.Map.{IsLawfulMap, MapState, core_of, slots_of}
 use Rattle.papaya_seq.specs.Removes.{IsShown, Judges}
 use Rattle.papaya_seq.proofs.Lawful.{IsMatched, MatchesNone, bare, decided, single, sized}

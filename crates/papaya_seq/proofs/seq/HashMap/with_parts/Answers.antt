@@ -1,9 +1,9 @@
 use Rattle.std.proofs.Common.{[], refl}
-use Rattle.papaya_core.specs.Core.{IsCore}
-use Rattle.papaya_core.specs.Counted.{IsCounted}
-use Rattle.papaya_core.proofs.CoreLemmas.{new-core}
-use Rattle.papaya_core.proofs.CountedLemmas.{counted_new}
-use Rattle.papaya_core.proofs.KeptCore.{new_lawful}
+use Rattle.papaya_timeline.specs.Core.{IsCore}
+use Rattle.papaya_timeline.specs.Counted.{IsCounted}
+use Rattle.papaya_timeline.proofs.CoreLemmas.{new-core}
+use Rattle.papaya_timeline.proofs.CountedLemmas.{counted_new}
+use Rattle.papaya_timeline.proofs.KeptCore.{new_lawful}
 use Rattle.papaya_seq.proofs.Counting.{counted_none}
 use Rattle.papaya_seq.proofs.seq.HashMap.with_parts.Goals as goal
 use Rattle.papaya_seq.proofs.seq.HashMap.with_parts.Goals.{In_ok-store}

@@ -1,0 +1,4 @@
+pub mod New
+pub mod Performs
+pub mod Store
+pub mod Tables

@@ -1,0 +1,190 @@
+-- One ask of one caller's machine is answered.
+use Rattle.std.specs.Prelude.{◌≡◌, ℕ, ◌+◌, ◌<◌, ◌≤◌, ◌==◌, Bool, false, List, [], ◌∷◌, ◌++◌, length, Option, Some, None, slice_get, MatchBool, ◌⊎◌}
+use Rattle.papaya_words.specs.Counter.{added}
+use Rattle.papaya_words.specs.Table.{TableWords, new_table}
+use Rattle.papaya_words.specs.declared.limits.TheConstants.{MAX_TABLES, MAX_LOG_LEN}
+use Rattle.papaya_words.specs.declared.probe.Refused.TheVariants.{Memory, Capacity}
+use Rattle.papaya_ask.specs.declared.ask.Ask.{Ask}
+use Rattle.papaya_ask.specs.declared.ask.Ask.TheVariants.{Load, Exchange, SameKey, ShowNone, ShowPair, SizeOf, MakeKey, MakePair, MakeTable, AddToShard, Done as Ask_done}
+use Rattle.papaya_ask.specs.declared.ask.Answer.{Answer}
+use Rattle.papaya_ask.specs.declared.ask.Answer.TheVariants.{Word as Word_read, Exchanged, Found as Found_instead, Yes, Op, Size, Made as Made_number, Ok as Ok_done, Refused as Was_refused}
+use Rattle.papaya_call.specs.Answers.{Says, op_kind}
+use Rattle.papaya_call.specs.declared.answers.Operation.{Operation}
+use Rattle.papaya_call.specs.declared.answers.Operation.TheVariants as ops
+use Rattle.papaya_ask.specs.declared.call.Task.{Task}
+use Rattle.papaya_ask.specs.declared.call.Task.TheVariants as tasks
+use Rattle.papaya_store.specs.declared.pairs.KeyOf.{KeyOf}
+use Rattle.papaya_store.specs.declared.pairs.KeyOf.TheVariants.{Own, Logged}
+use Rattle.papaya_store.specs.declared.pairs.Running.{Running}
+use Rattle.papaya_store.specs.Tables.{Tables, table_of, word_at, put}
+use Rattle.papaya_store.specs.Store.{StoreState, Stored, pair_of}
+
+-- the key of a call under way
+abbrev pub key_at : {K : Type 0} → List K → KeyOf K → Option K
+key_at keys (Own k) = Some k
+key_at keys (Logged n) = slice_get keys n
+
+abbrev pub own_key : {K V S A : Type 0} → StoreState K V S → Running K V A → Option K
+own_key s r = key_at s.keys r.key
+
+-- does the call's key compare as equal to the pair's, where both are there
+abbrev pub same_stored : {K V : Type 0} → (K → K → Bool) → K → Option (Stored K V) → Bool
+same_stored eq k None = false
+same_stored eq k (Some p) = eq k p.key
+
+abbrev pub same : {K V : Type 0} → (K → K → Bool) → Option K → Option (Stored K V) → Bool
+same eq None found = false
+same eq (Some k) found = same_stored eq k found
+
+-- the size of a table; where there is none, nothing is told
+abbrev pub size_of : Option TableWords → Answer
+size_of None = Ok_done
+size_of (Some t) = Size (length t.slots) t.limit
+
+-- nothing is made for want of memory, or where as many are made as there may be
+abbrev pub Refuses : (most count : ℕ) → Answer → Type 0
+Refuses most count answer = (answer ≡ Was_refused Memory)
+    ⊎ ((answer ≡ Was_refused Capacity) × (most ≤ count))
+
+-- nothing is left to make: the key is in the log, or there is no value or no key in the log for a
+-- pair; no machine asks for it then
+abbrev pub HasKey : {K V A : Type 0} → Answer → Running K V A → Type 0
+HasKey answer r = (answer ≡ Ok_done) × (n : ℕ) × (r.key ≡ Logged n)
+
+abbrev pub HasNoPair : {K V A : Type 0} → Answer → Running K V A → Type 0
+HasNoPair answer r = (answer ≡ Ok_done) × (((k : _) × (r.key ≡ Own k)) ⊎ (r.value ≡ None))
+
+module _ {K V S : Type 0} where
+  -- an exchange writes the new word where the old one stands, and else nothing
+  abbrev pub Exchanges : (found old : ℕ) → Tables → Answer → StoreState K V S → StoreState K V S
+      → Type 0
+  Exchanges found old after answer s s' =
+      MatchBool (found == old)
+      ((answer ≡ Exchanged) × (s' ≡ record s { words = after }))
+      ((answer ≡ Found_instead found) × (s' ≡ s))
+
+  -- the table goes to the end of the tables
+  abbrev pub MakesTable : Answer → (slots limit : ℕ) → StoreState K V S → StoreState K V S → Type 0
+  MakesTable answer slots limit s s' =
+      let n = length s.words.tables + 1 in
+      (answer ≡ Made_number n) × (length s.words.tables < MAX_TABLES)
+      × (s' ≡ record s {
+        words = record s.words
+            { tables = s.words.tables ++ new_table n slots limit ∷ [] };
+      })
+
+-- the value of an insertion that a closure answered
+abbrev pub value_answered : {V : Type 0} → Operation V ℕ → Option V → Option V
+value_answered (ops.Insert v) before = Some v
+value_answered ops.Remove before = before
+value_answered (ops.Abort t) before = before
+
+module _ {K V S A : Type 0} where
+  -- nothing but the machine's state changes
+  abbrev pub Stays : StoreState K V S → Running K V A → StoreState K V S → Running K V A → Type 0
+  Stays s r s' r' = (s' ≡ s) × (r' ≡ r)
+
+  -- the key goes to the end of the key log
+  abbrev pub LogsKey : Answer → StoreState K V S → Running K V A → StoreState K V S → Running K V A
+      → Type 0
+  LogsKey answer s r s' r' =
+      (k : K) × (r.key ≡ Own k) × (answer ≡ Made_number (length s.keys))
+      × (length s.keys < MAX_LOG_LEN)
+      × (s' ≡ record s { keys = s.keys ++ k ∷ [] })
+      × (r' ≡ record r { key = Logged (length s.keys) })
+
+  -- the pair goes to the end of the pair log
+  abbrev pub LogsPair : Answer → StoreState K V S → Running K V A → StoreState K V S → Running K V A
+      → Type 0
+  LogsPair answer s r s' r' =
+      (n : ℕ) × (v : V) × (r.key ≡ Logged n) × (r.value ≡ Some v)
+      × (answer ≡ Made_number (length s.pairs)) × (length s.pairs < MAX_LOG_LEN)
+      × (s' ≡ record s { pairs = s.pairs ++ record { key = n; value = v } ∷ [] })
+      × (r' ≡ record r { value = None })
+
+  -- nothing is answered where there is no closure, or no such pair; no machine asks then
+  abbrev pub ShowsNothing : Answer → StoreState K V S → Running K V A → StoreState K V S
+      → Running K V A → Type 0
+  ShowsNothing answer s r s' r' = (answer ≡ Ok_done) × Stays s r s' r'
+
+  -- the closure of a removal is asked of the pair
+  abbrev pub Judges : Says K V A → ℕ → StoreState K V S → Running K V A → Answer → StoreState K V S
+      → Running K V A → Type 0
+  Judges says n s r answer s' r' =
+      (((r.answers ≡ None) ⊎ (pair_of s n ≡ None)) × ShowsNothing answer s r s' r')
+      ⊎ ((a : A) × (p : Stored K V) × (agrees : Bool) × (a' : A) × (r.answers ≡ Some a)
+      × (pair_of s n ≡ Some p) × says.yes a p.key p.value agrees a'
+      × (answer ≡ Yes agrees) × (s' ≡ s) × (r' ≡ record r { answers = Some a' }))
+
+  -- the closure of a compute is shown the key and the value of a pair, or that there is none, and
+  -- an insertion's value is kept
+  abbrev pub Decides : Says K V A → Option (K × V) → StoreState K V S → Running K V A → Answer
+      → StoreState K V S → Running K V A → Type 0
+  Decides says shown s r answer s' r' =
+      (a : A) × (op : Operation V ℕ) × (a' : A) × (r.answers ≡ Some a) × says.op a shown op a'
+      × (answer ≡ Op (op_kind op)) × (s' ≡ s)
+      × (r' ≡ record r { value = value_answered op r.value; answers = Some a' })
+
+  abbrev pub DecidesNone : Says K V A → StoreState K V S → Running K V A → Answer → StoreState K V S
+      → Running K V A → Type 0
+  DecidesNone says s r answer s' r' = ((r.answers ≡ None) × ShowsNothing answer s r s' r')
+      ⊎ Decides says None s r answer s' r'
+
+  abbrev pub DecidesPair : Says K V A → ℕ → StoreState K V S → Running K V A → Answer
+      → StoreState K V S → Running K V A → Type 0
+  DecidesPair says n s r answer s' r' =
+      (((r.answers ≡ None) ⊎ (pair_of s n ≡ None)) × ShowsNothing answer s r s' r')
+      ⊎ ((p : Stored K V) × (pair_of s n ≡ Some p)
+      × Decides says (Some (p.key, p.value)) s r answer s' r')
+
+  -- which of them depends on the call
+  abbrev pub ShowsPair : Task → Says K V A → ℕ → StoreState K V S → Running K V A → Answer
+      → StoreState K V S → Running K V A → Type 0
+  ShowsPair tasks.RemoveIf says n s r answer s' r' = Judges says n s r answer s' r'
+  ShowsPair tasks.Compute says n s r answer s' r' = DecidesPair says n s r answer s' r'
+  ShowsPair tasks.Get says n s r answer s' r' = ShowsNothing answer s r s' r'
+  ShowsPair (tasks.Insert replace) says n s r answer s' r' = ShowsNothing answer s r s' r'
+
+  -- a growth is refused where the step has no memory
+  abbrev pub MakesOr : Bool → Answer → StoreState K V S → Running K V A → StoreState K V S
+      → Running K V A → Type 0 → Type 0
+  MakesOr refuse answer s r s' r' Makes = MatchBool refuse
+      ((answer ≡ Was_refused Memory) × Stays s r s' r') Makes
+
+  -- just one ask is answered: a load and an exchange by the word that stands there, a size by the
+  -- table, a showing by the closure's answers
+  abbrev pub Performs : (K → K → Bool) → Says K V A → Bool → Ask → StoreState K V S → Running K V A
+      → Answer → StoreState K V S → Running K V A → Type 0
+  Performs eq says refuse (Load at) s r answer s' r' = (answer ≡ Word_read (word_at s.words at))
+      × Stays s r s' r'
+  Performs eq says refuse (Exchange at old new) s r answer s' r' =
+      Exchanges (word_at s.words at) old (put s.words at new) answer s s' × (r' ≡ r)
+  Performs eq says refuse (SameKey n) s r answer s' r' =
+      (answer ≡ Yes (same eq (own_key s r) (pair_of s n))) × Stays s r s' r'
+  Performs eq says refuse ShowNone s r answer s' r' = DecidesNone says s r answer s' r'
+  Performs eq says refuse (ShowPair n) s r answer s' r' =
+      ShowsPair r.machine.task says n s r answer s' r'
+  Performs eq says refuse (SizeOf n) s r answer s' r' =
+      (answer ≡ size_of (table_of s.words.tables n)) × Stays s r s' r'
+  Performs eq says refuse MakeKey s r answer s' r' =
+      MakesOr refuse answer s r s' r'
+      ((Refuses MAX_LOG_LEN (length s.keys) answer × Stays s r s' r')
+      ⊎ (HasKey answer r × Stays s r s' r') ⊎ LogsKey answer s r s' r')
+  Performs eq says refuse MakePair s r answer s' r' =
+      MakesOr refuse answer s r s' r'
+      ((Refuses MAX_LOG_LEN (length s.pairs) answer × Stays s r s' r')
+      ⊎ (HasNoPair answer r × Stays s r s' r') ⊎ LogsPair answer s r s' r')
+  Performs eq says refuse (MakeTable slots limit) s r answer s' r' =
+      MakesOr refuse answer s r s' r'
+      (((Refuses MAX_TABLES (length s.words.tables) answer × (s' ≡ s))
+      ⊎ MakesTable answer slots limit s s') × (r' ≡ r))
+  Performs eq says refuse (AddToShard by) s r answer s' r' = (answer ≡ Ok_done)
+      × ((number : ℕ) × (s' ≡ record s { count = added s.count number by })) × (r' ≡ r)
+  Performs eq says refuse (Ask_done reply) s r answer s' r' = (answer ≡ Ok_done) × Stays s r s' r'
+
+-- an ask for something to be made
+abbrev pub IsMake : Ask → Type 0
+IsMake MakeKey = Unit {0}
+IsMake MakePair = Unit {0}
+IsMake (MakeTable slots limit) = Unit {0}
+IsMake _ = ⊥

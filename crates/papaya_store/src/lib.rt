@@ -1,0 +1,6 @@
+//! The map on plain words: its tables, the logs of keys and pairs, and the count, which answer what
+//! machines ask.
+#![tactic(auto)]
+
+pub mod pairs;
+pub mod store;

@@ -1,0 +1,523 @@
+//! What the machines of all callers ask about: the words of the tables, the logs of keys and pairs,
+//! and the count.
+ghost use Rattle.std.specs.Prelude.{◌≡◌, ℤ, ◌+◌, ◌-◌, ◌<◌, ◌^◌, ◌⊎◌, [], ◌∷◌, ◌++◌, ◌+ℤ◌, length, vec_len, vec_capacity, Some, None, FitsSigned, MatchOption, OnOk, IfOk, IfErr, ◌*◌, ◌≤◌, slice_get};
+ghost use Rattle.std.specs.Int.{w64, int_wrap};
+ghost use Rattle.papaya_words.specs.Counter.{added, count_of};
+ghost use Rattle.papaya_words.specs.declared.limits.TheConstants.{MAX_TABLE_LEN};
+ghost use Rattle.papaya_words.specs.Probe.{IsEntriesFor};
+ghost use Rattle.papaya_call.specs.Answers.{op_kind};
+ghost use Rattle.papaya_words.specs.Mode.{IsChunked};
+ghost use Rattle.papaya_store.specs.New.{HasCapacity, IsNewStore};
+ghost use Rattle.papaya_keys.specs.Sizes.{IsSizeRefusal};
+ghost use Rattle.papaya_keys.specs.Sizes.{IsAllowed};
+ghost use Rattle.papaya_keys.specs.Sizes.{IsTooMuch};
+ghost use Rattle.papaya_store.specs.Tables.{table_of, word_at, put, put_in, written};
+ghost use Rattle.papaya_store.specs.Store.{pair_of};
+ghost use Rattle.papaya_keys.specs.Hashes.{hash_of};
+ghost use Rattle.papaya_store.specs.Performs.{Exchanges, size_of, Performs, IsMake, Judges, DecidesPair, DecidesNone, ShowsPair, value_answered, Stays, Refuses, LogsKey, LogsPair, MakesTable, HasKey, HasNoPair, key_at, same};
+
+use crate::pairs::{KeyOf, Pair, Running};
+use papaya_ask::ask::{Answer, Ask, At, OpKind};
+use papaya_ask::call::Task;
+use papaya_call::answers::{Answers, Operation};
+use papaya_keys::sizes::{check_chunk, initial_len};
+use papaya_words::counter::Counter;
+use papaya_words::limits::{MAX_LOG_LEN, MAX_TABLE_LEN, MAX_TABLES};
+use papaya_words::probe::{Refused, ResizeMode, entries_for, limit};
+use papaya_words::table::{Table, table_len};
+use std::alloc::Global;
+use std::hash::{BuildHasher, Hash, Hasher};
+use std::marker::Model;
+use std::mem;
+
+/// Writes a word of the table at place `k`, where there is such a one.
+#[inline(always)]
+fn put_in(tables: &mut Vec<Table>, k: usize, at: At, word: u64)
+    ensures { tables.new.items ≡ put_in at (slice_get tables.old.items k) tables.old.items k word }
+{
+    if k < tables.len() {
+        write_in(&mut tables[k], at, word);
+    }
+}
+
+/// Writes a word of a table.
+#[inline(always)]
+fn write_in(table: &mut Table, at: At, word: u64)
+    ensures { table.new ≡ written at table.old word }
+{
+    match at {
+        At::Root => {}
+        At::Next(_) => table.set_next(word),
+        At::Aborted(_) => table.set_aborted(word),
+        At::Done(_) => table.set_done(word),
+        At::Slot(_, i) => {
+            if i < table.len() {
+                table.put(i, word);
+            }
+        }
+    }
+}
+
+/// Adds an item, for which there is room.
+#[inline(always)]
+fn push_within<T: Drop>(items: &mut Vec<T>, item: T)
+    requires { vec_len items.old < vec_capacity items.old }
+    ensures { items.new.items ≡ items.old.items ++ item ∷ [] }
+{
+    let _ = items.push(item);
+}
+
+/// Keeps the value of an insertion that a closure answered, until a pair is made of it.
+fn keep_value<V: Drop>(operation: Operation<V, u64>, value: &mut Option<V>) -> Answer
+    ensures answer { result ≡ Answer.Op (op_kind operation) }
+    ensures value { value.new ≡ value_answered operation value.old }
+{
+    match operation {
+        Operation::Insert(answered) => {
+            *value = Some(answered);
+            Answer::Op(OpKind::Insert)
+        }
+        Operation::Remove => Answer::Op(OpKind::Remove),
+        Operation::Abort(with) => Answer::Op(OpKind::Abort(with)),
+    }
+}
+
+/// The words, the logs and the count.
+#[derive(Drop)]
+pub struct Store<K: Hash + Eq, V, S: BuildHasher> {
+    root: u64,
+    tables: Vec<Table>,
+    keys: Vec<K>,
+    pairs: Vec<Pair<V>>,
+    counter: Counter,
+    hasher: S,
+}
+
+impl<K: Hash + Eq, V, S: BuildHasher> Model for Store<K, V, S> {
+    ghost use Rattle.papaya_store.specs.Store.{StoreState};
+
+    ghost Value = { StoreState K V S };
+
+    ghost view = { λ s. record {
+      words = record { root = s.root; tables = s.tables.items };
+      keys = s.keys.items;
+      pairs = s.pairs.items;
+      count = s.counter;
+      hasher = s.hasher;
+    } };
+}
+
+impl<K: Hash + Eq, V, S: BuildHasher> Store<K, V, S> {
+    /// No words and no pairs.
+    fn new(alloc: Global, counter: Counter, hasher: S) -> Store<K, V, S>
+        ensures { result ≡ record {
+          words = record { root = 0; tables = [] };
+          keys = [];
+          pairs = [];
+          count = counter;
+          hasher = hasher;
+        } }
+    {
+        Store {
+            root: 0,
+            tables: Vec::new(alloc),
+            keys: Vec::new(alloc),
+            pairs: Vec::new(alloc),
+            counter,
+            hasher,
+        }
+    }
+
+    /// The hash of a key, or of what a key is looked up by.
+    #[inline(always)]
+    pub fn hash<Q: Hash>(&self, key: &Q) -> u64
+        ensures value { result ≡ hash_of Q.hash_input S.build_hasher S.Hasher.write S.Hasher.finish
+            self.now.hasher key.now }
+        ensures fits { result < 2 ^ 64 }
+    {
+        let mut state = self.hasher.build_hasher();
+        key.hash(&mut state);
+        state.finish()
+    }
+
+    /// A pair by its number.
+    #[inline(always)]
+    pub fn pair(&self, n: u64) -> Option<(&K, &V)>
+        ensures { MatchOption result (pair_of self.now n ≡ None)
+            (λ p. pair_of self.now n ≡ Some (record {
+              number = n;
+              key = p.0.now;
+              value = p.1.now;
+            })) }
+    {
+        let pair = self.pairs.get(n as usize)?;
+        let key = self.keys.get(pair.key)?;
+        Some((key, &pair.value))
+    }
+
+    /// A table by its number.
+    #[inline(always)]
+    fn table(&self, n: u64) -> Option<&Table>
+        ensures { MatchOption result (table_of self.now.words.tables n ≡ None)
+            (λ t. table_of self.now.words.tables n ≡ Some t.now) }
+    {
+        if n == 0 {
+            None
+        } else {
+            self.tables.get(n as usize - 1)
+        }
+    }
+
+    /// The size of a table, or nothing where there is none.
+    #[inline(always)]
+    pub fn size_of(&self, n: u64) -> Answer
+        ensures { result ≡ size_of (table_of self.now.words.tables n) }
+    {
+        match self.table(n) {
+            Some(table) => Answer::Size {
+                len: table.len(),
+                limit: table.limit(),
+            },
+            None => Answer::Ok,
+        }
+    }
+
+    /// How many pairs were counted.
+    pub fn count(&self) -> usize
+        ensures value { result ≡ count_of self.now.count.sum }
+        ensures fits { FitsSigned w64 self.now.count.sum }
+    {
+        self.counter.sum()
+    }
+
+    /// The root table.
+    pub fn root(&self) -> Option<&Table>
+        ensures { MatchOption result (table_of self.now.words.tables self.now.words.root ≡ None)
+            (λ t. table_of self.now.words.tables self.now.words.root ≡ Some t.now) }
+    {
+        self.table(self.root)
+    }
+
+    /// The word that stands at a place, 0 where there is no such place.
+    #[inline(always)]
+    pub fn word(&self, at: At) -> u64
+        ensures { result ≡ word_at self.now.words at }
+    {
+        match at {
+            At::Root => self.root,
+            At::Next(n) => self.table(n).map_or(0, |table| table.next()),
+            At::Aborted(n) => self.table(n).map_or(0, |table| table.aborted()),
+            At::Done(n) => self.table(n).map_or(0, |table| table.done()),
+            At::Slot(n, i) => match self.table(n) {
+                Some(table) if i < table.len() => table.slot(i),
+                _ => 0,
+            },
+        }
+    }
+
+    /// Writes the word at a place, where there is such a place.
+    #[inline(always)]
+    fn put(&mut self, at: At, word: u64)
+        ensures { self.new ≡ record self.old { words = put self.old.words at word } }
+    {
+        let n = match at {
+            At::Root => {
+                self.root = word;
+                return;
+            }
+            At::Next(n) | At::Aborted(n) | At::Done(n) | At::Slot(n, _) => n,
+        };
+        if n != 0 {
+            put_in(&mut self.tables, n as usize - 1, at, word);
+        }
+    }
+
+    /// An exchange, which is made if the word that stands there is the old one.
+    #[inline(always)]
+    pub fn exchange(&mut self, at: At, old: u64, new: u64) -> Answer
+        ensures { Exchanges (word_at self.old.words at) old (put self.old.words at new) result
+            self.old self.new }
+    {
+        let found = self.word(at);
+        if found == old {
+            self.put(at, new);
+            Answer::Exchanged
+        } else {
+            Answer::Found(found)
+        }
+    }
+
+    /// Has pair `n` a key that equals the call's?
+    #[inline(always)]
+    fn same_key(&self, n: u64, key: &KeyOf<K>) -> bool
+        ensures { result ≡ same K.eq (key_at self.now.keys key.now) (pair_of self.now n) }
+    {
+        let found = match self.pair(n) {
+            Some((found, _)) => found,
+            None => return false,
+        };
+        match key {
+            KeyOf::Own(key) => *key == *found,
+            KeyOf::Logged(at) => match self.keys.get(*at) {
+                Some(key) => *key == *found,
+                None => false,
+            },
+        }
+    }
+
+    /// Adds to the shard that the caller's number picks.
+    #[inline(always)]
+    pub fn add_to_shard(&mut self, caller: usize, by: i64)
+        ensures { self.new ≡ record self.old { count = added self.old.count caller by } }
+    {
+        let place = self.counter.get(caller as u64);
+        self.counter.add(place, by);
+    }
+}
+
+impl<K: Hash + Eq + Drop, V: Drop, S: BuildHasher + Drop> Store<K, V, S> {
+    /// No pairs, and a table for the capacity, with the initial capacity that it makes.
+    ///
+    /// `Refused::ZeroChunk` for chunks of no slots. `Refused::Capacity` for more shards than
+    /// [`papaya_words::limits::MAX_SHARDS`], and for a table past [`MAX_TABLE_LEN`].
+    /// `Refused::Memory` where a growth was refused.
+    pub fn with_parts(
+        alloc: Global,
+        mode: ResizeMode,
+        capacity: usize,
+        shards: usize,
+        hasher: S,
+    ) -> Result<(Store<K, V, S>, usize), Refused>
+        ensures ok { IfOk result (λ made. IsAllowed mode capacity shards
+            × IsNewStore capacity shards hasher made.1 made.0 × (made.1 ≤ MAX_TABLE_LEN)) }
+        ensures err { IfErr result (λ e. IsSizeRefusal mode capacity shards e) }
+    {
+        check_chunk(mode)?;
+        let initial = initial_len(capacity)?;
+        let counter = Counter::new(alloc, shards)?;
+        let mut store = Store::new(alloc, counter, hasher);
+        store.open(alloc, capacity, initial)?;
+        Ok((store, initial))
+    }
+
+    /// Makes the first table where there is a capacity, for this length, and opens it.
+    fn open(&mut self, alloc: Global, capacity: usize, initial: usize) -> Result<(), Refused>
+        requires { self.old.words ≡ record { root = 0; tables = [] } }
+        ensures ok { OnOk result (HasCapacity capacity initial self.new.words
+            × (self.new ≡ record self.old { words = self.new.words })) }
+        ensures err { IfErr result (λ e. e ≡ Refused.Memory) }
+    {
+        if capacity == 0 {
+            return Ok(());
+        }
+        let len = table_len(initial);
+        let table = Table::new(alloc, 1, len, limit(len))?;
+        if self.tables.push(table).is_err() {
+            return Err(Refused::Memory);
+        }
+        self.root = 1;
+        Ok(())
+    }
+}
+
+impl<K: Hash + Eq + Drop, V: Drop, S: BuildHasher> Store<K, V, S> {
+    /// Logs the key of a call, once.
+    #[inline(always)]
+    fn make_key<A>(&mut self, running: &mut Running<K, V, A>) -> Answer
+        ensures machine { running.new.machine ≡ running.old.machine }
+        ensures makes { (Refuses MAX_LOG_LEN (length self.old.keys) result
+            × Stays self.old running.old self.new running.new)
+            ⊎ (HasKey result running.old × Stays self.old running.old self.new running.new)
+            ⊎ LogsKey result self.old running.old self.new running.new }
+    {
+        if let KeyOf::Logged(_) = running.key {
+            return Answer::Ok;
+        }
+        let n = self.keys.len();
+        if n >= MAX_LOG_LEN {
+            return Answer::Refused(Refused::Capacity);
+        }
+        if self.keys.reserve(1).is_err() {
+            return Answer::Refused(Refused::Memory);
+        }
+        if let KeyOf::Own(key) = mem::replace(&mut running.key, KeyOf::Logged(n)) {
+            push_within(&mut self.keys, key);
+        }
+        Answer::Made(n as u64)
+    }
+
+    /// Logs a pair of the call's key, which is logged, and its value.
+    #[inline(always)]
+    fn make_pair<A>(&mut self, running: &mut Running<K, V, A>) -> Answer
+        ensures machine { running.new.machine ≡ running.old.machine }
+        ensures makes { (Refuses MAX_LOG_LEN (length self.old.pairs) result
+            × Stays self.old running.old self.new running.new)
+            ⊎ (HasNoPair result running.old × Stays self.old running.old self.new running.new)
+            ⊎ LogsPair result self.old running.old self.new running.new }
+    {
+        let key = match running.key {
+            KeyOf::Own(_) => return Answer::Ok,
+            KeyOf::Logged(key) => key,
+        };
+        let n = self.pairs.len();
+        if n >= MAX_LOG_LEN {
+            return Answer::Refused(Refused::Capacity);
+        }
+        if self.pairs.reserve(1).is_err() {
+            return Answer::Refused(Refused::Memory);
+        }
+        match running.value.take() {
+            None => Answer::Ok,
+            Some(value) => {
+                push_within(&mut self.pairs, Pair { key, value });
+                Answer::Made(n as u64)
+            }
+        }
+    }
+
+    /// Makes a table of empty slots.
+    fn make_table(&mut self, alloc: Global, len: usize, limit: usize) -> Answer
+        ensures { (Refuses MAX_TABLES (length self.old.words.tables) result × (self.new ≡ self.old))
+            ⊎ MakesTable result len limit self.old self.new }
+    {
+        let n = self.tables.len() as u64;
+        if n >= MAX_TABLES {
+            return Answer::Refused(Refused::Capacity);
+        }
+        match Table::new(alloc, n + 1, len, limit) {
+            Err(refused) => Answer::Refused(refused),
+            Ok(table) => match self.tables.push(table) {
+                Ok(()) => Answer::Made(n + 1),
+                Err(_) => Answer::Refused(Refused::Memory),
+            },
+        }
+    }
+
+    /// Asks the closure of a removal whether it agrees to the removal of pair `n`.
+    fn judge<A: Answers<K, V>>(&self, n: u64, running: &mut Running<K, V, A>) -> Answer
+        ensures machine { running.new.machine ≡ running.old.machine }
+        ensures judges { Judges (record { op = A.op_gives; yes = A.yes_gives }) n self.now
+            running.old result self.now running.new }
+    {
+        let Some(answers) = running.answers.as_mut() else {
+            return Answer::Ok;
+        };
+        match self.pair(n) {
+            Some((key, value)) => Answer::Yes(answers.yes(key, value)),
+            None => Answer::Ok,
+        }
+    }
+
+    /// Shows pair `n` to the closure of a compute.
+    fn decide<A: Answers<K, V>>(&self, n: u64, running: &mut Running<K, V, A>) -> Answer
+        ensures machine { running.new.machine ≡ running.old.machine }
+        ensures decides { DecidesPair (record { op = A.op_gives; yes = A.yes_gives }) n self.now
+            running.old result self.now running.new }
+    {
+        let Some(answers) = running.answers.as_mut() else {
+            return Answer::Ok;
+        };
+        match self.pair(n) {
+            Some(pair) => {
+                let operation = answers.op(Some(pair));
+                keep_value(operation, &mut running.value)
+            }
+            None => Answer::Ok,
+        }
+    }
+
+    /// What a closure is shown where there is no pair: like a pair it borrows the store.
+    fn no_pair(&self) -> Option<(&K, &V)>
+        ensures { result ≡ None }
+    {
+        None
+    }
+
+    /// Shows the closure of a compute that its key is absent.
+    fn decide_none<A: Answers<K, V>>(&self, running: &mut Running<K, V, A>) -> Answer
+        ensures machine { running.new.machine ≡ running.old.machine }
+        ensures decides { DecidesNone (record { op = A.op_gives; yes = A.yes_gives }) self.now
+            running.old result self.now running.new }
+    {
+        match running.answers.as_mut() {
+            Some(answers) => {
+                let operation = answers.op(self.no_pair());
+                keep_value(operation, &mut running.value)
+            }
+            None => Answer::Ok,
+        }
+    }
+
+    /// Shows pair `n` to the closure of a call.
+    fn show<A: Answers<K, V>>(&self, n: u64, running: &mut Running<K, V, A>) -> Answer
+        ensures machine { running.new.machine ≡ running.old.machine }
+        ensures shows { ShowsPair running.old.machine.task
+            (record { op = A.op_gives; yes = A.yes_gives }) n self.now running.old result self.now
+            running.new }
+    {
+        match running.machine.task {
+            Task::RemoveIf => self.judge(n, running),
+            Task::Compute => self.decide(n, running),
+            Task::Get | Task::Insert { .. } => Answer::Ok,
+        }
+    }
+
+    /// What is made without memory.
+    #[inline(always)]
+    fn make<A: Answers<K, V>>(
+        &mut self,
+        alloc: Global,
+        running: &mut Running<K, V, A>,
+        ask: Ask,
+        refuse: bool,
+    ) -> Answer
+        requires { IsMake ask }
+        ensures machine { running.new.machine ≡ running.old.machine }
+        ensures performs { Performs K.eq (record { op = A.op_gives; yes = A.yes_gives }) refuse ask
+            self.old running.old result self.new running.new }
+    {
+        if refuse {
+            return Answer::Refused(Refused::Memory);
+        }
+        match ask {
+            Ask::MakeKey => self.make_key(running),
+            Ask::MakePair => self.make_pair(running),
+            Ask::MakeTable { len, limit } => self.make_table(alloc, len, limit),
+            _ => unreachable!(),
+        }
+    }
+
+    /// Answers one ask of this caller's machine.
+    #[inline(always)]
+    pub fn perform<A: Answers<K, V>>(
+        &mut self,
+        alloc: Global,
+        caller: usize,
+        running: &mut Running<K, V, A>,
+        ask: Ask,
+        refuse: bool,
+    ) -> Answer
+        ensures machine { running.new.machine ≡ running.old.machine }
+        ensures performs { Performs K.eq (record { op = A.op_gives; yes = A.yes_gives }) refuse ask
+            self.old running.old result self.new running.new }
+        ensures shard { (by : ℤ) → ask ≡ Ask.AddToShard by
+            → self.new.count ≡ added self.old.count caller by }
+    {
+        match ask {
+            Ask::Load(at) => Answer::Word(self.word(at)),
+            Ask::Exchange(at, old, new) => self.exchange(at, old, new),
+            Ask::SameKey(n) => Answer::Yes(self.same_key(n, &running.key)),
+            Ask::ShowNone => self.decide_none(running),
+            Ask::ShowPair(n) => self.show(n, running),
+            Ask::SizeOf(n) => self.size_of(n),
+            Ask::MakeKey | Ask::MakePair | Ask::MakeTable { .. } => {
+                self.make(alloc, running, ask, refuse)
+            }
+            Ask::AddToShard(by) => {
+                self.add_to_shard(caller, by);
+                Answer::Ok
+            }
+            Ask::Done(_) => Answer::Ok,
+        }
+    }
+}

@@ -1,0 +1,180 @@
+-- A step of a core is legal, and moves the map in the class of its call's key alone.
+use Rattle.std.proofs.Common.{◌≡◌, ℕ, Bool, true, false, Option, None, Some, List, [], ◌∷◌, ◌++◌, refl, sym, ◌∙◌, ap, subst}
+use Rattle.papaya_words.specs.Word.{pair_of}
+use Rattle.papaya_call.specs.Answers.{Says}
+use Rattle.papaya_ask.specs.declared.ask.At.TheVariants.{Slot}
+use Rattle.papaya_ask.specs.declared.ask.Ask.TheVariants.{Exchange as Ask_exchange}
+use Rattle.papaya_ask.specs.declared.ask.StepKind.TheVariants as kinds
+use Rattle.papaya_ask.specs.declared.call.Call.{Call}
+use Rattle.papaya_ask.specs.declared.call.Call.TheVariants.{Insert, TryInsert, RemoveIf, Compute}
+use Rattle.papaya_ask.specs.declared.call.Reply.{Reply}
+use Rattle.papaya_ask.specs.declared.call.Task.{Task}
+use Rattle.papaya_ask.specs.declared.call.Task.TheVariants as tasks
+use Rattle.papaya_call.specs.declared.machine.Machine.{Machine}
+use Rattle.papaya_law.specs.Allows.{AllAllowed}
+use Rattle.papaya_law.specs.Code.{Coding}
+use Rattle.papaya_law.specs.Exchange.{Live, Setting, State, Exchange, run, start as first_state}
+use Rattle.papaya_law.specs.Invariant.{named}
+use Rattle.papaya_law.specs.Meaning.{IsLawful}
+use Rattle.papaya_call.specs.Machine.{HasClosure, IsChanger, MayInsert, ask_of, kind_of_ask}
+use Rattle.papaya_rests.specs.Rests.{change_in, change_of_reply}
+use Rattle.papaya_rests.specs.Told.{IsTold}
+use Rattle.papaya_law.specs.Code.{IsHashed}
+use Rattle.papaya_timeline.specs.declared.trace.Turn.{Turn}
+use Rattle.papaya_timeline.specs.declared.trace.Event.{Event}
+use Rattle.papaya_timeline.specs.declared.trace.Event.TheVariants.{Begun, Changed, Moved, Asked, Shown, Other, Replied}
+use Rattle.papaya_timeline.specs.Advances.{Advances, event_of}
+use Rattle.papaya_timeline.specs.Begins.{task_of_call}
+use Rattle.papaya_timeline.specs.Core.{CoreState, IsCore}
+use Rattle.papaya_timeline.specs.Kept.{IsKept, Tale, setting_of, coding_of, low, told_tales}
+use Rattle.papaya_timeline.specs.Content.{map_of}
+use Rattle.papaya_timeline.specs.Maps.{Map, Does, IsUpdate, Same, key_of}
+use Rattle.papaya_timeline.specs.Moves.{IsOwnChange, MovesMap}
+use Rattle.papaya_store.specs.Store.{Stored, pair_of as pair_numbered}
+use Rattle.papaya_timeline.specs.Runs.{History}
+use Rattle.papaya_timeline.specs.Timeline.{Answered, IsFresh, IsLegal, number_in}
+use Rattle.papaya_timeline.proofs.Good.{replay}
+use Rattle.papaya_timeline.proofs.KeptLemmas.{IsLawfulKeys, IsStep, hashed_setting, map_kept}
+use Rattle.papaya_timeline.proofs.LegalLemmas.{MayPut, MayReplace, MayTell, Moves, insertion_does, moved_legal, removal_does, step_moves}
+use Rattle.papaya_timeline.proofs.MachineLemmas.{machine_changes, machine_inserts, machine_once, machine_takes}
+use Rattle.papaya_timeline.proofs.ReplayLemmas.{held_in_slot, map_replayed}
+use Rattle.papaya_timeline.proofs.TellLemmas.{Tells, event_tells}
+
+module _ {K V S A : Type 0} (eq : K → K → Bool) (hash : K → ℕ) (law : IsLawfulKeys eq hash) where
+  module _ {says : Says K V A} (refuse : Bool) (s s' : CoreState K V S A) (c : ℕ) (event : Event) (reply : Option Reply) (x : Advances eq says refuse s c s' event reply) (core : IsCore s.store s.callers s.mode) (core' : IsCore s'.store s'.callers s'.mode) (es : List (Exchange (Stored K V))) (tales : ℕ → Tale K V) (kept : IsKept eq hash s.mode s.store s.callers es tales) (step : IsStep eq hash law refuse s c s' event reply x es tales) where
+    -- the machine that asks, and the key of its call
+    abbrev m : Machine
+    m = x.before.machine
+
+    abbrev k : K
+    k = step.call.key
+
+    -- the setting, the coding and the words before the step
+    abbrev g : Setting K (Stored K V)
+    g = setting_of eq (low hash) s.mode s.store.words.tables
+
+    abbrev coding : Coding K (Stored K V)
+    coding = coding_of (low hash)
+
+    abbrev now : State (Stored K V)
+    now = run es first_state
+
+    -- keys are placed by their hashes, before the step and after it
+    hashed : IsHashed g coding
+    hashed = hashed_setting eq hash law s core
+
+    lawful' : IsLawful (setting_of {V = V} eq (low hash) s'.mode s'.store.words.tables)
+    lawful' = (hashed_setting eq hash law s' core').lawful
+
+    -- a pair that a call asks to bury is one of its key
+    buries_own : (t i old new : ℕ) (p : Stored K V) → kind_of_ask m ≡ Some kinds.Bury → ask_of m ≡ Ask_exchange (Slot t i) old new → now.slot t i ≡ Live p → pair_of old ≡ p.number → eq p.key k ≡ true
+    buries_own t i old new p kind ask live number =
+        let taken = machine_takes g coding (tales c).begun (tales c).since k hashed.coding m (tales c).hands step.call.rests kind (Slot t i) old new ask in
+        let same_number : taken.pair.number ≡ p.number = taken.number ∙ number in
+        let same_pair : Some p ≡ Some taken.pair = sym (kept.logged t i p (ap named live)) ∙ ap (pair_numbered s.store) (sym same_number) ∙ step.call.last taken.pair taken.last in
+        let same : p ≡ taken.pair = cc in
+        ap (λ (q : Stored K V). eq q.key k) same ∙ hashed.lawful.back k taken.pair.key taken.same
+
+    -- the event of a step moves the map as it tells
+    pub moved : Moves eq k m.task (tales c).hands.made (replay eq es) (replay eq (es ++ step.made)) event
+    moved =
+        let split = step.call.split in
+        let hands = (tales c).hands in
+        subst (Moves eq k m.task hands.made (replay eq es) (replay eq (es ++ step.made))) (sym x.event_is)
+        (subst (λ (l : List (Exchange (Stored K V))). Moves eq k m.task hands.made (replay eq l) (replay eq (l ++ step.made)) (event_of (kind_of_ask m) (ask_of m) x.answer)) split
+        (step_moves eq hash s.mode s'.mode s.store.words.tables s'.store.words.tables hashed lawful' (tales c).begun (tales c).since k m hands step.call.rests
+        (λ t i old new p kind ask live number. buries_own t i old new p kind ask (ap (λ (l : List (Exchange (Stored K V))). (run l first_state).slot t i) (sym split) ∙ live) number)
+        x.answer step.made step.hands
+        (subst (λ (l : List (Exchange (Stored K V))). IsTold g coding k (run l first_state) (kind_of_ask m) hands (ask_of m) x.answer step.made step.hands) (sym split) step.told)
+        (subst (λ (l : List (Exchange (Stored K V))). AllAllowed (setting_of eq (low hash) s'.mode s'.store.words.tables) first_state (l ++ step.made)) (sym split) step.kept.allowed)))
+
+    -- It is legal after any history in which its call may do that.
+    pub advance_legal : (schedule : List (Turn K V A)) (h : History) (maps : List (Map K V)) (said : Answered V) → MayTell eq k m.task (tales c).hands.made (replay eq es) schedule c h maps said event → IsLegal eq event schedule c h (replay eq es) maps (replay eq (es ++ step.made)) said
+    advance_legal schedule h maps said may = moved_legal eq k m.task (tales c).hands.made (replay eq es) schedule c h maps said (replay eq (es ++ step.made)) event moved may
+
+    -- the map before it and after it
+    map_before : (j : K) → map_of eq s j ≡ replay eq es j
+    map_before j = map_kept eq hash law s es tales core kept j ∙ ap (λ m. m j) (map_replayed eq (low hash) s.mode s.store.words.tables es (λ k. None))
+
+    map_after : (j : K) → map_of eq s' j ≡ replay eq (es ++ step.made) j
+    map_after j = map_kept eq hash law s' (es ++ step.made) (told_tales tales c step.made step.hands) core' step.kept j ∙ ap (λ m. m j) (map_replayed eq (low hash) s'.mode s'.store.words.tables (es ++ step.made) (λ k. None))
+
+    same_map : Same (replay eq es) (replay eq (es ++ step.made)) → Same (map_of eq s) (map_of eq s')
+    same_map same j = map_after j ∙ same j ∙ sym (map_before j)
+
+    same_update : (k : K) (went came : Option (Stored K V)) → IsUpdate eq k went came (replay eq es) (replay eq (es ++ step.made)) → IsUpdate eq k went came (map_of eq s) (map_of eq s')
+    same_update k went came u = record {
+      before = map_before k ∙ u.before;
+      class = λ j e. map_after j ∙ u.class j e;
+      others = λ j e. map_after j ∙ u.others j e ∙ sym (map_before j);
+    }
+
+    -- a pair that comes has a number that no pair of the map has
+    came_fresh : change_in m.state ≡ None → (went came : Option (Stored K V)) → MayPut k m.task (tales c).hands.made went came → IsFresh came (map_of eq s ∷ [])
+    came_fresh none went None may = tt
+    came_fresh none went (Some q) (made, own, replaces) = (
+      λ j p there.
+          let (t, i, stands) = held_in_slot eq (low hash) s.mode s.store.words.tables hashed.lawful es kept.allowed kept.single j p (sym (map_before j) ∙ there) in
+          step.call.unwritten q made none t i p stands,
+      tt,
+    )
+
+    -- A change is one that a call of this key and of the machine's kind makes: an insertion of the pair that comes, or a removal.
+    made_by : (call : Call K V A) → key_of call ≡ k → task_of_call call ≡ m.task → (old new : Option ℕ) → IsChanger m.task → change_in m.state ≡ None → (went came : Option (Stored K V)) → IsUpdate eq k went came (replay eq es) (replay eq (es ++ step.made)) → number_in went ≡ old → number_in came ≡ new → MayPut k m.task (tales c).hands.made went came
+        → (reply : Reply) × Does call went reply came × (change_of_reply reply ≡ Some (number_in went, number_in came)) → IsOwnChange eq s c s' old new
+    made_by call key task old new changes none went came update went_is came_is may (reply, does, tells) = record {
+      running_call = x.before;
+      is_running = x.was;
+      changes = changes;
+      call = call;
+      task = task;
+      own = step.call.own ∙ ap (λ j. Some j) (sym key);
+      went = went;
+      came = came;
+      update = subst (λ j. IsUpdate eq j went came (map_of eq s) (map_of eq s')) (sym key) (same_update k went came update);
+      went_is = went_is;
+      came_is = came_is;
+      fresh = came_fresh none went came may;
+      reply = reply;
+      does = does;
+      tells = tells ∙ ap (λ o. Some (o, number_in came)) went_is ∙ ap (λ o. Some (old, o)) came_is;
+    }
+
+    own_change : (task : Task) → m.task ≡ task → (old new : Option ℕ) → IsChanger m.task → ((n : ℕ) → new ≡ Some n → MayInsert task) → change_in m.state ≡ None → (went came : Option (Stored K V)) → IsUpdate eq k went came (replay eq es) (replay eq (es ++ step.made)) → number_in went ≡ old → number_in came ≡ new → MayPut k m.task (tales c).hands.made went came → IsOwnChange eq s c s' old new
+    own_change (tasks.Insert true) is old new changes inserts none went (Some q) update went_is came_is (made, own, replaces) =
+        made_by (Insert k q.value) refl (sym is) old new changes none went (Some q) update went_is came_is (made, own, replaces)
+        (insertion_does {A = A} (Insert k q.value) k went q refl own refl (subst (MayReplace went) is replaces))
+    own_change (tasks.Insert false) is old new changes inserts none went (Some q) update went_is came_is (made, own, replaces) =
+        made_by (TryInsert k q.value) refl (sym is) old new changes none went (Some q) update went_is came_is (made, own, replaces)
+        (insertion_does {A = A} (TryInsert k q.value) k went q refl own refl (subst (MayReplace went) is replaces))
+    own_change tasks.Compute is old new changes inserts none went (Some q) update went_is came_is (made, own, replaces) =
+        let call : Call K V A = Compute k (step.call.answers (subst HasClosure (sym is) tt)).0 in
+        made_by call refl (sym is) old new changes none went (Some q) update went_is came_is (made, own, replaces)
+        (insertion_does call k went q refl own tt (subst (MayReplace went) is replaces))
+    own_change tasks.Get is old new changes inserts none went (Some q) update went_is came_is may = absurd (inserts q.number (sym came_is))
+    own_change tasks.RemoveIf is old new changes inserts none went (Some q) update went_is came_is may = absurd (inserts q.number (sym came_is))
+    own_change tasks.RemoveIf is old new changes inserts none (Some p) None update went_is came_is closure =
+        let call : Call K V A = RemoveIf k (step.call.answers closure).0 in
+        made_by call refl (sym is) old new changes none (Some p) None update went_is came_is closure (removal_does call p tt)
+    own_change tasks.Compute is old new changes inserts none (Some p) None update went_is came_is closure =
+        let call : Call K V A = Compute k (step.call.answers closure).0 in
+        made_by call refl (sym is) old new changes none (Some p) None update went_is came_is closure (removal_does call p tt)
+    own_change tasks.Get is old new changes inserts none (Some p) None update went_is came_is closure = absurd (subst HasClosure is closure)
+    own_change (tasks.Insert replace) is old new changes inserts none (Some p) None update went_is came_is closure = absurd (subst HasClosure is closure)
+    own_change task is old new changes inserts none None None update went_is came_is may = absurd may
+
+    -- so a step moves the core's map
+    moves_core : (e : Event) → e ≡ event_of (kind_of_ask m) (ask_of m) x.answer → Moves eq k m.task (tales c).hands.made (replay eq es) (replay eq (es ++ step.made)) e → MovesMap eq s c s' e
+    moves_core (Changed kind old new) is moved =
+        let stands = core.standing c x.before x.was in
+        let (at, from, to, asks) = subst (λ e. Tells e (ask_of m) x.answer) (sym is) (event_tells (kind_of_ask m) (ask_of m) x.answer) in
+        own_change m.task refl old new (machine_changes m stands kind old new x.answer (sym is)) (λ n some. machine_inserts m stands kind old n x.answer (sym is ∙ ap (Changed kind old) some)) (machine_once m at from to asks) moved.went moved.came moved.update moved.went_is moved.came_is moved.may
+    moves_core Begun is moved = same_map moved
+    moves_core (Moved kind) is moved = same_map moved
+    moves_core (Asked n agrees) is moved = same_map moved
+    moves_core (Shown shown kind) is moved = same_map moved
+    moves_core Other is moved = same_map moved
+    moves_core (Replied reply) is moved = same_map moved
+
+    pub advance_moves : MovesMap eq s c s' event
+    advance_moves = moves_core event x.event_is moved

@@ -1,0 +1,110 @@
+-- What always holds of the core, over its making, a begin and a step.
+use Rattle.std.proofs.Common.{◌≡◌, ◌≢◌, ℕ, zero, suc, ◌==◌, ◌≤◌, ◌^◌, max, Bool, List, [], slice_get, Option, Some, None, ◌⊎◌, inl, inr, refl, sym, ◌∙◌, ap, subst}
+use Rattle.std.proofs.lemmas.Bool.{cases_Bool, eqb-true, eqb-false}
+use Rattle.std.specs.Int.{IsPowerOfTwo}
+use Rattle.papaya_words.specs.declared.probe.ResizeMode.{ResizeMode}
+use Rattle.papaya_call.specs.Answers.{Says}
+use Rattle.papaya_ask.specs.declared.ask.Answer.{Answer}
+use Rattle.papaya_ask.specs.declared.ask.Ask.{Ask}
+use Rattle.papaya_ask.specs.declared.ask.Ask.TheVariants.{Load, Exchange, SameKey, ShowNone, ShowPair, SizeOf, MakeKey, MakePair, MakeTable, AddToShard, Done as Ask_done}
+use Rattle.papaya_ask.specs.declared.call.Reply.{Reply}
+use Rattle.papaya_call.specs.declared.machine.Machine.{Machine}
+use Rattle.papaya_words.specs.Mode.{IsChunked}
+use Rattle.papaya_call.specs.Machine.{IsStanding, IsFitAsk, ask_of}
+use Rattle.papaya_ask.specs.declared.call.Call.{Call}
+use Rattle.papaya_timeline.specs.Advances.{reply_in}
+use Rattle.papaya_timeline.specs.Begins.{begun}
+use Rattle.papaya_store.specs.declared.pairs.Running.{Running}
+use Rattle.papaya_timeline.specs.declared.seat.Seat.{Seat}
+use Rattle.papaya_timeline.specs.Callers.{running, with_call, with_seat}
+use Rattle.papaya_store.specs.Tables.{Tables}
+use Rattle.papaya_store.specs.Store.{StoreState}
+use Rattle.papaya_store.specs.Performs.{Performs}
+use Rattle.papaya_timeline.specs.Core.{IsCore, IsGoing}
+use Rattle.papaya_store.specs.New.{HasCapacity}
+use Rattle.papaya_keys.proofs.TableSizes.{table_size}
+use Rattle.papaya_timeline.proofs.CallersLemmas.{running-with_seat, running-other, running-same}
+use Rattle.papaya_timeline.proofs.StoreLemmas.{AllSized, numbered, unnumbered, performed, append-sized}
+
+-- two numbers are the same or they differ
+pub cases_same : (a b : ℕ) → (a ≡ b) ⊎ (a ≢ b)
+cases_same a b = elim (cases_Bool (a == b)) [ inl same ↦ inl (eqb-true a b same) | inr other ↦ inr (eqb-false a b other) ]
+
+-- a machine whose ask has no reply goes on
+pub still_going : (m : Machine) → reply_in (ask_of m) ≡ None → IsGoing m
+still_going m none reply e = let f : Some reply ≡ None = sym (ap reply_in e) ∙ none in cc
+
+-- a reply that is in an ask is the ask's
+pub reply_asked : (ask : Ask) (reply : Reply) → reply_in ask ≡ Some reply → ask ≡ Ask_done reply
+reply_asked (Ask_done r) reply e = let same : r ≡ reply = cc in ap Ask_done same
+reply_asked (Load at) reply e = absurd cc
+reply_asked (Exchange at old new) reply e = absurd cc
+reply_asked (SameKey n) reply e = absurd cc
+reply_asked ShowNone reply e = absurd cc
+reply_asked (ShowPair n) reply e = absurd cc
+reply_asked (SizeOf n) reply e = absurd cc
+reply_asked MakeKey reply e = absurd cc
+reply_asked MakePair reply e = absurd cc
+reply_asked (MakeTable slots limit) reply e = absurd cc
+reply_asked (AddToShard by) reply e = absurd cc
+
+-- a call that begins has not replied
+pub begun-going : {K V A : Type 0} (hash : K → ℕ) (mode : ResizeMode) (initial : ℕ) (call : Call K V A) → IsGoing (begun hash mode initial call).machine
+begun-going hash mode initial call = still_going (begun hash mode initial call).machine refl
+
+module _ {K V S A : Type 0} where
+  -- a call was put into a seat, or taken out of it
+  pub with_call-core : (store : StoreState K V S) (callers : List (Seat K V A)) (mode : ResizeMode) (caller : ℕ) (call : Option (Running K V A)) → IsCore store callers mode → ((r : Running K V A) → call ≡ Some r → IsStanding r.machine × IsGoing r.machine) → IsCore store (with_call callers caller call) mode
+  with_call-core store callers mode caller call core stands = record {
+    chunked = core.chunked;
+    sizes = core.sizes;
+    standing = λ other r e. elim (cases_same other caller) [
+      | inl same ↦ (stands r (running-same callers caller call r (subst (λ (d : ℕ). running (with_call callers caller call) d ≡ Some r) same e))).0
+      | inr differ ↦ core.standing other r (sym (running-other callers caller other call differ) ∙ e)
+    ];
+    going = λ other r e. elim (cases_same other caller) [
+      | inl same ↦ (stands r (running-same callers caller call r (subst (λ (d : ℕ). running (with_call callers caller call) d ≡ Some r) same e))).1
+      | inr differ ↦ core.going other r (sym (running-other callers caller other call differ) ∙ e)
+    ];
+  }
+
+  -- a caller got a seat
+  pub with_seat-core : (store : StoreState K V S) (callers : List (Seat K V A)) (mode : ResizeMode) (caller : ℕ) → IsCore store callers mode → IsCore store (with_seat callers caller) mode
+  with_seat-core store callers mode caller core = record {
+    chunked = core.chunked;
+    sizes = core.sizes;
+    standing = λ other r e. core.standing other r (sym (running-with_seat callers caller other) ∙ e);
+    going = λ other r e. core.going other r (sym (running-with_seat callers caller other) ∙ e);
+  }
+
+  -- a caller began a call
+  pub begun-core : (store : StoreState K V S) (callers : List (Seat K V A)) (mode : ResizeMode) (caller : ℕ) (r : Running K V A) → IsCore store callers mode → IsStanding r.machine → IsGoing r.machine → IsCore store (with_call (with_seat callers caller) caller (Some r)) mode
+  begun-core store callers mode caller r core stands goes =
+      with_call-core store (with_seat callers caller) mode caller (Some r) (with_seat-core store callers mode caller core)
+      (λ q e. let same : r ≡ q = cc in subst (λ (y : Running K V A). IsStanding y.machine × IsGoing y.machine) same (stands, goes))
+
+  -- an ask of a caller was answered
+  pub performed-core : (eq : K → K → Bool) (says : Says K V A) (refuse : Bool) (store : StoreState K V S) (callers : List (Seat K V A)) (mode : ResizeMode) (r : Running K V A) (a : Answer) (store' : StoreState K V S) (later : Running K V A) → IsCore store callers mode → IsFitAsk (ask_of r.machine) → Performs eq says refuse (ask_of r.machine) store r a store' later → IsCore store' callers mode
+  performed-core eq says refuse store callers mode r a store' later core fit performs = record {
+    chunked = core.chunked;
+    sizes = numbered store'.words.tables (performed eq says refuse (ask_of r.machine) store r a store' later (unnumbered store.words.tables core.sizes) fit performs).sized;
+    standing = core.standing;
+    going = core.going;
+  }
+
+no-tables : (words : Tables) → words ≡ record { root = 0; tables = [] } → AllSized words.tables
+no-tables words e i t there = let f : None ≡ Some t = sym (ap (λ (w : Tables). slice_get w.tables i) e) ∙ there in cc
+
+-- a core as it is made
+pub new-sized : (capacity initial : ℕ) (words : Tables) → IsPowerOfTwo initial → initial ≤ 2 ^ 32 → HasCapacity capacity initial words → AllSized words.tables
+new-sized zero initial words power most e = no-tables words e
+new-sized (suc n) initial words power most (limit, is, e) =
+    subst (λ (w : Tables). AllSized w.tables) (sym e) (append-sized [] 1 (max initial 8) limit (table_size initial limit power most is) (no-tables (record { root = 0; tables = [] }) refl))
+
+pub new-core : {K V S A : Type 0} (store : StoreState K V S) (callers : List (Seat K V A)) (mode : ResizeMode) (capacity initial : ℕ) → IsChunked mode → IsPowerOfTwo initial → initial ≤ 2 ^ 32 → HasCapacity capacity initial store.words → callers ≡ [] → IsCore store callers mode
+new-core store callers mode capacity initial chunked power most words none = record {
+  chunked = chunked;
+  sizes = numbered store.words.tables (new-sized capacity initial store.words power most words);
+  standing = λ caller r e. let f : None ≡ Some r = sym (ap (λ (y : List (Seat _ _ _)). running y caller) none) ∙ e in cc;
+  going = λ caller r e. let f : None ≡ Some r = sym (ap (λ (y : List (Seat _ _ _)). running y caller) none) ∙ e in absurd cc;
+}

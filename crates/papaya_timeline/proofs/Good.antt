@@ -1,0 +1,87 @@
+-- A history with its maps, and how the calls under way stand to it.
+use Rattle.std.proofs.Common.{◌≡◌, ℕ, Bool, true, None, Some, List, [], ◌∷◌, ◌++◌}
+use Rattle.papaya_words.specs.declared.probe.ResizeMode.TheVariants.{Blocking}
+use Rattle.papaya_ask.specs.declared.call.Call.{Call}
+use Rattle.papaya_call.specs.Answers.{Says}
+use Rattle.papaya_law.specs.Exchange.{Exchange}
+use Rattle.papaya_law.specs.Meaning.{map_of}
+use Rattle.papaya_call.specs.declared.answers.Operation.TheVariants as ops
+use Rattle.papaya_ask.specs.declared.call.Call.TheVariants.{Get, Insert, TryInsert, RemoveIf, Compute}
+use Rattle.papaya_rests.specs.Rests.{change_in}
+use Rattle.papaya_rests.specs.Says.{HasShownNone, Said, Agrees, Inserts, Makes, Removes, ShowsPairs, StandsOn}
+use Rattle.papaya_rests.specs.Told.{IsOneOf}
+use Rattle.papaya_store.specs.declared.pairs.Running.{Running}
+use Rattle.papaya_timeline.specs.declared.trace.Turn.{Turn}
+use Rattle.papaya_timeline.specs.Begins.{task_of_call}
+use Rattle.papaya_timeline.specs.Callers.{running}
+use Rattle.papaya_timeline.specs.Core.{CoreState, IsCore}
+use Rattle.papaya_timeline.specs.Given.{AreGiven, HasLeft}
+use Rattle.papaya_timeline.specs.Headline.{AreLogged, AreNew}
+use Rattle.papaya_timeline.specs.Kept.{IsKept, Tale, setting_of}
+use Rattle.papaya_timeline.specs.Maps.{Map, key_of}
+use Rattle.papaya_store.specs.Performs.{own_key}
+use Rattle.papaya_store.specs.Store.{KeepsPairs, StoreState, Stored, pair_of}
+use Rattle.papaya_timeline.specs.Runs.{History}
+use Rattle.papaya_timeline.specs.Timeline.{Answered, open_call, change_of, was_shown_none, AtSomeMoment, WasAnswered, WasAsked, IsUnused, Timeline}
+
+-- a pair of the call has the value that it was handed; that of a compute has one that its closure answered
+abbrev pub IsValueOf : {K V A : Type 0} → Call K V A → V → Type 0
+IsValueOf (Get k) v = ⊥
+IsValueOf (Insert k w) v = w ≡ v
+IsValueOf (TryInsert k w) v = w ≡ v
+IsValueOf (RemoveIf k a) v = ⊥
+IsValueOf (Compute k a) v = Unit {0}
+
+-- What a machine stands on was said by its closure in the call. A value that it answered is at hand until a pair is made of it, and then is the pair's.
+abbrev pub WasSaid : {K V S A : Type 0} → StoreState K V S → Running K V A → ℕ → History → Answered V → Said → Type 0
+WasSaid store r caller h said (Agrees n agrees) = WasAsked caller n agrees h
+WasSaid {V = V} store r caller h said (Inserts shown) = (v : V) × (r.value ≡ Some v) × WasAnswered caller shown (ops.Insert v) h said
+WasSaid {K = K} {V = V} store r caller h said (Makes shown n) = (q : Stored K V) × (pair_of store n ≡ Some q) × WasAnswered caller shown (ops.Insert q.value) h said
+WasSaid store r caller h said (Removes n) = WasAnswered caller (Some n) ops.Remove h said
+
+module _ {K V : Type 0} (eq : K → K → Bool) where
+  -- the map m after these exchanges, whatever tables there are
+  abbrev pub replayed : Map K V → List (Exchange (Stored K V)) → Map K V
+  replayed m es = map_of (setting_of eq (λ k. 0) Blocking []) m es
+
+  -- the map that these exchanges leave, from the empty one
+  abbrev pub replay : List (Exchange (Stored K V)) → Map K V
+  replay es = replayed (λ k. None) es
+
+  module _ {S A : Type 0} where
+    -- A call under way, which began in the run, and the history of its caller.
+    pub record IsTied (store : StoreState K V S) (r : Running K V A) (call : Call K V A) (caller : ℕ) (tale : Tale K V) (h : History) (maps : List (Map K V)) (answers : Answered V) : Type 0 where
+      pub key : own_key store r ≡ Some (key_of call)
+      pub task : r.machine.task ≡ task_of_call call
+      -- the value that is at hand, and that of a pair that was made, is the call's
+      pub value : (v : V) → r.value ≡ Some v → IsValueOf call v
+      pub made : (q : Stored K V) → IsOneOf tale.hands.made q → IsValueOf call q.value
+      pub change : change_of caller h ≡ change_in r.machine.state
+      -- what its machine stands on was said by its closure in the call
+      pub said : (said : Said) → StandsOn r.machine said → WasSaid store r caller h answers said
+      pub shows : ShowsPairs r.machine.state
+      -- a closure that was shown that there is none will not be shown it again
+      pub once : was_shown_none caller h ≡ true → HasShownNone r.machine.remembered.fill r.machine.state
+      -- what its key had after some of the exchanges since the call began, it had at a moment of the call
+      pub moments : (so_far rest : List (Exchange (Stored K V))) → so_far ++ rest ≡ tale.since → AtSomeMoment (λ m. m (key_of call) ≡ replayed (replay tale.begun) so_far (key_of call)) caller h maps
+
+    -- The history has a timeline of maps, the newest of which is the replay of all exchanges; and the calls under way stand to it as they should.
+    pub record IsGood (says : Says K V A) (hash : K → ℕ) (schedule : List (Turn K V A)) (first : StoreState K V S) (start : Map K V) (s : CoreState K V S A) (h : History) : Type 0 where
+      pub es : List (Exchange (Stored K V))
+      pub tales : ℕ → Tale K V
+      pub maps : List (Map K V)
+      pub answers : Answered V
+      pub core : IsCore s.store s.callers s.mode
+      pub kept : IsKept eq hash s.mode s.store s.callers es tales
+      pub timeline : Timeline eq schedule start h (replay es ∷ maps) answers
+      pub logged : AreLogged s.store (replay es ∷ maps)
+      pub given : AreGiven says s.store schedule h answers
+      -- what the closures of the calls under way have left
+      pub left : (caller : ℕ) (r : Running K V A) (call : Call K V A) → running s.callers caller ≡ Some r → open_call schedule caller h ≡ Some call → (a : A) → r.answers ≡ Some a → HasLeft says s.store schedule a caller h answers
+      -- the pairs of the log where the run began are there, and those that came since, or were made by calls that began since, are new
+      pub kept_pairs : KeepsPairs first s.store
+      pub fresh : AreNew first schedule h
+      pub made_new : (caller : ℕ) (r : Running K V A) (call : Call K V A) → running s.callers caller ≡ Some r → open_call schedule caller h ≡ Some call → (q : Stored K V) → IsOneOf (tales caller).hands.made q → pair_of first q.number ≡ None
+      -- a pair that was made and is not written yet was in no map
+      pub unused : (caller : ℕ) (r : Running K V A) → running s.callers caller ≡ Some r → (q : Stored K V) → IsOneOf (tales caller).hands.made q → change_in r.machine.state ≡ None → IsUnused q.number (replay es ∷ maps)
+      pub tied : (caller : ℕ) (r : Running K V A) (call : Call K V A) → running s.callers caller ≡ Some r → open_call schedule caller h ≡ Some call → IsTied s.store r call caller (tales caller) h (replay es ∷ maps) answers

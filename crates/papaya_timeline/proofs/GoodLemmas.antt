@@ -1,0 +1,607 @@
+-- Begins and steps keep a good history.
+use Rattle.std.proofs.Common.{rules, arith, ◌≡◌, ◌≢◌, ◌⊎◌, inl, inr, ⊎_elim, ℕ, ◌<◌, ◌^◌, Bool, true, false, cond, Option, None, Some, List, [], ◌∷◌, ◌++◌, length, slice_get, refl, sym, ◌∙◌, ap, subst, eq-eqb}
+use Rattle.std.proofs.lemmas.Bool.{cases_Bool}
+use Rattle.papaya_words.specs.declared.probe.ResizeMode.{ResizeMode}
+use Rattle.papaya_words.specs.declared.probe.Refused.TheVariants.{RemoveNothing}
+use Rattle.papaya_ask.specs.declared.ask.Ask.{Ask}
+use Rattle.papaya_ask.specs.declared.ask.Ask.TheVariants.{ShowNone, MakePair, Done as Ask_done}
+use Rattle.papaya_ask.specs.declared.ask.Answer.TheVariants.{Op, Made as Made_number}
+use Rattle.papaya_ask.specs.declared.ask.OpKind.{OpKind}
+use Rattle.papaya_ask.specs.declared.ask.StepKind.{StepKind}
+use Rattle.papaya_ask.specs.declared.call.Call.{Call}
+use Rattle.papaya_ask.specs.declared.call.Call.TheVariants.{Get, Insert, TryInsert, RemoveIf, Compute}
+use Rattle.papaya_ask.specs.declared.call.Reply.{Reply}
+use Rattle.papaya_ask.specs.declared.call.Task.{Task}
+use Rattle.papaya_ask.specs.declared.call.Task.TheVariants as tasks
+use Rattle.papaya_call.specs.Answers.{Says}
+use Rattle.papaya_law.specs.Exchange.{Exchange, run, start as first_state}
+use Rattle.papaya_law.specs.Invariant.{named}
+use Rattle.papaya_call.specs.Machine.{HasClosure, ask_of, kind_of_ask, after, started}
+use Rattle.papaya_rests.specs.Rests.{change_in, change_after, change_of_reply}
+use Rattle.papaya_rests.specs.Says.{HasShownNone, IsSaidChange, Said, StandsOn, show}
+use Rattle.papaya_rests.specs.Told.{Hands, IsOneOf, no_hands}
+use Rattle.papaya_law.specs.Code.{IsHashed}
+use Rattle.papaya_rests.proofs.RestsReply.{machine_changes}
+use Rattle.papaya_rests.proofs.SaysChanges.{machine_changed}
+use Rattle.papaya_rests.proofs.SaysOnce.{machine_shown}
+use Rattle.papaya_rests.proofs.SaysWords.{machine_shows as shown_pairs}
+use Rattle.papaya_rests.proofs.Tasks.{same_task}
+use Rattle.papaya_store.specs.declared.pairs.Running.{Running}
+use Rattle.papaya_timeline.specs.declared.seat.Seat.{Seat}
+use Rattle.papaya_timeline.specs.declared.trace.Turn.{Turn}
+use Rattle.papaya_timeline.specs.declared.trace.Turn.TheVariants.{Begin}
+use Rattle.papaya_timeline.specs.declared.trace.Event.{Event}
+use Rattle.papaya_timeline.specs.declared.trace.Event.TheVariants.{Begun, Changed, Moved, Asked, Shown, Other, Replied}
+use Rattle.papaya_timeline.specs.Advances.{Advances, goes_on, reply_in}
+use Rattle.papaya_timeline.specs.Begins.{Begins, begun, key_of_call, task_of_call, value_of_call}
+use Rattle.papaya_timeline.specs.Callers.{running, with_seat}
+use Rattle.papaya_timeline.specs.Content.{map_of}
+use Rattle.papaya_timeline.specs.Core.{CoreState, IsCore}
+use Rattle.papaya_timeline.specs.Given.{AreGiven, GivesIn, HasLeft, begun_answers}
+use Rattle.papaya_timeline.specs.Headline.{AreLogged, AreNew, ComesNew, HasTimeline}
+use Rattle.papaya_timeline.specs.Kept.{IsKept, Tale, setting_of, coding_of, low, told_tales, begun_tales}
+use Rattle.papaya_timeline.specs.Maps.{Map, Does, key_of}
+use Rattle.papaya_store.specs.Performs.{Performs}
+use Rattle.papaya_timeline.specs.Runs.{History, with_step}
+use Rattle.papaya_store.specs.Store.{KeepsPairs, StoreState, Stored, pair_of}
+use Rattle.papaya_timeline.specs.Timeline.{Answered, Timeline, IsLegal, MayChange, FitsOpen, FitsShown, IsAgreed, IsUnused, change_of, change_by, none_by, number_in, open_call, open_after, begun_by, begins, is_begin, was_shown_none, AtSomeMoment}
+use Rattle.papaya_timeline.proofs.CallersLemmas.{running-same, running-other, running-with_seat, same_item, differs}
+use Rattle.papaya_timeline.proofs.CoreLemmas.{cases_same}
+use Rattle.papaya_timeline.proofs.EndingLemmas.{removes_nothing, step_ending, unrefused}
+use Rattle.papaya_timeline.proofs.EventLemmas.{one_exchange, event_begins, event_none, event_open, event_change, unchanged_before}
+use Rattle.papaya_timeline.proofs.GivenLemmas.{given_more, left_more}
+use Rattle.papaya_timeline.proofs.Good.{IsGood, IsTied, IsValueOf, replay, replayed}
+use Rattle.papaya_timeline.proofs.KeptLemmas.{IsLawfulKeys, IsStep, kept_step, kept_begin, map_kept, hashed_setting}
+use Rattle.papaya_timeline.proofs.KeptLogs.{pair_below}
+use Rattle.papaya_timeline.proofs.AdvanceLemmas.{advance_legal, moved as advance_moved}
+use Rattle.papaya_timeline.proofs.LegalLemmas.{IsMoved, MayPut, MayReplace, MayTell, Moves, insertion_does, removal_does}
+use Rattle.papaya_timeline.proofs.MachineLemmas.{machine_offers, machine_once, machine_shows, machine_shows_none}
+use Rattle.papaya_timeline.proofs.ReplayLemmas.{map_replayed, held_in_slot}
+use Rattle.papaya_timeline.proofs.SaidLemmas.{change_agreed, said_after, shown_none}
+use Rattle.papaya_timeline.proofs.TellLemmas.{IsAnswering, Tells, answering as answered_by, event_tells, made_number, told_made}
+use Rattle.papaya_timeline.proofs.TiedLemmas.{IsEnding, HasMoreLogs, grown, tied_other, tied_entry, tied_fits, at_showing, at_showing_none, moments_more}
+use Rattle.papaya_timeline.proofs.TimelineLemmas.{entry, open_call-own, open_call-other, change_of-own, not_begin-own, logged_more, logged_unused, was_shown_none-own}
+
+-- a call that goes on is the one after its step
+goes : {A : Type 0} (reply : Option Reply) (r' r : A) → goes_on reply r' ≡ Some r → (reply ≡ None) × (r' ≡ r)
+goes None r' r e = (refl, same_item r' r e)
+goes (Some reply) r' r e = let f : None ≡ Some r = e in cc
+
+-- a machine that replies asks no more
+done_in : (ask : Ask) (reply : Reply) → reply_in ask ≡ Some reply → ask ≡ Ask_done reply
+done_in (Ask_done other) reply e = ap (λ y. Ask_done y) (same_item other reply e)
+done_in ask reply e = let f : None ≡ Some reply = e in cc
+
+-- a call that begins stands on nothing that its closure said
+begun_stands : (task : Task) (hash : ℕ) (mode : ResizeMode) (initial : ℕ) (said : Said) → StandsOn (started task hash mode initial) said → ⊥
+begun_stands task hash mode initial said stands = search rules
+
+-- no pair has a number past a log that has its pairs and more
+past_log : {K V S : Type 0} (first s : StoreState K V S) → KeepsPairs first s → (o : Option (Stored K V)) → pair_of first (length s.pairs) ≡ o → o ≡ None
+past_log first s keeps None there = refl
+past_log first s keeps (Some p) there =
+    let below : length s.pairs < length s.pairs = pair_below s (length s.pairs) p (keeps (length s.pairs) p there) in
+    absurd (omega (arith, below))
+
+-- a pair of a compute may have any value
+computed : {K V A : Type 0} (call : Call K V A) → task_of_call call ≡ tasks.Compute → (v : V) → IsValueOf call v
+computed (Get k) is v = absurd cc
+computed (Insert k w) is v = absurd cc
+computed (TryInsert k w) is v = absurd cc
+computed (RemoveIf k a) is v = absurd cc
+computed (Compute k a) is v = tt
+
+module _ {K V S A : Type 0} (eq : K → K → Bool) (hash : K → ℕ) (law : IsLawfulKeys eq hash) where
+  -- One step of a call, in a run whose history is good.
+  module _ {says : Says K V A} (refuse : Bool) (schedule : List (Turn K V A)) (first : StoreState K V S) (start : Map K V) (s s' : CoreState K V S A) (h : History) (turn c : ℕ) (event : Event) (reply : Option Reply) (x : Advances eq says refuse s c s' event reply) (core' : IsCore s'.store s'.callers s'.mode) (good : IsGood eq says hash schedule first start s h) where
+    step : IsStep eq hash law refuse s c s' event reply x good.es good.tales
+    step = kept_step eq hash law refuse s c s' event reply x good.es good.tales good.core good.kept
+
+    -- the exchanges and the tales after it
+    abbrev es : List (Exchange (Stored K V))
+    es = good.es ++ step.made
+
+    abbrev tales : ℕ → Tale K V
+    tales = told_tales good.tales c step.made step.hands
+
+    -- the call after it
+    abbrev r' : Running K V A
+    r' = record x.later { machine = after x.before.machine x.answer }
+
+    abbrev later_history : History
+    later_history = entry turn c event ∷ h
+
+    abbrev later_maps : List (Map K V)
+    later_maps = replay eq es ∷ replay eq good.es ∷ good.maps
+
+    -- what a closure answered in it
+    answering : IsAnswering says s'.store x.before x.later event
+    answering = subst (λ y. IsAnswering says s'.store x.before x.later y) (sym x.event_is) (answered_by eq says refuse (kind_of_ask x.before.machine) s.store x.before x.answer s'.store x.later (ask_of x.before.machine) x.performs)
+
+    hashed : IsHashed (setting_of {V = V} eq (low hash) s.mode s.store.words.tables) (coding_of (low hash))
+    hashed = hashed_setting eq hash law s good.core
+
+    abbrev later_answers : Answered V
+    later_answers = answering.answered ∷ good.answers
+
+    -- only a compute shows its closure that there is none
+    offers : ask_of x.before.machine ≡ ShowNone → x.before.machine.task ≡ tasks.Compute
+    offers asks = machine_offers (setting_of eq (low hash) s.mode s.store.words.tables) (coding_of (low hash)) (good.tales c).begun (good.tales c).since step.call.key x.before.machine (good.tales c).hands step.call.rests asks
+
+    grows : HasMoreLogs s.store x.before s'.store x.later
+    grows = grown eq says refuse (ask_of x.before.machine) s.store x.before x.answer s'.store x.later x.performs offers
+
+    one : (step.made ≡ []) ⊎ ((e : Exchange (Stored K V)) × (step.made ≡ e ∷ []))
+    one = one_exchange (setting_of eq (low hash) s.mode s.store.words.tables) (coding_of (low hash)) step.call.key (run good.es first_state) (kind_of_ask x.before.machine) (good.tales c).hands (ask_of x.before.machine) x.answer step.made step.hands step.told
+
+    -- what the machine made of the answer, it changed
+    changed : change_in (after x.before.machine x.answer).state ≡ change_after (kind_of_ask x.before.machine) (ask_of x.before.machine) x.answer (change_in x.before.machine.state)
+    changed = machine_changes (setting_of eq (low hash) s.mode s.store.words.tables) (coding_of (low hash)) hashed step.call.key (run good.es first_state) x.before.machine step.call.rests.hash (good.tales c).hands step.made step.hands x.answer step.told
+
+    -- the key of an open call
+    own_is : (call : Call K V A) → open_call schedule c h ≡ Some call → step.call.key ≡ key_of call
+    own_is call e = same_item step.call.key (key_of call) (sym step.call.own ∙ (good.tied c x.before call x.was e).key)
+
+    -- what the event of the step tells of it
+    told : (e : Event) → event ≡ e → Tells e (ask_of x.before.machine) x.answer
+    told e is = subst (λ y. Tells y (ask_of x.before.machine) x.answer) (sym x.event_is ∙ is) (event_tells (kind_of_ask x.before.machine) (ask_of x.before.machine) x.answer)
+
+    -- no change was made before one
+    unchanged : (kind : StepKind) (old new : Option ℕ) → event ≡ Changed kind old new → change_in x.before.machine.state ≡ None
+    unchanged kind old new is = let (at, from, to, asks) = told (Changed kind old new) is in machine_once x.before.machine at from to asks
+
+    -- an open call does with its key's class what its machine does
+    does : (call : Call K V A) → open_call schedule c h ≡ Some call → (went came : Option (Stored K V)) → MayPut step.call.key x.before.machine.task (good.tales c).hands.made went came → (reply : Reply) × Does call went reply came × (change_of_reply reply ≡ Some (number_in went, number_in came))
+    does call e went (Some q) (made, own, replaces) =
+        let tied = good.tied c x.before call x.was e in
+        insertion_does call step.call.key went q (sym (own_is call e)) own (tied.made q made) (subst (MayReplace went) tied.task replaces)
+    does call e (Some p) None closure = removal_does call p (subst HasClosure (good.tied c x.before call x.was e).task closure)
+    does call e None None may = absurd may
+
+    -- and its closure has agreed
+    agreed : (call : Call K V A) → open_call schedule c h ≡ Some call → (kind : StepKind) (old new : Option ℕ) → event ≡ Changed kind old new → (went came : Option (Stored K V)) → number_in came ≡ new → MayPut step.call.key x.before.machine.task (good.tales c).hands.made went came → IsAgreed (Some call) c old came h good.answers
+    agreed call e kind old new is went came came_is may =
+        let m = x.before.machine in
+        let tied = good.tied c x.before call x.was e in
+        let none = unchanged kind old new is in
+        let change : change_in (after m x.answer).state ≡ Some (old, new) = changed ∙ sym (event_change (change_in m.state) (kind_of_ask m) (ask_of m) x.answer (machine_once m)) ∙ ap (λ y. change_by y (change_in m.state)) (sym x.event_is ∙ is) in
+        let said : IsSaidChange (task_of_call call) m old (number_in came) = subst (λ n. IsSaidChange (task_of_call call) m old n) (sym came_is) (subst (λ t. IsSaidChange t m old new) tied.task (machine_changed m x.answer old new (good.core.standing c x.before x.was) none change)) in
+        change_agreed call s.store x.before c h good.answers tied.said old came (logged went came may) said
+      where
+        logged : (went came : Option (Stored K V)) → MayPut step.call.key x.before.machine.task (good.tales c).hands.made went came → (q : Stored K V) → came ≡ Some q → pair_of s.store q.number ≡ Some q
+        logged went None may q is = let f : None ≡ Some q = is in absurd cc
+        logged went (Some p) (made, own, replaces) q is = let same : p ≡ q = cc in subst (λ (y : Stored K V). pair_of s.store y.number ≡ Some y) same (step.call.made p made)
+
+    -- so it may make the change
+    may_move : (o : Option (Call K V A)) → open_call schedule c h ≡ o → (kind : StepKind) (old new : Option ℕ) → event ≡ Changed kind old new → (went came : Option (Stored K V)) → number_in went ≡ old → number_in came ≡ new → MayPut step.call.key x.before.machine.task (good.tales c).hands.made went came
+        → MayChange eq o (change_of c h) step.call.key went came × IsAgreed o c old came h good.answers
+    may_move None e kind old new is went came went_is came_is may = (tt, tt)
+    may_move (Some call) e kind old new is went came went_is came_is may =
+        let tied = good.tied c x.before call x.was e in
+        ((sym (own_is call e), tied.change ∙ unchanged kind old new is, does call e went came may), agreed call e kind old new is went came came_is may)
+
+    -- that there is none its closure was not shown before
+    not_shown : (call : Call K V A) → open_call schedule c h ≡ Some call → ask_of x.before.machine ≡ ShowNone → was_shown_none c h ≡ false
+    not_shown call e asks = elim (cases_Bool (was_shown_none c h)) [
+      | inl was ↦ absurd ((machine_shown x.before.machine x.answer ((good.tied c x.before call x.was e).once was)).0 asks)
+      | inr never ↦ never
+    ]
+
+    -- and it is shown what its key had at a moment of the call
+    may_show : (o : Option (Call K V A)) → open_call schedule c h ≡ o → (shown : Option ℕ) → ask_of x.before.machine ≡ show shown → FitsShown eq o shown c h (replay eq good.es ∷ good.maps)
+    may_show None e shown asks = tt
+    may_show (Some call) e (Some n) asks =
+        let (p, last, number, same, was) =
+        machine_shows (setting_of eq (low hash) s.mode s.store.words.tables) (coding_of (low hash)) (good.tales c).begun (good.tales c).since step.call.key hashed x.before.machine (good.tales c).hands step.call.rests n asks in
+        at_showing eq call c (good.tales c) h (replay eq good.es ∷ good.maps) (low hash) s.mode s.store.words.tables step.call.key (own_is call e) (good.tied c x.before call x.was e).moments p n number was
+    may_show (Some call) e None asks =
+        at_showing_none eq call c (good.tales c) h (replay eq good.es ∷ good.maps) (low hash) s.mode s.store.words.tables step.call.key (own_is call e) (good.tied c x.before call x.was e).moments (not_shown call e asks)
+        (machine_shows_none (setting_of eq (low hash) s.mode s.store.words.tables) (coding_of (low hash)) (good.tales c).begun (good.tales c).since step.call.key x.before.machine (good.tales c).hands step.call.rests asks)
+
+    -- so its event may be told
+    may_tell : (e : Event) → event ≡ e → MayTell eq step.call.key x.before.machine.task (good.tales c).hands.made (replay eq good.es) schedule c h good.maps good.answers e
+    may_tell Begun is = tt
+    may_tell (Changed kind old new) is = (λ q made. good.unused c x.before x.was q made (unchanged kind old new is), may_move (open_call schedule c h) refl kind old new is)
+    may_tell (Moved kind) is = tt
+    may_tell (Asked n agrees) is = may_show (open_call schedule c h) refl (Some n) (told (Asked n agrees) is).0
+    may_tell (Shown shown kind) is = may_show (open_call schedule c h) refl shown (told (Shown shown kind) is).0
+    may_tell Other is = tt
+    may_tell (Replied rep) is = told (Replied rep) is
+
+    legal : IsLegal eq event schedule c h (replay eq good.es) good.maps (replay eq es) good.answers
+    legal = advance_legal eq hash law refuse s s' c event reply x good.core core' good.es good.tales good.kept step schedule h good.maps good.answers (may_tell event refl)
+
+    timeline : Timeline eq schedule start later_history later_maps later_answers
+    timeline = (legal, answering.fits, good.timeline)
+
+    -- the pairs of the map after it stand in slots
+    standing : (j : K) (p : Stored K V) → replay eq es j ≡ Some p → (t : ℕ) × (i : ℕ) × (named ((run es first_state).slot t i) ≡ Some p)
+    standing = held_in_slot eq (low hash) s'.mode s'.store.words.tables (hashed_setting eq hash law s' core').lawful es step.kept.allowed step.kept.single
+
+    -- so they are in the log
+    in_log : (j : K) (p : Stored K V) → replay eq es j ≡ Some p → pair_of s'.store p.number ≡ Some p
+    in_log j p e = let (t, i, there) = standing j p e in step.kept.logged t i p there
+
+    logged : AreLogged s'.store later_maps
+    logged = (in_log, logged_more s.store s'.store (replay eq good.es ∷ good.maps) grows.pairs_stay good.logged)
+
+    -- the hands of the call
+    own_hands : (tales c).hands ≡ step.hands
+    own_hands = ap (λ b. cond b step.hands (good.tales c).hands) (eq-eqb c c refl)
+
+    -- a pair that it made and has not written was in no map before
+    own_unused : (q : Stored K V) → IsOneOf step.hands.made q → change_in (after x.before.machine x.answer).state ≡ None → IsUnused q.number (replay eq good.es ∷ good.maps)
+    own_unused q made none =
+        let none_before = unchanged_before (change_in x.before.machine.state) (kind_of_ask x.before.machine) (ask_of x.before.machine) x.answer (machine_once x.before.machine) (sym changed ∙ none) in
+        ⊎_elim
+        (λ was. good.unused c x.before x.was q was none_before)
+        (λ (new : (q.number ≡ length s.store.pairs) × (x.before.value ≡ Some q.value) × (pair_of s'.store q.number ≡ Some q)). subst (λ n. IsUnused n (replay eq good.es ∷ good.maps)) (sym new.0) (logged_unused s.store (replay eq good.es ∷ good.maps) good.logged))
+        (step.new q made)
+
+    -- each caller's call, before it and after it
+    run_other : (d : ℕ) (r : Running K V A) → d ≢ c → running s'.callers d ≡ Some r → running s.callers d ≡ Some r
+    run_other d r differ now = sym (running-other s.callers c d (goes_on reply r') differ) ∙ sym (ap (λ (y : List (Seat K V A)). running y d) x.callers) ∙ now
+
+    run_same : (d : ℕ) (r : Running K V A) → d ≡ c → running s'.callers d ≡ Some r → (reply ≡ None) × (r' ≡ r)
+    run_same d r same now =
+        goes reply r' r (running-same s.callers c (goes_on reply r') r (sym (ap (λ (y : List (Seat K V A)). running y c) x.callers) ∙ ap (running s'.callers) (sym same) ∙ now))
+
+    hands_other : (d : ℕ) → d ≢ c → (tales d).hands ≡ (good.tales d).hands
+    hands_other d differ = ap (λ b. cond b step.hands (good.tales d).hands) (differs d c differ)
+
+    unused : (d : ℕ) (r : Running K V A) → running s'.callers d ≡ Some r → (q : Stored K V) → IsOneOf (tales d).hands.made q → change_in r.machine.state ≡ None → IsUnused q.number later_maps
+    unused d r now q made none = (
+      λ j p e. let (t, i, there) = standing j p e in (step.kept.calls d r now).unwritten q made none t i p there,
+      elim (cases_same d c) [
+        | inl same ↦
+            let is = run_same d r same now in
+            own_unused q (subst (λ (y : Hands (Stored K V)). IsOneOf y.made q) own_hands (subst (λ y. IsOneOf (tales y).hands.made q) same made)) (ap (λ (y : Running K V A). change_in y.machine.state) is.1 ∙ none)
+        | inr differ ↦ good.unused d r (run_other d r differ now) q (subst (λ (y : Hands (Stored K V)). IsOneOf y.made q) (hands_other d differ) made) none
+      ],
+    )
+
+    -- the open call stays open until it replies
+    opened : open_call schedule c later_history ≡ open_call schedule c h
+    opened = open_call-own schedule c turn event h ∙ ap (λ y. open_after y (begun_by (slice_get schedule turn)) (open_call schedule c h)) x.event_is ∙ event_open (begun_by (slice_get schedule turn)) (open_call schedule c h) (kind_of_ask x.before.machine) (ask_of x.before.machine) x.answer
+
+    -- a step begins no call
+    no_begin : is_begin c (entry turn c event) ≡ false
+    no_begin = not_begin-own c c turn event (ap begins x.event_is ∙ event_begins (kind_of_ask x.before.machine) (ask_of x.before.machine) x.answer)
+
+    -- a pair that is made in the step is logged, and is of the value at hand
+    made_now : (n : ℕ) → ask_of x.before.machine ≡ MakePair → x.answer ≡ Made_number n → (q : Stored K V) × (pair_of s'.store n ≡ Some q) × (x.before.value ≡ Some q.value)
+    made_now n asks is =
+        let (q, number, hands) = told_made (setting_of eq (low hash) s.mode s.store.words.tables) (coding_of (low hash)) step.call.key (run good.es first_state) (kind_of_ask x.before.machine) (good.tales c).hands (ask_of x.before.machine) x.answer step.made step.hands n asks is step.told in
+        ⊎_elim
+        (λ old.
+        let below : q.number < length s.store.pairs = pair_below s.store q.number q (step.call.made q old) in
+        let all : n ≡ length s.store.pairs = made_number eq says refuse s.store x.before x.answer s'.store x.later n (subst (λ y. Performs eq says refuse y s.store x.before x.answer s'.store x.later) asks x.performs) is in
+        absurd (omega (arith, below, all, number)))
+        (λ (new : (q.number ≡ length s.store.pairs) × (x.before.value ≡ Some q.value) × (pair_of s'.store q.number ≡ Some q)). (q, subst (λ i. pair_of s'.store i ≡ Some q) number new.2, new.1))
+        (step.new q (subst (λ (y : List (Stored K V)). IsOneOf y q) (sym hands) (inl refl)))
+
+    -- the step's own call stands to the history, replied or not
+    tied_own : (call : Call K V A) → open_call schedule c h ≡ Some call → IsTied eq s'.store r' call c (tales c) later_history later_maps later_answers
+    tied_own call e =
+        let m = x.before.machine in
+        let tied = good.tied c x.before call x.was e in
+        record {
+          key = step.own.own ∙ ap (λ k. Some k) (step.own_key ∙ own_is call e);
+          task = (same_task m x.answer).0 ∙ tied.task;
+          value = λ v had. ⊎_elim (λ was. tied.value v was) (λ computes. computed call (sym tied.task ∙ computes) v) (grows.value_stays v had);
+          made = λ q made. ⊎_elim
+              (λ was. tied.made q was)
+              (λ (new : (q.number ≡ length s.store.pairs) × (x.before.value ≡ Some q.value) × (pair_of s'.store q.number ≡ Some q)). tied.value q.value new.1)
+              (step.new q (subst (λ (y : Hands (Stored K V)). IsOneOf y.made q) own_hands made));
+          change = change_of-own c turn event h ∙ ap (change_by event) tied.change ∙ ap (λ y. change_by y (change_in m.state)) x.event_is
+              ∙ event_change (change_in m.state) (kind_of_ask m) (ask_of m) x.answer (machine_once m) ∙ sym changed;
+          said = said_after eq says refuse s.store x.before x.answer s'.store x.later x.performs grows.pairs_stay made_now turn c event x.event_is h good.answers answering (good.core.standing c x.before x.was) tied.shows tied.said;
+          shows = shown_pairs m x.answer tied.shows;
+          once = λ shown. ⊎_elim
+              (λ was. (machine_shown m x.answer (tied.once was)).1)
+              (λ (now : (ask_of m ≡ ShowNone) × ((op : OpKind) × (x.answer ≡ Op op))). subst (λ y. HasShownNone (after m y).remembered.fill (after m y).state) (sym now.1.1) (shown_none m now.1.0 now.0))
+              (event_none (was_shown_none c h) (kind_of_ask m) (ask_of m) x.answer (ap (λ y. none_by y (was_shown_none c h)) (sym x.event_is) ∙ sym (was_shown_none-own c turn event h) ∙ shown));
+          moments = subst (λ (l : List (Exchange (Stored K V))). (so_far rest : List (Exchange (Stored K V))) → so_far ++ rest ≡ (good.tales c).since ++ step.made → AtSomeMoment (λ m. m (key_of call) ≡ replayed eq (replay eq (good.tales c).begun) so_far (key_of call)) c later_history (replay eq (l ++ step.made) ∷ replay eq good.es ∷ good.maps)) step.call.split
+              (moments_more eq (key_of call) c (entry turn c event) h (replay eq good.es ∷ good.maps) (good.tales c).begun (good.tales c).since step.made one
+              no_begin tied.moments);
+        }
+
+    -- and so does each other call
+    tied_others : (d : ℕ) (r : Running K V A) (call : Call K V A) → d ≢ c → running s'.callers d ≡ Some r → open_call schedule d h ≡ Some call → IsTied eq s'.store r call d (tales d) later_history later_maps later_answers
+    tied_others d r call differ now e =
+        let before = run_other d r differ now in
+        tied_other eq s.store s'.store r call c d turn event good.tales step.made step.hands h good.es (replay eq good.es ∷ good.maps) answering.answered good.answers grows.keys_stay grows.pairs_stay one (λ z. differ (sym z)) (good.kept.calls d r before).split (good.tied d r call before e)
+
+    -- a closure that ended the call did so in the step
+    ending : (call : Call K V A) → open_call schedule c h ≡ Some call → (rep : Reply) → reply ≡ Some rep → ask_of (after x.before.machine x.answer) ≡ Ask_done rep → IsEnding r'.machine.task call rep c later_history later_maps
+    ending call e rep some done =
+        step_ending call x.before.machine x.answer c turn event h (replay eq es) (replay eq good.es ∷ good.maps) x.event_is (good.core.going c x.before x.was)
+        offers (λ shown asks. (may_show (Some call) e shown asks).0) rep (λ is. removes_nothing eq s.store x.before x.answer (unrefused eq says refuse s.store x.before x.answer s'.store x.later (ask_of x.before.machine) x.performs) (x.cause RemoveNothing (some ∙ ap (λ y. Some y) is))) done
+
+    -- a reply fits
+    fits : (o : Option (Call K V A)) → open_call schedule c later_history ≡ o → (rep : Reply) → reply ≡ Some rep → FitsOpen eq o rep c later_history later_maps
+    fits None e rep some = tt
+    fits (Some call) e rep some =
+        let was = sym opened ∙ e in
+        let done : ask_of (after x.before.machine x.answer) ≡ Ask_done rep = done_in (ask_of (after x.before.machine x.answer)) rep (sym x.reply_is ∙ some) in
+        tied_fits eq s'.store r' call c (tales c) later_history later_maps later_answers (low hash) s'.mode s'.store.words.tables step.own.key (step.own_key ∙ own_is call was) (tied_own call was) step.own.rests rep done (ending call was rep some done)
+
+    -- a call of another that is open now was open before
+    open_other : (d : ℕ) (call : Call K V A) → d ≢ c → open_call schedule d later_history ≡ Some call → open_call schedule d h ≡ Some call
+    open_other d call differ e = sym (open_call-other schedule c d turn event h (λ z. differ (sym z))) ∙ e
+
+    tied : (d : ℕ) (r : Running K V A) (call : Call K V A) → running s'.callers d ≡ Some r → open_call schedule d later_history ≡ Some call → IsTied eq s'.store r call d (tales d) later_history later_maps later_answers
+    tied d r call now e = elim (cases_same d c) [
+      | inl same ↦
+          let is = (run_same d r same now).1 in
+          subst (λ y. IsTied eq s'.store r call y (tales y) later_history later_maps later_answers) (sym same)
+          (subst (λ y. IsTied eq s'.store y call c (tales c) later_history later_maps later_answers) is
+          (tied_own call (sym opened ∙ ap (λ y. open_call schedule y later_history) (sym same) ∙ e)))
+      | inr differ ↦ tied_others d r call differ now (open_other d call differ e)
+    ]
+
+    -- no pair is gone from the log
+    still_left : (a : A) (d : ℕ) → HasLeft says s.store schedule a d h good.answers → HasLeft says s'.store schedule a d h good.answers
+    still_left a d x = left_more says s.store s'.store grows.pairs_stay schedule a d h good.answers x
+
+    -- what its closure had left gave what it answered, if it was asked
+    own_given : (call : Call K V A) → open_call schedule c h ≡ Some call → (a' : A) → x.later.answers ≡ Some a' → (a : A) × HasLeft says s'.store schedule a c h good.answers × GivesIn says s'.store event answering.answered a a'
+    own_given call e a' had = let (a, was, gives) = answering.left a' had in (a, still_left a c (good.left c x.before call x.was e a was), gives)
+
+    given : AreGiven says s'.store schedule later_history later_answers
+    given = (
+      λ call e asks. let (a', had) = answering.gave asks in let (a, left, gives) = own_given call e a' had in (a, a', left, gives),
+      given_more says s.store s'.store grows.pairs_stay schedule h good.answers good.given,
+    )
+
+    -- what they have left after it
+    left_others : (d : ℕ) (r : Running K V A) (call : Call K V A) → d ≢ c → running s'.callers d ≡ Some r → open_call schedule d h ≡ Some call → (a : A) → r.answers ≡ Some a → HasLeft says s'.store schedule a d later_history later_answers
+    left_others d r call differ now e a had = inr (inr (λ z. differ (sym z), still_left a d (good.left d r call (run_other d r differ now) e a had)))
+
+    left : (d : ℕ) (r : Running K V A) (call : Call K V A) → running s'.callers d ≡ Some r → open_call schedule d later_history ≡ Some call → (a : A) → r.answers ≡ Some a → HasLeft says s'.store schedule a d later_history later_answers
+    left d r call now e a had = elim (cases_same d c) [
+      | inl same ↦
+          let is = (run_same d r same now).1 in
+          let opened_before = sym opened ∙ ap (λ y. open_call schedule y later_history) (sym same) ∙ e in
+          let (a0, left_before, gives) = own_given call opened_before a (ap (λ (y : Running K V A). y.answers) is ∙ had) in
+          subst (λ y. HasLeft says s'.store schedule a y later_history later_answers) (sym same)
+          (inr (inl (refl, ap begins x.event_is ∙ event_begins (kind_of_ask x.before.machine) (ask_of x.before.machine) x.answer, (a0, left_before, gives))))
+      | inr differ ↦ left_others d r call differ now (open_other d call differ e) a had
+    ]
+
+    -- a number past the log is new to the log where the run began
+    past_new : pair_of first (length s.store.pairs) ≡ None
+    past_new = past_log first s.store good.kept_pairs (pair_of first (length s.store.pairs)) refl
+
+    -- a pair that comes is one that the call made
+    comes_new : (call : Call K V A) → open_call schedule c h ≡ Some call → (e : Event) → event ≡ e → ComesNew first e
+    comes_new call began (Changed kind old (Some n)) is = by_came moved.came moved.came_is moved.may
+      where
+        moved : IsMoved eq step.call.key x.before.machine.task (good.tales c).hands.made (replay eq good.es) (replay eq es) old (Some n)
+        moved = subst (Moves eq step.call.key x.before.machine.task (good.tales c).hands.made (replay eq good.es) (replay eq es)) is (advance_moved eq hash law refuse s s' c event reply x good.core core' good.es good.tales good.kept step)
+
+        by_came : (came : Option (Stored K V)) → number_in came ≡ Some n → MayPut step.call.key x.before.machine.task (good.tales c).hands.made moved.went came → pair_of first n ≡ None
+        by_came None none may = let f : None ≡ Some n = none in absurd cc
+        by_came (Some q) number (made, own, replaces) = subst (λ i. pair_of first i ≡ None) (same_item q.number n number) (good.made_new c x.before call x.was began q made)
+    comes_new call began (Changed kind old None) is = tt
+    comes_new call began Begun is = tt
+    comes_new call began (Moved kind) is = tt
+    comes_new call began (Asked n agrees) is = tt
+    comes_new call began (Shown shown kind) is = tt
+    comes_new call began Other is = tt
+    comes_new call began (Replied rep) is = tt
+
+    fresh : AreNew first schedule later_history
+    fresh = (λ call began. comes_new call began event refl, good.fresh)
+
+    -- and so are those that calls of the run made
+    made_others : (d : ℕ) (r : Running K V A) (call : Call K V A) → d ≢ c → running s'.callers d ≡ Some r → open_call schedule d h ≡ Some call → (q : Stored K V) → IsOneOf (tales d).hands.made q → pair_of first q.number ≡ None
+    made_others d r call differ now e q made = good.made_new d r call (run_other d r differ now) e q (subst (λ (y : Hands (Stored K V)). IsOneOf y.made q) (hands_other d differ) made)
+
+    made_new : (d : ℕ) (r : Running K V A) (call : Call K V A) → running s'.callers d ≡ Some r → open_call schedule d later_history ≡ Some call → (q : Stored K V) → IsOneOf (tales d).hands.made q → pair_of first q.number ≡ None
+    made_new d r call now e q made = elim (cases_same d c) [
+      | inl same ↦
+          let opened_before = sym opened ∙ ap (λ y. open_call schedule y later_history) (sym same) ∙ e in
+          ⊎_elim
+          (λ was. good.made_new c x.before call x.was opened_before q was)
+          (λ (new : (q.number ≡ length s.store.pairs) × (x.before.value ≡ Some q.value) × (pair_of s'.store q.number ≡ Some q)). subst (λ n. pair_of first n ≡ None) (sym new.0) past_new)
+          (step.new q (subst (λ (y : Hands (Stored K V)). IsOneOf y.made q) own_hands (subst (λ y. IsOneOf (tales y).hands.made q) same made)))
+      | inr differ ↦ made_others d r call differ now (open_other d call differ e) q made
+    ]
+
+    -- the call goes on
+    goes_on_good : IsGood eq says hash schedule first start s' later_history
+    goes_on_good = record { es = es; tales = tales; maps = replay eq good.es ∷ good.maps; answers = later_answers; core = core'; kept = step.kept; timeline = timeline; logged = logged; given = given; left = left; kept_pairs = λ n p there. grows.pairs_stay n p (good.kept_pairs n p there); fresh = fresh; made_new = made_new; unused = unused; tied = tied }
+
+    -- or it replies
+    replies_good : (rep : Reply) → reply ≡ Some rep → IsGood eq says hash schedule first start s' (entry turn c (Replied rep) ∷ later_history)
+    replies_good rep some = record {
+      es = es;
+      tales = tales;
+      maps = later_maps;
+      answers = None ∷ later_answers;
+      core = core';
+      kept = step.kept;
+      timeline = ((λ j. refl, fits (open_call schedule c later_history) refl rep some), refl, timeline);
+      logged = (in_log, logged);
+      given = (λ call e asks. let f : false ≡ true = asks in absurd cc, given);
+      left = λ d r call now e a had. elim (cases_same d c) [
+        | inl same ↦ let f : Some rep ≡ None = sym some ∙ (run_same d r same now).0 in absurd cc
+        | inr differ ↦
+            let ne : c ≢ d = λ z. differ (sym z) in
+            inr (inr (ne, left_others d r call differ now (open_other d call differ (sym (open_call-other schedule c d turn (Replied rep) later_history ne) ∙ e)) a had))
+      ];
+      kept_pairs = λ n p there. grows.pairs_stay n p (good.kept_pairs n p there);
+      fresh = (λ call began. tt, fresh);
+      made_new = λ d r call now e q made. elim (cases_same d c) [
+        | inl same ↦ let f : Some rep ≡ None = sym some ∙ (run_same d r same now).0 in absurd cc
+        | inr differ ↦ made_others d r call differ now (open_other d call differ (sym (open_call-other schedule c d turn (Replied rep) later_history (λ z. differ (sym z))) ∙ e)) q made
+      ];
+      unused = λ d r now q made none. let u = unused d r now q made none in (u.0, u);
+      tied = λ d r call now e. elim (cases_same d c) [
+        | inl same ↦ let f : Some rep ≡ None = sym some ∙ (run_same d r same now).0 in cc
+        | inr differ ↦
+            let ne : c ≢ d = λ z. differ (sym z) in
+            tied_entry eq s'.store s'.store r call c d turn (Replied rep) (tales d) later_history (replay eq es) later_maps None later_answers refl ne
+            (tied_others d r call differ now (open_other d call differ (sym (open_call-other schedule c d turn (Replied rep) later_history ne) ∙ e)))
+      ];
+    }
+
+  -- a step keeps a good history
+  pub good_step : {says : Says K V A} (refuse : Bool) (schedule : List (Turn K V A)) (first : StoreState K V S) (start : Map K V) (s s' : CoreState K V S A) (h : History) (turn c : ℕ) (event : Event) (reply : Option Reply) → Advances eq says refuse s c s' event reply → IsCore s'.store s'.callers s'.mode → IsGood eq says hash schedule first start s h → IsGood eq says hash schedule first start s' (with_step turn c event reply h)
+  good_step refuse schedule first start s s' h turn c event None x core' good = goes_on_good refuse schedule first start s s' h turn c event None x core' good
+  good_step refuse schedule first start s s' h turn c event (Some rep) x core' good = replies_good refuse schedule first start s s' h turn c event (Some rep) x core' good rep refl
+
+  -- a begin adds a call that rests on the exchanges as they are
+  pub good_begin : (says : Says K V A) (schedule : List (Turn K V A)) (first : StoreState K V S) (start : Map K V) (s s' : CoreState K V S A) (h : History) (turn c : ℕ) (call : Call K V A) → slice_get schedule turn ≡ Some (Begin c call) → Begins hash s c call s' → hash (key_of_call call) < 2 ^ 64 → IsCore s'.store s'.callers s'.mode → IsGood eq says hash schedule first start s h → IsGood eq says hash schedule first start s' (entry turn c Begun ∷ h)
+  good_begin says schedule first start s s' h turn c call at x low_hash core' good = record {
+    es = good.es;
+    tales = tales;
+    maps = replay eq good.es ∷ good.maps;
+    answers = None ∷ good.answers;
+    core = core';
+    kept = kept_begin eq hash law s c call s' x low_hash good.es good.tales good.kept;
+    timeline = (λ j. refl, refl, good.timeline);
+    logged = (logged.0, logged);
+    given = (
+      λ other e asks. let f : false ≡ true = asks in absurd cc,
+      subst (λ (y : StoreState K V S). AreGiven says y schedule h good.answers) (sym x.store) good.given,
+    );
+    left = λ d r other now e a had. elim (cases_same d c) [
+      | inl same ↦
+          let is = run_same d r same now in
+          inl (sym same, refl, ap (λ o. begun_answers (begun_by o)) at ∙ ap (λ (y : Running K V A). y.answers) is ∙ had)
+      | inr differ ↦
+          let ne : c ≢ d = λ z. differ (sym z) in
+          inr (inr (
+            ne,
+            subst (λ (y : StoreState K V S). HasLeft says y schedule a d h good.answers) (sym x.store)
+                (good.left d r other (run_other d r differ now) (sym (open_call-other schedule c d turn Begun h ne) ∙ e) a had),
+          ))
+    ];
+    kept_pairs = subst (λ (y : StoreState K V S). KeepsPairs first y) (sym x.store) good.kept_pairs;
+    fresh = (λ call began. tt, good.fresh);
+    made_new = λ d r other now e q made. elim (cases_same d c) [
+      | inl same ↦ absurd (subst (λ (y : Tale K V). IsOneOf y.hands.made q) (ap tales same ∙ tale_same) made)
+      | inr differ ↦
+          good.made_new d r other (run_other d r differ now) (sym (open_call-other schedule c d turn Begun h (λ z. differ (sym z))) ∙ e) q
+          (subst (λ (y : Tale K V). IsOneOf y.hands.made q) (tale_other d differ) made)
+    ];
+    unused = unused;
+    tied = tied;
+  }
+    where
+      tales : ℕ → Tale K V
+      tales = begun_tales good.tales c good.es
+
+      logged : AreLogged s'.store (replay eq good.es ∷ good.maps)
+      logged = subst (λ (y : StoreState K V S). AreLogged y (replay eq good.es ∷ good.maps)) (sym x.store) good.logged
+
+      run_other : (d : ℕ) (r : Running K V A) → d ≢ c → running s'.callers d ≡ Some r → running s.callers d ≡ Some r
+      run_other d r differ now =
+          sym (running-with_seat s.callers c d) ∙ sym (running-other (with_seat s.callers c) c d (Some (begun hash s.mode s.initial call)) differ) ∙ sym (ap (λ (y : List (Seat K V A)). running y d) x.callers) ∙ now
+
+      run_same : (d : ℕ) (r : Running K V A) → d ≡ c → running s'.callers d ≡ Some r → begun hash s.mode s.initial call ≡ r
+      run_same d r same now =
+          same_item (begun hash s.mode s.initial call) r (running-same (with_seat s.callers c) c (Some (begun hash s.mode s.initial call)) r (sym (ap (λ (y : List (Seat K V A)). running y c) x.callers) ∙ ap (running s'.callers) (sym same) ∙ now))
+
+      tale_other : (d : ℕ) → d ≢ c → tales d ≡ good.tales d
+      tale_other d differ = ap (λ b. cond b (record { begun = good.es; since = []; hands = no_hands }) (good.tales d)) (differs d c differ)
+
+      tale_same : tales c ≡ record { begun = good.es; since = []; hands = no_hands }
+      tale_same = ap (λ b. cond b (record { begun = good.es; since = []; hands = no_hands }) (good.tales c)) (eq-eqb c c refl)
+
+      unused : (d : ℕ) (r : Running K V A) → running s'.callers d ≡ Some r → (q : Stored K V) → IsOneOf (tales d).hands.made q → change_in r.machine.state ≡ None → IsUnused q.number (replay eq good.es ∷ replay eq good.es ∷ good.maps)
+      unused d r now q made none = elim (cases_same d c) [
+        | inl same ↦ absurd (subst (λ (y : Tale K V). IsOneOf y.hands.made q) (ap tales same ∙ tale_same) made)
+        | inr differ ↦
+            let u = good.unused d r (run_other d r differ now) q (subst (λ (y : Tale K V). IsOneOf y.hands.made q) (tale_other d differ) made) none in
+            (u.0, u)
+      ]
+
+      tied : (d : ℕ) (r : Running K V A) (other : Call K V A) → running s'.callers d ≡ Some r → open_call schedule d (entry turn c Begun ∷ h) ≡ Some other → IsTied eq s'.store r other d (tales d) (entry turn c Begun ∷ h) (replay eq good.es ∷ replay eq good.es ∷ good.maps) (None ∷ good.answers)
+      tied d r other now e = elim (cases_same d c) [
+        | inl same ↦
+            let is = run_same d r same now in
+            let is_call : call ≡ other = same_item call other (sym (open_call-own schedule c turn Begun h ∙ ap begun_by at) ∙ sym (ap (λ y. open_call schedule y (entry turn c Begun ∷ h)) same) ∙ e) in
+            subst (λ y. IsTied eq s'.store r other y (tales y) (entry turn c Begun ∷ h) (replay eq good.es ∷ replay eq good.es ∷ good.maps) (None ∷ good.answers)) (sym same)
+            (subst (λ y. IsTied eq s'.store r y c (tales c) (entry turn c Begun ∷ h) (replay eq good.es ∷ replay eq good.es ∷ good.maps) (None ∷ good.answers)) is_call
+            (subst (λ y. IsTied eq s'.store y call c (tales c) (entry turn c Begun ∷ h) (replay eq good.es ∷ replay eq good.es ∷ good.maps) (None ∷ good.answers)) is
+            (subst (λ y. IsTied eq s'.store (begun hash s.mode s.initial call) call c y (entry turn c Begun ∷ h) (replay eq good.es ∷ replay eq good.es ∷ good.maps) (None ∷ good.answers)) (sym tale_same) tied_begun)))
+        | inr differ ↦
+            let ne : c ≢ d = λ z. differ (sym z) in
+            subst (λ y. IsTied eq s'.store r other d y (entry turn c Begun ∷ h) (replay eq good.es ∷ replay eq good.es ∷ good.maps) (None ∷ good.answers)) (sym (tale_other d differ))
+            (tied_entry eq s.store s'.store r other c d turn Begun (good.tales d) h (replay eq good.es) (replay eq good.es ∷ good.maps) None good.answers x.store ne
+            (good.tied d r other (run_other d r differ now) (sym (open_call-other schedule c d turn Begun h ne) ∙ e)))
+      ]
+        where
+          nothing_before : (so_far rest : List (Exchange (Stored K V))) → so_far ++ rest ≡ [] → so_far ≡ []
+          nothing_before [] rest none = refl
+          nothing_before (y ∷ so_far) rest none = cc
+
+          tied_begun : IsTied eq s'.store (begun hash s.mode s.initial call) call c (record { begun = good.es; since = []; hands = no_hands }) (entry turn c Begun ∷ h) (replay eq good.es ∷ replay eq good.es ∷ good.maps) (None ∷ good.answers)
+          tied_begun = record {
+            key = key_is call;
+            task = refl;
+            value = begun_value call;
+            made = λ q made. absurd made;
+            change = change_of-own c turn Begun h;
+            said = λ said stands. absurd (begun_stands (task_of_call call) (hash (key_of_call call)) s.mode s.initial said stands);
+            shows = tt;
+            once = λ shown. let f : false ≡ true = sym (was_shown_none-own c turn Begun h) ∙ shown in absurd cc;
+            moments = λ so_far rest none. inl (ap (λ l. replayed eq (replay eq good.es) l (key_of call)) (sym (nothing_before so_far rest none)));
+          }
+            where
+              key_is : (call : Call K V A) → Some (key_of_call call) ≡ Some (key_of call)
+              key_is (Get k) = refl
+              key_is (Insert k v) = refl
+              key_is (TryInsert k v) = refl
+              key_is (RemoveIf k a) = refl
+              key_is (Compute k a) = refl
+
+              begun_value : (call : Call K V A) (v : V) → value_of_call call ≡ Some v → IsValueOf call v
+              begun_value (Get k) v had = let f : None ≡ Some v = had in absurd cc
+              begun_value (Insert k w) v had = same_item w v had
+              begun_value (TryInsert k w) v had = same_item w v had
+              begun_value (RemoveIf k a) v had = let f : None ≡ Some v = had in absurd cc
+              begun_value (Compute k a) v had = tt
+
+  -- a run begins with no entry and the core's map
+  pub good_start : (says : Says K V A) (schedule : List (Turn K V A)) (s : CoreState K V S A) (es : List (Exchange (Stored K V))) (tales : ℕ → Tale K V) → IsCore s.store s.callers s.mode → IsKept eq hash s.mode s.store s.callers es tales → IsGood eq says hash schedule s.store (map_of eq s) s []
+  good_start says schedule s es tales core kept = record {
+    es = es;
+    tales = tales;
+    maps = [];
+    answers = [];
+    core = core;
+    kept = kept;
+    timeline = λ j. sym (is_map j);
+    logged = (λ j p e. let (t, i, there) = standing j p e in kept.logged t i p there, tt);
+    given = tt;
+    left = λ d r call now e a had. let f : None ≡ Some call = e in absurd cc;
+    kept_pairs = λ n p there. there;
+    fresh = tt;
+    made_new = λ d r call now e q made. let f : None ≡ Some call = e in absurd cc;
+    unused = λ d r now q made none. (λ j p e. let (t, i, there) = standing j p e in (kept.calls d r now).unwritten q made none t i p there, tt);
+    tied = λ d r call now e. let f : None ≡ Some call = e in cc;
+  }
+    where
+      is_map : (j : K) → map_of eq s j ≡ replay eq es j
+      is_map j = map_kept eq hash law s es tales core kept j ∙ ap (λ m. m j) (map_replayed eq (low hash) s.mode s.store.words.tables es (λ k. None))
+
+      standing : (j : K) (p : Stored K V) → replay eq es j ≡ Some p → (t : ℕ) × (i : ℕ) × (named ((run es first_state).slot t i) ≡ Some p)
+      standing = held_in_slot eq (low hash) s.mode s.store.words.tables (hashed_setting eq hash law s core).lawful es kept.allowed kept.single
+
+  -- at its end the maps of a run are a timeline from the core's map to the core's map
+  pub good_end : (says : Says K V A) (schedule : List (Turn K V A)) (s s' : CoreState K V S A) (h : History) → IsGood eq says hash schedule s.store (map_of eq s) s' h → HasTimeline eq says schedule s h s'
+  good_end says schedule s s' h good = record {
+    last = replay eq good.es;
+    maps = good.maps;
+    said = good.answers;
+    timeline = good.timeline;
+    logged = good.logged;
+    given = good.given;
+    fresh = good.fresh;
+    keeps = good.kept_pairs;
+    is_last = λ j. sym (map_kept eq hash law s' good.es good.tales good.core good.kept j ∙ ap (λ m. m j) (map_replayed eq (low hash) s'.mode s'.store.words.tables good.es (λ k. None)));
+  }

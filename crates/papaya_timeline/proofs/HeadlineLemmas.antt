@@ -1,0 +1,169 @@
+-- The turns of a schedule keep a good history, and so a run has a timeline.
+use Rattle.std.proofs.Common.{◌≡◌, inl, inr, ℕ, zero, suc, Bool, true, false, Option, None, Some, List, [], slice_get, refl, sym, ◌∙◌, ap, subst}
+use Rattle.std.specs.Cmp.{IsEquivalence}
+use Rattle.papaya_ask.specs.declared.ask.Ask.TheVariants.{ShowNone}
+use Rattle.papaya_ask.specs.declared.call.Call.{Call}
+use Rattle.papaya_ask.specs.declared.call.Reply.{Reply}
+use Rattle.papaya_ask.specs.declared.call.Task.TheVariants.{Compute}
+use Rattle.papaya_call.specs.Answers.{Says}
+use Rattle.papaya_law.specs.Exchange.{Exchange}
+use Rattle.papaya_call.specs.Machine.{IsStanding, ask_of, after}
+use Rattle.papaya_rests.proofs.Standing.{machine_stands, machine_ask_fits}
+use Rattle.papaya_store.specs.declared.pairs.Running.{Running}
+use Rattle.papaya_timeline.specs.declared.seat.Seat.{Seat}
+use Rattle.papaya_timeline.specs.declared.trace.Turn.{Turn}
+use Rattle.papaya_timeline.specs.declared.trace.Turn.TheVariants.{Begin, Step, Finish}
+use Rattle.papaya_timeline.specs.declared.trace.Event.{Event}
+use Rattle.papaya_timeline.specs.Advances.{Advances, goes_on}
+use Rattle.papaya_timeline.specs.Begins.{Begins, begun}
+use Rattle.papaya_timeline.specs.Callers.{with_call, with_seat}
+use Rattle.papaya_timeline.specs.Content.{map_of}
+use Rattle.papaya_timeline.specs.Core.{IsGoing, CoreState, IsCore}
+use Rattle.papaya_timeline.specs.Headline.{HasTimeline}
+use Rattle.papaya_timeline.specs.Kept.{IsKept, IsLawfulCore, Tale, setting_of, coding_of, low}
+use Rattle.papaya_timeline.specs.Maps.{Map}
+use Rattle.papaya_timeline.specs.Moves.{MovesMap}
+use Rattle.papaya_timeline.specs.Runs.{History, StepRuns, BeginRuns, StepsRun, TurnRuns, TurnsRun, IsCutShort, StopsEarly}
+use Rattle.papaya_store.specs.Store.{KeepsPairs, StoreState, Stored}
+use Rattle.papaya_keys.specs.Hashes.{hash_of}
+use Rattle.papaya_timeline.proofs.CallersLemmas.{same_item}
+use Rattle.papaya_timeline.proofs.CoreLemmas.{begun-core, still_going, performed-core, with_call-core}
+use Rattle.papaya_timeline.proofs.Good.{IsGood}
+use Rattle.papaya_timeline.proofs.GoodLemmas.{good_start, good_begin, good_step, good_end}
+use Rattle.papaya_timeline.proofs.AdvanceLemmas.{advance_moves}
+use Rattle.papaya_timeline.proofs.KeptCore.{keys_lawful}
+use Rattle.papaya_timeline.proofs.KeptLemmas.{IsLawfulKeys, kept_step}
+use Rattle.papaya_timeline.proofs.MachineLemmas.{machine_offers}
+use Rattle.papaya_timeline.proofs.StoreLemmas.{performed, unnumbered}
+use Rattle.papaya_timeline.proofs.TiedLemmas.{grown}
+
+module _ {K V S A : Type 0} where
+  -- what always holds of a core holds after a step
+  pub advance-core : (eq : K → K → Bool) (says : Says K V A) (refuse : Bool) (s : CoreState K V S A) (caller : ℕ) (s' : CoreState K V S A) (event : Event) (reply : Option Reply) → Advances eq says refuse s caller s' event reply → IsCore s.store s.callers s.mode → IsCore s'.store s'.callers s'.mode
+  advance-core eq says refuse s caller s' event reply x core =
+      let m = x.before.machine in
+      let fit = machine_ask_fits m in
+      let stands = machine_stands m x.answer (core.standing caller x.before x.was) (performed eq says refuse (ask_of m) s.store x.before x.answer s'.store x.later (unnumbered s.store.words.tables core.sizes) fit x.performs).fit in
+      let kept : IsCore s'.store s.callers s.mode = performed-core eq says refuse s.store s.callers s.mode x.before x.answer s'.store x.later core fit x.performs in
+      let r : Running K V A = record x.later { machine = after m x.answer } in
+      subst (λ y. IsCore s'.store s'.callers y) (sym x.mode)
+      (subst (λ (y : List (Seat K V A)). IsCore s'.store y s.mode) (sym x.callers)
+      (with_call-core s'.store s.callers s.mode caller (goes_on reply r) kept (still reply r stands (λ none. still_going (after m x.answer) (sym x.reply_is ∙ none)))))
+    where
+      still : (reply : Option Reply) (r : Running K V A) → IsStanding r.machine → (reply ≡ None → IsGoing r.machine) → (q : Running K V A) → goes_on reply r ≡ Some q → IsStanding q.machine × IsGoing q.machine
+      still None r stands goes q e = subst (λ (y : Running K V A). IsStanding y.machine × IsGoing y.machine) (same_item r q e) (stands, goes refl)
+      still (Some rep) r stands goes q e = let f : None ≡ Some q = e in cc
+
+  -- and after a begin
+  pub begin-core : (hash : K → ℕ) (s : CoreState K V S A) (caller : ℕ) (call : Call K V A) (s' : CoreState K V S A) → Begins hash s caller call s' → IsCore s.store s.callers s.mode → IsCore s'.store s'.callers s'.mode
+  begin-core hash s caller call s' x core =
+      let r : Running K V A = begun hash s.mode s.initial call in
+      subst (λ y. IsCore s'.store s'.callers y) (sym x.mode)
+      (subst (λ (y : List (Seat K V A)). IsCore s'.store y s.mode) (sym x.callers)
+      (subst (λ (y : StoreState K V S). IsCore y (with_call (with_seat s.callers caller) caller (Some r)) s.mode) (sym x.store)
+      (begun-core s.store s.callers s.mode caller r core (record { made = tt; remembered = record { fill = tt; choice = tt }; state = tt }) (still_going r.machine refl))))
+
+module _ {K V S A : Type 0} (eq : K → K → Bool) (says : Says K V A) (hash : S → K → ℕ) (hasher : S) (law : IsLawfulKeys eq (hash hasher)) (schedule : List (Turn K V A)) (first : StoreState K V S) (start : Map K V) where
+  -- a good history of a core with this hasher
+  abbrev Good : CoreState K V S A → History → Type 0
+  Good s h = (s.store.hasher ≡ hasher) × IsGood eq says (hash hasher) schedule first start s h
+
+  -- a turn that is passed over
+  passes : (s s' : CoreState K V S A) (before after : History) → s' ≡ s → after ≡ before → Good s before → Good s' after
+  passes s s' before after same as_before good = subst (λ y. Good y after) (sym same) (subst (λ y. Good s y) (sym as_before) good)
+
+  step_runs : (turn caller : ℕ) (refuse : Bool) (s s' : CoreState K V S A) (before after : History) → StepRuns eq says hash turn caller refuse s before s' after → Good s before → Good s' after
+  step_runs turn caller refuse s s' before after (inl (event, reply, x, is)) (same, good) = (
+    ap (λ (y : S). y) (grown eq says refuse (ask_of x.before.machine) s.store x.before x.answer s'.store x.later x.performs offers).hasher_is ∙ same,
+    subst (λ y. IsGood eq says (hash hasher) schedule first start s' y) (sym is)
+        (good_step eq (hash hasher) law refuse schedule first start s s' before turn caller event reply x (advance-core eq says refuse s caller s' event reply x good.core) good),
+  )
+    where
+      -- only a compute shows its closure that there is none
+      offers : ask_of x.before.machine ≡ ShowNone → x.before.machine.task ≡ Compute
+      offers asks =
+          let call = good.kept.calls caller x.before x.was in
+          let tale = good.tales caller in
+          machine_offers (setting_of eq (low (hash hasher)) s.mode s.store.words.tables) (coding_of (low (hash hasher))) tale.begun tale.since call.key x.before.machine tale.hands call.rests asks
+  step_runs turn caller refuse s s' before after (inr (idle, passed)) good = passes s s' before after passed.0 passed.1 good
+
+  begin_runs : (turn caller : ℕ) (call : Call K V A) (s s' : CoreState K V S A) (before after : History) → slice_get schedule turn ≡ Some (Begin caller call) → BeginRuns eq says hash turn caller call s before s' after → Good s before → Good s' after
+  begin_runs turn caller call s s' before after there (inl (idle, begins, is)) (same, good) =
+      let x : Begins (hash hasher) s caller call s' = subst (λ (y : S). Begins (hash y) s caller call s') same begins in (
+        ap (λ (y : StoreState K V S). y.hasher) x.store ∙ same,
+        subst (λ y. IsGood eq says (hash hasher) schedule first start s' y) (sym is)
+            (good_begin eq (hash hasher) law says schedule first start s s' before turn caller call there x x.fits (begin-core (hash hasher) s caller call s' x good.core) good),
+      )
+  begin_runs turn caller call s s' before after there (inr (r, busy, passed)) good = passes s s' before after passed.0 passed.1 good
+
+  steps_run : (turn caller steps : ℕ) (s s' : CoreState K V S A) (before after : History) → StepsRun eq says hash turn caller steps s before s' after → Good s before → Good s' after
+  steps_run turn caller zero s s' before after passed good = passes s s' before after passed.0 passed.1 good
+  steps_run turn caller (suc steps) s s' before after (middle, so_far, runs, last) good =
+      step_runs turn caller false middle s' so_far after last (steps_run turn caller steps s middle before so_far runs good)
+
+  turn_runs : (turn : ℕ) (what : Turn K V A) (s s' : CoreState K V S A) (before after : History) → slice_get schedule turn ≡ Some what → TurnRuns eq says hash turn what s before s' after → Good s before → Good s' after
+  turn_runs turn (Begin caller call) s s' before after there runs good = begin_runs turn caller call s s' before after there runs good
+  turn_runs turn (Step caller refuse) s s' before after there runs good = step_runs turn caller refuse s s' before after runs good
+  turn_runs turn (Finish caller steps) s s' before after there runs good = steps_run turn caller steps s s' before after runs good
+
+  turns_run : (turns : ℕ) (s s' : CoreState K V S A) (h : History) → TurnsRun eq says hash schedule turns s s' h → Good s [] → Good s' h
+  turns_run zero s s' h (same, none) good = passes s s' [] h same none good
+  turns_run (suc turn) s s' h (what, middle, so_far, there, runs, last) good =
+      turn_runs turn what middle s' so_far h there last (turns_run turn s middle so_far runs good)
+
+  -- a turn that was cut short leaves the pairs of the first log there
+  cut_short : (turn : ℕ) (what : Turn K V A) (s s' : CoreState K V S A) (before : History) → IsCutShort eq says hash turn what s before s' → Good s before → KeepsPairs first s'.store
+  cut_short turn (Begin caller call) s s' before same good = subst (λ (y : CoreState K V S A). KeepsPairs first y.store) (sym same) good.1.kept_pairs
+  cut_short turn (Step caller refuse) s s' before same good = subst (λ (y : CoreState K V S A). KeepsPairs first y.store) (sym same) good.1.kept_pairs
+  cut_short turn (Finish caller steps) s s' before (made, few, after, runs) good = (steps_run turn caller made s s' before after runs good).1.kept_pairs
+
+-- The maps of a run are a legal timeline with its history.
+pub run_timeline : {K V S A : Type 0} (eq : K → K → Bool) (says : Says K V A) (hash : S → K → ℕ) (schedule : List (Turn K V A)) (turns : ℕ) (s s' : CoreState K V S A) (h : History) → IsLawfulKeys eq (hash s.store.hasher) → IsCore s.store s.callers s.mode → (es : List (Exchange (Stored K V))) (tales : ℕ → Tale K V) → IsKept eq (hash s.store.hasher) s.mode s.store s.callers es tales → TurnsRun eq says hash schedule turns s s' h → HasTimeline eq says schedule s h s'
+run_timeline eq says hash schedule turns s s' h law core es tales kept runs =
+    good_end eq (hash s.store.hasher) law says schedule s s' h
+    (turns_run eq says hash s.store.hasher law schedule s.store (map_of eq s) turns s s' h runs (refl, good_start eq (hash s.store.hasher) law says schedule s es tales core kept)).1
+
+-- The same of a core whose invariant holds, with keys that are hashed as its hasher does.
+module _ {K V S A H : Type 0} (eq : K → K → Bool) (input : K → List (List ℕ)) (build : S → H) (write : H → List ℕ → H) (finish : H → ℕ) (classes : IsEquivalence eq) (respects : (x y : K) → eq x y ≡ true → input x ≡ input y) where
+  -- what always holds of a core
+  abbrev pub Always : CoreState K V S A → Type 0
+  Always s = IsLawfulCore eq (hash_of input build write finish s.store.hasher) s.store s.callers s.mode
+
+  -- a run has a timeline
+  pub lawful_timeline : (says : Says K V A) (schedule : List (Turn K V A)) (turns : ℕ) (s s' : CoreState K V S A) (h : History) → Always s → TurnsRun eq says (hash_of input build write finish) schedule turns s s' h → HasTimeline eq says schedule s h s'
+  lawful_timeline says schedule turns s s' h always runs =
+      let (es, (tales, kept)) = always.law in
+      run_timeline eq says (hash_of input build write finish) schedule turns s s' h (keys_lawful eq input build write finish classes respects s.store.hasher) always.core es tales kept runs
+
+  -- no pair is gone from the log after a run, nor after a run that stopped
+  pub lawful_logs : (says : Says K V A) (schedule : List (Turn K V A)) (turns : ℕ) (s s' : CoreState K V S A) (h : History) → Always s → TurnsRun eq says (hash_of input build write finish) schedule turns s s' h → KeepsPairs s.store s'.store
+  lawful_logs says schedule turns s s' h always runs =
+      let (es, (tales, kept)) = always.law in
+      let law = keys_lawful eq input build write finish classes respects s.store.hasher in
+      (turns_run eq says (hash_of input build write finish) s.store.hasher law schedule s.store (map_of eq s) turns s s' h runs (refl, good_start eq (hash_of input build write finish s.store.hasher) law says schedule s es tales always.core kept)).1.kept_pairs
+
+  pub lawful_stops : (says : Says K V A) (schedule : List (Turn K V A)) (s s' : CoreState K V S A) → Always s → StopsEarly eq says (hash_of input build write finish) schedule s s' → KeepsPairs s.store s'.store
+  lawful_stops says schedule s s' always (turn, what, middle, so_far, there, runs, cut) =
+      let (es, (tales, kept)) = always.law in
+      let law = keys_lawful eq input build write finish classes respects s.store.hasher in
+      cut_short eq says (hash_of input build write finish) s.store.hasher law schedule s.store (map_of eq s) turn what middle s' so_far cut
+      (turns_run eq says (hash_of input build write finish) s.store.hasher law schedule s.store (map_of eq s) turn s middle so_far runs (refl, good_start eq (hash_of input build write finish s.store.hasher) law says schedule s es tales always.core kept))
+
+  -- a step moves the map in the class of its call's key alone
+  pub lawful_moves : (says : Says K V A) (refuse : Bool) (s s' : CoreState K V S A) (caller : ℕ) (event : Event) (reply : Option Reply) → Always s → Advances eq says refuse s caller s' event reply → MovesMap eq s caller s' event
+  lawful_moves says refuse s s' caller event reply always x =
+      let (es, (tales, kept)) = always.law in
+      let hash : K → ℕ = hash_of input build write finish s.store.hasher in
+      let law : IsLawfulKeys eq hash = keys_lawful eq input build write finish classes respects s.store.hasher in
+      advance_moves eq hash law refuse s s' caller event reply x always.core (advance-core eq says refuse s caller s' event reply x always.core) es tales kept (kept_step eq hash law refuse s caller s' event reply x es tales always.core kept)
+
+  -- and no pair is gone from the log
+  pub lawful_keeps : (says : Says K V A) (refuse : Bool) (s s' : CoreState K V S A) (caller : ℕ) (event : Event) (reply : Option Reply) → Always s → Advances eq says refuse s caller s' event reply → KeepsPairs s.store s'.store
+  lawful_keeps says refuse s s' caller event reply always x = (grown eq says refuse (ask_of x.before.machine) s.store x.before x.answer s'.store x.later x.performs offers).pairs_stay
+    where
+      offers : ask_of x.before.machine ≡ ShowNone → x.before.machine.task ≡ Compute
+      offers asks =
+          let (es, (tales, kept)) = always.law in
+          let call = kept.calls caller x.before x.was in
+          let hash : K → ℕ = hash_of input build write finish s.store.hasher in
+          machine_offers (setting_of eq (low hash) s.mode s.store.words.tables) (coding_of (low hash)) (tales caller).begun (tales caller).since call.key x.before.machine (tales caller).hands call.rests asks

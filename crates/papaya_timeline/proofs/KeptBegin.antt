@@ -1,0 +1,165 @@
+-- A begin keeps a core's words to the law of exchanges, as a new core does.
+use Rattle.std.proofs.Common.{◌≡◌, ◌≢◌, ℕ, zero, suc, ◌-◌, ◌==◌, ◌<◌, ◌^◌, Bool, true, false, cond, max, List, [], ◌∷◌, Some, None, inl, inr, refl, sym, ◌∙◌, ap, subst, arith, append-nil, eq-eqb, mod-eq_of_lt, slice_get, slice_index}
+use Rattle.papaya_words.specs.Table.{TableWords, new_table}
+use Rattle.papaya_words.specs.declared.probe.ResizeMode.{ResizeMode}
+use Rattle.papaya_words.specs.declared.probe.ResizeMode.TheVariants.{Incremental, Blocking}
+use Rattle.papaya_ask.specs.declared.ask.At.{At}
+use Rattle.papaya_ask.specs.declared.ask.At.TheVariants.{Root, Next, Aborted, Done, Slot}
+use Rattle.papaya_ask.specs.declared.call.Call.{Call}
+use Rattle.papaya_law.specs.Exchange.{Exchange, Open, run, start}
+use Rattle.papaya_rests.specs.Rests.{IsModeOf}
+use Rattle.papaya_rests.specs.Told.{IsOneOf, no_hands, word_of}
+use Rattle.papaya_store.specs.declared.pairs.Running.{Running}
+use Rattle.papaya_timeline.specs.declared.seat.Seat.{Seat}
+use Rattle.papaya_timeline.specs.Begins.{begun, key_of_call}
+use Rattle.papaya_timeline.specs.Callers.{running, with_call, with_seat}
+use Rattle.papaya_timeline.specs.Core.{CoreState}
+use Rattle.papaya_timeline.specs.Kept.{IsKept, IsCall, Tale, is_blocking, setting_of, coding_of, low, begun_tales}
+use Rattle.papaya_store.specs.New.{HasCapacity}
+use Rattle.papaya_store.specs.Store.{StoreState, Stored}
+use Rattle.papaya_store.specs.Tables.{Tables, table_of, word_at, word_in}
+use Rattle.papaya_timeline.proofs.CallersLemmas.{differs, running-other, running-same, running-with_seat}
+use Rattle.papaya_timeline.proofs.CoreLemmas.{cases_same}
+use Rattle.papaya_timeline.proofs.KeptClosures.{begun_answers}
+use Rattle.papaya_timeline.proofs.KeptTables.{word-made}
+
+-- a core's machines resize as its setting does
+mode_of : (mode : ResizeMode) → IsModeOf mode (is_blocking mode)
+mode_of (Incremental chunk) = refl
+mode_of Blocking = refl
+
+-- words without a table
+no_words : (at : At) → 0 ≡ word_at (record { root = 0; tables = [] }) at
+no_words Root = refl
+no_words (Next n) = elim (n == 0) as (λ b. 0 ≡ word_in (λ t. t.next) (cond b None (slice_get {X = TableWords} [] (n - 1)))) [ true ↦ refl | false ↦ refl ]
+no_words (Aborted n) = elim (n == 0) as (λ b. 0 ≡ word_in (λ t. t.aborted) (cond b None (slice_get {X = TableWords} [] (n - 1)))) [ true ↦ refl | false ↦ refl ]
+no_words (Done n) = elim (n == 0) as (λ b. 0 ≡ word_in (λ t. t.done) (cond b None (slice_get {X = TableWords} [] (n - 1)))) [ true ↦ refl | false ↦ refl ]
+no_words (Slot n i) = elim (n == 0) as (λ b. 0 ≡ word_in (λ t. slice_index t.slots i) (cond b None (slice_get {X = TableWords} [] (n - 1)))) [ true ↦ refl | false ↦ refl ]
+
+module _ {K V S A : Type 0} (eq : K → K → Bool) (hash : K → ℕ) where
+  module _ (s : CoreState K V S A) (caller : ℕ) (call : Call K V A) (fits : hash (key_of_call call) < 2 ^ 64) (es : List (Exchange (Stored K V))) (tales : ℕ → Tale K V) (kept : IsKept eq hash s.mode s.store s.callers es tales) where
+    -- the call as it begins, what is told of it, and the callers then
+    abbrev r : Running K V A
+    r = begun hash s.mode s.initial call
+
+    -- what is told of it: nothing was exchanged since
+    abbrev new_tale : Tale K V
+    new_tale = record { begun = es; since = []; hands = no_hands }
+
+    -- the callers then
+    abbrev callers' : List (Seat K V A)
+    callers' = with_call (with_seat s.callers caller) caller (Some r)
+
+    -- the tales then
+    abbrev tales' : ℕ → Tale K V
+    tales' = begun_tales tales caller es
+
+    -- the call rests on the exchanges as they are
+    new_call : IsCall eq hash s.mode s.store r es new_tale
+    new_call = record {
+      key = key_of_call call;
+      own = refl;
+      answers = begun_answers call;
+      split = append-nil es;
+      rests = record { hash = sym (mod-eq_of_lt fits); mode = mode_of s.mode; made = record { keys = λ q l. absurd l; made_is = tt; fill_is = tt; choice_is = tt }; stage = tt };
+      last = λ p l. absurd cc;
+      made = λ p l. absurd l;
+      opens = λ t l. absurd cc;
+      unwritten = λ p l. absurd l;
+    }
+
+    -- its tale is the new one
+    new_is : (d : ℕ) → d ≡ caller → new_tale ≡ tales' d
+    new_is d same = sym (ap (λ b. cond b new_tale (tales d)) (eq-eqb d caller same))
+
+    -- the other callers' tales stay
+    other_is : (d : ℕ) → d ≢ caller → tales d ≡ tales' d
+    other_is d differ = sym (ap (λ b. cond b new_tale (tales d)) (differs d caller differ))
+
+    -- and so do their calls
+    other_runs : (d : ℕ) (q : Running K V A) → d ≢ caller → running callers' d ≡ Some q → running s.callers d ≡ Some q
+    other_runs d q differ runs = sym (running-with_seat s.callers caller d) ∙ sym (running-other (with_seat s.callers caller) caller d (Some r) differ) ∙ runs
+
+    -- each call rests on what is told of it
+    calls : (d : ℕ) (q : Running K V A) → running callers' d ≡ Some q → IsCall eq hash s.mode s.store q es (tales' d)
+    calls d q runs = elim (cases_same d caller) [
+      | inl same ↦
+          let f : Some r ≡ Some q = running-same (with_seat s.callers caller) caller (Some r) q (ap (running callers') (sym same) ∙ runs) in
+          let is : r ≡ q = cc in
+          subst (IsCall eq hash s.mode s.store q es) (new_is d same) (subst (λ y. IsCall eq hash s.mode s.store y es new_tale) is new_call)
+      | inr differ ↦ subst (IsCall eq hash s.mode s.store q es) (other_is d differ) (kept.calls d q (other_runs d q differ runs))
+    ]
+
+    -- no two calls have made one pair
+    apart : (d e : ℕ) (q q' : Running K V A) → running callers' d ≡ Some q → running callers' e ≡ Some q' → d ≢ e → (p p' : Stored K V) → IsOneOf (tales' d).hands.made p → IsOneOf (tales' e).hands.made p' → p.number ≢ p'.number
+    apart d e q q' runs_d runs_e differ p p' made_d made_e = elim (cases_same d caller) [
+      | inl begins ↦ absurd (subst (λ (y : Tale K V). IsOneOf y.hands.made p) (sym (new_is d begins)) made_d)
+      | inr d_not ↦ elim (cases_same e caller) [
+        | inl begins ↦ absurd (subst (λ (y : Tale K V). IsOneOf y.hands.made p') (sym (new_is e begins)) made_e)
+        | inr e_not ↦ kept.apart d e q q' (other_runs d q d_not runs_d) (other_runs e q' e_not runs_e) differ p p' (subst (λ (y : Tale K V). IsOneOf y.hands.made p) (sym (other_is d d_not)) made_d) (subst (λ (y : Tale K V). IsOneOf y.hands.made p') (sym (other_is e e_not)) made_e)
+      ]
+    ]
+
+    -- the core after the begin
+    pub begin_kept : IsKept eq hash s.mode s.store callers' es tales'
+    begin_kept = record { allowed = kept.allowed; coded = kept.coded; single = kept.single; made = kept.made; logged = kept.logged; calls = calls; apart = apart }
+
+module _ {K V S : Type 0} (A : Type 0) (eq : K → K → Bool) (hash : K → ℕ) where
+  module _ (mode : ResizeMode) (store : StoreState K V S) (tales : ℕ → Tale K V) where
+    -- a core with these words, in which nobody called yet
+    abbrev IsFresh : Tables → List (Exchange (Stored K V)) → Type 0
+    IsFresh words es = IsKept {A = A} eq hash mode (record store { words = words }) [] es tales
+
+    -- without a table nothing was exchanged
+    empty_kept : IsFresh (record { root = 0; tables = [] }) []
+    empty_kept = record {
+      allowed = tt;
+      coded = coded;
+      single = λ t. refl;
+      made = λ t some comes. absurd (elim comes [ inl first ↦ (let f : 0 ≡ t = first in omega arith) | inr (u, next) ↦ (let f : 0 ≡ t = next in omega arith) ]);
+      logged = λ t x p l. absurd cc;
+      calls = λ d q l. absurd cc;
+      apart = λ d e q q' l. absurd cc;
+    }
+      where
+        coded : (at : At) → word_of (setting_of {V = V} eq (low hash) mode []) (coding_of (low hash)) start at ≡ word_at (record { root = 0; tables = [] }) at
+        coded Root = refl
+        coded (Next n) = no_words (Next n)
+        coded (Aborted n) = no_words (Aborted n)
+        coded (Done n) = no_words (Done n)
+        coded (Slot n i) = no_words (Slot n i)
+
+    -- with its first table that one was opened
+    opened_kept : (len limit : ℕ) → IsFresh (record { root = 1; tables = new_table 1 len limit ∷ [] }) (Open 1 ∷ [])
+    opened_kept len limit = record {
+      allowed = ((refl, omega arith), tt);
+      coded = coded;
+      single = λ t. refl;
+      made = λ t some comes. elim comes [
+        | inl first ↦ (new_table 1 len limit, subst (λ y. table_of (new_table 1 len limit ∷ []) y ≡ Some (new_table 1 len limit)) first refl)
+        | inr (u, next) ↦ absurd (let f : 0 ≡ t = next in omega arith)
+      ];
+      logged = λ t x p l. absurd cc;
+      calls = λ d q l. absurd cc;
+      apart = λ d e q q' l. absurd cc;
+    }
+      where
+        -- but for the root each word is 0
+        none : (at : At) → (at ≡ Root → ⊥) → 0 ≡ word_at (record { root = 1; tables = new_table 1 len limit ∷ [] }) at
+        none Root other = absurd (other refl)
+        none (Next n) other = no_words (Next n) ∙ sym (word-made (record { root = 0; tables = [] }) 1 len limit (Next n))
+        none (Aborted n) other = no_words (Aborted n) ∙ sym (word-made (record { root = 0; tables = [] }) 1 len limit (Aborted n))
+        none (Done n) other = no_words (Done n) ∙ sym (word-made (record { root = 0; tables = [] }) 1 len limit (Done n))
+        none (Slot n i) other = no_words (Slot n i) ∙ sym (word-made (record { root = 0; tables = [] }) 1 len limit (Slot n i))
+
+        coded : (at : At) → word_of (setting_of {V = V} eq (low hash) mode (new_table 1 len limit ∷ [])) (coding_of (low hash)) (run (Open 1 ∷ []) start) at ≡ word_at (record { root = 1; tables = new_table 1 len limit ∷ [] }) at
+        coded Root = refl
+        coded (Next n) = none (Next n) (λ f. absurd cc)
+        coded (Aborted n) = none (Aborted n) (λ f. absurd cc)
+        coded (Done n) = none (Done n) (λ f. absurd cc)
+        coded (Slot n i) = none (Slot n i) (λ f. absurd cc)
+
+    -- a core as it is made, after no exchange or after its first table was opened
+    pub new_kept : (capacity initial : ℕ) → HasCapacity capacity initial store.words → (es : List (Exchange (Stored K V))) × IsKept {A = A} eq hash mode store [] es tales
+    new_kept zero initial none = ([], subst (λ (w : Tables). IsFresh w []) (sym none) empty_kept)
+    new_kept (suc n) initial (limit, is, opened) = (Open 1 ∷ [], subst (λ (w : Tables). IsFresh w (Open 1 ∷ [])) (sym opened) (opened_kept (max initial 8) limit))

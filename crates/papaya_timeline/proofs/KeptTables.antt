@@ -1,0 +1,190 @@
+-- The words and the sizes of tables after a write, and after a table was made.
+use Rattle.std.proofs.Common.{◌≡◌, ◌≢◌, ℕ, zero, suc, ◌+◌, ◌-◌, ◌==◌, ◌<◌, Bool, true, false, cond, List, [], ◌∷◌, ◌++◌, length, slice_get, slice_set, slice_index, replicate, Some, None, ⊎_elim, refl, sym, ◌∙◌, ap, arith, length-set, lt-ltb}
+use Rattle.papaya_words.specs.Table.{TableWords, new_table}
+use Rattle.papaya_ask.specs.declared.ask.At.{At}
+use Rattle.papaya_ask.specs.declared.ask.At.TheVariants.{Root, Next, Aborted, Done, Slot}
+use Rattle.papaya_store.specs.Tables.{Tables, table_of, word_in, word_at, put, put_in}
+use Rattle.papaya_timeline.proofs.CallersLemmas.{differs, same_item}
+use Rattle.papaya_timeline.proofs.CoreLemmas.{cases_same}
+
+-- an item that was set
+pub get-set_same : {A : Type 0} (xs : List A) (k : ℕ) (x y : A) → slice_get xs k ≡ Some x → slice_get (slice_set xs k y) k ≡ Some y
+get-set_same [] k x y e = let f : None ≡ Some x = e in cc
+get-set_same (a ∷ xs) zero x y e = refl
+get-set_same (a ∷ xs) (suc k) x y e = get-set_same xs k x y e
+
+-- the other items of the list
+pub get-set_other : {A : Type 0} (xs : List A) (k i : ℕ) (y : A) → i ≢ k → slice_get (slice_set xs k y) i ≡ slice_get xs i
+get-set_other [] k i y h = refl
+get-set_other (a ∷ xs) zero zero y h = absurd (h refl)
+get-set_other (a ∷ xs) zero (suc i) y h = refl
+get-set_other (a ∷ xs) (suc k) zero y h = refl
+get-set_other (a ∷ xs) (suc k) (suc i) y h = get-set_other xs k i y (λ e. h (ap suc e))
+
+-- an item of a list, after more was added
+pub get-append : {A : Type 0} (xs more : List A) (i : ℕ) (x : A) → slice_get xs i ≡ Some x → slice_get (xs ++ more) i ≡ Some x
+get-append [] more i x e = let f : None ≡ Some x = e in cc
+get-append (a ∷ xs) more zero x e = e
+get-append (a ∷ xs) more (suc i) x e = get-append xs more i x e
+
+-- the item that was added
+pub get-append_last : {A : Type 0} (xs : List A) (y : A) → slice_get (xs ++ y ∷ []) (length xs) ≡ Some y
+get-append_last [] y = refl
+get-append_last (x ∷ xs) y = get-append_last xs y
+
+-- a word that was set, and the others
+pub index-set_same : (xs : List ℕ) (k y : ℕ) → k < length xs → slice_index (slice_set xs k y) k ≡ y
+index-set_same [] k y lt = absurd (omega arith)
+index-set_same (a ∷ xs) zero y lt = refl
+index-set_same (a ∷ xs) (suc k) y lt = index-set_same xs k y (omega arith)
+
+-- the other words
+pub index-set_other : (xs : List ℕ) (k i y : ℕ) → i ≢ k → slice_index (slice_set xs k y) i ≡ slice_index xs i
+index-set_other [] k i y h = refl
+index-set_other (a ∷ xs) zero zero y h = absurd (h refl)
+index-set_other (a ∷ xs) zero (suc i) y h = refl
+index-set_other (a ∷ xs) (suc k) zero y h = refl
+index-set_other (a ∷ xs) (suc k) (suc i) y h = index-set_other xs k i y (λ e. h (ap suc e))
+
+-- each word of a new table is 0
+pub index-zeros : (n i : ℕ) → slice_index (replicate n 0) i ≡ 0
+index-zeros zero i = refl
+index-zeros (suc n) zero = refl
+index-zeros (suc n) (suc i) = index-zeros n i
+
+-- a table with a number above 0 is that of a place in the list
+pub table_there : (tables : List TableWords) (n : ℕ) (t : TableWords) → table_of tables n ≡ Some t → ((n == 0) ≡ false) × (slice_get tables (n - 1) ≡ Some t)
+table_there tables n t e = go (n == 0) refl
+  where
+    go : (b : Bool) → (n == 0) ≡ b → ((n == 0) ≡ false) × (slice_get tables (n - 1) ≡ Some t)
+    go true z = let f : None ≡ Some t = sym (ap (λ b. cond b None (slice_get tables (n - 1))) z) ∙ e in cc
+    go false z = (z, sym (ap (λ b. cond b None (slice_get tables (n - 1))) z) ∙ e)
+
+-- the table of a number above 0
+pub table_at : (tables : List TableWords) (n : ℕ) → (n == 0) ≡ false → table_of tables n ≡ slice_get tables (n - 1)
+table_at tables n z = ap (λ b. cond b None (slice_get tables (n - 1))) z
+
+-- Each table is still there, as long as it was.
+abbrev pub HasMoreTables : List TableWords → List TableWords → Type 0
+HasMoreTables tables tables' = (n : ℕ) (t : TableWords) → table_of tables n ≡ Some t → (t' : TableWords) × (table_of tables' n ≡ Some t') × (length t'.slots ≡ length t.slots) × (t'.limit ≡ t.limit)
+
+-- tables that stay as they are
+pub grown-same : (tables : List TableWords) → HasMoreTables tables tables
+grown-same tables n t e = (t, e, refl, refl)
+
+-- a write to a slot that is there
+module _ (w : Tables) (n i word : ℕ) (t : TableWords) (there : table_of w.tables n ≡ Some t) (lt : i < length t.slots) where
+  -- the table after it
+  abbrev after_write : TableWords
+  after_write = record t { slots = slice_set t.slots i word }
+
+  -- the tables after it
+  pub put-slot : put w (Slot n i) word ≡ record w { tables = slice_set w.tables (n - 1) after_write }
+  put-slot =
+      let at = table_there w.tables n t there in
+      ap (λ b. cond b w (record w { tables = put_in (Slot n i) (slice_get w.tables (n - 1)) w.tables (n - 1) word })) at.0
+      ∙ ap (λ o. record w { tables = put_in (Slot n i) o w.tables (n - 1) word }) at.1
+      ∙ ap (λ b. record w { tables = slice_set w.tables (n - 1) (cond b after_write t) }) (lt-ltb i (length t.slots) lt)
+
+  -- the table that was written
+  table-here : table_of (put w (Slot n i) word).tables n ≡ Some after_write
+  table-here =
+      let at = table_there w.tables n t there in
+      ap (λ (v : Tables). table_of v.tables n) put-slot
+      ∙ table_at (slice_set w.tables (n - 1) after_write) n at.0
+      ∙ get-set_same w.tables (n - 1) t after_write at.1
+
+  -- the others
+  table-other : (u : ℕ) → u ≢ n → table_of (put w (Slot n i) word).tables u ≡ table_of w.tables u
+  table-other u differ = ap (λ (v : Tables). table_of v.tables u) put-slot ∙ go (u == 0) refl
+    where
+      some : n ≢ 0
+      some z = let f : true ≡ false = sym (eqb-same n z) ∙ (table_there w.tables n t there).0 in cc
+        where
+          eqb-same : (m : ℕ) → m ≡ 0 → (m == 0) ≡ true
+          eqb-same m e = ap (λ y. y == 0) e
+
+      go : (b : Bool) → (u == 0) ≡ b → table_of (slice_set w.tables (n - 1) after_write) u ≡ table_of w.tables u
+      go true z = ap (λ b. cond b None (slice_get (slice_set w.tables (n - 1) after_write) (u - 1))) z ∙ sym (ap (λ b. cond b None (slice_get w.tables (u - 1))) z)
+      go false z = table_at (slice_set w.tables (n - 1) after_write) u z ∙ get-set_other w.tables (n - 1) (u - 1) after_write (λ e. differ (same_number e)) ∙ sym (table_at w.tables u z)
+        where
+          same_number : u - 1 ≡ n - 1 → u ≡ n
+          same_number e =
+              let not_zero : u ≢ 0 = λ y. let f : true ≡ false = sym (ap (λ v. v == 0) y) ∙ z in cc in
+              let a : n ≢ 0 = some in
+              omega arith
+
+  -- each table is as long as it was
+  pub put-grown : HasMoreTables w.tables (put w (Slot n i) word).tables
+  put-grown u v e = ⊎_elim
+      (λ (same : u ≡ n).
+      let f : t ≡ v = same_item t v (sym there ∙ (ap (table_of w.tables) (sym same) ∙ e)) in
+      (after_write, ap (table_of (put w (Slot n i) word).tables) same ∙ table-here, length-set t.slots i word ∙ ap (λ (y : TableWords). length y.slots) f, ap (λ (y : TableWords). y.limit) f))
+      (λ (differ : u ≢ n). (v, table-other u differ ∙ e, refl, refl))
+      (cases_same u n)
+
+  -- the word that was written
+  pub word-here : word_at (put w (Slot n i) word) (Slot n i) ≡ word
+  word-here = ap (word_in (λ v. slice_index v.slots i)) table-here ∙ index-set_same t.slots i word lt
+
+  -- a word that a write to a slot leaves
+  word-left : (read : TableWords → ℕ) → read after_write ≡ read t → (u : ℕ) → word_in read (table_of (put w (Slot n i) word).tables u) ≡ word_in read (table_of w.tables u)
+  word-left read same u = ⊎_elim
+      (λ (e : u ≡ n). ap (λ y. word_in read (table_of (put w (Slot n i) word).tables y)) e ∙ ap (word_in read) table-here ∙ same ∙ sym (ap (word_in read) there) ∙ ap (λ y. word_in read (table_of w.tables y)) (sym e))
+      (λ (differ : u ≢ n). ap (word_in read) (table-other u differ))
+      (cases_same u n)
+
+  -- every other word is as it was
+  pub word-other : (other : At) → (other ≡ Slot n i → ⊥) → word_at (put w (Slot n i) word) other ≡ word_at w other
+  word-other Root differ = ap (λ (v : Tables). v.root) put-slot
+  word-other (Next u) differ = word-left (λ v. v.next) refl u
+  word-other (Aborted u) differ = word-left (λ v. v.aborted) refl u
+  word-other (Done u) differ = word-left (λ v. v.done) refl u
+  word-other (Slot u y) differ = ⊎_elim
+      (λ (e : u ≡ n).
+      ap (λ z. word_in (λ v. slice_index v.slots y) (table_of (put w (Slot n i) word).tables z)) e ∙ ap (word_in (λ v. slice_index v.slots y)) table-here
+      ∙ index-set_other t.slots i y word (λ same. differ (ap (λ z. Slot z y) e ∙ ap (Slot n) same))
+      ∙ sym (ap (word_in (λ v. slice_index v.slots y)) there) ∙ ap (λ z. word_in (λ v. slice_index v.slots y) (table_of w.tables z)) (sym e))
+      (λ (other_table : u ≢ n). ap (word_in (λ v. slice_index v.slots y)) (table-other u other_table))
+      (cases_same u n)
+
+-- what a table that is added says, where it says 0
+word-added : (read : TableWords → ℕ) (tables : List TableWords) (new : TableWords) → read new ≡ 0 → (i : ℕ) → word_in read (slice_get (tables ++ new ∷ []) i) ≡ word_in read (slice_get tables i)
+word-added read [] new none zero = none
+word-added read [] new none (suc i) = refl
+word-added read (t ∷ tables) new none zero = refl
+word-added read (t ∷ tables) new none (suc i) = word-added read tables new none i
+
+module _ (w : Tables) (number slots limit : ℕ) where
+  -- the tables with a new one
+  abbrev added : Tables
+  added = record w { tables = w.tables ++ new_table number slots limit ∷ [] }
+
+  -- a word of which the new table says 0
+  word-grown : (read : TableWords → ℕ) → read (new_table number slots limit) ≡ 0 → (u : ℕ) → word_in read (table_of added.tables u) ≡ word_in read (table_of w.tables u)
+  word-grown read none u = go (u == 0)
+    where
+      go : (b : Bool) → word_in read (cond b None (slice_get added.tables (u - 1))) ≡ word_in read (cond b None (slice_get w.tables (u - 1)))
+      go true = refl
+      go false = word-added read w.tables (new_table number slots limit) none (u - 1)
+
+  -- a table that is made changes no word
+  pub word-made : (at : At) → word_at added at ≡ word_at w at
+  word-made Root = refl
+  word-made (Next u) = word-grown (λ v. v.next) refl u
+  word-made (Aborted u) = word-grown (λ v. v.aborted) refl u
+  word-made (Done u) = word-grown (λ v. v.done) refl u
+  word-made (Slot u y) = word-grown (λ v. slice_index v.slots y) (index-zeros slots y) u
+
+  -- the tables before it stay
+  pub made-grown : HasMoreTables w.tables added.tables
+  made-grown n t e =
+      let at = table_there w.tables n t e in
+      (t, table_at added.tables n at.0 ∙ get-append w.tables (new_table number slots limit ∷ []) (n - 1) t at.1, refl, refl)
+
+  -- and it is there
+  pub made-there : table_of added.tables (length w.tables + 1) ≡ Some (new_table number slots limit)
+  made-there =
+      let some : (length w.tables + 1 == 0) ≡ false = differs (length w.tables + 1) 0 (λ z. absurd (omega arith)) in
+      let last : length w.tables + 1 - 1 ≡ length w.tables = omega arith in
+      table_at added.tables (length w.tables + 1) some ∙ ap (slice_get added.tables) last ∙ get-append_last w.tables (new_table number slots limit)

@@ -1,0 +1,283 @@
+-- What a step's event does to the map, and that it is legal: an exchange changes the class of the call's own key, as the call may, and any other event leaves the map.
+use mathlib.Core.Path.{fun_ext}
+use Rattle.std.proofs.Common.{◌≡◌, ◌⊎◌, inl, inr, ⊎_elim, ℕ, Bool, true, false, cond, Option, None, Some, List, [], ◌∷◌, ◌++◌, refl, sym, ◌∙◌, ap, subst, append-nil}
+use Rattle.papaya_words.specs.Word.{pair_of}
+use Rattle.papaya_words.specs.Table.{TableWords}
+use Rattle.papaya_words.specs.declared.probe.ResizeMode.{ResizeMode}
+use Rattle.papaya_ask.specs.declared.ask.At.{At}
+use Rattle.papaya_ask.specs.declared.ask.At.TheVariants.{Root, Next, Aborted, Done, Slot}
+use Rattle.papaya_ask.specs.declared.ask.Ask.TheVariants.{Exchange as Ask_exchange}
+use Rattle.papaya_ask.specs.declared.ask.Answer.{Answer}
+use Rattle.papaya_ask.specs.declared.ask.StepKind.{StepKind}
+use Rattle.papaya_ask.specs.declared.ask.StepKind.TheVariants as kinds
+use Rattle.papaya_ask.specs.declared.call.Call.{Call}
+use Rattle.papaya_ask.specs.declared.call.Call.TheVariants.{Get, Insert, TryInsert, RemoveIf, Compute}
+use Rattle.papaya_ask.specs.declared.call.Reply.{Reply}
+use Rattle.papaya_ask.specs.declared.call.Reply.TheVariants.{Inserted, Replaced, Removed}
+use Rattle.papaya_ask.specs.declared.call.Task.{Task}
+use Rattle.papaya_ask.specs.declared.call.Task.TheVariants.{Insert as Insert_task, Compute as Compute_task}
+use Rattle.papaya_call.specs.declared.machine.Machine.{Machine}
+use Rattle.papaya_law.specs.Allows.{Allows, AllAllowed}
+use Rattle.papaya_law.specs.Exchange.{Live, Setting, State, Exchange, Open, Claim, Replace, Bury, run, start}
+use Rattle.papaya_law.specs.Code.{Coding, code}
+use Rattle.papaya_law.specs.Meaning.{IsLawful, IsLegal as IsLegal_exchange}
+use Rattle.papaya_call.specs.Machine.{HasClosure, ask_of, kind_of_ask}
+use Rattle.papaya_rests.specs.Rests.{Rests, change_of_reply}
+use Rattle.papaya_rests.specs.Told.{Hands, IsAsked, IsOneOf, IsTold, word_of}
+use Rattle.papaya_law.specs.Code.{IsHashed}
+use Rattle.papaya_law.proofs.Codes.{code_pair}
+use Rattle.papaya_law.proofs.Moments.{allowed_rest}
+use Rattle.papaya_law.proofs.Slots.{same_right}
+use Rattle.papaya_timeline.specs.declared.trace.Turn.{Turn}
+use Rattle.papaya_timeline.specs.declared.trace.Event.{Event}
+use Rattle.papaya_timeline.specs.declared.trace.Event.TheVariants as events
+use Rattle.papaya_timeline.specs.Advances.{event_of, answered_event, kind_event}
+use Rattle.papaya_timeline.specs.Begins.{task_of_call}
+use Rattle.papaya_timeline.specs.Kept.{setting_of, coding_of, low}
+use Rattle.papaya_timeline.specs.Maps.{Map, Does, IsUpdate, Same, key_of}
+use Rattle.papaya_store.specs.Store.{Stored}
+use Rattle.papaya_timeline.specs.Runs.{History}
+use Rattle.papaya_timeline.specs.Timeline.{Answered, open_call, change_of, number_in, IsFresh, IsUnused, MayChange, IsAgreed, FitsShown, IsLegal}
+use Rattle.papaya_timeline.proofs.EventLemmas.{told_cases, IsQuiet, IsExchanged, IsShowing, IsShown}
+use Rattle.papaya_timeline.proofs.Good.{IsValueOf, replay}
+use Rattle.papaya_timeline.proofs.MachineLemmas.{machine_replaces, machine_takes}
+use Rattle.papaya_timeline.proofs.ReplayLemmas.{replay-append, replay-alike, next_legal}
+
+-- only a call that replaces puts a pair in place of another
+abbrev pub MayReplace : {K V : Type 0} → Option (Stored K V) → Task → Type 0
+MayReplace went task = (went ≡ None) ⊎ (task ≡ Insert_task true) ⊎ (task ≡ Compute_task)
+
+-- a pair that comes is one that the call made of its key; where none comes, a pair goes, by a call that has a closure
+abbrev pub MayPut : {K V : Type 0} → K → Task → List (Stored K V) → (went came : Option (Stored K V)) → Type 0
+MayPut k task made went (Some q) = IsOneOf made q × (q.key ≡ k) × MayReplace went task
+MayPut k task made (Some p) None = HasClosure task
+MayPut k task made None None = ⊥
+
+module _ {K V A : Type 0} where
+  -- an insertion puts in a pair of its key and of a value that may be the call's, in place of none or, where it replaces, of another
+  pub insertion_does : (call : Call K V A) (k : K) (went : Option (Stored K V)) (q : Stored K V) → key_of call ≡ k → q.key ≡ k → IsValueOf call q.value → MayReplace went (task_of_call call) → (reply : Reply) × Does call went reply (Some q) × (change_of_reply reply ≡ Some (number_in went, number_in (Some q)))
+  insertion_does (Get j) k went q key own value may = absurd value
+  insertion_does (Insert j v) k None q key own value may = (Inserted q.number, (q, record { number = refl; key = own ∙ sym key; value = sym value }, refl), refl)
+  insertion_does (Insert j v) k (Some p) q key own value may = (Replaced p.number q.number, (refl, (q, record { number = refl; key = own ∙ sym key; value = sym value }, refl)), refl)
+  insertion_does (TryInsert j v) k None q key own value may = (Inserted q.number, (q, record { number = refl; key = own ∙ sym key; value = sym value }, refl), refl)
+  insertion_does (TryInsert j v) k (Some p) q key own value (inl none) = let f : Some p ≡ None = none in cc
+  insertion_does (TryInsert j v) k (Some p) q key own value (inr (inl replaces)) = let f : Insert_task false ≡ Insert_task true = replaces in cc
+  insertion_does (TryInsert j v) k (Some p) q key own value (inr (inr computes)) = let f : Insert_task false ≡ Compute_task = computes in cc
+  insertion_does (RemoveIf j a) k went q key own value may = absurd value
+  insertion_does (Compute j a) k None q key own value may = (Inserted q.number, (q, (q.value, record { number = refl; key = own ∙ sym key; value = refl }), refl), refl)
+  insertion_does (Compute j a) k (Some p) q key own value may = (Replaced p.number q.number, (refl, (q, (q.value, record { number = refl; key = own ∙ sym key; value = refl }), refl)), refl)
+
+  -- a call that has a closure takes out a pair
+  pub removal_does : (call : Call K V A) (p : Stored K V) → HasClosure (task_of_call call) → (reply : Reply) × Does call (Some p) reply None × (change_of_reply reply ≡ Some (number_in (Some p), None))
+  removal_does (Get j) p removes = absurd removes
+  removal_does (Insert j v) p removes = absurd removes
+  removal_does (TryInsert j v) p removes = absurd removes
+  removal_does (RemoveIf j a) p removes = (Removed p.number, (refl, refl), refl)
+  removal_does (Compute j a) p removes = (Removed p.number, (refl, refl), refl)
+
+module _ {K V : Type 0} where
+  -- a map with another pair for the class of a key
+  abbrev pub with_class : (K → K → Bool) → Map K V → K → Option (Stored K V) → Map K V
+  with_class eq m l came j = cond (eq j l) came (m j)
+
+  -- is updated there
+  put_update : (eq : K → K → Bool) (m : Map K V) (k l : K) (went came : Option (Stored K V)) → l ≡ k → m k ≡ went → IsUpdate eq k went came m (with_class eq m l came)
+  put_update eq m k l went came same before = record {
+    before = before;
+    class = λ j e. ap (λ b. cond b came (m j)) (ap (eq j) same ∙ e);
+    others = λ j e. ap (λ b. cond b came (m j)) (ap (eq j) same ∙ e);
+  }
+
+  -- two updates with one outcome
+  update_by : (eq : K → K → Bool) (k : K) (went came : Option (Stored K V)) (m m' m'' : Map K V) → m'' ≡ m' → IsUpdate eq k went came m m' → IsUpdate eq k went came m m''
+  update_by eq k went came m m' m'' e u = subst (λ y. IsUpdate eq k went came m y) (sym e) u
+
+  -- The class of the call's key has another pair, as such a call may bring about, and no other class has.
+  pub record IsMoved (eq : K → K → Bool) (k : K) (task : Task) (made : List (Stored K V)) (m m' : Map K V) (old new : Option ℕ) : Type 0 where
+    pub went : Option (Stored K V)
+    pub came : Option (Stored K V)
+    pub update : IsUpdate eq k went came m m'
+    pub went_is : number_in went ≡ old
+    pub came_is : number_in came ≡ new
+    pub may : MayPut k task made went came
+
+  -- a change moves the map so, and no other event moves it
+  abbrev pub Moves : (eq : K → K → Bool) → K → Task → List (Stored K V) → Map K V → Map K V → Event → Type 0
+  Moves eq k task made m m' (events.Changed kind old new) = IsMoved eq k task made m m' old new
+  Moves eq k task made m m' events.Begun = Same m m'
+  Moves eq k task made m m' (events.Moved kind) = Same m m'
+  Moves eq k task made m m' (events.Asked n agrees) = Same m m'
+  Moves eq k task made m m' (events.Shown shown kind) = Same m m'
+  Moves eq k task made m m' events.Other = Same m m'
+  Moves eq k task made m m' (events.Replied reply) = Same m m'
+
+module _ {K V : Type 0} (eq : K → K → Bool) (hash : K → ℕ) (mode mode' : ResizeMode) (tables tables' : List TableWords) where
+  -- the law's settings before a step and after it
+  abbrev g : Setting K (Stored K V)
+  g = setting_of eq (low hash) mode tables
+
+  abbrev g' : Setting K (Stored K V)
+  g' = setting_of eq (low hash) mode' tables'
+
+  abbrev c : Coding K (Stored K V)
+  c = coding_of (low hash)
+
+  module _ (hashed : IsHashed g c) (lawful' : IsLawful g') (begun since : List (Exchange (Stored K V))) (k : K) (m : Machine) (hands : Hands (Stored K V)) (rests : Rests g c begun since k m hands) where
+    -- the exchanges so far
+    abbrev es : List (Exchange (Stored K V))
+    es = begun ++ since
+
+    abbrev now : State (Stored K V)
+    now = run es start
+
+    -- what the machine buries is a pair of its key
+    abbrev pub BuriesOwn : Type 0
+    BuriesOwn = (t x old new : ℕ) (p : Stored K V) → kind_of_ask m ≡ Some kinds.Bury → ask_of m ≡ Ask_exchange (Slot t x) old new → now.slot t x ≡ Live p → pair_of old ≡ p.number → eq p.key k ≡ true
+
+    abbrev Moves_by : Event → List (Exchange (Stored K V)) → Type 0
+    Moves_by event made = Moves eq k m.task hands.made (replay eq es) (replay eq (es ++ made)) event
+
+    -- the word that stood there named the pair
+    stood_number : (t x old : ℕ) (p : Stored K V) → word_of g c now (Slot t x) ≡ old → now.slot t x ≡ Live p → pair_of old ≡ p.number
+    stood_number t x old p stood live =
+        sym (ap pair_of stood) ∙ ap (λ w. pair_of (code g c w)) live ∙ (code_pair g c hashed.coding (Live p) p refl).0
+
+    -- maps with another pair for the classes of equal keys are one
+    classes_alike : (j l : K) (came : Option (Stored K V)) → eq j l ≡ true → with_class eq (replay eq es) j came ≡ with_class eq (replay eq es) l came
+    classes_alike j l came alike = fun_ext (λ i. ap (λ b. cond b came (replay eq es i)) (same_right g' lawful' i j l alike))
+
+    -- a pair was put into the class of the call's key
+    put_moves : (old new : Option ℕ) (e : Exchange (Stored K V)) (went : Option (Stored K V)) (q : Stored K V) → replay eq (es ++ e ∷ []) ≡ with_class eq (replay eq es) q.key (Some q) → IsOneOf hands.made q → replay eq es k ≡ went → MayReplace went m.task → number_in went ≡ old → Some q.number ≡ new → IsMoved eq k m.task hands.made (replay eq es) (replay eq (es ++ e ∷ [])) old new
+    put_moves old new e went q is made before replaces went_is came_is =
+        let own : q.key ≡ k = rests.made.keys q made in
+        record {
+          went = went;
+          came = Some q;
+          update = update_by eq k went (Some q) (replay eq es) (with_class eq (replay eq es) q.key (Some q)) (replay eq (es ++ e ∷ [])) is
+              (put_update eq (replay eq es) k q.key went (Some q) own before);
+          went_is = went_is;
+          came_is = came_is;
+          may = (made, own, replaces);
+        }
+
+    -- a pair was taken out of it
+    take_moves : (old new : ℕ) (e : Exchange (Stored K V)) (p : Stored K V) → replay eq (es ++ e ∷ []) ≡ with_class eq (replay eq es) p.key None → eq p.key k ≡ true → HasClosure m.task → replay eq es p.key ≡ Some p → pair_of old ≡ p.number → IsMoved eq k m.task hands.made (replay eq es) (replay eq (es ++ e ∷ [])) (Some (pair_of old)) None
+    take_moves old new e p is alike closure here number = record {
+      went = Some p;
+      came = None;
+      update = update_by eq k (Some p) None (replay eq es) (with_class eq (replay eq es) k None) (replay eq (es ++ e ∷ [])) (is ∙ classes_alike p.key k None alike)
+          (put_update eq (replay eq es) k k (Some p) None refl (sym (replay-alike eq (low hash) mode' tables' lawful' es p.key k alike) ∙ here));
+      went_is = ap Some (sym number);
+      came_is = refl;
+      may = closure;
+    }
+
+    module _ (buries_own : BuriesOwn) where
+      -- an exchange that was made moves the map by its kind
+      exchange_moves : (kind : Option StepKind) (at : At) (old new : ℕ) (e : Exchange (Stored K V)) → kind_of_ask m ≡ kind → ask_of m ≡ Ask_exchange at old new → IsAsked c kind at new now hands e → word_of g c now at ≡ old → IsLegal_exchange g' (replay eq es) e → Allows g' now e → Moves_by (kind_event kind old new) (e ∷ [])
+      exchange_moves None at old new e kind_is ask_is asked stood legal allows = absurd asked
+      exchange_moves (Some kinds.Open) Root old new e kind_is ask_is asked stood legal allows = λ j. ap (λ fs. replay eq (es ++ fs) j) (ap (λ y. y ∷ []) asked) ∙ ap (λ n. n j) (replay-append eq es (Open new ∷ []))
+      exchange_moves (Some kinds.Claim) (Slot t x) old new e kind_is ask_is (q, own, is) stood legal allows =
+          let none : replay eq es q.key ≡ None = subst (λ y. IsLegal_exchange g' (replay eq es) y) is legal in
+          put_moves None (Some (pair_of new)) e None q (ap (λ y. replay eq (es ++ y ∷ [])) is ∙ replay-append eq es (Claim t x q ∷ [])) own.made
+          (ap (replay eq es) (sym (rests.made.keys q own.made)) ∙ none) (inl refl) refl (ap Some own.named)
+      exchange_moves (Some kinds.Replace) (Slot t x) old new e kind_is ask_is (p, q, live, own, is) stood legal allows =
+          let here : replay eq es p.key ≡ Some p = subst (λ y. IsLegal_exchange g' (replay eq es) y) is legal in
+          let alike : eq p.key q.key ≡ true = (subst (λ y. Allows g' now y) is allows).same in
+          let key : q.key ≡ k = rests.made.keys q own.made in
+          let before : replay eq es k ≡ Some p = ap (replay eq es) (sym key) ∙ sym (replay-alike eq (low hash) mode' tables' lawful' es p.key q.key alike) ∙ here in
+          put_moves (Some (pair_of old)) (Some (pair_of new)) e (Some p) q (ap (λ y. replay eq (es ++ y ∷ [])) is ∙ replay-append eq es (Replace t x p q ∷ []) ∙ classes_alike p.key q.key (Some q) alike) own.made
+          before (inr (machine_replaces g c begun since k m hands rests kind_is)) (ap Some (sym (stood_number t x old p stood live))) (ap Some own.named)
+      exchange_moves (Some kinds.Bury) (Slot t x) old new e kind_is ask_is (p, live, is) stood legal allows =
+          let number : pair_of old ≡ p.number = stood_number t x old p stood live in
+          let here : replay eq es p.key ≡ Some p = subst (λ y. IsLegal_exchange g' (replay eq es) y) is legal in
+          take_moves old new e p (ap (λ y. replay eq (es ++ y ∷ [])) is ∙ replay-append eq es (Bury t x p ∷ [])) (buries_own t x old new p kind_is ask_is live number)
+          (machine_takes g c begun since k hashed.coding m hands rests kind_is (Slot t x) old new ask_is).removes here number
+      exchange_moves (Some kinds.Open) (Next t) old new e kind_is ask_is asked stood legal allows = absurd asked
+      exchange_moves (Some kinds.Open) (Aborted t) old new e kind_is ask_is asked stood legal allows = absurd asked
+      exchange_moves (Some kinds.Open) (Done t) old new e kind_is ask_is asked stood legal allows = absurd asked
+      exchange_moves (Some kinds.Open) (Slot t x) old new e kind_is ask_is asked stood legal allows = absurd asked
+      exchange_moves (Some kinds.Claim) Root old new e kind_is ask_is asked stood legal allows = absurd asked
+      exchange_moves (Some kinds.Claim) (Next t) old new e kind_is ask_is asked stood legal allows = absurd asked
+      exchange_moves (Some kinds.Claim) (Aborted t) old new e kind_is ask_is asked stood legal allows = absurd asked
+      exchange_moves (Some kinds.Claim) (Done t) old new e kind_is ask_is asked stood legal allows = absurd asked
+      exchange_moves (Some kinds.Replace) Root old new e kind_is ask_is asked stood legal allows = absurd asked
+      exchange_moves (Some kinds.Replace) (Next t) old new e kind_is ask_is asked stood legal allows = absurd asked
+      exchange_moves (Some kinds.Replace) (Aborted t) old new e kind_is ask_is asked stood legal allows = absurd asked
+      exchange_moves (Some kinds.Replace) (Done t) old new e kind_is ask_is asked stood legal allows = absurd asked
+      exchange_moves (Some kinds.Bury) Root old new e kind_is ask_is asked stood legal allows = absurd asked
+      exchange_moves (Some kinds.Bury) (Next t) old new e kind_is ask_is asked stood legal allows = absurd asked
+      exchange_moves (Some kinds.Bury) (Aborted t) old new e kind_is ask_is asked stood legal allows = absurd asked
+      exchange_moves (Some kinds.Bury) (Done t) old new e kind_is ask_is asked stood legal allows = absurd asked
+      exchange_moves (Some kinds.Link) at old new e kind_is ask_is asked stood legal allows = absurd asked
+      exchange_moves (Some kinds.Mark) at old new e kind_is ask_is asked stood legal allows = absurd asked
+      exchange_moves (Some kinds.Close) at old new e kind_is ask_is asked stood legal allows = absurd asked
+      exchange_moves (Some kinds.Place) at old new e kind_is ask_is asked stood legal allows = absurd asked
+      exchange_moves (Some kinds.Finish) at old new e kind_is ask_is asked stood legal allows = absurd asked
+      exchange_moves (Some kinds.Advance) at old new e kind_is ask_is asked stood legal allows = absurd asked
+      exchange_moves (Some kinds.Promote) at old new e kind_is ask_is asked stood legal allows = absurd asked
+      exchange_moves (Some kinds.Abort) at old new e kind_is ask_is asked stood legal allows = absurd asked
+
+      -- the event of a step moves the map so
+      pub step_moves : (answer : Answer) (made : List (Exchange (Stored K V))) (hands' : Hands (Stored K V)) → IsTold g c k now (kind_of_ask m) hands (ask_of m) answer made hands' → AllAllowed g' start (es ++ made) → Moves_by (event_of (kind_of_ask m) (ask_of m) answer) made
+      step_moves answer made hands' told may' = ⊎_elim quiet (λ z. ⊎_elim exchanged (λ y. ⊎_elim asked shown y) z) (told_cases g c k now (kind_of_ask m) hands (ask_of m) answer made hands' told)
+        where
+          unchanged : made ≡ [] → Same (replay eq es) (replay eq (es ++ made))
+          unchanged none j = ap (λ fs. replay eq (es ++ fs) j) none ∙ ap (λ fs. replay eq fs j) (append-nil es)
+
+          quiet : IsQuiet (kind_of_ask m) (ask_of m) answer made → Moves_by (event_of (kind_of_ask m) (ask_of m) answer) made
+          quiet (none, other) = subst (λ y. Moves_by y made) (sym other) (unchanged none)
+
+          asked : IsShowing (kind_of_ask m) (ask_of m) answer made → Moves_by (event_of (kind_of_ask m) (ask_of m) answer) made
+          asked (n, agrees, ask_is, answer_is, none, is) = subst (λ y. Moves_by y made) (sym is) (unchanged none)
+
+          shown : IsShown (kind_of_ask m) (ask_of m) answer made → Moves_by (event_of (kind_of_ask m) (ask_of m) answer) made
+          shown (n, op, ask_is, answer_is, none, is) = subst (λ y. Moves_by y made) (sym is) (unchanged none)
+
+          exchanged : IsExchanged g c now (kind_of_ask m) hands (ask_of m) answer made → Moves_by (event_of (kind_of_ask m) (ask_of m) answer) made
+          exchanged x =
+              let is : event_of (kind_of_ask m) (ask_of m) answer ≡ kind_event (kind_of_ask m) x.old x.new = ap (λ y. event_of (kind_of_ask m) y answer) x.ask_is ∙ ap (answered_event (kind_of_ask m) x.old x.new) x.answer_is in
+              let allowed : AllAllowed g' start (es ++ x.by ∷ []) = subst (λ fs. AllAllowed g' start (es ++ fs)) x.made may' in
+              subst (λ y. Moves_by y made) (sym is) (subst (λ fs. Moves_by (kind_event (kind_of_ask m) x.old x.new) fs) (sym x.made)
+              (exchange_moves (kind_of_ask m) x.at x.old x.new x.by refl x.ask_is x.asked x.stood (next_legal eq (low hash) mode' tables' lawful' es x.by allowed) (allowed_rest g' es (x.by ∷ []) start allowed).0))
+
+module _ {K V A : Type 0} (eq : K → K → Bool) (k : K) (task : Task) (made : List (Stored K V)) (m : Map K V) (schedule : List (Turn K V A)) (caller : ℕ) (h : History) (maps : List (Map K V)) (said : Answered V) where
+  -- a call that made a pair may put it in, and one that has a closure may take one out; its closure has agreed
+  abbrev pub MayMove : Option ℕ → Option ℕ → Type 0
+  MayMove old new =
+      (went came : Option (Stored K V)) → number_in went ≡ old → number_in came ≡ new → MayPut k task made went came
+      → MayChange eq (open_call schedule caller h) (change_of caller h) k went came × IsAgreed (open_call schedule caller h) caller old came h said
+
+  -- what a legal event needs beside what it does to the map
+  abbrev pub MayTell : Event → Type 0
+  MayTell (events.Changed kind old new) = ((q : Stored K V) → IsOneOf made q → IsUnused q.number (m ∷ maps)) × MayMove old new
+  MayTell events.Begun = Unit {0}
+  MayTell (events.Moved kind) = Unit {0}
+  MayTell (events.Asked n agrees) = FitsShown eq (open_call schedule caller h) (Some n) caller h (m ∷ maps)
+  MayTell (events.Shown shown kind) = FitsShown eq (open_call schedule caller h) shown caller h (m ∷ maps)
+  MayTell events.Other = Unit {0}
+  MayTell (events.Replied reply) = ⊥
+
+  -- with that it is legal
+  pub moved_legal : (m' : Map K V) (event : Event) → Moves eq k task made m m' event → MayTell event → IsLegal eq event schedule caller h m maps m' said
+  moved_legal m' events.Begun moved may = moved
+  moved_legal m' (events.Changed kind old new) moved (unused, may) = record {
+    key = k;
+    went = moved.went;
+    came = moved.came;
+    update = moved.update;
+    went_is = moved.went_is;
+    came_is = moved.came_is;
+    fresh = fresh moved.went moved.came moved.may;
+    may = (may moved.went moved.came moved.went_is moved.came_is moved.may).0;
+    agreed = (may moved.went moved.came moved.went_is moved.came_is moved.may).1;
+  }
+    where
+      fresh : (went came : Option (Stored K V)) → MayPut k task made went came → IsFresh came (m ∷ maps)
+      fresh went None put = tt
+      fresh went (Some q) (is_made, own, replaces) = unused q is_made
+  moved_legal m' (events.Moved kind) moved may = moved
+  moved_legal m' (events.Asked n agrees) moved may = (moved, may)
+  moved_legal m' (events.Shown shown kind) moved may = (moved, may)
+  moved_legal m' events.Other moved may = moved
+  moved_legal m' (events.Replied reply) moved may = absurd may

@@ -1,0 +1,309 @@
+-- The run of one call that is made alone: what it leaves of the core, and its history.
+use Rattle.std.proofs.Common.{◌≡◌, ◌⊎◌, inl, inr, ℕ, zero, suc, ◌≤◌, ◌<◌, ◌+ℤ◌, Bool, true, false, Option, None, Some, List, [], ◌∷◌, ◌++◌, length, slice_get, refl, sym, ◌∙◌, ap, subst, arith}
+use Rattle.std.specs.Int.{w64, int_wrap}
+use Rattle.papaya_call.specs.Answers.{Says}
+use Rattle.papaya_ask.specs.declared.ask.Ask.TheVariants.{Done as Ask_done}
+use Rattle.papaya_ask.specs.declared.call.Call.{Call}
+use Rattle.papaya_ask.specs.declared.call.Reply.{Reply}
+use Rattle.papaya_ask.specs.declared.call.Reply.TheVariants.{Absent, Found, Inserted, Replaced, Occupied, Removed, Kept, Aborted, Refused}
+use Rattle.papaya_ask.specs.declared.call.Task.{Task}
+use Rattle.papaya_ask.specs.declared.call.Task.TheVariants.{Insert, Compute}
+use Rattle.papaya_law.specs.Exchange.{Exchange, Setting}
+use Rattle.papaya_call.specs.Machine.{after, ask_of, kind_of_ask}
+use Rattle.papaya_rests.specs.Rests.{IsOwnPair, IsReply}
+use Rattle.papaya_rests.specs.Told.{Hands, IsOneOf}
+use Rattle.papaya_timeline.specs.declared.seat.Seat.{Seat}
+use Rattle.papaya_store.specs.declared.pairs.Pair.{Pair}
+use Rattle.papaya_store.specs.declared.pairs.Running.{Running}
+use Rattle.papaya_timeline.specs.declared.trace.Entry.{Entry}
+use Rattle.papaya_timeline.specs.declared.trace.Event.{Event}
+use Rattle.papaya_timeline.specs.declared.trace.Event.TheVariants.{Begun, Changed, Moved, Asked, Shown, Other, Replied}
+use Rattle.papaya_timeline.specs.declared.trace.Turn.TheVariants.{Begin, Finish}
+use Rattle.papaya_timeline.specs.Advances.{Advances, event_of}
+use Rattle.papaya_timeline.specs.Begins.{Begins, begun}
+use Rattle.papaya_timeline.specs.Callers.{running, with_call, with_seat}
+use Rattle.papaya_timeline.specs.Core.{CoreState, IsCore}
+use Rattle.papaya_timeline.specs.Counted.{IsCounted, owed_in}
+use Rattle.papaya_timeline.specs.Kept.{IsKept, IsLawfulCore, Tale, begun_tales, coding_of, low, setting_of, told_tales}
+use Rattle.papaya_timeline.specs.Runs.{BeginRuns, History, StepRuns, StepsRun, TurnRuns, with_event, with_step}
+use Rattle.papaya_timeline.specs.Solo.{IsNewIn, RunsAlone, whatever}
+use Rattle.papaya_store.specs.Store.{KeepsPairs, StoreState, Stored, pair_of, stored_at, stored_in}
+use Rattle.papaya_timeline.specs.Timeline.{begins, open_after}
+use Rattle.papaya_timeline.proofs.CallersLemmas.{same_item}
+use Rattle.papaya_timeline.proofs.CoreLemmas.{reply_asked}
+use Rattle.papaya_timeline.proofs.CountedLemmas.{counted_begin, counted_step}
+use Rattle.papaya_timeline.proofs.EventLemmas.{event_begins, event_open}
+use Rattle.papaya_timeline.proofs.HeadlineLemmas.{advance-core, begin-core}
+use Rattle.papaya_timeline.proofs.KeptCore.{performs-hasher}
+use Rattle.papaya_timeline.proofs.KeptLemmas.{IsLawfulKeys, IsStep, kept_begin, kept_step}
+use Rattle.papaya_timeline.proofs.KeptLogs.{pair_below}
+use Rattle.papaya_timeline.proofs.MachineLemmas.{machine_replies}
+use Rattle.papaya_timeline.proofs.SoloTimeline.{AreOfSteps, IsOfStep, open_history}
+
+-- an event that begins no call and ends none is of a step
+of_step : (event : Event) → begins event ≡ false → open_after {A = ℕ} event None (Some 0) ≡ Some 0 → IsOfStep event
+of_step Begun no_begin stays = cc
+of_step (Changed kind old new) no_begin stays = tt
+of_step (Moved kind) no_begin stays = tt
+of_step (Asked n agrees) no_begin stays = tt
+of_step (Shown n kind) no_begin stays = tt
+of_step Other no_begin stays = tt
+of_step (Replied reply) no_begin stays = cc
+
+-- a pair that is logged has the number that it is logged under
+number_stored : {K V : Type 0} (n : ℕ) (v : V) (o : Option K) (p : Stored K V) → stored_at n v o ≡ Some p → p.number ≡ n
+number_stored n v None p e = let f : None ≡ Some p = e in cc
+number_stored {K} {V} n v (Some k) p e = let same : record { number = n; key = k; value = v } ≡ p = same_item _ p e in sym (ap (λ (q : Stored K V). q.number) same)
+
+-- and so has one that was read from the log
+number_in_log : {K V : Type 0} (keys : List K) (n : ℕ) (o : Option (Pair V)) (p : Stored K V) → stored_in keys n o ≡ Some p → p.number ≡ n
+number_in_log keys n None p e = let f : None ≡ Some p = e in cc
+number_in_log keys n (Some pair) p e = number_stored n pair.value (slice_get keys pair.key) p e
+
+module _ {K V S : Type 0} where
+  -- so it is in a store
+  number_logged : (store : StoreState K V S) (n : ℕ) (p : Stored K V) → pair_of store n ≡ Some p → p.number ≡ n
+  number_logged store n p e = number_in_log store.keys n (slice_get store.pairs n) p e
+
+  -- under a number past the end of the log there is nothing
+  past_log : (store : StoreState K V S) (n : ℕ) → length store.pairs ≤ n → pair_of store n ≡ None
+  past_log store n past = by_pair (pair_of store n) refl
+    where
+      by_pair : (o : Option (Stored K V)) → pair_of store n ≡ o → pair_of store n ≡ None
+      by_pair None e = e
+      by_pair (Some p) e = let lt : n < length store.pairs = pair_below store n p e in absurd (omega arith)
+
+-- the one seat, with this call
+abbrev pub one_seat : {K V A : Type 0} → Option (Running K V A) → List (Seat K V A)
+one_seat call = record { caller = 0; call = call } ∷ []
+
+module _ {K V S A : Type 0} (eq : K → K → Bool) (hash : S → K → ℕ) (s : CoreState K V S A) (law : IsLawfulKeys eq (hash s.store.hasher)) (says : Says K V A) where
+  -- A core that came of the core s by the steps of one call: it is in order, and its logs have grown.
+  pub record Follows (s' : CoreState K V S A) : Type 0 where
+    pub es : List (Exchange (Stored K V))
+    pub tales : ℕ → Tale K V
+    pub core : IsCore s'.store s'.callers s'.mode
+    pub kept : IsKept eq (hash s.store.hasher) s'.mode s'.store s'.callers es tales
+    pub counted : IsCounted s.store s.callers → IsCounted s'.store s'.callers
+    pub hasher_is : s'.store.hasher ≡ s.store.hasher
+    pub mode_is : s'.mode ≡ s.mode
+    pub initial_is : s'.initial ≡ s.initial
+    pub keeps : KeepsPairs s.store s'.store
+    pub longer : length s.store.pairs ≤ length s'.store.pairs
+    -- the pairs that the call made were not logged at the begin
+    pub new : (q : Stored K V) → IsOneOf (tales 0).hands.made q → length s.store.pairs ≤ q.number
+
+  -- after the begin
+  follows_begin : (call : Call K V A) (s' : CoreState K V S A) → s.callers ≡ [] → IsCore s.store s.callers s.mode → (es : List (Exchange (Stored K V))) (tales : ℕ → Tale K V) → IsKept eq (hash s.store.hasher) s.mode s.store s.callers es tales → Begins (hash s.store.hasher) s 0 call s' → Follows s'
+  follows_begin call s' idle core es tales kept x = record {
+    es = es;
+    tales = begun_tales tales 0 es;
+    core = begin-core (hash s.store.hasher) s 0 call s' x core;
+    kept = kept_begin eq (hash s.store.hasher) law s 0 call s' x x.fits es tales kept;
+    counted = counted_begin (hash s.store.hasher) s 0 call s' x (ap (λ (l : List (Seat K V A)). running l 0) idle);
+    hasher_is = ap (λ (y : StoreState K V S). y.hasher) x.store;
+    mode_is = x.mode;
+    initial_is = x.initial;
+    keeps = λ n p e. ap (λ (y : StoreState K V S). pair_of y n) x.store ∙ e;
+    longer = let same : length s'.store.pairs ≡ length s.store.pairs = ap (λ (y : StoreState K V S). length y.pairs) x.store in omega arith;
+    new = λ q one. elim one [ ];
+  }
+
+  -- the step that is told of a core
+  abbrev step_of : (now s' : CoreState K V S A) (event : Event) (reply : Option Reply) (f : Follows now) (x : Advances eq says false now 0 s' event reply) → IsStep eq (hash s.store.hasher) law false now 0 s' event reply x f.es f.tales
+  step_of now s' event reply f x = kept_step eq (hash s.store.hasher) law false now 0 s' event reply x f.es f.tales f.core f.kept
+
+  -- a pair that the call has made after a step
+  new_after : (now s' : CoreState K V S A) (event : Event) (reply : Option Reply) (f : Follows now) (x : Advances eq says false now 0 s' event reply) → (q : Stored K V) → IsOneOf (step_of now s' event reply f x).hands.made q → length s.store.pairs ≤ q.number
+  new_after now s' event reply f x q made = elim ((step_of now s' event reply f x).new q made) [
+    | inl old ↦ f.new q old
+    | inr (number, value, there) ↦ let more = f.longer in omega arith
+  ]
+
+  -- after a step
+  follows_step : (now s' : CoreState K V S A) (event : Event) (reply : Option Reply) → Follows now → Advances eq says false now 0 s' event reply → Follows s'
+  follows_step now s' event reply f x =
+      let step = step_of now s' event reply f x in
+      let core' = advance-core eq says false now 0 s' event reply x f.core in
+      record {
+        es = f.es ++ step.made;
+        tales = told_tales f.tales 0 step.made step.hands;
+        core = core';
+        kept = step.kept;
+        counted = λ was. counted_step eq (hash s.store.hasher) law false now 0 s' event reply x f.es f.tales f.core core' f.kept (f.counted was);
+        hasher_is = performs-hasher eq says false (ask_of x.before.machine) now.store x.before x.answer s'.store x.later x.performs ∙ f.hasher_is;
+        mode_is = x.mode ∙ f.mode_is;
+        initial_is = x.initial ∙ f.initial_is;
+        keeps = λ n p e. let there = f.keeps n p e in
+            let number = number_logged now.store n p there in
+            subst (λ m. pair_of s'.store m ≡ Some p) number (step.logged p (subst (λ m. pair_of now.store m ≡ Some p) (sym number) there));
+        longer = let more = f.longer in let further = step.longer in omega arith;
+        new = new_after now s' event reply f x;
+      }
+
+  -- the pair that a call replies that it made was not logged at the begin
+  owned : (g : Setting K (Stored K V)) (first since : List (Exchange (Stored K V))) (k : K) (hands : Hands (Stored K V)) (n : ℕ) → ((q : Stored K V) → IsOneOf hands.made q → length s.store.pairs ≤ q.number) → IsOwnPair g (coding_of (low (hash s.store.hasher))) first since k hands n → pair_of s.store n ≡ None
+  owned g first since k hands n new (q, made, number) = past_log s.store n (let most = new q made in let same : q.number ≡ n = number in omega arith)
+
+  -- whatever it replies
+  unlogged_by : (g : Setting K (Stored K V)) (first since : List (Exchange (Stored K V))) (k : K) (hands : Hands (Stored K V)) (task : Task) (reply : Reply) → ((q : Stored K V) → IsOneOf hands.made q → length s.store.pairs ≤ q.number) → IsReply g (coding_of (low (hash s.store.hasher))) first since k hands task reply → IsNewIn s.store reply
+  unlogged_by g first since k hands (Insert replace) (Inserted n) new own = owned g first since k hands n new own
+  unlogged_by g first since k hands (Insert true) (Replaced o n) new own = owned g first since k hands n new own
+  unlogged_by g first since k hands Compute (Inserted n) new own = owned g first since k hands n new own
+  unlogged_by g first since k hands Compute (Replaced o n) new own = owned g first since k hands n new own
+  unlogged_by g first since k hands task Absent new own = tt
+  unlogged_by g first since k hands task (Found n) new own = tt
+  unlogged_by g first since k hands task (Occupied n) new own = tt
+  unlogged_by g first since k hands task (Removed n) new own = tt
+  unlogged_by g first since k hands task (Kept n) new own = tt
+  unlogged_by g first since k hands task (Aborted t) new own = tt
+  unlogged_by g first since k hands task (Refused refused) new own = tt
+  unlogged_by g first since k hands _ _ new own = absurd own
+
+  -- so it is after the step that replies
+  unlogged_after : (now s' : CoreState K V S A) (event : Event) (reply : Reply) (f : Follows now) → Advances eq says false now 0 s' event (Some reply) → IsNewIn s.store reply
+  unlogged_after now s' event reply f x =
+      let step = step_of now s' event (Some reply) f x in
+      let m = after x.before.machine x.answer in
+      let g = setting_of eq (low (hash s.store.hasher)) s'.mode s'.store.words.tables in
+      let tale = told_tales f.tales 0 step.made step.hands 0 in
+      let done : ask_of m ≡ Ask_done reply = reply_asked (ask_of m) reply (sym x.reply_is) in
+      unlogged_by g tale.begun tale.since step.own.key tale.hands m.task reply (new_after now s' event (Some reply) f x)
+      (machine_replies g (coding_of (low (hash s.store.hasher))) tale.begun tale.since step.own.key m tale.hands step.own.rests reply done).0
+
+  -- the call is open, and no other caller has a seat
+  pub record IsSole (s' : CoreState K V S A) (h : History) : Type 0 where
+    pub follows : Follows s'
+    pub call : Running K V A
+    pub callers : s'.callers ≡ one_seat (Some call)
+    pub events : List Event
+    pub of_steps : AreOfSteps events
+    pub history : h ≡ open_history events
+
+  -- the call has replied
+  pub record IsOver (s' : CoreState K V S A) (h : History) (reply : Reply) : Type 0 where
+    pub follows : Follows s'
+    pub callers : s'.callers ≡ one_seat None
+    pub events : List Event
+    pub of_steps : AreOfSteps events
+    pub history : h ≡ with_event 1 0 (Replied reply) (open_history events)
+    pub unlogged : IsNewIn s.store reply
+
+  -- what the event of a step is
+  event_of_step : (now s' : CoreState K V S A) (event : Event) (reply : Option Reply) → Advances eq says false now 0 s' event reply → IsOfStep event
+  event_of_step now s' event reply x =
+      let kind = kind_of_ask x.before.machine in
+      let ask = ask_of x.before.machine in
+      subst IsOfStep (sym x.event_is) (of_step (event_of kind ask x.answer) (event_begins kind ask x.answer) (event_open None (Some 0) kind ask x.answer))
+
+  -- after the begin the call is open
+  begin_runs : (call : Call K V A) (s' : CoreState K V S A) (h : History) → s.callers ≡ [] → IsCore s.store s.callers s.mode → (es : List (Exchange (Stored K V))) (tales : ℕ → Tale K V) → IsKept eq (hash s.store.hasher) s.mode s.store s.callers es tales → BeginRuns eq says hash 0 0 call s [] s' h → IsSole s' h
+  begin_runs call s' h idle core es tales kept (inl (none, x, told)) = record {
+    follows = follows_begin call s' idle core es tales kept x;
+    call = begun (hash s.store.hasher) s.mode s.initial call;
+    callers = x.callers ∙ ap (λ (l : List (Seat K V A)). with_call (with_seat l 0) 0 (Some (begun (hash s.store.hasher) s.mode s.initial call))) idle;
+    events = [];
+    of_steps = tt;
+    history = told;
+  }
+  begin_runs call s' h idle core es tales kept (inr (r, busy, passed)) = let f : None ≡ Some r = sym (ap (λ (l : List (Seat K V A)). running l 0) idle) ∙ busy in absurd cc
+
+  -- the call is open, or it has replied
+  abbrev Goes : CoreState K V S A → History → Type 0
+  Goes s' h = IsSole s' h ⊎ ((reply : Reply) × IsOver s' h reply)
+
+  -- a step of the open call
+  sole_steps : (now s' : CoreState K V S A) (h h' : History) (event : Event) (reply : Option Reply) → IsSole now h → Advances eq says false now 0 s' event reply → h' ≡ with_step 1 0 event reply h → Goes s' h'
+  sole_steps now s' h h' event None sole x told = inl (record {
+    follows = follows_step now s' event None sole.follows x;
+    call = record x.later { machine = after x.before.machine x.answer };
+    callers = x.callers ∙ ap (λ (l : List (Seat K V A)). with_call l 0 (Some (record x.later { machine = after x.before.machine x.answer }))) sole.callers;
+    events = event ∷ sole.events;
+    of_steps = (event_of_step now s' event None x, sole.of_steps);
+    history = told ∙ ap (with_event 1 0 event) sole.history;
+  })
+  sole_steps now s' h h' event (Some reply) sole x told = inr (
+    reply,
+    record {
+      follows = follows_step now s' event (Some reply) sole.follows x;
+      callers = x.callers ∙ ap (λ (l : List (Seat K V A)). with_call l 0 None) sole.callers;
+      events = event ∷ sole.events;
+      of_steps = (event_of_step now s' event (Some reply) x, sole.of_steps);
+      history = told ∙ ap (λ l. with_event 1 0 (Replied reply) (with_event 1 0 event l)) sole.history;
+      unlogged = unlogged_after now s' event reply sole.follows x;
+    },
+  )
+
+  -- a step, or one that is passed over
+  step_runs : (now s' : CoreState K V S A) (h h' : History) → Goes now h → StepRuns eq says hash 1 0 false now h s' h' → Goes s' h'
+  step_runs now s' h h' (inl sole) (inl (event, reply, x, told)) = sole_steps now s' h h' event reply sole x told
+  step_runs now s' h h' (inr (r, over)) (inl (event, reply, x, told)) =
+      let f : None ≡ Some x.before = sym (ap (λ (l : List (Seat K V A)). running l 0) over.callers) ∙ x.was in absurd cc
+  step_runs now s' h h' goes (inr (idle, (same, as_before))) = subst (λ y. Goes y h') (sym same) (subst (Goes now) (sym as_before) goes)
+
+  -- so many steps
+  steps_run : (steps : ℕ) (now s' : CoreState K V S A) (h h' : History) → Goes now h → StepsRun eq says hash 1 0 steps now h s' h' → Goes s' h'
+  steps_run zero now s' h h' goes (same, as_before) = subst (λ y. Goes y h') (sym same) (subst (Goes now) (sym as_before) goes)
+  steps_run (suc steps) now s' h h' goes (middle, so_far, runs, last) = step_runs middle s' so_far h' (steps_run steps now middle h so_far goes runs) last
+
+-- the newest event of the history of an open call is no reply
+open_newest : (events : List Event) → AreOfSteps events → (last : Entry) (before : History) → last ∷ before ≡ open_history events → (reply : Reply) → last.event ≡ Replied reply → ⊥
+open_newest [] are last before e reply replied =
+    let same : last ≡ record { turn = 0; caller = 0; event = Begun } = cc in
+    let f : Replied reply ≡ Begun = sym replied ∙ ap (λ (y : Entry). y.event) same in cc
+open_newest (event ∷ events) are last before e reply replied =
+    let same : last ≡ record { turn = 1; caller = 0; event = event } = cc in
+    subst IsOfStep (ap (λ (y : Entry). y.event) (sym same) ∙ replied) are.0
+
+module _ {K V S A : Type 0} (eq : K → K → Bool) (hash : S → K → ℕ) (s : CoreState K V S A) (law : IsLawfulKeys eq (hash s.store.hasher)) where
+  -- a history that ends with this reply
+  over_with : {says : Says K V A} (s' : CoreState K V S A) (last : Entry) (before : History) (reply : Reply) → last.event ≡ Replied reply → Goes eq hash s law says s' (last ∷ before) → IsOver eq hash s law says s' (last ∷ before) reply
+  over_with {says} s' last before reply replied (inl sole) = absurd (open_newest sole.events sole.of_steps last before sole.history reply replied)
+  over_with {says} s' last before reply replied (inr (r, over)) =
+      let same : last ≡ record { turn = 1; caller = 0; event = Replied r } = newest last before over.events r over.history in
+      let is : Replied r ≡ Replied reply = ap (λ (y : Entry). y.event) (sym same) ∙ replied in
+      let is_reply : r ≡ reply = cc in
+      subst (IsOver eq hash s law says s' (last ∷ before)) is_reply over
+    where
+      newest : (last : Entry) (before : History) (events : List Event) (r : Reply) → last ∷ before ≡ with_event 1 0 (Replied r) (open_history events) → last ≡ record { turn = 1; caller = 0; event = Replied r }
+      newest last before events r e = cc
+
+  -- the call that was made alone is over, and this is its reply
+  pub runs_over : (call : Call K V A) (reply : Reply) (s' : CoreState K V S A) → IsLawfulCore eq (hash s.store.hasher) s.store s.callers s.mode → (x : RunsAlone eq hash s call reply s') → IsOver eq hash s law whatever s' (x.last ∷ x.before) reply
+  runs_over call reply s' lawful x =
+      let (es, (tales, kept)) = lawful.law in
+      let (what, middle, so_far, there, (what0, start, none, there0, (same, empty), first), second) = x.runs in
+      let begins : BeginRuns eq whatever hash 0 0 call s [] middle so_far =
+      subst (λ y. BeginRuns eq whatever hash 0 0 call y [] middle so_far) same
+      (subst (λ y. BeginRuns eq whatever hash 0 0 call start y middle so_far) empty
+      (subst (λ y. TurnRuns eq whatever hash 0 y start none middle so_far) (sym (same_item (Begin 0 call) what0 there0)) first)) in
+      let steps : StepsRun eq whatever hash 1 0 x.steps middle so_far s' (x.last ∷ x.before) = subst (λ y. TurnRuns eq whatever hash 1 y middle so_far s' (x.last ∷ x.before)) (sym (same_item (Finish 0 x.steps) what there)) second in
+      over_with s' x.last x.before reply x.replied
+      (steps_run eq hash s law whatever x.steps middle s' so_far (x.last ∷ x.before) (inl (begin_runs eq hash s law whatever call middle so_far x.idle lawful.core es tales kept begins)) steps)
+
+  -- the idle seat may be forgotten: the core is in order without it
+  pub over_core : (s' : CoreState K V S A) (h : History) (reply : Reply) {says : Says K V A} → IsOver eq hash s law says s' h reply → IsLawfulCore {A = A} eq (hash s'.store.hasher) s'.store [] s'.mode
+  over_core s' h reply over =
+      let f = over.follows in
+      record {
+        core = record { chunked = f.core.chunked; sizes = f.core.sizes; standing = λ caller r e. let n : None ≡ Some r = e in absurd cc; going = λ caller r e. let n : None ≡ Some r = e in absurd cc };
+        law = subst (λ y. (es : _) × ((tales : _) × IsKept {A = A} eq (hash y) s'.mode s'.store [] es tales)) (sym f.hasher_is) (
+          f.es,
+          (
+            f.tales,
+            record {
+              allowed = f.kept.allowed;
+              coded = f.kept.coded;
+              single = f.kept.single;
+              made = f.kept.made;
+              logged = f.kept.logged;
+              calls = λ caller r e. let n : None ≡ Some r = e in absurd cc;
+              apart = λ c d r q e. let n : None ≡ Some r = e in absurd cc;
+            },
+          ),
+        );
+      }
+
+  -- and its count is right without it
+  pub over_counted : (s' : CoreState K V S A) (h : History) (reply : Reply) {says : Says K V A} → IsOver eq hash s law says s' h reply → IsCounted s.store s.callers → IsCounted {A = A} s'.store []
+  over_counted s' h reply over counted = sym (ap (λ (l : List (Seat K V A)). int_wrap w64 (s'.store.count.sum +ℤ owed_in l)) over.callers) ∙ over.follows.counted counted

@@ -1,0 +1,167 @@
+-- The sizes of tables, over a step of a store.
+use Rattle.std.proofs.Common.{◌≡◌, ℕ, zero, suc, ◌-◌, ◌==◌, ◌<◌, ◌^◌, Bool, true, false, cond, nat_lt, List, [], ◌∷◌, ◌++◌, length, slice_get, slice_set, Option, Some, None, ◌⊎◌, ⊎_elim, inl, inr, refl, sym, ◌∙◌, ap, subst, arith, length-set, MatchBool}
+use Rattle.std.proofs.lemmas.List.{length-replicate}
+use Rattle.papaya_timeline.proofs.CallersLemmas.{differs}
+use Rattle.papaya_timeline.proofs.ShowLemmas.{IsShowing, none_shown, pair_shown}
+use Rattle.papaya_words.specs.Table.{TableWords, new_table}
+use Rattle.papaya_call.specs.Answers.{Says}
+use Rattle.papaya_ask.specs.declared.ask.At.{At}
+use Rattle.papaya_ask.specs.declared.ask.At.TheVariants.{Root, Next, Aborted, Done, Slot}
+use Rattle.papaya_ask.specs.declared.ask.Ask.{Ask}
+use Rattle.papaya_ask.specs.declared.ask.Ask.TheVariants.{Load, Exchange, SameKey, ShowNone, ShowPair, SizeOf, MakeKey, MakePair, MakeTable, AddToShard, Done as Ask_done}
+use Rattle.papaya_ask.specs.declared.ask.Answer.{Answer}
+use Rattle.papaya_ask.specs.Search.{IsSize}
+use Rattle.papaya_call.specs.Machine.{IsFit, IsFitAsk}
+use Rattle.papaya_store.specs.declared.pairs.Running.{Running}
+use Rattle.papaya_words.specs.declared.limits.TheConstants.{MAX_TABLES, MAX_LOG_LEN}
+use Rattle.papaya_store.specs.Tables.{Tables, table_of, word_at, written, put, put_at, put_in}
+use Rattle.papaya_store.specs.Store.{StoreState}
+use Rattle.papaya_store.specs.Performs.{Performs, Refuses, Stays, LogsKey, LogsPair, MakesTable, HasKey, HasNoPair, size_of}
+
+-- what a test of two facts chose
+pub matched : (R : Type 0) (b : Bool) (P Q : Type 0) → MatchBool b P Q → (b ≡ true → P → R) → (b ≡ false → Q → R) → R
+matched R true P Q h f g = f refl h
+matched R false P Q h f g = g refl h
+
+-- each table of a list has the size of a table
+abbrev pub AllSized : List TableWords → Type 0
+AllSized tables = (i : ℕ) (t : TableWords) → slice_get tables i ≡ Some t → IsSize (length t.slots) t.limit
+
+-- the tables that have numbers are those of the list
+pub numbered : (tables : List TableWords) → AllSized tables → (n : ℕ) (t : TableWords) → table_of tables n ≡ Some t → IsSize (length t.slots) t.limit
+numbered tables all n t e = go (n == 0) refl
+  where
+    go : (b : Bool) → (n == 0) ≡ b → IsSize (length t.slots) t.limit
+    go true z = let f : None ≡ Some t = sym (ap (λ b. cond b None (slice_get tables (n - 1))) z) ∙ e in cc
+    go false z = all (n - 1) t (sym (ap (λ b. cond b None (slice_get tables (n - 1))) z) ∙ e)
+
+pub unnumbered : (tables : List TableWords) → ((n : ℕ) (t : TableWords) → table_of tables n ≡ Some t → IsSize (length t.slots) t.limit) → AllSized tables
+unnumbered tables all i t e =
+    let h : suc i - 1 ≡ i = omega arith in
+    let nonzero : (suc i == 0) ≡ false = differs (suc i) 0 (λ z. absurd (omega arith)) in
+    let there : table_of tables (suc i) ≡ slice_get tables i = ap (λ b. cond b None (slice_get tables (suc i - 1))) nonzero ∙ ap (λ j. slice_get tables j) h in
+    all (suc i) t (there ∙ e)
+
+-- a write keeps a table's size
+written-size : (at : At) (t : TableWords) (word : ℕ) → IsSize (length t.slots) t.limit → IsSize (length (written at t word).slots) (written at t word).limit
+written-size Root t word h = h
+written-size (Next n) t word h = h
+written-size (Aborted n) t word h = h
+written-size (Done n) t word h = h
+written-size (Slot n i) t word h = go (nat_lt i (length t.slots))
+  where
+    go : (b : Bool) → IsSize (length (cond b (record t { slots = slice_set t.slots i word }) t).slots) (cond b (record t { slots = slice_set t.slots i word }) t).limit
+    go true = subst (λ l. IsSize l t.limit) (sym (length-set t.slots i word)) h
+    go false = h
+
+-- an item of a list after one was set
+pub set-cases : {A : Type 0} (xs : List A) (k : ℕ) (y : A) (i : ℕ) (x : A) → slice_get (slice_set xs k y) i ≡ Some x → (slice_get xs i ≡ Some x) ⊎ (x ≡ y)
+set-cases [] k y i x e = inl e
+set-cases (a ∷ xs) zero y zero x e = let f : Some y ≡ Some x = e in inr cc
+set-cases (a ∷ xs) zero y (suc i) x e = inl e
+set-cases (a ∷ xs) (suc k) y zero x e = inl e
+set-cases (a ∷ xs) (suc k) y (suc i) x e = set-cases xs k y i x e
+
+-- an item of a list that was made longer by one
+pub append-cases : {A : Type 0} (xs : List A) (y : A) (i : ℕ) (x : A) → slice_get (xs ++ y ∷ []) i ≡ Some x → (slice_get xs i ≡ Some x) ⊎ (x ≡ y)
+append-cases [] y zero x h = let e : Some y ≡ Some x = h in inr cc
+append-cases [] y (suc i) x h = let e : None ≡ Some x = h in cc
+append-cases (a ∷ xs) y zero x h = inl h
+append-cases (a ∷ xs) y (suc i) x h = append-cases xs y i x h
+
+put_in-sized : (at : At) (o : Option TableWords) (tables : List TableWords) (k word : ℕ) → o ≡ slice_get tables k → AllSized tables → AllSized (put_in at o tables k word)
+put_in-sized at None tables k word is all i t e = all i t e
+put_in-sized at (Some u) tables k word is all i t e =
+    ⊎_elim
+    (λ same. all i t same)
+    (λ (new : t ≡ written at u word). subst (λ v. IsSize (length v.slots) v.limit) (sym new) (written-size at u word (all k u (sym is))))
+    (set-cases tables k (written at u word) i t e)
+
+put_at-sized : (at : At) (n : ℕ) (w : Tables) (word : ℕ) → AllSized w.tables → AllSized (put_at at n w word).tables
+put_at-sized at n w word all = go (n == 0)
+  where
+    go : (b : Bool) → AllSized (cond b w (record w { tables = put_in at (slice_get w.tables (n - 1)) w.tables (n - 1) word })).tables
+    go true = all
+    go false = put_in-sized at (slice_get w.tables (n - 1)) w.tables (n - 1) word refl all
+
+pub put-sized : (w : Tables) (at : At) (word : ℕ) → AllSized w.tables → AllSized (put w at word).tables
+put-sized w Root word all = all
+put-sized w (Next n) word all = put_at-sized (Next n) n w word all
+put-sized w (Aborted n) word all = put_at-sized (Aborted n) n w word all
+put-sized w (Done n) word all = put_at-sized (Done n) n w word all
+put-sized w (Slot n i) word all = put_at-sized (Slot n i) n w word all
+
+pub append-sized : (tables : List TableWords) (n slots limit : ℕ) → IsSize slots limit → AllSized tables → AllSized (tables ++ new_table n slots limit ∷ [])
+append-sized tables n slots limit size all i t e =
+    ⊎_elim
+    (λ same. all i t same)
+    (λ (new : t ≡ new_table n slots limit). subst (λ v. IsSize (length v.slots) v.limit) (sym new) (subst (λ l. IsSize l limit) (sym (length-replicate slots 0)) size))
+    (append-cases tables (new_table n slots limit) i t e)
+
+said : (a b : Answer) → a ≡ b → IsFit b → IsFit a
+said a b e fit = subst IsFit (sym e) fit
+
+module _ {K V S : Type 0} where
+  -- an answer is within the limits of tables and numbers, and the tables keep sizes of tables
+  pub record IsKept (a : Answer) (s' : StoreState K V S) : Type 0 where
+    pub fit : IsFit a
+    pub sized : AllSized s'.words.tables
+
+  quiet : (a : Answer) (s s' : StoreState K V S) → IsFit a → s' ≡ s → AllSized s.words.tables → IsKept a s'
+  quiet a s s' fit same all = record { fit = fit; sized = subst (λ (y : StoreState K V S). AllSized y.words.tables) (sym same) all }
+
+  -- what a closure says is within the limits
+  said_fit : {A : Type 0} (s : StoreState K V S) (r : Running K V A) (a : Answer) (s' : StoreState K V S) (r' : Running K V A) → IsShowing s r a s' r' → AllSized s.words.tables → IsKept a s'
+  said_fit s r a s' r' shown all = quiet a s s' (elim shown.says [ inl agrees ↦ said a _ agrees.1 tt | inr others ↦ elim others [ inl op ↦ said a _ op.1 tt | inr none ↦ said a _ none tt ] ]) shown.store all
+
+  refused : (most count : ℕ) (a : Answer) (s s' : StoreState K V S) → Refuses most count a → s' ≡ s → AllSized s.words.tables → IsKept a s'
+  refused most count a s s' (inl e) same all = quiet a s s' (said a _ e tt) same all
+  refused most count a s s' (inr (e, full)) same all = quiet a s s' (said a _ e tt) same all
+
+module _ {K V S A : Type 0} (eq : K → K → Bool) (says : Says K V A) where
+  -- what an answered ask leaves
+  pub performed : (refuse : Bool) (ask : Ask) (s : StoreState K V S) (r : Running K V A) (a : Answer) (s' : StoreState K V S) (r' : Running K V A) → AllSized s.words.tables → IsFitAsk ask → Performs eq says refuse ask s r a s' r' → IsKept a s'
+  performed refuse (Load at) s r a s' r' all fit (e, stays) = quiet a s s' (said a _ e tt) stays.0 all
+  performed refuse (Exchange at old new) s r a s' r' all fit (ex, _) =
+      matched (IsKept a s') (word_at s.words at == old) _ _ ex
+      (λ _ done. record { fit = said a _ done.0 tt; sized = subst (λ (y : StoreState K V S). AllSized y.words.tables) (sym done.1) (put-sized s.words at new all) })
+      (λ _ lost. quiet a s s' (said a _ lost.0 tt) lost.1 all)
+  performed refuse (SameKey n) s r a s' r' all fit (e, stays) = quiet a s s' (said a _ e tt) stays.0 all
+  performed refuse ShowNone s r a s' r' all fit h = said_fit s r a s' r' (none_shown says s r a s' r' h) all
+  performed refuse (ShowPair n) s r a s' r' all fit h = said_fit s r a s' r' (pair_shown says r.machine.task n s r a s' r' h) all
+  performed refuse (SizeOf n) s r a s' r' all fit (e, stays) = quiet a s s' (sized_answer (table_of s.words.tables n) refl) stays.0 all
+    where
+      sized_answer : (o : Option TableWords) → table_of s.words.tables n ≡ o → IsFit a
+      sized_answer None is = said a _ (e ∙ ap size_of is) tt
+      sized_answer (Some t) is = said a _ (e ∙ ap size_of is) (numbered s.words.tables all n t is)
+  performed refuse MakeKey s r a s' r' all fit h =
+      matched (IsKept a s') refuse _ _ h
+      (λ _ none. quiet a s s' (said a _ none.0 tt) none.1.0 all)
+      (λ _ makes. key_made s r a s' r' all makes)
+    where
+      key_made : (s : StoreState K V S) (r : Running K V A) (a : Answer) (s' : StoreState K V S) (r' : Running K V A) → AllSized s.words.tables → (Refuses MAX_LOG_LEN (length s.keys) a × Stays s r s' r') ⊎ (HasKey a r × Stays s r s' r') ⊎ LogsKey a s r s' r' → IsKept a s'
+      key_made s r a s' r' all (inl (f, stays)) = refused _ _ a s s' f stays.0 all
+      key_made s r a s' r' all (inr (inl (has, stays))) = quiet a s s' (said a _ has.0 tt) stays.0 all
+      key_made s r a s' r' all (inr (inr (k, own, e, few, same, _))) = record { fit = said a _ e few; sized = subst (λ (y : StoreState K V S). AllSized y.words.tables) (sym same) all }
+  performed refuse MakePair s r a s' r' all fit h =
+      matched (IsKept a s') refuse _ _ h
+      (λ _ none. quiet a s s' (said a _ none.0 tt) none.1.0 all)
+      (λ _ makes. pair_made s r a s' r' all makes)
+    where
+      pair_made : (s : StoreState K V S) (r : Running K V A) (a : Answer) (s' : StoreState K V S) (r' : Running K V A) → AllSized s.words.tables → (Refuses MAX_LOG_LEN (length s.pairs) a × Stays s r s' r') ⊎ (HasNoPair a r × Stays s r s' r') ⊎ LogsPair a s r s' r' → IsKept a s'
+      pair_made s r a s' r' all (inl (f, stays)) = refused _ _ a s s' f stays.0 all
+      pair_made s r a s' r' all (inr (inl (has, stays))) = quiet a s s' (said a _ has.0 tt) stays.0 all
+      pair_made s r a s' r' all (inr (inr (n, v, key, value, e, few, same, _))) = record { fit = said a _ e few; sized = subst (λ (y : StoreState K V S). AllSized y.words.tables) (sym same) all }
+  performed refuse (MakeTable slots limit) s r a s' r' all fit h =
+      matched (IsKept a s') refuse _ _ h
+      (λ _ none. quiet a s s' (said a _ none.0 tt) none.1.0 all)
+      (λ _ makes. table_made s a s' all fit makes.0)
+    where
+      table_made : (s : StoreState K V S) (a : Answer) (s' : StoreState K V S) → AllSized s.words.tables → IsSize slots limit → (Refuses MAX_TABLES (length s.words.tables) a × (s' ≡ s)) ⊎ MakesTable a slots limit s s' → IsKept a s'
+      table_made s a s' all size (inl (f, same)) = refused _ _ a s s' f same all
+      table_made s a s' all size (inr (e, few, same)) = record {
+        fit = said a _ e (let most : length s.words.tables < 2 ^ 32 = few in omega arith);
+        sized = subst (λ (y : StoreState K V S). AllSized y.words.tables) (sym same) (append-sized s.words.tables _ slots limit size all);
+      }
+  performed refuse (AddToShard by) s r a s' r' all fit (e, (number, same), _) = record { fit = said a _ e tt; sized = subst (λ (y : StoreState K V S). AllSized y.words.tables) (sym same) all }
+  performed refuse (Ask_done reply) s r a s' r' all fit (e, stays) = quiet a s s' (said a _ e tt) stays.0 all

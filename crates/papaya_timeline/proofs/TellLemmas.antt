@@ -1,0 +1,326 @@
+-- What a step's event tells of its ask and the answer, what a closure answered in it, and which value is at hand after it.
+use Rattle.std.proofs.Common.{◌≡◌, ◌⊎◌, inl, inr, ⊎_elim, ℕ, Bool, true, false, Option, None, Some, List, ◌∷◌, length, refl, sym, ◌∙◌, ap, subst}
+use Rattle.papaya_words.specs.declared.limits.TheConstants.{MAX_LOG_LEN}
+use Rattle.papaya_call.specs.Answers.{Says, op_kind}
+use Rattle.papaya_call.specs.declared.answers.Operation.{Operation}
+use Rattle.papaya_ask.specs.declared.ask.At.{At}
+use Rattle.papaya_ask.specs.declared.ask.Ask.{Ask}
+use Rattle.papaya_ask.specs.declared.ask.Ask.TheVariants.{Load, Exchange as Ask_exchange, SameKey, ShowNone, ShowPair, SizeOf, MakeKey, MakePair, MakeTable, AddToShard, Done as Ask_done}
+use Rattle.papaya_ask.specs.declared.ask.Answer.{Answer}
+use Rattle.papaya_ask.specs.declared.ask.Answer.TheVariants.{Word as Word_read, Exchanged, Found as Found_instead, Yes, Op, Size, Made as Made_number, Ok as Ok_done, Refused as Was_refused}
+use Rattle.papaya_ask.specs.declared.ask.OpKind.{OpKind}
+use Rattle.papaya_ask.specs.declared.ask.StepKind.{StepKind}
+use Rattle.papaya_ask.specs.declared.ask.StepKind.TheVariants as kinds
+use Rattle.papaya_ask.specs.declared.call.Task.{Task}
+use Rattle.papaya_ask.specs.declared.call.Task.TheVariants as tasks
+use Rattle.papaya_law.specs.Code.{Coding}
+use Rattle.papaya_law.specs.Exchange.{Exchange, Setting, State}
+use Rattle.papaya_rests.specs.Says.{show}
+use Rattle.papaya_rests.specs.Told.{Hands, IsTold}
+use Rattle.papaya_store.specs.declared.pairs.Running.{Running}
+use Rattle.papaya_timeline.specs.declared.trace.Event.{Event}
+use Rattle.papaya_timeline.specs.declared.trace.Event.TheVariants as events
+use Rattle.papaya_timeline.specs.Advances.{event_of, answered_event, kind_event, shown_event}
+use Rattle.papaya_timeline.specs.Given.{GivesIn, IsEntryOf, asks_closure}
+use Rattle.papaya_store.specs.Performs.{Performs, Decides, HasKey, HasNoPair, LogsKey, LogsPair, Refuses, ShowsNothing, ShowsPair, Stays, value_answered}
+use Rattle.papaya_store.specs.Store.{StoreState, Stored, pair_of}
+use Rattle.papaya_timeline.specs.Timeline.{IsAnsweredIn}
+use Rattle.papaya_timeline.proofs.CallersLemmas.{same_item}
+use Rattle.papaya_timeline.proofs.EventLemmas.{event_shown}
+use Rattle.papaya_timeline.proofs.StoreLemmas.{matched}
+
+-- what an event tells: a change was asked for, and a closure was shown something and answered; no step begins a call or is a reply
+abbrev pub Tells : Event → Ask → Answer → Type 0
+Tells (events.Changed kind old new) ask answer = (at : At) × (from : ℕ) × (to : ℕ) × (ask ≡ Ask_exchange at from to)
+Tells (events.Asked n agrees) ask answer = (ask ≡ ShowPair n) × (answer ≡ Yes agrees)
+Tells (events.Shown shown kind) ask answer = (ask ≡ show shown) × (answer ≡ Op kind)
+Tells (events.Moved kind) ask answer = Unit {0}
+Tells events.Other ask answer = Unit {0}
+Tells events.Begun ask answer = ⊥
+Tells (events.Replied reply) ask answer = ⊥
+
+pub event_tells : (kind : Option StepKind) (ask : Ask) (answer : Answer) → Tells (event_of kind ask answer) ask answer
+event_tells kind (Load at) answer = tt
+event_tells kind (Ask_exchange at old new) answer = by_answer answer
+  where
+    by_kind : (kind : Option StepKind) → Tells (kind_event kind old new) (Ask_exchange at old new) Exchanged
+    by_kind None = tt
+    by_kind (Some kinds.Open) = tt
+    by_kind (Some kinds.Claim) = (at, old, new, refl)
+    by_kind (Some kinds.Replace) = (at, old, new, refl)
+    by_kind (Some kinds.Bury) = (at, old, new, refl)
+    by_kind (Some kinds.Link) = tt
+    by_kind (Some kinds.Mark) = tt
+    by_kind (Some kinds.Close) = tt
+    by_kind (Some kinds.Place) = tt
+    by_kind (Some kinds.Finish) = tt
+    by_kind (Some kinds.Advance) = tt
+    by_kind (Some kinds.Promote) = tt
+    by_kind (Some kinds.Abort) = tt
+
+    by_answer : (answer : Answer) → Tells (answered_event kind old new answer) (Ask_exchange at old new) answer
+    by_answer Exchanged = by_kind kind
+    by_answer (Word_read word) = tt
+    by_answer (Found_instead word) = tt
+    by_answer (Yes same) = tt
+    by_answer (Op op) = tt
+    by_answer (Size slots limit) = tt
+    by_answer (Made_number n) = tt
+    by_answer Ok_done = tt
+    by_answer (Was_refused refused) = tt
+event_tells kind (SameKey n) answer = tt
+event_tells kind ShowNone answer = by_answer answer
+  where
+    by_answer : (answer : Answer) → Tells (shown_event None answer) ShowNone answer
+    by_answer (Op op) = (refl, refl)
+    by_answer (Yes agrees) = tt
+    by_answer Exchanged = tt
+    by_answer (Word_read word) = tt
+    by_answer (Found_instead word) = tt
+    by_answer (Size slots limit) = tt
+    by_answer (Made_number m) = tt
+    by_answer Ok_done = tt
+    by_answer (Was_refused refused) = tt
+event_tells kind (ShowPair n) answer = by_answer answer
+  where
+    by_answer : (answer : Answer) → Tells (shown_event (Some n) answer) (ShowPair n) answer
+    by_answer (Op op) = (refl, refl)
+    by_answer (Yes agrees) = (refl, refl)
+    by_answer Exchanged = tt
+    by_answer (Word_read word) = tt
+    by_answer (Found_instead word) = tt
+    by_answer (Size slots limit) = tt
+    by_answer (Made_number m) = tt
+    by_answer Ok_done = tt
+    by_answer (Was_refused refused) = tt
+event_tells kind (SizeOf n) answer = tt
+event_tells kind MakeKey answer = tt
+event_tells kind MakePair answer = tt
+event_tells kind (MakeTable slots limit) answer = tt
+event_tells kind (AddToShard by) answer = tt
+event_tells kind (Ask_done reply) answer = tt
+
+-- is a closure shown something?
+abbrev is_showing : Ask → Bool
+is_showing ShowNone = true
+is_showing (ShowPair n) = true
+is_showing (Load at) = false
+is_showing (Ask_exchange at old new) = false
+is_showing (SameKey n) = false
+is_showing (SizeOf n) = false
+is_showing MakeKey = false
+is_showing MakePair = false
+is_showing (MakeTable slots limit) = false
+is_showing (AddToShard by) = false
+is_showing (Ask_done reply) = false
+
+is_show : (shown : Option ℕ) → is_showing (show shown) ≡ true
+is_show None = refl
+is_show (Some n) = refl
+
+-- an event that is no showing has no operation
+unanswered : (V : Type 0) (e : Event) → ((shown : Option ℕ) (kind : OpKind) → e ≡ events.Shown shown kind → ⊥) → IsAnsweredIn {V = V} e None
+unanswered V events.Begun none = refl
+unanswered V (events.Changed kind old new) none = refl
+unanswered V (events.Moved kind) none = refl
+unanswered V (events.Asked n agrees) none = refl
+unanswered V (events.Shown shown kind) none = absurd (none shown kind refl)
+unanswered V events.Other none = refl
+unanswered V (events.Replied reply) none = refl
+
+-- an event at which a closure is asked tells that it was shown something, and what it answered
+asked : (e : Event) (ask : Ask) (answer : Answer) → Tells e ask answer → asks_closure e ≡ true → (is_showing ask ≡ true) × (((agrees : Bool) × (answer ≡ Yes agrees)) ⊎ ((op : OpKind) × (answer ≡ Op op)))
+asked events.Begun ask answer told asks = absurd told
+asked (events.Changed kind old new) ask answer told asks = absurd cc
+asked (events.Moved kind) ask answer told asks = absurd cc
+asked (events.Asked n agrees) ask answer told asks = (ap is_showing told.0, inl (agrees, told.1))
+asked (events.Shown shown kind) ask answer told asks = (ap is_showing told.0 ∙ is_show shown, inr (kind, told.1))
+asked events.Other ask answer told asks = absurd cc
+asked (events.Replied reply) ask answer told asks = absurd told
+
+-- what a closure answered in a step, if it was shown something, and what is at hand and left of its answers after it
+pub record IsAnswering {K V S A : Type 0} (says : Says K V A) (store : StoreState K V S) (r r' : Running K V A) (event : Event) : Type 0 where
+  pub answered : Option (Operation V ℕ)
+  pub fits : IsAnsweredIn event answered
+  pub value : (op : Operation V ℕ) → answered ≡ Some op → r'.value ≡ value_answered op r.value
+  pub left : (a' : A) → r'.answers ≡ Some a' → (a : A) × (r.answers ≡ Some a) × GivesIn says store event answered a a'
+  pub gave : asks_closure event ≡ true → (a' : A) × (r'.answers ≡ Some a')
+
+module _ {K V S A : Type 0} (says : Says K V A) (store : StoreState K V S) where
+  -- where no closure is asked its answers stay
+  unasked : (e : Event) (answered : Option (Operation V ℕ)) (a : A) → (asks_closure e ≡ true → ⊥) → GivesIn says store e answered a a
+  unasked events.Begun answered a none = refl
+  unasked (events.Changed kind old new) answered a none = refl
+  unasked (events.Moved kind) answered a none = refl
+  unasked (events.Asked n agrees) answered a none = absurd (none refl)
+  unasked (events.Shown shown kind) answered a none = absurd (none refl)
+  unasked events.Other answered a none = refl
+  unasked (events.Replied reply) answered a none = refl
+
+module _ {K V S A : Type 0} (eq : K → K → Bool) (says : Says K V A) (refuse : Bool) where
+  module _ (kind : Option StepKind) (s : StoreState K V S) (r : Running K V A) (a : Answer) (s' : StoreState K V S) (r' : Running K V A) where
+    -- no closure was asked
+    silent : (ask : Ask) → (asks_closure (event_of kind ask a) ≡ true → ⊥) → r'.answers ≡ r.answers → IsAnswering says s' r r' (event_of kind ask a)
+    silent ask none stays = record {
+      answered = None;
+      fits = unanswered V (event_of kind ask a) (λ shown op is. none (ap asks_closure is));
+      value = λ op e. let f : None ≡ Some op = e in absurd cc;
+      left = λ a' had. (a', sym stays ∙ had, unasked says s' (event_of kind ask a) None a' none);
+      gave = λ asks. absurd (none asks);
+    }
+
+    -- the closure of a compute was
+    decided : (shown : Option ℕ) (pair : Option (K × V)) → (s' ≡ s → IsEntryOf says s' shown pair) → Decides says pair s r a s' r' → IsAnswering says s' r r' (event_of kind (show shown) a)
+    decided shown pair entry (x, op, y, has, gives, is, same, later) =
+        let event_is : event_of kind (show shown) a ≡ events.Shown shown (op_kind op) = event_shown shown (op_kind op) kind (show shown) a refl is in
+        let answers_are : r'.answers ≡ Some y = ap (λ (z : Running K V A). z.answers) later in
+        record {
+          answered = Some op;
+          fits = subst (λ e. IsAnsweredIn e (Some op)) (sym event_is) (op, refl, refl);
+          value = λ o e. let f : op ≡ o = cc in ap (λ (y : Running K V A). y.value) later ∙ ap (λ (o : Operation V ℕ). value_answered o r.value) f;
+          left = λ a' had. (x, has, subst (λ e. GivesIn says s' e (Some op) x a') (sym event_is) (pair, op, entry same, refl, subst (λ (z : A). says.op x pair op z) (same_item y a' (sym answers_are ∙ had)) gives));
+          gave = λ asks. (y, answers_are);
+        }
+
+    -- the closure of a removal was
+    judged : (n : ℕ) (x : A) (p : Stored K V) (agrees : Bool) (y : A) → r.answers ≡ Some x → pair_of s n ≡ Some p → says.yes x p.key p.value agrees y → a ≡ Yes agrees → s' ≡ s → r'.answers ≡ Some y → IsAnswering says s' r r' (event_of kind (ShowPair n) a)
+    judged n x p agrees y has there gives is same answers_are =
+        let event_is : event_of kind (ShowPair n) a ≡ events.Asked n agrees = ap (λ z. shown_event (Some n) z) is in
+        record {
+          answered = None;
+          fits = subst (λ e. IsAnsweredIn {V = V} e None) (sym event_is) refl;
+          value = λ op e. let f : None ≡ Some op = e in absurd cc;
+          left = λ a' had. (x, has, subst (λ e. GivesIn says s' e None x a') (sym event_is) (p, ap (λ (z : StoreState K V S). pair_of z n) same ∙ there, subst (λ (z : A). says.yes x p.key p.value agrees z) (same_item y a' (sym answers_are ∙ had)) gives));
+          gave = λ asks. (y, answers_are);
+        }
+
+    nothing : (ask : Ask) → ShowsNothing a s r s' r' → IsAnswering says s' r r' (event_of kind ask a)
+    nothing ask (is, stays) = silent ask never (ap (λ (z : Running K V A). z.answers) stays.1)
+      where
+        never : asks_closure (event_of kind ask a) ≡ true → ⊥
+        never asks = ⊎_elim
+            (λ (y : (agrees : Bool) × (a ≡ Yes agrees)). let f : Ok_done ≡ Yes y.0 = sym is ∙ y.1 in cc)
+            (λ (y : (op : OpKind) × (a ≡ Op op)). let f : Ok_done ≡ Op y.0 = sym is ∙ y.1 in cc)
+            (asked (event_of kind ask a) ask a (event_tells kind ask a) asks).1
+
+    not_shown : (ask : Ask) → is_showing ask ≡ false → r'.answers ≡ r.answers → IsAnswering says s' r r' (event_of kind ask a)
+    not_shown ask unshown stays = silent ask (λ asks. let f : false ≡ true = sym unshown ∙ (asked (event_of kind ask a) ask a (event_tells kind ask a) asks).0 in cc) stays
+
+    -- what is made leaves the answers
+    as_was : r' ≡ r → r'.answers ≡ r.answers
+    as_was same = ap (λ (z : Running K V A). z.answers) same
+
+    key_made : Performs eq says refuse MakeKey s r a s' r' → r'.answers ≡ r.answers
+    key_made h = matched (r'.answers ≡ r.answers) refuse _ _ h (λ _ none. as_was none.1.1) (λ _ makes. by_cases makes)
+      where
+        by_cases : (Refuses MAX_LOG_LEN (length s.keys) a × Stays s r s' r') ⊎ (HasKey a r × Stays s r s' r') ⊎ LogsKey a s r s' r' → r'.answers ≡ r.answers
+        by_cases (inl (f, stays)) = as_was stays.1
+        by_cases (inr (inl (has, stays))) = as_was stays.1
+        by_cases (inr (inr (k, own, e, few, same, is))) = ap (λ (y : Running K V A). y.answers) is
+
+    pair_made : Performs eq says refuse MakePair s r a s' r' → r'.answers ≡ r.answers
+    pair_made h = matched (r'.answers ≡ r.answers) refuse _ _ h (λ _ none. as_was none.1.1) (λ _ makes. by_cases makes)
+      where
+        by_cases : (Refuses MAX_LOG_LEN (length s.pairs) a × Stays s r s' r') ⊎ (HasNoPair a r × Stays s r s' r') ⊎ LogsPair a s r s' r' → r'.answers ≡ r.answers
+        by_cases (inl (f, stays)) = as_was stays.1
+        by_cases (inr (inl (has, stays))) = as_was stays.1
+        by_cases (inr (inr (i, v, key, value, e, few, same, is))) = ap (λ (y : Running K V A). y.answers) is
+
+    table_made : (slots limit : ℕ) → Performs eq says refuse (MakeTable slots limit) s r a s' r' → r'.answers ≡ r.answers
+    table_made slots limit h = matched (r'.answers ≡ r.answers) refuse _ _ h (λ _ none. as_was none.1.1) (λ _ makes. as_was makes.1)
+
+    pub answering : (ask : Ask) → Performs eq says refuse ask s r a s' r' → IsAnswering says s' r r' (event_of kind ask a)
+    answering ShowNone (inl (none, stays)) = nothing ShowNone stays
+    answering ShowNone (inr decides) = decided None None (λ _. refl) decides
+    answering (ShowPair n) h = by_task r.machine.task h
+      where
+        by_task : (task : Task) → ShowsPair task says n s r a s' r' → IsAnswering says s' r r' (event_of kind (ShowPair n) a)
+        by_task tasks.RemoveIf (inl (none, stays)) = nothing (ShowPair n) stays
+        by_task tasks.RemoveIf (inr (x, p, agrees, y, has, there, gives, is, same, later)) = judged n x p agrees y has there gives is same (ap (λ (z : Running K V A). z.answers) later)
+        by_task tasks.Compute (inl (none, stays)) = nothing (ShowPair n) stays
+        by_task tasks.Compute (inr (p, there, decides)) = decided (Some n) (Some (p.key, p.value)) (λ same. (p, ap (λ (z : StoreState K V S). pair_of z n) same ∙ there, refl)) decides
+        by_task tasks.Get stays = nothing (ShowPair n) stays
+        by_task (tasks.Insert replace) stays = nothing (ShowPair n) stays
+    answering (Load at) h = not_shown (Load at) refl (as_was h.1.1)
+    answering (Ask_exchange at old new) h = not_shown (Ask_exchange at old new) refl (as_was h.1)
+    answering (SameKey n) h = not_shown (SameKey n) refl (as_was h.1.1)
+    answering (SizeOf n) h = not_shown (SizeOf n) refl (as_was h.1.1)
+    answering MakeKey h = not_shown MakeKey refl (key_made h)
+    answering MakePair h = not_shown MakePair refl (pair_made h)
+    answering (MakeTable slots limit) h = not_shown (MakeTable slots limit) refl (table_made slots limit h)
+    answering (AddToShard by) (e, same, kept) = not_shown (AddToShard by) refl (as_was kept)
+    answering (Ask_done reply) h = not_shown (Ask_done reply) refl (as_was h.1.1)
+
+  module _ (s : StoreState K V S) (r : Running K V A) (a : Answer) (s' : StoreState K V S) (r' : Running K V A) where
+    -- the value at hand is that of before, or a pair was made of it, or a closure answered
+    abbrev pub AtHand : Ask → Type 0
+    AtHand ask = (r'.value ≡ r.value) ⊎ ((n : ℕ) × (ask ≡ MakePair) × (a ≡ Made_number n) × (r'.value ≡ None)) ⊎ ((shown : Option ℕ) × (op : OpKind) × (ask ≡ show shown) × (a ≡ Op op))
+
+    kept : (ask : Ask) → r' ≡ r → AtHand ask
+    kept ask same = inl (ap (λ (y : Running K V A). y.value) same)
+
+    pub at_hand : (ask : Ask) → Performs eq says refuse ask s r a s' r' → AtHand ask
+    at_hand (Load at) (e, stays) = kept (Load at) stays.1
+    at_hand (Ask_exchange at old new) (ex, as_was) = kept (Ask_exchange at old new) as_was
+    at_hand (SameKey n) (e, stays) = kept (SameKey n) stays.1
+    at_hand ShowNone (inl (none, (e, stays))) = kept ShowNone stays.1
+    at_hand ShowNone (inr (x, op, y, has, gives, is, same, later)) = inr (inr (None, op_kind op, refl, is))
+    at_hand (ShowPair n) h = by_task r.machine.task h
+      where
+        by_task : (task : Task) → ShowsPair task says n s r a s' r' → AtHand (ShowPair n)
+        by_task tasks.RemoveIf (inl (none, (e, stays))) = kept (ShowPair n) stays.1
+        by_task tasks.RemoveIf (inr (x, p, agrees, y, has, there, gives, answer_is, same, later)) = inl (ap (λ (y : Running K V A). y.value) later)
+        by_task tasks.Compute (inl (none, (e, stays))) = kept (ShowPair n) stays.1
+        by_task tasks.Compute (inr (p, there, (x, op, y, has, gives, answer_is, same, later))) = inr (inr (Some n, op_kind op, refl, answer_is))
+        by_task tasks.Get (e, stays) = kept (ShowPair n) stays.1
+        by_task (tasks.Insert replace) (e, stays) = kept (ShowPair n) stays.1
+    at_hand (SizeOf n) (e, stays) = kept (SizeOf n) stays.1
+    at_hand MakeKey h =
+        matched (AtHand MakeKey) refuse _ _ h
+        (λ _ none. kept MakeKey none.1.1)
+        (λ _ makes. by_cases makes)
+      where
+        by_cases : (Refuses MAX_LOG_LEN (length s.keys) a × Stays s r s' r') ⊎ (HasKey a r × Stays s r s' r') ⊎ LogsKey a s r s' r' → AtHand MakeKey
+        by_cases (inl (f, stays)) = kept MakeKey stays.1
+        by_cases (inr (inl (has, stays))) = kept MakeKey stays.1
+        by_cases (inr (inr (k, own, e, few, same, is))) = inl (ap (λ (y : Running K V A). y.value) is)
+    at_hand MakePair h =
+        matched (AtHand MakePair) refuse _ _ h
+        (λ _ none. kept MakePair none.1.1)
+        (λ _ makes. by_cases makes)
+      where
+        by_cases : (Refuses MAX_LOG_LEN (length s.pairs) a × Stays s r s' r') ⊎ (HasNoPair a r × Stays s r s' r') ⊎ LogsPair a s r s' r' → AtHand MakePair
+        by_cases (inl (f, stays)) = kept MakePair stays.1
+        by_cases (inr (inl (has, stays))) = kept MakePair stays.1
+        by_cases (inr (inr (i, v, key, value, e, few, same, is))) = inr (inl (length s.pairs, refl, e, ap (λ (y : Running K V A). y.value) is))
+    at_hand (MakeTable slots limit) h =
+        matched (AtHand (MakeTable slots limit)) refuse _ _ h
+        (λ _ none. kept (MakeTable slots limit) none.1.1)
+        (λ _ makes. kept (MakeTable slots limit) makes.1)
+    at_hand (AddToShard by) (e, same, as_was) = kept (AddToShard by) as_was
+    at_hand (Ask_done reply) (e, stays) = kept (Ask_done reply) stays.1
+
+    -- a pair that is made has the number after all others
+    pub made_number : (n : ℕ) → Performs eq says refuse MakePair s r a s' r' → a ≡ Made_number n → n ≡ length s.pairs
+    made_number n h is =
+        matched (n ≡ length s.pairs) refuse _ _ h
+        (λ _ none. let f = sym is ∙ none.0 in absurd cc)
+        (λ _ makes. by_cases makes)
+      where
+        by_cases : (Refuses MAX_LOG_LEN (length s.pairs) a × Stays s r s' r') ⊎ (HasNoPair a r × Stays s r s' r') ⊎ LogsPair a s r s' r' → n ≡ length s.pairs
+        by_cases (inl (inl e, stays)) = let f = sym is ∙ e in absurd cc
+        by_cases (inl (inr (e, full), stays)) = let f = sym is ∙ e in absurd cc
+        by_cases (inr (inl (has, stays))) = let f = sym is ∙ has.0 in absurd cc
+        by_cases (inr (inr (i, v, key, value, e, few, same, later))) = let f : Made_number n ≡ Made_number (length s.pairs) = sym is ∙ e in cc
+
+module _ {K P : Type 0} (g : Setting K P) (c : Coding K P) (k : K) (s : State P) (kind : Option StepKind) (hands : Hands P) where
+  -- a pair that was made is at the head of those that the machine was told of
+  pub told_made : (ask : Ask) (a : Answer) (es : List (Exchange P)) (hands' : Hands P) (n : ℕ) → ask ≡ MakePair → a ≡ Made_number n → IsTold g c k s kind hands ask a es hands' → (q : P) × (c.number q ≡ n) × (hands'.made ≡ q ∷ hands.made)
+  told_made ask a es hands' n asks is told = by_cases (subst (λ y. IsTold g c k s kind hands y a es hands') asks told)
+    where
+      by_cases : IsTold g c k s kind hands MakePair a es hands' → (q : P) × (c.number q ≡ n) × (hands'.made ≡ q ∷ hands.made)
+      by_cases (inl (inl (why, e), quiet)) = let f = sym is ∙ e in absurd cc
+      by_cases (inl (inr e, quiet)) = let f = sym is ∙ e in absurd cc
+      by_cases (inr (q, own, e, none, same)) =
+          let number : Made_number (c.number q) ≡ Made_number n = sym e ∙ is in
+          (q, cc, ap (λ (y : Hands P). y.made) same)

@@ -1,0 +1,42 @@
+-- What the core holds, and what always holds of it.
+use Rattle.std.specs.Prelude.{◌≡◌, ℕ, List, Option, Some, length}
+use Rattle.papaya_words.specs.Table.{TableWords}
+use Rattle.papaya_words.specs.declared.probe.ResizeMode.{ResizeMode}
+use Rattle.papaya_ask.specs.Search.{IsSize}
+use Rattle.papaya_ask.specs.declared.ask.Ask.TheVariants.{Done as Ask_done}
+use Rattle.papaya_ask.specs.declared.call.Reply.{Reply}
+use Rattle.papaya_call.specs.declared.machine.Machine.{Machine}
+use Rattle.papaya_words.specs.Mode.{IsChunked}
+use Rattle.papaya_call.specs.Machine.{IsStanding, ask_of}
+use Rattle.papaya_store.specs.declared.pairs.Running.{Running}
+use Rattle.papaya_timeline.specs.declared.seat.Seat.{Seat}
+use Rattle.papaya_timeline.specs.Callers.{running}
+use Rattle.papaya_store.specs.Tables.{table_of}
+use Rattle.papaya_store.specs.Store.{StoreState}
+
+-- the words, the logs and the count; the callers with what they have under way; and how the core
+-- resizes
+pub record CoreState (K V S A : Type 0) : Type 0 where
+  pub store : StoreState K V S
+  pub callers : List (Seat K V A)
+  pub mode : ResizeMode
+  pub initial : ℕ
+
+-- the call that a caller has under way
+abbrev pub call_of : {K V S A : Type 0} → CoreState K V S A → ℕ → Option (Running K V A)
+call_of s caller = running s.callers caller
+
+-- the machine has not replied
+abbrev pub IsGoing : Machine → Type 0
+IsGoing m = (reply : Reply) → ask_of m ≡ Ask_done reply → ⊥
+
+-- each table has the size of a table, each machine stands within its table, and no call under way
+-- has replied
+pub record IsCore {K V S A : Type 0} (store : StoreState K V S) (callers : List (Seat K V A))
+    (mode : ResizeMode) : Type 0 where
+  pub chunked : IsChunked mode
+  pub sizes : (n : ℕ) (t : TableWords) → table_of store.words.tables n ≡ Some t
+      → IsSize (length t.slots) t.limit
+  pub standing : (caller : ℕ) (r : Running K V A) → running callers caller ≡ Some r
+      → IsStanding r.machine
+  pub going : (caller : ℕ) (r : Running K V A) → running callers caller ≡ Some r → IsGoing r.machine

@@ -1,0 +1,27 @@
+-- The count of pairs, and what is yet to be added to it.
+use Rattle.std.specs.Prelude.{◌≡◌, ℤ, pos, ◌+ℤ◌, List, [], ◌∷◌, length, Option, Some, None}
+use Rattle.std.specs.Int.{w64, int_wrap}
+use Rattle.papaya_call.specs.Machine.{ask_of}
+use Rattle.papaya_rests.specs.Owed.{owed_by}
+use Rattle.papaya_store.specs.declared.pairs.Running.{Running}
+use Rattle.papaya_timeline.specs.declared.seat.Seat.{Seat}
+use Rattle.papaya_timeline.specs.Content.{content}
+use Rattle.papaya_store.specs.Store.{StoreState}
+
+module _ {K V A : Type 0} where
+  -- what a call under way has yet to add to the count, for a change that it made; 0 where there is
+  -- no call
+  abbrev pub owed_of : Option (Running K V A) → ℤ
+  owed_of None = pos 0
+  owed_of (Some r) = owed_by (ask_of r.machine)
+
+  -- what all calls under way have yet to add
+  abbrev pub owed_in : List (Seat K V A) → ℤ
+  owed_in [] = pos 0
+  owed_in (seat ∷ seats) = owed_of seat.call +ℤ owed_in seats
+
+-- The sum of the shards, with what is yet to be added, is the number of pairs in the map. A sum is
+-- one of 64 bits.
+abbrev pub IsCounted : {K V S A : Type 0} → StoreState K V S → List (Seat K V A) → Type 0
+IsCounted store callers = int_wrap w64 (store.count.sum +ℤ owed_in callers) ≡ pos
+    (length (content store))

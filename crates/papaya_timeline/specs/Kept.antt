@@ -1,0 +1,130 @@
+-- How the words and the logs of a core stand to the law of exchanges.
+use Rattle.std.specs.Prelude.{◌≡◌, ◌≢◌, ℕ, ◌+◌, ◌%◌, ◌^◌, ◌<◌, ◌==◌, Bool, true, false, if◌then◌else◌, Option, None, Some, List, [], ◌++◌, length}
+use Rattle.papaya_words.specs.Table.{TableWords}
+use Rattle.papaya_words.specs.declared.probe.ResizeMode.{ResizeMode}
+use Rattle.papaya_words.specs.declared.probe.ResizeMode.TheVariants.{Incremental, Blocking}
+use Rattle.papaya_ask.specs.declared.ask.At.{At}
+use Rattle.papaya_ask.specs.declared.ask.At.TheVariants.{Root}
+use Rattle.papaya_ask.specs.declared.ask.Ask.TheVariants.{Exchange as Asks_exchange}
+use Rattle.papaya_call.specs.Machine.{HasClosure, ask_of}
+use Rattle.papaya_law.specs.Allows.{AllAllowed}
+use Rattle.papaya_law.specs.Code.{Coding}
+use Rattle.papaya_law.specs.Exchange.{Setting, Exchange, run, start}
+use Rattle.papaya_law.specs.Grows.{Comes, planned}
+use Rattle.papaya_law.specs.Hashing.{hashed}
+use Rattle.papaya_law.specs.Invariant.{named}
+use Rattle.papaya_rests.specs.Rests.{Rests, change_in}
+use Rattle.papaya_rests.specs.Told.{Hands, IsOneOf, no_hands, word_of}
+use Rattle.papaya_store.specs.declared.pairs.Running.{Running}
+use Rattle.papaya_timeline.specs.declared.seat.Seat.{Seat}
+use Rattle.papaya_timeline.specs.Callers.{running}
+use Rattle.papaya_timeline.specs.Core.{IsCore}
+use Rattle.papaya_store.specs.Performs.{own_key}
+use Rattle.papaya_store.specs.Store.{StoreState, Stored, pair_of}
+use Rattle.papaya_store.specs.Tables.{table_of, word_at}
+
+-- does the core resize with blocking?
+abbrev pub is_blocking : ResizeMode → Bool
+is_blocking (Incremental chunk) = false
+is_blocking Blocking = true
+
+-- how many slots a table has; 1 where there is no such table
+abbrev pub slots_in : Option TableWords → ℕ
+slots_in None = 1
+slots_in (Some t) = length t.slots
+
+-- at how many places a search of it looks; 1 where there is no such table
+abbrev pub places_in : Option TableWords → ℕ
+places_in None = 1
+places_in (Some t) = t.limit + 1
+
+-- the setting of the law that tables are
+abbrev pub setting_of : {K V : Type 0} → (K → K → Bool) → (K → ℕ) → ResizeMode → List TableWords
+    → Setting K (Stored K V)
+setting_of eq hash mode tables = planned (hashed (is_blocking mode) (λ p. p.key) eq hash)
+    (λ t. slots_in (table_of tables t)) (λ t. places_in (table_of tables t))
+
+-- pairs are named in words by their numbers
+abbrev pub coding_of : {K V : Type 0} → (K → ℕ) → Coding K (Stored K V)
+coding_of hash = record { number = λ p. p.number; hash = hash }
+
+-- a hash as the 64 bits that it has
+abbrev pub low : {K : Type 0} → (K → ℕ) → K → ℕ
+low hash k = hash k % 2 ^ 64
+
+-- What is told of a call: the exchanges when it began, those since then, and the pairs that its
+-- machine was told of.
+pub record Tale (K V : Type 0) : Type 0 where
+  pub begun : List (Exchange (Stored K V))
+  pub since : List (Exchange (Stored K V))
+  pub hands : Hands (Stored K V)
+
+module _ {K V S : Type 0} (store : StoreState K V S) where
+  -- the log has this pair under its number
+  abbrev pub IsLogged : Stored K V → Type 0
+  IsLogged p = pair_of store p.number ≡ Some p
+
+module _ {K V S A : Type 0} (eq : K → K → Bool) (hash : K → ℕ) (mode : ResizeMode)
+    (store : StoreState K V S) where
+  -- a call under way rests on what is told of it, after the exchanges es
+  pub record IsCall (r : Running K V A) (es : List (Exchange (Stored K V)))
+      (tale : Tale K V) : Type 0 where
+    pub key : K
+    pub own : own_key store r ≡ Some key
+    -- a call with a closure has its answers
+    pub answers : HasClosure r.machine.task → (a : A) × (r.answers ≡ Some a)
+    pub split : tale.begun ++ tale.since ≡ es
+    pub rests : Rests (setting_of eq (low hash) mode store.words.tables) (coding_of (low hash))
+        tale.begun tale.since key r.machine tale.hands
+    pub last : (p : Stored K V) → tale.hands.last ≡ Some p → IsLogged store p
+    pub made : (p : Stored K V) → IsOneOf tale.hands.made p → IsLogged store p
+    -- the table that a call is about to open was made
+    pub opens : (t : ℕ) → ask_of r.machine ≡ Asks_exchange Root 0 t
+        → (words : TableWords) × (table_of store.words.tables t ≡ Some words)
+    -- a pair that was made and is not written yet stands in no slot
+    pub unwritten : (p : Stored K V) → IsOneOf tale.hands.made p → change_in r.machine.state ≡ None
+        → (t x : ℕ) (q : Stored K V) → named ((run es start).slot t x) ≡ Some q
+        → q.number ≢ p.number
+
+  -- The words are those that the exchanges es leave, which were allowed, and each call under way
+  -- rests on what is told of it.
+  pub record IsKept (callers : List (Seat K V A)) (es : List (Exchange (Stored K V)))
+      (tales : ℕ → Tale K V) : Type 0 where
+    pub allowed : AllAllowed (setting_of eq (low hash) mode store.words.tables) start es
+    pub coded : (at : At) → word_of (setting_of eq (low hash) mode store.words.tables)
+        (coding_of (low hash)) (run es start) at ≡ word_at store.words at
+    pub single : (t : ℕ) → (run es start).next t ≡ 0
+    pub made : (t : ℕ) → 0 < t → Comes (run es start) t
+        → (words : TableWords) × (table_of store.words.tables t ≡ Some words)
+    pub logged : (t x : ℕ) (p : Stored K V) → named ((run es start).slot t x) ≡ Some p
+        → IsLogged store p
+    pub calls : (caller : ℕ) (r : Running K V A) → running callers caller ≡ Some r
+        → IsCall r es (tales caller)
+    -- two calls make two pairs
+    pub apart : (c d : ℕ) (r q : Running K V A) → running callers c ≡ Some r
+        → running callers d ≡ Some q → c ≢ d → (p p' : Stored K V) → IsOneOf (tales c).hands.made p
+        → IsOneOf (tales d).hands.made p' → p.number ≢ p'.number
+
+-- What always holds of a core: its tables and machines are in order, and there are exchanges by
+-- which its words keep to the law.
+pub record IsLawfulCore {K V S A : Type 0} (eq : K → K → Bool) (hash : K → ℕ)
+    (store : StoreState K V S) (callers : List (Seat K V A)) (mode : ResizeMode) : Type 0 where
+  pub core : IsCore store callers mode
+  pub law : (es : List (Exchange (Stored K V)))
+      × ((tales : ℕ → Tale K V) × IsKept eq hash mode store callers es tales)
+
+-- the tales after a step of a caller that made these exchanges, and of which its machine has these
+-- hands
+abbrev pub told_tales : {K V : Type 0} → (ℕ → Tale K V) → ℕ → List (Exchange (Stored K V))
+    → Hands (Stored K V) → ℕ → Tale K V
+told_tales tales caller made hands d = record {
+  begun = (tales d).begun;
+  since = (tales d).since ++ made;
+  hands = if d == caller then hands else (tales d).hands;
+}
+
+-- the tales after a call of a caller began
+abbrev pub begun_tales : {K V : Type 0} → (ℕ → Tale K V) → ℕ → List (Exchange (Stored K V)) → ℕ
+    → Tale K V
+begun_tales tales caller es d = if d == caller
+    then record { begun = es; since = []; hands = no_hands } else tales d

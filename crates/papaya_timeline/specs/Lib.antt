@@ -1,0 +1,15 @@
+pub mod Advances
+pub mod Begins
+pub mod Callers
+pub mod Content
+pub mod Core
+pub mod Counted
+pub mod Given
+pub mod Headline
+pub mod Kept
+pub mod Maps
+pub mod Moves
+pub mod New
+pub mod Runs
+pub mod Solo
+pub mod Timeline

@@ -1,0 +1,46 @@
+-- What one step does to the map.
+use Rattle.std.specs.Prelude.{◌≡◌, ℕ, Bool, Option, Some, [], ◌∷◌}
+use Rattle.papaya_ask.specs.declared.call.Call.{Call}
+use Rattle.papaya_ask.specs.declared.call.Reply.{Reply}
+use Rattle.papaya_call.specs.Machine.{IsChanger}
+use Rattle.papaya_rests.specs.Rests.{change_of_reply}
+use Rattle.papaya_store.specs.declared.pairs.Running.{Running}
+use Rattle.papaya_timeline.specs.declared.trace.Event.{Event}
+use Rattle.papaya_timeline.specs.declared.trace.Event.TheVariants.{Changed}
+use Rattle.papaya_timeline.specs.Begins.{task_of_call}
+use Rattle.papaya_timeline.specs.Content.{map_of}
+use Rattle.papaya_timeline.specs.Core.{CoreState, call_of}
+use Rattle.papaya_timeline.specs.Maps.{Does, IsUpdate, Same, key_of}
+use Rattle.papaya_store.specs.Performs.{own_key}
+use Rattle.papaya_store.specs.Store.{Stored}
+use Rattle.papaya_timeline.specs.Timeline.{IsFresh, number_in}
+
+module _ {K V S A : Type 0} (eq : K → K → Bool) (s : CoreState K V S A) (caller : ℕ)
+    (s' : CoreState K V S A) where
+  -- The class of the key of the caller's own call has another pair, as such a call does, and no
+  -- other class changes.
+  pub record IsOwnChange (old new : Option ℕ) : Type 0 where
+    pub running_call : Running K V A
+    pub is_running : call_of s caller ≡ Some running_call
+    -- a lookup changes nothing
+    pub changes : IsChanger running_call.machine.task
+    -- the call is of the kind that its machine runs
+    pub call : Call K V A
+    pub task : task_of_call call ≡ running_call.machine.task
+    pub own : own_key s.store running_call ≡ Some (key_of call)
+    pub went : Option (Stored K V)
+    pub came : Option (Stored K V)
+    pub update : IsUpdate eq (key_of call) went came (map_of eq s) (map_of eq s')
+    pub went_is : number_in went ≡ old
+    pub came_is : number_in came ≡ new
+    -- no pair of the map has the number of the one that comes
+    pub fresh : IsFresh came (map_of eq s ∷ [])
+    pub reply : Reply
+    pub does : Does call went reply came
+    pub tells : change_of_reply reply ≡ Some (old, new)
+
+  -- a step whose event is a change of the map changes the class of its own call's key, and every
+  -- other step leaves the map
+  abbrev pub MovesMap : Event → Type 0
+  MovesMap (Changed kind old new) = IsOwnChange old new
+  MovesMap _ = Same (map_of eq s) (map_of eq s')

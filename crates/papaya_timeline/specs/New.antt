@@ -1,0 +1,12 @@
+-- A core as it is made.
+use Rattle.std.specs.Prelude.{◌≡◌, ℕ, []}
+use Rattle.papaya_words.specs.declared.probe.ResizeMode.{ResizeMode}
+use Rattle.papaya_store.specs.New.{IsNewStore}
+use Rattle.papaya_timeline.specs.Core.{CoreState}
+
+-- a new store, and no callers
+pub record IsNew {K V S A : Type 0} (mode : ResizeMode) (capacity shards : ℕ) (hasher : S)
+    (s : CoreState K V S A) : Type 0 where
+  pub store_is : IsNewStore capacity shards hasher s.initial s.store
+  pub mode_is : s.mode ≡ mode
+  pub callers : s.callers ≡ []

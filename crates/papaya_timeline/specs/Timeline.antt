@@ -1,0 +1,281 @@
+-- What a trace says of the map: its moments, its changes and its replies. No definition here knows
+-- a slot, a hash, a mark or a probe.
+use Rattle.std.specs.Prelude.{◌≡◌, ◌≢◌, ℕ, ◌==◌, Bool, true, false, if◌then◌else◌, List, [], ◌∷◌, Option, Some, None, slice_get, ◌⊎◌}
+use Rattle.papaya_words.specs.declared.probe.Refused.{Refused}
+use Rattle.papaya_words.specs.declared.probe.Refused.TheVariants.{RemoveNothing}
+use Rattle.papaya_call.specs.Answers.{op_kind}
+use Rattle.papaya_rests.specs.Rests.{Change, change_of_reply}
+use Rattle.papaya_call.specs.declared.answers.Operation.{Operation}
+use Rattle.papaya_call.specs.declared.answers.Operation.TheVariants as ops
+use Rattle.papaya_ask.specs.declared.ask.OpKind.{OpKind}
+use Rattle.papaya_ask.specs.declared.ask.OpKind.TheVariants as kinds
+use Rattle.papaya_ask.specs.declared.call.Call.{Call}
+use Rattle.papaya_ask.specs.declared.call.Call.TheVariants.{Get, Insert, TryInsert, RemoveIf, Compute}
+use Rattle.papaya_ask.specs.declared.call.Reply.{Reply}
+use Rattle.papaya_ask.specs.declared.call.Reply.TheVariants.{Absent, Found, Inserted, Replaced, Occupied, Removed, Kept, Aborted, Refused as Was_refused}
+use Rattle.papaya_timeline.specs.declared.trace.Turn.{Turn}
+use Rattle.papaya_timeline.specs.declared.trace.Turn.TheVariants.{Begin, Step, Finish}
+use Rattle.papaya_timeline.specs.declared.trace.Entry.{Entry}
+use Rattle.papaya_timeline.specs.declared.trace.Event.{Event}
+use Rattle.papaya_timeline.specs.declared.trace.Event.TheVariants.{Begun, Changed, Asked, Shown, Replied}
+use Rattle.papaya_timeline.specs.Runs.{History}
+use Rattle.papaya_store.specs.Store.{Stored}
+use Rattle.papaya_timeline.specs.Maps.{Map, Does, Same, IsUpdate, key_of}
+
+-- the call that a turn begins
+abbrev pub begun_by : {K V A : Type 0} → Option (Turn K V A) → Option (Call K V A)
+begun_by None = None
+begun_by (Some (Begin caller call)) = Some call
+begun_by (Some (Step caller refuse)) = None
+begun_by (Some (Finish caller steps)) = None
+
+-- the call that a caller has open after an event of its own, which had this one before
+abbrev pub open_after : {A : Type 0} → Event → Option A → Option A → Option A
+open_after Begun begun before = begun
+open_after (Replied reply) begun before = None
+open_after _ begun before = before
+
+-- the call that a caller has open, of those that the schedule began
+abbrev pub open_call : {K V A : Type 0} → List (Turn K V A) → ℕ → History → Option (Call K V A)
+open_call schedule caller [] = None
+open_call schedule caller (e ∷ before) =
+    if e.caller == caller
+    then open_after e.event (begun_by (slice_get schedule e.turn))
+    (open_call schedule caller before)
+    else open_call schedule caller before
+
+-- the change that an open call has made so far
+abbrev pub change_by : Event → Change → Change
+change_by Begun before = None
+change_by (Changed kind old new) before = Some (old, new)
+change_by (Replied reply) before = None
+change_by _ before = before
+
+abbrev pub change_of : ℕ → History → Change
+change_of caller [] = None
+change_of caller (e ∷ before) = if e.caller == caller
+    then change_by e.event (change_of caller before) else change_of caller before
+
+abbrev pub begins : Event → Bool
+begins Begun = true
+begins _ = false
+
+-- is this the begin of the caller's call
+abbrev pub is_begin : ℕ → Entry → Bool
+is_begin caller e = if e.caller == caller then begins e.event else false
+
+-- P held of the map at some moment since the caller's call began: after the begin itself, or after
+-- a later entry.
+-- The maps are those after each entry of the history, the newest first, and at last the one before
+-- it.
+abbrev pub AtSomeMoment : {K V : Type 0} → (Map K V → Type 0) → ℕ → History → List (Map K V)
+    → Type 0
+AtSomeMoment P caller [] maps = ⊥
+AtSomeMoment P caller (e ∷ before) [] = ⊥
+AtSomeMoment P caller (e ∷ before) (m ∷ maps) = P m
+    ⊎ ((is_begin caller e ≡ false) × AtSomeMoment P caller before maps)
+
+-- in the caller's call the closure was shown the pair of this number and answered so
+abbrev pub WasAsked : ℕ → ℕ → Bool → History → Type 0
+WasAsked caller n agrees [] = ⊥
+WasAsked caller n agrees (e ∷ before) = ((e.caller ≡ caller) × (e.event ≡ Asked n agrees))
+    ⊎ ((is_begin caller e ≡ false) × WasAsked caller n agrees before)
+
+-- in the caller's call the closure was shown this and answered by an operation of this kind
+abbrev pub WasShown : ℕ → Option ℕ → OpKind → History → Type 0
+WasShown caller shown kind [] = ⊥
+WasShown caller shown kind (e ∷ before) = ((e.caller ≡ caller) × (e.event ≡ Shown shown kind))
+    ⊎ ((is_begin caller e ≡ false) × WasShown caller shown kind before)
+
+-- the call's closure, shown the pair of this number, would have it removed
+abbrev pub WouldRemove : {K V A : Type 0} → Call K V A → ℕ → ℕ → History → Type 0
+WouldRemove (RemoveIf k a) caller n before = WasAsked caller n true before
+WouldRemove (Compute k a) caller n before = WasShown caller (Some n) kinds.Remove before
+WouldRemove _ caller n before = ⊥
+
+-- What closures answered with each entry of a history, the newest first: an operation with its
+-- value, where one was answered.
+abbrev pub Answered : Type 0 → Type 0
+Answered V = List (Option (Operation V ℕ))
+
+-- an operation is answered where a closure is shown something, of the kind that the event tells
+abbrev pub IsAnsweredIn : {V : Type 0} → Event → Option (Operation V ℕ) → Type 0
+IsAnsweredIn {V = V} (Shown n kind) answered = (op : Operation V ℕ) × (answered ≡ Some op)
+    × (op_kind op ≡ kind)
+IsAnsweredIn _ answered = answered ≡ None
+
+-- in the caller's call the closure was shown this and answered so
+abbrev pub WasAnswered : {V : Type 0} → ℕ → Option ℕ → Operation V ℕ → History → Answered V → Type 0
+WasAnswered caller shown op [] said = ⊥
+WasAnswered caller shown op (e ∷ before) [] = ⊥
+WasAnswered caller shown op (e ∷ before) (o ∷ said) =
+    ((e.caller ≡ caller) × (e.event ≡ Shown shown (op_kind op)) × (o ≡ Some op))
+    ⊎ ((is_begin caller e ≡ false) × WasAnswered caller shown op before said)
+
+-- what the closure of a caller's open call was last shown, and what it answered
+abbrev pub shown_by : Event → Option (Option ℕ × OpKind) → Option (Option ℕ × OpKind)
+shown_by Begun before = None
+shown_by (Shown shown kind) before = Some (shown, kind)
+shown_by (Replied reply) before = None
+shown_by _ before = before
+
+abbrev pub last_shown : ℕ → History → Option (Option ℕ × OpKind)
+last_shown caller [] = None
+last_shown caller (e ∷ before) = if e.caller == caller
+    then shown_by e.event (last_shown caller before) else last_shown caller before
+
+-- was it shown that there is none?
+abbrev pub is_none : Option ℕ → Bool → Bool
+is_none None before = true
+is_none (Some n) before = before
+
+abbrev pub none_by : Event → Bool → Bool
+none_by Begun before = false
+none_by (Shown shown kind) before = is_none shown before
+none_by (Replied reply) before = false
+none_by _ before = before
+
+abbrev pub was_shown_none : ℕ → History → Bool
+was_shown_none caller [] = false
+was_shown_none caller (e ∷ before) = if e.caller == caller
+    then none_by e.event (was_shown_none caller before) else was_shown_none caller before
+
+-- that there is none is shown once at most
+abbrev pub IsShownOnce : Option ℕ → Bool → Type 0
+IsShownOnce None already = already ≡ false
+IsShownOnce (Some n) already = Unit {0}
+
+-- no map had a pair of this number
+abbrev pub IsUnused : {K V : Type 0} → ℕ → List (Map K V) → Type 0
+IsUnused n [] = Unit {0}
+IsUnused {K = K} {V = V} n (m ∷ maps) = ((j : K) (p : Stored K V) → m j ≡ Some p → p.number ≢ n)
+    × IsUnused n maps
+
+-- the number of a pair, if there is one
+abbrev pub number_in : {K V : Type 0} → Option (Stored K V) → Option ℕ
+number_in None = None
+number_in (Some p) = Some p.number
+
+-- a pair that comes has a number that no map had before
+abbrev pub IsFresh : {K V : Type 0} → Option (Stored K V) → List (Map K V) → Type 0
+IsFresh None maps = Unit {0}
+IsFresh (Some q) maps = IsUnused q.number maps
+
+-- the answer by which the class has this next: a pair of the value answered, or none
+abbrev pub operation_for : {K V : Type 0} → Option (Stored K V) → Operation V ℕ
+operation_for None = ops.Remove
+operation_for (Some q) = ops.Insert q.value
+
+-- A removal takes out a pair only after its closure was shown it and agreed. A compute stores or
+-- takes out a pair only after its closure was shown just what goes, and answered so; the value is
+-- the one that it answered.
+abbrev pub IsAgreed : {K V A : Type 0} → Option (Call K V A) → ℕ → (old : Option ℕ)
+    → (came : Option (Stored K V)) → History → Answered V → Type 0
+IsAgreed None caller old came before said = Unit {0}
+IsAgreed (Some (Get k)) caller old came before said = Unit {0}
+IsAgreed (Some (Insert k v)) caller old came before said = Unit {0}
+IsAgreed (Some (TryInsert k v)) caller old came before said = Unit {0}
+IsAgreed (Some (RemoveIf k a)) caller None came before said = ⊥
+IsAgreed (Some (RemoveIf k a)) caller (Some n) came before said = WasAsked caller n true before
+IsAgreed (Some (Compute k a)) caller old came before said =
+    WasAnswered caller old (operation_for came) before said
+
+module _ {K V A : Type 0} (eq : K → K → Bool) where
+  -- An open call changes the class of its own key once, as such a call does. Of a call that began
+  -- before the run nothing is said but that it changes one class.
+  abbrev pub MayChange : Option (Call K V A) → Change → K → Option (Stored K V)
+      → Option (Stored K V) → Type 0
+  MayChange None made k old new = Unit {0}
+  MayChange (Some call) made k old new = (key_of call ≡ k) × (made ≡ None)
+      × ((reply : Reply) × Does call old reply new
+      × (change_of_reply reply ≡ Some (number_in old, number_in new)))
+
+  -- a reply without a change is the call's for the map at some moment since it began
+  abbrev pub IsAnswer : Call K V A → Reply → ℕ → History → List (Map K V) → Type 0
+  IsAnswer call reply caller before maps = (change_of caller before ≡ None)
+      × AtSomeMoment (λ m. Does call (m (key_of call)) reply (m (key_of call))) caller before maps
+
+  -- the closure ended the call when it was last shown this, which the class of its key had at some
+  -- moment since the call began
+  abbrev pub WasLastShown : Call K V A → Reply → Option ℕ → OpKind → ℕ → History → List (Map K V)
+      → Type 0
+  WasLastShown call reply shown kind caller before maps =
+      (last_shown caller before ≡ Some (shown, kind))
+      × AtSomeMoment (λ m. (number_in (m (key_of call)) ≡ shown)
+      × Does call (m (key_of call)) reply (m (key_of call))) caller before maps
+
+  -- a call is refused without a change; where that is for a removal of nothing, its closure was
+  -- shown that there is none
+  abbrev pub FitsRefused : Call K V A → Refused → ℕ → History → List (Map K V) → Type 0
+  FitsRefused call refused caller before maps = (change_of caller before ≡ None)
+      × (refused ≡ RemoveNothing → WasLastShown call (Was_refused RemoveNothing) None kinds.Remove
+      caller before maps)
+
+  -- a reply fits the call, its changes and the maps since it began
+  abbrev pub Fits : Call K V A → Reply → ℕ → History → List (Map K V) → Type 0
+  Fits call (Inserted n) caller before maps = change_of caller before ≡ Some (None, Some n)
+  Fits call (Replaced m n) caller before maps = change_of caller before ≡ Some (Some m, Some n)
+  Fits call Absent caller before maps = IsAnswer call Absent caller before maps
+  Fits call (Found n) caller before maps = IsAnswer call (Found n) caller before maps
+  Fits call (Occupied n) caller before maps = IsAnswer call (Occupied n) caller before maps
+  Fits call (Removed n) caller before maps = (change_of caller before ≡ Some (Some n, None))
+      × WouldRemove call caller n before
+  Fits call (Kept n) caller before maps = IsAnswer call (Kept n) caller before maps
+      × WasAsked caller n false before
+  Fits call (Aborted t) caller before maps = (change_of caller before ≡ None)
+      × ((shown : Option ℕ) × WasLastShown call (Aborted t) shown (kinds.Abort t) caller before
+      maps)
+  Fits call (Was_refused refused) caller before maps = FitsRefused call refused caller before maps
+
+  abbrev pub FitsOpen : Option (Call K V A) → Reply → ℕ → History → List (Map K V) → Type 0
+  FitsOpen None reply caller before maps = Unit {0}
+  FitsOpen (Some call) reply caller before maps = Fits call reply caller before maps
+
+  -- what a closure is shown is what the class of its call's key had at some moment since the call
+  -- began, and that there is none is shown once
+  abbrev pub FitsShown : Option (Call K V A) → Option ℕ → ℕ → History → List (Map K V) → Type 0
+  FitsShown None shown caller before maps = Unit {0}
+  FitsShown (Some call) shown caller before maps =
+      AtSomeMoment (λ m. number_in (m (key_of call)) ≡ shown) caller before maps
+      × IsShownOnce shown (was_shown_none caller before)
+
+  -- A change of one class: the pair that goes and the pair that comes have the numbers told, and
+  -- the one that comes is new.
+  pub record IsChange (schedule : List (Turn K V A)) (caller : ℕ) (before : History) (m : Map K V)
+      (maps : List (Map K V)) (m' : Map K V) (said : Answered V) (old new : Option ℕ) : Type 0 where
+    pub key : K
+    pub went : Option (Stored K V)
+    pub came : Option (Stored K V)
+    pub update : IsUpdate eq key went came m m'
+    pub went_is : number_in went ≡ old
+    pub came_is : number_in came ≡ new
+    pub fresh : IsFresh came (m ∷ maps)
+    pub may : MayChange (open_call schedule caller before) (change_of caller before) key went came
+    pub agreed : IsAgreed (open_call schedule caller before) caller old came before said
+
+  -- an event is legal after this history, with these maps and answers, and leads to the map m'
+  abbrev pub IsLegal : Event → List (Turn K V A) → ℕ → History → Map K V → List (Map K V) → Map K V
+      → Answered V → Type 0
+  IsLegal (Changed kind old new) schedule caller before m maps m' said =
+      IsChange schedule caller before m maps m' said old new
+  IsLegal (Asked n agrees) schedule caller before m maps m' said = Same m m'
+      × FitsShown (open_call schedule caller before) (Some n) caller before (m ∷ maps)
+  IsLegal (Shown n kind) schedule caller before m maps m' said = Same m m'
+      × FitsShown (open_call schedule caller before) n caller before (m ∷ maps)
+  IsLegal (Replied reply) schedule caller before m maps m' said = Same m m'
+      × FitsOpen (open_call schedule caller before) reply caller before (m ∷ maps)
+  IsLegal _ schedule caller before m maps m' said = Same m m'
+
+  -- the maps, one a moment, and the answers, one an entry, the newest first, from the map at the
+  -- start
+  abbrev pub Timeline : List (Turn K V A) → Map K V → History → List (Map K V) → Answered V → Type 0
+  Timeline schedule start [] [] said = ⊥
+  Timeline schedule start [] (m ∷ []) [] = Same start m
+  Timeline schedule start [] (m ∷ []) (answered ∷ said) = ⊥
+  Timeline schedule start [] (m ∷ m0 ∷ maps) said = ⊥
+  Timeline schedule start (e ∷ before) [] said = ⊥
+  Timeline schedule start (e ∷ before) (m ∷ []) said = ⊥
+  Timeline schedule start (e ∷ before) (m ∷ m0 ∷ maps) [] = ⊥
+  Timeline schedule start (e ∷ before) (m ∷ m0 ∷ maps) (answered ∷ said) =
+      IsLegal e.event schedule e.caller before m0 maps m said × IsAnsweredIn e.event answered
+      × Timeline schedule start before (m0 ∷ maps) said

@@ -1,0 +1,7 @@
+//! What happens in a run of many callers' steps: schedules, traces, and the law that each run has a
+//! timeline of maps. The crate has no code that acts on a map.
+#![tactic(auto)]
+
+pub mod seat;
+pub mod solo;
+pub mod trace;
