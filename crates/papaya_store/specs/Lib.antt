@@ -2,3 +2,4 @@ pub mod New
 pub mod Performs
 pub mod Store
 pub mod Tables
+pub mod Copies

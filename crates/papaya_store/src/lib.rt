@@ -2,5 +2,6 @@
 //! machines ask.
 #![tactic(auto)]
 
+pub mod copies;
 pub mod pairs;
 pub mod store;

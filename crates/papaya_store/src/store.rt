@@ -376,7 +376,7 @@ impl<K: Hash + Eq + Drop, V: Drop, S: BuildHasher> Store<K, V, S> {
     }
 
     /// Makes a table of empty slots.
-    fn make_table(&mut self, alloc: Global, len: usize, limit: usize) -> Answer
+    pub(crate) fn make_table(&mut self, alloc: Global, len: usize, limit: usize) -> Answer
         ensures { (Refuses MAX_TABLES (length self.old.words.tables) result × (self.new ≡ self.old))
             ⊎ MakesTable result len limit self.old self.new }
     {
