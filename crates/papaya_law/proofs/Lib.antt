@@ -39,6 +39,8 @@ pub mod Lists
 pub mod FiniteMaps
 pub mod Content
 pub mod Counts
+pub mod Joined
+pub mod ChainContent
 -- one further key
 pub mod Alike
 pub mod Further

@@ -2,11 +2,12 @@
 //! contracts are what the layers above use.
 
 ghost use Rattle.papaya_law.specs.Allows.{AllAllowed, Allows, MayAbort, MayClaim, MayFinish, MayPlace};
+ghost use Rattle.papaya_law.specs.ChainContent.{chain_content};
 ghost use Rattle.papaya_law.specs.Code.{AreAlike, ChangesSlot, Coding, IsLawfulCoding, IsOfKind, byte_of_pair, code, kind};
 ghost use Rattle.papaya_law.specs.Content.{AreApart, IsCountAfter, content, lookup, pairs_in};
 ghost use Rattle.papaya_law.specs.Copying.{IsPutting, IsSettled, IsTaker, IsTarget};
 ghost use Rattle.papaya_law.specs.Example.{by_two, two_tables, of_one, three_tables};
-ghost use Rattle.papaya_law.specs.Exchange.{Empty, Marked, Exchange, Setting, State, Word, after, run, start};
+ghost use Rattle.papaya_law.specs.Exchange.{Empty, Marked, Exchange, Setting, State, Word, after, run, start, walk};
 ghost use Rattle.papaya_law.specs.Further.{IsLawfulKey, IsMapWith, IsMatchedAtMoment, coding_with, hash_with, same_with, with_key};
 ghost use Rattle.papaya_law.specs.Grows.{Agrees, AllSized, Comes, Entry, IsLawfulPlan, Plan, brings, exchanges, planned, setting_in};
 ghost use Rattle.papaya_law.specs.Hashing.{hashed};
@@ -298,6 +299,23 @@ pub fn content_of_a_table<K, P>()
     ensures count { (g : Setting K P) → IsLawful g → (s : State P) (m : K → Option P)
         → IsKeeping g s m → ((t : ℕ) → s.next t ≡ 0) → (e : Exchange P) → Allows g s e
         → IsCountAfter e (length (content g s)) (length (content g (after s e))) }
+{}
+
+/// The tables of a chain together as a list of pairs, in both modes and in any state of a resize: it
+/// is the map. n is how many tables the list goes over, so many that the chain ends within them.
+pub fn content_of_a_chain<K, P>()
+    ensures holds { (g : Setting K P) → IsLawful g → (s : State P) (m : K → Option P)
+        → IsKeeping g s m → (n : ℕ) → walk s.next n s.root ≡ 0 → (k : K)
+        → lookup g.same g.key (chain_content g s n) k ≡ m k }
+    ensures apart { (g : Setting K P) → IsLawful g → (s : State P) (m : K → Option P)
+        → IsKeeping g s m → (n : ℕ) → AreApart g.same g.key (chain_content g s n) }
+    ensures nothing { (g : Setting K P) → IsLawful g → (s : State P) (m : K → Option P)
+        → IsKeeping g s m → s.root ≡ 0
+        → ((n : ℕ) → chain_content g s n ≡ []) × ((k : K) → m k ≡ None) }
+    ensures count { (g : Setting K P) → IsLawful g → (s : State P) (m : K → Option P)
+        → IsKeeping g s m → (e : Exchange P) → Allows g s e
+        → (n now : ℕ) → walk s.next n s.root ≡ 0 → walk (after s e).next now (after s e).root ≡ 0
+        → IsCountAfter e (length (chain_content g s n)) (length (chain_content g (after s e) now)) }
 {}
 
 /// The map as a list in which no key stands twice, whatever tables there are: one stays to be had
