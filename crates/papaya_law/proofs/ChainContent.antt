@@ -18,22 +18,22 @@ use Rattle.papaya_law.proofs.Incremental.States.{reached_front}
 use Rattle.papaya_law.proofs.OneMap.{keeping_sound, root_reached, means}
 
 -- a walk by its first link
-walk_first : (next : ℕ → ℕ) (n t : ℕ) → walk next (suc n) t ≡ walk next n (next t)
+pub walk_first : (next : ℕ → ℕ) (n t : ℕ) → walk next (suc n) t ≡ walk next n (next t)
 walk_first next zero t = refl
 walk_first next (suc n) t = ap next (walk_first next n t)
 
 module _ {K P : Type 0} (g : Setting K P) (law : IsLawful g) (s : State P) where
   -- the pairs of one table
-  abbrev table : ℕ → List P
+  abbrev pub table : ℕ → List P
   table t = pairs_in (s.slot t) (g.size t)
 
   -- where there is no table there is no pair
-  chain_end : (n t : ℕ) → t ≡ 0 → chain_from g s n t ≡ []
+  pub chain_end : (n t : ℕ) → t ≡ 0 → chain_from g s n t ≡ []
   chain_end zero t e = refl
   chain_end (suc n) t e = cond-true (t == 0) [] (joined g.same g.key (table t) (chain_from g s n (s.next t))) (eq-eqb t 0 e)
 
   -- else those of the table and of what is behind it
-  chain_more : (n t : ℕ) → 0 < t → chain_from g s (suc n) t ≡ joined g.same g.key (table t) (chain_from g s n (s.next t))
+  pub chain_more : (n t : ℕ) → 0 < t → chain_from g s (suc n) t ≡ joined g.same g.key (table t) (chain_from g s n (s.next t))
   chain_more n t some =
       ⊎_elim
       (λ (y : (t == 0) ≡ true). absurd (let e = eqb-true t 0 y in omega (arith, e, some)))

@@ -41,6 +41,7 @@ pub mod Content
 pub mod Counts
 pub mod Joined
 pub mod ChainContent
+pub mod ChainTables
 -- one further key
 pub mod Alike
 pub mod Further
