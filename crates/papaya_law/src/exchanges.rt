@@ -301,8 +301,9 @@ pub fn content_of_a_table<K, P>()
         → IsCountAfter e (length (content g s)) (length (content g (after s e))) }
 {}
 
-/// The tables of a chain together as a list of pairs, in both modes and in any state of a resize: it
-/// is the map. n is how many tables the list goes over, so many that the chain ends within them.
+/// The tables of a chain together as a list of pairs, in both modes and in any state of a resize:
+/// it is the map, and each exchange adds, takes out or leaves as many pairs as its kind says. n is
+/// how many tables the list goes over, so many that the chain ends within them.
 pub fn content_of_a_chain<K, P>()
     ensures holds { (g : Setting K P) → IsLawful g → (s : State P) (m : K → Option P)
         → IsKeeping g s m → (n : ℕ) → walk s.next n s.root ≡ 0 → (k : K)
