@@ -16,7 +16,7 @@ use Rattle.papaya_law.proofs.Walks.{root_holds}
 
 module _ {K P : Type 0} (g : Setting K P) where
   -- a search for k that finds something finds a pair of the key
-  held_word : (k : K) (w : Word P) (v : View P) → view g k w ≡ v → held v ≡ true → (p : P) × Holds w p × (g.same k (g.key p) ≡ true)
+  pub held_word : (k : K) (w : Word P) (v : View P) → view g k w ≡ v → held v ≡ true → (p : P) × Holds w p × (g.same k (g.key p) ≡ true)
   held_word k w Free e h = absurd cc
   held_word k w Foreign e h = absurd cc
   held_word k w (Here p) e h =
@@ -31,7 +31,7 @@ module _ {K P : Type 0} (g : Setting K P) where
 
   module _ (law : IsLawful g) (s : State P) (m : K → Option P) (keeps : IsKeeping g s m) where
     -- a pair stands at a place of each key that is equal to its own
-    at_place : (t x : ℕ) (p : P) → Holds (s.slot t x) p → (k : K) → g.same k (g.key p) ≡ true → (j : ℕ) × (j < g.places t) × (g.place k t j ≡ x) × ((look g s k t j ≡ Here p) ⊎ (look g s k t j ≡ Leaving p))
+    pub at_place : (t x : ℕ) (p : P) → Holds (s.slot t x) p → (k : K) → g.same k (g.key p) ≡ true → (j : ℕ) × (j < g.places t) × (g.place k t j ≡ x) × ((look g s k t j ≡ Here p) ⊎ (look g s k t j ≡ Leaving p))
     at_place t x p h k same =
         let name : named (s.slot t x) ≡ Some p = ⊎_elim (λ e. ap named e) (λ e. ap named e) h in
         let o = (keeping_sound g s m keeps).placed t x p name in

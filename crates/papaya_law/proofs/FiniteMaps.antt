@@ -13,11 +13,11 @@ module _ {K P : Type 0} (g : Setting K P) where
   without (p ∷ a) k = cond (g.same k (g.key p)) a (p ∷ without a k)
 
   -- at the first pair, if it is the key's
-  look_here : (p : P) (a : List P) (k : K) → g.same k (g.key p) ≡ true → lookup g.same g.key (p ∷ a) k ≡ Some p
+  pub look_here : (p : P) (a : List P) (k : K) → g.same k (g.key p) ≡ true → lookup g.same g.key (p ∷ a) k ≡ Some p
   look_here p a k y = cond-true (g.same k (g.key p)) (Some p) (lookup g.same g.key a k) y
 
   -- behind it, if it isn't
-  look_behind : (p : P) (a : List P) (k : K) → g.same k (g.key p) ≡ false → lookup g.same g.key (p ∷ a) k ≡ lookup g.same g.key a k
+  pub look_behind : (p : P) (a : List P) (k : K) → g.same k (g.key p) ≡ false → lookup g.same g.key (p ∷ a) k ≡ lookup g.same g.key a k
   look_behind p a k n = cond-false (g.same k (g.key p)) (Some p) (lookup g.same g.key a k) n
 
   -- the first pair is taken out
@@ -43,7 +43,7 @@ module _ {K P : Type 0} (g : Setting K P) where
     meet k l n a b = law.through k n l a (law.back l n b)
 
     -- equal keys have one pair
-    lookup_same : (a : List P) (k l : K) → g.same k l ≡ true → lookup g.same g.key a k ≡ lookup g.same g.key a l
+    pub lookup_same : (a : List P) (k l : K) → g.same k l ≡ true → lookup g.same g.key a k ≡ lookup g.same g.key a l
     lookup_same [] k l e = refl
     lookup_same (p ∷ a) k l e =
         ⊎_elim

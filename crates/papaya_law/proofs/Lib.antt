@@ -39,6 +39,9 @@ pub mod Lists
 pub mod FiniteMaps
 pub mod Content
 pub mod Counts
+pub mod Joined
+pub mod ChainContent
+pub mod ChainTables
 -- one further key
 pub mod Alike
 pub mod Further

@@ -11,7 +11,7 @@ Holds w p = (w ≡ Live p) ⊎ (w ≡ Marked p)
 
 module _ {K P : Type 0} (g : Setting K P) where
   -- what is found in a list is found in a longer one
-  lookup_first : (a b : List P) (k : K) (p : P) → lookup g.same g.key a k ≡ Some p → lookup g.same g.key (a ++ b) k ≡ Some p
+  pub lookup_first : (a b : List P) (k : K) (p : P) → lookup g.same g.key a k ≡ Some p → lookup g.same g.key (a ++ b) k ≡ Some p
   lookup_first [] b k p e = absurd cc
   lookup_first (q ∷ a) b k p e =
       ⊎_elim
@@ -20,7 +20,7 @@ module _ {K P : Type 0} (g : Setting K P) where
       (cases_Bool (g.same k (g.key q)))
 
   -- where nothing is found, it is looked up in the rest
-  lookup_rest : (a b : List P) (k : K) → lookup g.same g.key a k ≡ None → lookup g.same g.key (a ++ b) k ≡ lookup g.same g.key b k
+  pub lookup_rest : (a b : List P) (k : K) → lookup g.same g.key a k ≡ None → lookup g.same g.key (a ++ b) k ≡ lookup g.same g.key b k
   lookup_rest [] b k e = refl
   lookup_rest (q ∷ a) b k e =
       ⊎_elim

@@ -2,11 +2,12 @@
 //! contracts are what the layers above use.
 
 ghost use Rattle.papaya_law.specs.Allows.{AllAllowed, Allows, MayAbort, MayClaim, MayFinish, MayPlace};
+ghost use Rattle.papaya_law.specs.ChainContent.{chain_content, joined};
 ghost use Rattle.papaya_law.specs.Code.{AreAlike, ChangesSlot, Coding, IsLawfulCoding, IsOfKind, byte_of_pair, code, kind};
 ghost use Rattle.papaya_law.specs.Content.{AreApart, IsCountAfter, content, lookup, pairs_in};
 ghost use Rattle.papaya_law.specs.Copying.{IsPutting, IsSettled, IsTaker, IsTarget};
 ghost use Rattle.papaya_law.specs.Example.{by_two, two_tables, of_one, three_tables};
-ghost use Rattle.papaya_law.specs.Exchange.{Empty, Marked, Exchange, Setting, State, Word, after, run, start};
+ghost use Rattle.papaya_law.specs.Exchange.{Empty, Marked, Exchange, Setting, State, Word, after, run, start, walk};
 ghost use Rattle.papaya_law.specs.Further.{IsLawfulKey, IsMapWith, IsMatchedAtMoment, coding_with, hash_with, same_with, with_key};
 ghost use Rattle.papaya_law.specs.Grows.{Agrees, AllSized, Comes, Entry, IsLawfulPlan, Plan, brings, exchanges, planned, setting_in};
 ghost use Rattle.papaya_law.specs.Hashing.{hashed};
@@ -18,7 +19,7 @@ ghost use Rattle.papaya_law.specs.View.{Foreign, Free, Gone, Grave, Here, HasWor
 ghost use Rattle.papaya_law.specs.Code.{IsHashed};
 ghost use Rattle.papaya_words.specs.Word.{IsSlotStep, byte_of, kind_of, pair_of, top_byte};
 ghost use Rattle.papaya_words.specs.declared.word.Kind.TheVariants as kinds;
-ghost use Rattle.std.specs.Prelude.{◌≡◌, ◌⊎◌, ◌↔◌, ℕ, zero, suc, ◌<◌, ◌^◌, ◌==◌, ◌++◌, Bool, true, false, List, [], ◌∷◌, length, Option, None, Some};
+ghost use Rattle.std.specs.Prelude.{◌≡◌, ◌⊎◌, ◌↔◌, ℕ, zero, suc, ◌*◌, ◌<◌, ◌≤◌, ◌^◌, ◌==◌, ◌++◌, Bool, true, false, List, [], ◌∷◌, length, Option, None, Some};
 
 /// The law: after each list of allowed exchanges the tables mean one map, which its claims,
 /// replacements and burials alone change, each taking out just the pair that was there.
@@ -298,6 +299,50 @@ pub fn content_of_a_table<K, P>()
     ensures count { (g : Setting K P) → IsLawful g → (s : State P) (m : K → Option P)
         → IsKeeping g s m → ((t : ℕ) → s.next t ≡ 0) → (e : Exchange P) → Allows g s e
         → IsCountAfter e (length (content g s)) (length (content g (after s e))) }
+{}
+
+/// The tables of a chain together as a list of pairs, in both modes and in any state of a resize:
+/// it is the map, and each exchange adds, takes out or leaves as many pairs as its kind says. n is
+/// how many tables the list goes over, so many that the chain ends within them.
+pub fn content_of_a_chain<K, P>()
+    ensures holds { (g : Setting K P) → IsLawful g → (s : State P) (m : K → Option P)
+        → IsKeeping g s m → (n : ℕ) → walk s.next n s.root ≡ 0 → (k : K)
+        → lookup g.same g.key (chain_content g s n) k ≡ m k }
+    ensures apart { (g : Setting K P) → IsLawful g → (s : State P) (m : K → Option P)
+        → IsKeeping g s m → (n : ℕ) → AreApart g.same g.key (chain_content g s n) }
+    ensures nothing { (g : Setting K P) → IsLawful g → (s : State P) (m : K → Option P)
+        → IsKeeping g s m → s.root ≡ 0
+        → ((n : ℕ) → chain_content g s n ≡ []) × ((k : K) → m k ≡ None) }
+    ensures count { (g : Setting K P) → IsLawful g → (s : State P) (m : K → Option P)
+        → IsKeeping g s m → (e : Exchange P) → Allows g s e
+        → (n now : ℕ) → walk s.next n s.root ≡ 0 → walk (after s e).next now (after s e).root ≡ 0
+        → IsCountAfter e (length (chain_content g s n)) (length (chain_content g (after s e) now)) }
+{}
+
+/// Over how many tables the list of a chain has to go, when it is the root's own list, how long it
+/// can be, and that a list that is put together alike, table by table, is the same one.
+pub fn lists_of_a_chain<K, P>()
+    ensures ends { (g : Setting K P) → IsLawful g → (s : State P) (m : K → Option P)
+        → IsKeeping g s m → (n : ℕ) → s.root ≤ n → ((t : ℕ) → s.next t ≤ n)
+        → walk s.next n s.root ≡ 0 }
+    ensures enough { (g : Setting K P) → IsLawful g → (s : State P) (n more : ℕ)
+        → walk s.next n s.root ≡ 0 → walk s.next more s.root ≡ 0
+        → chain_content g s n ≡ chain_content g s more }
+    ensures alone { (g : Setting K P) → IsLawful g → (s : State P) (m : K → Option P)
+        → IsKeeping g s m → (g.blocking ≡ false → s.next s.root ≡ 0) → (n : ℕ)
+        → walk s.next n s.root ≡ 0 → chain_content g s n ≡ content g s }
+    ensures few { (g : Setting K P) → IsLawful g → (s : State P) (m : K → Option P)
+        → IsKeeping g s m → (b : ℕ) → ((t : ℕ) → IsOn s.first s.next t → g.size t ≤ b) → (n : ℕ)
+        → length (chain_content g s n) ≤ n * b }
+    ensures alike { (g : Setting K P) → IsLawful g → (s : State P) (m : K → Option P)
+        → IsKeeping g s m → (list : ℕ → ℕ → List P) → ((t : ℕ) → list 0 t ≡ [])
+        → ((n : ℕ) → list (suc n) 0 ≡ [])
+        → ((n t : ℕ) → IsOn s.first s.next t → list (suc n) t
+        ≡ joined g.same g.key (pairs_in (s.slot t) (g.size t)) (list n (s.next t)))
+        → (n : ℕ) → list n s.root ≡ chain_content g s n }
+    ensures later { (g g' : Setting K P) → IsLawful g → IsLawful g' → (s : State P)
+        (m : K → Option P) → IsKeeping g s m → Agrees (IsOn s.first s.next) g g' → (n : ℕ)
+        → chain_content g' s n ≡ chain_content g s n }
 {}
 
 /// The map as a list in which no key stands twice, whatever tables there are: one stays to be had
