@@ -47,6 +47,7 @@ use Rattle.papaya_change.proofs.NoRoom.{no_place, no_place_wider, refused_room}
 use Rattle.papaya_change.proofs.Refusals.{refused_for, shows_none, unsaid_cause}
 use Rattle.papaya_change.proofs.Written.{own_query}
 use Rattle.papaya_change.proofs.WritingSteps.{begins as begins_writing}
+use Rattle.papaya_call.specs.declared.need.Need.{Need}
 
 -- a machine keeps its task
 task_stays : (m : Machine) (answer : Answer) → (after m answer).task ≡ m.task
@@ -78,10 +79,10 @@ module _ {K V S H : Type 0} (eq : K → K → Bool) (input : K → List (List �
     by_itself given answer standing open_still unsaid = refused_for IsMemoryOrCapacity m answer (λ e. subst IsComputer r.task_is (shows_none m standing e)) open_still (inr refl) (unsaid_cause given answer unsaid)
 
     -- where a table is needed further, its key has no place
-    none_left : (log' : List (Event K V S)) → IsPrefix log log' → (t : ℕ) → m.state ≡ Growing t → HasNoPlace eq hash b key (history_of begun) (history_of log')
-    none_left log' pre t e =
+    none_left : (log' : List (Event K V S)) → IsPrefix log log' → (need : Need) → m.state ≡ Growing need → HasNoPlace eq hash b key (history_of begun) (history_of log')
+    none_left log' pre need e =
         no_place_wider eq hash b key (history_of begun) (history_of begun) (history_of log) (history_of log') ([], append-nil (history_of begun)) (history_since log log' pre)
-        (no_place eq input build write finish classes respects b name key (made_list x.made) begun log x.writer r.writing (subst MayInsert (sym r.task_is) tt) t e)
+        (no_place eq input build write finish classes respects b name key (made_list x.made) begun log x.writer r.writing need e)
 
     -- there is no room for it
     no_room : (log' : List (Event K V S)) → IsPrefix log log' → (given : List Given) (answer : Answer) → IsOpen → IsUnsaid given answer → ask_of (after m answer) ≡ Done (Refused Capacity) → HasNoRoom eq hash b key (history_of begun) (history_of log') given

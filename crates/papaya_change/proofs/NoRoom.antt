@@ -1,5 +1,5 @@
 -- Why a call that inserts has no room: its search passed the one table, and its key has no pair there.
-use Rattle.std.proofs.Common.{◌≡◌, ◌⊎◌, inl, inr, ⊎_elim, ℕ, ◌<◌, Bool, true, Option, None, Some, List, [], ◌++◌, append-nil, sym, ap, ◌∙◌, subst, arith}
+use Rattle.std.proofs.Common.{refl, ◌≡◌, ◌⊎◌, inl, inr, ⊎_elim, ℕ, ◌<◌, Bool, true, Option, None, Some, List, [], ◌++◌, append-nil, sym, ap, ◌∙◌, subst, arith}
 use Rattle.std.specs.Prelude.{zero, suc}
 use Rattle.std.specs.Cmp.{IsEquivalence}
 use mathlib.Core.List.{IsPrefix}
@@ -14,7 +14,9 @@ use Rattle.papaya_ask.specs.declared.call.Task.TheVariants.{Get, Insert, RemoveI
 use Rattle.papaya_call.specs.declared.machine.Machine.{Machine}
 use Rattle.papaya_call.specs.declared.machine.State.{State as Stage}
 use Rattle.papaya_call.specs.declared.machine.State.TheVariants.{Growing}
-use Rattle.papaya_call.specs.Machine.{MayInsert, after, ask_of}
+use Rattle.papaya_call.specs.declared.need.Need.{Need}
+use Rattle.papaya_call.specs.declared.need.Need.TheVariants.{Room, Pair as Pair_at}
+use Rattle.papaya_call.specs.Machine.{after, ask_of, needed}
 use Rattle.papaya_law.specs.Allows.{AllAllowed}
 use Rattle.papaya_law.specs.Class.{IsOn}
 use Rattle.papaya_law.specs.Code.{Coding}
@@ -23,7 +25,7 @@ use Rattle.papaya_law.specs.Invariant.{IsSound}
 use Rattle.papaya_law.specs.Meaning.{IsLawful, map_left}
 use Rattle.papaya_law.specs.View.{IsPassed, IsReached, beyond, look, view}
 use Rattle.papaya_law.proofs.OneMap.{keeping, keeping_sound}
-use Rattle.papaya_rests.specs.Rests.{HasComeTo, IsMovingFrom, RestsGrowing, RestsStage, WasAtMoment}
+use Rattle.papaya_rests.specs.Rests.{HasComeTo, RestsGrowing, RestsNeed, RestsStage, WasAtMoment}
 use Rattle.papaya_rests.proofs.RestsLearnMoments.{come_reached, over_blocking, over_last}
 use Rattle.papaya_rests.proofs.RestsRemovals.{moving_further}
 use Rattle.papaya_rests.proofs.RestsReplyRefused.{machine_reason}
@@ -46,7 +48,7 @@ use Rattle.papaya_change.proofs.Showings.{held_wider, own_held_then}
 use Rattle.papaya_change.proofs.Written.{Writing, own_query}
 
 -- Where a call is refused Capacity, it was answered so, or it needed a further table.
-pub refused_room : (none : Type 0) (given : List Given) (m : Machine) (answer : Answer) → ((reply : Reply) → ask_of m ≡ Done reply → ⊥) → IsUnsaid given answer → ((t : ℕ) → m.state ≡ Growing t → none) → ask_of (after m answer) ≡ Done (Refused Capacity) → IsFull given ⊎ none
+pub refused_room : (none : Type 0) (given : List Given) (m : Machine) (answer : Answer) → ((reply : Reply) → ask_of m ≡ Done reply → ⊥) → IsUnsaid given answer → ((need : Need) → m.state ≡ Growing need → none) → ask_of (after m answer) ≡ Done (Refused Capacity) → IsFull given ⊎ none
 refused_room none given m answer open_still unsaid grows e =
     ⊎_elim
     (λ told. ⊎_elim (λ i. absurd (cc i)) (λ h. inl h.1) (unsaid Capacity told.0))
@@ -62,10 +64,10 @@ module _ {K P : Type 0} (g : Setting K P) (c : Coding K P) (law : IsLawful g) (b
   no_next t some = let none = alone t in omega (arith, some, none)
 
   -- every place that a search passed is filled
-  all_passed : (t : ℕ) → IsPassed g.places (look g now k) t ⊎ IsMovingFrom g c begun since k t → (j : ℕ) → j < g.places t → beyond (look g now k t j) ≡ true
-  all_passed t (inl (inl (i, p, lt, e))) = absurd (no_next t (moving_further g c law begun since may k t (i, p, lt, inr e)))
-  all_passed t (inl (inr all)) = all
-  all_passed t (inr moving) = absurd (no_next t (moving_further g c law begun since may k t moving))
+  all_passed : (need : Need) → RestsNeed g c begun since k need → (j : ℕ) → j < g.places (needed need) → beyond (look g now k (needed need) j) ≡ true
+  all_passed (Room t) (come, inl (i, p, lt, e)) = absurd (no_next t (moving_further g c law begun since may k t (g.place k t i) (i, p, lt, refl, inr e)))
+  all_passed (Room t) (come, inr all) = all
+  all_passed (Pair_at t x) (come, moving) = absurd (no_next t (moving_further g c law begun since may k t x moving))
 
   -- nothing comes after a link
   walked : (n from t : ℕ) → 0 < t → walk now.next n from ≡ t → from ≡ t
@@ -88,26 +90,26 @@ module _ {K P : Type 0} (g : Setting K P) (c : Coding K P) (law : IsLawful g) (b
   absent : (t : ℕ) → HasComeTo g c begun since k t → ((j : ℕ) → j < g.places t → beyond (look g now k t j) ≡ true) → WasAtMoment g c begun since k None
   absent t come all = ⊎_elim (λ a. over_last g c law begun since may k t come a.0 (inr all) (alone t)) (λ a. over_blocking g c law begun since may k t come a.0 (inr all)) come.is
 
-  grows_by : (task : Task) (t : ℕ) → MayInsert task → RestsGrowing g c begun since k task t → HasComeTo g c begun since k t × (IsPassed g.places (look g now k) t ⊎ IsMovingFrom g c begun since k t)
-  grows_by Get t may r = absurd may
-  grows_by (Insert replace) t may r = r
-  grows_by RemoveIf t may r = absurd may
-  grows_by Compute t may r = r
+  -- the search has come to the table
+  come_to : (need : Need) → RestsNeed g c begun since k need → HasComeTo g c begun since k (needed need)
+  come_to (Room t) r = r.0
+  come_to (Pair_at t x) r = r.0
 
   -- each of the key's places in the root is filled
   abbrev IsCrowded : ℕ → List (Exchange P) → Type 0
   IsCrowded t es = ((run es start).root ≡ t) × ((j : ℕ) → j < g.places t → (run es start).slot t (g.place k t j) ≡ Empty → ⊥)
 
-  crowded : (task : Task) (t : ℕ) → MayInsert task → RestsGrowing g c begun since k task t → (0 < t) × IsCrowded t (begun ++ since) × WasAtMoment g c begun since k None
-  crowded task t inserts r =
-      let grown = grows_by task t inserts r in
-      let all = all_passed t grown.1 in (
-        grown.0.some,
+  crowded : (need : Need) → RestsNeed g c begun since k need → (0 < needed need) × IsCrowded (needed need) (begun ++ since) × WasAtMoment g c begun since k None
+  crowded need r =
+      let t : ℕ = needed need in
+      let come = come_to need r in
+      let all = all_passed need r in (
+        come.some,
         (
-          root_is t (come_reached g c law begun since may k t grown.0),
+          root_is t (come_reached g c law begun since may k t come),
           λ j lt e. let f = sym (ap (λ (w : Word P). beyond (view g k w)) e) ∙ all j lt in cc f,
         ),
-        absent t grown.0 all,
+        absent t come all,
       )
 
 module _ {K V S H : Type 0} (eq : K → K → Bool) (input : K → List (List ℕ)) (build : S → H) (write : H → List ℕ → H) (finish : H → ℕ) (classes : IsEquivalence eq) (respects : (x y : K) → eq x y ≡ true → input x ≡ input y)
@@ -122,20 +124,20 @@ module _ {K V S H : Type 0} (eq : K → K → Bool) (input : K → List (List �
   C = Coded eq input build write finish classes respects b (eq key) (input key) query (Some key) name begun
 
   -- a call that needs a further table has no place in the one that there is
-  pub no_place : MayInsert w.call.machine.task → (t : ℕ) → w.call.machine.state ≡ Growing t → HasNoPlace eq (hash_of input build write finish) b key (history_of begun) (history_of log)
-  no_place inserts t e =
+  pub no_place : (need : Need) → w.call.machine.state ≡ Growing need → HasNoPlace eq (hash_of input build write finish) b key (history_of begun) (history_of log)
+  no_place need e =
       let hashed = hashed_with eq input build write finish classes respects b (eq key) (input key) query log r.calling.lawful in
       let may = subst (AllAllowed G start) (sym r.calling.is) (allowed_with eq input build write finish classes respects b (eq key) (input key) query log r.calling.lawful) in
       let alone : (u : ℕ) → (run (exchanges_of begun ++ r.calling.since) start).next u ≡ 0 = subst (λ (es : List (Exchange (Stored K V))). (u : ℕ) → (run es start).next u ≡ 0) (sym r.calling.is) r.calling.lawful.unlinked in
-      let stage : RestsGrowing G C (exchanges_of begun) r.calling.since (Some key) w.call.machine.task t = subst (λ (z : Stage). RestsStage G C (exchanges_of begun) r.calling.since (Some key) (hands_with w.call.last made) w.call.machine.task z) e r.calling.rests.stage in
-      let full = crowded G C hashed.lawful (exchanges_of begun) r.calling.since may (Some key) alone w.call.machine.task t inserts stage in
-      let there = subst (IsCrowded G C hashed.lawful (exchanges_of begun) r.calling.since may (Some key) alone t) r.calling.is full.1 in record {
+      let stage : RestsGrowing G C (exchanges_of begun) r.calling.since (Some key) w.call.machine.task need = subst (λ (z : Stage). RestsStage G C (exchanges_of begun) r.calling.since (Some key) (hands_with w.call.last made) w.call.machine.task z) e r.calling.rests.stage in
+      let full = crowded G C hashed.lawful (exchanges_of begun) r.calling.since may (Some key) alone need stage.1 in
+      let there = subst (IsCrowded G C hashed.lawful (exchanges_of begun) r.calling.since may (Some key) alone (needed need)) r.calling.is full.1 in record {
         absent = own_held_then eq input build write finish classes respects b (eq key) (input key) query begun log r.calling.lawful r.calling.since r.calling.is key None full.2;
         log = log;
         lawful = r.calling.lawful;
         since = history_since begun log r.calling.seen;
         until = ([], append-nil (history_of log));
-        table = t;
+        table = needed need;
         some = full.0;
         root = there.0;
         filled = there.1;

@@ -32,6 +32,7 @@ use Rattle.papaya_lookup.proofs.Histories.{history_since}
 use Rattle.papaya_change.proofs.NoRoom.{no_place, no_place_wider, refused_room}
 use Rattle.papaya_change.proofs.Refusals.{refused_for, unsaid_cause}
 use Rattle.papaya_change.proofs.Showings.{all_shown, held_wider}
+use Rattle.papaya_call.specs.declared.need.Need.{Need}
 
 -- what any call asks that inserts is silent
 pub writers_silent : (ask : Ask) → IsWriters ask → IsSilent ask
@@ -100,10 +101,10 @@ module _ {K V S H T F : Type 0} (eq : K → K → Bool) (input : K → List (Lis
     none_later answer h = ⊎_elim (λ never. inl never) (λ shown. inr (machine_shown m answer shown).1) h
 
     -- where a table is needed further, its key has no place
-    none_left : (log' : List (Event K V S)) → IsPrefix log log' → (t : ℕ) → m.state ≡ Growing t → HasNoPlace eq hash b key (history_of begun) (history_of log')
-    none_left log' pre t e =
+    none_left : (log' : List (Event K V S)) → IsPrefix log log' → (need : Need) → m.state ≡ Growing need → HasNoPlace eq hash b key (history_of begun) (history_of log')
+    none_left log' pre need e =
         no_place_wider eq hash b key (history_of begun) (history_of begun) (history_of log) (history_of log') ([], append-nil (history_of begun)) (history_since log log' pre)
-        (no_place eq input build write finish classes respects b name key r.made begun log x.writer r.writing (subst MayInsert (sym r.task_is) tt) t e)
+        (no_place eq input build write finish classes respects b name key r.made begun log x.writer r.writing need e)
 
     -- it goes on after an answer to a silent ask
     pub goes_on : IsStanding m → IsSilent (ask_of m) → (log' : List (Event K V S)) → IsPrefix log log' → (w : Writer K V S H) (answer : Answer) → w.call.machine ≡ m → w.value ≡ x.writer.value → IsUnsaid w.given.done answer

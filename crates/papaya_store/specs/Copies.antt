@@ -24,11 +24,11 @@ abbrev pub hash_in : {K V : Type 0} → (K → ℕ) → Option (Stored K V) → 
 hash_in hash None = answers.Call Ok_done
 hash_in hash (Some p) = answers.Hash (hash p.key)
 
-module _ {K V S : Type 0} where
-  -- the answer is one that calls are given
-  abbrev pub IsCallAnswer : Answer → (Call_answer → Type 0) → Type 0
-  IsCallAnswer answer Is = (told : Call_answer) × (answer ≡ answers.Call told) × Is told
+-- the answer is one that calls are given
+abbrev pub IsCallAnswer : Answer → (Call_answer → Type 0) → Type 0
+IsCallAnswer answer Is = (told : Call_answer) × (answer ≡ answers.Call told) × Is told
 
+module _ {K V S : Type 0} where
   -- just one ask is answered: a load and an exchange by the word that stands there, a size by the
   -- table, a hash and a comparison by the pairs of the log
   abbrev pub PerformsCopy : (K → K → Bool) → (S → K → ℕ) → Bool → CopyAsk → StoreState K V S → Answer

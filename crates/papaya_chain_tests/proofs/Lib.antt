@@ -1,0 +1,1 @@
+-- no lemma: the tests hold alone

@@ -1,0 +1,142 @@
+// Tables that grow while keys are stored, looked up, removed and computed.
+ghost use Rattle.papaya_words.specs.Mode.{IsChunked};
+
+use crate::expect::is_at;
+use crate::words::{Numbers, reply};
+use papaya_ask::call::{Reply, Task};
+use papaya_store::store::Store;
+use papaya_words::probe::{Refused, ResizeMode};
+use std::alloc::Global;
+use std::hash::BuildHasherDefault;
+use std::process::Abort;
+use std::test::Fail;
+
+/// The keys are 0 to 999, and the value of each is the key itself at first.
+const KEYS: u64 = 1000;
+
+const REPLACES: Task = Task::Insert { replace: true };
+
+/// Any value, where a call stores none.
+const NO_VALUE: u64 = 0;
+
+/// Words with no table yet, and one shard.
+fn no_words(alloc: Global, mode: ResizeMode) -> Result<Numbers, Refused> {
+    let (words, _) = Store::with_parts(alloc, mode, 0, 1, BuildHasherDefault::default())?;
+    Ok(words)
+}
+
+/// What a lookup of the key finds.
+fn value(alloc: Global, words: &mut Numbers, mode: ResizeMode, key: u64) -> Option<u64>
+    requires { IsChunked mode }
+{
+    match reply(alloc, words, mode, Task::Get, key, NO_VALUE) {
+        Some(Reply::Found(pair)) => match words.pair(pair) {
+            Some((_, value)) => Some(*value),
+            None => None,
+        },
+        _ => None,
+    }
+}
+
+/// The first key, the one in the middle and the newest are there with their values, and the one
+/// after it is not.
+fn has_up_to(rt: &impl Abort, alloc: Global, words: &mut Numbers, mode: ResizeMode, newest: u64)
+    requires { IsChunked mode }
+{
+    is_at(rt, newest as usize, value(alloc, words, mode, 0), Some(0));
+    is_at(
+        rt,
+        newest as usize,
+        value(alloc, words, mode, newest / 2),
+        Some(newest / 2),
+    );
+    is_at(
+        rt,
+        newest as usize,
+        value(alloc, words, mode, newest),
+        Some(newest),
+    );
+    is_at(
+        rt,
+        newest as usize,
+        value(alloc, words, mode, newest.wrapping_add(1)),
+        None,
+    );
+}
+
+/// The keys are stored one after another: each is new, and is found at once.
+fn stores_all(rt: &impl Abort, alloc: Global, words: &mut Numbers, mode: ResizeMode)
+    requires { IsChunked mode }
+{
+    for key in 0..KEYS {
+        let stored = reply(alloc, words, mode, REPLACES, key, key);
+        is_at(rt, key as usize, stored, Some(Reply::Inserted(key)));
+        has_up_to(rt, alloc, words, mode, key);
+    }
+}
+
+/// The odd keys are removed, and one is added to the values of the even ones.
+fn removes_and_adds(rt: &impl Abort, alloc: Global, words: &mut Numbers, mode: ResizeMode)
+    requires { IsChunked mode }
+{
+    for key in 0..KEYS {
+        if key % 2 == 1 {
+            let removed = reply(alloc, words, mode, Task::RemoveIf, key, NO_VALUE);
+            is_at(rt, key as usize, removed, Some(Reply::Removed(key)));
+        } else {
+            let computed = reply(alloc, words, mode, Task::Compute, key, NO_VALUE);
+            let new = KEYS + key / 2;
+            is_at(
+                rt,
+                key as usize,
+                computed,
+                Some(Reply::Replaced { old: key, new }),
+            );
+        }
+    }
+}
+
+/// Then just the even keys are there, with the values after.
+fn has_the_even(rt: &impl Abort, alloc: Global, words: &mut Numbers, mode: ResizeMode)
+    requires { IsChunked mode }
+{
+    for key in 0..KEYS {
+        let wanted = if key % 2 == 1 { None } else { Some(key + 1) };
+        is_at(rt, key as usize, value(alloc, words, mode, key), wanted);
+    }
+    is_at(rt, 0, words.count(), 500);
+}
+
+fn grows(rt: &impl Abort, alloc: Global, mode: ResizeMode) -> Result<(), Refused>
+    requires { IsChunked mode }
+{
+    let mut words = no_words(alloc, mode)?;
+    stores_all(rt, alloc, &mut words, mode);
+    removes_and_adds(rt, alloc, &mut words, mode);
+    has_the_even(rt, alloc, &mut words, mode);
+    Ok(())
+}
+
+#[test]
+fn tables_grow_by_one_slot_a_call(rt: HostRuntime) -> Result<(), Fail> {
+    grows(&rt, rt.alloc(), ResizeMode::Incremental(1))?;
+    Ok(())
+}
+
+#[test]
+fn tables_grow_by_two_slots_a_call(rt: HostRuntime) -> Result<(), Fail> {
+    grows(&rt, rt.alloc(), ResizeMode::Incremental(2))?;
+    Ok(())
+}
+
+#[test]
+fn tables_grow_by_64_slots_a_call(rt: HostRuntime) -> Result<(), Fail> {
+    grows(&rt, rt.alloc(), ResizeMode::Incremental(64))?;
+    Ok(())
+}
+
+#[test]
+fn tables_grow_at_once(rt: HostRuntime) -> Result<(), Fail> {
+    grows(&rt, rt.alloc(), ResizeMode::Blocking)?;
+    Ok(())
+}
