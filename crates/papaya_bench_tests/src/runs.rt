@@ -1,5 +1,5 @@
-//! What is printed, and what no clause says of failures.
-use super::{run_on, time_workload};
+// What is printed, and what no clause says of failures.
+use papaya_measure::run::{run_on, time_workload};
 use papaya_plan::plan::{Plan, Workload};
 use papaya_shell::fakes::{Sink, words};
 use std::alloc::Global;
