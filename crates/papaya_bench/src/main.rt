@@ -1,12 +1,7 @@
 //! `papaya-bench`: times the maps at a few workloads, or checks that they answer alike.
 #![tactic(auto)]
 
-mod backends;
-mod one_caller;
-mod run;
-mod shared;
-
-use crate::run::{PROGRAM, run_on};
+use papaya_measure::run::{PROGRAM, run_on};
 use papaya_shell::start::words;
 use std::process::ExitCode;
 

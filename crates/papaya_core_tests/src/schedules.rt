@@ -128,6 +128,35 @@ fn outcome_of(alloc: Global, schedule: Vec<Turn<u64, u64, Closure>>) -> Result<O
     })
 }
 
+/// What two insertions come to, where the first is stopped after so many steps.
+fn replaced_at(steps: usize) -> Outcome {
+    // Caller 0 makes its pair in its seventh step, and claims the slot in its eighth.
+    let (own, other) = if steps < 7 { (1, 0) } else { (0, 1) };
+    let (replies, last) = if steps < 8 {
+        let replaced = Reply::Replaced {
+            old: other,
+            new: own,
+        };
+        ((Some(replaced), Some(Reply::Inserted(other))), own)
+    } else {
+        let replaced = Reply::Replaced {
+            old: own,
+            new: other,
+        };
+        ((Some(Reply::Inserted(own)), Some(replaced)), other)
+    };
+    Outcome {
+        replies,
+        opened: 1,
+        values: if steps < 7 {
+            (Some(200), Some(100))
+        } else {
+            (Some(100), Some(200))
+        },
+        found: Some(Reply::Found(last)),
+    }
+}
+
 #[test]
 fn stopped_insertion_replaces_or_is_replaced(rt: HostRuntime) -> Result<(), Fail> {
     for steps in 0..STEPS_OF_INSERT + 1 {
@@ -138,34 +167,42 @@ fn stopped_insertion_replaces_or_is_replaced(rt: HostRuntime) -> Result<(), Fail
             Turn::Finish(1, WHOLE),
             Turn::Finish(0, WHOLE),
         ]?;
-        // Caller 0 makes its pair in its seventh step, and claims the slot in its eighth.
-        let (own, other) = if steps < 7 { (1, 0) } else { (0, 1) };
-        let (replies, last) = if steps < 8 {
-            let replaced = Reply::Replaced {
-                old: other,
-                new: own,
-            };
-            ((Some(replaced), Some(Reply::Inserted(other))), own)
-        } else {
-            let replaced = Reply::Replaced {
-                old: own,
-                new: other,
-            };
-            ((Some(Reply::Inserted(own)), Some(replaced)), other)
-        };
-        let expected = Outcome {
-            replies,
-            opened: 1,
-            values: if steps < 7 {
-                (Some(200), Some(100))
-            } else {
-                (Some(100), Some(200))
-            },
-            found: Some(Reply::Found(last)),
-        };
-        is_at(&rt, steps, outcome_of(rt.alloc(), schedule)?, expected);
+        is_at(
+            &rt,
+            steps,
+            outcome_of(rt.alloc(), schedule)?,
+            replaced_at(steps),
+        );
     }
     Ok(())
+}
+
+/// The same where neither replaces.
+fn kept_at(steps: usize) -> Outcome {
+    // Caller 0 loads the slot in its fifth step, makes its pair in its seventh, and claims the
+    // slot in its eighth. Where the slot is taken, it makes no pair.
+    let (own, other) = if steps < 7 { (1, 0) } else { (0, 1) };
+    let (replies, last) = if steps < 8 {
+        let occupied = Some(Reply::Occupied(other));
+        ((occupied, Some(Reply::Inserted(other))), other)
+    } else {
+        (
+            (Some(Reply::Inserted(own)), Some(Reply::Occupied(own))),
+            own,
+        )
+    };
+    let values = match steps {
+        0..5 => (Some(200), None),
+        5 | 6 => (Some(200), Some(100)),
+        7 => (Some(100), Some(200)),
+        _ => (Some(100), None),
+    };
+    Outcome {
+        replies,
+        opened: 1,
+        values,
+        found: Some(Reply::Found(last)),
+    }
 }
 
 #[test]
@@ -178,31 +215,12 @@ fn stopped_insertion_that_never_replaces(rt: HostRuntime) -> Result<(), Fail> {
             Turn::Finish(1, WHOLE),
             Turn::Finish(0, WHOLE),
         ]?;
-        // Caller 0 loads the slot in its fifth step, makes its pair in its seventh, and claims the
-        // slot in its eighth. Where the slot is taken, it makes no pair.
-        let (own, other) = if steps < 7 { (1, 0) } else { (0, 1) };
-        let (replies, last) = if steps < 8 {
-            let occupied = Some(Reply::Occupied(other));
-            ((occupied, Some(Reply::Inserted(other))), other)
-        } else {
-            (
-                (Some(Reply::Inserted(own)), Some(Reply::Occupied(own))),
-                own,
-            )
-        };
-        let values = match steps {
-            0..5 => (Some(200), None),
-            5 | 6 => (Some(200), Some(100)),
-            7 => (Some(100), Some(200)),
-            _ => (Some(100), None),
-        };
-        let expected = Outcome {
-            replies,
-            opened: 1,
-            values,
-            found: Some(Reply::Found(last)),
-        };
-        is_at(&rt, steps, outcome_of(rt.alloc(), schedule)?, expected);
+        is_at(
+            &rt,
+            steps,
+            outcome_of(rt.alloc(), schedule)?,
+            kept_at(steps),
+        );
     }
     Ok(())
 }
@@ -246,26 +264,51 @@ fn stopped_beside(
     ]?)
 }
 
+/// What a removal and a lookup come to, where the removal is stopped after so many steps.
+fn looked_up_at(steps: usize) -> Outcome {
+    // The removal buries the pair in its sixth step.
+    let seen = if steps < 6 {
+        Reply::Found(0)
+    } else {
+        Reply::Absent
+    };
+    Outcome {
+        replies: (Some(Reply::Removed(0)), Some(seen)),
+        opened: 1,
+        values: (Some(1), None),
+        found: Some(Reply::Absent),
+    }
+}
+
 #[test]
 fn stopped_removal_beside_a_lookup(rt: HostRuntime) -> Result<(), Fail> {
     for steps in 0..STEPS_OF_REMOVAL + 1 {
         let call = removal(rt.alloc(), true)?;
         let schedule = stopped(rt.alloc(), call, steps, Call::Get(7))?;
-        // The removal buries the pair in its sixth step.
-        let seen = if steps < 6 {
-            Reply::Found(0)
-        } else {
-            Reply::Absent
-        };
-        let expected = Outcome {
-            replies: (Some(Reply::Removed(0)), Some(seen)),
-            opened: 1,
-            values: (Some(1), None),
-            found: Some(Reply::Absent),
-        };
-        is_at(&rt, steps, outcome_of(rt.alloc(), schedule)?, expected);
+        is_at(
+            &rt,
+            steps,
+            outcome_of(rt.alloc(), schedule)?,
+            looked_up_at(steps),
+        );
     }
     Ok(())
+}
+
+/// The same where the lookup is stopped.
+fn removed_at(steps: usize) -> Outcome {
+    // The lookup loads the slot in its third step.
+    let seen = if steps < 3 {
+        Reply::Absent
+    } else {
+        Reply::Found(0)
+    };
+    Outcome {
+        replies: (Some(seen), Some(Reply::Removed(0))),
+        opened: 1,
+        values: (Some(1), None),
+        found: Some(Reply::Absent),
+    }
 }
 
 #[test]
@@ -273,21 +316,32 @@ fn stopped_lookup_beside_a_removal(rt: HostRuntime) -> Result<(), Fail> {
     for steps in 0..STEPS_OF_LOOKUP + 1 {
         let other = removal(rt.alloc(), true)?;
         let schedule = stopped(rt.alloc(), Call::Get(7), steps, other)?;
-        // The lookup loads the slot in its third step.
-        let seen = if steps < 3 {
-            Reply::Absent
-        } else {
-            Reply::Found(0)
-        };
-        let expected = Outcome {
-            replies: (Some(seen), Some(Reply::Removed(0))),
-            opened: 1,
-            values: (Some(1), None),
-            found: Some(Reply::Absent),
-        };
-        is_at(&rt, steps, outcome_of(rt.alloc(), schedule)?, expected);
+        is_at(
+            &rt,
+            steps,
+            outcome_of(rt.alloc(), schedule)?,
+            removed_at(steps),
+        );
     }
     Ok(())
+}
+
+/// What a removal comes to that is stopped so, where its pair is replaced meanwhile.
+fn removed_or_kept_at(steps: usize) -> Outcome {
+    let replaced = Reply::Replaced { old: 0, new: 1 };
+    // The removal loads the slot in its third step, and buries the pair in its sixth. Where
+    // another pair came between, its closure is shown that one too, and keeps it.
+    let (own, other, found) = match steps {
+        0..3 => (Reply::Removed(1), replaced, Reply::Absent),
+        3..6 => (Reply::Kept(1), replaced, Reply::Found(1)),
+        _ => (Reply::Removed(0), Reply::Inserted(1), Reply::Found(1)),
+    };
+    Outcome {
+        replies: (Some(own), Some(other)),
+        opened: 1,
+        values: (Some(1), Some(2)),
+        found: Some(found),
+    }
 }
 
 #[test]
@@ -295,21 +349,12 @@ fn stopped_removal_beside_a_replacement(rt: HostRuntime) -> Result<(), Fail> {
     for steps in 0..STEPS_OF_REMOVAL + 1 {
         let call = removal(rt.alloc(), true)?;
         let schedule = stopped(rt.alloc(), call, steps, Call::Insert(7, 2))?;
-        let replaced = Reply::Replaced { old: 0, new: 1 };
-        // The removal loads the slot in its third step, and buries the pair in its sixth. Where
-        // another pair came between, its closure is shown that one too, and keeps it.
-        let (own, other, found) = match steps {
-            0..3 => (Reply::Removed(1), replaced, Reply::Absent),
-            3..6 => (Reply::Kept(1), replaced, Reply::Found(1)),
-            _ => (Reply::Removed(0), Reply::Inserted(1), Reply::Found(1)),
-        };
-        let expected = Outcome {
-            replies: (Some(own), Some(other)),
-            opened: 1,
-            values: (Some(1), Some(2)),
-            found: Some(found),
-        };
-        is_at(&rt, steps, outcome_of(rt.alloc(), schedule)?, expected);
+        is_at(
+            &rt,
+            steps,
+            outcome_of(rt.alloc(), schedule)?,
+            removed_or_kept_at(steps),
+        );
     }
     Ok(())
 }
@@ -349,6 +394,26 @@ fn closure_is_shown_each_pair_that_stands_there(rt: HostRuntime) -> Result<(), F
     Ok(())
 }
 
+/// What an insertion comes to that makes one step without memory after so many.
+fn refused_at(steps: usize) -> Outcome {
+    // A table, the key and the pair are made in these steps, and the last step counts.
+    let reply = match steps {
+        1 | 5 | 6 => Some(Reply::Refused(Refused::Memory)),
+        8 => Some(Reply::Inserted(0)),
+        _ => None,
+    };
+    Outcome {
+        replies: (reply, None),
+        opened: if steps < 2 { 0 } else { 1 },
+        values: (if steps < 7 { None } else { Some(100) }, None),
+        found: Some(if steps < 7 {
+            Reply::Absent
+        } else {
+            Reply::Found(0)
+        }),
+    }
+}
+
 #[test]
 fn step_without_memory_refuses_what_makes(rt: HostRuntime) -> Result<(), Fail> {
     for steps in 0..STEPS_OF_INSERT {
@@ -357,23 +422,12 @@ fn step_without_memory_refuses_what_makes(rt: HostRuntime) -> Result<(), Fail> {
             Turn::Finish(0, steps),
             Turn::Step(0, true),
         ]?;
-        // A table, the key and the pair are made in these steps, and the last step counts.
-        let reply = match steps {
-            1 | 5 | 6 => Some(Reply::Refused(Refused::Memory)),
-            8 => Some(Reply::Inserted(0)),
-            _ => None,
-        };
-        let expected = Outcome {
-            replies: (reply, None),
-            opened: if steps < 2 { 0 } else { 1 },
-            values: (if steps < 7 { None } else { Some(100) }, None),
-            found: Some(if steps < 7 {
-                Reply::Absent
-            } else {
-                Reply::Found(0)
-            }),
-        };
-        is_at(&rt, steps, outcome_of(rt.alloc(), schedule)?, expected);
+        is_at(
+            &rt,
+            steps,
+            outcome_of(rt.alloc(), schedule)?,
+            refused_at(steps),
+        );
     }
     Ok(())
 }
@@ -487,26 +541,35 @@ fn told_of(alloc: Global, schedule: Vec<Turn<u64, u64, Closure>>) -> Result<Told
     })
 }
 
+/// What an update comes to that is stopped so, where its pair is replaced meanwhile.
+fn updated_at(steps: usize) -> Told {
+    // The update replaces the pair in its eighth step. Until then the closure is shown 5, if
+    // perhaps after 1, and adds to that.
+    let (own, other, last) = if steps < 8 {
+        let own = Reply::Replaced { old: 5, new: 6 };
+        (own, Reply::Replaced { old: 1, new: 5 }, 6)
+    } else {
+        let own = Reply::Replaced { old: 1, new: 2 };
+        (own, Reply::Replaced { old: 2, new: 5 }, 5)
+    };
+    Told {
+        replies: (Some(own), Some(other)),
+        nones: 0,
+        found: Some(Reply::Found(last)),
+    }
+}
+
 #[test]
 fn stopped_update_beside_a_replacement(rt: HostRuntime) -> Result<(), Fail> {
     for steps in 0..STEPS_OF_UPDATE + 1 {
         let call = Call::Compute(7, Closure::AddsOne);
         let schedule = stopped(rt.alloc(), call, steps, Call::Insert(7, 5))?;
-        // The update replaces the pair in its eighth step. Until then the closure is shown 5, if
-        // perhaps after 1, and adds to that.
-        let (own, other, last) = if steps < 8 {
-            let own = Reply::Replaced { old: 5, new: 6 };
-            (own, Reply::Replaced { old: 1, new: 5 }, 6)
-        } else {
-            let own = Reply::Replaced { old: 1, new: 2 };
-            (own, Reply::Replaced { old: 2, new: 5 }, 5)
-        };
-        let expected = Told {
-            replies: (Some(own), Some(other)),
-            nones: 0,
-            found: Some(Reply::Found(last)),
-        };
-        is_at(&rt, steps, told_of(rt.alloc(), schedule)?, expected);
+        is_at(
+            &rt,
+            steps,
+            told_of(rt.alloc(), schedule)?,
+            updated_at(steps),
+        );
     }
     Ok(())
 }
@@ -515,6 +578,22 @@ fn stopped_update_beside_a_replacement(rt: HostRuntime) -> Result<(), Fail> {
 fn compute(alloc: Global, ops: Vec<Operation<u64, u64>>) -> Call<u64, u64, Closure> {
     let yes = Vec::new(alloc);
     Call::Compute(7, Closure::InTurn(Listed { ops, yes }))
+}
+
+/// What a compute comes to that is stopped so, where a pair comes and goes meanwhile.
+fn filled_at(steps: usize) -> Told {
+    // The compute claims a slot in its ninth step. Where 1 came and went before, its closure
+    // is shown only once that there is none, before or after that.
+    let found = if steps < 9 {
+        Reply::Found(10)
+    } else {
+        Reply::Absent
+    };
+    Told {
+        replies: (Some(Reply::Inserted(10)), Some(Reply::Removed(1))),
+        nones: 1,
+        found: Some(found),
+    }
 }
 
 #[test]
@@ -530,21 +609,32 @@ fn stopped_fill_beside_an_insertion_and_a_removal(rt: HostRuntime) -> Result<(),
             Turn::Finish(1, WHOLE),
             Turn::Finish(0, WHOLE),
         ]?;
-        // The compute claims a slot in its ninth step. Where 1 came and went before, its closure
-        // is shown only once that there is none, before or after that.
-        let found = if steps < 9 {
-            Reply::Found(10)
-        } else {
-            Reply::Absent
-        };
-        let expected = Told {
-            replies: (Some(Reply::Inserted(10)), Some(Reply::Removed(1))),
-            nones: 1,
-            found: Some(found),
-        };
-        is_at(&rt, steps, told_of(rt.alloc(), schedule)?, expected);
+        is_at(&rt, steps, told_of(rt.alloc(), schedule)?, filled_at(steps));
     }
     Ok(())
+}
+
+/// What a compute comes to that is stopped so, and removes what came meanwhile.
+fn shown_at(steps: usize) -> Told {
+    let replaced = Reply::Replaced { old: 1, new: 2 };
+    // The compute loads the slot in its third step, and replaces the pair in its eighth. Where
+    // 2 came between, its closure is shown first 1 and then 2, which it has removed.
+    let (own, other, found) = match steps {
+        0..3 => {
+            let own = Reply::Replaced { old: 2, new: 10 };
+            (own, replaced, Reply::Found(10))
+        }
+        3..8 => (Reply::Removed(2), replaced, Reply::Absent),
+        _ => {
+            let own = Reply::Replaced { old: 1, new: 10 };
+            (own, Reply::Replaced { old: 10, new: 2 }, Reply::Found(2))
+        }
+    };
+    Told {
+        replies: (Some(own), Some(other)),
+        nones: 0,
+        found: Some(found),
+    }
 }
 
 #[test]
@@ -553,26 +643,7 @@ fn stopped_compute_is_shown_what_came_between(rt: HostRuntime) -> Result<(), Fai
         let ops = vec![in rt.alloc(); Operation::Insert(10), Operation::Remove]?;
         let call = compute(rt.alloc(), ops);
         let schedule = stopped(rt.alloc(), call, steps, Call::Insert(7, 2))?;
-        let replaced = Reply::Replaced { old: 1, new: 2 };
-        // The compute loads the slot in its third step, and replaces the pair in its eighth. Where
-        // 2 came between, its closure is shown first 1 and then 2, which it has removed.
-        let (own, other, found) = match steps {
-            0..3 => {
-                let own = Reply::Replaced { old: 2, new: 10 };
-                (own, replaced, Reply::Found(10))
-            }
-            3..8 => (Reply::Removed(2), replaced, Reply::Absent),
-            _ => {
-                let own = Reply::Replaced { old: 1, new: 10 };
-                (own, Reply::Replaced { old: 10, new: 2 }, Reply::Found(2))
-            }
-        };
-        let expected = Told {
-            replies: (Some(own), Some(other)),
-            nones: 0,
-            found: Some(found),
-        };
-        is_at(&rt, steps, told_of(rt.alloc(), schedule)?, expected);
+        is_at(&rt, steps, told_of(rt.alloc(), schedule)?, shown_at(steps));
     }
     Ok(())
 }

@@ -13,6 +13,7 @@ use papaya_seq::seq::HashMap;
 use papaya_words::probe::Refused;
 use std::alloc::Global;
 use std::hash::{BuildHasher, Hash};
+use std::process::Abort;
 use std::test::Fail;
 
 #[test]
@@ -24,31 +25,41 @@ fn insert_then_get(rt: HostRuntime) -> Result<(), Fail> {
     Ok(())
 }
 
+/// Key 37 is stored three times, and answers what it had.
+fn replaces_twice(rt: &impl Abort, map: &mut Usual) {
+    inserts(rt, map, 37, 1, Ok(None));
+    inserts(rt, map, 37, 2, Ok(Some(&1)));
+    inserts(rt, map, 37, 3, Ok(Some(&2)));
+    finds(rt, map, 37, Some(&3));
+    is(rt, map.get_key_value(&37), Some((&37, &3)));
+    has(rt, map, 1);
+}
+
 #[test]
 fn insert_answers_the_old_value(rt: HostRuntime) -> Result<(), Fail> {
     let mut map: Usual = HashMap::default(rt.alloc())?;
-    inserts(&rt, &mut map, 37, 1, Ok(None));
-    inserts(&rt, &mut map, 37, 2, Ok(Some(&1)));
-    inserts(&rt, &mut map, 37, 3, Ok(Some(&2)));
-    finds(&rt, &map, 37, Some(&3));
-    is(&rt, map.get_key_value(&37), Some((&37, &3)));
-    has(&rt, &map, 1);
+    replaces_twice(&rt, &mut map);
     Ok(())
+}
+
+/// Key 37 keeps its first value, and key 38 gets one.
+fn keeps_the_first(rt: &impl Abort, map: &mut Numbers) {
+    tries(rt, map, 37, 1, Ok(Ok(&1)));
+    let occupied = OccupiedError {
+        current: &1,
+        not_inserted: NotInserted::Value(2),
+    };
+    tries(rt, map, 37, 2, Ok(Err(occupied)));
+    finds(rt, map, 37, Some(&1));
+    provides(rt, map, 37, 4, Ok(&1));
+    provides(rt, map, 38, 4, Ok(&4));
+    has(rt, map, 2);
 }
 
 #[test]
 fn try_insert_keeps_the_old_value(rt: HostRuntime) -> Result<(), Fail> {
     let mut map: Numbers = HashMap::with_hasher(rt.alloc(), TOGETHER)?;
-    tries(&rt, &mut map, 37, 1, Ok(Ok(&1)));
-    let occupied = OccupiedError {
-        current: &1,
-        not_inserted: NotInserted::Value(2),
-    };
-    tries(&rt, &mut map, 37, 2, Ok(Err(occupied)));
-    finds(&rt, &map, 37, Some(&1));
-    provides(&rt, &mut map, 37, 4, Ok(&1));
-    provides(&rt, &mut map, 38, 4, Ok(&4));
-    has(&rt, &map, 2);
+    keeps_the_first(&rt, &mut map);
     Ok(())
 }
 
@@ -82,33 +93,43 @@ fn removes<K: Hash + Eq + Drop, V: Drop, S: BuildHasher, Q: Equivalent<K>>(
     }
 }
 
+/// Key 5 is stored twice and removed twice.
+fn stores_and_removes(rt: &impl Abort, map: &mut Usual) {
+    is(rt, stores(map, 5, 1), Ok(false));
+    is(rt, stores(map, 5, 2), Ok(true));
+    is(rt, removes(map, &5u64), Ok(true));
+    is(rt, removes(map, &5u64), Ok(false));
+    has(rt, map, 0);
+}
+
 #[test]
 fn callers_know_the_map_after(rt: HostRuntime) -> Result<(), Fail> {
     let mut map: Usual = HashMap::new(rt.alloc())?;
-    is(&rt, stores(&mut map, 5, 1), Ok(false));
-    is(&rt, stores(&mut map, 5, 2), Ok(true));
-    is(&rt, removes(&mut map, &5u64), Ok(true));
-    is(&rt, removes(&mut map, &5u64), Ok(false));
-    has(&rt, &map, 0);
+    stores_and_removes(&rt, &mut map);
     Ok(())
+}
+
+/// The keys below 32 are stored, and 32 is not.
+fn fills_the_table(rt: &impl Abort, map: &mut Numbers) {
+    for key in 0..32u64 {
+        inserts(rt, map, key, key, Ok(None));
+    }
+    is(rt, map.slots(), 32);
+    inserts(rt, map, 32, 1, Err(Refused::Capacity));
+    tries(rt, map, 32, 1, Err(Refused::Capacity));
+    provides(rt, map, 32, 1, Err(Refused::Capacity));
+    has(rt, map, 32);
+    finds(rt, map, 32, None);
+    for key in 0..32u64 {
+        finds(rt, map, key, Some(&key));
+    }
 }
 
 /// More keys than the table has room for are refused, and what is there stays.
 #[test]
 fn full_table_refuses(rt: HostRuntime) -> Result<(), Fail> {
     let mut map: Numbers = HashMap::with_hasher(rt.alloc(), APART)?;
-    for key in 0..32u64 {
-        inserts(&rt, &mut map, key, key, Ok(None));
-    }
-    is(&rt, map.slots(), 32);
-    inserts(&rt, &mut map, 32, 1, Err(Refused::Capacity));
-    tries(&rt, &mut map, 32, 1, Err(Refused::Capacity));
-    provides(&rt, &mut map, 32, 1, Err(Refused::Capacity));
-    has(&rt, &map, 32);
-    finds(&rt, &map, 32, None);
-    for key in 0..32u64 {
-        finds(&rt, &map, key, Some(&key));
-    }
+    fills_the_table(&rt, &mut map);
     Ok(())
 }
 
@@ -120,22 +141,28 @@ fn answers(alloc: Global, yes: bool) -> Result<Listed<u64>, Fail> {
     })
 }
 
-#[test]
-fn calls_run_in_turn(rt: HostRuntime) -> Result<(), Fail> {
-    let mut map: Usual = HashMap::new(rt.alloc())?;
-    let calls = vec![in rt.alloc();
+/// Ten calls, all but one of them on key 7.
+fn ten_calls(alloc: Global) -> Result<Vec<Call<u64, u64, Listed<u64>>>, Fail> {
+    let keeps = answers(alloc, false)?;
+    let absent = answers(alloc, true)?;
+    let removes = answers(alloc, true)?;
+    Ok(vec![in alloc;
         Call::Get(7u64),
         Call::Insert(7, 1u64),
         Call::TryInsert(7, 2),
         Call::Insert(7, 3),
         Call::Get(7),
-        Call::RemoveIf(7, answers(rt.alloc(), false)?),
-        Call::RemoveIf(8, answers(rt.alloc(), true)?),
-        Call::RemoveIf(7, answers(rt.alloc(), true)?),
+        Call::RemoveIf(7, keeps),
+        Call::RemoveIf(8, absent),
+        Call::RemoveIf(7, removes),
         Call::Get(7),
         Call::TryInsert(7, 4),
-    ]?;
-    let expected = vec![in rt.alloc();
+    ]?)
+}
+
+/// What they reply.
+fn ten_replies(alloc: Global) -> Result<Vec<Reply>, Fail> {
+    Ok(vec![in alloc;
         Reply::Absent,
         Reply::Inserted(0),
         Reply::Occupied(0),
@@ -146,11 +173,22 @@ fn calls_run_in_turn(rt: HostRuntime) -> Result<(), Fail> {
         Reply::Removed(1),
         Reply::Absent,
         Reply::Inserted(2),
-    ]?;
-    is(&rt, map.run(calls)?, expected);
-    is(&rt, map.pair(1), Some((&7, &3)));
-    is(&rt, map.pair(2), Some((&7, &4)));
-    is(&rt, map.pair(3).is_none(), true);
-    has(&rt, &map, 1);
+    ]?)
+}
+
+/// They reply so, and have logged these pairs.
+fn runs_in_turn(rt: &impl Abort, alloc: Global, map: &mut Usual) -> Result<(), Fail> {
+    let replies = map.run(ten_calls(alloc)?)?;
+    is(rt, replies, ten_replies(alloc)?);
+    is(rt, map.pair(1), Some((&7, &3)));
+    is(rt, map.pair(2), Some((&7, &4)));
+    is(rt, map.pair(3).is_none(), true);
+    has(rt, map, 1);
     Ok(())
+}
+
+#[test]
+fn calls_run_in_turn(rt: HostRuntime) -> Result<(), Fail> {
+    let mut map: Usual = HashMap::new(rt.alloc())?;
+    runs_in_turn(&rt, rt.alloc(), &mut map)
 }

@@ -22,29 +22,39 @@ fn turns(rt: &impl Abort, map: &mut Usual, wanted: Result<Compute<'_, u64, u64, 
     is(rt, map.compute(65, turn), wanted);
 }
 
-#[test]
-fn compute_does_what_its_closure_says(rt: HostRuntime) -> Result<(), Fail> {
-    let mut map: Usual = HashMap::new(rt.alloc())?;
-    turns(&rt, &mut map, Ok(Compute::Aborted(())));
-    inserts(&rt, &mut map, 65, 1, Ok(None));
+/// Nothing, an odd value and an even one are turned.
+fn turns_65(rt: &impl Abort, map: &mut Usual) {
+    turns(rt, map, Ok(Compute::Aborted(())));
+    inserts(rt, map, 65, 1, Ok(None));
     let updated = Compute::Updated {
         old: (&65, &1),
         new: (&65, &2),
     };
-    turns(&rt, &mut map, Ok(updated));
-    turns(&rt, &mut map, Ok(Compute::Removed(&65, &2)));
-    finds(&rt, &map, 65, None);
+    turns(rt, map, Ok(updated));
+    turns(rt, map, Ok(Compute::Removed(&65, &2)));
+    finds(rt, map, 65, None);
+}
+
+#[test]
+fn compute_does_what_its_closure_says(rt: HostRuntime) -> Result<(), Fail> {
+    let mut map: Usual = HashMap::new(rt.alloc())?;
+    turns_65(&rt, &mut map);
     Ok(())
+}
+
+/// A compute of an absent key removes nothing, and aborts.
+fn changes_nothing(rt: &impl Abort, map: &mut Usual) {
+    let removed: Result<Compute<'_, u64, u64, ()>, Refused> = map.compute(1, |_| Operation::Remove);
+    is(rt, removed, Err(Refused::RemoveNothing));
+    let aborted = map.compute(1, |_| Operation::Abort(7u64));
+    is(rt, aborted, Ok(Compute::Aborted(7)));
+    is(rt, map.slots(), 0);
 }
 
 #[test]
 fn nothing_is_removed_from_nothing(rt: HostRuntime) -> Result<(), Fail> {
     let mut map: Usual = HashMap::new(rt.alloc())?;
-    let removed: Result<Compute<'_, u64, u64, ()>, Refused> = map.compute(1, |_| Operation::Remove);
-    is(&rt, removed, Err(Refused::RemoveNothing));
-    let aborted = map.compute(1, |_| Operation::Abort(7u64));
-    is(&rt, aborted, Ok(Compute::Aborted(7)));
-    is(&rt, map.slots(), 0);
+    changes_nothing(&rt, &mut map);
     Ok(())
 }
 
@@ -64,34 +74,44 @@ fn computes_tell_numbers(rt: HostRuntime) -> Result<(), Fail> {
     Ok(())
 }
 
-#[test]
-fn an_abort_is_left_where_it_is_wanted(rt: HostRuntime) -> Result<(), Fail> {
-    let mut map: Usual = HashMap::new(rt.alloc())?;
+/// An insertion leaves nothing, and an abort what it aborts with.
+fn leaves_its_abort(rt: &impl Abort, map: &mut Usual) {
     let mut left = None;
     let inserted = map.compute_into(1, |_| Operation::Insert(5), &mut left);
-    is(&rt, inserted, Ok(Compute::Inserted(&1, &5)));
-    is(&rt, left, None);
+    is(rt, inserted, Ok(Compute::Inserted(&1, &5)));
+    is(rt, left, None);
     let aborted = map.compute_into(1, |_| Operation::Abort(7u64), &mut left);
-    is(&rt, aborted, Ok(Compute::Aborted(())));
-    is(&rt, left, Some(7));
-    finds(&rt, &map, 1, Some(&5));
-    Ok(())
+    is(rt, aborted, Ok(Compute::Aborted(())));
+    is(rt, left, Some(7));
+    finds(rt, map, 1, Some(&5));
 }
 
 #[test]
-fn values_are_made_where_none_is(rt: HostRuntime) -> Result<(), Fail> {
+fn an_abort_is_left_where_it_is_wanted(rt: HostRuntime) -> Result<(), Fail> {
     let mut map: Usual = HashMap::new(rt.alloc())?;
-    is(&rt, map.try_insert_with(37, || 1), Ok(Ok(&1)));
+    leaves_its_abort(&rt, &mut map);
+    Ok(())
+}
+
+/// The closures of absent keys are called, and no others.
+fn makes_two_values(rt: &impl Abort, map: &mut Usual) {
+    is(rt, map.try_insert_with(37, || 1), Ok(Ok(&1)));
     let mut called = false;
     let second = map.try_insert_with(37, || {
         called = true;
         2
     });
-    is(&rt, second, Ok(Err(&1)));
-    is(&rt, called, false);
-    is(&rt, map.get_or_insert_with(37, || 3), Ok(&1));
-    is(&rt, map.get_or_insert_with(38, || 3), Ok(&3));
-    has(&rt, &map, 2);
+    is(rt, second, Ok(Err(&1)));
+    is(rt, called, false);
+    is(rt, map.get_or_insert_with(37, || 3), Ok(&1));
+    is(rt, map.get_or_insert_with(38, || 3), Ok(&3));
+    has(rt, map, 2);
+}
+
+#[test]
+fn values_are_made_where_none_is(rt: HostRuntime) -> Result<(), Fail> {
+    let mut map: Usual = HashMap::new(rt.alloc())?;
+    makes_two_values(&rt, &mut map);
     Ok(())
 }
 
@@ -112,14 +132,19 @@ fn updates(rt: &impl Abort, map: &mut Usual, key: u64, by: u64, wanted: Option<&
     is(rt, map.update(key, |v| v.wrapping_add(by)), Ok(wanted));
 }
 
+/// Two keys are put there and then counted up.
+fn counts_up(rt: &impl Abort, map: &mut Usual) {
+    adds(rt, map, 0);
+    adds(rt, map, 1);
+    updates(rt, map, 2, 1, None);
+    adds_or_makes(rt, map, 5);
+    adds_or_makes(rt, map, 6);
+}
+
 #[test]
 fn updates_compute_the_next_value(rt: HostRuntime) -> Result<(), Fail> {
     let mut map: Usual = HashMap::new(rt.alloc())?;
-    adds(&rt, &mut map, 0);
-    adds(&rt, &mut map, 1);
-    updates(&rt, &mut map, 2, 1, None);
-    adds_or_makes(&rt, &mut map, 5);
-    adds_or_makes(&rt, &mut map, 6);
+    counts_up(&rt, &mut map);
     Ok(())
 }
 

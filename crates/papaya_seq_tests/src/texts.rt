@@ -29,26 +29,36 @@ fn finds(rt: &impl Abort, map: &Texts, key: &str, wanted: Option<&u64>) {
     is(rt, map.contains_key(&TextKey(key)), wanted.is_some());
 }
 
+/// Two texts are stored and looked up.
+fn finds_two(rt: &impl Abort, alloc: Global, map: &mut Texts) -> Result<(), Fail> {
+    inserts(rt, alloc, map, "red", 1, Ok(None))?;
+    inserts(rt, alloc, map, "blue", 2, Ok(None))?;
+    finds(rt, map, "red", Some(&1));
+    finds(rt, map, "green", None);
+    let blue = "blue".to_string(alloc)?;
+    is(rt, map.contains_key(&blue), true);
+    Ok(())
+}
+
 #[test]
 fn texts_are_looked_up_by_text(rt: HostRuntime) -> Result<(), Fail> {
     let mut map: Texts = HashMap::new(rt.alloc())?;
-    inserts(&rt, rt.alloc(), &mut map, "red", 1, Ok(None))?;
-    inserts(&rt, rt.alloc(), &mut map, "blue", 2, Ok(None))?;
-    finds(&rt, &map, "red", Some(&1));
-    finds(&rt, &map, "green", None);
-    let blue = "blue".to_string(rt.alloc())?;
-    is(&rt, map.contains_key(&blue), true);
+    finds_two(&rt, rt.alloc(), &mut map)
+}
+
+/// One of two texts is replaced and removed.
+fn removes_red(rt: &impl Abort, alloc: Global, map: &mut Texts) -> Result<(), Fail> {
+    inserts(rt, alloc, map, "red", 1, Ok(None))?;
+    inserts(rt, alloc, map, "blue", 2, Ok(None))?;
+    inserts(rt, alloc, map, "red", 3, Ok(Some(&1)))?;
+    is(rt, map.remove(&TextKey("red")), Ok(Some(&3)));
+    finds(rt, map, "red", None);
+    is(rt, map.len(), 1);
     Ok(())
 }
 
 #[test]
 fn texts_are_removed_by_text(rt: HostRuntime) -> Result<(), Fail> {
     let mut map: Texts = HashMap::new(rt.alloc())?;
-    inserts(&rt, rt.alloc(), &mut map, "red", 1, Ok(None))?;
-    inserts(&rt, rt.alloc(), &mut map, "blue", 2, Ok(None))?;
-    inserts(&rt, rt.alloc(), &mut map, "red", 3, Ok(Some(&1)))?;
-    is(&rt, map.remove(&TextKey("red")), Ok(Some(&3)));
-    finds(&rt, &map, "red", None);
-    is(&rt, map.len(), 1);
-    Ok(())
+    removes_red(&rt, rt.alloc(), &mut map)
 }

@@ -1,10 +1,13 @@
-//! What is printed, and what no clause says of failures.
-use super::{run_on, time_workload};
+// What is printed, and what no clause says of failures.
+use papaya_measure::run::{run_on, time_workload};
 use papaya_plan::plan::{Plan, Workload};
 use papaya_shell::fakes::{Sink, words};
 use std::alloc::Global;
 use std::process::Abort;
+use std::rt::Clock;
+use std::sync::Wait;
 use std::test::Fail;
+use std::thread::Threads;
 
 /// Two rounds at 64 keys. The values are the keys' numbers, which sum to 2016; what is not there
 /// counts 1; and the second round of replacements finds each value 1 greater.
@@ -33,6 +36,21 @@ fn the_backends_agree(rt: HostRuntime) -> Result<(), Fail> {
     Ok(())
 }
 
+/// Asserts that a run with these arguments says that they are bad, and prints nothing.
+fn refuses<R: Clock + Threads + Wait + Sync + Abort>(
+    rt: &R,
+    alloc: Global,
+    args: &[String],
+) -> Result<(), Fail> {
+    let mut printed = Vec::new(alloc);
+    let mut said = Vec::new(alloc);
+    let status = run_on(rt, alloc, args, &mut printed, &mut said);
+    has_written(rt, printed.as_slice(), "", args)?;
+    has_written(rt, said.as_slice(), "papaya-bench: bad arguments\n", args)?;
+    has_ended(rt, status, 2);
+    Ok(())
+}
+
 #[test]
 fn bad_arguments(rt: HostRuntime) -> Result<(), Fail> {
     for args in [
@@ -46,17 +64,7 @@ fn bad_arguments(rt: HostRuntime) -> Result<(), Fail> {
         "check",
     ] {
         let args = words(rt.alloc(), args)?;
-        let mut printed = Vec::new(rt.alloc());
-        let mut said = Vec::new(rt.alloc());
-        let status = run_on(&rt, rt.alloc(), args.as_slice(), &mut printed, &mut said);
-        has_written(&rt, printed.as_slice(), "", args.as_slice())?;
-        has_written(
-            &rt,
-            said.as_slice(),
-            "papaya-bench: bad arguments\n",
-            args.as_slice(),
-        )?;
-        has_ended(&rt, status, 2);
+        refuses(&rt, rt.alloc(), args.as_slice())?;
     }
     Ok(())
 }
@@ -64,6 +72,18 @@ fn bad_arguments(rt: HostRuntime) -> Result<(), Fail> {
 /// Asserts that this is the next part of a line, or that there is none.
 fn is_part<A: Abort>(rt: &A, found: Option<&str>, wanted: Option<&str>) {
     assert_eq!(rt; found, wanted);
+}
+
+/// Asserts that a line has these parts: a name, 24 steps, a time, and the sum 84.
+fn is_line<A: Abort>(rt: &A, line: &str, name: Option<&str>) -> Result<(), Fail> {
+    let mut parts = line.split(' ');
+    is_part(rt, parts.next(), name);
+    is_part(rt, parts.next(), Some("24"));
+    let nanoseconds = parts.next().ok_or("a time")?;
+    assert!(rt; nanoseconds.parse::<u64>().is_ok(), "in {line}");
+    is_part(rt, parts.next(), Some("84"));
+    is_part(rt, parts.next(), None);
+    Ok(())
 }
 
 #[test]
@@ -78,15 +98,27 @@ fn a_line_of_time(rt: HostRuntime) -> Result<(), Fail> {
     assert!(rt; time_workload(&rt, rt.alloc(), plan, &mut printed).is_ok());
     let mut names = ["get-hit/seq/8", "get-hit/shared/8", "get-hit/threads/8"].iter();
     for line in std::str::from_utf8(printed.as_slice())?.lines() {
-        let mut parts = line.split(' ');
-        is_part(&rt, parts.next(), names.next().copied());
-        is_part(&rt, parts.next(), Some("24"));
-        let nanoseconds = parts.next().ok_or("a time")?;
-        assert!(rt; nanoseconds.parse::<u64>().is_ok(), "in {line}");
-        is_part(&rt, parts.next(), Some("84"));
-        is_part(&rt, parts.next(), None);
+        is_line(&rt, line, names.next().copied())?;
     }
     is_part(&rt, names.next().copied(), None);
+    Ok(())
+}
+
+/// Asserts that a run whose output takes this much of what is printed fails after it.
+fn fails_after<R: Clock + Threads + Wait + Sync + Abort>(
+    rt: &R,
+    alloc: Global,
+    wanted: &str,
+) -> Result<(), Fail> {
+    let mut output = Sink {
+        text: Vec::new(alloc),
+        room: wanted.len(),
+    };
+    let mut said = Vec::new(alloc);
+    let status = run_on(rt, alloc, &[], &mut output, &mut said);
+    has_written(rt, output.text.as_slice(), wanted, &[])?;
+    has_written(rt, said.as_slice(), "papaya-bench: output failed\n", &[])?;
+    has_ended(rt, status, 1);
     Ok(())
 }
 
@@ -94,15 +126,7 @@ fn a_line_of_time(rt: HostRuntime) -> Result<(), Fail> {
 fn faults_of_the_output(rt: HostRuntime) -> Result<(), Fail> {
     // The first write fails, one in the middle of a line, and one of the last line.
     for room in [0, 20, CHECKED.len() - 1] {
-        let mut output = Sink {
-            text: Vec::new(rt.alloc()),
-            room,
-        };
-        let mut said = Vec::new(rt.alloc());
-        let status = run_on(&rt, rt.alloc(), &[], &mut output, &mut said);
-        has_written(&rt, output.text.as_slice(), &CHECKED[..room], &[])?;
-        has_written(&rt, said.as_slice(), "papaya-bench: output failed\n", &[])?;
-        has_ended(&rt, status, 1);
+        fails_after(&rt, rt.alloc(), &CHECKED[..room])?;
     }
     Ok(())
 }

@@ -1,5 +1,5 @@
 use Rattle.std.proofs.Common.{◌≡◌}
-use Rattle.papaya_bench.proofs.shared.fill.Given as goal
+use Rattle.papaya_measure.proofs.shared.fill.Given as goal
 
 -- the pass is the map's
 abbrev pub invariant-loop-number : goal.invariant-loop-number

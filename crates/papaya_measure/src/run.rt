@@ -14,9 +14,6 @@ use std::rt::Clock;
 use std::sync::Wait;
 use std::thread::Threads;
 
-#[cfg(test)]
-mod tests;
-
 /// The name of the program in what it prints on standard error.
 pub const PROGRAM: &str = "papaya-bench";
 
@@ -66,7 +63,7 @@ fn check<R: Clock + Threads + Wait + Sync, W: Write>(
 }
 
 /// Prints a line of the time that each backend takes for one workload.
-fn time_workload<R: Clock + Threads + Wait + Sync, W: Write>(
+pub fn time_workload<R: Clock + Threads + Wait + Sync, W: Write>(
     rt: &R,
     alloc: Global,
     plan: Plan,

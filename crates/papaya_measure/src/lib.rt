@@ -1,0 +1,7 @@
+//! The workloads of `papaya-bench` on each map: their answers compared, or their rounds timed.
+#![tactic(auto)]
+
+mod backends;
+mod one_caller;
+pub mod run;
+mod shared;
