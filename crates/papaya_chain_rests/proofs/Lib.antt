@@ -14,3 +14,5 @@ pub mod Names
 pub mod Goes
 pub mod Replies
 pub mod Order
+-- what its closure is shown once
+pub mod Once
