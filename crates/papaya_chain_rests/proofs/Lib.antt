@@ -16,3 +16,6 @@ pub mod Replies
 pub mod Order
 -- what its closure is shown once
 pub mod Once
+-- why it is refused
+pub mod CopyRefusals
+pub mod Refusals
