@@ -14,3 +14,8 @@ pub mod Names
 pub mod Goes
 pub mod Replies
 pub mod Order
+-- what its closure is shown once
+pub mod Once
+-- why it is refused
+pub mod CopyRefusals
+pub mod Refusals

@@ -40,7 +40,7 @@ use Rattle.papaya_chain_rests.specs.Told.{Hands, IsTold}
 use Rattle.papaya_chain_rests.proofs.Goes.{machine_goes}
 
 -- a call that is set aside loads the number of a table, and has changed nothing
-aside_asks : (made : Made) (hash : ℕ) (stage : Stage) (t : ℕ) → left_by stage ≡ Some t → asks made hash stage ≡ Load (Next t)
+pub aside_asks : (made : Made) (hash : ℕ) (stage : Stage) (t : ℕ) → left_by stage ≡ Some t → asks made hash stage ≡ Load (Next t)
 aside_asks made hash (Leaving u) t e = let same : u ≡ t = cc e in ap (λ n. Load (Next n)) same
 aside_asks made hash (Growing need) t e = let same : needed need ≡ t = cc e in ap (λ n. Load (Next n)) same
 aside_asks made hash stage t e = absurd cc
@@ -63,7 +63,7 @@ refused_silent RemoveIf refused = refl
 refused_silent Compute refused = refl
 
 -- what holds where a call that was told of the root stands
-anew : (Holds : Stage → Type 0) → Holds (Ended Absent) → Holds Making → Holds (Offering NoRoot) → ((t : ℕ) → Holds (Searching (Sizing t))) → (task : Task) (fill : Option ℕ) (root : ℕ) → Holds (at_root task fill root)
+pub anew : (Holds : Stage → Type 0) → Holds (Ended Absent) → Holds Making → Holds (Offering NoRoot) → ((t : ℕ) → Holds (Searching (Sizing t))) → (task : Task) (fill : Option ℕ) (root : ℕ) → Holds (at_root task fill root)
 anew Holds absent making offering searching Get fill root = cond_both (root == 0) (Ended Absent) (Searching (Sizing root)) Holds (λ _. absent) (λ _. searching root)
 anew Holds absent making offering searching (Insert replace) fill root = cond_both (root == 0) Making (Searching (Sizing root)) Holds (λ _. making) (λ _. searching root)
 anew Holds absent making offering searching RemoveIf fill root = cond_both (root == 0) (Ended Absent) (Searching (Sizing root)) Holds (λ _. absent) (λ _. searching root)

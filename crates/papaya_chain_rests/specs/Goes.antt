@@ -1,11 +1,26 @@
 -- Where an answer leaves the call of a machine over a chain, and what it has changed and said.
-use Rattle.std.specs.Prelude.{◌≡◌, ◌⊎◌, ℕ, ℤ, pos, Option, Some}
+use Rattle.std.specs.Prelude.{◌≡◌, ◌⊎◌, ℕ, ℤ, pos, ◌<◌, ◌^◌, Bool, Option, None, Some}
+use Rattle.papaya_words.specs.Table.{length_after}
 use Rattle.papaya_words.specs.declared.probe.Refused.{Refused}
+use Rattle.papaya_words.specs.declared.probe.Refused.TheVariants.{Capacity, RemoveNothing}
 use Rattle.papaya_ask.specs.declared.ask.Answer.{Answer as Call_answer}
-use Rattle.papaya_ask.specs.declared.ask.Answer.TheVariants.{Word as Word_read}
+use Rattle.papaya_ask.specs.declared.ask.Answer.TheVariants.{Word as Word_read, Op, Refused as Was_refused}
+use Rattle.papaya_ask.specs.declared.ask.Ask.TheVariants.{ShowNone}
+use Rattle.papaya_ask.specs.declared.ask.OpKind.TheVariants.{Remove}
 use Rattle.papaya_ask.specs.declared.ask.StepKind.{StepKind}
 use Rattle.papaya_ask.specs.declared.call.Reply.TheVariants.{Refused as Reply_refused}
+use Rattle.papaya_ask.specs.declared.copy_ask.CopyAsk.TheVariants.{Count, MakeTable}
 use Rattle.papaya_ask.specs.declared.search.Search.TheVariants.{Sizing}
+use Rattle.papaya_copy.specs.declared.carry.Carry.{Carry}
+use Rattle.papaya_copy.specs.declared.carry.Carry.TheVariants.{Linking as Link_to_carry}
+use Rattle.papaya_copy.specs.declared.copying.Copying.{Copying}
+use Rattle.papaya_copy.specs.declared.copying.Copying.TheVariants.{Stepping, Lone}
+use Rattle.papaya_copy.specs.declared.link.Link.{Link}
+use Rattle.papaya_copy.specs.declared.link.Link.TheVariants.{Counting}
+use Rattle.papaya_copy.specs.declared.settle.Settle.{Settle}
+use Rattle.papaya_copy.specs.declared.settle.Settle.TheVariants.{Carrying}
+use Rattle.papaya_copy.specs.declared.step.Step.{Step}
+use Rattle.papaya_copy.specs.declared.step.Step.TheVariants.{Linking as Link_to_step, Settling}
 use Rattle.papaya_call.specs.declared.machine.State.TheVariants.{AtRoot, Searching, Ended}
 use Rattle.papaya_call.specs.Machine as call_machine
 use Rattle.papaya_chain.specs.declared.ask.Ask.{Ask}
@@ -15,7 +30,7 @@ use Rattle.papaya_chain.specs.declared.ask.Answer.TheVariants as answers
 use Rattle.papaya_chain.specs.declared.machine.Machine.{Machine}
 use Rattle.papaya_chain.specs.declared.machine.Phase.{Phase}
 use Rattle.papaya_chain.specs.declared.machine.Phase.TheVariants.{Calling, Linking, Copying as Copying_root}
-use Rattle.papaya_chain.specs.Machine.{after}
+use Rattle.papaya_chain.specs.Machine.{after, ask_of}
 use Rattle.papaya_rests.specs.Owed.{grows_by, owed_by}
 use Rattle.papaya_rests.specs.Rests.{Change, change_after}
 use Rattle.papaya_chain_rests.specs.Rests.{left_by}
@@ -81,3 +96,62 @@ owed_in (asks.Copy ask) = pos 0
 abbrev pub grown_by : Option StepKind → Ask → Answer → ℤ
 grown_by kind (asks.Call ask) (answers.Call answer) = grows_by kind ask answer
 grown_by kind _ _ = pos 0
+
+-- the making of a table under way in a copy, or for the call itself, if one is
+abbrev pub link_in_carry : Carry → Option Link
+link_in_carry (Link_to_carry hash link) = Some link
+link_in_carry _ = None
+
+abbrev pub link_in_settle : Settle → Option Link
+link_in_settle (Carrying word carry) = link_in_carry carry
+link_in_settle _ = None
+
+abbrev pub link_in_step : Step → Option Link
+link_in_step (Link_to_step from link) = Some link
+link_in_step (Settling chunk settle) = link_in_settle settle
+link_in_step _ = None
+
+abbrev pub link_in_copying : Copying → Option Link
+link_in_copying (Stepping aim step) = link_in_step step
+link_in_copying (Lone slot settle) = link_in_settle settle
+
+abbrev pub link_in : Phase → Option Link
+link_in Calling = None
+link_in (Linking link) = Some link
+link_in (Copying_root copying) = link_in_copying copying
+
+-- the answer is the call's own refusal: what it asked for was refused so, or its closure would
+-- remove a pair where there is none
+pub record IsOwnRefusal (m : Machine) (answer : Answer) (refused : Refused) : Type 0 where
+  pub own : IsOwnStep m answer
+  pub why : (own.told ≡ Was_refused refused) ⊎ ((refused ≡ RemoveNothing)
+      × (ask_of m ≡ asks.Call ShowNone) × (own.told ≡ Op Remove))
+
+-- a next table was to be made, of these sizes, and was refused so
+pub record WasNotMade (m : Machine) (answer : Answer) (refused : Refused) : Type 0 where
+  pub slots : ℕ
+  pub limit : ℕ
+  pub asks : ask_of m ≡ asks.Copy (MakeTable slots limit)
+  pub is : answer ≡ answers.Call (Was_refused refused)
+
+-- the table after one of so many slots would be longer than a table may be, by the count answered
+pub record WouldBeTooLong (m : Machine) (answer : Answer) (refused : Refused) : Type 0 where
+  pub capacity : refused ≡ Capacity
+  pub after : ℕ
+  pub unfit : Bool
+  pub slots : ℕ
+  pub link : link_in m.phase ≡ Some (Counting after unfit slots)
+  pub asks : ask_of m ≡ asks.Copy Count
+  pub count : ℕ
+  pub is : answer ≡ answers.Count count
+  pub long : 2 ^ 32 < length_after slots count m.call.initial unfit
+
+-- the call was set aside, and the next table that is needed could not be made
+pub record IsTableRefusal (m : Machine) (answer : Answer) (refused : Refused) : Type 0 where
+  pub from : ℕ
+  pub left : left_by m.call.state ≡ Some from
+  pub why : WasNotMade m answer refused ⊎ WouldBeTooLong m answer refused
+
+-- why an answer ends a call refused
+abbrev pub IsCause : Machine → Answer → Refused → Type 0
+IsCause m answer refused = IsOwnRefusal m answer refused ⊎ IsTableRefusal m answer refused

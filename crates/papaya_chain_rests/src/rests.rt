@@ -12,18 +12,19 @@ ghost use Rattle.papaya_law.specs.Exchange.{Setting, Exchange, after as state_af
 ghost use Rattle.papaya_law.specs.Grows.{Agrees};
 ghost use Rattle.papaya_rests.specs.Copier.{AreThere, IsCopyAsked};
 ghost use Rattle.papaya_rests.specs.Rests.{IsModeOf, Rests as CallRests, change_in};
-ghost use Rattle.papaya_rests.specs.Says.{IsSaidBy, Said, ShowsPairs, StandsOn};
+ghost use Rattle.papaya_rests.specs.Says.{HasShownNone, IsSaidBy, Said, ShowsPairs, StandsOn};
 ghost use Rattle.papaya_rests.specs.Told.{IsWritten, word_of};
 ghost use Rattle.papaya_chain.specs.Machine.{after, ask_of, follows_of, kind_of_ask, started};
-ghost use Rattle.papaya_chain_rests.specs.Goes.{Goes, IsOwnStep, change_by, grown_by, owed_in};
+ghost use Rattle.papaya_chain_rests.specs.Goes.{Goes, IsCause, IsOwnStep, change_by, grown_by, owed_in};
 ghost use Rattle.papaya_chain_rests.specs.Rests.{Rests};
 ghost use Rattle.papaya_chain_rests.specs.Told.{Hands, IsTold, no_hands};
 
 use papaya_ask::ask::{Ask as CallAsk, At};
-use papaya_ask::call::Task;
+use papaya_ask::call::{Reply, Task};
 use papaya_ask::copy_ask::CopyAsk;
 use papaya_chain::ask::{Answer, Ask};
 use papaya_chain::machine::Machine;
+use papaya_words::probe::Refused;
 
 /// A call that begins rests on the exchanges as they are.
 pub fn begins<K, P>()
@@ -114,4 +115,29 @@ pub fn goes<K, P>()
         (kind_of_ask m) (follows_of m) hands (ask_of m) answer es hands' → IsStanding m.call
         → ShowsPairs m.call.state → (said : Said) → StandsOn (after m answer).call said
         → StandsOn m.call said ⊎ ((own : IsOwnStep m answer) × IsSaidBy m.call own.told said) }
+{}
+
+/// A closure is shown once at most that its key is absent, however often the call is set aside: one
+/// that was shown it is shown it no more.
+pub fn once<K, P>()
+    ensures { (g : Setting K P) (c : Coding K P) (begun since : List (Exchange P)) (k : K)
+        (m : Machine) (hands : Hands P) → Rests g c begun since k m hands → (answer : Answer)
+        (es : List (Exchange P)) (hands' : Hands P) → IsTold g c k (run (begun ++ since) start)
+        (kind_of_ask m) (follows_of m) hands (ask_of m) answer es hands'
+        → HasShownNone m.call.remembered.fill m.call.state
+        → (ask_of m ≡ Ask.Call CallAsk.ShowNone → ⊥)
+        × HasShownNone (after m answer).call.remembered.fill (after m answer).call.state }
+{}
+
+/// A call is refused for one of four reasons. What it asked for was refused, or its closure would
+/// remove a pair where there is none. Or, when it was set aside, the next table was refused, or
+/// would be longer than a table may be.
+pub fn refusals<K, P>()
+    ensures { (g : Setting K P) (c : Coding K P) (begun since : List (Exchange P)) (k : K)
+        (m : Machine) (hands : Hands P) → Rests g c begun since k m hands → (answer : Answer)
+        (es : List (Exchange P)) (hands' : Hands P) → IsTold g c k (run (begun ++ since) start)
+        (kind_of_ask m) (follows_of m) hands (ask_of m) answer es hands' → (refused : Refused)
+        → ((reply : Reply) → ask_of m ≡ Ask.Call (CallAsk.Done reply) → ⊥)
+        → ask_of (after m answer) ≡ Ask.Call (CallAsk.Done (Reply.Refused refused))
+        → IsCause m answer refused }
 {}

@@ -1,0 +1,44 @@
+-- A call over a chain shows once at most that its key is absent.
+use Rattle.std.proofs.Common.{◌≡◌, inl, inr, ℕ, Option, Some, sym, subst}
+use Rattle.papaya_ask.specs.declared.ask.Answer.TheVariants.{Word as Word_read}
+use Rattle.papaya_ask.specs.declared.ask.Ask.TheVariants.{ShowNone}
+use Rattle.papaya_ask.specs.declared.call.Reply.TheVariants.{Refused as Reply_refused}
+use Rattle.papaya_ask.specs.declared.search.Search.TheVariants.{Sizing}
+use Rattle.papaya_call.specs.declared.machine.Machine.{Machine as Call_machine}
+use Rattle.papaya_call.specs.declared.machine.State.{State as Stage}
+use Rattle.papaya_call.specs.declared.machine.State.TheVariants.{AtRoot, Searching, Leaving, Growing, Ended}
+use Rattle.papaya_chain.specs.declared.ask.Ask.TheVariants as asked
+use Rattle.papaya_chain.specs.declared.ask.Answer.{Answer}
+use Rattle.papaya_chain.specs.declared.machine.Machine.{Machine}
+use Rattle.papaya_chain.specs.Machine.{after, ask_of}
+use Rattle.papaya_rests.specs.Says.{HasShownNone, IsFilled}
+use Rattle.papaya_rests.proofs.SaysOnce.{machine_shown}
+use Rattle.papaya_chain_rests.specs.Goes.{IsInOrder}
+use Rattle.papaya_chain_rests.specs.Rests.{left_by}
+use Rattle.papaya_chain_rests.proofs.Goes.{machine_goes}
+use Rattle.papaya_chain_rests.proofs.Names.{call_asks}
+
+-- a call that is set aside has shown it where it remembers what to insert
+aside_filled : (fill : Option ℕ) (stage : Stage) (t : ℕ) → left_by stage ≡ Some t → HasShownNone fill stage → IsFilled fill
+aside_filled fill (Leaving u) t e h = h
+aside_filled fill (Growing need) t e h = h
+aside_filled fill stage t e h = absurd cc
+
+-- the call has shown it
+abbrev HasShown : Call_machine → Type 0
+HasShown call = HasShownNone call.remembered.fill call.state
+
+module _ (m : Machine) (answer : Answer) (order : IsInOrder m answer m.phase) (shown : HasShownNone m.call.remembered.fill m.call.state) where
+  -- where the answer leaves the call it has shown it
+  still_shown : HasShown (after m answer).call
+  still_shown = elim (machine_goes m answer order) [
+    | inl waits ↦ subst HasShown (sym waits.call) shown
+    | inr (inl own) ↦ subst HasShown (sym own.call) (machine_shown m.call own.told shown).1
+    | inr (inr (inl enters)) ↦ subst HasShown (sym enters.call) (aside_filled m.call.remembered.fill m.call.state enters.from enters.left shown)
+    | inr (inr (inr (inl begins))) ↦ subst HasShown (sym begins.call) (machine_shown (record m.call { state = AtRoot }) (Word_read begins.root) (aside_filled m.call.remembered.fill m.call.state begins.from begins.left shown)).1
+    | inr (inr (inr (inr ends))) ↦ subst HasShown (sym ends.call) tt
+  ]
+
+  -- so it shows it no more
+  pub chain_once : (ask_of m ≡ asked.Call ShowNone → ⊥) × HasShownNone (after m answer).call.remembered.fill (after m answer).call.state
+  chain_once = (λ asks. (machine_shown m.call (Word_read 0) shown).0 (call_asks m ShowNone asks).1, still_shown)

@@ -1,0 +1,213 @@
+-- Why a call over a chain is refused.
+use Rattle.std.proofs.Common.{◌≡◌, ◌⊎◌, inl, inr, ℕ, ◌==◌, ◌<◌, ◌^◌, Bool, true, false, nat_le, cond, Option, None, Some, refl, sym, ap, ◌∙◌, leb-false}
+use Rattle.std.proofs.lemmas.Bool.{cond_both}
+use Rattle.papaya_words.specs.Table.{length_after}
+use Rattle.papaya_words.specs.declared.probe.Refused.{Refused}
+use Rattle.papaya_words.specs.declared.probe.Refused.TheVariants.{Capacity}
+use Rattle.papaya_words.specs.declared.probe.ResizeMode.{ResizeMode}
+use Rattle.papaya_words.specs.declared.probe.ResizeMode.TheVariants.{Incremental, Blocking}
+use Rattle.papaya_ask.specs.declared.ask.Answer.{Answer as Call_answer}
+use Rattle.papaya_ask.specs.declared.ask.Answer.TheVariants.{Word as Word_read, Exchanged, Found as Found_instead, Yes, Op, Size, Made as Made_number, Ok as Ok_done, Refused as Was_refused}
+use Rattle.papaya_ask.specs.declared.ask.Ask.TheVariants.{Load, Done as Ask_done}
+use Rattle.papaya_ask.specs.declared.call.Reply.{Reply}
+use Rattle.papaya_ask.specs.declared.call.Reply.TheVariants.{Refused as Reply_refused}
+use Rattle.papaya_ask.specs.declared.call.Task.{Task}
+use Rattle.papaya_ask.specs.declared.call.Task.TheVariants.{Get, Insert, RemoveIf, Compute}
+use Rattle.papaya_call.specs.declared.machine.Machine.{Machine as Call_machine}
+use Rattle.papaya_call.specs.declared.machine.State.{State as Stage}
+use Rattle.papaya_call.specs.declared.machine.State.TheVariants.{Leaving, Growing}
+use Rattle.papaya_call.specs.declared.need.Need.{Need}
+use Rattle.papaya_call.specs.Machine.{asks, needed}
+use Rattle.papaya_call.specs.Machine as call_machine
+use Rattle.papaya_copy.specs.declared.copying.Aim.{Aim}
+use Rattle.papaya_copy.specs.declared.copying.Aim.TheVariants as aims
+use Rattle.papaya_copy.specs.declared.copying.Copied.{Copied}
+use Rattle.papaya_copy.specs.declared.copying.Copied.TheVariants as copied
+use Rattle.papaya_copy.specs.declared.copying.Copying.{Copying}
+use Rattle.papaya_copy.specs.declared.link.Link.{Link}
+use Rattle.papaya_copy.specs.declared.link.Link.TheVariants as links
+use Rattle.papaya_copy.specs.declared.link.Linked.{Linked}
+use Rattle.papaya_copy.specs.declared.link.Linked.TheVariants as linked
+use Rattle.papaya_copy.specs.Link as making
+use Rattle.papaya_copy.specs.Link.{link_ask}
+use Rattle.papaya_chain.specs.declared.ask.Ask.{Ask}
+use Rattle.papaya_chain.specs.declared.ask.Ask.TheVariants as asked
+use Rattle.papaya_chain.specs.declared.ask.Answer.{Answer}
+use Rattle.papaya_chain.specs.declared.ask.Answer.TheVariants as answers
+use Rattle.papaya_chain.specs.declared.machine.Machine.{Machine}
+use Rattle.papaya_chain.specs.declared.machine.Phase.{Phase}
+use Rattle.papaya_chain.specs.declared.machine.Phase.TheVariants.{Calling, Linking, Copying as Copying_root}
+use Rattle.papaya_chain.specs.Machine.{after, after_copied, after_in, after_linked, aim_for, answered, ask_of, asks_in, called, copying_after, goes_on, grows_as, leaves, link_after, onward, stepped, told_next}
+use Rattle.papaya_rests.proofs.RestsReplyRefused.{IsReason, machine_reason}
+use Rattle.papaya_chain_rests.specs.Goes.{IsCause, IsInOrder, IsOwnRefusal, IsOwnStep, IsTableRefusal, WasNotMade, WouldBeTooLong, link_in, link_in_copying}
+use Rattle.papaya_chain_rests.specs.Rests.{left_by}
+use Rattle.papaya_chain_rests.proofs.CopyRefusals.{copying_asks, copying_count_as, copying_exchanged_none, copying_found_none, copying_refused_as, copying_word_none, copying_yes_none, of_copied, of_link, of_linked}
+use Rattle.papaya_chain_rests.proofs.Names.{call_asks}
+use Rattle.papaya_chain_rests.proofs.Replies.{anew, aside_asks}
+
+-- the refusal that an ask ends a call with
+abbrev of_reply : Reply → Option Refused
+of_reply (Reply_refused refused) = Some refused
+of_reply _ = None
+
+abbrev of_asked : Ask → Option Refused
+of_asked (asked.Call (Ask_done reply)) = of_reply reply
+of_asked _ = None
+
+-- a call that needs a further table is refused by a word alone
+growing_word : (call : Call_machine) (need : Need) (refused : Refused) (told : Call_answer) → call.state ≡ Growing need → call_machine.ask_of (call_machine.after call told) ≡ Ask_done (Reply_refused refused) → (word : ℕ) × (told ≡ Word_read word)
+growing_word call need refused told grows e = by_answer told (ap (λ stage. call_machine.ask_of (call_machine.after (record call { state = stage }) told)) (sym grows) ∙ e)
+  where
+    by_answer : (told : Call_answer) → call_machine.ask_of (call_machine.after (record call { state = Growing need }) told) ≡ Ask_done (Reply_refused refused) → (word : ℕ) × (told ≡ Word_read word)
+    by_answer (Word_read word) e = (word, refl)
+    by_answer other e = absurd cc
+
+module _ (m : Machine) where
+  -- a call that goes on in the next table isn't refused
+  goes_none : (helped : Bool) (aim : Aim) (n : ℕ) → of_asked (ask_of (goes_on m helped aim n)) ≡ None
+  goes_none false aim n = refl
+  goes_none true (aims.Settle slot) n = refl
+  goes_none true (aims.Search table) n = refl
+  goes_none true aims.Chunk n = refl
+  goes_none true (aims.All met) n = refl
+
+  onward_none : (n : ℕ) → of_asked (ask_of (onward m n)) ≡ None
+  onward_none n = goes_none m.helped (aim_for m.call.state n) n
+
+  -- nor one that is told of the next table it needs
+  grows_none : (mode : ResizeMode) (need : Need) (word : ℕ) → of_asked (ask_of (grows_as m mode need word)) ≡ None
+  grows_none Blocking need word = refl
+  grows_none (Incremental chunk) need word = cond_both (word == 0) (record m { phase = Linking (links.Sizing (needed need) false) }) (onward m word) (λ (y : Machine). of_asked (ask_of y) ≡ None) (λ _. refl) (λ _. onward_none word)
+
+  -- the call went on for itself, and was told no next table that it needs, or it isn't refused
+  abbrev IsStep : Call_answer → Machine → Type 0
+  IsStep told m' = ((m' ≡ stepped m told) × ((need : Need) (word : ℕ) → m.call.state ≡ Growing need → told ≡ Word_read word → ⊥)) ⊎ (of_asked (ask_of m') ≡ None)
+
+  either_steps : (t word : ℕ) → m.call.state ≡ Leaving t → IsStep (Word_read word) (cond (word == 0) (stepped m (Word_read word)) (onward m word))
+  either_steps t word e = cond_both (word == 0) (stepped m (Word_read word)) (onward m word) (IsStep (Word_read word)) (λ _. inl (refl, λ need other grows _. absurd (cc (e, grows)))) (λ _. inr (onward_none word))
+
+  leaves_steps : (task : Task) (t word : ℕ) → m.call.state ≡ Leaving t → IsStep (Word_read word) (leaves m task word)
+  leaves_steps Get t word e = inl (refl, λ need other grows _. absurd (cc (e, grows)))
+  leaves_steps (Insert replace) t word e = either_steps t word e
+  leaves_steps RemoveIf t word e = either_steps t word e
+  leaves_steps Compute t word e = either_steps t word e
+
+  next_steps : (stage : Stage) (word : ℕ) → m.call.state ≡ stage → IsStep (Word_read word) (told_next m stage word)
+  next_steps (Leaving t) word e = leaves_steps m.call.task t word e
+  next_steps (Growing need) word e = inr (grows_none m.call.mode need word)
+  next_steps stage word e = inl (refl, λ need other grows _. absurd (cc (e, grows)))
+
+  called_steps : (told : Call_answer) → IsStep told (called m told)
+  called_steps (Word_read word) = next_steps m.call.state word refl
+  called_steps told = inl (refl, λ need other grows is. absurd (cc is))
+
+  -- the making of a table, or the copy of the root, ended refused where the call did
+  linked_ends : (refused : Refused) (end : Linked) → of_asked (ask_of (after_linked m end)) ≡ Some refused → of_linked end ≡ Some refused
+  linked_ends refused (linked.On link) e = e
+  linked_ends refused (linked.Table n) e = absurd (cc (onward_none n, e))
+  linked_ends refused (linked.Refused other) e = e
+
+  copied_ends : (t : ℕ) → left_by m.call.state ≡ Some t → (refused : Refused) (end : Copied) → of_asked (ask_of (after_copied m end)) ≡ Some refused → of_copied end ≡ Some refused
+  copied_ends t left refused (copied.On goes) e = e
+  copied_ends t left refused (copied.Search n) e = e
+  copied_ends t left refused (copied.Root root) e = sym (anew (λ stage. of_asked (asked.Call (asks m.call.made m.call.hash stage)) ≡ None) refl refl refl (λ _. refl) m.call.task m.call.remembered.fill root) ∙ e
+  copied_ends t left refused copied.Chunk e = sym (ap (λ ask. of_asked (asked.Call ask)) (aside_asks m.call.made m.call.hash m.call.state t left)) ∙ e
+  copied_ends t left refused (copied.Refused other) e = e
+
+-- the copy of the root ends refused where the making of its table does
+copying_ends : (goes : Copying) (mode : ResizeMode) (initial : ℕ) (answer : Answer) (refused : Refused) → of_copied (copying_after goes mode initial answer) ≡ Some refused → of_link (λ made. link_after made initial answer) (link_in_copying goes) ≡ Some refused
+copying_ends goes mode initial (answers.Call (Word_read word)) refused e = absurd (cc (copying_word_none goes mode word, e))
+copying_ends goes mode initial (answers.Call Exchanged) refused e = absurd (cc (copying_exchanged_none goes mode, e))
+copying_ends goes mode initial (answers.Call (Found_instead word)) refused e = absurd (cc (copying_found_none goes mode word, e))
+copying_ends goes mode initial (answers.Call (Yes same)) refused e = absurd (cc (copying_yes_none goes mode same, e))
+copying_ends goes mode initial (answers.Call (Was_refused other)) refused e = sym (copying_refused_as goes mode other) ∙ e
+copying_ends goes mode initial (answers.Count count) refused e = sym (copying_count_as goes mode count initial) ∙ e
+copying_ends goes mode initial answer refused e = absurd cc
+
+-- the making of a table is refused while it counts, or is made
+linking_none : (before table initial : ℕ) (answer : Answer) → of_linked (link_after (links.Linking before table) initial answer) ≡ None
+linking_none before table initial (answers.Call Exchanged) = refl
+linking_none before table initial (answers.Call told) = refl
+linking_none before table initial (answers.Hash hash) = refl
+linking_none before table initial (answers.Count count) = refl
+
+sizing_none : (before : ℕ) (unfit : Bool) (initial : ℕ) (answer : Answer) → of_linked (link_after (links.Sizing before unfit) initial answer) ≡ None
+sizing_none before unfit initial (answers.Call Exchanged) = refl
+sizing_none before unfit initial (answers.Call told) = refl
+sizing_none before unfit initial (answers.Hash hash) = refl
+sizing_none before unfit initial (answers.Count count) = refl
+
+counting_none : (before slots : ℕ) (unfit : Bool) (initial : ℕ) (told : Call_answer) → of_linked (link_after (links.Counting before unfit slots) initial (answers.Call told)) ≡ None
+counting_none before slots unfit initial Exchanged = refl
+counting_none before slots unfit initial (Found_instead word) = refl
+counting_none before slots unfit initial told = refl
+
+module _ (m : Machine) (answer : Answer) (refused : Refused) where
+  -- a count is refused where the next length is past all lengths
+  too_long : (before slots count : ℕ) (unfit : Bool) → of_linked (making.counted before slots unfit (length_after slots count m.call.initial unfit)) ≡ Some refused → (refused ≡ Capacity) × (2 ^ 32 < length_after slots count m.call.initial unfit)
+  too_long before slots count unfit e = by_length (nat_le (length_after slots count m.call.initial unfit) (2 ^ 32)) refl e
+    where
+      by_length : (fits : Bool) → nat_le (length_after slots count m.call.initial unfit) (2 ^ 32) ≡ fits → of_linked (cond fits (linked.On (making.making before slots unfit (length_after slots count m.call.initial unfit))) (linked.Refused Capacity)) ≡ Some refused
+          → (refused ≡ Capacity) × (2 ^ 32 < length_after slots count m.call.initial unfit)
+      by_length true is e = absurd cc
+      by_length false is e = let same : Capacity ≡ refused = cc e in (sym same, leb-false (length_after slots count m.call.initial unfit) (2 ^ 32) is)
+
+  -- the making of a table is refused by an answer, or by a count
+  made_why : (made : Link) → link_in m.phase ≡ Some made → ask_of m ≡ asked.Copy (link_ask made) → (answer' : Answer) → answer ≡ answer' → of_linked (link_after made m.call.initial answer') ≡ Some refused → WasNotMade m answer refused ⊎ WouldBeTooLong m answer refused
+  made_why (links.Making before slots limit) stands says (answers.Call (Was_refused other)) is e =
+      let same : other ≡ refused = cc e in
+      inl (record { slots = slots; limit = limit; asks = says; is = is ∙ ap (λ r. answers.Call (Was_refused r)) same })
+  made_why (links.Counting before unfit slots) stands says (answers.Count count) is e =
+      let long = too_long before slots count unfit e in
+      inr (record { capacity = long.0; after = before; unfit = unfit; slots = slots; link = stands; asks = says; count = count; is = is; long = long.1 })
+  made_why (links.Linking before table) stands says answer' is e = absurd (cc (linking_none before table m.call.initial answer', e))
+  made_why (links.Sizing before unfit) stands says answer' is e = absurd (cc (sizing_none before unfit m.call.initial answer', e))
+  made_why (links.Making before slots limit) stands says answer' is e = absurd cc
+  made_why (links.Counting before unfit slots) stands says (answers.Call told) is e = absurd (cc (counting_none before slots unfit m.call.initial told, e))
+  made_why (links.Counting before unfit slots) stands says (answers.Hash hash) is e = absurd cc
+
+  -- where a copy makes one
+  held_why : (goes : Copying) → m.phase ≡ Copying_root goes → (held : Option Link) → link_in_copying goes ≡ held → of_link (λ made. link_after made m.call.initial answer) held ≡ Some refused → WasNotMade m answer refused ⊎ WouldBeTooLong m answer refused
+  held_why goes phase None holds e = absurd cc
+  held_why goes phase (Some made) holds e = made_why made (ap link_in phase ∙ holds) (ap (asks_in m.call) phase ∙ ap asked.Copy (copying_asks goes made holds)) answer refl e
+
+  module _ (open_still : (reply : Reply) → ask_of m ≡ asked.Call (Ask_done reply) → ⊥) (ends : ask_of (after m answer) ≡ asked.Call (Ask_done (Reply_refused refused))) where
+    -- the call went on for itself
+    own_why : (told : Call_answer) → m.phase ≡ Calling → answer ≡ answers.Call told → after m answer ≡ stepped m told → ((need : Need) (word : ℕ) → m.call.state ≡ Growing need → told ≡ Word_read word → ⊥) → IsOwnRefusal m answer refused
+    own_why told phase is same no_table = by_reason (machine_reason m.call refused told still then)
+      where
+        still : (reply : Reply) → call_machine.ask_of m.call ≡ Ask_done reply → ⊥
+        still reply e = open_still reply (ap (asks_in m.call) phase ∙ ap asked.Call e)
+
+        then : call_machine.ask_of (call_machine.after m.call told) ≡ Ask_done (Reply_refused refused)
+        then = ap (λ (y : Machine). call_machine.ask_of y.call) (sym same) ∙ (call_asks (after m answer) (Ask_done (Reply_refused refused)) ends).1
+
+        step : IsOwnStep m answer
+        step = record { told = told; phase = phase; is = is; call = ap (λ (y : Machine). y.call) same; goes_on = ap (λ (y : Machine). y.phase) same ∙ phase }
+
+        by_reason : IsReason m.call refused m.call.state told → IsOwnRefusal m answer refused
+        by_reason (inl made) = record { own = step; why = inl made.0 }
+        by_reason (inr (inl (full, (need, grows)))) = let by_word = growing_word m.call need refused told grows then in absurd (no_table need by_word.0 grows by_word.1)
+        by_reason (inr (inr (none, (gap, offers), removes))) = record { own = step; why = inr (none, ap (asks_in m.call) phase ∙ ap (λ stage. asked.Call (asks m.call.made m.call.hash stage)) offers, removes) }
+
+    called_why : (told : Call_answer) → m.phase ≡ Calling → answer ≡ answers.Call told → IsStep m told (called m told) → IsOwnRefusal m answer refused
+    called_why told phase is (inl (same, no_table)) = own_why told phase is (ap (after_in m answer) phase ∙ ap (answered m) is ∙ same) no_table
+    called_why told phase is (inr none) = absurd (cc (sym (ap (λ y. of_asked (ask_of y)) (ap (after_in m answer) phase ∙ ap (answered m) is)) ∙ ap of_asked ends, none))
+
+    -- in each phase
+    phase_why : (phase : Phase) → m.phase ≡ phase → IsInOrder m answer phase → IsCause m answer refused
+    phase_why Calling e order = inl (called_why order.0 e order.1 (called_steps m order.0))
+    phase_why (Linking made) e order =
+        inr (record { from = order.0; left = order.1; why = made_why made (ap link_in e) (ap (asks_in m.call) e) answer refl (linked_ends m refused (link_after made m.call.initial answer) (ended (Linking made) e)) })
+      where
+        ended : (phase : Phase) → m.phase ≡ phase → of_asked (ask_of (after_in m answer phase)) ≡ Some refused
+        ended phase e = sym (ap (λ p. of_asked (ask_of (after_in m answer p))) e) ∙ ap of_asked ends
+    phase_why (Copying_root goes) e order =
+        inr (record { from = order.0; left = order.1; why = held_why goes e (link_in_copying goes) refl (copying_ends goes m.call.mode m.call.initial answer refused (copied_ends m order.0 order.1 refused (copying_after goes m.call.mode m.call.initial answer) (ended (Copying_root goes) e))) })
+      where
+        ended : (phase : Phase) → m.phase ≡ phase → of_asked (ask_of (after_in m answer phase)) ≡ Some refused
+        ended phase e = sym (ap (λ p. of_asked (ask_of (after_in m answer p))) e) ∙ ap of_asked ends
+
+    -- of the machine
+    pub chain_refused : IsInOrder m answer m.phase → IsCause m answer refused
+    chain_refused order = phase_why m.phase refl order
