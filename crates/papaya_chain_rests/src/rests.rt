@@ -61,9 +61,9 @@ pub fn names<K, P>()
         → AreThere g c (run (begun ++ since) start) hands.call.last hands.kept ask }
 {}
 
-/// An exchange of a copy whose old word stands there is one of the law, allowed, and writes just its
-/// word. It is a link, a mark, a shut slot, a placed copy, a finished slot, counted slots or a new
-/// root, and never a change of the map.
+/// An exchange of a copy whose old word stands there is one of the law, allowed, and writes just
+/// its word. It is a link, a mark, a shut slot, a placed copy, a finished slot, counted slots, a new
+/// root or a table that is given up, and never a change of the map.
 pub fn copies_may_exchange<K, P>()
     ensures { (g : Setting K P) (c : Coding K P) → IsHashed g c → (begun since : List (Exchange P))
         → AllAllowed g start (begun ++ since) → (k : K) (m : Machine) (hands : Hands P)
@@ -82,12 +82,14 @@ pub fn learns<K, P>()
         → AllAllowed g start (begun ++ since) → (k : K) (m : Machine) (hands : Hands P)
         → Rests g c begun since k m hands → (answer : Answer) (es : List (Exchange P))
         (hands' : Hands P) → IsTold g c k (run (begun ++ since) start) (kind_of_ask m)
-        (follows_of m) hands (ask_of m) answer es hands' → AllAllowed g start (begun ++ (since ++ es))
+        (follows_of m) hands (ask_of m) answer es hands'
+        → AllAllowed g start (begun ++ (since ++ es))
         × Rests g c begun (since ++ es) k (after m answer) hands' }
 {}
 
 /// An answer is for the call itself, or the call was set aside: it waits, goes on in a further
-/// table, begins anew at the root, or ends refused. So a copy changes no pair of the map, counts none and asks no closure.
+/// table, begins anew at the root, or ends refused. So a copy changes no pair of the map, counts
+/// none and asks no closure.
 pub fn goes<K, P>()
     ensures leaves { (g : Setting K P) (c : Coding K P) (begun since : List (Exchange P)) (k : K)
         (m : Machine) (hands : Hands P) → Rests g c begun since k m hands → (answer : Answer)

@@ -135,8 +135,8 @@ impl<'a, K: Hash + Eq + Drop, V: Drop, S: BuildHasher> Insertion<'a, K, V, S> {
     }
 }
 
-/// Inserts a pair: the value that its key had. Where it is refused since a log is full, `given` tells
-/// the number that the log gave.
+/// Inserts a pair: the value that its key had. Where it is refused since a log is full, `given`
+/// tells the number that the log gave.
 pub fn insert<'a, R: Wait, K: Hash + Eq + Drop, V: Drop, S: BuildHasher>(
     rt: &R,
     alloc: Global,

@@ -407,8 +407,8 @@ impl<'a, K: Hash + Eq + Drop, V: Drop, S: BuildHasher, T: Drop> Computing<'a, K,
     }
 }
 
-/// Does with a key's pair, or where it has none, what the closure answers that is shown it. Where it
-/// is refused since a log is full, `given` tells the number that the log gave.
+/// Does with a key's pair, or where it has none, what the closure answers that is shown it. Where
+/// it is refused since a log is full, `given` tells the number that the log gave.
 pub fn compute<
     'a,
     R: Wait,

@@ -38,7 +38,8 @@ use std::marker::Model;
 use std::sync::Wait;
 
 /// A map that threads share. Contracts see what of it is fixed when it is made: which book it has,
-/// the hasher, how it resizes, its logs, and the initial capacity by which its first table is sized.
+/// the hasher, how it resizes, its logs, and the initial capacity by which its first table is
+/// sized.
 #[derive(Drop)]
 pub struct HashMap<K: Hash + Eq, V, S: BuildHasher = BuildHasherDefault<FoldHasher>> {
     alloc: Global,

@@ -31,8 +31,8 @@ IsCallAnswer answer Is = (told : Call_answer) × (answer ≡ answers.Call told) 
 module _ {K V S : Type 0} where
   -- just one ask is answered: a load and an exchange by the word that stands there, a size by the
   -- table, a hash and a comparison by the pairs of the log
-  abbrev pub PerformsCopy : (K → K → Bool) → (S → K → ℕ) → Bool → CopyAsk → StoreState K V S → Answer
-      → StoreState K V S → Type 0
+  abbrev pub PerformsCopy : (K → K → Bool) → (S → K → ℕ) → Bool → CopyAsk → StoreState K V S
+      → Answer → StoreState K V S → Type 0
   PerformsCopy eq hash refuse (Load at) s answer s' =
       (answer ≡ answers.Call (Word_read (word_at s.words at))) × (s' ≡ s)
   PerformsCopy eq hash refuse (Exchange at old new) s answer s' =
