@@ -6,4 +6,5 @@
 #![tactic(auto)]
 
 pub mod ask;
+pub mod copier;
 pub mod machine;

@@ -52,7 +52,12 @@ fn link_after(link: Link, answer: Answer, initial: usize) -> Linked
 
 /// What follows an answer while the root is copied. One that was not asked for leads nowhere.
 #[inline]
-fn copying_after(copying: Copying, answer: Answer, mode: ResizeMode, initial: usize) -> Copied
+pub(crate) fn copying_after(
+    copying: Copying,
+    answer: Answer,
+    mode: ResizeMode,
+    initial: usize,
+) -> Copied
     requires standing { IsStandingCopying copying }
     requires chunked { IsChunked mode }
     requires initial { IsPowerOfTwo initial }
