@@ -1,17 +1,18 @@
 -- A call over a chain shows once at most that its key is absent.
-use Rattle.std.proofs.Common.{◌≡◌, inl, inr, ℕ, Option, Some, sym, subst}
-use Rattle.papaya_ask.specs.declared.ask.Answer.TheVariants.{Word as Word_read}
+use Rattle.std.proofs.Common.{◌≡◌, inl, inr, ℕ, Option, Some, sym, ap, subst}
+use Rattle.papaya_ask.specs.declared.ask.Answer.TheVariants.{Word as Word_read, Op}
+use Rattle.papaya_ask.specs.declared.ask.OpKind.{OpKind}
 use Rattle.papaya_ask.specs.declared.ask.Ask.TheVariants.{ShowNone}
-use Rattle.papaya_ask.specs.declared.call.Reply.TheVariants.{Refused as Reply_refused}
-use Rattle.papaya_ask.specs.declared.search.Search.TheVariants.{Sizing}
 use Rattle.papaya_call.specs.declared.machine.Machine.{Machine as Call_machine}
 use Rattle.papaya_call.specs.declared.machine.State.{State as Stage}
-use Rattle.papaya_call.specs.declared.machine.State.TheVariants.{AtRoot, Searching, Leaving, Growing, Ended}
+use Rattle.papaya_call.specs.declared.machine.State.TheVariants.{AtRoot, Leaving, Growing}
 use Rattle.papaya_chain.specs.declared.ask.Ask.TheVariants as asked
 use Rattle.papaya_chain.specs.declared.ask.Answer.{Answer}
+use Rattle.papaya_chain.specs.declared.ask.Answer.TheVariants as answers
 use Rattle.papaya_chain.specs.declared.machine.Machine.{Machine}
-use Rattle.papaya_chain.specs.Machine.{after, ask_of}
+use Rattle.papaya_chain.specs.Machine.{after, after_in, ask_of}
 use Rattle.papaya_rests.specs.Says.{HasShownNone, IsFilled}
+use Rattle.papaya_rests.proofs.RestsHeld.{machine_offered}
 use Rattle.papaya_rests.proofs.SaysOnce.{machine_shown}
 use Rattle.papaya_chain_rests.specs.Goes.{IsInOrder}
 use Rattle.papaya_chain_rests.specs.Rests.{left_by}
@@ -42,3 +43,7 @@ module _ (m : Machine) (answer : Answer) (order : IsInOrder m answer m.phase) (s
   -- so it shows it no more
   pub chain_once : (ask_of m ≡ asked.Call ShowNone → ⊥) × HasShownNone (after m answer).call.remembered.fill (after m answer).call.state
   chain_once = (λ asks. (machine_shown m.call (Word_read 0) shown).0 (call_asks m ShowNone asks).1, still_shown)
+
+-- once it was shown, it has
+pub chain_offered : (m : Machine) (kind : OpKind) → ask_of m ≡ asked.Call ShowNone → HasShownNone (after m (answers.Call (Op kind))).call.remembered.fill (after m (answers.Call (Op kind))).call.state
+chain_offered m kind asks = let own = call_asks m ShowNone asks in subst HasShown (ap (λ phase. (after_in m (answers.Call (Op kind)) phase).call) (sym own.0)) (machine_offered m.call kind own.1)

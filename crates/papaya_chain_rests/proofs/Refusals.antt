@@ -1,5 +1,5 @@
 -- Why a call over a chain is refused.
-use Rattle.std.proofs.Common.{◌≡◌, ◌⊎◌, inl, inr, ℕ, ◌==◌, ◌<◌, ◌^◌, Bool, true, false, nat_le, cond, Option, None, Some, refl, sym, ap, ◌∙◌, leb-false}
+use Rattle.std.proofs.Common.{◌≡◌, ◌⊎◌, inl, inr, ℕ, ◌==◌, ◌<◌, ◌^◌, Bool, true, false, nat_le, cond, Option, None, Some, List, [], ◌∷◌, refl, sym, ap, ◌∙◌, subst, leb-false}
 use Rattle.std.proofs.lemmas.Bool.{cond_both}
 use Rattle.papaya_words.specs.Table.{length_after}
 use Rattle.papaya_words.specs.declared.probe.Refused.{Refused}
@@ -7,16 +7,22 @@ use Rattle.papaya_words.specs.declared.probe.Refused.TheVariants.{Capacity}
 use Rattle.papaya_words.specs.declared.probe.ResizeMode.{ResizeMode}
 use Rattle.papaya_words.specs.declared.probe.ResizeMode.TheVariants.{Incremental, Blocking}
 use Rattle.papaya_ask.specs.declared.ask.Answer.{Answer as Call_answer}
-use Rattle.papaya_ask.specs.declared.ask.Answer.TheVariants.{Word as Word_read, Exchanged, Found as Found_instead, Yes, Op, Size, Made as Made_number, Ok as Ok_done, Refused as Was_refused}
-use Rattle.papaya_ask.specs.declared.ask.Ask.TheVariants.{Load, Done as Ask_done}
+use Rattle.papaya_ask.specs.declared.ask.Answer.TheVariants.{Word as Word_read, Exchanged, Found as Found_instead, Yes, Refused as Was_refused}
+use Rattle.papaya_ask.specs.declared.ask.Ask.TheVariants.{Done as Ask_done}
+use Rattle.papaya_ask.specs.declared.ask.At.{At}
+use Rattle.papaya_ask.specs.declared.ask.At.TheVariants.{Slot}
+use Rattle.papaya_ask.specs.declared.ask.StepKind.{StepKind}
 use Rattle.papaya_ask.specs.declared.call.Reply.{Reply}
 use Rattle.papaya_ask.specs.declared.call.Reply.TheVariants.{Refused as Reply_refused}
 use Rattle.papaya_ask.specs.declared.call.Task.{Task}
 use Rattle.papaya_ask.specs.declared.call.Task.TheVariants.{Get, Insert, RemoveIf, Compute}
 use Rattle.papaya_call.specs.declared.machine.Machine.{Machine as Call_machine}
 use Rattle.papaya_call.specs.declared.machine.State.{State as Stage}
-use Rattle.papaya_call.specs.declared.machine.State.TheVariants.{Leaving, Growing}
+use Rattle.papaya_call.specs.declared.machine.State.TheVariants.{Making, Writing, Pairing, Leaving, Growing}
 use Rattle.papaya_call.specs.declared.need.Need.{Need}
+use Rattle.papaya_call.specs.declared.write.Made.{Made}
+use Rattle.papaya_call.specs.declared.write.Made.TheVariants.{Nothing, Key, Pair}
+use Rattle.papaya_call.specs.Write.{new_word}
 use Rattle.papaya_call.specs.Machine.{asks, needed}
 use Rattle.papaya_call.specs.Machine as call_machine
 use Rattle.papaya_copy.specs.declared.copying.Aim.{Aim}
@@ -37,10 +43,15 @@ use Rattle.papaya_chain.specs.declared.ask.Answer.TheVariants as answers
 use Rattle.papaya_chain.specs.declared.machine.Machine.{Machine}
 use Rattle.papaya_chain.specs.declared.machine.Phase.{Phase}
 use Rattle.papaya_chain.specs.declared.machine.Phase.TheVariants.{Calling, Linking, Copying as Copying_root}
-use Rattle.papaya_chain.specs.Machine.{after, after_copied, after_in, after_linked, aim_for, answered, ask_of, asks_in, called, copying_after, goes_on, grows_as, leaves, link_after, onward, stepped, told_next}
-use Rattle.papaya_rests.proofs.RestsReplyRefused.{IsReason, machine_reason}
-use Rattle.papaya_chain_rests.specs.Goes.{IsCause, IsInOrder, IsOwnRefusal, IsOwnStep, IsTableRefusal, WasNotMade, WouldBeTooLong, link_in, link_in_copying}
+use Rattle.papaya_chain.specs.Machine.{after, after_copied, after_in, after_linked, aim_for, answered, ask_of, asks_in, called, copying_after, follows_of, goes_on, grows_as, kind_in, kind_of_ask, leaves, link_after, onward, stepped, told_next}
+use Rattle.papaya_rests.proofs.RestsReplyRefused.{IsMaking, IsReason, machine_reason}
+use Rattle.papaya_rests.specs.Told as call_told
+use Rattle.papaya_rests.proofs.RestsLearn.{by_test}
+use Rattle.papaya_law.specs.Code.{Coding}
+use Rattle.papaya_law.specs.Exchange.{Setting, State, Exchange}
+use Rattle.papaya_chain_rests.specs.Goes.{IsCause, IsInOrder, IsOwnRefusal, IsOwnStep, IsToMake, WasNotMade, WouldBeTooLong, link_in, link_in_copying}
 use Rattle.papaya_chain_rests.specs.Rests.{left_by}
+use Rattle.papaya_chain_rests.specs.Told.{Hands, IsTold}
 use Rattle.papaya_chain_rests.proofs.CopyRefusals.{copying_asks, copying_count_as, copying_exchanged_none, copying_found_none, copying_refused_as, copying_word_none, copying_yes_none, of_copied, of_link, of_linked}
 use Rattle.papaya_chain_rests.proofs.Names.{call_asks}
 use Rattle.papaya_chain_rests.proofs.Replies.{anew, aside_asks}
@@ -159,7 +170,7 @@ module _ (m : Machine) (answer : Answer) (refused : Refused) where
       inl (record { slots = slots; limit = limit; asks = says; is = is ∙ ap (λ r. answers.Call (Was_refused r)) same })
   made_why (links.Counting before unfit slots) stands says (answers.Count count) is e =
       let long = too_long before slots count unfit e in
-      inr (record { capacity = long.0; after = before; unfit = unfit; slots = slots; link = stands; asks = says; count = count; is = is; long = long.1 })
+      inr (record { capacity = long.0; behind = before; unfit = unfit; slots = slots; link = stands; asks = says; count = count; is = is; long = long.1 })
   made_why (links.Linking before table) stands says answer' is e = absurd (cc (linking_none before table m.call.initial answer', e))
   made_why (links.Sizing before unfit) stands says answer' is e = absurd (cc (sizing_none before unfit m.call.initial answer', e))
   made_why (links.Making before slots limit) stands says answer' is e = absurd cc
@@ -171,7 +182,11 @@ module _ (m : Machine) (answer : Answer) (refused : Refused) where
   held_why goes phase None holds e = absurd cc
   held_why goes phase (Some made) holds e = made_why made (ap link_in phase ∙ holds) (ap (asks_in m.call) phase ∙ ap asked.Copy (copying_asks goes made holds)) answer refl e
 
-  module _ (open_still : (reply : Reply) → ask_of m ≡ asked.Call (Ask_done reply) → ⊥) (ends : ask_of (after m answer) ≡ asked.Call (Ask_done (Reply_refused refused))) where
+  -- what is refused to the call was to be made for it
+  abbrev Makes : Type 0
+  Makes = (told : Call_answer) → m.phase ≡ Calling → answer ≡ answers.Call told → told ≡ Was_refused refused → IsMaking m.call.state → IsToMake (call_machine.ask_of m.call)
+
+  module _ (makes : Makes) (open_still : (reply : Reply) → ask_of m ≡ asked.Call (Ask_done reply) → ⊥) (ends : ask_of (after m answer) ≡ asked.Call (Ask_done (Reply_refused refused))) where
     -- the call went on for itself
     own_why : (told : Call_answer) → m.phase ≡ Calling → answer ≡ answers.Call told → after m answer ≡ stepped m told → ((need : Need) (word : ℕ) → m.call.state ≡ Growing need → told ≡ Word_read word → ⊥) → IsOwnRefusal m answer refused
     own_why told phase is same no_table = by_reason (machine_reason m.call refused told still then)
@@ -186,7 +201,7 @@ module _ (m : Machine) (answer : Answer) (refused : Refused) where
         step = record { told = told; phase = phase; is = is; call = ap (λ (y : Machine). y.call) same; goes_on = ap (λ (y : Machine). y.phase) same ∙ phase }
 
         by_reason : IsReason m.call refused m.call.state told → IsOwnRefusal m answer refused
-        by_reason (inl made) = record { own = step; why = inl made.0 }
+        by_reason (inl made) = record { own = step; why = inl (makes told phase is made.0 made.1, made.0) }
         by_reason (inr (inl (full, (need, grows)))) = let by_word = growing_word m.call need refused told grows then in absurd (no_table need by_word.0 grows by_word.1)
         by_reason (inr (inr (none, (gap, offers), removes))) = record { own = step; why = inr (none, ap (asks_in m.call) phase ∙ ap (λ stage. asked.Call (asks m.call.made m.call.hash stage)) offers, removes) }
 
@@ -209,5 +224,34 @@ module _ (m : Machine) (answer : Answer) (refused : Refused) where
         ended phase e = sym (ap (λ p. of_asked (ask_of (after_in m answer p))) e) ∙ ap of_asked ends
 
     -- of the machine
-    pub chain_refused : IsInOrder m answer m.phase → IsCause m answer refused
-    chain_refused order = phase_why m.phase refl order
+    machine_why : IsInOrder m answer m.phase → IsCause m answer refused
+    machine_why order = phase_why m.phase refl order
+
+module _ {K P : Type 0} (g : Setting K P) (c : Coding K P) (k : K) (s : State P) (m : Machine) (answer : Answer) (refused : Refused) (hands : Hands P) (es : List (Exchange P)) (hands' : Hands P)
+    (tells : IsTold g c k s (kind_of_ask m) (follows_of m) hands (ask_of m) answer es hands') where
+  -- no exchange is refused
+  making_told : (made : Made) (hash : ℕ) (kind : Option StepKind) (call' : call_told.Hands P) (stage : Stage) → IsMaking stage → call_told.IsTold g c k s kind hands.call (asks made hash stage) (Was_refused refused) es call' → IsToMake (asks made hash stage)
+  making_told made hash kind call' Making makes h = tt
+  making_told Nothing hash kind call' (Writing write) makes h = tt
+  making_told Key hash kind call' (Writing write) makes h = tt
+  making_told (Pair n) hash kind call' (Writing write) makes h =
+      let at : At = Slot write.place.table write.place.probe.i in
+      by_test (call_told.word_of g c s at == write.old)
+      ((Was_refused refused ≡ Exchanged) × ((e : Exchange P) × call_told.IsAsked c kind at (new_word hash n) s hands.call e × (es ≡ e ∷ [])) × (call' ≡ hands.call))
+      ((Was_refused refused ≡ Found_instead (call_told.word_of g c s at)) × (es ≡ []) × (call' ≡ call_told.told_of s at hands.call))
+      ⊥ h (λ stands told. absurd (cc told.0)) (λ other told. absurd (cc told.0))
+  making_told Nothing hash kind call' (Pairing purpose) makes h = tt
+  making_told Key hash kind call' (Pairing purpose) makes h = tt
+  making_told (Pair n) hash kind call' (Pairing purpose) makes h = tt
+  making_told made hash kind call' stage makes h = absurd makes
+
+  makes_told : Makes m answer refused
+  makes_told told phase is refuses making =
+      let h = subst (λ phase. IsTold g c k s (kind_in m.call phase) (follows_of m) hands (asks_in m.call phase) answer es hands') phase tells in
+      let same : h.told ≡ Was_refused refused = cc (h.is, is, refuses) in
+      making_told m.call.made m.call.hash (call_machine.kind_of_ask m.call) h.call m.call.state making
+      (subst (λ a. call_told.IsTold g c k s (call_machine.kind_of_ask m.call) hands.call (call_machine.ask_of m.call) a es h.call) same h.tells)
+
+  -- of a machine that is told
+  pub chain_refused : IsInOrder m answer m.phase → ((reply : Reply) → ask_of m ≡ asked.Call (Ask_done reply) → ⊥) → ask_of (after m answer) ≡ asked.Call (Ask_done (Reply_refused refused)) → IsCause m answer refused
+  chain_refused order open_still ends = machine_why m answer refused makes_told open_still ends order

@@ -1,5 +1,5 @@
 -- What an answer changes, counts, and stands on: what it does to the call, and nothing else.
-use Rattle.std.proofs.Common.{◌≡◌, ◌⊎◌, inl, inr, ⊎_elim, ℕ, ℤ, pos, ◌==◌, Option, None, Some, List, refl, sym, ap, ◌∙◌, subst}
+use Rattle.std.proofs.Common.{◌≡◌, ◌⊎◌, inl, inr, ⊎_elim, ℕ, pos, ◌==◌, Option, None, Some, List, refl, sym, ap, ◌∙◌, subst}
 use Rattle.std.proofs.lemmas.Bool.{cond_both}
 use Rattle.papaya_words.specs.declared.probe.Refused.{Refused}
 use Rattle.papaya_ask.specs.declared.ask.Answer.TheVariants.{Word as Word_read}

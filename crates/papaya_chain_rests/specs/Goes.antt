@@ -5,7 +5,8 @@ use Rattle.papaya_words.specs.declared.probe.Refused.{Refused}
 use Rattle.papaya_words.specs.declared.probe.Refused.TheVariants.{Capacity, RemoveNothing}
 use Rattle.papaya_ask.specs.declared.ask.Answer.{Answer as Call_answer}
 use Rattle.papaya_ask.specs.declared.ask.Answer.TheVariants.{Word as Word_read, Op, Refused as Was_refused}
-use Rattle.papaya_ask.specs.declared.ask.Ask.TheVariants.{ShowNone}
+use Rattle.papaya_ask.specs.declared.ask.Ask.{Ask as Call_ask}
+use Rattle.papaya_ask.specs.declared.ask.Ask.TheVariants.{ShowNone, MakeKey, MakePair, MakeTable as Make_table}
 use Rattle.papaya_ask.specs.declared.ask.OpKind.TheVariants.{Remove}
 use Rattle.papaya_ask.specs.declared.ask.StepKind.{StepKind}
 use Rattle.papaya_ask.specs.declared.call.Reply.TheVariants.{Refused as Reply_refused}
@@ -120,12 +121,19 @@ link_in Calling = None
 link_in (Linking link) = Some link
 link_in (Copying_root copying) = link_in_copying copying
 
--- the answer is the call's own refusal: what it asked for was refused so, or its closure would
--- remove a pair where there is none
+-- a call asks for a key, a pair or a table to be made
+abbrev pub IsToMake : Call_ask → Type 0
+IsToMake MakeKey = Unit {0}
+IsToMake MakePair = Unit {0}
+IsToMake (Make_table slots limit) = Unit {0}
+IsToMake _ = ⊥
+
+-- the answer is the call's own refusal: what it asked to be made was refused so, or its closure
+-- would remove a pair where there is none
 pub record IsOwnRefusal (m : Machine) (answer : Answer) (refused : Refused) : Type 0 where
   pub own : IsOwnStep m answer
-  pub why : (own.told ≡ Was_refused refused) ⊎ ((refused ≡ RemoveNothing)
-      × (ask_of m ≡ asks.Call ShowNone) × (own.told ≡ Op Remove))
+  pub why : (IsToMake (call_machine.ask_of m.call) × (own.told ≡ Was_refused refused))
+      ⊎ ((refused ≡ RemoveNothing) × (ask_of m ≡ asks.Call ShowNone) × (own.told ≡ Op Remove))
 
 -- a next table was to be made, of these sizes, and was refused so
 pub record WasNotMade (m : Machine) (answer : Answer) (refused : Refused) : Type 0 where
@@ -137,10 +145,10 @@ pub record WasNotMade (m : Machine) (answer : Answer) (refused : Refused) : Type
 -- the table after one of so many slots would be longer than a table may be, by the count answered
 pub record WouldBeTooLong (m : Machine) (answer : Answer) (refused : Refused) : Type 0 where
   pub capacity : refused ≡ Capacity
-  pub after : ℕ
+  pub behind : ℕ
   pub unfit : Bool
   pub slots : ℕ
-  pub link : link_in m.phase ≡ Some (Counting after unfit slots)
+  pub link : link_in m.phase ≡ Some (Counting behind unfit slots)
   pub asks : ask_of m ≡ asks.Copy Count
   pub count : ℕ
   pub is : answer ≡ answers.Count count

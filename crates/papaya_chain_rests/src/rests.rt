@@ -19,7 +19,7 @@ ghost use Rattle.papaya_chain_rests.specs.Goes.{Goes, IsCause, IsOwnStep, change
 ghost use Rattle.papaya_chain_rests.specs.Rests.{Rests};
 ghost use Rattle.papaya_chain_rests.specs.Told.{Hands, IsTold, no_hands};
 
-use papaya_ask::ask::{Ask as CallAsk, At};
+use papaya_ask::ask::{Answer as CallAnswer, Ask as CallAsk, At, OpKind};
 use papaya_ask::call::{Reply, Task};
 use papaya_ask::copy_ask::CopyAsk;
 use papaya_chain::ask::{Answer, Ask};
@@ -122,18 +122,21 @@ pub fn goes<K, P>()
 /// A closure is shown once at most that its key is absent, however often the call is set aside: one
 /// that was shown it is shown it no more.
 pub fn once<K, P>()
-    ensures { (g : Setting K P) (c : Coding K P) (begun since : List (Exchange P)) (k : K)
+    ensures stays { (g : Setting K P) (c : Coding K P) (begun since : List (Exchange P)) (k : K)
         (m : Machine) (hands : Hands P) → Rests g c begun since k m hands → (answer : Answer)
         (es : List (Exchange P)) (hands' : Hands P) → IsTold g c k (run (begun ++ since) start)
         (kind_of_ask m) (follows_of m) hands (ask_of m) answer es hands'
         → HasShownNone m.call.remembered.fill m.call.state
         → (ask_of m ≡ Ask.Call CallAsk.ShowNone → ⊥)
         × HasShownNone (after m answer).call.remembered.fill (after m answer).call.state }
+    ensures shown { (m : Machine) (kind : OpKind) → ask_of m ≡ Ask.Call CallAsk.ShowNone
+        → HasShownNone (after m (Answer.Call (CallAnswer.Op kind))).call.remembered.fill
+        (after m (Answer.Call (CallAnswer.Op kind))).call.state }
 {}
 
-/// A call is refused for one of four reasons. What it asked for was refused, or its closure would
-/// remove a pair where there is none. Or, when it was set aside, the next table was refused, or
-/// would be longer than a table may be.
+/// A call is refused for one of four reasons. What it asked to be made was refused, or its closure
+/// would remove a pair where there is none. Or, when it was set aside, the next table was refused,
+/// or would be longer than a table may be.
 pub fn refusals<K, P>()
     ensures { (g : Setting K P) (c : Coding K P) (begun since : List (Exchange P)) (k : K)
         (m : Machine) (hands : Hands P) → Rests g c begun since k m hands → (answer : Answer)

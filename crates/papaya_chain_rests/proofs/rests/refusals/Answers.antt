@@ -6,4 +6,4 @@ use Rattle.papaya_chain_rests.proofs.rests.refusals.Goals as goal
 
 pub returns : goal.returns
 returns g c = λ h d begun since k m hands r answer es hands' told refused open_still ends.
-    chain_refused m answer refused open_still ends (in_order h d begun since k m hands (run (begun ++ since) start) answer es hands' r told)
+    chain_refused h d k (run (begun ++ since) start) m answer refused hands es hands' told (in_order h d begun since k m hands (run (begun ++ since) start) answer es hands' r told) open_still ends
