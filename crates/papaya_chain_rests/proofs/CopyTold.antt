@@ -1,5 +1,5 @@
 -- What the copy of the root learns from an answer.
-use Rattle.std.proofs.Common.{◌≡◌, ⊎_elim, ℕ, ◌<◌, ◌==◌, eqb-true, Option, List, [], ◌∷◌, ◌++◌, append-nil, refl, sym, subst}
+use Rattle.std.proofs.Common.{◌≡◌, ⊎_elim, ℕ, ◌<◌, ◌==◌, eqb-true, Option, List, [], ◌∷◌, refl, sym, subst}
 use Rattle.std.proofs.lemmas.Bool.{eqb-false}
 use Rattle.papaya_words.specs.Mode.{IsChunked}
 use Rattle.papaya_words.specs.declared.probe.Refused.{Refused}
@@ -17,17 +17,14 @@ use Rattle.papaya_chain.specs.declared.ask.Answer.TheVariants as answers
 use Rattle.papaya_chain.specs.Machine.{copying_after}
 use Rattle.papaya_law.specs.Allows.{AllAllowed, Allows}
 use Rattle.papaya_law.specs.Code.{Coding, IsHashed}
-use Rattle.papaya_law.specs.Exchange.{Setting, State, Exchange, run, start}
-use Rattle.papaya_law.specs.Meaning.{map_left}
+use Rattle.papaya_law.specs.Exchange.{Setting, State, Exchange, run}
 use Rattle.papaya_law.specs.Invariant.{IsKeeping}
-use Rattle.papaya_law.proofs.OneMap.{keeping}
 use Rattle.papaya_rests.specs.Copier.{AreThere, IsCopyAsked, IsStillAimed, RestsCopied, RestsCopying, aim_of, last_after, told_last}
 use Rattle.papaya_rests.specs.Rests.{IsModeOf}
 use Rattle.papaya_rests.specs.Told.{word_of}
 use Rattle.papaya_rests.proofs.CopierCopies.{copying_compared, copying_counted, copying_exchanged, copying_found, copying_hashed, copying_loaded, copying_made, copying_refused, copying_sized, copying_there}
 use Rattle.papaya_rests.proofs.CopierExchange.{asked_allowed}
 use Rattle.papaya_rests.proofs.RestsLearn.{by_test}
-use Rattle.papaya_rests.proofs.RestsLearnWrites.{after_more, one_more}
 use Rattle.papaya_chain_rests.specs.Told.{Hands, IsCopyTold, told_of}
 
 -- it goes on copying for the same
@@ -37,14 +34,7 @@ same_still (aims.Search table) aim' e = e
 same_still (aims.Settle slot) aim' e = e
 same_still aims.Chunk aim' e = e
 
-module _ {K P : Type 0} (g : Setting K P) (c : Coding K P) (hashed : IsHashed g c) (begun since : List (Exchange P)) (may : AllAllowed g start (begun ++ since)) (k : K) (mode : ResizeMode) (moded : IsModeOf mode g.blocking) (chunked : IsChunked mode) (initial : ℕ) (hands : Hands P) where
-  -- the state after all exchanges
-  abbrev now : State P
-  now = run (begun ++ since) start
-
-  keeps : IsKeeping g now (map_left g (begun ++ since))
-  keeps = keeping g hashed.lawful (begun ++ since) may
-
+module _ {K P : Type 0} (g : Setting K P) (c : Coding K P) (hashed : IsHashed g c) (s : State P) (m : K → Option P) (keeps : IsKeeping g s m) (mode : ResizeMode) (moded : IsModeOf mode g.blocking) (chunked : IsChunked mode) (initial : ℕ) (hands : Hands P) where
   -- the pair last told of, and the one that is carried
   abbrev last : Option P
   last = hands.call.last
@@ -54,8 +44,7 @@ module _ {K P : Type 0} (g : Setting K P) (c : Coding K P) (hashed : IsHashed g 
 
   -- what was exchanged was allowed, and the copy rests where the answer led it
   abbrev pub HasCopied : Copying → Answer → List (Exchange P) → Hands P → Type 0
-  HasCopied copying answer es hands' = AllAllowed g start (begun ++ (since ++ es))
-      × RestsCopied g c (run (begun ++ (since ++ es)) start) hands'.call.last hands'.kept (aim_of copying) (copying_after copying mode initial answer)
+  HasCopied copying answer es hands' = AllAllowed g s es × RestsCopied g c (run es s) hands'.call.last hands'.kept (aim_of copying) (copying_after copying mode initial answer)
 
   -- by what the answer is
   answered : (copying : Copying) (answer answer' : Answer) (es es' : List (Exchange P)) (hands' hands'' : Hands P) → answer ≡ answer' → es ≡ es' → hands' ≡ hands'' → HasCopied copying answer' es' hands'' → HasCopied copying answer es hands'
@@ -64,69 +53,63 @@ module _ {K P : Type 0} (g : Setting K P) (c : Coding K P) (hashed : IsHashed g 
 
   -- where nothing was exchanged
   quiet : (copying : Copying) (answer answer' : Answer) (es : List (Exchange P)) (hands' hands'' : Hands P) → answer ≡ answer' → es ≡ [] → hands' ≡ hands''
-      → RestsCopied g c now hands''.call.last hands''.kept (aim_of copying) (copying_after copying mode initial answer') → HasCopied copying answer es hands'
-  quiet copying answer answer' es hands' hands'' a e h r =
-      let same : since ≡ since ++ [] = sym (append-nil since) in
-      answered copying answer answer' es [] hands' hands'' a e h
-      (subst (λ l. AllAllowed g start (begun ++ l)) same may, subst (λ l. RestsCopied g c (run (begun ++ l) start) hands''.call.last hands''.kept (aim_of copying) (copying_after copying mode initial answer')) same r)
+      → RestsCopied g c s hands''.call.last hands''.kept (aim_of copying) (copying_after copying mode initial answer') → HasCopied copying answer es hands'
+  quiet copying answer answer' es hands' hands'' a e h r = answered copying answer answer' es [] hands' hands'' a e h (tt, r)
 
-  module _ (copying : Copying) (r : RestsCopying g c now last kept copying) where
+  module _ (copying : Copying) (r : RestsCopying g c s last kept copying) where
     -- what it names is there
-    there : (ask : CopyAsk) → copying_ask copying ≡ ask → AreThere g c now last kept ask
-    there ask is = subst (AreThere g c now last kept) is (copying_there g c hashed now (map_left g (begun ++ since)) keeps last kept copying r)
+    there : (ask : CopyAsk) → copying_ask copying ≡ ask → AreThere g c s last kept ask
+    there ask is = subst (AreThere g c s last kept) is (copying_there g c hashed s m keeps last kept copying r)
 
     -- a word was exchanged
-    put_there : (at : At) (old new : ℕ) → copying_ask copying ≡ Ask_exchange at old new → word_of g c now at ≡ old → (e : Exchange P) → IsCopyAsked c (copying_kind copying) at new now kept e
+    put_there : (at : At) (old new : ℕ) → copying_ask copying ≡ Ask_exchange at old new → word_of g c s at ≡ old → (e : Exchange P) → IsCopyAsked c (copying_kind copying) at new s kept e
         → HasCopied copying (answers.Call Exchanged) (e ∷ []) (told_of (last_after e last) hands)
     put_there at old new is stands e asked =
-        let allows : Allows g now e = asked_allowed g c hashed now (map_left g (begun ++ since)) keeps last kept copying r at old new is stands e asked in (
-          one_more g c hashed begun since may k e allows,
-          subst (λ s. RestsCopied g c s (last_after e last) kept (aim_of copying) (copying_after copying mode initial (answers.Call Exchanged))) (sym (after_more g c hashed begun since may k e))
-              (copying_exchanged g c hashed now (map_left g (begun ++ since)) keeps mode moded last kept e allows copying r at old new is stands asked),
-        )
+        let allows : Allows g s e = asked_allowed g c hashed s m keeps last kept copying r at old new is stands e asked in
+        ((allows, tt), copying_exchanged g c hashed s m keeps mode moded last kept e allows copying r at old new is stands asked)
 
     -- after each answer
-    learns_of : (answer : Answer) (es : List (Exchange P)) (hands' : Hands P) (ask : CopyAsk) → copying_ask copying ≡ ask → IsCopyTold g c now (copying_kind copying) (copying_follows copying) hands ask answer es hands' → HasCopied copying answer es hands'
+    learns_of : (answer : Answer) (es : List (Exchange P)) (hands' : Hands P) (ask : CopyAsk) → copying_ask copying ≡ ask → IsCopyTold g c s (copying_kind copying) (copying_follows copying) hands ask answer es hands' → HasCopied copying answer es hands'
     learns_of answer es hands' (Load at) is h =
-        quiet copying answer (answers.Call (Word_read (word_of g c now at))) es hands' (told_of (told_last now at last) hands) h.0 h.1 h.2
-        (copying_loaded g c hashed now (map_left g (begun ++ since)) keeps mode moded last kept chunked copying r at is)
+        quiet copying answer (answers.Call (Word_read (word_of g c s at))) es hands' (told_of (told_last s at last) hands) h.0 h.1 h.2
+        (copying_loaded g c hashed s m keeps mode moded last kept chunked copying r at is)
     learns_of answer es hands' (Ask_exchange at old new) is h =
-        by_test (word_of g c now at == old)
-        ((answer ≡ answers.Call Exchanged) × ((e : Exchange P) × IsCopyAsked c (copying_kind copying) at new now kept e × (es ≡ e ∷ []) × (hands' ≡ told_of (last_after e last) hands)))
-        ((answer ≡ answers.Call (Found_instead (word_of g c now at))) × (es ≡ []) × (hands' ≡ told_of (told_last now at last) hands))
+        by_test (word_of g c s at == old)
+        ((answer ≡ answers.Call Exchanged) × ((e : Exchange P) × IsCopyAsked c (copying_kind copying) at new s kept e × (es ≡ e ∷ []) × (hands' ≡ told_of (last_after e last) hands)))
+        ((answer ≡ answers.Call (Found_instead (word_of g c s at))) × (es ≡ []) × (hands' ≡ told_of (told_last s at last) hands))
         (HasCopied copying answer es hands') h
         (λ stands (a, (e, asked, one, h')).
-        answered copying answer (answers.Call Exchanged) es (e ∷ []) hands' (told_of (last_after e last) hands) a one h' (put_there at old new is (eqb-true (word_of g c now at) old stands) e asked))
+        answered copying answer (answers.Call Exchanged) es (e ∷ []) hands' (told_of (last_after e last) hands) a one h' (put_there at old new is (eqb-true (word_of g c s at) old stands) e asked))
         (λ other (a, none, h').
-        quiet copying answer (answers.Call (Found_instead (word_of g c now at))) es hands' (told_of (told_last now at last) hands) a none h'
-        (copying_found g c hashed now (map_left g (begun ++ since)) keeps mode moded last kept copying r at old new is (eqb-false (word_of g c now at) old other)))
+        quiet copying answer (answers.Call (Found_instead (word_of g c s at))) es hands' (told_of (told_last s at last) hands) a none h'
+        (copying_found g c hashed s m keeps mode moded last kept copying r at old new is (eqb-false (word_of g c s at) old other)))
     learns_of answer es hands' (SizeOf t) is h =
         let size = h.0 in
-        let sized = copying_sized g c hashed now (map_left g (begun ++ since)) keeps mode moded last kept copying r t size.0 is size.1 in
+        let sized = copying_sized g c hashed s m keeps mode moded last kept copying r t size.0 is size.1 in
         quiet copying answer (answers.Call (Size (g.size t) size.0)) es hands' hands size.2 h.1.0 h.1.1
         (same_still (aim_of copying) (aim_of (at_size copying (g.size t) size.0)) sized.0, sized.1)
     learns_of answer es hands' (HashOf n) is h =
         let (p, told, number) = there (HashOf n) is in
-        let hashed_as = copying_hashed g c hashed now (map_left g (begun ++ since)) keeps mode moded last kept copying r n is p told in
+        let hashed_as = copying_hashed g c hashed s m keeps mode moded last kept copying r n is p told in
         quiet copying answer (answers.Hash (c.hash (g.key p))) es hands' (record hands { kept = last }) (h.0 p told number) h.1 h.2
         (same_still (aim_of copying) (aim_of (at_hash copying (c.hash (g.key p)))) hashed_as.0, hashed_as.1)
     learns_of answer es hands' (SamePair i n) is h =
         let (o, q, carried, told, first, second) = there (SamePair i n) is in
         quiet copying answer (answers.Call (Yes (g.same (g.key o) (g.key q)))) es hands' hands (h.0 o q carried first told second) h.1.0 h.1.1
-        (copying_compared g c hashed now (map_left g (begun ++ since)) keeps mode moded last kept copying r i n is o q carried told)
+        (copying_compared g c hashed s m keeps mode moded last kept copying r i n is o q carried told)
     learns_of answer es hands' Count is h =
         quiet copying answer (answers.Count h.0.0) es hands' hands h.0.1 h.1.0 h.1.1
-        (copying_counted g c hashed now (map_left g (begun ++ since)) keeps mode moded last kept copying r h.0.0 initial)
+        (copying_counted g c hashed s m keeps mode moded last kept copying r h.0.0 initial)
     learns_of answer es hands' (MakeTable slots limit) is h =
         ⊎_elim
         (λ (u : (refused : Refused) × (answer ≡ answers.Call (Was_refused refused))).
         quiet copying answer (answers.Call (Was_refused u.0)) es hands' hands u.1 h.1.0 h.1.1
-        (copying_refused g c hashed now (map_left g (begun ++ since)) keeps mode moded last kept copying r u.0))
+        (copying_refused g c hashed s m keeps mode moded last kept copying r u.0))
         (λ (n : (n : ℕ) × (copying_follows copying < n) × (answer ≡ answers.Call (Made_number n))).
-        let made = copying_made g c hashed now (map_left g (begun ++ since)) keeps mode moded last kept copying r n.0 n.1 in
+        let made = copying_made g c hashed s m keeps mode moded last kept copying r n.0 n.1 in
         quiet copying answer (answers.Call (Made_number n.0)) es hands' hands n.2 h.1.0 h.1.1
         (same_still (aim_of copying) (aim_of (at_made copying n.0)) made.0, made.1))
         h.0
 
-    pub copying_learns : (answer : Answer) (es : List (Exchange P)) (hands' : Hands P) → IsCopyTold g c now (copying_kind copying) (copying_follows copying) hands (copying_ask copying) answer es hands' → HasCopied copying answer es hands'
+    pub copying_learns : (answer : Answer) (es : List (Exchange P)) (hands' : Hands P) → IsCopyTold g c s (copying_kind copying) (copying_follows copying) hands (copying_ask copying) answer es hands' → HasCopied copying answer es hands'
     copying_learns answer es hands' h = learns_of answer es hands' (copying_ask copying) refl h

@@ -1,5 +1,5 @@
 -- After an answer that is true of the words a call over a chain rests again.
-use Rattle.std.proofs.Common.{◌≡◌, inl, inr, ℕ, ◌<◌, ◌==◌, Bool, false, cond, Option, Some, List, [], ◌∷◌, ◌++◌, append-nil, refl, sym, ap, ◌∙◌, subst}
+use Rattle.std.proofs.Common.{◌≡◌, inl, inr, ℕ, ◌<◌, ◌==◌, Bool, false, cond, Option, Some, List, [], ◌∷◌, ◌++◌, append-nil, refl, sym, ap, ◌∙◌, subst, append_assoc}
 use Rattle.std.proofs.lemmas.Bool.{cond_both}
 use Rattle.papaya_words.specs.Mode.{IsChunked}
 use Rattle.papaya_words.specs.declared.probe.ResizeMode.{ResizeMode}
@@ -33,8 +33,11 @@ use Rattle.papaya_chain.specs.declared.machine.Phase.TheVariants.{Calling, Linki
 use Rattle.papaya_chain.specs.Machine.{after, aim_for, answered, ask_of, asks_in, called, copying_after, follows_in, follows_of, grows_as, kind_in, kind_of_ask, leaves, link_after, onward, stepped}
 use Rattle.papaya_law.specs.Allows.{AllAllowed}
 use Rattle.papaya_law.specs.Code.{Coding, IsHashed}
+use Rattle.papaya_law.specs.Meaning.{map_left}
+use Rattle.papaya_law.proofs.Moments.{allowed_append, run-append}
+use Rattle.papaya_law.proofs.OneMap.{keeping}
 use Rattle.papaya_law.specs.Exchange.{Setting, State, Exchange, run, start}
-use Rattle.papaya_rests.specs.Copier.{IsCopyAsked, RestsCopied, last_after, told_last}
+use Rattle.papaya_rests.specs.Copier.{IsCopyAsked, RestsCopied, RestsCopying, aim_of, last_after, told_last}
 use Rattle.papaya_rests.specs.Rests as calls
 use Rattle.papaya_rests.specs.Told.{word_of}
 use Rattle.papaya_rests.specs.Told as call_told
@@ -210,10 +213,20 @@ module _ {K P : Type 0} (g : Setting K P) (c : Coding K P) (hashed : IsHashed g 
             linked_rests g c hashed begun (since ++ es) out.0 k at.mode (at_phase call (Linking link)) hands' chunked (aside_later out.0 (follows link) at.left told.0 told.1) at.changes (follows link) at.left (link_after link call.initial answer) out.1,
           )
 
+      -- what a copier learns, after all exchanges
+      copied_in_all : (copying : Copying) → RestsCopying g c now hands.call.last hands.kept copying → (answer : Answer) → IsCopyTold g c now (copying_kind copying) (copying_follows copying) hands (copying_ask copying) answer es hands'
+          → AllAllowed g start (begun ++ (since ++ es)) × RestsCopied g c (run (begun ++ (since ++ es)) start) hands'.call.last hands'.kept (aim_of copying) (copying_after copying call.mode call.initial answer)
+      copied_in_all copying rests answer h =
+          let out = copying_learns g c hashed now (map_left g (begun ++ since)) (keeping g hashed.lawful (begun ++ since) may) call.mode r.mode chunked call.initial hands copying rests answer es hands' h in
+          let reaches : run es now ≡ run (begun ++ (since ++ es)) start = sym (run-append (begun ++ since) es start) ∙ ap (λ l. run l start) (append_assoc begun since es) in (
+            subst (AllAllowed g start) (append_assoc begun since es) (allowed_append g (begun ++ since) es start may out.0),
+            subst (λ s. RestsCopied g c s hands'.call.last hands'.kept (aim_of copying) (copying_after copying call.mode call.initial answer)) reaches out.1,
+          )
+
       helping_rests : (copying : Copying) → IsHelping g c begun since k (at_phase call (Copying_root copying)) hands copying → (answer : Answer)
           → IsCopyTold g c now (copying_kind copying) (copying_follows copying) hands (copying_ask copying) answer es hands' → Learned (after (at_phase call (Copying_root copying)) answer) es hands'
       helping_rests copying at answer h =
-          let out = copying_learns g c hashed begun since may k call.mode r.mode chunked call.initial hands copying at.rests answer es hands' h in
+          let out = copied_in_all copying at.rests answer h in
           let told = copy_hands g c now (copying_kind copying) (copying_follows copying) hands (copying_ask copying) answer es hands' h in
           let same : (run (begun ++ (since ++ es)) start).next at.table ≡ now.next at.table = next_stays g c hashed begun since es out.0 k at.table at.next in (
             out.0,
@@ -225,7 +238,7 @@ module _ {K P : Type 0} (g : Setting K P) (c : Coding K P) (hashed : IsHashed g 
       copying_all_rests : (copying : Copying) → IsCopyingAll g c begun since k (at_phase call (Copying_root copying)) hands copying → (answer : Answer)
           → IsCopyTold g c now (copying_kind copying) (copying_follows copying) hands (copying_ask copying) answer es hands' → Learned (after (at_phase call (Copying_root copying)) answer) es hands'
       copying_all_rests copying at answer h =
-          let out = copying_learns g c hashed begun since may k call.mode r.mode chunked call.initial hands copying at.rests answer es hands' h in
+          let out = copied_in_all copying at.rests answer h in
           let told = copy_hands g c now (copying_kind copying) (copying_follows copying) hands (copying_ask copying) answer es hands' h in (
             out.0,
             all_rests g c hashed begun (since ++ es) out.0 k (at_phase call (Copying_root copying)) hands' chunked (aside_later out.0 at.table at.left told.0 told.1) at.changes at.mode at.table at.left at.met
