@@ -19,3 +19,5 @@ pub mod Once
 -- why it is refused
 pub mod CopyRefusals
 pub mod Refusals
+-- a copy for its own sake
+pub mod OwnCopies

@@ -4,4 +4,5 @@
 //! aside rests on what it rested on, and the copier on facts of the words alone.
 #![tactic(auto)]
 
+pub mod copiers;
 pub mod rests;

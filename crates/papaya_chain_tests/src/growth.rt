@@ -1,8 +1,8 @@
 // Tables that grow while keys are stored, looked up, removed and computed.
 ghost use Rattle.papaya_words.specs.Mode.{IsChunked};
 
-use crate::expect::is_at;
-use crate::words::{Numbers, reply};
+use crate::expect::{is, is_at};
+use crate::words::{Numbers, copies_all, copies_chunk, is_resizing, reply};
 use papaya_ask::call::{Reply, Task};
 use papaya_store::store::Store;
 use papaya_words::probe::{Refused, ResizeMode};
@@ -13,6 +13,9 @@ use std::test::Fail;
 
 /// The keys are 0 to 999, and the value of each is the key itself at first.
 const KEYS: u64 = 1000;
+
+/// More chunks than any resize here has.
+const MOST_CHUNKS: usize = 1000;
 
 const REPLACES: Task = Task::Insert { replace: true };
 
@@ -138,5 +141,71 @@ fn tables_grow_by_64_slots_a_call(rt: HostRuntime) -> Result<(), Fail> {
 #[test]
 fn tables_grow_at_once(rt: HostRuntime) -> Result<(), Fail> {
     grows(&rt, rt.alloc(), ResizeMode::Blocking)?;
+    Ok(())
+}
+
+/// Keys are stored until the root is being copied.
+fn stores_until_it_grows(rt: &impl Abort, alloc: Global, words: &mut Numbers, mode: ResizeMode)
+    requires { IsChunked mode }
+{
+    for key in 0..KEYS {
+        if !is_resizing(words) {
+            let stored = reply(alloc, words, mode, REPLACES, key, key);
+            is_at(rt, key as usize, stored, Some(Reply::Inserted(key)));
+        }
+    }
+    is(rt, is_resizing(words), true);
+}
+
+/// How many copies of a chunk end the resize, one after another.
+fn chunks_to_the_end(alloc: Global, words: &mut Numbers, mode: ResizeMode) -> usize
+    requires { IsChunked mode }
+{
+    for chunks in 0..MOST_CHUNKS {
+        if !is_resizing(words) {
+            return chunks;
+        }
+        let _ = copies_chunk(alloc, words, mode);
+    }
+    MOST_CHUNKS
+}
+
+/// A table of 32 slots, of which the call that made the next one has copied two, is copied in at most
+/// 15 chunks of two. A further chunk copies nothing.
+fn chunks_end_a_resize(rt: &impl Abort, alloc: Global) -> Result<(), Refused> {
+    let mode = ResizeMode::Incremental(2);
+    let mut words = no_words(alloc, mode)?;
+    stores_until_it_grows(rt, alloc, &mut words, mode);
+    is(rt, chunks_to_the_end(alloc, &mut words, mode), 15);
+    has_up_to(rt, alloc, &mut words, mode, newest(&words));
+    Ok(())
+}
+
+/// The newest key: the pairs have the keys' numbers.
+fn newest(words: &Numbers) -> u64 {
+    (words.count() as u64).wrapping_sub(1)
+}
+
+#[test]
+fn chunks_end_a_resize_of_32_slots(rt: HostRuntime) -> Result<(), Fail> {
+    chunks_end_a_resize(&rt, rt.alloc())?;
+    Ok(())
+}
+
+/// A copy of all ends each resize that is under way.
+fn copy_ends_all(rt: &impl Abort, alloc: Global) -> Result<(), Refused> {
+    let mode = ResizeMode::Incremental(1);
+    let mut words = no_words(alloc, mode)?;
+    stores_all(rt, alloc, &mut words, mode);
+    let copied = copies_all(alloc, &mut words, mode);
+    is(rt, copied.is_some(), true);
+    is(rt, is_resizing(&words), false);
+    has_up_to(rt, alloc, &mut words, mode, newest(&words));
+    Ok(())
+}
+
+#[test]
+fn a_copy_of_all_ends_every_resize(rt: HostRuntime) -> Result<(), Fail> {
+    copy_ends_all(&rt, rt.alloc())?;
     Ok(())
 }

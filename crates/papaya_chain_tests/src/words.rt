@@ -4,10 +4,12 @@ ghost use Rattle.papaya_ask.specs.Search.{IsSize};
 ghost use Rattle.papaya_chain.specs.Machine.{IsFit};
 ghost use Rattle.papaya_words.specs.Mode.{IsChunked};
 
-use papaya_ask::ask::{Answer as CallAnswer, Ask as CallAsk};
+use papaya_ask::ask::{Answer as CallAnswer, Ask as CallAsk, At};
+use papaya_ask::copy_ask::CopyAsk;
 use papaya_ask::call::{Reply, Task};
 use papaya_call::answers::{Answers, Operation};
 use papaya_chain::ask::{Answer, Ask};
+use papaya_chain::copier::Copier;
 use papaya_chain::machine::Machine;
 use papaya_store::pairs::{KeyOf, Running};
 use papaya_store::store::Store;
@@ -42,6 +44,51 @@ impl Answers<u64, u64> for Adds {
 
     fn yes(&mut self, _key: &u64, _value: &u64) -> bool {
         true
+    }
+}
+
+/// A copier under way, which stands.
+#[derive(Drop)]
+struct Copy {
+    copier: Copier,
+}
+
+impl Model for Copy {
+    ghost use Rattle.papaya_chain.specs.Copier.{IsStandingCopier};
+    ghost use Rattle.papaya_chain.specs.declared.copier.Copier.{Copier};
+
+    ghost Value = { Copier };
+
+    ghost view = { λ copy. copy.copier };
+
+    ghost invariant = { λ copy. IsStandingCopier copy.copier };
+}
+
+impl Copy {
+    fn chunk(mode: ResizeMode) -> Copy
+        requires { IsChunked mode }
+    {
+        Copy {
+            copier: Copier::chunk(mode, LEAST_LEN),
+        }
+    }
+
+    fn all(mode: ResizeMode) -> Copy
+        requires { IsChunked mode }
+    {
+        Copy {
+            copier: Copier::all(mode, LEAST_LEN),
+        }
+    }
+
+    fn ask(&self) -> Option<CopyAsk> {
+        self.copier.ask()
+    }
+
+    fn answer(&mut self, answer: Answer)
+        requires { IsFit answer }
+    {
+        self.copier.answer(answer);
     }
 }
 
@@ -133,4 +180,39 @@ pub fn reply(
         call.answer(answer);
     }
     None
+}
+
+/// A copy is driven to its end, in so many asks. Nothing where it takes too many.
+fn asks_of(alloc: Global, words: &mut Numbers, mut copy: Copy) -> Option<usize> {
+    for asked in 0..MOST_STEPS {
+        let Some(ask) = copy.ask() else {
+            return Some(asked);
+        };
+        let answer = words.perform_copy(alloc, ask, false);
+        if !fits(&answer) {
+            return None;
+        }
+        copy.answer(answer);
+    }
+    None
+}
+
+/// A chunk is copied, or nothing where the root has no next table.
+pub fn copies_chunk(alloc: Global, words: &mut Numbers, mode: ResizeMode) -> Option<usize>
+    requires { IsChunked mode }
+{
+    asks_of(alloc, words, Copy::chunk(mode))
+}
+
+/// All is copied.
+pub fn copies_all(alloc: Global, words: &mut Numbers, mode: ResizeMode) -> Option<usize>
+    requires { IsChunked mode }
+{
+    asks_of(alloc, words, Copy::all(mode))
+}
+
+/// Is the root being copied to another table?
+pub fn is_resizing(words: &Numbers) -> bool {
+    let root = words.word(At::Root);
+    words.word(At::Next(root)) != 0
 }
