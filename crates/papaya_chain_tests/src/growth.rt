@@ -177,7 +177,8 @@ fn chunks_end_a_resize(rt: &impl Abort, alloc: Global) -> Result<(), Refused> {
     let mut words = no_words(alloc, mode)?;
     stores_until_it_grows(rt, alloc, &mut words, mode);
     is(rt, chunks_to_the_end(alloc, &mut words, mode), 15);
-    has_up_to(rt, alloc, &mut words, mode, newest(&words));
+    let last = newest(&words);
+    has_up_to(rt, alloc, &mut words, mode, last);
     Ok(())
 }
 
@@ -200,7 +201,8 @@ fn copy_ends_all(rt: &impl Abort, alloc: Global) -> Result<(), Refused> {
     let copied = copies_all(alloc, &mut words, mode);
     is(rt, copied.is_some(), true);
     is(rt, is_resizing(&words), false);
-    has_up_to(rt, alloc, &mut words, mode, newest(&words));
+    let last = newest(&words);
+    has_up_to(rt, alloc, &mut words, mode, last);
     Ok(())
 }
 

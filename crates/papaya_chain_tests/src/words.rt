@@ -5,8 +5,8 @@ ghost use Rattle.papaya_chain.specs.Machine.{IsFit};
 ghost use Rattle.papaya_words.specs.Mode.{IsChunked};
 
 use papaya_ask::ask::{Answer as CallAnswer, Ask as CallAsk, At};
-use papaya_ask::copy_ask::CopyAsk;
 use papaya_ask::call::{Reply, Task};
+use papaya_ask::copy_ask::CopyAsk;
 use papaya_call::answers::{Answers, Operation};
 use papaya_chain::ask::{Answer, Ask};
 use papaya_chain::copier::Copier;
