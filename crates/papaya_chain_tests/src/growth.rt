@@ -2,12 +2,12 @@
 ghost use Rattle.papaya_words.specs.Mode.{IsChunked};
 
 use crate::expect::{is, is_at};
+use crate::hashing::{APART, TOGETHER, Times};
 use crate::words::{Numbers, copies_all, copies_chunk, is_resizing, reply};
 use papaya_ask::call::{Reply, Task};
 use papaya_store::store::Store;
 use papaya_words::probe::{Refused, ResizeMode};
 use std::alloc::Global;
-use std::hash::BuildHasherDefault;
 use std::process::Abort;
 use std::test::Fail;
 
@@ -23,8 +23,8 @@ const REPLACES: Task = Task::Insert { replace: true };
 const NO_VALUE: u64 = 0;
 
 /// Words with no table yet, and one shard.
-fn no_words(alloc: Global, mode: ResizeMode) -> Result<Numbers, Refused> {
-    let (words, _) = Store::with_parts(alloc, mode, 0, 1, BuildHasherDefault::default())?;
+fn no_words(alloc: Global, mode: ResizeMode, hasher: Times) -> Result<Numbers, Refused> {
+    let (words, _) = Store::with_parts(alloc, mode, 0, 1, hasher)?;
     Ok(words)
 }
 
@@ -113,7 +113,7 @@ fn has_the_even(rt: &impl Abort, alloc: Global, words: &mut Numbers, mode: Resiz
 fn grows(rt: &impl Abort, alloc: Global, mode: ResizeMode) -> Result<(), Refused>
     requires { IsChunked mode }
 {
-    let mut words = no_words(alloc, mode)?;
+    let mut words = no_words(alloc, mode, APART)?;
     stores_all(rt, alloc, &mut words, mode);
     removes_and_adds(rt, alloc, &mut words, mode);
     has_the_even(rt, alloc, &mut words, mode);
@@ -174,7 +174,7 @@ fn chunks_to_the_end(alloc: Global, words: &mut Numbers, mode: ResizeMode) -> us
 /// 15 chunks of two. A further chunk copies nothing.
 fn chunks_end_a_resize(rt: &impl Abort, alloc: Global) -> Result<(), Refused> {
     let mode = ResizeMode::Incremental(2);
-    let mut words = no_words(alloc, mode)?;
+    let mut words = no_words(alloc, mode, APART)?;
     stores_until_it_grows(rt, alloc, &mut words, mode);
     is(rt, chunks_to_the_end(alloc, &mut words, mode), 15);
     let last = newest(&words);
@@ -196,7 +196,7 @@ fn chunks_end_a_resize_of_32_slots(rt: HostRuntime) -> Result<(), Fail> {
 /// A copy of all ends each resize that is under way.
 fn copy_ends_all(rt: &impl Abort, alloc: Global) -> Result<(), Refused> {
     let mode = ResizeMode::Incremental(1);
-    let mut words = no_words(alloc, mode)?;
+    let mut words = no_words(alloc, mode, APART)?;
     stores_all(rt, alloc, &mut words, mode);
     let copied = copies_all(alloc, &mut words, mode);
     is(rt, copied.is_some(), true);
@@ -209,5 +209,39 @@ fn copy_ends_all(rt: &impl Abort, alloc: Global) -> Result<(), Refused> {
 #[test]
 fn a_copy_of_all_ends_every_resize(rt: HostRuntime) -> Result<(), Fail> {
     copy_ends_all(&rt, rt.alloc())?;
+    Ok(())
+}
+
+/// A hundred keys that share one path need tables with ever more places: a table of a million slots
+/// has 101. Where a pair finds no place in a copy, the copy goes on in a longer table.
+fn keys_of_one_path(rt: &impl Abort, alloc: Global, mode: ResizeMode) -> Result<(), Refused>
+    requires { IsChunked mode }
+{
+    let mut words = no_words(alloc, mode, TOGETHER)?;
+    for key in 0..100 {
+        let stored = reply(alloc, &mut words, mode, REPLACES, key, key);
+        is_at(rt, key as usize, stored, Some(Reply::Inserted(key)));
+    }
+    for key in 0..100 {
+        is_at(
+            rt,
+            key as usize,
+            value(alloc, &mut words, mode, key),
+            Some(key),
+        );
+    }
+    is(rt, value(alloc, &mut words, mode, 100), None);
+    Ok(())
+}
+
+#[test]
+fn keys_of_one_path_go_on_from_table_to_table(rt: HostRuntime) -> Result<(), Fail> {
+    keys_of_one_path(&rt, rt.alloc(), ResizeMode::Incremental(1))?;
+    Ok(())
+}
+
+#[test]
+fn keys_of_one_path_give_up_tables(rt: HostRuntime) -> Result<(), Fail> {
+    keys_of_one_path(&rt, rt.alloc(), ResizeMode::Blocking)?;
     Ok(())
 }

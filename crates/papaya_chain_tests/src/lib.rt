@@ -6,4 +6,6 @@ mod expect;
 #[cfg(test)]
 mod growth;
 #[cfg(test)]
+mod hashing;
+#[cfg(test)]
 mod words;

@@ -4,6 +4,7 @@ ghost use Rattle.papaya_ask.specs.Search.{IsSize};
 ghost use Rattle.papaya_chain.specs.Machine.{IsFit};
 ghost use Rattle.papaya_words.specs.Mode.{IsChunked};
 
+use crate::hashing::Times;
 use papaya_ask::ask::{Answer as CallAnswer, Ask as CallAsk, At};
 use papaya_ask::call::{Reply, Task};
 use papaya_ask::copy_ask::CopyAsk;
@@ -15,16 +16,15 @@ use papaya_store::pairs::{KeyOf, Running};
 use papaya_store::store::Store;
 use papaya_words::probe::ResizeMode;
 use std::alloc::Global;
-use std::hash::{BuildHasherDefault, FoldHasher};
 use std::marker::Model;
 
 /// More steps than any call here needs.
-const MOST_STEPS: usize = 1_000_000;
+const MOST_STEPS: usize = 20_000_000;
 
 /// No table here is made shorter.
 const LEAST_LEN: usize = 32;
 
-pub type Numbers = Store<u64, u64, BuildHasherDefault<FoldHasher>>;
+pub type Numbers = Store<u64, u64, Times>;
 
 /// The closure of each call here: it adds one to what it is shown, and agrees to each removal.
 #[derive(Drop)]
