@@ -49,11 +49,11 @@ impl Answers<u64, u64> for Adds {
 
 /// A copier under way, which stands.
 #[derive(Drop)]
-struct Copy {
+struct Copying {
     copier: Copier,
 }
 
-impl Model for Copy {
+impl Model for Copying {
     ghost use Rattle.papaya_chain.specs.Copier.{IsStandingCopier};
     ghost use Rattle.papaya_chain.specs.declared.copier.Copier.{Copier};
 
@@ -64,19 +64,19 @@ impl Model for Copy {
     ghost invariant = { λ copy. IsStandingCopier copy.copier };
 }
 
-impl Copy {
-    fn chunk(mode: ResizeMode) -> Copy
+impl Copying {
+    fn chunk(mode: ResizeMode) -> Copying
         requires { IsChunked mode }
     {
-        Copy {
+        Copying {
             copier: Copier::chunk(mode, LEAST_LEN),
         }
     }
 
-    fn all(mode: ResizeMode) -> Copy
+    fn all(mode: ResizeMode) -> Copying
         requires { IsChunked mode }
     {
-        Copy {
+        Copying {
             copier: Copier::all(mode, LEAST_LEN),
         }
     }
@@ -183,7 +183,7 @@ pub fn reply(
 }
 
 /// A copy is driven to its end, in so many asks. Nothing where it takes too many.
-fn asks_of(alloc: Global, words: &mut Numbers, mut copy: Copy) -> Option<usize> {
+fn asks_of(alloc: Global, words: &mut Numbers, mut copy: Copying) -> Option<usize> {
     for asked in 0..MOST_STEPS {
         let Some(ask) = copy.ask() else {
             return Some(asked);
@@ -201,14 +201,14 @@ fn asks_of(alloc: Global, words: &mut Numbers, mut copy: Copy) -> Option<usize> 
 pub fn copies_chunk(alloc: Global, words: &mut Numbers, mode: ResizeMode) -> Option<usize>
     requires { IsChunked mode }
 {
-    asks_of(alloc, words, Copy::chunk(mode))
+    asks_of(alloc, words, Copying::chunk(mode))
 }
 
 /// All is copied.
 pub fn copies_all(alloc: Global, words: &mut Numbers, mode: ResizeMode) -> Option<usize>
     requires { IsChunked mode }
 {
-    asks_of(alloc, words, Copy::all(mode))
+    asks_of(alloc, words, Copying::all(mode))
 }
 
 /// Is the root being copied to another table?
