@@ -1,5 +1,5 @@
 -- One ask of a copier is answered.
-use Rattle.std.specs.Prelude.{◌≡◌, ◌⊎◌, ℕ, Bool, false, Option, Some, None, MatchBool, length}
+use Rattle.std.specs.Prelude.{◌≡◌, ◌⊎◌, ℕ, ◌<◌, ◌^◌, Bool, false, Option, Some, None, MatchBool, length}
 use Rattle.papaya_words.specs.Counter.{count_of}
 use Rattle.papaya_words.specs.declared.limits.TheConstants.{MAX_TABLES}
 use Rattle.papaya_words.specs.declared.probe.Refused.TheVariants.{Memory}
@@ -24,6 +24,11 @@ abbrev pub hash_in : {K V : Type 0} → (K → ℕ) → Option (Stored K V) → 
 hash_in hash None = answers.Call Ok_done
 hash_in hash (Some p) = answers.Hash (hash p.key)
 
+-- a hash is a number of 64 bits
+abbrev pub IsHash : Answer → Type 0
+IsHash (answers.Hash hash) = hash < 2 ^ 64
+IsHash _ = Unit {0}
+
 -- the answer is one that calls are given
 abbrev pub IsCallAnswer : Answer → (Call_answer → Type 0) → Type 0
 IsCallAnswer answer Is = (told : Call_answer) × (answer ≡ answers.Call told) × Is told
@@ -41,7 +46,7 @@ module _ {K V S : Type 0} where
   PerformsCopy eq hash refuse (SizeOf n) s answer s' =
       (answer ≡ answers.Call (size_of (table_of s.words.tables n))) × (s' ≡ s)
   PerformsCopy eq hash refuse (HashOf n) s answer s' =
-      (answer ≡ hash_in (hash s.hasher) (pair_of s n)) × (s' ≡ s)
+      (answer ≡ hash_in (hash s.hasher) (pair_of s n)) × IsHash answer × (s' ≡ s)
   PerformsCopy eq hash refuse (SamePair m n) s answer s' =
       (answer ≡ answers.Call (Yes (same_keys eq (pair_of s m) (pair_of s n)))) × (s' ≡ s)
   PerformsCopy eq hash refuse Count s answer s' =

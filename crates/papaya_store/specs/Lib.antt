@@ -3,3 +3,4 @@ pub mod Performs
 pub mod Store
 pub mod Tables
 pub mod Copies
+pub mod Asks

@@ -163,7 +163,7 @@ module _ {K V S A : Type 0} where
       (answer ≡ Yes (same eq (own_key s r) (pair_of s n))) × Stays s r s' r'
   Performs eq says refuse ShowNone s r answer s' r' = DecidesNone says s r answer s' r'
   Performs eq says refuse (ShowPair n) s r answer s' r' =
-      ShowsPair r.machine.task says n s r answer s' r'
+      ShowsPair r.machine.call.task says n s r answer s' r'
   Performs eq says refuse (SizeOf n) s r answer s' r' =
       (answer ≡ size_of (table_of s.words.tables n)) × Stays s r s' r'
   Performs eq says refuse MakeKey s r answer s' r' =

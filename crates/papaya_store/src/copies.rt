@@ -1,7 +1,7 @@
 //! What the machines of a resize ask about.
 ghost use Rattle.std.specs.Prelude.{◌≡◌};
 ghost use Rattle.papaya_keys.specs.Hashes.{hash_of};
-ghost use Rattle.papaya_store.specs.Copies.{PerformsCopy, hash_in, same_keys};
+ghost use Rattle.papaya_store.specs.Copies.{IsHash, PerformsCopy, hash_in, same_keys};
 ghost use Rattle.papaya_store.specs.Store.{pair_of};
 
 use crate::store::Store;
@@ -25,8 +25,9 @@ impl<K: Hash + Eq + Drop, V: Drop, S: BuildHasher> Store<K, V, S> {
 
     /// The hash of the key of the pair of this number.
     fn hash_of_pair(&self, n: u64) -> Answer
-        ensures { result ≡ hash_in (hash_of K.hash_input S.build_hasher S.Hasher.write
+        ensures value { result ≡ hash_in (hash_of K.hash_input S.build_hasher S.Hasher.write
             S.Hasher.finish self.now.hasher) (pair_of self.now n) }
+        ensures fits { IsHash result }
     {
         match self.pair(n) {
             Some((key, _)) => Answer::Hash(self.hash(key)),

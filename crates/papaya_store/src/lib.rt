@@ -2,6 +2,7 @@
 //! machines ask.
 #![tactic(auto)]
 
+pub mod asks;
 pub mod copies;
 pub mod pairs;
 pub mod store;

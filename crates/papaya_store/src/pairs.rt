@@ -1,5 +1,5 @@
 //! Pairs as they are logged, and calls under way.
-use papaya_call::machine::Machine;
+use papaya_chain::machine::Machine;
 
 /// A pair: the number of its key in the key log, and its value.
 #[derive(Drop)]

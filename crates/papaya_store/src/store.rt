@@ -451,11 +451,11 @@ impl<K: Hash + Eq + Drop, V: Drop, S: BuildHasher> Store<K, V, S> {
     /// Shows pair `n` to the closure of a call.
     fn show<A: Answers<K, V>>(&self, n: u64, running: &mut Running<K, V, A>) -> Answer
         ensures machine { running.new.machine ≡ running.old.machine }
-        ensures shows { ShowsPair running.old.machine.task
+        ensures shows { ShowsPair running.old.machine.call.task
             (record { op = A.op_gives; yes = A.yes_gives }) n self.now running.old result self.now
             running.new }
     {
-        match running.machine.task {
+        match running.machine.call.task {
             Task::RemoveIf => self.judge(n, running),
             Task::Compute => self.decide(n, running),
             Task::Get | Task::Insert { .. } => Answer::Ok,

@@ -1,32 +1,32 @@
 -- One step of one caller.
-use Rattle.std.specs.Prelude.{◌≡◌, ◌⊎◌, ℕ, ℤ, ◌≤◌, Bool, Option, Some, None, length, slice_index}
+use Rattle.std.specs.Prelude.{◌≡◌, ℕ, ℤ, Bool, Option, Some, None}
 use Rattle.papaya_words.specs.Counter.{added}
-use Rattle.papaya_call.specs.Answers.{Says}
-use Rattle.papaya_words.specs.Probe.{place}
-use Rattle.papaya_words.specs.Table.{TableWords}
 use Rattle.papaya_words.specs.Word.{pair_of}
-use Rattle.papaya_ask.specs.declared.ask.Ask.{Ask}
-use Rattle.papaya_ask.specs.declared.ask.Ask.TheVariants.{AddToShard, Load, Exchange, ShowNone, ShowPair, Done as Ask_done}
-use Rattle.papaya_ask.specs.declared.ask.Answer.{Answer}
-use Rattle.papaya_ask.specs.declared.ask.Answer.TheVariants.{Exchanged, Yes, Op, Refused as Was_refused}
-use Rattle.papaya_ask.specs.declared.ask.OpKind.TheVariants as kinds
+use Rattle.papaya_words.specs.declared.probe.Refused.{Refused}
+use Rattle.papaya_ask.specs.declared.ask.Ask.{Ask as Call_ask}
+use Rattle.papaya_ask.specs.declared.ask.Ask.TheVariants.{AddToShard, Exchange, ShowNone, ShowPair, Done as Ask_done}
+use Rattle.papaya_ask.specs.declared.ask.Answer.{Answer as Call_answer}
+use Rattle.papaya_ask.specs.declared.ask.Answer.TheVariants.{Exchanged, Yes, Op}
 use Rattle.papaya_ask.specs.declared.ask.StepKind.{StepKind}
 use Rattle.papaya_ask.specs.declared.ask.StepKind.TheVariants.{Open, Claim, Replace, Bury, Link, Mark, Close, Place, Finish, Advance, Promote, Abort}
-use Rattle.papaya_words.specs.declared.probe.Refused.{Refused}
-use Rattle.papaya_words.specs.declared.probe.Refused.TheVariants.{Capacity, RemoveNothing}
-use Rattle.papaya_ask.specs.declared.ask.At.TheVariants.{Next}
 use Rattle.papaya_ask.specs.declared.call.Reply.{Reply}
 use Rattle.papaya_ask.specs.declared.call.Reply.TheVariants.{Refused as Reply_refused}
-use Rattle.papaya_call.specs.Machine.{MayInsert, ask_of, kind_of_ask, after}
+use Rattle.papaya_ask.specs.declared.copy_ask.CopyAsk.{CopyAsk}
+use Rattle.papaya_ask.specs.declared.copy_ask.CopyAsk.TheVariants.{Exchange as Copy_exchange}
+use Rattle.papaya_call.specs.Answers.{Says}
+use Rattle.papaya_chain.specs.declared.ask.Ask.{Ask}
+use Rattle.papaya_chain.specs.declared.ask.Ask.TheVariants as asks
+use Rattle.papaya_chain.specs.declared.ask.Answer.{Answer}
+use Rattle.papaya_chain.specs.declared.ask.Answer.TheVariants as answers
+use Rattle.papaya_chain.specs.Machine.{ask_of, kind_of_ask, after}
+use Rattle.papaya_chain_rests.specs.Goes.{IsCause}
 use Rattle.papaya_store.specs.declared.pairs.Running.{Running}
+use Rattle.papaya_store.specs.Asks.{PerformsAsk}
+use Rattle.papaya_store.specs.Store.{StoreState}
 use Rattle.papaya_timeline.specs.declared.trace.Event.{Event}
 use Rattle.papaya_timeline.specs.declared.trace.Event.TheVariants.{Changed, Moved, Asked, Shown, Other}
 use Rattle.papaya_timeline.specs.Callers.{with_call}
-use Rattle.papaya_store.specs.Performs.{Performs, own_key}
-use Rattle.papaya_timeline.specs.Content.{map_in}
 use Rattle.papaya_timeline.specs.Core.{CoreState, call_of}
-use Rattle.papaya_store.specs.Store.{StoreState}
-use Rattle.papaya_store.specs.Tables.{table_of, word_at}
 
 -- the event of an exchange of this kind that was made: a change of the map names the pair that went
 -- and the one that came
@@ -49,7 +49,7 @@ abbrev pub kind_event : Option StepKind → (old new : ℕ) → Event
 kind_event None old new = Other
 kind_event (Some kind) old new = exchange_event kind old new
 
-abbrev pub answered_event : Option StepKind → (old new : ℕ) → Answer → Event
+abbrev pub answered_event : Option StepKind → (old new : ℕ) → Call_answer → Event
 answered_event kind old new Exchanged = kind_event kind old new
 answered_event kind old new _ = Other
 
@@ -59,21 +59,32 @@ asked_event None agrees = Other
 asked_event (Some n) agrees = Asked n agrees
 
 -- the event of a showing: what the closure answered
-abbrev pub shown_event : Option ℕ → Answer → Event
+abbrev pub shown_event : Option ℕ → Call_answer → Event
 shown_event shown (Op kind) = Shown shown kind
 shown_event shown (Yes agrees) = asked_event shown agrees
 shown_event shown _ = Other
 
+-- the event of an ask of the call that was answered so
+abbrev pub call_event : Option StepKind → Call_ask → Call_answer → Event
+call_event kind (Exchange at old new) answer = answered_event kind old new answer
+call_event kind ShowNone answer = shown_event None answer
+call_event kind (ShowPair n) answer = shown_event (Some n) answer
+call_event kind _ answer = Other
+
+-- a copy shows nothing
+abbrev pub copy_event : Option StepKind → CopyAsk → Call_answer → Event
+copy_event kind (Copy_exchange at old new) answer = answered_event kind old new answer
+copy_event kind _ answer = Other
+
 -- the event of an ask that was answered so
 abbrev pub event_of : Option StepKind → Ask → Answer → Event
-event_of kind (Exchange at old new) answer = answered_event kind old new answer
-event_of kind ShowNone answer = shown_event None answer
-event_of kind (ShowPair n) answer = shown_event (Some n) answer
-event_of kind _ answer = Other
+event_of kind (asks.Call ask) (answers.Call answer) = call_event kind ask answer
+event_of kind (asks.Copy ask) (answers.Call answer) = copy_event kind ask answer
+event_of kind _ _ = Other
 
 -- the reply of a machine that asks no more
 abbrev pub reply_in : Ask → Option Reply
-reply_in (Ask_done reply) = Some reply
+reply_in (asks.Call (Ask_done reply)) = Some reply
 reply_in _ = None
 
 -- the call goes on, unless it has replied
@@ -81,47 +92,25 @@ abbrev pub goes_on : {A : Type 0} → Option Reply → A → Option A
 goes_on None r = Some r
 goes_on (Some reply) r = None
 
--- Table t has no next one, the call inserts or computes, and its key is not in the map and has no
--- place: each place of it in the table is filled.
-pub record HasNoPlace {K V S A : Type 0} (eq : K → K → Bool) (s : StoreState K V S)
-    (r : Running K V A) (t : ℕ) : Type 0 where
-  pub asks : ask_of r.machine ≡ Load (Next t)
-  pub next : word_at s.words (Next t) ≡ 0
-  pub inserts : MayInsert r.machine.task
-  pub key : K
-  pub own : own_key s r ≡ Some key
-  pub absent : map_in eq s key ≡ None
-  pub table : TableWords
-  pub there : table_of s.words.tables t ≡ Some table
-  pub filled : (j : ℕ) → j ≤ table.limit → slice_index table.slots
-      (place r.machine.hash (length table.slots) j) ≡ 0 → ⊥
-
 -- what a step adds to the count goes to the shard that the caller's number picks
 abbrev pub AddsToShard : {K V S A : Type 0} → CoreState K V S A → ℕ → CoreState K V S A → Type 0
 AddsToShard {K = K} {V = V} {A = A} s caller s' = (r : Running K V A) (by : ℤ)
-    → call_of s caller ≡ Some r → ask_of r.machine ≡ AddToShard by
+    → call_of s caller ≡ Some r → ask_of r.machine ≡ asks.Call (AddToShard by)
     → s'.store.count ≡ added s.store.count caller by
 
--- why a call is refused: what it asked to be made was refused so, its key has no place and there is
--- no next table, or its closure would remove where it was shown that nothing is
-abbrev pub IsStepCause : {K V S A : Type 0} → (K → K → Bool) → StoreState K V S → Running K V A
-    → Answer
-    → Refused → Type 0
-IsStepCause eq s r answer refused = (answer ≡ Was_refused refused)
-    ⊎ ((refused ≡ Capacity) × ((t : ℕ) × HasNoPlace eq s r t))
-    ⊎ ((refused ≡ RemoveNothing) × (ask_of r.machine ≡ ShowNone) × (answer ≡ Op kinds.Remove))
-
 -- Just one ask of the caller's machine is answered, a load or an exchange by the word that stands
--- there. A reply is the one in the machine's Done. No other caller's call changes.
-pub record Advances {K V S A : Type 0} (eq : K → K → Bool) (says : Says K V A) (refuse : Bool)
-    (s : CoreState K V S A) (caller : ℕ) (s' : CoreState K V S A) (event : Event)
+-- there. A reply is the one in the machine's Done. No other caller's call changes. A call is refused
+-- where what it asked to be made was refused, where its closure would remove a pair and there is
+-- none, or where the next table was refused or would be longer than a table may be.
+pub record Advances {K V S A : Type 0} (eq : K → K → Bool) (says : Says K V A) (hash : S → K → ℕ)
+    (refuse : Bool) (s : CoreState K V S A) (caller : ℕ) (s' : CoreState K V S A) (event : Event)
     (reply : Option Reply) : Type 0 where
   pub before : Running K V A
   pub was : call_of s caller ≡ Some before
   pub answer : Answer
   pub later : Running K V A
-  pub performs : Performs eq says refuse (ask_of before.machine) s.store before answer s'.store
-      later
+  pub performs : PerformsAsk eq says hash refuse (ask_of before.machine) s.store before answer
+      s'.store later
   pub machine : later.machine ≡ before.machine
   pub event_is : event ≡ event_of (kind_of_ask before.machine) (ask_of before.machine) answer
   pub reply_is : reply ≡ reply_in (ask_of (after before.machine answer))
@@ -130,4 +119,4 @@ pub record Advances {K V S A : Type 0} (eq : K → K → Bool) (says : Says K V 
   pub mode : s'.mode ≡ s.mode
   pub initial : s'.initial ≡ s.initial
   pub cause : (refused : Refused) → reply ≡ Some (Reply_refused refused)
-      → IsStepCause eq s.store before answer refused
+      → IsCause before.machine answer refused

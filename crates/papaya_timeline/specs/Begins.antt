@@ -5,7 +5,7 @@ use Rattle.papaya_ask.specs.declared.call.Call.{Call}
 use Rattle.papaya_ask.specs.declared.call.Call.TheVariants.{Get, Insert, TryInsert, RemoveIf, Compute}
 use Rattle.papaya_ask.specs.declared.call.Task.{Task}
 use Rattle.papaya_ask.specs.declared.call.Task.TheVariants.{Get as Get_task, Insert as Insert_task, RemoveIf as RemoveIf_task, Compute as Compute_task}
-use Rattle.papaya_call.specs.Machine.{started}
+use Rattle.papaya_chain.specs.Machine.{started}
 use Rattle.papaya_store.specs.declared.pairs.KeyOf.TheVariants.{Own}
 use Rattle.papaya_store.specs.declared.pairs.Running.{Running}
 use Rattle.papaya_timeline.specs.Callers.{with_call, with_seat}

@@ -1,9 +1,10 @@
 -- The map that a core means.
-use Rattle.std.specs.Prelude.{ℕ, ◌++◌, Bool, Option, None, Some, List, [], ◌∷◌}
+use Rattle.std.specs.Prelude.{ℕ, zero, suc, ◌++◌, Bool, Option, None, Some, List, [], ◌∷◌, length}
 use Rattle.papaya_words.specs.Word.{kind_of, pair_of as number_of}
 use Rattle.papaya_words.specs.Table.{TableWords}
 use Rattle.papaya_words.specs.declared.word.Kind.{Kind}
 use Rattle.papaya_words.specs.declared.word.Kind.TheVariants.{Live, Marked}
+use Rattle.papaya_law.specs.ChainContent.{joined}
 use Rattle.papaya_law.specs.Content.{lookup}
 use Rattle.papaya_store.specs.Tables.{table_of}
 use Rattle.papaya_store.specs.Store.{StoreState, Stored, pair_of}
@@ -28,17 +29,23 @@ module _ {K V S : Type 0} (store : StoreState K V S) where
   pairs_of_slots (word ∷ words) = pairs_of_kind (kind_of word) (number_of word) ++ pairs_of_slots
       words
 
-  abbrev pub pairs_of_table : Option TableWords → List (Stored K V)
-  pairs_of_table None = []
-  pairs_of_table (Some t) = pairs_of_slots t.slots
+module _ {K V S : Type 0} (eq : K → K → Bool) (store : StoreState K V S) where
+  -- The pairs of the tables from this one on, over n tables at most. Where two tables have a pair of
+  -- a key, the earlier one's is the map's.
+  abbrev pub pairs_from : ℕ → Option TableWords → List (Stored K V)
+  pairs_from zero from = []
+  pairs_from (suc n) None = []
+  pairs_from (suc n) (Some t) = joined eq (λ p. p.key) (pairs_of_slots store t.slots)
+      (pairs_from n (table_of store.words.tables t.next))
 
-  -- the content: the pairs of the root table
+  -- the content: the pairs of the tables from the root on
   abbrev pub content : List (Stored K V)
-  content = pairs_of_table (table_of store.words.tables store.words.root)
+  content = pairs_from (length store.words.tables)
+      (table_of store.words.tables store.words.root)
 
 -- the finite map that a store means: its content's pair of each class
 abbrev pub map_in : {K V S : Type 0} → (K → K → Bool) → StoreState K V S → Map K V
-map_in eq store = lookup eq (λ p. p.key) (content store)
+map_in eq store = lookup eq (λ p. p.key) (content eq store)
 
 -- and so a core
 abbrev pub map_of : {K V S A : Type 0} → (K → K → Bool) → CoreState K V S A → Map K V

@@ -5,9 +5,10 @@ use Rattle.papaya_words.specs.declared.probe.ResizeMode.{ResizeMode}
 use Rattle.papaya_ask.specs.Search.{IsSize}
 use Rattle.papaya_ask.specs.declared.ask.Ask.TheVariants.{Done as Ask_done}
 use Rattle.papaya_ask.specs.declared.call.Reply.{Reply}
-use Rattle.papaya_call.specs.declared.machine.Machine.{Machine}
 use Rattle.papaya_words.specs.Mode.{IsChunked}
-use Rattle.papaya_call.specs.Machine.{IsStanding, ask_of}
+use Rattle.papaya_chain.specs.declared.ask.Ask.TheVariants.{Call}
+use Rattle.papaya_chain.specs.declared.machine.Machine.{Machine}
+use Rattle.papaya_chain.specs.Machine.{IsStanding, ask_of}
 use Rattle.papaya_store.specs.declared.pairs.Running.{Running}
 use Rattle.papaya_timeline.specs.declared.seat.Seat.{Seat}
 use Rattle.papaya_timeline.specs.Callers.{running}
@@ -28,7 +29,7 @@ call_of s caller = running s.callers caller
 
 -- the machine has not replied
 abbrev pub IsGoing : Machine → Type 0
-IsGoing m = (reply : Reply) → ask_of m ≡ Ask_done reply → ⊥
+IsGoing m = (reply : Reply) → ask_of m ≡ Call (Ask_done reply) → ⊥
 
 -- each table has the size of a table, each machine stands within its table, and no call under way
 -- has replied

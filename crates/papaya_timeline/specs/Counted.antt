@@ -1,8 +1,8 @@
 -- The count of pairs, and what is yet to be added to it.
-use Rattle.std.specs.Prelude.{◌≡◌, ℤ, pos, ◌+ℤ◌, List, [], ◌∷◌, length, Option, Some, None}
+use Rattle.std.specs.Prelude.{◌≡◌, ℤ, pos, ◌+ℤ◌, Bool, List, [], ◌∷◌, length, Option, Some, None}
 use Rattle.std.specs.Int.{w64, int_wrap}
-use Rattle.papaya_call.specs.Machine.{ask_of}
-use Rattle.papaya_rests.specs.Owed.{owed_by}
+use Rattle.papaya_chain.specs.Machine.{ask_of}
+use Rattle.papaya_chain_rests.specs.Goes as calls
 use Rattle.papaya_store.specs.declared.pairs.Running.{Running}
 use Rattle.papaya_timeline.specs.declared.seat.Seat.{Seat}
 use Rattle.papaya_timeline.specs.Content.{content}
@@ -13,7 +13,7 @@ module _ {K V A : Type 0} where
   -- no call
   abbrev pub owed_of : Option (Running K V A) → ℤ
   owed_of None = pos 0
-  owed_of (Some r) = owed_by (ask_of r.machine)
+  owed_of (Some r) = calls.owed_in (ask_of r.machine)
 
   -- what all calls under way have yet to add
   abbrev pub owed_in : List (Seat K V A) → ℤ
@@ -22,6 +22,7 @@ module _ {K V A : Type 0} where
 
 -- The sum of the shards, with what is yet to be added, is the number of pairs in the map. A sum is
 -- one of 64 bits.
-abbrev pub IsCounted : {K V S A : Type 0} → StoreState K V S → List (Seat K V A) → Type 0
-IsCounted store callers = int_wrap w64 (store.count.sum +ℤ owed_in callers) ≡ pos
-    (length (content store))
+abbrev pub IsCounted : {K V S A : Type 0} → (K → K → Bool) → StoreState K V S → List (Seat K V A)
+    → Type 0
+IsCounted eq store callers = int_wrap w64 (store.count.sum +ℤ owed_in callers) ≡ pos
+    (length (content eq store))

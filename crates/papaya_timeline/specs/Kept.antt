@@ -1,20 +1,27 @@
 -- How the words and the logs of a core stand to the law of exchanges.
-use Rattle.std.specs.Prelude.{◌≡◌, ◌≢◌, ℕ, ◌+◌, ◌%◌, ◌^◌, ◌<◌, ◌==◌, Bool, true, false, if◌then◌else◌, Option, None, Some, List, [], ◌++◌, length}
+use Rattle.std.specs.Prelude.{◌≡◌, ◌≢◌, ℕ, ◌+◌, ◌%◌, ◌^◌, ◌<◌, ◌≤◌, ◌==◌, Bool, true, false, if◌then◌else◌, Option, None, Some, List, [], ◌++◌, length}
 use Rattle.papaya_words.specs.Table.{TableWords}
+use Rattle.papaya_words.specs.declared.limits.TheConstants.{MAX_LOG_LEN}
 use Rattle.papaya_words.specs.declared.probe.ResizeMode.{ResizeMode}
 use Rattle.papaya_words.specs.declared.probe.ResizeMode.TheVariants.{Incremental, Blocking}
 use Rattle.papaya_ask.specs.declared.ask.At.{At}
 use Rattle.papaya_ask.specs.declared.ask.At.TheVariants.{Root}
 use Rattle.papaya_ask.specs.declared.ask.Ask.TheVariants.{Exchange as Asks_exchange}
-use Rattle.papaya_call.specs.Machine.{HasClosure, ask_of}
+use Rattle.papaya_call.specs.Machine.{HasClosure}
+use Rattle.papaya_copy.specs.declared.link.Link.TheVariants.{Linking}
+use Rattle.papaya_chain.specs.declared.ask.Ask.TheVariants.{Call}
+use Rattle.papaya_chain.specs.Machine.{ask_of}
+use Rattle.papaya_chain_rests.specs.Goes.{link_in}
+use Rattle.papaya_chain_rests.specs.Rests.{Rests}
+use Rattle.papaya_chain_rests.specs.Told.{Hands, no_hands}
 use Rattle.papaya_law.specs.Allows.{AllAllowed}
 use Rattle.papaya_law.specs.Code.{Coding}
 use Rattle.papaya_law.specs.Exchange.{Setting, Exchange, run, start}
 use Rattle.papaya_law.specs.Grows.{Comes, planned}
 use Rattle.papaya_law.specs.Hashing.{hashed}
 use Rattle.papaya_law.specs.Invariant.{named}
-use Rattle.papaya_rests.specs.Rests.{Rests, change_in}
-use Rattle.papaya_rests.specs.Told.{Hands, IsOneOf, no_hands, word_of}
+use Rattle.papaya_rests.specs.Rests.{change_in}
+use Rattle.papaya_rests.specs.Told.{IsOneOf, word_of}
 use Rattle.papaya_store.specs.declared.pairs.Running.{Running}
 use Rattle.papaya_timeline.specs.declared.seat.Seat.{Seat}
 use Rattle.papaya_timeline.specs.Callers.{running}
@@ -53,7 +60,7 @@ abbrev pub low : {K : Type 0} → (K → ℕ) → K → ℕ
 low hash k = hash k % 2 ^ 64
 
 -- What is told of a call: the exchanges when it began, those since then, and the pairs that its
--- machine was told of.
+-- machine was told of, and the one that it carries to another table.
 pub record Tale (K V : Type 0) : Type 0 where
   pub begun : List (Exchange (Stored K V))
   pub since : List (Exchange (Stored K V))
@@ -64,6 +71,10 @@ module _ {K V S : Type 0} (store : StoreState K V S) where
   abbrev pub IsLogged : Stored K V → Type 0
   IsLogged p = pair_of store p.number ≡ Some p
 
+  -- there is a table of this number
+  abbrev pub IsMade : ℕ → Type 0
+  IsMade t = (words : TableWords) × (table_of store.words.tables t ≡ Some words)
+
 module _ {K V S A : Type 0} (eq : K → K → Bool) (hash : K → ℕ) (mode : ResizeMode)
     (store : StoreState K V S) where
   -- a call under way rests on what is told of it, after the exchanges es
@@ -72,17 +83,20 @@ module _ {K V S A : Type 0} (eq : K → K → Bool) (hash : K → ℕ) (mode : R
     pub key : K
     pub own : own_key store r ≡ Some key
     -- a call with a closure has its answers
-    pub answers : HasClosure r.machine.task → (a : A) × (r.answers ≡ Some a)
+    pub answers : HasClosure r.machine.call.task → (a : A) × (r.answers ≡ Some a)
     pub split : tale.begun ++ tale.since ≡ es
     pub rests : Rests (setting_of eq (low hash) mode store.words.tables) (coding_of (low hash))
         tale.begun tale.since key r.machine tale.hands
-    pub last : (p : Stored K V) → tale.hands.last ≡ Some p → IsLogged store p
-    pub made : (p : Stored K V) → IsOneOf tale.hands.made p → IsLogged store p
-    -- the table that a call is about to open was made
-    pub opens : (t : ℕ) → ask_of r.machine ≡ Asks_exchange Root 0 t
-        → (words : TableWords) × (table_of store.words.tables t ≡ Some words)
+    pub last : (p : Stored K V) → tale.hands.call.last ≡ Some p → IsLogged store p
+    pub carried : (p : Stored K V) → tale.hands.kept ≡ Some p → IsLogged store p
+    pub made : (p : Stored K V) → IsOneOf tale.hands.call.made p → IsLogged store p
+    -- the table that a call is about to open or to link was made
+    pub opens : (t : ℕ) → ask_of r.machine ≡ Call (Asks_exchange Root 0 t) → IsMade store t
+    pub links : (behind t : ℕ) → link_in r.machine.phase ≡ Some (Linking behind t)
+        → IsMade store t
     -- a pair that was made and is not written yet stands in no slot
-    pub unwritten : (p : Stored K V) → IsOneOf tale.hands.made p → change_in r.machine.state ≡ None
+    pub unwritten : (p : Stored K V) → IsOneOf tale.hands.call.made p
+        → change_in r.machine.call.state ≡ None
         → (t x : ℕ) (q : Stored K V) → named ((run es start).slot t x) ≡ Some q
         → q.number ≢ p.number
 
@@ -93,17 +107,17 @@ module _ {K V S A : Type 0} (eq : K → K → Bool) (hash : K → ℕ) (mode : R
     pub allowed : AllAllowed (setting_of eq (low hash) mode store.words.tables) start es
     pub coded : (at : At) → word_of (setting_of eq (low hash) mode store.words.tables)
         (coding_of (low hash)) (run es start) at ≡ word_at store.words at
-    pub single : (t : ℕ) → (run es start).next t ≡ 0
-    pub made : (t : ℕ) → 0 < t → Comes (run es start) t
-        → (words : TableWords) × (table_of store.words.tables t ≡ Some words)
+    pub made : (t : ℕ) → 0 < t → Comes (run es start) t → IsMade store t
     pub logged : (t x : ℕ) (p : Stored K V) → named ((run es start).slot t x) ≡ Some p
         → IsLogged store p
+    -- no log is longer than a log may be
+    pub few : length store.pairs ≤ MAX_LOG_LEN
     pub calls : (caller : ℕ) (r : Running K V A) → running callers caller ≡ Some r
         → IsCall r es (tales caller)
     -- two calls make two pairs
     pub apart : (c d : ℕ) (r q : Running K V A) → running callers c ≡ Some r
-        → running callers d ≡ Some q → c ≢ d → (p p' : Stored K V) → IsOneOf (tales c).hands.made p
-        → IsOneOf (tales d).hands.made p' → p.number ≢ p'.number
+        → running callers d ≡ Some q → c ≢ d → (p p' : Stored K V) → IsOneOf (tales c).hands.call.made p
+        → IsOneOf (tales d).hands.call.made p' → p.number ≢ p'.number
 
 -- What always holds of a core: its tables and machines are in order, and there are exchanges by
 -- which its words keep to the law.

@@ -23,10 +23,10 @@ module _ {K V S A : Type 0} (eq : K → K → Bool) (s : CoreState K V S A) (cal
     pub running_call : Running K V A
     pub is_running : call_of s caller ≡ Some running_call
     -- a lookup changes nothing
-    pub changes : IsChanger running_call.machine.task
+    pub changes : IsChanger running_call.machine.call.task
     -- the call is of the kind that its machine runs
     pub call : Call K V A
-    pub task : task_of_call call ≡ running_call.machine.task
+    pub task : task_of_call call ≡ running_call.machine.call.task
     pub own : own_key s.store running_call ≡ Some (key_of call)
     pub went : Option (Stored K V)
     pub came : Option (Stored K V)

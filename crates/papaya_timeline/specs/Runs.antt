@@ -46,7 +46,7 @@ module _ {K V S A : Type 0} (eq : K → K → Bool) (says : Says K V A) (hash : 
   abbrev pub StepRuns : (turn caller : ℕ) → Bool → CoreState K V S A → History → CoreState K V S A
       → History → Type 0
   StepRuns turn caller refuse s before s' after =
-      ((event : Event) × (reply : Option Reply) × Advances eq says refuse s caller s' event reply
+      ((event : Event) × (reply : Option Reply) × Advances eq says hash refuse s caller s' event reply
       × (after ≡ with_step turn caller event reply before))
       ⊎ ((call_of s caller ≡ None) × PassesOver s before s' after)
 
