@@ -28,6 +28,7 @@ pub mod KeptTables
 pub mod KeptWritten
 pub mod LegalLemmas
 pub mod MachineLemmas
+pub mod OneTable
 pub mod RefusedLemmas
 pub mod ReplayLemmas
 pub mod RunLemmas
