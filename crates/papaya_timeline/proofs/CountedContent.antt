@@ -1,8 +1,7 @@
 -- The content of a core as a list: no key stands twice in it, and it has no more pairs than the log.
-use Rattle.std.proofs.Common.{◌≡◌, ⊎_elim, ℕ, zero, suc, ◌<◌, ◌≤◌, ◌==◌, Bool, true, false, List, [], ◌∷◌, ◌++◌, length, map, Option, Some, None, refl, sym, ◌∙◌, ap, subst, arith, eqb-true}
+use Rattle.std.proofs.Common.{◌≡◌, ⊎_elim, ℕ, zero, suc, ◌≤◌, ◌==◌, Bool, true, false, List, [], ◌∷◌, ◌++◌, length, map, Option, Some, None, refl, sym, ◌∙◌, ap, subst, arith, eqb-true}
 use Rattle.std.proofs.lemmas.List.{length-map}
 use Rattle.std.proofs.lemmas.Bool.{cases_Bool, cond-true, cond-false, or_cases, or_left, or_right}
-use Rattle.std.proofs.lemmas.Map.Keys.{IsDistinct-cons}
 use Rattle.std.proofs.lemmas.Map.Steps.{length-le_from_distinct_below}
 use Rattle.std.specs.List.{AllByRecursion, IsDistinct, list_any}
 use Rattle.papaya_words.specs.Table.{TableWords}
@@ -11,7 +10,7 @@ use Rattle.papaya_words.specs.declared.limits.TheConstants.{MAX_LOG_LEN}
 use Rattle.papaya_words.specs.declared.probe.ResizeMode.{ResizeMode}
 use Rattle.papaya_words.specs.declared.word.Kind.{Kind}
 use Rattle.papaya_words.specs.declared.word.Kind.TheVariants as kinds
-use Rattle.papaya_law.specs.ChainContent.{joined, missing_in, unless_found}
+use Rattle.papaya_law.specs.ChainContent.{missing_in, unless_found}
 use Rattle.papaya_law.specs.Code.{Coding, IsHashed}
 use Rattle.papaya_law.specs.Content.{AreApart, lookup}
 use Rattle.papaya_law.specs.Exchange.{Setting, State, Exchange, run, start}
@@ -32,6 +31,7 @@ at_number : {K V : Type 0} (n : ℕ) (v : V) (o : Option K) (p : Stored K V) →
 at_number n v None p e = let f : None ≡ Some p = e in absurd cc
 at_number {K} {V} n v (Some k) p e = let is : record { number = n; key = k; value = v } ≡ p = cc in ap (λ (q : Stored K V). q.number) (sym is)
 
+-- the same of what the log has there
 number_in : {K V : Type 0} (keys : List K) (n : ℕ) (o : Option (Pair V)) (p : Stored K V) → stored_in keys n o ≡ Some p → p.number ≡ n
 number_in keys n None p e = let f : None ≡ Some p = e in absurd cc
 number_in keys n (Some q) p e = at_number n q.value _ p e
