@@ -8,6 +8,7 @@ pub mod CountedSeats
 pub mod CountedStep
 pub mod EndingLemmas
 pub mod EventLemmas
+pub mod FollowedTables
 pub mod GivenLemmas
 pub mod Good
 pub mod GoodLemmas
@@ -15,6 +16,7 @@ pub mod HeadlineLemmas
 pub mod KeptAnswer
 pub mod KeptBegin
 pub mod KeptClosures
+pub mod KeptCopied
 pub mod KeptCore
 pub mod KeptExchange
 pub mod KeptLemmas
