@@ -125,8 +125,8 @@ module _ {K V S A H : Type 0} (eq : K → K → Bool) (input : K → List (List 
       record { core = core; law = subst (λ h. (es : _) × ((tales : _) × IsKept eq (hash_of input build write finish h) s'.mode s'.store s'.callers es tales)) same (es ++ step.made, (_, step.kept)) }
 
   -- a call that goes on is refused for a cause
-  pub lawful_caused : {says : Says K V A} (refuse : Bool) (s : CoreState K V S A) → Lawful s → (caller : ℕ) (r : Running K V A) → running s.callers caller ≡ Some r → (answer : Answer) (store' : StoreState K V S) (later : Running K V A) → PerformsAsk eq says (hash_of input build write finish) refuse (ask_of r.machine) s.store r answer store' later → (refused : Refused) → reply_in (ask_of (after r.machine answer)) ≡ Some (Reply_refused refused) → IsCause r.machine answer refused
-  lawful_caused {says = says} refuse s lawful caller r was answer store' later performs refused e =
+  pub lawful_caused : (says : Says K V A) (refuse : Bool) (s : CoreState K V S A) → Lawful s → (caller : ℕ) (r : Running K V A) → running s.callers caller ≡ Some r → (answer : Answer) (store' : StoreState K V S) (later : Running K V A) → PerformsAsk eq says (hash_of input build write finish) refuse (ask_of r.machine) s.store r answer store' later → (refused : Refused) → reply_in (ask_of (after r.machine answer)) ≡ Some (Reply_refused refused) → IsCause r.machine answer refused
+  lawful_caused says refuse s lawful caller r was answer store' later performs refused e =
       let (es, (tales, kept)) = lawful.law in
       let hashed = hash_of input build write finish s.store.hasher in
       let left = kept_steps.left eq hashed (keys_lawful eq input build write finish classes respects s.store.hasher) says (hash_of input build write finish) refuse s caller (record { store = store'; callers = s.callers; mode = s.mode; initial = s.initial }) r answer later was performs refl refl es tales lawful.core kept in
@@ -142,5 +142,5 @@ module _ {K V S A H : Type 0} (eq : K → K → Bool) (input : K → List (List 
       → callers' ≡ with_call s.callers caller (goes_on (reply_in (ask_of (after before.machine a))) (record later { machine = after before.machine a })) → IsCore store' callers' s.mode → Lawful s → IsLawfulCore eq (hash_of input build write finish store'.hasher) store' callers' s.mode
   stepped_lawful says refuse s caller store' callers' before a later was performs machine callers core lawful =
       step_lawful {says = says} refuse s caller (record { store = store'; callers = callers'; mode = s.mode; initial = s.initial }) (event_of (kind_of_ask before.machine) (ask_of before.machine) a) (reply_in (ask_of (after before.machine a)))
-      (record { before = before; was = was; answer = a; later = later; performs = performs; machine = machine; event_is = refl; reply_is = refl; callers = callers; mode = refl; initial = refl; cause = λ refused e. lawful_caused {says = says} refuse s lawful caller before was a store' later performs refused e })
+      (record { before = before; was = was; answer = a; later = later; performs = performs; machine = machine; event_is = refl; reply_is = refl; callers = callers; mode = refl; initial = refl; cause = λ refused e. lawful_caused says refuse s lawful caller before was a store' later performs refused e })
       core lawful

@@ -116,7 +116,7 @@ module _ {K V S A : Type 0} (eq : K → K → Bool) (hash : K → ℕ) (law : Is
   grown_rests : (tale : Tale K V) (split : tale.begun ++ tale.since ≡ es) (k : K) (m : _) (hands : Hands (Stored K V)) → Rests g c tale.begun (tale.since ++ left.made) k m hands → Rests g' c tale.begun (tale.since ++ left.made) k m hands
   grown_rests tale split k m hands rests =
       let to : es' ≡ tale.begun ++ (tale.since ++ left.made) = sym (longer_split tale split) in
-      rests_carries g g' c hashed tale.begun (tale.since ++ left.made) (subst (AllAllowed g start) to all) k (subst (λ l. Agrees (IsOn (run l start).first (run l start).next) g g') to agrees) m hands rests
+      rests_carries g g' c hashed tale.begun (tale.since ++ left.made) (subst (AllAllowed g start) to all) (subst (λ l. Agrees (IsOn (run l start).first (run l start).next) g g') to agrees) k m hands rests
 
   -- the map is the same in the grown setting
   pub same_map : (k : K) → map_left g' es k ≡ map_left g es k

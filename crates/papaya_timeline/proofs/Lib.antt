@@ -33,7 +33,6 @@ pub mod LegalLemmas
 pub mod MachineLemmas
 pub mod MadeTables
 pub mod OneTable
-pub mod RefusedLemmas
 pub mod ReplayLemmas
 pub mod RunLemmas
 pub mod ShowLemmas
