@@ -1,56 +1,130 @@
--- The content of a core as a list: no key stands twice in it, and it is no longer than its table.
-use Rattle.std.proofs.Common.{◌≡◌, ℕ, ◌+◌, ◌≤◌, ◌^◌, Bool, List, [], ◌∷◌, length, Option, Some, None, refl, sym, ◌∙◌, ap, subst, arith, length-append}
+-- The content of a core as a list: no key stands twice in it, and it has no more pairs than the log.
+use Rattle.std.proofs.Common.{◌≡◌, ⊎_elim, ℕ, zero, suc, ◌≤◌, ◌==◌, Bool, true, false, List, [], ◌∷◌, ◌++◌, length, map, Option, Some, None, refl, sym, ◌∙◌, ap, subst, arith, eqb-true}
+use Rattle.std.proofs.lemmas.List.{length-map}
+use Rattle.std.proofs.lemmas.Bool.{cases_Bool, cond-true, cond-false, or_cases, or_left, or_right}
+use Rattle.std.proofs.lemmas.Map.Steps.{length-le_from_distinct_below}
+use Rattle.std.specs.List.{AllByRecursion, IsDistinct, list_any}
 use Rattle.papaya_words.specs.Table.{TableWords}
 use Rattle.papaya_words.specs.Word.{kind_of, pair_of as number_of}
+use Rattle.papaya_words.specs.declared.limits.TheConstants.{MAX_LOG_LEN}
 use Rattle.papaya_words.specs.declared.probe.ResizeMode.{ResizeMode}
 use Rattle.papaya_words.specs.declared.word.Kind.{Kind}
 use Rattle.papaya_words.specs.declared.word.Kind.TheVariants as kinds
-use Rattle.papaya_ask.specs.declared.ask.At.TheVariants.{Root}
-use Rattle.papaya_law.specs.Code.{Coding}
-use Rattle.papaya_law.specs.Content.{AreApart}
+use Rattle.papaya_law.specs.ChainContent.{missing_in, unless_found}
+use Rattle.papaya_law.specs.Code.{Coding, IsHashed}
+use Rattle.papaya_law.specs.Content.{AreApart, lookup}
 use Rattle.papaya_law.specs.Exchange.{Setting, State, Exchange, run, start}
 use Rattle.papaya_law.specs.Meaning.{map_left}
-use Rattle.papaya_ask.specs.Search.{IsSize}
-use Rattle.papaya_law.specs.Code.{IsHashed}
-use Rattle.papaya_law.proofs.Content.{apart_in}
+use Rattle.papaya_law.proofs.ChainContent.{chain_apart}
 use Rattle.papaya_law.proofs.OneMap.{keeping}
 use Rattle.papaya_timeline.specs.declared.seat.Seat.{Seat}
-use Rattle.papaya_timeline.specs.Content.{content, listed, pairs_of_kind, pairs_of_slots, pairs_of_table}
-use Rattle.papaya_timeline.specs.Kept.{IsKept, Tale, setting_of, coding_of, low}
+use Rattle.papaya_timeline.specs.Content.{content, listed, pairs_from, pairs_of_kind, pairs_of_slots}
+use Rattle.papaya_timeline.specs.Kept.{IsKept, IsLogged, Tale, setting_of, coding_of, low}
 use Rattle.papaya_store.specs.Store.{StoreState, Stored, pair_of}
 use Rattle.papaya_store.specs.Tables.{table_of}
-use Rattle.papaya_timeline.proofs.KeptMap.{table_content}
+use Rattle.papaya_timeline.proofs.KeptLogs.{pair_below, pair_number}
+use Rattle.papaya_timeline.proofs.KeptMap.{kept_content}
 
 module _ {K V S : Type 0} (store : StoreState K V S) where
-  -- a word has one pair at most
-  listed_few : (o : Option (Stored K V)) → length (listed o) ≤ 1
-  listed_few None = omega arith
-  listed_few (Some p) = omega arith
+  -- each pair of the list is in the log, under its number
+  abbrev AllLogged : List (Stored K V) → Type 0
+  AllLogged = AllByRecursion (IsLogged store)
 
-  kind_few : (kd : Kind) (n : ℕ) → length (pairs_of_kind store kd n) ≤ 1
-  kind_few kinds.Live n = listed_few (pair_of store n)
-  kind_few kinds.Marked n = listed_few (pair_of store n)
-  kind_few kinds.Empty n = omega arith
-  kind_few kinds.Copied n = omega arith
-  kind_few kinds.Buried n = omega arith
-  kind_few kinds.Closed n = omega arith
+  -- two lists
+  append_logged : (ps qs : List (Stored K V)) → AllLogged ps → AllLogged qs → AllLogged (ps ++ qs)
+  append_logged [] qs hp hq = hq
+  append_logged (p ∷ ps) qs hp hq = (hp.0, append_logged ps qs hp.1 hq)
 
-  -- so a table has no more pairs than slots
-  slots_few : (words : List ℕ) → length (pairs_of_slots store words) ≤ length words
-  slots_few [] = omega arith
-  slots_few (word ∷ words) =
-      let here = kind_few (kind_of word) (number_of word) in
-      let there = slots_few words in
-      let all : length (pairs_of_slots store (word ∷ words)) ≡ length (pairs_of_kind store (kind_of word) (number_of word)) + length (pairs_of_slots store words) = length-append (pairs_of_kind store (kind_of word) (number_of word)) (pairs_of_slots store words) in
-      omega (arith, here, there, all)
+  -- the pair of a number
+  listed_logged : (n : ℕ) (o : Option (Stored K V)) → pair_of store n ≡ o → AllLogged (listed o)
+  listed_logged n None e = tt
+  listed_logged n (Some p) e = (ap (pair_of store) (pair_number store n p e) ∙ e, tt)
 
-  table_few : (o : Option TableWords) → ((t : TableWords) → o ≡ Some t → IsSize (length t.slots) t.limit) → length (pairs_of_table store o) ≤ 2 ^ 32
-  table_few None sized = omega arith
-  table_few (Some t) sized = let few = slots_few t.slots in let most = (sized t refl).most in omega (arith, few, most)
+  -- the pair of a word
+  kind_logged : (kd : Kind) (n : ℕ) → AllLogged (pairs_of_kind store kd n)
+  kind_logged kinds.Live n = listed_logged n (pair_of store n) refl
+  kind_logged kinds.Marked n = listed_logged n (pair_of store n) refl
+  kind_logged kinds.Empty n = tt
+  kind_logged kinds.Copied n = tt
+  kind_logged kinds.Buried n = tt
+  kind_logged kinds.Closed n = tt
 
-  -- the content is never so long that a count of it overflows
-  pub content_few : ((n : ℕ) (t : TableWords) → table_of store.words.tables n ≡ Some t → IsSize (length t.slots) t.limit) → length (content store) ≤ 2 ^ 32
-  content_few sized = table_few (table_of store.words.tables store.words.root) (λ t e. sized store.words.root t e)
+  -- the pairs of a table
+  slots_logged : (words : List ℕ) → AllLogged (pairs_of_slots store words)
+  slots_logged [] = tt
+  slots_logged (word ∷ words) = append_logged (pairs_of_kind store (kind_of word) (number_of word)) (pairs_of_slots store words) (kind_logged (kind_of word) (number_of word)) (slots_logged words)
+
+  module _ (eq : K → K → Bool) where
+    -- a pair that comes in, if its key has none
+    found_logged : (o : Option (Stored K V)) (q : Stored K V) → IsLogged store q → AllLogged (unless_found o q)
+    found_logged None q h = (h, tt)
+    found_logged (Some p) q h = tt
+
+    -- those that come in
+    missing_logged : (ps qs : List (Stored K V)) → AllLogged qs → AllLogged (missing_in eq (λ p. p.key) ps qs)
+    missing_logged ps [] h = tt
+    missing_logged ps (q ∷ qs) h =
+        append_logged (unless_found (lookup eq (λ p. p.key) ps q.key) q) (missing_in eq (λ p. p.key) ps qs)
+        (found_logged (lookup eq (λ p. p.key) ps q.key) q h.0)
+        (missing_logged ps qs h.1)
+
+    -- the pairs of the tables of a chain
+    from_logged : (n : ℕ) (o : Option TableWords) → AllLogged (pairs_from eq store n o)
+    from_logged zero o = tt
+    from_logged (suc n) None = tt
+    from_logged (suc n) (Some t) =
+        let behind : List (Stored K V) = pairs_from eq store n (table_of store.words.tables t.next) in
+        append_logged (pairs_of_slots store t.slots) (missing_in eq (λ p. p.key) (pairs_of_slots store t.slots) behind) (slots_logged t.slots)
+        (missing_logged (pairs_of_slots store t.slots) behind (from_logged n (table_of store.words.tables t.next)))
+
+    module _ (itself : (k : K) → eq k k ≡ true) where
+      -- a number of the list is a pair's whose key has a pair there
+      number_found : (ps : List (Stored K V)) → AllLogged ps → (n : ℕ) → list_any (λ m. n == m) (map (λ p. p.number) ps) ≡ true → (q : Stored K V) × (pair_of store n ≡ Some q) × (lookup eq (λ p. p.key) ps q.key ≡ None → ⊥)
+      number_found [] h n e = absurd cc
+      number_found (p ∷ ps) h n e =
+          ⊎_elim
+          (λ (y : (n == p.number) ≡ true). (p, ap (pair_of store) (eqb-true n p.number y) ∙ h.0, λ none. let here = cond-true (eq p.key p.key) (Some p) (lookup eq (λ r. r.key) ps p.key) (itself p.key) in let f : Some p ≡ None = sym here ∙ none in cc))
+          (λ (more : list_any (λ m. n == m) (map (λ r. r.number) ps) ≡ true). behind (number_found ps h.1 n more))
+          (or_cases (n == p.number) (list_any (λ m. n == m) (map (λ r. r.number) ps)) e)
+        where
+          behind : (q : Stored K V) × (pair_of store n ≡ Some q) × (lookup eq (λ r. r.key) ps q.key ≡ None → ⊥) → (q : Stored K V) × (pair_of store n ≡ Some q) × (lookup eq (λ r. r.key) (p ∷ ps) q.key ≡ None → ⊥)
+          behind (q, is, some) = (
+            q,
+            is,
+            λ none.
+                ⊎_elim
+                (λ (y : eq q.key p.key ≡ true). let here = cond-true (eq q.key p.key) (Some p) (lookup eq (λ r. r.key) ps q.key) y in let f : Some p ≡ None = sym here ∙ none in cc)
+                (λ (n' : eq q.key p.key ≡ false). some (sym (cond-false (eq q.key p.key) (Some p) (lookup eq (λ r. r.key) ps q.key) n') ∙ none))
+                (cases_Bool (eq q.key p.key)),
+          )
+
+      -- a number that is none of these
+      none_equal : (n : ℕ) (ns : List ℕ) → list_any (λ m. n == m) ns ≡ false → AllByRecursion (λ m. (n == m) ≡ false) ns
+      none_equal n [] e = tt
+      none_equal n (m ∷ ns) e = (
+        ⊎_elim (λ (y : (n == m) ≡ true). absurd (let some = or_left (n == m) (list_any (λ x. n == x) ns) y in cc (some, e))) (λ (d : (n == m) ≡ false). d) (cases_Bool (n == m)),
+        none_equal n ns (⊎_elim (λ (y : list_any (λ x. n == x) ns ≡ true). absurd (let some = or_right (n == m) (list_any (λ x. n == x) ns) y in cc (some, e))) (λ (d : list_any (λ x. n == x) ns ≡ false). d) (cases_Bool (list_any (λ x. n == x) ns))),
+      )
+
+      -- where keys are apart, so are numbers
+      numbers_distinct : (ps : List (Stored K V)) → AllLogged ps → AreApart eq (λ p. p.key) ps → IsDistinct ◌==◌ (map (λ p. p.number) ps)
+      unfolding IsDistinct
+      numbers_distinct [] h apart = tt
+      numbers_distinct (p ∷ ps) h apart = (
+        none_equal p.number (map (λ r. r.number) ps)
+            (⊎_elim
+            (λ (y : list_any (λ m. p.number == m) (map (λ r. r.number) ps) ≡ true). absurd (let (q, is, some) = number_found ps h.1 p.number y in let same : p ≡ q = let both : Some p ≡ Some q = sym h.0 ∙ is in cc in some (subst (λ (r : Stored K V). lookup eq (λ r'. r'.key) ps r.key ≡ None) same apart.0)))
+            (λ (d : list_any (λ m. p.number == m) (map (λ r. r.number) ps) ≡ false). d)
+            (cases_Bool (list_any (λ m. p.number == m) (map (λ r. r.number) ps)))),
+        numbers_distinct ps h.1 apart.1,
+      )
+
+      -- logged pairs whose keys are apart are no more than the log has
+      logged_few : (ps : List (Stored K V)) → AllLogged ps → AreApart eq (λ p. p.key) ps → length ps ≤ length store.pairs
+      logged_few ps h apart =
+          let few = length-le_from_distinct_below (map (λ p. p.number) ps) (length store.pairs) (numbers_distinct ps h apart) (λ n e. let r = number_found ps h n e in pair_below store n r.0 r.1) in
+          let same = length-map ps (λ (p : Stored K V). p.number) in
+          omega (arith, few, same)
 
 module _ {K V S : Type 0} (eq : K → K → Bool) (hash : K → ℕ) (mode : ResizeMode) (store : StoreState K V S)
     (hashed : IsHashed (setting_of {V = V} eq (low hash) mode store.words.tables) (coding_of (low hash))) where
@@ -67,8 +141,15 @@ module _ {K V S : Type 0} (eq : K → K → Bool) (hash : K → ℕ) (mode : Res
     now = run es start
 
     -- in the content no key stands twice
-    pub content_apart : AreApart eq (λ p. p.key) (content store)
+    pub content_apart : AreApart eq (λ p. p.key) (content eq store)
     content_apart =
         subst (AreApart eq (λ p. p.key))
-        (sym (ap (λ n. pairs_of_table store (table_of store.words.tables n)) (sym (kept.coded Root)) ∙ table_content eq hash mode store hashed callers es tales kept (table_of store.words.tables now.root) refl))
-        (apart_in g hashed.lawful now (map_left g es) (keeping g hashed.lawful es kept.allowed) now.root (g.size now.root))
+        (sym (kept_content eq hash mode store hashed callers es tales kept))
+        (chain_apart g hashed.lawful now (map_left g es) (keeping g hashed.lawful es kept.allowed) (length store.words.tables) now.root)
+
+    -- the content is never longer than a log may be
+    pub content_few : length (content eq store) ≤ MAX_LOG_LEN
+    content_few =
+        let few = logged_few store eq hashed.lawful.itself (content eq store) (from_logged store eq (length store.words.tables) (table_of store.words.tables store.words.root)) content_apart in
+        let most = kept.few in
+        omega (arith, few, most)

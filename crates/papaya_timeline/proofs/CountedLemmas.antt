@@ -1,5 +1,5 @@
 -- The sum of the shards, with what is yet to be added, stays the number of pairs.
-use Rattle.std.proofs.Common.{◌≡◌, ℕ, ◌≤◌, ◌^◌, ℤ, pos, ◌+ℤ◌, Bool, List, [], ◌∷◌, ◌++◌, length, Option, Some, None, inl, inr, refl, sym, ◌∙◌, ap, subst, arith}
+use Rattle.std.proofs.Common.{◌≡◌, ℕ, zero, suc, ◌≤◌, ◌^◌, ℤ, pos, ◌+ℤ◌, Bool, List, [], ◌∷◌, ◌++◌, length, Option, Some, None, inl, inr, refl, sym, ◌∙◌, ap, subst, arith}
 use Rattle.std.proofs.lemmas.Int.{ints, int_wrap_fits, int_wrap-add_same, fits_signed_from_abs}
 use Rattle.std.specs.Int.{w64, int_wrap}
 use Rattle.papaya_words.specs.Table.{TableWords}
@@ -13,18 +13,20 @@ use Rattle.papaya_law.specs.Allows.{AllAllowed}
 use Rattle.papaya_law.specs.Content.{AreApart, lookup}
 use Rattle.papaya_law.specs.Exchange.{Setting, Exchange, run, start}
 use Rattle.papaya_law.specs.Meaning.{map_left, map_of as law_map}
-use Rattle.papaya_call.specs.Machine.{ask_of, kind_of_ask, after}
-use Rattle.papaya_rests.specs.Owed.{owed_by, grows_by}
+use Rattle.papaya_chain.specs.Machine.{ask_of, follows_of, kind_of_ask, after}
+use Rattle.papaya_chain_rests.specs.Goes.{grown_by, owed_in as owed_by}
+use Rattle.papaya_chain_rests.proofs.Order.{in_order}
+use Rattle.papaya_chain_rests.proofs.Replies.{chain_owes}
+use Rattle.papaya_law.specs.ChainContent.{joined}
 use Rattle.papaya_law.proofs.FiniteMaps.{length_after, one_length}
 use Rattle.papaya_law.proofs.Moments.{allowed_first, allowed_rest, map_of-append}
 use Rattle.papaya_law.proofs.OneMap.{keeping, step_keeps}
-use Rattle.papaya_rests.proofs.RestsCount.{machine_owes}
 use Rattle.papaya_store.specs.declared.pairs.Running.{Running}
 use Rattle.papaya_timeline.specs.declared.seat.Seat.{Seat}
 use Rattle.papaya_timeline.specs.declared.trace.Event.{Event}
 use Rattle.papaya_timeline.specs.Advances.{Advances, goes_on}
 use Rattle.papaya_timeline.specs.Begins.{Begins, begun}
-use Rattle.papaya_timeline.specs.Content.{content, pairs_of_kind, pairs_of_slots, pairs_of_table}
+use Rattle.papaya_timeline.specs.Content.{content, pairs_from, pairs_of_kind, pairs_of_slots}
 use Rattle.papaya_timeline.specs.Core.{CoreState, IsCore, call_of}
 use Rattle.papaya_timeline.specs.Counted.{IsCounted, owed_in, owed_of}
 use Rattle.papaya_timeline.specs.Kept.{IsKept, Tale, setting_of, coding_of, low, told_tales}
@@ -36,7 +38,7 @@ use Rattle.papaya_timeline.proofs.CountedStep.{IsGrowth, sum_performed, told_gro
 use Rattle.papaya_timeline.proofs.KeptLemmas.{IsLawfulKeys, IsStep, hashed_setting, kept_step, map_kept}
 
 -- the number of pairs is one of 64 bits
-pub length_fits : (n : ℕ) → n ≤ 2 ^ 32 → int_wrap w64 (pos n) ≡ pos n
+pub length_fits : (n : ℕ) → n ≤ 2 ^ 48 → int_wrap w64 (pos n) ≡ pos n
 length_fits n few = int_wrap_fits w64 (pos n) (fits_signed_from_abs w64 (pos n) (omega arith))
 
 module _ {K V S : Type 0} (store : StoreState K V S) (none : store.pairs ≡ []) where
@@ -53,52 +55,63 @@ module _ {K V S : Type 0} (store : StoreState K V S) (none : store.pairs ≡ [])
   no_slots [] = refl
   no_slots (word ∷ words) = ap (λ l. l ++ pairs_of_slots store words) (no_kind (kind_of word) (number_of word)) ∙ no_slots words
 
-  no_table : (o : Option TableWords) → pairs_of_table store o ≡ []
-  no_table None = refl
-  no_table (Some t) = no_slots t.slots
+  module _ (eq : K → K → Bool) where
+    -- so the tables from one on have none
+    no_tables : (n : ℕ) (o : Option TableWords) → pairs_from eq store n o ≡ []
+    no_tables zero o = refl
+    no_tables (suc n) None = refl
+    no_tables (suc n) (Some t) =
+        ap (λ l. joined eq (λ p. p.key) l (pairs_from eq store n (table_of store.words.tables t.next))) (no_slots t.slots)
+        ∙ ap (joined eq (λ p. p.key) []) (no_tables n (table_of store.words.tables t.next))
 
-  -- a log of no pairs leaves none to any word
-  pub new_content : content store ≡ []
-  new_content = no_table (table_of store.words.tables store.words.root)
+    -- a log of no pairs leaves none to any word
+    pub new_content : content eq store ≡ []
+    new_content = no_tables (length store.words.tables) (table_of store.words.tables store.words.root)
 
-  -- a core as it is made: a sum of 0, no callers and no pairs
-  pub counted_new : {A : Type 0} (callers : List (Seat K V A)) → store.count.sum ≡ pos 0 → callers ≡ [] → IsCounted store callers
-  counted_new {A = A} callers zero alone =
-      ap (λ z. int_wrap w64 (z +ℤ owed_in callers)) zero
-      ∙ ap (λ (l : List (Seat K V A)). int_wrap w64 (pos 0 +ℤ owed_in l)) alone
-      ∙ length_fits 0 (omega arith)
-      ∙ sym (ap (λ (l : List (Stored K V)). pos (length l)) (no_table (table_of store.words.tables store.words.root)))
+    -- a core as it is made: a sum of 0, no callers and no pairs
+    pub counted_new : {A : Type 0} (callers : List (Seat K V A)) → store.count.sum ≡ pos 0 → callers ≡ [] → IsCounted eq store callers
+    counted_new {A = A} callers sum alone =
+        ap (λ z. int_wrap w64 (z +ℤ owed_in callers)) sum
+        ∙ ap (λ (l : List (Seat K V A)). int_wrap w64 (pos 0 +ℤ owed_in l)) alone
+        ∙ length_fits 0 (omega arith)
+        ∙ sym (ap (λ (l : List (Stored K V)). pos (length l)) new_content)
 
 -- a begin leaves the sum and the pairs, and its call owes nothing
-pub counted_begin : {K V S A : Type 0} (hash : K → ℕ) (s : CoreState K V S A) (caller : ℕ) (call : Call K V A) (s' : CoreState K V S A) → Begins hash s caller call s' → call_of s caller ≡ None → IsCounted s.store s.callers → IsCounted s'.store s'.callers
-counted_begin {K} {V} {S} {A} hash s caller call s' begins free counted =
-    subst (λ (y : StoreState K V S). IsCounted y s'.callers) (sym begins.store)
+pub counted_begin : {K V S A : Type 0} (eq : K → K → Bool) (hash : K → ℕ) (s : CoreState K V S A) (caller : ℕ) (call : Call K V A) (s' : CoreState K V S A) → Begins hash s caller call s' → call_of s caller ≡ None → IsCounted eq s.store s.callers → IsCounted eq s'.store s'.callers
+counted_begin {K} {V} {S} {A} eq hash s caller call s' begins free counted =
+    subst (λ (y : StoreState K V S). IsCounted eq y s'.callers) (sym begins.store)
     (ap (λ (l : List (Seat K V A)). int_wrap w64 (s.store.count.sum +ℤ owed_in l)) begins.callers
     ∙ ap (λ z. int_wrap w64 (s.store.count.sum +ℤ z)) (owed-begun s.callers caller free (Some (begun hash s.mode s.initial call)) ∙ omega (arith, ints))
     ∙ counted)
 
-module _ {K V S A : Type 0} (eq : K → K → Bool) (hash : K → ℕ) (law : IsLawfulKeys eq hash) {says : Says K V A} (refuse : Bool) (s : CoreState K V S A) (caller : ℕ) (s' : CoreState K V S A) (event : Event) (reply : Option Reply)
-    (a : Advances eq says refuse s caller s' event reply) (es : List (Exchange (Stored K V))) (tales : ℕ → Tale K V)
+module _ {K V S A : Type 0} (eq : K → K → Bool) (hash : K → ℕ) (law : IsLawfulKeys eq hash) {says : Says K V A} {hashes : S → K → ℕ} (refuse : Bool) (s : CoreState K V S A) (caller : ℕ) (s' : CoreState K V S A) (event : Event) (reply : Option Reply)
+    (a : Advances eq says hashes refuse s caller s' event reply) (hasher : hashes s.store.hasher ≡ hash) (es : List (Exchange (Stored K V))) (tales : ℕ → Tale K V)
     (core : IsCore s.store s.callers s.mode) (core' : IsCore s'.store s'.callers s'.mode) (kept : IsKept eq hash s.mode s.store s.callers es tales) where
   -- the setting after the step
   abbrev g' : Setting K (Stored K V)
   g' = setting_of eq (low hash) s'.mode s'.store.words.tables
 
   abbrev step : IsStep eq hash law refuse s caller s' event reply a es tales
-  step = kept_step eq hash law refuse s caller s' event reply a es tales core kept
+  step = kept_step eq hash law refuse s caller s' event reply a hasher es tales core kept
 
   -- the pairs before and after it
   abbrev old : List (Stored K V)
-  old = content s.store
+  old = content eq s.store
 
   abbrev new : List (Stored K V)
-  new = content s'.store
+  new = content eq s'.store
 
   old_apart : AreApart eq (λ p. p.key) old
   old_apart = content_apart eq hash s.mode s.store (hashed_setting eq hash law s core) s.callers es tales kept
 
   new_apart : AreApart eq (λ p. p.key) new
   new_apart = content_apart eq hash s'.mode s'.store (hashed_setting eq hash law s' core') s'.callers (es ++ step.made) (told_tales tales caller step.made step.hands) step.kept
+
+  old_few : length old ≤ 2 ^ 48
+  old_few = content_few eq hash s.mode s.store (hashed_setting eq hash law s core) s.callers es tales kept
+
+  new_few : length new ≤ 2 ^ 48
+  new_few = content_few eq hash s'.mode s'.store (hashed_setting eq hash law s' core') s'.callers (es ++ step.made) (told_tales tales caller step.made step.hands) step.kept
 
   old_map : (k : K) → lookup eq (λ p. p.key) old k ≡ map_left g' es k
   old_map k = map_kept eq hash law s es tales core kept k ∙ sym (step.map_same k)
@@ -107,11 +120,11 @@ module _ {K V S A : Type 0} (eq : K → K → Bool) (hash : K → ℕ) (law : Is
   new_map k = map_kept eq hash law s' (es ++ step.made) (told_tales tales caller step.made step.hands) core' step.kept k ∙ ap (λ f. f k) (map_of-append g' es step.made (λ j. None))
 
   -- by how many pairs the map grows
-  grown : (by : ℤ) → IsGrowth (setting_of eq (low hash) s.mode s.store.words.tables) (coding_of (low hash)) step.call.key (run es start) (kind_of_ask a.before.machine) (tales caller).hands by step.made → pos (length new) ≡ pos (length old) +ℤ by
-  grown by (inl (none, zero)) =
+  grown : (by : ℤ) → IsGrowth by step.made → pos (length new) ≡ pos (length old) +ℤ by
+  grown by (inl (none, still)) =
       let hashed = hashed_setting eq hash law s' core' in
       let same : length new ≡ length old = one_length g' hashed.lawful new old new_apart old_apart (λ k. new_map k ∙ ap (λ l. law_map g' (map_left g' es) l k) none ∙ sym (old_map k)) in
-      omega (arith, ints, same, zero)
+      omega (arith, ints, same, still)
   grown by (inr (e, one, grows)) =
       let hashed = hashed_setting eq hash law s' core' in
       let allowed = step.kept.allowed in
@@ -121,26 +134,29 @@ module _ {K V S A : Type 0} (eq : K → K → Bool) (hash : K → ℕ) (law : Is
       grows (length old) (length new) (length_after g' hashed.lawful (map_left g' es) old new old_apart new_apart old_map e legal (λ k. new_map k ∙ ap (λ l. law_map g' (map_left g' es) l k) one))
 
   -- what the callers owe after the step
-  owed : owed_in s'.callers +ℤ owed_by (ask_of a.before.machine) ≡ owed_in s.callers +ℤ grows_by (kind_of_ask a.before.machine) (ask_of a.before.machine) a.answer
+  owed : owed_in s'.callers +ℤ owed_by (ask_of a.before.machine) ≡ owed_in s.callers +ℤ grown_by (kind_of_ask a.before.machine) (ask_of a.before.machine) a.answer
   owed =
       let m' = after a.before.machine a.answer in
       let r' : Running K V A = record a.later { machine = m' } in
       let goes : Option (Running K V A) = goes_on reply r' in
-      let learnt : owed_by (ask_of m') ≡ grows_by (kind_of_ask a.before.machine) (ask_of a.before.machine) a.answer = machine_owes (setting_of eq (low hash) s.mode s.store.words.tables) (coding_of (low hash)) step.call.key (run es start) a.before.machine (tales caller).hands step.made step.hands a.answer step.told in
+      let told = step.told in
+      let order = in_order (setting_of eq (low hash) s.mode s.store.words.tables) (coding_of (low hash)) (tales caller).begun (tales caller).since step.call.key a.before.machine (tales caller).hands (run es start) a.answer step.made step.hands step.call.rests told in
+      let learnt : owed_by (ask_of m') ≡ grown_by (kind_of_ask a.before.machine) (ask_of a.before.machine) a.answer =
+      chain_owes (setting_of eq (low hash) s.mode s.store.words.tables) (coding_of (low hash)) step.call.key (run es start) a.before.machine (tales caller).hands a.answer step.made step.hands order told in
       let rest : owed_of goes ≡ owed_by (ask_of m') = ap (λ o. owed_of (goes_on o r')) a.reply_is ∙ owed-goes_on (ask_of m') r' refl in
       ap (λ (l : List (Seat K V A)). owed_in l +ℤ owed_by (ask_of a.before.machine)) a.callers
       ∙ owed-with_call s.callers caller a.before a.was goes
       ∙ ap (λ z. owed_in s.callers +ℤ z) (rest ∙ learnt)
 
   -- the step
-  pub counted_step : IsCounted s.store s.callers → IsCounted s'.store s'.callers
+  pub counted_step : IsCounted eq s.store s.callers → IsCounted eq s'.store s'.callers
   counted_step counted =
       let o : ℤ = owed_by (ask_of a.before.machine) in
-      let by : ℤ = grows_by (kind_of_ask a.before.machine) (ask_of a.before.machine) a.answer in
-      let is_grown : pos (length new) ≡ pos (length old) +ℤ by = grown by (told_grows (setting_of eq (low hash) s.mode s.store.words.tables) (coding_of (low hash)) step.call.key (run es start) (kind_of_ask a.before.machine) (tales caller).hands (ask_of a.before.machine) a.answer step.made step.hands step.told) in
+      let by : ℤ = grown_by (kind_of_ask a.before.machine) (ask_of a.before.machine) a.answer in
+      let is_grown : pos (length new) ≡ pos (length old) +ℤ by = grown by (told_grows (setting_of eq (low hash) s.mode s.store.words.tables) (coding_of (low hash)) step.call.key (run es start) (kind_of_ask a.before.machine) (follows_of a.before.machine) (tales caller).hands (ask_of a.before.machine) a.answer step.made step.hands step.told) in
       let to : (s.store.count.sum +ℤ o) +ℤ owed_in s'.callers ≡ (s.store.count.sum +ℤ owed_in s.callers) +ℤ by = let e = owed in omega (arith, ints, e) in
-      int_wrap-add_same w64 s'.store.count.sum (s.store.count.sum +ℤ o) (owed_in s'.callers) (sum_performed eq says refuse (ask_of a.before.machine) s.store a.before a.answer s'.store a.later a.performs)
+      int_wrap-add_same w64 s'.store.count.sum (s.store.count.sum +ℤ o) (owed_in s'.callers) (sum_performed eq says hashes refuse (ask_of a.before.machine) s.store a.before a.answer s'.store a.later a.performs)
       ∙ ap (int_wrap w64) to
-      ∙ int_wrap-add_same w64 (s.store.count.sum +ℤ owed_in s.callers) (pos (length old)) by (counted ∙ sym (length_fits (length old) (content_few s.store core.sizes)))
+      ∙ int_wrap-add_same w64 (s.store.count.sum +ℤ owed_in s.callers) (pos (length old)) by (counted ∙ sym (length_fits (length old) old_few))
       ∙ ap (int_wrap w64) (sym is_grown)
-      ∙ length_fits (length new) (content_few s'.store core'.sizes)
+      ∙ length_fits (length new) new_few

@@ -1,10 +1,11 @@
 -- What the calls under way owe, after one of them went on, ended or began.
 use Rattle.std.proofs.Common.{◌≡◌, ℕ, pos, ◌+ℤ◌, ◌==◌, Bool, true, false, cond, List, [], ◌∷◌, Option, Some, None, refl, sym, ◌∙◌, ap, arith, eq-eqb}
 use Rattle.std.proofs.lemmas.Int.{ints}
-use Rattle.papaya_ask.specs.declared.ask.Ask.{Ask}
 use Rattle.papaya_ask.specs.declared.ask.Ask.TheVariants.{Load, Exchange, SameKey, ShowNone, ShowPair, SizeOf, MakeKey, MakePair, MakeTable, AddToShard, Done}
-use Rattle.papaya_call.specs.Machine.{ask_of}
-use Rattle.papaya_rests.specs.Owed.{owed_by}
+use Rattle.papaya_chain.specs.declared.ask.Ask.{Ask}
+use Rattle.papaya_chain.specs.declared.ask.Ask.TheVariants.{Call, Copy}
+use Rattle.papaya_chain.specs.Machine.{ask_of}
+use Rattle.papaya_chain_rests.specs.Goes.{owed_in as owed_by}
 use Rattle.papaya_store.specs.declared.pairs.Running.{Running}
 use Rattle.papaya_timeline.specs.declared.seat.Seat.{Seat}
 use Rattle.papaya_timeline.specs.Advances.{goes_on, reply_in}
@@ -14,17 +15,18 @@ use Rattle.papaya_timeline.specs.Counted.{owed_of, owed_in}
 module _ {K V A : Type 0} where
   -- a machine that asks no more owes nothing
   pub owed-goes_on : (ask : Ask) (r : Running K V A) → owed_by (ask_of r.machine) ≡ owed_by ask → owed_of (goes_on (reply_in ask) r) ≡ owed_by ask
-  owed-goes_on (Done reply) r e = refl
-  owed-goes_on (Load at) r e = e
-  owed-goes_on (Exchange at old new) r e = e
-  owed-goes_on (SameKey n) r e = e
-  owed-goes_on ShowNone r e = e
-  owed-goes_on (ShowPair n) r e = e
-  owed-goes_on (SizeOf n) r e = e
-  owed-goes_on MakeKey r e = e
-  owed-goes_on MakePair r e = e
-  owed-goes_on (MakeTable slots limit) r e = e
-  owed-goes_on (AddToShard by) r e = e
+  owed-goes_on (Call (Done reply)) r e = refl
+  owed-goes_on (Call (Load at)) r e = e
+  owed-goes_on (Call (Exchange at old new)) r e = e
+  owed-goes_on (Call (SameKey n)) r e = e
+  owed-goes_on (Call ShowNone) r e = e
+  owed-goes_on (Call (ShowPair n)) r e = e
+  owed-goes_on (Call (SizeOf n)) r e = e
+  owed-goes_on (Call MakeKey) r e = e
+  owed-goes_on (Call MakePair) r e = e
+  owed-goes_on (Call (MakeTable slots limit)) r e = e
+  owed-goes_on (Call (AddToShard by)) r e = e
+  owed-goes_on (Copy ask) r e = e
 
   -- the call of one caller is another, and what the old one owed isn't owed any more
   pub owed-with_call : (seats : List (Seat K V A)) (caller : ℕ) (r : Running K V A) → running seats caller ≡ Some r → (call : Option (Running K V A)) → owed_in (with_call seats caller call) +ℤ owed_by (ask_of r.machine) ≡ owed_in seats +ℤ owed_of call

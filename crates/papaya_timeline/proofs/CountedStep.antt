@@ -5,18 +5,28 @@ use Rattle.std.proofs.lemmas.Int.{ints, int_wrap_fits, SFits-int_wrap}
 use Rattle.std.specs.Int.{w64, int_wrap}
 use Rattle.papaya_call.specs.Answers.{Says}
 use Rattle.papaya_ask.specs.declared.ask.At.{At}
-use Rattle.papaya_ask.specs.declared.ask.At.TheVariants.{Root, Slot}
-use Rattle.papaya_ask.specs.declared.ask.Ask.{Ask}
+use Rattle.papaya_ask.specs.declared.ask.At.TheVariants.{Root, Next, Aborted, Done, Slot}
+use Rattle.papaya_ask.specs.declared.ask.Ask.{Ask as Call_ask}
 use Rattle.papaya_ask.specs.declared.ask.Ask.TheVariants.{Load, Exchange as Ask_exchange, SameKey, ShowNone, ShowPair, SizeOf, MakeKey, MakePair, MakeTable, AddToShard, Done as Ask_done}
-use Rattle.papaya_ask.specs.declared.ask.Answer.{Answer}
+use Rattle.papaya_ask.specs.declared.ask.Answer.{Answer as Call_answer}
 use Rattle.papaya_ask.specs.declared.ask.StepKind.{StepKind}
 use Rattle.papaya_ask.specs.declared.ask.StepKind.TheVariants as kinds
+use Rattle.papaya_ask.specs.declared.copy_ask.CopyAsk.{CopyAsk}
+use Rattle.papaya_ask.specs.declared.copy_ask.CopyAsk.TheVariants as copies
+use Rattle.papaya_chain.specs.declared.ask.Ask.{Ask}
+use Rattle.papaya_chain.specs.declared.ask.Ask.TheVariants as asks
+use Rattle.papaya_chain.specs.declared.ask.Answer.{Answer}
+use Rattle.papaya_chain_rests.specs.Goes.{grown_by, owed_in}
+use Rattle.papaya_chain_rests.specs.Told as chain_told
 use Rattle.papaya_law.specs.Code.{Coding}
 use Rattle.papaya_law.specs.Content.{IsCountAfter}
 use Rattle.papaya_law.specs.Exchange.{Setting, State, Exchange}
 use Rattle.papaya_rests.specs.Owed.{owed_by, grows_of, grows_by}
+use Rattle.papaya_rests.specs.Copier.{IsCopyAsked}
 use Rattle.papaya_rests.specs.Told.{Hands, IsAsked, IsTold, word_of}
 use Rattle.papaya_store.specs.declared.pairs.Running.{Running}
+use Rattle.papaya_store.specs.Asks.{PerformsAsk}
+use Rattle.papaya_store.specs.Copies.{PerformsCopy}
 use Rattle.papaya_store.specs.Performs.{Performs, Stays, LogsKey, LogsPair, MakesTable}
 use Rattle.papaya_store.specs.Store.{StoreState}
 use Rattle.papaya_store.specs.Tables.{word_at}
@@ -35,41 +45,60 @@ module _ {K V S : Type 0} where
   quiet : (s s' : StoreState K V S) → s' ≡ s → Adds (pos 0) s s'
   quiet s s' e = same_count s s' (ap (λ (y : StoreState K V S). y.count.sum) e)
 
-  table_made : (slots limit : ℕ) (s : StoreState K V S) (a : Answer) (s' : StoreState K V S) (Not : Type 0) → (Not × (s' ≡ s)) ⊎ MakesTable a slots limit s s' → Adds (pos 0) s s'
+  table_made : (slots limit : ℕ) (s : StoreState K V S) (a : Call_answer) (s' : StoreState K V S) (Not : Type 0) → (Not × (s' ≡ s)) ⊎ MakesTable a slots limit s s' → Adds (pos 0) s s'
   table_made slots limit s a s' Not (inl h) = quiet s s' h.1
   table_made slots limit s a s' Not (inr (is, few, grown)) = same_count s s' (ap (λ (y : StoreState K V S). y.count.sum) grown)
 
 module _ {K V S A : Type 0} where
   -- nor does a key or a pair that was made
-  key_made : (s : StoreState K V S) (r : Running K V A) (a : Answer) (s' : StoreState K V S) (r' : Running K V A) (Not Has : Type 0) → (Not × Stays s r s' r') ⊎ (Has × Stays s r s' r') ⊎ LogsKey a s r s' r' → Adds (pos 0) s s'
+  key_made : (s : StoreState K V S) (r : Running K V A) (a : Call_answer) (s' : StoreState K V S) (r' : Running K V A) (Not Has : Type 0) → (Not × Stays s r s' r') ⊎ (Has × Stays s r s' r') ⊎ LogsKey a s r s' r' → Adds (pos 0) s s'
   key_made s r a s' r' Not Has (inl h) = quiet s s' h.1.0
   key_made s r a s' r' Not Has (inr (inl h)) = quiet s s' h.1.0
   key_made s r a s' r' Not Has (inr (inr (k, was, is, few, grown, moved))) = same_count s s' (ap (λ (y : StoreState K V S). y.count.sum) grown)
 
-  pair_made : (s : StoreState K V S) (r : Running K V A) (a : Answer) (s' : StoreState K V S) (r' : Running K V A) (Not Has : Type 0) → (Not × Stays s r s' r') ⊎ (Has × Stays s r s' r') ⊎ LogsPair a s r s' r' → Adds (pos 0) s s'
+  pair_made : (s : StoreState K V S) (r : Running K V A) (a : Call_answer) (s' : StoreState K V S) (r' : Running K V A) (Not Has : Type 0) → (Not × Stays s r s' r') ⊎ (Has × Stays s r s' r') ⊎ LogsPair a s r s' r' → Adds (pos 0) s s'
   pair_made s r a s' r' Not Has (inl h) = quiet s s' h.1.0
   pair_made s r a s' r' Not Has (inr (inl h)) = quiet s s' h.1.0
   pair_made s r a s' r' Not Has (inr (inr (n, v, was, value, is, few, grown, moved))) = same_count s s' (ap (λ (y : StoreState K V S). y.count.sum) grown)
 
 module _ {K V S A : Type 0} (eq : K → K → Bool) (says : Says K V A) where
-  -- each ask
-  pub sum_performed : (refuse : Bool) (ask : Ask) (s : StoreState K V S) (r : Running K V A) (a : Answer) (s' : StoreState K V S) (r' : Running K V A) → Performs eq says refuse ask s r a s' r' → Adds (owed_by ask) s s'
-  sum_performed refuse (Load at) s r a s' r' h = quiet s s' h.1.0
-  sum_performed refuse (Ask_exchange at old new) s r a s' r' h =
+  -- each ask of the call itself
+  sum_called : (refuse : Bool) (ask : Call_ask) (s : StoreState K V S) (r : Running K V A) (a : Call_answer) (s' : StoreState K V S) (r' : Running K V A) → Performs eq says refuse ask s r a s' r' → Adds (owed_by ask) s s'
+  sum_called refuse (Load at) s r a s' r' h = quiet s s' h.1.0
+  sum_called refuse (Ask_exchange at old new) s r a s' r' h =
       matched (Adds (pos 0) s s') (word_at s.words at == old) _ _ h.0
       (λ _ done. same_count s s' (ap (λ (y : StoreState K V S). y.count.sum) done.1))
       (λ _ lost. quiet s s' lost.1)
-  sum_performed refuse (SameKey n) s r a s' r' h = quiet s s' h.1.0
-  sum_performed refuse ShowNone s r a s' r' h = quiet s s' (none_shown says s r a s' r' h).store
-  sum_performed refuse (ShowPair n) s r a s' r' h = quiet s s' (pair_shown says r.machine.task n s r a s' r' h).store
-  sum_performed refuse (SizeOf n) s r a s' r' h = quiet s s' h.1.0
-  sum_performed refuse MakeKey s r a s' r' h = matched (Adds (pos 0) s s') refuse _ _ h (λ _ none. quiet s s' none.1.0) (λ _ makes. key_made s r a s' r' _ _ makes)
-  sum_performed refuse MakePair s r a s' r' h = matched (Adds (pos 0) s s') refuse _ _ h (λ _ none. quiet s s' none.1.0) (λ _ makes. pair_made s r a s' r' _ _ makes)
-  sum_performed refuse (MakeTable slots limit) s r a s' r' h = matched (Adds (pos 0) s s') refuse _ _ h (λ _ none. quiet s s' none.1.0) (λ _ makes. table_made slots limit s a s' _ makes.0)
-  sum_performed refuse (AddToShard by) s r a s' r' h =
+  sum_called refuse (SameKey n) s r a s' r' h = quiet s s' h.1.0
+  sum_called refuse ShowNone s r a s' r' h = quiet s s' (none_shown says s r a s' r' h).store
+  sum_called refuse (ShowPair n) s r a s' r' h = quiet s s' (pair_shown says r.machine.call.task n s r a s' r' h).store
+  sum_called refuse (SizeOf n) s r a s' r' h = quiet s s' h.1.0
+  sum_called refuse MakeKey s r a s' r' h = matched (Adds (pos 0) s s') refuse _ _ h (λ _ none. quiet s s' none.1.0) (λ _ makes. key_made s r a s' r' _ _ makes)
+  sum_called refuse MakePair s r a s' r' h = matched (Adds (pos 0) s s') refuse _ _ h (λ _ none. quiet s s' none.1.0) (λ _ makes. pair_made s r a s' r' _ _ makes)
+  sum_called refuse (MakeTable slots limit) s r a s' r' h = matched (Adds (pos 0) s s') refuse _ _ h (λ _ none. quiet s s' none.1.0) (λ _ makes. table_made slots limit s a s' _ makes.0)
+  sum_called refuse (AddToShard by) s r a s' r' h =
       let sum : ℤ = s.count.sum +ℤ by in
       ap (λ (y : StoreState K V S). int_wrap w64 y.count.sum) h.1.1 ∙ int_wrap_fits w64 (int_wrap w64 sum) (SFits-int_wrap w64 sum)
-  sum_performed refuse (Ask_done reply) s r a s' r' h = quiet s s' h.1.0
+  sum_called refuse (Ask_done reply) s r a s' r' h = quiet s s' h.1.0
+
+  module _ (hash : S → K → ℕ) where
+    -- a copy adds nothing
+    sum_copied : (refuse : Bool) (ask : CopyAsk) (s : StoreState K V S) (a : Answer) (s' : StoreState K V S) → PerformsCopy eq hash refuse ask s a s' → Adds (pos 0) s s'
+    sum_copied refuse (copies.Load at) s a s' h = quiet s s' h.1
+    sum_copied refuse (copies.Exchange at old new) s a s' (told, is, h) =
+        matched (Adds (pos 0) s s') (word_at s.words at == old) _ _ h
+        (λ _ done. same_count s s' (ap (λ (y : StoreState K V S). y.count.sum) done.1))
+        (λ _ lost. quiet s s' lost.1)
+    sum_copied refuse (copies.SizeOf n) s a s' h = quiet s s' h.1
+    sum_copied refuse (copies.HashOf n) s a s' h = quiet s s' h.2
+    sum_copied refuse (copies.SamePair m n) s a s' h = quiet s s' h.1
+    sum_copied refuse copies.Count s a s' h = quiet s s' h.1
+    sum_copied refuse (copies.MakeTable slots limit) s a s' (told, is, h) = matched (Adds (pos 0) s s') refuse _ _ h (λ _ none. quiet s s' none.1) (λ _ makes. table_made slots limit s told s' _ makes)
+
+    -- each ask
+    pub sum_performed : (refuse : Bool) (ask : Ask) (s : StoreState K V S) (r : Running K V A) (a : Answer) (s' : StoreState K V S) (r' : Running K V A) → PerformsAsk eq says hash refuse ask s r a s' r' → Adds (owed_in ask) s s'
+    sum_performed refuse (asks.Call ask) s r a s' r' (told, is, h) = sum_called refuse ask s r told s' r' h
+    sum_performed refuse (asks.Copy ask) s r a s' r' (h, same) = sum_copied refuse ask s a s' h
 
 -- where one number comes after another by an exchange, the map grew so
 abbrev pub Grows : {P : Type 0} → ℤ → Exchange P → Type 0
@@ -84,24 +113,55 @@ module _ {K P : Type 0} (c : Coding K P) (s : State P) (hands : Hands P) (new : 
   asked_grows (Some kinds.Bury) (Slot t x) e (q, live, is) = subst (Grows (negsuc 0)) (sym is) (λ before now count. omega (arith, ints, count))
   asked_grows _ _ e h = absurd h
 
-module _ {K P : Type 0} (g : Setting K P) (c : Coding K P) (k : K) (s : State P) (kind : Option StepKind) (hands : Hands P) where
-  -- an answer told of an exchange by which the map grew so, or of none
-  abbrev pub IsGrowth : ℤ → List (Exchange P) → Type 0
-  IsGrowth by es = ((es ≡ []) × (by ≡ pos 0)) ⊎ ((e : Exchange P) × (es ≡ e ∷ []) × Grows by e)
+-- by the kind of a copy's exchange: the map stays as large
+copy_grows : {K P : Type 0} (c : Coding K P) (kind : Option StepKind) (at : At) (new : ℕ) (s : State P) (kept : Option P) (e : Exchange P) → IsCopyAsked c kind at new s kept e → Grows (pos 0) e
+copy_grows c (Some kinds.Link) (Next t) new s kept e is = subst (Grows (pos 0)) (sym is) (λ before now count. omega (arith, ints, count))
+copy_grows c (Some kinds.Mark) (Slot t x) new s kept e (p, stood, is) = subst (Grows (pos 0)) (sym is) (λ before now count. omega (arith, ints, count))
+copy_grows c (Some kinds.Close) (Slot t x) new s kept e is = subst (Grows (pos 0)) (sym is) (λ before now count. omega (arith, ints, count))
+copy_grows c (Some kinds.Place) (Slot t x) new s kept e (p, carried, number, is) = subst (Grows (pos 0)) (sym is) (λ before now count. omega (arith, ints, count))
+copy_grows c (Some kinds.Finish) (Slot t x) new s kept e (p, stood, is) = subst (Grows (pos 0)) (sym is) (λ before now count. omega (arith, ints, count))
+copy_grows c (Some kinds.Advance) (Done n) new s kept e is = subst (Grows (pos 0)) (sym is) (λ before now count. omega (arith, ints, count))
+copy_grows c (Some kinds.Promote) Root new s kept e is = subst (Grows (pos 0)) (sym is) (λ before now count. omega (arith, ints, count))
+copy_grows c (Some kinds.Abort) (Aborted n) new s kept e is = subst (Grows (pos 0)) (sym is) (λ before now count. omega (arith, ints, count))
+copy_grows c _ _ new s kept e h = absurd h
 
-  pub told_grows : (ask : Ask) (a : Answer) (es : List (Exchange P)) (hands' : Hands P) → IsTold g c k s kind hands ask a es hands' → IsGrowth (grows_by kind ask a) es
-  told_grows (Ask_exchange at old new) a es hands' h =
+-- there was an exchange by which the map grew so, or none
+abbrev pub IsGrowth : {P : Type 0} → ℤ → List (Exchange P) → Type 0
+IsGrowth {P = P} by es = ((es ≡ []) × (by ≡ pos 0)) ⊎ ((e : Exchange P) × (es ≡ e ∷ []) × Grows by e)
+
+module _ {K P : Type 0} (g : Setting K P) (c : Coding K P) (k : K) (s : State P) (kind : Option StepKind) where
+  -- what is told of an ask of the call itself
+  call_grows : (hands : Hands P) (ask : Call_ask) (a : Call_answer) (es : List (Exchange P)) (hands' : Hands P) → IsTold g c k s kind hands ask a es hands' → IsGrowth (grows_by kind ask a) es
+  call_grows hands (Ask_exchange at old new) a es hands' h =
       matched (IsGrowth (grows_by kind (Ask_exchange at old new) a) es) (word_of g c s at == old) _ _ h
       (λ _ done. inr (let asked = done.1 in (asked.0, asked.2, subst (λ y. Grows (grows_by kind (Ask_exchange at old new) y) asked.0) (sym done.0) (asked_grows c s hands new kind at asked.0 asked.1))))
       (λ _ lost. inl (lost.1, ap (grows_by kind (Ask_exchange at old new)) lost.0))
-  told_grows (Load at) a es hands' h = inl (h.1, refl)
-  told_grows (SameKey n) a es hands' h = inl (h.1.0, refl)
-  told_grows ShowNone a es hands' h = inl (h.1.0, refl)
-  told_grows (ShowPair n) a es hands' h = inl (h.1.0, refl)
-  told_grows (SizeOf t) a es hands' h = inl (h.1.0, refl)
-  told_grows MakeKey a es hands' h = inl (h.1.0, refl)
-  told_grows MakePair a es hands' (inl h) = inl (h.1.0, refl)
-  told_grows MakePair a es hands' (inr (q, key, is, none, made)) = inl (none, refl)
-  told_grows (MakeTable slots limit) a es hands' h = inl (h.1.0, refl)
-  told_grows (AddToShard by) a es hands' h = inl (h.1.0, refl)
-  told_grows (Ask_done reply) a es hands' h = inl (h.1.0, refl)
+  call_grows hands (Load at) a es hands' h = inl (h.1, refl)
+  call_grows hands (SameKey n) a es hands' h = inl (h.1.0, refl)
+  call_grows hands ShowNone a es hands' h = inl (h.1.0, refl)
+  call_grows hands (ShowPair n) a es hands' h = inl (h.1.0, refl)
+  call_grows hands (SizeOf t) a es hands' h = inl (h.1.0, refl)
+  call_grows hands MakeKey a es hands' h = inl (h.1.0, refl)
+  call_grows hands MakePair a es hands' (inl h) = inl (h.1.0, refl)
+  call_grows hands MakePair a es hands' (inr (q, key, is, none, made)) = inl (none, refl)
+  call_grows hands (MakeTable slots limit) a es hands' h = inl (h.1.0, refl)
+  call_grows hands (AddToShard by) a es hands' h = inl (h.1.0, refl)
+  call_grows hands (Ask_done reply) a es hands' h = inl (h.1.0, refl)
+
+  -- and of one of a copy
+  copied_grows : (follows : ℕ) (hands : chain_told.Hands P) (ask : CopyAsk) (a : Answer) (es : List (Exchange P)) (hands' : chain_told.Hands P) → chain_told.IsCopyTold g c s kind follows hands ask a es hands' → IsGrowth (pos 0) es
+  copied_grows follows hands (copies.Exchange at old new) a es hands' h =
+      matched (IsGrowth (pos 0) es) (word_of g c s at == old) _ _ h
+      (λ _ done. inr (let asked = done.1 in (asked.0, asked.2, copy_grows c kind at new s hands.kept asked.0 asked.1)))
+      (λ _ lost. inl (lost.1, refl))
+  copied_grows follows hands (copies.Load at) a es hands' h = inl (h.1, refl)
+  copied_grows follows hands (copies.SizeOf t) a es hands' h = inl (h.1.0, refl)
+  copied_grows follows hands (copies.HashOf n) a es hands' h = inl (h.1, refl)
+  copied_grows follows hands (copies.SamePair m n) a es hands' h = inl (h.1.0, refl)
+  copied_grows follows hands copies.Count a es hands' h = inl (h.1.0, refl)
+  copied_grows follows hands (copies.MakeTable slots limit) a es hands' h = inl (h.1.0, refl)
+
+  -- an answer told of an exchange by which the map grew so, or of none
+  pub told_grows : (follows : ℕ) (hands : chain_told.Hands P) (ask : Ask) (a : Answer) (es : List (Exchange P)) (hands' : chain_told.Hands P) → chain_told.IsTold g c k s kind follows hands ask a es hands' → IsGrowth (grown_by kind ask a) es
+  told_grows follows hands (asks.Call ask) a es hands' h = subst (λ y. IsGrowth (grown_by kind (asks.Call ask) y) es) (sym h.is) (call_grows hands.call ask h.told es h.call h.tells)
+  told_grows follows hands (asks.Copy ask) a es hands' h = copied_grows follows hands ask a es hands' h

@@ -1,24 +1,31 @@
 -- The map that a core's words mean is the replay of the exchanges.
-use Rattle.std.proofs.Common.{◌≡◌, ℕ, zero, suc, Bool, List, [], ◌∷◌, ◌++◌, length, slice_index, Option, Some, None, inl, inr, refl, sym, ◌∙◌, ap, append-nil, append_assoc}
+use Rattle.std.proofs.Common.{◌≡◌, ⊎_elim, ℕ, zero, suc, ◌-◌, ◌<◌, ◌≤◌, Bool, List, [], ◌∷◌, ◌++◌, length, slice_index, Some, inl, inr, refl, sym, ◌∙◌, ap, arith, append-nil, append_assoc}
+use Rattle.std.proofs.lemmas.Bool.{cases_lt}
+use Rattle.std.proofs.lemmas.Option.{slice_get_within}
 use Rattle.papaya_words.specs.Table.{TableWords}
 use Rattle.papaya_words.specs.Word.{kind_of, pair_of as number_of}
 use Rattle.papaya_words.specs.declared.probe.ResizeMode.{ResizeMode}
-use Rattle.papaya_ask.specs.declared.ask.At.TheVariants.{Root, Slot}
+use Rattle.papaya_ask.specs.declared.ask.At.TheVariants.{Root, Next, Slot}
 use Rattle.papaya_law.specs.Code.{Coding, code, kind}
-use Rattle.papaya_law.specs.Content.{lookup, pairs_in, pairs_of_word, content as law_content}
-use Rattle.papaya_law.specs.Exchange.{Word, Empty, Closed, Live, Marked, Copied, Buried, Setting, State, Exchange, run, start}
-use Rattle.papaya_law.specs.Invariant.{named}
+use Rattle.papaya_law.specs.ChainContent.{chain_content, joined}
+use Rattle.papaya_law.specs.Class.{IsOn}
+use Rattle.papaya_law.specs.Content.{lookup, pairs_in, pairs_of_word}
+use Rattle.papaya_law.specs.Exchange.{Word, Empty, Closed, Live, Marked, Copied, Buried, Setting, State, Exchange, run, start, walk}
+use Rattle.papaya_law.specs.Grows.{Comes}
+use Rattle.papaya_law.specs.Invariant.{IsKeeping, named}
 use Rattle.papaya_law.specs.Meaning.{map_left}
 use Rattle.papaya_law.specs.Code.{IsHashed}
 use Rattle.papaya_law.proofs.Codes.{code_kind, code_pair}
-use Rattle.papaya_law.proofs.Content.{content_is, no_content}
+use Rattle.papaya_law.proofs.ChainContent.{chain_is}
+use Rattle.papaya_law.proofs.ChainTables.{chain_ends as walk_ends, content_alike}
 use Rattle.papaya_law.proofs.Logs.{on_comes}
 use Rattle.papaya_law.proofs.OneMap.{keeping, sound}
 use Rattle.papaya_timeline.specs.declared.seat.Seat.{Seat}
-use Rattle.papaya_timeline.specs.Content.{content, listed, pairs_of_kind, pairs_of_slots, pairs_of_table}
+use Rattle.papaya_timeline.specs.Content.{content, listed, pairs_from, pairs_of_kind, pairs_of_slots}
 use Rattle.papaya_timeline.specs.Kept.{IsKept, IsLogged, Tale, setting_of, coding_of, low, slots_in}
 use Rattle.papaya_store.specs.Store.{StoreState, Stored, pair_of}
 use Rattle.papaya_store.specs.Tables.{table_of, word_in}
+use Rattle.papaya_timeline.proofs.KeptTables.{table_low}
 
 -- the pairs of a table, from its first slot
 pairs_in-first : {P : Type 0} (slot : ℕ → Word P) (n : ℕ) → pairs_in slot (suc n) ≡ pairs_of_word (slot 0) ++ pairs_in (λ x. slot (suc x)) n
@@ -67,23 +74,52 @@ module _ {K V S : Type 0} (eq : K → K → Bool) (hash : K → ℕ) (mode : Res
     abbrev now : State (Stored K V)
     now = run es start
 
-    -- with no root table there is no root
-    no_root : table_of store.words.tables now.root ≡ None → now.root ≡ 0
-    no_root none = elim (sound g hashed.lawful es kept.allowed).root [
-      | inl rootless ↦ rootless.0
-      | inr on ↦ let made = kept.made now.root on.0 (on_comes now now.root on) in let f : None ≡ Some made.0 = sym none ∙ made.1 in absurd cc
-    ]
+    -- they keep the map
+    keeps : IsKeeping g now (map_left g es)
+    keeps = keeping g hashed.lawful es kept.allowed
 
-    -- the content of the root table is what the law has there
-    pub table_content : (o : Option TableWords) → table_of store.words.tables now.root ≡ o → pairs_of_table store o ≡ law_content g now
-    table_content None none = sym (no_content g hashed.lawful now (map_left g es) (keeping g hashed.lawful es kept.allowed) (no_root none))
-    table_content (Some t) there =
-        slots_pairs t.slots (now.slot now.root) (λ x. kept.coded (Slot now.root x) ∙ ap (word_in (λ v. slice_index v.slots x)) there) (λ x. kept.logged now.root x)
-        ∙ ap (pairs_in (now.slot now.root)) (sym (ap slots_in there))
+    -- the number of each table of the chain is at most the number of tables
+    comes_low : (n : ℕ) → Comes now n → n ≤ length store.words.tables
+    comes_low n comes =
+        ⊎_elim
+        (λ (some : 0 < n). let made = kept.made n some comes in table_low store.words.tables n made.0 made.1)
+        (λ (none : n ≤ 0). omega (arith, none))
+        (cases_lt 0 n)
+
+    -- the root's, too
+    root_low : now.root ≤ length store.words.tables
+    root_low = elim (sound g hashed.lawful es kept.allowed).root [ inl none ↦ let e = none.0 in omega (arith, e) | inr on ↦ comes_low now.root (on_comes now now.root on) ]
+
+    -- the slots of a table of the chain have the pairs that the law has there
+    pub table_content : (t : ℕ) (words : TableWords) → table_of store.words.tables t ≡ Some words → pairs_of_slots store words.slots ≡ pairs_in (now.slot t) (g.size t)
+    table_content t words there =
+        slots_pairs words.slots (now.slot t) (λ x. kept.coded (Slot t x) ∙ ap (word_in (λ v. slice_index v.slots x)) there) (λ x. kept.logged t x)
+        ∙ ap (pairs_in (now.slot t)) (sym (ap slots_in there))
+
+    -- the pairs from table t on
+    abbrev pairs_on : ℕ → ℕ → List (Stored K V)
+    pairs_on n t = pairs_from eq store n (table_of store.words.tables t)
+
+    -- they are those of the table, then those from its next one on
+    pairs_more : (n t : ℕ) → IsOn now.first now.next t → pairs_on (suc n) t ≡ joined eq (λ p. p.key) (pairs_in (now.slot t) (g.size t)) (pairs_on n (now.next t))
+    pairs_more n t on =
+        let made = kept.made t on.0 (on_comes now t on) in
+        ap (pairs_from eq store (suc n)) made.1
+        ∙ ap (λ l. joined eq (λ p. p.key) l (pairs_on n made.0.next)) (table_content t made.0 made.1)
+        ∙ ap (λ u. joined eq (λ p. p.key) (pairs_in (now.slot t) (g.size t)) (pairs_on n u)) (sym (kept.coded (Next t) ∙ ap (word_in (λ v. v.next)) made.1))
+
+    -- the content is the list of the law's chain
+    pub kept_content : content eq store ≡ chain_content g now (length store.words.tables)
+    kept_content =
+        ap (pairs_on (length store.words.tables)) (sym (kept.coded Root))
+        ∙ content_alike g hashed.lawful now (map_left g es) keeps pairs_on (λ t. refl) (λ n. refl) pairs_more (length store.words.tables)
+
+    -- the chain ends within the tables that there are
+    pub chain_ends : walk now.next (length store.words.tables) now.root ≡ 0
+    chain_ends = walk_ends g hashed.lawful now (map_left g es) keeps (length store.words.tables) root_low (λ t. comes_low (now.next t) (inr (t, refl)))
 
     -- the core's map is the map that the exchanges leave
-    pub kept_map : (k : K) → lookup eq (λ p. p.key) (content store) k ≡ map_left g es k
+    pub kept_map : (k : K) → lookup eq (λ p. p.key) (content eq store) k ≡ map_left g es k
     kept_map k =
-        ap (λ n. lookup eq (λ p. p.key) (pairs_of_table store (table_of store.words.tables n)) k) (sym (kept.coded Root))
-        ∙ ap (λ l. lookup eq (λ p. p.key) l k) (table_content (table_of store.words.tables now.root) refl)
-        ∙ content_is g hashed.lawful now (map_left g es) (keeping g hashed.lawful es kept.allowed) (λ _. kept.single now.root) k
+        ap (λ l. lookup eq (λ p. p.key) l k) kept_content
+        ∙ chain_is g hashed.lawful now (map_left g es) keeps (length store.words.tables) chain_ends k
