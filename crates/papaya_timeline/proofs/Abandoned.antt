@@ -1,5 +1,5 @@
 -- A call that was made alone and is given up while it has changed nothing: the map is as it was, and the core is in order without it.
-use Rattle.std.proofs.Common.{◌≡◌, ℕ, pos, ◌+ℤ◌, Bool, true, Option, None, Some, List, [], ◌∷◌, inl, inr, sym, ◌∙◌, ap}
+use Rattle.std.proofs.Common.{◌≡◌, ℕ, pos, ◌+ℤ◌, Bool, true, None, Some, List, [], ◌∷◌, inl, inr, sym, ◌∙◌, ap}
 use Rattle.std.specs.Cmp.{IsEquivalence}
 use Rattle.std.specs.Int.{w64, int_wrap}
 use Rattle.papaya_call.specs.Answers.{Says}

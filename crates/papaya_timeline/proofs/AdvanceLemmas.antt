@@ -196,7 +196,7 @@ module _ {K V S A : Type 0} (eq : K → K → Bool) (hash : K → ℕ) (law : Is
 
     -- an event that tells no change leaves the map
     stays : (e : Event) → change_by e (change_in m.call.state) ≡ None → MovesMap eq s c s' e → Same (map_of eq s) (map_of eq s')
-    stays (Changed kind old new) none moves = let f : Some (old, new) ≡ None = none in absurd cc
+    stays (Changed kind old new) none moves = absurd (cc none)
     stays Begun none moves = moves
     stays (Moved kind) none moves = moves
     stays (Asked n agrees) none moves = moves

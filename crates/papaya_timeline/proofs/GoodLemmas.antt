@@ -35,7 +35,7 @@ use Rattle.papaya_timeline.specs.declared.trace.Turn.{Turn}
 use Rattle.papaya_timeline.specs.declared.trace.Turn.TheVariants.{Begin}
 use Rattle.papaya_timeline.specs.declared.trace.Event.{Event}
 use Rattle.papaya_timeline.specs.declared.trace.Event.TheVariants.{Begun, Changed, Moved, Asked, Shown, Other, Replied}
-use Rattle.papaya_timeline.specs.Advances.{Advances, goes_on, reply_in}
+use Rattle.papaya_timeline.specs.Advances.{Advances, goes_on}
 use Rattle.papaya_timeline.specs.Begins.{Begins, begun, key_of_call, task_of_call, value_of_call}
 use Rattle.papaya_timeline.specs.Callers.{running, with_seat}
 use Rattle.papaya_timeline.specs.Content.{map_of}
