@@ -23,7 +23,6 @@ use Rattle.papaya_copy.specs.declared.carry.Carry.{Carry}
 use Rattle.papaya_copy.specs.declared.carry.Carry.TheVariants as carry_states
 use Rattle.papaya_copy.specs.declared.copying.Aim.{Aim}
 use Rattle.papaya_copy.specs.declared.copying.Aim.TheVariants as aims
-use Rattle.papaya_copy.specs.declared.copying.Copied.{Copied}
 use Rattle.papaya_copy.specs.declared.copying.Copied.TheVariants as copied
 use Rattle.papaya_copy.specs.declared.copying.Copying.{Copying}
 use Rattle.papaya_copy.specs.declared.copying.Copying.TheVariants.{Stepping, Lone}
