@@ -1,0 +1,3 @@
+-- what each answer leaves to a copy
+pub mod Telling
+pub mod LinkEnds

@@ -1,0 +1,6 @@
+-- what an answer says in words, and what it spends
+pub mod Prompt
+pub mod Budget
+-- how much is left, and what was read and stands there still
+pub mod Measure
+pub mod Current
