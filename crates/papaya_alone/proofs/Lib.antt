@@ -1,3 +1,5 @@
 -- what each answer leaves to a copy
 pub mod Telling
+pub mod Afters
 pub mod LinkEnds
+pub mod CarryEnds

@@ -5,6 +5,7 @@ use Rattle.papaya_words.specs.Table.{length_after}
 use Rattle.papaya_words.specs.declared.probe.Refused.TheVariants.{Capacity}
 use Rattle.papaya_ask.specs.declared.ask.At.{At}
 use Rattle.papaya_ask.specs.declared.ask.At.TheVariants.{Next}
+use Rattle.papaya_ask.specs.declared.ask.At.TheVariants as words_at
 use Rattle.papaya_ask.specs.declared.ask.Answer.TheVariants.{Exchanged, Size}
 use Rattle.papaya_copy.specs.declared.link.Link.{Link}
 use Rattle.papaya_copy.specs.declared.link.Link.TheVariants as links
@@ -18,7 +19,18 @@ use Rattle.papaya_rests.proofs.AloneSteps.{exchange_done}
 use Rattle.papaya_alone.specs.Prompt.{IsCopyPrompt}
 use Rattle.papaya_alone.specs.Measure.{left_of_link, left_of_linked}
 use Rattle.papaya_alone.specs.Current.{IsLinkRead, IsLinkedRead}
-use Rattle.papaya_alone.proofs.Telling.{Nears, by_making}
+use Rattle.papaya_alone.proofs.Telling.{IsPutAt, Nears, by_making}
+
+-- it exchanges a next table alone
+abbrev pub IsNoNext : At → Type 0
+IsNoNext (words_at.Next t) = ⊥
+IsNoNext _ = Unit {0}
+
+pub link_puts : (link : Link) (other : At) → IsNoNext other → IsPutAt (link_ask link) other → ⊥
+link_puts (links.Sizing behind unfit) other h e = e
+link_puts (links.Counting behind unfit len) other h e = e
+link_puts (links.Making behind len limit) other h e = e
+link_puts (links.Linking behind table) other h e = subst IsNoNext e h
 
 module _ (words words' : At → ℕ) (initial : ℕ) where
   -- after this answer
