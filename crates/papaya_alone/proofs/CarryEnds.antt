@@ -31,16 +31,40 @@ use Rattle.papaya_alone.specs.Prompt.{IsCopyPrompt, IsNumber}
 use Rattle.papaya_alone.specs.Measure.{further, left_of_carried, left_of_carry, left_of_link, left_of_linked}
 use Rattle.papaya_alone.specs.Current.{IsAlive, IsAtTarget, IsCarriedRead, IsCarrying, IsCarryRead, IsIncremental, IsLinkedRead, IsLinkRead, word_in}
 use Rattle.papaya_alone.proofs.Afters.{carry_after, carry_links}
-use Rattle.papaya_alone.proofs.LinkEnds.{link_ends, link_puts}
+use Rattle.papaya_alone.proofs.LinkEnds.{IsNoNext, link_ends, link_puts}
 use Rattle.papaya_alone.proofs.Telling.{IsPutAt, Nears, nearer, stays_at}
+
+-- the words of the root and of counted slots
+abbrev pub IsOfRoot : At → Type 0
+IsOfRoot words_at.Root = Unit {0}
+IsOfRoot (words_at.Done t) = Unit {0}
+IsOfRoot _ = ⊥
 
 -- the marked word isn't that of an empty slot
 marked_some : (word : ℕ) → kind_of word ≡ word_kinds.Marked → word ≡ 0 → ⊥
 marked_some word marked none = let empty : kind_of word ≡ word_kinds.Empty = ap kind_of none in cc (marked, empty)
 
+-- it exchanges no root and counts no slots
+pub carry_puts : (carry : Carry) (word : ℕ) (other : At) → IsOfRoot other → IsPutAt (carry_ask carry word) other → ⊥
+carry_puts (carries.Hashing table) word other h e = e
+carry_puts (carries.Sizing hash table) word other h e = e
+carry_puts (carries.Looking hash at) word other h e = e
+carry_puts (carries.Comparing hash at found) word other h e = e
+carry_puts (carries.Placing hash at) word other h e = subst IsOfRoot e h
+carry_puts (carries.Passing hash table) word other h e = e
+carry_puts (carries.Linking hash link) word other h e = link_puts link other (no_next other h) e
+  where
+    no_next : (other : At) → IsOfRoot other → IsNoNext other
+    no_next words_at.Root h = tt
+    no_next (words_at.Next t) h = h
+    no_next (words_at.Aborted t) h = tt
+    no_next (words_at.Done t) h = tt
+    no_next (words_at.Slot t i) h = tt
+carry_puts (carries.Aborting table) word other h e = subst IsOfRoot e h
+
 module _ (mode : ResizeMode) (words words' : At → ℕ) (slot : Slot) (word : ℕ) where
   -- the marked word stands in its slot still, and its target was not given up
-  still_alive : (how : ResizeMode) → IsAlive how words slot.to → words' (words_at.Aborted slot.to) ≡ words (words_at.Aborted slot.to) → IsAlive how words' slot.to
+  pub still_alive : (how : ResizeMode) → IsAlive how words slot.to → words' (words_at.Aborted slot.to) ≡ words (words_at.Aborted slot.to) → IsAlive how words' slot.to
   still_alive (Incremental chunk) alive same = tt
   still_alive Blocking alive same = same ∙ alive
 

@@ -3,3 +3,4 @@ pub mod Telling
 pub mod Afters
 pub mod LinkEnds
 pub mod CarryEnds
+pub mod SettleEnds
