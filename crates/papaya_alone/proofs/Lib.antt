@@ -4,3 +4,4 @@ pub mod Afters
 pub mod LinkEnds
 pub mod CarryEnds
 pub mod SettleEnds
+pub mod StepEnds
