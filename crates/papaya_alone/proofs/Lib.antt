@@ -5,3 +5,4 @@ pub mod LinkEnds
 pub mod CarryEnds
 pub mod SettleEnds
 pub mod StepEnds
+pub mod CopyEnds

@@ -111,7 +111,7 @@ module _ (mode : ResizeMode) (initial : ℕ) (words words' : At → ℕ) (bare :
   same_number t same number = subst (λ n. (n ≡ 0) ⊎ ((t < n) × (n < 2 ^ 32))) (sym same) number
 
   pub step_ends : (step : Step) (answer : Answer) → IsStepRead mode words step → IsCopyPrompt words (step_ask step) answer words' → StepEnds step answer
-  step_ends steps.AtRoot answer read told = subst (StepEnds steps.AtRoot) (sym told.0.0) (inr (omega arith), tt)
+  step_ends steps.AtRoot answer read told = subst (StepEnds steps.AtRoot) (sym told.0.0) (inr (omega arith), told.1 words_at.Root)
   step_ends (steps.Aiming from behind) answer read told =
       let f = aimed_within mode words' mode from behind (words (words_at.Next behind)) (told.1 words_at.Root ∙ read) (told.1 (words_at.Next behind)) (same_number behind (told.1 (words_at.Next behind)) told.0.1) in
       let l = f.0 in

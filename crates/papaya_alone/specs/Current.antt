@@ -110,6 +110,7 @@ module _ (mode : ResizeMode) (words : At → ℕ) where
 
   abbrev pub IsSteppedRead : Stepped → Type 0
   IsSteppedRead (stepped.On step) = IsStepRead step
+  IsSteppedRead (stepped.Root root) = words words_at.Root ≡ root
   IsSteppedRead _ = Unit {0}
 
   -- a slot of its own is copied without blocking alone
