@@ -153,10 +153,11 @@ module _ (mode : ResizeMode) (initial : ℕ) (words words' : At → ℕ) (bare :
   carry_ends (carries.Placing hash at) answer h read told =
       let there : At = words_at.Slot at.table at.probe.i in
       let done : (answer ≡ answers.Call Exchanged) × IsPut words there _ words' = exchange_done _ _ (words there) 0 read told in
-      subst (CarryEnds (carries.Placing hash at)) (sym done.0)
-      (inl tt,
-      still mode words words' slot word h (done.1.others (words_at.Aborted slot.to) (λ e. cc))
-      (done.1.others (words_at.Slot slot.from slot.index) (λ (e : words_at.Slot slot.from slot.index ≡ there). let s = h.stands in let z : words (words_at.Slot slot.from slot.index) ≡ 0 = ap words e ∙ read in marked_some word h.marked (sym s ∙ z))))
+      subst (CarryEnds (carries.Placing hash at)) (sym done.0) (
+        inl tt,
+        still mode words words' slot word h (done.1.others (words_at.Aborted slot.to) (λ e. cc))
+            (done.1.others (words_at.Slot slot.from slot.index) (λ (e : words_at.Slot slot.from slot.index ≡ there). let s = h.stands in let z : words (words_at.Slot slot.from slot.index) ≡ 0 = ap words e ∙ read in marked_some word h.marked (sym s ∙ z))),
+      )
   carry_ends (carries.Passing hash table) answer h read told =
       let f = passed_within mode words' bare slot word (same_still mode words words' slot word h told.1) hash table (words (words_at.Next table)) read (told.1 (words_at.Next table)) (subst (λ n. (n ≡ 0) ⊎ ((table < n) × (n < 2 ^ 32))) (sym (told.1 (words_at.Next table))) told.0.1) in
       let l = f.0 in

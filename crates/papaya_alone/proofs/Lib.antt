@@ -6,3 +6,5 @@ pub mod CarryEnds
 pub mod SettleEnds
 pub mod StepEnds
 pub mod CopyEnds
+pub mod CopyPrompts
+pub mod CopyLaw

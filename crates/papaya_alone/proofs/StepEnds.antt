@@ -145,10 +145,11 @@ module _ (mode : ResizeMode) (initial : ℕ) (words words' : At → ℕ) (bare :
   step_ends (steps.Advancing chunk) answer read told =
       let here : At = words_at.Done chunk.to in
       let done : (answer ≡ answers.Call Exchanged) × IsPut words here chunk.end words' = exchange_done _ _ (words here) chunk.begun read.1 told in
-      subst (StepEnds (steps.Advancing chunk)) (sym done.0)
-      (inl tt,
-      cond_both (nat_le chunk.len chunk.end) (stepped.On (steps.Promoting chunk.from chunk.to)) stepped.Over (IsSteppedRead mode words')
-      (λ all. done.1.others words_at.Root (λ e. cc) ∙ read.0) (λ some. tt))
+      subst (StepEnds (steps.Advancing chunk)) (sym done.0) (
+        inl tt,
+        cond_both (nat_le chunk.len chunk.end) (stepped.On (steps.Promoting chunk.from chunk.to)) stepped.Over (IsSteppedRead mode words')
+            (λ all. done.1.others words_at.Root (λ e. cc) ∙ read.0) (λ some. tt),
+      )
   step_ends (steps.Promoting from to) answer read told =
       let done : (answer ≡ answers.Call Exchanged) × IsPut words words_at.Root to words' = exchange_done _ _ (words words_at.Root) from read told in
       subst (StepEnds (steps.Promoting from to)) (sym done.0) (inl tt, tt)

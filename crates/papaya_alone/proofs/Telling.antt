@@ -11,6 +11,7 @@ use Rattle.papaya_chain.specs.declared.ask.Answer.TheVariants as answers
 use Rattle.papaya_rests.specs.Alone.{IsPut, IsSame}
 use Rattle.papaya_rests.proofs.AloneSteps.{exchange_done}
 use Rattle.papaya_rests.proofs.RestsLearn.{by_test}
+use Rattle.papaya_alone.specs.Budget.{Budget, IsSpent, SpendsCopy}
 use Rattle.papaya_alone.specs.Prompt.{IsCopyPrompt, IsMaking}
 
 -- the answer spends: a table was made, or a word exchanged
@@ -53,3 +54,29 @@ by_making Q answer told by_made by_refused =
     (λ (h : (n : ℕ) × (answer ≡ answers.Call (Made_number n))). subst Q (sym h.1) (by_made h.0))
     (λ (h : (refused : Refused) × (answer ≡ answers.Call (Was_refused refused))). subst Q (sym h.1) (by_refused h.0))
     told
+
+module _ (words words' : At → ℕ) (before later : Budget) where
+  -- it spends of the budget, or leaves the budget and spends nothing
+  abbrev Spent : CopyAsk → Answer → Type 0
+  Spent ask answer = SpendsCopy ask answer before later → IsSpent before later ⊎ ((later ≡ before) × (IsSpending answer → ⊥))
+
+  spent_by : (ask : CopyAsk) (answer : Answer) → IsCopyPrompt words ask answer words' → Spent ask answer
+  spent_by (Load at) answer told = subst (Spent (Load at)) (sym told.0.0) (λ same. inr (same, λ h. h))
+  spent_by (Exchange at old new) answer told =
+      by_test (words at == old) ((answer ≡ answers.Call Exchanged) × IsPut words at new words') ((answer ≡ answers.Call (Found_instead (words at))) × IsSame words words') (Spent (Exchange at old new) answer) told
+      (λ e h. subst (Spent (Exchange at old new)) (sym h.0) (λ less. inl (inr less)))
+      (λ e h. subst (Spent (Exchange at old new)) (sym h.0) (λ same. inr (same, λ x. x)))
+  spent_by (SizeOf t) answer told =
+      let (slots, limit, most, few, e) = told.0 in
+      subst (Spent (SizeOf t)) (sym e) (λ same. inr (same, λ h. h))
+  spent_by (HashOf n) answer told = subst (Spent (HashOf n)) (sym told.0.1) (λ same. inr (same, λ h. h))
+  spent_by (SamePair m n) answer told = subst (Spent (SamePair m n)) (sym told.0.1) (λ same. inr (same, λ h. h))
+  spent_by Count answer told = subst (Spent Count) (sym told.0.1) (λ same. inr (same, λ h. h))
+  spent_by (MakeTable slots limit) answer told = by_making (Spent (MakeTable slots limit)) answer told.0 (λ n less. inl (inl less)) (λ refused same. inr (same, λ h. h))
+
+  -- so the budget is spent, or less is left
+  pub copy_spends : (ask : CopyAsk) (answer : Answer) → IsCopyPrompt words ask answer words' → SpendsCopy ask answer before later → (a b : ℕ) → Nears answer a b → IsSpent before later ⊎ ((later ≡ before) × (a < b))
+  copy_spends ask answer told spends a b nears =
+      ⊎_elim (λ (spent : IsSpent before later). inl spent)
+      (λ (kept : (later ≡ before) × (IsSpending answer → ⊥)). inr (kept.0, ⊎_elim (λ (h : IsSpending answer). absurd (kept.1 h)) (λ (less : a < b). less) nears))
+      (spent_by ask answer told spends)
