@@ -8,3 +8,4 @@ pub mod StepEnds
 pub mod CopyEnds
 pub mod CopyPrompts
 pub mod CopyLaw
+pub mod CallRanks

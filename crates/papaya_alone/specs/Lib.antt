@@ -4,3 +4,6 @@ pub mod Budget
 -- how much is left, and what was read and stands there still
 pub mod Measure
 pub mod Current
+-- how far a call is from its end, and where it stands in the chain
+pub mod Rank
+pub mod Ahead
