@@ -242,3 +242,133 @@ module _ (words words' : At → ℕ) (m : Machine) where
   Ends made s answer =
       let m' : Machine = after (record m { made = made; state = s }) answer in
       (IsOpening s ⊎ (rank_in m'.made m'.state < rank_in made s)) × IsAheadIn m.mode words' m'.state
+
+  -- the root stays, and so does what is ahead of it
+  still_ahead : (how : ResizeMode) (t : ℕ) → words' Root ≡ words Root → IsAhead how words t → IsAhead how words' t
+  still_ahead (Incremental chunk) t same h = omega (arith, same, h)
+  still_ahead Blocking t same h = same ∙ h
+
+  still_gap : (gap : Gap) → words' Root ≡ words Root → IsGapAhead m.mode words gap → IsGapAhead m.mode words' gap
+  still_gap gaps.NoRoot same h = tt
+  still_gap (gaps.At at) same h = still_ahead m.mode at.table same h
+  still_gap (gaps.After t) same h = still_ahead m.mode t same h
+
+  still_purpose : (purpose : Purpose) → words' Root ≡ words Root → IsPurposeAhead m.mode words purpose → IsPurposeAhead m.mode words' purpose
+  still_purpose (purposes.Fill gap) same h = still_gap gap same h
+  still_purpose (purposes.Replace write) same h = tt
+
+  -- what was to be made was made, or refused
+  making_ends : (made : Made) (s : State) (answer : Answer) → IsMaking answer → ((n : ℕ) → Ends made s (Made_number n)) → ((refused : Refused) → Ends made s (Was_refused refused)) → Ends made s answer
+  making_ends made s answer told by_made by_refused =
+      ⊎_elim
+      (λ (h : (n : ℕ) × (answer ≡ Made_number n)). subst (Ends made s) (sym h.1) (by_made h.0))
+      (λ (h : (refused : Refused) × (answer ≡ Was_refused refused)). subst (Ends made s) (sym h.1) (by_refused h.0))
+      told
+
+  size_ends : (made : Made) (t : ℕ) (answer : Answer) → (slots : ℕ) × (limit : ℕ) × IsSize slots limit × (answer ≡ Size slots limit) → IsAhead m.mode words' t → Ends made (Searching (Sizing t)) answer
+  size_ends made t answer (slots, limit, size, e) h = let few : limit < 2 ^ 32 = size.few in subst (Ends made (Searching (Sizing t))) (sym e) (inr (omega arith), h)
+
+  -- an insertion's key is made, then its pair, then it is written
+  writing_ends : (made : Made) (write : Write) (answer : Answer) → IsRead words (Writing write) → IsPrompt m.task words (asks made m.hash (Writing write)) answer words' → Ends made (Writing write) answer
+  writing_ends Nothing write answer read told = making_ends Nothing (Writing write) answer told.0 (λ n. (inr (omega arith), tt)) (λ refused. (inr (omega arith), tt))
+  writing_ends Key write answer read told = making_ends Key (Writing write) answer told.0 (λ n. (inr (omega arith), tt)) (λ refused. (inr (omega arith), tt))
+  writing_ends (Pair n) write answer read told =
+      let at : At = Slot write.place.table write.place.probe.i in
+      let done : (answer ≡ Exchanged) × IsPut words at _ words' = exchange_done _ _ (words at) write.old read told in
+      let f = written_leads (Pair n) m.mode words' write n in
+      let l = f.0 in
+      subst (Ends (Pair n) (Writing write)) (sym done.0) (inr (omega (arith, l)), f.1)
+
+  -- a compute's key is made, once, and then its pair
+  pairing_ends : (made : Made) (purpose : Purpose) (answer : Answer) → IsPurposeAhead m.mode words purpose → IsPrompt m.task words (asks made m.hash (Pairing purpose)) answer words' → Ends made (Pairing purpose) answer
+  pairing_ends Nothing purpose answer h told = making_ends Nothing (Pairing purpose) answer told.0 (λ n. (inr (key_less purpose), still_purpose purpose (told.1 Root) h)) (λ refused. (inr (some_less Nothing purpose), tt))
+    where
+      key_less : (purpose : Purpose) → rank_to_serve Key purpose < rank_to_serve Nothing purpose
+      key_less (purposes.Fill gap) = omega arith
+      key_less (purposes.Replace write) = omega arith
+      some_less : (made : Made) (purpose : Purpose) → 0 < rank_to_serve made purpose
+      some_less made (purposes.Fill gap) = omega arith
+      some_less made (purposes.Replace write) = omega arith
+  pairing_ends Key purpose answer h told = making_ends Key (Pairing purpose) answer told.0 (λ n. let f = provides_leads Key Key m.mode words' purpose n (still_purpose purpose (told.1 Root) h) in (inr f.0, f.1)) (λ refused. (inr (some_less Key purpose), tt))
+    where
+      some_less : (made : Made) (purpose : Purpose) → 0 < rank_to_serve made purpose
+      some_less made (purposes.Fill gap) = omega arith
+      some_less made (purposes.Replace write) = omega arith
+  pairing_ends (Pair k) purpose answer h told = making_ends (Pair k) (Pairing purpose) answer told.0 (λ n. let f = provides_leads (Pair k) (Pair k) m.mode words' purpose n (still_purpose purpose (told.1 Root) h) in (inr f.0, f.1)) (λ refused. (inr (some_less (Pair k) purpose), tt))
+    where
+      some_less : (made : Made) (purpose : Purpose) → 0 < rank_to_serve made purpose
+      some_less made (purposes.Fill gap) = omega arith
+      some_less made (purposes.Replace write) = omega arith
+
+  -- a closure was shown a pair
+  showing_ends : (made : Made) (removal : Removal) (answer : Answer) → IsSaying m.task answer → Ends made (Showing removal) answer
+  showing_ends made removal answer told =
+      by_saying (λ task said. let m' : Machine = after (record m { task = task; made = made; state = Showing removal }) said in (⊥ ⊎ (rank_in m'.made m'.state < rank 1 0 9)) × IsAheadIn m.mode words' m'.state)
+      (λ agrees. let f = agreed_leads made m.mode words' removal agrees in let l = f.0 in (inr (omega (arith, l)), f.1))
+      (λ kind. let f = chosen_leads made m.mode words' removal kind in let l = f.0 in (inr (omega (arith, l)), f.1)) m.task answer told
+
+  -- a next table is further on
+  next_ends : (made : Made) (how : ResizeMode) (t word : ℕ) → IsIncremental how → IsAhead how words' t → (word ≡ 0) ⊎ ((t < word) × (word < 2 ^ 32)) → (rank_in made (next_or_end m.task m.remembered.fill t word) < rank 2 (further t) (2 ^ 68 + 16)) × IsAheadIn how words' (next_or_end m.task m.remembered.fill t word)
+  next_ends made (Incremental chunk) t word inc h number =
+      cond_both (word == 0) (absent m.task m.remembered.fill (gaps.After t)) (Searching (Sizing word)) (λ s. (rank_in made s < rank 2 (further t) (2 ^ 68 + 16)) × IsAheadIn (Incremental chunk) words' s)
+      (λ none. let f = absent_leads made (Incremental chunk) words' m.task m.remembered.fill (gaps.After t) h in let l = f.0 in (omega (arith, l), f.1))
+      (λ some.
+      ⊎_elim
+      (λ (none : word ≡ 0). absurd (let y : (word == 0) ≡ true = ap (λ n. n == 0) none in cc (y, some)))
+      (λ (up : (t < word) × (word < 2 ^ 32)). let a = up.0 in let b = up.1 in (omega (arith, a, b), omega (arith, a, h)))
+      number)
+  next_ends made Blocking t word inc h number = absurd inc
+
+  -- in each state
+  ends_in : (made : Made) (s : State) (answer : Answer) → IsRead words s → IsAheadIn m.mode words s → IsNumberAsked words (asks made m.hash s) → IsPrompt m.task words (asks made m.hash s) answer words' → Ends made s answer
+  ends_in made AtRoot answer read h number told =
+      let f = root_leads made m.mode words' m.task m.remembered.fill (words Root) (told.1 Root) in
+      let l = f.0 in
+      subst (Ends made AtRoot) (sym told.0) (inr (omega (arith, l)), f.1)
+  ends_in made Making answer read h number told = making_ends made Making answer told.0 (λ n. (inr (omega arith), tt)) (λ refused. (inr (omega arith), tt))
+  ends_in made (Opening t) answer read h number told =
+      let done : (answer ≡ Exchanged) × IsPut words Root t words' = exchange_done _ _ (words Root) 0 read told in
+      subst (Ends made (Opening t)) (sym done.0) (inl tt, at_root_ahead made m.mode words' m.mode t done.1.here)
+  ends_in made (Searching (Sizing t)) answer read h number told = size_ends made t answer told.0 (still_ahead m.mode t (told.1 Root) h)
+  ends_in made (Searching (Looking at)) answer read h number told =
+      let word : ℕ = words (Slot at.table at.probe.i) in
+      let a = look_sees (kind_of word) at m.hash word in
+      let b = goes_leads made m.mode words' m.task m.remembered (look at m.hash word) (subst (IsAhead m.mode words') (sym a.1) (still_ahead m.mode at.table (told.1 Root) h)) in
+      let i = a.0 in
+      let j = b.0 in
+      subst (Ends made (Searching (Looking at))) (sym told.0) (inr (omega (arith, i, j)), b.1)
+  ends_in made (Searching (Comparing at word)) answer read h number told =
+      let same : Bool = told.0.0 in
+      let a = compared_sees at word same in
+      let b = goes_leads made m.mode words' m.task m.remembered (search_compared (Comparing at word) same) (subst (IsAhead m.mode words') (sym a.1) (still_ahead m.mode at.table (told.1 Root) h)) in
+      let i = a.0 in
+      let j = b.0 in
+      subst (Ends made (Searching (Comparing at word))) (sym told.0.1) (inr (omega (arith, i, j)), b.1)
+  ends_in made (Writing write) answer read h number told = writing_ends made write answer read told
+  ends_in made (Offering gap) answer read h number told =
+      let f = offered_leads made m.mode words' gap told.0.0 (still_gap gap (told.1 Root) h) in
+      let l = f.0 in
+      subst (Ends made (Offering gap)) (sym told.0.1) (inr (omega (arith, l)), f.1)
+  ends_in made (Showing removal) answer read h number told = showing_ends made removal answer told.0
+  ends_in made (Pairing purpose) answer read h number told = pairing_ends made purpose answer h told
+  ends_in made (Putting put) answer read h number told =
+      let at : At = Slot put.write.place.table put.write.place.probe.i in
+      let done : (answer ≡ Exchanged) × IsPut words at _ words' = exchange_done _ _ (words at) put.write.old read told in
+      let f = written_leads made m.mode words' put.write put.pair in
+      let l = f.0 in
+      subst (Ends made (Putting put)) (sym done.0) (inr (omega (arith, l)), f.1)
+  ends_in made (Burying removal) answer read h number told =
+      let at : At = Slot removal.place.table removal.place.probe.i in
+      let done : (answer ≡ Exchanged) × IsPut words at _ words' = exchange_done _ _ (words at) removal.word read told in
+      subst (Ends made (Burying removal)) (sym done.0) (inr (omega arith), tt)
+  ends_in made (Counting n) answer read h number told = subst (Ends made (Counting n)) (sym told.0) (inr (omega arith), tt)
+  ends_in made (Uncounting n) answer read h number told = subst (Ends made (Uncounting n)) (sym told.0) (inr (omega arith), tt)
+  ends_in made (Leaving t) answer read h number told =
+      let f = next_ends made m.mode t (words (Next t)) h.0 (still_ahead m.mode t (told.1 Root) h.1) number in
+      subst (Ends made (Leaving t)) (sym told.0) (inr f.0, f.1)
+  ends_in made (Growing need) answer read h number told = subst (Ends made (Growing need)) (sym told.0) (inr (omega arith), tt)
+  ends_in made (Ended reply) answer read h number told = absurd told
+
+  -- of the machine
+  pub call_ends : (answer : Answer) → IsRead words m.state → IsAheadIn m.mode words m.state → IsNumberAsked words (ask_of m) → IsPrompt m.task words (ask_of m) answer words' → Ends m.made m.state answer
+  call_ends answer read h number told = ends_in m.made m.state answer read h number told
