@@ -139,8 +139,8 @@ module _ (mode : ResizeMode) (initial : ℕ) (words words' : At → ℕ) (bare :
   pub carry_ends : (carry : Carry) (answer : Answer) → IsCarrying mode words slot word → IsCarryRead mode words slot carry → IsCopyPrompt words (carry_ask carry word) answer words' → CarryEnds carry answer
   carry_ends (carries.Hashing table) answer h read told = subst (CarryEnds (carries.Hashing table)) (sym told.0.1) (inr (omega arith), (same_still mode words words' slot word h told.1, read))
   carry_ends (carries.Sizing hash table) answer h read told =
-      let (slots, limit, most, few, e) = told.0 in
-      subst (CarryEnds (carries.Sizing hash table)) (sym e) (inr (omega (arith, few)), (same_still mode words words' slot word h told.1, read))
+      let (slots, limit, size, e) = told.0 in
+      subst (CarryEnds (carries.Sizing hash table)) (sym e) (inr (let few = size.few in omega (arith, few)), (same_still mode words words' slot word h told.1, read))
   carry_ends (carries.Looking hash at) answer h read told =
       let there : At = words_at.Slot at.table at.probe.i in
       let f = look_within mode words' bare slot word (same_still mode words words' slot word h told.1) (kind_of (words there)) hash at (words there) (told.1 there) (λ e. sym (told.1 there) ∙ bare at.table at.probe.i (ap kind_of (told.1 there) ∙ e)) read in

@@ -88,7 +88,7 @@ module _ {K P : Type 0} (g : Setting K P) (c : Coding K P) (hashed : IsHashed g 
         (λ e (a, none, h'). (a, same_none es none)) told
     told_prompt (SizeOf t) there may answer es hands' told =
         let (limit, most, e) = told.0 in
-        ((g.size t, limit, bounded.size t there, (let p = bounded.places t there in omega (arith, p, most)), e), same_none es told.1.0)
+        ((g.size t, limit, bounded.size t limit there most, e), same_none es told.1.0)
     told_prompt (HashOf n) there may answer es hands' told =
         let (p, is, number) = there in
         ((c.hash (g.key p), told.0 p is number), same_none es told.1)

@@ -9,3 +9,4 @@ pub mod CopyEnds
 pub mod CopyPrompts
 pub mod CopyLaw
 pub mod CallRanks
+pub mod CallPrompts

@@ -39,7 +39,7 @@ module _ (words words' : At → ℕ) (initial : ℕ) where
 
   pub link_ends : (link : Link) (answer : Answer) → IsLinkRead words link → IsCopyPrompt words (link_ask link) answer words' → LinkEnds link answer
   link_ends (links.Sizing behind unfit) answer read told =
-      let (slots, limit, most, few, e) = told.0 in
+      let (slots, limit, size, e) = told.0 in
       subst (LinkEnds (links.Sizing behind unfit)) (sym e) (inr (omega arith), told.1 (Next behind) ∙ read)
   link_ends (links.Counting behind unfit len) answer read told =
       let asked : ℕ = length_after len told.0.0 initial unfit in

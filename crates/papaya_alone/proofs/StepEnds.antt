@@ -127,8 +127,8 @@ module _ (mode : ResizeMode) (initial : ℕ) (words words' : At → ℕ) (bare :
       let l = f.0 in
       subst (StepEnds (steps.Judging from to)) (sym told.0.0) (inr (omega (arith, l)), f.1)
   step_ends (steps.Sizing from to) answer read told =
-      let (slots, limit, most, few, e) = told.0 in
-      subst (StepEnds (steps.Sizing from to)) (sym e) (inr (omega (arith, most)), (told.1 words_at.Root ∙ read.0, still_alive mode words words' (record { from = from; index = 0; to = to }) 0 mode read.1 (told.1 (words_at.Aborted to))))
+      let (slots, limit, size, e) = told.0 in
+      subst (StepEnds (steps.Sizing from to)) (sym e) (inr (let most = size.most in omega (arith, most)), (told.1 words_at.Root ∙ read.0, still_alive mode words words' (record { from = from; index = 0; to = to }) 0 mode read.1 (told.1 (words_at.Aborted to))))
   step_ends (steps.Counting from to len) answer read told =
       let f = counted_within mode words' from to len (words (words_at.Done to)) (told.1 words_at.Root ∙ read.0) (still_alive mode words words' (record { from = from; index = 0; to = to }) 0 mode read.1 (told.1 (words_at.Aborted to))) (told.1 (words_at.Done to)) in
       let l = f.0 in

@@ -67,7 +67,7 @@ module _ (words words' : At → ℕ) (before later : Budget) where
       (λ e h. subst (Spent (Exchange at old new)) (sym h.0) (λ less. inl (inr less)))
       (λ e h. subst (Spent (Exchange at old new)) (sym h.0) (λ same. inr (same, λ x. x)))
   spent_by (SizeOf t) answer told =
-      let (slots, limit, most, few, e) = told.0 in
+      let (slots, limit, size, e) = told.0 in
       subst (Spent (SizeOf t)) (sym e) (λ same. inr (same, λ h. h))
   spent_by (HashOf n) answer told = subst (Spent (HashOf n)) (sym told.0.1) (λ same. inr (same, λ h. h))
   spent_by (SamePair m n) answer told = subst (Spent (SamePair m n)) (sym told.0.1) (λ same. inr (same, λ h. h))

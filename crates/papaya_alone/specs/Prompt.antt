@@ -1,22 +1,29 @@
 -- What an answer to what is asked for a copy says, where nobody else changes the words.
-use Rattle.std.specs.Prelude.{◌≡◌, ◌⊎◌, ℕ, ◌<◌, ◌≤◌, ◌^◌, ◌==◌, Bool, MatchBool}
+use Rattle.std.specs.Prelude.{◌≡◌, ◌⊎◌, ℕ, ◌+◌, ◌<◌, ◌^◌, ◌==◌, Bool, MatchBool}
 use Rattle.papaya_words.specs.declared.probe.Refused.{Refused}
 use Rattle.papaya_ask.specs.declared.ask.At.{At}
 use Rattle.papaya_ask.specs.declared.ask.At.TheVariants.{Next}
 use Rattle.papaya_ask.specs.declared.ask.Answer.TheVariants.{Word as Word_read, Exchanged, Found as Found_instead, Yes, Size, Made as Made_number, Refused as Was_refused}
 use Rattle.papaya_ask.specs.declared.copy_ask.CopyAsk.{CopyAsk}
 use Rattle.papaya_ask.specs.declared.copy_ask.CopyAsk.TheVariants.{Load, Exchange, SizeOf, HashOf, SamePair, Count, MakeTable}
+use Rattle.papaya_ask.specs.Search.{IsSize}
+use Rattle.papaya_ask.specs.declared.ask.Ask.{Ask as Call_ask}
+use Rattle.papaya_ask.specs.declared.ask.Ask.TheVariants as call_asks
+use Rattle.papaya_ask.specs.declared.ask.Answer.{Answer as Call_answer}
+use Rattle.papaya_ask.specs.declared.call.Task.{Task}
+use Rattle.papaya_ask.specs.declared.call.Task.TheVariants.{Compute}
 use Rattle.papaya_chain.specs.declared.ask.Answer.{Answer}
 use Rattle.papaya_chain.specs.declared.ask.Answer.TheVariants as answers
 use Rattle.papaya_law.specs.Class.{IsOn}
 use Rattle.papaya_law.specs.Exchange.{Setting, State}
-use Rattle.papaya_rests.specs.Alone.{IsPut, IsSame}
+use Rattle.papaya_rests.specs.Alone.{IsPut, IsSame, IsSaying}
+use Rattle.papaya_rests.specs.Alone as calls
 
--- the tables that were opened or linked have numbers and sizes of so many bits
+-- the tables that were opened or linked have numbers of so many bits, and sizes of tables
 pub record IsBounded {K P : Type 0} (g : Setting K P) (s : State P) : Type 0 where
   pub number : (t : ℕ) → IsOn s.first s.next t → t < 2 ^ 32
-  pub size : (t : ℕ) → IsOn s.first s.next t → g.size t ≤ 2 ^ 32
-  pub places : (t : ℕ) → IsOn s.first s.next t → g.places t ≤ 2 ^ 32
+  pub size : (t limit : ℕ) → IsOn s.first s.next t → limit + 1 ≡ g.places t
+      → IsSize (g.size t) limit
 
 -- a next table has a greater number, within bounds
 abbrev pub IsNumber : (At → ℕ) → At → Type 0
@@ -37,8 +44,7 @@ IsCopyPrompt words (Exchange at old new) answer words' =
     MatchBool (words at == old) ((answer ≡ answers.Call Exchanged) × IsPut words at new words')
     ((answer ≡ answers.Call (Found_instead (words at))) × IsSame words words')
 IsCopyPrompt words (SizeOf t) answer words' =
-    ((slots : ℕ) × (limit : ℕ) × (slots ≤ 2 ^ 32) × (limit < 2 ^ 32)
-    × (answer ≡ answers.Call (Size slots limit)))
+    ((slots : ℕ) × (limit : ℕ) × IsSize slots limit × (answer ≡ answers.Call (Size slots limit)))
     × IsSame words words'
 IsCopyPrompt words (HashOf n) answer words' = ((hash : ℕ) × (answer ≡ answers.Hash hash))
     × IsSame words words'
@@ -47,3 +53,14 @@ IsCopyPrompt words (SamePair m n) answer words' =
 IsCopyPrompt words Count answer words' = ((count : ℕ) × (answer ≡ answers.Count count))
     × IsSame words words'
 IsCopyPrompt words (MakeTable slots limit) answer words' = IsMaking answer × IsSame words words'
+
+-- What a call asks to be made is made or refused, its closure answers as it was asked, and a call
+-- that has replied asks nothing more.
+abbrev pub IsServed : Task → Call_ask → Call_answer → Type 0
+IsServed task call_asks.ShowNone answer = IsSaying Compute answer
+IsServed task (call_asks.ShowPair n) answer = IsSaying task answer
+IsServed task call_asks.MakeKey answer = calls.IsMaking answer
+IsServed task call_asks.MakePair answer = calls.IsMaking answer
+IsServed task (call_asks.MakeTable slots limit) answer = calls.IsMaking answer
+IsServed task (call_asks.Done reply) answer = ⊥
+IsServed task ask answer = Unit {0}
