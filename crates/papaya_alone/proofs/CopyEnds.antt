@@ -37,7 +37,7 @@ module _ (mode : ResizeMode) (words : At → ℕ) where
   Within most end = (left_of_copied end ≤ most) × IsCopiedRead mode words end
 
   -- without blocking no table is given up
-  any_alive : (how : ResizeMode) (t : ℕ) → IsIncremental how → IsAlive how words t
+  pub any_alive : (how : ResizeMode) (t : ℕ) → IsIncremental how → IsAlive how words t
   any_alive (Incremental chunk) t inc = tt
   any_alive Blocking t inc = absurd inc
 

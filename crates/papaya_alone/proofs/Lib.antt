@@ -10,3 +10,4 @@ pub mod CopyPrompts
 pub mod CopyLaw
 pub mod CallRanks
 pub mod CallPrompts
+pub mod Onwards

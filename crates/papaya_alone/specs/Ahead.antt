@@ -17,7 +17,6 @@ use Rattle.papaya_chain.specs.declared.machine.Phase.{Phase}
 use Rattle.papaya_chain.specs.declared.machine.Phase.TheVariants.{Calling, Linking, Copying as Copying_root}
 use Rattle.papaya_copy.specs.declared.copying.Copying.{Copying}
 use Rattle.papaya_copy.specs.declared.copying.Copying.TheVariants as copyings
-use Rattle.papaya_copy.specs.Link.{follows}
 use Rattle.papaya_rests.specs.Alone.{IsRead}
 use Rattle.papaya_chain_rests.specs.Rests.{left_by}
 use Rattle.papaya_alone.specs.Current.{IsCopyingRead, IsIncremental, IsLinkRead}
@@ -56,7 +55,8 @@ module _ (mode : ResizeMode) (words : At → ℕ) where
 
   abbrev pub IsPhaseRead : State → Phase → Type 0
   IsPhaseRead state Calling = IsRead words state × IsAheadIn state
-  IsPhaseRead state (Linking link) = IsLinkRead words link × (words words_at.Root ≤ follows link)
+  IsPhaseRead state (Linking link) = IsIncremental mode × IsLinkRead words link
+      × ((t : ℕ) → left_by state ≡ Some t → words words_at.Root ≤ t)
   IsPhaseRead state (Copying_root copying) = IsCopyingRead mode words copying
       × IsAsideAhead state copying
 
