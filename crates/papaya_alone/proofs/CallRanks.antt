@@ -244,7 +244,7 @@ module _ (words words' : At → ℕ) (m : Machine) where
       (IsOpening s ⊎ (rank_in m'.made m'.state < rank_in made s)) × IsAheadIn m.mode words' m'.state
 
   -- the root stays, and so does what is ahead of it
-  still_ahead : (how : ResizeMode) (t : ℕ) → words' Root ≡ words Root → IsAhead how words t → IsAhead how words' t
+  pub still_ahead : (how : ResizeMode) (t : ℕ) → words' Root ≡ words Root → IsAhead how words t → IsAhead how words' t
   still_ahead (Incremental chunk) t same h = omega (arith, same, h)
   still_ahead Blocking t same h = same ∙ h
 

@@ -11,3 +11,4 @@ pub mod CopyLaw
 pub mod CallRanks
 pub mod CallPrompts
 pub mod Onwards
+pub mod CallLaw

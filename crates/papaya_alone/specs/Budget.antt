@@ -1,8 +1,15 @@
 -- How many tables may still be made and words exchanged, as a backend counts it.
-use Rattle.std.specs.Prelude.{◌≡◌, ◌⊎◌, ℕ, ◌<◌}
+use Rattle.std.specs.Prelude.{◌≡◌, ◌⊎◌, ℕ, ◌<◌, Option, Some}
+use Rattle.papaya_ask.specs.declared.ask.Answer.{Answer as Call_answer}
+use Rattle.papaya_ask.specs.declared.ask.Ask.{Ask as Call_ask}
+use Rattle.papaya_ask.specs.declared.ask.Ask.TheVariants as call_asks
+use Rattle.papaya_ask.specs.declared.ask.StepKind.{StepKind}
+use Rattle.papaya_ask.specs.declared.ask.StepKind.TheVariants.{Replace}
 use Rattle.papaya_ask.specs.declared.ask.Answer.TheVariants.{Exchanged, Made as Made_number}
 use Rattle.papaya_ask.specs.declared.copy_ask.CopyAsk.{CopyAsk}
 use Rattle.papaya_ask.specs.declared.copy_ask.CopyAsk.TheVariants.{Exchange, MakeTable}
+use Rattle.papaya_chain.specs.declared.ask.Ask.{Ask}
+use Rattle.papaya_chain.specs.declared.ask.Ask.TheVariants as asks
 use Rattle.papaya_chain.specs.declared.ask.Answer.{Answer}
 use Rattle.papaya_chain.specs.declared.ask.Answer.TheVariants as answers
 
@@ -22,3 +29,22 @@ SpendsCopy (MakeTable slots limit) (answers.Call (Made_number n)) before later =
 SpendsCopy (Exchange at old new) (answers.Call Exchanged) before later =
     (later.tables ≡ before.tables) × (later.exchanges < before.exchanges)
 SpendsCopy ask answer before later = later ≡ before
+
+-- an exchange of a call spends one, unless a pair takes the place of another
+abbrev pub SpendsExchange : Option StepKind → Budget → Budget → Type 0
+SpendsExchange (Some Replace) before later = later ≡ before
+SpendsExchange _ before later = (later.tables ≡ before.tables)
+    × (later.exchanges < before.exchanges)
+
+abbrev pub SpendsCall : Option StepKind → Call_ask → Call_answer → Budget → Budget → Type 0
+SpendsCall kind (call_asks.MakeTable slots limit) (Made_number n) before later =
+    later.tables < before.tables
+SpendsCall kind (call_asks.Exchange at old new) Exchanged before later =
+    SpendsExchange kind before later
+SpendsCall kind ask answer before later = later ≡ before
+
+-- any other answer leaves the budget
+abbrev pub Spends : Option StepKind → Ask → Answer → Budget → Budget → Type 0
+Spends kind (asks.Call ask) (answers.Call told) before later = SpendsCall kind ask told before later
+Spends kind (asks.Copy ask) answer before later = SpendsCopy ask answer before later
+Spends kind ask answer before later = later ≡ before

@@ -12,6 +12,8 @@ use Rattle.papaya_ask.specs.declared.ask.Ask.TheVariants as call_asks
 use Rattle.papaya_ask.specs.declared.ask.Answer.{Answer as Call_answer}
 use Rattle.papaya_ask.specs.declared.call.Task.{Task}
 use Rattle.papaya_ask.specs.declared.call.Task.TheVariants.{Compute}
+use Rattle.papaya_chain.specs.declared.ask.Ask.{Ask}
+use Rattle.papaya_chain.specs.declared.ask.Ask.TheVariants as asks
 use Rattle.papaya_chain.specs.declared.ask.Answer.{Answer}
 use Rattle.papaya_chain.specs.declared.ask.Answer.TheVariants as answers
 use Rattle.papaya_law.specs.Class.{IsOn}
@@ -64,3 +66,7 @@ IsServed task call_asks.MakePair answer = calls.IsMaking answer
 IsServed task (call_asks.MakeTable slots limit) answer = calls.IsMaking answer
 IsServed task (call_asks.Done reply) answer = ⊥
 IsServed task ask answer = Unit {0}
+
+abbrev pub IsServedAsk : Task → Ask → Answer → Type 0
+IsServedAsk task (asks.Call ask) (answers.Call told) = IsServed task ask told
+IsServedAsk task ask answer = Unit {0}
