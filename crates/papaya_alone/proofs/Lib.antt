@@ -12,3 +12,4 @@ pub mod CallRanks
 pub mod CallPrompts
 pub mod Onwards
 pub mod CallLaw
+pub mod AsideRanks
