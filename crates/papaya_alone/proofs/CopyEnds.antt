@@ -99,7 +99,7 @@ module _ (mode : ResizeMode) (initial : ℕ) (words words' : At → ℕ) (bare :
   CopyEnds copying answer = Nears answer (left_of_copied (copying_after copying mode initial answer)) (left_of_copying copying) × IsCopiedRead mode words' (copying_after copying mode initial answer)
 
   -- an aim is of a mode whatever the words are
-  same_aim : (aim : Aim) → IsAimRead mode words aim → IsAimRead mode words' aim
+  pub same_aim : (aim : Aim) → IsAimRead mode words aim → IsAimRead mode words' aim
   same_aim (aims.Search table) read = tt
   same_aim (aims.Settle slot) read = read
   same_aim aims.Chunk read = tt

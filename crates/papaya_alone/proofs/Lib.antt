@@ -13,3 +13,4 @@ pub mod CallPrompts
 pub mod Onwards
 pub mod CallLaw
 pub mod AsideRanks
+pub mod AsideCopies

@@ -55,7 +55,7 @@ module _ (words : At → ℕ) where
     enters_current n h = (tt, ahead_of m.call.mode n inc h)
 
     -- what it copies for is of the mode
-    aim_read : (aim : Aim) → IsAimRead m.call.mode words aim
+    pub aim_read : (aim : Aim) → IsAimRead m.call.mode words aim
     aim_read (aims.Search t) = tt
     aim_read (aims.Settle slot) = inc
     aim_read aims.Chunk = tt
