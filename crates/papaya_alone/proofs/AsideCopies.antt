@@ -25,7 +25,7 @@ use Rattle.papaya_copy.specs.declared.step.Stepped.{Stepped}
 use Rattle.papaya_copy.specs.declared.step.Stepped.TheVariants as stepped
 use Rattle.papaya_copy.specs.Settle.{settle_ask}
 use Rattle.papaya_copy.specs.Step.{step_ask}
-use Rattle.papaya_copy.specs.Copying.{copying_ask, leads, lone, over}
+use Rattle.papaya_copy.specs.Copying.{all_of, copying_ask, leads, lone, over}
 use Rattle.papaya_chain.specs.declared.ask.Answer.{Answer}
 use Rattle.papaya_chain.specs.declared.ask.Answer.TheVariants as answers
 use Rattle.papaya_chain.specs.declared.machine.Machine.{Machine}
@@ -147,3 +147,56 @@ module _ (words words' : At → ℕ) (bare : IsBare words) (bare' : IsBare words
       least : (n : ℕ) → AimsAt aim n → words' words_at.Root ≡ words words_at.Root → IsFor aim → words' words_at.Root ≤ n
       least n is same (inl (inc, (n', is', (t, e, up)))) = let l = left t inc e in let q : n ≡ n' = aims_one aim n n' is is' in omega (arith, l, same, up, q)
       least n is same (inr (blocks, (met, e))) = absurd (subst (λ a. AimsAt a n) e is)
+
+  -- all was copied, and the other table becomes the root
+  promoting_lowers : (aim : Aim) (from to : ℕ) (answer : Answer) → IsFor aim → ((n : ℕ) → AimsAt aim n → to ≤ n) → IsCopyingRead mode words (copyings.Stepping aim (steps.Promoting from to)) → IsCopyPrompt words (step_ask (steps.Promoting from to)) answer words' → SpendsCopy (step_ask (steps.Promoting from to)) answer before later
+      → Lowers words words' before later m (rank 1 0 1) (after_copied m (copying_after (copyings.Stepping aim (steps.Promoting from to)) mode m.call.initial answer))
+  promoting_lowers aim from to answer which least read told spends =
+      let done : (answer ≡ answers.Call Exchanged) × IsPut words words_at.Root to words' = exchange_done _ _ (words words_at.Root) from read.1 told in
+      let root : words' words_at.Root ≡ to = done.1.here in
+      (inl (inr (subst (λ a. SpendsCopy (Ask_exchange words_at.Root from to) a before later) done.0 spends)),
+      subst (λ a. IsCurrent words' (after_copied m (copying_after (copyings.Stepping aim (steps.Promoting from to)) mode m.call.initial a))) (sym done.0)
+      (overs_current aim which (λ n is. let l = least n is in omega (arith, l, root))))
+
+  -- a chunk begins at the root, for one table
+  one_lowers : IsIncremental mode → (aim : Aim) (root : ℕ) → 0 < root → words' words_at.Root ≡ root → IsBehind words' → later ≡ before → (end : Copied) → end ≡ cond (root == 0) (over aim) (copied.On (copyings.Stepping aim (steps.Aiming root root)))
+      → Lowers words words' before later m (rank 1 0 (2 * 2 ^ 102)) (after_copied m end)
+  one_lowers inc aim root some is left kept end e =
+      subst (λ y. Lowers words words' before later m (rank 1 0 (2 * 2 ^ 102)) (after_copied m y)) (sym e)
+      (cond_both (root == 0) (over aim) (copied.On (copyings.Stepping aim (steps.Aiming root root))) (λ y. Lowers words words' before later m (rank 1 0 (2 * 2 ^ 102)) (after_copied m y))
+      (λ none. let z : root ≡ 0 = eqb-true root 0 none in absurd (omega (arith, z, some)))
+      (λ _. (inr (kept, omega arith), ((aim_read words' m inc aim, is), left))))
+
+  -- and for all of the root, if it is the one that was met
+  met_lowers : mode ≡ Blocking → (met root : ℕ) → words' words_at.Root ≡ root → IsSame words words' → words words_at.Root ≡ root → later ≡ before → (b : Bool)
+      → Lowers words words' before later m (cond b (rank 1 0 (2 * 2 ^ 102)) (rank 3 0 0)) (after_copied m (cond b (copied.On (copyings.Stepping (aims.All root) (steps.Aiming root root))) (copied.Root root)))
+  met_lowers blocks met root is same was kept true = (inr (kept, omega arith), ((tt, is), λ t how e. absurd (subst IsIncremental blocks how)))
+  met_lowers blocks met root is same was kept false =
+      subst (λ r. Lowers words words' before later m (rank 3 0 0) (after_copied m (copied.Root r))) is
+      (inr (kept, anew_rank words' m),
+      anew_current words' m (machine_stays words words' (record m.call { state = At_root }) bare (Word_read (words' words_at.Root)) tt (ap Word_read (same words_at.Root), same)).read)
+
+  at_root_lowers : (aim : Aim) (answer : Answer) → IsFor aim → 0 < words words_at.Root → IsBehind words → IsCopyPrompt words (Load words_at.Root) answer words' → SpendsCopy (Load words_at.Root) answer before later
+      → Lowers words words' before later m (rank_at_root (words words_at.Root) aim) (after_copied m (copying_after (copyings.Stepping aim steps.AtRoot) mode m.call.initial answer))
+  at_root_lowers aim answer which some left told spends =
+      subst (λ a. SpendsCopy (Load words_at.Root) a before later → Lowers words words' before later m (rank_at_root (words words_at.Root) aim) (after_copied m (copying_after (copyings.Stepping aim steps.AtRoot) mode m.call.initial a))) (sym told.0.0)
+      (λ kept. ⊎_elim
+      (λ (h : IsIncremental mode × ((n : ℕ) × AimsAt aim n × ((t : ℕ) × (left_by m.call.state ≡ Some t) × (t < n)))). by_aim aim h.0 h.1.0 h.1.1 kept)
+      (λ (h : (mode ≡ Blocking) × ((met : ℕ) × (aim ≡ aims.All met))). by_all aim h.1.0 h.1.1 h.0 kept)
+      which)
+      spends
+    where
+      later_left : IsBehind words'
+      later_left t how e = let l = left t how e in let s = told.1 words_at.Root in omega (arith, l, s)
+      by_aim : (aim : Aim) → IsIncremental mode → (n : ℕ) → AimsAt aim n → later ≡ before → Lowers words words' before later m (rank_at_root (words words_at.Root) aim) (after_copied m (copying_after (copyings.Stepping aim steps.AtRoot) mode m.call.initial (answers.Call (Word_read (words words_at.Root)))))
+      by_aim (aims.Search t) inc n is kept = one_lowers inc (aims.Search t) (words words_at.Root) some (told.1 words_at.Root) later_left kept _ refl
+      by_aim (aims.Settle slot) inc n is kept = one_lowers inc (aims.Settle slot) (words words_at.Root) some (told.1 words_at.Root) later_left kept _ refl
+      by_aim aims.Chunk inc n is kept = absurd is
+      by_aim (aims.All met) inc n is kept = absurd is
+      by_all : (aim : Aim) (met : ℕ) → aim ≡ aims.All met → mode ≡ Blocking → later ≡ before → Lowers words words' before later m (rank_at_root (words words_at.Root) aim) (after_copied m (copying_after (copyings.Stepping aim steps.AtRoot) mode m.call.initial (answers.Call (Word_read (words words_at.Root)))))
+      by_all aim met is blocks kept =
+          subst (λ a. Lowers words words' before later m (rank_at_root (words words_at.Root) a) (after_copied m (copying_after (copyings.Stepping a steps.AtRoot) mode m.call.initial (answers.Call (Word_read (words words_at.Root)))))) (sym is)
+          (subst (λ how. Lowers words words' before later m (rank_at_root (words words_at.Root) (aims.All met)) (after_copied m (copying_after (copyings.Stepping (aims.All met) steps.AtRoot) how m.call.initial (answers.Call (Word_read (words words_at.Root)))))) (sym blocks)
+          (cond_both (words words_at.Root == 0) (copied.Root 0) (all_of met Blocking (words words_at.Root)) (λ y. Lowers words words' before later m (rank_at_root (words words_at.Root) (aims.All met)) (after_copied m y))
+          (λ none. let z : words words_at.Root ≡ 0 = eqb-true (words words_at.Root) 0 none in absurd (omega (arith, z, some)))
+          (λ _. met_lowers blocks met (words words_at.Root) (told.1 words_at.Root) told.1 refl kept (met == 0 || met == words words_at.Root))))
