@@ -1,7 +1,7 @@
 -- An answered ask, as the law of exchanges sees it: the answer is true of the words, and the words are those that the exchanges leave.
 use Rattle.std.proofs.Common.{◌≡◌, ℕ, ◌<◌, ◌≤◌, Bool, List, [], ◌∷◌, ◌++◌, length, Option, Some, None, ◌⊎◌, inl, inr, refl, sym, ◌∙◌, ap, subst, arith, append-nil}
 use Rattle.papaya_words.specs.Counter.{Count}
-use Rattle.papaya_words.specs.declared.limits.TheConstants.{MAX_LOG_LEN}
+use Rattle.papaya_words.specs.declared.limits.TheConstants.{MAX_LOG_LEN, MAX_TABLES}
 use Rattle.papaya_ask.specs.declared.ask.At.{At}
 use Rattle.papaya_ask.specs.declared.ask.At.TheVariants.{Root, Next, Aborted, Done, Slot}
 use Rattle.papaya_ask.specs.declared.ask.Ask.{Ask as Call_ask}
@@ -33,7 +33,7 @@ use Rattle.papaya_timeline.specs.Kept.{IsMade, Tale}
 use Rattle.papaya_store.specs.Performs.{key_at, own_key}
 use Rattle.papaya_store.specs.Store.{StoreState, Stored, pair_of}
 use Rattle.papaya_store.specs.Tables.{put, word_at}
-use Rattle.papaya_timeline.proofs.KeptTables.{HasMoreTables, IsPlaced, cases_place, grown-same, placed-grown, placed-here, placed-other}
+use Rattle.papaya_timeline.proofs.KeptTables.{HasMoreTables, IsPlaced, cases_place, grown-same, placed-grown, placed-many, placed-here, placed-other}
 
 -- the pair stands in a slot
 abbrev pub Stands : {P : Type 0} → State P → P → Type 0
@@ -60,6 +60,7 @@ module _ {Q K V S A : Type 0} (g : Setting Q (Stored K V)) (c : Coding Q (Stored
     pub logged : (n : ℕ) (p : Stored K V) → pair_of store n ≡ Some p → pair_of store' n ≡ Some p
     pub longer : length store.pairs ≤ length store'.pairs
     pub few : length store.pairs ≤ MAX_LOG_LEN → length store'.pairs ≤ MAX_LOG_LEN
+    pub tables_few : length store.words.tables ≤ MAX_TABLES → length store'.words.tables ≤ MAX_TABLES
     pub grown : HasMoreTables store.words.tables store'.words.tables
     -- the words are those that the exchanges leave
     pub coded : (at : At) → word_of g c (run (es ++ made) start) at ≡ word_at store'.words at
@@ -81,6 +82,7 @@ module _ {Q K V S A : Type 0} (g : Setting Q (Stored K V)) (c : Coding Q (Stored
     pub logged : (n : ℕ) (p : Stored K V) → pair_of store n ≡ Some p → pair_of store' n ≡ Some p
     pub longer : length store.pairs ≤ length store'.pairs
     pub few : length store.pairs ≤ MAX_LOG_LEN → length store'.pairs ≤ MAX_LOG_LEN
+    pub tables_few : length store.words.tables ≤ MAX_TABLES → length store'.words.tables ≤ MAX_TABLES
     pub grown : HasMoreTables store.words.tables store'.words.tables
     pub words : (at : At) → word_at store'.words at ≡ word_at store.words at
 
@@ -125,6 +127,7 @@ module _ {Q K V S A : Type 0} (g : Setting Q (Stored K V)) (c : Coding Q (Stored
       logged = logs.logged;
       longer = logs.longer;
       few = logs.few;
+      tables_few = logs.tables_few;
       grown = logs.grown;
       coded = λ at. ap (λ z. word_of g c z at) none_made ∙ coded at ∙ sym (logs.words at);
       there = λ t some comes. there t some (subst (λ z. Comes z t) none_made comes);
@@ -138,7 +141,7 @@ module _ {Q K V S A : Type 0} (g : Setting Q (Stored K V)) (c : Coding Q (Stored
 
     -- the logs as they were, but for the count
     pub same_logs : own_key store r ≡ own → (count : Count) → HasLogs key (record store { count = count }) r
-    same_logs owns count = record { keys = λ at k h. h; own_is = owns; logged = λ n p h. h; longer = omega arith; few = λ h. h; grown = grown-same store.words.tables; words = λ at. refl }
+    same_logs owns count = record { keys = λ at k h. h; own_is = owns; logged = λ n p h. h; longer = omega arith; few = λ h. h; tables_few = λ h. h; grown = grown-same store.words.tables; words = λ at. refl }
 
     -- an answer that leaves words, logs and call, but for the count
     pub quiet : own_key store r ≡ own → (ask : Ask) → ask_of r.machine ≡ ask → (a : Answer) (store' : StoreState K V S) (later : Running K V A) (hands : Hands (Stored K V)) (count : Count) → store' ≡ record store { count = count } → later ≡ r
@@ -177,6 +180,7 @@ module _ {Q K V S A : Type 0} (g : Setting Q (Stored K V)) (c : Coding Q (Stored
           logged = λ n p h. h;
           longer = omega arith;
           few = λ h. h;
+          tables_few = λ h. let many = placed-many store.words at new placed in omega (arith, many, h);
           grown = placed-grown store.words at new placed;
           coded = λ other. ap (λ z. word_of g c z other) to ∙ written_at other;
           there = λ t some h. comes t some (subst (λ z. Comes z t) to h);

@@ -112,7 +112,7 @@ module _ {K V S A : Type 0} (eq : K → K → Bool) (hash : K → ℕ) where
 
     -- the core after the begin
     pub begin_kept : IsKept eq hash s.mode s.store callers' es tales'
-    begin_kept = record { allowed = kept.allowed; coded = kept.coded; made = kept.made; logged = kept.logged; few = kept.few; calls = calls; apart = apart }
+    begin_kept = record { allowed = kept.allowed; coded = kept.coded; made = kept.made; logged = kept.logged; few = kept.few; tables_few = kept.tables_few; calls = calls; apart = apart }
 
 module _ {K V S : Type 0} (A : Type 0) (eq : K → K → Bool) (hash : K → ℕ) where
   module _ (mode : ResizeMode) (store : StoreState K V S) (pairs : store.pairs ≡ []) (tales : ℕ → Tale K V) where
@@ -131,6 +131,7 @@ module _ {K V S : Type 0} (A : Type 0) (eq : K → K → Bool) (hash : K → ℕ
       made = λ t some comes. absurd (elim comes [ inl first ↦ (let f : 0 ≡ t = first in omega arith) | inr (u, next) ↦ (let f : 0 ≡ t = next in omega arith) ]);
       logged = λ t x p l. absurd cc;
       few = few;
+      tables_few = omega arith;
       calls = λ d q l. absurd cc;
       apart = λ d e q q' l. absurd cc;
     }
@@ -153,6 +154,7 @@ module _ {K V S : Type 0} (A : Type 0) (eq : K → K → Bool) (hash : K → ℕ
       ];
       logged = λ t x p l. absurd cc;
       few = few;
+      tables_few = omega arith;
       calls = λ d q l. absurd cc;
       apart = λ d e q q' l. absurd cc;
     }

@@ -89,6 +89,7 @@ module _ {Q K V S A : Type 0} (g : Setting Q (Stored K V)) (c : Coding Q (Stored
         logged = λ n p h. pair-more_keys store (k ∷ []) n p h;
         longer = omega arith;
         few = λ h. h;
+        tables_few = λ h. h;
         grown = grown-same store.words.tables;
         words = λ at. refl;
       })
@@ -115,6 +116,7 @@ module _ {Q K V S A : Type 0} (g : Setting Q (Stored K V)) (c : Coding Q (Stored
         logged = λ m p h. pair-more_pairs store (pair ∷ []) m p h;
         longer = omega (arith, more);
         few = λ h. omega (arith, more, few);
+        tables_few = λ h. h;
         grown = grown-same store.words.tables;
         words = λ at. refl;
       })
@@ -142,6 +144,7 @@ module _ {Q K V S A : Type 0} (g : Setting Q (Stored K V)) (c : Coding Q (Stored
         logged = λ m p h. h;
         longer = omega arith;
         few = λ h. h;
+        tables_few = λ h. let more : length (store.words.tables ++ new_table n slots limit ∷ []) ≡ length store.words.tables + 1 = length-append store.words.tables (new_table n slots limit ∷ []) in omega (arith, more, few);
         grown = made-grown store.words n slots limit;
         words = word-made store.words n slots limit;
       })

@@ -87,7 +87,7 @@ module _ {K V S A : Type 0} (eq : K → K → Bool) (says : Says K V A) (hash : 
         subst (λ z. Leaves ask a z later) (sym showing.store) (subst (Leaves ask a store) (sym other)
         (unexchanged (law_setting eq hash mode store) (law_coding hash) store r es tale (Some key) hashed key rests coded there (asks.Call ask) e (answers.Call a) store call tale.hands
         (own_told (law_setting eq hash mode store) (law_coding hash) store r es tale (Some key) hashed key rests coded there ask a [] tale.hands.call told) still
-        (record { keys = λ at j h. h; own_is = own; logged = λ m q h. h; longer = omega arith; few = λ h. h; grown = grown-same store.words.tables; words = λ at. refl })
+        (record { keys = λ at j h. h; own_is = own; logged = λ m q h. h; longer = omega arith; few = λ h. h; tables_few = λ h. h; grown = grown-same store.words.tables; words = λ at. refl })
         (same_hands (law_setting eq hash mode store) (law_coding hash) store r es tale (Some key) store) (λ t is which. absurd (never t is which))))
   ]
 

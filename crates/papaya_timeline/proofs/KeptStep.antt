@@ -281,6 +281,7 @@ module _ {K V S A : Type 0} (eq : K → K → Bool) (hash : K → ℕ) (law : Is
       made = λ t some comes. still_there t (left.there t some comes);
       logged = logged;
       few = left.few kept.few;
+      tables_few = left.tables_few kept.tables_few;
       calls = calls;
       apart = apart;
     }

@@ -88,11 +88,15 @@ written-size (Slot n i) t word = elim (nat_lt i (length t.slots)) as (λ b. (len
 -- a write to a table that is there
 module _ (w : Tables) (at : At) (n word : ℕ) (t : TableWords) (there : table_of w.tables n ≡ Some t) where
   -- the tables after it
-  put-table : put_at at n w word ≡ record w { tables = slice_set w.tables (n - 1) (written at t word) }
+  pub put-table : put_at at n w word ≡ record w { tables = slice_set w.tables (n - 1) (written at t word) }
   put-table =
       let e = table_there w.tables n t there in
       ap (λ b. cond b w (record w { tables = put_in at (slice_get w.tables (n - 1)) w.tables (n - 1) word })) e.0
       ∙ ap (λ o. record w { tables = put_in at o w.tables (n - 1) word }) e.1
+
+  -- they are as many
+  put-many : length (put_at at n w word).tables ≡ length w.tables
+  put-many = ap (λ (v : Tables). length v.tables) put-table ∙ length-set w.tables (n - 1) (written at t word)
 
   -- no root is written
   pub written-root : (put_at at n w word).root ≡ w.root
@@ -203,6 +207,14 @@ placed-grown w (Slot n i) new (t, there, lt) = put-grown w n i new t there lt
 placed-grown w (Next n) new (t, there) = written-grown w (Next n) n new t there
 placed-grown w (Aborted n) new (t, there) = written-grown w (Aborted n) n new t there
 placed-grown w (Done n) new (t, there) = written-grown w (Done n) n new t there
+
+-- and there are as many
+pub placed-many : (w : Tables) (at : At) (new : ℕ) → IsPlaced w.tables at → length (put w at new).tables ≡ length w.tables
+placed-many w Root new placed = refl
+placed-many w (Slot n i) new (t, there, lt) = put-many w (Slot n i) n new t there
+placed-many w (Next n) new (t, there) = put-many w (Next n) n new t there
+placed-many w (Aborted n) new (t, there) = put-many w (Aborted n) n new t there
+placed-many w (Done n) new (t, there) = put-many w (Done n) n new t there
 
 -- the word is written
 pub placed-here : (w : Tables) (at : At) (new : ℕ) → IsPlaced w.tables at → word_at (put w at new) at ≡ new

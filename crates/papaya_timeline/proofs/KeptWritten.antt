@@ -75,7 +75,7 @@ module _ {Q K V S A : Type 0} (g : Setting Q (Stored K V)) (c : Coding Q (Stored
     kinds_are = ap (kind_in r.machine.call) (call_asks r.machine (Ask_exchange at old new) a).0
 
     -- a slot that is exchanged is there
-    placed_call : (at ≡ Root) ⊎ ((t : ℕ) × (x : ℕ) × (at ≡ Slot t x)) → IsPlaced store.words.tables at
+    pub placed_call : (at ≡ Root) ⊎ ((t : ℕ) × (x : ℕ) × (at ≡ Slot t x)) → IsPlaced store.words.tables at
     placed_call (inl root) = subst (IsPlaced store.words.tables) (sym root) tt
     placed_call (inr (t, x, is)) =
         let m = r.machine.call in
@@ -83,7 +83,7 @@ module _ {Q K V S A : Type 0} (g : Setting Q (Stored K V)) (c : Coding Q (Stored
         subst (IsPlaced store.words.tables) (sym is) (slot_there t x named_slot.0 named_slot.1)
 
     -- the exchange of the law that was made
-    asked_call : word_of g c now at ≡ old → (e : Exchange (Stored K V)) × IsAsked c (kind_of_ask r.machine) at new now tale.hands.call e × Allows g now e × IsWritten g c now at new (state_after now e)
+    pub asked_call : word_of g c now at ≡ old → (e : Exchange (Stored K V)) × IsAsked c (kind_of_ask r.machine) at new now tale.hands.call e × Allows g now e × IsWritten g c now at new (state_after now e)
     asked_call = subst (λ kind. word_of g c now at ≡ old → (e : Exchange (Stored K V)) × IsAsked c kind at new now tale.hands.call e × Allows g now e × IsWritten g c now at new (state_after now e)) (sym kinds_are)
         (subst (λ s. word_of g c s at ≡ old → (e : Exchange (Stored K V)) × IsAsked c (call_machine.kind_of_ask r.machine.call) at new s tale.hands.call e × Allows g s e × IsWritten g c s at new (state_after s e)) same_now
         (machine_may g c hashed tale.begun tale.since may key r.machine.call tale.hands.call rests.call at old new calls))
@@ -128,11 +128,11 @@ module _ {Q K V S A : Type 0} (g : Setting Q (Stored K V)) (c : Coding Q (Stored
     placed_at (Done t) on = on_there t on
     placed_at (Slot t x) h = slot_there t x h.0 h.1
 
-    placed_copy : IsPlaced store.words.tables at
+    pub placed_copy : IsPlaced store.words.tables at
     placed_copy = placed_at at (copies_there g c hashed tale.begun tale.since may key r.machine tale.hands rests (Copy_exchange at old new) a)
 
     -- the exchange of the law that was made
-    asked_copy : word_of g c now at ≡ old → (e : Exchange (Stored K V)) × IsCopyAsked c (kind_of_ask r.machine) at new now tale.hands.kept e × Allows g now e × IsWritten g c now at new (state_after now e)
+    pub asked_copy : word_of g c now at ≡ old → (e : Exchange (Stored K V)) × IsCopyAsked c (kind_of_ask r.machine) at new now tale.hands.kept e × Allows g now e × IsWritten g c now at new (state_after now e)
     asked_copy = subst (λ s. word_of g c s at ≡ old → (e : Exchange (Stored K V)) × IsCopyAsked c (kind_of_ask r.machine) at new s tale.hands.kept e × Allows g s e × IsWritten g c s at new (state_after s e)) same_now
         (λ stands. copies_may g c hashed tale.begun tale.since may key r.machine tale.hands rests at old new a stands)
 

@@ -1,6 +1,7 @@
 pub mod Abandoned
 pub mod AdvanceLemmas
 pub mod CallersLemmas
+pub mod BudgetTables
 pub mod ChainLemmas
 pub mod CoreLemmas
 pub mod CountedContent

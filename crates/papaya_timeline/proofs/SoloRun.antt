@@ -316,6 +316,7 @@ module _ {K V S A : Type 0} (eq : K → K → Bool) (hash : S → K → ℕ) (s 
               made = f.kept.made;
               logged = f.kept.logged;
               few = f.kept.few;
+              tables_few = f.kept.tables_few;
               calls = λ caller r e. let n : None ≡ Some r = e in absurd cc;
               apart = λ c d r q e. let n : None ≡ Some r = e in absurd cc;
             },

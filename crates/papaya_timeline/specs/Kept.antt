@@ -1,7 +1,7 @@
 -- How the words and the logs of a core stand to the law of exchanges.
 use Rattle.std.specs.Prelude.{◌≡◌, ◌≢◌, ℕ, ◌+◌, ◌%◌, ◌^◌, ◌<◌, ◌≤◌, ◌==◌, Bool, true, false, if◌then◌else◌, Option, None, Some, List, [], ◌++◌, length}
 use Rattle.papaya_words.specs.Table.{TableWords}
-use Rattle.papaya_words.specs.declared.limits.TheConstants.{MAX_LOG_LEN}
+use Rattle.papaya_words.specs.declared.limits.TheConstants.{MAX_LOG_LEN, MAX_TABLES}
 use Rattle.papaya_words.specs.declared.probe.ResizeMode.{ResizeMode}
 use Rattle.papaya_words.specs.declared.probe.ResizeMode.TheVariants.{Incremental, Blocking}
 use Rattle.papaya_ask.specs.declared.ask.At.{At}
@@ -112,6 +112,8 @@ module _ {K V S A : Type 0} (eq : K → K → Bool) (hash : K → ℕ) (mode : R
         → IsLogged store p
     -- no log is longer than a log may be
     pub few : length store.pairs ≤ MAX_LOG_LEN
+    -- there are no more tables than there may be
+    pub tables_few : length store.words.tables ≤ MAX_TABLES
     pub calls : (caller : ℕ) (r : Running K V A) → running callers caller ≡ Some r
         → IsCall r es (tales caller)
     -- two calls make two pairs

@@ -4,6 +4,7 @@ pub mod Callers
 pub mod Content
 pub mod Core
 pub mod Counted
+pub mod Ends
 pub mod Given
 pub mod Headline
 pub mod Kept

@@ -1,0 +1,94 @@
+-- What a write of a word spends, and the making of a table; and how much may be spent at most.
+use Rattle.std.proofs.Common.{◌≡◌, ℕ, zero, suc, ◌+◌, ◌*◌, ◌-◌, ◌^◌, ◌==◌, ◌<◌, ◌≤◌, Bool, true, false, cond, List, [], ◌∷◌, ◌++◌, length, slice_get, slice_set, slice_index, sum_by, nat_lt, All, Some, None, refl, sym, ◌∙◌, ap, subst, arith, length-set, lt-ltb}
+use Rattle.std.proofs.lemmas.List.Sums.{sum_by-cons, sum_by-set, sum_by-le, sum_by_push}
+use Rattle.std.proofs.lemmas.Option.{slice_get_within, get_or_from_slice_get}
+use Rattle.papaya_words.specs.Table.{TableWords, new_table}
+use Rattle.papaya_words.specs.Word.{kind_of}
+use Rattle.papaya_words.specs.declared.word.Kind.{Kind}
+use Rattle.papaya_words.specs.declared.word.Kind.TheVariants.{Empty, Live, Marked, Copied, Buried, Closed}
+use Rattle.papaya_ask.specs.declared.ask.At.{At}
+use Rattle.papaya_ask.specs.declared.ask.At.TheVariants.{Root, Next, Aborted, Done, Slot}
+use Rattle.papaya_store.specs.Tables.{Tables, table_of, word_in, word_at, written, put, put_at, put_in}
+use Rattle.papaya_timeline.specs.Ends.{changes_of, changes_of_word, copies_of, ends_of, exchanges_in, exchanges_of, links_of}
+use Rattle.papaya_timeline.proofs.KeptTables.{IsPlaced, put-table, table_there}
+
+-- how often the word at a place may still change, in so many tables
+abbrev pub changes_at : (tables : ℕ) → At → ℕ → ℕ
+changes_at tables Root word = tables - word
+changes_at tables (Next t) word = links_of word
+changes_at tables (Aborted t) word = ends_of word
+changes_at tables (Done t) word = copies_of word
+changes_at tables (Slot t x) word = changes_of_word word
+
+-- what an item of a list adds to its sum, where another takes its place
+pub sum-set : {X : Type 0} (f : X → ℕ) (xs : List X) (i : ℕ) (x y : X) → slice_get xs i ≡ Some x → sum_by f (slice_set xs i y) + f x ≡ sum_by f xs + f y
+sum-set f xs i x y there =
+    let within = slice_get_within xs i x there in
+    let was = get_or_from_slice_get xs i x x there in
+    let same = sum_by-set f xs i y x within in
+    ap (λ z. sum_by f (slice_set xs i y) + f z) (sym was) ∙ same
+
+-- and what a word of a list of words adds
+pub sum-set_word : (f : ℕ → ℕ) (xs : List ℕ) (i y : ℕ) → i < length xs → sum_by f (slice_set xs i y) + f (slice_index xs i) ≡ sum_by f xs + f y
+sum-set_word f xs i y within = sum_by-set f xs i y 0 within
+
+module _ (w : Tables) (at : At) (n word : ℕ) (t : TableWords) (there : table_of w.tables n ≡ Some t) where
+  -- the tables after a write to one of them
+  put_is : put_at at n w word ≡ record w { tables = slice_set w.tables (n - 1) (written at t word) }
+  put_is = put-table w at n word t there
+
+  -- their words may change as often, but for those of this table
+  put-sum : exchanges_in (put_at at n w word) + exchanges_of t ≡ exchanges_in w + exchanges_of (written at t word)
+  put-sum =
+      let same = sum-set exchanges_of w.tables (n - 1) t (written at t word) (table_there w.tables n t there).1 in
+      let is = ap exchanges_in put_is in
+      let many : length (slice_set w.tables (n - 1) (written at t word)) ≡ length w.tables = length-set w.tables (n - 1) (written at t word) in
+      let root : exchanges_in (record w { tables = slice_set w.tables (n - 1) (written at t word) }) ≡ sum_by exchanges_of (slice_set w.tables (n - 1) (written at t word)) + (length w.tables - w.root) = ap (λ m. sum_by exchanges_of (slice_set w.tables (n - 1) (written at t word)) + (m - w.root)) many in
+      omega (arith, same, is, root)
+
+  -- where the table's own change is told
+  put-changes : (before later : ℕ) → exchanges_of (written at t word) + before ≡ exchanges_of t + later → exchanges_in (put_at at n w word) + before ≡ exchanges_in w + later
+  put-changes before later change = let all = put-sum in omega (arith, all, change)
+
+-- the words after a write may change as often, but for the word that was written
+pub placed-changes : (w : Tables) (at : At) (new : ℕ) → IsPlaced w.tables at → exchanges_in (put w at new) + changes_at (length w.tables) at (word_at w at) ≡ exchanges_in w + changes_at (length w.tables) at new
+placed-changes w Root new placed = omega arith
+placed-changes w (Next n) new (t, there) =
+    subst (λ y. exchanges_in (put w (Next n) new) + links_of y ≡ exchanges_in w + links_of new) (sym (ap (word_in (λ v. v.next)) there))
+    (put-changes w (Next n) n new t there (links_of t.next) (links_of new) (omega arith))
+placed-changes w (Aborted n) new (t, there) =
+    subst (λ y. exchanges_in (put w (Aborted n) new) + ends_of y ≡ exchanges_in w + ends_of new) (sym (ap (word_in (λ v. v.aborted)) there))
+    (put-changes w (Aborted n) n new t there (ends_of t.aborted) (ends_of new) (omega arith))
+placed-changes w (Done n) new (t, there) =
+    subst (λ y. exchanges_in (put w (Done n) new) + copies_of y ≡ exchanges_in w + copies_of new) (sym (ap (word_in (λ v. v.done)) there))
+    (put-changes w (Done n) n new t there (copies_of t.done) (copies_of new) (omega arith))
+placed-changes w (Slot n i) new (t, there, lt) =
+    subst (λ y. exchanges_in (put w (Slot n i) new) + changes_of_word y ≡ exchanges_in w + changes_of_word new) (sym (ap (word_in (λ v. slice_index v.slots i)) there))
+    (put-changes w (Slot n i) n new t there (changes_of_word (slice_index t.slots i)) (changes_of_word new)
+    (let slots = sum-set_word changes_of_word t.slots i new lt in
+    let is : exchanges_of (written (Slot n i) t new) ≡ exchanges_of (record t { slots = slice_set t.slots i new }) = ap (λ b. exchanges_of (cond b (record t { slots = slice_set t.slots i new }) t)) (lt-ltb i (length t.slots) lt) in
+    omega (arith, slots, is)))
+
+-- a slot changes thrice at most
+few_changes : (kind : Kind) → changes_of kind ≤ 3
+few_changes Empty = omega arith
+few_changes Live = omega arith
+few_changes Marked = omega arith
+few_changes Copied = omega arith
+few_changes Buried = omega arith
+few_changes Closed = omega arith
+
+few_links : (b : Bool) → cond b 1 0 ≤ 1
+few_links true = omega arith
+few_links false = omega arith
+
+-- each item of a list is within a bound
+all_within : {X : Type 0} (f : X → ℕ) (m : ℕ) (xs : List X) → ((x : X) → f x ≤ m) → All (λ x. f x ≤ m) xs
+all_within f m xs h = λ k d lt. h _
+
+-- the words of a table of so many slots change so often at most
+pub few_exchanges : (t : TableWords) → length t.slots ≤ 2 ^ 32 → exchanges_of t ≤ 2 ^ 35
+few_exchanges t most =
+    let slots = sum_by-le changes_of_word 3 t.slots (all_within changes_of_word 3 t.slots (λ word. few_changes (kind_of word))) in
+    let link = few_links (t.next == 0) in
+    omega (arith, slots, link)
