@@ -1,6 +1,8 @@
 pub mod Abandoned
 pub mod AdvanceLemmas
 pub mod CallersLemmas
+pub mod BudgetLaw
+pub mod BudgetSpends
 pub mod BudgetTables
 pub mod ChainLemmas
 pub mod CoreLemmas

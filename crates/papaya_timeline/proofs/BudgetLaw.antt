@@ -1,0 +1,100 @@
+-- An exchange of the law leaves fewer changes of its word, unless a pair takes the place of another.
+use Rattle.std.proofs.Common.{◌≡◌, ◌⊎◌, ⊎_elim, ℕ, zero, suc, ◌+◌, ◌-◌, ◌^◌, ◌==◌, ◌&&◌, ◌<◌, ◌≤◌, Bool, true, false, cond, Option, Some, None, refl, sym, ◌∙◌, ap, subst, arith, eq-eqb}
+use Rattle.papaya_words.specs.Word.{kind_of}
+use Rattle.papaya_ask.specs.declared.ask.At.{At}
+use Rattle.papaya_ask.specs.declared.ask.At.TheVariants.{Root, Next, Aborted, Done, Slot}
+use Rattle.papaya_ask.specs.declared.ask.StepKind.{StepKind}
+use Rattle.papaya_ask.specs.declared.ask.StepKind.TheVariants as kinds
+use Rattle.papaya_law.specs.Allows.{Allows}
+use Rattle.papaya_law.specs.Class.{IsOn}
+use Rattle.papaya_law.specs.Code.{Coding, code, kind}
+use Rattle.papaya_law.specs.Exchange.{Setting, Word, Empty, Closed, Live, Marked, Copied, Buried, State, Exchange, Open, Claim, Replace, Bury, Link, Mark, Close, Place, Finish, Advance, Promote, Abort, after, slot_put}
+use Rattle.papaya_law.specs.Invariant.{IsSound}
+use Rattle.papaya_law.proofs.Chain.{walk_between}
+use Rattle.papaya_law.proofs.Codes.{code_kind}
+use Rattle.papaya_rests.specs.Copier.{IsCopyAsked}
+use Rattle.papaya_rests.specs.Told.{Hands, IsAsked, word_of}
+use Rattle.papaya_timeline.specs.Ends.{changes_of, changes_of_word, copies_of, links_of}
+use Rattle.papaya_timeline.proofs.BudgetTables.{changes_at}
+
+-- the changes are fewer, or for a pair that takes the place of another as many
+abbrev pub IsFewer : Option StepKind → (later before : ℕ) → Type 0
+IsFewer (Some kinds.Replace) later before = later ≡ before
+IsFewer _ later before = later < before
+
+module _ {K P : Type 0} (g : Setting K P) (c : Coding K P) (s : State P) (tables : ℕ) where
+  -- the changes of a slot, before an exchange and after it
+  slot_before : (t x : ℕ) (w : Word P) → s.slot t x ≡ w → changes_of_word (word_of g c s (Slot t x)) ≡ changes_of (kind w)
+  slot_before t x w is = ap (λ v. changes_of_word (code g c v)) is ∙ ap changes_of (code_kind g c w)
+
+  slot_after : (t x new : ℕ) (w : Word P) → new ≡ word_of g c (slot_put s t x w) (Slot t x) → changes_of_word new ≡ changes_of (kind w)
+  slot_after t x new w is =
+      ap changes_of_word is
+      ∙ ap (λ b. changes_of_word (code g c (cond b w (s.slot t x)))) (ap (λ b. b && (x == x)) (eq-eqb t t refl) ∙ eq-eqb x x refl)
+      ∙ ap changes_of (code_kind g c w)
+
+  -- they are fewer where the word's kind has fewer
+  slot_fewer : (t x new : ℕ) (v w : Word P) → s.slot t x ≡ v → new ≡ word_of g c (slot_put s t x w) (Slot t x) → changes_of (kind w) < changes_of (kind v) → changes_of_word new < changes_of_word (word_of g c s (Slot t x))
+  slot_fewer t x new v w was is less = let before = slot_before t x v was in let later = slot_after t x new w is in omega (arith, before, later, less)
+
+  -- what a call asks for; a table that it opens was made
+  pub call_fewer : (kind : Option StepKind) (at : At) (new : ℕ) (hands : Hands P) (e : Exchange P) → IsAsked c kind at new s hands e → Allows g s e → new ≡ word_of g c (after s e) at → (at ≡ Root → new ≤ tables) → IsFewer kind (changes_at tables at new) (changes_at tables at (word_of g c s at))
+  call_fewer (Some kinds.Open) Root new hands e is may written made =
+      let opens = subst (Allows g s) is may in
+      let none = opens.0 in
+      let some = opens.1 in
+      let low = made refl in
+      omega (arith, none, some, low)
+  call_fewer (Some kinds.Claim) (Slot t x) new hands e (q, own, is) may written made =
+      slot_fewer t x new Empty (Live q) (subst (Allows g s) is may).empty (subst (λ y. new ≡ word_of g c (after s y) (Slot t x)) is written) (omega arith)
+  call_fewer (Some kinds.Replace) (Slot t x) new hands e (p, q, live, own, is) may written made =
+      slot_after t x new (Live q) (subst (λ y. new ≡ word_of g c (after s y) (Slot t x)) is written) ∙ sym (slot_before t x (Live p) live)
+  call_fewer (Some kinds.Bury) (Slot t x) new hands e (p, live, is) may written made =
+      slot_fewer t x new (Live p) (Buried p) live (subst (λ y. new ≡ word_of g c (after s y) (Slot t x)) is written) (omega arith)
+  call_fewer _ _ new hands e is may written made = absurd is
+
+  module _ (sound : IsSound g s) (sizes : (t : ℕ) → g.size t ≤ 2 ^ 32) (low : (t : ℕ) → IsOn s.first s.next t → t ≤ tables) where
+    -- a table to which the root goes is a later one
+    promoted : (n : ℕ) → Allows g s (Promote s.root n) → (s.root < n) × (n ≤ tables)
+    promoted n may =
+        let made = may.made in
+        let on : IsOn s.first s.next s.root = ⊎_elim (λ (none : (s.root ≡ 0) × (s.first ≡ 0)). absurd (let z = none.0 in omega (arith, z, made))) (λ h. h) sound.root in
+        let next = walk_between s.next sound.rises (λ l. s.aborted l ≡ true) s.first s.root may.target.links n on may.target.is may.target.made may.target.over in
+        (next.1, low n next.0)
+
+    -- what a copier asks for
+    pub copy_fewer : (kind : Option StepKind) (at : At) (new : ℕ) (kept : Option P) (e : Exchange P) → IsCopyAsked c kind at new s kept e → Allows g s e → new ≡ word_of g c (after s e) at → changes_at tables at new < changes_at tables at (word_of g c s at)
+    copy_fewer (Some kinds.Link) (Next t) new kept e is may written =
+        let links = subst (Allows g s) is may in
+        let none : links_of (s.next t) ≡ 1 = ap links_of links.0 in
+        let more = links.2 in
+        let some : links_of new ≡ 0 = ap (λ b. cond b 1 0) (above new (omega (arith, more))) in
+        omega (arith, none, some)
+      where
+        above : (n : ℕ) → 0 < n → (n == 0) ≡ false
+        above zero some = absurd (omega (arith, some))
+        above (suc n) some = refl
+    copy_fewer (Some kinds.Mark) (Slot t x) new kept e (p, live, is) may written =
+        slot_fewer t x new (Live p) (Marked p) live (subst (λ y. new ≡ word_of g c (after s y) (Slot t x)) is written) (omega arith)
+    copy_fewer (Some kinds.Close) (Slot t x) new kept e is may written =
+        slot_fewer t x new Empty Closed (subst (Allows g s) is may).empty (subst (λ y. new ≡ word_of g c (after s y) (Slot t x)) is written) (omega arith)
+    copy_fewer (Some kinds.Place) (Slot t x) new kept e (p, own, number, is) may written =
+        slot_fewer t x new Empty (Live p) (subst (Allows g s) is may).empty (subst (λ y. new ≡ word_of g c (after s y) (Slot t x)) is written) (omega arith)
+    copy_fewer (Some kinds.Finish) (Slot t x) new kept e (p, marked, is) may written =
+        slot_fewer t x new (Marked p) (Copied p) marked (subst (λ y. new ≡ word_of g c (after s y) (Slot t x)) is written) (omega arith)
+    copy_fewer (Some kinds.Advance) (Done n) new kept e is may written =
+        let goes = subst (Allows g s) is may in
+        let more = goes.more in
+        let within = goes.within in
+        let most = sizes goes.from in
+        omega (arith, more, within, most)
+    copy_fewer (Some kinds.Promote) Root new kept e is may written =
+        let later = promoted new (subst (Allows g s) is may) in
+        let more = later.0 in
+        let most = later.1 in
+        omega (arith, more, most)
+    copy_fewer (Some kinds.Abort) (Aborted n) new kept e is may written =
+        let before : cond (s.aborted n) 1 0 ≡ 0 = ap (λ b. cond b 1 0) (subst (Allows g s) is may).before in
+        let one : new ≡ 1 = subst (λ y. new ≡ word_of g c (after s y) (Aborted n)) is written ∙ ap (λ b. cond (cond b true (s.aborted n)) 1 0) (eq-eqb n n refl) in
+        omega (arith, before, one)
+    copy_fewer _ _ new kept e is may written = absurd is
