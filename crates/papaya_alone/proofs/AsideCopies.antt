@@ -32,9 +32,10 @@ use Rattle.papaya_chain.specs.declared.machine.Machine.{Machine}
 use Rattle.papaya_chain.specs.Machine.{after_copied, copying_after}
 use Rattle.papaya_chain_rests.specs.Rests.{left_by}
 use Rattle.papaya_rests.specs.Alone.{IsBare, IsPut, IsSame}
+use Rattle.papaya_rests.specs.Copier.{aim_of}
 use Rattle.papaya_rests.proofs.AloneCurrent.{machine_stays}
 use Rattle.papaya_rests.proofs.AloneSteps.{exchange_done}
-use Rattle.papaya_alone.specs.Ahead.{IsCurrent}
+use Rattle.papaya_alone.specs.Ahead.{IsAsideAhead, IsCurrent}
 use Rattle.papaya_alone.specs.Budget.{Budget, IsSpent, SpendsCopy}
 use Rattle.papaya_alone.specs.Current.{IsAimRead, IsCopiedRead, IsCopyingRead, IsIncremental, IsSettleRead, IsStepRead}
 use Rattle.papaya_alone.specs.Measure.{further, left_of_copied, left_of_settle, left_of_step}
@@ -200,3 +201,28 @@ module _ (words words' : At → ℕ) (bare : IsBare words) (bare' : IsBare words
           (cond_both (words words_at.Root == 0) (copied.Root 0) (all_of met Blocking (words words_at.Root)) (λ y. Lowers words words' before later m (rank_at_root (words words_at.Root) (aims.All met)) (after_copied m y))
           (λ none. let z : words words_at.Root ≡ 0 = eqb-true (words words_at.Root) 0 none in absurd (omega (arith, z, some)))
           (λ _. met_lowers blocks met (words words_at.Root) (told.1 words_at.Root) told.1 refl kept (met == 0 || met == words words_at.Root))))
+
+  -- what is known of the words where a copy stands
+  abbrev pub IsKnown : Copying → Type 0
+  IsKnown (copyings.Stepping aim steps.AtRoot) = 0 < words words_at.Root
+  IsKnown (copyings.Stepping aim (steps.Promoting from to)) = (n : ℕ) → AimsAt aim n → to ≤ n
+  IsKnown (copyings.Stepping aim step) = HasNext mode words step
+  IsKnown (copyings.Lone slot settle) = Unit {0}
+
+  -- in each state
+  pub copying_lowers : (copying : Copying) (answer : Answer) → IsFor (aim_of copying) → IsAsideAhead mode words m.call.state copying → IsCopyingRead mode words copying → IsKnown copying → IsCopyPrompt words (copying_ask copying) answer words' → SpendsCopy (copying_ask copying) answer before later
+      → Lowers words words' before later m (rank_of_copying (words words_at.Root) copying) (after_copied m (copying_after copying mode m.call.initial answer))
+  copying_lowers (copyings.Stepping aim steps.AtRoot) answer which left read known told spends = at_root_lowers aim answer which known left told spends
+  copying_lowers (copyings.Stepping aim (steps.Aiming from behind)) answer which left read known told spends = midway_lowers aim (steps.Aiming from behind) answer tt tt known left read told spends
+  copying_lowers (copyings.Stepping aim (steps.Linking from link)) answer which left read known told spends = midway_lowers aim (steps.Linking from link) answer tt tt known left read told spends
+  copying_lowers (copyings.Stepping aim (steps.Judging from to)) answer which left read known told spends = midway_lowers aim (steps.Judging from to) answer tt tt known left read told spends
+  copying_lowers (copyings.Stepping aim (steps.Sizing from to)) answer which left read known told spends = midway_lowers aim (steps.Sizing from to) answer tt tt known left read told spends
+  copying_lowers (copyings.Stepping aim (steps.Counting from to len)) answer which left read known told spends = midway_lowers aim (steps.Counting from to len) answer tt tt known left read told spends
+  copying_lowers (copyings.Stepping aim (steps.Settling chunk settle)) answer which left read known told spends = midway_lowers aim (steps.Settling chunk settle) answer tt tt known left read told spends
+  copying_lowers (copyings.Stepping aim (steps.Advancing chunk)) answer which left read known told spends = advancing_lowers aim chunk answer which left read told spends
+  copying_lowers (copyings.Stepping aim (steps.Promoting from to)) answer which left read known told spends = promoting_lowers aim from to answer which known read told spends
+  copying_lowers (copyings.Lone slot settle) answer (inl which) left read known told spends = lone_lowers which.0 slot settle answer left read told spends
+  copying_lowers (copyings.Lone slot settle) answer (inr which) left read known told spends = absurd (not_all which.1.0 which.1.1)
+    where
+      not_all : (met : ℕ) → aims.Settle slot ≡ aims.All met → ⊥
+      not_all met e = cc e

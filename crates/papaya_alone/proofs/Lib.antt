@@ -14,3 +14,4 @@ pub mod Onwards
 pub mod CallLaw
 pub mod AsideRanks
 pub mod AsideCopies
+pub mod MachineLaw

@@ -1,0 +1,154 @@
+-- A call over a chain of tables, with no other caller beside it, comes nearer its end with each answer.
+use Rattle.std.proofs.Common.{◌≡◌, ◌⊎◌, inl, inr, ⊎_elim, ℕ, suc, ◌+◌, ◌*◌, ◌^◌, ◌<◌, ◌≤◌, Bool, true, false, Option, Some, List, ◌++◌, append_assoc, refl, sym, ap, ◌∙◌, subst, arith}
+use Rattle.std.proofs.lemmas.Bool.{cases_lt, cases_order}
+use Rattle.papaya_words.specs.declared.probe.ResizeMode.{ResizeMode}
+use Rattle.papaya_words.specs.declared.probe.ResizeMode.TheVariants.{Incremental, Blocking}
+use Rattle.papaya_ask.specs.declared.ask.At.{At}
+use Rattle.papaya_ask.specs.declared.ask.At.TheVariants as words_at
+use Rattle.papaya_ask.specs.declared.ask.Answer.{Answer as Call_answer}
+use Rattle.papaya_call.specs.declared.machine.Machine.{Machine as Call_machine}
+use Rattle.papaya_call.specs.Machine as call_machine
+use Rattle.papaya_copy.specs.declared.copying.Aim.{Aim}
+use Rattle.papaya_copy.specs.declared.copying.Aim.TheVariants as aims
+use Rattle.papaya_copy.specs.declared.copying.Copying.{Copying}
+use Rattle.papaya_copy.specs.declared.copying.Copying.TheVariants as copyings
+use Rattle.papaya_copy.specs.declared.link.Link.{Link}
+use Rattle.papaya_copy.specs.declared.link.Linked.TheVariants as linked
+use Rattle.papaya_copy.specs.declared.step.Step.{Step}
+use Rattle.papaya_copy.specs.declared.step.Step.TheVariants as steps
+use Rattle.papaya_copy.specs.Link.{follows, link_ask, link_kind}
+use Rattle.papaya_copy.specs.Copying.{copying_ask, copying_follows, copying_kind}
+use Rattle.papaya_chain.specs.declared.ask.Answer.{Answer}
+use Rattle.papaya_chain.specs.declared.ask.Answer.TheVariants as answers
+use Rattle.papaya_chain.specs.declared.machine.Machine.{Machine}
+use Rattle.papaya_chain.specs.declared.machine.Phase.{Phase}
+use Rattle.papaya_chain.specs.declared.machine.Phase.TheVariants.{Calling, Linking, Copying as Copying_root}
+use Rattle.papaya_chain.specs.Machine.{after, aim_for, ask_of, follows_of, kind_of_ask, link_after}
+use Rattle.papaya_law.specs.Allows.{AllAllowed}
+use Rattle.papaya_law.specs.Class.{IsOn}
+use Rattle.papaya_law.specs.Code.{Coding, IsHashed}
+use Rattle.papaya_law.specs.Copying.{IsTarget}
+use Rattle.papaya_law.specs.Exchange.{Setting, State, Exchange, run, start, walk}
+use Rattle.papaya_law.specs.Invariant.{IsKeeping, IsSound}
+use Rattle.papaya_law.specs.Meaning.{map_left}
+use Rattle.papaya_law.proofs.Chain.{has_next, none_between, pos_before}
+use Rattle.papaya_law.proofs.Moments.{run-append}
+use Rattle.papaya_law.proofs.OneMap.{keeping, keeping_sound}
+use Rattle.papaya_rests.specs.Copier.{IsAimed, IsSource, RestsCopying, RestsLinked, RestsStep, aim_of}
+use Rattle.papaya_rests.specs.Rests as calls
+use Rattle.papaya_rests.specs.Rests.{IsModeOf}
+use Rattle.papaya_rests.specs.Told.{word_of}
+use Rattle.papaya_rests.proofs.CopierCopies.{copying_there, link_there}
+use Rattle.papaya_rests.proofs.CopierExchange.{copying_may, link_may}
+use Rattle.papaya_rests.proofs.RestsNames.{come_on}
+use Rattle.papaya_chain_rests.specs.Rests.{IsCopyingAll, IsHelping, IsLinking, Rests, RestsPhase, left_by}
+use Rattle.papaya_chain_rests.specs.Told.{Hands, IsCallTold, IsCopyTold, IsTold}
+use Rattle.papaya_chain_rests.proofs.Aside.{left_come}
+use Rattle.papaya_chain_rests.proofs.Making.{link_learns}
+use Rattle.papaya_alone.specs.Ahead.{IsAsideAhead, IsCurrent, IsPhaseRead}
+use Rattle.papaya_alone.specs.Budget.{Budget, IsSpent, Spends, SpendsCopy}
+use Rattle.papaya_alone.specs.Current.{IsCopyingRead, IsIncremental, IsStepRead}
+use Rattle.papaya_alone.specs.Prompt.{IsBounded, IsCopyPrompt, IsServedAsk}
+use Rattle.papaya_alone.specs.Rank.{rank_of, rank_of_phase}
+use Rattle.papaya_alone.proofs.AsideCopies.{IsFor, IsKnown, copying_lowers}
+use Rattle.papaya_alone.proofs.AsideRanks.{HasNext, Lowers, linking_lowers}
+use Rattle.papaya_alone.proofs.CallLaw.{call_lowers}
+use Rattle.papaya_alone.proofs.CallPrompts.{asked_number, call_prompt}
+use Rattle.papaya_alone.proofs.CopyPrompts.{told_prompt, words_bare}
+use Rattle.papaya_alone.proofs.Onwards.{AimsAt, aims_at}
+
+module _ {K P : Type 0} (g : Setting K P) (s : State P) (sound : IsSound g s) where
+  -- where a table is on the chain there is a root
+  pub root_on : (t : ℕ) → IsOn s.first s.next t → IsOn s.first s.next s.root
+  root_on t (some, (k, is)) =
+      ⊎_elim
+      (λ (none : (s.root ≡ 0) × (s.first ≡ 0)). let first : 0 < s.first = pos_before s.next sound.rises 0 k s.first (omega arith) (subst (λ n. 0 < n) (sym is) some) in let z = none.1 in absurd (omega (arith, first, z)))
+      (λ (on : IsOn s.first s.next s.root). on)
+      sound.root
+
+  -- the root's next table is no later than that of a table behind it
+  pub root_next : (t : ℕ) → IsOn s.first s.next t → s.root ≤ t → 0 < s.next t → (0 < s.next s.root) × (s.next s.root ≤ s.next t)
+  root_next t on least some =
+      ⊎_elim
+      (λ (same : s.root ≡ t). (subst (λ y. 0 < s.next y) (sym same) some, let e : s.next s.root ≡ s.next t = ap s.next same in omega (arith, e)))
+      (⊎_elim
+      (λ (less : s.root < t).
+      let up : (s.next t ≡ 0) ⊎ ((0 < t) × (t < s.next t)) = sound.rises t in
+      let more : t < s.next t = ⊎_elim (λ (none : s.next t ≡ 0). absurd (omega (arith, none, some))) (λ (h : (0 < t) × (t < s.next t)). h.1) up in
+      (has_next s.next sound.rises s.first s.root t (root_on t on) on less,
+      ⊎_elim
+      (λ (h : s.next s.root ≤ t). omega (arith, h, more))
+      (λ (h : t < s.next s.root). absurd (none_between s.next sound.rises s.first s.root t (root_on t on) on less h))
+      (at_most (s.next s.root) t)))
+      (λ (more : t < s.root). absurd (omega (arith, more, least))))
+      (cases_order s.root t)
+    where
+      at_most : (a b : ℕ) → (a ≤ b) ⊎ (b < a)
+      at_most a b = ⊎_elim (λ (h : b < a). inr h) (λ (h : a ≤ b). inl h) (cases_lt b a)
+
+-- a mode without blocking, and with it
+pub incremental : (how : ResizeMode) (blocking : Bool) → IsModeOf how blocking → blocking ≡ false → IsIncremental how
+incremental (Incremental chunk) blocking is e = tt
+incremental Blocking blocking is e = absurd (cc (is, e))
+
+pub blocks : (how : ResizeMode) (blocking : Bool) → IsModeOf how blocking → blocking ≡ true → how ≡ Blocking
+blocks (Incremental chunk) blocking is e = absurd (cc (is, e))
+blocks Blocking blocking is e = refl
+
+module _ {K P : Type 0} (g : Setting K P) (c : Coding K P) (hashed : IsHashed g c) (begun since : List (Exchange P)) (may : AllAllowed g start (begun ++ since)) (k : K) (bounded : IsBounded g (run (begun ++ since) start)) (hands : Hands P) (helped : Bool) (call : Call_machine) (r : calls.Rests g c begun since k call hands.call) (answer : Answer) (es : List (Exchange P)) (hands' : Hands P) (before later : Budget) where
+  -- the state, and the words before the answer and after it
+  abbrev now : State P
+  now = run (begun ++ since) start
+
+  abbrev words : At → ℕ
+  words = word_of g c now
+
+  abbrev words' : At → ℕ
+  words' = word_of g c (run es now)
+
+  keeps : IsKeeping g now (map_left g (begun ++ since))
+  keeps = keeping g hashed.lawful (begun ++ since) may
+
+  sound : IsSound g now
+  sound = keeping_sound g now (map_left g (begun ++ since)) keeps
+
+  -- the machine in a phase
+  abbrev at_phase : Phase → Machine
+  at_phase phase = record { call = call; helped = helped; phase = phase }
+
+  -- the budget is spent, or less is left; and what was read stands there still
+  abbrev pub Falls : Phase → Type 0
+  Falls phase = Lowers words words' before later (at_phase phase) (rank_of_phase now.root call phase) (after (at_phase phase) answer)
+
+  -- a table that a call was set aside in is on the chain
+  left_on : (t : ℕ) → left_by call.state ≡ Some t → IsOn now.first now.next t
+  left_on t e = come_on g c hashed begun since may k t (left_come g c hashed begun since may k hands.call call.task call.state r.stage t e)
+
+  -- it asks for itself
+  calling_falls : IsPhaseRead call.mode words call.state Calling → IsTold g c k now (kind_of_ask (at_phase Calling)) (follows_of (at_phase Calling)) hands (ask_of (at_phase Calling)) answer es hands' → IsServedAsk call.task (ask_of (at_phase Calling)) answer → Spends (kind_of_ask (at_phase Calling)) (ask_of (at_phase Calling)) answer before later → Falls Calling
+  calling_falls read told served spends =
+      let is : answer ≡ answers.Call told.told = told.is in
+      subst (λ a. IsServedAsk call.task (ask_of (at_phase Calling)) a → Spends (kind_of_ask (at_phase Calling)) (ask_of (at_phase Calling)) a before later → Lowers words words' before later (at_phase Calling) (rank_of_phase now.root call Calling) (after (at_phase Calling) a)) (sym is)
+      (λ serves spent. call_lowers words words' (words_bare g c now) before later helped call read.0 read.1 (asked_number g c hashed begun since may k bounded call hands.call r) told.told
+      (call_prompt g c hashed begun since may k bounded call hands.call r told.told es told.call serves told.tells) spent)
+      served spends
+
+  -- its next table is made
+  linking_falls : (link : Link) → IsLinking g c begun since k (at_phase (Linking link)) link → IsPhaseRead call.mode words call.state (Linking link) → IsCopyTold g c now (link_kind link) (follows link) hands (link_ask link) answer es hands' → SpendsCopy (link_ask link) answer before later → Falls (Linking link)
+  linking_falls link at read told spends =
+      let prompt : IsCopyPrompt words (link_ask link) answer words' =
+          told_prompt g c hashed now (map_left g (begun ++ since)) keeps bounded hands (link_kind link) (follows link) (link_ask link)
+          (link_there g c hashed now (map_left g (begun ++ since)) keeps hands.call.last hands.kept link at.rests)
+          (link_may g c hashed now (map_left g (begun ++ since)) keeps hands.call.last hands.kept link at.rests) answer es hands' told
+      in
+      let out = link_learns g c hashed begun since may k call.initial hands link at.rests answer es hands' told in
+      let later_sound : IsSound g (run (begun ++ (since ++ es)) start) = keeping_sound g (run (begun ++ (since ++ es)) start) (map_left g (begun ++ (since ++ es))) (keeping g hashed.lawful (begun ++ (since ++ es)) out.0) in
+      linking_lowers words words' before later (at_phase (Linking link)) read.0 link read.1 read.2 at.left answer prompt spends
+      (λ table e.
+      let led : ((run (begun ++ (since ++ es)) start).next (follows link) ≡ table) × (0 < table) = subst (RestsLinked g c (run (begun ++ (since ++ es)) start) hands'.call.last hands'.kept (follows link)) e out.1 in
+      let next = led.0 in
+      let some = led.1 in
+      ⊎_elim
+      (λ (none : (run (begun ++ (since ++ es)) start).next (follows link) ≡ 0). absurd (omega (arith, none, next, some)))
+      (λ (h : (0 < follows link) × (follows link < (run (begun ++ (since ++ es)) start).next (follows link))). let up = h.1 in omega (arith, up, next))
+      (later_sound.rises (follows link)))
