@@ -49,11 +49,23 @@ use Rattle.papaya_alone.proofs.SettleEnds.{settle_puts}
 use Rattle.papaya_alone.proofs.Telling.{copy_spends, stays_at}
 
 -- it copies for one table
-aims_one : (aim : Aim) (n n' : ℕ) → AimsAt aim n → AimsAt aim n' → n ≡ n'
+pub aims_one : (aim : Aim) (n n' : ℕ) → AimsAt aim n → AimsAt aim n' → n ≡ n'
 aims_one (aims.Search t) n n' a b = sym a ∙ b
 aims_one (aims.Settle slot) n n' a b = sym a ∙ b
 aims_one aims.Chunk n n' a b = absurd a
 aims_one (aims.All met) n n' a b = absurd a
+
+-- what is known of a call that copies a chunk: for which table it does, or that it copies all
+abbrev pub IsFor : Machine → Aim → Type 0
+IsFor m aim = (IsIncremental m.call.mode × ((n : ℕ) × AimsAt aim n × ((t : ℕ) × (left_by m.call.state ≡ Some t) × (t < n))))
+    ⊎ ((m.call.mode ≡ Blocking) × ((met : ℕ) × (aim ≡ aims.All met)))
+
+-- what is known of the words where a copy stands
+abbrev pub IsKnown : ResizeMode → (At → ℕ) → Copying → Type 0
+IsKnown how words (copyings.Stepping aim steps.AtRoot) = 0 < words words_at.Root
+IsKnown how words (copyings.Stepping aim (steps.Promoting from to)) = (n : ℕ) → AimsAt aim n → to ≤ n
+IsKnown how words (copyings.Stepping aim step) = HasNext how words step
+IsKnown how words (copyings.Lone slot settle) = Unit {0}
 
 module _ (words words' : At → ℕ) (bare : IsBare words) (bare' : IsBare words') (before later : Budget) (m : Machine) where
   -- how the map grows
@@ -122,18 +134,13 @@ module _ (words words' : At → ℕ) (bare : IsBare words) (bare' : IsBare words
   over_current inc aims.Chunk n is least = absurd is
   over_current inc (aims.All met) n is least = absurd is
 
-  -- what is known of a call that copies a chunk: for which table it does, or that it copies all
-  abbrev pub IsFor : Aim → Type 0
-  IsFor aim = (IsIncremental mode × ((n : ℕ) × AimsAt aim n × ((t : ℕ) × (left_by m.call.state ≡ Some t) × (t < n))))
-      ⊎ ((mode ≡ Blocking) × ((met : ℕ) × (aim ≡ aims.All met)))
-
   -- either way what was read stands there when a chunk is over
-  overs_current : (aim : Aim) → IsFor aim → ((n : ℕ) → AimsAt aim n → words' words_at.Root ≤ n) → IsCurrent words' (after_copied m (over aim))
+  overs_current : (aim : Aim) → IsFor m aim → ((n : ℕ) → AimsAt aim n → words' words_at.Root ≤ n) → IsCurrent words' (after_copied m (over aim))
   overs_current aim (inl (inc, (n, is, t))) least = over_current inc aim n is (least n is)
   overs_current aim (inr (blocks, (met, is))) least = subst (λ a. IsCurrent words' (after_copied m (over a))) (sym is) ((tt, tt), λ t how e. absurd (subst IsIncremental blocks how))
 
   -- the chunk was copied, and is counted
-  advancing_lowers : (aim : Aim) (chunk : Chunk) (answer : Answer) → IsFor aim → IsBehind words → IsCopyingRead mode words (copyings.Stepping aim (steps.Advancing chunk)) → IsCopyPrompt words (step_ask (steps.Advancing chunk)) answer words' → SpendsCopy (step_ask (steps.Advancing chunk)) answer before later
+  advancing_lowers : (aim : Aim) (chunk : Chunk) (answer : Answer) → IsFor m aim → IsBehind words → IsCopyingRead mode words (copyings.Stepping aim (steps.Advancing chunk)) → IsCopyPrompt words (step_ask (steps.Advancing chunk)) answer words' → SpendsCopy (step_ask (steps.Advancing chunk)) answer before later
       → Lowers words words' before later m (rank 1 0 1) (after_copied m (copying_after (copyings.Stepping aim (steps.Advancing chunk)) mode m.call.initial answer))
   advancing_lowers aim chunk answer which left read told spends =
       let here : At = words_at.Done chunk.to in
@@ -145,12 +152,12 @@ module _ (words words' : At → ℕ) (bare : IsBare words) (bare' : IsBare words
       (λ all. ((same_aim mode m.call.initial words words' bare' aim read.0, same ∙ read.1.0), λ t how e. let l = left t how e in omega (arith, l, same)))
       (λ some. overs_current aim which (λ n is. least n is same which))))
     where
-      least : (n : ℕ) → AimsAt aim n → words' words_at.Root ≡ words words_at.Root → IsFor aim → words' words_at.Root ≤ n
+      least : (n : ℕ) → AimsAt aim n → words' words_at.Root ≡ words words_at.Root → IsFor m aim → words' words_at.Root ≤ n
       least n is same (inl (inc, (n', is', (t, e, up)))) = let l = left t inc e in let q : n ≡ n' = aims_one aim n n' is is' in omega (arith, l, same, up, q)
       least n is same (inr (blocks, (met, e))) = absurd (subst (λ a. AimsAt a n) e is)
 
   -- all was copied, and the other table becomes the root
-  promoting_lowers : (aim : Aim) (from to : ℕ) (answer : Answer) → IsFor aim → ((n : ℕ) → AimsAt aim n → to ≤ n) → IsCopyingRead mode words (copyings.Stepping aim (steps.Promoting from to)) → IsCopyPrompt words (step_ask (steps.Promoting from to)) answer words' → SpendsCopy (step_ask (steps.Promoting from to)) answer before later
+  promoting_lowers : (aim : Aim) (from to : ℕ) (answer : Answer) → IsFor m aim → ((n : ℕ) → AimsAt aim n → to ≤ n) → IsCopyingRead mode words (copyings.Stepping aim (steps.Promoting from to)) → IsCopyPrompt words (step_ask (steps.Promoting from to)) answer words' → SpendsCopy (step_ask (steps.Promoting from to)) answer before later
       → Lowers words words' before later m (rank 1 0 1) (after_copied m (copying_after (copyings.Stepping aim (steps.Promoting from to)) mode m.call.initial answer))
   promoting_lowers aim from to answer which least read told spends =
       let done : (answer ≡ answers.Call Exchanged) × IsPut words words_at.Root to words' = exchange_done _ _ (words words_at.Root) from read.1 told in
@@ -177,7 +184,7 @@ module _ (words words' : At → ℕ) (bare : IsBare words) (bare' : IsBare words
       (inr (kept, anew_rank words' m),
       anew_current words' m (machine_stays words words' (record m.call { state = At_root }) bare (Word_read (words' words_at.Root)) tt (ap Word_read (same words_at.Root), same)).read)
 
-  at_root_lowers : (aim : Aim) (answer : Answer) → IsFor aim → 0 < words words_at.Root → IsBehind words → IsCopyPrompt words (Load words_at.Root) answer words' → SpendsCopy (Load words_at.Root) answer before later
+  at_root_lowers : (aim : Aim) (answer : Answer) → IsFor m aim → 0 < words words_at.Root → IsBehind words → IsCopyPrompt words (Load words_at.Root) answer words' → SpendsCopy (Load words_at.Root) answer before later
       → Lowers words words' before later m (rank_at_root (words words_at.Root) aim) (after_copied m (copying_after (copyings.Stepping aim steps.AtRoot) mode m.call.initial answer))
   at_root_lowers aim answer which some left told spends =
       subst (λ a. SpendsCopy (Load words_at.Root) a before later → Lowers words words' before later m (rank_at_root (words words_at.Root) aim) (after_copied m (copying_after (copyings.Stepping aim steps.AtRoot) mode m.call.initial a))) (sym told.0.0)
@@ -202,15 +209,8 @@ module _ (words words' : At → ℕ) (bare : IsBare words) (bare' : IsBare words
           (λ none. let z : words words_at.Root ≡ 0 = eqb-true (words words_at.Root) 0 none in absurd (omega (arith, z, some)))
           (λ _. met_lowers blocks met (words words_at.Root) (told.1 words_at.Root) told.1 refl kept (met == 0 || met == words words_at.Root))))
 
-  -- what is known of the words where a copy stands
-  abbrev pub IsKnown : Copying → Type 0
-  IsKnown (copyings.Stepping aim steps.AtRoot) = 0 < words words_at.Root
-  IsKnown (copyings.Stepping aim (steps.Promoting from to)) = (n : ℕ) → AimsAt aim n → to ≤ n
-  IsKnown (copyings.Stepping aim step) = HasNext mode words step
-  IsKnown (copyings.Lone slot settle) = Unit {0}
-
   -- in each state
-  pub copying_lowers : (copying : Copying) (answer : Answer) → IsFor (aim_of copying) → IsAsideAhead mode words m.call.state copying → IsCopyingRead mode words copying → IsKnown copying → IsCopyPrompt words (copying_ask copying) answer words' → SpendsCopy (copying_ask copying) answer before later
+  pub copying_lowers : (copying : Copying) (answer : Answer) → IsFor m (aim_of copying) → IsAsideAhead mode words m.call.state copying → IsCopyingRead mode words copying → IsKnown mode words copying → IsCopyPrompt words (copying_ask copying) answer words' → SpendsCopy (copying_ask copying) answer before later
       → Lowers words words' before later m (rank_of_copying (words words_at.Root) copying) (after_copied m (copying_after copying mode m.call.initial answer))
   copying_lowers (copyings.Stepping aim steps.AtRoot) answer which left read known told spends = at_root_lowers aim answer which known left told spends
   copying_lowers (copyings.Stepping aim (steps.Aiming from behind)) answer which left read known told spends = midway_lowers aim (steps.Aiming from behind) answer tt tt known left read told spends

@@ -50,7 +50,7 @@ use Rattle.papaya_alone.specs.Budget.{Budget, IsSpent, Spends, SpendsCopy}
 use Rattle.papaya_alone.specs.Current.{IsCopyingRead, IsIncremental, IsStepRead}
 use Rattle.papaya_alone.specs.Prompt.{IsBounded, IsCopyPrompt, IsServedAsk}
 use Rattle.papaya_alone.specs.Rank.{rank_of, rank_of_phase}
-use Rattle.papaya_alone.proofs.AsideCopies.{IsFor, IsKnown, copying_lowers}
+use Rattle.papaya_alone.proofs.AsideCopies.{IsFor, IsKnown, aims_one, copying_lowers}
 use Rattle.papaya_alone.proofs.AsideRanks.{HasNext, Lowers, linking_lowers}
 use Rattle.papaya_alone.proofs.CallLaw.{call_lowers}
 use Rattle.papaya_alone.proofs.CallPrompts.{asked_number, call_prompt}
@@ -152,3 +152,78 @@ module _ {K P : Type 0} (g : Setting K P) (c : Coding K P) (hashed : IsHashed g 
       (λ (none : (run (begun ++ (since ++ es)) start).next (follows link) ≡ 0). absurd (omega (arith, none, next, some)))
       (λ (h : (0 < follows link) × (follows link < (run (begun ++ (since ++ es)) start).next (follows link))). let up = h.1 in omega (arith, up, next))
       (later_sound.rises (follows link)))
+
+  -- the root is copied
+  module _ (copying : Copying) (rests : RestsCopying g c now hands.call.last hands.kept copying) (told : IsCopyTold g c now (copying_kind copying) (copying_follows copying) hands (copying_ask copying) answer es hands') where
+    copy_prompt : IsCopyPrompt words (copying_ask copying) answer words'
+    copy_prompt =
+        told_prompt g c hashed now (map_left g (begun ++ since)) keeps bounded hands (copying_kind copying) (copying_follows copying) (copying_ask copying)
+        (copying_there g c hashed now (map_left g (begun ++ since)) keeps hands.call.last hands.kept copying rests)
+        (copying_may g c hashed now (map_left g (begun ++ since)) keeps hands.call.last hands.kept copying rests) answer es hands' told
+
+    -- what is known of the words then
+    copying_falls : IsFor (at_phase (Copying_root copying)) (aim_of copying) → IsPhaseRead call.mode words call.state (Copying_root copying) → IsKnown call.mode words copying → SpendsCopy (copying_ask copying) answer before later → Falls (Copying_root copying)
+    copying_falls which read known spends = copying_lowers words words' (words_bare g c now) (words_bare g c (run es now)) before later (at_phase (Copying_root copying)) copying answer which read.1 read.0 known copy_prompt spends
+
+  -- a table that copies go to without blocking is the next one
+  target_next : g.blocking ≡ false → (from to : ℕ) → IsTarget g now from to → now.next from ≡ to
+  target_next inc from to target =
+      ⊎_elim
+      (λ (one : target.links ≡ 0). subst (λ n. walk now.next (suc n) from ≡ to) one target.is)
+      (λ (b : g.blocking ≡ true). absurd (cc (b, inc)))
+      target.mode
+
+  -- without blocking the root has a next table, no later than the one where the call goes on
+  known_helping : (how : ResizeMode) → IsIncremental how → g.blocking ≡ false → (copying : Copying) → RestsCopying g c now hands.call.last hands.kept copying → IsCopyingRead how words copying → IsAsideAhead how words call.state copying → (t : ℕ) → left_by call.state ≡ Some t → 0 < now.next t → AimsAt (aim_of copying) (now.next t)
+      → IsKnown how words copying
+  known_helping (Incremental chunk) how inc (copyings.Stepping aim steps.AtRoot) rests read ahead t left some is = (root_on g now sound t (left_on t left)).0
+  known_helping (Incremental chunk) how inc (copyings.Stepping aim (steps.Aiming from behind)) rests read ahead t left some is =
+      let same : behind ≡ from = ⊎_elim (λ (e : behind ≡ from). e) (λ h. absurd (cc (h.0, inc))) rests.1.given_up in
+      let root : now.root ≡ behind = read.1 ∙ sym same in
+      subst (λ y. 0 < now.next y) root (root_next g now sound t (left_on t left) (ahead t tt left) some).0
+  known_helping (Incremental chunk) how inc (copyings.Stepping aim (steps.Linking from link)) rests read ahead t left some is = tt
+  known_helping (Incremental chunk) how inc (copyings.Stepping aim (steps.Judging from to)) rests read ahead t left some is = tt
+  known_helping (Incremental chunk) how inc (copyings.Stepping aim (steps.Sizing from to)) rests read ahead t left some is = tt
+  known_helping (Incremental chunk) how inc (copyings.Stepping aim (steps.Counting from to len)) rests read ahead t left some is = tt
+  known_helping (Incremental chunk) how inc (copyings.Stepping aim (steps.Settling slots settle)) rests read ahead t left some is = tt
+  known_helping (Incremental chunk) how inc (copyings.Stepping aim (steps.Advancing slots)) rests read ahead t left some is = tt
+  known_helping (Incremental chunk) how inc (copyings.Stepping aim (steps.Promoting from to)) rests read ahead t left some is = λ n aims.
+      let one : n ≡ now.next t = aims_one aim n (now.next t) aims is in
+      let to_is : now.next from ≡ to = target_next inc from to rests.1.0.target in
+      let root : now.next now.root ≡ now.next from = ap now.next read.1 in
+      let l = (root_next g now sound t (left_on t left) (ahead t tt left) some).1 in
+      omega (arith, one, to_is, root, l)
+  known_helping (Incremental chunk) how inc (copyings.Lone slot settle) rests read ahead t left some is = tt
+  known_helping Blocking how inc copying rests read ahead t left some is = absurd how
+
+  -- with blocking there is a root
+  known_all : (how : ResizeMode) → how ≡ Blocking → (copying : Copying) (met : ℕ) → aim_of copying ≡ aims.All met → (t : ℕ) → left_by call.state ≡ Some t → IsKnown how words copying
+  known_all (Incremental chunk) e copying met is t left = absurd (cc e)
+  known_all Blocking e (copyings.Stepping aim steps.AtRoot) met is t left = (root_on g now sound t (left_on t left)).0
+  known_all Blocking e (copyings.Stepping aim (steps.Aiming from behind)) met is t left = tt
+  known_all Blocking e (copyings.Stepping aim (steps.Linking from link)) met is t left = tt
+  known_all Blocking e (copyings.Stepping aim (steps.Judging from to)) met is t left = tt
+  known_all Blocking e (copyings.Stepping aim (steps.Sizing from to)) met is t left = tt
+  known_all Blocking e (copyings.Stepping aim (steps.Counting from to len)) met is t left = tt
+  known_all Blocking e (copyings.Stepping aim (steps.Settling slots settle)) met is t left = tt
+  known_all Blocking e (copyings.Stepping aim (steps.Advancing slots)) met is t left = tt
+  known_all Blocking e (copyings.Stepping aim (steps.Promoting from to)) met is t left = λ n aims. absurd (subst (λ a. AimsAt a n) is aims)
+  known_all Blocking e (copyings.Lone slot settle) met is t left = tt
+
+  -- the root is copied for a call
+  helping_falls : (copying : Copying) → RestsPhase g c begun since k (at_phase (Copying_root copying)) hands (Copying_root copying) → IsPhaseRead call.mode words call.state (Copying_root copying) → IsCopyTold g c now (copying_kind copying) (copying_follows copying) hands (copying_ask copying) answer es hands' → SpendsCopy (copying_ask copying) answer before later → Falls (Copying_root copying)
+  helping_falls copying (inl at) read told spends =
+      let inc : IsIncremental call.mode = incremental call.mode g.blocking r.mode at.mode in
+      let is : AimsAt (aim_of copying) (now.next at.table) = subst (λ a. AimsAt a (now.next at.table)) (sym at.aim) (aims_at call.state (now.next at.table)) in
+      let some = at.next in
+      let up : at.table < now.next at.table = ⊎_elim (λ (none : now.next at.table ≡ 0). absurd (omega (arith, none, some))) (λ (h : (0 < at.table) × (at.table < now.next at.table)). h.1) (sound.rises at.table) in
+      copying_falls copying at.rests told (inl (inc, (now.next at.table, is, (at.table, at.left, up)))) read (known_helping call.mode inc at.mode copying at.rests read.0 read.1 at.table at.left at.next is) spends
+  helping_falls copying (inr at) read told spends =
+      let e : call.mode ≡ Blocking = blocks call.mode g.blocking r.mode at.mode in
+      copying_falls copying at.rests told (inr (e, (at.met, at.aim))) read (known_all call.mode e copying at.met at.aim at.table at.left) spends
+
+  -- in each phase
+  pub phase_falls : (phase : Phase) → RestsPhase g c begun since k (at_phase phase) hands phase → IsPhaseRead call.mode words call.state phase → IsTold g c k now (kind_of_ask (at_phase phase)) (follows_of (at_phase phase)) hands (ask_of (at_phase phase)) answer es hands' → IsServedAsk call.task (ask_of (at_phase phase)) answer → Spends (kind_of_ask (at_phase phase)) (ask_of (at_phase phase)) answer before later → Falls phase
+  phase_falls Calling at read told served spends = calling_falls read told served spends
+  phase_falls (Linking link) at read told served spends = linking_falls link at read told spends
+  phase_falls (Copying_root copying) at read told served spends = helping_falls copying at read told spends
