@@ -79,12 +79,14 @@ module _ (words words' : At → ℕ) (bare : IsBare words) (bare' : IsBare words
   -- where a chunk goes on, and by how much less is left
   led_lowers : (aim : Aim) (step : Step) → IsBehind words' → (end : Stepped) → GoesOn end → IsSpent before later ⊎ ((later ≡ before) × (left_of_copied (leads aim mode end) < left_of_step step)) → IsCopiedRead mode words' (leads aim mode end)
       → Lowers words words' before later m (rank 1 0 (left_of_step step)) (after_copied m (leads aim mode end))
-  led_lowers aim step left (stepped.On step') goes nears read =
-      (⊎_elim (λ (h : IsSpent before later). inl h)
-      (λ (h : (later ≡ before) × (left_of_step step' < left_of_step step)).
-      let l = h.1 in
-      inr (h.0, subst (λ r. r < rank 1 0 (left_of_step step)) (sym (begun_rank (words' words_at.Root) aim step' goes)) (omega (arith, l))))
-      nears, (read, left))
+  led_lowers aim step left (stepped.On step') goes nears read = (
+    ⊎_elim (λ (h : IsSpent before later). inl h)
+        (λ (h : (later ≡ before) × (left_of_step step' < left_of_step step)).
+        let l = h.1 in
+        inr (h.0, subst (λ r. r < rank 1 0 (left_of_step step)) (sym (begun_rank (words' words_at.Root) aim step' goes)) (omega (arith, l))))
+        nears,
+    (read, left),
+  )
   led_lowers aim step left (stepped.Refused refused) goes nears read =
       (⊎_elim (λ (h : IsSpent before later). inl h) (λ (h : (later ≡ before) × (0 < left_of_step step)). inr (h.0, omega arith)) nears, (tt, tt))
   led_lowers aim step left (stepped.Root root) goes nears read = absurd goes
@@ -145,12 +147,13 @@ module _ (words words' : At → ℕ) (bare : IsBare words) (bare' : IsBare words
   advancing_lowers aim chunk answer which left read told spends =
       let here : At = words_at.Done chunk.to in
       let done : (answer ≡ answers.Call Exchanged) × IsPut words here chunk.end words' = exchange_done _ _ (words here) chunk.begun read.1.1 told in
-      let same : words' words_at.Root ≡ words words_at.Root = done.1.others words_at.Root (λ e. cc) in
-      (inl (inr (subst (λ a. SpendsCopy (Ask_exchange here chunk.begun chunk.end) a before later) done.0 spends)),
-      subst (λ a. IsCurrent words' (after_copied m (copying_after (copyings.Stepping aim (steps.Advancing chunk)) mode m.call.initial a))) (sym done.0)
-      (cond_both (nat_le chunk.len chunk.end) (stepped.On (steps.Promoting chunk.from chunk.to)) stepped.Over (λ y. IsCurrent words' (after_copied m (leads aim mode y)))
-      (λ all. ((same_aim mode m.call.initial words words' bare' aim read.0, same ∙ read.1.0), λ t how e. let l = left t how e in omega (arith, l, same)))
-      (λ some. overs_current aim which (λ n is. least n is same which))))
+      let same : words' words_at.Root ≡ words words_at.Root = done.1.others words_at.Root (λ e. cc) in (
+        inl (inr (subst (λ a. SpendsCopy (Ask_exchange here chunk.begun chunk.end) a before later) done.0 spends)),
+        subst (λ a. IsCurrent words' (after_copied m (copying_after (copyings.Stepping aim (steps.Advancing chunk)) mode m.call.initial a))) (sym done.0)
+            (cond_both (nat_le chunk.len chunk.end) (stepped.On (steps.Promoting chunk.from chunk.to)) stepped.Over (λ y. IsCurrent words' (after_copied m (leads aim mode y)))
+            (λ all. ((same_aim mode m.call.initial words words' bare' aim read.0, same ∙ read.1.0), λ t how e. let l = left t how e in omega (arith, l, same)))
+            (λ some. overs_current aim which (λ n is. least n is same which))),
+      )
     where
       least : (n : ℕ) → AimsAt aim n → words' words_at.Root ≡ words words_at.Root → IsFor m aim → words' words_at.Root ≤ n
       least n is same (inl (inc, (n', is', (t, e, up)))) = let l = left t inc e in let q : n ≡ n' = aims_one aim n n' is is' in omega (arith, l, same, up, q)
@@ -161,10 +164,11 @@ module _ (words words' : At → ℕ) (bare : IsBare words) (bare' : IsBare words
       → Lowers words words' before later m (rank 1 0 1) (after_copied m (copying_after (copyings.Stepping aim (steps.Promoting from to)) mode m.call.initial answer))
   promoting_lowers aim from to answer which least read told spends =
       let done : (answer ≡ answers.Call Exchanged) × IsPut words words_at.Root to words' = exchange_done _ _ (words words_at.Root) from read.1 told in
-      let root : words' words_at.Root ≡ to = done.1.here in
-      (inl (inr (subst (λ a. SpendsCopy (Ask_exchange words_at.Root from to) a before later) done.0 spends)),
-      subst (λ a. IsCurrent words' (after_copied m (copying_after (copyings.Stepping aim (steps.Promoting from to)) mode m.call.initial a))) (sym done.0)
-      (overs_current aim which (λ n is. let l = least n is in omega (arith, l, root))))
+      let root : words' words_at.Root ≡ to = done.1.here in (
+        inl (inr (subst (λ a. SpendsCopy (Ask_exchange words_at.Root from to) a before later) done.0 spends)),
+        subst (λ a. IsCurrent words' (after_copied m (copying_after (copyings.Stepping aim (steps.Promoting from to)) mode m.call.initial a))) (sym done.0)
+            (overs_current aim which (λ n is. let l = least n is in omega (arith, l, root))),
+      )
 
   -- a chunk begins at the root, for one table
   one_lowers : IsIncremental mode → (aim : Aim) (root : ℕ) → 0 < root → words' words_at.Root ≡ root → IsBehind words' → later ≡ before → (end : Copied) → end ≡ cond (root == 0) (over aim) (copied.On (copyings.Stepping aim (steps.Aiming root root)))
@@ -180,9 +184,10 @@ module _ (words words' : At → ℕ) (bare : IsBare words) (bare' : IsBare words
       → Lowers words words' before later m (cond b (rank 1 0 (2 * 2 ^ 102)) (rank 3 0 0)) (after_copied m (cond b (copied.On (copyings.Stepping (aims.All root) (steps.Aiming root root))) (copied.Root root)))
   met_lowers blocks met root is same was kept true = (inr (kept, omega arith), ((tt, is), λ t how e. absurd (subst IsIncremental blocks how)))
   met_lowers blocks met root is same was kept false =
-      subst (λ r. Lowers words words' before later m (rank 3 0 0) (after_copied m (copied.Root r))) is
-      (inr (kept, anew_rank words' m),
-      anew_current words' m (machine_stays words words' (record m.call { state = At_root }) bare (Word_read (words' words_at.Root)) tt (ap Word_read (same words_at.Root), same)).read)
+      subst (λ r. Lowers words words' before later m (rank 3 0 0) (after_copied m (copied.Root r))) is (
+        inr (kept, anew_rank words' m),
+        anew_current words' m (machine_stays words words' (record m.call { state = At_root }) bare (Word_read (words' words_at.Root)) tt (ap Word_read (same words_at.Root), same)).read,
+      )
 
   at_root_lowers : (aim : Aim) (answer : Answer) → IsFor m aim → 0 < words words_at.Root → IsBehind words → IsCopyPrompt words (Load words_at.Root) answer words' → SpendsCopy (Load words_at.Root) answer before later
       → Lowers words words' before later m (rank_at_root (words words_at.Root) aim) (after_copied m (copying_after (copyings.Stepping aim steps.AtRoot) mode m.call.initial answer))
@@ -196,11 +201,13 @@ module _ (words words' : At → ℕ) (bare : IsBare words) (bare' : IsBare words
     where
       later_left : IsBehind words'
       later_left t how e = let l = left t how e in let s = told.1 words_at.Root in omega (arith, l, s)
+
       by_aim : (aim : Aim) → IsIncremental mode → (n : ℕ) → AimsAt aim n → later ≡ before → Lowers words words' before later m (rank_at_root (words words_at.Root) aim) (after_copied m (copying_after (copyings.Stepping aim steps.AtRoot) mode m.call.initial (answers.Call (Word_read (words words_at.Root)))))
       by_aim (aims.Search t) inc n is kept = one_lowers inc (aims.Search t) (words words_at.Root) some (told.1 words_at.Root) later_left kept _ refl
       by_aim (aims.Settle slot) inc n is kept = one_lowers inc (aims.Settle slot) (words words_at.Root) some (told.1 words_at.Root) later_left kept _ refl
       by_aim aims.Chunk inc n is kept = absurd is
       by_aim (aims.All met) inc n is kept = absurd is
+
       by_all : (aim : Aim) (met : ℕ) → aim ≡ aims.All met → mode ≡ Blocking → later ≡ before → Lowers words words' before later m (rank_at_root (words words_at.Root) aim) (after_copied m (copying_after (copyings.Stepping aim steps.AtRoot) mode m.call.initial (answers.Call (Word_read (words words_at.Root)))))
       by_all aim met is blocks kept =
           subst (λ a. Lowers words words' before later m (rank_at_root (words words_at.Root) a) (after_copied m (copying_after (copyings.Stepping a steps.AtRoot) mode m.call.initial (answers.Call (Word_read (words words_at.Root)))))) (sym is)

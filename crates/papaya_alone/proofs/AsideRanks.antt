@@ -50,7 +50,7 @@ use Rattle.papaya_alone.proofs.Onwards.{AimsAt, onward_current}
 use Rattle.papaya_alone.proofs.Telling.{IsPutAt, Nears, copy_spends, stays_at}
 
 -- little is left to the making of a table
-link_most : (link : Link) → left_of_link link ≤ 4
+pub link_most : (link : Link) → left_of_link link ≤ 4
 link_most (links.Sizing behind unfit) = omega arith
 link_most (links.Counting behind unfit len) = omega arith
 link_most (links.Making behind len limit) = omega arith

@@ -66,16 +66,17 @@ module _ (words words' : At → ℕ) (bare : IsBare words) (before later : Budge
     steps_on : Lowered stage (stepped (in_stage stage) told)
     steps_on =
         let m : Call_machine = record call { state = stage } in
-        let ends : Ends words words' m call.made stage told = call_ends words words' m told read ahead number prompt in
-        (⊎_elim
-        (λ (spent : IsSpent before later). inl spent)
-        (λ (kept : later ≡ before).
-        ⊎_elim
-        (λ (opening : IsOpening stage). inl (opens stage told opening read prompt spends))
-        (λ (less : rank_in (call_machine.after m told).made (call_machine.after m told).state < rank_in call.made stage). inr (kept, less))
-        ends.0)
-        (call_spent before later (kind_asked call.made stage) (asks call.made call.hash stage) told spends),
-        ((machine_stays words words' m bare told read prompt).read, subst (λ how. IsAheadIn how words' (call_machine.after m told).state) (sym (settings_stay m told).0) ends.1))
+        let ends : Ends words words' m call.made stage told = call_ends words words' m told read ahead number prompt in (
+          ⊎_elim
+              (λ (spent : IsSpent before later). inl spent)
+              (λ (kept : later ≡ before).
+              ⊎_elim
+              (λ (opening : IsOpening stage). inl (opens stage told opening read prompt spends))
+              (λ (less : rank_in (call_machine.after m told).made (call_machine.after m told).state < rank_in call.made stage). inr (kept, less))
+              ends.0)
+              (call_spent before later (kind_asked call.made stage) (asks call.made call.hash stage) told spends),
+          ((machine_stays words words' m bare told read prompt).read, subst (λ how. IsAheadIn how words' (call_machine.after m told).state) (sym (settings_stay m told).0) ends.1),
+        )
 
     -- what the next table's number is
     next_number : (t word : ℕ) → word ≡ words (words_at.Next t) → (words (words_at.Next t) ≡ 0) ⊎ ((t < words (words_at.Next t)) × (words (words_at.Next t) < 2 ^ 32)) → (word ≡ 0) ⊎ ((t < word) × (word < 2 ^ 32))

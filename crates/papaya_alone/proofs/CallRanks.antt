@@ -103,7 +103,7 @@ compared_sees : (at : Place) (word : ℕ) (same : Bool) → SeesIn (rank 2 (furt
 compared_sees at word true = let f = match_sees (kind_of word) at word in let l = f.0 in (omega (arith, l), f.1)
 compared_sees at word false = go_on_sees at
 
-unmade_most : (m : Made) → unmade m ≤ 2
+pub unmade_most : (m : Made) → unmade m ≤ 2
 unmade_most Nothing = omega arith
 unmade_most Key = omega arith
 unmade_most (Pair n) = omega arith
@@ -286,6 +286,7 @@ module _ (words words' : At → ℕ) (m : Machine) where
       key_less : (purpose : Purpose) → rank_to_serve Key purpose < rank_to_serve Nothing purpose
       key_less (purposes.Fill gap) = omega arith
       key_less (purposes.Replace write) = omega arith
+
       some_less : (made : Made) (purpose : Purpose) → 0 < rank_to_serve made purpose
       some_less made (purposes.Fill gap) = omega arith
       some_less made (purposes.Replace write) = omega arith

@@ -15,3 +15,5 @@ pub mod CallLaw
 pub mod AsideRanks
 pub mod AsideCopies
 pub mod MachineLaw
+pub mod Measures
+pub mod ChainLaw

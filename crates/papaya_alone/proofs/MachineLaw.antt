@@ -74,12 +74,13 @@ module _ {K P : Type 0} (g : Setting K P) (s : State P) (sound : IsSound g s) wh
       (⊎_elim
       (λ (less : s.root < t).
       let up : (s.next t ≡ 0) ⊎ ((0 < t) × (t < s.next t)) = sound.rises t in
-      let more : t < s.next t = ⊎_elim (λ (none : s.next t ≡ 0). absurd (omega (arith, none, some))) (λ (h : (0 < t) × (t < s.next t)). h.1) up in
-      (has_next s.next sound.rises s.first s.root t (root_on t on) on less,
-      ⊎_elim
-      (λ (h : s.next s.root ≤ t). omega (arith, h, more))
-      (λ (h : t < s.next s.root). absurd (none_between s.next sound.rises s.first s.root t (root_on t on) on less h))
-      (at_most (s.next s.root) t)))
+      let more : t < s.next t = ⊎_elim (λ (none : s.next t ≡ 0). absurd (omega (arith, none, some))) (λ (h : (0 < t) × (t < s.next t)). h.1) up in (
+        has_next s.next sound.rises s.first s.root t (root_on t on) on less,
+        ⊎_elim
+            (λ (h : s.next s.root ≤ t). omega (arith, h, more))
+            (λ (h : t < s.next s.root). absurd (none_between s.next sound.rises s.first s.root t (root_on t on) on less h))
+            (at_most (s.next s.root) t),
+      ))
       (λ (more : t < s.root). absurd (omega (arith, more, least))))
       (cases_order s.root t)
     where
@@ -137,9 +138,9 @@ module _ {K P : Type 0} (g : Setting K P) (c : Coding K P) (hashed : IsHashed g 
   linking_falls : (link : Link) → IsLinking g c begun since k (at_phase (Linking link)) link → IsPhaseRead call.mode words call.state (Linking link) → IsCopyTold g c now (link_kind link) (follows link) hands (link_ask link) answer es hands' → SpendsCopy (link_ask link) answer before later → Falls (Linking link)
   linking_falls link at read told spends =
       let prompt : IsCopyPrompt words (link_ask link) answer words' =
-          told_prompt g c hashed now (map_left g (begun ++ since)) keeps bounded hands (link_kind link) (follows link) (link_ask link)
-          (link_there g c hashed now (map_left g (begun ++ since)) keeps hands.call.last hands.kept link at.rests)
-          (link_may g c hashed now (map_left g (begun ++ since)) keeps hands.call.last hands.kept link at.rests) answer es hands' told
+      told_prompt g c hashed now (map_left g (begun ++ since)) keeps bounded hands (link_kind link) (follows link) (link_ask link)
+      (link_there g c hashed now (map_left g (begun ++ since)) keeps hands.call.last hands.kept link at.rests)
+      (link_may g c hashed now (map_left g (begun ++ since)) keeps hands.call.last hands.kept link at.rests) answer es hands' told
       in
       let out = link_learns g c hashed begun since may k call.initial hands link at.rests answer es hands' told in
       let later_sound : IsSound g (run (begun ++ (since ++ es)) start) = keeping_sound g (run (begun ++ (since ++ es)) start) (map_left g (begun ++ (since ++ es))) (keeping g hashed.lawful (begun ++ (since ++ es)) out.0) in
