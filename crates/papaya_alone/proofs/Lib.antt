@@ -17,3 +17,4 @@ pub mod AsideCopies
 pub mod MachineLaw
 pub mod Measures
 pub mod ChainLaw
+pub mod CopierLaw
