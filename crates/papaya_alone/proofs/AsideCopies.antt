@@ -1,8 +1,8 @@
 -- What each answer leaves to a call that copies, with no other caller beside it.
-use Rattle.std.proofs.Common.{◌≡◌, ◌⊎◌, inl, inr, ⊎_elim, ℕ, ◌+◌, ◌*◌, ◌-◌, ◌^◌, ◌<◌, ◌≤◌, ◌==◌, ◌||◌, nat_le, Bool, true, false, cond, Some, refl, sym, ap, ◌∙◌, subst, arith, eqb-true}
+use Rattle.std.proofs.Common.{◌≡◌, ◌⊎◌, inl, inr, ⊎_elim, ℕ, ◌+◌, ◌*◌, ◌^◌, ◌<◌, ◌≤◌, ◌==◌, ◌||◌, nat_le, Bool, true, false, cond, Some, refl, sym, ap, ◌∙◌, subst, arith, eqb-true}
 use Rattle.std.proofs.lemmas.Bool.{cond_both}
 use Rattle.papaya_words.specs.declared.probe.ResizeMode.{ResizeMode}
-use Rattle.papaya_words.specs.declared.probe.ResizeMode.TheVariants.{Incremental, Blocking}
+use Rattle.papaya_words.specs.declared.probe.ResizeMode.TheVariants.{Blocking}
 use Rattle.papaya_ask.specs.declared.ask.At.{At}
 use Rattle.papaya_ask.specs.declared.ask.At.TheVariants as words_at
 use Rattle.papaya_ask.specs.declared.ask.Answer.TheVariants.{Exchanged, Word as Word_read}
@@ -37,10 +37,10 @@ use Rattle.papaya_rests.proofs.AloneCurrent.{machine_stays}
 use Rattle.papaya_rests.proofs.AloneSteps.{exchange_done}
 use Rattle.papaya_alone.specs.Ahead.{IsAsideAhead, IsCurrent}
 use Rattle.papaya_alone.specs.Budget.{Budget, IsSpent, SpendsCopy}
-use Rattle.papaya_alone.specs.Current.{IsAimRead, IsCopiedRead, IsCopyingRead, IsIncremental, IsSettleRead, IsStepRead}
+use Rattle.papaya_alone.specs.Current.{IsCopiedRead, IsCopyingRead, IsIncremental, IsSettleRead}
 use Rattle.papaya_alone.specs.Measure.{further, left_of_copied, left_of_settle, left_of_step}
 use Rattle.papaya_alone.specs.Prompt.{IsCopyPrompt}
-use Rattle.papaya_alone.specs.Rank.{rank, rank_at_root, rank_of, rank_of_copying, rank_of_step}
+use Rattle.papaya_alone.specs.Rank.{rank, rank_at_root, rank_of_copying, rank_of_step}
 use Rattle.papaya_alone.proofs.Afters.{copying_settles, copying_steps, settle_after, step_after}
 use Rattle.papaya_alone.proofs.AsideRanks.{GoesOn, HasNext, IsBegun, IsMidway, Lowers, begun_rank, step_goes, step_puts}
 use Rattle.papaya_alone.proofs.CopyEnds.{any_alive, copying_ends, same_aim}

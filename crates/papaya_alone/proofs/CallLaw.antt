@@ -1,7 +1,6 @@
 -- A call that asks for itself, with no other caller beside it, comes nearer its end.
-use Rattle.std.proofs.Common.{◌≡◌, ◌⊎◌, inl, inr, ⊎_elim, ℕ, ◌+◌, ◌*◌, ◌-◌, ◌^◌, ◌<◌, ◌≤◌, ◌==◌, Bool, true, false, Option, Some, None, List, ◌++◌, cond, refl, sym, ap, ◌∙◌, subst, arith}
+use Rattle.std.proofs.Common.{◌≡◌, ◌⊎◌, inl, inr, ⊎_elim, ℕ, ◌+◌, ◌^◌, ◌<◌, ◌≤◌, ◌==◌, Bool, Option, Some, cond, refl, sym, ◌∙◌, subst, arith}
 use Rattle.std.proofs.lemmas.Bool.{cond_both}
-use Rattle.papaya_words.specs.declared.probe.ResizeMode.{ResizeMode}
 use Rattle.papaya_ask.specs.declared.ask.At.{At}
 use Rattle.papaya_ask.specs.declared.ask.At.TheVariants as words_at
 use Rattle.papaya_ask.specs.declared.ask.Ask.{Ask}
@@ -14,7 +13,7 @@ use Rattle.papaya_ask.specs.declared.call.Task.{Task}
 use Rattle.papaya_ask.specs.declared.call.Task.TheVariants.{Get, Insert, RemoveIf, Compute}
 use Rattle.papaya_call.specs.declared.machine.Machine.{Machine as Call_machine}
 use Rattle.papaya_call.specs.declared.machine.State.{State as Stage}
-use Rattle.papaya_call.specs.declared.machine.State.TheVariants.{AtRoot, Making, Opening, Searching, Writing, Offering, Showing, Pairing, Putting, Burying, Counting, Uncounting, Leaving, Growing, Ended}
+use Rattle.papaya_call.specs.declared.machine.State.TheVariants.{Opening, Leaving, Growing}
 use Rattle.papaya_call.specs.Machine as call_machine
 use Rattle.papaya_call.specs.Machine.{asks, kind_asked, needed}
 use Rattle.papaya_chain.specs.declared.machine.Machine.{Machine}
@@ -25,7 +24,7 @@ use Rattle.papaya_chain_rests.specs.Rests.{left_by}
 use Rattle.papaya_rests.specs.Alone.{IsBare, IsPrompt, IsPut, IsRead}
 use Rattle.papaya_rests.proofs.AloneCurrent.{machine_stays}
 use Rattle.papaya_rests.proofs.AloneSteps.{exchange_done}
-use Rattle.papaya_alone.specs.Ahead.{IsAhead, IsAheadIn, IsCurrent}
+use Rattle.papaya_alone.specs.Ahead.{IsAheadIn, IsCurrent}
 use Rattle.papaya_alone.specs.Budget.{Budget, IsSpent, SpendsCall, SpendsExchange}
 use Rattle.papaya_alone.specs.Current.{IsIncremental}
 use Rattle.papaya_alone.specs.Measure.{further}

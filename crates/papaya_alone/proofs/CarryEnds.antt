@@ -1,7 +1,7 @@
 -- What each answer leaves to the carry of a pair.
-use Rattle.std.proofs.Common.{◌≡◌, ◌⊎◌, inl, inr, ℕ, ◌+◌, ◌*◌, ◌-◌, ◌%◌, ◌^◌, ◌<◌, ◌≤◌, ◌==◌, nat_lt, ltb-true, ltb-false, Bool, true, false, refl, sym, ap, ◌∙◌, subst, arith, eqb-true}
+use Rattle.std.proofs.Common.{◌≡◌, ◌⊎◌, inl, inr, ℕ, ◌+◌, ◌*◌, ◌-◌, ◌^◌, ◌<◌, ◌≤◌, ◌==◌, nat_lt, ltb-true, Bool, true, false, refl, sym, ap, ◌∙◌, subst, arith, eqb-true}
 use Rattle.std.proofs.lemmas.Bool.{cond_both}
-use Rattle.papaya_words.specs.Word.{kind_of, byte_of, top_byte, live_word, pair_of}
+use Rattle.papaya_words.specs.Word.{kind_of, byte_of, top_byte}
 use Rattle.papaya_words.specs.declared.word.Kind.{Kind}
 use Rattle.papaya_words.specs.declared.word.Kind.TheVariants as word_kinds
 use Rattle.papaya_words.specs.declared.probe.ResizeMode.{ResizeMode}
@@ -15,7 +15,6 @@ use Rattle.papaya_copy.specs.declared.carry.Carried.{Carried}
 use Rattle.papaya_copy.specs.declared.carry.Carried.TheVariants as carried
 use Rattle.papaya_copy.specs.declared.carry.Carry.{Carry}
 use Rattle.papaya_copy.specs.declared.carry.Carry.TheVariants as carries
-use Rattle.papaya_copy.specs.declared.link.Link.{Link}
 use Rattle.papaya_copy.specs.declared.link.Link.TheVariants as links
 use Rattle.papaya_copy.specs.declared.link.Linked.{Linked}
 use Rattle.papaya_copy.specs.declared.link.Linked.TheVariants as linked
@@ -29,7 +28,7 @@ use Rattle.papaya_rests.specs.Alone.{IsBare, IsPut, IsSame}
 use Rattle.papaya_rests.proofs.AloneSteps.{exchange_done}
 use Rattle.papaya_alone.specs.Prompt.{IsCopyPrompt, IsNumber}
 use Rattle.papaya_alone.specs.Measure.{further, left_of_carried, left_of_carry, left_of_link, left_of_linked}
-use Rattle.papaya_alone.specs.Current.{IsAlive, IsAtTarget, IsCarriedRead, IsCarrying, IsCarryRead, IsIncremental, IsLinkedRead, IsLinkRead, word_in}
+use Rattle.papaya_alone.specs.Current.{IsAlive, IsAtTarget, IsCarriedRead, IsCarrying, IsCarryRead, IsIncremental, IsLinkedRead, word_in}
 use Rattle.papaya_alone.proofs.Afters.{carry_after, carry_links}
 use Rattle.papaya_alone.proofs.LinkEnds.{IsNoNext, link_ends, link_puts}
 use Rattle.papaya_alone.proofs.Telling.{IsPutAt, Nears, nearer, stays_at}

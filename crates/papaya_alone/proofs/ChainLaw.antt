@@ -1,6 +1,5 @@
 -- A call over a chain of tables, with no other caller beside it, comes to an end.
-use Rattle.std.proofs.Common.{◌≡◌, ◌⊎◌, inr, ℕ, ◌+◌, ◌*◌, ◌^◌, ◌<◌, Option, Some, List, ◌++◌, append_assoc, refl, sym, ap, ◌∙◌, subst, arith}
-use Rattle.papaya_ask.specs.declared.ask.At.{At}
+use Rattle.std.proofs.Common.{◌≡◌, ◌⊎◌, ◌^◌, ◌<◌, Option, Some, List, ◌++◌, append_assoc, refl, sym, ap, ◌∙◌, subst, arith}
 use Rattle.papaya_ask.specs.declared.ask.Ask.{Ask as Call_ask}
 use Rattle.papaya_ask.specs.declared.ask.Ask.TheVariants as call_asks
 use Rattle.papaya_ask.specs.declared.ask.Answer.{Answer as Call_answer}
@@ -17,7 +16,7 @@ use Rattle.papaya_chain.specs.declared.machine.Machine.{Machine}
 use Rattle.papaya_chain.specs.Machine.{IsStanding, after, ask_of, follows_of, kind_of_ask}
 use Rattle.papaya_law.specs.Allows.{AllAllowed}
 use Rattle.papaya_law.specs.Code.{Coding, IsHashed}
-use Rattle.papaya_law.specs.Exchange.{Setting, State, Exchange, run, start}
+use Rattle.papaya_law.specs.Exchange.{Setting, Exchange, run, start}
 use Rattle.papaya_law.proofs.Moments.{run-append}
 use Rattle.papaya_rests.specs.Told.{word_of}
 use Rattle.papaya_chain_rests.specs.Rests.{Rests}
@@ -26,7 +25,7 @@ use Rattle.papaya_alone.specs.Ahead.{IsCurrent}
 use Rattle.papaya_alone.specs.Budget.{Budget, IsSpent, Spends, SpendsCall, SpendsCopy, SpendsExchange}
 use Rattle.papaya_alone.specs.Prompt.{IsBounded, IsServedAsk}
 use Rattle.papaya_alone.specs.Rank.{measure, rank_of}
-use Rattle.papaya_alone.proofs.MachineLaw.{Falls, phase_falls}
+use Rattle.papaya_alone.proofs.MachineLaw.{phase_falls}
 use Rattle.papaya_alone.proofs.Measures.{measure_less, rank_small}
 
 -- each answer spends of some budget

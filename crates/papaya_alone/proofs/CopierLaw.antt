@@ -1,12 +1,11 @@
 -- A copy for its own sake, with no other caller beside it, comes to an end.
-use Rattle.std.proofs.Common.{◌≡◌, ◌⊎◌, inl, inr, ⊎_elim, ℕ, ◌+◌, ◌*◌, ◌^◌, ◌<◌, ◌≤◌, Option, Some, List, refl, sym, ap, ◌∙◌, subst, arith}
+use Rattle.std.proofs.Common.{◌≡◌, inl, inr, ⊎_elim, ℕ, ◌+◌, ◌*◌, ◌^◌, ◌<◌, ◌≤◌, Option, Some, List, subst, arith}
 use Rattle.papaya_words.specs.declared.probe.ResizeMode.{ResizeMode}
 use Rattle.papaya_ask.specs.declared.ask.At.{At}
 use Rattle.papaya_ask.specs.declared.copy_ask.CopyAsk.{CopyAsk}
 use Rattle.papaya_copy.specs.declared.copying.Copied.{Copied}
 use Rattle.papaya_copy.specs.declared.copying.Copied.TheVariants as copied
-use Rattle.papaya_copy.specs.declared.copying.Copying.{Copying as Copy}
-use Rattle.papaya_copy.specs.Copying.{IsStandingCopying, copying_ask}
+use Rattle.papaya_copy.specs.Copying.{copying_ask}
 use Rattle.papaya_chain.specs.declared.ask.Answer.{Answer}
 use Rattle.papaya_chain.specs.declared.copier.State.{State as Stage}
 use Rattle.papaya_chain.specs.declared.copier.State.TheVariants.{Copying, Done, Refused as Was_refused}

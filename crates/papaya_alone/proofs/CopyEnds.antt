@@ -1,5 +1,5 @@
 -- What each answer leaves to the copy of the root.
-use Rattle.std.proofs.Common.{◌≡◌, ◌⊎◌, cond, inl, inr, ℕ, ◌+◌, ◌*◌, ◌^◌, ◌<◌, ◌≤◌, ◌==◌, ◌||◌, refl, sym, ◌∙◌, subst, arith}
+use Rattle.std.proofs.Common.{◌≡◌, cond, ℕ, ◌+◌, ◌*◌, ◌^◌, ◌≤◌, ◌==◌, ◌||◌, sym, subst, arith}
 use Rattle.std.proofs.lemmas.Bool.{cond_both}
 use Rattle.papaya_words.specs.declared.probe.ResizeMode.{ResizeMode}
 use Rattle.papaya_words.specs.declared.probe.ResizeMode.TheVariants.{Incremental, Blocking}
@@ -14,17 +14,15 @@ use Rattle.papaya_copy.specs.declared.copying.Copying.TheVariants as copyings
 use Rattle.papaya_copy.specs.declared.settle.Settled.{Settled}
 use Rattle.papaya_copy.specs.declared.settle.Settled.TheVariants as settled
 use Rattle.papaya_copy.specs.declared.settle.Slot.{Slot}
-use Rattle.papaya_copy.specs.declared.step.Step.{Step}
 use Rattle.papaya_copy.specs.declared.step.Step.TheVariants as steps
 use Rattle.papaya_copy.specs.declared.step.Stepped.{Stepped}
 use Rattle.papaya_copy.specs.declared.step.Stepped.TheVariants as stepped
 use Rattle.papaya_copy.specs.Copying.{all_of, at_root, copying_ask, last, leads, lone, over}
-use Rattle.papaya_copy.specs.Step.{step_ask}
 use Rattle.papaya_chain.specs.declared.ask.Answer.{Answer}
 use Rattle.papaya_chain.specs.Machine.{copying_after}
 use Rattle.papaya_rests.specs.Alone.{IsBare}
 use Rattle.papaya_alone.specs.Prompt.{IsCopyPrompt}
-use Rattle.papaya_alone.specs.Measure.{further, left_of_copied, left_of_copying, left_of_settle, left_of_settled, left_of_step, left_of_stepped}
+use Rattle.papaya_alone.specs.Measure.{left_of_copied, left_of_copying, left_of_settle, left_of_settled, left_of_step, left_of_stepped}
 use Rattle.papaya_alone.specs.Current.{IsAimRead, IsAlive, IsCopiedRead, IsCopyingRead, IsIncremental, IsSettledRead, IsSteppedRead}
 use Rattle.papaya_alone.proofs.Afters.{copying_settles, copying_steps, settle_after, step_after}
 use Rattle.papaya_alone.proofs.SettleEnds.{settle_ends}

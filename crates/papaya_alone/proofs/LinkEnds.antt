@@ -1,12 +1,12 @@
 -- What each answer leaves to the making of a table.
-use Rattle.std.proofs.Common.{◌≡◌, inl, inr, ℕ, ◌+◌, ◌*◌, ◌^◌, ◌<◌, nat_le, refl, sym, ◌∙◌, subst, arith}
+use Rattle.std.proofs.Common.{◌≡◌, inl, inr, ℕ, ◌^◌, nat_le, sym, ◌∙◌, subst, arith}
 use Rattle.std.proofs.lemmas.Bool.{cond_both}
 use Rattle.papaya_words.specs.Table.{length_after}
 use Rattle.papaya_words.specs.declared.probe.Refused.TheVariants.{Capacity}
 use Rattle.papaya_ask.specs.declared.ask.At.{At}
 use Rattle.papaya_ask.specs.declared.ask.At.TheVariants.{Next}
 use Rattle.papaya_ask.specs.declared.ask.At.TheVariants as words_at
-use Rattle.papaya_ask.specs.declared.ask.Answer.TheVariants.{Exchanged, Size}
+use Rattle.papaya_ask.specs.declared.ask.Answer.TheVariants.{Exchanged}
 use Rattle.papaya_copy.specs.declared.link.Link.{Link}
 use Rattle.papaya_copy.specs.declared.link.Link.TheVariants as links
 use Rattle.papaya_copy.specs.declared.link.Linked.TheVariants as linked

@@ -1,20 +1,14 @@
 -- A call over a chain of tables, with no other caller beside it, comes nearer its end with each answer.
-use Rattle.std.proofs.Common.{◌≡◌, ◌⊎◌, inl, inr, ⊎_elim, ℕ, suc, ◌+◌, ◌*◌, ◌^◌, ◌<◌, ◌≤◌, Bool, true, false, Option, Some, List, ◌++◌, append_assoc, refl, sym, ap, ◌∙◌, subst, arith}
+use Rattle.std.proofs.Common.{◌≡◌, ◌⊎◌, inl, inr, ⊎_elim, ℕ, suc, ◌<◌, ◌≤◌, Bool, true, false, Some, List, ◌++◌, refl, sym, ap, ◌∙◌, subst, arith}
 use Rattle.std.proofs.lemmas.Bool.{cases_lt, cases_order}
 use Rattle.papaya_words.specs.declared.probe.ResizeMode.{ResizeMode}
 use Rattle.papaya_words.specs.declared.probe.ResizeMode.TheVariants.{Incremental, Blocking}
 use Rattle.papaya_ask.specs.declared.ask.At.{At}
-use Rattle.papaya_ask.specs.declared.ask.At.TheVariants as words_at
-use Rattle.papaya_ask.specs.declared.ask.Answer.{Answer as Call_answer}
 use Rattle.papaya_call.specs.declared.machine.Machine.{Machine as Call_machine}
-use Rattle.papaya_call.specs.Machine as call_machine
-use Rattle.papaya_copy.specs.declared.copying.Aim.{Aim}
 use Rattle.papaya_copy.specs.declared.copying.Aim.TheVariants as aims
 use Rattle.papaya_copy.specs.declared.copying.Copying.{Copying}
 use Rattle.papaya_copy.specs.declared.copying.Copying.TheVariants as copyings
 use Rattle.papaya_copy.specs.declared.link.Link.{Link}
-use Rattle.papaya_copy.specs.declared.link.Linked.TheVariants as linked
-use Rattle.papaya_copy.specs.declared.step.Step.{Step}
 use Rattle.papaya_copy.specs.declared.step.Step.TheVariants as steps
 use Rattle.papaya_copy.specs.Link.{follows, link_ask, link_kind}
 use Rattle.papaya_copy.specs.Copying.{copying_ask, copying_follows, copying_kind}
@@ -23,7 +17,7 @@ use Rattle.papaya_chain.specs.declared.ask.Answer.TheVariants as answers
 use Rattle.papaya_chain.specs.declared.machine.Machine.{Machine}
 use Rattle.papaya_chain.specs.declared.machine.Phase.{Phase}
 use Rattle.papaya_chain.specs.declared.machine.Phase.TheVariants.{Calling, Linking, Copying as Copying_root}
-use Rattle.papaya_chain.specs.Machine.{after, aim_for, ask_of, follows_of, kind_of_ask, link_after}
+use Rattle.papaya_chain.specs.Machine.{after, ask_of, follows_of, kind_of_ask}
 use Rattle.papaya_law.specs.Allows.{AllAllowed}
 use Rattle.papaya_law.specs.Class.{IsOn}
 use Rattle.papaya_law.specs.Code.{Coding, IsHashed}
@@ -32,26 +26,25 @@ use Rattle.papaya_law.specs.Exchange.{Setting, State, Exchange, run, start, walk
 use Rattle.papaya_law.specs.Invariant.{IsKeeping, IsSound}
 use Rattle.papaya_law.specs.Meaning.{map_left}
 use Rattle.papaya_law.proofs.Chain.{has_next, none_between, pos_before}
-use Rattle.papaya_law.proofs.Moments.{run-append}
 use Rattle.papaya_law.proofs.OneMap.{keeping, keeping_sound}
-use Rattle.papaya_rests.specs.Copier.{IsAimed, IsSource, RestsCopying, RestsLinked, RestsStep, aim_of}
+use Rattle.papaya_rests.specs.Copier.{RestsCopying, RestsLinked, aim_of}
 use Rattle.papaya_rests.specs.Rests as calls
 use Rattle.papaya_rests.specs.Rests.{IsModeOf}
 use Rattle.papaya_rests.specs.Told.{word_of}
 use Rattle.papaya_rests.proofs.CopierCopies.{copying_there, link_there}
 use Rattle.papaya_rests.proofs.CopierExchange.{copying_may, link_may}
 use Rattle.papaya_rests.proofs.RestsNames.{come_on}
-use Rattle.papaya_chain_rests.specs.Rests.{IsCopyingAll, IsHelping, IsLinking, Rests, RestsPhase, left_by}
-use Rattle.papaya_chain_rests.specs.Told.{Hands, IsCallTold, IsCopyTold, IsTold}
+use Rattle.papaya_chain_rests.specs.Rests.{IsLinking, RestsPhase, left_by}
+use Rattle.papaya_chain_rests.specs.Told.{Hands, IsCopyTold, IsTold}
 use Rattle.papaya_chain_rests.proofs.Aside.{left_come}
 use Rattle.papaya_chain_rests.proofs.Making.{link_learns}
-use Rattle.papaya_alone.specs.Ahead.{IsAsideAhead, IsCurrent, IsPhaseRead}
-use Rattle.papaya_alone.specs.Budget.{Budget, IsSpent, Spends, SpendsCopy}
-use Rattle.papaya_alone.specs.Current.{IsCopyingRead, IsIncremental, IsStepRead}
+use Rattle.papaya_alone.specs.Ahead.{IsAsideAhead, IsPhaseRead}
+use Rattle.papaya_alone.specs.Budget.{Budget, Spends, SpendsCopy}
+use Rattle.papaya_alone.specs.Current.{IsCopyingRead, IsIncremental}
 use Rattle.papaya_alone.specs.Prompt.{IsBounded, IsCopyPrompt, IsServedAsk}
-use Rattle.papaya_alone.specs.Rank.{rank_of, rank_of_phase}
+use Rattle.papaya_alone.specs.Rank.{rank_of_phase}
 use Rattle.papaya_alone.proofs.AsideCopies.{IsFor, IsKnown, aims_one, copying_lowers}
-use Rattle.papaya_alone.proofs.AsideRanks.{HasNext, Lowers, linking_lowers}
+use Rattle.papaya_alone.proofs.AsideRanks.{Lowers, linking_lowers}
 use Rattle.papaya_alone.proofs.CallLaw.{call_lowers}
 use Rattle.papaya_alone.proofs.CallPrompts.{asked_number, call_prompt}
 use Rattle.papaya_alone.proofs.CopyPrompts.{told_prompt, words_bare}

@@ -1,11 +1,10 @@
 -- The measure of a call falls where the budget is spent or less is left.
-use Rattle.std.proofs.Common.{◌≡◌, ◌⊎◌, inl, inr, ⊎_elim, ℕ, ◌+◌, ◌*◌, ◌-◌, ◌^◌, ◌<◌, ◌≤◌, ◌==◌, ◌||◌, refl, sym, ap, subst, arith}
+use Rattle.std.proofs.Common.{◌≡◌, ◌⊎◌, inl, inr, ℕ, ◌+◌, ◌*◌, ◌^◌, ◌<◌, ◌==◌, ◌||◌, sym, subst, arith}
 use Rattle.std.proofs.lemmas.Bool.{cond_both}
 use Rattle.papaya_ask.specs.declared.call.Task.{Task}
 use Rattle.papaya_ask.specs.declared.search.Search.{Search}
 use Rattle.papaya_ask.specs.declared.search.Search.TheVariants.{Sizing, Looking, Comparing}
 use Rattle.papaya_ask.specs.Search.{IsSearching}
-use Rattle.papaya_call.specs.declared.compute.Gap.{Gap}
 use Rattle.papaya_call.specs.declared.compute.Gap.TheVariants as gaps
 use Rattle.papaya_call.specs.declared.compute.Purpose.{Purpose}
 use Rattle.papaya_call.specs.declared.compute.Purpose.TheVariants as purposes
@@ -19,7 +18,6 @@ use Rattle.papaya_copy.specs.declared.copying.Aim.{Aim}
 use Rattle.papaya_copy.specs.declared.copying.Aim.TheVariants as aims
 use Rattle.papaya_copy.specs.declared.copying.Copying.{Copying}
 use Rattle.papaya_copy.specs.declared.copying.Copying.TheVariants as copyings
-use Rattle.papaya_copy.specs.declared.link.Link.{Link}
 use Rattle.papaya_copy.specs.declared.settle.Settle.{Settle}
 use Rattle.papaya_copy.specs.declared.settle.Settle.TheVariants as settles
 use Rattle.papaya_copy.specs.declared.step.Step.{Step}
@@ -33,9 +31,9 @@ use Rattle.papaya_chain.specs.declared.machine.Phase.{Phase}
 use Rattle.papaya_chain.specs.declared.machine.Phase.TheVariants.{Calling, Linking, Copying as Copying_root}
 use Rattle.papaya_chain.specs.Machine.{IsStanding, IsStandingPhase}
 use Rattle.papaya_alone.specs.Budget.{Budget, IsSpent}
-use Rattle.papaya_alone.specs.Measure.{further, left_of_carry, left_of_copying, left_of_link, left_of_settle, left_of_step}
-use Rattle.papaya_alone.specs.Rank.{left_of_search, measure, rank, rank_at_root, rank_in, rank_of, rank_of_copying, rank_of_phase, rank_of_step, rank_to_serve, table_of, unmade}
-use Rattle.papaya_alone.proofs.AsideRanks.{begun_rank, link_most}
+use Rattle.papaya_alone.specs.Measure.{left_of_carry, left_of_copying, left_of_settle, left_of_step}
+use Rattle.papaya_alone.specs.Rank.{left_of_search, rank, rank_at_root, rank_in, rank_of, rank_of_phase, rank_to_serve}
+use Rattle.papaya_alone.proofs.AsideRanks.{link_most}
 use Rattle.papaya_alone.proofs.CallRanks.{unmade_most}
 
 -- a search within its table has no more left than this

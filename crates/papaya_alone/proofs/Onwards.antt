@@ -1,30 +1,27 @@
 -- How a call that was set aside goes on, where no other caller is beside it.
-use Rattle.std.proofs.Common.{◌≡◌, ◌⊎◌, inl, inr, ⊎_elim, ℕ, ◌+◌, ◌*◌, ◌-◌, ◌^◌, ◌<◌, ◌≤◌, ◌==◌, ◌||◌, Bool, true, false, Some, refl, sym, ap, ◌∙◌, subst, arith, eq-eqb, eqb-true}
+use Rattle.std.proofs.Common.{◌≡◌, ◌⊎◌, ⊎_elim, ℕ, ◌+◌, ◌*◌, ◌^◌, ◌<◌, ◌≤◌, ◌==◌, ◌||◌, Bool, true, false, Some, refl, sym, ap, ◌∙◌, subst, arith, eq-eqb, eqb-true}
 use Rattle.std.proofs.lemmas.Bool.{cond_both}
-use Rattle.papaya_words.specs.declared.probe.Refused.{Refused}
 use Rattle.papaya_words.specs.declared.probe.ResizeMode.{ResizeMode}
 use Rattle.papaya_words.specs.declared.probe.ResizeMode.TheVariants.{Incremental, Blocking}
 use Rattle.papaya_ask.specs.declared.ask.At.{At}
 use Rattle.papaya_ask.specs.declared.ask.At.TheVariants as words_at
 use Rattle.papaya_call.specs.declared.machine.State.{State}
-use Rattle.papaya_call.specs.declared.machine.State.TheVariants.{AtRoot, Making, Opening, Searching, Writing, Offering, Showing, Pairing, Putting, Burying, Counting, Uncounting, Leaving, Growing, Ended}
+use Rattle.papaya_call.specs.declared.machine.State.TheVariants.{Growing}
 use Rattle.papaya_call.specs.declared.need.Need.{Need}
 use Rattle.papaya_call.specs.declared.need.Need.TheVariants.{Room, Pair as Pair_at}
 use Rattle.papaya_call.specs.Machine.{needed}
 use Rattle.papaya_copy.specs.declared.copying.Aim.{Aim}
 use Rattle.papaya_copy.specs.declared.copying.Aim.TheVariants as aims
-use Rattle.papaya_copy.specs.declared.copying.Copying.TheVariants.{Stepping, Lone}
 use Rattle.papaya_copy.specs.declared.link.Link.TheVariants as links
-use Rattle.papaya_copy.specs.declared.step.Step.TheVariants as steps
 use Rattle.papaya_chain.specs.declared.machine.Machine.{Machine}
-use Rattle.papaya_chain.specs.declared.machine.Phase.TheVariants.{Linking, Copying as Copying_root}
-use Rattle.papaya_chain.specs.Machine.{aim_for, begins_anew, enters, goes_on, grows_as, onward, refuses}
+use Rattle.papaya_chain.specs.declared.machine.Phase.TheVariants.{Linking}
+use Rattle.papaya_chain.specs.Machine.{aim_for, begins_anew, enters, goes_on, grows_as, onward}
 use Rattle.papaya_chain_rests.specs.Rests.{left_by}
 use Rattle.papaya_rests.specs.Alone.{IsRead}
 use Rattle.papaya_alone.specs.Ahead.{IsAhead, IsCurrent}
 use Rattle.papaya_alone.specs.Current.{IsAimRead, IsIncremental}
 use Rattle.papaya_alone.specs.Measure.{further}
-use Rattle.papaya_alone.specs.Rank.{rank, rank_at_root, rank_in, rank_of}
+use Rattle.papaya_alone.specs.Rank.{rank, rank_at_root, rank_of}
 use Rattle.papaya_alone.proofs.CallRanks.{root_leads}
 use Rattle.papaya_alone.proofs.CopyEnds.{any_alive}
 

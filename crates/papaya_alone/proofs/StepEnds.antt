@@ -1,5 +1,5 @@
 -- What each answer leaves to the copy of a chunk.
-use Rattle.std.proofs.Common.{◌≡◌, ◌⊎◌, inl, inr, ℕ, ◌+◌, ◌*◌, ◌-◌, ◌^◌, ◌<◌, ◌≤◌, ◌==◌, nat_lt, nat_le, not, ltb-true, ltb-false, leb-true, leb-false, true, false, refl, sym, ap, ◌∙◌, subst, arith, eqb-true}
+use Rattle.std.proofs.Common.{◌≡◌, ◌⊎◌, inl, inr, ℕ, ◌+◌, ◌*◌, ◌-◌, ◌^◌, ◌<◌, ◌≤◌, ◌==◌, nat_lt, nat_le, not, ltb-true, leb-false, true, false, sym, ap, ◌∙◌, subst, arith, eqb-true}
 use Rattle.std.proofs.lemmas.Bool.{cond_both}
 use Rattle.papaya_words.specs.declared.probe.ResizeMode.{ResizeMode}
 use Rattle.papaya_words.specs.declared.probe.ResizeMode.TheVariants.{Incremental, Blocking}
@@ -9,7 +9,6 @@ use Rattle.papaya_ask.specs.declared.ask.Answer.TheVariants.{Exchanged}
 use Rattle.papaya_copy.specs.declared.link.Link.TheVariants as links
 use Rattle.papaya_copy.specs.declared.link.Linked.{Linked}
 use Rattle.papaya_copy.specs.declared.link.Linked.TheVariants as linked
-use Rattle.papaya_copy.specs.declared.settle.Settle.{Settle}
 use Rattle.papaya_copy.specs.declared.settle.Settle.TheVariants as settles
 use Rattle.papaya_copy.specs.declared.settle.Settled.{Settled}
 use Rattle.papaya_copy.specs.declared.settle.Settled.TheVariants as settled
@@ -20,7 +19,7 @@ use Rattle.papaya_copy.specs.declared.step.Stepped.{Stepped}
 use Rattle.papaya_copy.specs.declared.step.Stepped.TheVariants as stepped
 use Rattle.papaya_copy.specs.Link.{link_ask}
 use Rattle.papaya_copy.specs.Settle.{settle_ask}
-use Rattle.papaya_copy.specs.Step.{advanced, aimed, chunk_at, chunk_of, counted, end_of, judged, linked_to, next_slot, settled_to, slot_of, step_ask}
+use Rattle.papaya_copy.specs.Step.{aimed, chunk_at, chunk_of, counted, end_of, judged, linked_to, next_slot, settled_to, slot_of, step_ask}
 use Rattle.papaya_chain.specs.declared.ask.Answer.{Answer}
 use Rattle.papaya_chain.specs.declared.ask.Answer.TheVariants as answers
 use Rattle.papaya_chain.specs.Machine.{link_after}

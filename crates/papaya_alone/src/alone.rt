@@ -1,7 +1,6 @@
 //! What an answer leaves to a call over a chain of tables, and to a copy, with no other caller
 //! beside it. The functions do nothing: their contracts are the laws.
 ghost use Rattle.std.specs.Prelude.{◌≡◌, ◌⊎◌, ℕ, ◌<◌, ◌^◌, List, Option, Some, ◌++◌};
-ghost use Rattle.papaya_words.specs.Mode.{IsChunked};
 ghost use Rattle.papaya_words.specs.declared.probe.ResizeMode.{ResizeMode};
 ghost use Rattle.papaya_copy.specs.declared.copying.Copying.{Copying};
 ghost use Rattle.papaya_copy.specs.Copying.{copying_ask, copying_follows, copying_kind};
