@@ -116,6 +116,7 @@ module _ (words words' : At → ℕ) (bare : IsBare words) (bare' : IsBare words
   loned_lowers inc slot settle least (settled.Unfit table) nears read = (⊎_elim (λ (h : IsSpent before later). inl h) (λ (h : (later ≡ before) × (0 < left_of_settle settle)). inr (h.0, omega arith)) nears, enters_current words' m inc slot.to least)
   loned_lowers inc slot settle least (settled.Refused refused) nears read = (⊎_elim (λ (h : IsSpent before later). inl h) (λ (h : (later ≡ before) × (0 < left_of_settle settle)). inr (h.0, omega arith)) nears, (tt, tt))
 
+  -- a slot of its own is copied
   lone_lowers : IsIncremental mode → (slot : Slot) (settle : Settle) (answer : Answer) → words words_at.Root ≤ slot.to → IsSettleRead mode words slot settle → IsCopyPrompt words (settle_ask settle slot) answer words' → SpendsCopy (settle_ask settle slot) answer before later
       → Lowers words words' before later m (rank 2 (further slot.to + 1) (left_of_settle settle)) (after_copied m (copying_after (copyings.Lone slot settle) mode m.call.initial answer))
   lone_lowers inc slot settle answer least read told spends =
@@ -189,6 +190,7 @@ module _ (words words' : At → ℕ) (bare : IsBare words) (bare' : IsBare words
         anew_current words' m (machine_stays words words' (record m.call { state = At_root }) bare (Word_read (words' words_at.Root)) tt (ap Word_read (same words_at.Root), same)).read,
       )
 
+  -- a chunk begins at the root
   at_root_lowers : (aim : Aim) (answer : Answer) → IsFor m aim → 0 < words words_at.Root → IsBehind words → IsCopyPrompt words (Load words_at.Root) answer words' → SpendsCopy (Load words_at.Root) answer before later
       → Lowers words words' before later m (rank_at_root (words words_at.Root) aim) (after_copied m (copying_after (copyings.Stepping aim steps.AtRoot) mode m.call.initial answer))
   at_root_lowers aim answer which some left told spends =

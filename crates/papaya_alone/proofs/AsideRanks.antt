@@ -83,6 +83,7 @@ GoesOn (stepped.On step) = IsBegun step
 GoesOn (stepped.Refused refused) = Unit {0}
 GoesOn _ = ⊥
 
+-- a chunk that has begun ranks by what is left to it
 pub begun_rank : (root : ℕ) (aim : Aim) (step : Step) → IsBegun step → rank_of_step root aim step ≡ rank 1 0 (left_of_step step)
 begun_rank root aim steps.AtRoot h = absurd h
 begun_rank root aim (steps.Aiming from behind) h = refl
@@ -131,6 +132,7 @@ aimed_goes (Incremental chunk) words from behind some =
 aimed_goes Blocking words from behind some =
     cond_both (words (words_at.Next behind) == 0) (stepped.On (steps.Linking from (links.Sizing behind (not (behind == from))))) (stepped.On (steps.Judging from (words (words_at.Next behind)))) GoesOn (λ _. tt) (λ _. tt)
 
+-- so a chunk goes on until it is over
 pub step_goes : (mode : ResizeMode) (initial : ℕ) (words words' : At → ℕ) (step : Step) (answer : Answer) → IsMidway step → HasNext mode words step → IsCopyPrompt words (step_ask step) answer words' → GoesOn (step_after step mode initial answer)
 step_goes mode initial words words' steps.AtRoot answer h next told = absurd h
 step_goes mode initial words words' (steps.Aiming from behind) answer h next told = subst (λ a. GoesOn (step_after (steps.Aiming from behind) mode initial a)) (sym told.0.0) (aimed_goes mode words from behind next)

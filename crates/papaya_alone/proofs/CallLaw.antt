@@ -92,6 +92,7 @@ module _ (words words' : At → ℕ) (bare : IsBare words) (before later : Budge
         let l = f.0 in
         (inr (kept, omega (arith, l, most)), f.1))
 
+    -- a call that looks for its key leaves its table
     leaves_on : (task : Task) → IsIncremental call.mode → (t : ℕ) → left_by stage ≡ Some t → words' words_at.Root ≤ t → rank 2 (further t) (2 ^ 68 + 3) ≤ rank_in call.made stage → later ≡ before → (word : ℕ) → (word ≡ 0) ⊎ ((t < word) × (word < 2 ^ 32))
         → Lowered stage (stepped (in_stage stage) (Word_read word)) → Lowered stage (leaves (in_stage stage) task word)
     leaves_on Get inc t left least most kept word up inner = inner

@@ -70,6 +70,7 @@ module _ {K P : Type 0} (g : Setting K P) (c : Coding K P) (hashed : IsHashed g 
   abbrev now : State P
   now = run (begun ++ since) start
 
+  -- the state keeps the map
   keeps : IsKeeping g now (map_left g (begun ++ since))
   keeps = keeping g hashed.lawful (begun ++ since) may
 
@@ -125,6 +126,7 @@ module _ {K P : Type 0} (g : Setting K P) (c : Coding K P) (hashed : IsHashed g 
     number_in (AddToShard by) named = tt
     number_in (Ask_done reply) named = tt
 
+    -- what a call asks to load is a number
     pub asked_number : IsNumberAsked (word_of g c now) (ask_of m)
     asked_number = number_in (ask_of m) (ask_named g c hashed begun since may k hands m.task m.hash m.made m.state r.stage)
 
@@ -153,5 +155,6 @@ module _ {K P : Type 0} (g : Setting K P) (c : Coding K P) (hashed : IsHashed g 
     prompt_of (AddToShard by) is answer es hands' served told = (told.0, same_none es told.1.0)
     prompt_of (Ask_done reply) is answer es hands' served told = absurd served
 
+    -- of the call
     pub call_prompt : (answer : Answer) (es : List (Exchange P)) (hands' : Hands P) → IsServed m.task (ask_of m) answer → IsTold g c k now (kind_of_ask m) hands (ask_of m) answer es hands' → IsPrompt m.task (word_of g c now) (ask_of m) answer (word_of g c (run es now))
     call_prompt answer es hands' served told = prompt_of (ask_of m) refl answer es hands' served told

@@ -52,6 +52,7 @@ some_copy (copy_asks.MakeTable slots limit) (answers.Call (Made_number n)) = (a_
 some_copy (copy_asks.Exchange at old new) (answers.Call Exchanged) = (an_exchange, nothing_left, (refl, omega arith))
 some_copy ask answer = (nothing_left, nothing_left, refl)
 
+-- of some budget each answer spends
 pub some_budget : (kind : Option StepKind) (ask : Ask) (answer : Answer) → (before : Budget) × (later : Budget) × Spends kind ask answer before later
 some_budget kind (asks.Call ask) (answers.Call told) = some_call kind ask told
 some_budget kind (asks.Call ask) (answers.Hash hash) = (nothing_left, nothing_left, refl)
@@ -63,6 +64,7 @@ module _ {K P : Type 0} (g : Setting K P) (c : Coding K P) (hashed : IsHashed g 
   reaches : run es (run (begun ++ since) start) ≡ run (begun ++ (since ++ es)) start
   reaches = sym (run-append (begun ++ since) es start) ∙ ap (λ l. run l start) (append_assoc begun since es)
 
+  -- the budget is spent, or less is left; and what was read stands there still
   falls : (before later : Budget) → Spends (kind_of_ask m) (ask_of m) answer before later
       → (IsSpent before later ⊎ ((later ≡ before) × (rank_of (run (begun ++ (since ++ es)) start).root (after m answer) < rank_of (run (begun ++ since) start).root m))) × IsCurrent (word_of g c (run (begun ++ (since ++ es)) start)) (after m answer)
   falls before later spends =

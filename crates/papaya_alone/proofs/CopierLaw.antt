@@ -33,6 +33,7 @@ led_left (copied.Root root) = omega arith
 led_left copied.Chunk = omega arith
 led_left (copied.Refused refused) = omega arith
 
+-- and what it has read stands there
 led_read : (mode : ResizeMode) (words : At → ℕ) (end : Copied) → IsCopiedRead mode words end → IsStageRead mode words (led end)
 led_read mode words (copied.On copying) read = read
 led_read mode words (copied.Search table) read = tt

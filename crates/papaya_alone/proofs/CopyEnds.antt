@@ -60,6 +60,7 @@ module _ (mode : ResizeMode) (words : At → ℕ) where
       (λ e. let l = none.0 in (omega (arith, l), none.1))
       (λ e. (omega arith, (read, is)))
 
+  -- all of the root is to be copied
   all_within : (how : ResizeMode) (met root : ℕ) → words words_at.Root ≡ root → Within (2 ^ 102 + 6 + 2 * 2 ^ 32) (all_of met how root)
   all_within (Incremental chunk) met root is = (omega arith, (tt, is))
   all_within Blocking met root is =
@@ -67,6 +68,7 @@ module _ (mode : ResizeMode) (words : At → ℕ) where
       (λ e. (omega arith, (tt, is)))
       (λ e. (omega arith, tt))
 
+  -- the root is told
   root_within : (how : ResizeMode) (aim : Aim) (root : ℕ) → IsAimRead mode words aim → words words_at.Root ≡ root → Within (2 ^ 102 + 6 + 2 * 2 ^ 32) (at_root aim how root)
   root_within how (aims.Search table) root read is = one_within (aims.Search table) root read is (last_within (aims.Search table) root read)
   root_within how (aims.Settle slot) root read is = one_within (aims.Settle slot) root read is (last_within (aims.Settle slot) root read)
@@ -103,6 +105,7 @@ module _ (mode : ResizeMode) (initial : ℕ) (words words' : At → ℕ) (bare :
   same_aim aims.Chunk read = tt
   same_aim (aims.All met) read = tt
 
+  -- in each state
   pub copying_ends : (copying : Copying) (answer : Answer) → IsCopyingRead mode words copying → IsCopyPrompt words (copying_ask copying) answer words' → CopyEnds copying answer
   copying_ends (copyings.Stepping aim step) answer read told =
       let e = step_ends mode initial words words' bare step answer read.1 told in

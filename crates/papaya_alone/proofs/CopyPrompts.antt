@@ -35,6 +35,7 @@ module _ {K P : Type 0} (g : Setting K P) (c : Coding K P) (s : State P) where
   empty_none (Copied p) e = absurd cc
   empty_none (Buried p) e = absurd cc
 
+  -- so the words are bare
   pub words_bare : IsBare (word_of g c s)
   words_bare t i e = empty_none (s.slot t i) (sym (code_kind g c (s.slot t i)) ∙ e)
 

@@ -37,6 +37,7 @@ module _ (words words' : At → ℕ) (initial : ℕ) where
   abbrev pub LinkEnds : Link → Answer → Type 0
   LinkEnds link answer = Nears answer (left_of_linked (link_after link initial answer)) (left_of_link link) × IsLinkedRead words' (link_after link initial answer)
 
+  -- in each state
   pub link_ends : (link : Link) (answer : Answer) → IsLinkRead words link → IsCopyPrompt words (link_ask link) answer words' → LinkEnds link answer
   link_ends (links.Sizing behind unfit) answer read told =
       let (slots, limit, size, e) = told.0 in

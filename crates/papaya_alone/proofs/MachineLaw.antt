@@ -100,9 +100,11 @@ module _ {K P : Type 0} (g : Setting K P) (c : Coding K P) (hashed : IsHashed g 
   abbrev words' : At → ℕ
   words' = word_of g c (run es now)
 
+  -- the state keeps the map
   keeps : IsKeeping g now (map_left g (begun ++ since))
   keeps = keeping g hashed.lawful (begun ++ since) may
 
+  -- and is sound
   sound : IsSound g now
   sound = keeping_sound g now (map_left g (begun ++ since)) keeps
 
@@ -149,6 +151,7 @@ module _ {K P : Type 0} (g : Setting K P) (c : Coding K P) (hashed : IsHashed g 
 
   -- the root is copied
   module _ (copying : Copying) (rests : RestsCopying g c now hands.call.last hands.kept copying) (told : IsCopyTold g c now (copying_kind copying) (copying_follows copying) hands (copying_ask copying) answer es hands') where
+    -- what is told of the words is what they answer
     copy_prompt : IsCopyPrompt words (copying_ask copying) answer words'
     copy_prompt =
         told_prompt g c hashed now (map_left g (begun ++ since)) keeps bounded hands (copying_kind copying) (copying_follows copying) (copying_ask copying)

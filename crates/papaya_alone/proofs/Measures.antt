@@ -95,6 +95,7 @@ step_small (steps.Settling chunk settle) h = let a = h.0.within in let b = h.0.m
 step_small (steps.Advancing chunk) h = omega arith
 step_small (steps.Promoting from to) h = omega arith
 
+-- a copy within its tables has little left
 pub copying_small : (copying : Copying) → IsStandingCopying copying → left_of_copying copying < 2 ^ 104
 copying_small (copyings.Stepping aim step) h = step_small step h
 copying_small (copyings.Lone slot settle) h = let s = settle_small settle h in omega (arith, s)
@@ -135,6 +136,7 @@ budget_less : (before later : Budget) → later.exchanges < 2 ^ 128 → IsSpent 
 budget_less before later few (inl less) = tables later.tables before.tables before.exchanges later.exchanges less few
 budget_less before later few (inr (same, less)) = omega (arith, same, less)
 
+-- so the measure is less
 pub measure_less : (before later : Budget) (r r' : ℕ) → later.exchanges < 2 ^ 128 → r' < 2 ^ 192 → IsSpent before later ⊎ ((later ≡ before) × (r' < r))
     → (later.tables * 2 ^ 128 + later.exchanges) * 2 ^ 192 + r' < (before.tables * 2 ^ 128 + before.exchanges) * 2 ^ 192 + r
 measure_less before later r r' few small (inl spent) = digits _ _ r r' (budget_less before later few spent) small

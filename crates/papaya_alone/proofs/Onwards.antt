@@ -31,6 +31,7 @@ AimsAt (aims.Search t) n = t ≡ n
 AimsAt (aims.Settle slot) n = slot.to ≡ n
 AimsAt _ n = ⊥
 
+-- what it copies for is the next table
 pub aims_at : (state : State) (n : ℕ) → AimsAt (aim_for state n) n
 aims_at (Growing (Room t)) n = refl
 aims_at (Growing (Pair_at t x)) n = refl
@@ -42,6 +43,7 @@ module _ (words : At → ℕ) where
   ahead_of (Incremental chunk) t inc h = h
   ahead_of Blocking t inc h = absurd inc
 
+  -- and no earlier than the root if it is ahead
   pub ahead_least : (how : ResizeMode) (t : ℕ) → IsAhead how words t → words words_at.Root ≤ t
   ahead_least (Incremental chunk) t h = h
   ahead_least Blocking t h = omega (arith, h)
@@ -66,6 +68,7 @@ module _ (words : At → ℕ) where
     goes_current true aims.Chunk n is h left = absurd is
     goes_current true (aims.All met) n is h left = absurd is
 
+    -- so it goes on
     pub onward_current : (n : ℕ) → words words_at.Root ≤ n → ((t : ℕ) → left_by m.call.state ≡ Some t → words words_at.Root ≤ t) → IsCurrent words (onward m n)
     onward_current n h left = goes_current m.helped (aim_for m.call.state n) n (aims_at m.call.state n) h left
 
@@ -88,6 +91,7 @@ module _ (words : At → ℕ) where
     pub anew_current : IsRead words (begins_anew m (words words_at.Root)).call.state → IsCurrent words (begins_anew m (words words_at.Root))
     anew_current read = (read, (root_leads m.call.made m.call.mode words m.call.task m.call.remembered.fill (words words_at.Root) refl).1)
 
+    -- with less left than before
     pub anew_rank : rank_of (words words_at.Root) (begins_anew m (words words_at.Root)) < rank 3 0 0
     anew_rank = let f = root_leads m.call.made m.call.mode words m.call.task m.call.remembered.fill (words words_at.Root) refl in let l = f.0 in omega (arith, l)
 

@@ -78,6 +78,7 @@ module _ (mode : ResizeMode) (initial : ℕ) (words words' : At → ℕ) (bare :
   left_alive : (new : ℕ) → IsAlive mode words slot.to → IsPut words here new words' → IsAlive mode words' slot.to
   left_alive new alive put = still_alive mode words words' slot 0 mode alive (put.others (words_at.Aborted slot.to) (λ e. cc))
 
+  -- in each state
   pub settle_ends : (settle : Settle) (answer : Answer) → IsSettleRead mode words slot settle → IsCopyPrompt words (settle_ask settle slot) answer words' → SettleEnds settle answer
   settle_ends settles.Looking answer read told =
       let f = settle_look_within mode words' slot (kind_of (words here)) (words here) (still_alive mode words words' slot 0 mode read (told.1 (words_at.Aborted slot.to))) (told.1 here) (λ e. sym (told.1 here) ∙ bare slot.from slot.index (ap kind_of (told.1 here) ∙ e)) refl in

@@ -73,6 +73,7 @@ module _ (mode : ResizeMode) (words : At → ℕ) where
   judged_alive (Incremental chunk) to word is none = tt
   judged_alive Blocking to word is none = is ∙ none
 
+  -- the table was given up, or not
   judged_within : (from to word : ℕ) → words words_at.Root ≡ from → words (words_at.Aborted to) ≡ word → Within (2 ^ 102 + 6 + 2 * further to) (stepped.On (judged from to word))
   judged_within from to word root is =
       cond_both (word == 0) (steps.Sizing from to) (steps.Aiming from to) (λ y. Within (2 ^ 102 + 6 + 2 * further to) (stepped.On y))
@@ -109,6 +110,7 @@ module _ (mode : ResizeMode) (initial : ℕ) (words words' : At → ℕ) (bare :
   same_number : (t : ℕ) → words' (words_at.Next t) ≡ words (words_at.Next t) → IsNumber words (words_at.Next t) → IsNumber words' (words_at.Next t)
   same_number t same number = subst (λ n. (n ≡ 0) ⊎ ((t < n) × (n < 2 ^ 32))) (sym same) number
 
+  -- in each state
   pub step_ends : (step : Step) (answer : Answer) → IsStepRead mode words step → IsCopyPrompt words (step_ask step) answer words' → StepEnds step answer
   step_ends steps.AtRoot answer read told = subst (StepEnds steps.AtRoot) (sym told.0.0) (inr (omega arith), told.1 words_at.Root)
   step_ends (steps.Aiming from behind) answer read told =

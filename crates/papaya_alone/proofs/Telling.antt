@@ -58,6 +58,7 @@ module _ (words words' : At → ℕ) (before later : Budget) where
   abbrev Spent : CopyAsk → Answer → Type 0
   Spent ask answer = SpendsCopy ask answer before later → IsSpent before later ⊎ ((later ≡ before) × (IsSpending answer → ⊥))
 
+  -- by what is asked
   spent_by : (ask : CopyAsk) (answer : Answer) → IsCopyPrompt words ask answer words' → Spent ask answer
   spent_by (Load at) answer told = subst (Spent (Load at)) (sym told.0.0) (λ same. inr (same, λ h. h))
   spent_by (Exchange at old new) answer told =
