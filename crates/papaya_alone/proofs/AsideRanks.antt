@@ -1,56 +1,43 @@
 -- What each answer leaves to a call that is set aside, with no other caller beside it.
-use Rattle.std.proofs.Common.{◌≡◌, ◌⊎◌, inl, inr, ⊎_elim, ℕ, ◌+◌, ◌*◌, ◌-◌, ◌^◌, ◌<◌, ◌≤◌, ◌==◌, ◌||◌, nat_lt, nat_le, not, Bool, true, false, Some, refl, sym, ap, ◌∙◌, subst, arith, eqb-true}
+use Rattle.std.proofs.Common.{◌≡◌, ◌⊎◌, inl, inr, ⊎_elim, ℕ, ◌+◌, ◌*◌, ◌^◌, ◌<◌, ◌≤◌, ◌==◌, nat_lt, nat_le, not, Some, refl, sym, subst, arith, eqb-true}
 use Rattle.std.proofs.lemmas.Bool.{cond_both}
 use Rattle.papaya_words.specs.declared.probe.ResizeMode.{ResizeMode}
 use Rattle.papaya_words.specs.declared.probe.ResizeMode.TheVariants.{Incremental, Blocking}
 use Rattle.papaya_ask.specs.declared.ask.At.{At}
 use Rattle.papaya_ask.specs.declared.ask.At.TheVariants as words_at
-use Rattle.papaya_ask.specs.declared.ask.Answer.TheVariants.{Exchanged, Word as Word_read}
 use Rattle.papaya_copy.specs.declared.copying.Aim.{Aim}
-use Rattle.papaya_copy.specs.declared.copying.Aim.TheVariants as aims
-use Rattle.papaya_copy.specs.declared.copying.Copied.{Copied}
-use Rattle.papaya_copy.specs.declared.copying.Copied.TheVariants as copied
-use Rattle.papaya_copy.specs.declared.copying.Copying.{Copying}
-use Rattle.papaya_copy.specs.declared.copying.Copying.TheVariants as copyings
 use Rattle.papaya_copy.specs.declared.link.Link.{Link}
 use Rattle.papaya_copy.specs.declared.link.Link.TheVariants as links
 use Rattle.papaya_copy.specs.declared.link.Linked.{Linked}
 use Rattle.papaya_copy.specs.declared.link.Linked.TheVariants as linked
-use Rattle.papaya_copy.specs.declared.settle.Settle.{Settle}
 use Rattle.papaya_copy.specs.declared.settle.Settle.TheVariants as settles
 use Rattle.papaya_copy.specs.declared.settle.Settled.{Settled}
 use Rattle.papaya_copy.specs.declared.settle.Settled.TheVariants as settled
-use Rattle.papaya_copy.specs.declared.settle.Slot.{Slot}
 use Rattle.papaya_copy.specs.declared.step.Chunk.{Chunk}
 use Rattle.papaya_copy.specs.declared.step.Step.{Step}
 use Rattle.papaya_copy.specs.declared.step.Step.TheVariants as steps
 use Rattle.papaya_copy.specs.declared.step.Stepped.{Stepped}
 use Rattle.papaya_copy.specs.declared.step.Stepped.TheVariants as stepped
 use Rattle.papaya_copy.specs.Link.{follows, link_ask}
-use Rattle.papaya_copy.specs.Settle.{settle_ask}
-use Rattle.papaya_copy.specs.Step.{advanced, aimed, chunk_at, chunk_of, counted, judged, linked_to, next_slot, settled_to, slot_of, step_ask}
-use Rattle.papaya_copy.specs.Copying.{copying_ask, leads, lone, over}
+use Rattle.papaya_copy.specs.Step.{aimed, chunk_at, chunk_of, linked_to, next_slot, settled_to, slot_of, step_ask}
 use Rattle.papaya_chain.specs.declared.ask.Answer.{Answer}
-use Rattle.papaya_chain.specs.declared.ask.Answer.TheVariants as answers
 use Rattle.papaya_chain.specs.declared.machine.Machine.{Machine}
-use Rattle.papaya_chain.specs.Machine.{after_copied, after_linked, copying_after, link_after}
+use Rattle.papaya_chain.specs.Machine.{after_linked, link_after}
 use Rattle.papaya_chain_rests.specs.Rests.{left_by}
-use Rattle.papaya_rests.specs.Alone.{IsBare, IsPut}
-use Rattle.papaya_rests.proofs.AloneSteps.{exchange_done}
 use Rattle.papaya_alone.specs.Ahead.{IsCurrent}
 use Rattle.papaya_alone.specs.Budget.{Budget, IsSpent, SpendsCopy}
-use Rattle.papaya_alone.specs.Current.{IsCopiedRead, IsIncremental, IsLinkedRead, IsLinkRead, IsStepRead}
-use Rattle.papaya_alone.specs.Measure.{further, left_of_link, left_of_linked, left_of_step}
+use Rattle.papaya_alone.specs.Current.{IsIncremental, IsLinkedRead, IsLinkRead}
+use Rattle.papaya_alone.specs.Measure.{left_of_link, left_of_linked, left_of_step}
 use Rattle.papaya_alone.specs.Prompt.{IsCopyPrompt}
 use Rattle.papaya_alone.specs.Rank.{rank, rank_of, rank_of_step}
-use Rattle.papaya_alone.proofs.Afters.{copying_settles, copying_steps, settle_after, step_after, step_links, step_settles}
+use Rattle.papaya_alone.proofs.Afters.{settle_after, step_after, step_links, step_settles}
 use Rattle.papaya_alone.proofs.LinkEnds.{link_ends, link_puts}
 use Rattle.papaya_alone.proofs.SettleEnds.{settle_puts}
-use Rattle.papaya_alone.proofs.Onwards.{AimsAt, onward_current}
-use Rattle.papaya_alone.proofs.Telling.{IsPutAt, Nears, copy_spends, stays_at}
+use Rattle.papaya_alone.proofs.Onwards.{onward_current}
+use Rattle.papaya_alone.proofs.Telling.{IsPutAt, copy_spends, stays_at}
 
 -- little is left to the making of a table
-link_most : (link : Link) → left_of_link link ≤ 4
+pub link_most : (link : Link) → left_of_link link ≤ 4
 link_most (links.Sizing behind unfit) = omega arith
 link_most (links.Counting behind unfit len) = omega arith
 link_most (links.Making behind len limit) = omega arith
@@ -96,6 +83,7 @@ GoesOn (stepped.On step) = IsBegun step
 GoesOn (stepped.Refused refused) = Unit {0}
 GoesOn _ = ⊥
 
+-- a chunk that has begun ranks by what is left to it
 pub begun_rank : (root : ℕ) (aim : Aim) (step : Step) → IsBegun step → rank_of_step root aim step ≡ rank 1 0 (left_of_step step)
 begun_rank root aim steps.AtRoot h = absurd h
 begun_rank root aim (steps.Aiming from behind) h = refl
@@ -144,6 +132,7 @@ aimed_goes (Incremental chunk) words from behind some =
 aimed_goes Blocking words from behind some =
     cond_both (words (words_at.Next behind) == 0) (stepped.On (steps.Linking from (links.Sizing behind (not (behind == from))))) (stepped.On (steps.Judging from (words (words_at.Next behind)))) GoesOn (λ _. tt) (λ _. tt)
 
+-- so a chunk goes on until it is over
 pub step_goes : (mode : ResizeMode) (initial : ℕ) (words words' : At → ℕ) (step : Step) (answer : Answer) → IsMidway step → HasNext mode words step → IsCopyPrompt words (step_ask step) answer words' → GoesOn (step_after step mode initial answer)
 step_goes mode initial words words' steps.AtRoot answer h next told = absurd h
 step_goes mode initial words words' (steps.Aiming from behind) answer h next told = subst (λ a. GoesOn (step_after (steps.Aiming from behind) mode initial a)) (sym told.0.0) (aimed_goes mode words from behind next)

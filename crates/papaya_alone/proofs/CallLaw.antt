@@ -1,7 +1,6 @@
 -- A call that asks for itself, with no other caller beside it, comes nearer its end.
-use Rattle.std.proofs.Common.{◌≡◌, ◌⊎◌, inl, inr, ⊎_elim, ℕ, ◌+◌, ◌*◌, ◌-◌, ◌^◌, ◌<◌, ◌≤◌, ◌==◌, Bool, true, false, Option, Some, None, List, ◌++◌, cond, refl, sym, ap, ◌∙◌, subst, arith}
+use Rattle.std.proofs.Common.{◌≡◌, ◌⊎◌, inl, inr, ⊎_elim, ℕ, ◌+◌, ◌^◌, ◌<◌, ◌≤◌, ◌==◌, Bool, Option, Some, cond, refl, sym, ◌∙◌, subst, arith}
 use Rattle.std.proofs.lemmas.Bool.{cond_both}
-use Rattle.papaya_words.specs.declared.probe.ResizeMode.{ResizeMode}
 use Rattle.papaya_ask.specs.declared.ask.At.{At}
 use Rattle.papaya_ask.specs.declared.ask.At.TheVariants as words_at
 use Rattle.papaya_ask.specs.declared.ask.Ask.{Ask}
@@ -14,7 +13,7 @@ use Rattle.papaya_ask.specs.declared.call.Task.{Task}
 use Rattle.papaya_ask.specs.declared.call.Task.TheVariants.{Get, Insert, RemoveIf, Compute}
 use Rattle.papaya_call.specs.declared.machine.Machine.{Machine as Call_machine}
 use Rattle.papaya_call.specs.declared.machine.State.{State as Stage}
-use Rattle.papaya_call.specs.declared.machine.State.TheVariants.{AtRoot, Making, Opening, Searching, Writing, Offering, Showing, Pairing, Putting, Burying, Counting, Uncounting, Leaving, Growing, Ended}
+use Rattle.papaya_call.specs.declared.machine.State.TheVariants.{Opening, Leaving, Growing}
 use Rattle.papaya_call.specs.Machine as call_machine
 use Rattle.papaya_call.specs.Machine.{asks, kind_asked, needed}
 use Rattle.papaya_chain.specs.declared.machine.Machine.{Machine}
@@ -25,7 +24,7 @@ use Rattle.papaya_chain_rests.specs.Rests.{left_by}
 use Rattle.papaya_rests.specs.Alone.{IsBare, IsPrompt, IsPut, IsRead}
 use Rattle.papaya_rests.proofs.AloneCurrent.{machine_stays}
 use Rattle.papaya_rests.proofs.AloneSteps.{exchange_done}
-use Rattle.papaya_alone.specs.Ahead.{IsAhead, IsAheadIn, IsCurrent}
+use Rattle.papaya_alone.specs.Ahead.{IsAheadIn, IsCurrent}
 use Rattle.papaya_alone.specs.Budget.{Budget, IsSpent, SpendsCall, SpendsExchange}
 use Rattle.papaya_alone.specs.Current.{IsIncremental}
 use Rattle.papaya_alone.specs.Measure.{further}
@@ -66,16 +65,17 @@ module _ (words words' : At → ℕ) (bare : IsBare words) (before later : Budge
     steps_on : Lowered stage (stepped (in_stage stage) told)
     steps_on =
         let m : Call_machine = record call { state = stage } in
-        let ends : Ends words words' m call.made stage told = call_ends words words' m told read ahead number prompt in
-        (⊎_elim
-        (λ (spent : IsSpent before later). inl spent)
-        (λ (kept : later ≡ before).
-        ⊎_elim
-        (λ (opening : IsOpening stage). inl (opens stage told opening read prompt spends))
-        (λ (less : rank_in (call_machine.after m told).made (call_machine.after m told).state < rank_in call.made stage). inr (kept, less))
-        ends.0)
-        (call_spent before later (kind_asked call.made stage) (asks call.made call.hash stage) told spends),
-        ((machine_stays words words' m bare told read prompt).read, subst (λ how. IsAheadIn how words' (call_machine.after m told).state) (sym (settings_stay m told).0) ends.1))
+        let ends : Ends words words' m call.made stage told = call_ends words words' m told read ahead number prompt in (
+          ⊎_elim
+              (λ (spent : IsSpent before later). inl spent)
+              (λ (kept : later ≡ before).
+              ⊎_elim
+              (λ (opening : IsOpening stage). inl (opens stage told opening read prompt spends))
+              (λ (less : rank_in (call_machine.after m told).made (call_machine.after m told).state < rank_in call.made stage). inr (kept, less))
+              ends.0)
+              (call_spent before later (kind_asked call.made stage) (asks call.made call.hash stage) told spends),
+          ((machine_stays words words' m bare told read prompt).read, subst (λ how. IsAheadIn how words' (call_machine.after m told).state) (sym (settings_stay m told).0) ends.1),
+        )
 
     -- what the next table's number is
     next_number : (t word : ℕ) → word ≡ words (words_at.Next t) → (words (words_at.Next t) ≡ 0) ⊎ ((t < words (words_at.Next t)) × (words (words_at.Next t) < 2 ^ 32)) → (word ≡ 0) ⊎ ((t < word) × (word < 2 ^ 32))
@@ -92,6 +92,7 @@ module _ (words words' : At → ℕ) (bare : IsBare words) (before later : Budge
         let l = f.0 in
         (inr (kept, omega (arith, l, most)), f.1))
 
+    -- a call that looks for its key leaves its table
     leaves_on : (task : Task) → IsIncremental call.mode → (t : ℕ) → left_by stage ≡ Some t → words' words_at.Root ≤ t → rank 2 (further t) (2 ^ 68 + 3) ≤ rank_in call.made stage → later ≡ before → (word : ℕ) → (word ≡ 0) ⊎ ((t < word) × (word < 2 ^ 32))
         → Lowered stage (stepped (in_stage stage) (Word_read word)) → Lowered stage (leaves (in_stage stage) task word)
     leaves_on Get inc t left least most kept word up inner = inner

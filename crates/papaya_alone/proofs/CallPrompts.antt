@@ -1,11 +1,10 @@
 -- What is told of the law's words is what the words answer a call.
-use Rattle.std.proofs.Common.{◌≡◌, ◌⊎◌, inl, inr, ⊎_elim, ℕ, ◌+◌, ◌<◌, ◌==◌, ◌&&◌, Bool, true, false, Option, Some, None, List, [], ◌∷◌, ◌++◌, cond, refl, sym, ap, ◌∙◌, subst, arith, eqb-true}
+use Rattle.std.proofs.Common.{◌≡◌, ⊎_elim, ℕ, ◌==◌, ◌&&◌, Bool, true, false, Option, Some, None, List, [], ◌++◌, cond, refl, sym, ap, ◌∙◌, subst, eqb-true}
 use Rattle.std.specs.Prelude.{MatchBool}
 use Rattle.papaya_words.specs.Word.{live_word, pair_of, top_byte}
 use Rattle.papaya_ask.specs.declared.ask.Ask.{Ask}
 use Rattle.papaya_ask.specs.declared.ask.Ask.TheVariants.{Load, Exchange as Ask_exchange, SameKey, ShowNone, ShowPair, SizeOf, MakeKey, MakePair, MakeTable, AddToShard, Done as Ask_done}
 use Rattle.papaya_ask.specs.declared.ask.Answer.{Answer}
-use Rattle.papaya_ask.specs.declared.ask.Answer.TheVariants.{Word as Word_read, Exchanged, Found as Found_instead}
 use Rattle.papaya_ask.specs.declared.ask.At.{At}
 use Rattle.papaya_ask.specs.declared.ask.At.TheVariants as words_at
 use Rattle.papaya_ask.specs.declared.ask.StepKind.{StepKind}
@@ -19,14 +18,14 @@ use Rattle.papaya_call.specs.declared.write.Made.TheVariants.{Nothing, Key, Pair
 use Rattle.papaya_call.specs.Machine.{ask_of, asks, kind_of_ask}
 use Rattle.papaya_law.specs.Allows.{AllAllowed}
 use Rattle.papaya_law.specs.Code.{Coding, IsHashed, code}
-use Rattle.papaya_law.specs.Exchange.{Word, Live, Buried, Setting, State, Exchange, Open, Claim, Replace, Bury, after, run, slot_put, start}
+use Rattle.papaya_law.specs.Exchange.{Word, Live, Setting, State, Exchange, Bury, after, run, slot_put, start}
 use Rattle.papaya_law.specs.Invariant.{IsKeeping}
 use Rattle.papaya_law.specs.Meaning.{map_left}
 use Rattle.papaya_law.proofs.Codes.{code_pair}
 use Rattle.papaya_law.proofs.OneMap.{keeping}
-use Rattle.papaya_rests.specs.Alone.{IsPrompt, IsPut, IsSame}
+use Rattle.papaya_rests.specs.Alone.{IsPrompt, IsSame}
 use Rattle.papaya_rests.specs.Rests.{Rests, RestsStage}
-use Rattle.papaya_rests.specs.Told.{Hands, IsAsked, IsOneOf, IsOwnWord, IsTold, IsWritten, word_of}
+use Rattle.papaya_rests.specs.Told.{Hands, IsAsked, IsOneOf, IsOwnWord, IsTold, word_of}
 use Rattle.papaya_rests.proofs.RestsExchange.{machine_may}
 use Rattle.papaya_rests.proofs.RestsNames.{IsNamed, ask_named}
 use Rattle.papaya_alone.specs.Prompt.{IsBounded, IsServed}
@@ -71,6 +70,7 @@ module _ {K P : Type 0} (g : Setting K P) (c : Coding K P) (hashed : IsHashed g 
   abbrev now : State P
   now = run (begun ++ since) start
 
+  -- the state keeps the map
   keeps : IsKeeping g now (map_left g (begun ++ since))
   keeps = keeping g hashed.lawful (begun ++ since) may
 
@@ -126,6 +126,7 @@ module _ {K P : Type 0} (g : Setting K P) (c : Coding K P) (hashed : IsHashed g 
     number_in (AddToShard by) named = tt
     number_in (Ask_done reply) named = tt
 
+    -- what a call asks to load is a number
     pub asked_number : IsNumberAsked (word_of g c now) (ask_of m)
     asked_number = number_in (ask_of m) (ask_named g c hashed begun since may k hands m.task m.hash m.made m.state r.stage)
 
@@ -154,5 +155,6 @@ module _ {K P : Type 0} (g : Setting K P) (c : Coding K P) (hashed : IsHashed g 
     prompt_of (AddToShard by) is answer es hands' served told = (told.0, same_none es told.1.0)
     prompt_of (Ask_done reply) is answer es hands' served told = absurd served
 
+    -- of the call
     pub call_prompt : (answer : Answer) (es : List (Exchange P)) (hands' : Hands P) → IsServed m.task (ask_of m) answer → IsTold g c k now (kind_of_ask m) hands (ask_of m) answer es hands' → IsPrompt m.task (word_of g c now) (ask_of m) answer (word_of g c (run es now))
     call_prompt answer es hands' served told = prompt_of (ask_of m) refl answer es hands' served told

@@ -1,5 +1,5 @@
 -- What each answer leaves to a call in a table that it has come to.
-use Rattle.std.proofs.Common.{◌≡◌, ◌⊎◌, inl, inr, ⊎_elim, ℕ, ◌+◌, ◌*◌, ◌-◌, ◌^◌, ◌<◌, ◌≤◌, ◌==◌, nat_lt, ltb-true, Bool, true, false, Option, Some, None, refl, sym, ap, ◌∙◌, subst, arith, eqb-true}
+use Rattle.std.proofs.Common.{◌≡◌, ◌⊎◌, inl, inr, ⊎_elim, ℕ, ◌+◌, ◌*◌, ◌-◌, ◌^◌, ◌<◌, ◌≤◌, ◌==◌, nat_lt, ltb-true, Bool, true, false, Option, Some, None, refl, sym, ap, ◌∙◌, subst, arith}
 use Rattle.std.proofs.lemmas.Bool.{cond_both}
 use Rattle.papaya_words.specs.Word.{kind_of, byte_of, pair_of, top_byte}
 use Rattle.papaya_words.specs.declared.probe.Refused.{Refused}
@@ -12,7 +12,7 @@ use Rattle.papaya_ask.specs.declared.ask.At.TheVariants.{Root, Next, Slot}
 use Rattle.papaya_ask.specs.declared.ask.Ask.{Ask}
 use Rattle.papaya_ask.specs.declared.ask.Ask.TheVariants.{Load}
 use Rattle.papaya_ask.specs.declared.ask.Answer.{Answer}
-use Rattle.papaya_ask.specs.declared.ask.Answer.TheVariants.{Exchanged, Yes, Op, Size, Made as Made_number, Refused as Was_refused}
+use Rattle.papaya_ask.specs.declared.ask.Answer.TheVariants.{Exchanged, Size, Made as Made_number, Refused as Was_refused}
 use Rattle.papaya_ask.specs.declared.ask.OpKind.{OpKind}
 use Rattle.papaya_ask.specs.declared.ask.OpKind.TheVariants as op_kinds
 use Rattle.papaya_ask.specs.declared.call.Reply.TheVariants.{Absent, Replaced}
@@ -26,10 +26,8 @@ use Rattle.papaya_call.specs.declared.compute.Purpose.{Purpose}
 use Rattle.papaya_call.specs.declared.compute.Purpose.TheVariants as purposes
 use Rattle.papaya_call.specs.declared.compute.Put.{Put}
 use Rattle.papaya_call.specs.declared.compute.Remembered.{Remembered}
-use Rattle.papaya_call.specs.declared.need.Need.{Need}
 use Rattle.papaya_call.specs.declared.remove.Removal.{Removal}
 use Rattle.papaya_ask.specs.declared.search.Place.{Place}
-use Rattle.papaya_ask.specs.declared.search.Search.{Search}
 use Rattle.papaya_ask.specs.declared.search.Search.TheVariants.{Sizing, Looking, Comparing}
 use Rattle.papaya_ask.specs.declared.search.Seen.{Seen}
 use Rattle.papaya_ask.specs.declared.search.Seen.TheVariants as seen
@@ -42,7 +40,7 @@ use Rattle.papaya_call.specs.declared.machine.State.TheVariants.{AtRoot, Making,
 use Rattle.papaya_ask.specs.Search.{IsSize, next_place, go_on, look_at, match_at, look, at_yes as search_compared}
 use Rattle.papaya_call.specs.Compute.{fills, lacks, offered, chosen, provides, recalls}
 use Rattle.papaya_call.specs.Machine.{after, ask_of, asks, absent, at_root, left as next_or_end, passes, replaces, removes, computes, goes_as, written, agreed}
-use Rattle.papaya_rests.specs.Alone.{IsPut, IsMaking, IsSame, IsSaying, IsPrompt, IsRead}
+use Rattle.papaya_rests.specs.Alone.{IsPut, IsMaking, IsSaying, IsPrompt, IsRead}
 use Rattle.papaya_rests.proofs.AloneSteps.{by_saying, exchange_done}
 use Rattle.papaya_alone.specs.Ahead.{IsAhead, IsAheadIn, IsGapAhead, IsPurposeAhead}
 use Rattle.papaya_alone.specs.Current.{IsIncremental}
@@ -68,6 +66,7 @@ seen_in (seen.Over t) = t
 abbrev SeesIn : ℕ → ℕ → Seen → Type 0
 SeesIn most t s = (rank_of_seen s ≤ most) × (seen_in s ≡ t)
 
+-- a search goes on one place nearer its limit
 go_on_sees : (at : Place) → SeesIn (rank 2 (further at.table) (2 ^ 68 + 2 * (at.limit - at.probe.len) + 16)) at.table (go_on at)
 go_on_sees at =
     cond_both (nat_lt at.probe.len at.limit) (seen.On (Looking (next_place at))) (seen.Over at.table)
@@ -83,6 +82,7 @@ byte_sees at hash word =
     (λ _. (omega arith, refl))
     (λ _. let f = go_on_sees at in let l = f.0 in (omega (arith, l), f.1))
 
+-- what the word at a place tells
 look_sees : (kind : Kind) (at : Place) (hash word : ℕ) → SeesIn (rank 2 (further at.table) (2 ^ 68 + 2 * (at.limit - at.probe.len) + 17)) at.table (look_at kind at hash word)
 look_sees word_kinds.Empty at hash word = (omega arith, refl)
 look_sees word_kinds.Live at hash word = byte_sees at hash word
@@ -91,6 +91,7 @@ look_sees word_kinds.Copied at hash word = byte_sees at hash word
 look_sees word_kinds.Buried at hash word = let f = go_on_sees at in let l = f.0 in (omega (arith, l), f.1)
 look_sees word_kinds.Closed at hash word = let f = go_on_sees at in let l = f.0 in (omega (arith, l), f.1)
 
+-- a matching key ends the search
 match_sees : (kind : Kind) (at : Place) (word : ℕ) → SeesIn (rank 2 (further at.table) (2 ^ 68 + 16)) at.table (match_at kind at word)
 match_sees word_kinds.Empty at word = (omega arith, refl)
 match_sees word_kinds.Live at word = (omega arith, refl)
@@ -99,11 +100,13 @@ match_sees word_kinds.Copied at word = (omega arith, refl)
 match_sees word_kinds.Buried at word = (omega arith, refl)
 match_sees word_kinds.Closed at word = (omega arith, refl)
 
+-- and one that was compared
 compared_sees : (at : Place) (word : ℕ) (same : Bool) → SeesIn (rank 2 (further at.table) (2 ^ 68 + 2 * (at.limit - at.probe.len) + 16)) at.table (search_compared (Comparing at word) same)
 compared_sees at word true = let f = match_sees (kind_of word) at word in let l = f.0 in (omega (arith, l), f.1)
 compared_sees at word false = go_on_sees at
 
-unmade_most : (m : Made) → unmade m ≤ 2
+-- a key and a pair at most are to be made
+pub unmade_most : (m : Made) → unmade m ≤ 2
 unmade_most Nothing = omega arith
 unmade_most Key = omega arith
 unmade_most (Pair n) = omega arith
@@ -127,6 +130,7 @@ module _ (made : Made) (how : ResizeMode) (words : At → ℕ) where
   more : (a b : ℕ) (s : State) → a ≤ b → Leads a s → Leads b s
   more a b s le f = let l = f.0 in (omega (arith, le, l), f.1)
 
+  -- a pair with the key is replaced
   replaces_leads : (kind : Kind) (at : Place) (word : ℕ) → IsAhead how words at.table → Leads (rank 2 (further at.table) (2 ^ 68 + 3)) (replaces kind at word)
   replaces_leads word_kinds.Empty at word h = (omega arith, h)
   replaces_leads word_kinds.Live at word h = (omega (arith, unmade_most made), tt)
@@ -135,6 +139,7 @@ module _ (made : Made) (how : ResizeMode) (words : At → ℕ) where
   replaces_leads word_kinds.Buried at word h = (omega arith, h)
   replaces_leads word_kinds.Closed at word h = (omega arith, h)
 
+  -- or removed
   removes_leads : (kind : Kind) (at : Place) (word : ℕ) → IsAhead how words at.table → Leads (rank 2 (further at.table) (2 ^ 68 + 3)) (removes kind at word)
   removes_leads word_kinds.Empty at word h = (omega arith, h)
   removes_leads word_kinds.Live at word h = (omega arith, tt)
@@ -153,6 +158,7 @@ module _ (made : Made) (how : ResizeMode) (words : At → ℕ) where
       let removal : Removal = record { place = at; word = word } in
       cond_both (old == n) (Burying removal) (Showing removal) (Leads (rank 2 0 0)) (λ _. (omega arith, tt)) (λ _. (omega arith, tt))
 
+  -- or shown to a closure
   computes_leads : (kind : Kind) (held : Remembered) (at : Place) (word : ℕ) → IsAhead how words at.table → Leads (rank 2 (further at.table) (2 ^ 68 + 3)) (computes kind held at word)
   computes_leads word_kinds.Empty held at word h = (omega arith, h)
   computes_leads word_kinds.Live held at word h = more (rank 2 0 0) _ (recalls held.choice at word (pair_of word)) (omega arith) (recalls_leads held.choice at word (pair_of word))
@@ -167,6 +173,7 @@ module _ (made : Made) (how : ResizeMode) (words : At → ℕ) where
   fills_leads (gaps.At at) n h = (omega arith, tt)
   fills_leads (gaps.After t) n h = (omega arith, h)
 
+  -- the key is absent
   lacks_leads : (fill : Option ℕ) (gap : Gap) → IsGapAhead how words gap → Leads (rank 2 (hops_of gap) (2 ^ 68 + 10)) (lacks fill gap)
   lacks_leads None gap h = (omega (arith, unmade_most made), h)
   lacks_leads (Some n) gap h = more (rank 2 (hops_of gap) (2 ^ 68 + 3)) _ (fills gap n) (omega arith) (fills_leads gap n h)
@@ -178,6 +185,7 @@ module _ (made : Made) (how : ResizeMode) (words : At → ℕ) where
   absent_leads Compute fill gap h = lacks_leads fill gap h
 
 module _ (made : Made) (words : At → ℕ) where
+  -- a table was passed
   passes_leads : (how : ResizeMode) (task : Task) (fill : Option ℕ) (t : ℕ) → IsAhead how words t → Leads made how words (rank 2 (further t) (2 ^ 68 + 16)) (passes task how fill t)
   passes_leads (Incremental chunk) task fill t h = (omega arith, (tt, h))
   passes_leads Blocking task fill t h = more made Blocking words (rank 2 (further t) (2 ^ 68 + 10)) _ (absent task fill (gaps.After t)) (omega arith) (absent_leads made Blocking words task fill (gaps.After t) h)
@@ -205,6 +213,7 @@ module _ (made : Made) (how : ResizeMode) (words : At → ℕ) where
   at_root_ahead (Incremental chunk) t is = omega (arith, is)
   at_root_ahead Blocking t is = is
 
+  -- a call begins at the root
   pub root_leads : (task : Task) (fill : Option ℕ) (word : ℕ) → words Root ≡ word → Leads made how words (rank 3 0 0 - 1) (at_root task fill word)
   root_leads Get fill word is = cond_both (word == 0) (Ended Absent) (Searching (Sizing word)) (Leads made how words (rank 3 0 0 - 1)) (λ _. (omega arith, tt)) (λ _. (omega arith, at_root_ahead how word is))
   root_leads (Insert replace) fill word is = cond_both (word == 0) Making (Searching (Sizing word)) (Leads made how words (rank 3 0 0 - 1)) (λ _. (omega arith, tt)) (λ _. (omega arith, at_root_ahead how word is))
@@ -213,10 +222,12 @@ module _ (made : Made) (how : ResizeMode) (words : At → ℕ) where
       cond_both (word == 0) (lacks fill gaps.NoRoot) (Searching (Sizing word)) (Leads made how words (rank 3 0 0 - 1))
       (λ _. more made how words (rank 2 (2 ^ 32) (2 ^ 68 + 10)) _ (lacks fill gaps.NoRoot) (omega arith) (lacks_leads made how words fill gaps.NoRoot tt)) (λ _. (omega arith, at_root_ahead how word is))
 
+  -- the closure of a removal answered
   agreed_leads : (removal : Removal) (agrees : Bool) → Leads made how words (rank 1 0 8) (agreed removal agrees)
   agreed_leads removal true = (omega arith, tt)
   agreed_leads removal false = (omega arith, tt)
 
+  -- a pair was written
   written_leads : (write : Write) (n : ℕ) → Leads made how words (rank 1 0 0) (written write n)
   written_leads write n = cond_both (write.old == 0) (Counting n) (Ended (Replaced (pair_of write.old) n)) (Leads made how words (rank 1 0 0)) (λ _. (omega arith, tt)) (λ _. (omega arith, tt))
 
@@ -230,6 +241,11 @@ module _ (made : Made) (how : ResizeMode) (words : At → ℕ) where
   chosen_leads removal op_kinds.Insert = (omega (arith, unmade_most made), tt)
   chosen_leads removal op_kinds.Remove = (omega arith, tt)
   chosen_leads removal (op_kinds.Abort t) = (omega arith, tt)
+
+-- something is left to a compute that makes its pair
+some_less : (made : Made) (purpose : Purpose) → 0 < rank_to_serve made purpose
+some_less made (purposes.Fill gap) = omega arith
+some_less made (purposes.Replace write) = omega arith
 
 -- the pair that a compute made leads on
 provides_leads : (made' made : Made) (how : ResizeMode) (words : At → ℕ) (purpose : Purpose) (n : ℕ) → IsPurposeAhead how words purpose → (rank_in made' (provides purpose n) < rank_to_serve made purpose) × IsAheadIn how words (provides purpose n)
@@ -265,6 +281,7 @@ module _ (words words' : At → ℕ) (m : Machine) where
       (λ (h : (refused : Refused) × (answer ≡ Was_refused refused)). subst (Ends made s) (sym h.1) (by_refused h.0))
       told
 
+  -- a search learns the size of its table
   size_ends : (made : Made) (t : ℕ) (answer : Answer) → (slots : ℕ) × (limit : ℕ) × IsSize slots limit × (answer ≡ Size slots limit) → IsAhead m.mode words' t → Ends made (Searching (Sizing t)) answer
   size_ends made t answer (slots, limit, size, e) h = let few : limit < 2 ^ 32 = size.few in subst (Ends made (Searching (Sizing t))) (sym e) (inr (omega arith), h)
 
@@ -286,19 +303,8 @@ module _ (words words' : At → ℕ) (m : Machine) where
       key_less : (purpose : Purpose) → rank_to_serve Key purpose < rank_to_serve Nothing purpose
       key_less (purposes.Fill gap) = omega arith
       key_less (purposes.Replace write) = omega arith
-      some_less : (made : Made) (purpose : Purpose) → 0 < rank_to_serve made purpose
-      some_less made (purposes.Fill gap) = omega arith
-      some_less made (purposes.Replace write) = omega arith
   pairing_ends Key purpose answer h told = making_ends Key (Pairing purpose) answer told.0 (λ n. let f = provides_leads Key Key m.mode words' purpose n (still_purpose purpose (told.1 Root) h) in (inr f.0, f.1)) (λ refused. (inr (some_less Key purpose), tt))
-    where
-      some_less : (made : Made) (purpose : Purpose) → 0 < rank_to_serve made purpose
-      some_less made (purposes.Fill gap) = omega arith
-      some_less made (purposes.Replace write) = omega arith
   pairing_ends (Pair k) purpose answer h told = making_ends (Pair k) (Pairing purpose) answer told.0 (λ n. let f = provides_leads (Pair k) (Pair k) m.mode words' purpose n (still_purpose purpose (told.1 Root) h) in (inr f.0, f.1)) (λ refused. (inr (some_less (Pair k) purpose), tt))
-    where
-      some_less : (made : Made) (purpose : Purpose) → 0 < rank_to_serve made purpose
-      some_less made (purposes.Fill gap) = omega arith
-      some_less made (purposes.Replace write) = omega arith
 
   -- a closure was shown a pair
   showing_ends : (made : Made) (removal : Removal) (answer : Answer) → IsSaying m.task answer → Ends made (Showing removal) answer

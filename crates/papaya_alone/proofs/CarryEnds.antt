@@ -1,7 +1,7 @@
 -- What each answer leaves to the carry of a pair.
-use Rattle.std.proofs.Common.{◌≡◌, ◌⊎◌, inl, inr, ℕ, ◌+◌, ◌*◌, ◌-◌, ◌%◌, ◌^◌, ◌<◌, ◌≤◌, ◌==◌, nat_lt, ltb-true, ltb-false, Bool, true, false, refl, sym, ap, ◌∙◌, subst, arith, eqb-true}
+use Rattle.std.proofs.Common.{◌≡◌, ◌⊎◌, inl, inr, ℕ, ◌+◌, ◌*◌, ◌-◌, ◌^◌, ◌<◌, ◌≤◌, ◌==◌, nat_lt, ltb-true, Bool, true, false, refl, sym, ap, ◌∙◌, subst, arith, eqb-true}
 use Rattle.std.proofs.lemmas.Bool.{cond_both}
-use Rattle.papaya_words.specs.Word.{kind_of, byte_of, top_byte, live_word, pair_of}
+use Rattle.papaya_words.specs.Word.{kind_of, byte_of, top_byte}
 use Rattle.papaya_words.specs.declared.word.Kind.{Kind}
 use Rattle.papaya_words.specs.declared.word.Kind.TheVariants as word_kinds
 use Rattle.papaya_words.specs.declared.probe.ResizeMode.{ResizeMode}
@@ -15,7 +15,6 @@ use Rattle.papaya_copy.specs.declared.carry.Carried.{Carried}
 use Rattle.papaya_copy.specs.declared.carry.Carried.TheVariants as carried
 use Rattle.papaya_copy.specs.declared.carry.Carry.{Carry}
 use Rattle.papaya_copy.specs.declared.carry.Carry.TheVariants as carries
-use Rattle.papaya_copy.specs.declared.link.Link.{Link}
 use Rattle.papaya_copy.specs.declared.link.Link.TheVariants as links
 use Rattle.papaya_copy.specs.declared.link.Linked.{Linked}
 use Rattle.papaya_copy.specs.declared.link.Linked.TheVariants as linked
@@ -29,7 +28,7 @@ use Rattle.papaya_rests.specs.Alone.{IsBare, IsPut, IsSame}
 use Rattle.papaya_rests.proofs.AloneSteps.{exchange_done}
 use Rattle.papaya_alone.specs.Prompt.{IsCopyPrompt, IsNumber}
 use Rattle.papaya_alone.specs.Measure.{further, left_of_carried, left_of_carry, left_of_link, left_of_linked}
-use Rattle.papaya_alone.specs.Current.{IsAlive, IsAtTarget, IsCarriedRead, IsCarrying, IsCarryRead, IsIncremental, IsLinkedRead, IsLinkRead, word_in}
+use Rattle.papaya_alone.specs.Current.{IsAlive, IsAtTarget, IsCarriedRead, IsCarrying, IsCarryRead, IsIncremental, IsLinkedRead, word_in}
 use Rattle.papaya_alone.proofs.Afters.{carry_after, carry_links}
 use Rattle.papaya_alone.proofs.LinkEnds.{IsNoNext, link_ends, link_puts}
 use Rattle.papaya_alone.proofs.Telling.{IsPutAt, Nears, nearer, stays_at}
@@ -68,6 +67,7 @@ module _ (mode : ResizeMode) (words words' : At → ℕ) (slot : Slot) (word : �
   still_alive (Incremental chunk) alive same = tt
   still_alive Blocking alive same = same ∙ alive
 
+  -- where neither was exchanged
   still : IsCarrying mode words slot word → words' (words_at.Aborted slot.to) ≡ words (words_at.Aborted slot.to) → word_in mode words' slot ≡ word_in mode words slot → IsCarrying mode words' slot word
   still h same there = record { alive = still_alive mode h.alive same; stands = there ∙ h.stands; marked = h.marked }
 
@@ -91,12 +91,14 @@ module _ (mode : ResizeMode) (words : At → ℕ) (bare : IsBare words) (slot : 
       (λ more. let l : at.probe.len < at.limit = ltb-true at.probe.len at.limit more in (omega arith, (h, here)))
       (λ over. let f = filled mode hash at.table here h.alive in let l = f.0 in (omega (arith, l), (h, f.1)))
 
+  -- a word with the hash byte is compared
   byte_within : (hash : ℕ) (at : Place) (found : ℕ) → IsAtTarget mode slot at.table → Within (further at.table * 2 ^ 34 + 2 * (at.limit - at.probe.len) + 6) (compare_byte hash at mode found)
   byte_within hash at found here =
       cond_both (byte_of found == top_byte hash) (carried.On (carries.Comparing hash at found)) (goes_on hash at mode) (Within (further at.table * 2 ^ 34 + 2 * (at.limit - at.probe.len) + 6))
       (λ same. (omega arith, (h, here)))
       (λ other. let f = goes_within hash at here in let l = f.0 in (omega (arith, l), f.1))
 
+  -- what the word at a place tells
   look_within : (kind : Kind) (hash : ℕ) (at : Place) (found : ℕ) → words (words_at.Slot at.table at.probe.i) ≡ found → (kind ≡ word_kinds.Empty → found ≡ 0) → IsAtTarget mode slot at.table → Within (further at.table * 2 ^ 34 + 2 * (at.limit - at.probe.len) + 6) (look_at kind hash at mode found)
   look_within word_kinds.Empty hash at found stands none here = (omega arith, (h, stands ∙ none refl))
   look_within word_kinds.Live hash at found stands none here = byte_within hash at found here
@@ -105,6 +107,7 @@ module _ (mode : ResizeMode) (words : At → ℕ) (bare : IsBare words) (slot : 
   look_within word_kinds.Buried hash at found stands none here = byte_within hash at found here
   look_within word_kinds.Closed hash at found stands none here = let f = goes_within hash at here in let l = f.0 in (omega (arith, l), f.1)
 
+  -- the keys match, or they do not
   compared_within : (hash : ℕ) (at : Place) (same : Bool) → IsAtTarget mode slot at.table → Within (further at.table * 2 ^ 34 + 2 * (at.limit - at.probe.len) + 5) (compared hash at mode same)
   compared_within hash at true here = (omega arith, h)
   compared_within hash at false here = goes_within hash at here
@@ -136,6 +139,7 @@ module _ (mode : ResizeMode) (initial : ℕ) (words words' : At → ℕ) (bare :
   abbrev pub CarryEnds : Carry → Answer → Type 0
   CarryEnds carry answer = Nears answer (left_of_carried (carry_after carry mode initial answer)) (left_of_carry carry) × IsCarriedRead mode words' slot word (carry_after carry mode initial answer)
 
+  -- in each state
   pub carry_ends : (carry : Carry) (answer : Answer) → IsCarrying mode words slot word → IsCarryRead mode words slot carry → IsCopyPrompt words (carry_ask carry word) answer words' → CarryEnds carry answer
   carry_ends (carries.Hashing table) answer h read told = subst (CarryEnds (carries.Hashing table)) (sym told.0.1) (inr (omega arith), (same_still mode words words' slot word h told.1, read))
   carry_ends (carries.Sizing hash table) answer h read told =

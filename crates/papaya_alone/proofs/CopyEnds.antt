@@ -1,5 +1,5 @@
 -- What each answer leaves to the copy of the root.
-use Rattle.std.proofs.Common.{◌≡◌, ◌⊎◌, cond, inl, inr, ℕ, ◌+◌, ◌*◌, ◌^◌, ◌<◌, ◌≤◌, ◌==◌, ◌||◌, refl, sym, ◌∙◌, subst, arith}
+use Rattle.std.proofs.Common.{◌≡◌, cond, ℕ, ◌+◌, ◌*◌, ◌^◌, ◌≤◌, ◌==◌, ◌||◌, sym, subst, arith}
 use Rattle.std.proofs.lemmas.Bool.{cond_both}
 use Rattle.papaya_words.specs.declared.probe.ResizeMode.{ResizeMode}
 use Rattle.papaya_words.specs.declared.probe.ResizeMode.TheVariants.{Incremental, Blocking}
@@ -14,17 +14,15 @@ use Rattle.papaya_copy.specs.declared.copying.Copying.TheVariants as copyings
 use Rattle.papaya_copy.specs.declared.settle.Settled.{Settled}
 use Rattle.papaya_copy.specs.declared.settle.Settled.TheVariants as settled
 use Rattle.papaya_copy.specs.declared.settle.Slot.{Slot}
-use Rattle.papaya_copy.specs.declared.step.Step.{Step}
 use Rattle.papaya_copy.specs.declared.step.Step.TheVariants as steps
 use Rattle.papaya_copy.specs.declared.step.Stepped.{Stepped}
 use Rattle.papaya_copy.specs.declared.step.Stepped.TheVariants as stepped
 use Rattle.papaya_copy.specs.Copying.{all_of, at_root, copying_ask, last, leads, lone, over}
-use Rattle.papaya_copy.specs.Step.{step_ask}
 use Rattle.papaya_chain.specs.declared.ask.Answer.{Answer}
 use Rattle.papaya_chain.specs.Machine.{copying_after}
 use Rattle.papaya_rests.specs.Alone.{IsBare}
 use Rattle.papaya_alone.specs.Prompt.{IsCopyPrompt}
-use Rattle.papaya_alone.specs.Measure.{further, left_of_copied, left_of_copying, left_of_settle, left_of_settled, left_of_step, left_of_stepped}
+use Rattle.papaya_alone.specs.Measure.{left_of_copied, left_of_copying, left_of_settle, left_of_settled, left_of_step, left_of_stepped}
 use Rattle.papaya_alone.specs.Current.{IsAimRead, IsAlive, IsCopiedRead, IsCopyingRead, IsIncremental, IsSettledRead, IsSteppedRead}
 use Rattle.papaya_alone.proofs.Afters.{copying_settles, copying_steps, settle_after, step_after}
 use Rattle.papaya_alone.proofs.SettleEnds.{settle_ends}
@@ -62,6 +60,7 @@ module _ (mode : ResizeMode) (words : At → ℕ) where
       (λ e. let l = none.0 in (omega (arith, l), none.1))
       (λ e. (omega arith, (read, is)))
 
+  -- all of the root is to be copied
   all_within : (how : ResizeMode) (met root : ℕ) → words words_at.Root ≡ root → Within (2 ^ 102 + 6 + 2 * 2 ^ 32) (all_of met how root)
   all_within (Incremental chunk) met root is = (omega arith, (tt, is))
   all_within Blocking met root is =
@@ -69,6 +68,7 @@ module _ (mode : ResizeMode) (words : At → ℕ) where
       (λ e. (omega arith, (tt, is)))
       (λ e. (omega arith, tt))
 
+  -- the root is told
   root_within : (how : ResizeMode) (aim : Aim) (root : ℕ) → IsAimRead mode words aim → words words_at.Root ≡ root → Within (2 ^ 102 + 6 + 2 * 2 ^ 32) (at_root aim how root)
   root_within how (aims.Search table) root read is = one_within (aims.Search table) root read is (last_within (aims.Search table) root read)
   root_within how (aims.Settle slot) root read is = one_within (aims.Settle slot) root read is (last_within (aims.Settle slot) root read)
@@ -105,6 +105,7 @@ module _ (mode : ResizeMode) (initial : ℕ) (words words' : At → ℕ) (bare :
   same_aim aims.Chunk read = tt
   same_aim (aims.All met) read = tt
 
+  -- in each state
   pub copying_ends : (copying : Copying) (answer : Answer) → IsCopyingRead mode words copying → IsCopyPrompt words (copying_ask copying) answer words' → CopyEnds copying answer
   copying_ends (copyings.Stepping aim step) answer read told =
       let e = step_ends mode initial words words' bare step answer read.1 told in

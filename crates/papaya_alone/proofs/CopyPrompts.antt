@@ -1,35 +1,29 @@
 -- What is told of the law's words is what the words answer a copier.
-use Rattle.std.proofs.Common.{◌≡◌, ◌⊎◌, inl, inr, ⊎_elim, ℕ, ◌+◌, ◌<◌, ◌≤◌, ◌^◌, ◌==◌, Bool, true, false, Option, Some, List, [], ◌∷◌, refl, sym, ap, ◌∙◌, subst, arith, eqb-true}
+use Rattle.std.proofs.Common.{◌≡◌, inl, inr, ⊎_elim, ℕ, ◌<◌, ◌==◌, Bool, true, false, Option, List, [], refl, sym, ap, ◌∙◌, subst, arith, eqb-true}
 use Rattle.std.specs.Prelude.{MatchBool}
-use Rattle.papaya_words.specs.Word.{kind_of}
 use Rattle.papaya_words.specs.declared.probe.Refused.{Refused}
 use Rattle.papaya_words.specs.declared.word.Kind.TheVariants as word_kinds
-use Rattle.papaya_ask.specs.declared.ask.Answer.TheVariants.{Word as Word_read, Exchanged, Found as Found_instead, Yes, Size, Made as Made_number, Refused as Was_refused}
+use Rattle.papaya_ask.specs.declared.ask.Answer.TheVariants.{Made as Made_number, Refused as Was_refused}
 use Rattle.papaya_ask.specs.declared.ask.At.{At}
 use Rattle.papaya_ask.specs.declared.ask.At.TheVariants as words_at
 use Rattle.papaya_ask.specs.declared.ask.StepKind.{StepKind}
 use Rattle.papaya_ask.specs.declared.copy_ask.CopyAsk.{CopyAsk}
 use Rattle.papaya_ask.specs.declared.copy_ask.CopyAsk.TheVariants.{Load, Exchange as Ask_exchange, SizeOf, HashOf, SamePair, Count, MakeTable}
-use Rattle.papaya_copy.specs.declared.copying.Copying.{Copying}
-use Rattle.papaya_copy.specs.Copying.{copying_ask, copying_follows, copying_kind}
 use Rattle.papaya_chain.specs.declared.ask.Answer.{Answer}
 use Rattle.papaya_chain.specs.declared.ask.Answer.TheVariants as answers
 use Rattle.papaya_law.specs.Allows.{Allows}
-use Rattle.papaya_law.specs.Class.{IsOn, Rises}
 use Rattle.papaya_law.specs.Code.{Coding, IsHashed, code, kind}
 use Rattle.papaya_law.specs.Exchange.{Word, Empty, Closed, Live, Marked, Copied, Buried, Setting, State, Exchange, after, run}
 use Rattle.papaya_law.specs.Invariant.{IsKeeping}
 use Rattle.papaya_law.proofs.Chain.{next_on}
 use Rattle.papaya_law.proofs.Codes.{code_kind}
 use Rattle.papaya_law.proofs.OneMap.{keeping_sound}
-use Rattle.papaya_rests.specs.Alone.{IsBare, IsPut, IsSame}
-use Rattle.papaya_rests.specs.Copier.{AreThere, IsCopyAsked, IsThere, RestsCopying, last_after, told_last}
+use Rattle.papaya_rests.specs.Alone.{IsBare, IsSame}
+use Rattle.papaya_rests.specs.Copier.{AreThere, IsCopyAsked, IsThere}
 use Rattle.papaya_rests.specs.Told.{IsWritten, word_of}
-use Rattle.papaya_rests.proofs.CopierCopies.{copying_there}
-use Rattle.papaya_rests.proofs.CopierExchange.{copying_may, one_asked}
-use Rattle.papaya_rests.proofs.RestsLearn.{by_test}
-use Rattle.papaya_chain_rests.specs.Told.{Hands, IsCopyTold, Quiet, told_of}
-use Rattle.papaya_alone.specs.Prompt.{IsBounded, IsCopyPrompt, IsMaking, IsNumber}
+use Rattle.papaya_rests.proofs.CopierExchange.{one_asked}
+use Rattle.papaya_chain_rests.specs.Told.{Hands, IsCopyTold}
+use Rattle.papaya_alone.specs.Prompt.{IsBounded, IsCopyPrompt, IsNumber}
 
 module _ {K P : Type 0} (g : Setting K P) (c : Coding K P) (s : State P) where
   -- an empty slot's word is 0
@@ -41,6 +35,7 @@ module _ {K P : Type 0} (g : Setting K P) (c : Coding K P) (s : State P) where
   empty_none (Copied p) e = absurd cc
   empty_none (Buried p) e = absurd cc
 
+  -- so the words are bare
   pub words_bare : IsBare (word_of g c s)
   words_bare t i e = empty_none (s.slot t i) (sym (code_kind g c (s.slot t i)) ∙ e)
 

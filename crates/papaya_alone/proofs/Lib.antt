@@ -14,3 +14,7 @@ pub mod Onwards
 pub mod CallLaw
 pub mod AsideRanks
 pub mod AsideCopies
+pub mod MachineLaw
+pub mod Measures
+pub mod ChainLaw
+pub mod CopierLaw

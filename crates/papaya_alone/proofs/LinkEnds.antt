@@ -1,12 +1,12 @@
 -- What each answer leaves to the making of a table.
-use Rattle.std.proofs.Common.{◌≡◌, inl, inr, ℕ, ◌+◌, ◌*◌, ◌^◌, ◌<◌, nat_le, refl, sym, ◌∙◌, subst, arith}
+use Rattle.std.proofs.Common.{◌≡◌, inl, inr, ℕ, ◌^◌, nat_le, sym, ◌∙◌, subst, arith}
 use Rattle.std.proofs.lemmas.Bool.{cond_both}
 use Rattle.papaya_words.specs.Table.{length_after}
 use Rattle.papaya_words.specs.declared.probe.Refused.TheVariants.{Capacity}
 use Rattle.papaya_ask.specs.declared.ask.At.{At}
 use Rattle.papaya_ask.specs.declared.ask.At.TheVariants.{Next}
 use Rattle.papaya_ask.specs.declared.ask.At.TheVariants as words_at
-use Rattle.papaya_ask.specs.declared.ask.Answer.TheVariants.{Exchanged, Size}
+use Rattle.papaya_ask.specs.declared.ask.Answer.TheVariants.{Exchanged}
 use Rattle.papaya_copy.specs.declared.link.Link.{Link}
 use Rattle.papaya_copy.specs.declared.link.Link.TheVariants as links
 use Rattle.papaya_copy.specs.declared.link.Linked.TheVariants as linked
@@ -37,6 +37,7 @@ module _ (words words' : At → ℕ) (initial : ℕ) where
   abbrev pub LinkEnds : Link → Answer → Type 0
   LinkEnds link answer = Nears answer (left_of_linked (link_after link initial answer)) (left_of_link link) × IsLinkedRead words' (link_after link initial answer)
 
+  -- in each state
   pub link_ends : (link : Link) (answer : Answer) → IsLinkRead words link → IsCopyPrompt words (link_ask link) answer words' → LinkEnds link answer
   link_ends (links.Sizing behind unfit) answer read told =
       let (slots, limit, size, e) = told.0 in

@@ -1,30 +1,27 @@
 -- How a call that was set aside goes on, where no other caller is beside it.
-use Rattle.std.proofs.Common.{◌≡◌, ◌⊎◌, inl, inr, ⊎_elim, ℕ, ◌+◌, ◌*◌, ◌-◌, ◌^◌, ◌<◌, ◌≤◌, ◌==◌, ◌||◌, Bool, true, false, Some, refl, sym, ap, ◌∙◌, subst, arith, eq-eqb, eqb-true}
+use Rattle.std.proofs.Common.{◌≡◌, ◌⊎◌, ⊎_elim, ℕ, ◌+◌, ◌*◌, ◌^◌, ◌<◌, ◌≤◌, ◌==◌, ◌||◌, Bool, true, false, Some, refl, sym, ap, ◌∙◌, subst, arith, eq-eqb, eqb-true}
 use Rattle.std.proofs.lemmas.Bool.{cond_both}
-use Rattle.papaya_words.specs.declared.probe.Refused.{Refused}
 use Rattle.papaya_words.specs.declared.probe.ResizeMode.{ResizeMode}
 use Rattle.papaya_words.specs.declared.probe.ResizeMode.TheVariants.{Incremental, Blocking}
 use Rattle.papaya_ask.specs.declared.ask.At.{At}
 use Rattle.papaya_ask.specs.declared.ask.At.TheVariants as words_at
 use Rattle.papaya_call.specs.declared.machine.State.{State}
-use Rattle.papaya_call.specs.declared.machine.State.TheVariants.{AtRoot, Making, Opening, Searching, Writing, Offering, Showing, Pairing, Putting, Burying, Counting, Uncounting, Leaving, Growing, Ended}
+use Rattle.papaya_call.specs.declared.machine.State.TheVariants.{Growing}
 use Rattle.papaya_call.specs.declared.need.Need.{Need}
 use Rattle.papaya_call.specs.declared.need.Need.TheVariants.{Room, Pair as Pair_at}
 use Rattle.papaya_call.specs.Machine.{needed}
 use Rattle.papaya_copy.specs.declared.copying.Aim.{Aim}
 use Rattle.papaya_copy.specs.declared.copying.Aim.TheVariants as aims
-use Rattle.papaya_copy.specs.declared.copying.Copying.TheVariants.{Stepping, Lone}
 use Rattle.papaya_copy.specs.declared.link.Link.TheVariants as links
-use Rattle.papaya_copy.specs.declared.step.Step.TheVariants as steps
 use Rattle.papaya_chain.specs.declared.machine.Machine.{Machine}
-use Rattle.papaya_chain.specs.declared.machine.Phase.TheVariants.{Linking, Copying as Copying_root}
-use Rattle.papaya_chain.specs.Machine.{aim_for, begins_anew, enters, goes_on, grows_as, onward, refuses}
+use Rattle.papaya_chain.specs.declared.machine.Phase.TheVariants.{Linking}
+use Rattle.papaya_chain.specs.Machine.{aim_for, begins_anew, enters, goes_on, grows_as, onward}
 use Rattle.papaya_chain_rests.specs.Rests.{left_by}
 use Rattle.papaya_rests.specs.Alone.{IsRead}
 use Rattle.papaya_alone.specs.Ahead.{IsAhead, IsCurrent}
 use Rattle.papaya_alone.specs.Current.{IsAimRead, IsIncremental}
 use Rattle.papaya_alone.specs.Measure.{further}
-use Rattle.papaya_alone.specs.Rank.{rank, rank_at_root, rank_in, rank_of}
+use Rattle.papaya_alone.specs.Rank.{rank, rank_at_root, rank_of}
 use Rattle.papaya_alone.proofs.CallRanks.{root_leads}
 use Rattle.papaya_alone.proofs.CopyEnds.{any_alive}
 
@@ -34,6 +31,7 @@ AimsAt (aims.Search t) n = t ≡ n
 AimsAt (aims.Settle slot) n = slot.to ≡ n
 AimsAt _ n = ⊥
 
+-- what it copies for is the next table
 pub aims_at : (state : State) (n : ℕ) → AimsAt (aim_for state n) n
 aims_at (Growing (Room t)) n = refl
 aims_at (Growing (Pair_at t x)) n = refl
@@ -45,6 +43,7 @@ module _ (words : At → ℕ) where
   ahead_of (Incremental chunk) t inc h = h
   ahead_of Blocking t inc h = absurd inc
 
+  -- and no earlier than the root if it is ahead
   pub ahead_least : (how : ResizeMode) (t : ℕ) → IsAhead how words t → words words_at.Root ≤ t
   ahead_least (Incremental chunk) t h = h
   ahead_least Blocking t h = omega (arith, h)
@@ -69,6 +68,7 @@ module _ (words : At → ℕ) where
     goes_current true aims.Chunk n is h left = absurd is
     goes_current true (aims.All met) n is h left = absurd is
 
+    -- so it goes on
     pub onward_current : (n : ℕ) → words words_at.Root ≤ n → ((t : ℕ) → left_by m.call.state ≡ Some t → words words_at.Root ≤ t) → IsCurrent words (onward m n)
     onward_current n h left = goes_current m.helped (aim_for m.call.state n) n (aims_at m.call.state n) h left
 
@@ -91,6 +91,7 @@ module _ (words : At → ℕ) where
     pub anew_current : IsRead words (begins_anew m (words words_at.Root)).call.state → IsCurrent words (begins_anew m (words words_at.Root))
     anew_current read = (read, (root_leads m.call.made m.call.mode words m.call.task m.call.remembered.fill (words words_at.Root) refl).1)
 
+    -- with less left than before
     pub anew_rank : rank_of (words words_at.Root) (begins_anew m (words words_at.Root)) < rank 3 0 0
     anew_rank = let f = root_leads m.call.made m.call.mode words m.call.task m.call.remembered.fill (words words_at.Root) refl in let l = f.0 in omega (arith, l)
 

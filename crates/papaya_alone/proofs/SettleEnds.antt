@@ -1,5 +1,5 @@
 -- What each answer leaves to the copy of a slot.
-use Rattle.std.proofs.Common.{◌≡◌, ◌⊎◌, inl, inr, ℕ, ◌+◌, ◌*◌, ◌-◌, ◌%◌, ◌^◌, ◌<◌, ◌≤◌, refl, sym, ap, ◌∙◌, subst, arith}
+use Rattle.std.proofs.Common.{◌≡◌, inl, inr, ℕ, ◌+◌, ◌%◌, ◌^◌, ◌≤◌, refl, sym, ap, ◌∙◌, subst, arith}
 use Rattle.papaya_words.specs.Word.{kind_of, kind_of_code, byte_of, pair_of, filled_word}
 use Rattle.papaya_words.specs.declared.word.Kind.{Kind}
 use Rattle.papaya_words.specs.declared.word.Kind.TheVariants as word_kinds
@@ -10,22 +10,17 @@ use Rattle.papaya_ask.specs.declared.ask.At.TheVariants as words_at
 use Rattle.papaya_ask.specs.declared.ask.Answer.TheVariants.{Exchanged}
 use Rattle.papaya_copy.specs.declared.carry.Carried.{Carried}
 use Rattle.papaya_copy.specs.declared.carry.Carried.TheVariants as carried
-use Rattle.papaya_copy.specs.declared.carry.Carry.{Carry}
-use Rattle.papaya_copy.specs.declared.carry.Carry.TheVariants as carries
 use Rattle.papaya_copy.specs.declared.settle.Settle.{Settle}
 use Rattle.papaya_copy.specs.declared.settle.Settle.TheVariants as settles
-use Rattle.papaya_copy.specs.declared.settle.Settled.{Settled}
-use Rattle.papaya_copy.specs.declared.settle.Settled.TheVariants as settled
 use Rattle.papaya_copy.specs.declared.settle.Slot.{Slot}
-use Rattle.papaya_copy.specs.Carry.{carry_ask}
 use Rattle.papaya_copy.specs.Settle.{look_at, marked_as, settle_ask, settled_by}
 use Rattle.papaya_chain.specs.declared.ask.Answer.{Answer}
 use Rattle.papaya_chain.specs.declared.ask.Answer.TheVariants as answers
-use Rattle.papaya_rests.specs.Alone.{IsBare, IsPut, IsSame}
+use Rattle.papaya_rests.specs.Alone.{IsBare, IsPut}
 use Rattle.papaya_rests.proofs.AloneSteps.{exchange_done}
 use Rattle.papaya_alone.specs.Prompt.{IsCopyPrompt}
-use Rattle.papaya_alone.specs.Measure.{further, left_of_carried, left_of_carry, left_of_settle, left_of_settled}
-use Rattle.papaya_alone.specs.Current.{IsAlive, IsAtTarget, IsCarriedRead, IsCarrying, IsCarryRead, IsSettledRead, IsSettleRead, word_in}
+use Rattle.papaya_alone.specs.Measure.{left_of_carried, left_of_carry, left_of_settle, left_of_settled}
+use Rattle.papaya_alone.specs.Current.{IsAlive, IsAtTarget, IsCarriedRead, IsCarrying, IsSettledRead, IsSettleRead, word_in}
 use Rattle.papaya_alone.proofs.Afters.{carry_after, settle_after, settle_carries}
 use Rattle.papaya_alone.proofs.CarryEnds.{IsOfRoot, carry_ends, carry_puts, still_alive}
 use Rattle.papaya_alone.proofs.Telling.{IsPutAt, Nears, nearer}
@@ -83,6 +78,7 @@ module _ (mode : ResizeMode) (initial : ℕ) (words words' : At → ℕ) (bare :
   left_alive : (new : ℕ) → IsAlive mode words slot.to → IsPut words here new words' → IsAlive mode words' slot.to
   left_alive new alive put = still_alive mode words words' slot 0 mode alive (put.others (words_at.Aborted slot.to) (λ e. cc))
 
+  -- in each state
   pub settle_ends : (settle : Settle) (answer : Answer) → IsSettleRead mode words slot settle → IsCopyPrompt words (settle_ask settle slot) answer words' → SettleEnds settle answer
   settle_ends settles.Looking answer read told =
       let f = settle_look_within mode words' slot (kind_of (words here)) (words here) (still_alive mode words words' slot 0 mode read (told.1 (words_at.Aborted slot.to))) (told.1 here) (λ e. sym (told.1 here) ∙ bare slot.from slot.index (ap kind_of (told.1 here) ∙ e)) refl in

@@ -1,5 +1,5 @@
 -- What each answer leaves to the copy of a chunk.
-use Rattle.std.proofs.Common.{◌≡◌, ◌⊎◌, inl, inr, ℕ, ◌+◌, ◌*◌, ◌-◌, ◌^◌, ◌<◌, ◌≤◌, ◌==◌, nat_lt, nat_le, not, ltb-true, ltb-false, leb-true, leb-false, true, false, refl, sym, ap, ◌∙◌, subst, arith, eqb-true}
+use Rattle.std.proofs.Common.{◌≡◌, ◌⊎◌, inl, inr, ℕ, ◌+◌, ◌*◌, ◌-◌, ◌^◌, ◌<◌, ◌≤◌, ◌==◌, nat_lt, nat_le, not, ltb-true, leb-false, true, false, sym, ap, ◌∙◌, subst, arith, eqb-true}
 use Rattle.std.proofs.lemmas.Bool.{cond_both}
 use Rattle.papaya_words.specs.declared.probe.ResizeMode.{ResizeMode}
 use Rattle.papaya_words.specs.declared.probe.ResizeMode.TheVariants.{Incremental, Blocking}
@@ -9,7 +9,6 @@ use Rattle.papaya_ask.specs.declared.ask.Answer.TheVariants.{Exchanged}
 use Rattle.papaya_copy.specs.declared.link.Link.TheVariants as links
 use Rattle.papaya_copy.specs.declared.link.Linked.{Linked}
 use Rattle.papaya_copy.specs.declared.link.Linked.TheVariants as linked
-use Rattle.papaya_copy.specs.declared.settle.Settle.{Settle}
 use Rattle.papaya_copy.specs.declared.settle.Settle.TheVariants as settles
 use Rattle.papaya_copy.specs.declared.settle.Settled.{Settled}
 use Rattle.papaya_copy.specs.declared.settle.Settled.TheVariants as settled
@@ -20,7 +19,7 @@ use Rattle.papaya_copy.specs.declared.step.Stepped.{Stepped}
 use Rattle.papaya_copy.specs.declared.step.Stepped.TheVariants as stepped
 use Rattle.papaya_copy.specs.Link.{link_ask}
 use Rattle.papaya_copy.specs.Settle.{settle_ask}
-use Rattle.papaya_copy.specs.Step.{advanced, aimed, chunk_at, chunk_of, counted, end_of, judged, linked_to, next_slot, settled_to, slot_of, step_ask}
+use Rattle.papaya_copy.specs.Step.{aimed, chunk_at, chunk_of, counted, end_of, judged, linked_to, next_slot, settled_to, slot_of, step_ask}
 use Rattle.papaya_chain.specs.declared.ask.Answer.{Answer}
 use Rattle.papaya_chain.specs.declared.ask.Answer.TheVariants as answers
 use Rattle.papaya_chain.specs.Machine.{link_after}
@@ -74,6 +73,7 @@ module _ (mode : ResizeMode) (words : At → ℕ) where
   judged_alive (Incremental chunk) to word is none = tt
   judged_alive Blocking to word is none = is ∙ none
 
+  -- the table was given up, or not
   judged_within : (from to word : ℕ) → words words_at.Root ≡ from → words (words_at.Aborted to) ≡ word → Within (2 ^ 102 + 6 + 2 * further to) (stepped.On (judged from to word))
   judged_within from to word root is =
       cond_both (word == 0) (steps.Sizing from to) (steps.Aiming from to) (λ y. Within (2 ^ 102 + 6 + 2 * further to) (stepped.On y))
@@ -110,6 +110,7 @@ module _ (mode : ResizeMode) (initial : ℕ) (words words' : At → ℕ) (bare :
   same_number : (t : ℕ) → words' (words_at.Next t) ≡ words (words_at.Next t) → IsNumber words (words_at.Next t) → IsNumber words' (words_at.Next t)
   same_number t same number = subst (λ n. (n ≡ 0) ⊎ ((t < n) × (n < 2 ^ 32))) (sym same) number
 
+  -- in each state
   pub step_ends : (step : Step) (answer : Answer) → IsStepRead mode words step → IsCopyPrompt words (step_ask step) answer words' → StepEnds step answer
   step_ends steps.AtRoot answer read told = subst (StepEnds steps.AtRoot) (sym told.0.0) (inr (omega arith), told.1 words_at.Root)
   step_ends (steps.Aiming from behind) answer read told =

@@ -7,3 +7,5 @@ pub mod Current
 -- how far a call is from its end, and where it stands in the chain
 pub mod Rank
 pub mod Ahead
+-- a copy for its own sake
+pub mod Copiers
