@@ -78,11 +78,11 @@ module _ (words words' : At → ℕ) (bare : IsBare words) (before later : Budge
         )
 
     -- what the next table's number is
-    next_number : (t word : ℕ) → word ≡ words (words_at.Next t) → (words (words_at.Next t) ≡ 0) ⊎ ((t < words (words_at.Next t)) × (words (words_at.Next t) < 2 ^ 32)) → (word ≡ 0) ⊎ ((t < word) × (word < 2 ^ 32))
-    next_number t word is h = subst (λ n. (n ≡ 0) ⊎ ((t < n) × (n < 2 ^ 32))) (sym is) h
+    next_number : (t word : ℕ) → word ≡ words (words_at.Next t) → (words (words_at.Next t) ≡ 0) ⊎ ((t < words (words_at.Next t)) × (words (words_at.Next t) ≤ 2 ^ 32)) → (word ≡ 0) ⊎ ((t < word) × (word ≤ 2 ^ 32))
+    next_number t word is h = subst (λ n. (n ≡ 0) ⊎ ((t < n) × (n ≤ 2 ^ 32))) (sym is) h
 
     -- there is none, or the call goes on to it
-    either : IsIncremental call.mode → (t : ℕ) → left_by stage ≡ Some t → words' words_at.Root ≤ t → rank 2 (further t) (2 ^ 68 + 3) ≤ rank_in call.made stage → later ≡ before → (word : ℕ) → (word ≡ 0) ⊎ ((t < word) × (word < 2 ^ 32))
+    either : IsIncremental call.mode → (t : ℕ) → left_by stage ≡ Some t → words' words_at.Root ≤ t → rank 2 (further t) (2 ^ 68 + 3) ≤ rank_in call.made stage → later ≡ before → (word : ℕ) → (word ≡ 0) ⊎ ((t < word) × (word ≤ 2 ^ 32))
         → Lowered stage (stepped (in_stage stage) (Word_read word)) → Lowered stage (cond (word == 0) (stepped (in_stage stage) (Word_read word)) (onward (in_stage stage) word))
     either inc t left least most kept word up inner =
         cond_both (word == 0) (stepped (in_stage stage) (Word_read word)) (onward (in_stage stage) word) (Lowered stage)
@@ -93,7 +93,7 @@ module _ (words words' : At → ℕ) (bare : IsBare words) (before later : Budge
         (inr (kept, omega (arith, l, most)), f.1))
 
     -- a call that looks for its key leaves its table
-    leaves_on : (task : Task) → IsIncremental call.mode → (t : ℕ) → left_by stage ≡ Some t → words' words_at.Root ≤ t → rank 2 (further t) (2 ^ 68 + 3) ≤ rank_in call.made stage → later ≡ before → (word : ℕ) → (word ≡ 0) ⊎ ((t < word) × (word < 2 ^ 32))
+    leaves_on : (task : Task) → IsIncremental call.mode → (t : ℕ) → left_by stage ≡ Some t → words' words_at.Root ≤ t → rank 2 (further t) (2 ^ 68 + 3) ≤ rank_in call.made stage → later ≡ before → (word : ℕ) → (word ≡ 0) ⊎ ((t < word) × (word ≤ 2 ^ 32))
         → Lowered stage (stepped (in_stage stage) (Word_read word)) → Lowered stage (leaves (in_stage stage) task word)
     leaves_on Get inc t left least most kept word up inner = inner
     leaves_on (Insert replace) inc t left least most kept word up inner = either inc t left least most kept word up inner

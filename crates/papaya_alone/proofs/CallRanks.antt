@@ -314,14 +314,14 @@ module _ (words words' : At → ℕ) (m : Machine) where
       (λ kind. let f = chosen_leads made m.mode words' removal kind in let l = f.0 in (inr (omega (arith, l)), f.1)) m.task answer told
 
   -- a next table is further on
-  next_ends : (made : Made) (how : ResizeMode) (t word : ℕ) → IsIncremental how → IsAhead how words' t → (word ≡ 0) ⊎ ((t < word) × (word < 2 ^ 32)) → (rank_in made (next_or_end m.task m.remembered.fill t word) < rank 2 (further t) (2 ^ 68 + 16)) × IsAheadIn how words' (next_or_end m.task m.remembered.fill t word)
+  next_ends : (made : Made) (how : ResizeMode) (t word : ℕ) → IsIncremental how → IsAhead how words' t → (word ≡ 0) ⊎ ((t < word) × (word ≤ 2 ^ 32)) → (rank_in made (next_or_end m.task m.remembered.fill t word) < rank 2 (further t) (2 ^ 68 + 16)) × IsAheadIn how words' (next_or_end m.task m.remembered.fill t word)
   next_ends made (Incremental chunk) t word inc h number =
       cond_both (word == 0) (absent m.task m.remembered.fill (gaps.After t)) (Searching (Sizing word)) (λ s. (rank_in made s < rank 2 (further t) (2 ^ 68 + 16)) × IsAheadIn (Incremental chunk) words' s)
       (λ none. let f = absent_leads made (Incremental chunk) words' m.task m.remembered.fill (gaps.After t) h in let l = f.0 in (omega (arith, l), f.1))
       (λ some.
       ⊎_elim
       (λ (none : word ≡ 0). absurd (let y : (word == 0) ≡ true = ap (λ n. n == 0) none in cc (y, some)))
-      (λ (up : (t < word) × (word < 2 ^ 32)). let a = up.0 in let b = up.1 in (omega (arith, a, b), omega (arith, a, h)))
+      (λ (up : (t < word) × (word ≤ 2 ^ 32)). let a = up.0 in let b = up.1 in (omega (arith, a, b), omega (arith, a, h)))
       number)
   next_ends made Blocking t word inc h number = absurd inc
 

@@ -163,7 +163,7 @@ module _ (mode : ResizeMode) (initial : ℕ) (words words' : At → ℕ) (bare :
             (done.1.others (words_at.Slot slot.from slot.index) (λ (e : words_at.Slot slot.from slot.index ≡ there). let s = h.stands in let z : words (words_at.Slot slot.from slot.index) ≡ 0 = ap words e ∙ read in marked_some word h.marked (sym s ∙ z))),
       )
   carry_ends (carries.Passing hash table) answer h read told =
-      let f = passed_within mode words' bare slot word (same_still mode words words' slot word h told.1) hash table (words (words_at.Next table)) read (told.1 (words_at.Next table)) (subst (λ n. (n ≡ 0) ⊎ ((table < n) × (n < 2 ^ 32))) (sym (told.1 (words_at.Next table))) told.0.1) in
+      let f = passed_within mode words' bare slot word (same_still mode words words' slot word h told.1) hash table (words (words_at.Next table)) read (told.1 (words_at.Next table)) (subst (λ n. (n ≡ 0) ⊎ ((table < n) × (n ≤ 2 ^ 32))) (sym (told.1 (words_at.Next table))) told.0.1) in
       let l = f.0 in
       subst (CarryEnds (carries.Passing hash table)) (sym told.0.0) (inr (omega (arith, l)), f.1)
   carry_ends (carries.Linking hash link) answer h read told =

@@ -73,7 +73,7 @@ module _ (words : At → ℕ) where
     onward_current n h left = goes_current m.helped (aim_for m.call.state n) n (aims_at m.call.state n) h left
 
   module _ (m : Machine) where
-    goes_rank : (helped : Bool) (aim : Aim) (n t : ℕ) → AimsAt aim n → t < n → n < 2 ^ 32 → rank_of (words words_at.Root) (goes_on m helped aim n) < rank 2 (further t) (2 ^ 68 + 3)
+    goes_rank : (helped : Bool) (aim : Aim) (n t : ℕ) → AimsAt aim n → t < n → n ≤ 2 ^ 32 → rank_of (words words_at.Root) (goes_on m helped aim n) < rank 2 (further t) (2 ^ 68 + 3)
     goes_rank false (aims.Search u) n t is up most = omega arith
     goes_rank false (aims.Settle slot) n t is up most = omega arith
     goes_rank false aims.Chunk n t is up most = absurd is
@@ -84,7 +84,7 @@ module _ (words : At → ℕ) where
     goes_rank true (aims.All met) n t is up most = absurd is
 
     -- and less is left then
-    pub onward_rank : (n t : ℕ) → t < n → n < 2 ^ 32 → rank_of (words words_at.Root) (onward m n) < rank 2 (further t) (2 ^ 68 + 3)
+    pub onward_rank : (n t : ℕ) → t < n → n ≤ 2 ^ 32 → rank_of (words words_at.Root) (onward m n) < rank 2 (further t) (2 ^ 68 + 3)
     onward_rank n t up most = goes_rank m.helped (aim_for m.call.state n) n t (aims_at m.call.state n) up most
 
     -- a call that begins anew is at the root
@@ -96,12 +96,12 @@ module _ (words : At → ℕ) where
     anew_rank = let f = root_leads m.call.made m.call.mode words m.call.task m.call.remembered.fill (words words_at.Root) refl in let l = f.0 in omega (arith, l)
 
 -- the next table is there: a call goes on to it, or copies first
-pub goes_on_lowers : (words : At → ℕ) (m : Machine) → IsIncremental m.call.mode → (n t : ℕ) → words words_at.Root ≤ t → ((u : ℕ) → left_by m.call.state ≡ Some u → words words_at.Root ≤ u) → (n == 0) ≡ false → (n ≡ 0) ⊎ ((t < n) × (n < 2 ^ 32))
+pub goes_on_lowers : (words : At → ℕ) (m : Machine) → IsIncremental m.call.mode → (n t : ℕ) → words words_at.Root ≤ t → ((u : ℕ) → left_by m.call.state ≡ Some u → words words_at.Root ≤ u) → (n == 0) ≡ false → (n ≡ 0) ⊎ ((t < n) × (n ≤ 2 ^ 32))
     → (rank_of (words words_at.Root) (onward m n) < rank 2 (further t) (2 ^ 68 + 3)) × IsCurrent words (onward m n)
 goes_on_lowers words m inc n t least left some number =
     ⊎_elim
     (λ (none : n ≡ 0). absurd (let y : (n == 0) ≡ true = ap (λ x. x == 0) none in cc (y, some)))
-    (λ (up : (t < n) × (n < 2 ^ 32)). let a = up.0 in (onward_rank words m n t up.0 up.1, onward_current words m inc n (omega (arith, a, least)) left))
+    (λ (up : (t < n) × (n ≤ 2 ^ 32)). let a = up.0 in (onward_rank words m n t up.0 up.1, onward_current words m inc n (omega (arith, a, least)) left))
     number
 
 -- of two tests one that holds
@@ -118,7 +118,7 @@ all_rank root met is =
 
 module _ (words : At → ℕ) (m : Machine) where
   -- the next table was looked up by a call that needs it: less is left, and what was read stands there
-  pub grows_lowers : (how : ResizeMode) → m.call.mode ≡ how → (need : Need) (n : ℕ) → left_by m.call.state ≡ Some (needed need) → IsAhead how words (needed need) → words (words_at.Next (needed need)) ≡ n → (n ≡ 0) ⊎ ((needed need < n) × (n < 2 ^ 32))
+  pub grows_lowers : (how : ResizeMode) → m.call.mode ≡ how → (need : Need) (n : ℕ) → left_by m.call.state ≡ Some (needed need) → IsAhead how words (needed need) → words (words_at.Next (needed need)) ≡ n → (n ≡ 0) ⊎ ((needed need < n) × (n ≤ 2 ^ 32))
       → (rank_of (words words_at.Root) (grows_as m how need n) < rank 2 (further (needed need)) (2 ^ 68 + 3)) × IsCurrent words (grows_as m how need n)
   grows_lowers Blocking moded need n left ahead is number =
       let a = all_rank (words words_at.Root) (needed need) ahead in

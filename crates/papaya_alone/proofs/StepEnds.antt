@@ -108,7 +108,7 @@ module _ (mode : ResizeMode) (initial : ℕ) (words words' : At → ℕ) (bare :
 
   -- a number stays one
   same_number : (t : ℕ) → words' (words_at.Next t) ≡ words (words_at.Next t) → IsNumber words (words_at.Next t) → IsNumber words' (words_at.Next t)
-  same_number t same number = subst (λ n. (n ≡ 0) ⊎ ((t < n) × (n < 2 ^ 32))) (sym same) number
+  same_number t same number = subst (λ n. (n ≡ 0) ⊎ ((t < n) × (n ≤ 2 ^ 32))) (sym same) number
 
   -- in each state
   pub step_ends : (step : Step) (answer : Answer) → IsStepRead mode words step → IsCopyPrompt words (step_ask step) answer words' → StepEnds step answer

@@ -1,5 +1,5 @@
 -- What an answer to what is asked for a copy says, where nobody else changes the words.
-use Rattle.std.specs.Prelude.{◌≡◌, ◌⊎◌, ℕ, ◌+◌, ◌<◌, ◌^◌, ◌==◌, Bool, MatchBool}
+use Rattle.std.specs.Prelude.{◌≡◌, ◌⊎◌, ℕ, ◌+◌, ◌<◌, ◌≤◌, ◌^◌, ◌==◌, Bool, MatchBool}
 use Rattle.papaya_words.specs.declared.probe.Refused.{Refused}
 use Rattle.papaya_ask.specs.declared.ask.At.{At}
 use Rattle.papaya_ask.specs.declared.ask.At.TheVariants.{Next}
@@ -23,14 +23,14 @@ use Rattle.papaya_rests.specs.Alone as calls
 
 -- the tables that were opened or linked have numbers of so many bits, and sizes of tables
 pub record IsBounded {K P : Type 0} (g : Setting K P) (s : State P) : Type 0 where
-  pub number : (t : ℕ) → IsOn s.first s.next t → t < 2 ^ 32
+  pub number : (t : ℕ) → IsOn s.first s.next t → t ≤ 2 ^ 32
   pub size : (t limit : ℕ) → IsOn s.first s.next t → limit + 1 ≡ g.places t
       → IsSize (g.size t) limit
 
 -- a next table has a greater number, within bounds
 abbrev pub IsNumber : (At → ℕ) → At → Type 0
 IsNumber words (Next t) = (words (Next t) ≡ 0)
-    ⊎ ((t < words (Next t)) × (words (Next t) < 2 ^ 32))
+    ⊎ ((t < words (Next t)) × (words (Next t) ≤ 2 ^ 32))
 IsNumber words _ = Unit {0}
 
 -- what was to be made was made, or refused

@@ -1,5 +1,5 @@
 -- An exchange of the law leaves fewer changes of its word, unless a pair takes the place of another.
-use Rattle.std.proofs.Common.{◌≡◌, ◌⊎◌, ⊎_elim, ℕ, zero, suc, ◌+◌, ◌-◌, ◌^◌, ◌==◌, ◌&&◌, ◌<◌, ◌≤◌, Bool, true, false, cond, Option, Some, None, refl, sym, ◌∙◌, ap, subst, arith, eq-eqb}
+use Rattle.std.proofs.Common.{◌≡◌, ◌⊎◌, ⊎_elim, ℕ, ◌+◌, ◌-◌, ◌^◌, ◌==◌, ◌&&◌, ◌<◌, ◌≤◌, Bool, true, false, cond, Option, Some, None, refl, sym, ◌∙◌, ap, subst, arith, eq-eqb}
 use Rattle.papaya_words.specs.Word.{kind_of}
 use Rattle.papaya_ask.specs.declared.ask.At.{At}
 use Rattle.papaya_ask.specs.declared.ask.At.TheVariants.{Root, Next, Aborted, Done, Slot}
@@ -16,6 +16,7 @@ use Rattle.papaya_rests.specs.Copier.{IsCopyAsked}
 use Rattle.papaya_rests.specs.Told.{Hands, IsAsked, word_of}
 use Rattle.papaya_timeline.specs.Ends.{changes_of, changes_of_word, copies_of, links_of}
 use Rattle.papaya_timeline.proofs.BudgetTables.{changes_at}
+use Rattle.papaya_timeline.proofs.CallersLemmas.{differs}
 
 -- the changes are fewer, or for a pair that takes the place of another as many
 abbrev pub IsFewer : Option StepKind → (later before : ℕ) → Type 0
@@ -68,12 +69,8 @@ module _ {K P : Type 0} (g : Setting K P) (c : Coding K P) (s : State P) (tables
         let links = subst (Allows g s) is may in
         let none : links_of (s.next t) ≡ 1 = ap links_of links.0 in
         let more = links.2 in
-        let some : links_of new ≡ 0 = ap (λ b. cond b 1 0) (above new (omega (arith, more))) in
+        let some : links_of new ≡ 0 = ap (λ b. cond b 1 0) (differs new 0 (λ z. let e : new ≡ 0 = z in absurd (omega (arith, more, e)))) in
         omega (arith, none, some)
-      where
-        above : (n : ℕ) → 0 < n → (n == 0) ≡ false
-        above zero some = absurd (omega (arith, some))
-        above (suc n) some = refl
     copy_fewer (Some kinds.Mark) (Slot t x) new kept e (p, live, is) may written =
         slot_fewer t x new (Live p) (Marked p) live (subst (λ y. new ≡ word_of g c (after s y) (Slot t x)) is written) (omega arith)
     copy_fewer (Some kinds.Close) (Slot t x) new kept e is may written =

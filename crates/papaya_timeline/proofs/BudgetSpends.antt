@@ -1,5 +1,5 @@
 -- An answered ask spends of the budget what the law of a call that is alone counts on.
-use Rattle.std.proofs.Common.{◌≡◌, ◌⊎◌, inl, inr, ⊎_elim, ℕ, ◌+◌, ◌-◌, ◌^◌, ◌==◌, ◌<◌, ◌≤◌, Bool, Option, Some, None, List, [], ◌∷◌, ◌++◌, length, refl, sym, ◌∙◌, ap, subst, arith, eqb-true, length-append}
+use Rattle.std.proofs.Common.{◌≡◌, ◌⊎◌, inl, inr, ⊎_elim, ℕ, ◌+◌, ◌-◌, ◌^◌, ◌==◌, ◌<◌, ◌≤◌, Bool, true, Option, Some, None, List, [], ◌∷◌, ◌++◌, length, refl, sym, ◌∙◌, ap, subst, arith, eqb-true, length-append}
 use Rattle.papaya_words.specs.Table.{TableWords, new_table}
 use Rattle.papaya_words.specs.declared.limits.TheConstants.{MAX_TABLES, MAX_LOG_LEN}
 use Rattle.papaya_words.specs.declared.probe.ResizeMode.{ResizeMode}
@@ -23,7 +23,7 @@ use Rattle.papaya_law.specs.Invariant.{IsSound}
 use Rattle.papaya_law.specs.Meaning.{map_left}
 use Rattle.papaya_law.proofs.Logs.{on_comes}
 use Rattle.papaya_law.proofs.OneMap.{keeping, keeping_sound}
-use Rattle.papaya_rests.specs.Told.{word_of}
+use Rattle.papaya_rests.specs.Told.{IsAsked, word_of}
 use Rattle.papaya_chain.specs.declared.ask.Ask.{Ask}
 use Rattle.papaya_chain.specs.declared.ask.Ask.TheVariants as asks
 use Rattle.papaya_chain.specs.declared.ask.Answer.{Answer}
@@ -43,7 +43,7 @@ use Rattle.papaya_timeline.specs.Core.{IsCore}
 use Rattle.papaya_timeline.specs.Ends.{budget_in, budget_of, exchanges_in}
 use Rattle.papaya_timeline.specs.Kept.{IsCall, IsKept, IsMade, Tale, coding_of, low, places_in, setting_of, slots_in}
 use Rattle.papaya_timeline.proofs.BudgetLaw.{IsFewer, call_fewer, copy_fewer}
-use Rattle.papaya_timeline.proofs.BudgetTables.{changes_at, placed-changes}
+use Rattle.papaya_timeline.proofs.BudgetTables.{changes_at, exchanges_few, placed-changes}
 use Rattle.papaya_timeline.proofs.KeptExchange.{root_empty}
 use Rattle.papaya_timeline.proofs.KeptMade.{refusal}
 use Rattle.papaya_timeline.proofs.KeptSettings.{IsLawfulKeys, tables_hashed}
@@ -122,3 +122,117 @@ module _ {K V S A : Type 0} (eq : K → K → Bool) (hash : K → ℕ) (law : Is
         let same : made.0.limit ≡ limit = omega (arith, within) in
         subst (λ n. IsSize n limit) (sym (ap slots_in made.1)) (subst (IsSize (length made.0.slots)) same (core.sizes t made.0 made.1));
   }
+
+  -- after any answer the budget's exchanges are within a bound
+  pub budget_bounded : (budget_of store).exchanges < 2 ^ 128
+  budget_bounded = exchanges_few store.words kept.tables_few (λ n t there. (core.sizes n t there).most)
+
+  module _ (caller : ℕ) (r : Running K V A) (was : running callers caller ≡ Some r) where
+    -- the call's own facts
+    abbrev call : IsCall eq hash mode store r es (tales caller)
+    call = kept.calls caller r was
+
+    abbrev tale : Tale K V
+    tale = tales caller
+
+    may : AllAllowed g start (tale.begun ++ tale.since)
+    may = subst (AllAllowed g start) (sym call.split) kept.allowed
+
+    -- an exchange of the call was made
+    call_exchanges : (at : At) (old new : ℕ) → ask_of r.machine ≡ asks.Call (Ask_exchange at old new) → (word_at store.words at == old) ≡ true → SpendsExchange (kind_of_ask r.machine) (budget_of store) (budget_in (put store.words at new))
+    call_exchanges at old new e hit =
+        let stood : word_at store.words at ≡ old = eqb-true (word_at store.words at) old hit in
+        let stands : word_of g c now at ≡ old = kept.coded at ∙ stood in
+        let x = asked_call g c store r es tale (Some call.key) hashed call.key call.split may call.rests kept.coded kept.made call.opens call.links call.own (λ t. refl) at old new e stands in
+        let placed = placed_call g c store r es tale (Some call.key) hashed call.key call.split may call.rests kept.coded kept.made call.opens call.links call.own (λ t. refl) at old new e (changes now tale.hands.call new c (kind_of_ask r.machine) at x.0 x.1).place in
+        let opened : at ≡ Root → new ≤ length store.words.tables = λ root.
+            let none : now.root ≡ 0 = root_empty g c now tale.hands.call new (kind_of_ask r.machine) x.0 (subst (λ y. IsAsked c (kind_of_ask r.machine) y new now tale.hands.call x.0) root x.1) x.2 in
+            let zero : old ≡ 0 = sym stands ∙ ap (word_of g c now) root ∙ none in
+            made_low new (call.opens new (e ∙ ap (λ y. asks.Call (Ask_exchange y old new)) root ∙ ap (λ y. asks.Call (Ask_exchange Root y new)) zero))
+        in
+        write_spends_kind store.words at new placed (kind_of_ask r.machine)
+        (subst (λ y. IsFewer (kind_of_ask r.machine) (changes_at (length store.words.tables) at new) (changes_at (length store.words.tables) at y)) (kept.coded at)
+        (call_fewer g c now (length store.words.tables) (kind_of_ask r.machine) at new tale.hands.call x.0 x.1 x.2 (sym x.3.here) opened))
+
+    -- and one of its copy
+    copy_exchanges : (at : At) (old new : ℕ) → ask_of r.machine ≡ asks.Copy (copies.Exchange at old new) → (word_at store.words at == old) ≡ true → ((budget_in (put store.words at new)).tables ≡ (budget_of store).tables) × ((budget_in (put store.words at new)).exchanges < (budget_of store).exchanges)
+    copy_exchanges at old new e hit =
+        let stands : word_of g c now at ≡ old = kept.coded at ∙ eqb-true (word_at store.words at) old hit in
+        let x = asked_copy g c store r es tale (Some call.key) hashed call.key call.split may call.rests kept.coded kept.made call.opens call.links call.own (λ t. refl) at old new e stands in
+        let placed = placed_copy g c store r es tale (Some call.key) hashed call.key call.split may call.rests kept.coded kept.made call.opens call.links call.own (λ t. refl) at old new e in
+        write_spends store.words at new placed
+        (subst (λ y. changes_at (length store.words.tables) at new < changes_at (length store.words.tables) at y) (kept.coded at)
+        (copy_fewer g c now (length store.words.tables) sound slots_most (λ t on. made_low t (on_made t on)) (kind_of_ask r.machine) at new tale.hands.kept x.0 x.1 x.2 (sym x.3.here)))
+
+    module _ (says : Says K V A) (refuse : Bool) (store' : StoreState K V S) (later : Running K V A) where
+      -- the budget after an answer that leaves the words
+      same_words : store' ≡ store → budget_of store' ≡ budget_of store
+      same_words same = ap (λ (y : StoreState K V S). budget_of y) same
+
+      -- an exchange, made or lost
+      spends_exchange : (at : At) (old new : ℕ) → ask_of r.machine ≡ asks.Call (Ask_exchange at old new) → (told : Call_answer) → Exchanges (word_at store.words at) old (put store.words at new) told store store' → SpendsCall (kind_of_ask r.machine) (Ask_exchange at old new) told (budget_of store) (budget_of store')
+      spends_exchange at old new e told h =
+          matched (SpendsCall (kind_of_ask r.machine) (Ask_exchange at old new) told (budget_of store) (budget_of store')) (word_at store.words at == old) _ _ h
+          (λ hit done. subst (λ y. SpendsCall (kind_of_ask r.machine) (Ask_exchange at old new) y (budget_of store) (budget_of store')) (sym done.0)
+          (subst (λ (y : StoreState K V S). SpendsExchange (kind_of_ask r.machine) (budget_of store) (budget_of y)) (sym done.1) (call_exchanges at old new e hit)))
+          (λ miss lost. subst (λ y. SpendsCall (kind_of_ask r.machine) (Ask_exchange at old new) y (budget_of store) (budget_of store')) (sym lost.0) (same_words lost.1))
+
+      spends_copy : (at : At) (old new : ℕ) → ask_of r.machine ≡ asks.Copy (copies.Exchange at old new) → (told : Call_answer) → Exchanges (word_at store.words at) old (put store.words at new) told store store' → SpendsCopy (copies.Exchange at old new) (answers.Call told) (budget_of store) (budget_of store')
+      spends_copy at old new e told h =
+          matched (SpendsCopy (copies.Exchange at old new) (answers.Call told) (budget_of store) (budget_of store')) (word_at store.words at == old) _ _ h
+          (λ hit done. subst (λ y. SpendsCopy (copies.Exchange at old new) (answers.Call y) (budget_of store) (budget_of store')) (sym done.0)
+          (subst (λ (y : StoreState K V S). ((budget_of y).tables ≡ (budget_of store).tables) × ((budget_of y).exchanges < (budget_of store).exchanges)) (sym done.1) (copy_exchanges at old new e hit)))
+          (λ miss lost. subst (λ y. SpendsCopy (copies.Exchange at old new) (answers.Call y) (budget_of store) (budget_of store')) (sym lost.0) (same_words lost.1))
+
+      -- a table, made or refused
+      made_or : (told : Call_answer) (slots limit : ℕ) (R : Call_answer → Type 0) → ((n : ℕ) → (budget_of store').tables < (budget_of store).tables → R (Made_number n)) → ((refused : _) → budget_of store' ≡ budget_of store → R (Was_refused refused)) → (Refuses MAX_TABLES (length store.words.tables) told × (store' ≡ store)) ⊎ MakesTable told slots limit store store' → R told
+      made_or told slots limit R made none (inl (refuses, same)) = let no = refusal _ _ told refuses in subst R (sym no.1) (none no.0 (same_words same))
+      made_or told slots limit R made none (inr (is, few, grown)) =
+          subst R (sym is) (made (length store.words.tables + 1) (subst (λ (y : StoreState K V S). (budget_of y).tables < (budget_of store).tables) (sym grown) (made_spends store.words (length store.words.tables + 1) slots limit few)))
+
+      -- what a call asks
+      spends_call : (ask : Call_ask) → ask_of r.machine ≡ asks.Call ask → (told : Call_answer) → Performs eq says refuse ask store r told store' later → SpendsCall (kind_of_ask r.machine) ask told (budget_of store) (budget_of store')
+      spends_call (Load at) e told (is, stays) = same_words stays.0
+      spends_call (Ask_exchange at old new) e told (h, as_was) = spends_exchange at old new e told h
+      spends_call (SameKey n) e told (is, stays) = same_words stays.0
+      spends_call ShowNone e told h = same_words (none_shown says store r told store' later h).store
+      spends_call (ShowPair n) e told h = same_words (pair_shown says r.machine.call.task n store r told store' later h).store
+      spends_call (SizeOf n) e told (is, stays) = same_words stays.0
+      spends_call MakeKey e told h = matched (budget_of store' ≡ budget_of store) refuse _ _ h (λ _ none. same_words none.1.0) (λ _ makes. key_spends makes)
+        where
+          key_spends : (Refuses MAX_LOG_LEN (length store.keys) told × Stays store r store' later) ⊎ (HasKey told r × Stays store r store' later) ⊎ LogsKey told store r store' later → budget_of store' ≡ budget_of store
+          key_spends (inl (refuses, stays)) = same_words stays.0
+          key_spends (inr (inl (has, stays))) = same_words stays.0
+          key_spends (inr (inr (k, own, is, few, grown, moved))) = ap (λ (y : StoreState K V S). budget_of y) grown
+      spends_call MakePair e told h = matched (budget_of store' ≡ budget_of store) refuse _ _ h (λ _ none. same_words none.1.0) (λ _ makes. pair_spends makes)
+        where
+          pair_spends : (Refuses MAX_LOG_LEN (length store.pairs) told × Stays store r store' later) ⊎ (HasNoPair told r × Stays store r store' later) ⊎ LogsPair told store r store' later → budget_of store' ≡ budget_of store
+          pair_spends (inl (refuses, stays)) = same_words stays.0
+          pair_spends (inr (inl (has, stays))) = same_words stays.0
+          pair_spends (inr (inr (n, v, key, value, is, few, grown, moved))) = ap (λ (y : StoreState K V S). budget_of y) grown
+      spends_call (MakeTable slots limit) e told h =
+          matched (SpendsCall (kind_of_ask r.machine) (MakeTable slots limit) told (budget_of store) (budget_of store')) refuse _ _ h
+          (λ _ none. subst (λ y. SpendsCall (kind_of_ask r.machine) (MakeTable slots limit) y (budget_of store) (budget_of store')) (sym none.0) (same_words none.1.0))
+          (λ _ makes. made_or told slots limit (λ y. SpendsCall (kind_of_ask r.machine) (MakeTable slots limit) y (budget_of store) (budget_of store')) (λ n less. less) (λ refused same. same) makes.0)
+      spends_call (AddToShard by) e told (is, (number, grown), as_was) = ap (λ (y : StoreState K V S). budget_of y) grown
+      spends_call (Ask_done reply) e told (is, stays) = same_words stays.0
+
+      -- and what is asked for its copy
+      module _ (hashes : S → K → ℕ) where
+        spends_for_copy : (ask : CopyAsk) → ask_of r.machine ≡ asks.Copy ask → (answer : Answer) → PerformsCopy eq hashes refuse ask store answer store' → SpendsCopy ask answer (budget_of store) (budget_of store')
+        spends_for_copy (copies.Load at) e answer (is, same) = same_words same
+        spends_for_copy (copies.Exchange at old new) e answer (told, is, h) = subst (λ y. SpendsCopy (copies.Exchange at old new) y (budget_of store) (budget_of store')) (sym is) (spends_copy at old new e told h)
+        spends_for_copy (copies.SizeOf n) e answer (is, same) = same_words same
+        spends_for_copy (copies.HashOf n) e answer (is, fits, same) = same_words same
+        spends_for_copy (copies.SamePair m n) e answer (is, same) = same_words same
+        spends_for_copy copies.Count e answer (is, same) = same_words same
+        spends_for_copy (copies.MakeTable slots limit) e answer (told, is, h) =
+            subst (λ y. SpendsCopy (copies.MakeTable slots limit) y (budget_of store) (budget_of store')) (sym is)
+            (matched (SpendsCopy (copies.MakeTable slots limit) (answers.Call told) (budget_of store) (budget_of store')) refuse _ _ h
+            (λ _ none. subst (λ y. SpendsCopy (copies.MakeTable slots limit) (answers.Call y) (budget_of store) (budget_of store')) (sym none.0) (same_words none.1))
+            (λ _ makes. made_or told slots limit (λ y. SpendsCopy (copies.MakeTable slots limit) (answers.Call y) (budget_of store) (budget_of store')) (λ n less. less) (λ refused same. same) makes))
+
+        -- each answer
+        pub performs_spends : (ask : Ask) → ask_of r.machine ≡ ask → (answer : Answer) → PerformsAsk eq says hashes refuse ask store r answer store' later → Spends (kind_of_ask r.machine) ask answer (budget_of store) (budget_of store')
+        performs_spends (asks.Call ask) e answer (told, is, h) = subst (λ y. Spends (kind_of_ask r.machine) (asks.Call ask) y (budget_of store) (budget_of store')) (sym is) (spends_call ask e told h)
+        performs_spends (asks.Copy ask) e answer (h, same) = spends_for_copy ask e answer h

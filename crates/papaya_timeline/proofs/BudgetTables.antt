@@ -1,7 +1,8 @@
 -- What a write of a word spends, and the making of a table; and how much may be spent at most.
 use Rattle.std.proofs.Common.{◌≡◌, ℕ, zero, suc, ◌+◌, ◌*◌, ◌-◌, ◌^◌, ◌==◌, ◌<◌, ◌≤◌, Bool, true, false, cond, List, [], ◌∷◌, ◌++◌, length, slice_get, slice_set, slice_index, sum_by, nat_lt, All, Some, None, refl, sym, ◌∙◌, ap, subst, arith, length-set, lt-ltb}
 use Rattle.std.proofs.lemmas.List.Sums.{sum_by-cons, sum_by-set, sum_by-le, sum_by_push}
-use Rattle.std.proofs.lemmas.Option.{slice_get_within, get_or_from_slice_get}
+use Rattle.std.proofs.Math.ListN.{get_or}
+use Rattle.std.proofs.lemmas.Option.{slice_get_within, get_or_from_slice_get, slice_get-get_or}
 use Rattle.papaya_words.specs.Table.{TableWords, new_table}
 use Rattle.papaya_words.specs.Word.{kind_of}
 use Rattle.papaya_words.specs.declared.word.Kind.{Kind}
@@ -10,7 +11,8 @@ use Rattle.papaya_ask.specs.declared.ask.At.{At}
 use Rattle.papaya_ask.specs.declared.ask.At.TheVariants.{Root, Next, Aborted, Done, Slot}
 use Rattle.papaya_store.specs.Tables.{Tables, table_of, word_in, word_at, written, put, put_at, put_in}
 use Rattle.papaya_timeline.specs.Ends.{changes_of, changes_of_word, copies_of, ends_of, exchanges_in, exchanges_of, links_of}
-use Rattle.papaya_timeline.proofs.KeptTables.{IsPlaced, put-table, table_there}
+use Rattle.papaya_timeline.proofs.CallersLemmas.{differs}
+use Rattle.papaya_timeline.proofs.KeptTables.{IsPlaced, put-table, table_at, table_there}
 
 -- how often the word at a place may still change, in so many tables
 abbrev pub changes_at : (tables : ℕ) → At → ℕ → ℕ
@@ -92,3 +94,13 @@ few_exchanges t most =
     let slots = sum_by-le changes_of_word 3 t.slots (all_within changes_of_word 3 t.slots (λ word. few_changes (kind_of word))) in
     let link = few_links (t.next == 0) in
     omega (arith, slots, link)
+
+-- All words change less often than a bound, where tables are few and have sizes of tables.
+pub exchanges_few : (w : Tables) → length w.tables ≤ 2 ^ 32 → ((n : ℕ) (t : TableWords) → table_of w.tables n ≡ Some t → length t.slots ≤ 2 ^ 32) → exchanges_in w < 2 ^ 128
+exchanges_few w few sizes =
+    let each : All (λ t. exchanges_of t ≤ 2 ^ 35) w.tables = λ k d lt. few_exchanges _ (sizes (suc k) _ (there k d lt)) in
+    let sum = sum_by-le exchanges_of (2 ^ 35) w.tables each in
+    omega (arith, sum, few)
+  where
+    there : (k : ℕ) (d : TableWords) (lt : k < length w.tables) → table_of w.tables (suc k) ≡ Some (get_or w.tables k d)
+    there k d lt = table_at w.tables (suc k) (differs (suc k) 0 (λ e. absurd (omega (arith, e)))) ∙ ap (slice_get w.tables) (let e : suc k - 1 ≡ k = omega arith in e) ∙ slice_get-get_or w.tables k d lt
