@@ -23,6 +23,10 @@ abbrev pub IsFewer : Option StepKind → (later before : ℕ) → Type 0
 IsFewer (Some kinds.Replace) later before = later ≡ before
 IsFewer _ later before = later < before
 
+-- the word of a table that was given up, or not
+abbrev one_if : Bool → ℕ
+one_if b = cond b 1 0
+
 module _ {K P : Type 0} (g : Setting K P) (c : Coding K P) (s : State P) (tables : ℕ) where
   -- the changes of a slot, before an exchange and after it
   slot_before : (t x : ℕ) (w : Word P) → s.slot t x ≡ w → changes_of_word (word_of g c s (Slot t x)) ≡ changes_of (kind w)
@@ -91,7 +95,7 @@ module _ {K P : Type 0} (g : Setting K P) (c : Coding K P) (s : State P) (tables
         let most = later.1 in
         omega (arith, more, most)
     copy_fewer (Some kinds.Abort) (Aborted n) new kept e is may written =
-        let before : cond (s.aborted n) 1 0 ≡ 0 = ap (λ b. cond b 1 0) (subst (Allows g s) is may).before in
-        let one : new ≡ 1 = subst (λ y. new ≡ word_of g c (after s y) (Aborted n)) is written ∙ ap (λ b. cond (cond b true (s.aborted n)) 1 0) (eq-eqb n n refl) in
+        let before : word_of g c s (Aborted n) ≡ 0 = ap (λ b. one_if b) (subst (Allows g s) is may).before in
+        let one : new ≡ 1 = subst (λ y. new ≡ word_of g c (after s y) (Aborted n)) is written ∙ ap (λ b. one_if (cond b true (s.aborted n))) (eq-eqb n n refl) in
         omega (arith, before, one)
     copy_fewer _ _ new kept e is may written = absurd is

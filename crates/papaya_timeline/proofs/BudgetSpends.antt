@@ -146,9 +146,9 @@ module _ {K V S A : Type 0} (eq : K → K → Bool) (hash : K → ℕ) (law : Is
         let x = asked_call g c store r es tale (Some call.key) hashed call.key call.split may call.rests kept.coded kept.made call.opens call.links call.own (λ t. refl) at old new e stands in
         let placed = placed_call g c store r es tale (Some call.key) hashed call.key call.split may call.rests kept.coded kept.made call.opens call.links call.own (λ t. refl) at old new e (changes now tale.hands.call new c (kind_of_ask r.machine) at x.0 x.1).place in
         let opened : at ≡ Root → new ≤ length store.words.tables = λ root.
-            let none : now.root ≡ 0 = root_empty g c now tale.hands.call new (kind_of_ask r.machine) x.0 (subst (λ y. IsAsked c (kind_of_ask r.machine) y new now tale.hands.call x.0) root x.1) x.2 in
-            let zero : old ≡ 0 = sym stands ∙ ap (word_of g c now) root ∙ none in
-            made_low new (call.opens new (e ∙ ap (λ y. asks.Call (Ask_exchange y old new)) root ∙ ap (λ y. asks.Call (Ask_exchange Root y new)) zero))
+        let none : now.root ≡ 0 = root_empty g c now tale.hands.call new (kind_of_ask r.machine) x.0 (subst (λ y. IsAsked c (kind_of_ask r.machine) y new now tale.hands.call x.0) root x.1) x.2 in
+        let zero : old ≡ 0 = sym stands ∙ ap (word_of g c now) root ∙ none in
+        made_low new (call.opens new (e ∙ ap (λ y. asks.Call (Ask_exchange y old new)) root ∙ ap (λ y. asks.Call (Ask_exchange Root y new)) zero))
         in
         write_spends_kind store.words at new placed (kind_of_ask r.machine)
         (subst (λ y. IsFewer (kind_of_ask r.machine) (changes_at (length store.words.tables) at new) (changes_at (length store.words.tables) at y)) (kept.coded at)

@@ -98,7 +98,7 @@ few_exchanges t most =
 -- All words change less often than a bound, where tables are few and have sizes of tables.
 pub exchanges_few : (w : Tables) → length w.tables ≤ 2 ^ 32 → ((n : ℕ) (t : TableWords) → table_of w.tables n ≡ Some t → length t.slots ≤ 2 ^ 32) → exchanges_in w < 2 ^ 128
 exchanges_few w few sizes =
-    let each : All (λ t. exchanges_of t ≤ 2 ^ 35) w.tables = λ k d lt. few_exchanges _ (sizes (suc k) _ (there k d lt)) in
+    let each : All (λ t. exchanges_of t ≤ 2 ^ 35) w.tables = λ k d lt. few_exchanges (get_or w.tables k d) (sizes (suc k) (get_or w.tables k d) (there k d lt)) in
     let sum = sum_by-le exchanges_of (2 ^ 35) w.tables each in
     omega (arith, sum, few)
   where
