@@ -35,6 +35,7 @@ pub mod KeptTables
 pub mod KeptWritten
 pub mod LegalLemmas
 pub mod MachineLemmas
+pub mod MakerLemmas
 pub mod MadeTables
 pub mod OneTable
 pub mod ReplayLemmas

@@ -1,14 +1,27 @@
--- The end of a call that is made alone: how many tables may still be made and words exchanged.
-use Rattle.std.specs.Prelude.{◌≡◌, ℕ, ◌+◌, ◌-◌, ◌^◌, ◌==◌, if◌then◌else◌, Bool, List, [], ◌∷◌, length, Option, Some, sum_by}
+-- The end of a call that is made alone: how many tables may still be made and words exchanged, and
+-- what holds of the core while nobody else has a call under way.
+use Rattle.std.specs.Prelude.{◌≡◌, ℕ, ◌+◌, ◌-◌, ◌^◌, ◌<◌, ◌==◌, if◌then◌else◌, Bool, List, [], ◌∷◌, length, Option, Some, sum_by}
 use Rattle.papaya_words.specs.Table.{TableWords}
 use Rattle.papaya_words.specs.Word.{kind_of}
 use Rattle.papaya_words.specs.declared.word.Kind.{Kind}
 use Rattle.papaya_words.specs.declared.word.Kind.TheVariants.{Empty, Live, Marked}
+use Rattle.papaya_ask.specs.declared.call.Task.{Task}
+use Rattle.papaya_ask.specs.declared.call.Task.TheVariants.{Insert}
+use Rattle.papaya_call.specs.declared.machine.State.{State}
+use Rattle.papaya_call.specs.declared.machine.State.TheVariants.{Pairing}
+use Rattle.papaya_call.specs.declared.write.Made.{Made}
+use Rattle.papaya_call.specs.declared.write.Made.TheVariants.{Nothing, Key, Pair}
+use Rattle.papaya_alone.specs.Ahead.{IsCurrent}
 use Rattle.papaya_alone.specs.Budget.{Budget}
 use Rattle.papaya_alone.specs.Rank.{measure}
+use Rattle.papaya_store.specs.declared.pairs.KeyOf.{KeyOf}
+use Rattle.papaya_store.specs.declared.pairs.KeyOf.TheVariants.{Own, Logged}
 use Rattle.papaya_store.specs.declared.pairs.Running.{Running}
 use Rattle.papaya_store.specs.Store.{StoreState}
-use Rattle.papaya_store.specs.Tables.{Tables}
+use Rattle.papaya_store.specs.Tables.{Tables, word_at}
+use Rattle.papaya_timeline.specs.declared.seat.Seat.{Seat}
+use Rattle.papaya_timeline.specs.Core.{CoreState}
+use Rattle.papaya_timeline.specs.Kept.{IsLawfulCore}
 
 -- how often a slot of this kind may still change, but for a pair that takes the place of another
 abbrev pub changes_of : Kind → ℕ
@@ -45,3 +58,50 @@ budget_in w = record { tables = 2 ^ 32 - length w.tables; exchanges = exchanges_
 
 abbrev pub budget_of : {K V S : Type 0} → StoreState K V S → Budget
 budget_of store = budget_in store.words
+
+-- something is there
+abbrev pub IsThere : {X : Type 0} → Option X → Type 0
+IsThere {X = X} o = (x : X) × (o ≡ Some x)
+
+-- the key is the call's own until it is made, and is in the log from then on
+abbrev pub IsKeyFor : {K : Type 0} → Made → KeyOf K → Type 0
+IsKeyFor {K = K} Nothing key = (k : K) × (key ≡ Own k)
+IsKeyFor Key key = (n : ℕ) × (key ≡ Logged n)
+IsKeyFor (Pair m) key = (n : ℕ) × (key ≡ Logged n)
+
+-- an insertion has its value until a pair is made of it
+abbrev pub HasValue : {V : Type 0} → Task → Made → Option V → Type 0
+HasValue (Insert replace) Nothing value = IsThere value
+HasValue (Insert replace) Key value = IsThere value
+HasValue task made value = Unit {0}
+
+-- and a compute has the one that its closure answered, where a pair is to be made of it
+abbrev pub HasAnswered : {V : Type 0} → State → Option V → Type 0
+HasAnswered (Pairing purpose) value = IsThere value
+HasAnswered state value = Unit {0}
+
+-- a call has the key and the value that it has yet to make something of
+pub record IsMaker {K V A : Type 0} (r : Running K V A) : Type 0 where
+  pub key : IsKeyFor r.machine.call.made r.key
+  pub value : HasValue r.machine.call.task r.machine.call.made r.value
+  pub answered : HasAnswered r.machine.call.state r.value
+
+-- The one caller has this call under way: the core is in order, what the call has read stands there
+-- still, and it has what it is to make.
+pub record IsLone {K V S A : Type 0} (eq : K → K → Bool) (hash : S → K → ℕ)
+    (s : CoreState K V S A) (r : Running K V A) : Type 0 where
+  pub callers : s.callers ≡ record { caller = 0; call = Some r } ∷ []
+  pub lawful : IsLawfulCore eq (hash s.store.hasher) s.store s.callers s.mode
+  pub maker : IsMaker r
+  pub current : IsCurrent (word_at s.store.words) r.machine
+
+-- how far such a call is from its end, at most
+abbrev pub lone_measure : {K V S A : Type 0} → CoreState K V S A → Running K V A → ℕ
+lone_measure s r = measure (budget_of s.store) s.store.words.root r.machine
+
+-- a step has left the call under way, and nearer its end
+pub record IsNearer {K V S A : Type 0} (eq : K → K → Bool) (hash : S → K → ℕ)
+    (s : CoreState K V S A) (r : Running K V A) (s' : CoreState K V S A) : Type 0 where
+  pub later : Running K V A
+  pub lone : IsLone eq hash s' later
+  pub less : lone_measure s' later < lone_measure s r
