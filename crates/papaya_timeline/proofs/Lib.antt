@@ -36,12 +36,14 @@ pub mod KeptWritten
 pub mod LegalLemmas
 pub mod MachineLemmas
 pub mod MakerLemmas
+pub mod MakerSteps
 pub mod MadeTables
 pub mod OneTable
 pub mod ReplayLemmas
 pub mod RunLemmas
 pub mod ShowLemmas
 pub mod SaidLemmas
+pub mod SoloEnds
 pub mod SoloLaw
 pub mod SoloRun
 pub mod SoloTimeline

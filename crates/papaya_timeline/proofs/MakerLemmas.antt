@@ -41,17 +41,17 @@ use Rattle.papaya_timeline.proofs.KeptMade.{refusal}
 use Rattle.papaya_timeline.proofs.StoreLemmas.{matched}
 
 -- no pair is to be made of what a closure answered
-abbrev IsUnpaired : Stage → Type 0
+abbrev pub IsUnpaired : Stage → Type 0
 IsUnpaired (Pairing purpose) = ⊥
 IsUnpaired stage = Unit {0}
 
 -- so nothing is said of its value
-unpaired_answered : {V : Type 0} (stage : Stage) (value : Option V) → IsUnpaired stage → HasAnswered stage value
+pub unpaired_answered : {V : Type 0} (stage : Stage) (value : Option V) → IsUnpaired stage → HasAnswered stage value
 unpaired_answered (Pairing purpose) value h = absurd h
 unpaired_answered stage value h = tt
 
 -- a load or a search leads to no such stage
-leads_unpaired : HoldsOfLeads IsUnpaired
+pub leads_unpaired : HoldsOfLeads IsUnpaired
 leads_unpaired = record {
   ended_absent = tt;
   ended_found = λ n. tt;
@@ -127,7 +127,7 @@ keyed_value : {V : Type 0} (task : Task) (value : Option V) → HasValue task No
 keyed_value (tasks.Insert replace) value v = v
 keyed_value task value v = tt
 
-writer_value : {V : Type 0} (task : Task) (value : Option V) → IsWriter task → HasValue task Key value → IsThere value
+pub writer_value : {V : Type 0} (task : Task) (value : Option V) → IsWriter task → HasValue task Key value → IsThere value
 writer_value (tasks.Insert replace) value writes v = v
 writer_value task value writes v = absurd writes
 
@@ -264,7 +264,7 @@ module _ {K V S A : Type 0} (eq : K → K → Bool) (says : Says K V A) (refuse 
       decided_has (Some (p.key, p.value)) made (Showing removal) told (λ value. computer_value m.task (subst IsComputer (sym e) tt) made value) (λ kind. refl) (λ op is. decided_answered m.task removal op r.value r'.value is) had h
 
   -- in each stage
-  own_in : (made : Made) (stage : Stage) (told : Call_answer) → r.machine.call.task ≡ m.task → IsStandingState m.task stage → Had made stage → Performs eq says refuse (call_asks made m.hash stage) s r told s' r' → Has made stage told
+  pub own_in : (made : Made) (stage : Stage) (told : Call_answer) → r.machine.call.task ≡ m.task → IsStandingState m.task stage → Had made stage → Performs eq says refuse (call_asks made m.hash stage) s r told s' r' → Has made stage told
   own_in made AtRoot told e stands had h = from_plain made AtRoot told tt h.1.1 had
   own_in made Making told e stands had h = matched (Has made Making told) refuse _ _ h (λ _ none. from_plain made Making told tt none.1.1 had) (λ _ makes. from_plain made Making told tt makes.1 had)
   own_in made (Opening t) told e stands had h = from_plain made (Opening t) told tt h.1 had

@@ -99,7 +99,7 @@ module _ {K V S A : Type 0} (eq : K → K → Bool) (hash : S → K → ℕ) (s 
     pub new : (q : Stored K V) → IsOneOf (tales 0).hands.call.made q → length s.store.pairs ≤ q.number
 
   -- after the begin
-  follows_begin : (call : Call K V A) (s' : CoreState K V S A) → s.callers ≡ [] → IsCore s.store s.callers s.mode → (es : List (Exchange (Stored K V))) (tales : ℕ → Tale K V) → IsKept eq (hash s.store.hasher) s.mode s.store s.callers es tales → Begins (hash s.store.hasher) s 0 call s' → Follows s'
+  pub follows_begin : (call : Call K V A) (s' : CoreState K V S A) → s.callers ≡ [] → IsCore s.store s.callers s.mode → (es : List (Exchange (Stored K V))) (tales : ℕ → Tale K V) → IsKept eq (hash s.store.hasher) s.mode s.store s.callers es tales → Begins (hash s.store.hasher) s 0 call s' → Follows s'
   follows_begin call s' idle core es tales kept x = record {
     es = es;
     tales = begun_tales tales 0 es;

@@ -1,14 +1,19 @@
-//! One caller, with no other beside it. The function does nothing: its contract is a law.
-ghost use Rattle.std.specs.Prelude.{◌≡◌, []};
+//! One caller, with no other beside it. The functions do nothing: their contracts are laws.
+ghost use Rattle.std.specs.Prelude.{◌≡◌, Bool, [], None};
+ghost use Rattle.papaya_timeline.specs.Advances.{Advances};
+ghost use Rattle.papaya_timeline.specs.Begins.{Begins, begun};
 ghost use Rattle.papaya_timeline.specs.Content.{map_of};
 ghost use Rattle.papaya_timeline.specs.Core.{CoreState};
 ghost use Rattle.papaya_timeline.specs.Counted.{IsCounted};
+ghost use Rattle.papaya_timeline.specs.Ends.{IsLone, IsNearer};
 ghost use Rattle.papaya_timeline.specs.Kept.{IsLawfulCore};
-ghost use Rattle.papaya_timeline.specs.Solo.{IsAnswered, IsNewIn, RunsAlone};
+ghost use Rattle.papaya_timeline.specs.Solo.{IsAnswered, IsNewIn, RunsAlone, whatever};
 ghost use Rattle.papaya_store.specs.Store.{KeepsPairs};
 ghost use Rattle.papaya_keys.specs.Hashes.{hash_of};
 
+use crate::trace::Event;
 use papaya_ask::call::{Call, Reply};
+use papaya_store::pairs::Running;
 use std::hash::{BuildHasher, Hash};
 
 /// A call that is made alone does what the finite map does, and leaves the words and the count in
@@ -35,4 +40,23 @@ pub fn one_call<K: Hash + Eq, V, S: BuildHasher, A, B>()
         (hash_of K.hash_input S.build_hasher S.Hasher.write S.Hasher.finish s.store.hasher) s.store
         [] s.mode → IsLawfulCore {A = B} K.eq (hash_of K.hash_input S.build_hasher S.Hasher.write
         S.Hasher.finish s.store.hasher) s.store [] s.mode }
+{}
+
+/// A call that is made alone comes to its end: until it replies, each of its steps lowers a measure,
+/// which the words and the call's machine give, whatever its closure answers. So a map for one
+/// caller may step it until it replies.
+pub fn one_call_ends<K: Hash + Eq, V, S: BuildHasher, A>()
+    ensures begins { (s s' : CoreState K V S A) (call : Call K V A) → s.callers ≡ []
+        → IsLawfulCore K.eq (hash_of K.hash_input S.build_hasher S.Hasher.write S.Hasher.finish
+        s.store.hasher) s.store s.callers s.mode → Begins (hash_of K.hash_input S.build_hasher
+        S.Hasher.write S.Hasher.finish s.store.hasher) s 0 call s' → IsLone K.eq
+        (hash_of K.hash_input S.build_hasher S.Hasher.write S.Hasher.finish) s'
+        (begun (hash_of K.hash_input S.build_hasher S.Hasher.write S.Hasher.finish s.store.hasher)
+        s.mode s.initial call) }
+    ensures nearer { (refuse : Bool) (s s' : CoreState K V S A) (r : Running K V A)
+        (event : Event) → IsLone K.eq
+        (hash_of K.hash_input S.build_hasher S.Hasher.write S.Hasher.finish) s r
+        → Advances K.eq whatever (hash_of K.hash_input S.build_hasher S.Hasher.write S.Hasher.finish)
+        refuse s 0 s' event None → IsNearer K.eq
+        (hash_of K.hash_input S.build_hasher S.Hasher.write S.Hasher.finish) s r s' }
 {}

@@ -1,0 +1,189 @@
+-- A call that is made alone comes to its end: each of its steps lowers a measure.
+use Rattle.std.proofs.Common.{◌≡◌, ◌⊎◌, ℕ, ◌^◌, ◌<◌, Bool, true, Option, None, Some, List, [], ◌∷◌, ◌++◌, refl, sym, ◌∙◌, ap, subst}
+use Rattle.std.specs.Cmp.{IsEquivalence}
+use mathlib.Core.Path.{fun_ext}
+use Rattle.papaya_words.specs.declared.probe.ResizeMode.{ResizeMode}
+use Rattle.papaya_call.specs.Answers.{Says}
+use Rattle.papaya_call.specs.declared.write.Made.TheVariants.{Nothing}
+use Rattle.papaya_ask.specs.declared.ask.At.{At}
+use Rattle.papaya_ask.specs.declared.ask.At.TheVariants.{Root}
+use Rattle.papaya_ask.specs.declared.ask.Ask.TheVariants.{ShowPair, Done as Ask_done}
+use Rattle.papaya_ask.specs.declared.call.Call.{Call}
+use Rattle.papaya_ask.specs.declared.call.Call.TheVariants.{Get, Insert, TryInsert, RemoveIf, Compute}
+use Rattle.papaya_ask.specs.declared.call.Reply.{Reply}
+use Rattle.papaya_law.specs.Allows.{AllAllowed}
+use Rattle.papaya_law.specs.Code.{Coding, IsHashed}
+use Rattle.papaya_law.specs.Exchange.{Exchange, Setting, State, run, start}
+use Rattle.papaya_chain.specs.declared.ask.Ask.TheVariants as asks
+use Rattle.papaya_chain.specs.Machine.{after, ask_of, follows_of, kind_of_ask}
+use Rattle.papaya_chain_rests.specs.Goes.{IsInOrder}
+use Rattle.papaya_chain_rests.specs.Told.{IsTold}
+use Rattle.papaya_chain_rests.proofs.Names.{call_asks}
+use Rattle.papaya_chain_rests.proofs.Order.{in_order}
+use Rattle.papaya_rests.specs.Told.{word_of}
+use Rattle.papaya_alone.specs.Ahead.{IsCurrent}
+use Rattle.papaya_alone.specs.Budget.{Budget, Spends}
+use Rattle.papaya_alone.specs.Prompt.{IsBounded, IsServedAsk}
+use Rattle.papaya_alone.specs.Rank.{measure}
+use Rattle.papaya_alone.proofs.ChainLaw.{call_current, call_nears}
+use Rattle.papaya_store.specs.declared.pairs.Running.{Running}
+use Rattle.papaya_store.specs.Store.{StoreState, Stored, pair_of}
+use Rattle.papaya_store.specs.Tables.{word_at}
+use Rattle.papaya_keys.specs.Hashes.{hash_of}
+use Rattle.papaya_timeline.specs.declared.seat.Seat.{Seat}
+use Rattle.papaya_timeline.specs.declared.trace.Event.{Event}
+use Rattle.papaya_timeline.specs.Advances.{Advances}
+use Rattle.papaya_timeline.specs.Begins.{Begins, begun, key_of_call, task_of_call, value_of_call}
+use Rattle.papaya_timeline.specs.Callers.{running, with_call, with_seat}
+use Rattle.papaya_timeline.specs.Core.{CoreState, IsCore}
+use Rattle.papaya_timeline.specs.Ends.{HasValue, IsLone, IsMaker, IsNearer, IsThere, budget_of, lone_measure}
+use Rattle.papaya_timeline.specs.Kept.{IsCall, IsKept, IsLawfulCore, Tale, coding_of, low, setting_of, told_tales}
+use Rattle.papaya_timeline.proofs.BudgetSpends.{budget_bounded, kept_bounded, performs_spends}
+use Rattle.papaya_timeline.proofs.CallersLemmas.{same_item}
+use Rattle.papaya_timeline.proofs.ChainLemmas.{own_asks}
+use Rattle.papaya_timeline.proofs.HeadlineLemmas.{advance-core}
+use Rattle.papaya_timeline.proofs.KeptCore.{keys_lawful, performs-hasher}
+use Rattle.papaya_timeline.proofs.KeptLemmas.{IsLawfulKeys, IsStep, hashed_setting, kept_step}
+use Rattle.papaya_timeline.proofs.MachineLemmas.{machine_shows}
+use Rattle.papaya_timeline.proofs.MakerSteps.{ask_served, next_maker}
+use Rattle.papaya_timeline.proofs.SoloRun.{Follows, follows_begin, one_seat}
+use Rattle.papaya_timeline.specs.Solo.{whatever}
+
+-- an insertion begins with its value
+begun_value : {K V A : Type 0} (call : Call K V A) → HasValue (task_of_call call) Nothing (value_of_call call)
+begun_value (Get k) = tt
+begun_value (Insert k v) = (v, refl)
+begun_value (TryInsert k v) = (v, refl)
+begun_value (RemoveIf k a) = tt
+begun_value (Compute k a) = tt
+
+module _ {K V S A : Type 0} (eq : K → K → Bool) (hash : S → K → ℕ) (s : CoreState K V S A) (law : IsLawfulKeys eq (hash s.store.hasher)) where
+  -- a call that begins alone is so
+  pub lone_begin : (call : Call K V A) (s' : CoreState K V S A) → s.callers ≡ [] → IsLawfulCore eq (hash s.store.hasher) s.store s.callers s.mode → Begins (hash s.store.hasher) s 0 call s' → IsLone eq hash s' (begun (hash s.store.hasher) s.mode s.initial call)
+  lone_begin call s' idle lawful x =
+      let f = follows_begin eq hash s law whatever call s' idle lawful.core lawful.law.0 lawful.law.1.0 lawful.law.1.1 x in
+      record {
+        callers = x.callers ∙ ap (λ (l : List (Seat K V A)). with_call (with_seat l 0) 0 (Some (begun (hash s.store.hasher) s.mode s.initial call))) idle;
+        lawful = record { core = f.core; law = subst (λ y. (es : _) × ((tales : _) × IsKept eq (hash y) s'.mode s'.store s'.callers es tales)) (sym f.hasher_is) (f.es, (f.tales, f.kept)) };
+        maker = record { key = (key_of_call call, refl); value = begun_value call; answered = tt };
+        current = (tt, tt);
+      }
+
+  module _ (says : Says K V A) (refuse : Bool) (s' : CoreState K V S A) (event : Event) (x : Advances eq says hash refuse s 0 s' event None) (core : IsCore s.store s.callers s.mode) (es : List (Exchange (Stored K V))) (tales : ℕ → Tale K V) (kept : IsKept eq (hash s.store.hasher) s.mode s.store s.callers es tales)
+      (alone : s.callers ≡ one_seat (Some x.before)) (maker : IsMaker x.before) (current : IsCurrent (word_at s.store.words) x.before.machine) where
+    -- the setting and the coding
+    abbrev g : Setting K (Stored K V)
+    g = setting_of eq (low (hash s.store.hasher)) s.mode s.store.words.tables
+
+    abbrev c : Coding K (Stored K V)
+    c = coding_of (low (hash s.store.hasher))
+
+    -- what the step leaves
+    step : IsStep eq (hash s.store.hasher) law refuse s 0 s' event None x es tales
+    step = kept_step eq (hash s.store.hasher) law refuse s 0 s' event None x refl es tales core kept
+
+    core' : IsCore s'.store s'.callers s'.mode
+    core' = advance-core eq says hash refuse s 0 s' event None x core
+
+    -- what is told of the call
+    abbrev tale : Tale K V
+    tale = tales 0
+
+    abbrev call : IsCall eq (hash s.store.hasher) s.mode s.store x.before es tale
+    call = step.call
+
+    -- the call after the step
+    abbrev later : Running K V A
+    later = record x.later { machine = after x.before.machine x.answer }
+
+    still_alone : s'.callers ≡ one_seat (Some later)
+    still_alone = x.callers ∙ ap (λ (l : List (Seat K V A)). with_call l 0 (Some later)) alone
+
+    -- the words, as the law has them
+    abbrev then : State (Stored K V)
+    then = run (tale.begun ++ tale.since) start
+
+    abbrev then' : State (Stored K V)
+    then' = run (tale.begun ++ (tale.since ++ step.made)) start
+
+    words_are : word_of g c then ≡ word_at s.store.words
+    words_are = fun_ext (λ at. ap (λ l. word_of g c (run l start) at) call.split ∙ kept.coded at)
+
+    words'_are : word_of g c then' ≡ word_at s'.store.words
+    words'_are = fun_ext (λ at. ap (λ l. word_of g c (run l start) at) step.own.split ∙ step.kept.coded at)
+
+    -- the answer is told of them
+    told : IsTold g c call.key then (kind_of_ask x.before.machine) (follows_of x.before.machine) tale.hands (ask_of x.before.machine) x.answer step.made step.hands
+    told = subst (λ l. IsTold g c call.key (run l start) (kind_of_ask x.before.machine) (follows_of x.before.machine) tale.hands (ask_of x.before.machine) x.answer step.made step.hands) (sym call.split) step.told
+
+    hashed : IsHashed g c
+    hashed = hashed_setting eq (hash s.store.hasher) law s core
+
+    may : AllAllowed g start (tale.begun ++ tale.since)
+    may = subst (AllAllowed g start) (sym call.split) kept.allowed
+
+    bounded : IsBounded g then
+    bounded = subst (λ l. IsBounded g (run l start)) (sym call.split) (kept_bounded eq (hash s.store.hasher) law s.mode s.store s.callers core es tales kept)
+
+    -- a pair that a closure is shown is in the log
+    shows : (n : ℕ) → ask_of x.before.machine ≡ asks.Call (ShowPair n) → (p : Stored K V) × (pair_of s.store n ≡ Some p)
+    shows n e =
+        let (p, last, number, same, moment) = machine_shows g c tale.begun tale.since call.key hashed x.before.machine.call tale.hands.call call.rests.call n (call_asks x.before.machine (ShowPair n) e).1 in
+        (p, subst (λ m. pair_of s.store m ≡ Some p) number (call.last p last))
+
+    -- what is asked is served
+    served : IsServedAsk x.before.machine.call.task (ask_of x.before.machine) x.answer
+    served = ask_served eq says hash refuse s.store x.before x.answer s'.store x.later x.performs (core.standing 0 x.before x.was).call.state maker call.answers shows (core.going 0 x.before x.was)
+
+    -- what it has read stands there
+    read : IsCurrent (word_of g c then) x.before.machine
+    read = subst (λ words. IsCurrent words x.before.machine) (sym words_are) current
+
+    spends : Spends (kind_of_ask x.before.machine) (ask_of x.before.machine) x.answer (budget_of s.store) (budget_of s'.store)
+    spends = performs_spends eq (hash s.store.hasher) law s.mode s.store s.callers core es tales kept 0 x.before x.was says refuse s'.store x.later hash (ask_of x.before.machine) refl x.answer x.performs
+
+    few : (budget_of s'.store).exchanges < 2 ^ 128
+    few = budget_bounded eq (hash s.store.hasher) law s'.mode s'.store s'.callers core' (es ++ step.made) (told_tales tales 0 step.made step.hands) step.kept
+
+    runs : running s'.callers 0 ≡ Some later
+    runs = ap (λ (l : List (Seat K V A)). running l 0) still_alone
+
+    -- the measure falls
+    falls : lone_measure s' later < lone_measure s x.before
+    falls =
+        subst (λ n. measure (budget_of s'.store) n (after x.before.machine x.answer) < lone_measure s x.before) (ap (λ f. f Root) words'_are)
+        (subst (λ n. measure (budget_of s'.store) then'.root (after x.before.machine x.answer) < measure (budget_of s.store) n x.before.machine) (ap (λ f. f Root) words_are)
+        (call_nears g c hashed tale.begun tale.since may bounded call.key x.before.machine tale.hands call.rests read x.answer step.made step.hands told served (budget_of s.store) (budget_of s'.store) spends few (core'.standing 0 later runs)))
+
+    -- the call is alone still, and nearer its end
+    pub nearer_from : IsNearer eq hash s x.before s'
+    nearer_from = record {
+      later = later;
+      lone = record {
+        callers = still_alone;
+        lawful = record {
+          core = core';
+          law = subst (λ y. (es : _) × ((tales : _) × IsKept eq (hash y) s'.mode s'.store s'.callers es tales)) (sym (performs-hasher eq says hash refuse (ask_of x.before.machine) s.store x.before x.answer s'.store x.later x.performs)) (es ++ step.made, (told_tales tales 0 step.made step.hands, step.kept));
+        };
+        maker = next_maker eq says hash refuse s.store x.before x.answer s'.store x.later x.performs (core.standing 0 x.before x.was).call.state maker
+            (in_order g c tale.begun tale.since call.key x.before.machine tale.hands then x.answer step.made step.hands call.rests told);
+        current = subst (λ words. IsCurrent words (after x.before.machine x.answer)) words'_are (call_current g c hashed tale.begun tale.since may bounded call.key x.before.machine tale.hands call.rests read x.answer step.made step.hands told served);
+      };
+      less = falls;
+    }
+
+  -- a step of a call that is alone
+  pub lone_step : (says : Says K V A) (refuse : Bool) (r : Running K V A) (s' : CoreState K V S A) (event : Event) → IsLone eq hash s r → Advances eq says hash refuse s 0 s' event None → IsNearer eq hash s r s'
+  lone_step says refuse r s' event lone x =
+      let same : r ≡ x.before = same_item r x.before (sym (ap (λ (l : List (Seat K V A)). running l 0) lone.callers) ∙ x.was) in
+      subst (λ y. IsNearer eq hash s y s') (sym same)
+      (nearer_from says refuse s' event x lone.lawful.core lone.lawful.law.0 lone.lawful.law.1.0 lone.lawful.law.1.1 (lone.callers ∙ ap (λ y. one_seat (Some y)) same) (subst IsMaker same lone.maker) (subst (λ (y : Running K V A). IsCurrent (word_at s.store.words) y.machine) same lone.current))
+
+module _ {K V S A H : Type 0} (eq : K → K → Bool) (input : K → List (List ℕ)) (build : S → H) (write : H → List ℕ → H) (finish : H → ℕ) (classes : IsEquivalence eq) (respects : (x y : K) → eq x y ≡ true → input x ≡ input y) (s s' : CoreState K V S A) where
+  -- a call that begins alone, with keys hashed as they are
+  pub alone_begins : (call : Call K V A) → s.callers ≡ [] → IsLawfulCore eq (hash_of input build write finish s.store.hasher) s.store s.callers s.mode → Begins (hash_of input build write finish s.store.hasher) s 0 call s' → IsLone eq (hash_of input build write finish) s' (begun (hash_of input build write finish s.store.hasher) s.mode s.initial call)
+  alone_begins call idle lawful x = lone_begin eq (hash_of input build write finish) s (keys_lawful eq input build write finish classes respects s.store.hasher) call s' idle lawful x
+
+  -- and its steps
+  pub alone_nears : (says : Says K V A) (refuse : Bool) (r : Running K V A) (event : Event) → IsLone eq (hash_of input build write finish) s r → Advances eq says (hash_of input build write finish) refuse s 0 s' event None → IsNearer eq (hash_of input build write finish) s r s'
+  alone_nears says refuse r event lone x = lone_step eq (hash_of input build write finish) s (keys_lawful eq input build write finish classes respects s.store.hasher) says refuse r s' event lone x
