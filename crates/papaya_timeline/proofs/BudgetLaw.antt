@@ -1,6 +1,5 @@
 -- An exchange of the law leaves fewer changes of its word, unless a pair takes the place of another.
-use Rattle.std.proofs.Common.{◌≡◌, ◌⊎◌, ⊎_elim, ℕ, ◌+◌, ◌-◌, ◌^◌, ◌==◌, ◌&&◌, ◌<◌, ◌≤◌, Bool, true, false, cond, Option, Some, None, refl, sym, ◌∙◌, ap, subst, arith, eq-eqb}
-use Rattle.papaya_words.specs.Word.{kind_of}
+use Rattle.std.proofs.Common.{◌≡◌, ⊎_elim, ℕ, ◌^◌, ◌==◌, ◌&&◌, ◌<◌, ◌≤◌, Bool, true, cond, Option, Some, refl, sym, ◌∙◌, ap, subst, arith, eq-eqb}
 use Rattle.papaya_ask.specs.declared.ask.At.{At}
 use Rattle.papaya_ask.specs.declared.ask.At.TheVariants.{Root, Next, Aborted, Done, Slot}
 use Rattle.papaya_ask.specs.declared.ask.StepKind.{StepKind}
@@ -8,13 +7,13 @@ use Rattle.papaya_ask.specs.declared.ask.StepKind.TheVariants as kinds
 use Rattle.papaya_law.specs.Allows.{Allows}
 use Rattle.papaya_law.specs.Class.{IsOn}
 use Rattle.papaya_law.specs.Code.{Coding, code, kind}
-use Rattle.papaya_law.specs.Exchange.{Setting, Word, Empty, Closed, Live, Marked, Copied, Buried, State, Exchange, Open, Claim, Replace, Bury, Link, Mark, Close, Place, Finish, Advance, Promote, Abort, after, slot_put}
+use Rattle.papaya_law.specs.Exchange.{Setting, Word, Empty, Closed, Live, Marked, Copied, Buried, State, Exchange, Promote, after, slot_put}
 use Rattle.papaya_law.specs.Invariant.{IsSound}
 use Rattle.papaya_law.proofs.Chain.{walk_between}
 use Rattle.papaya_law.proofs.Codes.{code_kind}
 use Rattle.papaya_rests.specs.Copier.{IsCopyAsked}
 use Rattle.papaya_rests.specs.Told.{Hands, IsAsked, word_of}
-use Rattle.papaya_timeline.specs.Ends.{changes_of, changes_of_word, copies_of, links_of}
+use Rattle.papaya_timeline.specs.Ends.{changes_of, changes_of_word, links_of}
 use Rattle.papaya_timeline.proofs.BudgetTables.{changes_at}
 use Rattle.papaya_timeline.proofs.CallersLemmas.{differs}
 

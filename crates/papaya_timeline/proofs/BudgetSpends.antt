@@ -1,5 +1,5 @@
 -- An answered ask spends of the budget what the law of a call that is alone counts on.
-use Rattle.std.proofs.Common.{◌≡◌, ◌⊎◌, inl, inr, ⊎_elim, ℕ, ◌+◌, ◌-◌, ◌^◌, ◌==◌, ◌<◌, ◌≤◌, Bool, true, Option, Some, None, List, [], ◌∷◌, ◌++◌, length, refl, sym, ◌∙◌, ap, subst, arith, eqb-true, length-append}
+use Rattle.std.proofs.Common.{◌≡◌, ◌⊎◌, inl, inr, ℕ, ◌+◌, ◌-◌, ◌^◌, ◌==◌, ◌<◌, ◌≤◌, Bool, true, Option, Some, None, List, [], ◌∷◌, ◌++◌, length, refl, sym, ◌∙◌, ap, subst, arith, eqb-true, length-append}
 use Rattle.papaya_words.specs.Table.{TableWords, new_table}
 use Rattle.papaya_words.specs.declared.limits.TheConstants.{MAX_TABLES, MAX_LOG_LEN}
 use Rattle.papaya_words.specs.declared.probe.ResizeMode.{ResizeMode}
@@ -9,13 +9,13 @@ use Rattle.papaya_ask.specs.declared.ask.At.TheVariants.{Root}
 use Rattle.papaya_ask.specs.declared.ask.Ask.{Ask as Call_ask}
 use Rattle.papaya_ask.specs.declared.ask.Ask.TheVariants.{Load, Exchange as Ask_exchange, SameKey, ShowNone, ShowPair, SizeOf, MakeKey, MakePair, MakeTable, AddToShard, Done as Ask_done}
 use Rattle.papaya_ask.specs.declared.ask.Answer.{Answer as Call_answer}
-use Rattle.papaya_ask.specs.declared.ask.Answer.TheVariants.{Exchanged, Found as Found_instead, Made as Made_number, Refused as Was_refused}
+use Rattle.papaya_ask.specs.declared.ask.Answer.TheVariants.{Made as Made_number, Refused as Was_refused}
 use Rattle.papaya_ask.specs.declared.ask.StepKind.{StepKind}
 use Rattle.papaya_ask.specs.declared.ask.StepKind.TheVariants as kinds
 use Rattle.papaya_ask.specs.declared.copy_ask.CopyAsk.{CopyAsk}
 use Rattle.papaya_ask.specs.declared.copy_ask.CopyAsk.TheVariants as copies
 use Rattle.papaya_ask.specs.Search.{IsSize}
-use Rattle.papaya_law.specs.Allows.{AllAllowed, Allows}
+use Rattle.papaya_law.specs.Allows.{AllAllowed}
 use Rattle.papaya_law.specs.Class.{IsOn}
 use Rattle.papaya_law.specs.Code.{Coding, IsHashed}
 use Rattle.papaya_law.specs.Exchange.{Setting, State, Exchange, run, start}
@@ -29,7 +29,7 @@ use Rattle.papaya_chain.specs.declared.ask.Ask.TheVariants as asks
 use Rattle.papaya_chain.specs.declared.ask.Answer.{Answer}
 use Rattle.papaya_chain.specs.declared.ask.Answer.TheVariants as answers
 use Rattle.papaya_chain.specs.Machine.{ask_of, kind_of_ask}
-use Rattle.papaya_alone.specs.Budget.{Budget, Spends, SpendsCall, SpendsCopy, SpendsExchange}
+use Rattle.papaya_alone.specs.Budget.{Spends, SpendsCall, SpendsCopy, SpendsExchange}
 use Rattle.papaya_alone.specs.Prompt.{IsBounded}
 use Rattle.papaya_store.specs.declared.pairs.Running.{Running}
 use Rattle.papaya_store.specs.Asks.{PerformsAsk}
@@ -44,12 +44,11 @@ use Rattle.papaya_timeline.specs.Ends.{budget_in, budget_of, exchanges_in}
 use Rattle.papaya_timeline.specs.Kept.{IsCall, IsKept, IsMade, Tale, coding_of, low, places_in, setting_of, slots_in}
 use Rattle.papaya_timeline.proofs.BudgetLaw.{IsFewer, call_fewer, copy_fewer}
 use Rattle.papaya_timeline.proofs.BudgetTables.{changes_at, exchanges_few, placed-changes}
-use Rattle.papaya_timeline.proofs.KeptExchange.{root_empty}
+use Rattle.papaya_timeline.proofs.KeptExchange.{changes, root_empty}
 use Rattle.papaya_timeline.proofs.KeptMade.{refusal}
 use Rattle.papaya_timeline.proofs.KeptSettings.{IsLawfulKeys, tables_hashed}
 use Rattle.papaya_timeline.proofs.KeptTables.{IsPlaced, placed-many, table_low}
 use Rattle.papaya_timeline.proofs.KeptWritten.{asked_call, asked_copy, placed_call, placed_copy}
-use Rattle.papaya_timeline.proofs.KeptExchange.{changes}
 use Rattle.papaya_timeline.proofs.ShowLemmas.{none_shown, pair_shown}
 use Rattle.papaya_timeline.proofs.StoreLemmas.{matched}
 

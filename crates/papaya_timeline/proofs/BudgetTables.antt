@@ -1,15 +1,15 @@
 -- What a write of a word spends, and the making of a table; and how much may be spent at most.
-use Rattle.std.proofs.Common.{◌≡◌, ℕ, zero, suc, ◌+◌, ◌*◌, ◌-◌, ◌^◌, ◌==◌, ◌<◌, ◌≤◌, Bool, true, false, cond, List, [], ◌∷◌, ◌++◌, length, slice_get, slice_set, slice_index, sum_by, nat_lt, All, Some, None, refl, sym, ◌∙◌, ap, subst, arith, length-set, lt-ltb}
-use Rattle.std.proofs.lemmas.List.Sums.{sum_by-cons, sum_by-set, sum_by-le, sum_by_push}
+use Rattle.std.proofs.Common.{◌≡◌, ℕ, suc, ◌+◌, ◌-◌, ◌^◌, ◌==◌, ◌<◌, ◌≤◌, Bool, true, false, cond, List, length, slice_get, slice_set, slice_index, sum_by, All, Some, sym, ◌∙◌, ap, subst, arith, length-set, lt-ltb}
+use Rattle.std.proofs.lemmas.List.Sums.{sum_by-set, sum_by-le}
 use Rattle.std.proofs.Math.ListN.{get_or}
 use Rattle.std.proofs.lemmas.Option.{slice_get_within, get_or_from_slice_get, slice_get-get_or}
-use Rattle.papaya_words.specs.Table.{TableWords, new_table}
+use Rattle.papaya_words.specs.Table.{TableWords}
 use Rattle.papaya_words.specs.Word.{kind_of}
 use Rattle.papaya_words.specs.declared.word.Kind.{Kind}
 use Rattle.papaya_words.specs.declared.word.Kind.TheVariants.{Empty, Live, Marked, Copied, Buried, Closed}
 use Rattle.papaya_ask.specs.declared.ask.At.{At}
 use Rattle.papaya_ask.specs.declared.ask.At.TheVariants.{Root, Next, Aborted, Done, Slot}
-use Rattle.papaya_store.specs.Tables.{Tables, table_of, word_in, word_at, written, put, put_at, put_in}
+use Rattle.papaya_store.specs.Tables.{Tables, table_of, word_in, word_at, written, put, put_at}
 use Rattle.papaya_timeline.specs.Ends.{changes_of, changes_of_word, copies_of, ends_of, exchanges_in, exchanges_of, links_of}
 use Rattle.papaya_timeline.proofs.CallersLemmas.{differs}
 use Rattle.papaya_timeline.proofs.KeptTables.{IsPlaced, put-table, table_at, table_there}

@@ -1,17 +1,14 @@
 -- A call has what it is to make: its key until that is in the log, and a value until a pair is made of it.
-use Rattle.std.proofs.Common.{◌≡◌, ◌⊎◌, inl, inr, ⊎_elim, ℕ, ◌==◌, Bool, true, false, Option, None, Some, List, length, refl, sym, ◌∙◌, ap, subst}
+use Rattle.std.proofs.Common.{◌≡◌, ◌⊎◌, inl, inr, ℕ, ◌==◌, Bool, true, false, Option, None, Some, length, refl, sym, ◌∙◌, ap, subst}
 use Rattle.std.proofs.lemmas.Bool.{cond_both}
 use Rattle.papaya_words.specs.Word.{pair_of as pair_in}
 use Rattle.papaya_words.specs.declared.limits.TheConstants.{MAX_LOG_LEN}
 use Rattle.papaya_words.specs.declared.probe.Refused.{Refused}
-use Rattle.papaya_ask.specs.declared.ask.Ask.{Ask as Call_ask}
-use Rattle.papaya_ask.specs.declared.ask.Ask.TheVariants.{MakeKey, MakePair, ShowNone, ShowPair, Load}
+use Rattle.papaya_ask.specs.declared.ask.Ask.TheVariants.{MakeKey, MakePair}
 use Rattle.papaya_ask.specs.declared.ask.Answer.{Answer as Call_answer}
-use Rattle.papaya_ask.specs.declared.ask.Answer.TheVariants.{Word as Word_read, Exchanged, Found as Found_instead, Yes, Op, Size, Made as Made_number, Ok as Ok_done, Refused as Was_refused}
-use Rattle.papaya_ask.specs.declared.ask.At.TheVariants.{Next}
+use Rattle.papaya_ask.specs.declared.ask.Answer.TheVariants.{Word as Word_read, Exchanged, Found as Found_instead, Yes, Op, Made as Made_number, Ok as Ok_done, Refused as Was_refused}
 use Rattle.papaya_ask.specs.declared.ask.OpKind.{OpKind}
-use Rattle.papaya_ask.specs.declared.ask.OpKind.TheVariants as ops
-use Rattle.papaya_ask.specs.declared.call.Reply.TheVariants.{Absent, Replaced, Refused as Reply_refused}
+use Rattle.papaya_ask.specs.declared.call.Reply.TheVariants.{Replaced}
 use Rattle.papaya_ask.specs.declared.call.Task.{Task}
 use Rattle.papaya_ask.specs.declared.call.Task.TheVariants as tasks
 use Rattle.papaya_ask.specs.declared.search.Search.TheVariants.{Sizing, Looking, Comparing}
@@ -19,7 +16,6 @@ use Rattle.papaya_call.specs.Answers.{Says, op_kind}
 use Rattle.papaya_call.specs.declared.answers.Operation.{Operation}
 use Rattle.papaya_call.specs.declared.answers.Operation.TheVariants as operations
 use Rattle.papaya_call.specs.declared.compute.Gap.{Gap}
-use Rattle.papaya_call.specs.declared.compute.Purpose.{Purpose}
 use Rattle.papaya_call.specs.declared.machine.Machine.{Machine as Call_machine}
 use Rattle.papaya_call.specs.declared.machine.State.{State as Stage}
 use Rattle.papaya_call.specs.declared.machine.State.TheVariants.{AtRoot, Making, Opening, Searching, Writing, Offering, Showing, Pairing, Putting, Burying, Counting, Uncounting, Leaving, Growing, Ended}
@@ -27,16 +23,16 @@ use Rattle.papaya_call.specs.declared.remove.Removal.{Removal}
 use Rattle.papaya_call.specs.declared.write.Made.{Made}
 use Rattle.papaya_call.specs.declared.write.Made.TheVariants.{Nothing, Key, Pair}
 use Rattle.papaya_call.specs.declared.write.Write.{Write}
-use Rattle.papaya_call.specs.Compute.{offered, provides}
-use Rattle.papaya_call.specs.Machine.{IsComputer, IsStandingState, IsWriter, after, asks as call_asks, beaten, decided, judged, written}
+use Rattle.papaya_call.specs.Compute.{offered}
+use Rattle.papaya_call.specs.Machine.{IsComputer, IsStandingState, IsWriter, after, asks as call_asks, decided, judged, written}
 use Rattle.papaya_ask.specs.Search.{look as look_seen, at_word as search_loaded, at_yes as search_compared}
 use Rattle.papaya_rests.proofs.Leads.{HoldsOfLeads, beaten_leads, goes_leads, left_leads, provides_leads, root_leads}
 use Rattle.papaya_store.specs.declared.pairs.KeyOf.{KeyOf}
 use Rattle.papaya_store.specs.declared.pairs.KeyOf.TheVariants.{Own, Logged}
 use Rattle.papaya_store.specs.declared.pairs.Running.{Running}
-use Rattle.papaya_store.specs.Performs.{Decides, Judges, HasKey, HasNoPair, LogsKey, LogsPair, Performs, Refuses, ShowsNothing, ShowsPair, Stays, value_answered}
+use Rattle.papaya_store.specs.Performs.{Decides, HasKey, HasNoPair, LogsKey, LogsPair, Performs, Refuses, ShowsNothing, ShowsPair, Stays, value_answered}
 use Rattle.papaya_store.specs.Store.{StoreState}
-use Rattle.papaya_timeline.specs.Ends.{HasAnswered, HasValue, IsKeyFor, IsMaker, IsThere}
+use Rattle.papaya_timeline.specs.Ends.{HasAnswered, HasValue, IsKeyFor, IsThere}
 use Rattle.papaya_timeline.proofs.KeptMade.{refusal}
 use Rattle.papaya_timeline.proofs.StoreLemmas.{matched}
 

@@ -1,13 +1,11 @@
 -- A step of a call over a chain leaves it what it is to make; and what it asks to be made is made or refused.
-use Rattle.std.proofs.Common.{◌≡◌, ◌⊎◌, inl, inr, ⊎_elim, ℕ, ◌+◌, Bool, true, false, Option, None, Some, List, length, refl, sym, ◌∙◌, ap, subst}
+use Rattle.std.proofs.Common.{◌≡◌, ◌⊎◌, inl, inr, ℕ, ◌+◌, Bool, None, Some, length, refl, sym, ◌∙◌, ap, subst}
 use Rattle.papaya_words.specs.Word.{pair_of as pair_in}
 use Rattle.papaya_words.specs.declared.limits.TheConstants.{FIRST_TABLE_LEN, FIRST_TABLE_LIMIT, MAX_LOG_LEN, MAX_TABLES}
-use Rattle.papaya_words.specs.declared.probe.Refused.{Refused}
 use Rattle.papaya_words.specs.declared.probe.Refused.TheVariants.{Memory}
-use Rattle.papaya_ask.specs.declared.ask.Ask.{Ask as Call_ask}
 use Rattle.papaya_ask.specs.declared.ask.Ask.TheVariants.{MakeKey, MakePair, MakeTable, ShowPair, Load, Done as Ask_done}
 use Rattle.papaya_ask.specs.declared.ask.Answer.{Answer as Call_answer}
-use Rattle.papaya_ask.specs.declared.ask.Answer.TheVariants.{Word as Word_read, Made as Made_number, Refused as Was_refused}
+use Rattle.papaya_ask.specs.declared.ask.Answer.TheVariants.{Word as Word_read}
 use Rattle.papaya_ask.specs.declared.ask.At.TheVariants.{Next}
 use Rattle.papaya_ask.specs.declared.call.Reply.{Reply}
 use Rattle.papaya_ask.specs.declared.call.Reply.TheVariants.{Refused as Reply_refused}
@@ -22,7 +20,6 @@ use Rattle.papaya_call.specs.declared.write.Made.{Made}
 use Rattle.papaya_call.specs.declared.write.Made.TheVariants.{Nothing, Key, Pair}
 use Rattle.papaya_call.specs.Machine.{HasClosure, IsComputer, IsStandingState, asks as call_asks}
 use Rattle.papaya_call.specs.Machine as call_machine
-use Rattle.papaya_chain.specs.declared.ask.Ask.{Ask}
 use Rattle.papaya_chain.specs.declared.ask.Ask.TheVariants as asks
 use Rattle.papaya_chain.specs.declared.ask.Answer.{Answer}
 use Rattle.papaya_chain.specs.declared.ask.Answer.TheVariants as answers
@@ -42,7 +39,7 @@ use Rattle.papaya_store.specs.declared.pairs.Running.{Running}
 use Rattle.papaya_store.specs.Asks.{PerformsAsk}
 use Rattle.papaya_store.specs.Performs.{HasKey, HasNoPair, LogsKey, LogsPair, MakesTable, Performs, Refuses, ShowsPair, Stays}
 use Rattle.papaya_store.specs.Store.{StoreState, Stored, pair_of}
-use Rattle.papaya_timeline.specs.Ends.{IsKeyFor, IsMaker, IsThere}
+use Rattle.papaya_timeline.specs.Ends.{IsMaker, IsThere}
 use Rattle.papaya_timeline.proofs.KeptMade.{refusal}
 use Rattle.papaya_timeline.proofs.MakerLemmas.{IsUnpaired, Makes, leads_unpaired, own_in, unpaired_answered, writer_value}
 use Rattle.papaya_timeline.proofs.StoreLemmas.{matched}

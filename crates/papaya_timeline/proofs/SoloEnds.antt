@@ -1,33 +1,29 @@
 -- A call that is made alone comes to its end: each of its steps lowers a measure.
-use Rattle.std.proofs.Common.{◌≡◌, ◌⊎◌, ℕ, ◌^◌, ◌<◌, Bool, true, Option, None, Some, List, [], ◌∷◌, ◌++◌, refl, sym, ◌∙◌, ap, subst}
+use Rattle.std.proofs.Common.{◌≡◌, ℕ, ◌^◌, ◌<◌, Bool, true, None, Some, List, [], ◌++◌, refl, sym, ◌∙◌, ap, subst}
 use Rattle.std.specs.Cmp.{IsEquivalence}
 use mathlib.Core.Path.{fun_ext}
-use Rattle.papaya_words.specs.declared.probe.ResizeMode.{ResizeMode}
 use Rattle.papaya_call.specs.Answers.{Says}
 use Rattle.papaya_call.specs.declared.write.Made.TheVariants.{Nothing}
-use Rattle.papaya_ask.specs.declared.ask.At.{At}
 use Rattle.papaya_ask.specs.declared.ask.At.TheVariants.{Root}
-use Rattle.papaya_ask.specs.declared.ask.Ask.TheVariants.{ShowPair, Done as Ask_done}
+use Rattle.papaya_ask.specs.declared.ask.Ask.TheVariants.{ShowPair}
 use Rattle.papaya_ask.specs.declared.call.Call.{Call}
 use Rattle.papaya_ask.specs.declared.call.Call.TheVariants.{Get, Insert, TryInsert, RemoveIf, Compute}
-use Rattle.papaya_ask.specs.declared.call.Reply.{Reply}
 use Rattle.papaya_law.specs.Allows.{AllAllowed}
 use Rattle.papaya_law.specs.Code.{Coding, IsHashed}
 use Rattle.papaya_law.specs.Exchange.{Exchange, Setting, State, run, start}
 use Rattle.papaya_chain.specs.declared.ask.Ask.TheVariants as asks
 use Rattle.papaya_chain.specs.Machine.{after, ask_of, follows_of, kind_of_ask}
-use Rattle.papaya_chain_rests.specs.Goes.{IsInOrder}
 use Rattle.papaya_chain_rests.specs.Told.{IsTold}
 use Rattle.papaya_chain_rests.proofs.Names.{call_asks}
 use Rattle.papaya_chain_rests.proofs.Order.{in_order}
 use Rattle.papaya_rests.specs.Told.{word_of}
 use Rattle.papaya_alone.specs.Ahead.{IsCurrent}
-use Rattle.papaya_alone.specs.Budget.{Budget, Spends}
+use Rattle.papaya_alone.specs.Budget.{Spends}
 use Rattle.papaya_alone.specs.Prompt.{IsBounded, IsServedAsk}
 use Rattle.papaya_alone.specs.Rank.{measure}
 use Rattle.papaya_alone.proofs.ChainLaw.{call_current, call_nears}
 use Rattle.papaya_store.specs.declared.pairs.Running.{Running}
-use Rattle.papaya_store.specs.Store.{StoreState, Stored, pair_of}
+use Rattle.papaya_store.specs.Store.{Stored, pair_of}
 use Rattle.papaya_store.specs.Tables.{word_at}
 use Rattle.papaya_keys.specs.Hashes.{hash_of}
 use Rattle.papaya_timeline.specs.declared.seat.Seat.{Seat}
@@ -36,17 +32,16 @@ use Rattle.papaya_timeline.specs.Advances.{Advances}
 use Rattle.papaya_timeline.specs.Begins.{Begins, begun, key_of_call, task_of_call, value_of_call}
 use Rattle.papaya_timeline.specs.Callers.{running, with_call, with_seat}
 use Rattle.papaya_timeline.specs.Core.{CoreState, IsCore}
-use Rattle.papaya_timeline.specs.Ends.{HasValue, IsLone, IsMaker, IsNearer, IsThere, budget_of, lone_measure}
+use Rattle.papaya_timeline.specs.Ends.{HasValue, IsLone, IsMaker, IsNearer, budget_of, lone_measure}
 use Rattle.papaya_timeline.specs.Kept.{IsCall, IsKept, IsLawfulCore, Tale, coding_of, low, setting_of, told_tales}
 use Rattle.papaya_timeline.proofs.BudgetSpends.{budget_bounded, kept_bounded, performs_spends}
 use Rattle.papaya_timeline.proofs.CallersLemmas.{same_item}
-use Rattle.papaya_timeline.proofs.ChainLemmas.{own_asks}
 use Rattle.papaya_timeline.proofs.HeadlineLemmas.{advance-core}
 use Rattle.papaya_timeline.proofs.KeptCore.{keys_lawful, performs-hasher}
 use Rattle.papaya_timeline.proofs.KeptLemmas.{IsLawfulKeys, IsStep, hashed_setting, kept_step}
 use Rattle.papaya_timeline.proofs.MachineLemmas.{machine_shows}
 use Rattle.papaya_timeline.proofs.MakerSteps.{ask_served, next_maker}
-use Rattle.papaya_timeline.proofs.SoloRun.{Follows, follows_begin, one_seat}
+use Rattle.papaya_timeline.proofs.SoloRun.{follows_begin, one_seat}
 use Rattle.papaya_timeline.specs.Solo.{whatever}
 
 -- an insertion begins with its value
