@@ -29,6 +29,7 @@ pub mod KeptTables
 pub mod KeptWritten
 pub mod LegalLemmas
 pub mod MachineLemmas
+pub mod MadeTables
 pub mod OneTable
 pub mod RefusedLemmas
 pub mod ReplayLemmas
