@@ -36,7 +36,7 @@ use Rattle.papaya_timeline.proofs.KeptLogs.{key_at-more, pair-more_keys, pair-mo
 use Rattle.papaya_timeline.proofs.KeptTables.{grown-same, get-append_last, made-grown, made-there, word-made}
 
 -- nothing was made: it was refused
-refusal : (most count : ℕ) (a : Call_answer) → Refuses most count a → (refused : Refused) × (a ≡ Was_refused refused)
+pub refusal : (most count : ℕ) (a : Call_answer) → Refuses most count a → (refused : Refused) × (a ≡ Was_refused refused)
 refusal most count a (inl e) = (Memory, e)
 refusal most count a (inr (e, full)) = (Capacity, e)
 

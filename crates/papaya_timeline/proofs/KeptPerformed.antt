@@ -1,5 +1,7 @@
 -- Every answered ask of a call itself keeps to the law.
-use Rattle.std.proofs.Common.{◌≡◌, ℕ, ◌==◌, ◌<◌, Bool, List, [], ◌∷◌, ◌++◌, Option, Some, inl, inr, ◌⊎◌, refl, sym, ◌∙◌, ap, subst, arith, MatchBool}
+use Rattle.std.proofs.Common.{◌≡◌, ℕ, ◌+◌, ◌==◌, ◌<◌, Bool, List, [], ◌∷◌, ◌++◌, length, Option, Some, inl, inr, ◌⊎◌, refl, sym, ◌∙◌, ap, subst, arith, MatchBool}
+use Rattle.papaya_words.specs.declared.limits.TheConstants.{MAX_TABLES}
+use Rattle.papaya_words.specs.declared.probe.Refused.{Refused}
 use Rattle.papaya_words.specs.declared.probe.Refused.TheVariants.{Memory}
 use Rattle.papaya_words.specs.declared.probe.ResizeMode.{ResizeMode}
 use Rattle.papaya_call.specs.Answers.{Says}
@@ -8,7 +10,7 @@ use Rattle.papaya_ask.specs.declared.ask.At.TheVariants.{Root}
 use Rattle.papaya_ask.specs.declared.ask.Ask.{Ask as Call_ask}
 use Rattle.papaya_ask.specs.declared.ask.Ask.TheVariants.{Load, Exchange as Ask_exchange, SameKey, ShowNone, ShowPair, SizeOf, MakeKey, MakePair, MakeTable, AddToShard, Done as Ask_done}
 use Rattle.papaya_ask.specs.declared.ask.Answer.{Answer as Call_answer}
-use Rattle.papaya_ask.specs.declared.ask.Answer.TheVariants.{Word as Word_read, Exchanged, Found as Found_instead, Yes, Size, Made as Made_number}
+use Rattle.papaya_ask.specs.declared.ask.Answer.TheVariants.{Word as Word_read, Exchanged, Found as Found_instead, Yes, Size, Made as Made_number, Ok as Ok_done, Refused as Was_refused}
 use Rattle.papaya_ask.specs.declared.copy_ask.CopyAsk.TheVariants.{MakeTable as Make_next}
 use Rattle.papaya_law.specs.Allows.{AllAllowed}
 use Rattle.papaya_law.specs.Class.{IsOn}
@@ -28,13 +30,13 @@ use Rattle.papaya_chain_rests.proofs.Names.{call_asks}
 use Rattle.papaya_copy.specs.declared.link.Link.TheVariants.{Linking}
 use Rattle.papaya_store.specs.declared.pairs.Running.{Running}
 use Rattle.papaya_timeline.specs.Kept.{IsMade, Tale, low, slots_in, places_in}
-use Rattle.papaya_store.specs.Performs.{Exchanges, Performs, own_key, same, size_of}
+use Rattle.papaya_store.specs.Performs.{Exchanges, MakesTable, Performs, Refuses, own_key, same, size_of}
 use Rattle.papaya_store.specs.Store.{StoreState, Stored, pair_of}
 use Rattle.papaya_store.specs.Tables.{word_at, put}
 use Rattle.papaya_timeline.proofs.ShowLemmas.{IsShowing, none_shown, pair_shown}
 use Rattle.papaya_timeline.proofs.StoreLemmas.{matched}
-use Rattle.papaya_timeline.proofs.KeptAnswer.{law_setting, law_coding, words_now, HasLogs, IsAnswered, own_told, quiet, same_hands, told_last, told_made, unexchanged}
-use Rattle.papaya_timeline.proofs.KeptMade.{key_made, none_made, pair_made, table_made}
+use Rattle.papaya_timeline.proofs.KeptAnswer.{law_setting, law_coding, words_now, IsAnswered, Stands, own_told, quiet, same_hands, told_last, told_made, unexchanged}
+use Rattle.papaya_timeline.proofs.KeptMade.{key_made, none_made, pair_made, refusal, table_made}
 use Rattle.papaya_timeline.proofs.KeptTables.{grown-same}
 use Rattle.papaya_timeline.proofs.KeptWritten.{call_exchanged, on_there}
 
@@ -63,7 +65,7 @@ module _ {K V S A : Type 0} (eq : K → K → Bool) (says : Says K V A) (hash : 
   -- an ask of which nothing is left but what was told
   answered_quietly : (ask : Call_ask) → ask_of r.machine ≡ asks.Call ask → (a : Call_answer) (store' : StoreState K V S) (later : Running K V A) (hands : Call_hands (Stored K V)) → store' ≡ store → later ≡ r → Hears ask a hands
       → change_after (kind_of_ask r.machine) ask a (change_in r.machine.call.state) ≡ change_in r.machine.call.state
-      → ((p : Stored K V) → hands.last ≡ Some p → (tale.hands.call.last ≡ Some p) ⊎ ((t : ℕ) × (x : ℕ) × (Rattle.papaya_law.specs.Invariant.named ((words_now eq hash mode store r es tale).slot t x) ≡ Some p)))
+      → ((p : Stored K V) → hands.last ≡ Some p → (tale.hands.call.last ≡ Some p) ⊎ Stands (words_now eq hash mode store r es tale) p)
       → hands.made ≡ tale.hands.call.made → NoTable ask a → Leaves ask a store' later
   answered_quietly ask e a store' later hands same_store same_call told still stood made never =
       quiet eq hash mode store r es tale hashed key rests coded there own (asks.Call ask) e (answers.Call a) store' later (record tale.hands { call = hands }) store.count same_store same_call
@@ -110,6 +112,11 @@ module _ {K V S A : Type 0} (eq : K → K → Bool) (says : Says K V A) (hash : 
   untabled : (ask : Call_ask) (a : Call_answer) → ((slots limit : ℕ) → ask ≡ MakeTable slots limit → ⊥) → NoTable ask a
   untabled ask a none t is which = elim which [ inl (slots, limit, f) ↦ (let asked : ask ≡ MakeTable slots limit = cc in none slots limit asked) | inr (slots, limit, f) ↦ absurd cc ]
 
+  -- a table was made, or none
+  table_told : (slots limit : ℕ) (a : Call_answer) (store' : StoreState K V S) → (Refuses MAX_TABLES (length store.words.tables) a × (store' ≡ store)) ⊎ MakesTable a slots limit store store' → (((refused : Refused) × (a ≡ Was_refused refused)) ⊎ (a ≡ Ok_done)) ⊎ ((n : ℕ) × (0 < n) × (a ≡ Made_number n))
+  table_told slots limit a store' (inl (refuses, same_store)) = inl (inl (refusal _ _ a refuses))
+  table_told slots limit a store' (inr (is, few, grown)) = inr (length store.words.tables + 1, omega arith, is)
+
   -- each ask
   pub answered_call : (refuse : Bool) (ask : Call_ask) → ask_of r.machine ≡ asks.Call ask → (a : Call_answer) (store' : StoreState K V S) (later : Running K V A) → Performs eq says refuse ask store r a store' later → Leaves ask a store' later
   answered_call refuse (Load at) e a store' later (is, stays) =
@@ -149,7 +156,7 @@ module _ {K V S A : Type 0} (eq : K → K → Bool) (says : Says K V A) (hash : 
       matched (Leaves (MakeTable slots limit) a store' later) refuse _ _ h
       (λ _ none. none_made eq hash mode store r es tale hashed key rests coded there own (asks.Call (MakeTable slots limit)) e a store' later (own_told eq hash mode store r es tale hashed key rests coded there (MakeTable slots limit) a [] tale.hands.call (inl (inl (Memory, none.0)), (refl, refl))) refl none.0 none.1.0 none.1.1)
       (λ _ makes. table_made eq hash mode store r es tale hashed key rests coded there own (asks.Call (MakeTable slots limit)) e slots limit a
-      (own_told eq hash mode store r es tale hashed key rests coded there (MakeTable slots limit) a [] tale.hands.call (?, (refl, refl))) refl store' later makes.1 makes.0)
+      (own_told eq hash mode store r es tale hashed key rests coded there (MakeTable slots limit) a [] tale.hands.call (table_told slots limit a store' makes.0, (refl, refl))) refl store' later makes.1 makes.0)
   answered_call refuse (AddToShard by) e a store' later (is, (number, same_store), same_call) =
       quiet eq hash mode store r es tale hashed key rests coded there own (asks.Call (AddToShard by)) e (answers.Call a) store' later tale.hands _ same_store same_call
       (own_told eq hash mode store r es tale hashed key rests coded there (AddToShard by) a [] tale.hands.call (is, (refl, refl))) refl (λ p h. inl h) (λ p h. inl h) refl

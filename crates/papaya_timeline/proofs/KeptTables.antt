@@ -1,5 +1,6 @@
 -- The words and the sizes of tables after a write, and after a table was made.
-use Rattle.std.proofs.Common.{◌≡◌, ◌≢◌, ℕ, zero, suc, ◌+◌, ◌-◌, ◌==◌, ◌<◌, Bool, true, false, cond, List, [], ◌∷◌, ◌++◌, length, slice_get, slice_set, slice_index, replicate, nat_lt, Some, None, ◌⊎◌, inl, inr, ⊎_elim, refl, sym, ◌∙◌, ap, arith, length-set, lt-ltb}
+use Rattle.std.proofs.Common.{◌≡◌, ◌≢◌, ℕ, zero, suc, ◌+◌, ◌-◌, ◌==◌, ◌<◌, ◌≤◌, Bool, true, false, cond, List, [], ◌∷◌, ◌++◌, length, slice_get, slice_set, slice_index, replicate, nat_lt, Some, None, ◌⊎◌, inl, inr, ⊎_elim, refl, sym, ◌∙◌, ap, arith, length-set, lt-ltb}
+use Rattle.std.proofs.lemmas.Option.{slice_get_within}
 use Rattle.papaya_words.specs.Table.{TableWords, new_table}
 use Rattle.papaya_ask.specs.declared.ask.At.{At}
 use Rattle.papaya_ask.specs.declared.ask.At.TheVariants.{Root, Next, Aborted, Done, Slot}
@@ -59,6 +60,10 @@ table_there tables n t e = go (n == 0) refl
     go : (b : Bool) → (n == 0) ≡ b → ((n == 0) ≡ false) × (slice_get tables (n - 1) ≡ Some t)
     go true z = let f : None ≡ Some t = sym (ap (λ b. cond b None (slice_get tables (n - 1))) z) ∙ e in cc
     go false z = (z, sym (ap (λ b. cond b None (slice_get tables (n - 1))) z) ∙ e)
+
+-- so its number is no greater than the number of tables
+pub table_low : (tables : List TableWords) (n : ℕ) (t : TableWords) → table_of tables n ≡ Some t → n ≤ length tables
+table_low tables n t e = let at = table_there tables n t e in let within = slice_get_within tables (n - 1) t at.1 in omega (arith, within)
 
 -- the table of a number above 0
 pub table_at : (tables : List TableWords) (n : ℕ) → (n == 0) ≡ false → table_of tables n ≡ slice_get tables (n - 1)
