@@ -27,7 +27,7 @@ call_begun g c =
     let before : CoreState _ _ _ _ = record { store = c.self.inside.store; callers = c.self.inside.callers; mode = c.self.inside.mode; initial = c.self.inside.initial } in
     let later : CoreState _ _ _ _ = record { store = c.self.inside.store; callers = c.put.new.self; mode = c.self.inside.mode; initial = c.self.inside.initial } in
     let begins : Begins hash before c.args.caller c.args.call later =
-    record { store = refl; callers = callers ∙ ap (λ r. with_call (with_seat c.self.inside.callers c.args.caller) c.args.caller (Some r)) c.begin_call-running.ensures.begun; mode = refl; initial = refl; fits = fits } in (
+    record { store = refl; callers = callers ∙ ap (λ r. with_call (with_seat c.self.inside.callers c.args.caller) c.args.caller (Some r)) c.begin_call-running.ensures.begun; mode = refl; initial = refl; fits = fits; power = c.self.invariant.2 } in (
       begin_lawful g.K.PartialEq.eq g.K.Hash.hash_input g.S.BuildHasher.build_hasher g.S.Hasher.Hasher.write g.S.Hasher.Hasher.finish g.met.K.Eq.laws g.met.K.Hash.respects_eq
           before c.args.caller c.args.call later begins
           fits core c.self.invariant.0,
