@@ -33,6 +33,7 @@ use Rattle.papaya_rests.specs.Told as call_told
 use Rattle.papaya_rests.proofs.RestsCount.{machine_owes}
 use Rattle.papaya_rests.proofs.RestsReply.{machine_changes}
 use Rattle.papaya_rests.proofs.SaysSaid.{machine_said}
+use Rattle.papaya_rests.proofs.SaysWords.{machine_shows}
 use Rattle.papaya_rests.proofs.Tasks.{same_task}
 use Rattle.papaya_chain_rests.specs.Goes.{IsInOrder, IsOwnStep, change_by, grown_by, owed_in}
 use Rattle.papaya_chain_rests.specs.Rests.{left_by}
@@ -169,6 +170,16 @@ module _ (m : Machine) (answer : Answer) (order : IsInOrder m answer m.phase) wh
     | inr (inr (inl enters)) ↦ (ap (λ (d : Call_machine). d.task) enters.call, ap (λ (d : Call_machine). d.hash) enters.call)
     | inr (inr (inr (inl begins))) ↦ (ap (λ (d : Call_machine). d.task) begins.call, ap (λ (d : Call_machine). d.hash) begins.call)
     | inr (inr (inr (inr ends))) ↦ (ap (λ (d : Call_machine). d.task) ends.call, ap (λ (d : Call_machine). d.hash) ends.call)
+  ]
+
+  -- a call that showed pairs that are there shows such pairs
+  pub chain_shows : ShowsPairs m.call.state → ShowsPairs (after m answer).call.state
+  chain_shows shows = elim (machine_goes m answer order) [
+    | inl waits ↦ subst (λ (d : Call_machine). ShowsPairs d.state) (sym waits.call) shows
+    | inr (inl own) ↦ subst (λ (d : Call_machine). ShowsPairs d.state) (sym own.call) (machine_shows m.call own.told shows)
+    | inr (inr (inl enters)) ↦ subst (λ (d : Call_machine). ShowsPairs d.state) (sym enters.call) tt
+    | inr (inr (inr (inl begins))) ↦ subst (λ (d : Call_machine). ShowsPairs d.state) (sym begins.call) (anew ShowsPairs tt tt tt (λ _. tt) m.call.task m.call.remembered.fill begins.root)
+    | inr (inr (inr (inr ends))) ↦ subst (λ (d : Call_machine). ShowsPairs d.state) (sym ends.call) tt
   ]
 
   -- a call that was set aside stands on what it remembers, and says nothing new

@@ -111,6 +111,11 @@ pub fn goes<K, P>()
         (es : List (Exchange P)) (hands' : Hands P) → IsTold g c k (run (begun ++ since) start)
         (kind_of_ask m) (follows_of m) hands (ask_of m) answer es hands'
         → ((after m answer).call.task ≡ m.call.task) × ((after m answer).call.hash ≡ m.call.hash) }
+    ensures words { (g : Setting K P) (c : Coding K P) (begun since : List (Exchange P)) (k : K)
+        (m : Machine) (hands : Hands P) → Rests g c begun since k m hands → (answer : Answer)
+        (es : List (Exchange P)) (hands' : Hands P) → IsTold g c k (run (begun ++ since) start)
+        (kind_of_ask m) (follows_of m) hands (ask_of m) answer es hands'
+        → ShowsPairs m.call.state → ShowsPairs (after m answer).call.state }
     ensures says { (g : Setting K P) (c : Coding K P) (begun since : List (Exchange P)) (k : K)
         (m : Machine) (hands : Hands P) → Rests g c begun since k m hands → (answer : Answer)
         (es : List (Exchange P)) (hands' : Hands P) → IsTold g c k (run (begun ++ since) start)

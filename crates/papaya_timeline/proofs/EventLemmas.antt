@@ -1,4 +1,4 @@
--- What the event of a step is: an exchange that was made, or nothing.
+-- What the event of an ask of a call is: an exchange that was made, or nothing.
 use Rattle.std.proofs.Common.{◌≡◌, ◌⊎◌, inl, inr, ⊎_elim, ℕ, ◌==◌, Bool, true, false, Option, None, Some, List, [], ◌∷◌, refl, sym, ◌∙◌, ap, eqb-true}
 use Rattle.papaya_ask.specs.declared.ask.At.{At}
 use Rattle.papaya_call.specs.Answers.{op_kind}
@@ -17,7 +17,7 @@ use Rattle.papaya_rests.specs.Says.{show}
 use Rattle.papaya_rests.specs.Told.{IsTold, IsAsked, Hands, word_of}
 use Rattle.papaya_timeline.specs.declared.trace.Event.{Event}
 use Rattle.papaya_timeline.specs.declared.trace.Event.TheVariants.{Changed, Moved, Asked, Shown, Other}
-use Rattle.papaya_timeline.specs.Advances.{event_of, answered_event, kind_event, shown_event}
+use Rattle.papaya_timeline.specs.Advances.{call_event, answered_event, kind_event, shown_event}
 use Rattle.papaya_timeline.specs.Runs.{History}
 use Rattle.papaya_timeline.specs.Timeline.{Answered, begins, change_by, none_by, open_after, WasAnswered, WasAsked}
 use Rattle.papaya_timeline.proofs.StoreLemmas.{matched}
@@ -37,15 +37,15 @@ pub record IsExchanged {K P : Type 0} (g : Setting K P) (c : Coding K P) (s : St
 
 -- or nothing was exchanged
 abbrev pub IsQuiet : {P : Type 0} → Option StepKind → Ask → Answer → List (Exchange P) → Type 0
-IsQuiet kind ask answer es = (es ≡ []) × (event_of kind ask answer ≡ Other)
+IsQuiet kind ask answer es = (es ≡ []) × (call_event kind ask answer ≡ Other)
 
 -- or the closure of a removal was shown a pair, and answered
 abbrev pub IsShowing : {P : Type 0} → Option StepKind → Ask → Answer → List (Exchange P) → Type 0
-IsShowing kind ask answer es = (n : ℕ) × (agrees : Bool) × (ask ≡ ShowPair n) × (answer ≡ Yes agrees) × (es ≡ []) × (event_of kind ask answer ≡ Asked n agrees)
+IsShowing kind ask answer es = (n : ℕ) × (agrees : Bool) × (ask ≡ ShowPair n) × (answer ≡ Yes agrees) × (es ≡ []) × (call_event kind ask answer ≡ Asked n agrees)
 
 -- or that of a compute was shown a pair, or that there is none, and answered
 abbrev pub IsShown : {P : Type 0} → Option StepKind → Ask → Answer → List (Exchange P) → Type 0
-IsShown kind ask answer es = (shown : Option ℕ) × (op : OpKind) × (ask ≡ show shown) × (answer ≡ Op op) × (es ≡ []) × (event_of kind ask answer ≡ Shown shown op)
+IsShown kind ask answer es = (shown : Option ℕ) × (op : OpKind) × (ask ≡ show shown) × (answer ≡ Op op) × (es ≡ []) × (call_event kind ask answer ≡ Shown shown op)
 
 module _ {K P : Type 0} (g : Setting K P) (c : Coding K P) (k : K) (s : State P) (kind : Option StepKind) (hands : Hands P) where
   abbrev Cases : Ask → Answer → List (Exchange P) → Type 0
@@ -89,7 +89,7 @@ module _ {K P : Type 0} (g : Setting K P) (c : Coding K P) (k : K) (s : State P)
       ⊎_elim (λ quiet. none quiet.0) (λ x. ⊎_elim (λ y. inr (y.by, y.made)) (λ z. ⊎_elim (λ y. none y.4) (λ y. none y.4) z) x) (told_cases ask answer es hands' h)
 
 -- what holds of events of exchanges, of showings and of no event holds of a step's
-event_cases : (P : Event → Type 0) → P Other → ((kind : StepKind) (old new : Option ℕ) → P (Changed kind old new)) → ((kind : StepKind) → P (Moved kind)) → ((n : ℕ) (agrees : Bool) → P (Asked n agrees)) → ((n : Option ℕ) (op : OpKind) → P (Shown n op)) → (kind : Option StepKind) (ask : Ask) (answer : Answer) → P (event_of kind ask answer)
+event_cases : (P : Event → Type 0) → P Other → ((kind : StepKind) (old new : Option ℕ) → P (Changed kind old new)) → ((kind : StepKind) → P (Moved kind)) → ((n : ℕ) (agrees : Bool) → P (Asked n agrees)) → ((n : Option ℕ) (op : OpKind) → P (Shown n op)) → (kind : Option StepKind) (ask : Ask) (answer : Answer) → P (call_event kind ask answer)
 event_cases P other changed moved asked shown kind (Load at) answer = other
 event_cases P other changed moved asked shown kind (Ask_exchange at old new) answer = by_answer answer
   where
@@ -151,26 +151,26 @@ event_cases P other changed moved asked shown kind (AddToShard by) answer = othe
 event_cases P other changed moved asked shown kind (Ask_done reply) answer = other
 
 -- it begins no call
-pub event_begins : (kind : Option StepKind) (ask : Ask) (answer : Answer) → begins (event_of kind ask answer) ≡ false
+pub event_begins : (kind : Option StepKind) (ask : Ask) (answer : Answer) → begins (call_event kind ask answer) ≡ false
 event_begins = event_cases (λ e. begins e ≡ false) refl (λ kind old new. refl) (λ kind. refl) (λ n agrees. refl) (λ n op. refl)
 
 -- what the closure of a removal has answered after a step, it had answered before it or answers now
-pub step_asked : (c turn n : ℕ) (agrees : Bool) (kind : Option StepKind) (ask : Ask) (answer : Answer) (event : Event) (before : History) → event ≡ event_of kind ask answer → WasAsked c n agrees before ⊎ ((ask ≡ ShowPair n) × (answer ≡ Yes agrees)) → WasAsked c n agrees (entry turn c event ∷ before)
+pub step_asked : (c turn n : ℕ) (agrees : Bool) (kind : Option StepKind) (ask : Ask) (answer : Answer) (event : Event) (before : History) → event ≡ call_event kind ask answer → WasAsked c n agrees before ⊎ ((ask ≡ ShowPair n) × (answer ≡ Yes agrees)) → WasAsked c n agrees (entry turn c event ∷ before)
 step_asked c turn n agrees kind ask answer event before is (inl was) = asked-own c c turn n agrees event before (ap begins is ∙ event_begins kind ask answer) was
-step_asked c turn n agrees kind ask answer event before is (inr (showed, said)) = asked-now c turn n agrees event before (is ∙ ap (λ y. event_of kind y answer) showed ∙ ap (shown_event (Some n)) said)
+step_asked c turn n agrees kind ask answer event before is (inr (showed, said)) = asked-now c turn n agrees event before (is ∙ ap (λ y. call_event kind y answer) showed ∙ ap (shown_event (Some n)) said)
 
 -- the event of a showing to a compute's closure
-pub event_shown : (shown : Option ℕ) (op : OpKind) (kind : Option StepKind) (ask : Ask) (answer : Answer) → ask ≡ show shown → answer ≡ Op op → event_of kind ask answer ≡ Shown shown op
-event_shown None op kind ask answer showed said = ap (λ y. event_of kind y answer) showed ∙ ap (shown_event None) said
-event_shown (Some n) op kind ask answer showed said = ap (λ y. event_of kind y answer) showed ∙ ap (shown_event (Some n)) said
+pub event_shown : (shown : Option ℕ) (op : OpKind) (kind : Option StepKind) (ask : Ask) (answer : Answer) → ask ≡ show shown → answer ≡ Op op → call_event kind ask answer ≡ Shown shown op
+event_shown None op kind ask answer showed said = ap (λ y. call_event kind y answer) showed ∙ ap (shown_event None) said
+event_shown (Some n) op kind ask answer showed said = ap (λ y. call_event kind y answer) showed ∙ ap (shown_event (Some n)) said
 
 -- what a closure has answered after a step, it had answered before it or answers now
-pub step_answered : {V : Type 0} (c turn : ℕ) (shown : Option ℕ) (op : Operation V ℕ) (kind : Option StepKind) (ask : Ask) (answer : Answer) (event : Event) (before : History) (o : Option (Operation V ℕ)) (said : Answered V) → event ≡ event_of kind ask answer → WasAnswered c shown op before said ⊎ ((ask ≡ show shown) × (answer ≡ Op (op_kind op)) × (o ≡ Some op)) → WasAnswered c shown op (entry turn c event ∷ before) (o ∷ said)
+pub step_answered : {V : Type 0} (c turn : ℕ) (shown : Option ℕ) (op : Operation V ℕ) (kind : Option StepKind) (ask : Ask) (answer : Answer) (event : Event) (before : History) (o : Option (Operation V ℕ)) (said : Answered V) → event ≡ call_event kind ask answer → WasAnswered c shown op before said ⊎ ((ask ≡ show shown) × (answer ≡ Op (op_kind op)) × (o ≡ Some op)) → WasAnswered c shown op (entry turn c event ∷ before) (o ∷ said)
 step_answered c turn shown op kind ask answer event before o said is (inl was) = answered-own c c turn shown op event before o said (ap begins is ∙ event_begins kind ask answer) was
 step_answered c turn shown op kind ask answer event before o said is (inr (showed, given, now)) = answered-now c turn shown op event before o said (is ∙ event_shown shown (op_kind op) kind ask answer showed given) now
 
 -- that there is none a closure has been shown after a step only if it was before it, or is now
-pub event_none : (before : Bool) (kind : Option StepKind) (ask : Ask) (answer : Answer) → none_by (event_of kind ask answer) before ≡ true → (before ≡ true) ⊎ ((ask ≡ ShowNone) × ((op : OpKind) × (answer ≡ Op op)))
+pub event_none : (before : Bool) (kind : Option StepKind) (ask : Ask) (answer : Answer) → none_by (call_event kind ask answer) before ≡ true → (before ≡ true) ⊎ ((ask ≡ ShowNone) × ((op : OpKind) × (answer ≡ Op op)))
 event_none before kind (Load at) answer e = inl e
 event_none before kind (Ask_exchange at old new) answer e = inl (sym (kept answer) ∙ e)
   where
@@ -232,11 +232,11 @@ event_none before kind (AddToShard by) answer e = inl e
 event_none before kind (Ask_done reply) answer e = inl e
 
 -- and the open call stays open
-pub event_open : {A : Type 0} (begun before : Option A) (kind : Option StepKind) (ask : Ask) (answer : Answer) → open_after (event_of kind ask answer) begun before ≡ before
+pub event_open : {A : Type 0} (begun before : Option A) (kind : Option StepKind) (ask : Ask) (answer : Answer) → open_after (call_event kind ask answer) begun before ≡ before
 event_open begun before = event_cases (λ e. open_after e begun before ≡ before) refl (λ kind old new. refl) (λ kind. refl) (λ n agrees. refl) (λ n op. refl)
 
 -- it tells the change that the machine makes
-pub event_change : (before : Change) (kind : Option StepKind) (ask : Ask) (answer : Answer) → ((at : At) (old new : ℕ) → ask ≡ Ask_exchange at old new → before ≡ None) → change_by (event_of kind ask answer) before ≡ change_after kind ask answer before
+pub event_change : (before : Change) (kind : Option StepKind) (ask : Ask) (answer : Answer) → ((at : At) (old new : ℕ) → ask ≡ Ask_exchange at old new → before ≡ None) → change_by (call_event kind ask answer) before ≡ change_after kind ask answer before
 event_change before kind (Load at) answer once = refl
 event_change before kind (Ask_exchange at old new) answer once = by_answer answer
   where

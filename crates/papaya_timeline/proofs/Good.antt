@@ -52,16 +52,16 @@ module _ {K V : Type 0} (eq : K → K → Bool) where
     -- A call under way, which began in the run, and the history of its caller.
     pub record IsTied (store : StoreState K V S) (r : Running K V A) (call : Call K V A) (caller : ℕ) (tale : Tale K V) (h : History) (maps : List (Map K V)) (answers : Answered V) : Type 0 where
       pub key : own_key store r ≡ Some (key_of call)
-      pub task : r.machine.task ≡ task_of_call call
+      pub task : r.machine.call.task ≡ task_of_call call
       -- the value that is at hand, and that of a pair that was made, is the call's
       pub value : (v : V) → r.value ≡ Some v → IsValueOf call v
-      pub made : (q : Stored K V) → IsOneOf tale.hands.made q → IsValueOf call q.value
-      pub change : change_of caller h ≡ change_in r.machine.state
+      pub made : (q : Stored K V) → IsOneOf tale.hands.call.made q → IsValueOf call q.value
+      pub change : change_of caller h ≡ change_in r.machine.call.state
       -- what its machine stands on was said by its closure in the call
-      pub said : (said : Said) → StandsOn r.machine said → WasSaid store r caller h answers said
-      pub shows : ShowsPairs r.machine.state
+      pub said : (said : Said) → StandsOn r.machine.call said → WasSaid store r caller h answers said
+      pub shows : ShowsPairs r.machine.call.state
       -- a closure that was shown that there is none will not be shown it again
-      pub once : was_shown_none caller h ≡ true → HasShownNone r.machine.remembered.fill r.machine.state
+      pub once : was_shown_none caller h ≡ true → HasShownNone r.machine.call.remembered.fill r.machine.call.state
       -- what its key had after some of the exchanges since the call began, it had at a moment of the call
       pub moments : (so_far rest : List (Exchange (Stored K V))) → so_far ++ rest ≡ tale.since → AtSomeMoment (λ m. m (key_of call) ≡ replayed (replay tale.begun) so_far (key_of call)) caller h maps
 
@@ -81,7 +81,7 @@ module _ {K V : Type 0} (eq : K → K → Bool) where
       -- the pairs of the log where the run began are there, and those that came since, or were made by calls that began since, are new
       pub kept_pairs : KeepsPairs first s.store
       pub fresh : AreNew first schedule h
-      pub made_new : (caller : ℕ) (r : Running K V A) (call : Call K V A) → running s.callers caller ≡ Some r → open_call schedule caller h ≡ Some call → (q : Stored K V) → IsOneOf (tales caller).hands.made q → pair_of first q.number ≡ None
+      pub made_new : (caller : ℕ) (r : Running K V A) (call : Call K V A) → running s.callers caller ≡ Some r → open_call schedule caller h ≡ Some call → (q : Stored K V) → IsOneOf (tales caller).hands.call.made q → pair_of first q.number ≡ None
       -- a pair that was made and is not written yet was in no map
-      pub unused : (caller : ℕ) (r : Running K V A) → running s.callers caller ≡ Some r → (q : Stored K V) → IsOneOf (tales caller).hands.made q → change_in r.machine.state ≡ None → IsUnused q.number (replay es ∷ maps)
+      pub unused : (caller : ℕ) (r : Running K V A) → running s.callers caller ≡ Some r → (q : Stored K V) → IsOneOf (tales caller).hands.call.made q → change_in r.machine.call.state ≡ None → IsUnused q.number (replay es ∷ maps)
       pub tied : (caller : ℕ) (r : Running K V A) (call : Call K V A) → running s.callers caller ≡ Some r → open_call schedule caller h ≡ Some call → IsTied s.store r call caller (tales caller) h (replay es ∷ maps) answers

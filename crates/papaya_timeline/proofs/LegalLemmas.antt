@@ -31,7 +31,7 @@ use Rattle.papaya_law.proofs.Slots.{same_right}
 use Rattle.papaya_timeline.specs.declared.trace.Turn.{Turn}
 use Rattle.papaya_timeline.specs.declared.trace.Event.{Event}
 use Rattle.papaya_timeline.specs.declared.trace.Event.TheVariants as events
-use Rattle.papaya_timeline.specs.Advances.{event_of, answered_event, kind_event}
+use Rattle.papaya_timeline.specs.Advances.{call_event, answered_event, kind_event}
 use Rattle.papaya_timeline.specs.Begins.{task_of_call}
 use Rattle.papaya_timeline.specs.Kept.{setting_of, coding_of, low}
 use Rattle.papaya_timeline.specs.Maps.{Map, Does, IsUpdate, Same, key_of}
@@ -219,24 +219,24 @@ module _ {K V : Type 0} (eq : K → K → Bool) (hash : K → ℕ) (mode mode' :
       exchange_moves (Some kinds.Abort) at old new e kind_is ask_is asked stood legal allows = absurd asked
 
       -- the event of a step moves the map so
-      pub step_moves : (answer : Answer) (made : List (Exchange (Stored K V))) (hands' : Hands (Stored K V)) → IsTold g c k now (kind_of_ask m) hands (ask_of m) answer made hands' → AllAllowed g' start (es ++ made) → Moves_by (event_of (kind_of_ask m) (ask_of m) answer) made
+      pub step_moves : (answer : Answer) (made : List (Exchange (Stored K V))) (hands' : Hands (Stored K V)) → IsTold g c k now (kind_of_ask m) hands (ask_of m) answer made hands' → AllAllowed g' start (es ++ made) → Moves_by (call_event (kind_of_ask m) (ask_of m) answer) made
       step_moves answer made hands' told may' = ⊎_elim quiet (λ z. ⊎_elim exchanged (λ y. ⊎_elim asked shown y) z) (told_cases g c k now (kind_of_ask m) hands (ask_of m) answer made hands' told)
         where
           unchanged : made ≡ [] → Same (replay eq es) (replay eq (es ++ made))
           unchanged none j = ap (λ fs. replay eq (es ++ fs) j) none ∙ ap (λ fs. replay eq fs j) (append-nil es)
 
-          quiet : IsQuiet (kind_of_ask m) (ask_of m) answer made → Moves_by (event_of (kind_of_ask m) (ask_of m) answer) made
+          quiet : IsQuiet (kind_of_ask m) (ask_of m) answer made → Moves_by (call_event (kind_of_ask m) (ask_of m) answer) made
           quiet (none, other) = subst (λ y. Moves_by y made) (sym other) (unchanged none)
 
-          asked : IsShowing (kind_of_ask m) (ask_of m) answer made → Moves_by (event_of (kind_of_ask m) (ask_of m) answer) made
+          asked : IsShowing (kind_of_ask m) (ask_of m) answer made → Moves_by (call_event (kind_of_ask m) (ask_of m) answer) made
           asked (n, agrees, ask_is, answer_is, none, is) = subst (λ y. Moves_by y made) (sym is) (unchanged none)
 
-          shown : IsShown (kind_of_ask m) (ask_of m) answer made → Moves_by (event_of (kind_of_ask m) (ask_of m) answer) made
+          shown : IsShown (kind_of_ask m) (ask_of m) answer made → Moves_by (call_event (kind_of_ask m) (ask_of m) answer) made
           shown (n, op, ask_is, answer_is, none, is) = subst (λ y. Moves_by y made) (sym is) (unchanged none)
 
-          exchanged : IsExchanged g c now (kind_of_ask m) hands (ask_of m) answer made → Moves_by (event_of (kind_of_ask m) (ask_of m) answer) made
+          exchanged : IsExchanged g c now (kind_of_ask m) hands (ask_of m) answer made → Moves_by (call_event (kind_of_ask m) (ask_of m) answer) made
           exchanged x =
-              let is : event_of (kind_of_ask m) (ask_of m) answer ≡ kind_event (kind_of_ask m) x.old x.new = ap (λ y. event_of (kind_of_ask m) y answer) x.ask_is ∙ ap (answered_event (kind_of_ask m) x.old x.new) x.answer_is in
+              let is : call_event (kind_of_ask m) (ask_of m) answer ≡ kind_event (kind_of_ask m) x.old x.new = ap (λ y. call_event (kind_of_ask m) y answer) x.ask_is ∙ ap (answered_event (kind_of_ask m) x.old x.new) x.answer_is in
               let allowed : AllAllowed g' start (es ++ x.by ∷ []) = subst (λ fs. AllAllowed g' start (es ++ fs)) x.made may' in
               subst (λ y. Moves_by y made) (sym is) (subst (λ fs. Moves_by (kind_event (kind_of_ask m) x.old x.new) fs) (sym x.made)
               (exchange_moves (kind_of_ask m) x.at x.old x.new x.by refl x.ask_is x.asked x.stood (next_legal eq (low hash) mode' tables' lawful' es x.by allowed) (allowed_rest g' es (x.by ∷ []) start allowed).0))

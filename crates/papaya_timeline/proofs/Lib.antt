@@ -1,5 +1,6 @@
 pub mod AdvanceLemmas
 pub mod CallersLemmas
+pub mod ChainLemmas
 pub mod CoreLemmas
 pub mod CountedContent
 pub mod CountedCore
@@ -37,6 +38,8 @@ pub mod SaidLemmas
 pub mod SoloLaw
 pub mod SoloRun
 pub mod SoloTimeline
+pub mod StepEvents
+pub mod StepTells
 pub mod StoreLemmas
 pub mod TellLemmas
 pub mod TiedLemmas

@@ -24,7 +24,7 @@ use Rattle.papaya_law.specs.Code.{IsHashed}
 use Rattle.papaya_law.proofs.Codes.{code_pair}
 use Rattle.papaya_rests.proofs.RestsOpened.{machine_opened}
 use Rattle.papaya_timeline.specs.declared.trace.Event.TheVariants.{Changed}
-use Rattle.papaya_timeline.specs.Advances.{event_of}
+use Rattle.papaya_timeline.specs.Advances.{call_event}
 
 -- an exchange comes before any change
 pub machine_once : (m : Machine) (at : At) (old new : ℕ) → ask_of m ≡ Ask_exchange at old new → change_in m.state ≡ None
@@ -89,9 +89,9 @@ module _ {K P : Type 0} (g : Setting K P) (c : Coding K P) (begun since : List (
       }
 
 -- an exchange that changes the map is that of a call that may
-pub machine_changes : (m : Machine) → IsStanding m → (kind : StepKind) (old new : Option ℕ) (answer : Answer) → event_of (kind_of_ask m) (ask_of m) answer ≡ Changed kind old new → IsChanger m.task
+pub machine_changes : (m : Machine) → IsStanding m → (kind : StepKind) (old new : Option ℕ) (answer : Answer) → call_event (kind_of_ask m) (ask_of m) answer ≡ Changed kind old new → IsChanger m.task
 machine_changes m stands kind old new answer e = search rules
 
 -- and where a pair comes, that of one that inserts
-pub machine_inserts : (m : Machine) → IsStanding m → (kind : StepKind) (old : Option ℕ) (n : ℕ) (answer : Answer) → event_of (kind_of_ask m) (ask_of m) answer ≡ Changed kind old (Some n) → MayInsert m.task
+pub machine_inserts : (m : Machine) → IsStanding m → (kind : StepKind) (old : Option ℕ) (n : ℕ) (answer : Answer) → call_event (kind_of_ask m) (ask_of m) answer ≡ Changed kind old (Some n) → MayInsert m.task
 machine_inserts m stands kind old n answer e = search rules

@@ -128,7 +128,7 @@ module _ {K V S A : Type 0} (eq : K → K → Bool) (says : Says K V A) where
       (λ _ lost. quiet a s s' (said a _ lost.0 tt) lost.1 all)
   performed refuse (SameKey n) s r a s' r' all fit (e, stays) = quiet a s s' (said a _ e tt) stays.0 all
   performed refuse ShowNone s r a s' r' all fit h = said_fit s r a s' r' (none_shown says s r a s' r' h) all
-  performed refuse (ShowPair n) s r a s' r' all fit h = said_fit s r a s' r' (pair_shown says r.machine.task n s r a s' r' h) all
+  performed refuse (ShowPair n) s r a s' r' all fit h = said_fit s r a s' r' (pair_shown says r.machine.call.task n s r a s' r' h) all
   performed refuse (SizeOf n) s r a s' r' all fit (e, stays) = quiet a s s' (sized_answer (table_of s.words.tables n) refl) stays.0 all
     where
       sized_answer : (o : Option TableWords) → table_of s.words.tables n ≡ o → IsFit a

@@ -1,4 +1,4 @@
--- What a step's event tells of its ask and the answer, what a closure answered in it, and which value is at hand after it.
+-- What the event of an ask of a call tells of the ask and the answer, what a closure answered to it, and which value is at hand after it.
 use Rattle.std.proofs.Common.{◌≡◌, ◌⊎◌, inl, inr, ⊎_elim, ℕ, Bool, true, false, Option, None, Some, List, ◌∷◌, length, refl, sym, ◌∙◌, ap, subst}
 use Rattle.papaya_words.specs.declared.limits.TheConstants.{MAX_LOG_LEN}
 use Rattle.papaya_call.specs.Answers.{Says, op_kind}
@@ -20,7 +20,7 @@ use Rattle.papaya_rests.specs.Told.{Hands, IsTold}
 use Rattle.papaya_store.specs.declared.pairs.Running.{Running}
 use Rattle.papaya_timeline.specs.declared.trace.Event.{Event}
 use Rattle.papaya_timeline.specs.declared.trace.Event.TheVariants as events
-use Rattle.papaya_timeline.specs.Advances.{event_of, answered_event, kind_event, shown_event}
+use Rattle.papaya_timeline.specs.Advances.{call_event, answered_event, kind_event, shown_event}
 use Rattle.papaya_timeline.specs.Given.{GivesIn, IsEntryOf, asks_closure}
 use Rattle.papaya_store.specs.Performs.{Performs, Decides, HasKey, HasNoPair, LogsKey, LogsPair, Refuses, ShowsNothing, ShowsPair, Stays, value_answered}
 use Rattle.papaya_store.specs.Store.{StoreState, Stored, pair_of}
@@ -39,7 +39,7 @@ Tells events.Other ask answer = Unit {0}
 Tells events.Begun ask answer = ⊥
 Tells (events.Replied reply) ask answer = ⊥
 
-pub event_tells : (kind : Option StepKind) (ask : Ask) (answer : Answer) → Tells (event_of kind ask answer) ask answer
+pub event_tells : (kind : Option StepKind) (ask : Ask) (answer : Answer) → Tells (call_event kind ask answer) ask answer
 event_tells kind (Load at) answer = tt
 event_tells kind (Ask_exchange at old new) answer = by_answer answer
   where
@@ -160,19 +160,19 @@ module _ {K V S A : Type 0} (says : Says K V A) (store : StoreState K V S) where
 module _ {K V S A : Type 0} (eq : K → K → Bool) (says : Says K V A) (refuse : Bool) where
   module _ (kind : Option StepKind) (s : StoreState K V S) (r : Running K V A) (a : Answer) (s' : StoreState K V S) (r' : Running K V A) where
     -- no closure was asked
-    silent : (ask : Ask) → (asks_closure (event_of kind ask a) ≡ true → ⊥) → r'.answers ≡ r.answers → IsAnswering says s' r r' (event_of kind ask a)
-    silent ask none stays = record {
+    pub silent : (event : Event) → (asks_closure event ≡ true → ⊥) → r'.answers ≡ r.answers → IsAnswering says s' r r' event
+    silent event none stays = record {
       answered = None;
-      fits = unanswered V (event_of kind ask a) (λ shown op is. none (ap asks_closure is));
+      fits = unanswered V event (λ shown op is. none (ap asks_closure is));
       value = λ op e. let f : None ≡ Some op = e in absurd cc;
-      left = λ a' had. (a', sym stays ∙ had, unasked says s' (event_of kind ask a) None a' none);
+      left = λ a' had. (a', sym stays ∙ had, unasked says s' event None a' none);
       gave = λ asks. absurd (none asks);
     }
 
     -- the closure of a compute was
-    decided : (shown : Option ℕ) (pair : Option (K × V)) → (s' ≡ s → IsEntryOf says s' shown pair) → Decides says pair s r a s' r' → IsAnswering says s' r r' (event_of kind (show shown) a)
+    decided : (shown : Option ℕ) (pair : Option (K × V)) → (s' ≡ s → IsEntryOf says s' shown pair) → Decides says pair s r a s' r' → IsAnswering says s' r r' (call_event kind (show shown) a)
     decided shown pair entry (x, op, y, has, gives, is, same, later) =
-        let event_is : event_of kind (show shown) a ≡ events.Shown shown (op_kind op) = event_shown shown (op_kind op) kind (show shown) a refl is in
+        let event_is : call_event kind (show shown) a ≡ events.Shown shown (op_kind op) = event_shown shown (op_kind op) kind (show shown) a refl is in
         let answers_are : r'.answers ≡ Some y = ap (λ (z : Running K V A). z.answers) later in
         record {
           answered = Some op;
@@ -183,9 +183,9 @@ module _ {K V S A : Type 0} (eq : K → K → Bool) (says : Says K V A) (refuse 
         }
 
     -- the closure of a removal was
-    judged : (n : ℕ) (x : A) (p : Stored K V) (agrees : Bool) (y : A) → r.answers ≡ Some x → pair_of s n ≡ Some p → says.yes x p.key p.value agrees y → a ≡ Yes agrees → s' ≡ s → r'.answers ≡ Some y → IsAnswering says s' r r' (event_of kind (ShowPair n) a)
+    judged : (n : ℕ) (x : A) (p : Stored K V) (agrees : Bool) (y : A) → r.answers ≡ Some x → pair_of s n ≡ Some p → says.yes x p.key p.value agrees y → a ≡ Yes agrees → s' ≡ s → r'.answers ≡ Some y → IsAnswering says s' r r' (call_event kind (ShowPair n) a)
     judged n x p agrees y has there gives is same answers_are =
-        let event_is : event_of kind (ShowPair n) a ≡ events.Asked n agrees = ap (λ z. shown_event (Some n) z) is in
+        let event_is : call_event kind (ShowPair n) a ≡ events.Asked n agrees = ap (λ z. shown_event (Some n) z) is in
         record {
           answered = None;
           fits = subst (λ e. IsAnsweredIn {V = V} e None) (sym event_is) refl;
@@ -194,17 +194,17 @@ module _ {K V S A : Type 0} (eq : K → K → Bool) (says : Says K V A) (refuse 
           gave = λ asks. (y, answers_are);
         }
 
-    nothing : (ask : Ask) → ShowsNothing a s r s' r' → IsAnswering says s' r r' (event_of kind ask a)
-    nothing ask (is, stays) = silent ask never (ap (λ (z : Running K V A). z.answers) stays.1)
+    nothing : (ask : Ask) → ShowsNothing a s r s' r' → IsAnswering says s' r r' (call_event kind ask a)
+    nothing ask (is, stays) = silent (call_event kind ask a) never (ap (λ (z : Running K V A). z.answers) stays.1)
       where
-        never : asks_closure (event_of kind ask a) ≡ true → ⊥
+        never : asks_closure (call_event kind ask a) ≡ true → ⊥
         never asks = ⊎_elim
             (λ (y : (agrees : Bool) × (a ≡ Yes agrees)). let f : Ok_done ≡ Yes y.0 = sym is ∙ y.1 in cc)
             (λ (y : (op : OpKind) × (a ≡ Op op)). let f : Ok_done ≡ Op y.0 = sym is ∙ y.1 in cc)
-            (asked (event_of kind ask a) ask a (event_tells kind ask a) asks).1
+            (asked (call_event kind ask a) ask a (event_tells kind ask a) asks).1
 
-    not_shown : (ask : Ask) → is_showing ask ≡ false → r'.answers ≡ r.answers → IsAnswering says s' r r' (event_of kind ask a)
-    not_shown ask unshown stays = silent ask (λ asks. let f : false ≡ true = sym unshown ∙ (asked (event_of kind ask a) ask a (event_tells kind ask a) asks).0 in cc) stays
+    not_shown : (ask : Ask) → is_showing ask ≡ false → r'.answers ≡ r.answers → IsAnswering says s' r r' (call_event kind ask a)
+    not_shown ask unshown stays = silent (call_event kind ask a) (λ asks. let f : false ≡ true = sym unshown ∙ (asked (call_event kind ask a) ask a (event_tells kind ask a) asks).0 in cc) stays
 
     -- what is made leaves the answers
     as_was : r' ≡ r → r'.answers ≡ r.answers
@@ -229,12 +229,12 @@ module _ {K V S A : Type 0} (eq : K → K → Bool) (says : Says K V A) (refuse 
     table_made : (slots limit : ℕ) → Performs eq says refuse (MakeTable slots limit) s r a s' r' → r'.answers ≡ r.answers
     table_made slots limit h = matched (r'.answers ≡ r.answers) refuse _ _ h (λ _ none. as_was none.1.1) (λ _ makes. as_was makes.1)
 
-    pub answering : (ask : Ask) → Performs eq says refuse ask s r a s' r' → IsAnswering says s' r r' (event_of kind ask a)
+    pub answering : (ask : Ask) → Performs eq says refuse ask s r a s' r' → IsAnswering says s' r r' (call_event kind ask a)
     answering ShowNone (inl (none, stays)) = nothing ShowNone stays
     answering ShowNone (inr decides) = decided None None (λ _. refl) decides
-    answering (ShowPair n) h = by_task r.machine.task h
+    answering (ShowPair n) h = by_task r.machine.call.task h
       where
-        by_task : (task : Task) → ShowsPair task says n s r a s' r' → IsAnswering says s' r r' (event_of kind (ShowPair n) a)
+        by_task : (task : Task) → ShowsPair task says n s r a s' r' → IsAnswering says s' r r' (call_event kind (ShowPair n) a)
         by_task tasks.RemoveIf (inl (none, stays)) = nothing (ShowPair n) stays
         by_task tasks.RemoveIf (inr (x, p, agrees, y, has, there, gives, is, same, later)) = judged n x p agrees y has there gives is same (ap (λ (z : Running K V A). z.answers) later)
         by_task tasks.Compute (inl (none, stays)) = nothing (ShowPair n) stays
@@ -265,7 +265,7 @@ module _ {K V S A : Type 0} (eq : K → K → Bool) (says : Says K V A) (refuse 
     at_hand (SameKey n) (e, stays) = kept (SameKey n) stays.1
     at_hand ShowNone (inl (none, (e, stays))) = kept ShowNone stays.1
     at_hand ShowNone (inr (x, op, y, has, gives, is, same, later)) = inr (inr (None, op_kind op, refl, is))
-    at_hand (ShowPair n) h = by_task r.machine.task h
+    at_hand (ShowPair n) h = by_task r.machine.call.task h
       where
         by_task : (task : Task) → ShowsPair task says n s r a s' r' → AtHand (ShowPair n)
         by_task tasks.RemoveIf (inl (none, (e, stays))) = kept (ShowPair n) stays.1

@@ -57,10 +57,10 @@ module _ {K V S A : Type 0} where
     pub hasher_is : s'.hasher ≡ s.hasher
     pub keys_stay : (n : ℕ) (k : K) → slice_get s.keys n ≡ Some k → slice_get s'.keys n ≡ Some k
     pub pairs_stay : KeepsPairs s s'
-    pub value_stays : (v : V) → r'.value ≡ Some v → (r.value ≡ Some v) ⊎ (r.machine.task ≡ tasks.Compute)
+    pub value_stays : (v : V) → r'.value ≡ Some v → (r.value ≡ Some v) ⊎ (r.machine.call.task ≡ tasks.Compute)
 
   -- the store is as it was
-  unstored : (s : StoreState K V S) (r : Running K V A) (s' : StoreState K V S) (r' : Running K V A) → s' ≡ s → ((v : V) → r'.value ≡ Some v → (r.value ≡ Some v) ⊎ (r.machine.task ≡ tasks.Compute)) → HasMoreLogs s r s' r'
+  unstored : (s : StoreState K V S) (r : Running K V A) (s' : StoreState K V S) (r' : Running K V A) → s' ≡ s → ((v : V) → r'.value ≡ Some v → (r.value ≡ Some v) ⊎ (r.machine.call.task ≡ tasks.Compute)) → HasMoreLogs s r s' r'
   unstored s r s' r' same value = record {
     hasher_is = ap (λ (y : StoreState K V S). y.hasher) same;
     keys_stay = λ n k e. ap (λ (y : StoreState K V S). slice_get y.keys n) same ∙ e;
@@ -97,11 +97,11 @@ module _ {K V S A : Type 0} where
   }
 
   -- a compute's closure answered
-  decided : (says : Says K V A) (shown : Option (K × V)) (s : StoreState K V S) (r : Running K V A) (a : Answer) (s' : StoreState K V S) (r' : Running K V A) → r.machine.task ≡ tasks.Compute → Decides says shown s r a s' r' → HasMoreLogs s r s' r'
+  decided : (says : Says K V A) (shown : Option (K × V)) (s : StoreState K V S) (r : Running K V A) (a : Answer) (s' : StoreState K V S) (r' : Running K V A) → r.machine.call.task ≡ tasks.Compute → Decides says shown s r a s' r' → HasMoreLogs s r s' r'
   decided says shown s r a s' r' computes (answers, op, rest, has, given, e, same, is) = unstored s r s' r' same (λ v e'. inr computes)
 
   -- a closure was shown a pair
-  showed : (says : Says K V A) (n : ℕ) (s : StoreState K V S) (r : Running K V A) (a : Answer) (s' : StoreState K V S) (r' : Running K V A) (task : Task) → r.machine.task ≡ task → ShowsPair task says n s r a s' r' → HasMoreLogs s r s' r'
+  showed : (says : Says K V A) (n : ℕ) (s : StoreState K V S) (r : Running K V A) (a : Answer) (s' : StoreState K V S) (r' : Running K V A) (task : Task) → r.machine.call.task ≡ task → ShowsPair task says n s r a s' r' → HasMoreLogs s r s' r'
   showed says n s r a s' r' tasks.Get is (e, stays) = still s r s' r' stays.0 stays.1
   showed says n s r a s' r' (tasks.Insert replace) is (e, stays) = still s r s' r' stays.0 stays.1
   showed says n s r a s' r' tasks.RemoveIf is (inl (none, (e, stays))) = still s r s' r' stays.0 stays.1
@@ -110,7 +110,7 @@ module _ {K V S A : Type 0} where
   showed says n s r a s' r' tasks.Compute is (inr (p, there, decides)) = decided says (Some (p.key, p.value)) s r a s' r' is decides
 
   -- only a compute asks its closure what to put where nothing is
-  pub grown : (eq : K → K → Bool) (says : Says K V A) (refuse : Bool) (ask : Ask) (s : StoreState K V S) (r : Running K V A) (a : Answer) (s' : StoreState K V S) (r' : Running K V A) → Performs eq says refuse ask s r a s' r' → (ask ≡ ShowNone → r.machine.task ≡ tasks.Compute) → HasMoreLogs s r s' r'
+  pub grown : (eq : K → K → Bool) (says : Says K V A) (refuse : Bool) (ask : Ask) (s : StoreState K V S) (r : Running K V A) (a : Answer) (s' : StoreState K V S) (r' : Running K V A) → Performs eq says refuse ask s r a s' r' → (ask ≡ ShowNone → r.machine.call.task ≡ tasks.Compute) → HasMoreLogs s r s' r'
   grown eq says refuse (Load at) s r a s' r' (e, stays) offers = still s r s' r' stays.0 stays.1
   grown eq says refuse (Ask_exchange at old new) s r a s' r' (ex, as_was) offers =
       matched (HasMoreLogs s r s' r') (word_at s.words at == old) _ _ ex
@@ -119,7 +119,7 @@ module _ {K V S A : Type 0} where
   grown eq says refuse (SameKey n) s r a s' r' (e, stays) offers = still s r s' r' stays.0 stays.1
   grown eq says refuse ShowNone s r a s' r' (inl (none, (e, stays))) offers = still s r s' r' stays.0 stays.1
   grown eq says refuse ShowNone s r a s' r' (inr decides) offers = decided says None s r a s' r' (offers refl) decides
-  grown eq says refuse (ShowPair n) s r a s' r' h offers = showed says n s r a s' r' r.machine.task refl h
+  grown eq says refuse (ShowPair n) s r a s' r' h offers = showed says n s r a s' r' r.machine.call.task refl h
   grown eq says refuse (SizeOf n) s r a s' r' (e, stays) offers = still s r s' r' stays.0 stays.1
   grown eq says refuse MakeKey s r a s' r' h offers =
       matched (HasMoreLogs s r s' r') refuse _ _ h
@@ -268,7 +268,7 @@ module _ {K V A : Type 0} (eq : K → K → Bool) where
 
     -- where the machine asks no more, its reply fits
     pub tied_fits : (s : StoreState K V S) (r : Running K V A) (call : Call K V A) (caller : ℕ) (tale : Tale K V) (h : History) (maps : List (Map K V)) (answers : Answered V) (hash : K → ℕ) (mode : ResizeMode) (tables : List TableWords) (k : K) → k ≡ key_of call
-        → IsTied eq s r call caller tale h maps answers → Rests (setting_of eq hash mode tables) (coding_of hash) tale.begun tale.since k r.machine tale.hands → (reply : Reply) → ask_of r.machine ≡ Ask_done reply → IsEnding r.machine.task call reply caller h maps → Fits eq call reply caller h maps
+        → IsTied eq s r call caller tale h maps answers → Rests (setting_of eq hash mode tables) (coding_of hash) tale.begun tale.since k r.machine tale.hands → (reply : Reply) → ask_of r.machine ≡ Ask_done reply → IsEnding r.machine.call.task call reply caller h maps → Fits eq call reply caller h maps
     tied_fits s r call caller tale h maps answers hash mode tables k own tied rests reply done ending =
         let ends = machine_replies (setting_of eq hash mode tables) (coding_of hash) tale.begun tale.since k r.machine tale.hands rests reply done in
         by_reply call reply own (subst (λ y. IsReply (setting_of eq hash mode tables) (coding_of hash) tale.begun tale.since k tale.hands y reply) tied.task ends.0) (tied.change ∙ ends.1)

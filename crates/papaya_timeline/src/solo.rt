@@ -26,11 +26,11 @@ pub fn one_call<K: Hash + Eq, V, S: BuildHasher, A, B>()
         → IsNewIn s.store reply × KeepsPairs s.store s'.store }
     ensures lawful { (s s' : CoreState K V S A) (call : Call K V A) (reply : Reply)
         → IsLawfulCore K.eq (hash_of K.hash_input S.build_hasher S.Hasher.write S.Hasher.finish
-        s.store.hasher) s.store s.callers s.mode → IsCounted s.store s.callers
+        s.store.hasher) s.store s.callers s.mode → IsCounted K.eq s.store s.callers
         → RunsAlone K.eq (hash_of K.hash_input S.build_hasher S.Hasher.write S.Hasher.finish) s call
         reply s' → IsLawfulCore {A = A} K.eq (hash_of K.hash_input S.build_hasher S.Hasher.write
-        S.Hasher.finish s'.store.hasher) s'.store [] s'.mode × IsCounted {A = A} s'.store []
-        × (s'.store.hasher ≡ s.store.hasher) × (s'.mode ≡ s.mode) × (s'.initial ≡ s.initial) }
+        S.Hasher.finish s'.store.hasher) s'.store [] s'.mode × IsCounted {A = A} K.eq s'.store
+        [] × (s'.store.hasher ≡ s.store.hasher) × (s'.mode ≡ s.mode) × (s'.initial ≡ s.initial) }
     ensures idle { (s : CoreState K V S A) → IsLawfulCore {A = A} K.eq
         (hash_of K.hash_input S.build_hasher S.Hasher.write S.Hasher.finish s.store.hasher) s.store
         [] s.mode → IsLawfulCore {A = B} K.eq (hash_of K.hash_input S.build_hasher S.Hasher.write

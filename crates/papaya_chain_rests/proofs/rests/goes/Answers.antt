@@ -2,7 +2,7 @@ use Rattle.papaya_law.specs.Exchange.{run, start}
 use Rattle.std.proofs.Common.{◌++◌}
 use Rattle.papaya_chain_rests.proofs.Goes.{machine_goes}
 use Rattle.papaya_chain_rests.proofs.Order.{in_order}
-use Rattle.papaya_chain_rests.proofs.Replies.{chain_changes, chain_owes, chain_said, chain_task}
+use Rattle.papaya_chain_rests.proofs.Replies.{chain_changes, chain_owes, chain_said, chain_shows, chain_task}
 use Rattle.papaya_chain_rests.proofs.rests.goes.Goals as goal
 
 pub returns-clause-leaves : goal.returns-clause-leaves
@@ -18,6 +18,9 @@ returns-clause-counts g c = λ h d begun since k m hands r answer es hands' told
 
 pub returns-clause-task : goal.returns-clause-task
 returns-clause-task g c = λ h d begun since k m hands r answer es hands' told. chain_task m answer (in_order h d begun since k m hands (run (begun ++ since) start) answer es hands' r told)
+
+pub returns-clause-words : goal.returns-clause-words
+returns-clause-words g c = λ h d begun since k m hands r answer es hands' told. chain_shows m answer (in_order h d begun since k m hands (run (begun ++ since) start) answer es hands' r told)
 
 pub returns-clause-says : goal.returns-clause-says
 returns-clause-says g c = λ h d begun since k m hands r answer es hands' told standing shows said stands. chain_said m answer (in_order h d begun since k m hands (run (begun ++ since) start) answer es hands' r told) standing shows said stands
