@@ -29,7 +29,7 @@ use Rattle.papaya_seq.specs.Looks.{IsToldBy, Replies, matches_in}
 use Rattle.papaya_seq.specs.Map.{IsLawfulMap, MapState, core_of}
 use Rattle.papaya_seq.proofs.LookSteps.{IsLooking, IsLookReply, look_replies, lookup_looks}
 
-module _ {K V S : Type 0} (eq : K → K → Bool) (hash : S → K → ℕ) (s : MapState K V S) (lawful : IsLawfulMap eq (hash s.store.hasher) s.store s.mode) (keys : IsLawfulKeys eq (hash s.store.hasher))
+module _ {K V S : Type 0} (eq : K → K → Bool) (hash : S → K → ℕ) (s : MapState K V S) (lawful : IsLawfulMap eq (hash s.store.hasher) s.store s.mode s.initial) (keys : IsLawfulKeys eq (hash s.store.hasher))
     (k : K) (matches : K → Bool) (alike : (l : K) → matches l ≡ eq k l) where
   -- the call under way, with its machine here
   abbrev pub getting : Machine → Running K V (Unit {0})

@@ -1,5 +1,5 @@
 -- The words of a map that is in order: its root table is there, and no copier was at a slot.
-use Rattle.std.proofs.Common.{◌≡◌, ⊎_elim, ℕ, ◌<◌, Bool, true, Some, sym, ◌∙◌, ap, subst, arith}
+use Rattle.std.proofs.Common.{◌≡◌, ⊎_elim, ℕ, ◌<◌, Bool, true, [], Some, sym, ◌∙◌, ap, subst, arith}
 use Rattle.papaya_words.specs.Table.{TableWords}
 use Rattle.papaya_words.specs.Word.{kind_of}
 use Rattle.papaya_words.specs.declared.probe.ResizeMode.{ResizeMode}
@@ -15,9 +15,10 @@ use Rattle.papaya_timeline.specs.Kept.{coding_of, low, setting_of}
 use Rattle.papaya_store.specs.Store.{StoreState}
 use Rattle.papaya_store.specs.Tables.{table_of, word_at}
 use Rattle.papaya_timeline.proofs.KeptSettings.{IsLawfulKeys, tables_hashed}
+use Rattle.papaya_timeline.proofs.OneTable.{law_single}
 use Rattle.papaya_seq.specs.Map.{IsLawfulMap}
 
-module _ {K V S : Type 0} (eq : K → K → Bool) (hash : K → ℕ) (mode : ResizeMode) (store : StoreState K V S) (keys : IsLawfulKeys eq hash) (lawful : IsLawfulMap eq hash store mode) where
+module _ {K V S : Type 0} (eq : K → K → Bool) (hash : K → ℕ) (mode : ResizeMode) (store : StoreState K V S) (keys : IsLawfulKeys eq hash) {initial : ℕ} (lawful : IsLawfulMap eq hash store mode initial) where
   -- what is kept of the words, as the law has them
   words_sound : IsSound (setting_of eq (low hash) mode store.words.tables) (run lawful.lawful.law.0 start)
   words_sound =
@@ -40,7 +41,7 @@ module _ {K V S : Type 0} (eq : K → K → Bool) (hash : K → ℕ) (mode : Res
   not_shut t i e =
       let kept = lawful.lawful.law.1.1 in
       let further : 0 < (run lawful.lawful.law.0 start).next t = words_sound.further t i e in
-      let last : (run lawful.lawful.law.0 start).next t ≡ 0 = kept.single t in
+      let last : (run lawful.lawful.law.0 start).next t ≡ 0 = law_single eq store lawful.single hash mode [] lawful.lawful.law.0 lawful.lawful.law.1.0 kept t in
       absurd (omega arith)
 
   -- the word of a slot is of the kind that its number tells

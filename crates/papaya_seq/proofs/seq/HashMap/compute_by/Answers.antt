@@ -38,8 +38,8 @@ abbrev post : (g : Over) → g.row.F.Denot → Option (Bor g.row.K.Denot × Bor 
 post g = λ f shown operation. given.F-post g f shown operation
 
 -- the map is in order when the call begins
-lawful : (g : Over) (c : After-new g) → IsLawfulMap g.K.PartialEq.eq (hash g c.args.self.now.store.hasher) c.args.self.now.store c.args.self.now.mode
-lawful g c = subst (λ (m : MapState _ _ _). IsLawfulMap g.K.PartialEq.eq (hash g m.store.hasher) m.store m.mode) c.self.view_is c.self.invariant
+lawful : (g : Over) (c : After-new g) → IsLawfulMap g.K.PartialEq.eq (hash g c.args.self.now.store.hasher) c.args.self.now.store c.args.self.now.mode c.args.self.now.initial
+lawful g c = subst (λ (m : MapState _ _ _). IsLawfulMap g.K.PartialEq.eq (hash g m.store.hasher) m.store m.mode m.initial) c.self.view_is c.self.invariant
 
 -- the key's hash has 64 bits
 fits : (g : Over) (c : After-new g) → hash g c.args.self.now.store.hasher c.args.key < 2 ^ 64

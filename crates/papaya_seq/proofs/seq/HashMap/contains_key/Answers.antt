@@ -15,7 +15,7 @@ returns-clause-machine g c = let found = c.look_up.ensures in (found.0, found.1,
 
 pub returns-clause-map : goal.returns-clause-map
 returns-clause-map g c k matched =
-    let lawful = subst (λ (s : MapState g.row.K.Denot g.row.V.Denot g.row.S.Denot). IsLawfulMap g.K.PartialEq.eq (hash_of g.K.Hash.hash_input g.S.BuildHasher.build_hasher g.S.Hasher.Hasher.write g.S.Hasher.Hasher.finish s.store.hasher) s.store s.mode) c.self.view_is c.self.invariant in
+    let lawful = subst (λ (s : MapState g.row.K.Denot g.row.V.Denot g.row.S.Denot). IsLawfulMap g.K.PartialEq.eq (hash_of g.K.Hash.hash_input g.S.BuildHasher.build_hasher g.S.Hasher.Hasher.write g.S.Hasher.Hasher.finish s.store.hasher) s.store s.mode s.initial) c.self.view_is c.self.invariant in
     let found = c.look_up.ensures in
     c.is_some.ensures ∙ ap is_some found.2 ∙ number_there found.0
     ∙ ap is_some (sym (found_map g.K.PartialEq.eq g.met.K.Eq.laws (g.Q.Equivalent.matches c.args.key.now) c.args.self.now.store

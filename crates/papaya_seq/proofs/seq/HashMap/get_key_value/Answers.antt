@@ -15,7 +15,7 @@ returns-in-Some-clause-answer g c =
 
 pub returns-in-Some-clause-map : goal.returns-in-Some-clause-map
 returns-in-Some-clause-map g c k matched =
-    let lawful = subst (λ (s : MapState g.row.K.Denot g.row.V.Denot g.row.S.Denot). IsLawfulMap g.K.PartialEq.eq (hash_of g.K.Hash.hash_input g.S.BuildHasher.build_hasher g.S.Hasher.Hasher.write g.S.Hasher.Hasher.finish s.store.hasher) s.store s.mode) c.self.view_is c.self.invariant in
+    let lawful = subst (λ (s : MapState g.row.K.Denot g.row.V.Denot g.row.S.Denot). IsLawfulMap g.K.PartialEq.eq (hash_of g.K.Hash.hash_input g.S.BuildHasher.build_hasher g.S.Hasher.Hasher.write g.S.Hasher.Hasher.finish s.store.hasher) s.store s.mode s.initial) c.self.view_is c.self.invariant in
     let found = c.look_up.ensures in
     let n = c.in-Some.pair in
     refers_map g.K.PartialEq.eq g.met.K.Eq.laws (g.Q.Equivalent.matches c.args.key.now) c.args.self.now.store
@@ -26,7 +26,7 @@ returns-in-Some-clause-map g c k matched =
 
 pub returns-in-None-clause-map : goal.returns-in-None-clause-map
 returns-in-None-clause-map g c k matched =
-    let lawful = subst (λ (s : MapState g.row.K.Denot g.row.V.Denot g.row.S.Denot). IsLawfulMap g.K.PartialEq.eq (hash_of g.K.Hash.hash_input g.S.BuildHasher.build_hasher g.S.Hasher.Hasher.write g.S.Hasher.Hasher.finish s.store.hasher) s.store s.mode) c.self.view_is c.self.invariant in
+    let lawful = subst (λ (s : MapState g.row.K.Denot g.row.V.Denot g.row.S.Denot). IsLawfulMap g.K.PartialEq.eq (hash_of g.K.Hash.hash_input g.S.BuildHasher.build_hasher g.S.Hasher.Hasher.write g.S.Hasher.Hasher.finish s.store.hasher) s.store s.mode s.initial) c.self.view_is c.self.invariant in
     let found = c.look_up.ensures in
     refers_map g.K.PartialEq.eq g.met.K.Eq.laws (g.Q.Equivalent.matches c.args.key.now) c.args.self.now.store
     (lawful_apart g.K.PartialEq.eq g.K.Hash.hash_input g.S.BuildHasher.build_hasher g.S.Hasher.Hasher.write g.S.Hasher.Hasher.finish g.met.K.Eq.laws g.met.K.Hash.respects_eq (core_of c.args.self.now) lawful.lawful)

@@ -28,8 +28,8 @@ keys : (g : Over) (hasher : g.row.S.Denot) → IsLawfulKeys g.K.PartialEq.eq (ha
 keys g hasher = keys_lawful g.K.PartialEq.eq g.K.Hash.hash_input g.S.BuildHasher.build_hasher g.S.Hasher.Hasher.write g.S.Hasher.Hasher.finish g.met.K.Eq.laws g.met.K.Hash.respects_eq hasher
 
 -- the map is in order when the call begins
-lawful : (g : Over) (c : After-new g) → IsLawfulMap g.K.PartialEq.eq (hash g c.args.self.now.store.hasher) c.args.self.now.store c.args.self.now.mode
-lawful g c = subst (λ (m : MapState _ _ _). IsLawfulMap g.K.PartialEq.eq (hash g m.store.hasher) m.store m.mode) c.self.view_is c.self.invariant
+lawful : (g : Over) (c : After-new g) → IsLawfulMap g.K.PartialEq.eq (hash g c.args.self.now.store.hasher) c.args.self.now.store c.args.self.now.mode c.args.self.now.initial
+lawful g c = subst (λ (m : MapState _ _ _). IsLawfulMap g.K.PartialEq.eq (hash g m.store.hasher) m.store m.mode m.initial) c.self.view_is c.self.invariant
 
 -- the key's hash has 64 bits
 fits : (g : Over) (c : After-new g) → hash g c.args.self.now.store.hasher c.args.key < 2 ^ 64
@@ -71,7 +71,7 @@ loop-reply-preserved g c = (
 )
 
 -- the call was made alone
-alone : (g : Over) (c : After-value_left g) → IsLawfulMap g.K.PartialEq.eq (hash g c.args.self.now.store.hasher) c.args.self.now.store c.args.self.now.mode → hash g c.args.self.now.store.hasher c.args.key < 2 ^ 64 → RunsAlone g.K.PartialEq.eq (hash g) (core_of c.args.self.now) (insertion c.args.replace c.args.key c.args.value) c.in-Done.reply (seated c.loop-reply.self-inside.store None c.args.self.now.mode c.args.self.now.initial)
+alone : (g : Over) (c : After-value_left g) → IsLawfulMap g.K.PartialEq.eq (hash g c.args.self.now.store.hasher) c.args.self.now.store c.args.self.now.mode c.args.self.now.initial → hash g c.args.self.now.store.hasher c.args.key < 2 ^ 64 → RunsAlone g.K.PartialEq.eq (hash g) (core_of c.args.self.now) (insertion c.args.replace c.args.key c.args.value) c.in-Done.reply (seated c.loop-reply.self-inside.store None c.args.self.now.mode c.args.self.now.initial)
 alone g c orderly fit =
     inserting_alone g.K.PartialEq.eq (hash g) c.args.self.now c.args.replace c.args.key c.args.value (keys g c.args.self.now.store.hasher) orderly
     c.loop-reply.self-inside.store c.loop-reply.running c.in-Done.reply c.in-Done.ensures.value c.loop-reply.invariant.0 fit

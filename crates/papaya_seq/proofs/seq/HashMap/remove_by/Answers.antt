@@ -85,8 +85,8 @@ stays g c =
     ]
 
 -- the map was in order
-lawful : (g : Over) (c : After-new-machine g) → IsLawfulMap g.K.PartialEq.eq (hash_of g.K.Hash.hash_input g.S.BuildHasher.build_hasher g.S.Hasher.Hasher.write g.S.Hasher.Hasher.finish c.args.self.now.store.hasher) c.args.self.now.store c.args.self.now.mode
-lawful g c = subst (λ s. IsLawfulMap g.K.PartialEq.eq (hash_of g.K.Hash.hash_input g.S.BuildHasher.build_hasher g.S.Hasher.Hasher.write g.S.Hasher.Hasher.finish s.store.hasher) s.store s.mode) c.self.view_is c.self.invariant
+lawful : (g : Over) (c : After-new-machine g) → IsLawfulMap g.K.PartialEq.eq (hash_of g.K.Hash.hash_input g.S.BuildHasher.build_hasher g.S.Hasher.Hasher.write g.S.Hasher.Hasher.finish c.args.self.now.store.hasher) c.args.self.now.store c.args.self.now.mode c.args.self.now.initial
+lawful g c = subst (λ s. IsLawfulMap g.K.PartialEq.eq (hash_of g.K.Hash.hash_input g.S.BuildHasher.build_hasher g.S.Hasher.Hasher.write g.S.Hasher.Hasher.finish s.store.hasher) s.store s.mode s.initial) c.self.view_is c.self.invariant
 
 -- so a removal may rest on it
 found : (g : Over) (c : After-new-machine g) → IsFound c.args.self.now.store
@@ -150,7 +150,7 @@ hashed g c m =
     ∙ sym (c.hash-hash.ensures.value ∙ ap (λ s. hash_of g.Q.Hash.hash_input g.S.BuildHasher.build_hasher g.S.Hasher.Hasher.write g.S.Hasher.Hasher.finish s.store.hasher c.args.key.now) c.self.view_is)
 
 -- so the removal is that by the pair's key, made alone
-made : (g : Over) (c : After-drop-agrees g) → IsLawfulMap g.K.PartialEq.eq (hash_of g.K.Hash.hash_input g.S.BuildHasher.build_hasher g.S.Hasher.Hasher.write g.S.Hasher.Hasher.finish c.args.self.now.store.hasher) c.args.self.now.store c.args.self.now.mode → (m : IsMatched c.args.self.now.store (g.Q.Equivalent.matches c.args.key.now)) → RunsAlone g.K.PartialEq.eq (hash_of g.K.Hash.hash_input g.S.BuildHasher.build_hasher g.S.Hasher.Hasher.write g.S.Hasher.Hasher.finish) (core_of c.args.self.now) (removal_by m.pair.key) c.in-Done.reply (seated c.loop-at.self-inside.store None c.args.self.now.mode c.args.self.now.initial)
+made : (g : Over) (c : After-drop-agrees g) → IsLawfulMap g.K.PartialEq.eq (hash_of g.K.Hash.hash_input g.S.BuildHasher.build_hasher g.S.Hasher.Hasher.write g.S.Hasher.Hasher.finish c.args.self.now.store.hasher) c.args.self.now.store c.args.self.now.mode c.args.self.now.initial → (m : IsMatched c.args.self.now.store (g.Q.Equivalent.matches c.args.key.now)) → RunsAlone g.K.PartialEq.eq (hash_of g.K.Hash.hash_input g.S.BuildHasher.build_hasher g.S.Hasher.Hasher.write g.S.Hasher.Hasher.finish) (core_of c.args.self.now) (removal_by m.pair.key) c.in-Done.reply (seated c.loop-at.self-inside.store None c.args.self.now.mode c.args.self.now.initial)
 made g c orderly m =
     alone g.F.FnMut g.K.PartialEq.eq (hash_of g.K.Hash.hash_input g.S.BuildHasher.build_hasher g.S.Hasher.Hasher.write g.S.Hasher.Hasher.finish) (g.Q.Equivalent.matches c.args.key.now) c.hash-hash.result c.args.self.now c.args.agrees
     c.loop-at.self-inside.store c.loop-at.agrees c.loop-at.machine c.loop-at.invariant.4 c.in-Done.reply (ends_with g c)
