@@ -1,5 +1,5 @@
 -- An insertion of a map for one caller, over one answer.
-use Rattle.std.proofs.Common.{◌≡◌, ℕ, ◌+◌, ◌≤◌, Bool, false, Option, None, Some, List, length, ◌⊎◌, inl, inr, refl, sym, ◌∙◌, ap, subst, arith}
+use Rattle.std.proofs.Common.{◌≡◌, ℕ, zero, suc, [], ◌+◌, ◌≤◌, Bool, false, Option, None, Some, List, length, ◌⊎◌, inl, inr, refl, sym, ◌∙◌, ap, subst, arith}
 use Rattle.papaya_words.specs.Table.{TableWords, new_table}
 use Rattle.papaya_words.specs.Word.{kind_of, pair_of as pair_number}
 use Rattle.papaya_words.specs.declared.limits.TheConstants.{MAX_LOG_LEN, MAX_TABLES}
@@ -24,7 +24,7 @@ use Rattle.papaya_ask.specs.Search.{IsSize, look, at_yes as search_compared}
 use Rattle.papaya_law.specs.Content.{lookup}
 use Rattle.papaya_rests.proofs.AloneSteps.{exchange_done}
 use Rattle.papaya_rests.proofs.RestsReplyRefused.{IsMaking}
-use Rattle.papaya_timeline.specs.Content.{map_in, pairs_of_table}
+use Rattle.papaya_timeline.specs.Content.{map_in, pairs_from}
 use Rattle.papaya_store.specs.declared.pairs.KeyOf.TheVariants.{Own, Logged}
 use Rattle.papaya_store.specs.declared.pairs.Running.{Running}
 use Rattle.papaya_store.specs.Performs.{Performs, Refuses, own_key, same as same_keys, size_of}
@@ -200,13 +200,20 @@ module _ {K V S A : Type 0} (eq : K → K → Bool) (says : Says K V A) (s : Sto
   write_refused Key write store' later read hand (inr (inr (n, v, logged, has, e, few, same, goes))) = absurd cc
   write_refused (Pair n) write store' later read hand (made, stays) = let done = exchange_done _ _ (word_at store.words (Slot write.place.table write.place.probe.i)) write.old read made in let f : Was_refused refused ≡ Exchanged = done.0 in absurd cc
 
+  -- from no table on there are no pairs
+  no_pairs : (n : ℕ) → pairs_from eq store n None ≡ []
+  no_pairs zero = refl
+  no_pairs (suc n) = refl
+
   -- what a refusal leaves of the store: it stays, and where an insertion was about to write why
   pub refused_in : (made : Made) (state : State) (store' : StoreState K V S) (later : Running K V A) → IsMaking state → IsRead (words_of store) state → IsAtHand r.machine.call.hash s value made store.keys store.pairs r.key r.value → IsStage r.machine.call.hash s value store.words r.value made state
       → ((write : Write) → state ≡ Writing write → replace ≡ false → map_in eq store k ≡ None) → Performs eq says false (asks made r.machine.call.hash state) store r (Was_refused refused) store' later → IsRefusal eq s k replace store' refused
   refused_in made Making store' later making read hand stage writes (inl (full, same), stays) = refused_absent eq s k replace store' refused (ap (λ (y : StoreState K V S). map_in eq y k) same ∙ rootless)
     where
       rootless : map_in eq store k ≡ None
-      rootless = ap (λ n. lookup eq (λ (p : Stored K V). p.key) (pairs_of_table store (table_of store.words.tables n)) k) read
+      rootless =
+          ap (λ n. lookup eq (λ (p : Stored K V). p.key) (pairs_from eq store (length store.words.tables) (table_of store.words.tables n)) k) read
+          ∙ ap (λ l. lookup eq (λ (p : Stored K V). p.key) l k) (no_pairs (length store.words.tables))
   refused_in made Making store' later making read hand stage writes (inr (e, few, same), stays) = absurd cc
   refused_in made (Writing write) store' later making read hand stage writes performs =
       let left = write_refused made write store' later read hand performs in

@@ -8,7 +8,7 @@ use Rattle.papaya_seq.proofs.seq.HashMap.contains_key.Goals as goal
 pub returns-clause-answer : goal.returns-clause-answer
 returns-clause-answer g c =
     let found = c.look_up.ensures in
-    contains_found (g.Q.Equivalent.matches c.args.key.now) c.args.self.now.store found.0 c.is_some.result found.1.0 (c.is_some.ensures ∙ ap is_some found.2)
+    contains_found g.K.PartialEq.eq (g.Q.Equivalent.matches c.args.key.now) c.args.self.now.store found.0 c.is_some.result found.1.0 (c.is_some.ensures ∙ ap is_some found.2)
 
 pub returns-clause-machine : goal.returns-clause-machine
 returns-clause-machine g c = let found = c.look_up.ensures in (found.0, found.1, c.is_some.ensures ∙ ap is_some found.2 ∙ number_there found.0)

@@ -10,7 +10,7 @@ use Rattle.papaya_seq.proofs.seq.HashMap.len.Goals as goal
 pub returns-clause-count : goal.returns-clause-count
 returns-clause-count g c =
     c.count.ensures.value
-    ∙ ap count_of (counted_sum c.self.inside.store c.self.invariant.counted c.count.ensures.fits)
+    ∙ ap count_of (counted_sum g.K.PartialEq.eq c.self.inside.store c.self.invariant.counted c.count.ensures.fits)
     ∙ ap (λ (s : MapState g.row.K.Denot g.row.V.Denot g.row.S.Denot). length (content g.K.PartialEq.eq s.store)) c.self.view_is
 
 pub returns-clause-apart : goal.returns-clause-apart
