@@ -10,15 +10,17 @@ use Rattle.papaya_ask.specs.declared.call.Call.TheVariants.{Insert, TryInsert, R
 use Rattle.papaya_ask.specs.declared.call.Reply.{Reply}
 use Rattle.papaya_ask.specs.declared.call.Task.{Task}
 use Rattle.papaya_ask.specs.declared.call.Task.TheVariants as tasks
-use Rattle.papaya_call.specs.declared.machine.Machine.{Machine}
+use Rattle.papaya_chain.specs.declared.machine.Machine.{Machine}
 use Rattle.papaya_law.specs.Allows.{AllAllowed}
 use Rattle.papaya_law.specs.Code.{Coding}
 use Rattle.papaya_law.specs.Exchange.{Live, Setting, State, Exchange, run, start as first_state}
 use Rattle.papaya_law.specs.Invariant.{named}
 use Rattle.papaya_law.specs.Meaning.{IsLawful}
-use Rattle.papaya_call.specs.Machine.{HasClosure, IsChanger, MayInsert, ask_of, kind_of_ask}
+use Rattle.papaya_call.specs.Machine.{HasClosure, IsChanger, MayInsert}
+use Rattle.papaya_call.specs.Machine as calls
+use Rattle.papaya_chain.specs.Machine.{ask_of, follows_of, kind_of_ask}
 use Rattle.papaya_rests.specs.Rests.{change_in, change_of_reply}
-use Rattle.papaya_rests.specs.Told.{IsTold}
+use Rattle.papaya_chain_rests.specs.Told.{IsTold}
 use Rattle.papaya_law.specs.Code.{IsHashed}
 use Rattle.papaya_timeline.specs.declared.trace.Turn.{Turn}
 use Rattle.papaya_timeline.specs.declared.trace.Event.{Event}
@@ -33,15 +35,16 @@ use Rattle.papaya_timeline.specs.Moves.{IsOwnChange, MovesMap}
 use Rattle.papaya_store.specs.Store.{Stored, pair_of as pair_numbered}
 use Rattle.papaya_timeline.specs.Runs.{History}
 use Rattle.papaya_timeline.specs.Timeline.{Answered, IsFresh, IsLegal, number_in}
+use Rattle.papaya_timeline.proofs.ChainLemmas.{chain_changer, chain_inserts, chain_once}
 use Rattle.papaya_timeline.proofs.Good.{replay}
 use Rattle.papaya_timeline.proofs.KeptLemmas.{IsLawfulKeys, IsStep, hashed_setting, map_kept}
 use Rattle.papaya_timeline.proofs.LegalLemmas.{MayPut, MayReplace, MayTell, Moves, insertion_does, moved_legal, removal_does, step_moves}
-use Rattle.papaya_timeline.proofs.MachineLemmas.{machine_changes, machine_inserts, machine_once, machine_takes}
+use Rattle.papaya_timeline.proofs.MachineLemmas.{machine_takes}
 use Rattle.papaya_timeline.proofs.ReplayLemmas.{held_in_slot, map_replayed}
-use Rattle.papaya_timeline.proofs.TellLemmas.{Tells, event_tells}
+use Rattle.papaya_timeline.proofs.StepTells.{Tells, event_tells}
 
 module _ {K V S A : Type 0} (eq : K → K → Bool) (hash : K → ℕ) (law : IsLawfulKeys eq hash) where
-  module _ {says : Says K V A} (refuse : Bool) (s s' : CoreState K V S A) (c : ℕ) (event : Event) (reply : Option Reply) (x : Advances eq says refuse s c s' event reply) (core : IsCore s.store s.callers s.mode) (core' : IsCore s'.store s'.callers s'.mode) (es : List (Exchange (Stored K V))) (tales : ℕ → Tale K V) (kept : IsKept eq hash s.mode s.store s.callers es tales) (step : IsStep eq hash law refuse s c s' event reply x es tales) where
+  module _ {says : Says K V A} {hashes : S → K → ℕ} (refuse : Bool) (s s' : CoreState K V S A) (c : ℕ) (event : Event) (reply : Option Reply) (x : Advances eq says hashes refuse s c s' event reply) (core : IsCore s.store s.callers s.mode) (core' : IsCore s'.store s'.callers s'.mode) (es : List (Exchange (Stored K V))) (tales : ℕ → Tale K V) (kept : IsKept eq hash s.mode s.store s.callers es tales) (step : IsStep eq hash law refuse s c s' event reply x es tales) where
     -- the machine that asks, and the key of its call
     abbrev m : Machine
     m = x.before.machine
@@ -67,30 +70,30 @@ module _ {K V S A : Type 0} (eq : K → K → Bool) (hash : K → ℕ) (law : Is
     lawful' = (hashed_setting eq hash law s' core').lawful
 
     -- a pair that a call asks to bury is one of its key
-    buries_own : (t i old new : ℕ) (p : Stored K V) → kind_of_ask m ≡ Some kinds.Bury → ask_of m ≡ Ask_exchange (Slot t i) old new → now.slot t i ≡ Live p → pair_of old ≡ p.number → eq p.key k ≡ true
+    buries_own : (t i old new : ℕ) (p : Stored K V) → calls.kind_of_ask m.call ≡ Some kinds.Bury → calls.ask_of m.call ≡ Ask_exchange (Slot t i) old new → now.slot t i ≡ Live p → pair_of old ≡ p.number → eq p.key k ≡ true
     buries_own t i old new p kind ask live number =
-        let taken = machine_takes g coding (tales c).begun (tales c).since k hashed.coding m (tales c).hands step.call.rests kind (Slot t i) old new ask in
+        let taken = machine_takes g coding (tales c).begun (tales c).since k hashed.coding m.call (tales c).hands.call step.call.rests.call kind (Slot t i) old new ask in
         let same_number : taken.pair.number ≡ p.number = taken.number ∙ number in
         let same_pair : Some p ≡ Some taken.pair = sym (kept.logged t i p (ap named live)) ∙ ap (pair_numbered s.store) (sym same_number) ∙ step.call.last taken.pair taken.last in
         let same : p ≡ taken.pair = cc in
         ap (λ (q : Stored K V). eq q.key k) same ∙ hashed.lawful.back k taken.pair.key taken.same
 
     -- the event of a step moves the map as it tells
-    pub moved : Moves eq k m.task (tales c).hands.made (replay eq es) (replay eq (es ++ step.made)) event
+    pub moved : Moves eq k m.call.task (tales c).hands.call.made (replay eq es) (replay eq (es ++ step.made)) event
     moved =
         let split = step.call.split in
         let hands = (tales c).hands in
-        subst (Moves eq k m.task hands.made (replay eq es) (replay eq (es ++ step.made))) (sym x.event_is)
-        (subst (λ (l : List (Exchange (Stored K V))). Moves eq k m.task hands.made (replay eq l) (replay eq (l ++ step.made)) (event_of (kind_of_ask m) (ask_of m) x.answer)) split
+        subst (Moves eq k m.call.task hands.call.made (replay eq es) (replay eq (es ++ step.made))) (sym x.event_is)
+        (subst (λ (l : List (Exchange (Stored K V))). Moves eq k m.call.task hands.call.made (replay eq l) (replay eq (l ++ step.made)) (event_of (kind_of_ask m) (ask_of m) x.answer)) split
         (step_moves eq hash s.mode s'.mode s.store.words.tables s'.store.words.tables hashed lawful' (tales c).begun (tales c).since k m hands step.call.rests
         (λ t i old new p kind ask live number. buries_own t i old new p kind ask (ap (λ (l : List (Exchange (Stored K V))). (run l first_state).slot t i) (sym split) ∙ live) number)
         x.answer step.made step.hands
-        (subst (λ (l : List (Exchange (Stored K V))). IsTold g coding k (run l first_state) (kind_of_ask m) hands (ask_of m) x.answer step.made step.hands) (sym split) step.told)
+        (subst (λ (l : List (Exchange (Stored K V))). IsTold g coding k (run l first_state) (kind_of_ask m) (follows_of m) hands (ask_of m) x.answer step.made step.hands) (sym split) step.told)
         (subst (λ (l : List (Exchange (Stored K V))). AllAllowed (setting_of eq (low hash) s'.mode s'.store.words.tables) first_state (l ++ step.made)) (sym split) step.kept.allowed)))
 
     -- It is legal after any history in which its call may do that.
-    pub advance_legal : (schedule : List (Turn K V A)) (h : History) (maps : List (Map K V)) (said : Answered V) → MayTell eq k m.task (tales c).hands.made (replay eq es) schedule c h maps said event → IsLegal eq event schedule c h (replay eq es) maps (replay eq (es ++ step.made)) said
-    advance_legal schedule h maps said may = moved_legal eq k m.task (tales c).hands.made (replay eq es) schedule c h maps said (replay eq (es ++ step.made)) event moved may
+    pub advance_legal : (schedule : List (Turn K V A)) (h : History) (maps : List (Map K V)) (said : Answered V) → MayTell eq k m.call.task (tales c).hands.call.made (replay eq es) schedule c h maps said event → IsLegal eq event schedule c h (replay eq es) maps (replay eq (es ++ step.made)) said
+    advance_legal schedule h maps said may = moved_legal eq k m.call.task (tales c).hands.call.made (replay eq es) schedule c h maps said (replay eq (es ++ step.made)) event moved may
 
     -- the map before it and after it
     map_before : (j : K) → map_of eq s j ≡ replay eq es j
@@ -110,17 +113,17 @@ module _ {K V S A : Type 0} (eq : K → K → Bool) (hash : K → ℕ) (law : Is
     }
 
     -- a pair that comes has a number that no pair of the map has
-    came_fresh : change_in m.state ≡ None → (went came : Option (Stored K V)) → MayPut k m.task (tales c).hands.made went came → IsFresh came (map_of eq s ∷ [])
+    came_fresh : change_in m.call.state ≡ None → (went came : Option (Stored K V)) → MayPut k m.call.task (tales c).hands.call.made went came → IsFresh came (map_of eq s ∷ [])
     came_fresh none went None may = tt
     came_fresh none went (Some q) (made, own, replaces) = (
       λ j p there.
-          let (t, i, stands) = held_in_slot eq (low hash) s.mode s.store.words.tables hashed.lawful es kept.allowed kept.single j p (sym (map_before j) ∙ there) in
+          let (t, i, stands) = held_in_slot eq (low hash) s.mode s.store.words.tables hashed.lawful es kept.allowed j p (sym (map_before j) ∙ there) in
           step.call.unwritten q made none t i p stands,
       tt,
     )
 
     -- A change is one that a call of this key and of the machine's kind makes: an insertion of the pair that comes, or a removal.
-    made_by : (call : Call K V A) → key_of call ≡ k → task_of_call call ≡ m.task → (old new : Option ℕ) → IsChanger m.task → change_in m.state ≡ None → (went came : Option (Stored K V)) → IsUpdate eq k went came (replay eq es) (replay eq (es ++ step.made)) → number_in went ≡ old → number_in came ≡ new → MayPut k m.task (tales c).hands.made went came
+    made_by : (call : Call K V A) → key_of call ≡ k → task_of_call call ≡ m.call.task → (old new : Option ℕ) → IsChanger m.call.task → change_in m.call.state ≡ None → (went came : Option (Stored K V)) → IsUpdate eq k went came (replay eq es) (replay eq (es ++ step.made)) → number_in went ≡ old → number_in came ≡ new → MayPut k m.call.task (tales c).hands.call.made went came
         → (reply : Reply) × Does call went reply came × (change_of_reply reply ≡ Some (number_in went, number_in came)) → IsOwnChange eq s c s' old new
     made_by call key task old new changes none went came update went_is came_is may (reply, does, tells) = record {
       running_call = x.before;
@@ -140,7 +143,7 @@ module _ {K V S A : Type 0} (eq : K → K → Bool) (hash : K → ℕ) (law : Is
       tells = tells ∙ ap (λ o. Some (o, number_in came)) went_is ∙ ap (λ o. Some (old, o)) came_is;
     }
 
-    own_change : (task : Task) → m.task ≡ task → (old new : Option ℕ) → IsChanger m.task → ((n : ℕ) → new ≡ Some n → MayInsert task) → change_in m.state ≡ None → (went came : Option (Stored K V)) → IsUpdate eq k went came (replay eq es) (replay eq (es ++ step.made)) → number_in went ≡ old → number_in came ≡ new → MayPut k m.task (tales c).hands.made went came → IsOwnChange eq s c s' old new
+    own_change : (task : Task) → m.call.task ≡ task → (old new : Option ℕ) → IsChanger m.call.task → ((n : ℕ) → new ≡ Some n → MayInsert task) → change_in m.call.state ≡ None → (went came : Option (Stored K V)) → IsUpdate eq k went came (replay eq es) (replay eq (es ++ step.made)) → number_in went ≡ old → number_in came ≡ new → MayPut k m.call.task (tales c).hands.call.made went came → IsOwnChange eq s c s' old new
     own_change (tasks.Insert true) is old new changes inserts none went (Some q) update went_is came_is (made, own, replaces) =
         made_by (Insert k q.value) refl (sym is) old new changes none went (Some q) update went_is came_is (made, own, replaces)
         (insertion_does {A = A} (Insert k q.value) k went q refl own refl (subst (MayReplace went) is replaces))
@@ -164,11 +167,11 @@ module _ {K V S A : Type 0} (eq : K → K → Bool) (hash : K → ℕ) (law : Is
     own_change task is old new changes inserts none None None update went_is came_is may = absurd may
 
     -- so a step moves the core's map
-    moves_core : (e : Event) → e ≡ event_of (kind_of_ask m) (ask_of m) x.answer → Moves eq k m.task (tales c).hands.made (replay eq es) (replay eq (es ++ step.made)) e → MovesMap eq s c s' e
+    moves_core : (e : Event) → e ≡ event_of (kind_of_ask m) (ask_of m) x.answer → Moves eq k m.call.task (tales c).hands.call.made (replay eq es) (replay eq (es ++ step.made)) e → MovesMap eq s c s' e
     moves_core (Changed kind old new) is moved =
         let stands = core.standing c x.before x.was in
-        let (at, from, to, asks) = subst (λ e. Tells e (ask_of m) x.answer) (sym is) (event_tells (kind_of_ask m) (ask_of m) x.answer) in
-        own_change m.task refl old new (machine_changes m stands kind old new x.answer (sym is)) (λ n some. machine_inserts m stands kind old n x.answer (sym is ∙ ap (Changed kind old) some)) (machine_once m at from to asks) moved.went moved.came moved.update moved.went_is moved.came_is moved.may
+        let (at, from, to, asks) = subst (λ e. Tells e (ask_of m) x.answer) (sym is) (event_tells m x.answer) in
+        own_change m.call.task refl old new (chain_changer m stands kind old new x.answer (sym is)) (λ n some. chain_inserts m stands kind old n x.answer (sym is ∙ ap (Changed kind old) some)) (chain_once m at from to asks) moved.went moved.came moved.update moved.went_is moved.came_is moved.may
     moves_core Begun is moved = same_map moved
     moves_core (Moved kind) is moved = same_map moved
     moves_core (Asked n agrees) is moved = same_map moved

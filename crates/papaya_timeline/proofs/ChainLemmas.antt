@@ -1,11 +1,20 @@
 -- What a machine over a chain of tables keeps to where it asks as its call asks.
-use Rattle.std.proofs.Common.{◌≡◌, ℕ, Option, None, Some, refl, sym, ◌∙◌, ap, subst}
+use Rattle.std.proofs.Common.{◌≡◌, inl, inr, ℕ, Option, None, Some, refl, sym, ◌∙◌, ap, subst}
 use Rattle.papaya_ask.specs.declared.ask.At.{At}
 use Rattle.papaya_ask.specs.declared.ask.Ask.{Ask as Call_ask}
-use Rattle.papaya_ask.specs.declared.ask.Ask.TheVariants.{Exchange as Ask_exchange, MakePair}
+use Rattle.papaya_ask.specs.declared.ask.At.TheVariants.{Next}
+use Rattle.papaya_ask.specs.declared.ask.Ask.TheVariants.{Load, Exchange as Ask_exchange, MakePair, Done as Ask_done}
 use Rattle.papaya_ask.specs.declared.ask.Answer.{Answer as Call_answer}
-use Rattle.papaya_ask.specs.declared.ask.Answer.TheVariants.{Made as Made_number}
+use Rattle.papaya_ask.specs.declared.ask.Answer.TheVariants.{Word as Word_read, Op, Made as Made_number}
 use Rattle.papaya_ask.specs.declared.ask.StepKind.{StepKind}
+use Rattle.papaya_ask.specs.declared.ask.OpKind.TheVariants as op_kinds
+use Rattle.papaya_ask.specs.declared.call.Reply.{Reply}
+use Rattle.papaya_ask.specs.declared.call.Reply.TheVariants.{Aborted, Refused as Reply_refused}
+use Rattle.papaya_ask.specs.declared.search.Search.TheVariants.{Sizing}
+use Rattle.papaya_call.specs.declared.machine.Machine.{Machine as Call_machine}
+use Rattle.papaya_call.specs.declared.machine.State.TheVariants.{AtRoot, Making, Searching, Ended}
+use Rattle.papaya_call.specs.declared.write.Made.{Made}
+use Rattle.papaya_call.specs.declared.write.Made.TheVariants.{Nothing, Key, Pair}
 use Rattle.papaya_call.specs.Machine.{IsChanger, MayInsert}
 use Rattle.papaya_call.specs.Machine as calls
 use Rattle.papaya_chain.specs.declared.ask.Ask.TheVariants as asks
@@ -15,7 +24,12 @@ use Rattle.papaya_chain.specs.declared.machine.Machine.{Machine}
 use Rattle.papaya_chain.specs.declared.machine.Phase.TheVariants.{Calling}
 use Rattle.papaya_chain.specs.Machine.{IsStanding, after, after_in, ask_of, asks_in, kind_in, kind_of_ask}
 use Rattle.papaya_rests.specs.Rests.{change_in}
+use Rattle.papaya_rests.specs.Says.{IsSaidChange, show}
+use Rattle.papaya_rests.proofs.SaysChanges.{machine_aborted, machine_changed}
+use Rattle.papaya_chain_rests.specs.Goes.{Goes, IsOwnStep}
+use Rattle.papaya_chain_rests.specs.Rests.{left_by}
 use Rattle.papaya_chain_rests.proofs.Names.{call_asks}
+use Rattle.papaya_chain_rests.proofs.Replies.{anew, aside_asks}
 use Rattle.papaya_timeline.specs.declared.trace.Event.TheVariants.{Changed, Other}
 use Rattle.papaya_timeline.specs.Advances.{call_event, event_of}
 use Rattle.papaya_timeline.proofs.MachineLemmas as call_laws
@@ -56,3 +70,50 @@ chain_changer m stands kind old new answer e = let (told, is) = changes_own m ki
 -- and where a pair comes, that of one that inserts
 pub chain_inserts : (m : Machine) → IsStanding m → (kind : StepKind) (old : Option ℕ) (n : ℕ) (answer : Answer) → event_of (kind_of_ask m) (ask_of m) answer ≡ Changed kind old (Some n) → MayInsert m.call.task
 chain_inserts m stands kind old n answer e = let (told, is) = changes_own m kind old (Some n) answer e in call_laws.machine_inserts m.call stands.call kind old n told is
+
+-- a call that is set aside loads the number of a table, and asks nothing else
+aside : (m : Machine) (t : ℕ) → left_by m.call.state ≡ Some t → (ask : Call_ask) → calls.ask_of m.call ≡ ask → (ask ≡ Load (Next t))
+aside m t left ask e = sym e ∙ aside_asks m.call.made m.call.hash m.call.state t left
+
+-- so one that asks for an exchange goes on by its answer
+own_exchange : (m : Machine) (answer : Answer) → Goes m answer → (at : At) (old new : ℕ) → calls.ask_of m.call ≡ Ask_exchange at old new → IsOwnStep m answer
+own_exchange m answer (inl waits) at old new e = absurd (cc (aside m waits.from waits.left (Ask_exchange at old new) e))
+own_exchange m answer (inr (inl own)) at old new e = own
+own_exchange m answer (inr (inr (inl enters))) at old new e = absurd (cc (aside m enters.from enters.left (Ask_exchange at old new) e))
+own_exchange m answer (inr (inr (inr (inl begins)))) at old new e = absurd (cc (aside m begins.from begins.left (Ask_exchange at old new) e))
+own_exchange m answer (inr (inr (inr (inr ends)))) at old new e = absurd (cc (aside m ends.from ends.left (Ask_exchange at old new) e))
+
+-- a change is what the closure of its call said
+pub chain_changed : (m : Machine) (answer : Answer) → Goes m answer → IsStanding m → (at : At) (from to : ℕ) → ask_of m ≡ asks.Call (Ask_exchange at from to) → (old new : Option ℕ) → change_in (after m answer).call.state ≡ Some (old, new) → IsSaidChange m.call.task m.call old new
+chain_changed m answer goes stands at from to e old new change =
+    let own = own_exchange m answer goes at from to (own_asks m (Ask_exchange at from to) e).1 in
+    machine_changed m.call own.told old new stands.call (chain_once m at from to e) (sym (ap (λ (d : Call_machine). change_in d.state) own.call) ∙ change)
+
+-- a call that was told of the root doesn't abort
+anew_goes_on : (m : Machine) (root with : ℕ) → calls.asks m.call.made m.call.hash (calls.at_root m.call.task m.call.remembered.fill root) ≡ Ask_done (Aborted with) → ⊥
+anew_goes_on m root with = anew (λ stage. calls.asks m.call.made m.call.hash stage ≡ Ask_done (Aborted with) → ⊥) (λ e. absurd (cc e)) (λ e. by_made m.call.made e) (λ e. absurd (cc e)) (λ t e. absurd (cc e)) m.call.task m.call.remembered.fill root
+  where
+    by_made : (made : Made) → calls.asks made m.call.hash Making ≡ Ask_done (Aborted with) → ⊥
+    by_made Nothing e = absurd (cc e)
+    by_made Key e = absurd (cc e)
+    by_made (Pair n) e = absurd (cc e)
+
+-- a call aborts where its closure did
+pub chain_aborted : (m : Machine) (answer : Answer) → Goes m answer → (with : ℕ) → ((reply : Reply) → ask_of m ≡ asks.Call (Ask_done reply) → ⊥) → ask_of (after m answer) ≡ asks.Call (Ask_done (Aborted with)) → (shown : Option ℕ) × (ask_of m ≡ asks.Call (show shown)) × (answer ≡ answers.Call (Op (op_kinds.Abort with)))
+chain_aborted m answer goes with open_still e = by_goes goes
+  where
+    done : calls.ask_of (after m answer).call ≡ Ask_done (Aborted with)
+    done = (own_asks (after m answer) (Ask_done (Aborted with)) e).1
+
+    -- what the call asks then
+    then : (d : Call_machine) → (after m answer).call ≡ d → calls.ask_of d ≡ Ask_done (Aborted with)
+    then d is = ap (λ y. calls.ask_of y) (sym is) ∙ done
+
+    by_goes : Goes m answer → (shown : Option ℕ) × (ask_of m ≡ asks.Call (show shown)) × (answer ≡ answers.Call (Op (op_kinds.Abort with)))
+    by_goes (inl waits) = absurd (cc (aside m waits.from waits.left (Ask_done (Aborted with)) (then m.call waits.call)))
+    by_goes (inr (inl own)) =
+        let (shown, asking, told) = machine_aborted m.call own.told with (λ reply is. open_still reply (asks_own m own.phase ∙ ap asks.Call is)) (then (calls.after m.call own.told) own.call) in
+        (shown, asks_own m own.phase ∙ ap asks.Call asking, own.is ∙ ap answers.Call told)
+    by_goes (inr (inr (inl enters))) = absurd (cc (then (record m.call { state = Searching (Sizing enters.table) }) enters.call))
+    by_goes (inr (inr (inr (inl begins)))) = absurd (anew_goes_on m begins.root with (then (calls.after (record m.call { state = AtRoot }) (Word_read begins.root)) begins.call))
+    by_goes (inr (inr (inr (inr ends)))) = absurd (cc (then (record m.call { state = Ended (Reply_refused ends.refused) }) ends.call))

@@ -20,21 +20,10 @@ use Rattle.papaya_law.proofs.OneMap.{keeping}
 use Rattle.papaya_timeline.specs.declared.seat.Seat.{Seat}
 use Rattle.papaya_timeline.specs.Content.{content, listed, pairs_from, pairs_of_kind, pairs_of_slots}
 use Rattle.papaya_timeline.specs.Kept.{IsKept, IsLogged, Tale, setting_of, coding_of, low}
-use Rattle.papaya_store.specs.Store.{StoreState, Stored, pair_of, stored_at, stored_in}
+use Rattle.papaya_store.specs.Store.{StoreState, Stored, pair_of}
 use Rattle.papaya_store.specs.Tables.{table_of}
-use Rattle.papaya_store.specs.declared.pairs.Pair.{Pair}
-use Rattle.papaya_timeline.proofs.KeptLogs.{pair_below}
+use Rattle.papaya_timeline.proofs.KeptLogs.{pair_below, pair_number}
 use Rattle.papaya_timeline.proofs.KeptMap.{kept_content}
-
--- a pair that is stored under a number has that number
-at_number : {K V : Type 0} (n : ℕ) (v : V) (o : Option K) (p : Stored K V) → stored_at n v o ≡ Some p → p.number ≡ n
-at_number n v None p e = let f : None ≡ Some p = e in absurd cc
-at_number {K} {V} n v (Some k) p e = let is : record { number = n; key = k; value = v } ≡ p = cc in ap (λ (q : Stored K V). q.number) (sym is)
-
--- the same of what the log has there
-number_in : {K V : Type 0} (keys : List K) (n : ℕ) (o : Option (Pair V)) (p : Stored K V) → stored_in keys n o ≡ Some p → p.number ≡ n
-number_in keys n None p e = let f : None ≡ Some p = e in absurd cc
-number_in keys n (Some q) p e = at_number n q.value _ p e
 
 module _ {K V S : Type 0} (store : StoreState K V S) where
   -- each pair of the list is in the log, under its number
@@ -49,7 +38,7 @@ module _ {K V S : Type 0} (store : StoreState K V S) where
   -- the pair of a number
   listed_logged : (n : ℕ) (o : Option (Stored K V)) → pair_of store n ≡ o → AllLogged (listed o)
   listed_logged n None e = tt
-  listed_logged n (Some p) e = (ap (pair_of store) (number_in store.keys n _ p e) ∙ e, tt)
+  listed_logged n (Some p) e = (ap (pair_of store) (pair_number store n p e) ∙ e, tt)
 
   -- the pair of a word
   kind_logged : (kd : Kind) (n : ℕ) → AllLogged (pairs_of_kind store kd n)

@@ -30,7 +30,7 @@ module _ {K V S A H : Type 0} (eq : K → K → Bool) (input : K → List (List 
         stepped_lawful eq input build write finish classes respects says refuse s caller store' callers' before a later was performs machine callers core lawful,
         counted_step eq (hash_of input build write finish s.store.hasher) (keys_lawful eq input build write finish classes respects s.store.hasher) {says = says} {hashes = hash_of input build write finish} refuse s caller (record { store = store'; callers = callers'; mode = s.mode; initial = s.initial })
             (event_of (kind_of_ask before.machine) (ask_of before.machine) a) (reply_in (ask_of (after before.machine a)))
-            (record { before = before; was = was; answer = a; later = later; performs = performs; machine = machine; event_is = refl; reply_is = refl; callers = callers; mode = refl; initial = refl; cause = λ refused e. lawful_caused eq input build write finish classes respects {says = says} refuse s lawful caller before was a store' later performs refused e }) refl
+            (record { before = before; was = was; answer = a; later = later; performs = performs; machine = machine; event_is = refl; reply_is = refl; callers = callers; mode = refl; initial = refl; cause = λ refused e. lawful_caused eq input build write finish classes respects says refuse s lawful caller before was a store' later performs refused e }) refl
             es tales lawful.core core kept counted,
       )
 

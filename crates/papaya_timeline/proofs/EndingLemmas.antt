@@ -4,9 +4,9 @@ use Rattle.papaya_words.specs.Table.{TableWords}
 use Rattle.papaya_words.specs.declared.limits.TheConstants.{MAX_LOG_LEN}
 use Rattle.papaya_words.specs.declared.probe.Refused.TheVariants.{Capacity, RemoveNothing}
 use Rattle.papaya_call.specs.Answers.{Says}
-use Rattle.papaya_ask.specs.declared.ask.Ask.{Ask}
+use Rattle.papaya_ask.specs.declared.ask.Ask.{Ask as Call_ask}
 use Rattle.papaya_ask.specs.declared.ask.Ask.TheVariants.{Load, Exchange as Ask_exchange, SameKey, ShowNone, ShowPair, SizeOf, MakeKey, MakePair, MakeTable, AddToShard, Done as Ask_done}
-use Rattle.papaya_ask.specs.declared.ask.Answer.{Answer}
+use Rattle.papaya_ask.specs.declared.ask.Answer.{Answer as Call_answer}
 use Rattle.papaya_ask.specs.declared.ask.Answer.TheVariants.{Op, Refused as Was_refused}
 use Rattle.papaya_ask.specs.declared.ask.OpKind.{OpKind}
 use Rattle.papaya_ask.specs.declared.ask.OpKind.TheVariants as op_kinds
@@ -15,27 +15,36 @@ use Rattle.papaya_ask.specs.declared.call.Reply.{Reply}
 use Rattle.papaya_ask.specs.declared.call.Reply.TheVariants.{Refused}
 use Rattle.papaya_ask.specs.declared.call.Task.{Task}
 use Rattle.papaya_ask.specs.declared.call.Task.TheVariants as tasks
-use Rattle.papaya_call.specs.declared.machine.Machine.{Machine}
-use Rattle.papaya_call.specs.Machine.{ask_of, kind_of_ask, after}
+use Rattle.papaya_ask.specs.declared.copy_ask.CopyAsk.{CopyAsk}
+use Rattle.papaya_ask.specs.declared.copy_ask.CopyAsk.TheVariants as copies
+use Rattle.papaya_call.specs.Machine as calls
+use Rattle.papaya_chain.specs.declared.ask.Ask.{Ask}
+use Rattle.papaya_chain.specs.declared.ask.Ask.TheVariants as asks
+use Rattle.papaya_chain.specs.declared.ask.Answer.{Answer}
+use Rattle.papaya_chain.specs.declared.ask.Answer.TheVariants as answers
+use Rattle.papaya_chain.specs.declared.machine.Machine.{Machine}
+use Rattle.papaya_chain.specs.Machine.{ask_of, kind_of_ask, after}
+use Rattle.papaya_chain_rests.specs.Goes.{Goes, IsCause, IsToMake, WasNotMade, WouldBeTooLong}
 use Rattle.papaya_rests.specs.Says.{show}
-use Rattle.papaya_rests.proofs.SaysChanges.{machine_aborted}
-use Rattle.papaya_rests.proofs.Tasks.{same_task}
 use Rattle.papaya_store.specs.declared.pairs.Running.{Running}
 use Rattle.papaya_timeline.specs.declared.trace.Event.{Event}
-use Rattle.papaya_timeline.specs.Advances.{IsStepCause, event_of}
+use Rattle.papaya_timeline.specs.Advances.{event_of}
 use Rattle.papaya_timeline.specs.Maps.{Map, key_of}
+use Rattle.papaya_store.specs.Asks.{PerformsAsk}
+use Rattle.papaya_store.specs.Copies.{PerformsCopy, hash_in}
 use Rattle.papaya_store.specs.Performs.{Performs, HasKey, HasNoPair, LogsKey, LogsPair, Refuses, ShowsPair, Stays, size_of}
 use Rattle.papaya_timeline.specs.Runs.{History}
-use Rattle.papaya_store.specs.Store.{StoreState}
+use Rattle.papaya_store.specs.Store.{StoreState, Stored, pair_of}
 use Rattle.papaya_store.specs.Tables.{table_of, word_at}
 use Rattle.papaya_timeline.specs.Timeline.{begins, last_shown, number_in, shown_by, AtSomeMoment}
-use Rattle.papaya_timeline.proofs.EventLemmas.{event_begins, event_shown}
+use Rattle.papaya_timeline.proofs.ChainLemmas.{chain_aborted}
+use Rattle.papaya_timeline.proofs.StepEvents.{event_begins, event_shown}
 use Rattle.papaya_timeline.proofs.StoreLemmas.{matched}
 use Rattle.papaya_timeline.proofs.TiedLemmas.{IsEnding, WasShownLast}
 use Rattle.papaya_timeline.proofs.TimelineLemmas.{entry, last_shown-own, not_begin-own}
 
 -- what refuses a growth is no removal
-growth_unrefused : (most count : ℕ) (a : Answer) → Refuses most count a → a ≡ Was_refused RemoveNothing → ⊥
+growth_unrefused : (most count : ℕ) (a : Call_answer) → Refuses most count a → a ≡ Was_refused RemoveNothing → ⊥
 growth_unrefused most count a (inl e) is = cc
 growth_unrefused most count a (inr (e, full)) is = cc
 
@@ -43,18 +52,18 @@ size_unrefused : (table : Option TableWords) → size_of table ≡ Was_refused R
 size_unrefused None e = cc
 size_unrefused (Some t) e = cc
 
-module _ {K V S A : Type 0} (eq : K → K → Bool) (says : Says K V A) (refuse : Bool) (s : StoreState K V S) (r : Running K V A) (a : Answer) (s' : StoreState K V S) (r' : Running K V A) where
-  -- no answer refuses the removal of nothing
-  pub unrefused : (ask : Ask) → Performs eq says refuse ask s r a s' r' → a ≡ Was_refused RemoveNothing → ⊥
-  unrefused (Load at) (e, stays) is = cc
-  unrefused (Ask_exchange at old new) (ex, as_was) is =
+module _ {K V S A : Type 0} (eq : K → K → Bool) (says : Says K V A) (refuse : Bool) (s : StoreState K V S) (r : Running K V A) (a : Call_answer) (s' : StoreState K V S) (r' : Running K V A) where
+  -- no answer to a call refuses the removal of nothing
+  call_unrefused : (ask : Call_ask) → Performs eq says refuse ask s r a s' r' → a ≡ Was_refused RemoveNothing → ⊥
+  call_unrefused (Load at) (e, stays) is = cc
+  call_unrefused (Ask_exchange at old new) (ex, as_was) is =
       matched ⊥ (word_at s.words at == old) _ _ ex
       (λ _ done. let e = done.0 in cc)
       (λ _ lost. let e = lost.0 in cc)
-  unrefused (SameKey n) (e, stays) is = cc
-  unrefused ShowNone (inl (none, (e, stays))) is = cc
-  unrefused ShowNone (inr (x, op, y, has, gives, e, same, later)) is = cc
-  unrefused (ShowPair n) h is = by_task r.machine.task h
+  call_unrefused (SameKey n) (e, stays) is = cc
+  call_unrefused ShowNone (inl (none, (e, stays))) is = cc
+  call_unrefused ShowNone (inr (x, op, y, has, gives, e, same, later)) is = cc
+  call_unrefused (ShowPair n) h is = by_task r.machine.call.task h
     where
       by_task : (task : Task) → ShowsPair task says n s r a s' r' → ⊥
       by_task tasks.RemoveIf (inl (none, (e, stays))) = cc
@@ -63,8 +72,8 @@ module _ {K V S A : Type 0} (eq : K → K → Bool) (says : Says K V A) (refuse 
       by_task tasks.Compute (inr (p, there, (x, op, y, has, gives, e, same, later))) = cc
       by_task tasks.Get (e, stays) = cc
       by_task (tasks.Insert replace) (e, stays) = cc
-  unrefused (SizeOf n) (e, stays) is = size_unrefused (table_of s.words.tables n) (sym e ∙ is)
-  unrefused MakeKey h is =
+  call_unrefused (SizeOf n) (e, stays) is = size_unrefused (table_of s.words.tables n) (sym e ∙ is)
+  call_unrefused MakeKey h is =
       matched ⊥ refuse _ _ h
       (λ _ none. let e = none.0 in cc)
       (λ _ makes. by_cases makes)
@@ -73,7 +82,7 @@ module _ {K V S A : Type 0} (eq : K → K → Bool) (says : Says K V A) (refuse 
       by_cases (inl (refuses, stays)) = growth_unrefused _ _ a refuses is
       by_cases (inr (inl (has, stays))) = let e = has.0 in cc
       by_cases (inr (inr (k, own, e, few, same, later))) = cc
-  unrefused MakePair h is =
+  call_unrefused MakePair h is =
       matched ⊥ refuse _ _ h
       (λ _ none. let e = none.0 in cc)
       (λ _ makes. by_cases makes)
@@ -82,35 +91,72 @@ module _ {K V S A : Type 0} (eq : K → K → Bool) (says : Says K V A) (refuse 
       by_cases (inl (refuses, stays)) = growth_unrefused _ _ a refuses is
       by_cases (inr (inl (has, stays))) = let e = has.0 in cc
       by_cases (inr (inr (i, v, key, value, e, few, same, later))) = cc
-  unrefused (MakeTable slots limit) h is =
+  call_unrefused (MakeTable slots limit) h is =
       matched ⊥ refuse _ _ h
       (λ _ none. let e = none.0 in cc)
       (λ _ makes. ⊎_elim
       (λ refuses. growth_unrefused _ _ a refuses.0 is)
       (λ table. let e = table.0 in cc)
       makes.0)
-  unrefused (AddToShard by) (e, same, as_was) is = cc
-  unrefused (Ask_done reply) (e, stays) is = cc
+  call_unrefused (AddToShard by) (e, same, as_was) is = cc
+  call_unrefused (Ask_done reply) (e, stays) is = cc
+
+module _ {K V S A : Type 0} (eq : K → K → Bool) (says : Says K V A) (hash : S → K → ℕ) (refuse : Bool) (s : StoreState K V S) (r : Running K V A) (a : Answer) (s' : StoreState K V S) (r' : Running K V A) where
+  -- nor does one to a copy
+  copy_unrefused : (ask : CopyAsk) → PerformsCopy eq hash refuse ask s a s' → a ≡ answers.Call (Was_refused RemoveNothing) → ⊥
+  copy_unrefused (copies.Load at) (e, same) is = cc
+  copy_unrefused (copies.Exchange at old new) (told, e, ex) is =
+      matched ⊥ (word_at s.words at == old) _ _ ex
+      (λ _ done. let f = done.0 in cc)
+      (λ _ lost. let f = lost.0 in cc)
+  copy_unrefused (copies.SizeOf t) (e, same) is = size_unrefused (table_of s.words.tables t) (let f : answers.Call (size_of (table_of s.words.tables t)) ≡ answers.Call (Was_refused RemoveNothing) = sym e ∙ is in cc)
+  copy_unrefused (copies.HashOf n) (e, hashes, same) is = hash_unrefused (pair_of s n) (sym e ∙ is)
+    where
+      hash_unrefused : (p : Option (Stored K V)) → hash_in (hash s.hasher) p ≡ answers.Call (Was_refused RemoveNothing) → ⊥
+      hash_unrefused None e = cc
+      hash_unrefused (Some p) e = cc
+  copy_unrefused (copies.SamePair m n) (e, same) is = cc
+  copy_unrefused copies.Count (e, same) is = cc
+  copy_unrefused (copies.MakeTable slots limit) (told, e, makes) is =
+      let refused : told ≡ Was_refused RemoveNothing = cc in
+      matched ⊥ refuse _ _ makes
+      (λ _ none. let f = none.0 in cc)
+      (λ _ made. ⊎_elim
+      (λ refuses. growth_unrefused _ _ told refuses.0 refused)
+      (λ table. let f = table.0 in cc)
+      made)
+
+  -- no answer refuses the removal of nothing
+  pub unrefused : (ask : Ask) → PerformsAsk eq says hash refuse ask s r a s' r' → a ≡ answers.Call (Was_refused RemoveNothing) → ⊥
+  unrefused (asks.Call ask) (told, e, performs) is = let refused : told ≡ Was_refused RemoveNothing = cc (e, is) in call_unrefused eq says refuse s r told s' r' ask performs refused
+  unrefused (asks.Copy ask) (performs, as_was) is = copy_unrefused ask performs is
 
 -- why a call is refused that would remove nothing: its closure was just shown that there is none
-pub removes_nothing : {K V S A : Type 0} (eq : K → K → Bool) (s : StoreState K V S) (r : Running K V A) (a : Answer) → (a ≡ Was_refused RemoveNothing → ⊥) → IsStepCause eq s r a RemoveNothing → (ask_of r.machine ≡ ShowNone) × (a ≡ Op op_kinds.Remove)
-removes_nothing eq s r a never (inl refuses) = absurd (never refuses)
-removes_nothing eq s r a never (inr (inl (full, (t, place)))) = let f : RemoveNothing ≡ Capacity = full in absurd cc
-removes_nothing eq s r a never (inr (inr (same, asks, is))) = (asks, is)
+pub removes_nothing : (m : Machine) (a : Answer) → (a ≡ answers.Call (Was_refused RemoveNothing) → ⊥) → IsCause m a RemoveNothing → (ask_of m ≡ asks.Call ShowNone) × (a ≡ answers.Call (Op op_kinds.Remove))
+removes_nothing m a never (inl by) =
+    ⊎_elim
+    (λ (refuses : IsToMake (calls.ask_of m.call) × (by.own.told ≡ Was_refused RemoveNothing)). absurd (never (by.own.is ∙ ap answers.Call refuses.1)))
+    (λ (shown : (RemoveNothing ≡ RemoveNothing) × (ask_of m ≡ asks.Call ShowNone) × (by.own.told ≡ Op op_kinds.Remove)). (shown.1, by.own.is ∙ ap answers.Call shown.2))
+    by.why
+removes_nothing m a never (inr by) =
+    ⊎_elim
+    (λ (made : WasNotMade m a RemoveNothing). absurd (never made.is))
+    (λ (long : WouldBeTooLong m a RemoveNothing). let f : RemoveNothing ≡ Capacity = long.capacity in absurd cc)
+    by.why
 
 module _ {K V A : Type 0} (call : Call K V A) (m : Machine) (a : Answer) (c turn : ℕ) (event : Event) (h : History) (now : Map K V) (maps : List (Map K V)) (event_is : event ≡ event_of (kind_of_ask m) (ask_of m) a) where
   -- what is shown in a step was last shown after it
-  shown_last : (shown : Option ℕ) (op : OpKind) → ask_of m ≡ show shown → a ≡ Op op → AtSomeMoment (λ m. number_in (m (key_of call)) ≡ shown) c h maps → WasShownLast call shown op c (entry turn c event ∷ h) (now ∷ maps)
-  shown_last shown op asks is at = (
-    last_shown-own c turn event h ∙ ap (λ e. shown_by e (last_shown c h)) (event_is ∙ event_shown shown op (kind_of_ask m) (ask_of m) a asks is),
+  shown_last : (shown : Option ℕ) (op : OpKind) → ask_of m ≡ asks.Call (show shown) → a ≡ answers.Call (Op op) → AtSomeMoment (λ m. number_in (m (key_of call)) ≡ shown) c h maps → WasShownLast call shown op c (entry turn c event ∷ h) (now ∷ maps)
+  shown_last shown op asking is at = (
+    last_shown-own c turn event h ∙ ap (λ e. shown_by e (last_shown c h)) (event_is ∙ event_shown shown op (kind_of_ask m) (ask_of m) a asking is),
     inr (not_begin-own c c turn event (ap begins event_is ∙ event_begins (kind_of_ask m) (ask_of m) a), at),
   )
 
   -- so where a step ends the call, its closure was shown in it what the key had at a moment of the call
-  pub step_ending : ((reply : Reply) → ask_of m ≡ Ask_done reply → ⊥) → (ask_of m ≡ ShowNone → m.task ≡ tasks.Compute)
-      → ((shown : Option ℕ) → ask_of m ≡ show shown → AtSomeMoment (λ m. number_in (m (key_of call)) ≡ shown) c h maps)
-      → (reply : Reply) → (reply ≡ Refused RemoveNothing → (ask_of m ≡ ShowNone) × (a ≡ Op op_kinds.Remove)) → ask_of (after m a) ≡ Ask_done reply → IsEnding (after m a).task call reply c (entry turn c event ∷ h) (now ∷ maps)
-  step_ending open_still offers showing reply removes done = record {
-    aborts = λ t is. let (shown, asks, answers) = machine_aborted m a t open_still (done ∙ ap Ask_done is) in (shown, shown_last shown (op_kinds.Abort t) asks answers (showing shown asks));
-    nothing = λ is. let (asks, answers) = removes is in ((same_task m a).0 ∙ offers asks, shown_last None op_kinds.Remove asks answers (showing None asks));
+  pub step_ending : Goes m a → ((after m a).call.task ≡ m.call.task) → ((reply : Reply) → ask_of m ≡ asks.Call (Ask_done reply) → ⊥) → (ask_of m ≡ asks.Call ShowNone → m.call.task ≡ tasks.Compute)
+      → ((shown : Option ℕ) → ask_of m ≡ asks.Call (show shown) → AtSomeMoment (λ m. number_in (m (key_of call)) ≡ shown) c h maps)
+      → (reply : Reply) → (reply ≡ Refused RemoveNothing → (ask_of m ≡ asks.Call ShowNone) × (a ≡ answers.Call (Op op_kinds.Remove))) → ask_of (after m a) ≡ asks.Call (Ask_done reply) → IsEnding (after m a).call.task call reply c (entry turn c event ∷ h) (now ∷ maps)
+  step_ending goes task open_still offers showing reply removes done = record {
+    aborts = λ t is. let (shown, asking, told) = chain_aborted m a goes t open_still (done ∙ ap (λ y. asks.Call (Ask_done y)) is) in (shown, shown_last shown (op_kinds.Abort t) asking told (showing shown asking));
+    nothing = λ is. let (asking, told) = removes is in (task ∙ offers asking, shown_last None op_kinds.Remove asking told (showing None asking));
   }

@@ -3,7 +3,6 @@ use Rattle.std.proofs.Common.{rules, arith, ◌≡◌, ◌≢◌, ◌⊎◌, inl
 use Rattle.std.proofs.lemmas.Bool.{cases_Bool}
 use Rattle.papaya_words.specs.declared.probe.ResizeMode.{ResizeMode}
 use Rattle.papaya_words.specs.declared.probe.Refused.TheVariants.{RemoveNothing}
-use Rattle.papaya_ask.specs.declared.ask.Ask.{Ask}
 use Rattle.papaya_ask.specs.declared.ask.Ask.TheVariants.{ShowNone, MakePair, Done as Ask_done}
 use Rattle.papaya_ask.specs.declared.ask.Answer.TheVariants.{Op, Made as Made_number}
 use Rattle.papaya_ask.specs.declared.ask.OpKind.{OpKind}
@@ -16,16 +15,22 @@ use Rattle.papaya_ask.specs.declared.call.Task.TheVariants as tasks
 use Rattle.papaya_call.specs.Answers.{Says}
 use Rattle.papaya_law.specs.Exchange.{Exchange, run, start as first_state}
 use Rattle.papaya_law.specs.Invariant.{named}
-use Rattle.papaya_call.specs.Machine.{HasClosure, ask_of, kind_of_ask, after, started}
-use Rattle.papaya_rests.specs.Rests.{change_in, change_after, change_of_reply}
+use Rattle.papaya_call.specs.Machine.{HasClosure}
+use Rattle.papaya_call.specs.Machine as calls
+use Rattle.papaya_chain.specs.declared.ask.Ask.{Ask}
+use Rattle.papaya_chain.specs.declared.ask.Ask.TheVariants as asks
+use Rattle.papaya_chain.specs.declared.ask.Answer.TheVariants as told_to
+use Rattle.papaya_chain.specs.Machine.{ask_of, follows_of, kind_of_ask, after}
+use Rattle.papaya_chain_rests.specs.Goes.{Goes, IsInOrder, change_by as changed_by}
+use Rattle.papaya_chain_rests.specs.Told.{Hands, no_hands}
+use Rattle.papaya_chain_rests.proofs.Goes.{machine_goes}
+use Rattle.papaya_chain_rests.proofs.Once.{chain_offered, chain_once as shows_once}
+use Rattle.papaya_chain_rests.proofs.Order.{in_order}
+use Rattle.papaya_chain_rests.proofs.Replies.{chain_changes, chain_said, chain_shows, chain_task}
+use Rattle.papaya_rests.specs.Rests.{change_in, change_of_reply}
 use Rattle.papaya_rests.specs.Says.{HasShownNone, IsSaidChange, Said, StandsOn, show}
-use Rattle.papaya_rests.specs.Told.{Hands, IsOneOf, no_hands}
+use Rattle.papaya_rests.specs.Told.{IsOneOf}
 use Rattle.papaya_law.specs.Code.{IsHashed}
-use Rattle.papaya_rests.proofs.RestsReply.{machine_changes}
-use Rattle.papaya_rests.proofs.SaysChanges.{machine_changed}
-use Rattle.papaya_rests.proofs.SaysOnce.{machine_shown}
-use Rattle.papaya_rests.proofs.SaysWords.{machine_shows as shown_pairs}
-use Rattle.papaya_rests.proofs.Tasks.{same_task}
 use Rattle.papaya_store.specs.declared.pairs.Running.{Running}
 use Rattle.papaya_timeline.specs.declared.seat.Seat.{Seat}
 use Rattle.papaya_timeline.specs.declared.trace.Turn.{Turn}
@@ -41,24 +46,26 @@ use Rattle.papaya_timeline.specs.Given.{AreGiven, GivesIn, HasLeft, begun_answer
 use Rattle.papaya_timeline.specs.Headline.{AreLogged, AreNew, ComesNew, HasTimeline}
 use Rattle.papaya_timeline.specs.Kept.{IsKept, Tale, setting_of, coding_of, low, told_tales, begun_tales}
 use Rattle.papaya_timeline.specs.Maps.{Map, Does, key_of}
-use Rattle.papaya_store.specs.Performs.{Performs}
+use Rattle.papaya_store.specs.Asks.{PerformsAsk}
 use Rattle.papaya_timeline.specs.Runs.{History, with_step}
 use Rattle.papaya_store.specs.Store.{KeepsPairs, StoreState, Stored, pair_of}
 use Rattle.papaya_timeline.specs.Timeline.{Answered, Timeline, IsLegal, MayChange, FitsOpen, FitsShown, IsAgreed, IsUnused, change_of, change_by, none_by, number_in, open_call, open_after, begun_by, begins, is_begin, was_shown_none, AtSomeMoment}
 use Rattle.papaya_timeline.proofs.CallersLemmas.{running-same, running-other, running-with_seat, same_item, differs}
+use Rattle.papaya_timeline.proofs.ChainLemmas.{chain_changed, chain_once, own_asks}
 use Rattle.papaya_timeline.proofs.CoreLemmas.{cases_same}
 use Rattle.papaya_timeline.proofs.EndingLemmas.{removes_nothing, step_ending, unrefused}
-use Rattle.papaya_timeline.proofs.EventLemmas.{one_exchange, event_begins, event_none, event_open, event_change, unchanged_before}
 use Rattle.papaya_timeline.proofs.GivenLemmas.{given_more, left_more}
 use Rattle.papaya_timeline.proofs.Good.{IsGood, IsTied, IsValueOf, replay, replayed}
 use Rattle.papaya_timeline.proofs.KeptLemmas.{IsLawfulKeys, IsStep, kept_step, kept_begin, map_kept, hashed_setting}
 use Rattle.papaya_timeline.proofs.KeptLogs.{pair_below}
 use Rattle.papaya_timeline.proofs.AdvanceLemmas.{advance_legal, moved as advance_moved}
 use Rattle.papaya_timeline.proofs.LegalLemmas.{IsMoved, MayPut, MayReplace, MayTell, Moves, insertion_does, removal_does}
-use Rattle.papaya_timeline.proofs.MachineLemmas.{machine_offers, machine_once, machine_shows, machine_shows_none}
+use Rattle.papaya_timeline.proofs.MachineLemmas.{machine_offers, machine_shows, machine_shows_none}
 use Rattle.papaya_timeline.proofs.ReplayLemmas.{map_replayed, held_in_slot}
-use Rattle.papaya_timeline.proofs.SaidLemmas.{change_agreed, said_after, shown_none}
-use Rattle.papaya_timeline.proofs.TellLemmas.{IsAnswering, Tells, answering as answered_by, event_tells, made_number, told_made}
+use Rattle.papaya_timeline.proofs.SaidLemmas.{change_agreed, said_after}
+use Rattle.papaya_timeline.proofs.StepEvents.{copy_kind, one_exchange, event_begins, event_none, event_open, event_change, unchanged_before}
+use Rattle.papaya_timeline.proofs.StepTells.{Tells, answering as answered_by, event_tells, made_number, told_made}
+use Rattle.papaya_timeline.proofs.TellLemmas.{IsAnswering}
 use Rattle.papaya_timeline.proofs.TiedLemmas.{IsEnding, HasMoreLogs, grown, tied_other, tied_entry, tied_fits, at_showing, at_showing_none, moments_more}
 use Rattle.papaya_timeline.proofs.TimelineLemmas.{entry, open_call-own, open_call-other, change_of-own, not_begin-own, logged_more, logged_unused, was_shown_none-own}
 
@@ -68,12 +75,12 @@ goes None r' r e = (refl, same_item r' r e)
 goes (Some reply) r' r e = let f : None ≡ Some r = e in cc
 
 -- a machine that replies asks no more
-done_in : (ask : Ask) (reply : Reply) → reply_in ask ≡ Some reply → ask ≡ Ask_done reply
-done_in (Ask_done other) reply e = ap (λ y. Ask_done y) (same_item other reply e)
+done_in : (ask : Ask) (reply : Reply) → reply_in ask ≡ Some reply → ask ≡ asks.Call (Ask_done reply)
+done_in (asks.Call (Ask_done other)) reply e = ap (λ y. asks.Call (Ask_done y)) (same_item other reply e)
 done_in ask reply e = let f : None ≡ Some reply = e in cc
 
 -- a call that begins stands on nothing that its closure said
-begun_stands : (task : Task) (hash : ℕ) (mode : ResizeMode) (initial : ℕ) (said : Said) → StandsOn (started task hash mode initial) said → ⊥
+begun_stands : (task : Task) (hash : ℕ) (mode : ResizeMode) (initial : ℕ) (said : Said) → StandsOn (calls.started task hash mode initial) said → ⊥
 begun_stands task hash mode initial said stands = search rules
 
 -- no pair has a number past a log that has its pairs and more
@@ -93,9 +100,9 @@ computed (Compute k a) is v = tt
 
 module _ {K V S A : Type 0} (eq : K → K → Bool) (hash : K → ℕ) (law : IsLawfulKeys eq hash) where
   -- One step of a call, in a run whose history is good.
-  module _ {says : Says K V A} (refuse : Bool) (schedule : List (Turn K V A)) (first : StoreState K V S) (start : Map K V) (s s' : CoreState K V S A) (h : History) (turn c : ℕ) (event : Event) (reply : Option Reply) (x : Advances eq says refuse s c s' event reply) (core' : IsCore s'.store s'.callers s'.mode) (good : IsGood eq says hash schedule first start s h) where
+  module _ {says : Says K V A} {hashes : S → K → ℕ} (refuse : Bool) (schedule : List (Turn K V A)) (first : StoreState K V S) (start : Map K V) (s s' : CoreState K V S A) (h : History) (turn c : ℕ) (event : Event) (reply : Option Reply) (x : Advances eq says hashes refuse s c s' event reply) (as_hashed : hashes s.store.hasher ≡ hash) (core' : IsCore s'.store s'.callers s'.mode) (good : IsGood eq says hash schedule first start s h) where
     step : IsStep eq hash law refuse s c s' event reply x good.es good.tales
-    step = kept_step eq hash law refuse s c s' event reply x good.es good.tales good.core good.kept
+    step = kept_step eq hash law refuse s c s' event reply x as_hashed good.es good.tales good.core good.kept
 
     -- the exchanges and the tales after it
     abbrev es : List (Exchange (Stored K V))
@@ -116,7 +123,7 @@ module _ {K V S A : Type 0} (eq : K → K → Bool) (hash : K → ℕ) (law : Is
 
     -- what a closure answered in it
     answering : IsAnswering says s'.store x.before x.later event
-    answering = subst (λ y. IsAnswering says s'.store x.before x.later y) (sym x.event_is) (answered_by eq says refuse (kind_of_ask x.before.machine) s.store x.before x.answer s'.store x.later (ask_of x.before.machine) x.performs)
+    answering = subst (λ y. IsAnswering says s'.store x.before x.later y) (sym x.event_is) (answered_by eq says hashes refuse (kind_of_ask x.before.machine) s.store x.before x.answer s'.store x.later (ask_of x.before.machine) x.performs)
 
     hashed : IsHashed (setting_of {V = V} eq (low hash) s.mode s.store.words.tables) (coding_of (low hash))
     hashed = hashed_setting eq hash law s good.core
@@ -125,18 +132,25 @@ module _ {K V S A : Type 0} (eq : K → K → Bool) (hash : K → ℕ) (law : Is
     later_answers = answering.answered ∷ good.answers
 
     -- only a compute shows its closure that there is none
-    offers : ask_of x.before.machine ≡ ShowNone → x.before.machine.task ≡ tasks.Compute
-    offers asks = machine_offers (setting_of eq (low hash) s.mode s.store.words.tables) (coding_of (low hash)) (good.tales c).begun (good.tales c).since step.call.key x.before.machine (good.tales c).hands step.call.rests asks
+    offers : ask_of x.before.machine ≡ asks.Call ShowNone → x.before.machine.call.task ≡ tasks.Compute
+    offers asking = machine_offers (setting_of eq (low hash) s.mode s.store.words.tables) (coding_of (low hash)) (good.tales c).begun (good.tales c).since step.call.key x.before.machine.call (good.tales c).hands.call step.call.rests.call (own_asks x.before.machine ShowNone asking).1
 
     grows : HasMoreLogs s.store x.before s'.store x.later
-    grows = grown eq says refuse (ask_of x.before.machine) s.store x.before x.answer s'.store x.later x.performs offers
+    grows = grown eq says hashes refuse (ask_of x.before.machine) s.store x.before x.answer s'.store x.later x.performs offers
 
     one : (step.made ≡ []) ⊎ ((e : Exchange (Stored K V)) × (step.made ≡ e ∷ []))
-    one = one_exchange (setting_of eq (low hash) s.mode s.store.words.tables) (coding_of (low hash)) step.call.key (run good.es first_state) (kind_of_ask x.before.machine) (good.tales c).hands (ask_of x.before.machine) x.answer step.made step.hands step.told
+    one = one_exchange (setting_of eq (low hash) s.mode s.store.words.tables) (coding_of (low hash)) step.call.key (run good.es first_state) (kind_of_ask x.before.machine) (follows_of x.before.machine) (good.tales c).hands (ask_of x.before.machine) x.answer step.made step.hands step.told
+
+    -- the answer was for the call itself, or the call was set aside
+    order : IsInOrder x.before.machine x.answer x.before.machine.phase
+    order = in_order (setting_of eq (low hash) s.mode s.store.words.tables) (coding_of (low hash)) (good.tales c).begun (good.tales c).since step.call.key x.before.machine (good.tales c).hands (run good.es first_state) x.answer step.made step.hands step.call.rests step.told
+
+    goes_by : Goes x.before.machine x.answer
+    goes_by = machine_goes x.before.machine x.answer order
 
     -- what the machine made of the answer, it changed
-    changed : change_in (after x.before.machine x.answer).state ≡ change_after (kind_of_ask x.before.machine) (ask_of x.before.machine) x.answer (change_in x.before.machine.state)
-    changed = machine_changes (setting_of eq (low hash) s.mode s.store.words.tables) (coding_of (low hash)) hashed step.call.key (run good.es first_state) x.before.machine step.call.rests.hash (good.tales c).hands step.made step.hands x.answer step.told
+    changed : change_in (after x.before.machine x.answer).call.state ≡ changed_by (kind_of_ask x.before.machine) (ask_of x.before.machine) x.answer (change_in x.before.machine.call.state)
+    changed = chain_changes (setting_of eq (low hash) s.mode s.store.words.tables) (coding_of (low hash)) step.call.key (run good.es first_state) x.before.machine (good.tales c).hands x.answer step.made step.hands order step.told hashed step.call.rests.call.hash
 
     -- the key of an open call
     own_is : (call : Call K V A) → open_call schedule c h ≡ Some call → step.call.key ≡ key_of call
@@ -144,14 +158,14 @@ module _ {K V S A : Type 0} (eq : K → K → Bool) (hash : K → ℕ) (law : Is
 
     -- what the event of the step tells of it
     told : (e : Event) → event ≡ e → Tells e (ask_of x.before.machine) x.answer
-    told e is = subst (λ y. Tells y (ask_of x.before.machine) x.answer) (sym x.event_is ∙ is) (event_tells (kind_of_ask x.before.machine) (ask_of x.before.machine) x.answer)
+    told e is = subst (λ y. Tells y (ask_of x.before.machine) x.answer) (sym x.event_is ∙ is) (event_tells x.before.machine x.answer)
 
     -- no change was made before one
-    unchanged : (kind : StepKind) (old new : Option ℕ) → event ≡ Changed kind old new → change_in x.before.machine.state ≡ None
-    unchanged kind old new is = let (at, from, to, asks) = told (Changed kind old new) is in machine_once x.before.machine at from to asks
+    unchanged : (kind : StepKind) (old new : Option ℕ) → event ≡ Changed kind old new → change_in x.before.machine.call.state ≡ None
+    unchanged kind old new is = let (at, from, to, asking) = told (Changed kind old new) is in chain_once x.before.machine at from to asking
 
     -- an open call does with its key's class what its machine does
-    does : (call : Call K V A) → open_call schedule c h ≡ Some call → (went came : Option (Stored K V)) → MayPut step.call.key x.before.machine.task (good.tales c).hands.made went came → (reply : Reply) × Does call went reply came × (change_of_reply reply ≡ Some (number_in went, number_in came))
+    does : (call : Call K V A) → open_call schedule c h ≡ Some call → (went came : Option (Stored K V)) → MayPut step.call.key x.before.machine.call.task (good.tales c).hands.call.made went came → (reply : Reply) × Does call went reply came × (change_of_reply reply ≡ Some (number_in went, number_in came))
     does call e went (Some q) (made, own, replaces) =
         let tied = good.tied c x.before call x.was e in
         insertion_does call step.call.key went q (sym (own_is call e)) own (tied.made q made) (subst (MayReplace went) tied.task replaces)
@@ -159,21 +173,22 @@ module _ {K V S A : Type 0} (eq : K → K → Bool) (hash : K → ℕ) (law : Is
     does call e None None may = absurd may
 
     -- and its closure has agreed
-    agreed : (call : Call K V A) → open_call schedule c h ≡ Some call → (kind : StepKind) (old new : Option ℕ) → event ≡ Changed kind old new → (went came : Option (Stored K V)) → number_in came ≡ new → MayPut step.call.key x.before.machine.task (good.tales c).hands.made went came → IsAgreed (Some call) c old came h good.answers
+    agreed : (call : Call K V A) → open_call schedule c h ≡ Some call → (kind : StepKind) (old new : Option ℕ) → event ≡ Changed kind old new → (went came : Option (Stored K V)) → number_in came ≡ new → MayPut step.call.key x.before.machine.call.task (good.tales c).hands.call.made went came → IsAgreed (Some call) c old came h good.answers
     agreed call e kind old new is went came came_is may =
         let m = x.before.machine in
         let tied = good.tied c x.before call x.was e in
-        let none = unchanged kind old new is in
-        let change : change_in (after m x.answer).state ≡ Some (old, new) = changed ∙ sym (event_change (change_in m.state) (kind_of_ask m) (ask_of m) x.answer (machine_once m)) ∙ ap (λ y. change_by y (change_in m.state)) (sym x.event_is ∙ is) in
-        let said : IsSaidChange (task_of_call call) m old (number_in came) = subst (λ n. IsSaidChange (task_of_call call) m old n) (sym came_is) (subst (λ t. IsSaidChange t m old new) tied.task (machine_changed m x.answer old new (good.core.standing c x.before x.was) none change)) in
+        let (at, from, to, asking) = told (Changed kind old new) is in
+        let change : change_in (after m x.answer).call.state ≡ Some (old, new) = changed ∙ sym (event_change (change_in m.call.state) (kind_of_ask m) (ask_of m) x.answer (copy_kind m) (chain_once m)) ∙ ap (λ y. change_by y (change_in m.call.state)) (sym x.event_is ∙ is) in
+        let said : IsSaidChange (task_of_call call) m.call old (number_in came) =
+        subst (λ n. IsSaidChange (task_of_call call) m.call old n) (sym came_is) (subst (λ t. IsSaidChange t m.call old new) tied.task (chain_changed m x.answer goes_by (good.core.standing c x.before x.was) at from to asking old new change)) in
         change_agreed call s.store x.before c h good.answers tied.said old came (logged went came may) said
       where
-        logged : (went came : Option (Stored K V)) → MayPut step.call.key x.before.machine.task (good.tales c).hands.made went came → (q : Stored K V) → came ≡ Some q → pair_of s.store q.number ≡ Some q
+        logged : (went came : Option (Stored K V)) → MayPut step.call.key x.before.machine.call.task (good.tales c).hands.call.made went came → (q : Stored K V) → came ≡ Some q → pair_of s.store q.number ≡ Some q
         logged went None may q is = let f : None ≡ Some q = is in absurd cc
         logged went (Some p) (made, own, replaces) q is = let same : p ≡ q = cc in subst (λ (y : Stored K V). pair_of s.store y.number ≡ Some y) same (step.call.made p made)
 
     -- so it may make the change
-    may_move : (o : Option (Call K V A)) → open_call schedule c h ≡ o → (kind : StepKind) (old new : Option ℕ) → event ≡ Changed kind old new → (went came : Option (Stored K V)) → number_in went ≡ old → number_in came ≡ new → MayPut step.call.key x.before.machine.task (good.tales c).hands.made went came
+    may_move : (o : Option (Call K V A)) → open_call schedule c h ≡ o → (kind : StepKind) (old new : Option ℕ) → event ≡ Changed kind old new → (went came : Option (Stored K V)) → number_in went ≡ old → number_in came ≡ new → MayPut step.call.key x.before.machine.call.task (good.tales c).hands.call.made went came
         → MayChange eq o (change_of c h) step.call.key went came × IsAgreed o c old came h good.answers
     may_move None e kind old new is went came went_is came_is may = (tt, tt)
     may_move (Some call) e kind old new is went came went_is came_is may =
@@ -181,25 +196,25 @@ module _ {K V S A : Type 0} (eq : K → K → Bool) (hash : K → ℕ) (law : Is
         ((sym (own_is call e), tied.change ∙ unchanged kind old new is, does call e went came may), agreed call e kind old new is went came came_is may)
 
     -- that there is none its closure was not shown before
-    not_shown : (call : Call K V A) → open_call schedule c h ≡ Some call → ask_of x.before.machine ≡ ShowNone → was_shown_none c h ≡ false
-    not_shown call e asks = elim (cases_Bool (was_shown_none c h)) [
-      | inl was ↦ absurd ((machine_shown x.before.machine x.answer ((good.tied c x.before call x.was e).once was)).0 asks)
+    not_shown : (call : Call K V A) → open_call schedule c h ≡ Some call → ask_of x.before.machine ≡ asks.Call ShowNone → was_shown_none c h ≡ false
+    not_shown call e asking = elim (cases_Bool (was_shown_none c h)) [
+      | inl was ↦ absurd ((shows_once x.before.machine x.answer order ((good.tied c x.before call x.was e).once was)).0 asking)
       | inr never ↦ never
     ]
 
     -- and it is shown what its key had at a moment of the call
-    may_show : (o : Option (Call K V A)) → open_call schedule c h ≡ o → (shown : Option ℕ) → ask_of x.before.machine ≡ show shown → FitsShown eq o shown c h (replay eq good.es ∷ good.maps)
-    may_show None e shown asks = tt
-    may_show (Some call) e (Some n) asks =
+    may_show : (o : Option (Call K V A)) → open_call schedule c h ≡ o → (shown : Option ℕ) → ask_of x.before.machine ≡ asks.Call (show shown) → FitsShown eq o shown c h (replay eq good.es ∷ good.maps)
+    may_show None e shown asking = tt
+    may_show (Some call) e (Some n) asking =
         let (p, last, number, same, was) =
-        machine_shows (setting_of eq (low hash) s.mode s.store.words.tables) (coding_of (low hash)) (good.tales c).begun (good.tales c).since step.call.key hashed x.before.machine (good.tales c).hands step.call.rests n asks in
+        machine_shows (setting_of eq (low hash) s.mode s.store.words.tables) (coding_of (low hash)) (good.tales c).begun (good.tales c).since step.call.key hashed x.before.machine.call (good.tales c).hands.call step.call.rests.call n (own_asks x.before.machine (show (Some n)) asking).1 in
         at_showing eq call c (good.tales c) h (replay eq good.es ∷ good.maps) (low hash) s.mode s.store.words.tables step.call.key (own_is call e) (good.tied c x.before call x.was e).moments p n number was
-    may_show (Some call) e None asks =
-        at_showing_none eq call c (good.tales c) h (replay eq good.es ∷ good.maps) (low hash) s.mode s.store.words.tables step.call.key (own_is call e) (good.tied c x.before call x.was e).moments (not_shown call e asks)
-        (machine_shows_none (setting_of eq (low hash) s.mode s.store.words.tables) (coding_of (low hash)) (good.tales c).begun (good.tales c).since step.call.key x.before.machine (good.tales c).hands step.call.rests asks)
+    may_show (Some call) e None asking =
+        at_showing_none eq call c (good.tales c) h (replay eq good.es ∷ good.maps) (low hash) s.mode s.store.words.tables step.call.key (own_is call e) (good.tied c x.before call x.was e).moments (not_shown call e asking)
+        (machine_shows_none (setting_of eq (low hash) s.mode s.store.words.tables) (coding_of (low hash)) (good.tales c).begun (good.tales c).since step.call.key x.before.machine.call (good.tales c).hands.call step.call.rests.call (own_asks x.before.machine (show None) asking).1)
 
     -- so its event may be told
-    may_tell : (e : Event) → event ≡ e → MayTell eq step.call.key x.before.machine.task (good.tales c).hands.made (replay eq good.es) schedule c h good.maps good.answers e
+    may_tell : (e : Event) → event ≡ e → MayTell eq step.call.key x.before.machine.call.task (good.tales c).hands.call.made (replay eq good.es) schedule c h good.maps good.answers e
     may_tell Begun is = tt
     may_tell (Changed kind old new) is = (λ q made. good.unused c x.before x.was q made (unchanged kind old new is), may_move (open_call schedule c h) refl kind old new is)
     may_tell (Moved kind) is = tt
@@ -216,7 +231,7 @@ module _ {K V S A : Type 0} (eq : K → K → Bool) (hash : K → ℕ) (law : Is
 
     -- the pairs of the map after it stand in slots
     standing : (j : K) (p : Stored K V) → replay eq es j ≡ Some p → (t : ℕ) × (i : ℕ) × (named ((run es first_state).slot t i) ≡ Some p)
-    standing = held_in_slot eq (low hash) s'.mode s'.store.words.tables (hashed_setting eq hash law s' core').lawful es step.kept.allowed step.kept.single
+    standing = held_in_slot eq (low hash) s'.mode s'.store.words.tables (hashed_setting eq hash law s' core').lawful es step.kept.allowed
 
     -- so they are in the log
     in_log : (j : K) (p : Stored K V) → replay eq es j ≡ Some p → pair_of s'.store p.number ≡ Some p
@@ -230,9 +245,9 @@ module _ {K V S A : Type 0} (eq : K → K → Bool) (hash : K → ℕ) (law : Is
     own_hands = ap (λ b. cond b step.hands (good.tales c).hands) (eq-eqb c c refl)
 
     -- a pair that it made and has not written was in no map before
-    own_unused : (q : Stored K V) → IsOneOf step.hands.made q → change_in (after x.before.machine x.answer).state ≡ None → IsUnused q.number (replay eq good.es ∷ good.maps)
+    own_unused : (q : Stored K V) → IsOneOf step.hands.call.made q → change_in (after x.before.machine x.answer).call.state ≡ None → IsUnused q.number (replay eq good.es ∷ good.maps)
     own_unused q made none =
-        let none_before = unchanged_before (change_in x.before.machine.state) (kind_of_ask x.before.machine) (ask_of x.before.machine) x.answer (machine_once x.before.machine) (sym changed ∙ none) in
+        let none_before = unchanged_before (change_in x.before.machine.call.state) (kind_of_ask x.before.machine) (ask_of x.before.machine) x.answer (chain_once x.before.machine) (sym changed ∙ none) in
         ⊎_elim
         (λ was. good.unused c x.before x.was q was none_before)
         (λ (new : (q.number ≡ length s.store.pairs) × (x.before.value ≡ Some q.value) × (pair_of s'.store q.number ≡ Some q)). subst (λ n. IsUnused n (replay eq good.es ∷ good.maps)) (sym new.0) (logged_unused s.store (replay eq good.es ∷ good.maps) good.logged))
@@ -249,14 +264,14 @@ module _ {K V S A : Type 0} (eq : K → K → Bool) (hash : K → ℕ) (law : Is
     hands_other : (d : ℕ) → d ≢ c → (tales d).hands ≡ (good.tales d).hands
     hands_other d differ = ap (λ b. cond b step.hands (good.tales d).hands) (differs d c differ)
 
-    unused : (d : ℕ) (r : Running K V A) → running s'.callers d ≡ Some r → (q : Stored K V) → IsOneOf (tales d).hands.made q → change_in r.machine.state ≡ None → IsUnused q.number later_maps
+    unused : (d : ℕ) (r : Running K V A) → running s'.callers d ≡ Some r → (q : Stored K V) → IsOneOf (tales d).hands.call.made q → change_in r.machine.call.state ≡ None → IsUnused q.number later_maps
     unused d r now q made none = (
       λ j p e. let (t, i, there) = standing j p e in (step.kept.calls d r now).unwritten q made none t i p there,
       elim (cases_same d c) [
         | inl same ↦
             let is = run_same d r same now in
-            own_unused q (subst (λ (y : Hands (Stored K V)). IsOneOf y.made q) own_hands (subst (λ y. IsOneOf (tales y).hands.made q) same made)) (ap (λ (y : Running K V A). change_in y.machine.state) is.1 ∙ none)
-        | inr differ ↦ good.unused d r (run_other d r differ now) q (subst (λ (y : Hands (Stored K V)). IsOneOf y.made q) (hands_other d differ) made) none
+            own_unused q (subst (λ (y : Hands (Stored K V)). IsOneOf y.call.made q) own_hands (subst (λ y. IsOneOf (tales y).hands.call.made q) same made)) (ap (λ (y : Running K V A). change_in y.machine.call.state) is.1 ∙ none)
+        | inr differ ↦ good.unused d r (run_other d r differ now) q (subst (λ (y : Hands (Stored K V)). IsOneOf y.call.made q) (hands_other d differ) made) none
       ],
     )
 
@@ -269,13 +284,13 @@ module _ {K V S A : Type 0} (eq : K → K → Bool) (hash : K → ℕ) (law : Is
     no_begin = not_begin-own c c turn event (ap begins x.event_is ∙ event_begins (kind_of_ask x.before.machine) (ask_of x.before.machine) x.answer)
 
     -- a pair that is made in the step is logged, and is of the value at hand
-    made_now : (n : ℕ) → ask_of x.before.machine ≡ MakePair → x.answer ≡ Made_number n → (q : Stored K V) × (pair_of s'.store n ≡ Some q) × (x.before.value ≡ Some q.value)
-    made_now n asks is =
-        let (q, number, hands) = told_made (setting_of eq (low hash) s.mode s.store.words.tables) (coding_of (low hash)) step.call.key (run good.es first_state) (kind_of_ask x.before.machine) (good.tales c).hands (ask_of x.before.machine) x.answer step.made step.hands n asks is step.told in
+    made_now : (n : ℕ) → ask_of x.before.machine ≡ asks.Call MakePair → x.answer ≡ told_to.Call (Made_number n) → (q : Stored K V) × (pair_of s'.store n ≡ Some q) × (x.before.value ≡ Some q.value)
+    made_now n asking is =
+        let (q, number, hands) = told_made (setting_of eq (low hash) s.mode s.store.words.tables) (coding_of (low hash)) step.call.key (run good.es first_state) (kind_of_ask x.before.machine) (follows_of x.before.machine) (good.tales c).hands (ask_of x.before.machine) x.answer step.made step.hands n asking is step.told in
         ⊎_elim
         (λ old.
         let below : q.number < length s.store.pairs = pair_below s.store q.number q (step.call.made q old) in
-        let all : n ≡ length s.store.pairs = made_number eq says refuse s.store x.before x.answer s'.store x.later n (subst (λ y. Performs eq says refuse y s.store x.before x.answer s'.store x.later) asks x.performs) is in
+        let all : n ≡ length s.store.pairs = made_number eq says hashes refuse s.store x.before x.answer s'.store x.later n (subst (λ y. PerformsAsk eq says hashes refuse y s.store x.before x.answer s'.store x.later) asking x.performs) is in
         absurd (omega (arith, below, all, number)))
         (λ (new : (q.number ≡ length s.store.pairs) × (x.before.value ≡ Some q.value) × (pair_of s'.store q.number ≡ Some q)). (q, subst (λ i. pair_of s'.store i ≡ Some q) number new.2, new.1))
         (step.new q (subst (λ (y : List (Stored K V)). IsOneOf y q) (sym hands) (inl refl)))
@@ -287,19 +302,19 @@ module _ {K V S A : Type 0} (eq : K → K → Bool) (hash : K → ℕ) (law : Is
         let tied = good.tied c x.before call x.was e in
         record {
           key = step.own.own ∙ ap (λ k. Some k) (step.own_key ∙ own_is call e);
-          task = (same_task m x.answer).0 ∙ tied.task;
+          task = (chain_task m x.answer order).0 ∙ tied.task;
           value = λ v had. ⊎_elim (λ was. tied.value v was) (λ computes. computed call (sym tied.task ∙ computes) v) (grows.value_stays v had);
           made = λ q made. ⊎_elim
               (λ was. tied.made q was)
               (λ (new : (q.number ≡ length s.store.pairs) × (x.before.value ≡ Some q.value) × (pair_of s'.store q.number ≡ Some q)). tied.value q.value new.1)
-              (step.new q (subst (λ (y : Hands (Stored K V)). IsOneOf y.made q) own_hands made));
-          change = change_of-own c turn event h ∙ ap (change_by event) tied.change ∙ ap (λ y. change_by y (change_in m.state)) x.event_is
-              ∙ event_change (change_in m.state) (kind_of_ask m) (ask_of m) x.answer (machine_once m) ∙ sym changed;
-          said = said_after eq says refuse s.store x.before x.answer s'.store x.later x.performs grows.pairs_stay made_now turn c event x.event_is h good.answers answering (good.core.standing c x.before x.was) tied.shows tied.said;
-          shows = shown_pairs m x.answer tied.shows;
+              (step.new q (subst (λ (y : Hands (Stored K V)). IsOneOf y.call.made q) own_hands made));
+          change = change_of-own c turn event h ∙ ap (change_by event) tied.change ∙ ap (λ y. change_by y (change_in m.call.state)) x.event_is
+              ∙ event_change (change_in m.call.state) (kind_of_ask m) (ask_of m) x.answer (copy_kind m) (chain_once m) ∙ sym changed;
+          said = said_after eq says hashes refuse s.store x.before x.answer s'.store x.later x.performs grows.pairs_stay made_now turn c event x.event_is h good.answers answering (chain_said m x.answer order (good.core.standing c x.before x.was).call tied.shows) tied.said;
+          shows = chain_shows m x.answer order tied.shows;
           once = λ shown. ⊎_elim
-              (λ was. (machine_shown m x.answer (tied.once was)).1)
-              (λ (now : (ask_of m ≡ ShowNone) × ((op : OpKind) × (x.answer ≡ Op op))). subst (λ y. HasShownNone (after m y).remembered.fill (after m y).state) (sym now.1.1) (shown_none m now.1.0 now.0))
+              (λ was. (shows_once m x.answer order (tied.once was)).1)
+              (λ (now : (ask_of m ≡ asks.Call ShowNone) × ((op : OpKind) × (x.answer ≡ told_to.Call (Op op)))). subst (λ y. HasShownNone (after m y).call.remembered.fill (after m y).call.state) (sym now.1.1) (chain_offered m now.1.0 now.0))
               (event_none (was_shown_none c h) (kind_of_ask m) (ask_of m) x.answer (ap (λ y. none_by y (was_shown_none c h)) (sym x.event_is) ∙ sym (was_shown_none-own c turn event h) ∙ shown));
           moments = subst (λ (l : List (Exchange (Stored K V))). (so_far rest : List (Exchange (Stored K V))) → so_far ++ rest ≡ (good.tales c).since ++ step.made → AtSomeMoment (λ m. m (key_of call) ≡ replayed eq (replay eq (good.tales c).begun) so_far (key_of call)) c later_history (replay eq (l ++ step.made) ∷ replay eq good.es ∷ good.maps)) step.call.split
               (moments_more eq (key_of call) c (entry turn c event) h (replay eq good.es ∷ good.maps) (good.tales c).begun (good.tales c).since step.made one
@@ -313,17 +328,17 @@ module _ {K V S A : Type 0} (eq : K → K → Bool) (hash : K → ℕ) (law : Is
         tied_other eq s.store s'.store r call c d turn event good.tales step.made step.hands h good.es (replay eq good.es ∷ good.maps) answering.answered good.answers grows.keys_stay grows.pairs_stay one (λ z. differ (sym z)) (good.kept.calls d r before).split (good.tied d r call before e)
 
     -- a closure that ended the call did so in the step
-    ending : (call : Call K V A) → open_call schedule c h ≡ Some call → (rep : Reply) → reply ≡ Some rep → ask_of (after x.before.machine x.answer) ≡ Ask_done rep → IsEnding r'.machine.task call rep c later_history later_maps
+    ending : (call : Call K V A) → open_call schedule c h ≡ Some call → (rep : Reply) → reply ≡ Some rep → ask_of (after x.before.machine x.answer) ≡ asks.Call (Ask_done rep) → IsEnding r'.machine.call.task call rep c later_history later_maps
     ending call e rep some done =
-        step_ending call x.before.machine x.answer c turn event h (replay eq es) (replay eq good.es ∷ good.maps) x.event_is (good.core.going c x.before x.was)
-        offers (λ shown asks. (may_show (Some call) e shown asks).0) rep (λ is. removes_nothing eq s.store x.before x.answer (unrefused eq says refuse s.store x.before x.answer s'.store x.later (ask_of x.before.machine) x.performs) (x.cause RemoveNothing (some ∙ ap (λ y. Some y) is))) done
+        step_ending call x.before.machine x.answer c turn event h (replay eq es) (replay eq good.es ∷ good.maps) x.event_is goes_by (chain_task x.before.machine x.answer order).0 (good.core.going c x.before x.was)
+        offers (λ shown asking. (may_show (Some call) e shown asking).0) rep (λ is. removes_nothing x.before.machine x.answer (unrefused eq says hashes refuse s.store x.before x.answer s'.store x.later (ask_of x.before.machine) x.performs) (x.cause RemoveNothing (some ∙ ap (λ y. Some y) is))) done
 
     -- a reply fits
     fits : (o : Option (Call K V A)) → open_call schedule c later_history ≡ o → (rep : Reply) → reply ≡ Some rep → FitsOpen eq o rep c later_history later_maps
     fits None e rep some = tt
     fits (Some call) e rep some =
         let was = sym opened ∙ e in
-        let done : ask_of (after x.before.machine x.answer) ≡ Ask_done rep = done_in (ask_of (after x.before.machine x.answer)) rep (sym x.reply_is ∙ some) in
+        let done : ask_of (after x.before.machine x.answer) ≡ asks.Call (Ask_done rep) = done_in (ask_of (after x.before.machine x.answer)) rep (sym x.reply_is ∙ some) in
         tied_fits eq s'.store r' call c (tales c) later_history later_maps later_answers (low hash) s'.mode s'.store.words.tables step.own.key (step.own_key ∙ own_is call was) (tied_own call was) step.own.rests rep done (ending call was rep some done)
 
     -- a call of another that is open now was open before
@@ -377,10 +392,10 @@ module _ {K V S A : Type 0} (eq : K → K → Bool) (hash : K → ℕ) (law : Is
     comes_new : (call : Call K V A) → open_call schedule c h ≡ Some call → (e : Event) → event ≡ e → ComesNew first e
     comes_new call began (Changed kind old (Some n)) is = by_came moved.came moved.came_is moved.may
       where
-        moved : IsMoved eq step.call.key x.before.machine.task (good.tales c).hands.made (replay eq good.es) (replay eq es) old (Some n)
-        moved = subst (Moves eq step.call.key x.before.machine.task (good.tales c).hands.made (replay eq good.es) (replay eq es)) is (advance_moved eq hash law refuse s s' c event reply x good.core core' good.es good.tales good.kept step)
+        moved : IsMoved eq step.call.key x.before.machine.call.task (good.tales c).hands.call.made (replay eq good.es) (replay eq es) old (Some n)
+        moved = subst (Moves eq step.call.key x.before.machine.call.task (good.tales c).hands.call.made (replay eq good.es) (replay eq es)) is (advance_moved eq hash law refuse s s' c event reply x good.core core' good.es good.tales good.kept step)
 
-        by_came : (came : Option (Stored K V)) → number_in came ≡ Some n → MayPut step.call.key x.before.machine.task (good.tales c).hands.made moved.went came → pair_of first n ≡ None
+        by_came : (came : Option (Stored K V)) → number_in came ≡ Some n → MayPut step.call.key x.before.machine.call.task (good.tales c).hands.call.made moved.went came → pair_of first n ≡ None
         by_came None none may = let f : None ≡ Some n = none in absurd cc
         by_came (Some q) number (made, own, replaces) = subst (λ i. pair_of first i ≡ None) (same_item q.number n number) (good.made_new c x.before call x.was began q made)
     comes_new call began (Changed kind old None) is = tt
@@ -395,17 +410,17 @@ module _ {K V S A : Type 0} (eq : K → K → Bool) (hash : K → ℕ) (law : Is
     fresh = (λ call began. comes_new call began event refl, good.fresh)
 
     -- and so are those that calls of the run made
-    made_others : (d : ℕ) (r : Running K V A) (call : Call K V A) → d ≢ c → running s'.callers d ≡ Some r → open_call schedule d h ≡ Some call → (q : Stored K V) → IsOneOf (tales d).hands.made q → pair_of first q.number ≡ None
-    made_others d r call differ now e q made = good.made_new d r call (run_other d r differ now) e q (subst (λ (y : Hands (Stored K V)). IsOneOf y.made q) (hands_other d differ) made)
+    made_others : (d : ℕ) (r : Running K V A) (call : Call K V A) → d ≢ c → running s'.callers d ≡ Some r → open_call schedule d h ≡ Some call → (q : Stored K V) → IsOneOf (tales d).hands.call.made q → pair_of first q.number ≡ None
+    made_others d r call differ now e q made = good.made_new d r call (run_other d r differ now) e q (subst (λ (y : Hands (Stored K V)). IsOneOf y.call.made q) (hands_other d differ) made)
 
-    made_new : (d : ℕ) (r : Running K V A) (call : Call K V A) → running s'.callers d ≡ Some r → open_call schedule d later_history ≡ Some call → (q : Stored K V) → IsOneOf (tales d).hands.made q → pair_of first q.number ≡ None
+    made_new : (d : ℕ) (r : Running K V A) (call : Call K V A) → running s'.callers d ≡ Some r → open_call schedule d later_history ≡ Some call → (q : Stored K V) → IsOneOf (tales d).hands.call.made q → pair_of first q.number ≡ None
     made_new d r call now e q made = elim (cases_same d c) [
       | inl same ↦
           let opened_before = sym opened ∙ ap (λ y. open_call schedule y later_history) (sym same) ∙ e in
           ⊎_elim
           (λ was. good.made_new c x.before call x.was opened_before q was)
           (λ (new : (q.number ≡ length s.store.pairs) × (x.before.value ≡ Some q.value) × (pair_of s'.store q.number ≡ Some q)). subst (λ n. pair_of first n ≡ None) (sym new.0) past_new)
-          (step.new q (subst (λ (y : Hands (Stored K V)). IsOneOf y.made q) own_hands (subst (λ y. IsOneOf (tales y).hands.made q) same made)))
+          (step.new q (subst (λ (y : Hands (Stored K V)). IsOneOf y.call.made q) own_hands (subst (λ y. IsOneOf (tales y).hands.call.made q) same made)))
       | inr differ ↦ made_others d r call differ now (open_other d call differ e) q made
     ]
 
@@ -448,9 +463,9 @@ module _ {K V S A : Type 0} (eq : K → K → Bool) (hash : K → ℕ) (law : Is
     }
 
   -- a step keeps a good history
-  pub good_step : {says : Says K V A} (refuse : Bool) (schedule : List (Turn K V A)) (first : StoreState K V S) (start : Map K V) (s s' : CoreState K V S A) (h : History) (turn c : ℕ) (event : Event) (reply : Option Reply) → Advances eq says refuse s c s' event reply → IsCore s'.store s'.callers s'.mode → IsGood eq says hash schedule first start s h → IsGood eq says hash schedule first start s' (with_step turn c event reply h)
-  good_step refuse schedule first start s s' h turn c event None x core' good = goes_on_good refuse schedule first start s s' h turn c event None x core' good
-  good_step refuse schedule first start s s' h turn c event (Some rep) x core' good = replies_good refuse schedule first start s s' h turn c event (Some rep) x core' good rep refl
+  pub good_step : {says : Says K V A} {hashes : S → K → ℕ} (refuse : Bool) (schedule : List (Turn K V A)) (first : StoreState K V S) (start : Map K V) (s s' : CoreState K V S A) (h : History) (turn c : ℕ) (event : Event) (reply : Option Reply) → Advances eq says hashes refuse s c s' event reply → hashes s.store.hasher ≡ hash → IsCore s'.store s'.callers s'.mode → IsGood eq says hash schedule first start s h → IsGood eq says hash schedule first start s' (with_step turn c event reply h)
+  good_step refuse schedule first start s s' h turn c event None x as_hashed core' good = goes_on_good refuse schedule first start s s' h turn c event None x as_hashed core' good
+  good_step refuse schedule first start s s' h turn c event (Some rep) x as_hashed core' good = replies_good refuse schedule first start s s' h turn c event (Some rep) x as_hashed core' good rep refl
 
   -- a begin adds a call that rests on the exchanges as they are
   pub good_begin : (says : Says K V A) (schedule : List (Turn K V A)) (first : StoreState K V S) (start : Map K V) (s s' : CoreState K V S A) (h : History) (turn c : ℕ) (call : Call K V A) → slice_get schedule turn ≡ Some (Begin c call) → Begins hash s c call s' → hash (key_of_call call) < 2 ^ 64 → IsCore s'.store s'.callers s'.mode → IsGood eq says hash schedule first start s h → IsGood eq says hash schedule first start s' (entry turn c Begun ∷ h)
@@ -460,7 +475,7 @@ module _ {K V S A : Type 0} (eq : K → K → Bool) (hash : K → ℕ) (law : Is
     maps = replay eq good.es ∷ good.maps;
     answers = None ∷ good.answers;
     core = core';
-    kept = kept_begin eq hash law s c call s' x low_hash good.es good.tales good.kept;
+    kept = kept_begin eq hash law s c call s' x low_hash good.core.chunked good.es good.tales good.kept;
     timeline = (λ j. refl, refl, good.timeline);
     logged = (logged.0, logged);
     given = (
@@ -482,10 +497,10 @@ module _ {K V S A : Type 0} (eq : K → K → Bool) (hash : K → ℕ) (law : Is
     kept_pairs = subst (λ (y : StoreState K V S). KeepsPairs first y) (sym x.store) good.kept_pairs;
     fresh = (λ call began. tt, good.fresh);
     made_new = λ d r other now e q made. elim (cases_same d c) [
-      | inl same ↦ absurd (subst (λ (y : Tale K V). IsOneOf y.hands.made q) (ap tales same ∙ tale_same) made)
+      | inl same ↦ absurd (subst (λ (y : Tale K V). IsOneOf y.hands.call.made q) (ap tales same ∙ tale_same) made)
       | inr differ ↦
           good.made_new d r other (run_other d r differ now) (sym (open_call-other schedule c d turn Begun h (λ z. differ (sym z))) ∙ e) q
-          (subst (λ (y : Tale K V). IsOneOf y.hands.made q) (tale_other d differ) made)
+          (subst (λ (y : Tale K V). IsOneOf y.hands.call.made q) (tale_other d differ) made)
     ];
     unused = unused;
     tied = tied;
@@ -511,11 +526,11 @@ module _ {K V S A : Type 0} (eq : K → K → Bool) (hash : K → ℕ) (law : Is
       tale_same : tales c ≡ record { begun = good.es; since = []; hands = no_hands }
       tale_same = ap (λ b. cond b (record { begun = good.es; since = []; hands = no_hands }) (good.tales c)) (eq-eqb c c refl)
 
-      unused : (d : ℕ) (r : Running K V A) → running s'.callers d ≡ Some r → (q : Stored K V) → IsOneOf (tales d).hands.made q → change_in r.machine.state ≡ None → IsUnused q.number (replay eq good.es ∷ replay eq good.es ∷ good.maps)
+      unused : (d : ℕ) (r : Running K V A) → running s'.callers d ≡ Some r → (q : Stored K V) → IsOneOf (tales d).hands.call.made q → change_in r.machine.call.state ≡ None → IsUnused q.number (replay eq good.es ∷ replay eq good.es ∷ good.maps)
       unused d r now q made none = elim (cases_same d c) [
-        | inl same ↦ absurd (subst (λ (y : Tale K V). IsOneOf y.hands.made q) (ap tales same ∙ tale_same) made)
+        | inl same ↦ absurd (subst (λ (y : Tale K V). IsOneOf y.hands.call.made q) (ap tales same ∙ tale_same) made)
         | inr differ ↦
-            let u = good.unused d r (run_other d r differ now) q (subst (λ (y : Tale K V). IsOneOf y.hands.made q) (tale_other d differ) made) none in
+            let u = good.unused d r (run_other d r differ now) q (subst (λ (y : Tale K V). IsOneOf y.hands.call.made q) (tale_other d differ) made) none in
             (u.0, u)
       ]
 
@@ -590,7 +605,7 @@ module _ {K V S A : Type 0} (eq : K → K → Bool) (hash : K → ℕ) (law : Is
       is_map j = map_kept eq hash law s es tales core kept j ∙ ap (λ m. m j) (map_replayed eq (low hash) s.mode s.store.words.tables es (λ k. None))
 
       standing : (j : K) (p : Stored K V) → replay eq es j ≡ Some p → (t : ℕ) × (i : ℕ) × (named ((run es first_state).slot t i) ≡ Some p)
-      standing = held_in_slot eq (low hash) s.mode s.store.words.tables (hashed_setting eq hash law s core).lawful es kept.allowed kept.single
+      standing = held_in_slot eq (low hash) s.mode s.store.words.tables (hashed_setting eq hash law s core).lawful es kept.allowed
 
   -- at its end the maps of a run are a timeline from the core's map to the core's map
   pub good_end : (says : Says K V A) (schedule : List (Turn K V A)) (s s' : CoreState K V S A) (h : History) → IsGood eq says hash schedule s.store (map_of eq s) s' h → HasTimeline eq says schedule s h s'

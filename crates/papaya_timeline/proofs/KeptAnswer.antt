@@ -1,30 +1,44 @@
 -- An answered ask, as the law of exchanges sees it: the answer is true of the words, and the words are those that the exchanges leave.
-use Rattle.std.proofs.Common.{◌≡◌, ℕ, ◌<◌, ◌≤◌, Bool, List, [], ◌++◌, length, Option, Some, None, ◌⊎◌, inl, inr, refl, sym, ◌∙◌, ap, subst, arith, append-nil}
+use Rattle.std.proofs.Common.{◌≡◌, ℕ, ◌<◌, ◌≤◌, Bool, List, [], ◌∷◌, ◌++◌, length, Option, Some, None, ◌⊎◌, inl, inr, refl, sym, ◌∙◌, ap, subst, arith, append-nil}
 use Rattle.papaya_words.specs.Counter.{Count}
-use Rattle.papaya_words.specs.Table.{TableWords}
+use Rattle.papaya_words.specs.declared.limits.TheConstants.{MAX_LOG_LEN}
 use Rattle.papaya_words.specs.declared.probe.ResizeMode.{ResizeMode}
 use Rattle.papaya_ask.specs.declared.ask.At.{At}
 use Rattle.papaya_ask.specs.declared.ask.At.TheVariants.{Root, Next, Aborted, Done, Slot}
-use Rattle.papaya_ask.specs.declared.ask.Ask.{Ask}
+use Rattle.papaya_ask.specs.declared.ask.Ask.{Ask as Call_ask}
 use Rattle.papaya_ask.specs.declared.ask.Ask.TheVariants.{MakeTable}
-use Rattle.papaya_ask.specs.declared.ask.Answer.{Answer}
-use Rattle.papaya_ask.specs.declared.ask.Answer.TheVariants.{Made as Made_number}
-use Rattle.papaya_law.specs.Code.{Coding}
-use Rattle.papaya_law.specs.Exchange.{Setting, State, Exchange, run, start}
+use Rattle.papaya_ask.specs.declared.ask.Answer.{Answer as Call_answer}
+use Rattle.papaya_ask.specs.declared.ask.Answer.TheVariants.{Exchanged, Made as Made_number}
+use Rattle.papaya_ask.specs.declared.copy_ask.CopyAsk.TheVariants.{MakeTable as Make_next}
+use Rattle.papaya_law.specs.Code.{Coding, IsHashed}
+use Rattle.papaya_law.specs.Exchange.{Setting, State, Exchange, after as state_after, run, start}
 use Rattle.papaya_law.specs.Grows.{Comes}
 use Rattle.papaya_law.specs.Invariant.{named}
-use Rattle.papaya_call.specs.Machine.{ask_of, kind_of_ask, after}
+use Rattle.papaya_law.proofs.Moments.{run-append}
 use Rattle.papaya_rests.specs.Rests.{change_in, change_after}
-use Rattle.papaya_rests.specs.Told.{Hands, IsOneOf, IsTold, told_of, or_last, word_of}
-use Rattle.papaya_law.specs.Code.{IsHashed}
-use Rattle.papaya_rests.proofs.RestsReply.{machine_changes}
+use Rattle.papaya_rests.specs.Copier.{told_last as copy_told_last}
+use Rattle.papaya_rests.specs.Told.{Hands as Call_hands, IsOneOf, IsTold as IsCallTold, IsWritten, told_of, or_last, word_of}
+use Rattle.papaya_chain.specs.declared.ask.Ask.{Ask}
+use Rattle.papaya_chain.specs.declared.ask.Ask.TheVariants as asks
+use Rattle.papaya_chain.specs.declared.ask.Answer.{Answer}
+use Rattle.papaya_chain.specs.declared.ask.Answer.TheVariants as answers
+use Rattle.papaya_chain.specs.Machine.{ask_of, kind_of_ask, follows_of, after}
+use Rattle.papaya_chain_rests.specs.Goes.{change_by}
+use Rattle.papaya_chain_rests.specs.Rests.{Rests}
+use Rattle.papaya_chain_rests.specs.Told.{Hands, IsTold}
+use Rattle.papaya_chain_rests.proofs.Order.{in_order}
+use Rattle.papaya_chain_rests.proofs.Replies.{chain_changes}
 use Rattle.papaya_store.specs.declared.pairs.KeyOf.{KeyOf}
 use Rattle.papaya_store.specs.declared.pairs.Running.{Running}
-use Rattle.papaya_timeline.specs.Kept.{Tale, setting_of, coding_of, low}
+use Rattle.papaya_timeline.specs.Kept.{IsMade, Tale, setting_of, coding_of, low}
 use Rattle.papaya_store.specs.Performs.{key_at, own_key}
 use Rattle.papaya_store.specs.Store.{StoreState, Stored, pair_of}
-use Rattle.papaya_store.specs.Tables.{table_of, word_at}
-use Rattle.papaya_timeline.proofs.KeptTables.{HasMoreTables, grown-same}
+use Rattle.papaya_store.specs.Tables.{put, word_at}
+use Rattle.papaya_timeline.proofs.KeptTables.{HasMoreTables, IsPlaced, cases_place, grown-same, placed-grown, placed-here, placed-other}
+
+-- the pair stands in a slot
+abbrev pub Stands : {P : Type 0} → State P → P → Type 0
+Stands s p = (t : ℕ) × (x : ℕ) × (named (s.slot t x) ≡ Some p)
 
 module _ {K V S A : Type 0} (eq : K → K → Bool) (hash : K → ℕ) (mode : ResizeMode) (store : StoreState K V S) (r : Running K V A) (es : List (Exchange (Stored K V))) (tale : Tale K V) where
   -- the setting, the coding and the words as the law has them
@@ -37,40 +51,65 @@ module _ {K V S A : Type 0} (eq : K → K → Bool) (hash : K → ℕ) (mode : R
   abbrev pub words_now : State (Stored K V)
   words_now = run es start
 
+  -- what a call is told of an ask of its own, and a copy of its
+  abbrev pub Tells : K → Ask → Answer → List (Exchange (Stored K V)) → Hands (Stored K V) → Type 0
+  Tells key ask a made hands = IsTold law_setting law_coding key words_now (kind_of_ask r.machine) (follows_of r.machine) tale.hands ask a made hands
+
   -- What an answered ask leaves.
   pub record IsAnswered (key : K) (ask : Ask) (a : Answer) (store' : StoreState K V S) (later : Running K V A) : Type 0 where
     pub made : List (Exchange (Stored K V))
     pub hands : Hands (Stored K V)
-    pub told : IsTold law_setting law_coding key words_now (kind_of_ask r.machine) tale.hands ask a made hands
+    pub told : Tells key ask a made hands
     -- the logs and the tables grow
     pub keys : (at : KeyOf K) (k : K) → key_at store.keys at ≡ Some k → key_at store'.keys at ≡ Some k
     pub own : own_key store' later ≡ Some key
     pub logged : (n : ℕ) (p : Stored K V) → pair_of store n ≡ Some p → pair_of store' n ≡ Some p
     pub longer : length store.pairs ≤ length store'.pairs
+    pub few : length store.pairs ≤ MAX_LOG_LEN → length store'.pairs ≤ MAX_LOG_LEN
     pub grown : HasMoreTables store.words.tables store'.words.tables
     -- the words are those that the exchanges leave
     pub coded : (at : At) → word_of law_setting law_coding (run (es ++ made) start) at ≡ word_at store'.words at
-    pub single : (t : ℕ) → (run (es ++ made) start).next t ≡ 0
-    pub there : (t : ℕ) → 0 < t → Comes (run (es ++ made) start) t → (words : TableWords) × (table_of store.words.tables t ≡ Some words)
-    -- a pair that a slot names stood there before, or is one that the call made
-    pub slots : (t x : ℕ) (p : Stored K V) → named ((run (es ++ made) start).slot t x) ≡ Some p → (named (words_now.slot t x) ≡ Some p) ⊎ IsOneOf tale.hands.made p
-    pub unchanged : change_in (after r.machine a).state ≡ None → (change_in r.machine.state ≡ None) × ((t x : ℕ) (p : Stored K V) → named ((run (es ++ made) start).slot t x) ≡ Some p → named (words_now.slot t x) ≡ Some p)
+    pub there : (t : ℕ) → 0 < t → Comes (run (es ++ made) start) t → IsMade store t
+    -- a pair that a slot names stood in one before, or is one that the call made
+    pub slots : (t x : ℕ) (p : Stored K V) → named ((run (es ++ made) start).slot t x) ≡ Some p → Stands words_now p ⊎ IsOneOf tale.hands.call.made p
+    pub unchanged : change_in (after r.machine a).call.state ≡ None → (change_in r.machine.call.state ≡ None) × ((t x : ℕ) (p : Stored K V) → named ((run (es ++ made) start).slot t x) ≡ Some p → Stands words_now p)
     -- the pairs that the machine was told of
-    pub last : (p : Stored K V) → hands.last ≡ Some p → (tale.hands.last ≡ Some p) ⊎ ((t : ℕ) × (x : ℕ) × (named (words_now.slot t x) ≡ Some p))
-    pub new : (q : Stored K V) → IsOneOf hands.made q → IsOneOf tale.hands.made q ⊎ ((q.number ≡ length store.pairs) × (r.value ≡ Some q.value) × (pair_of store' q.number ≡ Some q))
+    pub last : (p : Stored K V) → hands.call.last ≡ Some p → (tale.hands.call.last ≡ Some p) ⊎ Stands words_now p
+    pub carried : (p : Stored K V) → hands.kept ≡ Some p → (tale.hands.kept ≡ Some p) ⊎ (tale.hands.call.last ≡ Some p)
+    pub new : (q : Stored K V) → IsOneOf hands.call.made q → IsOneOf tale.hands.call.made q ⊎ ((q.number ≡ length store.pairs) × (r.value ≡ Some q.value) × (pair_of store' q.number ≡ Some q))
     -- a table that was made is there
-    pub opens : (t slots limit : ℕ) → a ≡ Made_number t → ask ≡ MakeTable slots limit → (words : TableWords) × (table_of store'.words.tables t ≡ Some words)
+    pub opens : (t : ℕ) → a ≡ answers.Call (Made_number t) → ((slots : ℕ) × (limit : ℕ) × (ask ≡ asks.Call (MakeTable slots limit))) ⊎ ((slots : ℕ) × (limit : ℕ) × (ask ≡ asks.Copy (Make_next slots limit))) → IsMade store' t
 
-  module _ (hashed : IsHashed law_setting law_coding) (key : K) (same_hash : r.machine.hash ≡ low hash key)
+  -- What an answer without an exchange leaves of the logs: they may grow.
+  pub record HasLogs (key : K) (store' : StoreState K V S) (later : Running K V A) : Type 0 where
+    pub keys : (at : KeyOf K) (k : K) → key_at store.keys at ≡ Some k → key_at store'.keys at ≡ Some k
+    pub own : own_key store' later ≡ Some key
+    pub logged : (n : ℕ) (p : Stored K V) → pair_of store n ≡ Some p → pair_of store' n ≡ Some p
+    pub longer : length store.pairs ≤ length store'.pairs
+    pub few : length store.pairs ≤ MAX_LOG_LEN → length store'.pairs ≤ MAX_LOG_LEN
+    pub grown : HasMoreTables store.words.tables store'.words.tables
+    pub words : (at : At) → word_at store'.words at ≡ word_at store.words at
+
+  -- What it tells of pairs.
+  pub record HasHands (store' : StoreState K V S) (hands : Hands (Stored K V)) : Type 0 where
+    pub last : (p : Stored K V) → hands.call.last ≡ Some p → (tale.hands.call.last ≡ Some p) ⊎ Stands words_now p
+    pub carried : (p : Stored K V) → hands.kept ≡ Some p → (tale.hands.kept ≡ Some p) ⊎ (tale.hands.call.last ≡ Some p)
+    pub new : (q : Stored K V) → IsOneOf hands.call.made q → IsOneOf tale.hands.call.made q ⊎ ((q.number ≡ length store.pairs) × (r.value ≡ Some q.value) × (pair_of store' q.number ≡ Some q))
+
+  -- the pairs of before
+  pub same_hands : (store' : StoreState K V S) → HasHands store' tale.hands
+  same_hands store' = record { last = λ p h. inl h; carried = λ p h. inl h; new = λ q h. inl h }
+
+  module _ (hashed : IsHashed law_setting law_coding) (key : K) (rests : Rests law_setting law_coding tale.begun tale.since key r.machine tale.hands)
       (coded : (at : At) → word_of law_setting law_coding words_now at ≡ word_at store.words at)
-      (single : (t : ℕ) → words_now.next t ≡ 0)
-      (there : (t : ℕ) → 0 < t → Comes words_now t → (words : TableWords) × (table_of store.words.tables t ≡ Some words)) where
+      (there : (t : ℕ) → 0 < t → Comes words_now t → IsMade store t) where
     -- what a call has changed after its ask was answered
-    pub changed : (ask : Ask) → ask_of r.machine ≡ ask → (a : Answer) (made : List (Exchange (Stored K V))) (hands : Hands (Stored K V)) → IsTold law_setting law_coding key words_now (kind_of_ask r.machine) tale.hands ask a made hands → change_in (after r.machine a).state ≡ change_after (kind_of_ask r.machine) ask a (change_in r.machine.state)
+    pub changed : (ask : Ask) → ask_of r.machine ≡ ask → (a : Answer) (made : List (Exchange (Stored K V))) (hands : Hands (Stored K V)) → Tells key ask a made hands → change_in (after r.machine a).call.state ≡ change_by (kind_of_ask r.machine) ask a (change_in r.machine.call.state)
     changed ask e a made hands told =
-        machine_changes law_setting law_coding hashed key words_now r.machine same_hash tale.hands made hands a
-        (subst (λ y. IsTold law_setting law_coding key words_now (kind_of_ask r.machine) tale.hands y a made hands) (sym e) told)
-        ∙ ap (λ y. change_after (kind_of_ask r.machine) y a (change_in r.machine.state)) e
+        let asked : Tells key (ask_of r.machine) a made hands = subst (λ y. Tells key y a made hands) (sym e) told in
+        chain_changes law_setting law_coding key words_now r.machine tale.hands a made hands
+        (in_order law_setting law_coding tale.begun tale.since key r.machine tale.hands words_now a made hands rests asked) asked hashed rests.call.hash
+        ∙ ap (λ y. change_by (kind_of_ask r.machine) y a (change_in r.machine.call.state)) e
 
     -- the words after no exchange
     none_made : run (es ++ []) start ≡ words_now
@@ -78,66 +117,118 @@ module _ {K V S A : Type 0} (eq : K → K → Bool) (hash : K → ℕ) (mode : R
 
     -- an answer without an exchange
     pub unexchanged : (ask : Ask) → ask_of r.machine ≡ ask → (a : Answer) (store' : StoreState K V S) (later : Running K V A) (hands : Hands (Stored K V))
-        → IsTold law_setting law_coding key words_now (kind_of_ask r.machine) tale.hands ask a [] hands
-        → change_after (kind_of_ask r.machine) ask a (change_in r.machine.state) ≡ change_in r.machine.state
-        → ((at : KeyOf K) (k : K) → key_at store.keys at ≡ Some k → key_at store'.keys at ≡ Some k)
-        → own_key store' later ≡ Some key
-        → ((n : ℕ) (p : Stored K V) → pair_of store n ≡ Some p → pair_of store' n ≡ Some p)
-        → length store.pairs ≤ length store'.pairs
-        → HasMoreTables store.words.tables store'.words.tables
-        → ((at : At) → word_at store'.words at ≡ word_at store.words at)
-        → ((p : Stored K V) → hands.last ≡ Some p → (tale.hands.last ≡ Some p) ⊎ ((t : ℕ) × (x : ℕ) × (named (words_now.slot t x) ≡ Some p)))
-        → ((q : Stored K V) → IsOneOf hands.made q → IsOneOf tale.hands.made q ⊎ ((q.number ≡ length store.pairs) × (r.value ≡ Some q.value) × (pair_of store' q.number ≡ Some q)))
-        → ((t slots limit : ℕ) → a ≡ Made_number t → ask ≡ MakeTable slots limit → (words : TableWords) × (table_of store'.words.tables t ≡ Some words))
+        → Tells key ask a [] hands
+        → change_by (kind_of_ask r.machine) ask a (change_in r.machine.call.state) ≡ change_in r.machine.call.state
+        → HasLogs key store' later → HasHands store' hands
+        → ((t : ℕ) → a ≡ answers.Call (Made_number t) → ((slots : ℕ) × (limit : ℕ) × (ask ≡ asks.Call (MakeTable slots limit))) ⊎ ((slots : ℕ) × (limit : ℕ) × (ask ≡ asks.Copy (Make_next slots limit))) → IsMade store' t)
         → IsAnswered key ask a store' later
-    unexchanged ask e a store' later hands told still keys own logged longer grown words last new opens = record {
+    unexchanged ask e a store' later hands told still logs pairs opens = record {
       made = [];
       hands = hands;
       told = told;
-      keys = keys;
-      own = own;
-      logged = logged;
-      longer = longer;
-      grown = grown;
-      coded = λ at. ap (λ z. word_of law_setting law_coding z at) none_made ∙ coded at ∙ sym (words at);
-      single = λ t. ap (λ z. z.next t) none_made ∙ single t;
+      keys = logs.keys;
+      own = logs.own;
+      logged = logs.logged;
+      longer = logs.longer;
+      few = logs.few;
+      grown = logs.grown;
+      coded = λ at. ap (λ z. word_of law_setting law_coding z at) none_made ∙ coded at ∙ sym (logs.words at);
       there = λ t some comes. there t some (subst (λ z. Comes z t) none_made comes);
-      slots = λ t x p h. inl (ap (λ z. named (z.slot t x)) (sym none_made) ∙ h);
-      unchanged = λ none. (sym still ∙ sym (changed ask e a [] hands told) ∙ none, λ t x p h. ap (λ z. named (z.slot t x)) (sym none_made) ∙ h);
-      last = last;
-      new = new;
+      slots = λ t x p h. inl (t, x, ap (λ z. named (z.slot t x)) (sym none_made) ∙ h);
+      unchanged = λ none. (sym still ∙ sym (changed ask e a [] hands told) ∙ none, λ t x p h. (t, x, ap (λ z. named (z.slot t x)) (sym none_made) ∙ h));
+      last = pairs.last;
+      carried = pairs.carried;
+      new = pairs.new;
       opens = opens;
     }
 
+    -- the logs as they were, but for the count
+    pub same_logs : own_key store r ≡ Some key → (count : Count) → HasLogs key (record store { count = count }) r
+    same_logs own count = record { keys = λ at k h. h; own = own; logged = λ n p h. h; longer = omega arith; few = λ h. h; grown = grown-same store.words.tables; words = λ at. refl }
+
     -- an answer that leaves words, logs and call, but for the count
     pub quiet : own_key store r ≡ Some key → (ask : Ask) → ask_of r.machine ≡ ask → (a : Answer) (store' : StoreState K V S) (later : Running K V A) (hands : Hands (Stored K V)) (count : Count) → store' ≡ record store { count = count } → later ≡ r
-        → IsTold law_setting law_coding key words_now (kind_of_ask r.machine) tale.hands ask a [] hands
-        → change_after (kind_of_ask r.machine) ask a (change_in r.machine.state) ≡ change_in r.machine.state
-        → ((p : Stored K V) → hands.last ≡ Some p → (tale.hands.last ≡ Some p) ⊎ ((t : ℕ) × (x : ℕ) × (named (words_now.slot t x) ≡ Some p)))
-        → hands.made ≡ tale.hands.made
-        → ((t slots limit : ℕ) → a ≡ Made_number t → ask ≡ MakeTable slots limit → ⊥)
+        → Tells key ask a [] hands
+        → change_by (kind_of_ask r.machine) ask a (change_in r.machine.call.state) ≡ change_in r.machine.call.state
+        → ((p : Stored K V) → hands.call.last ≡ Some p → (tale.hands.call.last ≡ Some p) ⊎ Stands words_now p)
+        → ((p : Stored K V) → hands.kept ≡ Some p → (tale.hands.kept ≡ Some p) ⊎ (tale.hands.call.last ≡ Some p))
+        → hands.call.made ≡ tale.hands.call.made
+        → ((t : ℕ) → a ≡ answers.Call (Made_number t) → ((slots : ℕ) × (limit : ℕ) × (ask ≡ asks.Call (MakeTable slots limit))) ⊎ ((slots : ℕ) × (limit : ℕ) × (ask ≡ asks.Copy (Make_next slots limit))) → ⊥)
         → IsAnswered key ask a store' later
-    quiet own ask e a store' later hands count same_store same_call told still last made never =
+    quiet own ask e a store' later hands count same_store same_call told still last carried made never =
         subst (λ y. IsAnswered key ask a y later) (sym same_store) (subst (IsAnswered key ask a (record store { count = count })) (sym same_call)
-        (unexchanged ask e a (record store { count = count }) r hands told still (λ at k h. h) own (λ n p h. h) (omega arith) (grown-same store.words.tables) (λ at. refl) last (λ q h. inl (subst (λ l. IsOneOf l q) made h)) (λ t slots limit is asks. absurd (never t slots limit is asks))))
+        (unexchanged ask e a (record store { count = count }) r hands told still (same_logs own count)
+        (record { last = last; carried = carried; new = λ q h. inl (subst (λ l. IsOneOf l q) made h) })
+        (λ t is which. absurd (never t is which))))
 
-    -- the pair that the word at a place names
-    named_last : (last : Option (Stored K V)) (t x : ℕ) (p : Stored K V) (o : Option (Stored K V)) → named (words_now.slot t x) ≡ o → or_last o last ≡ Some p → (last ≡ Some p) ⊎ ((t : ℕ) × (x : ℕ) × (named (words_now.slot t x) ≡ Some p))
-    named_last last t x p None e h = inl h
-    named_last last t x p (Some q) e h = inr (t, x, e ∙ h)
+    -- an exchange that was made
+    pub exchanged : own_key store r ≡ Some key → (ask : Ask) → ask_of r.machine ≡ ask → (at : At) (new : ℕ) (by : Exchange (Stored K V)) (hands : Hands (Stored K V))
+        → Tells key ask (answers.Call Exchanged) (by ∷ []) hands
+        → IsPlaced store.words.tables at
+        → IsWritten law_setting law_coding words_now at new (state_after words_now by)
+        → ((t : ℕ) → 0 < t → Comes (state_after words_now by) t → IsMade store t)
+        → ((t x : ℕ) (p : Stored K V) → named ((state_after words_now by).slot t x) ≡ Some p → Stands words_now p ⊎ IsOneOf tale.hands.call.made p)
+        → (change_in (after r.machine (answers.Call Exchanged)).call.state ≡ None → (change_in r.machine.call.state ≡ None) × ((t x : ℕ) (p : Stored K V) → named ((state_after words_now by).slot t x) ≡ Some p → Stands words_now p))
+        → ((p : Stored K V) → hands.call.last ≡ Some p → (tale.hands.call.last ≡ Some p) ⊎ Stands words_now p)
+        → hands.kept ≡ tale.hands.kept → hands.call.made ≡ tale.hands.call.made
+        → IsAnswered key ask (answers.Call Exchanged) (record store { words = put store.words at new }) r
+    exchanged own ask e at new by hands told placed written comes slots unchanged last kept made =
+        let to : run (es ++ by ∷ []) start ≡ state_after words_now by = run-append es (by ∷ []) start in
+        record {
+          made = by ∷ [];
+          hands = hands;
+          told = told;
+          keys = λ k j h. h;
+          own = own;
+          logged = λ n p h. h;
+          longer = omega arith;
+          few = λ h. h;
+          grown = placed-grown store.words at new placed;
+          coded = λ other. ap (λ z. word_of law_setting law_coding z other) to ∙ written_at other;
+          there = λ t some h. comes t some (subst (λ z. Comes z t) to h);
+          slots = λ t y p h. slots t y p (ap (λ z. named (z.slot t y)) (sym to) ∙ h);
+          unchanged = λ none. let u = unchanged none in (u.0, λ t y p h. u.1 t y p (ap (λ z. named (z.slot t y)) (sym to) ∙ h));
+          last = last;
+          carried = λ p h. inl (sym kept ∙ h);
+          new = λ q h. inl (subst (λ l. IsOneOf l q) made h);
+          opens = λ t is which. absurd cc;
+        }
+      where
+        written_at : (other : At) → word_of law_setting law_coding (state_after words_now by) other ≡ word_at (put store.words at new) other
+        written_at other = elim (cases_place other at) [
+          | inl same ↦ ap (word_of law_setting law_coding (state_after words_now by)) same ∙ written.here ∙ sym (placed-here store.words at new placed) ∙ ap (word_at (put store.words at new)) (sym same)
+          | inr differ ↦ written.others other differ ∙ coded other ∙ sym (placed-other store.words at new placed other differ)
+        ]
 
-    -- the pair that a machine was told of stood in the slot that was loaded, or it was told of before
-    pub told_last : (at : At) (p : Stored K V) → (told_of words_now at tale.hands).last ≡ Some p → (tale.hands.last ≡ Some p) ⊎ ((t : ℕ) × (x : ℕ) × (named (words_now.slot t x) ≡ Some p))
-    told_last Root p h = inl h
-    told_last (Next t) p h = inl h
-    told_last (Aborted t) p h = inl h
-    told_last (Done t) p h = inl h
-    told_last (Slot t x) p h = named_last tale.hands.last t x p (named (words_now.slot t x)) refl h
+    -- what a call is told for itself, of which its copy hears nothing
+    pub own_told : (ask : Call_ask) (a : Call_answer) (made : List (Exchange (Stored K V))) (hands : Call_hands (Stored K V)) → IsCallTold law_setting law_coding key words_now (kind_of_ask r.machine) tale.hands.call ask a made hands → Tells key (asks.Call ask) (answers.Call a) made (record tale.hands { call = hands })
+    own_told ask a made hands told = record { told = a; is = refl; call = hands; tells = told; handed = refl }
 
-    -- what stands at a place says nothing of the pair that the call made
-    pub told_made : (at : At) → (told_of words_now at tale.hands).made ≡ tale.hands.made
-    told_made Root = refl
-    told_made (Next t) = refl
-    told_made (Aborted t) = refl
-    told_made (Done t) = refl
-    told_made (Slot t x) = refl
+  -- the pair that the word at a place names
+  named_last : (last : Option (Stored K V)) (t x : ℕ) (p : Stored K V) (o : Option (Stored K V)) → named (words_now.slot t x) ≡ o → or_last o last ≡ Some p → (last ≡ Some p) ⊎ Stands words_now p
+  named_last last t x p None e h = inl h
+  named_last last t x p (Some q) e h = inr (t, x, e ∙ h)
+
+  -- the pair that a machine was told of stood in the slot that was loaded, or it was told of before
+  pub told_last : (at : At) (p : Stored K V) → (told_of words_now at tale.hands.call).last ≡ Some p → (tale.hands.call.last ≡ Some p) ⊎ Stands words_now p
+  told_last Root p h = inl h
+  told_last (Next t) p h = inl h
+  told_last (Aborted t) p h = inl h
+  told_last (Done t) p h = inl h
+  told_last (Slot t x) p h = named_last tale.hands.call.last t x p (named (words_now.slot t x)) refl h
+
+  -- and so it is for a copier
+  pub copy_last : (at : At) (p : Stored K V) → copy_told_last words_now at tale.hands.call.last ≡ Some p → (tale.hands.call.last ≡ Some p) ⊎ Stands words_now p
+  copy_last Root p h = inl h
+  copy_last (Next t) p h = inl h
+  copy_last (Aborted t) p h = inl h
+  copy_last (Done t) p h = inl h
+  copy_last (Slot t x) p h = named_last tale.hands.call.last t x p (named (words_now.slot t x)) refl h
+
+  -- what stands at a place says nothing of the pair that the call made
+  pub told_made : (at : At) → (told_of words_now at tale.hands.call).made ≡ tale.hands.call.made
+  told_made Root = refl
+  told_made (Next t) = refl
+  told_made (Aborted t) = refl
+  told_made (Done t) = refl
+  told_made (Slot t x) = refl

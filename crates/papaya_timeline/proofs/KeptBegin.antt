@@ -1,6 +1,8 @@
 -- A begin keeps a core's words to the law of exchanges, as a new core does.
-use Rattle.std.proofs.Common.{◌≡◌, ◌≢◌, ℕ, zero, suc, ◌-◌, ◌==◌, ◌<◌, ◌^◌, Bool, true, false, cond, max, List, [], ◌∷◌, Some, None, inl, inr, refl, sym, ◌∙◌, ap, subst, arith, append-nil, eq-eqb, mod-eq_of_lt, slice_get, slice_index}
+use Rattle.std.proofs.Common.{◌≡◌, ◌≢◌, ℕ, zero, suc, ◌-◌, ◌==◌, ◌<◌, ◌≤◌, ◌^◌, Bool, true, false, cond, max, List, [], ◌∷◌, length, Some, None, inl, inr, refl, sym, ◌∙◌, ap, subst, arith, append-nil, eq-eqb, mod-eq_of_lt, slice_get, slice_index}
 use Rattle.papaya_words.specs.Table.{TableWords, new_table}
+use Rattle.papaya_words.specs.Mode.{IsChunked}
+use Rattle.papaya_words.specs.declared.limits.TheConstants.{MAX_LOG_LEN}
 use Rattle.papaya_words.specs.declared.probe.ResizeMode.{ResizeMode}
 use Rattle.papaya_words.specs.declared.probe.ResizeMode.TheVariants.{Incremental, Blocking}
 use Rattle.papaya_ask.specs.declared.ask.At.{At}
@@ -8,7 +10,9 @@ use Rattle.papaya_ask.specs.declared.ask.At.TheVariants.{Root, Next, Aborted, Do
 use Rattle.papaya_ask.specs.declared.call.Call.{Call}
 use Rattle.papaya_law.specs.Exchange.{Exchange, Open, run, start}
 use Rattle.papaya_rests.specs.Rests.{IsModeOf}
-use Rattle.papaya_rests.specs.Told.{IsOneOf, no_hands, word_of}
+use Rattle.papaya_rests.specs.Told.{IsOneOf, word_of}
+use Rattle.papaya_chain_rests.specs.Told.{no_hands}
+use Rattle.papaya_store.specs.declared.pairs.Pair.{Pair}
 use Rattle.papaya_store.specs.declared.pairs.Running.{Running}
 use Rattle.papaya_timeline.specs.declared.seat.Seat.{Seat}
 use Rattle.papaya_timeline.specs.Begins.{begun, key_of_call}
@@ -37,7 +41,7 @@ no_words (Done n) = elim (n == 0) as (λ b. 0 ≡ word_in (λ t. t.done) (cond b
 no_words (Slot n i) = elim (n == 0) as (λ b. 0 ≡ word_in (λ t. slice_index t.slots i) (cond b None (slice_get {X = TableWords} [] (n - 1)))) [ true ↦ refl | false ↦ refl ]
 
 module _ {K V S A : Type 0} (eq : K → K → Bool) (hash : K → ℕ) where
-  module _ (s : CoreState K V S A) (caller : ℕ) (call : Call K V A) (fits : hash (key_of_call call) < 2 ^ 64) (es : List (Exchange (Stored K V))) (tales : ℕ → Tale K V) (kept : IsKept eq hash s.mode s.store s.callers es tales) where
+  module _ (s : CoreState K V S A) (caller : ℕ) (call : Call K V A) (fits : hash (key_of_call call) < 2 ^ 64) (chunked : IsChunked s.mode) (es : List (Exchange (Stored K V))) (tales : ℕ → Tale K V) (kept : IsKept eq hash s.mode s.store s.callers es tales) where
     -- the call as it begins, what is told of it, and the callers then
     abbrev r : Running K V A
     r = begun hash s.mode s.initial call
@@ -61,10 +65,16 @@ module _ {K V S A : Type 0} (eq : K → K → Bool) (hash : K → ℕ) where
       own = refl;
       answers = begun_answers call;
       split = append-nil es;
-      rests = record { hash = sym (mod-eq_of_lt fits); mode = mode_of s.mode; made = record { keys = λ q l. absurd l; made_is = tt; fill_is = tt; choice_is = tt }; stage = tt };
+      rests = record {
+        chunked = chunked;
+        call = record { hash = sym (mod-eq_of_lt fits); mode = mode_of s.mode; made = record { keys = λ q l. absurd l; made_is = tt; fill_is = tt; choice_is = tt }; stage = tt };
+        phase = tt;
+      };
       last = λ p l. absurd cc;
+      carried = λ p l. absurd cc;
       made = λ p l. absurd l;
       opens = λ t l. absurd cc;
+      links = λ behind t l. absurd cc;
       unwritten = λ p l. absurd l;
     }
 
@@ -91,33 +101,36 @@ module _ {K V S A : Type 0} (eq : K → K → Bool) (hash : K → ℕ) where
     ]
 
     -- no two calls have made one pair
-    apart : (d e : ℕ) (q q' : Running K V A) → running callers' d ≡ Some q → running callers' e ≡ Some q' → d ≢ e → (p p' : Stored K V) → IsOneOf (tales' d).hands.made p → IsOneOf (tales' e).hands.made p' → p.number ≢ p'.number
+    apart : (d e : ℕ) (q q' : Running K V A) → running callers' d ≡ Some q → running callers' e ≡ Some q' → d ≢ e → (p p' : Stored K V) → IsOneOf (tales' d).hands.call.made p → IsOneOf (tales' e).hands.call.made p' → p.number ≢ p'.number
     apart d e q q' runs_d runs_e differ p p' made_d made_e = elim (cases_same d caller) [
-      | inl begins ↦ absurd (subst (λ (y : Tale K V). IsOneOf y.hands.made p) (sym (new_is d begins)) made_d)
+      | inl begins ↦ absurd (subst (λ (y : Tale K V). IsOneOf y.hands.call.made p) (sym (new_is d begins)) made_d)
       | inr d_not ↦ elim (cases_same e caller) [
-        | inl begins ↦ absurd (subst (λ (y : Tale K V). IsOneOf y.hands.made p') (sym (new_is e begins)) made_e)
-        | inr e_not ↦ kept.apart d e q q' (other_runs d q d_not runs_d) (other_runs e q' e_not runs_e) differ p p' (subst (λ (y : Tale K V). IsOneOf y.hands.made p) (sym (other_is d d_not)) made_d) (subst (λ (y : Tale K V). IsOneOf y.hands.made p') (sym (other_is e e_not)) made_e)
+        | inl begins ↦ absurd (subst (λ (y : Tale K V). IsOneOf y.hands.call.made p') (sym (new_is e begins)) made_e)
+        | inr e_not ↦ kept.apart d e q q' (other_runs d q d_not runs_d) (other_runs e q' e_not runs_e) differ p p' (subst (λ (y : Tale K V). IsOneOf y.hands.call.made p) (sym (other_is d d_not)) made_d) (subst (λ (y : Tale K V). IsOneOf y.hands.call.made p') (sym (other_is e e_not)) made_e)
       ]
     ]
 
     -- the core after the begin
     pub begin_kept : IsKept eq hash s.mode s.store callers' es tales'
-    begin_kept = record { allowed = kept.allowed; coded = kept.coded; single = kept.single; made = kept.made; logged = kept.logged; calls = calls; apart = apart }
+    begin_kept = record { allowed = kept.allowed; coded = kept.coded; made = kept.made; logged = kept.logged; few = kept.few; calls = calls; apart = apart }
 
 module _ {K V S : Type 0} (A : Type 0) (eq : K → K → Bool) (hash : K → ℕ) where
-  module _ (mode : ResizeMode) (store : StoreState K V S) (tales : ℕ → Tale K V) where
+  module _ (mode : ResizeMode) (store : StoreState K V S) (pairs : store.pairs ≡ []) (tales : ℕ → Tale K V) where
     -- a core with these words, in which nobody called yet
     abbrev IsFresh : Tables → List (Exchange (Stored K V)) → Type 0
     IsFresh words es = IsKept {A = A} eq hash mode (record store { words = words }) [] es tales
+
+    few : length store.pairs ≤ MAX_LOG_LEN
+    few = subst (λ (l : List (Pair V)). length l ≤ MAX_LOG_LEN) (sym pairs) (omega arith)
 
     -- without a table nothing was exchanged
     empty_kept : IsFresh (record { root = 0; tables = [] }) []
     empty_kept = record {
       allowed = tt;
       coded = coded;
-      single = λ t. refl;
       made = λ t some comes. absurd (elim comes [ inl first ↦ (let f : 0 ≡ t = first in omega arith) | inr (u, next) ↦ (let f : 0 ≡ t = next in omega arith) ]);
       logged = λ t x p l. absurd cc;
+      few = few;
       calls = λ d q l. absurd cc;
       apart = λ d e q q' l. absurd cc;
     }
@@ -134,12 +147,12 @@ module _ {K V S : Type 0} (A : Type 0) (eq : K → K → Bool) (hash : K → ℕ
     opened_kept len limit = record {
       allowed = ((refl, omega arith), tt);
       coded = coded;
-      single = λ t. refl;
       made = λ t some comes. elim comes [
         | inl first ↦ (new_table 1 len limit, subst (λ y. table_of (new_table 1 len limit ∷ []) y ≡ Some (new_table 1 len limit)) first refl)
         | inr (u, next) ↦ absurd (let f : 0 ≡ t = next in omega arith)
       ];
       logged = λ t x p l. absurd cc;
+      few = few;
       calls = λ d q l. absurd cc;
       apart = λ d e q q' l. absurd cc;
     }

@@ -1,14 +1,18 @@
 -- A call with a closure has its answers as long as it is under way.
-use Rattle.std.proofs.Common.{◌≡◌, Bool, Option, Some, ◌⊎◌, inl, inr, refl, ◌∙◌, ap}
+use Rattle.std.proofs.Common.{◌≡◌, ℕ, Bool, Option, Some, ◌⊎◌, inl, inr, refl, ◌∙◌, ap}
 use Rattle.papaya_call.specs.Answers.{Says}
-use Rattle.papaya_ask.specs.declared.ask.Ask.{Ask}
+use Rattle.papaya_ask.specs.declared.ask.Ask.{Ask as Call_ask}
 use Rattle.papaya_ask.specs.declared.ask.Ask.TheVariants.{Load, Exchange, SameKey, ShowNone, ShowPair, SizeOf, MakeKey, MakePair, MakeTable, AddToShard, Done as Ask_done}
-use Rattle.papaya_ask.specs.declared.ask.Answer.{Answer}
+use Rattle.papaya_ask.specs.declared.ask.Answer.{Answer as Call_answer}
 use Rattle.papaya_ask.specs.declared.call.Call.{Call}
 use Rattle.papaya_ask.specs.declared.call.Call.TheVariants.{Get, Insert, TryInsert, RemoveIf, Compute}
 use Rattle.papaya_call.specs.Machine.{HasClosure}
+use Rattle.papaya_chain.specs.declared.ask.Ask.{Ask}
+use Rattle.papaya_chain.specs.declared.ask.Ask.TheVariants as asks
+use Rattle.papaya_chain.specs.declared.ask.Answer.{Answer}
 use Rattle.papaya_store.specs.declared.pairs.Running.{Running}
 use Rattle.papaya_timeline.specs.Begins.{answers_of_call, task_of_call}
+use Rattle.papaya_store.specs.Asks.{PerformsAsk}
 use Rattle.papaya_store.specs.Performs.{Performs, Stays, LogsKey, LogsPair}
 use Rattle.papaya_store.specs.Store.{StoreState}
 use Rattle.papaya_timeline.proofs.ShowLemmas.{IsShowing, none_shown, pair_shown}
@@ -33,31 +37,37 @@ module _ {K V A : Type 0} where
 
 module _ {K V S A : Type 0} where
   -- a closure that was shown something has answers left
-  shown_answers : (s : StoreState K V S) (r : Running K V A) (a : Answer) (s' : StoreState K V S) (r' : Running K V A) → IsShowing s r a s' r' → HasAnswers r.answers → HasAnswers r'.answers
+  shown_answers : (s : StoreState K V S) (r : Running K V A) (a : Call_answer) (s' : StoreState K V S) (r' : Running K V A) → IsShowing s r a s' r' → HasAnswers r.answers → HasAnswers r'.answers
   shown_answers s r a s' r' shown has = elim shown.call [ inl same ↦ same_call r r' has same | inr (v, x, later) ↦ (x, ap (λ (y : Running K V A). y.answers) later) ]
 
   -- a call whose key or pair was logged keeps them
-  key_logged : (s : StoreState K V S) (r : Running K V A) (a : Answer) (s' : StoreState K V S) (r' : Running K V A) (Not Has : Type 0) → HasAnswers r.answers → (Not × Stays s r s' r') ⊎ (Has × Stays s r s' r') ⊎ LogsKey a s r s' r' → HasAnswers r'.answers
+  key_logged : (s : StoreState K V S) (r : Running K V A) (a : Call_answer) (s' : StoreState K V S) (r' : Running K V A) (Not Has : Type 0) → HasAnswers r.answers → (Not × Stays s r s' r') ⊎ (Has × Stays s r s' r') ⊎ LogsKey a s r s' r' → HasAnswers r'.answers
   key_logged s r a s' r' Not Has has (inl h) = same_call r r' has h.1.1
   key_logged s r a s' r' Not Has has (inr (inl h)) = same_call r r' has h.1.1
   key_logged s r a s' r' Not Has has (inr (inr (k, was, is, few, grown, moved))) = (has.0, ap (λ (y : Running K V A). y.answers) moved ∙ has.1)
 
-  pair_logged : (s : StoreState K V S) (r : Running K V A) (a : Answer) (s' : StoreState K V S) (r' : Running K V A) (Not Has : Type 0) → HasAnswers r.answers → (Not × Stays s r s' r') ⊎ (Has × Stays s r s' r') ⊎ LogsPair a s r s' r' → HasAnswers r'.answers
+  pair_logged : (s : StoreState K V S) (r : Running K V A) (a : Call_answer) (s' : StoreState K V S) (r' : Running K V A) (Not Has : Type 0) → HasAnswers r.answers → (Not × Stays s r s' r') ⊎ (Has × Stays s r s' r') ⊎ LogsPair a s r s' r' → HasAnswers r'.answers
   pair_logged s r a s' r' Not Has has (inl h) = same_call r r' has h.1.1
   pair_logged s r a s' r' Not Has has (inr (inl h)) = same_call r r' has h.1.1
   pair_logged s r a s' r' Not Has has (inr (inr (n, v, was, value, is, few, grown, moved))) = (has.0, ap (λ (y : Running K V A). y.answers) moved ∙ has.1)
 
 module _ {K V S A : Type 0} (eq : K → K → Bool) (says : Says K V A) where
   -- whatever was asked
-  pub answers_performed : (refuse : Bool) (ask : Ask) (s : StoreState K V S) (r : Running K V A) (a : Answer) (s' : StoreState K V S) (r' : Running K V A) → Performs eq says refuse ask s r a s' r' → HasAnswers r.answers → HasAnswers r'.answers
+  pub answers_performed : (refuse : Bool) (ask : Call_ask) (s : StoreState K V S) (r : Running K V A) (a : Call_answer) (s' : StoreState K V S) (r' : Running K V A) → Performs eq says refuse ask s r a s' r' → HasAnswers r.answers → HasAnswers r'.answers
   answers_performed refuse (Load at) s r a s' r' h has = same_call r r' has h.1.1
   answers_performed refuse (Exchange at old new) s r a s' r' h has = same_call r r' has h.1
   answers_performed refuse (SameKey n) s r a s' r' h has = same_call r r' has h.1.1
   answers_performed refuse ShowNone s r a s' r' h has = shown_answers s r a s' r' (none_shown says s r a s' r' h) has
-  answers_performed refuse (ShowPair n) s r a s' r' h has = shown_answers s r a s' r' (pair_shown says r.machine.task n s r a s' r' h) has
+  answers_performed refuse (ShowPair n) s r a s' r' h has = shown_answers s r a s' r' (pair_shown says r.machine.call.task n s r a s' r' h) has
   answers_performed refuse (SizeOf n) s r a s' r' h has = same_call r r' has h.1.1
   answers_performed refuse MakeKey s r a s' r' h has = matched (HasAnswers r'.answers) refuse _ _ h (λ _ none. same_call r r' has none.1.1) (λ _ makes. key_logged s r a s' r' _ _ has makes)
   answers_performed refuse MakePair s r a s' r' h has = matched (HasAnswers r'.answers) refuse _ _ h (λ _ none. same_call r r' has none.1.1) (λ _ makes. pair_logged s r a s' r' _ _ has makes)
   answers_performed refuse (MakeTable slots limit) s r a s' r' h has = matched (HasAnswers r'.answers) refuse _ _ h (λ _ none. same_call r r' has none.1.1) (λ _ makes. same_call r r' has makes.1)
   answers_performed refuse (AddToShard by) s r a s' r' h has = same_call r r' has h.2
   answers_performed refuse (Ask_done reply) s r a s' r' h has = same_call r r' has h.1.1
+
+module _ {K V S A : Type 0} (eq : K → K → Bool) (says : Says K V A) (hash : S → K → ℕ) where
+  -- and whatever was asked for its copy
+  pub answers_asked : (refuse : Bool) (ask : Ask) (s : StoreState K V S) (r : Running K V A) (a : Answer) (s' : StoreState K V S) (r' : Running K V A) → PerformsAsk eq says hash refuse ask s r a s' r' → HasAnswers r.answers → HasAnswers r'.answers
+  answers_asked refuse (asks.Call ask) s r a s' r' (told, is, h) has = answers_performed eq says refuse ask s r told s' r' h has
+  answers_asked refuse (asks.Copy ask) s r a s' r' (h, same) has = same_call r r' has same

@@ -10,6 +10,7 @@ use Rattle.papaya_ask.specs.declared.ask.Answer.TheVariants.{Exchanged, Found as
 use Rattle.papaya_ask.specs.declared.call.Call.{Call}
 use Rattle.papaya_ask.specs.declared.call.Reply.{Reply}
 use Rattle.papaya_chain.specs.declared.ask.Ask.{Ask}
+use Rattle.papaya_chain.specs.declared.ask.Ask.TheVariants as asks
 use Rattle.papaya_chain.specs.declared.ask.Answer.{Answer}
 use Rattle.papaya_chain.specs.Machine.{after, ask_of, kind_of_ask}
 use Rattle.papaya_chain_rests.specs.Goes.{IsCause}
@@ -23,19 +24,73 @@ use Rattle.papaya_timeline.specs.Advances.{Advances, event_of, goes_on, reply_in
 use Rattle.papaya_timeline.specs.Begins.{Begins, key_of_call}
 use Rattle.papaya_timeline.specs.Callers.{running, with_call}
 use Rattle.papaya_timeline.specs.Core.{CoreState, IsCore}
-use Rattle.papaya_timeline.specs.Kept.{IsKept, IsLawfulCore, Tale}
+use Rattle.papaya_timeline.specs.Kept.{IsKept, IsLawfulCore, Tale, coding_of, low, setting_of}
+use Rattle.papaya_ask.specs.declared.copy_ask.CopyAsk.{CopyAsk}
+use Rattle.papaya_ask.specs.declared.copy_ask.CopyAsk.TheVariants as copies
 use Rattle.papaya_store.specs.Asks.{PerformsAsk}
+use Rattle.papaya_store.specs.Copies.{PerformsCopy}
 use Rattle.papaya_store.specs.New.{HasCapacity}
 use Rattle.papaya_store.specs.Performs.{Performs, Stays}
 use Rattle.papaya_store.specs.Store.{StoreState}
 use Rattle.papaya_keys.specs.Hashes.{hash_of}
 use Rattle.papaya_store.specs.Tables.{put, word_at}
+use Rattle.papaya_law.specs.Exchange.{run, start}
+use Rattle.papaya_chain_rests.proofs.Order.{in_order}
+use Rattle.papaya_chain_rests.proofs.Refusals.{chain_refused}
+use Rattle.papaya_timeline.proofs.CoreLemmas.{reply_asked}
 use Rattle.papaya_timeline.proofs.KeptLemmas.{IsLawfulKeys, kept_begin, kept_new, kept_step}
+use Rattle.papaya_timeline.proofs.KeptStep as kept_steps
+use Rattle.papaya_timeline.proofs.ShowLemmas.{none_shown, pair_shown}
+use Rattle.papaya_timeline.proofs.StoreLemmas.{matched}
+
+module _ {K V S A : Type 0} (eq : K → K → Bool) (says : Says K V A) where
+  -- a step keeps the hasher
+  stays-hasher : (s : StoreState K V S) (r : Running K V A) (s' : StoreState K V S) (r' : Running K V A) → Stays s r s' r' → s'.hasher ≡ s.hasher
+  stays-hasher s r s' r' stays = ap (λ (y : StoreState K V S). y.hasher) stays.0
+
+  -- an answered ask keeps it
+  call-hasher : (refuse : Bool) (ask : call_asks.Ask) (s : StoreState K V S) (r : Running K V A) (a : call_answers.Answer) (s' : StoreState K V S) (r' : Running K V A) → Performs eq says refuse ask s r a s' r' → s'.hasher ≡ s.hasher
+  call-hasher refuse (Load at) s r a s' r' (e, stays) = stays-hasher s r s' r' stays
+  call-hasher refuse (Ask_exchange at old new) s r a s' r' (h, moved) =
+      matched (s'.hasher ≡ s.hasher) (word_at s.words at == old) ((a ≡ Exchanged) × (s' ≡ record s { words = put s.words at new })) ((a ≡ Found_instead (word_at s.words at)) × (s' ≡ s)) h
+      (λ _ done. ap (λ (y : StoreState K V S). y.hasher) done.1) (λ _ lost. ap (λ (y : StoreState K V S). y.hasher) lost.1)
+  call-hasher refuse (SameKey n) s r a s' r' (e, stays) = stays-hasher s r s' r' stays
+  call-hasher refuse ShowNone s r a s' r' h = ap (λ (y : StoreState K V S). y.hasher) (none_shown says s r a s' r' h).store
+  call-hasher refuse (ShowPair n) s r a s' r' h = ap (λ (y : StoreState K V S). y.hasher) (pair_shown says r.machine.call.task n s r a s' r' h).store
+  call-hasher refuse (SizeOf n) s r a s' r' (e, stays) = stays-hasher s r s' r' stays
+  call-hasher refuse MakeKey s r a s' r' h =
+      matched (s'.hasher ≡ s.hasher) refuse _ _ h (λ _ none. stays-hasher s r s' r' none.1)
+      (λ _ makes. elim makes [ inl refused ↦ stays-hasher s r s' r' refused.1 | inr others ↦ elim others [ inl has ↦ stays-hasher s r s' r' has.1 | inr (k, own, is, few, same, moved) ↦ ap (λ (y : StoreState K V S). y.hasher) same ] ])
+  call-hasher refuse MakePair s r a s' r' h =
+      matched (s'.hasher ≡ s.hasher) refuse _ _ h (λ _ none. stays-hasher s r s' r' none.1)
+      (λ _ makes. elim makes [ inl refused ↦ stays-hasher s r s' r' refused.1 | inr others ↦ elim others [ inl has ↦ stays-hasher s r s' r' has.1 | inr (n, v, key, value, is, few, same, moved) ↦ ap (λ (y : StoreState K V S). y.hasher) same ] ])
+  call-hasher refuse (MakeTable slots limit) s r a s' r' h =
+      matched (s'.hasher ≡ s.hasher) refuse _ _ h (λ _ none. stays-hasher s r s' r' none.1)
+      (λ _ makes. elim makes.0 [ inl refused ↦ ap (λ (y : StoreState K V S). y.hasher) refused.1 | inr (is, few, same) ↦ ap (λ (y : StoreState K V S). y.hasher) same ])
+  call-hasher refuse (AddToShard by) s r a s' r' (e, (number, same), moved) = ap (λ (y : StoreState K V S). y.hasher) same
+  call-hasher refuse (Ask_done reply) s r a s' r' (e, stays) = stays-hasher s r s' r' stays
+
+module _ {K V S : Type 0} (eq : K → K → Bool) (hash : S → K → ℕ) where
+  -- and so does one of a copier
+  copy-hasher : (refuse : Bool) (ask : CopyAsk) (s : StoreState K V S) (a : Answer) (s' : StoreState K V S) → PerformsCopy eq hash refuse ask s a s' → s'.hasher ≡ s.hasher
+  copy-hasher refuse (copies.Load at) s a s' (is, same) = ap (λ (y : StoreState K V S). y.hasher) same
+  copy-hasher refuse (copies.Exchange at old new) s a s' (told, is, h) =
+      matched (s'.hasher ≡ s.hasher) (word_at s.words at == old) _ _ h
+      (λ _ done. ap (λ (y : StoreState K V S). y.hasher) done.1) (λ _ lost. ap (λ (y : StoreState K V S). y.hasher) lost.1)
+  copy-hasher refuse (copies.SizeOf n) s a s' (is, same) = ap (λ (y : StoreState K V S). y.hasher) same
+  copy-hasher refuse (copies.HashOf n) s a s' (is, hashed, same) = ap (λ (y : StoreState K V S). y.hasher) same
+  copy-hasher refuse (copies.SamePair m n) s a s' (is, same) = ap (λ (y : StoreState K V S). y.hasher) same
+  copy-hasher refuse copies.Count s a s' (is, same) = ap (λ (y : StoreState K V S). y.hasher) same
+  copy-hasher refuse (copies.MakeTable slots limit) s a s' (told, is, h) =
+      matched (s'.hasher ≡ s.hasher) refuse _ _ h
+      (λ _ none. ap (λ (y : StoreState K V S). y.hasher) none.1)
+      (λ _ makes. elim makes [ inl refused ↦ ap (λ (y : StoreState K V S). y.hasher) refused.1 | inr (is, few, same) ↦ ap (λ (y : StoreState K V S). y.hasher) same ])
 
 module _ {K V S A : Type 0} (eq : K → K → Bool) (says : Says K V A) (hash : S → K → ℕ) where
-  -- an answered ask keeps the hasher
+  -- whoever asked
   pub performs-hasher : (refuse : Bool) (ask : Ask) (s : StoreState K V S) (r : Running K V A) (a : Answer) (s' : StoreState K V S) (r' : Running K V A) → PerformsAsk eq says hash refuse ask s r a s' r' → s'.hasher ≡ s.hasher
-  performs-hasher = ?
+  performs-hasher refuse (asks.Call ask) s r a s' r' (told, is, h) = call-hasher eq says refuse ask s r told s' r' h
+  performs-hasher refuse (asks.Copy ask) s r a s' r' (h, same) = copy-hasher eq hash refuse ask s a s' h
 
 -- equal keys make the same writes, so they hash alike
 pub keys_lawful : {K S H : Type 0} (eq : K → K → Bool) (input : K → List (List ℕ)) (build : S → H) (write : H → List ℕ → H) (finish : H → ℕ) → IsEquivalence eq → ((x y : K) → eq x y ≡ true → input x ≡ input y) → (hasher : S) → IsLawfulKeys eq (hash_of input build write finish hasher)
@@ -70,13 +125,22 @@ module _ {K V S A H : Type 0} (eq : K → K → Bool) (input : K → List (List 
       record { core = core; law = subst (λ h. (es : _) × ((tales : _) × IsKept eq (hash_of input build write finish h) s'.mode s'.store s'.callers es tales)) same (es ++ step.made, (_, step.kept)) }
 
   -- a call that goes on is refused for a cause
-  pub lawful_caused : {says : Says K V A} (refuse : Bool) (s : CoreState K V S A) → Lawful s → (caller : ℕ) (r : Running K V A) → running s.callers caller ≡ Some r → (answer : Answer) (store' : StoreState K V S) (later : Running K V A) → PerformsAsk eq says (hash_of input build write finish) refuse (ask_of r.machine) s.store r answer store' later → (refused : Refused) → reply_in (ask_of (after r.machine answer)) ≡ Some (Reply_refused refused) → IsCause r.machine answer refused
-  lawful_caused = ?
+  pub lawful_caused : (says : Says K V A) (refuse : Bool) (s : CoreState K V S A) → Lawful s → (caller : ℕ) (r : Running K V A) → running s.callers caller ≡ Some r → (answer : Answer) (store' : StoreState K V S) (later : Running K V A) → PerformsAsk eq says (hash_of input build write finish) refuse (ask_of r.machine) s.store r answer store' later → (refused : Refused) → reply_in (ask_of (after r.machine answer)) ≡ Some (Reply_refused refused) → IsCause r.machine answer refused
+  lawful_caused says refuse s lawful caller r was answer store' later performs refused e =
+      let (es, (tales, kept)) = lawful.law in
+      let hashed = hash_of input build write finish s.store.hasher in
+      let left = kept_steps.left eq hashed (keys_lawful eq input build write finish classes respects s.store.hasher) says (hash_of input build write finish) refuse s caller (record { store = store'; callers = s.callers; mode = s.mode; initial = s.initial }) r answer later was performs refl refl es tales lawful.core kept in
+      let call = kept.calls caller r was in
+      let g = setting_of eq (low hashed) s.mode s.store.words.tables in
+      let c = coding_of (low hashed) in
+      chain_refused g c call.key (run es start) r.machine answer refused (tales caller).hands left.made left.hands left.told
+      (in_order g c (tales caller).begun (tales caller).since call.key r.machine (tales caller).hands (run es start) answer left.made left.hands call.rests left.told)
+      (lawful.core.going caller r was) (reply_asked (ask_of (after r.machine answer)) (Reply_refused refused) e)
 
   -- the same of what the code has: the store and the callers after it
   pub stepped_lawful : (says : Says K V A) (refuse : Bool) (s : CoreState K V S A) (caller : ℕ) (store' : StoreState K V S) (callers' : List (Seat K V A)) (before : Running K V A) (a : Answer) (later : Running K V A) → running s.callers caller ≡ Some before → PerformsAsk eq says (hash_of input build write finish) refuse (ask_of before.machine) s.store before a store' later → later.machine ≡ before.machine
       → callers' ≡ with_call s.callers caller (goes_on (reply_in (ask_of (after before.machine a))) (record later { machine = after before.machine a })) → IsCore store' callers' s.mode → Lawful s → IsLawfulCore eq (hash_of input build write finish store'.hasher) store' callers' s.mode
   stepped_lawful says refuse s caller store' callers' before a later was performs machine callers core lawful =
       step_lawful {says = says} refuse s caller (record { store = store'; callers = callers'; mode = s.mode; initial = s.initial }) (event_of (kind_of_ask before.machine) (ask_of before.machine) a) (reply_in (ask_of (after before.machine a)))
-      (record { before = before; was = was; answer = a; later = later; performs = performs; machine = machine; event_is = refl; reply_is = refl; callers = callers; mode = refl; initial = refl; cause = λ refused e. lawful_caused {says = says} refuse s lawful caller before was a store' later performs refused e })
+      (record { before = before; was = was; answer = a; later = later; performs = performs; machine = machine; event_is = refl; reply_is = refl; callers = callers; mode = refl; initial = refl; cause = λ refused e. lawful_caused says refuse s lawful caller before was a store' later performs refused e })
       core lawful

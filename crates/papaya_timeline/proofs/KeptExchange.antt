@@ -1,16 +1,20 @@
--- What an exchange that a machine asked for changes.
+-- What an exchange changes that a machine asked for, of the call itself or of its copy.
 use Rattle.std.proofs.Common.{◌≡◌, ℕ, ◌==◌, ◌&&◌, Bool, true, false, cond, Option, None, Some, ◌⊎◌, inl, inr, refl, sym, ◌∙◌, ap, subst, eqb-true}
+use Rattle.std.proofs.lemmas.Bool.{cond_both}
 use Rattle.papaya_ask.specs.declared.ask.At.{At}
-use Rattle.papaya_ask.specs.declared.ask.At.TheVariants.{Root, Slot}
+use Rattle.papaya_ask.specs.declared.ask.At.TheVariants.{Root, Next, Aborted, Done, Slot}
 use Rattle.papaya_ask.specs.declared.ask.StepKind.{StepKind}
 use Rattle.papaya_ask.specs.declared.ask.StepKind.TheVariants as kinds
 use Rattle.papaya_law.specs.Allows.{Allows}
 use Rattle.papaya_law.specs.Code.{Coding}
-use Rattle.papaya_law.specs.Exchange.{Setting, Word, Live, Buried, State, Exchange, Open, after}
+use Rattle.papaya_law.specs.Copying.{IsCopied}
+use Rattle.papaya_law.specs.Exchange.{Setting, Word, Empty, Closed, Live, Marked, Copied, Buried, State, Exchange, Open, Link, Mark, Close, Place, Finish, Advance, Promote, Abort, after}
 use Rattle.papaya_law.specs.Grows.{Comes}
 use Rattle.papaya_law.specs.Invariant.{named}
+use Rattle.papaya_rests.specs.Copier.{IsCopyAsked, last_after}
 use Rattle.papaya_rests.specs.Rests.{change_of_kind}
 use Rattle.papaya_rests.specs.Told.{Hands, IsAsked, IsOneOf}
+use Rattle.papaya_timeline.proofs.KeptAnswer.{Stands}
 
 -- two tests are both met
 both : (a b : Bool) → (a && b) ≡ true → (a ≡ true) × (b ≡ true)
@@ -22,30 +26,28 @@ pub root_empty : {K P : Type 0} (g : Setting K P) (c : Coding K P) (s : State P)
 root_empty g c s hands new (Some kinds.Open) e is allows = (subst (Allows g s) is allows).0
 root_empty g c s hands new _ e h allows = absurd h
 
+module _ {P : Type 0} (s : State P) where
+  -- a slot after a word was put into one that names nothing, or a pair that stood somewhere
+  put_stood : (t x : ℕ) (w : Word P) → ((p : P) → named w ≡ Some p → Stands s p) → (u y : ℕ) (p : P) (b : Bool) → named (cond b w (s.slot u y)) ≡ Some p → Stands s p
+  put_stood t x w stood u y p true e = stood p e
+  put_stood t x w stood u y p false e = (u, y, e)
+
 module _ {P : Type 0} (s : State P) (hands : Hands P) (new : ℕ) where
-  -- The tables that have come are those of before, and the one that was opened; a pair that a slot names stood there before, or is one that the call made. Where it changes no pair of the map, each slot names what it named.
+  -- The tables that have come are those of before, and the one that was opened; a pair that a slot names stood in one before, or is one that the call made. Where it changes no pair of the map, each slot names what one named.
   pub record IsChanged (kind : Option StepKind) (at : At) (e : Exchange P) : Type 0 where
     pub place : (at ≡ Root) ⊎ ((t : ℕ) × (x : ℕ) × (at ≡ Slot t x))
-    pub next : (t : ℕ) → (after s e).next t ≡ s.next t
     pub comes : (t : ℕ) → Comes (after s e) t → Comes s t ⊎ ((at ≡ Root) × (new ≡ t))
-    pub slots : (t x : ℕ) (p : P) → named ((after s e).slot t x) ≡ Some p → (named (s.slot t x) ≡ Some p) ⊎ IsOneOf hands.made p
-    pub unchanged : (old word : ℕ) → change_of_kind kind old word ≡ None → (t x : ℕ) (p : P) → named ((after s e).slot t x) ≡ Some p → named (s.slot t x) ≡ Some p
+    pub slots : (t x : ℕ) (p : P) → named ((after s e).slot t x) ≡ Some p → Stands s p ⊎ IsOneOf hands.made p
+    pub unchanged : (old word : ℕ) → change_of_kind kind old word ≡ None → (t x : ℕ) (p : P) → named ((after s e).slot t x) ≡ Some p → Stands s p
 
   -- a slot after the call's pair was put into one
-  put_made : (q : P) → IsOneOf hands.made q → (w : Word P) (p : P) (b : Bool) → named (cond b (Live q) w) ≡ Some p → (named w ≡ Some p) ⊎ IsOneOf hands.made p
-  put_made q made w p true e = let f : Some q ≡ Some p = e in let is : q ≡ p = cc in inr (subst (IsOneOf hands.made) is made)
-  put_made q made w p false e = inl e
-
-  -- a slot after a pair was buried in one
-  put_buried : (t x : ℕ) (q : P) → s.slot t x ≡ Live q → (u y : ℕ) (p : P) (b : Bool) → ((u == t) && (y == x)) ≡ b → named (cond b (Buried q) (s.slot u y)) ≡ Some p → named (s.slot u y) ≡ Some p
-  put_buried t x q live u y p true is e =
-      let same = both (u == t) (y == x) is in
-      ap (λ z. named (s.slot z y)) (eqb-true u t same.0) ∙ ap (λ z. named (s.slot t z)) (eqb-true y x same.1) ∙ ap named live ∙ e
-  put_buried t x q live u y p false is e = e
+  put_made : (q : P) → IsOneOf hands.made q → (u y : ℕ) (p : P) (b : Bool) → named (cond b (Live q) (s.slot u y)) ≡ Some p → Stands s p ⊎ IsOneOf hands.made p
+  put_made q made u y p true e = let f : Some q ≡ Some p = e in let is : q ≡ p = cc in inr (subst (IsOneOf hands.made) is made)
+  put_made q made u y p false e = inl (u, y, e)
 
   -- an opened table
   opened : IsChanged (Some kinds.Open) Root (Open new)
-  opened = record { place = inl refl; next = λ t. refl; comes = comes; slots = λ t x p e. inl e; unchanged = λ old word none t x p e. e }
+  opened = record { place = inl refl; comes = comes; slots = λ t x p e. inl (t, x, e); unchanged = λ old word none t x p e. (t, x, e) }
     where
       -- a table that has come is the opened one, or it had come before
       comes : (t : ℕ) → Comes (after s (Open new)) t → Comes s t ⊎ ((Root ≡ Root) × (new ≡ t))
@@ -57,23 +59,65 @@ module _ {P : Type 0} (s : State P) (hands : Hands P) (new : ℕ) where
   changes c (Some kinds.Open) Root e is = subst (IsChanged (Some kinds.Open) Root) (sym is) opened
   changes c (Some kinds.Claim) (Slot t x) e (q, own, is) = subst (IsChanged (Some kinds.Claim) (Slot t x)) (sym is) (record {
     place = inr (t, x, refl);
-    next = λ u. refl;
     comes = λ u h. inl h;
-    slots = λ u y p h. put_made q own.made (s.slot u y) p ((u == t) && (y == x)) h;
+    slots = λ u y p h. put_made q own.made u y p ((u == t) && (y == x)) h;
     unchanged = λ old word none. absurd cc;
   })
   changes c (Some kinds.Replace) (Slot t x) e (p, q, live, own, is) = subst (IsChanged (Some kinds.Replace) (Slot t x)) (sym is) (record {
     place = inr (t, x, refl);
-    next = λ u. refl;
     comes = λ u h. inl h;
-    slots = λ u y p' h. put_made q own.made (s.slot u y) p' ((u == t) && (y == x)) h;
+    slots = λ u y p' h. put_made q own.made u y p' ((u == t) && (y == x)) h;
     unchanged = λ old word none. absurd cc;
   })
   changes c (Some kinds.Bury) (Slot t x) e (q, live, is) = subst (IsChanged (Some kinds.Bury) (Slot t x)) (sym is) (record {
     place = inr (t, x, refl);
-    next = λ u. refl;
     comes = λ u h. inl h;
-    slots = λ u y p h. inl (put_buried t x q live u y p ((u == t) && (y == x)) refl h);
+    slots = λ u y p h. inl (put_stood s t x (Buried q) (λ p h. (t, x, ap named live ∙ h)) u y p ((u == t) && (y == x)) h);
     unchanged = λ old word none. absurd cc;
   })
   changes c _ _ e h = absurd h
+
+module _ {P : Type 0} (s : State P) (last : Option P) (new : ℕ) where
+  -- What an exchange of a copier changes: the tables that have come are those of before, and the one that was linked; a pair that a slot names stood in one before; and the copier is told of a pair that stood in one.
+  pub record IsCopied_on (at : At) (e : Exchange P) : Type 0 where
+    pub comes : (t : ℕ) → Comes (after s e) t → Comes s t ⊎ ((u : ℕ) × (at ≡ Next u) × (new ≡ t))
+    pub slots : (t x : ℕ) (p : P) → named ((after s e).slot t x) ≡ Some p → Stands s p
+    pub last_is : (p : P) → last_after e last ≡ Some p → (last ≡ Some p) ⊎ Stands s p
+
+  -- words of other kinds than slots
+  unslotted : (at : At) (e : Exchange P) → ((t x : ℕ) (p : P) → named ((after s e).slot t x) ≡ Some p → Stands s p) → ((t : ℕ) → Comes (after s e) t → Comes s t ⊎ ((u : ℕ) × (at ≡ Next u) × (new ≡ t))) → last_after e last ≡ last → IsCopied_on at e
+  unslotted at e slots comes same = record { comes = comes; slots = slots; last_is = λ p h. inl (sym same ∙ h) }
+
+  -- a table was linked
+  linked : (t : ℕ) → IsCopied_on (Next t) (Link t new)
+  linked t = unslotted (Next t) (Link t new) (λ u y p h. (u, y, h)) comes refl
+    where
+      next : (u v : ℕ) (b : Bool) → cond b new (s.next u) ≡ v → Comes s v ⊎ ((w : ℕ) × (Next t ≡ Next w) × (new ≡ v))
+      next u v true e = inr (t, refl, e)
+      next u v false e = inl (inr (u, e))
+
+      comes : (v : ℕ) → Comes (after s (Link t new)) v → Comes s v ⊎ ((w : ℕ) × (Next t ≡ Next w) × (new ≡ v))
+      comes v (inl first) = inl (inl first)
+      comes v (inr (u, e)) = next u v (u == t) e
+
+  -- a pair that is copied stands in a slot
+  copied_stands : {K : Type 0} (g : Setting K P) (n : ℕ) (p : P) → IsCopied g s n p → Stands s p
+  copied_stands g n p source = elim source.stood [ inl marked ↦ (source.from, source.slot, ap named marked) | inr copied ↦ (source.from, source.slot, ap named copied) ]
+
+  -- what an asked exchange changes
+  pub copies : {K : Type 0} (g : Setting K P) (c : Coding K P) (kept : Option P) (kind : Option StepKind) (at : At) (e : Exchange P) → IsCopyAsked c kind at new s kept e → Allows g s e → IsCopied_on at e
+  copies g c kept (Some kinds.Link) (Next t) e is may = subst (IsCopied_on (Next t)) (sym is) (linked t)
+  copies g c kept (Some kinds.Mark) (Slot t x) e (p, live, is) may = subst (IsCopied_on (Slot t x)) (sym is) (record {
+    comes = λ u h. inl h;
+    slots = λ u y q h. put_stood s t x (Marked p) (λ o h. (t, x, ap named live ∙ h)) u y q ((u == t) && (y == x)) h;
+    last_is = λ q h. inr (t, x, ap named live ∙ h);
+  })
+  copies g c kept (Some kinds.Close) (Slot t x) e is may = subst (IsCopied_on (Slot t x)) (sym is) (unslotted (Slot t x) (Close t x) (λ u y q h. put_stood s t x Closed (λ o h. absurd cc) u y q ((u == t) && (y == x)) h) (λ u h. inl h) refl)
+  copies g c kept (Some kinds.Place) (Slot t x) e (p, own, number, is) may =
+      let place = subst (Allows g s) is may in
+      subst (IsCopied_on (Slot t x)) (sym is) (unslotted (Slot t x) (Place t x p) (λ u y q h. put_stood s t x (Live p) (λ o h. subst (Stands s) (let f : Some p ≡ Some o = h in cc) (copied_stands g t p place.source)) u y q ((u == t) && (y == x)) h) (λ u h. inl h) refl)
+  copies g c kept (Some kinds.Finish) (Slot t x) e (p, marked, is) may = subst (IsCopied_on (Slot t x)) (sym is) (unslotted (Slot t x) (Finish t x p) (λ u y q h. put_stood s t x (Copied p) (λ o h. (t, x, ap named marked ∙ h)) u y q ((u == t) && (y == x)) h) (λ u h. inl h) refl)
+  copies g c kept (Some kinds.Advance) (Done n) e is may = subst (IsCopied_on (Done n)) (sym is) (unslotted (Done n) (Advance n (s.done n) new) (λ u y q h. (u, y, h)) (λ u h. inl h) refl)
+  copies g c kept (Some kinds.Promote) Root e is may = subst (IsCopied_on Root) (sym is) (unslotted Root (Promote s.root new) (λ u y q h. (u, y, h)) (λ u h. inl h) refl)
+  copies g c kept (Some kinds.Abort) (Aborted n) e is may = subst (IsCopied_on (Aborted n)) (sym is) (unslotted (Aborted n) (Abort n) (λ u y q h. (u, y, h)) (λ u h. inl h) refl)
+  copies g c kept _ _ e h may = absurd h

@@ -21,7 +21,10 @@ use Rattle.papaya_store.specs.Store.{StoreState, Stored, pair_of}
 use Rattle.papaya_timeline.specs.declared.trace.Event.{Event}
 use Rattle.papaya_ask.specs.declared.call.Reply.{Reply}
 use Rattle.papaya_timeline.proofs.KeptSettings.{tables_hashed}
+use Rattle.papaya_timeline.proofs.KeptBegin.{begin_kept, new_kept}
+use Rattle.papaya_timeline.proofs.KeptMap.{kept_map}
 use Rattle.papaya_timeline.proofs.KeptTables.{HasMoreTables}
+use Rattle.papaya_timeline.proofs.KeptStep as step
 use Rattle.papaya_store.specs.New.{HasCapacity}
 pub use Rattle.papaya_timeline.proofs.KeptSettings.{IsLawfulKeys}
 
@@ -57,16 +60,40 @@ module _ {K V S A : Type 0} (eq : K → K → Bool) (hash : K → ℕ) (law : Is
 
   -- a step keeps a core to the law
   pub kept_step : {says : Says K V A} {hashes : S → K → ℕ} (refuse : Bool) (s : CoreState K V S A) (caller : ℕ) (s' : CoreState K V S A) (event : Event) (reply : Option Reply) (a : Advances eq says hashes refuse s caller s' event reply) → hashes s.store.hasher ≡ hash → (es : List (Exchange (Stored K V))) (tales : ℕ → Tale K V) → IsCore s.store s.callers s.mode → IsKept eq hash s.mode s.store s.callers es tales → IsStep refuse s caller s' event reply a es tales
-  kept_step = ?
+  kept_step {says = says} {hashes = hashes} refuse s caller s' event reply a hasher es tales core kept =
+      let r' : Running K V A = record a.later { machine = after a.before.machine a.answer } in
+      let left = step.left eq hash law says hashes refuse s caller s' a.before a.answer a.later a.was a.performs hasher a.mode es tales core kept in
+      record {
+        made = left.made;
+        hands = left.hands;
+        call = kept.calls caller a.before a.was;
+        told = left.told;
+        kept = step.step_kept eq hash law says hashes refuse s caller s' a.before a.answer a.later a.was a.performs hasher a.mode es tales core kept (goes_on reply r') a.callers (λ q. gone_on reply r' q);
+        own = step.own_call eq hash law says hashes refuse s caller s' a.before a.answer a.later a.was a.performs hasher a.mode es tales core kept (told_tales tales caller left.made left.hands caller).hands
+            (step.own_hands eq hash law says hashes refuse s caller s' a.before a.answer a.later a.was a.performs hasher a.mode es tales core kept caller refl);
+        own_key = step.own_call-key eq hash law says hashes refuse s caller s' a.before a.answer a.later a.was a.performs hasher a.mode es tales core kept (told_tales tales caller left.made left.hands caller).hands
+            (step.own_hands eq hash law says hashes refuse s caller s' a.before a.answer a.later a.was a.performs hasher a.mode es tales core kept caller refl);
+        map_same = step.same_map eq hash law says hashes refuse s caller s' a.before a.answer a.later a.was a.performs hasher a.mode es tales core kept;
+        logged = λ p h. left.logged p.number p h;
+        longer = left.longer;
+        grown = left.grown;
+        new = λ q h. left.new q h;
+      }
 
   -- a begin leaves the words, and its call rests on the exchanges as they are
   pub kept_begin : (s : CoreState K V S A) (caller : ℕ) (call : Call K V A) (s' : CoreState K V S A) → Begins hash s caller call s' → hash (key_of_call call) < 2 ^ 64 → IsChunked s.mode → (es : List (Exchange (Stored K V))) (tales : ℕ → Tale K V) → IsKept eq hash s.mode s.store s.callers es tales → IsKept eq hash s'.mode s'.store s'.callers es (begun_tales tales caller es)
-  kept_begin = ?
+  kept_begin s caller call s' begins fits chunked es tales kept =
+      let tales' : ℕ → Tale K V = begun_tales tales caller es in
+      subst (λ y. IsKept eq hash y s'.store s'.callers es tales') (sym begins.mode)
+      (subst (λ (y : StoreState K V S). IsKept eq hash s.mode y s'.callers es tales') (sym begins.store)
+      (subst (λ (y : List (Seat K V A)). IsKept eq hash s.mode s.store y es tales') (sym begins.callers) (begin_kept eq hash s caller call fits chunked es tales kept)))
 
   -- a core as it is made has made no exchange, or has opened its first table
   pub kept_new : (mode : ResizeMode) (capacity initial : ℕ) (store : StoreState K V S) (callers : List (Seat K V A)) → HasCapacity capacity initial store.words → store.pairs ≡ [] → callers ≡ [] → (tales : ℕ → Tale K V) → (es : List (Exchange (Stored K V))) × IsKept eq hash mode store callers es tales
-  kept_new = ?
+  kept_new mode capacity initial store callers words pairs none tales =
+      let new = new_kept A eq hash mode store pairs tales capacity initial words in
+      (new.0, subst (λ (y : List (Seat K V A)). IsKept eq hash mode store y new.0 tales) (sym none) new.1)
 
   -- the core's map is the replay of the exchanges
   pub map_kept : (s : CoreState K V S A) (es : List (Exchange (Stored K V))) (tales : ℕ → Tale K V) → IsCore s.store s.callers s.mode → IsKept eq hash s.mode s.store s.callers es tales → (k : K) → map_of eq s k ≡ map_left (setting_of eq (low hash) s.mode s.store.words.tables) es k
-  map_kept = ?
+  map_kept s es tales core kept k = kept_map eq hash s.mode s.store (hashed_setting s core) s.callers es tales kept k

@@ -1,5 +1,5 @@
 -- Keys and pairs that were logged stay in longer logs.
-use Rattle.std.proofs.Common.{◌≡◌, ℕ, ◌<◌, List, ◌++◌, length, slice_get, Option, Some, None, refl, ◌∙◌, ap}
+use Rattle.std.proofs.Common.{◌≡◌, ℕ, ◌<◌, List, ◌++◌, length, slice_get, Option, Some, None, refl, sym, ◌∙◌, ap}
 use Rattle.std.proofs.lemmas.Option.{slice_get_within}
 use Rattle.papaya_store.specs.declared.pairs.Pair.{Pair}
 use Rattle.papaya_store.specs.declared.pairs.KeyOf.{KeyOf}
@@ -33,7 +33,21 @@ stored_there : {K V : Type 0} (keys : List K) (pairs : List (Pair V)) (n : ℕ) 
 stored_there keys pairs n None p e h = let f : None ≡ Some p = h in cc
 stored_there keys pairs n (Some q) p e h = slice_get_within pairs n q e
 
+-- a pair that is stored has the number that it is stored under
+stored_number : {K V : Type 0} (n : ℕ) (v : V) (o : Option K) (p : Stored K V) → stored_at n v o ≡ Some p → p.number ≡ n
+stored_number n v None p h = let f : None ≡ Some p = h in cc
+stored_number {K} {V} n v (Some k) p h = let is : record { number = n; key = k; value = v } ≡ p = cc in ap (λ (q : Stored K V). q.number) (sym is)
+
+-- so has one that is found in the log
+found_number : {K V : Type 0} (keys : List K) (n : ℕ) (o : Option (Pair V)) (p : Stored K V) → stored_in keys n o ≡ Some p → p.number ≡ n
+found_number keys n None p h = let f : None ≡ Some p = h in cc
+found_number keys n (Some q) p h = stored_number n q.value (slice_get keys q.key) p h
+
 module _ {K V S : Type 0} (store : StoreState K V S) where
+  -- the pair of a number has that number
+  pub pair_number : (n : ℕ) (p : Stored K V) → pair_of store n ≡ Some p → p.number ≡ n
+  pair_number n p h = found_number store.keys n (slice_get store.pairs n) p h
+
   -- a pair, where the key log grows
   pub pair-more_keys : (more : List K) (n : ℕ) (p : Stored K V) → pair_of store n ≡ Some p → pair_of (record store { keys = store.keys ++ more }) n ≡ Some p
   pair-more_keys more n p h = stored-more_keys store.keys more n (slice_get store.pairs n) p h

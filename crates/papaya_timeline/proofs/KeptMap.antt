@@ -25,7 +25,7 @@ use Rattle.papaya_timeline.specs.Content.{content, listed, pairs_from, pairs_of_
 use Rattle.papaya_timeline.specs.Kept.{IsKept, IsLogged, Tale, setting_of, coding_of, low, slots_in}
 use Rattle.papaya_store.specs.Store.{StoreState, Stored, pair_of}
 use Rattle.papaya_store.specs.Tables.{table_of, word_in}
-use Rattle.papaya_timeline.proofs.KeptTables.{table_there}
+use Rattle.papaya_timeline.proofs.KeptTables.{table_low}
 
 -- the pairs of a table, from its first slot
 pairs_in-first : {P : Type 0} (slot : ℕ → Word P) (n : ℕ) → pairs_in slot (suc n) ≡ pairs_of_word (slot 0) ++ pairs_in (λ x. slot (suc x)) n
@@ -78,15 +78,11 @@ module _ {K V S : Type 0} (eq : K → K → Bool) (hash : K → ℕ) (mode : Res
     keeps : IsKeeping g now (map_left g es)
     keeps = keeping g hashed.lawful es kept.allowed
 
-    -- the number of a table that was made is at most the number of tables
-    made_low : (n : ℕ) (words : TableWords) → table_of store.words.tables n ≡ Some words → n ≤ length store.words.tables
-    made_low n words there = let low = slice_get_within store.words.tables (n - 1) words (table_there store.words.tables n words there).1 in omega (arith, low)
-
-    -- and so is that of each table of the chain
+    -- the number of each table of the chain is at most the number of tables
     comes_low : (n : ℕ) → Comes now n → n ≤ length store.words.tables
     comes_low n comes =
         ⊎_elim
-        (λ (some : 0 < n). let made = kept.made n some comes in made_low n made.0 made.1)
+        (λ (some : 0 < n). let made = kept.made n some comes in table_low store.words.tables n made.0 made.1)
         (λ (none : n ≤ 0). omega (arith, none))
         (cases_lt 0 n)
 

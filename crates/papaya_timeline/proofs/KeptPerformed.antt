@@ -1,130 +1,167 @@
--- Every answered ask keeps to the law.
-use Rattle.std.proofs.Common.{◌≡◌, ℕ, ◌==◌, ◌<◌, Bool, List, [], ◌∷◌, ◌++◌, Some, inl, inr, refl, sym, ◌∙◌, ap, subst, arith, MatchBool}
-use Rattle.papaya_words.specs.Table.{TableWords}
+-- Every answered ask of a call itself keeps to the law.
+use Rattle.std.proofs.Common.{◌≡◌, ℕ, ◌+◌, ◌==◌, ◌<◌, Bool, List, [], ◌∷◌, ◌++◌, length, Option, Some, inl, inr, ◌⊎◌, refl, sym, ◌∙◌, ap, subst, arith, MatchBool}
+use Rattle.papaya_words.specs.declared.limits.TheConstants.{MAX_TABLES}
+use Rattle.papaya_words.specs.declared.probe.Refused.{Refused}
 use Rattle.papaya_words.specs.declared.probe.Refused.TheVariants.{Memory}
 use Rattle.papaya_words.specs.declared.probe.ResizeMode.{ResizeMode}
 use Rattle.papaya_call.specs.Answers.{Says}
 use Rattle.papaya_ask.specs.declared.ask.At.{At}
 use Rattle.papaya_ask.specs.declared.ask.At.TheVariants.{Root}
-use Rattle.papaya_ask.specs.declared.ask.Ask.{Ask}
+use Rattle.papaya_ask.specs.declared.ask.Ask.{Ask as Call_ask}
 use Rattle.papaya_ask.specs.declared.ask.Ask.TheVariants.{Load, Exchange as Ask_exchange, SameKey, ShowNone, ShowPair, SizeOf, MakeKey, MakePair, MakeTable, AddToShard, Done as Ask_done}
-use Rattle.papaya_ask.specs.declared.ask.Answer.{Answer}
-use Rattle.papaya_ask.specs.declared.ask.Answer.TheVariants.{Word as Word_read, Exchanged, Found as Found_instead, Yes, Size, Made as Made_number}
-use Rattle.papaya_law.specs.Exchange.{Exchange, run, start}
-use Rattle.papaya_law.specs.Grows.{Comes}
-use Rattle.papaya_call.specs.Machine.{ask_of, kind_of_ask}
-use Rattle.papaya_rests.specs.Rests.{Rests, change_in, change_after}
-use Rattle.papaya_rests.specs.Told.{Hands, IsTold, IsAsked, told_of, word_of}
-use Rattle.papaya_law.specs.Code.{IsHashed}
-use Rattle.papaya_store.specs.declared.pairs.Running.{Running}
-use Rattle.papaya_timeline.specs.Kept.{Tale, slots_in, places_in}
-use Rattle.papaya_store.specs.Performs.{Performs, own_key, same, size_of}
-use Rattle.papaya_store.specs.Store.{StoreState, Stored, pair_of}
-use Rattle.papaya_store.specs.Tables.{table_of, word_at, put}
-use Rattle.papaya_timeline.proofs.ShowLemmas.{IsShowing, none_shown, pair_shown}
-use Rattle.papaya_timeline.proofs.StoreLemmas.{matched}
-use Rattle.papaya_timeline.proofs.KeptAnswer.{law_setting, law_coding, words_now, IsAnswered, quiet, unexchanged, told_last, told_made}
+use Rattle.papaya_ask.specs.declared.ask.Answer.{Answer as Call_answer}
+use Rattle.papaya_ask.specs.declared.ask.Answer.TheVariants.{Word as Word_read, Exchanged, Found as Found_instead, Yes, Size, Made as Made_number, Ok as Ok_done, Refused as Was_refused}
+use Rattle.papaya_ask.specs.declared.copy_ask.CopyAsk.TheVariants.{MakeTable as Make_next}
 use Rattle.papaya_law.specs.Allows.{AllAllowed}
 use Rattle.papaya_law.specs.Class.{IsOn}
+use Rattle.papaya_law.specs.Code.{IsHashed}
+use Rattle.papaya_law.specs.Exchange.{Exchange, run, start}
+use Rattle.papaya_law.specs.Grows.{Comes}
+use Rattle.papaya_call.specs.Machine as call_machine
+use Rattle.papaya_rests.specs.Rests.{change_in, change_after}
+use Rattle.papaya_rests.specs.Told.{Hands as Call_hands, IsTold as IsCallTold, IsAsked, told_of, word_of}
 use Rattle.papaya_rests.proofs.RestsNames.{IsNamed, ask_named}
-use Rattle.papaya_store.specs.Performs.{Exchanges}
+use Rattle.papaya_chain.specs.declared.ask.Ask.TheVariants as asks
+use Rattle.papaya_chain.specs.declared.ask.Answer.TheVariants as answers
+use Rattle.papaya_chain.specs.Machine.{ask_of, kind_of_ask}
+use Rattle.papaya_chain_rests.specs.Goes.{link_in}
+use Rattle.papaya_chain_rests.specs.Rests.{Rests}
+use Rattle.papaya_chain_rests.proofs.Names.{call_asks}
+use Rattle.papaya_copy.specs.declared.link.Link.TheVariants.{Linking}
+use Rattle.papaya_store.specs.declared.pairs.Running.{Running}
+use Rattle.papaya_timeline.specs.Kept.{IsMade, Tale, low, slots_in, places_in}
+use Rattle.papaya_store.specs.Performs.{Exchanges, MakesTable, Performs, Refuses, own_key, same, size_of}
+use Rattle.papaya_store.specs.Store.{StoreState, Stored, pair_of}
+use Rattle.papaya_store.specs.Tables.{word_at, put}
+use Rattle.papaya_timeline.proofs.ShowLemmas.{IsShowing, none_shown, pair_shown}
+use Rattle.papaya_timeline.proofs.StoreLemmas.{matched}
+use Rattle.papaya_timeline.proofs.KeptAnswer.{law_setting, law_coding, words_now, IsAnswered, Stands, own_told, quiet, same_hands, told_last, told_made, unexchanged}
+use Rattle.papaya_timeline.proofs.KeptMade.{key_made, none_made, pair_made, refusal, table_made}
 use Rattle.papaya_timeline.proofs.KeptTables.{grown-same}
-use Rattle.papaya_timeline.proofs.KeptMade.{key_made, pair_made, table_made, none_made}
-use Rattle.papaya_timeline.proofs.KeptWritten.{exchange_made, on_there}
+use Rattle.papaya_timeline.proofs.KeptWritten.{call_exchanged, on_there}
 
 module _ {K V S A : Type 0} (eq : K → K → Bool) (says : Says K V A) (hash : K → ℕ) (mode : ResizeMode) (store : StoreState K V S) (r : Running K V A) (es : List (Exchange (Stored K V))) (tale : Tale K V)
     (hashed : IsHashed (law_setting eq hash mode store r es tale) (law_coding eq hash mode store r es tale)) (key : K)
     (split : tale.begun ++ tale.since ≡ es) (may : AllAllowed (law_setting eq hash mode store r es tale) start (tale.begun ++ tale.since))
     (rests : Rests (law_setting eq hash mode store r es tale) (law_coding eq hash mode store r es tale) tale.begun tale.since key r.machine tale.hands)
     (coded : (at : At) → word_of (law_setting eq hash mode store r es tale) (law_coding eq hash mode store r es tale) (words_now eq hash mode store r es tale) at ≡ word_at store.words at)
-    (single : (t : ℕ) → (words_now eq hash mode store r es tale).next t ≡ 0)
-    (there : (t : ℕ) → 0 < t → Comes (words_now eq hash mode store r es tale) t → (words : TableWords) × (table_of store.words.tables t ≡ Some words))
-    (last : (p : Stored K V) → tale.hands.last ≡ Some p → pair_of store p.number ≡ Some p)
-    (opens : (t : ℕ) → ask_of r.machine ≡ Ask_exchange Root 0 t → (words : TableWords) × (table_of store.words.tables t ≡ Some words))
+    (there : (t : ℕ) → 0 < t → Comes (words_now eq hash mode store r es tale) t → IsMade store t)
+    (last : (p : Stored K V) → tale.hands.call.last ≡ Some p → pair_of store p.number ≡ Some p)
+    (opens : (t : ℕ) → ask_of r.machine ≡ asks.Call (Ask_exchange Root 0 t) → IsMade store t)
+    (links : (behind t : ℕ) → link_in r.machine.phase ≡ Some (Linking behind t) → IsMade store t)
     (own : own_key store r ≡ Some key) where
   -- what an answer leaves, where it is this
-  abbrev Leaves : Ask → Answer → StoreState K V S → Running K V A → Type 0
-  Leaves ask a store' later = IsAnswered eq hash mode store r es tale key ask a store' later
+  abbrev Leaves : Call_ask → Call_answer → StoreState K V S → Running K V A → Type 0
+  Leaves ask a store' later = IsAnswered eq hash mode store r es tale key (asks.Call ask) (answers.Call a) store' later
+
+  -- what the call is told
+  abbrev Hears : Call_ask → Call_answer → Call_hands (Stored K V) → Type 0
+  Hears ask a hands = IsCallTold (law_setting eq hash mode store r es tale) (law_coding eq hash mode store r es tale) key (words_now eq hash mode store r es tale) (kind_of_ask r.machine) tale.hands.call ask a [] hands
+
+  -- no table was made
+  abbrev NoTable : Call_ask → Call_answer → Type 0
+  NoTable ask a = (t : ℕ) → answers.Call a ≡ answers.Call (Made_number t) → ((slots : ℕ) × (limit : ℕ) × (asks.Call ask ≡ asks.Call (MakeTable slots limit))) ⊎ ((slots : ℕ) × (limit : ℕ) × (asks.Call ask ≡ asks.Copy (Make_next slots limit))) → ⊥
+
+  -- an ask of which nothing is left but what was told
+  answered_quietly : (ask : Call_ask) → ask_of r.machine ≡ asks.Call ask → (a : Call_answer) (store' : StoreState K V S) (later : Running K V A) (hands : Call_hands (Stored K V)) → store' ≡ store → later ≡ r → Hears ask a hands
+      → change_after (kind_of_ask r.machine) ask a (change_in r.machine.call.state) ≡ change_in r.machine.call.state
+      → ((p : Stored K V) → hands.last ≡ Some p → (tale.hands.call.last ≡ Some p) ⊎ Stands (words_now eq hash mode store r es tale) p)
+      → hands.made ≡ tale.hands.call.made → NoTable ask a → Leaves ask a store' later
+  answered_quietly ask e a store' later hands same_store same_call told still stood made never =
+      quiet eq hash mode store r es tale hashed key rests coded there own (asks.Call ask) e (answers.Call a) store' later (record tale.hands { call = hands }) store.count same_store same_call
+      (own_told eq hash mode store r es tale hashed key rests coded there ask a [] hands told) still stood (λ p h. inl h) made never
 
   -- a showing
-  shown : (ask : Ask) → ask_of r.machine ≡ ask → (a : Answer) (store' : StoreState K V S) (later : Running K V A) → IsShowing store r a store' later
-      → IsTold (law_setting eq hash mode store r es tale) (law_coding eq hash mode store r es tale) key (words_now eq hash mode store r es tale) (kind_of_ask r.machine) tale.hands ask a [] tale.hands
-      → change_after (kind_of_ask r.machine) ask a (change_in r.machine.state) ≡ change_in r.machine.state → ((t slots limit : ℕ) → a ≡ Made_number t → ask ≡ MakeTable slots limit → ⊥) → Leaves ask a store' later
+  shown : (ask : Call_ask) → ask_of r.machine ≡ asks.Call ask → (a : Call_answer) (store' : StoreState K V S) (later : Running K V A) → IsShowing store r a store' later → Hears ask a tale.hands.call
+      → change_after (kind_of_ask r.machine) ask a (change_in r.machine.call.state) ≡ change_in r.machine.call.state → NoTable ask a → Leaves ask a store' later
   shown ask e a store' later showing told still never = elim showing.call [
-    | inl same ↦ quiet eq hash mode store r es tale hashed key rests.hash coded single there own ask e a store' later tale.hands store.count showing.store same told still (λ p h. inl h) refl never
+    | inl as_was ↦ answered_quietly ask e a store' later tale.hands.call showing.store as_was told still (λ p h. inl h) refl never
     | inr (v, x, other) ↦
         let call : Running K V A = record r { value = v; answers = Some x } in
         subst (λ z. Leaves ask a z later) (sym showing.store) (subst (Leaves ask a store) (sym other)
-        (unexchanged eq hash mode store r es tale hashed key rests.hash coded single there ask e a store call tale.hands told still
-        (λ at j h. h) own (λ m q h. h) (omega arith) (grown-same store.words.tables) (λ at. refl) (λ q h. inl h) (λ q h. inl h)
-        (λ t slots limit f asks. absurd (never t slots limit f asks))))
+        (unexchanged eq hash mode store r es tale hashed key rests coded there (asks.Call ask) e (answers.Call a) store call tale.hands
+        (own_told eq hash mode store r es tale hashed key rests coded there ask a [] tale.hands.call told) still
+        (record { keys = λ at j h. h; own = own; logged = λ m q h. h; longer = omega arith; few = λ h. h; grown = grown-same store.words.tables; words = λ at. refl })
+        (same_hands eq hash mode store r es tale store) (λ t is which. absurd (never t is which))))
   ]
 
   -- an exchange, made or lost
-  exchanged : (at : At) (old new : ℕ) → ask_of r.machine ≡ Ask_exchange at old new → (a : Answer) (store' : StoreState K V S) (later : Running K V A) → Exchanges (word_at store.words at) old (put store.words at new) a store store' → later ≡ r → Leaves (Ask_exchange at old new) a store' later
+  exchanged : (at : At) (old new : ℕ) → ask_of r.machine ≡ asks.Call (Ask_exchange at old new) → (a : Call_answer) (store' : StoreState K V S) (later : Running K V A) → Exchanges (word_at store.words at) old (put store.words at new) a store store' → later ≡ r → Leaves (Ask_exchange at old new) a store' later
   exchanged at old new e a store' later h same_call =
       matched (Leaves (Ask_exchange at old new) a store' later) (word_at store.words at == old) _ _ h
-      (λ hit done. subst (λ y. Leaves (Ask_exchange at old new) a y later) (sym done.1) (subst (Leaves (Ask_exchange at old new) a (record store { words = put store.words at new })) (sym same_call)
-      (exchange_made eq hash mode store r es tale hashed key split may rests coded single there last opens own at old new e a hit done.0)))
+      (λ hit done. subst (λ y. Leaves (Ask_exchange at old new) y store' later) (sym done.0)
+      (subst (λ y. Leaves (Ask_exchange at old new) Exchanged y later) (sym done.1) (subst (Leaves (Ask_exchange at old new) Exchanged (record store { words = put store.words at new })) (sym same_call)
+      (call_exchanged eq hash mode store r es tale hashed key split may rests coded there opens links own at old new e hit))))
       (λ miss lost.
       let g = law_setting eq hash mode store r es tale in
       let c = law_coding eq hash mode store r es tale in
       let now = words_now eq hash mode store r es tale in
-      let hands : Hands (Stored K V) = told_of now at tale.hands in
+      let hands : Call_hands (Stored K V) = told_of now at tale.hands.call in
       let nothing : List (Exchange (Stored K V)) = [] in
       let is : a ≡ Found_instead (word_of g c now at) = lost.0 ∙ ap Found_instead (sym (coded at)) in
-      quiet eq hash mode store r es tale hashed key rests.hash coded single there own (Ask_exchange at old new) e a store' later hands store.count lost.1 same_call
+      answered_quietly (Ask_exchange at old new) e a store' later hands lost.1 same_call
       (subst (λ b. MatchBool b
-      ((a ≡ Exchanged) × ((y : Exchange (Stored K V)) × IsAsked c (kind_of_ask r.machine) at new now tale.hands y × (nothing ≡ y ∷ [])) × (hands ≡ tale.hands))
+      ((a ≡ Exchanged) × ((y : Exchange (Stored K V)) × IsAsked c (kind_of_ask r.machine) at new now tale.hands.call y × (nothing ≡ y ∷ [])) × (hands ≡ tale.hands.call))
       ((a ≡ Found_instead (word_of g c now at)) × (nothing ≡ nothing) × (hands ≡ hands)))
       (sym (ap (λ y. y == old) (coded at) ∙ miss)) (is, refl, refl))
-      (ap (λ y. change_after (kind_of_ask r.machine) (Ask_exchange at old new) y (change_in r.machine.state)) is)
-      (told_last eq hash mode store r es tale hashed key rests.hash coded single there at) (told_made eq hash mode store r es tale hashed key rests.hash coded single there at)
-      (λ t slots limit f asks. absurd cc))
+      (ap (λ y. change_after (kind_of_ask r.machine) (Ask_exchange at old new) y (change_in r.machine.call.state)) is)
+      (told_last eq hash mode store r es tale at) (told_made eq hash mode store r es tale at)
+      (λ t f which. elim which [ inl (slots, limit, g) ↦ absurd cc | inr (slots, limit, g) ↦ absurd cc ]))
+
+  -- no table is made but where one is asked for
+  untabled : (ask : Call_ask) (a : Call_answer) → ((slots limit : ℕ) → ask ≡ MakeTable slots limit → ⊥) → NoTable ask a
+  untabled ask a none t is which = elim which [ inl (slots, limit, f) ↦ (let asked : ask ≡ MakeTable slots limit = cc in none slots limit asked) | inr (slots, limit, f) ↦ absurd cc ]
+
+  -- a table was made, or none
+  table_told : (slots limit : ℕ) (a : Call_answer) (store' : StoreState K V S) → (Refuses MAX_TABLES (length store.words.tables) a × (store' ≡ store)) ⊎ MakesTable a slots limit store store' → (((refused : Refused) × (a ≡ Was_refused refused)) ⊎ (a ≡ Ok_done)) ⊎ ((n : ℕ) × (0 < n) × (a ≡ Made_number n))
+  table_told slots limit a store' (inl (refuses, same_store)) = inl (inl (refusal _ _ a refuses))
+  table_told slots limit a store' (inr (is, few, grown)) = inr (length store.words.tables + 1, omega arith, is)
 
   -- each ask
-  pub answered : (refuse : Bool) (ask : Ask) → ask_of r.machine ≡ ask → (a : Answer) (store' : StoreState K V S) (later : Running K V A) → Performs eq says refuse ask store r a store' later → Leaves ask a store' later
-  answered refuse (Load at) e a store' later (is, stays) =
-      quiet eq hash mode store r es tale hashed key rests.hash coded single there own (Load at) e a store' later (told_of (words_now eq hash mode store r es tale) at tale.hands) store.count stays.0 stays.1
+  pub answered_call : (refuse : Bool) (ask : Call_ask) → ask_of r.machine ≡ asks.Call ask → (a : Call_answer) (store' : StoreState K V S) (later : Running K V A) → Performs eq says refuse ask store r a store' later → Leaves ask a store' later
+  answered_call refuse (Load at) e a store' later (is, stays) =
+      answered_quietly (Load at) e a store' later (told_of (words_now eq hash mode store r es tale) at tale.hands.call) stays.0 stays.1
       (is ∙ ap Word_read (sym (coded at)), refl, refl) refl
-      (told_last eq hash mode store r es tale hashed key rests.hash coded single there at) (told_made eq hash mode store r es tale hashed key rests.hash coded single there at)
-      (λ t slots limit f asks. absurd cc)
-  answered refuse (Ask_exchange at old new) e a store' later (h, same_call) = exchanged at old new e a store' later h same_call
-  answered refuse (SameKey n) e a store' later (is, stays) =
-      quiet eq hash mode store r es tale hashed key rests.hash coded single there own (SameKey n) e a store' later tale.hands store.count stays.0 stays.1
+      (told_last eq hash mode store r es tale at) (told_made eq hash mode store r es tale at)
+      (untabled (Load at) a (λ slots limit f. absurd cc))
+  answered_call refuse (Ask_exchange at old new) e a store' later (h, same_call) = exchanged at old new e a store' later h same_call
+  answered_call refuse (SameKey n) e a store' later (is, stays) =
+      answered_quietly (SameKey n) e a store' later tale.hands.call stays.0 stays.1
       ((λ p l number. is ∙ ap (λ o. Yes (same eq o (pair_of store n))) own ∙ ap (λ o. Yes (same eq (Some key) o)) (subst (λ m. pair_of store m ≡ Some p) number (last p l))), (refl, refl)) refl
       (λ p h. inl h) refl
-      (λ t slots limit f asks. absurd cc)
-  answered refuse ShowNone e a store' later h =
-      let showing = none_shown says store r a store' later h in shown ShowNone e a store' later showing (showing.says, (refl, refl)) refl (λ t slots limit f asks. absurd cc)
-  answered refuse (ShowPair n) e a store' later h =
-      let showing = pair_shown says r.machine.task n store r a store' later h in shown (ShowPair n) e a store' later showing (showing.says, (refl, refl)) refl (λ t slots limit f asks. absurd cc)
-  answered refuse (SizeOf n) e a store' later (is, stays) =
+      (untabled (SameKey n) a (λ slots limit f. absurd cc))
+  answered_call refuse ShowNone e a store' later h =
+      let showing = none_shown says store r a store' later h in shown ShowNone e a store' later showing (showing.says, (refl, refl)) refl (untabled ShowNone a (λ slots limit f. absurd cc))
+  answered_call refuse (ShowPair n) e a store' later h =
+      let showing = pair_shown says r.machine.call.task n store r a store' later h in shown (ShowPair n) e a store' later showing (showing.says, (refl, refl)) refl (untabled (ShowPair n) a (λ slots limit f. absurd cc))
+  answered_call refuse (SizeOf n) e a store' later (is, stays) =
       let g = law_setting eq hash mode store r es tale in
       let c = law_coding eq hash mode store r es tale in
-      let on : IsOn (run (tale.begun ++ tale.since) start).first (run (tale.begun ++ tale.since) start).next n = subst (IsNamed g c hashed tale.begun tale.since may key) e (ask_named g c hashed tale.begun tale.since may key tale.hands r.machine.task r.machine.hash r.machine.made r.machine.state rests.stage) in
-      let words = on_there eq hash mode store r es tale hashed key split may rests coded single there last opens own n on in
-      quiet eq hash mode store r es tale hashed key rests.hash coded single there own (SizeOf n) e a store' later tale.hands store.count stays.0 stays.1
+      let m = r.machine.call in
+      let on : IsOn (run (tale.begun ++ tale.since) start).first (run (tale.begun ++ tale.since) start).next n = subst (IsNamed g c hashed tale.begun tale.since may key) (call_asks r.machine (SizeOf n) e).1 (ask_named g c hashed tale.begun tale.since may key tale.hands.call m.task m.hash m.made m.state rests.call.stage) in
+      let words = on_there eq hash mode store r es tale hashed key split may rests coded there opens links own n on in
+      answered_quietly (SizeOf n) e a store' later tale.hands.call stays.0 stays.1
       ((words.0.limit, sym (ap places_in words.1), is ∙ ap size_of words.1 ∙ ap (λ y. Size y words.0.limit) (sym (ap slots_in words.1))), (refl, refl)) refl
       (λ p h. inl h) refl
-      (λ t slots limit f asks. absurd cc)
-  answered refuse MakeKey e a store' later h =
+      (untabled (SizeOf n) a (λ slots limit f. absurd cc))
+  answered_call refuse MakeKey e a store' later h =
       matched (Leaves MakeKey a store' later) refuse _ _ h
-      (λ _ none. none_made eq hash mode store r es tale hashed key rests.hash coded single there own MakeKey e a store' later (inl (inl (Memory, none.0)), (refl, refl)) refl none)
-      (λ _ makes. key_made eq hash mode store r es tale hashed key rests.hash coded single there own e a store' later makes)
-  answered refuse MakePair e a store' later h =
+      (λ _ none. none_made eq hash mode store r es tale hashed key rests coded there own (asks.Call MakeKey) e a store' later (own_told eq hash mode store r es tale hashed key rests coded there MakeKey a [] tale.hands.call (inl (inl (Memory, none.0)), (refl, refl))) refl none.0 none.1.0 none.1.1)
+      (λ _ makes. key_made eq hash mode store r es tale hashed key rests coded there own e a store' later makes)
+  answered_call refuse MakePair e a store' later h =
       matched (Leaves MakePair a store' later) refuse _ _ h
-      (λ _ none. none_made eq hash mode store r es tale hashed key rests.hash coded single there own MakePair e a store' later (inl (inl (Memory, none.0), (refl, refl))) refl none)
-      (λ _ makes. pair_made eq hash mode store r es tale hashed key rests.hash coded single there own e a store' later makes)
-  answered refuse (MakeTable slots limit) e a store' later h =
+      (λ _ none. none_made eq hash mode store r es tale hashed key rests coded there own (asks.Call MakePair) e a store' later (own_told eq hash mode store r es tale hashed key rests coded there MakePair a [] tale.hands.call (inl (inl (Memory, none.0), (refl, refl)))) refl none.0 none.1.0 none.1.1)
+      (λ _ makes. pair_made eq hash mode store r es tale hashed key rests coded there own e a store' later makes)
+  answered_call refuse (MakeTable slots limit) e a store' later h =
       matched (Leaves (MakeTable slots limit) a store' later) refuse _ _ h
-      (λ _ none. none_made eq hash mode store r es tale hashed key rests.hash coded single there own (MakeTable slots limit) e a store' later (inl (inl (Memory, none.0)), (refl, refl)) refl none)
-      (λ _ makes. table_made eq hash mode store r es tale hashed key rests.hash coded single there own slots limit e a store' later makes.1 makes.0)
-  answered refuse (AddToShard by) e a store' later (is, (number, same_store), same_call) =
-      quiet eq hash mode store r es tale hashed key rests.hash coded single there own (AddToShard by) e a store' later tale.hands _ same_store same_call
+      (λ _ none. none_made eq hash mode store r es tale hashed key rests coded there own (asks.Call (MakeTable slots limit)) e a store' later (own_told eq hash mode store r es tale hashed key rests coded there (MakeTable slots limit) a [] tale.hands.call (inl (inl (Memory, none.0)), (refl, refl))) refl none.0 none.1.0 none.1.1)
+      (λ _ makes. table_made eq hash mode store r es tale hashed key rests coded there own (asks.Call (MakeTable slots limit)) e slots limit a
+      (own_told eq hash mode store r es tale hashed key rests coded there (MakeTable slots limit) a [] tale.hands.call (table_told slots limit a store' makes.0, (refl, refl))) refl store' later makes.1 makes.0)
+  answered_call refuse (AddToShard by) e a store' later (is, (number, same_store), same_call) =
+      quiet eq hash mode store r es tale hashed key rests coded there own (asks.Call (AddToShard by)) e (answers.Call a) store' later tale.hands _ same_store same_call
+      (own_told eq hash mode store r es tale hashed key rests coded there (AddToShard by) a [] tale.hands.call (is, (refl, refl))) refl (λ p h. inl h) (λ p h. inl h) refl
+      (untabled (AddToShard by) a (λ slots limit f. absurd cc))
+  answered_call refuse (Ask_done reply) e a store' later (is, stays) =
+      answered_quietly (Ask_done reply) e a store' later tale.hands.call stays.0 stays.1
       (is, (refl, refl)) refl (λ p h. inl h) refl
-      (λ t slots limit f asks. absurd cc)
-  answered refuse (Ask_done reply) e a store' later (is, stays) =
-      quiet eq hash mode store r es tale hashed key rests.hash coded single there own (Ask_done reply) e a store' later tale.hands store.count stays.0 stays.1
-      (is, (refl, refl)) refl (λ p h. inl h) refl
-      (λ t slots limit f asks. absurd cc)
+      (untabled (Ask_done reply) a (λ slots limit f. absurd cc))

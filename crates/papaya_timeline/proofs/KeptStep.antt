@@ -2,9 +2,13 @@
 use Rattle.std.proofs.Common.{◌≡◌, ◌≢◌, ℕ, ◌<◌, Bool, cond, List, ◌++◌, length, Option, Some, None, ◌⊎◌, inl, inr, refl, sym, ◌∙◌, ap, subst, arith, append_assoc, eq-eqb}
 use Rattle.papaya_words.specs.Table.{TableWords}
 use Rattle.papaya_call.specs.Answers.{Says}
-use Rattle.papaya_ask.specs.declared.ask.Answer.{Answer}
 use Rattle.papaya_ask.specs.declared.ask.Ask.TheVariants.{Exchange as Ask_exchange}
 use Rattle.papaya_ask.specs.declared.ask.At.TheVariants.{Root}
+use Rattle.papaya_copy.specs.declared.link.Link.TheVariants.{Linking}
+use Rattle.papaya_chain.specs.declared.ask.Ask.{Ask}
+use Rattle.papaya_chain.specs.declared.ask.Ask.TheVariants as asks
+use Rattle.papaya_chain.specs.declared.ask.Answer.{Answer}
+use Rattle.papaya_chain.specs.declared.ask.Answer.TheVariants as answers
 use Rattle.papaya_law.specs.Allows.{AllAllowed}
 use Rattle.papaya_law.specs.Class.{IsOn}
 use Rattle.papaya_law.specs.Code.{Coding}
@@ -12,36 +16,41 @@ use Rattle.papaya_law.specs.Exchange.{Setting, Exchange, run, start}
 use Rattle.papaya_law.specs.Grows.{Agrees}
 use Rattle.papaya_law.specs.Invariant.{named}
 use Rattle.papaya_law.specs.Meaning.{map_left}
-use Rattle.papaya_call.specs.Machine.{HasClosure, ask_of, kind_of_ask, after}
-use Rattle.papaya_rests.specs.Rests.{Rests, change_in}
-use Rattle.papaya_rests.specs.Told.{Hands, IsOneOf, IsTold}
+use Rattle.papaya_call.specs.Machine.{HasClosure}
+use Rattle.papaya_chain.specs.Machine.{after, ask_of, follows_of, kind_of_ask}
+use Rattle.papaya_rests.specs.Rests.{change_in}
+use Rattle.papaya_rests.specs.Told.{IsOneOf}
+use Rattle.papaya_chain_rests.specs.Goes.{link_in}
+use Rattle.papaya_chain_rests.specs.Rests.{Rests}
+use Rattle.papaya_chain_rests.specs.Told.{Hands, IsTold}
 use Rattle.papaya_law.specs.Code.{IsHashed}
 use Rattle.papaya_law.proofs.Grows.{all_carries, map_of_carries}
 use Rattle.papaya_law.proofs.Logs.{on_comes}
 use Rattle.papaya_law.proofs.OneMap.{start_keeps}
-use Rattle.papaya_rests.proofs.RestsLearn.{machine_learns}
-use Rattle.papaya_rests.proofs.RestsStay.{rests_stays}
-use Rattle.papaya_rests.proofs.RestsTables.{rests_carries}
-use Rattle.papaya_rests.proofs.Tasks.{same_task}
+use Rattle.papaya_chain_rests.proofs.Learns.{all_learns}
+use Rattle.papaya_chain_rests.proofs.Order.{in_order}
+use Rattle.papaya_chain_rests.proofs.Replies.{chain_task}
+use Rattle.papaya_chain_rests.proofs.Stays.{all_carries as rests_carries, all_stays}
 use Rattle.papaya_store.specs.declared.pairs.Running.{Running}
 use Rattle.papaya_timeline.specs.declared.seat.Seat.{Seat}
 use Rattle.papaya_timeline.specs.Callers.{running, with_call}
 use Rattle.papaya_timeline.specs.Core.{CoreState, IsCore}
-use Rattle.papaya_timeline.specs.Kept.{IsKept, IsCall, IsLogged, Tale, setting_of, coding_of, low, told_tales}
-use Rattle.papaya_store.specs.Performs.{Performs}
+use Rattle.papaya_timeline.specs.Kept.{IsKept, IsCall, IsLogged, IsMade, Tale, setting_of, coding_of, low, told_tales}
+use Rattle.papaya_store.specs.Asks.{PerformsAsk}
 use Rattle.papaya_store.specs.Store.{Stored, pair_of}
 use Rattle.papaya_store.specs.Tables.{table_of}
 use Rattle.papaya_timeline.proofs.CallersLemmas.{differs, running-other, running-same}
 use Rattle.papaya_timeline.proofs.CoreLemmas.{cases_same}
-use Rattle.papaya_timeline.proofs.KeptAnswer.{IsAnswered}
-use Rattle.papaya_timeline.proofs.KeptClosures.{answers_performed}
+use Rattle.papaya_timeline.proofs.KeptAnswer.{IsAnswered, Stands}
+use Rattle.papaya_timeline.proofs.KeptClosures.{answers_asked}
+use Rattle.papaya_timeline.proofs.KeptCopied.{answered_copy}
 use Rattle.papaya_timeline.proofs.KeptLogs.{pair_below}
-use Rattle.papaya_timeline.proofs.KeptPerformed.{answered}
+use Rattle.papaya_timeline.proofs.KeptPerformed.{answered_call}
 use Rattle.papaya_timeline.proofs.KeptSettings.{IsLawfulKeys, tables_hashed, grown_agrees}
-use Rattle.papaya_timeline.proofs.MachineLemmas.{machine_opens}
+use Rattle.papaya_timeline.proofs.MadeTables.{IsMadeIn, chain_opens, copy_made, is_made, made_is, machine_made}
 
-module _ {K V S A : Type 0} (eq : K → K → Bool) (hash : K → ℕ) (law : IsLawfulKeys eq hash) (says : Says K V A) (refuse : Bool) (s : CoreState K V S A) (caller : ℕ) (s' : CoreState K V S A)
-    (before : Running K V A) (a : Answer) (later : Running K V A) (was : running s.callers caller ≡ Some before) (performs : Performs eq says refuse (ask_of before.machine) s.store before a s'.store later)
+module _ {K V S A : Type 0} (eq : K → K → Bool) (hash : K → ℕ) (law : IsLawfulKeys eq hash) (says : Says K V A) (hashes : S → K → ℕ) (refuse : Bool) (s : CoreState K V S A) (caller : ℕ) (s' : CoreState K V S A)
+    (before : Running K V A) (a : Answer) (later : Running K V A) (was : running s.callers caller ≡ Some before) (performs : PerformsAsk eq says hashes refuse (ask_of before.machine) s.store before a s'.store later) (hasher : hashes s.store.hasher ≡ hash)
     (mode_is : s'.mode ≡ s.mode) (es : List (Exchange (Stored K V))) (tales : ℕ → Tale K V) (core : IsCore s.store s.callers s.mode) (kept : IsKept eq hash s.mode s.store s.callers es tales) where
   -- the setting before and after the step, and the coding
   abbrev g : Setting K (Stored K V)
@@ -69,7 +78,14 @@ module _ {K V S A : Type 0} (eq : K → K → Bool) (hash : K → ℕ) (law : Is
 
   -- what its answer leaves
   pub left : IsAnswered eq hash s.mode s.store before es (tales caller) call.key (ask_of before.machine) a s'.store later
-  left = answered eq says hash s.mode s.store before es (tales caller) hashed call.key call.split (may (tales caller) call.split) call.rests kept.coded kept.single kept.made call.last call.opens call.own refuse (ask_of before.machine) refl a s'.store later performs
+  left = by_ask (ask_of before.machine) refl performs
+    where
+      by_ask : (ask : Ask) → ask_of before.machine ≡ ask → PerformsAsk eq says hashes refuse ask s.store before a s'.store later → IsAnswered eq hash s.mode s.store before es (tales caller) call.key ask a s'.store later
+      by_ask (asks.Call ask) e (told, is, h) =
+          subst (λ y. IsAnswered eq hash s.mode s.store before es (tales caller) call.key (asks.Call ask) y s'.store later) (sym is)
+          (answered_call eq says hash s.mode s.store before es (tales caller) hashed call.key call.split (may (tales caller) call.split) call.rests kept.coded kept.made call.last call.opens call.links call.own refuse ask e told s'.store later h)
+      by_ask (asks.Copy ask) e (h, same) =
+          answered_copy eq hashes hash s.mode s.store hasher before es (tales caller) hashed call.key call.split (may (tales caller) call.split) call.rests kept.coded kept.made call.last call.carried call.opens call.links call.own refuse ask e a s'.store later h same
 
   -- the exchanges after it
   abbrev pub es' : List (Exchange (Stored K V))
@@ -81,8 +97,8 @@ module _ {K V S A : Type 0} (eq : K → K → Bool) (hash : K → ℕ) (law : Is
 
   -- the machine learns, and what was exchanged was allowed
   learnt : AllAllowed g start ((tales caller).begun ++ ((tales caller).since ++ left.made)) × Rests g c (tales caller).begun ((tales caller).since ++ left.made) call.key (after before.machine a) left.hands
-  learnt = machine_learns g c hashed (tales caller).begun (tales caller).since (may (tales caller) call.split) call.key before.machine (tales caller).hands call.rests a left.made left.hands
-      (subst (λ l. IsTold g c call.key (run l start) (kind_of_ask before.machine) (tales caller).hands (ask_of before.machine) a left.made left.hands) (sym call.split) left.told)
+  learnt = all_learns g c hashed (tales caller).begun (tales caller).since (may (tales caller) call.split) call.key before.machine (tales caller).hands call.rests a left.made left.hands
+      (subst (λ l. IsTold g c call.key (run l start) (kind_of_ask before.machine) (follows_of before.machine) (tales caller).hands (ask_of before.machine) a left.made left.hands) (sym call.split) left.told)
 
   -- all exchanges were allowed
   all : AllAllowed g start es'
@@ -92,46 +108,70 @@ module _ {K V S A : Type 0} (eq : K → K → Bool) (hash : K → ℕ) (law : Is
   agrees : Agrees (IsOn (run es' start).first (run es' start).next) g g'
   agrees = grown_agrees eq hash s.mode s'.mode s.store.words.tables s'.store.words.tables mode_is left.grown (IsOn (run es' start).first (run es' start).next) (λ t on. left.there t on.0 (on_comes (run es' start) t on))
 
+  -- the stepping call's task stays
+  same_task : (after before.machine a).call.task ≡ before.machine.call.task
+  same_task = (chain_task before.machine a (in_order g c (tales caller).begun (tales caller).since call.key before.machine (tales caller).hands (run es start) a left.made left.hands call.rests left.told)).0
+
   -- what a call rests on in the grown setting
   grown_rests : (tale : Tale K V) (split : tale.begun ++ tale.since ≡ es) (k : K) (m : _) (hands : Hands (Stored K V)) → Rests g c tale.begun (tale.since ++ left.made) k m hands → Rests g' c tale.begun (tale.since ++ left.made) k m hands
   grown_rests tale split k m hands rests =
       let to : es' ≡ tale.begun ++ (tale.since ++ left.made) = sym (longer_split tale split) in
-      rests_carries g g' c hashed tale.begun (tale.since ++ left.made) (subst (AllAllowed g start) to all) k (subst (λ l. Agrees (IsOn (run l start).first (run l start).next) g g') to agrees) m hands rests
+      rests_carries g g' c hashed tale.begun (tale.since ++ left.made) (subst (AllAllowed g start) to all) (subst (λ l. Agrees (IsOn (run l start).first (run l start).next) g g') to agrees) k m hands rests
 
   -- the map is the same in the grown setting
   pub same_map : (k : K) → map_left g' es k ≡ map_left g es k
   same_map k = ap (λ f. f k) (map_of_carries g g' (IsOn (run es' start).first (run es' start).next) agrees es (λ y. None))
 
   -- a table that was made is still there
-  still_there : (t : ℕ) → (words : TableWords) × (table_of s.store.words.tables t ≡ Some words) → (words : TableWords) × (table_of s'.store.words.tables t ≡ Some words)
+  still_there : (t : ℕ) → IsMade s.store t → IsMade s'.store t
   still_there t w = let grown = left.grown t w.0 w.1 in (grown.0, grown.1)
 
   -- a pair of the log has a number below its length
   below : (p : Stored K V) → IsLogged s.store p → p.number < length s.store.pairs
   below p logged = pair_below s.store p.number p logged
 
+  -- a pair that stood in a slot is logged
+  stood_logged : (p : Stored K V) → Stands (run es start) p → IsLogged s'.store p
+  stood_logged p (t, x, names) = left.logged p.number p (kept.logged t x p names)
+
   -- the stepping call's own facts
-  own_last : (p : Stored K V) → (((tales caller).hands.last ≡ Some p) ⊎ ((t : ℕ) × (x : ℕ) × (named ((run es start).slot t x) ≡ Some p))) → IsLogged s'.store p
+  own_last : (p : Stored K V) → (((tales caller).hands.call.last ≡ Some p) ⊎ Stands (run es start) p) → IsLogged s'.store p
   own_last p (inl old) = left.logged p.number p (call.last p old)
-  own_last p (inr (t, x, names)) = left.logged p.number p (kept.logged t x p names)
+  own_last p (inr stood) = stood_logged p stood
+
+  own_carried : (p : Stored K V) → (((tales caller).hands.kept ≡ Some p) ⊎ ((tales caller).hands.call.last ≡ Some p)) → IsLogged s'.store p
+  own_carried p (inl old) = left.logged p.number p (call.carried p old)
+  own_carried p (inr told) = left.logged p.number p (call.last p told)
 
   -- each pair that it made is logged
-  own_made : (p : Stored K V) → (IsOneOf (tales caller).hands.made p ⊎ ((p.number ≡ length s.store.pairs) × (before.value ≡ Some p.value) × (pair_of s'.store p.number ≡ Some p))) → IsLogged s'.store p
+  own_made : (p : Stored K V) → (IsOneOf (tales caller).hands.call.made p ⊎ ((p.number ≡ length s.store.pairs) × (before.value ≡ Some p.value) × (pair_of s'.store p.number ≡ Some p))) → IsLogged s'.store p
   own_made p (inl old) = left.logged p.number p (call.made p old)
   own_made p (inr (number, value, there)) = there
 
   -- the table that it is about to open is there
-  own_opens : (t : ℕ) → ask_of (after before.machine a) ≡ Ask_exchange Root 0 t → (words : TableWords) × (table_of s'.store.words.tables t ≡ Some words)
-  own_opens t opening = elim (machine_opens before.machine a t opening) [ inl old ↦ still_there t (call.opens t old) | inr (is, slots, limit, making) ↦ left.opens t slots limit is making ]
+  own_opens : (t : ℕ) → ask_of (after before.machine a) ≡ asks.Call (Ask_exchange Root 0 t) → IsMade s'.store t
+  own_opens t opening = elim (chain_opens before.machine a t opening (in_order g c (tales caller).begun (tales caller).since call.key before.machine (tales caller).hands (run es start) a left.made left.hands call.rests left.told)) [
+    | inl old ↦ still_there t (call.opens t old)
+    | inr (is, slots, limit, making) ↦ left.opens t is (inl (slots, limit, making))
+  ]
+
+  -- and so is the one that it is about to link
+  own_links : (behind t : ℕ) → link_in (after before.machine a).phase ≡ Some (Linking behind t) → IsMade s'.store t
+  own_links behind t =
+      is_made (IsMade s'.store) (link_in (after before.machine a).phase)
+      (machine_made (IsMade s'.store) before.machine a
+      (λ n aside is. copy_made eq says hashes refuse s.store before a s'.store later before.machine aside performs n is)
+      (made_is (IsMade s'.store) (link_in before.machine.phase) (λ behind t linking. still_there t (call.links behind t linking))))
+      behind t
 
   -- a pair that it made and did not write stands in no slot
-  own_unwritten : (p : Stored K V) → IsOneOf left.hands.made p → change_in (after before.machine a).state ≡ None → (t x : ℕ) (q : Stored K V) → named ((run es' start).slot t x) ≡ Some q → q.number ≢ p.number
+  own_unwritten : (p : Stored K V) → IsOneOf left.hands.call.made p → change_in (after before.machine a).call.state ≡ None → (t x : ℕ) (q : Stored K V) → named ((run es' start).slot t x) ≡ Some q → q.number ≢ p.number
   own_unwritten p made none t x q names =
       let u = left.unchanged none in
-      let stood : named ((run es start).slot t x) ≡ Some q = u.1 t x q names in
+      let (v, y, stood) = u.1 t x q names in
       elim (left.new p made) [
-        | inl old ↦ call.unwritten p old u.0 t x q stood
-        | inr (number, value, there) ↦ (λ same. let lt : q.number < length s.store.pairs = below q (kept.logged t x q stood) in omega arith)
+        | inl old ↦ call.unwritten p old u.0 v y q stood
+        | inr (number, value, there) ↦ (λ same. let lt : q.number < length s.store.pairs = below q (kept.logged v y q stood) in omega arith)
       ]
 
   -- so it rests on what is told of it after the step
@@ -139,13 +179,15 @@ module _ {K V S A : Type 0} (eq : K → K → Bool) (hash : K → ℕ) (law : Is
   own_call hands e = record {
     key = call.key;
     own = left.own;
-    answers = λ asks. answers_performed eq says refuse (ask_of before.machine) s.store before a s'.store later performs (call.answers (subst HasClosure (same_task before.machine a).0 asks));
+    answers = λ asks. answers_asked eq says hashes refuse (ask_of before.machine) s.store before a s'.store later performs (call.answers (subst HasClosure same_task asks));
     split = longer_split (tales caller) call.split;
     rests = subst (Rests g' c (tales caller).begun ((tales caller).since ++ left.made) call.key (after before.machine a)) e (grown_rests (tales caller) call.split call.key (after before.machine a) left.hands learnt.1);
-    last = λ p l. own_last p (left.last p (ap (λ (y : Hands (Stored K V)). y.last) e ∙ l));
-    made = λ p l. own_made p (left.new p (subst (λ (y : Hands (Stored K V)). IsOneOf y.made p) (sym e) l));
+    last = λ p l. own_last p (left.last p (ap (λ (y : Hands (Stored K V)). y.call.last) e ∙ l));
+    carried = λ p l. own_carried p (left.carried p (ap (λ (y : Hands (Stored K V)). y.kept) e ∙ l));
+    made = λ p l. own_made p (left.new p (subst (λ (y : Hands (Stored K V)). IsOneOf y.call.made p) (sym e) l));
     opens = own_opens;
-    unwritten = λ p l. own_unwritten p (subst (λ (y : Hands (Stored K V)). IsOneOf y.made p) (sym e) l);
+    links = own_links;
+    unwritten = λ p l. own_unwritten p (subst (λ (y : Hands (Stored K V)). IsOneOf y.call.made p) (sym e) l);
   }
 
   -- with the key that it had
@@ -154,9 +196,9 @@ module _ {K V S A : Type 0} (eq : K → K → Bool) (hash : K → ℕ) (law : Is
   own_call-key hands e = refl
 
   -- another call's facts
-  other_unwritten : (d : ℕ) (r : Running K V A) → running s.callers d ≡ Some r → d ≢ caller → (p : Stored K V) → IsOneOf (tales d).hands.made p → change_in r.machine.state ≡ None → (t x : ℕ) (q : Stored K V) → named ((run es' start).slot t x) ≡ Some q → q.number ≢ p.number
+  other_unwritten : (d : ℕ) (r : Running K V A) → running s.callers d ≡ Some r → d ≢ caller → (p : Stored K V) → IsOneOf (tales d).hands.call.made p → change_in r.machine.call.state ≡ None → (t x : ℕ) (q : Stored K V) → named ((run es' start).slot t x) ≡ Some q → q.number ≢ p.number
   other_unwritten d r runs differ p made none t x q names = elim (left.slots t x q names) [
-    | inl stood ↦ (kept.calls d r runs).unwritten p made none t x q stood
+    | inl (u, y, stood) ↦ (kept.calls d r runs).unwritten p made none u y q stood
     | inr mine ↦ kept.apart caller d before r was runs (λ same. differ (sym same)) q p mine made
   ]
 
@@ -166,17 +208,19 @@ module _ {K V S A : Type 0} (eq : K → K → Bool) (hash : K → ℕ) (law : Is
       let o = kept.calls d r runs in
       let tale : Tale K V = tales d in
       let stays : Rests g c tale.begun (tale.since ++ left.made) o.key r.machine tale.hands =
-      rests_stays g c hashed tale.begun tale.since left.made (subst (AllAllowed g start) (sym (longer_split tale o.split)) all) o.key r.machine tale.hands o.rests in
+      all_stays g c hashed tale.begun tale.since left.made (subst (AllAllowed g start) (sym (longer_split tale o.split)) all) o.key r.machine tale.hands o.rests in
       record {
         key = o.key;
         own = left.keys r.key o.key o.own;
         answers = o.answers;
         split = longer_split tale o.split;
         rests = subst (Rests g' c tale.begun (tale.since ++ left.made) o.key r.machine) e (grown_rests tale o.split o.key r.machine tale.hands stays);
-        last = λ p l. left.logged p.number p (o.last p (ap (λ (y : Hands (Stored K V)). y.last) e ∙ l));
-        made = λ p l. left.logged p.number p (o.made p (subst (λ (y : Hands (Stored K V)). IsOneOf y.made p) (sym e) l));
+        last = λ p l. left.logged p.number p (o.last p (ap (λ (y : Hands (Stored K V)). y.call.last) e ∙ l));
+        carried = λ p l. left.logged p.number p (o.carried p (ap (λ (y : Hands (Stored K V)). y.kept) e ∙ l));
+        made = λ p l. left.logged p.number p (o.made p (subst (λ (y : Hands (Stored K V)). IsOneOf y.call.made p) (sym e) l));
         opens = λ t opening. still_there t (o.opens t opening);
-        unwritten = λ p l. other_unwritten d r runs differ p (subst (λ (y : Hands (Stored K V)). IsOneOf y.made p) (sym e) l);
+        links = λ behind t linking. still_there t (o.links behind t linking);
+        unwritten = λ p l. other_unwritten d r runs differ p (subst (λ (y : Hands (Stored K V)). IsOneOf y.call.made p) (sym e) l);
       }
 
   -- the tales after the step
@@ -209,37 +253,37 @@ module _ {K V S A : Type 0} (eq : K → K → Bool) (hash : K → ℕ) (law : Is
     ]
 
     -- the stepping call's pairs are not another's
-    own_apart : (d : ℕ) (r : Running K V A) → running s.callers d ≡ Some r → d ≢ caller → (p p' : Stored K V) → IsOneOf left.hands.made p → IsOneOf (tales d).hands.made p' → p.number ≢ p'.number
+    own_apart : (d : ℕ) (r : Running K V A) → running s.callers d ≡ Some r → d ≢ caller → (p p' : Stored K V) → IsOneOf left.hands.call.made p → IsOneOf (tales d).hands.call.made p' → p.number ≢ p'.number
     own_apart d r runs differ p p' mine other = elim (left.new p mine) [
       | inl old ↦ kept.apart caller d before r was runs (λ same. differ (sym same)) p p' old other
       | inr (number, value, there) ↦ (λ same. let lt : p'.number < length s.store.pairs = below p' ((kept.calls d r runs).made p' other) in omega arith)
     ]
 
     -- no two calls have made one pair
-    apart : (d e : ℕ) (r q : Running K V A) → running s'.callers d ≡ Some r → running s'.callers e ≡ Some q → d ≢ e → (p p' : Stored K V) → IsOneOf (tales' d).hands.made p → IsOneOf (tales' e).hands.made p' → p.number ≢ p'.number
+    apart : (d e : ℕ) (r q : Running K V A) → running s'.callers d ≡ Some r → running s'.callers e ≡ Some q → d ≢ e → (p p' : Stored K V) → IsOneOf (tales' d).hands.call.made p → IsOneOf (tales' e).hands.call.made p' → p.number ≢ p'.number
     apart d e r q runs_d runs_e differ p p' made_d made_e = elim (cases_same d caller) [
       | inl d_steps ↦ elim (cases_same e caller) [
         | inl e_steps ↦ absurd (differ (d_steps ∙ sym e_steps))
-        | inr e_not ↦ own_apart e q (other_runs e q e_not runs_e) e_not p p' (subst (λ (y : Hands (Stored K V)). IsOneOf y.made p) (sym (own_hands d d_steps)) made_d) (subst (λ (y : Hands (Stored K V)). IsOneOf y.made p') (sym (other_hands e e_not)) made_e)
+        | inr e_not ↦ own_apart e q (other_runs e q e_not runs_e) e_not p p' (subst (λ (y : Hands (Stored K V)). IsOneOf y.call.made p) (sym (own_hands d d_steps)) made_d) (subst (λ (y : Hands (Stored K V)). IsOneOf y.call.made p') (sym (other_hands e e_not)) made_e)
       ]
       | inr d_not ↦ elim (cases_same e caller) [
-        | inl e_steps ↦ (λ same. own_apart d r (other_runs d r d_not runs_d) d_not p' p (subst (λ (y : Hands (Stored K V)). IsOneOf y.made p') (sym (own_hands e e_steps)) made_e) (subst (λ (y : Hands (Stored K V)). IsOneOf y.made p) (sym (other_hands d d_not)) made_d) (sym same))
-        | inr e_not ↦ kept.apart d e r q (other_runs d r d_not runs_d) (other_runs e q e_not runs_e) differ p p' (subst (λ (y : Hands (Stored K V)). IsOneOf y.made p) (sym (other_hands d d_not)) made_d) (subst (λ (y : Hands (Stored K V)). IsOneOf y.made p') (sym (other_hands e e_not)) made_e)
+        | inl e_steps ↦ (λ same. own_apart d r (other_runs d r d_not runs_d) d_not p' p (subst (λ (y : Hands (Stored K V)). IsOneOf y.call.made p') (sym (own_hands e e_steps)) made_e) (subst (λ (y : Hands (Stored K V)). IsOneOf y.call.made p) (sym (other_hands d d_not)) made_d) (sym same))
+        | inr e_not ↦ kept.apart d e r q (other_runs d r d_not runs_d) (other_runs e q e_not runs_e) differ p p' (subst (λ (y : Hands (Stored K V)). IsOneOf y.call.made p) (sym (other_hands d d_not)) made_d) (subst (λ (y : Hands (Stored K V)). IsOneOf y.call.made p') (sym (other_hands e e_not)) made_e)
       ]
     ]
 
     -- a pair that a slot names is logged
     logged : (t x : ℕ) (p : Stored K V) → named ((run es' start).slot t x) ≡ Some p → IsLogged s'.store p
-    logged t x p names = elim (left.slots t x p names) [ inl stood ↦ left.logged p.number p (kept.logged t x p stood) | inr mine ↦ left.logged p.number p (call.made p mine) ]
+    logged t x p names = elim (left.slots t x p names) [ inl stood ↦ stood_logged p stood | inr mine ↦ left.logged p.number p (call.made p mine) ]
 
     -- the core after the step
     pub step_kept : IsKept eq hash s'.mode s'.store s'.callers es' tales'
     step_kept = record {
       allowed = all_carries g hashed.lawful g' es' start (λ k. None) (start_keeps g hashed.lawful) all agrees;
       coded = left.coded;
-      single = left.single;
       made = λ t some comes. still_there t (left.there t some comes);
       logged = logged;
+      few = left.few kept.few;
       calls = calls;
       apart = apart;
     }

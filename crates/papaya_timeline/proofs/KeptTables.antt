@@ -1,9 +1,10 @@
 -- The words and the sizes of tables after a write, and after a table was made.
-use Rattle.std.proofs.Common.{◌≡◌, ◌≢◌, ℕ, zero, suc, ◌+◌, ◌-◌, ◌==◌, ◌<◌, Bool, true, false, cond, List, [], ◌∷◌, ◌++◌, length, slice_get, slice_set, slice_index, replicate, Some, None, ⊎_elim, refl, sym, ◌∙◌, ap, arith, length-set, lt-ltb}
+use Rattle.std.proofs.Common.{◌≡◌, ◌≢◌, ℕ, zero, suc, ◌+◌, ◌-◌, ◌==◌, ◌<◌, ◌≤◌, Bool, true, false, cond, List, [], ◌∷◌, ◌++◌, length, slice_get, slice_set, slice_index, replicate, nat_lt, Some, None, ◌⊎◌, inl, inr, ⊎_elim, refl, sym, ◌∙◌, ap, arith, length-set, lt-ltb}
+use Rattle.std.proofs.lemmas.Option.{slice_get_within}
 use Rattle.papaya_words.specs.Table.{TableWords, new_table}
 use Rattle.papaya_ask.specs.declared.ask.At.{At}
 use Rattle.papaya_ask.specs.declared.ask.At.TheVariants.{Root, Next, Aborted, Done, Slot}
-use Rattle.papaya_store.specs.Tables.{Tables, table_of, word_in, word_at, put, put_in}
+use Rattle.papaya_store.specs.Tables.{Tables, table_of, word_in, word_at, written, put, put_at, put_in}
 use Rattle.papaya_timeline.proofs.CallersLemmas.{differs, same_item}
 use Rattle.papaya_timeline.proofs.CoreLemmas.{cases_same}
 
@@ -60,6 +61,10 @@ table_there tables n t e = go (n == 0) refl
     go true z = let f : None ≡ Some t = sym (ap (λ b. cond b None (slice_get tables (n - 1))) z) ∙ e in cc
     go false z = (z, sym (ap (λ b. cond b None (slice_get tables (n - 1))) z) ∙ e)
 
+-- so its number is no greater than the number of tables
+pub table_low : (tables : List TableWords) (n : ℕ) (t : TableWords) → table_of tables n ≡ Some t → n ≤ length tables
+table_low tables n t e = let at = table_there tables n t e in let within = slice_get_within tables (n - 1) t at.1 in omega (arith, within)
+
 -- the table of a number above 0
 pub table_at : (tables : List TableWords) (n : ℕ) → (n == 0) ≡ false → table_of tables n ≡ slice_get tables (n - 1)
 table_at tables n z = ap (λ b. cond b None (slice_get tables (n - 1))) z
@@ -72,31 +77,38 @@ HasMoreTables tables tables' = (n : ℕ) (t : TableWords) → table_of tables n 
 pub grown-same : (tables : List TableWords) → HasMoreTables tables tables
 grown-same tables n t e = (t, e, refl, refl)
 
--- a write to a slot that is there
-module _ (w : Tables) (n i word : ℕ) (t : TableWords) (there : table_of w.tables n ≡ Some t) (lt : i < length t.slots) where
-  -- the table after it
-  abbrev after_write : TableWords
-  after_write = record t { slots = slice_set t.slots i word }
+-- each table is as long after a write as before it
+written-size : (at : At) (t : TableWords) (word : ℕ) → (length (written at t word).slots ≡ length t.slots) × ((written at t word).limit ≡ t.limit)
+written-size Root t word = (refl, refl)
+written-size (Next n) t word = (refl, refl)
+written-size (Aborted n) t word = (refl, refl)
+written-size (Done n) t word = (refl, refl)
+written-size (Slot n i) t word = elim (nat_lt i (length t.slots)) as (λ b. (length (cond b (record t { slots = slice_set t.slots i word }) t).slots ≡ length t.slots) × ((cond b (record t { slots = slice_set t.slots i word }) t).limit ≡ t.limit)) [ true ↦ (length-set t.slots i word, refl) | false ↦ (refl, refl) ]
 
+-- a write to a table that is there
+module _ (w : Tables) (at : At) (n word : ℕ) (t : TableWords) (there : table_of w.tables n ≡ Some t) where
   -- the tables after it
-  pub put-slot : put w (Slot n i) word ≡ record w { tables = slice_set w.tables (n - 1) after_write }
-  put-slot =
-      let at = table_there w.tables n t there in
-      ap (λ b. cond b w (record w { tables = put_in (Slot n i) (slice_get w.tables (n - 1)) w.tables (n - 1) word })) at.0
-      ∙ ap (λ o. record w { tables = put_in (Slot n i) o w.tables (n - 1) word }) at.1
-      ∙ ap (λ b. record w { tables = slice_set w.tables (n - 1) (cond b after_write t) }) (lt-ltb i (length t.slots) lt)
+  put-table : put_at at n w word ≡ record w { tables = slice_set w.tables (n - 1) (written at t word) }
+  put-table =
+      let e = table_there w.tables n t there in
+      ap (λ b. cond b w (record w { tables = put_in at (slice_get w.tables (n - 1)) w.tables (n - 1) word })) e.0
+      ∙ ap (λ o. record w { tables = put_in at o w.tables (n - 1) word }) e.1
+
+  -- no root is written
+  pub written-root : (put_at at n w word).root ≡ w.root
+  written-root = ap (λ (v : Tables). v.root) put-table
 
   -- the table that was written
-  table-here : table_of (put w (Slot n i) word).tables n ≡ Some after_write
-  table-here =
-      let at = table_there w.tables n t there in
-      ap (λ (v : Tables). table_of v.tables n) put-slot
-      ∙ table_at (slice_set w.tables (n - 1) after_write) n at.0
-      ∙ get-set_same w.tables (n - 1) t after_write at.1
+  pub written-here : table_of (put_at at n w word).tables n ≡ Some (written at t word)
+  written-here =
+      let e = table_there w.tables n t there in
+      ap (λ (v : Tables). table_of v.tables n) put-table
+      ∙ table_at (slice_set w.tables (n - 1) (written at t word)) n e.0
+      ∙ get-set_same w.tables (n - 1) t (written at t word) e.1
 
   -- the others
-  table-other : (u : ℕ) → u ≢ n → table_of (put w (Slot n i) word).tables u ≡ table_of w.tables u
-  table-other u differ = ap (λ (v : Tables). table_of v.tables u) put-slot ∙ go (u == 0) refl
+  pub written-other : (u : ℕ) → u ≢ n → table_of (put_at at n w word).tables u ≡ table_of w.tables u
+  written-other u differ = ap (λ (v : Tables). table_of v.tables u) put-table ∙ go (u == 0) refl
     where
       some : n ≢ 0
       some z = let f : true ≡ false = sym (eqb-same n z) ∙ (table_there w.tables n t there).0 in cc
@@ -104,9 +116,9 @@ module _ (w : Tables) (n i word : ℕ) (t : TableWords) (there : table_of w.tabl
           eqb-same : (m : ℕ) → m ≡ 0 → (m == 0) ≡ true
           eqb-same m e = ap (λ y. y == 0) e
 
-      go : (b : Bool) → (u == 0) ≡ b → table_of (slice_set w.tables (n - 1) after_write) u ≡ table_of w.tables u
-      go true z = ap (λ b. cond b None (slice_get (slice_set w.tables (n - 1) after_write) (u - 1))) z ∙ sym (ap (λ b. cond b None (slice_get w.tables (u - 1))) z)
-      go false z = table_at (slice_set w.tables (n - 1) after_write) u z ∙ get-set_other w.tables (n - 1) (u - 1) after_write (λ e. differ (same_number e)) ∙ sym (table_at w.tables u z)
+      go : (b : Bool) → (u == 0) ≡ b → table_of (slice_set w.tables (n - 1) (written at t word)) u ≡ table_of w.tables u
+      go true z = ap (λ b. cond b None (slice_get (slice_set w.tables (n - 1) (written at t word)) (u - 1))) z ∙ sym (ap (λ b. cond b None (slice_get w.tables (u - 1))) z)
+      go false z = table_at (slice_set w.tables (n - 1) (written at t word)) u z ∙ get-set_other w.tables (n - 1) (u - 1) (written at t word) (λ e. differ (same_number e)) ∙ sym (table_at w.tables u z)
         where
           same_number : u - 1 ≡ n - 1 → u ≡ n
           same_number e =
@@ -115,38 +127,114 @@ module _ (w : Tables) (n i word : ℕ) (t : TableWords) (there : table_of w.tabl
               omega arith
 
   -- each table is as long as it was
-  pub put-grown : HasMoreTables w.tables (put w (Slot n i) word).tables
-  put-grown u v e = ⊎_elim
+  pub written-grown : HasMoreTables w.tables (put_at at n w word).tables
+  written-grown u v e = ⊎_elim
       (λ (same : u ≡ n).
       let f : t ≡ v = same_item t v (sym there ∙ (ap (table_of w.tables) (sym same) ∙ e)) in
-      (after_write, ap (table_of (put w (Slot n i) word).tables) same ∙ table-here, length-set t.slots i word ∙ ap (λ (y : TableWords). length y.slots) f, ap (λ (y : TableWords). y.limit) f))
-      (λ (differ : u ≢ n). (v, table-other u differ ∙ e, refl, refl))
+      let size = written-size at t word in
+      (written at t word, ap (table_of (put_at at n w word).tables) same ∙ written-here, size.0 ∙ ap (λ (y : TableWords). length y.slots) f, size.1 ∙ ap (λ (y : TableWords). y.limit) f))
+      (λ (differ : u ≢ n). (v, written-other u differ ∙ e, refl, refl))
       (cases_same u n)
+
+  -- a word that the write leaves
+  pub written-left : (read : TableWords → ℕ) → read (written at t word) ≡ read t → (u : ℕ) → word_in read (table_of (put_at at n w word).tables u) ≡ word_in read (table_of w.tables u)
+  written-left read same u = ⊎_elim
+      (λ (e : u ≡ n). ap (λ y. word_in read (table_of (put_at at n w word).tables y)) e ∙ ap (word_in read) written-here ∙ same ∙ sym (ap (word_in read) there) ∙ ap (λ y. word_in read (table_of w.tables y)) (sym e))
+      (λ (differ : u ≢ n). ap (word_in read) (written-other u differ))
+      (cases_same u n)
+
+  -- and every word of another table
+  pub written-elsewhere : (read : TableWords → ℕ) (u : ℕ) → u ≢ n → word_in read (table_of (put_at at n w word).tables u) ≡ word_in read (table_of w.tables u)
+  written-elsewhere read u differ = ap (word_in read) (written-other u differ)
+
+-- a write to a slot that is there
+module _ (w : Tables) (n i word : ℕ) (t : TableWords) (there : table_of w.tables n ≡ Some t) (lt : i < length t.slots) where
+  -- the table after it
+  slot-written : written (Slot n i) t word ≡ record t { slots = slice_set t.slots i word }
+  slot-written = ap (λ b. cond b (record t { slots = slice_set t.slots i word }) t) (lt-ltb i (length t.slots) lt)
+
+  -- each table is as long as it was
+  pub put-grown : HasMoreTables w.tables (put w (Slot n i) word).tables
+  put-grown = written-grown w (Slot n i) n word t there
 
   -- the word that was written
   pub word-here : word_at (put w (Slot n i) word) (Slot n i) ≡ word
-  word-here = ap (word_in (λ v. slice_index v.slots i)) table-here ∙ index-set_same t.slots i word lt
-
-  -- a word that a write to a slot leaves
-  word-left : (read : TableWords → ℕ) → read after_write ≡ read t → (u : ℕ) → word_in read (table_of (put w (Slot n i) word).tables u) ≡ word_in read (table_of w.tables u)
-  word-left read same u = ⊎_elim
-      (λ (e : u ≡ n). ap (λ y. word_in read (table_of (put w (Slot n i) word).tables y)) e ∙ ap (word_in read) table-here ∙ same ∙ sym (ap (word_in read) there) ∙ ap (λ y. word_in read (table_of w.tables y)) (sym e))
-      (λ (differ : u ≢ n). ap (word_in read) (table-other u differ))
-      (cases_same u n)
+  word-here = ap (word_in (λ v. slice_index v.slots i)) (written-here w (Slot n i) n word t there) ∙ ap (λ (y : TableWords). slice_index y.slots i) slot-written ∙ index-set_same t.slots i word lt
 
   -- every other word is as it was
   pub word-other : (other : At) → (other ≡ Slot n i → ⊥) → word_at (put w (Slot n i) word) other ≡ word_at w other
-  word-other Root differ = ap (λ (v : Tables). v.root) put-slot
-  word-other (Next u) differ = word-left (λ v. v.next) refl u
-  word-other (Aborted u) differ = word-left (λ v. v.aborted) refl u
-  word-other (Done u) differ = word-left (λ v. v.done) refl u
+  word-other Root differ = written-root w (Slot n i) n word t there
+  word-other (Next u) differ = written-left w (Slot n i) n word t there (λ v. v.next) (ap (λ (y : TableWords). y.next) slot-written) u
+  word-other (Aborted u) differ = written-left w (Slot n i) n word t there (λ v. v.aborted) (ap (λ (y : TableWords). y.aborted) slot-written) u
+  word-other (Done u) differ = written-left w (Slot n i) n word t there (λ v. v.done) (ap (λ (y : TableWords). y.done) slot-written) u
   word-other (Slot u y) differ = ⊎_elim
       (λ (e : u ≡ n).
-      ap (λ z. word_in (λ v. slice_index v.slots y) (table_of (put w (Slot n i) word).tables z)) e ∙ ap (word_in (λ v. slice_index v.slots y)) table-here
+      ap (λ z. word_in (λ v. slice_index v.slots y) (table_of (put w (Slot n i) word).tables z)) e ∙ ap (word_in (λ v. slice_index v.slots y)) (written-here w (Slot n i) n word t there)
+      ∙ ap (λ (v : TableWords). slice_index v.slots y) slot-written
       ∙ index-set_other t.slots i y word (λ same. differ (ap (λ z. Slot z y) e ∙ ap (Slot n) same))
       ∙ sym (ap (word_in (λ v. slice_index v.slots y)) there) ∙ ap (λ z. word_in (λ v. slice_index v.slots y) (table_of w.tables z)) (sym e))
-      (λ (other_table : u ≢ n). ap (word_in (λ v. slice_index v.slots y)) (table-other u other_table))
+      (λ (other_table : u ≢ n). written-elsewhere w (Slot n i) n word t there (λ v. slice_index v.slots y) u other_table)
       (cases_same u n)
+
+-- two places are the same or they differ
+pub cases_place : (a b : At) → (a ≡ b) ⊎ (a ≡ b → ⊥)
+cases_place Root Root = inl refl
+cases_place (Next m) (Next n) = elim (cases_same m n) [ inl same ↦ inl (ap Next same) | inr differ ↦ inr (λ e. differ cc) ]
+cases_place (Aborted m) (Aborted n) = elim (cases_same m n) [ inl same ↦ inl (ap Aborted same) | inr differ ↦ inr (λ e. differ cc) ]
+cases_place (Done m) (Done n) = elim (cases_same m n) [ inl same ↦ inl (ap Done same) | inr differ ↦ inr (λ e. differ cc) ]
+cases_place (Slot m x) (Slot n y) = elim (cases_same m n) [
+  | inl table ↦ elim (cases_same x y) [ inl slot ↦ inl (ap (λ z. Slot z x) table ∙ ap (Slot n) slot) | inr differ ↦ inr (λ e. differ cc) ]
+  | inr differ ↦ inr (λ e. differ cc)
+]
+cases_place a b = inr (λ e. absurd cc)
+
+-- a word that is written is the root's, or stands in a table that is there
+abbrev pub IsPlaced : List TableWords → At → Type 0
+IsPlaced tables Root = Unit {0}
+IsPlaced tables (Slot n i) = (t : TableWords) × (table_of tables n ≡ Some t) × (i < length t.slots)
+IsPlaced tables (Next n) = (t : TableWords) × (table_of tables n ≡ Some t)
+IsPlaced tables (Aborted n) = (t : TableWords) × (table_of tables n ≡ Some t)
+IsPlaced tables (Done n) = (t : TableWords) × (table_of tables n ≡ Some t)
+
+-- each table stays as long as it was
+pub placed-grown : (w : Tables) (at : At) (new : ℕ) → IsPlaced w.tables at → HasMoreTables w.tables (put w at new).tables
+placed-grown w Root new placed = grown-same w.tables
+placed-grown w (Slot n i) new (t, there, lt) = put-grown w n i new t there lt
+placed-grown w (Next n) new (t, there) = written-grown w (Next n) n new t there
+placed-grown w (Aborted n) new (t, there) = written-grown w (Aborted n) n new t there
+placed-grown w (Done n) new (t, there) = written-grown w (Done n) n new t there
+
+-- the word is written
+pub placed-here : (w : Tables) (at : At) (new : ℕ) → IsPlaced w.tables at → word_at (put w at new) at ≡ new
+placed-here w Root new placed = refl
+placed-here w (Slot n i) new (t, there, lt) = word-here w n i new t there lt
+placed-here w (Next n) new (t, there) = ap (word_in (λ v. v.next)) (written-here w (Next n) n new t there)
+placed-here w (Aborted n) new (t, there) = ap (word_in (λ v. v.aborted)) (written-here w (Aborted n) n new t there)
+placed-here w (Done n) new (t, there) = ap (word_in (λ v. v.done)) (written-here w (Done n) n new t there)
+
+-- and no other is
+pub placed-other : (w : Tables) (at : At) (new : ℕ) → IsPlaced w.tables at → (other : At) → (other ≡ at → ⊥) → word_at (put w at new) other ≡ word_at w other
+placed-other w Root new placed Root differ = absurd (differ refl)
+placed-other w Root new placed (Next u) differ = refl
+placed-other w Root new placed (Aborted u) differ = refl
+placed-other w Root new placed (Done u) differ = refl
+placed-other w Root new placed (Slot u y) differ = refl
+placed-other w (Slot n i) new (t, there, lt) other differ = word-other w n i new t there lt other differ
+placed-other w (Next n) new (t, there) Root differ = written-root w (Next n) n new t there
+placed-other w (Next n) new (t, there) (Next u) differ = written-elsewhere w (Next n) n new t there (λ v. v.next) u (λ e. differ (ap Next e))
+placed-other w (Next n) new (t, there) (Aborted u) differ = written-left w (Next n) n new t there (λ v. v.aborted) refl u
+placed-other w (Next n) new (t, there) (Done u) differ = written-left w (Next n) n new t there (λ v. v.done) refl u
+placed-other w (Next n) new (t, there) (Slot u y) differ = written-left w (Next n) n new t there (λ v. slice_index v.slots y) refl u
+placed-other w (Aborted n) new (t, there) Root differ = written-root w (Aborted n) n new t there
+placed-other w (Aborted n) new (t, there) (Next u) differ = written-left w (Aborted n) n new t there (λ v. v.next) refl u
+placed-other w (Aborted n) new (t, there) (Aborted u) differ = written-elsewhere w (Aborted n) n new t there (λ v. v.aborted) u (λ e. differ (ap Aborted e))
+placed-other w (Aborted n) new (t, there) (Done u) differ = written-left w (Aborted n) n new t there (λ v. v.done) refl u
+placed-other w (Aborted n) new (t, there) (Slot u y) differ = written-left w (Aborted n) n new t there (λ v. slice_index v.slots y) refl u
+placed-other w (Done n) new (t, there) Root differ = written-root w (Done n) n new t there
+placed-other w (Done n) new (t, there) (Next u) differ = written-left w (Done n) n new t there (λ v. v.next) refl u
+placed-other w (Done n) new (t, there) (Aborted u) differ = written-left w (Done n) n new t there (λ v. v.aborted) refl u
+placed-other w (Done n) new (t, there) (Done u) differ = written-elsewhere w (Done n) n new t there (λ v. v.done) u (λ e. differ (ap Done e))
+placed-other w (Done n) new (t, there) (Slot u y) differ = written-left w (Done n) n new t there (λ v. slice_index v.slots y) refl u
 
 -- what a table that is added says, where it says 0
 word-added : (read : TableWords → ℕ) (tables : List TableWords) (new : TableWords) → read new ≡ 0 → (i : ℕ) → word_in read (slice_get (tables ++ new ∷ []) i) ≡ word_in read (slice_get tables i)

@@ -7,7 +7,7 @@ use Rattle.papaya_words.specs.declared.probe.ResizeMode.{ResizeMode}
 use Rattle.papaya_ask.specs.declared.ask.At.{At}
 use Rattle.papaya_ask.specs.declared.ask.At.TheVariants.{Root, Next, Aborted, Done, Slot}
 use Rattle.papaya_ask.specs.declared.ask.Ask.TheVariants.{Exchange as Ask_exchange}
-use Rattle.papaya_ask.specs.declared.ask.Answer.{Answer}
+use Rattle.papaya_ask.specs.declared.ask.Answer.{Answer as Call_answer}
 use Rattle.papaya_ask.specs.declared.ask.StepKind.{StepKind}
 use Rattle.papaya_ask.specs.declared.ask.StepKind.TheVariants as kinds
 use Rattle.papaya_ask.specs.declared.call.Call.{Call}
@@ -16,12 +16,22 @@ use Rattle.papaya_ask.specs.declared.call.Reply.{Reply}
 use Rattle.papaya_ask.specs.declared.call.Reply.TheVariants.{Inserted, Replaced, Removed}
 use Rattle.papaya_ask.specs.declared.call.Task.{Task}
 use Rattle.papaya_ask.specs.declared.call.Task.TheVariants.{Insert as Insert_task, Compute as Compute_task}
-use Rattle.papaya_call.specs.declared.machine.Machine.{Machine}
+use Rattle.papaya_ask.specs.declared.copy_ask.CopyAsk.{CopyAsk}
+use Rattle.papaya_call.specs.declared.machine.Machine.{Machine as Call_machine}
 use Rattle.papaya_law.specs.Allows.{Allows, AllAllowed}
 use Rattle.papaya_law.specs.Exchange.{Live, Setting, State, Exchange, Open, Claim, Replace, Bury, run, start}
 use Rattle.papaya_law.specs.Code.{Coding, code}
 use Rattle.papaya_law.specs.Meaning.{IsLawful, IsLegal as IsLegal_exchange}
-use Rattle.papaya_call.specs.Machine.{HasClosure, ask_of, kind_of_ask}
+use Rattle.papaya_call.specs.Machine.{HasClosure}
+use Rattle.papaya_call.specs.Machine as calls
+use Rattle.papaya_chain.specs.declared.ask.Ask.{Ask}
+use Rattle.papaya_chain.specs.declared.ask.Ask.TheVariants as asks
+use Rattle.papaya_chain.specs.declared.ask.Answer.{Answer}
+use Rattle.papaya_chain.specs.declared.machine.Machine.{Machine as Chain_machine}
+use Rattle.papaya_chain.specs.Machine.{ask_of, follows_of, kind_of_ask}
+use Rattle.papaya_chain_rests.specs.Rests.{Rests as Chain_rests}
+use Rattle.papaya_chain_rests.specs.Told.{Hands as Chain_hands, IsCopyTold, IsTold as Chain_told}
+use Rattle.papaya_rests.specs.Copier.{IsCopyAsked}
 use Rattle.papaya_rests.specs.Rests.{Rests, change_of_reply}
 use Rattle.papaya_rests.specs.Told.{Hands, IsAsked, IsOneOf, IsTold, word_of}
 use Rattle.papaya_law.specs.Code.{IsHashed}
@@ -31,7 +41,7 @@ use Rattle.papaya_law.proofs.Slots.{same_right}
 use Rattle.papaya_timeline.specs.declared.trace.Turn.{Turn}
 use Rattle.papaya_timeline.specs.declared.trace.Event.{Event}
 use Rattle.papaya_timeline.specs.declared.trace.Event.TheVariants as events
-use Rattle.papaya_timeline.specs.Advances.{call_event, answered_event, kind_event}
+use Rattle.papaya_timeline.specs.Advances.{call_event, event_of, answered_event, kind_event}
 use Rattle.papaya_timeline.specs.Begins.{task_of_call}
 use Rattle.papaya_timeline.specs.Kept.{setting_of, coding_of, low}
 use Rattle.papaya_timeline.specs.Maps.{Map, Does, IsUpdate, Same, key_of}
@@ -39,9 +49,11 @@ use Rattle.papaya_store.specs.Store.{Stored}
 use Rattle.papaya_timeline.specs.Runs.{History}
 use Rattle.papaya_timeline.specs.Timeline.{Answered, open_call, change_of, number_in, IsFresh, IsUnused, MayChange, IsAgreed, FitsShown, IsLegal}
 use Rattle.papaya_timeline.proofs.EventLemmas.{told_cases, IsQuiet, IsExchanged, IsShowing, IsShown}
-use Rattle.papaya_timeline.proofs.Good.{IsValueOf, replay}
+use Rattle.papaya_timeline.proofs.ChainLemmas.{own_asks}
+use Rattle.papaya_timeline.proofs.Good.{IsValueOf, replay, replayed}
 use Rattle.papaya_timeline.proofs.MachineLemmas.{machine_replaces, machine_takes}
 use Rattle.papaya_timeline.proofs.ReplayLemmas.{replay-append, replay-alike, next_legal}
+use Rattle.papaya_timeline.proofs.StepEvents.{IsCopied, copy_kind, copy_moves, copy_told}
 
 -- only a call that replaces puts a pair in place of another
 abbrev pub MayReplace : {K V : Type 0} → Option (Stored K V) → Task → Type 0
@@ -122,7 +134,7 @@ module _ {K V : Type 0} (eq : K → K → Bool) (hash : K → ℕ) (mode mode' :
   abbrev c : Coding K (Stored K V)
   c = coding_of (low hash)
 
-  module _ (hashed : IsHashed g c) (lawful' : IsLawful g') (begun since : List (Exchange (Stored K V))) (k : K) (m : Machine) (hands : Hands (Stored K V)) (rests : Rests g c begun since k m hands) where
+  module _ (hashed : IsHashed g c) (lawful' : IsLawful g') (begun since : List (Exchange (Stored K V))) (k : K) (m : Call_machine) (hands : Hands (Stored K V)) (rests : Rests g c begun since k m hands) where
     -- the exchanges so far
     abbrev es : List (Exchange (Stored K V))
     es = begun ++ since
@@ -132,7 +144,7 @@ module _ {K V : Type 0} (eq : K → K → Bool) (hash : K → ℕ) (mode mode' :
 
     -- what the machine buries is a pair of its key
     abbrev pub BuriesOwn : Type 0
-    BuriesOwn = (t x old new : ℕ) (p : Stored K V) → kind_of_ask m ≡ Some kinds.Bury → ask_of m ≡ Ask_exchange (Slot t x) old new → now.slot t x ≡ Live p → pair_of old ≡ p.number → eq p.key k ≡ true
+    BuriesOwn = (t x old new : ℕ) (p : Stored K V) → calls.kind_of_ask m ≡ Some kinds.Bury → calls.ask_of m ≡ Ask_exchange (Slot t x) old new → now.slot t x ≡ Live p → pair_of old ≡ p.number → eq p.key k ≡ true
 
     abbrev Moves_by : Event → List (Exchange (Stored K V)) → Type 0
     Moves_by event made = Moves eq k m.task hands.made (replay eq es) (replay eq (es ++ made)) event
@@ -174,7 +186,7 @@ module _ {K V : Type 0} (eq : K → K → Bool) (hash : K → ℕ) (mode mode' :
 
     module _ (buries_own : BuriesOwn) where
       -- an exchange that was made moves the map by its kind
-      exchange_moves : (kind : Option StepKind) (at : At) (old new : ℕ) (e : Exchange (Stored K V)) → kind_of_ask m ≡ kind → ask_of m ≡ Ask_exchange at old new → IsAsked c kind at new now hands e → word_of g c now at ≡ old → IsLegal_exchange g' (replay eq es) e → Allows g' now e → Moves_by (kind_event kind old new) (e ∷ [])
+      exchange_moves : (kind : Option StepKind) (at : At) (old new : ℕ) (e : Exchange (Stored K V)) → calls.kind_of_ask m ≡ kind → calls.ask_of m ≡ Ask_exchange at old new → IsAsked c kind at new now hands e → word_of g c now at ≡ old → IsLegal_exchange g' (replay eq es) e → Allows g' now e → Moves_by (kind_event kind old new) (e ∷ [])
       exchange_moves None at old new e kind_is ask_is asked stood legal allows = absurd asked
       exchange_moves (Some kinds.Open) Root old new e kind_is ask_is asked stood legal allows = λ j. ap (λ fs. replay eq (es ++ fs) j) (ap (λ y. y ∷ []) asked) ∙ ap (λ n. n j) (replay-append eq es (Open new ∷ []))
       exchange_moves (Some kinds.Claim) (Slot t x) old new e kind_is ask_is (q, own, is) stood legal allows =
@@ -218,28 +230,68 @@ module _ {K V : Type 0} (eq : K → K → Bool) (hash : K → ℕ) (mode mode' :
       exchange_moves (Some kinds.Promote) at old new e kind_is ask_is asked stood legal allows = absurd asked
       exchange_moves (Some kinds.Abort) at old new e kind_is ask_is asked stood legal allows = absurd asked
 
-      -- the event of a step moves the map so
-      pub step_moves : (answer : Answer) (made : List (Exchange (Stored K V))) (hands' : Hands (Stored K V)) → IsTold g c k now (kind_of_ask m) hands (ask_of m) answer made hands' → AllAllowed g' start (es ++ made) → Moves_by (call_event (kind_of_ask m) (ask_of m) answer) made
-      step_moves answer made hands' told may' = ⊎_elim quiet (λ z. ⊎_elim exchanged (λ y. ⊎_elim asked shown y) z) (told_cases g c k now (kind_of_ask m) hands (ask_of m) answer made hands' told)
+      -- the event of what the call itself asks moves the map so
+      pub call_moves : (answer : Call_answer) (made : List (Exchange (Stored K V))) (hands' : Hands (Stored K V)) → IsTold g c k now (calls.kind_of_ask m) hands (calls.ask_of m) answer made hands' → AllAllowed g' start (es ++ made) → Moves_by (call_event (calls.kind_of_ask m) (calls.ask_of m) answer) made
+      call_moves answer made hands' told may' = ⊎_elim quiet (λ z. ⊎_elim exchanged (λ y. ⊎_elim asked shown y) z) (told_cases g c k now (calls.kind_of_ask m) hands (calls.ask_of m) answer made hands' told)
         where
           unchanged : made ≡ [] → Same (replay eq es) (replay eq (es ++ made))
           unchanged none j = ap (λ fs. replay eq (es ++ fs) j) none ∙ ap (λ fs. replay eq fs j) (append-nil es)
 
-          quiet : IsQuiet (kind_of_ask m) (ask_of m) answer made → Moves_by (call_event (kind_of_ask m) (ask_of m) answer) made
+          quiet : IsQuiet (calls.kind_of_ask m) (calls.ask_of m) answer made → Moves_by (call_event (calls.kind_of_ask m) (calls.ask_of m) answer) made
           quiet (none, other) = subst (λ y. Moves_by y made) (sym other) (unchanged none)
 
-          asked : IsShowing (kind_of_ask m) (ask_of m) answer made → Moves_by (call_event (kind_of_ask m) (ask_of m) answer) made
+          asked : IsShowing (calls.kind_of_ask m) (calls.ask_of m) answer made → Moves_by (call_event (calls.kind_of_ask m) (calls.ask_of m) answer) made
           asked (n, agrees, ask_is, answer_is, none, is) = subst (λ y. Moves_by y made) (sym is) (unchanged none)
 
-          shown : IsShown (kind_of_ask m) (ask_of m) answer made → Moves_by (call_event (kind_of_ask m) (ask_of m) answer) made
+          shown : IsShown (calls.kind_of_ask m) (calls.ask_of m) answer made → Moves_by (call_event (calls.kind_of_ask m) (calls.ask_of m) answer) made
           shown (n, op, ask_is, answer_is, none, is) = subst (λ y. Moves_by y made) (sym is) (unchanged none)
 
-          exchanged : IsExchanged g c now (kind_of_ask m) hands (ask_of m) answer made → Moves_by (call_event (kind_of_ask m) (ask_of m) answer) made
+          exchanged : IsExchanged g c now (calls.kind_of_ask m) hands (calls.ask_of m) answer made → Moves_by (call_event (calls.kind_of_ask m) (calls.ask_of m) answer) made
           exchanged x =
-              let is : call_event (kind_of_ask m) (ask_of m) answer ≡ kind_event (kind_of_ask m) x.old x.new = ap (λ y. call_event (kind_of_ask m) y answer) x.ask_is ∙ ap (answered_event (kind_of_ask m) x.old x.new) x.answer_is in
+              let is : call_event (calls.kind_of_ask m) (calls.ask_of m) answer ≡ kind_event (calls.kind_of_ask m) x.old x.new = ap (λ y. call_event (calls.kind_of_ask m) y answer) x.ask_is ∙ ap (answered_event (calls.kind_of_ask m) x.old x.new) x.answer_is in
               let allowed : AllAllowed g' start (es ++ x.by ∷ []) = subst (λ fs. AllAllowed g' start (es ++ fs)) x.made may' in
-              subst (λ y. Moves_by y made) (sym is) (subst (λ fs. Moves_by (kind_event (kind_of_ask m) x.old x.new) fs) (sym x.made)
-              (exchange_moves (kind_of_ask m) x.at x.old x.new x.by refl x.ask_is x.asked x.stood (next_legal eq (low hash) mode' tables' lawful' es x.by allowed) (allowed_rest g' es (x.by ∷ []) start allowed).0))
+              subst (λ y. Moves_by y made) (sym is) (subst (λ fs. Moves_by (kind_event (calls.kind_of_ask m) x.old x.new) fs) (sym x.made)
+              (exchange_moves (calls.kind_of_ask m) x.at x.old x.new x.by refl x.ask_is x.asked x.stood (next_legal eq (low hash) mode' tables' lawful' es x.by allowed) (allowed_rest g' es (x.by ∷ []) start allowed).0))
+
+module _ {K V : Type 0} (eq : K → K → Bool) where
+  -- an exchange of a copy leaves the map
+  copied_same : (c : Coding K (Stored K V)) (kind : Option StepKind) (at : At) (new : ℕ) (s : State (Stored K V)) (kept : Option (Stored K V)) (e : Exchange (Stored K V)) (m : Map K V) → IsCopyAsked c kind at new s kept e → replayed eq m (e ∷ []) ≡ m
+  copied_same c (Some kinds.Link) (Next t) new s kept e m is = ap (λ y. replayed eq m (y ∷ [])) is
+  copied_same c (Some kinds.Mark) (Slot t x) new s kept e m (p, there, is) = ap (λ y. replayed eq m (y ∷ [])) is
+  copied_same c (Some kinds.Close) (Slot t x) new s kept e m is = ap (λ y. replayed eq m (y ∷ [])) is
+  copied_same c (Some kinds.Place) (Slot t x) new s kept e m (p, carried, number, is) = ap (λ y. replayed eq m (y ∷ [])) is
+  copied_same c (Some kinds.Finish) (Slot t x) new s kept e m (p, there, is) = ap (λ y. replayed eq m (y ∷ [])) is
+  copied_same c (Some kinds.Advance) (Done n) new s kept e m is = ap (λ y. replayed eq m (y ∷ [])) is
+  copied_same c (Some kinds.Promote) Root new s kept e m is = ap (λ y. replayed eq m (y ∷ [])) is
+  copied_same c (Some kinds.Abort) (Aborted n) new s kept e m is = ap (λ y. replayed eq m (y ∷ [])) is
+  copied_same c kind at new s kept e m is = absurd is
+
+  -- what a copy is told leaves the map
+  pub copy_same : (g : Setting K (Stored K V)) (c : Coding K (Stored K V)) (s : State (Stored K V)) (kind : Option StepKind) (follows : ℕ) (hands : Chain_hands (Stored K V)) (ask : CopyAsk) (answer : Answer) (made : List (Exchange (Stored K V))) (hands' : Chain_hands (Stored K V)) → IsCopyTold g c s kind follows hands ask answer made hands' → (es : List (Exchange (Stored K V))) → Same (replay eq es) (replay eq (es ++ made))
+  copy_same g c s kind follows hands ask answer made hands' told es j =
+      ⊎_elim
+      (λ (none : made ≡ []). ap (λ fs. replay eq (es ++ fs) j) none ∙ ap (λ fs. replay eq fs j) (append-nil es))
+      (λ (x : IsCopied g c s kind hands.kept ask made). ap (λ fs. replay eq (es ++ fs) j) x.made ∙ ap (λ m. m j) (replay-append eq es (x.by ∷ []) ∙ copied_same c kind x.at x.new s hands.kept x.by (replay eq es) x.asked))
+      (copy_told g c s kind follows hands ask answer made hands' told)
+
+module _ {K V : Type 0} (eq : K → K → Bool) (hash : K → ℕ) (mode mode' : ResizeMode) (tables tables' : List TableWords) where
+  module _ (hashed : IsHashed (setting_of {V = V} eq (low hash) mode tables) (coding_of (low hash))) (lawful' : IsLawful (setting_of {V = V} eq (low hash) mode' tables')) (begun since : List (Exchange (Stored K V))) (k : K) (m : Chain_machine) (hands : Chain_hands (Stored K V)) (rests : Chain_rests (setting_of eq (low hash) mode tables) (coding_of (low hash)) begun since k m hands) (buries_own : BuriesOwn eq hash mode mode' tables tables' hashed lawful' begun since k m.call hands.call rests.call) where
+    -- the event of a step moves the map so, and that of a copy leaves it
+    pub step_moves : (answer : Answer) (made : List (Exchange (Stored K V))) (hands' : Chain_hands (Stored K V)) → Chain_told (setting_of eq (low hash) mode tables) (coding_of (low hash)) k (run (begun ++ since) start) (kind_of_ask m) (follows_of m) hands (ask_of m) answer made hands' → AllAllowed (setting_of eq (low hash) mode' tables') start ((begun ++ since) ++ made)
+        → Moves eq k m.call.task hands.call.made (replay eq (begun ++ since)) (replay eq ((begun ++ since) ++ made)) (event_of (kind_of_ask m) (ask_of m) answer)
+    step_moves answer made hands' told may' = by_ask (ask_of m) refl told
+      where
+        by_ask : (ask : Ask) → ask_of m ≡ ask → Chain_told (setting_of eq (low hash) mode tables) (coding_of (low hash)) k (run (begun ++ since) start) (kind_of_ask m) (follows_of m) hands ask answer made hands' → Moves eq k m.call.task hands.call.made (replay eq (begun ++ since)) (replay eq ((begun ++ since) ++ made)) (event_of (kind_of_ask m) ask answer)
+        by_ask (asks.Call ask) e h =
+            let own = own_asks m ask e in
+            let tells = subst (λ y. IsTold (setting_of eq (low hash) mode tables) (coding_of (low hash)) k (run (begun ++ since) start) y hands.call (calls.ask_of m.call) h.told made h.call) own.2 (subst (λ y. IsTold (setting_of eq (low hash) mode tables) (coding_of (low hash)) k (run (begun ++ since) start) (kind_of_ask m) hands.call y h.told made h.call) (sym own.1) h.tells) in
+            let is : event_of (kind_of_ask m) (asks.Call ask) answer ≡ call_event (calls.kind_of_ask m.call) (calls.ask_of m.call) h.told =
+            ap (event_of (kind_of_ask m) (asks.Call ask)) h.is ∙ ap (λ y. call_event y ask h.told) own.2 ∙ ap (λ y. call_event (calls.kind_of_ask m.call) y h.told) (sym own.1) in
+            subst (Moves eq k m.call.task hands.call.made (replay eq (begun ++ since)) (replay eq ((begun ++ since) ++ made))) (sym is)
+            (call_moves eq hash mode mode' tables tables' hashed lawful' begun since k m.call hands.call rests.call buries_own h.told made h.call tells may')
+        by_ask (asks.Copy ask) e h =
+            let same = copy_same eq (setting_of eq (low hash) mode tables) (coding_of (low hash)) (run (begun ++ since) start) (kind_of_ask m) (follows_of m) hands ask answer made hands' h (begun ++ since) in
+            copy_moves (λ e. Moves eq k m.call.task hands.call.made (replay eq (begun ++ since)) (replay eq ((begun ++ since) ++ made)) e) same (λ kind. same) (kind_of_ask m) (copy_kind m ask e) ask answer
 
 module _ {K V A : Type 0} (eq : K → K → Bool) (k : K) (task : Task) (made : List (Stored K V)) (m : Map K V) (schedule : List (Turn K V A)) (caller : ℕ) (h : History) (maps : List (Map K V)) (said : Answered V) where
   -- a call that made a pair may put it in, and one that has a closure may take one out; its closure has agreed

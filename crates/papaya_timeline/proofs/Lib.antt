@@ -9,6 +9,7 @@ pub mod CountedSeats
 pub mod CountedStep
 pub mod EndingLemmas
 pub mod EventLemmas
+pub mod FollowedTables
 pub mod GivenLemmas
 pub mod Good
 pub mod GoodLemmas
@@ -16,6 +17,7 @@ pub mod HeadlineLemmas
 pub mod KeptAnswer
 pub mod KeptBegin
 pub mod KeptClosures
+pub mod KeptCopied
 pub mod KeptCore
 pub mod KeptExchange
 pub mod KeptLemmas
@@ -29,8 +31,8 @@ pub mod KeptTables
 pub mod KeptWritten
 pub mod LegalLemmas
 pub mod MachineLemmas
+pub mod MadeTables
 pub mod OneTable
-pub mod RefusedLemmas
 pub mod ReplayLemmas
 pub mod RunLemmas
 pub mod ShowLemmas

@@ -24,7 +24,7 @@ module _ {K V S : Type 0} (eq : K → K → Bool) (store : StoreState K V S) whe
   pairs_none zero = refl
   pairs_none (suc n) = refl
 
-  -- no table comes before table 0, so from there on there are no pairs
+  -- 0 is no table, so from there on there is no pair
   pairs_end : (n t : ℕ) → t ≡ 0 → pairs_from eq store n (table_of store.words.tables t) ≡ []
   pairs_end n t e = ap (λ u. pairs_from eq store n (table_of store.words.tables u)) e ∙ pairs_none n
 

@@ -1,18 +1,21 @@
 -- The map that a list of exchanges leaves, whatever tables there are.
-use Rattle.std.proofs.Common.{◌≡◌, ◌⊎◌, inl, inr, ⊎_elim, ℕ, Bool, true, cond, Option, None, Some, List, [], ◌∷◌, ◌++◌, refl, sym, ◌∙◌, ap, subst, append_assoc}
+use Rattle.std.proofs.Common.{◌≡◌, ◌⊎◌, inl, inr, ⊎_elim, ℕ, Bool, true, false, cond, Option, None, Some, List, [], ◌∷◌, ◌++◌, refl, sym, ◌∙◌, ap, subst, append_assoc}
 use Rattle.std.proofs.lemmas.Bool.{cases_Bool}
 use Rattle.papaya_words.specs.Table.{TableWords}
 use Rattle.papaya_words.specs.declared.probe.ResizeMode.{ResizeMode}
 use Rattle.papaya_words.specs.declared.probe.ResizeMode.TheVariants.{Blocking}
 use Rattle.papaya_law.specs.Allows.{AllAllowed}
+use Rattle.papaya_law.specs.Class.{IsOn, IsTied}
 use Rattle.papaya_law.specs.Content.{lookup, content}
-use Rattle.papaya_law.specs.Exchange.{Setting, Exchange, Open, Claim, Replace, Bury, Link, Mark, Close, Place, Finish, Advance, Promote, Abort, run, start}
-use Rattle.papaya_law.specs.Invariant.{named}
+use Rattle.papaya_law.specs.Exchange.{Setting, State, Word, Exchange, Open, Claim, Replace, Bury, Link, Mark, Close, Place, Finish, Advance, Promote, Abort, run, start}
+use Rattle.papaya_law.specs.Invariant.{IsBlockingState, IsIncrementalState, IsKeeping, named}
 use Rattle.papaya_law.specs.Meaning.{map_of, map_after, map_left, IsLegal, AllLegal, IsLawful}
+use Rattle.papaya_law.specs.View.{Here, Leaving, look}
 use Rattle.papaya_law.proofs.Content.{content_is}
 use Rattle.papaya_law.proofs.Lists.{table_found}
 use Rattle.papaya_law.proofs.Moments.{map_of-append}
 use Rattle.papaya_law.proofs.OneMap.{keeping, legal_changes}
+use Rattle.papaya_law.proofs.Slots.{view_here, view_leaving}
 use Rattle.papaya_timeline.specs.Kept.{setting_of}
 use Rattle.papaya_timeline.specs.Maps.{Map}
 use Rattle.papaya_store.specs.Store.{Stored}
@@ -103,13 +106,29 @@ module _ {K V : Type 0} (eq : K → K → Bool) where
     pub replay-alike : (es : List (Exchange (Stored K V))) (j k : K) → eq j k ≡ true → replay eq es j ≡ replay eq es k
     replay-alike es = respects es (λ k. None) (λ j k same. refl)
 
-    -- a pair of the map stands in a slot
-    pub held_in_slot : (es : List (Exchange (Stored K V))) → AllAllowed g start es → ((t : ℕ) → (run es start).next t ≡ 0) → (j : K) (p : Stored K V) → replay eq es j ≡ Some p → (t : ℕ) × (x : ℕ) × (named ((run es start).slot t x) ≡ Some p)
-    held_in_slot es may single j p e =
-        let state = run es start in
-        let there : lookup g.same g.key (content g state) j ≡ Some p = content_is g law state (map_left g es) (keeping g law es may) (λ b. single state.root) j ∙ ap (λ m. m j) (map_replayed hash mode tables es (λ k. None)) ∙ e in
+    -- without blocking a pair of the map stands where a search comes to it
+    held_incremental : (state : State (Stored K V)) (m : Map K V) → IsIncrementalState g state m → (j : K) (p : Stored K V) → m j ≡ Some p → (t : ℕ) × (x : ℕ) × (named (state.slot t x) ≡ Some p)
+    held_incremental state m holds j p e =
+        let o = subst (IsTied (IsOn state.first state.next) g.places (look g state j)) e (holds.class j).tied in
+        let word : Word (Stored K V) = state.slot o.table (g.place j o.table o.at) in
+        (o.table, g.place j o.table o.at, ⊎_elim (λ (here : look g state j o.table o.at ≡ Here p). ap named (view_here g j word p here)) (λ (leaving : look g state j o.table o.at ≡ Leaving p). ap named (view_leaving g j word p leaving).0) o.has)
+
+    -- with blocking it stands in the root
+    held_blocking : (state : State (Stored K V)) (m : Map K V) → IsKeeping g state m → g.blocking ≡ true → (j : K) (p : Stored K V) → m j ≡ Some p → (t : ℕ) × (x : ℕ) × (named (state.slot t x) ≡ Some p)
+    held_blocking state m keeps blocks j p e =
+        let there : lookup g.same g.key (content g state) j ≡ Some p = content_is g law state m keeps (λ b. absurd (cc (b, blocks))) j ∙ e in
         let found = table_found g (state.slot state.root) (g.size state.root) j p there in
         (state.root, found.0, ⊎_elim (λ is. ap named is) (λ is. ap named is) found.2)
+
+    -- a pair of the map stands in a slot
+    pub held_in_slot : (es : List (Exchange (Stored K V))) → AllAllowed g start es → (j : K) (p : Stored K V) → replay eq es j ≡ Some p → (t : ℕ) × (x : ℕ) × (named ((run es start).slot t x) ≡ Some p)
+    held_in_slot es may j p e =
+        let keeps = keeping g law es may in
+        let there : map_left g es j ≡ Some p = ap (λ m. m j) (map_replayed hash mode tables es (λ k. None)) ∙ e in
+        ⊎_elim
+        (λ (incremental : (g.blocking ≡ false) × IsIncrementalState g (run es start) (map_left g es)). held_incremental (run es start) (map_left g es) incremental.1 j p there)
+        (λ (blocks : (g.blocking ≡ true) × IsBlockingState g (run es start) (map_left g es)). held_blocking (run es start) (map_left g es) keeps blocks.0 j p there)
+        keeps
 
     -- the exchange after these takes out of the map what the map has there
     pub next_legal : (es : List (Exchange (Stored K V))) (e : Exchange (Stored K V)) → AllAllowed g start (es ++ e ∷ []) → IsLegal g (replay eq es) e

@@ -11,12 +11,22 @@ use Rattle.papaya_ask.specs.declared.ask.Ask.{Ask}
 use Rattle.papaya_ask.specs.declared.ask.Ask.TheVariants.{Load, Exchange, SameKey, ShowNone, ShowPair, SizeOf, MakeKey, MakePair, MakeTable, AddToShard, Done as Ask_done}
 use Rattle.papaya_ask.specs.declared.ask.Answer.{Answer}
 use Rattle.papaya_ask.specs.Search.{IsSize}
+use Rattle.papaya_ask.specs.declared.copy_ask.CopyAsk.{CopyAsk}
+use Rattle.papaya_ask.specs.declared.copy_ask.CopyAsk.TheVariants as copies
 use Rattle.papaya_call.specs.Machine.{IsFit, IsFitAsk}
+use Rattle.papaya_copy.specs.Link.{IsFitCopyAsk}
+use Rattle.papaya_chain.specs.declared.ask.Ask.{Ask as Chain_ask}
+use Rattle.papaya_chain.specs.declared.ask.Ask.TheVariants as chain_asks
+use Rattle.papaya_chain.specs.declared.ask.Answer.{Answer as Chain_answer}
+use Rattle.papaya_chain.specs.declared.ask.Answer.TheVariants as answers
+use Rattle.papaya_chain.specs.Machine as machine
 use Rattle.papaya_store.specs.declared.pairs.Running.{Running}
 use Rattle.papaya_words.specs.declared.limits.TheConstants.{MAX_TABLES, MAX_LOG_LEN}
 use Rattle.papaya_store.specs.Tables.{Tables, table_of, word_at, written, put, put_at, put_in}
-use Rattle.papaya_store.specs.Store.{StoreState}
-use Rattle.papaya_store.specs.Performs.{Performs, Refuses, Stays, LogsKey, LogsPair, MakesTable, HasKey, HasNoPair, size_of}
+use Rattle.papaya_store.specs.Store.{StoreState, Stored, pair_of}
+use Rattle.papaya_store.specs.Asks.{PerformsAsk}
+use Rattle.papaya_store.specs.Copies.{PerformsCopy, hash_in}
+use Rattle.papaya_store.specs.Performs.{Exchanges, Performs, Refuses, Stays, LogsKey, LogsPair, MakesTable, HasKey, HasNoPair, size_of}
 
 -- what a test of two facts chose
 pub matched : (R : Type 0) (b : Bool) (P Q : Type 0) → MatchBool b P Q → (b ≡ true → P → R) → (b ≡ false → Q → R) → R
@@ -118,22 +128,38 @@ module _ {K V S : Type 0} where
   refused most count a s s' (inl e) same all = quiet a s s' (said a _ e tt) same all
   refused most count a s s' (inr (e, full)) same all = quiet a s s' (said a _ e tt) same all
 
+  -- a table that was made has the size that was asked for
+  table_made : (slots limit : ℕ) (s : StoreState K V S) (a : Answer) (s' : StoreState K V S) → AllSized s.words.tables → IsSize slots limit → (Refuses MAX_TABLES (length s.words.tables) a × (s' ≡ s)) ⊎ MakesTable a slots limit s s' → IsKept a s'
+  table_made slots limit s a s' all size (inl (f, same)) = refused _ _ a s s' f same all
+  table_made slots limit s a s' all size (inr (e, few, same)) = record {
+    fit = said a _ e (let most : length s.words.tables < 2 ^ 32 = few in omega arith);
+    sized = subst (λ (y : StoreState K V S). AllSized y.words.tables) (sym same) (append-sized s.words.tables _ slots limit size all);
+  }
+
+  -- the size that is answered of a table is that of a table
+  sized_answer : (a : Answer) (s : StoreState K V S) (n : ℕ) → AllSized s.words.tables → a ≡ size_of (table_of s.words.tables n) → IsFit a
+  sized_answer a s n all e = by_table (table_of s.words.tables n) refl
+    where
+      by_table : (o : Option TableWords) → table_of s.words.tables n ≡ o → IsFit a
+      by_table None is = said a _ (e ∙ ap size_of is) tt
+      by_table (Some t) is = said a _ (e ∙ ap size_of is) (numbered s.words.tables all n t is)
+
+  -- an exchange keeps the sizes
+  exchanged : (at : At) (old new : ℕ) (s : StoreState K V S) (a : Answer) (s' : StoreState K V S) → AllSized s.words.tables → Exchanges (word_at s.words at) old (put s.words at new) a s s' → IsKept a s'
+  exchanged at old new s a s' all ex =
+      matched (IsKept a s') (word_at s.words at == old) _ _ ex
+      (λ _ done. record { fit = said a _ done.0 tt; sized = subst (λ (y : StoreState K V S). AllSized y.words.tables) (sym done.1) (put-sized s.words at new all) })
+      (λ _ lost. quiet a s s' (said a _ lost.0 tt) lost.1 all)
+
 module _ {K V S A : Type 0} (eq : K → K → Bool) (says : Says K V A) where
   -- what an answered ask leaves
   pub performed : (refuse : Bool) (ask : Ask) (s : StoreState K V S) (r : Running K V A) (a : Answer) (s' : StoreState K V S) (r' : Running K V A) → AllSized s.words.tables → IsFitAsk ask → Performs eq says refuse ask s r a s' r' → IsKept a s'
   performed refuse (Load at) s r a s' r' all fit (e, stays) = quiet a s s' (said a _ e tt) stays.0 all
-  performed refuse (Exchange at old new) s r a s' r' all fit (ex, _) =
-      matched (IsKept a s') (word_at s.words at == old) _ _ ex
-      (λ _ done. record { fit = said a _ done.0 tt; sized = subst (λ (y : StoreState K V S). AllSized y.words.tables) (sym done.1) (put-sized s.words at new all) })
-      (λ _ lost. quiet a s s' (said a _ lost.0 tt) lost.1 all)
+  performed refuse (Exchange at old new) s r a s' r' all fit (ex, _) = exchanged at old new s a s' all ex
   performed refuse (SameKey n) s r a s' r' all fit (e, stays) = quiet a s s' (said a _ e tt) stays.0 all
   performed refuse ShowNone s r a s' r' all fit h = said_fit s r a s' r' (none_shown says s r a s' r' h) all
   performed refuse (ShowPair n) s r a s' r' all fit h = said_fit s r a s' r' (pair_shown says r.machine.call.task n s r a s' r' h) all
-  performed refuse (SizeOf n) s r a s' r' all fit (e, stays) = quiet a s s' (sized_answer (table_of s.words.tables n) refl) stays.0 all
-    where
-      sized_answer : (o : Option TableWords) → table_of s.words.tables n ≡ o → IsFit a
-      sized_answer None is = said a _ (e ∙ ap size_of is) tt
-      sized_answer (Some t) is = said a _ (e ∙ ap size_of is) (numbered s.words.tables all n t is)
+  performed refuse (SizeOf n) s r a s' r' all fit (e, stays) = quiet a s s' (sized_answer a s n all e) stays.0 all
   performed refuse MakeKey s r a s' r' all fit h =
       matched (IsKept a s') refuse _ _ h
       (λ _ none. quiet a s s' (said a _ none.0 tt) none.1.0 all)
@@ -155,13 +181,40 @@ module _ {K V S A : Type 0} (eq : K → K → Bool) (says : Says K V A) where
   performed refuse (MakeTable slots limit) s r a s' r' all fit h =
       matched (IsKept a s') refuse _ _ h
       (λ _ none. quiet a s s' (said a _ none.0 tt) none.1.0 all)
-      (λ _ makes. table_made s a s' all fit makes.0)
-    where
-      table_made : (s : StoreState K V S) (a : Answer) (s' : StoreState K V S) → AllSized s.words.tables → IsSize slots limit → (Refuses MAX_TABLES (length s.words.tables) a × (s' ≡ s)) ⊎ MakesTable a slots limit s s' → IsKept a s'
-      table_made s a s' all size (inl (f, same)) = refused _ _ a s s' f same all
-      table_made s a s' all size (inr (e, few, same)) = record {
-        fit = said a _ e (let most : length s.words.tables < 2 ^ 32 = few in omega arith);
-        sized = subst (λ (y : StoreState K V S). AllSized y.words.tables) (sym same) (append-sized s.words.tables _ slots limit size all);
-      }
+      (λ _ makes. table_made slots limit s a s' all fit makes.0)
   performed refuse (AddToShard by) s r a s' r' all fit (e, (number, same), _) = record { fit = said a _ e tt; sized = subst (λ (y : StoreState K V S). AllSized y.words.tables) (sym same) all }
   performed refuse (Ask_done reply) s r a s' r' all fit (e, stays) = quiet a s s' (said a _ e tt) stays.0 all
+
+module _ {K V S : Type 0} where
+  -- The same of an answer over a chain.
+  pub record IsKeptAsked (a : Chain_answer) (s' : StoreState K V S) : Type 0 where
+    pub fit : machine.IsFit a
+    pub sized : AllSized s'.words.tables
+
+  -- it is told as a call is told
+  as_call : (a : Chain_answer) (told : Answer) (s' : StoreState K V S) → a ≡ answers.Call told → IsKept told s' → IsKeptAsked a s'
+  as_call a told s' is kept = record { fit = subst machine.IsFit (sym is) kept.fit; sized = kept.sized }
+
+  module _ (eq : K → K → Bool) (hash : S → K → ℕ) where
+    -- what an answered ask of a copier leaves
+    performed_copy : (refuse : Bool) (ask : CopyAsk) (s : StoreState K V S) (a : Chain_answer) (s' : StoreState K V S) → AllSized s.words.tables → IsFitCopyAsk ask → PerformsCopy eq hash refuse ask s a s' → IsKeptAsked a s'
+    performed_copy refuse (copies.Load at) s a s' all fit (e, same) = as_call a _ s' e (quiet _ s s' tt same all)
+    performed_copy refuse (copies.Exchange at old new) s a s' all fit (told, is, ex) = as_call a told s' is (exchanged at old new s told s' all ex)
+    performed_copy refuse (copies.SizeOf n) s a s' all fit (e, same) = as_call a (size_of (table_of s.words.tables n)) s' e (quiet _ s s' (sized_answer _ s n all refl) same all)
+    performed_copy refuse (copies.HashOf n) s a s' all fit (e, hashed, same) = record { fit = subst machine.IsFit (sym e) (by_pair (pair_of s n)); sized = subst (λ (y : StoreState K V S). AllSized y.words.tables) (sym same) all }
+      where
+        by_pair : (o : Option (Stored K V)) → machine.IsFit (hash_in (hash s.hasher) o)
+        by_pair None = tt
+        by_pair (Some p) = tt
+    performed_copy refuse (copies.SamePair m n) s a s' all fit (e, same) = as_call a _ s' e (quiet _ s s' tt same all)
+    performed_copy refuse copies.Count s a s' all fit (e, same) = record { fit = subst machine.IsFit (sym e) tt; sized = subst (λ (y : StoreState K V S). AllSized y.words.tables) (sym same) all }
+    performed_copy refuse (copies.MakeTable slots limit) s a s' all fit (told, is, h) =
+        as_call a told s' is
+        (matched (IsKept told s') refuse _ _ h
+        (λ _ none. quiet told s s' (said told _ none.0 tt) none.1 all)
+        (λ _ makes. table_made slots limit s told s' all fit makes))
+
+    -- and what an answered ask of a machine leaves
+    pub performed_ask : {A : Type 0} (says : Says K V A) (refuse : Bool) (ask : Chain_ask) (s : StoreState K V S) (r : Running K V A) (a : Chain_answer) (s' : StoreState K V S) (r' : Running K V A) → AllSized s.words.tables → machine.IsFitAsk ask → PerformsAsk eq says hash refuse ask s r a s' r' → IsKeptAsked a s'
+    performed_ask says refuse (chain_asks.Call ask) s r a s' r' all fit (told, is, h) = as_call a told s' is (performed eq says refuse ask s r told s' r' all fit h)
+    performed_ask says refuse (chain_asks.Copy ask) s r a s' r' all fit (h, same) = performed_copy refuse ask s a s' all fit h

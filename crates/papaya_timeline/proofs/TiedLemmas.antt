@@ -1,8 +1,8 @@
 -- How calls under way stand to a history that grows by an entry.
 use Rattle.std.proofs.Common.{◌≡◌, ◌≢◌, ◌⊎◌, inl, inr, ⊎_elim, ℕ, ◌==◌, Bool, true, false, cond, Option, None, Some, List, [], ◌∷◌, ◌++◌, length, slice_get, refl, sym, ◌∙◌, ap, subst, zero, suc}
-use Rattle.papaya_ask.specs.declared.ask.Ask.{Ask}
+use Rattle.papaya_ask.specs.declared.ask.Ask.{Ask as Call_ask}
 use Rattle.papaya_ask.specs.declared.ask.Ask.TheVariants.{Load, Exchange as Ask_exchange, SameKey, ShowNone, ShowPair, SizeOf, MakeKey, MakePair, MakeTable, AddToShard, Done as Ask_done}
-use Rattle.papaya_ask.specs.declared.ask.Answer.{Answer}
+use Rattle.papaya_ask.specs.declared.ask.Answer.{Answer as Call_answer}
 use Rattle.papaya_ask.specs.declared.call.Call.{Call}
 use Rattle.papaya_ask.specs.declared.call.Call.TheVariants.{Get, Insert, TryInsert, RemoveIf, Compute}
 use Rattle.papaya_ask.specs.declared.call.Reply.{Reply}
@@ -15,10 +15,17 @@ use Rattle.papaya_ask.specs.declared.ask.OpKind.{OpKind}
 use Rattle.papaya_ask.specs.declared.ask.OpKind.TheVariants as op_kinds
 use Rattle.papaya_call.specs.Answers.{Says}
 use Rattle.papaya_law.specs.Exchange.{Exchange}
-use Rattle.papaya_call.specs.Machine.{ask_of}
-use Rattle.papaya_rests.specs.Rests.{Rests, IsReply, change_of_reply, WasAtMoment}
+use Rattle.papaya_ask.specs.declared.copy_ask.CopyAsk.{CopyAsk}
+use Rattle.papaya_ask.specs.declared.copy_ask.CopyAsk.TheVariants as copies
+use Rattle.papaya_chain.specs.declared.ask.Ask.{Ask}
+use Rattle.papaya_chain.specs.declared.ask.Ask.TheVariants as asks
+use Rattle.papaya_chain.specs.declared.ask.Answer.{Answer}
+use Rattle.papaya_chain.specs.Machine.{ask_of}
+use Rattle.papaya_chain_rests.specs.Rests.{Rests}
+use Rattle.papaya_chain_rests.specs.Told.{Hands}
+use Rattle.papaya_rests.specs.Rests.{IsReply, change_of_reply, WasAtMoment}
 use Rattle.papaya_rests.specs.Says.{Said, Agrees, Inserts, Makes, Removes, said_in_reply}
-use Rattle.papaya_rests.specs.Told.{Hands, IsOneOf}
+use Rattle.papaya_rests.specs.Told.{IsOneOf}
 use Rattle.papaya_words.specs.Table.{TableWords}
 use Rattle.papaya_words.specs.declared.limits.TheConstants.{MAX_LOG_LEN}
 use Rattle.papaya_words.specs.declared.probe.Refused.{Refused as Refusal}
@@ -32,12 +39,15 @@ use Rattle.papaya_timeline.specs.declared.trace.Event.{Event}
 use Rattle.papaya_timeline.specs.Begins.{task_of_call}
 use Rattle.papaya_timeline.specs.Kept.{Tale, told_tales, setting_of, coding_of}
 use Rattle.papaya_timeline.specs.Maps.{Map, Does, key_of}
+use Rattle.papaya_store.specs.Asks.{PerformsAsk}
+use Rattle.papaya_store.specs.Copies.{PerformsCopy}
 use Rattle.papaya_store.specs.Performs.{Performs, own_key, key_at, Stays, LogsKey, LogsPair, Decides, ShowsPair, Refuses, HasKey, HasNoPair}
 use Rattle.papaya_store.specs.Store.{KeepsPairs, StoreState, Stored, pair_of, stored_in}
 use Rattle.papaya_store.specs.Tables.{word_at}
 use Rattle.papaya_timeline.specs.Runs.{History}
 use Rattle.papaya_timeline.specs.Timeline.{Answered, is_begin, change_of, last_shown, number_in, was_shown_none, AtSomeMoment, Fits, FitsShown}
 use Rattle.papaya_timeline.proofs.CallersLemmas.{differs}
+use Rattle.papaya_timeline.proofs.ChainLemmas.{own_asks}
 use Rattle.papaya_timeline.proofs.Good.{IsTied, WasSaid, replay, replayed}
 use Rattle.papaya_timeline.proofs.KeptLogs.{pair-more_keys, pair-more_pairs}
 use Rattle.papaya_timeline.proofs.MachineLemmas.{machine_replies, machine_says}
@@ -71,7 +81,7 @@ module _ {K V S A : Type 0} where
   still : (s : StoreState K V S) (r : Running K V A) (s' : StoreState K V S) (r' : Running K V A) → s' ≡ s → r' ≡ r → HasMoreLogs s r s' r'
   still s r s' r' same as_was = unstored s r s' r' same (λ v e. inl (sym (ap (λ (y : Running K V A). y.value) as_was) ∙ e))
 
-  key_logged : (answer : Answer) (s : StoreState K V S) (r : Running K V A) (s' : StoreState K V S) (r' : Running K V A) → LogsKey answer s r s' r' → HasMoreLogs s r s' r'
+  key_logged : (answer : Call_answer) (s : StoreState K V S) (r : Running K V A) (s' : StoreState K V S) (r' : Running K V A) → LogsKey answer s r s' r' → HasMoreLogs s r s' r'
   key_logged answer s r s' r' (k, own, e, few, same, is) = record {
     hasher_is = ap (λ (y : StoreState K V S). y.hasher) same;
     keys_stay = λ n j there. ap (λ (y : StoreState K V S). slice_get y.keys n) same ∙ get-append s.keys (k ∷ []) n j there;
@@ -79,7 +89,7 @@ module _ {K V S A : Type 0} where
     value_stays = λ v e. inl (sym (ap (λ (y : Running K V A). y.value) is) ∙ e);
   }
 
-  pair_logged : (answer : Answer) (s : StoreState K V S) (r : Running K V A) (s' : StoreState K V S) (r' : Running K V A) → LogsPair answer s r s' r' → HasMoreLogs s r s' r'
+  pair_logged : (answer : Call_answer) (s : StoreState K V S) (r : Running K V A) (s' : StoreState K V S) (r' : Running K V A) → LogsPair answer s r s' r' → HasMoreLogs s r s' r'
   pair_logged answer s r s' r' (n, v, key, value, e, few, same, is) = record {
     hasher_is = ap (λ (y : StoreState K V S). y.hasher) same;
     keys_stay = λ i j there. ap (λ (y : StoreState K V S). slice_get y.keys i) same ∙ there;
@@ -97,11 +107,11 @@ module _ {K V S A : Type 0} where
   }
 
   -- a compute's closure answered
-  decided : (says : Says K V A) (shown : Option (K × V)) (s : StoreState K V S) (r : Running K V A) (a : Answer) (s' : StoreState K V S) (r' : Running K V A) → r.machine.call.task ≡ tasks.Compute → Decides says shown s r a s' r' → HasMoreLogs s r s' r'
+  decided : (says : Says K V A) (shown : Option (K × V)) (s : StoreState K V S) (r : Running K V A) (a : Call_answer) (s' : StoreState K V S) (r' : Running K V A) → r.machine.call.task ≡ tasks.Compute → Decides says shown s r a s' r' → HasMoreLogs s r s' r'
   decided says shown s r a s' r' computes (answers, op, rest, has, given, e, same, is) = unstored s r s' r' same (λ v e'. inr computes)
 
   -- a closure was shown a pair
-  showed : (says : Says K V A) (n : ℕ) (s : StoreState K V S) (r : Running K V A) (a : Answer) (s' : StoreState K V S) (r' : Running K V A) (task : Task) → r.machine.call.task ≡ task → ShowsPair task says n s r a s' r' → HasMoreLogs s r s' r'
+  showed : (says : Says K V A) (n : ℕ) (s : StoreState K V S) (r : Running K V A) (a : Call_answer) (s' : StoreState K V S) (r' : Running K V A) (task : Task) → r.machine.call.task ≡ task → ShowsPair task says n s r a s' r' → HasMoreLogs s r s' r'
   showed says n s r a s' r' tasks.Get is (e, stays) = still s r s' r' stays.0 stays.1
   showed says n s r a s' r' (tasks.Insert replace) is (e, stays) = still s r s' r' stays.0 stays.1
   showed says n s r a s' r' tasks.RemoveIf is (inl (none, (e, stays))) = still s r s' r' stays.0 stays.1
@@ -109,45 +119,69 @@ module _ {K V S A : Type 0} where
   showed says n s r a s' r' tasks.Compute is (inl (none, (e, stays))) = still s r s' r' stays.0 stays.1
   showed says n s r a s' r' tasks.Compute is (inr (p, there, decides)) = decided says (Some (p.key, p.value)) s r a s' r' is decides
 
-  -- only a compute asks its closure what to put where nothing is
-  pub grown : (eq : K → K → Bool) (says : Says K V A) (refuse : Bool) (ask : Ask) (s : StoreState K V S) (r : Running K V A) (a : Answer) (s' : StoreState K V S) (r' : Running K V A) → Performs eq says refuse ask s r a s' r' → (ask ≡ ShowNone → r.machine.call.task ≡ tasks.Compute) → HasMoreLogs s r s' r'
-  grown eq says refuse (Load at) s r a s' r' (e, stays) offers = still s r s' r' stays.0 stays.1
-  grown eq says refuse (Ask_exchange at old new) s r a s' r' (ex, as_was) offers =
+  -- of an ask of the call: only a compute asks its closure what to put where nothing is
+  call_grown : (eq : K → K → Bool) (says : Says K V A) (refuse : Bool) (ask : Call_ask) (s : StoreState K V S) (r : Running K V A) (a : Call_answer) (s' : StoreState K V S) (r' : Running K V A) → Performs eq says refuse ask s r a s' r' → (ask ≡ ShowNone → r.machine.call.task ≡ tasks.Compute) → HasMoreLogs s r s' r'
+  call_grown eq says refuse (Load at) s r a s' r' (e, stays) offers = still s r s' r' stays.0 stays.1
+  call_grown eq says refuse (Ask_exchange at old new) s r a s' r' (ex, as_was) offers =
       matched (HasMoreLogs s r s' r') (word_at s.words at == old) _ _ ex
       (λ _ done. words_changed s r s' r' (ap (λ (y : StoreState K V S). y.hasher) done.1) (ap (λ (y : StoreState K V S). y.keys) done.1) (ap (λ (y : StoreState K V S). y.pairs) done.1) as_was)
       (λ _ lost. still s r s' r' lost.1 as_was)
-  grown eq says refuse (SameKey n) s r a s' r' (e, stays) offers = still s r s' r' stays.0 stays.1
-  grown eq says refuse ShowNone s r a s' r' (inl (none, (e, stays))) offers = still s r s' r' stays.0 stays.1
-  grown eq says refuse ShowNone s r a s' r' (inr decides) offers = decided says None s r a s' r' (offers refl) decides
-  grown eq says refuse (ShowPair n) s r a s' r' h offers = showed says n s r a s' r' r.machine.call.task refl h
-  grown eq says refuse (SizeOf n) s r a s' r' (e, stays) offers = still s r s' r' stays.0 stays.1
-  grown eq says refuse MakeKey s r a s' r' h offers =
+  call_grown eq says refuse (SameKey n) s r a s' r' (e, stays) offers = still s r s' r' stays.0 stays.1
+  call_grown eq says refuse ShowNone s r a s' r' (inl (none, (e, stays))) offers = still s r s' r' stays.0 stays.1
+  call_grown eq says refuse ShowNone s r a s' r' (inr decides) offers = decided says None s r a s' r' (offers refl) decides
+  call_grown eq says refuse (ShowPair n) s r a s' r' h offers = showed says n s r a s' r' r.machine.call.task refl h
+  call_grown eq says refuse (SizeOf n) s r a s' r' (e, stays) offers = still s r s' r' stays.0 stays.1
+  call_grown eq says refuse MakeKey s r a s' r' h offers =
       matched (HasMoreLogs s r s' r') refuse _ _ h
       (λ _ none. still s r s' r' none.1.0 none.1.1)
       (λ _ makes. by_cases s r a s' r' makes)
     where
-      by_cases : (s : StoreState K V S) (r : Running K V A) (a : Answer) (s' : StoreState K V S) (r' : Running K V A) → (Refuses MAX_LOG_LEN (length s.keys) a × Stays s r s' r') ⊎ (HasKey a r × Stays s r s' r') ⊎ LogsKey a s r s' r' → HasMoreLogs s r s' r'
+      by_cases : (s : StoreState K V S) (r : Running K V A) (a : Call_answer) (s' : StoreState K V S) (r' : Running K V A) → (Refuses MAX_LOG_LEN (length s.keys) a × Stays s r s' r') ⊎ (HasKey a r × Stays s r s' r') ⊎ LogsKey a s r s' r' → HasMoreLogs s r s' r'
       by_cases s r a s' r' (inl (f, stays)) = still s r s' r' stays.0 stays.1
       by_cases s r a s' r' (inr (inl (has, stays))) = still s r s' r' stays.0 stays.1
       by_cases s r a s' r' (inr (inr logs)) = key_logged a s r s' r' logs
-  grown eq says refuse MakePair s r a s' r' h offers =
+  call_grown eq says refuse MakePair s r a s' r' h offers =
       matched (HasMoreLogs s r s' r') refuse _ _ h
       (λ _ none. still s r s' r' none.1.0 none.1.1)
       (λ _ makes. by_cases s r a s' r' makes)
     where
-      by_cases : (s : StoreState K V S) (r : Running K V A) (a : Answer) (s' : StoreState K V S) (r' : Running K V A) → (Refuses MAX_LOG_LEN (length s.pairs) a × Stays s r s' r') ⊎ (HasNoPair a r × Stays s r s' r') ⊎ LogsPair a s r s' r' → HasMoreLogs s r s' r'
+      by_cases : (s : StoreState K V S) (r : Running K V A) (a : Call_answer) (s' : StoreState K V S) (r' : Running K V A) → (Refuses MAX_LOG_LEN (length s.pairs) a × Stays s r s' r') ⊎ (HasNoPair a r × Stays s r s' r') ⊎ LogsPair a s r s' r' → HasMoreLogs s r s' r'
       by_cases s r a s' r' (inl (f, stays)) = still s r s' r' stays.0 stays.1
       by_cases s r a s' r' (inr (inl (has, stays))) = still s r s' r' stays.0 stays.1
       by_cases s r a s' r' (inr (inr logs)) = pair_logged a s r s' r' logs
-  grown eq says refuse (MakeTable slots limit) s r a s' r' h offers =
+  call_grown eq says refuse (MakeTable slots limit) s r a s' r' h offers =
       matched (HasMoreLogs s r s' r') refuse _ _ h
       (λ _ none. still s r s' r' none.1.0 none.1.1)
       (λ _ makes. ⊎_elim
       (λ refused. still s r s' r' refused.1 makes.1)
       (λ table. words_changed s r s' r' (ap (λ (y : StoreState K V S). y.hasher) table.2) (ap (λ (y : StoreState K V S). y.keys) table.2) (ap (λ (y : StoreState K V S). y.pairs) table.2) makes.1)
       makes.0)
-  grown eq says refuse (AddToShard by) s r a s' r' (e, (number, same), as_was) offers = words_changed s r s' r' (ap (λ (y : StoreState K V S). y.hasher) same) (ap (λ (y : StoreState K V S). y.keys) same) (ap (λ (y : StoreState K V S). y.pairs) same) as_was
-  grown eq says refuse (Ask_done reply) s r a s' r' (e, stays) offers = still s r s' r' stays.0 stays.1
+  call_grown eq says refuse (AddToShard by) s r a s' r' (e, (number, same), as_was) offers = words_changed s r s' r' (ap (λ (y : StoreState K V S). y.hasher) same) (ap (λ (y : StoreState K V S). y.keys) same) (ap (λ (y : StoreState K V S). y.pairs) same) as_was
+  call_grown eq says refuse (Ask_done reply) s r a s' r' (e, stays) offers = still s r s' r' stays.0 stays.1
+
+  -- a copy leaves the logs, and the call
+  copy_grown : (eq : K → K → Bool) (hash : S → K → ℕ) (refuse : Bool) (ask : CopyAsk) (s : StoreState K V S) (r : Running K V A) (a : Answer) (s' : StoreState K V S) (r' : Running K V A) → PerformsCopy eq hash refuse ask s a s' → r' ≡ r → HasMoreLogs s r s' r'
+  copy_grown eq hash refuse (copies.Load at) s r a s' r' (e, same) as_was = still s r s' r' same as_was
+  copy_grown eq hash refuse (copies.Exchange at old new) s r a s' r' (told, e, ex) as_was =
+      matched (HasMoreLogs s r s' r') (word_at s.words at == old) _ _ ex
+      (λ _ done. words_changed s r s' r' (ap (λ (y : StoreState K V S). y.hasher) done.1) (ap (λ (y : StoreState K V S). y.keys) done.1) (ap (λ (y : StoreState K V S). y.pairs) done.1) as_was)
+      (λ _ lost. still s r s' r' lost.1 as_was)
+  copy_grown eq hash refuse (copies.SizeOf t) s r a s' r' (e, same) as_was = still s r s' r' same as_was
+  copy_grown eq hash refuse (copies.HashOf n) s r a s' r' (e, hashes, same) as_was = still s r s' r' same as_was
+  copy_grown eq hash refuse (copies.SamePair m n) s r a s' r' (e, same) as_was = still s r s' r' same as_was
+  copy_grown eq hash refuse copies.Count s r a s' r' (e, same) as_was = still s r s' r' same as_was
+  copy_grown eq hash refuse (copies.MakeTable slots limit) s r a s' r' (told, e, makes) as_was =
+      matched (HasMoreLogs s r s' r') refuse _ _ makes
+      (λ _ none. still s r s' r' none.1 as_was)
+      (λ _ made. ⊎_elim
+      (λ refused. still s r s' r' refused.1 as_was)
+      (λ table. words_changed s r s' r' (ap (λ (y : StoreState K V S). y.hasher) table.2) (ap (λ (y : StoreState K V S). y.keys) table.2) (ap (λ (y : StoreState K V S). y.pairs) table.2) as_was)
+      made)
+
+  -- what a step leaves; only a compute asks its closure what to put where nothing is
+  pub grown : (eq : K → K → Bool) (says : Says K V A) (hash : S → K → ℕ) (refuse : Bool) (ask : Ask) (s : StoreState K V S) (r : Running K V A) (a : Answer) (s' : StoreState K V S) (r' : Running K V A) → PerformsAsk eq says hash refuse ask s r a s' r' → (ask ≡ asks.Call ShowNone → r.machine.call.task ≡ tasks.Compute) → HasMoreLogs s r s' r'
+  grown eq says hash refuse (asks.Call ask) s r a s' r' (told, is, performs) offers = call_grown eq says refuse ask s r told s' r' performs (λ e. offers (ap asks.Call e))
+  grown eq says hash refuse (asks.Copy ask) s r a s' r' (performs, as_was) offers = copy_grown eq hash refuse ask s r a s' r' performs as_was
 
   -- a call's key stays
   pub own_key_stays : (s s' : StoreState K V S) (r : Running K V A) (k : K) → ((n : ℕ) (k : K) → slice_get s.keys n ≡ Some k → slice_get s'.keys n ≡ Some k) → own_key s r ≡ Some k → own_key s' r ≡ Some k
@@ -242,7 +276,7 @@ module _ {K V A : Type 0} (eq : K → K → Bool) where
       key = own_key_stays s s' r (key_of call) keys tied.key;
       task = tied.task;
       value = tied.value;
-      made = λ q one. tied.made q (subst (λ (y : Hands (Stored K V)). IsOneOf y.made q) (ap (λ b. cond b hands (tales d).hands) (differs d c (λ z. differ (sym z)))) one);
+      made = λ q one. tied.made q (subst (λ (y : Hands (Stored K V)). IsOneOf y.call.made q) (ap (λ b. cond b hands (tales d).hands) (differs d c (λ z. differ (sym z)))) one);
       change = change_of-other c d turn event h differ ∙ tied.change;
       said = λ said stands. said-other s s' r c d turn event h o answers pairs differ said (tied.said said stands);
       shows = tied.shows;
@@ -268,11 +302,12 @@ module _ {K V A : Type 0} (eq : K → K → Bool) where
 
     -- where the machine asks no more, its reply fits
     pub tied_fits : (s : StoreState K V S) (r : Running K V A) (call : Call K V A) (caller : ℕ) (tale : Tale K V) (h : History) (maps : List (Map K V)) (answers : Answered V) (hash : K → ℕ) (mode : ResizeMode) (tables : List TableWords) (k : K) → k ≡ key_of call
-        → IsTied eq s r call caller tale h maps answers → Rests (setting_of eq hash mode tables) (coding_of hash) tale.begun tale.since k r.machine tale.hands → (reply : Reply) → ask_of r.machine ≡ Ask_done reply → IsEnding r.machine.call.task call reply caller h maps → Fits eq call reply caller h maps
+        → IsTied eq s r call caller tale h maps answers → Rests (setting_of eq hash mode tables) (coding_of hash) tale.begun tale.since k r.machine tale.hands → (reply : Reply) → ask_of r.machine ≡ asks.Call (Ask_done reply) → IsEnding r.machine.call.task call reply caller h maps → Fits eq call reply caller h maps
     tied_fits s r call caller tale h maps answers hash mode tables k own tied rests reply done ending =
-        let ends = machine_replies (setting_of eq hash mode tables) (coding_of hash) tale.begun tale.since k r.machine tale.hands rests reply done in
-        by_reply call reply own (subst (λ y. IsReply (setting_of eq hash mode tables) (coding_of hash) tale.begun tale.since k tale.hands y reply) tied.task ends.0) (tied.change ∙ ends.1)
-        (λ said e. tied.said said (inl (machine_says r.machine reply done ∙ ap (λ t. said_in_reply t reply) tied.task ∙ e)))
+        let replied = (own_asks r.machine (Ask_done reply) done).1 in
+        let ends = machine_replies (setting_of eq hash mode tables) (coding_of hash) tale.begun tale.since k r.machine.call tale.hands.call rests.call reply replied in
+        by_reply call reply own (subst (λ y. IsReply (setting_of eq hash mode tables) (coding_of hash) tale.begun tale.since k tale.hands.call y reply) tied.task ends.0) (tied.change ∙ ends.1)
+        (λ said e. tied.said said (inl (machine_says r.machine.call reply replied ∙ ap (λ t. said_in_reply t reply) tied.task ∙ e)))
         (subst (λ t. IsEnding t call reply caller h maps) tied.task ending) tied.moments
       where
         answer : (call : Call K V A) (v : Option (Stored K V)) (reply : Reply) → k ≡ key_of call → Moments call caller tale h maps → Does call v reply v → WasAtMoment (setting_of eq hash mode tables) (coding_of hash) tale.begun tale.since k v → AtSomeMoment (λ m. Does call (m (key_of call)) reply (m (key_of call))) caller h maps
@@ -282,7 +317,7 @@ module _ {K V A : Type 0} (eq : K → K → Bool) where
         no_compute : (task : Task) (call : Call K V A) (refused : Refusal) (X : Type 0) → (task ≡ tasks.Compute → ⊥) → IsEnding task call (Refused refused) caller h maps → refused ≡ RemoveNothing → X
         no_compute task call refused X other ending is = absurd (other (ending.nothing (ap Refused is)).0)
 
-        by_reply : (call : Call K V A) (reply : Reply) → k ≡ key_of call → IsReply (setting_of eq hash mode tables) (coding_of hash) tale.begun tale.since k tale.hands (task_of_call call) reply → change_of caller h ≡ change_of_reply reply → SaidForReply s r (task_of_call call) reply caller h answers → IsEnding (task_of_call call) call reply caller h maps → Moments call caller tale h maps → Fits eq call reply caller h maps
+        by_reply : (call : Call K V A) (reply : Reply) → k ≡ key_of call → IsReply (setting_of eq hash mode tables) (coding_of hash) tale.begun tale.since k tale.hands.call (task_of_call call) reply → change_of caller h ≡ change_of_reply reply → SaidForReply s r (task_of_call call) reply caller h answers → IsEnding (task_of_call call) call reply caller h maps → Moments call caller tale h maps → Fits eq call reply caller h maps
         by_reply (Get j) Absent own is change said ending moments = (change, answer (Get j) None Absent own moments refl is)
         by_reply (Get j) (Found n) own (p, number, was) change said ending moments = (change, answer (Get j) (Some p) (Found n) own moments (number, refl) was)
         by_reply (Get j) (Inserted n) own is change said ending moments = absurd is
