@@ -21,3 +21,6 @@ pub mod CopyRefusals
 pub mod Refusals
 -- a copy for its own sake
 pub mod OwnCopies
+-- it stands within its tables
+pub mod CopyStanding
+pub mod Standing

@@ -40,11 +40,11 @@ use Rattle.papaya_call.specs.Compute.{IsChoice, IsFill, IsGap, IsPurpose, IsReme
 use Rattle.papaya_call.specs.Machine.{IsComputer, IsStanding, IsStandingState, IsWriter, MayInsert, IsFit, IsFitAsk, ask_of, asks, after, absent, at_root, beaten_as, beaten_by, computes, decided, decided_held, held_at_op, held_in, judged, left, paired, paired_held, passes, removes, replaces, goes_as, made_in, state_in, at_op, at_word, at_exchanged, at_found, at_yes, at_size, at_ok, at_refused, written}
 
 -- a table with a size has a slot
-some_slots : (slots last : ℕ) → IsSize slots last → 0 < slots
+pub some_slots : (slots last : ℕ) → IsSize slots last → 0 < slots
 some_slots slots last size = let some = pow_pos size.power.0 in let is = size.power.1 in omega arith
 
 -- the place after one that is not the last is within the table
-next_within : (at : Place) → IsWithin at → at.probe.len < at.limit → IsWithin (next_place at)
+pub next_within : (at : Place) → IsWithin at → at.probe.len < at.limit → IsWithin (next_place at)
 next_within at within more = record {
   size = within.size;
   len = omega arith;

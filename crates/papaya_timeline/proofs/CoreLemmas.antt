@@ -4,13 +4,14 @@ use Rattle.std.proofs.lemmas.Bool.{cases_Bool, eqb-true, eqb-false}
 use Rattle.std.specs.Int.{IsPowerOfTwo}
 use Rattle.papaya_words.specs.declared.probe.ResizeMode.{ResizeMode}
 use Rattle.papaya_call.specs.Answers.{Says}
-use Rattle.papaya_ask.specs.declared.ask.Answer.{Answer}
-use Rattle.papaya_ask.specs.declared.ask.Ask.{Ask}
-use Rattle.papaya_ask.specs.declared.ask.Ask.TheVariants.{Load, Exchange, SameKey, ShowNone, ShowPair, SizeOf, MakeKey, MakePair, MakeTable, AddToShard, Done as Ask_done}
+use Rattle.papaya_ask.specs.declared.ask.Ask.TheVariants.{Done as Ask_done}
 use Rattle.papaya_ask.specs.declared.call.Reply.{Reply}
-use Rattle.papaya_call.specs.declared.machine.Machine.{Machine}
 use Rattle.papaya_words.specs.Mode.{IsChunked}
-use Rattle.papaya_call.specs.Machine.{IsStanding, IsFitAsk, ask_of}
+use Rattle.papaya_chain.specs.declared.ask.Ask.{Ask}
+use Rattle.papaya_chain.specs.declared.ask.Ask.TheVariants as asks
+use Rattle.papaya_chain.specs.declared.ask.Answer.{Answer}
+use Rattle.papaya_chain.specs.declared.machine.Machine.{Machine}
+use Rattle.papaya_chain.specs.Machine.{IsStanding, IsFitAsk, ask_of}
 use Rattle.papaya_ask.specs.declared.call.Call.{Call}
 use Rattle.papaya_timeline.specs.Advances.{reply_in}
 use Rattle.papaya_timeline.specs.Begins.{begun}
@@ -19,12 +20,12 @@ use Rattle.papaya_timeline.specs.declared.seat.Seat.{Seat}
 use Rattle.papaya_timeline.specs.Callers.{running, with_call, with_seat}
 use Rattle.papaya_store.specs.Tables.{Tables}
 use Rattle.papaya_store.specs.Store.{StoreState}
-use Rattle.papaya_store.specs.Performs.{Performs}
+use Rattle.papaya_store.specs.Asks.{PerformsAsk}
 use Rattle.papaya_timeline.specs.Core.{IsCore, IsGoing}
 use Rattle.papaya_store.specs.New.{HasCapacity}
 use Rattle.papaya_keys.proofs.TableSizes.{table_size}
 use Rattle.papaya_timeline.proofs.CallersLemmas.{running-with_seat, running-other, running-same}
-use Rattle.papaya_timeline.proofs.StoreLemmas.{AllSized, numbered, unnumbered, performed, append-sized}
+use Rattle.papaya_timeline.proofs.StoreLemmas.{AllSized, numbered, unnumbered, performed_ask, append-sized}
 
 -- two numbers are the same or they differ
 pub cases_same : (a b : ℕ) → (a ≡ b) ⊎ (a ≢ b)
@@ -35,18 +36,9 @@ pub still_going : (m : Machine) → reply_in (ask_of m) ≡ None → IsGoing m
 still_going m none reply e = let f : Some reply ≡ None = sym (ap reply_in e) ∙ none in cc
 
 -- a reply that is in an ask is the ask's
-pub reply_asked : (ask : Ask) (reply : Reply) → reply_in ask ≡ Some reply → ask ≡ Ask_done reply
-reply_asked (Ask_done r) reply e = let same : r ≡ reply = cc in ap Ask_done same
-reply_asked (Load at) reply e = absurd cc
-reply_asked (Exchange at old new) reply e = absurd cc
-reply_asked (SameKey n) reply e = absurd cc
-reply_asked ShowNone reply e = absurd cc
-reply_asked (ShowPair n) reply e = absurd cc
-reply_asked (SizeOf n) reply e = absurd cc
-reply_asked MakeKey reply e = absurd cc
-reply_asked MakePair reply e = absurd cc
-reply_asked (MakeTable slots limit) reply e = absurd cc
-reply_asked (AddToShard by) reply e = absurd cc
+pub reply_asked : (ask : Ask) (reply : Reply) → reply_in ask ≡ Some reply → ask ≡ asks.Call (Ask_done reply)
+reply_asked (asks.Call (Ask_done r)) reply e = let same : r ≡ reply = cc in ap (λ y. asks.Call (Ask_done y)) same
+reply_asked ask reply e = let f : None ≡ Some reply = e in absurd cc
 
 -- a call that begins has not replied
 pub begun-going : {K V A : Type 0} (hash : K → ℕ) (mode : ResizeMode) (initial : ℕ) (call : Call K V A) → IsGoing (begun hash mode initial call).machine
@@ -84,10 +76,10 @@ module _ {K V S A : Type 0} where
       (λ q e. let same : r ≡ q = cc in subst (λ (y : Running K V A). IsStanding y.machine × IsGoing y.machine) same (stands, goes))
 
   -- an ask of a caller was answered
-  pub performed-core : (eq : K → K → Bool) (says : Says K V A) (refuse : Bool) (store : StoreState K V S) (callers : List (Seat K V A)) (mode : ResizeMode) (r : Running K V A) (a : Answer) (store' : StoreState K V S) (later : Running K V A) → IsCore store callers mode → IsFitAsk (ask_of r.machine) → Performs eq says refuse (ask_of r.machine) store r a store' later → IsCore store' callers mode
-  performed-core eq says refuse store callers mode r a store' later core fit performs = record {
+  pub performed-core : (eq : K → K → Bool) (says : Says K V A) (hash : S → K → ℕ) (refuse : Bool) (store : StoreState K V S) (callers : List (Seat K V A)) (mode : ResizeMode) (r : Running K V A) (a : Answer) (store' : StoreState K V S) (later : Running K V A) → IsCore store callers mode → IsFitAsk (ask_of r.machine) → PerformsAsk eq says hash refuse (ask_of r.machine) store r a store' later → IsCore store' callers mode
+  performed-core eq says hash refuse store callers mode r a store' later core fit performs = record {
     chunked = core.chunked;
-    sizes = numbered store'.words.tables (performed eq says refuse (ask_of r.machine) store r a store' later (unnumbered store.words.tables core.sizes) fit performs).sized;
+    sizes = numbered store'.words.tables (performed_ask eq hash says refuse (ask_of r.machine) store r a store' later (unnumbered store.words.tables core.sizes) fit performs).sized;
     standing = core.standing;
     going = core.going;
   }

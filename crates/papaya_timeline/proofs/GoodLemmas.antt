@@ -17,7 +17,6 @@ use Rattle.papaya_law.specs.Exchange.{Exchange, run, start as first_state}
 use Rattle.papaya_law.specs.Invariant.{named}
 use Rattle.papaya_call.specs.Machine.{HasClosure}
 use Rattle.papaya_call.specs.Machine as calls
-use Rattle.papaya_chain.specs.declared.ask.Ask.{Ask}
 use Rattle.papaya_chain.specs.declared.ask.Ask.TheVariants as asks
 use Rattle.papaya_chain.specs.declared.ask.Answer.TheVariants as told_to
 use Rattle.papaya_chain.specs.Machine.{ask_of, follows_of, kind_of_ask, after}
@@ -52,7 +51,7 @@ use Rattle.papaya_store.specs.Store.{KeepsPairs, StoreState, Stored, pair_of}
 use Rattle.papaya_timeline.specs.Timeline.{Answered, Timeline, IsLegal, MayChange, FitsOpen, FitsShown, IsAgreed, IsUnused, change_of, change_by, none_by, number_in, open_call, open_after, begun_by, begins, is_begin, was_shown_none, AtSomeMoment}
 use Rattle.papaya_timeline.proofs.CallersLemmas.{running-same, running-other, running-with_seat, same_item, differs}
 use Rattle.papaya_timeline.proofs.ChainLemmas.{chain_changed, chain_once, own_asks}
-use Rattle.papaya_timeline.proofs.CoreLemmas.{cases_same}
+use Rattle.papaya_timeline.proofs.CoreLemmas.{cases_same, reply_asked}
 use Rattle.papaya_timeline.proofs.EndingLemmas.{removes_nothing, step_ending, unrefused}
 use Rattle.papaya_timeline.proofs.GivenLemmas.{given_more, left_more}
 use Rattle.papaya_timeline.proofs.Good.{IsGood, IsTied, IsValueOf, replay, replayed}
@@ -73,11 +72,6 @@ use Rattle.papaya_timeline.proofs.TimelineLemmas.{entry, open_call-own, open_cal
 goes : {A : Type 0} (reply : Option Reply) (r' r : A) → goes_on reply r' ≡ Some r → (reply ≡ None) × (r' ≡ r)
 goes None r' r e = (refl, same_item r' r e)
 goes (Some reply) r' r e = let f : None ≡ Some r = e in cc
-
--- a machine that replies asks no more
-done_in : (ask : Ask) (reply : Reply) → reply_in ask ≡ Some reply → ask ≡ asks.Call (Ask_done reply)
-done_in (asks.Call (Ask_done other)) reply e = ap (λ y. asks.Call (Ask_done y)) (same_item other reply e)
-done_in ask reply e = let f : None ≡ Some reply = e in cc
 
 -- a call that begins stands on nothing that its closure said
 begun_stands : (task : Task) (hash : ℕ) (mode : ResizeMode) (initial : ℕ) (said : Said) → StandsOn (calls.started task hash mode initial) said → ⊥
@@ -338,7 +332,7 @@ module _ {K V S A : Type 0} (eq : K → K → Bool) (hash : K → ℕ) (law : Is
     fits None e rep some = tt
     fits (Some call) e rep some =
         let was = sym opened ∙ e in
-        let done : ask_of (after x.before.machine x.answer) ≡ asks.Call (Ask_done rep) = done_in (ask_of (after x.before.machine x.answer)) rep (sym x.reply_is ∙ some) in
+        let done : ask_of (after x.before.machine x.answer) ≡ asks.Call (Ask_done rep) = reply_asked (ask_of (after x.before.machine x.answer)) rep (sym x.reply_is ∙ some) in
         tied_fits eq s'.store r' call c (tales c) later_history later_maps later_answers (low hash) s'.mode s'.store.words.tables step.own.key (step.own_key ∙ own_is call was) (tied_own call was) step.own.rests rep done (ending call was rep some done)
 
     -- a call of another that is open now was open before

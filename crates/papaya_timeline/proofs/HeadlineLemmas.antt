@@ -7,15 +7,16 @@ use Rattle.papaya_ask.specs.declared.call.Reply.{Reply}
 use Rattle.papaya_ask.specs.declared.call.Task.TheVariants.{Compute}
 use Rattle.papaya_call.specs.Answers.{Says}
 use Rattle.papaya_law.specs.Exchange.{Exchange}
-use Rattle.papaya_call.specs.Machine.{IsStanding, ask_of, after}
-use Rattle.papaya_rests.proofs.Standing.{machine_stands, machine_ask_fits}
+use Rattle.papaya_chain.specs.declared.ask.Ask.TheVariants as asks
+use Rattle.papaya_chain.specs.Machine.{IsStanding, ask_of, after}
+use Rattle.papaya_chain_rests.proofs.Standing.{chain_ask_fits, chain_stands, started_stands}
 use Rattle.papaya_store.specs.declared.pairs.Running.{Running}
 use Rattle.papaya_timeline.specs.declared.seat.Seat.{Seat}
 use Rattle.papaya_timeline.specs.declared.trace.Turn.{Turn}
 use Rattle.papaya_timeline.specs.declared.trace.Turn.TheVariants.{Begin, Step, Finish}
 use Rattle.papaya_timeline.specs.declared.trace.Event.{Event}
 use Rattle.papaya_timeline.specs.Advances.{Advances, goes_on}
-use Rattle.papaya_timeline.specs.Begins.{Begins, begun}
+use Rattle.papaya_timeline.specs.Begins.{Begins, begun, key_of_call, task_of_call}
 use Rattle.papaya_timeline.specs.Callers.{with_call, with_seat}
 use Rattle.papaya_timeline.specs.Content.{map_of}
 use Rattle.papaya_timeline.specs.Core.{IsGoing, CoreState, IsCore}
@@ -27,6 +28,7 @@ use Rattle.papaya_timeline.specs.Runs.{History, StepRuns, BeginRuns, StepsRun, T
 use Rattle.papaya_store.specs.Store.{KeepsPairs, StoreState, Stored}
 use Rattle.papaya_keys.specs.Hashes.{hash_of}
 use Rattle.papaya_timeline.proofs.CallersLemmas.{same_item}
+use Rattle.papaya_timeline.proofs.ChainLemmas.{own_asks}
 use Rattle.papaya_timeline.proofs.CoreLemmas.{begun-core, still_going, performed-core, with_call-core}
 use Rattle.papaya_timeline.proofs.Good.{IsGood}
 use Rattle.papaya_timeline.proofs.GoodLemmas.{good_start, good_begin, good_step, good_end}
@@ -34,17 +36,18 @@ use Rattle.papaya_timeline.proofs.AdvanceLemmas.{advance_moves}
 use Rattle.papaya_timeline.proofs.KeptCore.{keys_lawful}
 use Rattle.papaya_timeline.proofs.KeptLemmas.{IsLawfulKeys, kept_step}
 use Rattle.papaya_timeline.proofs.MachineLemmas.{machine_offers}
-use Rattle.papaya_timeline.proofs.StoreLemmas.{performed, unnumbered}
+use Rattle.papaya_timeline.proofs.StoreLemmas.{performed_ask, unnumbered}
 use Rattle.papaya_timeline.proofs.TiedLemmas.{grown}
 
 module _ {K V S A : Type 0} where
   -- what always holds of a core holds after a step
-  pub advance-core : (eq : K → K → Bool) (says : Says K V A) (refuse : Bool) (s : CoreState K V S A) (caller : ℕ) (s' : CoreState K V S A) (event : Event) (reply : Option Reply) → Advances eq says refuse s caller s' event reply → IsCore s.store s.callers s.mode → IsCore s'.store s'.callers s'.mode
-  advance-core eq says refuse s caller s' event reply x core =
+  pub advance-core : (eq : K → K → Bool) (says : Says K V A) (hash : S → K → ℕ) (refuse : Bool) (s : CoreState K V S A) (caller : ℕ) (s' : CoreState K V S A) (event : Event) (reply : Option Reply) → Advances eq says hash refuse s caller s' event reply → IsCore s.store s.callers s.mode → IsCore s'.store s'.callers s'.mode
+  advance-core eq says hash refuse s caller s' event reply x core =
       let m = x.before.machine in
-      let fit = machine_ask_fits m in
-      let stands = machine_stands m x.answer (core.standing caller x.before x.was) (performed eq says refuse (ask_of m) s.store x.before x.answer s'.store x.later (unnumbered s.store.words.tables core.sizes) fit x.performs).fit in
-      let kept : IsCore s'.store s.callers s.mode = performed-core eq says refuse s.store s.callers s.mode x.before x.answer s'.store x.later core fit x.performs in
+      let standing = core.standing caller x.before x.was in
+      let fit = chain_ask_fits m standing in
+      let stands = chain_stands m standing x.answer (performed_ask eq hash says refuse (ask_of m) s.store x.before x.answer s'.store x.later (unnumbered s.store.words.tables core.sizes) fit x.performs).fit in
+      let kept : IsCore s'.store s.callers s.mode = performed-core eq says hash refuse s.store s.callers s.mode x.before x.answer s'.store x.later core fit x.performs in
       let r : Running K V A = record x.later { machine = after m x.answer } in
       subst (λ y. IsCore s'.store s'.callers y) (sym x.mode)
       (subst (λ (y : List (Seat K V A)). IsCore s'.store y s.mode) (sym x.callers)
@@ -61,7 +64,7 @@ module _ {K V S A : Type 0} where
       subst (λ y. IsCore s'.store s'.callers y) (sym x.mode)
       (subst (λ (y : List (Seat K V A)). IsCore s'.store y s.mode) (sym x.callers)
       (subst (λ (y : StoreState K V S). IsCore y (with_call (with_seat s.callers caller) caller (Some r)) s.mode) (sym x.store)
-      (begun-core s.store s.callers s.mode caller r core (record { made = tt; remembered = record { fill = tt; choice = tt }; state = tt }) (still_going r.machine refl))))
+      (begun-core s.store s.callers s.mode caller r core (started_stands (task_of_call call) (hash (key_of_call call)) s.mode s.initial core.chunked x.power) (still_going r.machine refl))))
 
 module _ {K V S A : Type 0} (eq : K → K → Bool) (says : Says K V A) (hash : S → K → ℕ) (hasher : S) (law : IsLawfulKeys eq (hash hasher)) (schedule : List (Turn K V A)) (first : StoreState K V S) (start : Map K V) where
   -- a good history of a core with this hasher
@@ -74,17 +77,17 @@ module _ {K V S A : Type 0} (eq : K → K → Bool) (says : Says K V A) (hash : 
 
   step_runs : (turn caller : ℕ) (refuse : Bool) (s s' : CoreState K V S A) (before after : History) → StepRuns eq says hash turn caller refuse s before s' after → Good s before → Good s' after
   step_runs turn caller refuse s s' before after (inl (event, reply, x, is)) (same, good) = (
-    ap (λ (y : S). y) (grown eq says refuse (ask_of x.before.machine) s.store x.before x.answer s'.store x.later x.performs offers).hasher_is ∙ same,
+    ap (λ (y : S). y) (grown eq says hash refuse (ask_of x.before.machine) s.store x.before x.answer s'.store x.later x.performs offers).hasher_is ∙ same,
     subst (λ y. IsGood eq says (hash hasher) schedule first start s' y) (sym is)
-        (good_step eq (hash hasher) law refuse schedule first start s s' before turn caller event reply x (advance-core eq says refuse s caller s' event reply x good.core) good),
+        (good_step eq (hash hasher) law refuse schedule first start s s' before turn caller event reply x (ap hash same) (advance-core eq says hash refuse s caller s' event reply x good.core) good),
   )
     where
       -- only a compute shows its closure that there is none
-      offers : ask_of x.before.machine ≡ ShowNone → x.before.machine.task ≡ Compute
-      offers asks =
+      offers : ask_of x.before.machine ≡ asks.Call ShowNone → x.before.machine.call.task ≡ Compute
+      offers asking =
           let call = good.kept.calls caller x.before x.was in
           let tale = good.tales caller in
-          machine_offers (setting_of eq (low (hash hasher)) s.mode s.store.words.tables) (coding_of (low (hash hasher))) tale.begun tale.since call.key x.before.machine tale.hands call.rests asks
+          machine_offers (setting_of eq (low (hash hasher)) s.mode s.store.words.tables) (coding_of (low (hash hasher))) tale.begun tale.since call.key x.before.machine.call tale.hands.call call.rests.call (own_asks x.before.machine ShowNone asking).1
   step_runs turn caller refuse s s' before after (inr (idle, passed)) good = passes s s' before after passed.0 passed.1 good
 
   begin_runs : (turn caller : ℕ) (call : Call K V A) (s s' : CoreState K V S A) (before after : History) → slice_get schedule turn ≡ Some (Begin caller call) → BeginRuns eq says hash turn caller call s before s' after → Good s before → Good s' after
@@ -150,20 +153,20 @@ module _ {K V S A H : Type 0} (eq : K → K → Bool) (input : K → List (List 
       (turns_run eq says (hash_of input build write finish) s.store.hasher law schedule s.store (map_of eq s) turn s middle so_far runs (refl, good_start eq (hash_of input build write finish s.store.hasher) law says schedule s es tales always.core kept))
 
   -- a step moves the map in the class of its call's key alone
-  pub lawful_moves : (says : Says K V A) (refuse : Bool) (s s' : CoreState K V S A) (caller : ℕ) (event : Event) (reply : Option Reply) → Always s → Advances eq says refuse s caller s' event reply → MovesMap eq s caller s' event
+  pub lawful_moves : (says : Says K V A) (refuse : Bool) (s s' : CoreState K V S A) (caller : ℕ) (event : Event) (reply : Option Reply) → Always s → Advances eq says (hash_of input build write finish) refuse s caller s' event reply → MovesMap eq s caller s' event
   lawful_moves says refuse s s' caller event reply always x =
       let (es, (tales, kept)) = always.law in
       let hash : K → ℕ = hash_of input build write finish s.store.hasher in
       let law : IsLawfulKeys eq hash = keys_lawful eq input build write finish classes respects s.store.hasher in
-      advance_moves eq hash law refuse s s' caller event reply x always.core (advance-core eq says refuse s caller s' event reply x always.core) es tales kept (kept_step eq hash law refuse s caller s' event reply x es tales always.core kept)
+      advance_moves eq hash law refuse s s' caller event reply x always.core (advance-core eq says (hash_of input build write finish) refuse s caller s' event reply x always.core) es tales kept (kept_step eq hash law refuse s caller s' event reply x refl es tales always.core kept)
 
   -- and no pair is gone from the log
-  pub lawful_keeps : (says : Says K V A) (refuse : Bool) (s s' : CoreState K V S A) (caller : ℕ) (event : Event) (reply : Option Reply) → Always s → Advances eq says refuse s caller s' event reply → KeepsPairs s.store s'.store
-  lawful_keeps says refuse s s' caller event reply always x = (grown eq says refuse (ask_of x.before.machine) s.store x.before x.answer s'.store x.later x.performs offers).pairs_stay
+  pub lawful_keeps : (says : Says K V A) (refuse : Bool) (s s' : CoreState K V S A) (caller : ℕ) (event : Event) (reply : Option Reply) → Always s → Advances eq says (hash_of input build write finish) refuse s caller s' event reply → KeepsPairs s.store s'.store
+  lawful_keeps says refuse s s' caller event reply always x = (grown eq says (hash_of input build write finish) refuse (ask_of x.before.machine) s.store x.before x.answer s'.store x.later x.performs offers).pairs_stay
     where
-      offers : ask_of x.before.machine ≡ ShowNone → x.before.machine.task ≡ Compute
-      offers asks =
+      offers : ask_of x.before.machine ≡ asks.Call ShowNone → x.before.machine.call.task ≡ Compute
+      offers asking =
           let (es, (tales, kept)) = always.law in
           let call = kept.calls caller x.before x.was in
           let hash : K → ℕ = hash_of input build write finish s.store.hasher in
-          machine_offers (setting_of eq (low hash) s.mode s.store.words.tables) (coding_of (low hash)) (tales caller).begun (tales caller).since call.key x.before.machine (tales caller).hands call.rests asks
+          machine_offers (setting_of eq (low hash) s.mode s.store.words.tables) (coding_of (low hash)) (tales caller).begun (tales caller).since call.key x.before.machine.call (tales caller).hands.call call.rests.call (own_asks x.before.machine ShowNone asking).1

@@ -1,5 +1,6 @@
 -- The begin of a call.
 use Rattle.std.specs.Prelude.{◌≡◌, ℕ, ◌<◌, ◌^◌, true, false, Option, Some, None}
+use Rattle.std.specs.Int.{IsPowerOfTwo}
 use Rattle.papaya_words.specs.declared.probe.ResizeMode.{ResizeMode}
 use Rattle.papaya_ask.specs.declared.call.Call.{Call}
 use Rattle.papaya_ask.specs.declared.call.Call.TheVariants.{Get, Insert, TryInsert, RemoveIf, Compute}
@@ -56,3 +57,5 @@ pub record Begins {K V S A : Type 0} (hash : K → ℕ) (s : CoreState K V S A) 
   pub initial : s'.initial ≡ s.initial
   -- the key's hash has 64 bits
   pub fits : hash (key_of_call call) < 2 ^ 64
+  -- a table is made by an initial capacity that is a length of tables
+  pub power : IsPowerOfTwo s.initial
