@@ -45,7 +45,7 @@ module _ {K V S H : Type 0} (eq : K → K → Bool) (input : K → List (List �
   stopped_map r stopped =
       let came = stopped.came in
       abandoned eq input build write finish classes respects (core_of s) (seated store (still stopped.before) s.mode s.initial) call came.steps came.history (driven stopped.before) refl lawful.lawful
-      (turns_made eq (hash_of input build write finish) s call over.fits came.steps (seated store (still stopped.before) s.mode s.initial) came.history came.runs)
+      (turns_made eq (hash_of input build write finish) s call over.fits lawful.power came.steps (seated store (still stopped.before) s.mode s.initial) came.history came.runs)
       (ap (λ o. record { caller = 0; call = o } ∷ []) (under_way r stopped)) (ap change_in stopped.grows)
 
   -- and owed nothing

@@ -143,6 +143,6 @@ module _ {K V S : Type 0} (eq : K → K → Bool) (hash : S → K → ℕ) (s : 
         steps = run.steps;
         last = run.last;
         before = run.before;
-        runs = (Finish 0 run.steps, core_in (Some (getting m)), with_event 0 0 Begun [], refl, (Begin 0 (Get k), core_of s, [], refl, (refl, refl), inl (refl, record { store = refl; callers = refl; mode = refl; initial = refl; fits = fits }, refl)), run.runs);
+        runs = (Finish 0 run.steps, core_in (Some (getting m)), with_event 0 0 Begun [], refl, (Begin 0 (Get k), core_of s, [], refl, (refl, refl), inl (refl, record { store = refl; callers = refl; mode = refl; initial = refl; fits = fits; power = lawful.power }, refl)), run.runs);
         replied = run.replied;
       }

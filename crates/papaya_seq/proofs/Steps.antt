@@ -1,5 +1,6 @@
 -- The call of a map for one caller as the steps of a core with one seat.
 use Rattle.std.proofs.Common.{◌≡◌, ◌⊎◌, ⊎_elim, ℕ, suc, ◌+◌, ◌^◌, ◌<◌, ◌==◌, Bool, true, false, Option, None, Some, List, [], ◌∷◌, ◌++◌, length, replicate, inl, inr, refl, sym, ◌∙◌, ap, subst}
+use Rattle.std.specs.Int.{IsPowerOfTwo}
 use Rattle.std.specs.Prelude.{MatchBool}
 use Rattle.papaya_words.specs.Table.{TableWords}
 use Rattle.papaya_words.specs.declared.probe.Refused.TheVariants.{Memory, Capacity}
@@ -104,7 +105,7 @@ module _ {K V S : Type 0} (eq : K → K → Bool) (hash : S → K → ℕ) (s : 
   -- a call that begins
   pub made_none : IsMade s.store (begun (hash s.store.hasher) s.mode s.initial call)
   made_none keys lawful fits =
-      let begins : Begins (hash s.store.hasher) (core_of s) 0 call start = record { store = refl; callers = refl; mode = refl; initial = refl; fits = fits } in
+      let begins : Begins (hash s.store.hasher) (core_of s) 0 call start = record { store = refl; callers = refl; mode = refl; initial = refl; fits = fits; power = lawful.power } in
       let (es, (tales, kept)) = lawful.lawful.law in
       inl (record {
         steps = 0;
@@ -112,7 +113,7 @@ module _ {K V S : Type 0} (eq : K → K → Bool) (hash : S → K → ℕ) (s : 
         runs = (refl, refl);
         replied = λ reply e. let f : None ≡ Some reply = e in absurd cc;
         lawful = record {
-          core = begin-core (hash s.store.hasher) (core_of s) 0 call start begins lawful.power lawful.lawful.core;
+          core = begin-core (hash s.store.hasher) (core_of s) 0 call start begins lawful.lawful.core;
           law = (es, (begun_tales tales 0 es, kept_begin eq (hash s.store.hasher) keys (core_of s) 0 call start begins fits lawful.lawful.core.chunked es tales kept));
         };
         own = refl;
@@ -256,13 +257,13 @@ module _ {K V S : Type 0} (eq : K → K → Bool) (hash : S → K → ℕ) (s : 
   came_slots keys lawful fits store r came = came_by store r (λ q made. made.slots) (came keys lawful fits)
 
   -- the turns of a run that made so many steps
-  pub turns_made : hash s.store.hasher (key_of_call call) < 2 ^ 64 → (steps : ℕ) (s' : CoreState K V S (Unit {0})) (history : History) → StepsRun eq whatever hash 1 0 steps start (with_event 0 0 Begun []) s' history → TurnsRun eq whatever hash (Begin 0 call ∷ Finish 0 steps ∷ []) 2 (core_of s) s' history
-  turns_made fits steps s' history runs = (
+  pub turns_made : hash s.store.hasher (key_of_call call) < 2 ^ 64 → IsPowerOfTwo s.initial → (steps : ℕ) (s' : CoreState K V S (Unit {0})) (history : History) → StepsRun eq whatever hash 1 0 steps start (with_event 0 0 Begun []) s' history → TurnsRun eq whatever hash (Begin 0 call ∷ Finish 0 steps ∷ []) 2 (core_of s) s' history
+  turns_made fits power steps s' history runs = (
     Finish 0 steps,
     start,
     with_event 0 0 Begun [],
     refl,
-    (Begin 0 call, core_of s, [], refl, (refl, refl), inl (refl, record { store = refl; callers = refl; mode = refl; initial = refl; fits = fits }, refl)),
+    (Begin 0 call, core_of s, [], refl, (refl, refl), inl (refl, record { store = refl; callers = refl; mode = refl; initial = refl; fits = fits; power = power }, refl)),
     runs,
   )
 
@@ -290,7 +291,7 @@ module _ {K V S : Type 0} (eq : K → K → Bool) (hash : S → K → ℕ) (s : 
             steps = made.steps;
             last = ends.0;
             before = ends.1;
-            runs = turns_made fits made.steps (seated store None s.mode s.initial) (ends.0 ∷ ends.1) (subst (λ (h : History). StepsRun eq whatever hash 1 0 made.steps start (with_event 0 0 Begun []) (seated store None s.mode s.initial) h) ends.2 over);
+            runs = turns_made fits lawful.power made.steps (seated store None s.mode s.initial) (ends.0 ∷ ends.1) (subst (λ (h : History). StepsRun eq whatever hash 1 0 made.steps start (with_event 0 0 Begun []) (seated store None s.mode s.initial) h) ends.2 over);
             replied = ends.3;
           }
 
