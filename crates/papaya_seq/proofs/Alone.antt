@@ -64,15 +64,21 @@ module _ {K V S H : Type 0} (eq : K → K → Bool) (input : K → List (List �
           standing = λ caller q e. let f : None ≡ Some q = e in cc;
           going = λ caller q e. let f : None ≡ Some q = e in absurd cc;
         };
-        law = (es, (tales, record {
-          allowed = kept.allowed;
-          coded = kept.coded;
-          made = kept.made;
-          logged = kept.logged;
-          few = kept.few;
-          calls = λ caller q e. let f : None ≡ Some q = e in cc;
-          apart = λ c d q q' e e' differ p p' one other. let f : None ≡ Some q = e in absurd cc;
-        }));
+        law = (
+          es,
+          (
+            tales,
+            record {
+              allowed = kept.allowed;
+              coded = kept.coded;
+              made = kept.made;
+              logged = kept.logged;
+              few = kept.few;
+              calls = λ caller q e. let f : None ≡ Some q = e in cc;
+              apart = λ c d q q' e e' differ p p' one other. let f : None ≡ Some q = e in absurd cc;
+            },
+          ),
+        );
       })
 
   -- the finite map

@@ -151,7 +151,7 @@ module _ {K V S : Type 0} (eq : K → K → Bool) (hash : S → K → ℕ) (s : 
     goes_further same grows keys made =
         let (es, (tales, kept)) = made.lawful.law in
         let own : chain.after (calling m) (answers.Call answer) ≡ calling (after m answer) =
-            goes_itself m answer grows (λ t e. inr ((read_next t (ap (asks m.made m.hash) e)).0 ∙ ap Word_read (made.single t))) in
+        goes_itself m answer grows (λ t e. inr ((read_next t (ap (asks m.made m.hash) e)).0 ∙ ap Word_read (made.single t))) in
         let reply = reply_in (ask_of (after m answer)) in
         let event = event_of (chain.kind_of_ask (calling m)) (chain_asks.Call (ask_of m)) (answers.Call answer) in
         let now = seated store (still r) s.mode s.initial in
