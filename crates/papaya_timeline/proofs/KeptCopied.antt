@@ -123,19 +123,24 @@ module _ {K V S A : Type 0} (eq : K → K → Bool) (hashes : S → K → ℕ) (
       (λ p h. inl h) (λ p h. inl h) refl
       (untabled (SizeOf n) a (λ slots limit f. absurd cc))
   answered_copy refuse (HashOf n) e a store' later (is, fits, same) same_call =
-      answered_quietly (HashOf n) e a store' later (record tale.hands { kept = tale.hands.call.last }) same same_call
-      (λ p l number.
-      let there : pair_of store n ≡ Some p = subst (λ m. pair_of store m ≡ Some p) number (last p l) in
-      let told : a ≡ answers.Hash (hash p.key) = is ∙ ap (hash_in (hashes store.hasher)) there ∙ ap (λ (f : K → ℕ). answers.Hash (f p.key)) hasher in
-      told ∙ ap answers.Hash (sym (mod-eq_of_lt (subst IsHash told fits))), refl, refl)
+      answered_quietly (HashOf n) e a store' later (record tale.hands { kept = tale.hands.call.last }) same same_call (
+        λ p l number.
+            let there : pair_of store n ≡ Some p = subst (λ m. pair_of store m ≡ Some p) number (last p l) in
+            let told : a ≡ answers.Hash (hash p.key) = is ∙ ap (hash_in (hashes store.hasher)) there ∙ ap (λ (f : K → ℕ). answers.Hash (f p.key)) hasher in
+            told ∙ ap answers.Hash (sym (mod-eq_of_lt (subst IsHash told fits))),
+        refl,
+        refl,
+      )
       (λ p h. inl h) (λ p h. inr h) refl
       (untabled (HashOf n) a (λ slots limit f. absurd cc))
   answered_copy refuse (SamePair m n) e a store' later (is, same) same_call =
-      answered_quietly (SamePair m n) e a store' later tale.hands same same_call
-      ((λ p q l number_p k number_q.
-      let first : pair_of store m ≡ Some p = subst (λ i. pair_of store i ≡ Some p) number_p (carried p l) in
-      let second : pair_of store n ≡ Some q = subst (λ i. pair_of store i ≡ Some q) number_q (last q k) in
-      is ∙ ap (λ o. answers.Call (Yes (same_keys eq o (pair_of store n)))) first ∙ ap (λ o. answers.Call (Yes (same_keys eq (Some p) o))) second), (refl, refl))
+      answered_quietly (SamePair m n) e a store' later tale.hands same same_call (
+        (λ p q l number_p k number_q.
+            let first : pair_of store m ≡ Some p = subst (λ i. pair_of store i ≡ Some p) number_p (carried p l) in
+            let second : pair_of store n ≡ Some q = subst (λ i. pair_of store i ≡ Some q) number_q (last q k) in
+            is ∙ ap (λ o. answers.Call (Yes (same_keys eq o (pair_of store n)))) first ∙ ap (λ o. answers.Call (Yes (same_keys eq (Some p) o))) second),
+        (refl, refl),
+      )
       (λ p h. inl h) (λ p h. inl h) refl
       (untabled (SamePair m n) a (λ slots limit f. absurd cc))
   answered_copy refuse Count e a store' later (is, same) same_call =

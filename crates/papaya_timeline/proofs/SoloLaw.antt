@@ -33,7 +33,7 @@ module _ {K V S A H : Type 0} (eq : K → K → Bool) (input : K → List (List 
   -- it did what the finite map does
   pub alone_answered : IsAnswered eq call (map_of eq s) reply (map_of eq s')
   alone_answered =
-      timeline_answered eq call alone.steps (map_of eq s) (lookup_alike eq classes (λ (p : Stored K V). p.key) (content s.store)) over.events over.of_steps reply timeline.last (map_of eq s') timeline.maps timeline.said
+      timeline_answered eq call alone.steps (map_of eq s) (lookup_alike eq classes (λ (p : Stored K V). p.key) (content eq s.store)) over.events over.of_steps reply timeline.last (map_of eq s') timeline.maps timeline.said
       (subst (λ (h : History). Timeline eq (Begin 0 call ∷ Finish 0 alone.steps ∷ []) (map_of eq s) h (timeline.last ∷ timeline.maps) timeline.said) over.history timeline.timeline)
       (λ j. sym (timeline.is_last j))
 
@@ -42,7 +42,7 @@ module _ {K V S A H : Type 0} (eq : K → K → Bool) (input : K → List (List 
   alone_logged = (over.unlogged, over.follows.keeps)
 
   -- it leaves the core in order, also without its idle seat
-  pub alone_lawful : IsCounted s.store s.callers → IsLawfulCore {A = A} eq (hash_of input build write finish s'.store.hasher) s'.store [] s'.mode × IsCounted {A = A} s'.store [] × (s'.store.hasher ≡ s.store.hasher) × (s'.mode ≡ s.mode) × (s'.initial ≡ s.initial)
+  pub alone_lawful : IsCounted eq s.store s.callers → IsLawfulCore {A = A} eq (hash_of input build write finish s'.store.hasher) s'.store [] s'.mode × IsCounted {A = A} eq s'.store [] × (s'.store.hasher ≡ s.store.hasher) × (s'.mode ≡ s.mode) × (s'.initial ≡ s.initial)
   alone_lawful counted =
       let law = keys_lawful eq input build write finish classes respects s.store.hasher in (
         over_core eq (hash_of input build write finish) s law s' (alone.last ∷ alone.before) reply over,

@@ -9,7 +9,8 @@ use Rattle.papaya_ask.specs.declared.call.Reply.TheVariants.{Absent, Found, Inse
 use Rattle.papaya_ask.specs.declared.call.Task.{Task}
 use Rattle.papaya_ask.specs.declared.call.Task.TheVariants.{Insert, Compute}
 use Rattle.papaya_law.specs.Exchange.{Exchange, Setting}
-use Rattle.papaya_call.specs.Machine.{after, ask_of, kind_of_ask}
+use Rattle.papaya_chain.specs.declared.ask.Ask.TheVariants as asks
+use Rattle.papaya_chain.specs.Machine.{after, ask_of, kind_of_ask}
 use Rattle.papaya_rests.specs.Rests.{IsOwnPair, IsReply}
 use Rattle.papaya_rests.specs.Told.{Hands, IsOneOf}
 use Rattle.papaya_timeline.specs.declared.seat.Seat.{Seat}
@@ -30,9 +31,10 @@ use Rattle.papaya_timeline.specs.Solo.{IsNewIn, RunsAlone, whatever}
 use Rattle.papaya_store.specs.Store.{KeepsPairs, StoreState, Stored, pair_of, stored_at, stored_in}
 use Rattle.papaya_timeline.specs.Timeline.{begins, open_after}
 use Rattle.papaya_timeline.proofs.CallersLemmas.{same_item}
+use Rattle.papaya_timeline.proofs.ChainLemmas.{own_asks}
 use Rattle.papaya_timeline.proofs.CoreLemmas.{reply_asked}
 use Rattle.papaya_timeline.proofs.CountedLemmas.{counted_begin, counted_step}
-use Rattle.papaya_timeline.proofs.EventLemmas.{event_begins, event_open}
+use Rattle.papaya_timeline.proofs.StepEvents.{event_begins, event_open}
 use Rattle.papaya_timeline.proofs.HeadlineLemmas.{advance-core, begin-core}
 use Rattle.papaya_timeline.proofs.KeptCore.{performs-hasher}
 use Rattle.papaya_timeline.proofs.KeptLemmas.{IsLawfulKeys, IsStep, kept_begin, kept_step}
@@ -84,14 +86,14 @@ module _ {K V S A : Type 0} (eq : K → K → Bool) (hash : S → K → ℕ) (s 
     pub tales : ℕ → Tale K V
     pub core : IsCore s'.store s'.callers s'.mode
     pub kept : IsKept eq (hash s.store.hasher) s'.mode s'.store s'.callers es tales
-    pub counted : IsCounted s.store s.callers → IsCounted s'.store s'.callers
+    pub counted : IsCounted eq s.store s.callers → IsCounted eq s'.store s'.callers
     pub hasher_is : s'.store.hasher ≡ s.store.hasher
     pub mode_is : s'.mode ≡ s.mode
     pub initial_is : s'.initial ≡ s.initial
     pub keeps : KeepsPairs s.store s'.store
     pub longer : length s.store.pairs ≤ length s'.store.pairs
     -- the pairs that the call made were not logged at the begin
-    pub new : (q : Stored K V) → IsOneOf (tales 0).hands.made q → length s.store.pairs ≤ q.number
+    pub new : (q : Stored K V) → IsOneOf (tales 0).hands.call.made q → length s.store.pairs ≤ q.number
 
   -- after the begin
   follows_begin : (call : Call K V A) (s' : CoreState K V S A) → s.callers ≡ [] → IsCore s.store s.callers s.mode → (es : List (Exchange (Stored K V))) (tales : ℕ → Tale K V) → IsKept eq (hash s.store.hasher) s.mode s.store s.callers es tales → Begins (hash s.store.hasher) s 0 call s' → Follows s'
@@ -99,8 +101,8 @@ module _ {K V S A : Type 0} (eq : K → K → Bool) (hash : S → K → ℕ) (s 
     es = es;
     tales = begun_tales tales 0 es;
     core = begin-core (hash s.store.hasher) s 0 call s' x core;
-    kept = kept_begin eq (hash s.store.hasher) law s 0 call s' x x.fits es tales kept;
-    counted = counted_begin (hash s.store.hasher) s 0 call s' x (ap (λ (l : List (Seat K V A)). running l 0) idle);
+    kept = kept_begin eq (hash s.store.hasher) law s 0 call s' x x.fits core.chunked es tales kept;
+    counted = counted_begin eq (hash s.store.hasher) s 0 call s' x (ap (λ (l : List (Seat K V A)). running l 0) idle);
     hasher_is = ap (λ (y : StoreState K V S). y.hasher) x.store;
     mode_is = x.mode;
     initial_is = x.initial;
@@ -110,28 +112,28 @@ module _ {K V S A : Type 0} (eq : K → K → Bool) (hash : S → K → ℕ) (s 
   }
 
   -- the step that is told of a core
-  abbrev step_of : (now s' : CoreState K V S A) (event : Event) (reply : Option Reply) (f : Follows now) (x : Advances eq says false now 0 s' event reply) → IsStep eq (hash s.store.hasher) law false now 0 s' event reply x f.es f.tales
-  step_of now s' event reply f x = kept_step eq (hash s.store.hasher) law false now 0 s' event reply x f.es f.tales f.core f.kept
+  abbrev step_of : (now s' : CoreState K V S A) (event : Event) (reply : Option Reply) (f : Follows now) (x : Advances eq says hash false now 0 s' event reply) → IsStep eq (hash s.store.hasher) law false now 0 s' event reply x f.es f.tales
+  step_of now s' event reply f x = kept_step eq (hash s.store.hasher) law false now 0 s' event reply x (ap hash f.hasher_is) f.es f.tales f.core f.kept
 
   -- a pair that the call has made after a step
-  new_after : (now s' : CoreState K V S A) (event : Event) (reply : Option Reply) (f : Follows now) (x : Advances eq says false now 0 s' event reply) → (q : Stored K V) → IsOneOf (step_of now s' event reply f x).hands.made q → length s.store.pairs ≤ q.number
+  new_after : (now s' : CoreState K V S A) (event : Event) (reply : Option Reply) (f : Follows now) (x : Advances eq says hash false now 0 s' event reply) → (q : Stored K V) → IsOneOf (step_of now s' event reply f x).hands.call.made q → length s.store.pairs ≤ q.number
   new_after now s' event reply f x q made = elim ((step_of now s' event reply f x).new q made) [
     | inl old ↦ f.new q old
     | inr (number, value, there) ↦ let more = f.longer in omega arith
   ]
 
   -- after a step
-  follows_step : (now s' : CoreState K V S A) (event : Event) (reply : Option Reply) → Follows now → Advances eq says false now 0 s' event reply → Follows s'
+  follows_step : (now s' : CoreState K V S A) (event : Event) (reply : Option Reply) → Follows now → Advances eq says hash false now 0 s' event reply → Follows s'
   follows_step now s' event reply f x =
       let step = step_of now s' event reply f x in
-      let core' = advance-core eq says false now 0 s' event reply x f.core in
+      let core' = advance-core eq says hash false now 0 s' event reply x f.core in
       record {
         es = f.es ++ step.made;
         tales = told_tales f.tales 0 step.made step.hands;
         core = core';
         kept = step.kept;
-        counted = λ was. counted_step eq (hash s.store.hasher) law false now 0 s' event reply x f.es f.tales f.core core' f.kept (f.counted was);
-        hasher_is = performs-hasher eq says false (ask_of x.before.machine) now.store x.before x.answer s'.store x.later x.performs ∙ f.hasher_is;
+        counted = λ was. counted_step eq (hash s.store.hasher) law false now 0 s' event reply x (ap hash f.hasher_is) f.es f.tales f.core core' f.kept (f.counted was);
+        hasher_is = performs-hasher eq says hash false (ask_of x.before.machine) now.store x.before x.answer s'.store x.later x.performs ∙ f.hasher_is;
         mode_is = x.mode ∙ f.mode_is;
         initial_is = x.initial ∙ f.initial_is;
         keeps = λ n p e. let there = f.keeps n p e in
@@ -161,15 +163,15 @@ module _ {K V S A : Type 0} (eq : K → K → Bool) (hash : S → K → ℕ) (s 
   unlogged_by g first since k hands _ _ new own = absurd own
 
   -- so it is after the step that replies
-  unlogged_after : (now s' : CoreState K V S A) (event : Event) (reply : Reply) (f : Follows now) → Advances eq says false now 0 s' event (Some reply) → IsNewIn s.store reply
+  unlogged_after : (now s' : CoreState K V S A) (event : Event) (reply : Reply) (f : Follows now) → Advances eq says hash false now 0 s' event (Some reply) → IsNewIn s.store reply
   unlogged_after now s' event reply f x =
       let step = step_of now s' event (Some reply) f x in
       let m = after x.before.machine x.answer in
       let g = setting_of eq (low (hash s.store.hasher)) s'.mode s'.store.words.tables in
       let tale = told_tales f.tales 0 step.made step.hands 0 in
-      let done : ask_of m ≡ Ask_done reply = reply_asked (ask_of m) reply (sym x.reply_is) in
-      unlogged_by g tale.begun tale.since step.own.key tale.hands m.task reply (new_after now s' event (Some reply) f x)
-      (machine_replies g (coding_of (low (hash s.store.hasher))) tale.begun tale.since step.own.key m tale.hands step.own.rests reply done).0
+      let done : ask_of m ≡ asks.Call (Ask_done reply) = reply_asked (ask_of m) reply (sym x.reply_is) in
+      unlogged_by g tale.begun tale.since step.own.key tale.hands.call m.call.task reply (new_after now s' event (Some reply) f x)
+      (machine_replies g (coding_of (low (hash s.store.hasher))) tale.begun tale.since step.own.key m.call tale.hands.call step.own.rests.call reply (own_asks m (Ask_done reply) done).1).0
 
   -- the call is open, and no other caller has a seat
   pub record IsSole (s' : CoreState K V S A) (h : History) : Type 0 where
@@ -190,7 +192,7 @@ module _ {K V S A : Type 0} (eq : K → K → Bool) (hash : S → K → ℕ) (s 
     pub unlogged : IsNewIn s.store reply
 
   -- what the event of a step is
-  event_of_step : (now s' : CoreState K V S A) (event : Event) (reply : Option Reply) → Advances eq says false now 0 s' event reply → IsOfStep event
+  event_of_step : (now s' : CoreState K V S A) (event : Event) (reply : Option Reply) → Advances eq says hash false now 0 s' event reply → IsOfStep event
   event_of_step now s' event reply x =
       let kind = kind_of_ask x.before.machine in
       let ask = ask_of x.before.machine in
@@ -213,7 +215,7 @@ module _ {K V S A : Type 0} (eq : K → K → Bool) (hash : S → K → ℕ) (s 
   Goes s' h = IsSole s' h ⊎ ((reply : Reply) × IsOver s' h reply)
 
   -- a step of the open call
-  sole_steps : (now s' : CoreState K V S A) (h h' : History) (event : Event) (reply : Option Reply) → IsSole now h → Advances eq says false now 0 s' event reply → h' ≡ with_step 1 0 event reply h → Goes s' h'
+  sole_steps : (now s' : CoreState K V S A) (h h' : History) (event : Event) (reply : Option Reply) → IsSole now h → Advances eq says hash false now 0 s' event reply → h' ≡ with_step 1 0 event reply h → Goes s' h'
   sole_steps now s' h h' event None sole x told = inl (record {
     follows = follows_step now s' event None sole.follows x;
     call = record x.later { machine = after x.before.machine x.answer };
@@ -294,9 +296,9 @@ module _ {K V S A : Type 0} (eq : K → K → Bool) (hash : S → K → ℕ) (s 
             record {
               allowed = f.kept.allowed;
               coded = f.kept.coded;
-              single = f.kept.single;
               made = f.kept.made;
               logged = f.kept.logged;
+              few = f.kept.few;
               calls = λ caller r e. let n : None ≡ Some r = e in absurd cc;
               apart = λ c d r q e. let n : None ≡ Some r = e in absurd cc;
             },
@@ -305,5 +307,5 @@ module _ {K V S A : Type 0} (eq : K → K → Bool) (hash : S → K → ℕ) (s 
       }
 
   -- and its count is right without it
-  pub over_counted : (s' : CoreState K V S A) (h : History) (reply : Reply) {says : Says K V A} → IsOver eq hash s law says s' h reply → IsCounted s.store s.callers → IsCounted {A = A} s'.store []
+  pub over_counted : (s' : CoreState K V S A) (h : History) (reply : Reply) {says : Says K V A} → IsOver eq hash s law says s' h reply → IsCounted eq s.store s.callers → IsCounted {A = A} eq s'.store []
   over_counted s' h reply over counted = sym (ap (λ (l : List (Seat K V A)). int_wrap w64 (s'.store.count.sum +ℤ owed_in l)) over.callers) ∙ over.follows.counted counted
