@@ -58,6 +58,6 @@ module _ {K V S : Type 0} (eq : K → K → Bool) (matches : K → Bool)
       × Keeps s s'
   IsJudged s (Ok (Ok (Some entry))) s' = (p : Stored K V) × (entry_of p ≡ entry)
       × Removes eq matches s.store p s'.store × said p true × Keeps s s'
-  IsJudged s (Ok (Err entry)) s' = (p : Stored K V) × (entry_of p ≡ entry) × Holds eq matches s.store p
-      × said p false × Unchanged eq s.store s'.store × Keeps s s'
+  IsJudged s (Ok (Err entry)) s' = (p : Stored K V) × (entry_of p ≡ entry)
+      × Holds eq matches s.store p × said p false × Unchanged eq s.store s'.store × Keeps s s'
   IsJudged s (Err refused) s' = Unchanged eq s.store s'.store × Keeps s s'

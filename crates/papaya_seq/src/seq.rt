@@ -141,7 +141,8 @@ impl<K: Hash + Eq + Drop, V: Drop> HashMap<K, V, BuildHasherDefault<FoldHasher>>
     pub fn new(alloc: Global) -> Result<HashMap<K, V, BuildHasherDefault<FoldHasher>>, Refused>
         ensures new { IfOk result (λ map. IsNew {A = Unit {0}}
             (ResizeMode.Incremental DEFAULT_CHUNK) 0 1 map.store.hasher (core_of map)) }
-        ensures empty { IfOk result (λ map. (content K.eq map.store ≡ []) × (slots_of map.store ≡ 0)) }
+        ensures empty { IfOk result (λ map. (content K.eq map.store ≡ [])
+            × (slots_of map.store ≡ 0)) }
         ensures err { IfErr result (λ e. e ≡ Refused.Memory) }
     {
         HashMap::with_hasher(alloc, BuildHasherDefault::new())
@@ -166,7 +167,8 @@ impl<K: Hash + Eq + Drop, V: Drop> HashMap<K, V, BuildHasherDefault<FoldHasher>>
     pub fn default(alloc: Global) -> Result<HashMap<K, V, BuildHasherDefault<FoldHasher>>, Refused>
         ensures new { IfOk result (λ map. IsNew {A = Unit {0}}
             (ResizeMode.Incremental DEFAULT_CHUNK) 0 1 map.store.hasher (core_of map)) }
-        ensures empty { IfOk result (λ map. (content K.eq map.store ≡ []) × (slots_of map.store ≡ 0)) }
+        ensures empty { IfOk result (λ map. (content K.eq map.store ≡ [])
+            × (slots_of map.store ≡ 0)) }
         ensures err { IfErr result (λ e. e ≡ Refused.Memory) }
     {
         HashMap::new(alloc)
@@ -184,7 +186,8 @@ impl<K: Hash + Eq, V, S: BuildHasher> HashMap<K, V, S> {
 
     /// Has the map no pair?
     pub fn is_empty(&self) -> bool
-        ensures { MatchBool result (content K.eq self.now.store ≡ []) (content K.eq self.now.store ≢ []) }
+        ensures { MatchBool result (content K.eq self.now.store ≡ [])
+            (content K.eq self.now.store ≢ []) }
     {
         self.len() == 0
     }
@@ -242,8 +245,8 @@ impl<K: Hash + Eq, V, S: BuildHasher> HashMap<K, V, S> {
         ensures map { (k : _) → Q.matches key.now k ≡ true
             → option_map deref_pair result ≡ option_map entry_of (map_in K.eq self.now.store k) }
         ensures answer { MatchOption result (HasNone K.eq (Q.matches key.now) self.now.store)
-            (λ found. (p : _) × Holds K.eq (Q.matches key.now) self.now.store p × (p.key ≡ found.0.now)
-            × (p.value ≡ found.1.now)) }
+            (λ found. (p : _) × Holds K.eq (Q.matches key.now) self.now.store p
+            × (p.key ≡ found.0.now) × (p.value ≡ found.1.now)) }
         ensures machine { (found : _) × LooksUp K.eq (Q.matches key.now) self.now.store
             (started Get (hash_of Q.hash_input S.build_hasher S.Hasher.write S.Hasher.finish
             self.now.store.hasher key.now) self.now.mode self.now.initial) found
@@ -260,7 +263,8 @@ impl<K: Hash + Eq, V, S: BuildHasher> HashMap<K, V, S> {
     pub fn contains_key<Q: Equivalent<K>>(&self, key: &Q) -> bool
         ensures map { (k : _) → Q.matches key.now k ≡ true
             → result ≡ is_some (map_in K.eq self.now.store k) }
-        ensures answer { MatchBool result ((p : _) × Holds K.eq (Q.matches key.now) self.now.store p)
+        ensures answer { MatchBool result
+            ((p : _) × Holds K.eq (Q.matches key.now) self.now.store p)
             (HasNone K.eq (Q.matches key.now) self.now.store) }
         ensures machine { (found : _) × LooksUp K.eq (Q.matches key.now) self.now.store
             (started Get (hash_of Q.hash_input S.build_hasher S.Hasher.write S.Hasher.finish
@@ -444,8 +448,8 @@ impl<K: Hash + Eq + Drop, V: Drop, S: BuildHasher> HashMap<K, V, S> {
             (entry_answered result))) }
         ensures removed { IfOk result (λ removed. MatchOption removed
             (HasNone K.eq (Q.matches key.now) self.old.store)
-            (λ found. (p : _) × Holds K.eq (Q.matches key.now) self.old.store p × (p.key ≡ found.0.now)
-            × (p.value ≡ found.1.now))) }
+            (λ found. (p : _) × Holds K.eq (Q.matches key.now) self.old.store p
+            × (p.key ≡ found.0.now) × (p.value ≡ found.1.now))) }
         ensures never { next_of self.old.store ≡ 0 → IsOk result }
     {
         match self.remove_by(key, |_, _| true) {
