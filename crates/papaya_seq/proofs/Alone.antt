@@ -5,24 +5,20 @@ use Rattle.papaya_words.specs.declared.probe.Refused.TheVariants.{Capacity}
 use Rattle.papaya_ask.specs.declared.call.Call.{Call}
 use Rattle.papaya_ask.specs.declared.call.Reply.{Reply}
 use Rattle.papaya_ask.specs.declared.call.Reply.TheVariants.{Refused as Reply_refused}
-use Rattle.papaya_call.specs.Machine.{asks}
+use Rattle.papaya_call.specs.Machine.{ask_of, asks}
 use Rattle.papaya_rests.specs.Rests.{change_in}
 use Rattle.papaya_store.specs.declared.pairs.Running.{Running}
 use Rattle.papaya_rests.specs.Owed.{owed_by}
 use Rattle.papaya_timeline.specs.Advances.{goes_on}
 use Rattle.papaya_timeline.specs.Content.{map_in}
-use Rattle.papaya_timeline.specs.Core.{CoreState}
-use Rattle.papaya_timeline.specs.Counted.{IsCounted, owed_of}
-use Rattle.papaya_timeline.specs.Kept.{IsLawfulCore}
-use Rattle.papaya_timeline.specs.Maps.{Same}
-use Rattle.papaya_timeline.specs.Solo.{IsAnswered, IsNewIn, RunsAlone}
+use Rattle.papaya_timeline.specs.Solo.{IsAnswered, IsNewIn, RunsAlone, whatever}
 use Rattle.papaya_store.specs.Store.{KeepsPairs, StoreState}
 use Rattle.papaya_keys.specs.Hashes.{hash_of}
-use Rattle.papaya_timeline.proofs.Abandoned.{abandoned}
+use Rattle.papaya_timeline.proofs.Abandoned.{IsLeft, lawful_left}
 use Rattle.papaya_timeline.proofs.SoloLaw.{alone_answered, alone_lawful, alone_logged}
 use Rattle.papaya_seq.specs.Map.{IsLawfulMap, MapState, core_of}
 use Rattle.papaya_seq.proofs.Driving.{reply_in, tables_single}
-use Rattle.papaya_seq.proofs.Steps.{HasCome, HasStopped, IsOver, driven, seated, still, turns_made}
+use Rattle.papaya_seq.proofs.Steps.{HasStopped, IsOver, driven, seated, still, turns_made}
 
 module _ {K V S H : Type 0} (eq : K → K → Bool) (input : K → List (List ℕ)) (build : S → H) (write : H → List ℕ → H) (finish : H → ℕ) (classes : IsEquivalence eq) (respects : (x y : K) → eq x y ≡ true → input x ≡ input y)
     (s : MapState K V S) (call : Call K V (Unit {0})) (reply : Reply) (store : StoreState K V S)
@@ -40,59 +36,29 @@ module _ {K V S H : Type 0} (eq : K → K → Bool) (input : K → List (List �
   under_way r stopped = let m = stopped.before.machine.call in ap (λ state. goes_on (reply_in (asks m.made m.hash state)) (driven stopped.before)) stopped.grows
 
   -- it had changed nothing
-  stopped_map : (r : Running K V (Unit {0})) (stopped : HasStopped eq (hash_of input build write finish) s call store r)
-      → Same (map_in eq s.store) (map_in eq store) × (IsCounted {A = Unit {0}} eq s.store [] → owed_of (Some (driven stopped.before)) ≡ pos 0 → IsCounted {A = Unit {0}} eq store [])
-  stopped_map r stopped =
+  left : (r : Running K V (Unit {0})) (stopped : HasStopped eq (hash_of input build write finish) s call store r) → IsLeft eq (hash_of input build write finish) (core_of s) (seated store (still stopped.before) s.mode s.initial) (driven stopped.before)
+  left r stopped =
       let came = stopped.came in
-      abandoned eq input build write finish classes respects (core_of s) (seated store (still stopped.before) s.mode s.initial) call came.steps came.history (driven stopped.before) refl lawful.lawful
-      (turns_made eq (hash_of input build write finish) s call over.fits lawful.power came.steps (seated store (still stopped.before) s.mode s.initial) came.history came.runs)
-      (ap (λ o. record { caller = 0; call = o } ∷ []) (under_way r stopped)) (ap change_in stopped.grows)
+      let now = seated store (still stopped.before) s.mode s.initial in
+      lawful_left eq input build write finish classes respects whatever (core_of s) now came.history (driven stopped.before) call came.steps lawful.lawful refl
+      (turns_made eq (hash_of input build write finish) s call over.fits lawful.power came.steps now came.history came.runs) (under_way r stopped) (ap change_in stopped.grows)
 
   -- and owed nothing
-  owes_none : (r : Running K V (Unit {0})) (stopped : HasStopped eq (hash_of input build write finish) s call store r) → owed_of (Some (driven stopped.before)) ≡ pos 0
+  owes_none : (r : Running K V (Unit {0})) (stopped : HasStopped eq (hash_of input build write finish) s call store r) → owed_by (ask_of stopped.before.machine.call) ≡ pos 0
   owes_none r stopped = let m = stopped.before.machine.call in ap (λ state. owed_by (asks m.made m.hash state)) stopped.grows
-
-  -- a core without its one call
-  idle_core : (r : Running K V (Unit {0})) → HasStopped eq (hash_of input build write finish) s call store r → IsLawfulCore {A = Unit {0}} eq (hash_of input build write finish store.hasher) store [] s.mode
-  idle_core r stopped =
-      let came = stopped.came in
-      let (es, (tales, kept)) = came.lawful.law in
-      subst (λ hasher. IsLawfulCore {A = Unit {0}} eq (hash_of input build write finish hasher) store [] s.mode) (sym came.hasher) (record {
-        core = record {
-          chunked = came.lawful.core.chunked;
-          sizes = came.lawful.core.sizes;
-          standing = λ caller q e. let f : None ≡ Some q = e in cc;
-          going = λ caller q e. let f : None ≡ Some q = e in absurd cc;
-        };
-        law = (
-          es,
-          (
-            tales,
-            record {
-              allowed = kept.allowed;
-              coded = kept.coded;
-              made = kept.made;
-              logged = kept.logged;
-              few = kept.few;
-              calls = λ caller q e. let f : None ≡ Some q = e in cc;
-              apart = λ c d q q' e e' differ p p' one other. let f : None ≡ Some q = e in absurd cc;
-            },
-          ),
-        );
-      })
 
   -- the finite map
   pub map_answered : IsAnswered eq call (map_in eq s.store) reply (map_in eq store)
   map_answered = ⊎_elim
       (λ (alone : Ran). alone_answered eq input build write finish classes respects (core_of s) (seated store None s.mode s.initial) call reply lawful.lawful alone)
-      (λ (stopped : Stopped). subst (λ r. IsAnswered eq call (map_in eq s.store) r (map_in eq store)) (sym stopped.1) ((stopped_map stopped.0 stopped.2).0, λ e. absurd cc))
+      (λ (stopped : Stopped). subst (λ r. IsAnswered eq call (map_in eq s.store) r (map_in eq store)) (sym stopped.1) ((left stopped.0 stopped.2).map, λ e. absurd cc))
       over.ran
 
   -- the logs
   pub map_logged : IsNewIn s.store reply × KeepsPairs s.store store
   map_logged = ⊎_elim
       (λ (alone : Ran). alone_logged eq input build write finish classes respects (core_of s) (seated store None s.mode s.initial) call reply lawful.lawful alone)
-      (λ (stopped : Stopped). (subst (λ r. IsNewIn s.store r) (sym stopped.1) tt, stopped.2.came.keeps))
+      (λ (stopped : Stopped). (subst (λ r. IsNewIn s.store r) (sym stopped.1) tt, (left stopped.0 stopped.2).keeps))
       over.ran
 
   -- the words and the count are in order
@@ -101,12 +67,12 @@ module _ {K V S H : Type 0} (eq : K → K → Bool) (input : K → List (List �
       (λ (alone : Ran).
       let left = alone_lawful eq input build write finish classes respects (core_of s) (seated store None s.mode s.initial) call reply lawful.lawful alone lawful.counted in
       record { lawful = left.0; counted = left.1; single = tables_single store.words over.single; power = lawful.power })
-      (λ (stopped : Stopped). record { lawful = idle_core stopped.0 stopped.2; counted = (stopped_map stopped.0 stopped.2).1 lawful.counted (owes_none stopped.0 stopped.2); single = tables_single store.words over.single; power = lawful.power })
+      (λ (stopped : Stopped). record { lawful = (left stopped.0 stopped.2).core; counted = (left stopped.0 stopped.2).counted (owes_none stopped.0 stopped.2) lawful.counted; single = tables_single store.words over.single; power = lawful.power })
       over.ran
 
   -- the hasher stays
   pub map_hasher : store.hasher ≡ s.store.hasher
   map_hasher = ⊎_elim
       (λ (alone : Ran). (alone_lawful eq input build write finish classes respects (core_of s) (seated store None s.mode s.initial) call reply lawful.lawful alone lawful.counted).2)
-      (λ (stopped : Stopped). stopped.2.came.hasher)
+      (λ (stopped : Stopped). (left stopped.0 stopped.2).hasher_is)
       over.ran

@@ -40,7 +40,7 @@ use Rattle.papaya_timeline.specs.Kept.{IsLawfulCore, begun_tales, told_tales}
 use Rattle.papaya_store.specs.Performs.{Performs, Refuses, own_key, size_of}
 use Rattle.papaya_timeline.specs.Runs.{History, StepsRun, TurnsRun, with_event, with_step}
 use Rattle.papaya_timeline.specs.Solo.{RunsAlone, whatever}
-use Rattle.papaya_store.specs.Store.{KeepsPairs, StoreState, pair_of}
+use Rattle.papaya_store.specs.Store.{StoreState}
 use Rattle.papaya_store.specs.Tables.{Tables, put, table_of, word_at}
 use Rattle.papaya_timeline.proofs.HeadlineLemmas.{advance-core, begin-core}
 use Rattle.papaya_timeline.proofs.KeptCore.{performs-hasher}
@@ -49,7 +49,7 @@ use Rattle.papaya_timeline.proofs.KeptTables.{word-here, word-made, word-other}
 use Rattle.papaya_words.specs.declared.limits.TheConstants.{FIRST_TABLE_LEN}
 use Rattle.papaya_seq.specs.Map.{IsLawfulMap, KeepsSlots, MapState, core_of, slots_in}
 use Rattle.papaya_seq.proofs.Driving.{calling, caused_itself, goes_itself, own_place, performs_next, reply_asked, reply_in, words_single}
-use Rattle.papaya_seq.proofs.Lawful.{core_root_there, number_is}
+use Rattle.papaya_seq.proofs.Lawful.{core_root_there}
 use Rattle.papaya_seq.proofs.Slots.{keeps_more, made_slots, makes_first, opens_none, slots_step}
 
 -- a core whose one seat has this call
@@ -85,10 +85,9 @@ module _ {K V S : Type 0} (eq : K → K → Bool) (hash : S → K → ℕ) (s : 
     -- the root table has the slots that it had, or is the first one, as is the table that is about to be opened
     pub slots : KeepsSlots s.store store
     pub opens : (t : ℕ) → ask_of r.machine.call ≡ Exchange Root 0 t → slots_in (table_of store.words.tables t) ≡ FIRST_TABLE_LEN
-    -- no table has a next one, the hasher stays, and so does each pair in the log
+    -- no table has a next one, and the hasher stays
     pub single : (t : ℕ) → word_at store.words (Next t) ≡ 0
     pub hasher : store.hasher ≡ s.store.hasher
-    pub keeps : KeepsPairs s.store store
 
   -- The call needed a further table, and there is none: it ended there, refused.
   pub record HasStopped (store : StoreState K V S) (r : Running K V (Unit {0})) : Type 0 where
@@ -121,7 +120,6 @@ module _ {K V S : Type 0} (eq : K → K → Bool) (hash : S → K → ℕ) (s : 
         opens = λ t e. absurd cc;
         single = words_single s.store.words lawful.single;
         hasher = refl;
-        keeps = λ n p e. e;
       })
 
   -- the last of a step's entries is its reply
@@ -193,10 +191,6 @@ module _ {K V S : Type 0} (eq : K → K → Bool) (hash : S → K → ℕ) (s : 
           ];
           single = λ t. performs_next eq whatever store (driven r) answer store' later t (ask_of m) (λ at old new e. own_place m.made m.hash m.state at old new e) performs ∙ made.single t;
           hasher = performs-hasher eq whatever hash false (chain_asks.Call (ask_of m)) store (driven r) (answers.Call answer) store' later (answer, refl, performs) ∙ made.hasher;
-          keeps = λ n p e.
-              let there = made.keeps n p e in
-              let number = number_is store n p there in
-              subst (λ i. pair_of store' i ≡ Some p) number (step.logged p (subst (λ i. pair_of store i ≡ Some p) (sym number) there));
           replied = λ told e. last_entry event reply made.history told e;
         }
 

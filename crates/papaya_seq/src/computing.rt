@@ -90,6 +90,7 @@ impl<K: Hash + Eq + Drop, V: Drop, S: BuildHasher> HashMap<K, V, S> {
         let mut shown = None;
         let mut aborted = None;
         loop {
+            // The call goes on for itself: the map has one table, and none is made after it.
             let ask = running.machine.call.ask();
             let answer = match ask {
                 Ask::ShowNone => {

@@ -46,6 +46,7 @@ impl<K: Hash + Eq + Drop, V: Drop, S: BuildHasher> HashMap<K, V, S> {
             answers: None,
         };
         loop {
+            // The call goes on for itself: the map has one table, and none is made after it.
             let ask = running.machine.call.ask();
             if let Ask::Done(reply) = ask {
                 return (reply, value_left(running));
