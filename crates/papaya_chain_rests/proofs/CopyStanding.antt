@@ -1,5 +1,5 @@
 -- What is made or copied stands within its tables after each answer within the limits, and asks for tables of sizes of tables.
-use Rattle.std.proofs.Common.{◌≡◌, ℕ, zero, suc, ◌+◌, ◌*◌, ◌-◌, ◌==◌, ◌<◌, ◌≤◌, ◌^◌, nat_lt, nat_le, ◌||◌, not, Bool, true, false, max, refl, leb-false, arith}
+use Rattle.std.proofs.Common.{ℕ, zero, suc, ◌+◌, ◌-◌, ◌==◌, ◌<◌, ◌≤◌, ◌^◌, nat_lt, nat_le, ◌||◌, not, Bool, true, false, max, leb-false, arith}
 use Rattle.std.proofs.Math.Nat.{mod-lt}
 use Rattle.std.proofs.lemmas.Bool.{cond_both, leb-true, ltb-true}
 use Rattle.std.specs.Int.{IsPowerOfTwo}
@@ -7,7 +7,6 @@ use Rattle.papaya_words.specs.Mode.{IsChunked}
 use Rattle.papaya_words.specs.Probe.{limit_of, log_upto, triangular}
 use Rattle.papaya_words.specs.Table.{length_after, limit_after}
 use Rattle.papaya_words.specs.Word.{byte_of, kind_of, top_byte}
-use Rattle.papaya_words.specs.declared.limits.TheConstants.{BLOCKING_CHUNK}
 use Rattle.papaya_words.specs.declared.probe.Refused.{Refused}
 use Rattle.papaya_words.specs.declared.probe.Refused.TheVariants.{Capacity}
 use Rattle.papaya_words.specs.declared.probe.ResizeMode.{ResizeMode}
@@ -15,17 +14,15 @@ use Rattle.papaya_words.specs.declared.probe.ResizeMode.TheVariants.{Incremental
 use Rattle.papaya_words.specs.declared.word.Kind.{Kind}
 use Rattle.papaya_words.specs.declared.word.Kind.TheVariants as word_kinds
 use Rattle.papaya_words.proofs.Lengths.{table_power}
-use Rattle.papaya_ask.specs.declared.ask.Answer.{Answer as Call_answer}
-use Rattle.papaya_ask.specs.declared.ask.Answer.TheVariants.{Word as Word_read, Exchanged, Found as Found_instead, Yes, Op, Size, Made as Made_number, Ok as Ok_done, Refused as Was_refused}
+use Rattle.papaya_ask.specs.declared.ask.Answer.TheVariants.{Word as Word_read, Exchanged, Found as Found_instead, Yes, Size, Made as Made_number, Refused as Was_refused}
 use Rattle.papaya_ask.specs.declared.search.Place.{Place}
-use Rattle.papaya_ask.specs.Search.{IsSize, IsWithin, first_place, next_place}
+use Rattle.papaya_ask.specs.Search.{IsSize, IsWithin, next_place}
 use Rattle.papaya_copy.specs.declared.carry.Carried.{Carried}
 use Rattle.papaya_copy.specs.declared.carry.Carried.TheVariants as carried
 use Rattle.papaya_copy.specs.declared.carry.Carry.{Carry}
 use Rattle.papaya_copy.specs.declared.carry.Carry.TheVariants as carry_states
 use Rattle.papaya_copy.specs.declared.copying.Aim.{Aim}
 use Rattle.papaya_copy.specs.declared.copying.Aim.TheVariants as aims
-use Rattle.papaya_copy.specs.declared.copying.Copied.{Copied}
 use Rattle.papaya_copy.specs.declared.copying.Copied.TheVariants as copied
 use Rattle.papaya_copy.specs.declared.copying.Copying.{Copying}
 use Rattle.papaya_copy.specs.declared.copying.Copying.TheVariants.{Stepping, Lone}
@@ -55,7 +52,7 @@ use Rattle.papaya_copy.specs.Step as steps
 use Rattle.papaya_copy.specs.Step.{IsStandingChunk, IsStandingStep, IsStandingStepped, step_ask}
 use Rattle.papaya_chain.specs.declared.ask.Answer.{Answer}
 use Rattle.papaya_chain.specs.declared.ask.Answer.TheVariants as answers
-use Rattle.papaya_chain.specs.Machine.{IsFit, copying_after, copying_called, link_after, link_called}
+use Rattle.papaya_chain.specs.Machine.{IsFit, copying_after, link_after}
 use Rattle.papaya_rests.proofs.Standing.{next_within, some_slots}
 
 -- a limit is no longer than that of the longest table

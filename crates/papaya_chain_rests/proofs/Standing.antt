@@ -1,5 +1,5 @@
 -- A machine over a chain that stands within its tables does so after each answer within the limits, and asks for tables of sizes of tables.
-use Rattle.std.proofs.Common.{◌≡◌, ℕ, ◌==◌, Bool, true, false, refl, sym, subst}
+use Rattle.std.proofs.Common.{ℕ, ◌==◌, Bool, true, false, sym, subst}
 use Rattle.std.proofs.lemmas.Bool.{cond_both}
 use Rattle.std.specs.Int.{IsPowerOfTwo}
 use Rattle.papaya_words.specs.Mode.{IsChunked}
@@ -19,11 +19,9 @@ use Rattle.papaya_copy.specs.declared.copying.Aim.{Aim}
 use Rattle.papaya_copy.specs.declared.copying.Aim.TheVariants as aims
 use Rattle.papaya_copy.specs.declared.copying.Copied.{Copied}
 use Rattle.papaya_copy.specs.declared.copying.Copied.TheVariants as copied
-use Rattle.papaya_copy.specs.declared.copying.Copying.TheVariants.{Stepping}
 use Rattle.papaya_copy.specs.declared.link.Link.TheVariants as links
 use Rattle.papaya_copy.specs.declared.link.Linked.{Linked}
 use Rattle.papaya_copy.specs.declared.link.Linked.TheVariants as linked
-use Rattle.papaya_copy.specs.declared.step.Step.TheVariants as steps
 use Rattle.papaya_copy.specs.Copying.{IsStandingCopied}
 use Rattle.papaya_copy.specs.Link.{IsStandingLinked}
 use Rattle.papaya_chain.specs.declared.ask.Answer.{Answer}

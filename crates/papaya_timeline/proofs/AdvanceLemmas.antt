@@ -18,9 +18,12 @@ use Rattle.papaya_law.specs.Invariant.{named}
 use Rattle.papaya_law.specs.Meaning.{IsLawful}
 use Rattle.papaya_call.specs.Machine.{HasClosure, IsChanger, MayInsert}
 use Rattle.papaya_call.specs.Machine as calls
-use Rattle.papaya_chain.specs.Machine.{ask_of, follows_of, kind_of_ask}
+use Rattle.papaya_chain.specs.Machine.{after, ask_of, follows_of, kind_of_ask}
 use Rattle.papaya_rests.specs.Rests.{change_in, change_of_reply}
+use Rattle.papaya_chain_rests.specs.Goes.{IsInOrder, change_by as changed_by}
 use Rattle.papaya_chain_rests.specs.Told.{IsTold}
+use Rattle.papaya_chain_rests.proofs.Order.{in_order}
+use Rattle.papaya_chain_rests.proofs.Replies.{chain_changes}
 use Rattle.papaya_law.specs.Code.{IsHashed}
 use Rattle.papaya_timeline.specs.declared.trace.Turn.{Turn}
 use Rattle.papaya_timeline.specs.declared.trace.Event.{Event}
@@ -34,13 +37,14 @@ use Rattle.papaya_timeline.specs.Maps.{Map, Does, IsUpdate, Same, key_of}
 use Rattle.papaya_timeline.specs.Moves.{IsOwnChange, MovesMap}
 use Rattle.papaya_store.specs.Store.{Stored, pair_of as pair_numbered}
 use Rattle.papaya_timeline.specs.Runs.{History}
-use Rattle.papaya_timeline.specs.Timeline.{Answered, IsFresh, IsLegal, number_in}
+use Rattle.papaya_timeline.specs.Timeline.{Answered, IsFresh, IsLegal, change_by, number_in}
 use Rattle.papaya_timeline.proofs.ChainLemmas.{chain_changer, chain_inserts, chain_once}
 use Rattle.papaya_timeline.proofs.Good.{replay}
 use Rattle.papaya_timeline.proofs.KeptLemmas.{IsLawfulKeys, IsStep, hashed_setting, map_kept}
 use Rattle.papaya_timeline.proofs.LegalLemmas.{MayPut, MayReplace, MayTell, Moves, insertion_does, moved_legal, removal_does, step_moves}
 use Rattle.papaya_timeline.proofs.MachineLemmas.{machine_takes}
 use Rattle.papaya_timeline.proofs.ReplayLemmas.{held_in_slot, map_replayed}
+use Rattle.papaya_timeline.proofs.StepEvents.{copy_kind, event_change, unchanged_before}
 use Rattle.papaya_timeline.proofs.StepTells.{Tells, event_tells}
 
 module _ {K V S A : Type 0} (eq : K → K → Bool) (hash : K → ℕ) (law : IsLawfulKeys eq hash) where
@@ -181,3 +185,28 @@ module _ {K V S A : Type 0} (eq : K → K → Bool) (hash : K → ℕ) (law : Is
 
     pub advance_moves : MovesMap eq s c s' event
     advance_moves = moves_core event x.event_is moved
+
+    -- the answer was for the call itself, or the call was set aside
+    pub order : IsInOrder m x.answer m.phase
+    order = in_order g coding (tales c).begun (tales c).since k m (tales c).hands now x.answer step.made step.hands step.call.rests step.told
+
+    -- what the machine made of the answer, it changed
+    pub changed : change_in (after m x.answer).call.state ≡ changed_by (kind_of_ask m) (ask_of m) x.answer (change_in m.call.state)
+    changed = chain_changes g coding k now m (tales c).hands x.answer step.made step.hands order step.told hashed step.call.rests.call.hash
+
+    -- an event that tells no change leaves the map
+    stays : (e : Event) → change_by e (change_in m.call.state) ≡ None → MovesMap eq s c s' e → Same (map_of eq s) (map_of eq s')
+    stays (Changed kind old new) none moves = absurd (cc none)
+    stays Begun none moves = moves
+    stays (Moved kind) none moves = moves
+    stays (Asked n agrees) none moves = moves
+    stays (Shown shown kind) none moves = moves
+    stays Other none moves = moves
+    stays (Replied reply) none moves = moves
+
+    -- so where no change was made after it, none was made before it, and it left the map
+    pub unmoved : change_in (after m x.answer).call.state ≡ None → (change_in m.call.state ≡ None) × Same (map_of eq s) (map_of eq s')
+    unmoved none = (
+      unchanged_before (change_in m.call.state) (kind_of_ask m) (ask_of m) x.answer (chain_once m) (sym changed ∙ none),
+      stays event (ap (λ y. change_by y (change_in m.call.state)) x.event_is ∙ event_change (change_in m.call.state) (kind_of_ask m) (ask_of m) x.answer (copy_kind m) (chain_once m) ∙ sym changed ∙ none) advance_moves,
+    )

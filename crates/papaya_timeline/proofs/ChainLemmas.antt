@@ -1,5 +1,5 @@
 -- What a machine over a chain of tables keeps to where it asks as its call asks.
-use Rattle.std.proofs.Common.{◌≡◌, inl, inr, ℕ, Option, None, Some, refl, sym, ◌∙◌, ap, subst}
+use Rattle.std.proofs.Common.{◌≡◌, inl, inr, ℕ, Option, None, Some, sym, ◌∙◌, ap, subst}
 use Rattle.papaya_ask.specs.declared.ask.At.{At}
 use Rattle.papaya_ask.specs.declared.ask.Ask.{Ask as Call_ask}
 use Rattle.papaya_ask.specs.declared.ask.At.TheVariants.{Next}

@@ -1,6 +1,5 @@
 -- The table that a new one is to follow is on the chain.
-use Rattle.std.proofs.Common.{◌≡◌, ℕ, Option, Some, List, ◌++◌, inl, inr}
-use Rattle.papaya_ask.specs.declared.copy_ask.CopyAsk.{CopyAsk}
+use Rattle.std.proofs.Common.{◌≡◌, ℕ, Option, List, inl, inr}
 use Rattle.papaya_ask.specs.declared.copy_ask.CopyAsk.TheVariants.{MakeTable}
 use Rattle.papaya_copy.specs.declared.carry.Carry.{Carry}
 use Rattle.papaya_copy.specs.declared.carry.Carry.TheVariants as carries
@@ -13,7 +12,6 @@ use Rattle.papaya_copy.specs.declared.step.Step.{Step}
 use Rattle.papaya_copy.specs.declared.step.Step.TheVariants as steps
 use Rattle.papaya_copy.specs.Carry as carry
 use Rattle.papaya_copy.specs.Copying as copying
-use Rattle.papaya_copy.specs.Link as link
 use Rattle.papaya_copy.specs.Settle as settle
 use Rattle.papaya_copy.specs.Step as step
 use Rattle.papaya_chain.specs.declared.ask.Ask.TheVariants as asks

@@ -24,8 +24,7 @@ use Rattle.papaya_chain_rests.specs.Goes.{Goes, IsInOrder, change_by as changed_
 use Rattle.papaya_chain_rests.specs.Told.{Hands, no_hands}
 use Rattle.papaya_chain_rests.proofs.Goes.{machine_goes}
 use Rattle.papaya_chain_rests.proofs.Once.{chain_offered, chain_once as shows_once}
-use Rattle.papaya_chain_rests.proofs.Order.{in_order}
-use Rattle.papaya_chain_rests.proofs.Replies.{chain_changes, chain_said, chain_shows, chain_task}
+use Rattle.papaya_chain_rests.proofs.Replies.{chain_said, chain_shows, chain_task}
 use Rattle.papaya_rests.specs.Rests.{change_in, change_of_reply}
 use Rattle.papaya_rests.specs.Says.{HasShownNone, IsSaidChange, Said, StandsOn, show}
 use Rattle.papaya_rests.specs.Told.{IsOneOf}
@@ -36,7 +35,7 @@ use Rattle.papaya_timeline.specs.declared.trace.Turn.{Turn}
 use Rattle.papaya_timeline.specs.declared.trace.Turn.TheVariants.{Begin}
 use Rattle.papaya_timeline.specs.declared.trace.Event.{Event}
 use Rattle.papaya_timeline.specs.declared.trace.Event.TheVariants.{Begun, Changed, Moved, Asked, Shown, Other, Replied}
-use Rattle.papaya_timeline.specs.Advances.{Advances, goes_on, reply_in}
+use Rattle.papaya_timeline.specs.Advances.{Advances, goes_on}
 use Rattle.papaya_timeline.specs.Begins.{Begins, begun, key_of_call, task_of_call, value_of_call}
 use Rattle.papaya_timeline.specs.Callers.{running, with_seat}
 use Rattle.papaya_timeline.specs.Content.{map_of}
@@ -57,7 +56,7 @@ use Rattle.papaya_timeline.proofs.GivenLemmas.{given_more, left_more}
 use Rattle.papaya_timeline.proofs.Good.{IsGood, IsTied, IsValueOf, replay, replayed}
 use Rattle.papaya_timeline.proofs.KeptLemmas.{IsLawfulKeys, IsStep, kept_step, kept_begin, map_kept, hashed_setting}
 use Rattle.papaya_timeline.proofs.KeptLogs.{pair_below}
-use Rattle.papaya_timeline.proofs.AdvanceLemmas.{advance_legal, moved as advance_moved}
+use Rattle.papaya_timeline.proofs.AdvanceLemmas.{advance_legal, changed as advance_changed, moved as advance_moved, order as advance_order}
 use Rattle.papaya_timeline.proofs.LegalLemmas.{IsMoved, MayPut, MayReplace, MayTell, Moves, insertion_does, removal_does}
 use Rattle.papaya_timeline.proofs.MachineLemmas.{machine_offers, machine_shows, machine_shows_none}
 use Rattle.papaya_timeline.proofs.ReplayLemmas.{map_replayed, held_in_slot}
@@ -137,14 +136,14 @@ module _ {K V S A : Type 0} (eq : K → K → Bool) (hash : K → ℕ) (law : Is
 
     -- the answer was for the call itself, or the call was set aside
     order : IsInOrder x.before.machine x.answer x.before.machine.phase
-    order = in_order (setting_of eq (low hash) s.mode s.store.words.tables) (coding_of (low hash)) (good.tales c).begun (good.tales c).since step.call.key x.before.machine (good.tales c).hands (run good.es first_state) x.answer step.made step.hands step.call.rests step.told
+    order = advance_order eq hash law refuse s s' c event reply x good.core core' good.es good.tales good.kept step
 
     goes_by : Goes x.before.machine x.answer
     goes_by = machine_goes x.before.machine x.answer order
 
     -- what the machine made of the answer, it changed
     changed : change_in (after x.before.machine x.answer).call.state ≡ changed_by (kind_of_ask x.before.machine) (ask_of x.before.machine) x.answer (change_in x.before.machine.call.state)
-    changed = chain_changes (setting_of eq (low hash) s.mode s.store.words.tables) (coding_of (low hash)) step.call.key (run good.es first_state) x.before.machine (good.tales c).hands x.answer step.made step.hands order step.told hashed step.call.rests.call.hash
+    changed = advance_changed eq hash law refuse s s' c event reply x good.core core' good.es good.tales good.kept step
 
     -- the key of an open call
     own_is : (call : Call K V A) → open_call schedule c h ≡ Some call → step.call.key ≡ key_of call

@@ -1,6 +1,6 @@
 -- A value that a compute stored is one that its own closure answered: of a run in which a compute stores a pair, which an
 -- insertion replaces, the stored value is not free.
-use Rattle.std.proofs.Common.{◌≡◌, ◌⊎◌, inl, inr, ℕ, Bool, true, false, Option, Some, None, List, [], ◌∷◌, refl, sym, ◌∙◌, ap, subst}
+use Rattle.std.proofs.Common.{◌≡◌, inl, inr, ℕ, Bool, true, Option, Some, None, List, [], ◌∷◌, refl, sym, subst}
 use Rattle.papaya_call.specs.declared.answers.Operation.{Operation}
 use Rattle.papaya_call.specs.declared.answers.Operation.TheVariants as ops
 use Rattle.papaya_ask.specs.declared.ask.OpKind.TheVariants as kinds
@@ -17,7 +17,6 @@ use Rattle.papaya_store.specs.Store.{Stored}
 use Rattle.papaya_timeline.specs.Maps.{Map}
 use Rattle.papaya_timeline.specs.Timeline.{Answered}
 use Rattle.papaya_timeline.specs.Given.{AreGiven, GivesIn, HasLeft}
-use Rattle.papaya_timeline.specs.Headline.{HasTimeline}
 use Rattle.papaya_store.specs.Store.{StoreState}
 use Rattle.papaya_call.specs.Answers.{Says}
 

@@ -15,7 +15,7 @@ use Rattle.papaya_law.specs.Exchange.{Setting, State, Exchange, after as state_a
 use Rattle.papaya_law.specs.Grows.{Comes}
 use Rattle.papaya_law.specs.Invariant.{named}
 use Rattle.papaya_law.proofs.Moments.{run-append}
-use Rattle.papaya_rests.specs.Rests.{change_in, change_after}
+use Rattle.papaya_rests.specs.Rests.{change_in}
 use Rattle.papaya_rests.specs.Copier.{told_last as copy_told_last}
 use Rattle.papaya_rests.specs.Told.{Hands as Call_hands, IsOneOf, IsTold as IsCallTold, IsWritten, told_of, or_last, word_of}
 use Rattle.papaya_chain.specs.declared.ask.Ask.{Ask}

@@ -1,5 +1,5 @@
 -- Every answered ask of a copy keeps to the law.
-use Rattle.std.proofs.Common.{◌≡◌, ℕ, ◌+◌, ◌%◌, ◌^◌, ◌==◌, ◌<◌, Bool, List, [], ◌∷◌, ◌++◌, length, Option, Some, None, inl, inr, ◌⊎◌, refl, sym, ◌∙◌, ap, subst, arith, MatchBool}
+use Rattle.std.proofs.Common.{◌≡◌, ℕ, ◌+◌, ◌==◌, ◌<◌, Bool, List, [], ◌∷◌, ◌++◌, length, Some, inl, inr, ◌⊎◌, refl, sym, ◌∙◌, ap, subst, arith, MatchBool}
 use Rattle.std.proofs.Math.Nat.{mod-eq_of_lt}
 use Rattle.papaya_words.specs.declared.limits.TheConstants.{MAX_TABLES}
 use Rattle.papaya_words.specs.declared.probe.Refused.{Refused}
@@ -9,12 +9,12 @@ use Rattle.papaya_ask.specs.declared.ask.At.{At}
 use Rattle.papaya_ask.specs.declared.ask.At.TheVariants.{Root}
 use Rattle.papaya_ask.specs.declared.ask.Ask.TheVariants.{Exchange as Ask_exchange, MakeTable as Make_own}
 use Rattle.papaya_ask.specs.declared.ask.Answer.{Answer as Call_answer}
-use Rattle.papaya_ask.specs.declared.ask.Answer.TheVariants.{Word as Word_read, Exchanged, Found as Found_instead, Yes, Size, Made as Made_number, Ok as Ok_done, Refused as Was_refused}
+use Rattle.papaya_ask.specs.declared.ask.Answer.TheVariants.{Word as Word_read, Exchanged, Found as Found_instead, Yes, Size, Made as Made_number, Refused as Was_refused}
 use Rattle.papaya_ask.specs.declared.copy_ask.CopyAsk.{CopyAsk}
 use Rattle.papaya_ask.specs.declared.copy_ask.CopyAsk.TheVariants.{Load, Exchange as Copy_exchange, SizeOf, HashOf, SamePair, Count, MakeTable}
 use Rattle.papaya_law.specs.Allows.{AllAllowed}
 use Rattle.papaya_law.specs.Code.{IsHashed}
-use Rattle.papaya_law.specs.Exchange.{Exchange, run, start}
+use Rattle.papaya_law.specs.Exchange.{Exchange, start}
 use Rattle.papaya_law.specs.Grows.{Comes}
 use Rattle.papaya_rests.specs.Copier.{IsCopyAsked, last_after, told_last}
 use Rattle.papaya_rests.specs.Told.{word_of}
@@ -28,11 +28,11 @@ use Rattle.papaya_chain_rests.specs.Told.{Hands, told_of}
 use Rattle.papaya_chain_rests.proofs.Names.{copies_there}
 use Rattle.papaya_copy.specs.declared.link.Link.TheVariants.{Linking}
 use Rattle.papaya_store.specs.declared.pairs.Running.{Running}
-use Rattle.papaya_timeline.specs.Kept.{IsMade, Tale, low, slots_in, places_in}
+use Rattle.papaya_timeline.specs.Kept.{IsMade, Tale, slots_in, places_in}
 use Rattle.papaya_store.specs.Copies.{IsHash, PerformsCopy, hash_in, same_keys}
 use Rattle.papaya_store.specs.Performs.{Exchanges, MakesTable, Refuses, own_key, size_of}
 use Rattle.papaya_store.specs.Store.{StoreState, Stored, pair_of}
-use Rattle.papaya_store.specs.Tables.{word_at, put, table_of}
+use Rattle.papaya_store.specs.Tables.{word_at, put}
 use Rattle.papaya_timeline.proofs.FollowedTables.{machine_follows}
 use Rattle.papaya_timeline.proofs.StoreLemmas.{matched}
 use Rattle.papaya_timeline.proofs.KeptAnswer.{law_setting, law_coding, words_now, IsAnswered, Stands, Tells, copy_last, quiet}

@@ -27,7 +27,7 @@ use Rattle.papaya_chain_rests.specs.Told.{Hands}
 use Rattle.papaya_store.specs.declared.pairs.Pair.{Pair}
 use Rattle.papaya_store.specs.declared.pairs.KeyOf.TheVariants.{Logged}
 use Rattle.papaya_store.specs.declared.pairs.Running.{Running}
-use Rattle.papaya_timeline.specs.Kept.{IsMade, Tale, low}
+use Rattle.papaya_timeline.specs.Kept.{IsMade, Tale}
 use Rattle.papaya_store.specs.Performs.{Refuses, Stays, HasKey, HasNoPair, LogsKey, LogsPair, MakesTable, key_at, own_key}
 use Rattle.papaya_store.specs.Store.{StoreState, Stored, pair_of, stored_at, stored_in}
 use Rattle.papaya_store.specs.Tables.{table_of, word_at}

@@ -1,5 +1,5 @@
 -- Every answered ask of a call itself keeps to the law.
-use Rattle.std.proofs.Common.{◌≡◌, ℕ, ◌+◌, ◌==◌, ◌<◌, Bool, List, [], ◌∷◌, ◌++◌, length, Option, Some, inl, inr, ◌⊎◌, refl, sym, ◌∙◌, ap, subst, arith, MatchBool}
+use Rattle.std.proofs.Common.{◌≡◌, ℕ, ◌+◌, ◌==◌, ◌<◌, Bool, List, [], ◌∷◌, ◌++◌, length, Some, inl, inr, ◌⊎◌, refl, sym, ◌∙◌, ap, subst, arith, MatchBool}
 use Rattle.papaya_words.specs.declared.limits.TheConstants.{MAX_TABLES}
 use Rattle.papaya_words.specs.declared.probe.Refused.{Refused}
 use Rattle.papaya_words.specs.declared.probe.Refused.TheVariants.{Memory}
@@ -17,7 +17,6 @@ use Rattle.papaya_law.specs.Class.{IsOn}
 use Rattle.papaya_law.specs.Code.{IsHashed}
 use Rattle.papaya_law.specs.Exchange.{Exchange, run, start}
 use Rattle.papaya_law.specs.Grows.{Comes}
-use Rattle.papaya_call.specs.Machine as call_machine
 use Rattle.papaya_rests.specs.Rests.{change_in, change_after}
 use Rattle.papaya_rests.specs.Told.{Hands as Call_hands, IsTold as IsCallTold, IsAsked, told_of, word_of}
 use Rattle.papaya_rests.proofs.RestsNames.{IsNamed, ask_named}
@@ -29,7 +28,7 @@ use Rattle.papaya_chain_rests.specs.Rests.{Rests}
 use Rattle.papaya_chain_rests.proofs.Names.{call_asks}
 use Rattle.papaya_copy.specs.declared.link.Link.TheVariants.{Linking}
 use Rattle.papaya_store.specs.declared.pairs.Running.{Running}
-use Rattle.papaya_timeline.specs.Kept.{IsMade, Tale, low, slots_in, places_in}
+use Rattle.papaya_timeline.specs.Kept.{IsMade, Tale, slots_in, places_in}
 use Rattle.papaya_store.specs.Performs.{Exchanges, MakesTable, Performs, Refuses, own_key, same, size_of}
 use Rattle.papaya_store.specs.Store.{StoreState, Stored, pair_of}
 use Rattle.papaya_store.specs.Tables.{word_at, put}

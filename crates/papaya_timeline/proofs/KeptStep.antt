@@ -1,6 +1,5 @@
 -- A step of one caller keeps a core's words to the law of exchanges.
 use Rattle.std.proofs.Common.{◌≡◌, ◌≢◌, ℕ, ◌<◌, Bool, cond, List, ◌++◌, length, Option, Some, None, ◌⊎◌, inl, inr, refl, sym, ◌∙◌, ap, subst, arith, append_assoc, eq-eqb}
-use Rattle.papaya_words.specs.Table.{TableWords}
 use Rattle.papaya_call.specs.Answers.{Says}
 use Rattle.papaya_ask.specs.declared.ask.Ask.TheVariants.{Exchange as Ask_exchange}
 use Rattle.papaya_ask.specs.declared.ask.At.TheVariants.{Root}
@@ -8,7 +7,6 @@ use Rattle.papaya_copy.specs.declared.link.Link.TheVariants.{Linking}
 use Rattle.papaya_chain.specs.declared.ask.Ask.{Ask}
 use Rattle.papaya_chain.specs.declared.ask.Ask.TheVariants as asks
 use Rattle.papaya_chain.specs.declared.ask.Answer.{Answer}
-use Rattle.papaya_chain.specs.declared.ask.Answer.TheVariants as answers
 use Rattle.papaya_law.specs.Allows.{AllAllowed}
 use Rattle.papaya_law.specs.Class.{IsOn}
 use Rattle.papaya_law.specs.Code.{Coding}
@@ -38,7 +36,6 @@ use Rattle.papaya_timeline.specs.Core.{CoreState, IsCore}
 use Rattle.papaya_timeline.specs.Kept.{IsKept, IsCall, IsLogged, IsMade, Tale, setting_of, coding_of, low, told_tales}
 use Rattle.papaya_store.specs.Asks.{PerformsAsk}
 use Rattle.papaya_store.specs.Store.{Stored, pair_of}
-use Rattle.papaya_store.specs.Tables.{table_of}
 use Rattle.papaya_timeline.proofs.CallersLemmas.{differs, running-other, running-same}
 use Rattle.papaya_timeline.proofs.CoreLemmas.{cases_same}
 use Rattle.papaya_timeline.proofs.KeptAnswer.{IsAnswered, Stands}
@@ -47,7 +44,7 @@ use Rattle.papaya_timeline.proofs.KeptCopied.{answered_copy}
 use Rattle.papaya_timeline.proofs.KeptLogs.{pair_below}
 use Rattle.papaya_timeline.proofs.KeptPerformed.{answered_call}
 use Rattle.papaya_timeline.proofs.KeptSettings.{IsLawfulKeys, tables_hashed, grown_agrees}
-use Rattle.papaya_timeline.proofs.MadeTables.{IsMadeIn, chain_opens, copy_made, is_made, made_is, machine_made}
+use Rattle.papaya_timeline.proofs.MadeTables.{chain_opens, copy_made, is_made, made_is, machine_made}
 
 module _ {K V S A : Type 0} (eq : K → K → Bool) (hash : K → ℕ) (law : IsLawfulKeys eq hash) (says : Says K V A) (hashes : S → K → ℕ) (refuse : Bool) (s : CoreState K V S A) (caller : ℕ) (s' : CoreState K V S A)
     (before : Running K V A) (a : Answer) (later : Running K V A) (was : running s.callers caller ≡ Some before) (performs : PerformsAsk eq says hashes refuse (ask_of before.machine) s.store before a s'.store later) (hasher : hashes s.store.hasher ≡ hash)

@@ -1,31 +1,27 @@
 -- An exchange that was made, for the call itself or for its copy.
-use Rattle.std.proofs.Common.{◌≡◌, ℕ, ◌==◌, ◌<◌, Bool, true, List, [], ◌∷◌, ◌++◌, length, Option, Some, None, ◌⊎◌, inl, inr, refl, sym, ◌∙◌, ap, subst, MatchBool, eqb-true}
+use Rattle.std.proofs.Common.{◌≡◌, ℕ, ◌==◌, ◌<◌, Bool, true, List, [], ◌∷◌, ◌++◌, Some, None, ◌⊎◌, inl, inr, refl, sym, ◌∙◌, ap, subst, MatchBool, eqb-true}
 use Rattle.papaya_words.specs.declared.probe.ResizeMode.{ResizeMode}
 use Rattle.papaya_ask.specs.declared.ask.At.{At}
 use Rattle.papaya_ask.specs.declared.ask.At.TheVariants.{Root, Next, Aborted, Done, Slot}
 use Rattle.papaya_ask.specs.declared.ask.Ask.TheVariants.{Exchange as Ask_exchange}
 use Rattle.papaya_ask.specs.declared.ask.Answer.TheVariants.{Exchanged, Found as Found_instead}
-use Rattle.papaya_ask.specs.declared.copy_ask.CopyAsk.{CopyAsk}
 use Rattle.papaya_ask.specs.declared.copy_ask.CopyAsk.TheVariants.{Exchange as Copy_exchange}
-use Rattle.papaya_ask.specs.declared.ask.StepKind.{StepKind}
 use Rattle.papaya_law.specs.Allows.{AllAllowed, Allows}
 use Rattle.papaya_law.specs.Class.{IsOn}
 use Rattle.papaya_law.specs.Code.{Coding, IsHashed}
 use Rattle.papaya_law.specs.Exchange.{Setting, State, Exchange, after as state_after, run, start}
 use Rattle.papaya_law.specs.Grows.{Comes}
-use Rattle.papaya_law.specs.Invariant.{named}
 use Rattle.papaya_law.proofs.Logs.{on_comes}
 use Rattle.papaya_call.specs.Machine as call_machine
-use Rattle.papaya_rests.specs.Copier.{AreThere, IsCopyAsked, IsThere, last_after, told_last}
-use Rattle.papaya_rests.specs.Rests.{change_in, change_of_kind}
-use Rattle.papaya_rests.specs.Told.{IsTold as IsCallTold, IsAsked, IsOneOf, IsWritten, told_of, word_of}
+use Rattle.papaya_rests.specs.Copier.{IsCopyAsked, IsThere, last_after, told_last}
+use Rattle.papaya_rests.specs.Rests.{change_of_kind}
+use Rattle.papaya_rests.specs.Told.{IsTold as IsCallTold, IsAsked, IsWritten, told_of, word_of}
 use Rattle.papaya_rests.proofs.RestsExchange.{machine_may}
 use Rattle.papaya_rests.proofs.RestsNames.{ask_named, slot_named}
 use Rattle.papaya_chain.specs.declared.ask.Ask.TheVariants as asks
 use Rattle.papaya_chain.specs.declared.ask.Answer.TheVariants as answers
-use Rattle.papaya_chain.specs.declared.machine.Phase.TheVariants.{Calling}
-use Rattle.papaya_chain.specs.Machine.{after, ask_of, kind_in, kind_of_ask}
-use Rattle.papaya_chain_rests.specs.Goes.{change_by, link_in}
+use Rattle.papaya_chain.specs.Machine.{ask_of, kind_in, kind_of_ask}
+use Rattle.papaya_chain_rests.specs.Goes.{link_in}
 use Rattle.papaya_chain_rests.specs.Rests.{Rests}
 use Rattle.papaya_chain_rests.specs.Told.{Hands}
 use Rattle.papaya_chain_rests.specs.Told as copies_told
@@ -35,8 +31,8 @@ use Rattle.papaya_store.specs.declared.pairs.Running.{Running}
 use Rattle.papaya_store.specs.Performs.{own_key}
 use Rattle.papaya_store.specs.Store.{StoreState, Stored}
 use Rattle.papaya_store.specs.Tables.{word_at, put}
-use Rattle.papaya_timeline.specs.Kept.{IsMade, Tale, low, slots_in}
-use Rattle.papaya_timeline.proofs.KeptAnswer.{law_setting, law_coding, words_now, IsAnswered, Stands, Tells, changed, exchanged, own_told}
+use Rattle.papaya_timeline.specs.Kept.{IsMade, Tale, slots_in}
+use Rattle.papaya_timeline.proofs.KeptAnswer.{law_setting, law_coding, words_now, IsAnswered, Tells, changed, exchanged, own_told}
 use Rattle.papaya_timeline.proofs.KeptExchange.{IsChanged, IsCopied_on, changes, copies, root_empty}
 use Rattle.papaya_timeline.proofs.KeptTables.{IsPlaced}
 use Rattle.papaya_timeline.proofs.MachineLemmas.{machine_once}

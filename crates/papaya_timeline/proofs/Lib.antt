@@ -1,3 +1,4 @@
+pub mod Abandoned
 pub mod AdvanceLemmas
 pub mod CallersLemmas
 pub mod ChainLemmas

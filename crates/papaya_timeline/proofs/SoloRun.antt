@@ -11,7 +11,7 @@ use Rattle.papaya_ask.specs.declared.call.Task.TheVariants.{Insert, Compute}
 use Rattle.papaya_law.specs.Exchange.{Exchange, Setting}
 use Rattle.papaya_chain.specs.declared.ask.Ask.TheVariants as asks
 use Rattle.papaya_chain.specs.Machine.{after, ask_of, kind_of_ask}
-use Rattle.papaya_rests.specs.Rests.{IsOwnPair, IsReply}
+use Rattle.papaya_rests.specs.Rests.{IsOwnPair, IsReply, change_in}
 use Rattle.papaya_rests.specs.Told.{Hands, IsOneOf}
 use Rattle.papaya_timeline.specs.declared.seat.Seat.{Seat}
 use Rattle.papaya_store.specs.declared.pairs.Pair.{Pair}
@@ -23,13 +23,16 @@ use Rattle.papaya_timeline.specs.declared.trace.Turn.TheVariants.{Begin, Finish}
 use Rattle.papaya_timeline.specs.Advances.{Advances, event_of}
 use Rattle.papaya_timeline.specs.Begins.{Begins, begun}
 use Rattle.papaya_timeline.specs.Callers.{running, with_call, with_seat}
+use Rattle.papaya_timeline.specs.Content.{map_in, map_of}
 use Rattle.papaya_timeline.specs.Core.{CoreState, IsCore}
 use Rattle.papaya_timeline.specs.Counted.{IsCounted, owed_in}
 use Rattle.papaya_timeline.specs.Kept.{IsKept, IsLawfulCore, Tale, begun_tales, coding_of, low, setting_of, told_tales}
-use Rattle.papaya_timeline.specs.Runs.{BeginRuns, History, StepRuns, StepsRun, TurnRuns, with_event, with_step}
+use Rattle.papaya_timeline.specs.Runs.{BeginRuns, History, StepRuns, StepsRun, TurnRuns, TurnsRun, with_event, with_step}
 use Rattle.papaya_timeline.specs.Solo.{IsNewIn, RunsAlone, whatever}
 use Rattle.papaya_store.specs.Store.{KeepsPairs, StoreState, Stored, pair_of, stored_at, stored_in}
 use Rattle.papaya_timeline.specs.Timeline.{begins, open_after}
+use Rattle.papaya_timeline.specs.Maps.{Same}
+use Rattle.papaya_timeline.proofs.AdvanceLemmas.{unmoved}
 use Rattle.papaya_timeline.proofs.CallersLemmas.{same_item}
 use Rattle.papaya_timeline.proofs.ChainLemmas.{own_asks}
 use Rattle.papaya_timeline.proofs.CoreLemmas.{reply_asked}
@@ -181,6 +184,8 @@ module _ {K V S A : Type 0} (eq : K → K → Bool) (hash : S → K → ℕ) (s 
     pub events : List Event
     pub of_steps : AreOfSteps events
     pub history : h ≡ open_history events
+    -- while it has changed nothing, the map is as it was
+    pub unmoved : change_in call.machine.call.state ≡ None → Same (map_of eq s) (map_of eq s')
 
   -- the call has replied
   pub record IsOver (s' : CoreState K V S A) (h : History) (reply : Reply) : Type 0 where
@@ -207,12 +212,22 @@ module _ {K V S A : Type 0} (eq : K → K → Bool) (hash : S → K → ℕ) (s 
     events = [];
     of_steps = tt;
     history = told;
+    unmoved = λ none j. ap (λ (y : StoreState K V S). map_in eq y j) x.store;
   }
   begin_runs call s' h idle core es tales kept (inr (r, busy, passed)) = let f : None ≡ Some r = sym (ap (λ (l : List (Seat K V A)). running l 0) idle) ∙ busy in absurd cc
 
   -- the call is open, or it has replied
-  abbrev Goes : CoreState K V S A → History → Type 0
+  abbrev pub Goes : CoreState K V S A → History → Type 0
   Goes s' h = IsSole s' h ⊎ ((reply : Reply) × IsOver s' h reply)
+
+  -- a step after which the call has changed nothing leaves the map as it was at the begin
+  step_unmoved : (now s' : CoreState K V S A) (h : History) (event : Event) (reply : Option Reply) → IsSole now h → (x : Advances eq says hash false now 0 s' event reply) → change_in (after x.before.machine x.answer).call.state ≡ None → Same (map_of eq s) (map_of eq s')
+  step_unmoved now s' h event reply sole x none =
+      let f = sole.follows in
+      let (before, same) = unmoved eq (hash s.store.hasher) law false now s' 0 event reply x f.core (advance-core eq says hash false now 0 s' event reply x f.core) f.es f.tales f.kept (step_of now s' event reply f x) none in
+      let is : sole.call ≡ x.before = same_item sole.call x.before (sym (ap (λ (l : List (Seat K V A)). running l 0) sole.callers) ∙ x.was) in
+      let first = sole.unmoved (ap (λ (r : Running K V A). change_in r.machine.call.state) is ∙ before) in
+      λ j. same j ∙ first j
 
   -- a step of the open call
   sole_steps : (now s' : CoreState K V S A) (h h' : History) (event : Event) (reply : Option Reply) → IsSole now h → Advances eq says hash false now 0 s' event reply → h' ≡ with_step 1 0 event reply h → Goes s' h'
@@ -223,6 +238,7 @@ module _ {K V S A : Type 0} (eq : K → K → Bool) (hash : S → K → ℕ) (s 
     events = event ∷ sole.events;
     of_steps = (event_of_step now s' event None x, sole.of_steps);
     history = told ∙ ap (with_event 1 0 event) sole.history;
+    unmoved = λ none. step_unmoved now s' h event None sole x none;
   })
   sole_steps now s' h h' event (Some reply) sole x told = inr (
     reply,
@@ -270,23 +286,24 @@ module _ {K V S A : Type 0} (eq : K → K → Bool) (hash : S → K → ℕ) (s 
       newest : (last : Entry) (before : History) (events : List Event) (r : Reply) → last ∷ before ≡ with_event 1 0 (Replied r) (open_history events) → last ≡ record { turn = 1; caller = 0; event = Replied r }
       newest last before events r e = cc
 
+  -- a call that is made alone is open, or it has replied
+  pub runs_to : (says : Says K V A) (call : Call K V A) (steps : ℕ) (s' : CoreState K V S A) (h : History) → IsLawfulCore eq (hash s.store.hasher) s.store s.callers s.mode → s.callers ≡ [] → TurnsRun eq says hash (Begin 0 call ∷ Finish 0 steps ∷ []) 2 s s' h → Goes eq hash s law says s' h
+  runs_to says call steps s' h lawful idle (what, middle, so_far, there, (what0, start, none, there0, (same, empty), first), second) =
+      let (es, (tales, kept)) = lawful.law in
+      let begins : BeginRuns eq says hash 0 0 call s [] middle so_far =
+      subst (λ y. BeginRuns eq says hash 0 0 call y [] middle so_far) same
+      (subst (λ y. BeginRuns eq says hash 0 0 call start y middle so_far) empty
+      (subst (λ y. TurnRuns eq says hash 0 y start none middle so_far) (sym (same_item (Begin 0 call) what0 there0)) first)) in
+      let made : StepsRun eq says hash 1 0 steps middle so_far s' h = subst (λ y. TurnRuns eq says hash 1 y middle so_far s' h) (sym (same_item (Finish 0 steps) what there)) second in
+      steps_run eq hash s law says steps middle s' so_far h (inl (begin_runs eq hash s law says call middle so_far idle lawful.core es tales kept begins)) made
+
   -- the call that was made alone is over, and this is its reply
   pub runs_over : (call : Call K V A) (reply : Reply) (s' : CoreState K V S A) → IsLawfulCore eq (hash s.store.hasher) s.store s.callers s.mode → (x : RunsAlone eq hash s call reply s') → IsOver eq hash s law whatever s' (x.last ∷ x.before) reply
-  runs_over call reply s' lawful x =
-      let (es, (tales, kept)) = lawful.law in
-      let (what, middle, so_far, there, (what0, start, none, there0, (same, empty), first), second) = x.runs in
-      let begins : BeginRuns eq whatever hash 0 0 call s [] middle so_far =
-      subst (λ y. BeginRuns eq whatever hash 0 0 call y [] middle so_far) same
-      (subst (λ y. BeginRuns eq whatever hash 0 0 call start y middle so_far) empty
-      (subst (λ y. TurnRuns eq whatever hash 0 y start none middle so_far) (sym (same_item (Begin 0 call) what0 there0)) first)) in
-      let steps : StepsRun eq whatever hash 1 0 x.steps middle so_far s' (x.last ∷ x.before) = subst (λ y. TurnRuns eq whatever hash 1 y middle so_far s' (x.last ∷ x.before)) (sym (same_item (Finish 0 x.steps) what there)) second in
-      over_with s' x.last x.before reply x.replied
-      (steps_run eq hash s law whatever x.steps middle s' so_far (x.last ∷ x.before) (inl (begin_runs eq hash s law whatever call middle so_far x.idle lawful.core es tales kept begins)) steps)
+  runs_over call reply s' lawful x = over_with s' x.last x.before reply x.replied (runs_to whatever call x.steps s' (x.last ∷ x.before) lawful x.idle x.runs)
 
-  -- the idle seat may be forgotten: the core is in order without it
-  pub over_core : (s' : CoreState K V S A) (h : History) (reply : Reply) {says : Says K V A} → IsOver eq hash s law says s' h reply → IsLawfulCore {A = A} eq (hash s'.store.hasher) s'.store [] s'.mode
-  over_core s' h reply over =
-      let f = over.follows in
+  -- the seat may be forgotten: the core is in order without it
+  pub without_seat : (s' : CoreState K V S A) {says : Says K V A} → Follows eq hash s law says s' → IsLawfulCore {A = A} eq (hash s'.store.hasher) s'.store [] s'.mode
+  without_seat s' f =
       record {
         core = record { chunked = f.core.chunked; sizes = f.core.sizes; standing = λ caller r e. let n : None ≡ Some r = e in absurd cc; going = λ caller r e. let n : None ≡ Some r = e in absurd cc };
         law = subst (λ y. (es : _) × ((tales : _) × IsKept {A = A} eq (hash y) s'.mode s'.store [] es tales)) (sym f.hasher_is) (
@@ -305,6 +322,9 @@ module _ {K V S A : Type 0} (eq : K → K → Bool) (hash : S → K → ℕ) (s 
           ),
         );
       }
+
+  pub over_core : (s' : CoreState K V S A) (h : History) (reply : Reply) {says : Says K V A} → IsOver eq hash s law says s' h reply → IsLawfulCore {A = A} eq (hash s'.store.hasher) s'.store [] s'.mode
+  over_core s' h reply over = without_seat s' over.follows
 
   -- and its count is right without it
   pub over_counted : (s' : CoreState K V S A) (h : History) (reply : Reply) {says : Says K V A} → IsOver eq hash s law says s' h reply → IsCounted eq s.store s.callers → IsCounted {A = A} eq s'.store []

@@ -1,7 +1,6 @@
 -- What the event of a step is: that of an ask of the call, or of a copy. A copy shows nothing, and changes no pair of the map.
-use Rattle.std.proofs.Common.{◌≡◌, ◌⊎◌, inl, inr, ⊎_elim, ℕ, ◌==◌, Bool, true, false, Option, None, Some, List, [], ◌∷◌, refl, sym, ◌∙◌, ap, subst, eqb-true}
+use Rattle.std.proofs.Common.{◌≡◌, ◌⊎◌, inl, inr, ⊎_elim, ℕ, ◌==◌, Bool, true, false, Option, None, Some, List, [], ◌∷◌, refl, sym, ◌∙◌, ap, eqb-true}
 use Rattle.papaya_ask.specs.declared.ask.At.{At}
-use Rattle.papaya_ask.specs.declared.ask.At.TheVariants.{Root, Next, Aborted, Done as Done_word, Slot}
 use Rattle.papaya_ask.specs.declared.ask.Ask.{Ask as Call_ask}
 use Rattle.papaya_ask.specs.declared.ask.Ask.TheVariants.{Exchange as Ask_exchange, ShowNone, ShowPair}
 use Rattle.papaya_ask.specs.declared.ask.Answer.{Answer as Call_answer}
@@ -15,7 +14,6 @@ use Rattle.papaya_call.specs.Answers.{op_kind}
 use Rattle.papaya_call.specs.declared.answers.Operation.{Operation}
 use Rattle.papaya_copy.specs.declared.carry.Carry.{Carry}
 use Rattle.papaya_copy.specs.declared.carry.Carry.TheVariants as carries
-use Rattle.papaya_copy.specs.declared.copying.Copying.{Copying}
 use Rattle.papaya_copy.specs.declared.copying.Copying.TheVariants.{Stepping, Lone}
 use Rattle.papaya_copy.specs.declared.link.Link.{Link}
 use Rattle.papaya_copy.specs.declared.link.Link.TheVariants as links
@@ -24,7 +22,6 @@ use Rattle.papaya_copy.specs.declared.settle.Settle.TheVariants as settles
 use Rattle.papaya_copy.specs.declared.step.Step.{Step}
 use Rattle.papaya_copy.specs.declared.step.Step.TheVariants as steps
 use Rattle.papaya_copy.specs.Carry.{carry_kind}
-use Rattle.papaya_copy.specs.Copying.{copying_kind}
 use Rattle.papaya_copy.specs.Link.{link_kind}
 use Rattle.papaya_copy.specs.Settle.{settle_kind}
 use Rattle.papaya_copy.specs.Step.{step_kind}
@@ -39,14 +36,14 @@ use Rattle.papaya_chain.specs.Machine.{ask_of, asks_in, kind_in, kind_of_ask}
 use Rattle.papaya_law.specs.Code.{Coding}
 use Rattle.papaya_law.specs.Exchange.{Setting, State, Exchange}
 use Rattle.papaya_rests.specs.Copier.{IsCopyAsked}
-use Rattle.papaya_rests.specs.Rests.{Change, change_after}
+use Rattle.papaya_rests.specs.Rests.{Change}
 use Rattle.papaya_rests.specs.Says.{show}
 use Rattle.papaya_rests.specs.Told.{word_of}
 use Rattle.papaya_chain_rests.specs.Goes.{change_by as changed_by}
 use Rattle.papaya_chain_rests.specs.Told.{Hands, IsCopyTold, IsTold}
 use Rattle.papaya_timeline.specs.declared.trace.Event.{Event}
-use Rattle.papaya_timeline.specs.declared.trace.Event.TheVariants.{Changed, Moved, Asked, Shown, Other}
-use Rattle.papaya_timeline.specs.Advances.{answered_event, call_event, copy_event, event_of, kind_event, shown_event}
+use Rattle.papaya_timeline.specs.declared.trace.Event.TheVariants.{Changed, Moved, Shown, Other}
+use Rattle.papaya_timeline.specs.Advances.{answered_event, call_event, event_of, kind_event}
 use Rattle.papaya_timeline.specs.Runs.{History}
 use Rattle.papaya_timeline.specs.Timeline.{Answered, begins, change_by, none_by, open_after, WasAnswered, WasAsked}
 use Rattle.papaya_timeline.proofs.EventLemmas as calls

@@ -1,5 +1,5 @@
 -- What a step's event tells of its ask and the answer, what a closure answered in it, and which value is at hand after it. A copy asks no closure, and leaves the call as it was.
-use Rattle.std.proofs.Common.{◌≡◌, ◌⊎◌, inl, inr, ⊎_elim, ℕ, Bool, true, false, Option, None, Some, List, ◌∷◌, length, refl, sym, ◌∙◌, ap, subst}
+use Rattle.std.proofs.Common.{◌≡◌, ◌⊎◌, inl, inr, ⊎_elim, ℕ, Bool, true, false, Option, None, List, ◌∷◌, length, refl, sym, ◌∙◌, ap, subst}
 use Rattle.papaya_call.specs.Answers.{Says}
 use Rattle.papaya_ask.specs.declared.ask.At.{At}
 use Rattle.papaya_ask.specs.declared.ask.Ask.{Ask as Call_ask}
@@ -21,8 +21,7 @@ use Rattle.papaya_rests.specs.Says.{show}
 use Rattle.papaya_chain_rests.specs.Told.{Hands, IsTold}
 use Rattle.papaya_store.specs.declared.pairs.Running.{Running}
 use Rattle.papaya_store.specs.Asks.{PerformsAsk}
-use Rattle.papaya_store.specs.Performs.{Performs}
-use Rattle.papaya_store.specs.Store.{StoreState, Stored, pair_of}
+use Rattle.papaya_store.specs.Store.{StoreState}
 use Rattle.papaya_timeline.specs.declared.trace.Event.{Event}
 use Rattle.papaya_timeline.specs.declared.trace.Event.TheVariants as events
 use Rattle.papaya_timeline.specs.Advances.{call_event, event_of}

@@ -22,7 +22,6 @@ use Rattle.papaya_chain.specs.Machine.{ask_of, kind_of_ask, after}
 use Rattle.papaya_chain_rests.specs.Goes.{IsCause}
 use Rattle.papaya_store.specs.declared.pairs.Running.{Running}
 use Rattle.papaya_store.specs.Asks.{PerformsAsk}
-use Rattle.papaya_store.specs.Store.{StoreState}
 use Rattle.papaya_timeline.specs.declared.trace.Event.{Event}
 use Rattle.papaya_timeline.specs.declared.trace.Event.TheVariants.{Changed, Moved, Asked, Shown, Other}
 use Rattle.papaya_timeline.specs.Callers.{with_call}
