@@ -1,5 +1,5 @@
 -- What a call that was made alone leaves of a map for one caller.
-use Rattle.std.proofs.Common.{◌≡◌, ⊎_elim, ℕ, pos, Bool, true, List, [], ◌∷◌, None, Some, refl, sym, ◌∙◌, ap, subst}
+use Rattle.std.proofs.Common.{◌≡◌, ⊎_elim, ℕ, pos, Bool, true, List, None, Some, refl, sym, ap, subst}
 use Rattle.std.specs.Cmp.{IsEquivalence}
 use Rattle.papaya_words.specs.declared.probe.Refused.TheVariants.{Capacity}
 use Rattle.papaya_ask.specs.declared.call.Call.{Call}

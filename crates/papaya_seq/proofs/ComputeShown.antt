@@ -1,5 +1,5 @@
 -- What the closure of a compute is shown is what the map holds: the same call could go on otherwise, to a removal, which says so.
-use Rattle.std.proofs.Common.{◌≡◌, ℕ, ◌^◌, ◌<◌, negsuc, ◌+ℤ◌, Bool, true, Option, None, Some, List, inr, refl, sym, ◌∙◌, subst, eq-eqb}
+use Rattle.std.proofs.Common.{◌≡◌, ℕ, ◌^◌, ◌<◌, negsuc, Bool, true, Option, None, Some, List, inr, refl, sym, ◌∙◌, subst, eq-eqb}
 use Rattle.std.specs.Cmp.{IsEquivalence}
 use Rattle.std.specs.Prelude.{MatchBool}
 use Rattle.papaya_words.specs.Counter.{added}

@@ -23,7 +23,7 @@ use Rattle.papaya_call.specs.declared.machine.State.TheVariants.{AtRoot, Making,
 use Rattle.papaya_call.specs.declared.need.Need.{Need}
 use Rattle.papaya_call.specs.declared.write.Made.{Made}
 use Rattle.papaya_call.specs.declared.write.Made.TheVariants.{Nothing, Key, Pair}
-use Rattle.papaya_call.specs.Machine.{after, ask_of, asks, needed}
+use Rattle.papaya_call.specs.Machine.{after, ask_of, asks}
 use Rattle.papaya_chain.specs.declared.ask.Ask.TheVariants as chain_asks
 use Rattle.papaya_chain.specs.declared.ask.Answer.TheVariants as answers
 use Rattle.papaya_chain.specs.declared.machine.Machine.{Machine}

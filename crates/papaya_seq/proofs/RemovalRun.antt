@@ -1,5 +1,5 @@
 -- The invariant of a removal: what its machine, the store and the closure are between two asks.
-use Rattle.std.proofs.Common.{◌≡◌, ℕ, ◌^◌, ◌<◌, ℤ, negsuc, slice_get, Bool, None, refl, sym, ◌∙◌, ap, subst}
+use Rattle.std.proofs.Common.{◌≡◌, ℕ, ◌^◌, ◌<◌, ℤ, negsuc, slice_get, Bool, refl, sym, ◌∙◌, ap, subst}
 use denote.Ref.{Bor}
 use Rattle.std.specs.Fn.{Mut}
 use Rattle.papaya_rests.specs.Alone.{HasMetNone, IsRead}

@@ -1,5 +1,5 @@
 -- A removal whose asks are answered by a store and by a closure: what holds at each ask.
-use Rattle.std.proofs.Common.{◌≡◌, ⊎_elim, inl, inr, ℕ, ◌==◌, nat_lt, ◌+ℤ◌, Bool, true, false, Option, Some, None, refl, sym, ◌∙◌, ap, subst}
+use Rattle.std.proofs.Common.{◌≡◌, ⊎_elim, inl, inr, ℕ, ◌==◌, nat_lt, Bool, true, false, Option, Some, None, refl, sym, ◌∙◌, ap, subst}
 use denote.Ref.{Bor}
 use Rattle.std.specs.Fn.{Mut}
 use Rattle.papaya_words.specs.Counter.{added}

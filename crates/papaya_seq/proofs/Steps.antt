@@ -1,5 +1,5 @@
 -- The call of a map for one caller as the steps of a core with one seat.
-use Rattle.std.proofs.Common.{◌≡◌, ◌⊎◌, ⊎_elim, ℕ, suc, ◌+◌, ◌^◌, ◌<◌, ◌==◌, Bool, true, false, Option, None, Some, List, [], ◌∷◌, ◌++◌, length, replicate, inl, inr, refl, sym, ◌∙◌, ap, subst}
+use Rattle.std.proofs.Common.{◌≡◌, ◌⊎◌, ℕ, suc, ◌+◌, ◌^◌, ◌<◌, ◌==◌, Bool, true, false, Option, None, Some, List, [], ◌∷◌, ◌++◌, length, replicate, inl, inr, refl, sym, ◌∙◌, ap, subst}
 use Rattle.std.specs.Int.{IsPowerOfTwo}
 use Rattle.std.specs.Prelude.{MatchBool}
 use Rattle.papaya_words.specs.Table.{TableWords}
@@ -48,7 +48,7 @@ use Rattle.papaya_timeline.proofs.KeptLemmas.{IsLawfulKeys, kept_begin, kept_ste
 use Rattle.papaya_timeline.proofs.KeptTables.{word-here, word-made, word-other}
 use Rattle.papaya_words.specs.declared.limits.TheConstants.{FIRST_TABLE_LEN}
 use Rattle.papaya_seq.specs.Map.{IsLawfulMap, KeepsSlots, MapState, core_of, slots_in}
-use Rattle.papaya_seq.proofs.Driving.{calling, caused_itself, goes_itself, own_place, performs_next, reply_asked, reply_in, words_single}
+use Rattle.papaya_seq.proofs.Driving.{calling, caused_itself, goes_itself, own_place, performs_next, reply_in, words_single}
 use Rattle.papaya_seq.proofs.Lawful.{core_root_there}
 use Rattle.papaya_seq.proofs.Slots.{keeps_more, made_slots, makes_first, opens_none, slots_step}
 
