@@ -2,7 +2,6 @@
 use Rattle.std.proofs.Common.{◌≡◌, ℕ, ◌<◌, ◌≤◌, Bool, List, [], ◌∷◌, ◌++◌, length, Option, Some, None, ◌⊎◌, inl, inr, refl, sym, ◌∙◌, ap, subst, arith, append-nil}
 use Rattle.papaya_words.specs.Counter.{Count}
 use Rattle.papaya_words.specs.declared.limits.TheConstants.{MAX_LOG_LEN}
-use Rattle.papaya_words.specs.declared.probe.ResizeMode.{ResizeMode}
 use Rattle.papaya_ask.specs.declared.ask.At.{At}
 use Rattle.papaya_ask.specs.declared.ask.At.TheVariants.{Root, Next, Aborted, Done, Slot}
 use Rattle.papaya_ask.specs.declared.ask.Ask.{Ask as Call_ask}
@@ -30,7 +29,7 @@ use Rattle.papaya_chain_rests.proofs.Order.{in_order}
 use Rattle.papaya_chain_rests.proofs.Replies.{chain_changes}
 use Rattle.papaya_store.specs.declared.pairs.KeyOf.{KeyOf}
 use Rattle.papaya_store.specs.declared.pairs.Running.{Running}
-use Rattle.papaya_timeline.specs.Kept.{IsMade, Tale, setting_of, coding_of, low}
+use Rattle.papaya_timeline.specs.Kept.{IsMade, Tale}
 use Rattle.papaya_store.specs.Performs.{key_at, own_key}
 use Rattle.papaya_store.specs.Store.{StoreState, Stored, pair_of}
 use Rattle.papaya_store.specs.Tables.{put, word_at}
@@ -40,35 +39,30 @@ use Rattle.papaya_timeline.proofs.KeptTables.{HasMoreTables, IsPlaced, cases_pla
 abbrev pub Stands : {P : Type 0} → State P → P → Type 0
 Stands s p = (t : ℕ) × (x : ℕ) × (named (s.slot t x) ≡ Some p)
 
-module _ {K V S A : Type 0} (eq : K → K → Bool) (hash : K → ℕ) (mode : ResizeMode) (store : StoreState K V S) (r : Running K V A) (es : List (Exchange (Stored K V))) (tale : Tale K V) where
-  -- the setting, the coding and the words as the law has them
-  abbrev pub law_setting : Setting K (Stored K V)
-  law_setting = setting_of eq (low hash) mode store.words.tables
-
-  abbrev pub law_coding : Coding K (Stored K V)
-  law_coding = coding_of (low hash)
-
+-- The words of a store keep to the law in this setting, with this coding. Keys of the law are keys of the map, or, for a call by a query, keys of the map and the query. `own` is the call's own key in the log's terms, where it has one.
+module _ {Q K V S A : Type 0} (g : Setting Q (Stored K V)) (c : Coding Q (Stored K V)) (store : StoreState K V S) (r : Running K V A) (es : List (Exchange (Stored K V))) (tale : Tale K V) (own : Option K) where
+  -- the words as the law has them
   abbrev pub words_now : State (Stored K V)
   words_now = run es start
 
   -- what a call is told of an ask of its own, and a copy of its
-  abbrev pub Tells : K → Ask → Answer → List (Exchange (Stored K V)) → Hands (Stored K V) → Type 0
-  Tells key ask a made hands = IsTold law_setting law_coding key words_now (kind_of_ask r.machine) (follows_of r.machine) tale.hands ask a made hands
+  abbrev pub Tells : Q → Ask → Answer → List (Exchange (Stored K V)) → Hands (Stored K V) → Type 0
+  Tells key ask a made hands = IsTold g c key words_now (kind_of_ask r.machine) (follows_of r.machine) tale.hands ask a made hands
 
   -- What an answered ask leaves.
-  pub record IsAnswered (key : K) (ask : Ask) (a : Answer) (store' : StoreState K V S) (later : Running K V A) : Type 0 where
+  pub record IsAnswered (key : Q) (ask : Ask) (a : Answer) (store' : StoreState K V S) (later : Running K V A) : Type 0 where
     pub made : List (Exchange (Stored K V))
     pub hands : Hands (Stored K V)
     pub told : Tells key ask a made hands
     -- the logs and the tables grow
     pub keys : (at : KeyOf K) (k : K) → key_at store.keys at ≡ Some k → key_at store'.keys at ≡ Some k
-    pub own : own_key store' later ≡ Some key
+    pub own_is : own_key store' later ≡ own
     pub logged : (n : ℕ) (p : Stored K V) → pair_of store n ≡ Some p → pair_of store' n ≡ Some p
     pub longer : length store.pairs ≤ length store'.pairs
     pub few : length store.pairs ≤ MAX_LOG_LEN → length store'.pairs ≤ MAX_LOG_LEN
     pub grown : HasMoreTables store.words.tables store'.words.tables
     -- the words are those that the exchanges leave
-    pub coded : (at : At) → word_of law_setting law_coding (run (es ++ made) start) at ≡ word_at store'.words at
+    pub coded : (at : At) → word_of g c (run (es ++ made) start) at ≡ word_at store'.words at
     pub there : (t : ℕ) → 0 < t → Comes (run (es ++ made) start) t → IsMade store t
     -- a pair that a slot names stood in one before, or is one that the call made
     pub slots : (t x : ℕ) (p : Stored K V) → named ((run (es ++ made) start).slot t x) ≡ Some p → Stands words_now p ⊎ IsOneOf tale.hands.call.made p
@@ -81,9 +75,9 @@ module _ {K V S A : Type 0} (eq : K → K → Bool) (hash : K → ℕ) (mode : R
     pub opens : (t : ℕ) → a ≡ answers.Call (Made_number t) → ((slots : ℕ) × (limit : ℕ) × (ask ≡ asks.Call (MakeTable slots limit))) ⊎ ((slots : ℕ) × (limit : ℕ) × (ask ≡ asks.Copy (Make_next slots limit))) → IsMade store' t
 
   -- What an answer without an exchange leaves of the logs: they may grow.
-  pub record HasLogs (key : K) (store' : StoreState K V S) (later : Running K V A) : Type 0 where
+  pub record HasLogs (key : Q) (store' : StoreState K V S) (later : Running K V A) : Type 0 where
     pub keys : (at : KeyOf K) (k : K) → key_at store.keys at ≡ Some k → key_at store'.keys at ≡ Some k
-    pub own : own_key store' later ≡ Some key
+    pub own_is : own_key store' later ≡ own
     pub logged : (n : ℕ) (p : Stored K V) → pair_of store n ≡ Some p → pair_of store' n ≡ Some p
     pub longer : length store.pairs ≤ length store'.pairs
     pub few : length store.pairs ≤ MAX_LOG_LEN → length store'.pairs ≤ MAX_LOG_LEN
@@ -100,15 +94,15 @@ module _ {K V S A : Type 0} (eq : K → K → Bool) (hash : K → ℕ) (mode : R
   pub same_hands : (store' : StoreState K V S) → HasHands store' tale.hands
   same_hands store' = record { last = λ p h. inl h; carried = λ p h. inl h; new = λ q h. inl h }
 
-  module _ (hashed : IsHashed law_setting law_coding) (key : K) (rests : Rests law_setting law_coding tale.begun tale.since key r.machine tale.hands)
-      (coded : (at : At) → word_of law_setting law_coding words_now at ≡ word_at store.words at)
+  module _ (hashed : IsHashed g c) (key : Q) (rests : Rests g c tale.begun tale.since key r.machine tale.hands)
+      (coded : (at : At) → word_of g c words_now at ≡ word_at store.words at)
       (there : (t : ℕ) → 0 < t → Comes words_now t → IsMade store t) where
     -- what a call has changed after its ask was answered
     pub changed : (ask : Ask) → ask_of r.machine ≡ ask → (a : Answer) (made : List (Exchange (Stored K V))) (hands : Hands (Stored K V)) → Tells key ask a made hands → change_in (after r.machine a).call.state ≡ change_by (kind_of_ask r.machine) ask a (change_in r.machine.call.state)
     changed ask e a made hands told =
         let asked : Tells key (ask_of r.machine) a made hands = subst (λ y. Tells key y a made hands) (sym e) told in
-        chain_changes law_setting law_coding key words_now r.machine tale.hands a made hands
-        (in_order law_setting law_coding tale.begun tale.since key r.machine tale.hands words_now a made hands rests asked) asked hashed rests.call.hash
+        chain_changes g c key words_now r.machine tale.hands a made hands
+        (in_order g c tale.begun tale.since key r.machine tale.hands words_now a made hands rests asked) asked hashed rests.call.hash
         ∙ ap (λ y. change_by (kind_of_ask r.machine) y a (change_in r.machine.call.state)) e
 
     -- the words after no exchange
@@ -127,12 +121,12 @@ module _ {K V S A : Type 0} (eq : K → K → Bool) (hash : K → ℕ) (mode : R
       hands = hands;
       told = told;
       keys = logs.keys;
-      own = logs.own;
+      own_is = logs.own_is;
       logged = logs.logged;
       longer = logs.longer;
       few = logs.few;
       grown = logs.grown;
-      coded = λ at. ap (λ z. word_of law_setting law_coding z at) none_made ∙ coded at ∙ sym (logs.words at);
+      coded = λ at. ap (λ z. word_of g c z at) none_made ∙ coded at ∙ sym (logs.words at);
       there = λ t some comes. there t some (subst (λ z. Comes z t) none_made comes);
       slots = λ t x p h. inl (t, x, ap (λ z. named (z.slot t x)) (sym none_made) ∙ h);
       unchanged = λ none. (sym still ∙ sym (changed ask e a [] hands told) ∙ none, λ t x p h. (t, x, ap (λ z. named (z.slot t x)) (sym none_made) ∙ h));
@@ -143,11 +137,11 @@ module _ {K V S A : Type 0} (eq : K → K → Bool) (hash : K → ℕ) (mode : R
     }
 
     -- the logs as they were, but for the count
-    pub same_logs : own_key store r ≡ Some key → (count : Count) → HasLogs key (record store { count = count }) r
-    same_logs own count = record { keys = λ at k h. h; own = own; logged = λ n p h. h; longer = omega arith; few = λ h. h; grown = grown-same store.words.tables; words = λ at. refl }
+    pub same_logs : own_key store r ≡ own → (count : Count) → HasLogs key (record store { count = count }) r
+    same_logs owns count = record { keys = λ at k h. h; own_is = owns; logged = λ n p h. h; longer = omega arith; few = λ h. h; grown = grown-same store.words.tables; words = λ at. refl }
 
     -- an answer that leaves words, logs and call, but for the count
-    pub quiet : own_key store r ≡ Some key → (ask : Ask) → ask_of r.machine ≡ ask → (a : Answer) (store' : StoreState K V S) (later : Running K V A) (hands : Hands (Stored K V)) (count : Count) → store' ≡ record store { count = count } → later ≡ r
+    pub quiet : own_key store r ≡ own → (ask : Ask) → ask_of r.machine ≡ ask → (a : Answer) (store' : StoreState K V S) (later : Running K V A) (hands : Hands (Stored K V)) (count : Count) → store' ≡ record store { count = count } → later ≡ r
         → Tells key ask a [] hands
         → change_by (kind_of_ask r.machine) ask a (change_in r.machine.call.state) ≡ change_in r.machine.call.state
         → ((p : Stored K V) → hands.call.last ≡ Some p → (tale.hands.call.last ≡ Some p) ⊎ Stands words_now p)
@@ -155,36 +149,36 @@ module _ {K V S A : Type 0} (eq : K → K → Bool) (hash : K → ℕ) (mode : R
         → hands.call.made ≡ tale.hands.call.made
         → ((t : ℕ) → a ≡ answers.Call (Made_number t) → ((slots : ℕ) × (limit : ℕ) × (ask ≡ asks.Call (MakeTable slots limit))) ⊎ ((slots : ℕ) × (limit : ℕ) × (ask ≡ asks.Copy (Make_next slots limit))) → ⊥)
         → IsAnswered key ask a store' later
-    quiet own ask e a store' later hands count same_store same_call told still last carried made never =
+    quiet owns ask e a store' later hands count same_store same_call told still last carried made never =
         subst (λ y. IsAnswered key ask a y later) (sym same_store) (subst (IsAnswered key ask a (record store { count = count })) (sym same_call)
-        (unexchanged ask e a (record store { count = count }) r hands told still (same_logs own count)
+        (unexchanged ask e a (record store { count = count }) r hands told still (same_logs owns count)
         (record { last = last; carried = carried; new = λ q h. inl (subst (λ l. IsOneOf l q) made h) })
         (λ t is which. absurd (never t is which))))
 
     -- an exchange that was made
-    pub exchanged : own_key store r ≡ Some key → (ask : Ask) → ask_of r.machine ≡ ask → (at : At) (new : ℕ) (by : Exchange (Stored K V)) (hands : Hands (Stored K V))
+    pub exchanged : own_key store r ≡ own → (ask : Ask) → ask_of r.machine ≡ ask → (at : At) (new : ℕ) (by : Exchange (Stored K V)) (hands : Hands (Stored K V))
         → Tells key ask (answers.Call Exchanged) (by ∷ []) hands
         → IsPlaced store.words.tables at
-        → IsWritten law_setting law_coding words_now at new (state_after words_now by)
+        → IsWritten g c words_now at new (state_after words_now by)
         → ((t : ℕ) → 0 < t → Comes (state_after words_now by) t → IsMade store t)
         → ((t x : ℕ) (p : Stored K V) → named ((state_after words_now by).slot t x) ≡ Some p → Stands words_now p ⊎ IsOneOf tale.hands.call.made p)
         → (change_in (after r.machine (answers.Call Exchanged)).call.state ≡ None → (change_in r.machine.call.state ≡ None) × ((t x : ℕ) (p : Stored K V) → named ((state_after words_now by).slot t x) ≡ Some p → Stands words_now p))
         → ((p : Stored K V) → hands.call.last ≡ Some p → (tale.hands.call.last ≡ Some p) ⊎ Stands words_now p)
         → hands.kept ≡ tale.hands.kept → hands.call.made ≡ tale.hands.call.made
         → IsAnswered key ask (answers.Call Exchanged) (record store { words = put store.words at new }) r
-    exchanged own ask e at new by hands told placed written comes slots unchanged last kept made =
+    exchanged owns ask e at new by hands told placed written comes slots unchanged last kept made =
         let to : run (es ++ by ∷ []) start ≡ state_after words_now by = run-append es (by ∷ []) start in
         record {
           made = by ∷ [];
           hands = hands;
           told = told;
           keys = λ k j h. h;
-          own = own;
+          own_is = owns;
           logged = λ n p h. h;
           longer = omega arith;
           few = λ h. h;
           grown = placed-grown store.words at new placed;
-          coded = λ other. ap (λ z. word_of law_setting law_coding z other) to ∙ written_at other;
+          coded = λ other. ap (λ z. word_of g c z other) to ∙ written_at other;
           there = λ t some h. comes t some (subst (λ z. Comes z t) to h);
           slots = λ t y p h. slots t y p (ap (λ z. named (z.slot t y)) (sym to) ∙ h);
           unchanged = λ none. let u = unchanged none in (u.0, λ t y p h. u.1 t y p (ap (λ z. named (z.slot t y)) (sym to) ∙ h));
@@ -194,14 +188,14 @@ module _ {K V S A : Type 0} (eq : K → K → Bool) (hash : K → ℕ) (mode : R
           opens = λ t is which. absurd cc;
         }
       where
-        written_at : (other : At) → word_of law_setting law_coding (state_after words_now by) other ≡ word_at (put store.words at new) other
+        written_at : (other : At) → word_of g c (state_after words_now by) other ≡ word_at (put store.words at new) other
         written_at other = elim (cases_place other at) [
-          | inl same ↦ ap (word_of law_setting law_coding (state_after words_now by)) same ∙ written.here ∙ sym (placed-here store.words at new placed) ∙ ap (word_at (put store.words at new)) (sym same)
+          | inl same ↦ ap (word_of g c (state_after words_now by)) same ∙ written.here ∙ sym (placed-here store.words at new placed) ∙ ap (word_at (put store.words at new)) (sym same)
           | inr differ ↦ written.others other differ ∙ coded other ∙ sym (placed-other store.words at new placed other differ)
         ]
 
     -- what a call is told for itself, of which its copy hears nothing
-    pub own_told : (ask : Call_ask) (a : Call_answer) (made : List (Exchange (Stored K V))) (hands : Call_hands (Stored K V)) → IsCallTold law_setting law_coding key words_now (kind_of_ask r.machine) tale.hands.call ask a made hands → Tells key (asks.Call ask) (answers.Call a) made (record tale.hands { call = hands })
+    pub own_told : (ask : Call_ask) (a : Call_answer) (made : List (Exchange (Stored K V))) (hands : Call_hands (Stored K V)) → IsCallTold g c key words_now (kind_of_ask r.machine) tale.hands.call ask a made hands → Tells key (asks.Call ask) (answers.Call a) made (record tale.hands { call = hands })
     own_told ask a made hands told = record { told = a; is = refl; call = hands; tells = told; handed = refl }
 
   -- the pair that the word at a place names

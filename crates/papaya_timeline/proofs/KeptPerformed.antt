@@ -14,8 +14,8 @@ use Rattle.papaya_ask.specs.declared.ask.Answer.TheVariants.{Word as Word_read, 
 use Rattle.papaya_ask.specs.declared.copy_ask.CopyAsk.TheVariants.{MakeTable as Make_next}
 use Rattle.papaya_law.specs.Allows.{AllAllowed}
 use Rattle.papaya_law.specs.Class.{IsOn}
-use Rattle.papaya_law.specs.Code.{IsHashed}
-use Rattle.papaya_law.specs.Exchange.{Exchange, run, start}
+use Rattle.papaya_law.specs.Code.{Coding, IsHashed}
+use Rattle.papaya_law.specs.Exchange.{Exchange, Setting, run, start}
 use Rattle.papaya_law.specs.Grows.{Comes}
 use Rattle.papaya_rests.specs.Rests.{change_in, change_after}
 use Rattle.papaya_rests.specs.Told.{Hands as Call_hands, IsTold as IsCallTold, IsAsked, told_of, word_of}
@@ -28,34 +28,41 @@ use Rattle.papaya_chain_rests.specs.Rests.{Rests}
 use Rattle.papaya_chain_rests.proofs.Names.{call_asks}
 use Rattle.papaya_copy.specs.declared.link.Link.TheVariants.{Linking}
 use Rattle.papaya_store.specs.declared.pairs.Running.{Running}
-use Rattle.papaya_timeline.specs.Kept.{IsMade, Tale, slots_in, places_in}
+use Rattle.papaya_timeline.specs.Kept.{IsMade, Tale, coding_of, low, places_in, setting_of, slots_in}
 use Rattle.papaya_store.specs.Performs.{Exchanges, MakesTable, Performs, Refuses, own_key, same, size_of}
 use Rattle.papaya_store.specs.Store.{StoreState, Stored, pair_of}
 use Rattle.papaya_store.specs.Tables.{word_at, put}
 use Rattle.papaya_timeline.proofs.ShowLemmas.{IsShowing, none_shown, pair_shown}
 use Rattle.papaya_timeline.proofs.StoreLemmas.{matched}
-use Rattle.papaya_timeline.proofs.KeptAnswer.{law_setting, law_coding, words_now, IsAnswered, Stands, own_told, quiet, same_hands, told_last, told_made, unexchanged}
+use Rattle.papaya_timeline.proofs.KeptAnswer.{IsAnswered, Stands, own_told, quiet, same_hands, told_last, told_made, unexchanged}
 use Rattle.papaya_timeline.proofs.KeptMade.{key_made, none_made, pair_made, refusal, table_made}
 use Rattle.papaya_timeline.proofs.KeptTables.{grown-same}
 use Rattle.papaya_timeline.proofs.KeptWritten.{call_exchanged, on_there}
 
+-- the setting and the coding of a store whose calls are by keys of the map
+abbrev pub law_setting : {K V S : Type 0} → (K → K → Bool) → (K → ℕ) → ResizeMode → StoreState K V S → Setting K (Stored K V)
+law_setting eq hash mode store = setting_of eq (low hash) mode store.words.tables
+
+abbrev pub law_coding : {K V : Type 0} → (K → ℕ) → Coding K (Stored K V)
+law_coding hash = coding_of (low hash)
+
 module _ {K V S A : Type 0} (eq : K → K → Bool) (says : Says K V A) (hash : K → ℕ) (mode : ResizeMode) (store : StoreState K V S) (r : Running K V A) (es : List (Exchange (Stored K V))) (tale : Tale K V)
-    (hashed : IsHashed (law_setting eq hash mode store r es tale) (law_coding eq hash mode store r es tale)) (key : K)
-    (split : tale.begun ++ tale.since ≡ es) (may : AllAllowed (law_setting eq hash mode store r es tale) start (tale.begun ++ tale.since))
-    (rests : Rests (law_setting eq hash mode store r es tale) (law_coding eq hash mode store r es tale) tale.begun tale.since key r.machine tale.hands)
-    (coded : (at : At) → word_of (law_setting eq hash mode store r es tale) (law_coding eq hash mode store r es tale) (words_now eq hash mode store r es tale) at ≡ word_at store.words at)
-    (there : (t : ℕ) → 0 < t → Comes (words_now eq hash mode store r es tale) t → IsMade store t)
+    (hashed : IsHashed (law_setting eq hash mode store) (law_coding hash)) (key : K)
+    (split : tale.begun ++ tale.since ≡ es) (may : AllAllowed (law_setting eq hash mode store) start (tale.begun ++ tale.since))
+    (rests : Rests (law_setting eq hash mode store) (law_coding hash) tale.begun tale.since key r.machine tale.hands)
+    (coded : (at : At) → word_of (law_setting eq hash mode store) (law_coding hash) (run es start) at ≡ word_at store.words at)
+    (there : (t : ℕ) → 0 < t → Comes (run es start) t → IsMade store t)
     (last : (p : Stored K V) → tale.hands.call.last ≡ Some p → pair_of store p.number ≡ Some p)
     (opens : (t : ℕ) → ask_of r.machine ≡ asks.Call (Ask_exchange Root 0 t) → IsMade store t)
     (links : (behind t : ℕ) → link_in r.machine.phase ≡ Some (Linking behind t) → IsMade store t)
     (own : own_key store r ≡ Some key) where
   -- what an answer leaves, where it is this
   abbrev Leaves : Call_ask → Call_answer → StoreState K V S → Running K V A → Type 0
-  Leaves ask a store' later = IsAnswered eq hash mode store r es tale key (asks.Call ask) (answers.Call a) store' later
+  Leaves ask a store' later = IsAnswered (law_setting eq hash mode store) (law_coding hash) store r es tale (Some key) key (asks.Call ask) (answers.Call a) store' later
 
   -- what the call is told
   abbrev Hears : Call_ask → Call_answer → Call_hands (Stored K V) → Type 0
-  Hears ask a hands = IsCallTold (law_setting eq hash mode store r es tale) (law_coding eq hash mode store r es tale) key (words_now eq hash mode store r es tale) (kind_of_ask r.machine) tale.hands.call ask a [] hands
+  Hears ask a hands = IsCallTold (law_setting eq hash mode store) (law_coding hash) key (run es start) (kind_of_ask r.machine) tale.hands.call ask a [] hands
 
   -- no table was made
   abbrev NoTable : Call_ask → Call_answer → Type 0
@@ -64,11 +71,11 @@ module _ {K V S A : Type 0} (eq : K → K → Bool) (says : Says K V A) (hash : 
   -- an ask of which nothing is left but what was told
   answered_quietly : (ask : Call_ask) → ask_of r.machine ≡ asks.Call ask → (a : Call_answer) (store' : StoreState K V S) (later : Running K V A) (hands : Call_hands (Stored K V)) → store' ≡ store → later ≡ r → Hears ask a hands
       → change_after (kind_of_ask r.machine) ask a (change_in r.machine.call.state) ≡ change_in r.machine.call.state
-      → ((p : Stored K V) → hands.last ≡ Some p → (tale.hands.call.last ≡ Some p) ⊎ Stands (words_now eq hash mode store r es tale) p)
+      → ((p : Stored K V) → hands.last ≡ Some p → (tale.hands.call.last ≡ Some p) ⊎ Stands (run es start) p)
       → hands.made ≡ tale.hands.call.made → NoTable ask a → Leaves ask a store' later
   answered_quietly ask e a store' later hands same_store same_call told still stood made never =
-      quiet eq hash mode store r es tale hashed key rests coded there own (asks.Call ask) e (answers.Call a) store' later (record tale.hands { call = hands }) store.count same_store same_call
-      (own_told eq hash mode store r es tale hashed key rests coded there ask a [] hands told) still stood (λ p h. inl h) made never
+      quiet (law_setting eq hash mode store) (law_coding hash) store r es tale (Some key) hashed key rests coded there own (asks.Call ask) e (answers.Call a) store' later (record tale.hands { call = hands }) store.count same_store same_call
+      (own_told (law_setting eq hash mode store) (law_coding hash) store r es tale (Some key) hashed key rests coded there ask a [] hands told) still stood (λ p h. inl h) made never
 
   -- a showing
   shown : (ask : Call_ask) → ask_of r.machine ≡ asks.Call ask → (a : Call_answer) (store' : StoreState K V S) (later : Running K V A) → IsShowing store r a store' later → Hears ask a tale.hands.call
@@ -78,10 +85,10 @@ module _ {K V S A : Type 0} (eq : K → K → Bool) (says : Says K V A) (hash : 
     | inr (v, x, other) ↦
         let call : Running K V A = record r { value = v; answers = Some x } in
         subst (λ z. Leaves ask a z later) (sym showing.store) (subst (Leaves ask a store) (sym other)
-        (unexchanged eq hash mode store r es tale hashed key rests coded there (asks.Call ask) e (answers.Call a) store call tale.hands
-        (own_told eq hash mode store r es tale hashed key rests coded there ask a [] tale.hands.call told) still
-        (record { keys = λ at j h. h; own = own; logged = λ m q h. h; longer = omega arith; few = λ h. h; grown = grown-same store.words.tables; words = λ at. refl })
-        (same_hands eq hash mode store r es tale store) (λ t is which. absurd (never t is which))))
+        (unexchanged (law_setting eq hash mode store) (law_coding hash) store r es tale (Some key) hashed key rests coded there (asks.Call ask) e (answers.Call a) store call tale.hands
+        (own_told (law_setting eq hash mode store) (law_coding hash) store r es tale (Some key) hashed key rests coded there ask a [] tale.hands.call told) still
+        (record { keys = λ at j h. h; own_is = own; logged = λ m q h. h; longer = omega arith; few = λ h. h; grown = grown-same store.words.tables; words = λ at. refl })
+        (same_hands (law_setting eq hash mode store) (law_coding hash) store r es tale (Some key) store) (λ t is which. absurd (never t is which))))
   ]
 
   -- an exchange, made or lost
@@ -90,11 +97,11 @@ module _ {K V S A : Type 0} (eq : K → K → Bool) (says : Says K V A) (hash : 
       matched (Leaves (Ask_exchange at old new) a store' later) (word_at store.words at == old) _ _ h
       (λ hit done. subst (λ y. Leaves (Ask_exchange at old new) y store' later) (sym done.0)
       (subst (λ y. Leaves (Ask_exchange at old new) Exchanged y later) (sym done.1) (subst (Leaves (Ask_exchange at old new) Exchanged (record store { words = put store.words at new })) (sym same_call)
-      (call_exchanged eq hash mode store r es tale hashed key split may rests coded there opens links own at old new e hit))))
+      (call_exchanged (law_setting eq hash mode store) (law_coding hash) store r es tale (Some key) hashed key split may rests coded there opens links own (λ t. refl) at old new e hit))))
       (λ miss lost.
-      let g = law_setting eq hash mode store r es tale in
-      let c = law_coding eq hash mode store r es tale in
-      let now = words_now eq hash mode store r es tale in
+      let g = law_setting eq hash mode store in
+      let c = law_coding hash in
+      let now = run es start in
       let hands : Call_hands (Stored K V) = told_of now at tale.hands.call in
       let nothing : List (Exchange (Stored K V)) = [] in
       let is : a ≡ Found_instead (word_of g c now at) = lost.0 ∙ ap Found_instead (sym (coded at)) in
@@ -104,7 +111,7 @@ module _ {K V S A : Type 0} (eq : K → K → Bool) (says : Says K V A) (hash : 
       ((a ≡ Found_instead (word_of g c now at)) × (nothing ≡ nothing) × (hands ≡ hands)))
       (sym (ap (λ y. y == old) (coded at) ∙ miss)) (is, refl, refl))
       (ap (λ y. change_after (kind_of_ask r.machine) (Ask_exchange at old new) y (change_in r.machine.call.state)) is)
-      (told_last eq hash mode store r es tale at) (told_made eq hash mode store r es tale at)
+      (told_last (law_setting eq hash mode store) (law_coding hash) store r es tale (Some key) at) (told_made (law_setting eq hash mode store) (law_coding hash) store r es tale (Some key) at)
       (λ t f which. elim which [ inl (slots, limit, g) ↦ absurd cc | inr (slots, limit, g) ↦ absurd cc ]))
 
   -- no table is made but where one is asked for
@@ -119,9 +126,9 @@ module _ {K V S A : Type 0} (eq : K → K → Bool) (says : Says K V A) (hash : 
   -- each ask
   pub answered_call : (refuse : Bool) (ask : Call_ask) → ask_of r.machine ≡ asks.Call ask → (a : Call_answer) (store' : StoreState K V S) (later : Running K V A) → Performs eq says refuse ask store r a store' later → Leaves ask a store' later
   answered_call refuse (Load at) e a store' later (is, stays) =
-      answered_quietly (Load at) e a store' later (told_of (words_now eq hash mode store r es tale) at tale.hands.call) stays.0 stays.1
+      answered_quietly (Load at) e a store' later (told_of (run es start) at tale.hands.call) stays.0 stays.1
       (is ∙ ap Word_read (sym (coded at)), refl, refl) refl
-      (told_last eq hash mode store r es tale at) (told_made eq hash mode store r es tale at)
+      (told_last (law_setting eq hash mode store) (law_coding hash) store r es tale (Some key) at) (told_made (law_setting eq hash mode store) (law_coding hash) store r es tale (Some key) at)
       (untabled (Load at) a (λ slots limit f. absurd cc))
   answered_call refuse (Ask_exchange at old new) e a store' later (h, same_call) = exchanged at old new e a store' later h same_call
   answered_call refuse (SameKey n) e a store' later (is, stays) =
@@ -134,31 +141,31 @@ module _ {K V S A : Type 0} (eq : K → K → Bool) (says : Says K V A) (hash : 
   answered_call refuse (ShowPair n) e a store' later h =
       let showing = pair_shown says r.machine.call.task n store r a store' later h in shown (ShowPair n) e a store' later showing (showing.says, (refl, refl)) refl (untabled (ShowPair n) a (λ slots limit f. absurd cc))
   answered_call refuse (SizeOf n) e a store' later (is, stays) =
-      let g = law_setting eq hash mode store r es tale in
-      let c = law_coding eq hash mode store r es tale in
+      let g = law_setting eq hash mode store in
+      let c = law_coding hash in
       let m = r.machine.call in
       let on : IsOn (run (tale.begun ++ tale.since) start).first (run (tale.begun ++ tale.since) start).next n = subst (IsNamed g c hashed tale.begun tale.since may key) (call_asks r.machine (SizeOf n) e).1 (ask_named g c hashed tale.begun tale.since may key tale.hands.call m.task m.hash m.made m.state rests.call.stage) in
-      let words = on_there eq hash mode store r es tale hashed key split may rests coded there opens links own n on in
+      let words = on_there (law_setting eq hash mode store) (law_coding hash) store r es tale (Some key) hashed key split may rests coded there opens links own (λ t. refl) n on in
       answered_quietly (SizeOf n) e a store' later tale.hands.call stays.0 stays.1
       ((words.0.limit, sym (ap places_in words.1), is ∙ ap size_of words.1 ∙ ap (λ y. Size y words.0.limit) (sym (ap slots_in words.1))), (refl, refl)) refl
       (λ p h. inl h) refl
       (untabled (SizeOf n) a (λ slots limit f. absurd cc))
   answered_call refuse MakeKey e a store' later h =
       matched (Leaves MakeKey a store' later) refuse _ _ h
-      (λ _ none. none_made eq hash mode store r es tale hashed key rests coded there own (asks.Call MakeKey) e a store' later (own_told eq hash mode store r es tale hashed key rests coded there MakeKey a [] tale.hands.call (inl (inl (Memory, none.0)), (refl, refl))) refl none.0 none.1.0 none.1.1)
-      (λ _ makes. key_made eq hash mode store r es tale hashed key rests coded there own e a store' later makes)
+      (λ _ none. none_made (law_setting eq hash mode store) (law_coding hash) store r es tale (Some key) hashed key rests coded there own (asks.Call MakeKey) e a store' later (own_told (law_setting eq hash mode store) (law_coding hash) store r es tale (Some key) hashed key rests coded there MakeKey a [] tale.hands.call (inl (inl (Memory, none.0)), (refl, refl))) refl none.0 none.1.0 none.1.1)
+      (λ _ makes. key_made (law_setting eq hash mode store) (law_coding hash) store r es tale (Some key) hashed key rests coded there own e a store' later makes)
   answered_call refuse MakePair e a store' later h =
       matched (Leaves MakePair a store' later) refuse _ _ h
-      (λ _ none. none_made eq hash mode store r es tale hashed key rests coded there own (asks.Call MakePair) e a store' later (own_told eq hash mode store r es tale hashed key rests coded there MakePair a [] tale.hands.call (inl (inl (Memory, none.0), (refl, refl)))) refl none.0 none.1.0 none.1.1)
-      (λ _ makes. pair_made eq hash mode store r es tale hashed key rests coded there own e a store' later makes)
+      (λ _ none. none_made (law_setting eq hash mode store) (law_coding hash) store r es tale (Some key) hashed key rests coded there own (asks.Call MakePair) e a store' later (own_told (law_setting eq hash mode store) (law_coding hash) store r es tale (Some key) hashed key rests coded there MakePair a [] tale.hands.call (inl (inl (Memory, none.0), (refl, refl)))) refl none.0 none.1.0 none.1.1)
+      (λ _ makes. pair_made (law_setting eq hash mode store) (law_coding hash) store r es tale (Some key) hashed key rests coded there own key refl (λ q same. same) (λ q. refl) e a store' later makes)
   answered_call refuse (MakeTable slots limit) e a store' later h =
       matched (Leaves (MakeTable slots limit) a store' later) refuse _ _ h
-      (λ _ none. none_made eq hash mode store r es tale hashed key rests coded there own (asks.Call (MakeTable slots limit)) e a store' later (own_told eq hash mode store r es tale hashed key rests coded there (MakeTable slots limit) a [] tale.hands.call (inl (inl (Memory, none.0)), (refl, refl))) refl none.0 none.1.0 none.1.1)
-      (λ _ makes. table_made eq hash mode store r es tale hashed key rests coded there own (asks.Call (MakeTable slots limit)) e slots limit a
-      (own_told eq hash mode store r es tale hashed key rests coded there (MakeTable slots limit) a [] tale.hands.call (table_told slots limit a store' makes.0, (refl, refl))) refl store' later makes.1 makes.0)
+      (λ _ none. none_made (law_setting eq hash mode store) (law_coding hash) store r es tale (Some key) hashed key rests coded there own (asks.Call (MakeTable slots limit)) e a store' later (own_told (law_setting eq hash mode store) (law_coding hash) store r es tale (Some key) hashed key rests coded there (MakeTable slots limit) a [] tale.hands.call (inl (inl (Memory, none.0)), (refl, refl))) refl none.0 none.1.0 none.1.1)
+      (λ _ makes. table_made (law_setting eq hash mode store) (law_coding hash) store r es tale (Some key) hashed key rests coded there own (asks.Call (MakeTable slots limit)) e slots limit a
+      (own_told (law_setting eq hash mode store) (law_coding hash) store r es tale (Some key) hashed key rests coded there (MakeTable slots limit) a [] tale.hands.call (table_told slots limit a store' makes.0, (refl, refl))) refl store' later makes.1 makes.0)
   answered_call refuse (AddToShard by) e a store' later (is, (number, same_store), same_call) =
-      quiet eq hash mode store r es tale hashed key rests coded there own (asks.Call (AddToShard by)) e (answers.Call a) store' later tale.hands _ same_store same_call
-      (own_told eq hash mode store r es tale hashed key rests coded there (AddToShard by) a [] tale.hands.call (is, (refl, refl))) refl (λ p h. inl h) (λ p h. inl h) refl
+      quiet (law_setting eq hash mode store) (law_coding hash) store r es tale (Some key) hashed key rests coded there own (asks.Call (AddToShard by)) e (answers.Call a) store' later tale.hands _ same_store same_call
+      (own_told (law_setting eq hash mode store) (law_coding hash) store r es tale (Some key) hashed key rests coded there (AddToShard by) a [] tale.hands.call (is, (refl, refl))) refl (λ p h. inl h) (λ p h. inl h) refl
       (untabled (AddToShard by) a (λ slots limit f. absurd cc))
   answered_call refuse (Ask_done reply) e a store' later (is, stays) =
       answered_quietly (Ask_done reply) e a store' later tale.hands.call stays.0 stays.1

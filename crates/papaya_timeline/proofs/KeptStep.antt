@@ -1,5 +1,5 @@
 -- A step of one caller keeps a core's words to the law of exchanges.
-use Rattle.std.proofs.Common.{◌≡◌, ◌≢◌, ℕ, ◌<◌, Bool, cond, List, ◌++◌, length, Option, Some, None, ◌⊎◌, inl, inr, refl, sym, ◌∙◌, ap, subst, arith, append_assoc, eq-eqb}
+use Rattle.std.proofs.Common.{◌≡◌, ◌≢◌, ℕ, ◌%◌, ◌^◌, ◌<◌, Bool, cond, List, ◌++◌, length, Option, Some, None, ◌⊎◌, inl, inr, refl, sym, ◌∙◌, ap, subst, arith, append_assoc, eq-eqb}
 use Rattle.papaya_call.specs.Answers.{Says}
 use Rattle.papaya_ask.specs.declared.ask.Ask.TheVariants.{Exchange as Ask_exchange}
 use Rattle.papaya_ask.specs.declared.ask.At.TheVariants.{Root}
@@ -74,15 +74,15 @@ module _ {K V S A : Type 0} (eq : K → K → Bool) (hash : K → ℕ) (law : Is
   may tale split = subst (AllAllowed g start) (sym split) kept.allowed
 
   -- what its answer leaves
-  pub left : IsAnswered eq hash s.mode s.store before es (tales caller) call.key (ask_of before.machine) a s'.store later
+  pub left : IsAnswered g c s.store before es (tales caller) (Some call.key) call.key (ask_of before.machine) a s'.store later
   left = by_ask (ask_of before.machine) refl performs
     where
-      by_ask : (ask : Ask) → ask_of before.machine ≡ ask → PerformsAsk eq says hashes refuse ask s.store before a s'.store later → IsAnswered eq hash s.mode s.store before es (tales caller) call.key ask a s'.store later
+      by_ask : (ask : Ask) → ask_of before.machine ≡ ask → PerformsAsk eq says hashes refuse ask s.store before a s'.store later → IsAnswered g c s.store before es (tales caller) (Some call.key) call.key ask a s'.store later
       by_ask (asks.Call ask) e (told, is, h) =
-          subst (λ y. IsAnswered eq hash s.mode s.store before es (tales caller) call.key (asks.Call ask) y s'.store later) (sym is)
+          subst (λ y. IsAnswered g c s.store before es (tales caller) (Some call.key) call.key (asks.Call ask) y s'.store later) (sym is)
           (answered_call eq says hash s.mode s.store before es (tales caller) hashed call.key call.split (may (tales caller) call.split) call.rests kept.coded kept.made call.last call.opens call.links call.own refuse ask e told s'.store later h)
       by_ask (asks.Copy ask) e (h, same) =
-          answered_copy eq hashes hash s.mode s.store hasher before es (tales caller) hashed call.key call.split (may (tales caller) call.split) call.rests kept.coded kept.made call.last call.carried call.opens call.links call.own refuse ask e a s'.store later h same
+          answered_copy eq hashes g c s.store before es (tales caller) (Some call.key) hashed call.key call.split (may (tales caller) call.split) call.rests kept.coded kept.made call.last call.carried call.opens call.links call.own (record { sizes = λ t. refl; places = λ t. refl; numbers = λ p. refl; hashes_of = λ p. ap (λ (f : K → ℕ). f p.key % 2 ^ 64) (sym hasher); sames = λ p q. refl }) refuse ask e a s'.store later h same
 
   -- the exchanges after it
   abbrev pub es' : List (Exchange (Stored K V))
@@ -175,7 +175,7 @@ module _ {K V S A : Type 0} (eq : K → K → Bool) (hash : K → ℕ) (law : Is
   pub own_call : (hands : Hands (Stored K V)) → left.hands ≡ hands → IsCall eq hash s'.mode s'.store (record later { machine = after before.machine a }) es' (record { begun = (tales caller).begun; since = (tales caller).since ++ left.made; hands = hands })
   own_call hands e = record {
     key = call.key;
-    own = left.own;
+    own = left.own_is;
     answers = λ asks. answers_asked eq says hashes refuse (ask_of before.machine) s.store before a s'.store later performs (call.answers (subst HasClosure same_task asks));
     split = longer_split (tales caller) call.split;
     rests = subst (Rests g' c (tales caller).begun ((tales caller).since ++ left.made) call.key (after before.machine a)) e (grown_rests (tales caller) call.split call.key (after before.machine a) left.hands learnt.1);

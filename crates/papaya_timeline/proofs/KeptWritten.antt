@@ -1,6 +1,5 @@
 -- An exchange that was made, for the call itself or for its copy.
-use Rattle.std.proofs.Common.{◌≡◌, ℕ, ◌==◌, ◌<◌, Bool, true, List, [], ◌∷◌, ◌++◌, Some, None, ◌⊎◌, inl, inr, refl, sym, ◌∙◌, ap, subst, MatchBool, eqb-true}
-use Rattle.papaya_words.specs.declared.probe.ResizeMode.{ResizeMode}
+use Rattle.std.proofs.Common.{◌≡◌, ℕ, ◌==◌, ◌<◌, Bool, true, List, [], ◌∷◌, ◌++◌, Option, Some, None, ◌⊎◌, inl, inr, refl, sym, ◌∙◌, ap, subst, MatchBool, eqb-true}
 use Rattle.papaya_ask.specs.declared.ask.At.{At}
 use Rattle.papaya_ask.specs.declared.ask.At.TheVariants.{Root, Next, Aborted, Done, Slot}
 use Rattle.papaya_ask.specs.declared.ask.Ask.TheVariants.{Exchange as Ask_exchange}
@@ -30,33 +29,27 @@ use Rattle.papaya_copy.specs.declared.link.Link.TheVariants.{Linking}
 use Rattle.papaya_store.specs.declared.pairs.Running.{Running}
 use Rattle.papaya_store.specs.Performs.{own_key}
 use Rattle.papaya_store.specs.Store.{StoreState, Stored}
-use Rattle.papaya_store.specs.Tables.{word_at, put}
+use Rattle.papaya_store.specs.Tables.{word_at, put, table_of}
 use Rattle.papaya_timeline.specs.Kept.{IsMade, Tale, slots_in}
-use Rattle.papaya_timeline.proofs.KeptAnswer.{law_setting, law_coding, words_now, IsAnswered, Tells, changed, exchanged, own_told}
+use Rattle.papaya_timeline.proofs.KeptAnswer.{IsAnswered, Tells, changed, exchanged, own_told}
 use Rattle.papaya_timeline.proofs.KeptExchange.{IsChanged, IsCopied_on, changes, copies, root_empty}
 use Rattle.papaya_timeline.proofs.KeptTables.{IsPlaced}
 use Rattle.papaya_timeline.proofs.MachineLemmas.{machine_once}
 use Rattle.papaya_timeline.proofs.MadeTables.{machine_links}
 
-module _ {K V S A : Type 0} (eq : K → K → Bool) (hash : K → ℕ) (mode : ResizeMode) (store : StoreState K V S) (r : Running K V A) (es : List (Exchange (Stored K V))) (tale : Tale K V)
-    (hashed : IsHashed (law_setting eq hash mode store r es tale) (law_coding eq hash mode store r es tale)) (key : K)
-    (split : tale.begun ++ tale.since ≡ es) (may : AllAllowed (law_setting eq hash mode store r es tale) start (tale.begun ++ tale.since))
-    (rests : Rests (law_setting eq hash mode store r es tale) (law_coding eq hash mode store r es tale) tale.begun tale.since key r.machine tale.hands)
-    (coded : (at : At) → word_of (law_setting eq hash mode store r es tale) (law_coding eq hash mode store r es tale) (words_now eq hash mode store r es tale) at ≡ word_at store.words at)
-    (there : (t : ℕ) → 0 < t → Comes (words_now eq hash mode store r es tale) t → IsMade store t)
+module _ {Q K V S A : Type 0} (g : Setting Q (Stored K V)) (c : Coding Q (Stored K V)) (store : StoreState K V S) (r : Running K V A) (es : List (Exchange (Stored K V))) (tale : Tale K V) (own : Option K)
+    (hashed : IsHashed g c) (key : Q)
+    (split : tale.begun ++ tale.since ≡ es) (may : AllAllowed g start (tale.begun ++ tale.since))
+    (rests : Rests g c tale.begun tale.since key r.machine tale.hands)
+    (coded : (at : At) → word_of g c (run es start) at ≡ word_at store.words at)
+    (there : (t : ℕ) → 0 < t → Comes (run es start) t → IsMade store t)
     (opens : (t : ℕ) → ask_of r.machine ≡ asks.Call (Ask_exchange Root 0 t) → IsMade store t)
     (links : (behind t : ℕ) → link_in r.machine.phase ≡ Some (Linking behind t) → IsMade store t)
-    (own : own_key store r ≡ Some key) where
-  -- in short
-  abbrev g : Setting K (Stored K V)
-  g = law_setting eq hash mode store r es tale
-
-  abbrev c : Coding K (Stored K V)
-  c = law_coding eq hash mode store r es tale
-
+    (owns : own_key store r ≡ own)
+    (sizes : (t : ℕ) → g.size t ≡ slots_in (table_of store.words.tables t)) where
   -- the words as the law has them
   abbrev now : State (Stored K V)
-  now = words_now eq hash mode store r es tale
+  now = run es start
 
   -- and in the tale of the call
   abbrev told_now : State (Stored K V)
@@ -71,7 +64,7 @@ module _ {K V S A : Type 0} (eq : K → K → Bool) (hash : K → ℕ) (mode : R
 
   -- a slot within such a table is there
   slot_there : (t x : ℕ) → IsOn told_now.first told_now.next t → x < g.size t → IsPlaced store.words.tables (Slot t x)
-  slot_there t x on within = let words = on_there t on in (words.0, words.1, subst (λ n. x < n) (ap slots_in words.1) within)
+  slot_there t x on within = let words = on_there t on in (words.0, words.1, subst (λ n. x < n) (sizes t ∙ ap slots_in words.1) within)
 
   module _ (at : At) (old new : ℕ) (a : ask_of r.machine ≡ asks.Call (Ask_exchange at old new)) where
     -- the call asks for itself
@@ -103,7 +96,7 @@ module _ {K V S A : Type 0} (eq : K → K → Bool) (hash : K → ℕ) (mode : R
         ap (λ y. asks.Call (Ask_exchange y old new)) root ∙ ap (λ y. asks.Call (Ask_exchange Root y new)) zero
 
     -- it was made
-    pub call_exchanged : (word_at store.words at == old) ≡ true → IsAnswered eq hash mode store r es tale key (asks.Call (Ask_exchange at old new)) (answers.Call Exchanged) (record store { words = put store.words at new }) r
+    pub call_exchanged : (word_at store.words at == old) ≡ true → IsAnswered g c store r es tale own key (asks.Call (Ask_exchange at old new)) (answers.Call Exchanged) (record store { words = put store.words at new }) r
     call_exchanged hit =
         let stands : word_of g c now at ≡ old = coded at ∙ eqb-true (word_at store.words at) old hit in
         let x = asked_call stands in
@@ -113,8 +106,8 @@ module _ {K V S A : Type 0} (eq : K → K → Bool) (hash : K → ℕ) (mode : R
         ((Exchanged ≡ Exchanged) × ((y : Exchange (Stored K V)) × IsAsked c (kind_of_ask r.machine) at new now tale.hands.call y × (x.0 ∷ [] ≡ y ∷ [])) × (tale.hands.call ≡ tale.hands.call))
         ((Exchanged ≡ Found_instead (word_of g c now at)) × (x.0 ∷ [] ≡ []) × (tale.hands.call ≡ told_of now at tale.hands.call)))
         (sym (ap (λ y. y == old) (coded at) ∙ hit)) (refl, (x.0, x.1, refl), refl) in
-        let heard : Tells eq hash mode store r es tale key (asks.Call (Ask_exchange at old new)) (answers.Call Exchanged) (x.0 ∷ []) tale.hands = own_told eq hash mode store r es tale hashed key rests coded there (Ask_exchange at old new) Exchanged (x.0 ∷ []) tale.hands.call told in
-        exchanged eq hash mode store r es tale hashed key rests coded there own (asks.Call (Ask_exchange at old new)) a at new x.0 tale.hands heard (placed_call changed_by.place) x.3
+        let heard : Tells g c store r es tale own key (asks.Call (Ask_exchange at old new)) (answers.Call Exchanged) (x.0 ∷ []) tale.hands = own_told g c store r es tale own hashed key rests coded there (Ask_exchange at old new) Exchanged (x.0 ∷ []) tale.hands.call told in
+        exchanged g c store r es tale own hashed key rests coded there owns (asks.Call (Ask_exchange at old new)) a at new x.0 tale.hands heard (placed_call changed_by.place) x.3
         (λ t some comes. elim (changed_by.comes t comes) [
           | inl before ↦ there t some before
           | inr (root, same_table) ↦ opens t (a ∙ opening x.0 x.1 x.2 stands root ∙ ap (λ y. asks.Call (Ask_exchange Root 0 y)) same_table)
@@ -122,7 +115,7 @@ module _ {K V S A : Type 0} (eq : K → K → Bool) (hash : K → ℕ) (mode : R
         changed_by.slots
         (λ none.
         let same_change : change_of_kind (kind_of_ask r.machine) old new ≡ None =
-        sym (changed eq hash mode store r es tale hashed key rests coded there (asks.Call (Ask_exchange at old new)) a (answers.Call Exchanged) (x.0 ∷ []) tale.hands heard) ∙ none in
+        sym (changed g c store r es tale own hashed key rests coded there (asks.Call (Ask_exchange at old new)) a (answers.Call Exchanged) (x.0 ∷ []) tale.hands heard) ∙ none in
         (machine_once r.machine.call at old new calls, changed_by.unchanged old new same_change))
         (λ p h. inl h) refl refl
 
@@ -144,22 +137,22 @@ module _ {K V S A : Type 0} (eq : K → K → Bool) (hash : K → ℕ) (mode : R
         (λ stands. copies_may g c hashed tale.begun tale.since may key r.machine tale.hands rests at old new a stands)
 
     -- it was made
-    pub copy_exchanged : (word_at store.words at == old) ≡ true → IsAnswered eq hash mode store r es tale key (asks.Copy (Copy_exchange at old new)) (answers.Call Exchanged) (record store { words = put store.words at new }) r
+    pub copy_exchanged : (word_at store.words at == old) ≡ true → IsAnswered g c store r es tale own key (asks.Copy (Copy_exchange at old new)) (answers.Call Exchanged) (record store { words = put store.words at new }) r
     copy_exchanged hit =
         let stands : word_of g c now at ≡ old = coded at ∙ eqb-true (word_at store.words at) old hit in
         let x = asked_copy stands in
         let hands : Hands (Stored K V) = copies_told.told_of (last_after x.0 tale.hands.call.last) tale.hands in
         let on : IsCopied_on now tale.hands.call.last new at x.0 = copies now tale.hands.call.last new g c tale.hands.kept (kind_of_ask r.machine) at x.0 x.1 x.2 in
-        let told : Tells eq hash mode store r es tale key (asks.Copy (Copy_exchange at old new)) (answers.Call Exchanged) (x.0 ∷ []) hands =
+        let told : Tells g c store r es tale own key (asks.Copy (Copy_exchange at old new)) (answers.Call Exchanged) (x.0 ∷ []) hands =
         subst (λ b. MatchBool b
         ((answers.Call Exchanged ≡ answers.Call Exchanged) × ((y : Exchange (Stored K V)) × IsCopyAsked c (kind_of_ask r.machine) at new now tale.hands.kept y × (x.0 ∷ [] ≡ y ∷ []) × (hands ≡ copies_told.told_of (last_after y tale.hands.call.last) tale.hands)))
         ((answers.Call Exchanged ≡ answers.Call (Found_instead (word_of g c now at))) × (x.0 ∷ [] ≡ []) × (hands ≡ copies_told.told_of (told_last now at tale.hands.call.last) tale.hands)))
         (sym (ap (λ y. y == old) (coded at) ∙ hit)) (refl, (x.0, x.1, refl, refl)) in
-        exchanged eq hash mode store r es tale hashed key rests coded there own (asks.Copy (Copy_exchange at old new)) a at new x.0 hands told placed_copy x.3
+        exchanged g c store r es tale own hashed key rests coded there owns (asks.Copy (Copy_exchange at old new)) a at new x.0 hands told placed_copy x.3
         (λ t some comes. elim (on.comes t comes) [
           | inl before ↦ there t some before
           | inr (u, next, same_table) ↦ links u t (machine_links r.machine u old t (a ∙ ap (λ y. asks.Copy (Copy_exchange y old new)) next ∙ ap (λ y. asks.Copy (Copy_exchange (Next u) old y)) same_table))
         ])
         (λ t y p h. inl (on.slots t y p h))
-        (λ none. (sym (changed eq hash mode store r es tale hashed key rests coded there (asks.Copy (Copy_exchange at old new)) a (answers.Call Exchanged) (x.0 ∷ []) hands told) ∙ none, on.slots))
+        (λ none. (sym (changed g c store r es tale own hashed key rests coded there (asks.Copy (Copy_exchange at old new)) a (answers.Call Exchanged) (x.0 ∷ []) hands told) ∙ none, on.slots))
         on.last_is refl refl
