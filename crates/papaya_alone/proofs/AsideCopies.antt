@@ -1,0 +1,237 @@
+-- What each answer leaves to a call that copies, with no other caller beside it.
+use Rattle.std.proofs.Common.{◌≡◌, ◌⊎◌, inl, inr, ⊎_elim, ℕ, ◌+◌, ◌*◌, ◌^◌, ◌<◌, ◌≤◌, ◌==◌, ◌||◌, nat_le, Bool, true, false, cond, Some, refl, sym, ap, ◌∙◌, subst, arith, eqb-true}
+use Rattle.std.proofs.lemmas.Bool.{cond_both}
+use Rattle.papaya_words.specs.declared.probe.ResizeMode.{ResizeMode}
+use Rattle.papaya_words.specs.declared.probe.ResizeMode.TheVariants.{Blocking}
+use Rattle.papaya_ask.specs.declared.ask.At.{At}
+use Rattle.papaya_ask.specs.declared.ask.At.TheVariants as words_at
+use Rattle.papaya_ask.specs.declared.ask.Answer.TheVariants.{Exchanged, Word as Word_read}
+use Rattle.papaya_ask.specs.declared.copy_ask.CopyAsk.TheVariants.{Exchange as Ask_exchange, Load}
+use Rattle.papaya_call.specs.declared.machine.State.TheVariants.{AtRoot as At_root}
+use Rattle.papaya_copy.specs.declared.copying.Aim.{Aim}
+use Rattle.papaya_copy.specs.declared.copying.Aim.TheVariants as aims
+use Rattle.papaya_copy.specs.declared.copying.Copied.{Copied}
+use Rattle.papaya_copy.specs.declared.copying.Copied.TheVariants as copied
+use Rattle.papaya_copy.specs.declared.copying.Copying.{Copying}
+use Rattle.papaya_copy.specs.declared.copying.Copying.TheVariants as copyings
+use Rattle.papaya_copy.specs.declared.settle.Settle.{Settle}
+use Rattle.papaya_copy.specs.declared.settle.Settled.{Settled}
+use Rattle.papaya_copy.specs.declared.settle.Settled.TheVariants as settled
+use Rattle.papaya_copy.specs.declared.settle.Slot.{Slot}
+use Rattle.papaya_copy.specs.declared.step.Chunk.{Chunk}
+use Rattle.papaya_copy.specs.declared.step.Step.{Step}
+use Rattle.papaya_copy.specs.declared.step.Step.TheVariants as steps
+use Rattle.papaya_copy.specs.declared.step.Stepped.{Stepped}
+use Rattle.papaya_copy.specs.declared.step.Stepped.TheVariants as stepped
+use Rattle.papaya_copy.specs.Settle.{settle_ask}
+use Rattle.papaya_copy.specs.Step.{step_ask}
+use Rattle.papaya_copy.specs.Copying.{all_of, copying_ask, leads, lone, over}
+use Rattle.papaya_chain.specs.declared.ask.Answer.{Answer}
+use Rattle.papaya_chain.specs.declared.ask.Answer.TheVariants as answers
+use Rattle.papaya_chain.specs.declared.machine.Machine.{Machine}
+use Rattle.papaya_chain.specs.Machine.{after_copied, copying_after}
+use Rattle.papaya_chain_rests.specs.Rests.{left_by}
+use Rattle.papaya_rests.specs.Alone.{IsBare, IsPut, IsSame}
+use Rattle.papaya_rests.specs.Copier.{aim_of}
+use Rattle.papaya_rests.proofs.AloneCurrent.{machine_stays}
+use Rattle.papaya_rests.proofs.AloneSteps.{exchange_done}
+use Rattle.papaya_alone.specs.Ahead.{IsAsideAhead, IsCurrent}
+use Rattle.papaya_alone.specs.Budget.{Budget, IsSpent, SpendsCopy}
+use Rattle.papaya_alone.specs.Current.{IsCopiedRead, IsCopyingRead, IsIncremental, IsSettleRead}
+use Rattle.papaya_alone.specs.Measure.{further, left_of_copied, left_of_settle, left_of_step}
+use Rattle.papaya_alone.specs.Prompt.{IsCopyPrompt}
+use Rattle.papaya_alone.specs.Rank.{rank, rank_at_root, rank_of_copying, rank_of_step}
+use Rattle.papaya_alone.proofs.Afters.{copying_settles, copying_steps, settle_after, step_after}
+use Rattle.papaya_alone.proofs.AsideRanks.{GoesOn, HasNext, IsBegun, IsMidway, Lowers, begun_rank, step_goes, step_puts}
+use Rattle.papaya_alone.proofs.CopyEnds.{any_alive, copying_ends, same_aim}
+use Rattle.papaya_alone.proofs.Onwards.{AimsAt, aim_read, anew_current, anew_rank, enters_current}
+use Rattle.papaya_alone.proofs.SettleEnds.{settle_puts}
+use Rattle.papaya_alone.proofs.Telling.{copy_spends, stays_at}
+
+-- it copies for one table
+pub aims_one : (aim : Aim) (n n' : ℕ) → AimsAt aim n → AimsAt aim n' → n ≡ n'
+aims_one (aims.Search t) n n' a b = sym a ∙ b
+aims_one (aims.Settle slot) n n' a b = sym a ∙ b
+aims_one aims.Chunk n n' a b = absurd a
+aims_one (aims.All met) n n' a b = absurd a
+
+-- what is known of a call that copies a chunk: for which table it does, or that it copies all
+abbrev pub IsFor : Machine → Aim → Type 0
+IsFor m aim = (IsIncremental m.call.mode × ((n : ℕ) × AimsAt aim n × ((t : ℕ) × (left_by m.call.state ≡ Some t) × (t < n))))
+    ⊎ ((m.call.mode ≡ Blocking) × ((met : ℕ) × (aim ≡ aims.All met)))
+
+-- what is known of the words where a copy stands
+abbrev pub IsKnown : ResizeMode → (At → ℕ) → Copying → Type 0
+IsKnown how words (copyings.Stepping aim steps.AtRoot) = 0 < words words_at.Root
+IsKnown how words (copyings.Stepping aim (steps.Promoting from to)) = (n : ℕ) → AimsAt aim n → to ≤ n
+IsKnown how words (copyings.Stepping aim step) = HasNext how words step
+IsKnown how words (copyings.Lone slot settle) = Unit {0}
+
+module _ (words words' : At → ℕ) (bare : IsBare words) (bare' : IsBare words') (before later : Budget) (m : Machine) where
+  -- how the map grows
+  abbrev mode : ResizeMode
+  mode = m.call.mode
+
+  -- a call was set aside in a table that is no earlier than the root
+  abbrev pub IsBehind : (At → ℕ) → Type 0
+  IsBehind now = (t : ℕ) → IsIncremental mode → left_by m.call.state ≡ Some t → now words_at.Root ≤ t
+
+  -- where a chunk goes on, and by how much less is left
+  led_lowers : (aim : Aim) (step : Step) → IsBehind words' → (end : Stepped) → GoesOn end → IsSpent before later ⊎ ((later ≡ before) × (left_of_copied (leads aim mode end) < left_of_step step)) → IsCopiedRead mode words' (leads aim mode end)
+      → Lowers words words' before later m (rank 1 0 (left_of_step step)) (after_copied m (leads aim mode end))
+  led_lowers aim step left (stepped.On step') goes nears read = (
+    ⊎_elim (λ (h : IsSpent before later). inl h)
+        (λ (h : (later ≡ before) × (left_of_step step' < left_of_step step)).
+        let l = h.1 in
+        inr (h.0, subst (λ r. r < rank 1 0 (left_of_step step)) (sym (begun_rank (words' words_at.Root) aim step' goes)) (omega (arith, l))))
+        nears,
+    (read, left),
+  )
+  led_lowers aim step left (stepped.Refused refused) goes nears read =
+      (⊎_elim (λ (h : IsSpent before later). inl h) (λ (h : (later ≡ before) × (0 < left_of_step step)). inr (h.0, omega arith)) nears, (tt, tt))
+  led_lowers aim step left (stepped.Root root) goes nears read = absurd goes
+  led_lowers aim step left (stepped.Last table) goes nears read = absurd goes
+  led_lowers aim step left stepped.Over goes nears read = absurd goes
+
+  -- a chunk that is not over yet
+  midway_lowers : (aim : Aim) (step : Step) (answer : Answer) → IsMidway step → IsBegun step → HasNext mode words step → IsBehind words → IsCopyingRead mode words (copyings.Stepping aim step) → IsCopyPrompt words (step_ask step) answer words' → SpendsCopy (step_ask step) answer before later
+      → Lowers words words' before later m (rank_of_step (words words_at.Root) aim step) (after_copied m (copying_after (copyings.Stepping aim step) mode m.call.initial answer))
+  midway_lowers aim step answer midway begun next left read told spends =
+      let initial : ℕ = m.call.initial in
+      let end : Stepped = step_after step mode initial answer in
+      let led = copying_steps mode initial aim step answer in
+      let e = copying_ends mode initial words words' bare' (copyings.Stepping aim step) answer read told in
+      let f = copy_spends words words' before later (step_ask step) answer told spends _ _ e.0 in
+      let same : words' words_at.Root ≡ words words_at.Root = stays_at words words' answer (step_ask step) told words_at.Root (step_puts step midway) in
+      subst (λ r. Lowers words words' before later m r (after_copied m (copying_after (copyings.Stepping aim step) mode initial answer))) (sym (begun_rank (words words_at.Root) aim step begun))
+      (subst (λ y. Lowers words words' before later m (rank 1 0 (left_of_step step)) (after_copied m y)) (sym led)
+      (led_lowers aim step (λ t how h. let l = left t how h in omega (arith, l, same)) end (step_goes mode initial words words' step answer midway next told)
+      (subst (λ y. IsSpent before later ⊎ ((later ≡ before) × (left_of_copied y < left_of_step step))) led f) (subst (IsCopiedRead mode words') led e.1)))
+
+  -- the copy of a slot of its own
+  loned_lowers : IsIncremental mode → (slot : Slot) (settle : Settle) → words' words_at.Root ≤ slot.to → (end : Settled) → IsSpent before later ⊎ ((later ≡ before) × (left_of_copied (lone slot end) < left_of_settle settle)) → IsCopiedRead mode words' (lone slot end)
+      → Lowers words words' before later m (rank 2 (further slot.to + 1) (left_of_settle settle)) (after_copied m (lone slot end))
+  loned_lowers inc slot settle least (settled.On settle') nears read = (⊎_elim (λ (h : IsSpent before later). inl h) (λ (h : (later ≡ before) × (left_of_settle settle' < left_of_settle settle)). let l = h.1 in inr (h.0, omega (arith, l))) nears, (read, least))
+  loned_lowers inc slot settle least settled.Settled nears read = (⊎_elim (λ (h : IsSpent before later). inl h) (λ (h : (later ≡ before) × (0 < left_of_settle settle)). inr (h.0, omega arith)) nears, enters_current words' m inc slot.to least)
+  loned_lowers inc slot settle least (settled.Unfit table) nears read = (⊎_elim (λ (h : IsSpent before later). inl h) (λ (h : (later ≡ before) × (0 < left_of_settle settle)). inr (h.0, omega arith)) nears, enters_current words' m inc slot.to least)
+  loned_lowers inc slot settle least (settled.Refused refused) nears read = (⊎_elim (λ (h : IsSpent before later). inl h) (λ (h : (later ≡ before) × (0 < left_of_settle settle)). inr (h.0, omega arith)) nears, (tt, tt))
+
+  -- a slot of its own is copied
+  lone_lowers : IsIncremental mode → (slot : Slot) (settle : Settle) (answer : Answer) → words words_at.Root ≤ slot.to → IsSettleRead mode words slot settle → IsCopyPrompt words (settle_ask settle slot) answer words' → SpendsCopy (settle_ask settle slot) answer before later
+      → Lowers words words' before later m (rank 2 (further slot.to + 1) (left_of_settle settle)) (after_copied m (copying_after (copyings.Lone slot settle) mode m.call.initial answer))
+  lone_lowers inc slot settle answer least read told spends =
+      let initial : ℕ = m.call.initial in
+      let end : Settled = settle_after settle slot mode initial answer in
+      let led = copying_settles mode initial slot settle answer in
+      let e = copying_ends mode initial words words' bare' (copyings.Lone slot settle) answer read told in
+      let f = copy_spends words words' before later (settle_ask settle slot) answer told spends _ _ e.0 in
+      let same : words' words_at.Root ≡ words words_at.Root = stays_at words words' answer (settle_ask settle slot) told words_at.Root (settle_puts settle slot words_at.Root tt) in
+      subst (λ y. Lowers words words' before later m (rank 2 (further slot.to + 1) (left_of_settle settle)) (after_copied m y)) (sym led)
+      (loned_lowers inc slot settle (omega (arith, same, least)) end
+      (subst (λ y. IsSpent before later ⊎ ((later ≡ before) × (left_of_copied y < left_of_settle settle))) led f) (subst (IsCopiedRead mode words') led e.1))
+
+  -- a chunk is over, without blocking: the call goes on in the next table, or copies its slot first
+  over_current : IsIncremental mode → (aim : Aim) (n : ℕ) → AimsAt aim n → words' words_at.Root ≤ n → IsCurrent words' (after_copied m (over aim))
+  over_current inc (aims.Search t) n is least = enters_current words' m inc t (omega (arith, is, least))
+  over_current inc (aims.Settle slot) n is least = (any_alive mode words' mode slot.to inc, omega (arith, is, least))
+  over_current inc aims.Chunk n is least = absurd is
+  over_current inc (aims.All met) n is least = absurd is
+
+  -- either way what was read stands there when a chunk is over
+  overs_current : (aim : Aim) → IsFor m aim → ((n : ℕ) → AimsAt aim n → words' words_at.Root ≤ n) → IsCurrent words' (after_copied m (over aim))
+  overs_current aim (inl (inc, (n, is, t))) least = over_current inc aim n is (least n is)
+  overs_current aim (inr (blocks, (met, is))) least = subst (λ a. IsCurrent words' (after_copied m (over a))) (sym is) ((tt, tt), λ t how e. absurd (subst IsIncremental blocks how))
+
+  -- the chunk was copied, and is counted
+  advancing_lowers : (aim : Aim) (chunk : Chunk) (answer : Answer) → IsFor m aim → IsBehind words → IsCopyingRead mode words (copyings.Stepping aim (steps.Advancing chunk)) → IsCopyPrompt words (step_ask (steps.Advancing chunk)) answer words' → SpendsCopy (step_ask (steps.Advancing chunk)) answer before later
+      → Lowers words words' before later m (rank 1 0 1) (after_copied m (copying_after (copyings.Stepping aim (steps.Advancing chunk)) mode m.call.initial answer))
+  advancing_lowers aim chunk answer which left read told spends =
+      let here : At = words_at.Done chunk.to in
+      let done : (answer ≡ answers.Call Exchanged) × IsPut words here chunk.end words' = exchange_done _ _ (words here) chunk.begun read.1.1 told in
+      let same : words' words_at.Root ≡ words words_at.Root = done.1.others words_at.Root (λ e. cc) in (
+        inl (inr (subst (λ a. SpendsCopy (Ask_exchange here chunk.begun chunk.end) a before later) done.0 spends)),
+        subst (λ a. IsCurrent words' (after_copied m (copying_after (copyings.Stepping aim (steps.Advancing chunk)) mode m.call.initial a))) (sym done.0)
+            (cond_both (nat_le chunk.len chunk.end) (stepped.On (steps.Promoting chunk.from chunk.to)) stepped.Over (λ y. IsCurrent words' (after_copied m (leads aim mode y)))
+            (λ all. ((same_aim mode m.call.initial words words' bare' aim read.0, same ∙ read.1.0), λ t how e. let l = left t how e in omega (arith, l, same)))
+            (λ some. overs_current aim which (λ n is. least n is same which))),
+      )
+    where
+      least : (n : ℕ) → AimsAt aim n → words' words_at.Root ≡ words words_at.Root → IsFor m aim → words' words_at.Root ≤ n
+      least n is same (inl (inc, (n', is', (t, e, up)))) = let l = left t inc e in let q : n ≡ n' = aims_one aim n n' is is' in omega (arith, l, same, up, q)
+      least n is same (inr (blocks, (met, e))) = absurd (subst (λ a. AimsAt a n) e is)
+
+  -- all was copied, and the other table becomes the root
+  promoting_lowers : (aim : Aim) (from to : ℕ) (answer : Answer) → IsFor m aim → ((n : ℕ) → AimsAt aim n → to ≤ n) → IsCopyingRead mode words (copyings.Stepping aim (steps.Promoting from to)) → IsCopyPrompt words (step_ask (steps.Promoting from to)) answer words' → SpendsCopy (step_ask (steps.Promoting from to)) answer before later
+      → Lowers words words' before later m (rank 1 0 1) (after_copied m (copying_after (copyings.Stepping aim (steps.Promoting from to)) mode m.call.initial answer))
+  promoting_lowers aim from to answer which least read told spends =
+      let done : (answer ≡ answers.Call Exchanged) × IsPut words words_at.Root to words' = exchange_done _ _ (words words_at.Root) from read.1 told in
+      let root : words' words_at.Root ≡ to = done.1.here in (
+        inl (inr (subst (λ a. SpendsCopy (Ask_exchange words_at.Root from to) a before later) done.0 spends)),
+        subst (λ a. IsCurrent words' (after_copied m (copying_after (copyings.Stepping aim (steps.Promoting from to)) mode m.call.initial a))) (sym done.0)
+            (overs_current aim which (λ n is. let l = least n is in omega (arith, l, root))),
+      )
+
+  -- a chunk begins at the root, for one table
+  one_lowers : IsIncremental mode → (aim : Aim) (root : ℕ) → 0 < root → words' words_at.Root ≡ root → IsBehind words' → later ≡ before → (end : Copied) → end ≡ cond (root == 0) (over aim) (copied.On (copyings.Stepping aim (steps.Aiming root root)))
+      → Lowers words words' before later m (rank 1 0 (2 * 2 ^ 102)) (after_copied m end)
+  one_lowers inc aim root some is left kept end e =
+      subst (λ y. Lowers words words' before later m (rank 1 0 (2 * 2 ^ 102)) (after_copied m y)) (sym e)
+      (cond_both (root == 0) (over aim) (copied.On (copyings.Stepping aim (steps.Aiming root root))) (λ y. Lowers words words' before later m (rank 1 0 (2 * 2 ^ 102)) (after_copied m y))
+      (λ none. let z : root ≡ 0 = eqb-true root 0 none in absurd (omega (arith, z, some)))
+      (λ _. (inr (kept, omega arith), ((aim_read words' m inc aim, is), left))))
+
+  -- and for all of the root, if it is the one that was met
+  met_lowers : mode ≡ Blocking → (met root : ℕ) → words' words_at.Root ≡ root → IsSame words words' → words words_at.Root ≡ root → later ≡ before → (b : Bool)
+      → Lowers words words' before later m (cond b (rank 1 0 (2 * 2 ^ 102)) (rank 3 0 0)) (after_copied m (cond b (copied.On (copyings.Stepping (aims.All root) (steps.Aiming root root))) (copied.Root root)))
+  met_lowers blocks met root is same was kept true = (inr (kept, omega arith), ((tt, is), λ t how e. absurd (subst IsIncremental blocks how)))
+  met_lowers blocks met root is same was kept false =
+      subst (λ r. Lowers words words' before later m (rank 3 0 0) (after_copied m (copied.Root r))) is (
+        inr (kept, anew_rank words' m),
+        anew_current words' m (machine_stays words words' (record m.call { state = At_root }) bare (Word_read (words' words_at.Root)) tt (ap Word_read (same words_at.Root), same)).read,
+      )
+
+  -- a chunk begins at the root
+  at_root_lowers : (aim : Aim) (answer : Answer) → IsFor m aim → 0 < words words_at.Root → IsBehind words → IsCopyPrompt words (Load words_at.Root) answer words' → SpendsCopy (Load words_at.Root) answer before later
+      → Lowers words words' before later m (rank_at_root (words words_at.Root) aim) (after_copied m (copying_after (copyings.Stepping aim steps.AtRoot) mode m.call.initial answer))
+  at_root_lowers aim answer which some left told spends =
+      subst (λ a. SpendsCopy (Load words_at.Root) a before later → Lowers words words' before later m (rank_at_root (words words_at.Root) aim) (after_copied m (copying_after (copyings.Stepping aim steps.AtRoot) mode m.call.initial a))) (sym told.0.0)
+      (λ kept. ⊎_elim
+      (λ (h : IsIncremental mode × ((n : ℕ) × AimsAt aim n × ((t : ℕ) × (left_by m.call.state ≡ Some t) × (t < n)))). by_aim aim h.0 h.1.0 h.1.1 kept)
+      (λ (h : (mode ≡ Blocking) × ((met : ℕ) × (aim ≡ aims.All met))). by_all aim h.1.0 h.1.1 h.0 kept)
+      which)
+      spends
+    where
+      later_left : IsBehind words'
+      later_left t how e = let l = left t how e in let s = told.1 words_at.Root in omega (arith, l, s)
+
+      by_aim : (aim : Aim) → IsIncremental mode → (n : ℕ) → AimsAt aim n → later ≡ before → Lowers words words' before later m (rank_at_root (words words_at.Root) aim) (after_copied m (copying_after (copyings.Stepping aim steps.AtRoot) mode m.call.initial (answers.Call (Word_read (words words_at.Root)))))
+      by_aim (aims.Search t) inc n is kept = one_lowers inc (aims.Search t) (words words_at.Root) some (told.1 words_at.Root) later_left kept _ refl
+      by_aim (aims.Settle slot) inc n is kept = one_lowers inc (aims.Settle slot) (words words_at.Root) some (told.1 words_at.Root) later_left kept _ refl
+      by_aim aims.Chunk inc n is kept = absurd is
+      by_aim (aims.All met) inc n is kept = absurd is
+
+      by_all : (aim : Aim) (met : ℕ) → aim ≡ aims.All met → mode ≡ Blocking → later ≡ before → Lowers words words' before later m (rank_at_root (words words_at.Root) aim) (after_copied m (copying_after (copyings.Stepping aim steps.AtRoot) mode m.call.initial (answers.Call (Word_read (words words_at.Root)))))
+      by_all aim met is blocks kept =
+          subst (λ a. Lowers words words' before later m (rank_at_root (words words_at.Root) a) (after_copied m (copying_after (copyings.Stepping a steps.AtRoot) mode m.call.initial (answers.Call (Word_read (words words_at.Root)))))) (sym is)
+          (subst (λ how. Lowers words words' before later m (rank_at_root (words words_at.Root) (aims.All met)) (after_copied m (copying_after (copyings.Stepping (aims.All met) steps.AtRoot) how m.call.initial (answers.Call (Word_read (words words_at.Root)))))) (sym blocks)
+          (cond_both (words words_at.Root == 0) (copied.Root 0) (all_of met Blocking (words words_at.Root)) (λ y. Lowers words words' before later m (rank_at_root (words words_at.Root) (aims.All met)) (after_copied m y))
+          (λ none. let z : words words_at.Root ≡ 0 = eqb-true (words words_at.Root) 0 none in absurd (omega (arith, z, some)))
+          (λ _. met_lowers blocks met (words words_at.Root) (told.1 words_at.Root) told.1 refl kept (met == 0 || met == words words_at.Root))))
+
+  -- in each state
+  pub copying_lowers : (copying : Copying) (answer : Answer) → IsFor m (aim_of copying) → IsAsideAhead mode words m.call.state copying → IsCopyingRead mode words copying → IsKnown mode words copying → IsCopyPrompt words (copying_ask copying) answer words' → SpendsCopy (copying_ask copying) answer before later
+      → Lowers words words' before later m (rank_of_copying (words words_at.Root) copying) (after_copied m (copying_after copying mode m.call.initial answer))
+  copying_lowers (copyings.Stepping aim steps.AtRoot) answer which left read known told spends = at_root_lowers aim answer which known left told spends
+  copying_lowers (copyings.Stepping aim (steps.Aiming from behind)) answer which left read known told spends = midway_lowers aim (steps.Aiming from behind) answer tt tt known left read told spends
+  copying_lowers (copyings.Stepping aim (steps.Linking from link)) answer which left read known told spends = midway_lowers aim (steps.Linking from link) answer tt tt known left read told spends
+  copying_lowers (copyings.Stepping aim (steps.Judging from to)) answer which left read known told spends = midway_lowers aim (steps.Judging from to) answer tt tt known left read told spends
+  copying_lowers (copyings.Stepping aim (steps.Sizing from to)) answer which left read known told spends = midway_lowers aim (steps.Sizing from to) answer tt tt known left read told spends
+  copying_lowers (copyings.Stepping aim (steps.Counting from to len)) answer which left read known told spends = midway_lowers aim (steps.Counting from to len) answer tt tt known left read told spends
+  copying_lowers (copyings.Stepping aim (steps.Settling chunk settle)) answer which left read known told spends = midway_lowers aim (steps.Settling chunk settle) answer tt tt known left read told spends
+  copying_lowers (copyings.Stepping aim (steps.Advancing chunk)) answer which left read known told spends = advancing_lowers aim chunk answer which left read told spends
+  copying_lowers (copyings.Stepping aim (steps.Promoting from to)) answer which left read known told spends = promoting_lowers aim from to answer which known read told spends
+  copying_lowers (copyings.Lone slot settle) answer (inl which) left read known told spends = lone_lowers which.0 slot settle answer left read told spends
+  copying_lowers (copyings.Lone slot settle) answer (inr which) left read known told spends = absurd (not_all which.1.0 which.1.1)
+    where
+      not_all : (met : ℕ) → aims.Settle slot ≡ aims.All met → ⊥
+      not_all met e = cc e

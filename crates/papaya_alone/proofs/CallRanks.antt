@@ -1,0 +1,380 @@
+-- What each answer leaves to a call in a table that it has come to.
+use Rattle.std.proofs.Common.{◌≡◌, ◌⊎◌, inl, inr, ⊎_elim, ℕ, ◌+◌, ◌*◌, ◌-◌, ◌^◌, ◌<◌, ◌≤◌, ◌==◌, nat_lt, ltb-true, Bool, true, false, Option, Some, None, refl, sym, ap, ◌∙◌, subst, arith}
+use Rattle.std.proofs.lemmas.Bool.{cond_both}
+use Rattle.papaya_words.specs.Word.{kind_of, byte_of, pair_of, top_byte}
+use Rattle.papaya_words.specs.declared.probe.Refused.{Refused}
+use Rattle.papaya_words.specs.declared.probe.ResizeMode.{ResizeMode}
+use Rattle.papaya_words.specs.declared.probe.ResizeMode.TheVariants.{Incremental, Blocking}
+use Rattle.papaya_words.specs.declared.word.Kind.{Kind}
+use Rattle.papaya_words.specs.declared.word.Kind.TheVariants as word_kinds
+use Rattle.papaya_ask.specs.declared.ask.At.{At}
+use Rattle.papaya_ask.specs.declared.ask.At.TheVariants.{Root, Next, Slot}
+use Rattle.papaya_ask.specs.declared.ask.Ask.{Ask}
+use Rattle.papaya_ask.specs.declared.ask.Ask.TheVariants.{Load}
+use Rattle.papaya_ask.specs.declared.ask.Answer.{Answer}
+use Rattle.papaya_ask.specs.declared.ask.Answer.TheVariants.{Exchanged, Size, Made as Made_number, Refused as Was_refused}
+use Rattle.papaya_ask.specs.declared.ask.OpKind.{OpKind}
+use Rattle.papaya_ask.specs.declared.ask.OpKind.TheVariants as op_kinds
+use Rattle.papaya_ask.specs.declared.call.Reply.TheVariants.{Absent, Replaced}
+use Rattle.papaya_ask.specs.declared.call.Task.{Task}
+use Rattle.papaya_ask.specs.declared.call.Task.TheVariants.{Get, Insert, RemoveIf, Compute}
+use Rattle.papaya_call.specs.declared.compute.Choice.{Choice}
+use Rattle.papaya_call.specs.declared.compute.Choice.TheVariants as choices
+use Rattle.papaya_call.specs.declared.compute.Gap.{Gap}
+use Rattle.papaya_call.specs.declared.compute.Gap.TheVariants as gaps
+use Rattle.papaya_call.specs.declared.compute.Purpose.{Purpose}
+use Rattle.papaya_call.specs.declared.compute.Purpose.TheVariants as purposes
+use Rattle.papaya_call.specs.declared.compute.Put.{Put}
+use Rattle.papaya_call.specs.declared.compute.Remembered.{Remembered}
+use Rattle.papaya_call.specs.declared.remove.Removal.{Removal}
+use Rattle.papaya_ask.specs.declared.search.Place.{Place}
+use Rattle.papaya_ask.specs.declared.search.Search.TheVariants.{Sizing, Looking, Comparing}
+use Rattle.papaya_ask.specs.declared.search.Seen.{Seen}
+use Rattle.papaya_ask.specs.declared.search.Seen.TheVariants as seen
+use Rattle.papaya_call.specs.declared.write.Made.{Made}
+use Rattle.papaya_call.specs.declared.write.Made.TheVariants.{Nothing, Key, Pair}
+use Rattle.papaya_call.specs.declared.write.Write.{Write}
+use Rattle.papaya_call.specs.declared.machine.Machine.{Machine}
+use Rattle.papaya_call.specs.declared.machine.State.{State}
+use Rattle.papaya_call.specs.declared.machine.State.TheVariants.{AtRoot, Making, Opening, Searching, Writing, Offering, Showing, Pairing, Putting, Burying, Counting, Uncounting, Leaving, Growing, Ended}
+use Rattle.papaya_ask.specs.Search.{IsSize, next_place, go_on, look_at, match_at, look, at_yes as search_compared}
+use Rattle.papaya_call.specs.Compute.{fills, lacks, offered, chosen, provides, recalls}
+use Rattle.papaya_call.specs.Machine.{after, ask_of, asks, absent, at_root, left as next_or_end, passes, replaces, removes, computes, goes_as, written, agreed}
+use Rattle.papaya_rests.specs.Alone.{IsPut, IsMaking, IsSaying, IsPrompt, IsRead}
+use Rattle.papaya_rests.proofs.AloneSteps.{by_saying, exchange_done}
+use Rattle.papaya_alone.specs.Ahead.{IsAhead, IsAheadIn, IsGapAhead, IsPurposeAhead}
+use Rattle.papaya_alone.specs.Current.{IsIncremental}
+use Rattle.papaya_alone.specs.Measure.{further}
+use Rattle.papaya_alone.specs.Prompt.{IsNumber}
+use Rattle.papaya_alone.specs.Rank.{hops_of, left_of_search, rank, rank_in, rank_to_serve, table_of, unmade}
+
+-- what a search saw, with as much as may come of it
+abbrev rank_of_seen : Seen → ℕ
+rank_of_seen (seen.On search) = rank 2 (further (table_of search)) (left_of_search search)
+rank_of_seen (seen.Empty at) = rank 2 (further at.table) (2 ^ 68 + 16)
+rank_of_seen (seen.Here at word) = rank 2 (further at.table) (2 ^ 68 + 16)
+rank_of_seen (seen.Over t) = rank 2 (further t) (2 ^ 68 + 16)
+
+-- the table of a search, and of what it saw
+abbrev seen_in : Seen → ℕ
+seen_in (seen.On search) = table_of search
+seen_in (seen.Empty at) = at.table
+seen_in (seen.Here at word) = at.table
+seen_in (seen.Over t) = t
+
+-- no more is left than this, in the same table
+abbrev SeesIn : ℕ → ℕ → Seen → Type 0
+SeesIn most t s = (rank_of_seen s ≤ most) × (seen_in s ≡ t)
+
+-- a search goes on one place nearer its limit
+go_on_sees : (at : Place) → SeesIn (rank 2 (further at.table) (2 ^ 68 + 2 * (at.limit - at.probe.len) + 16)) at.table (go_on at)
+go_on_sees at =
+    cond_both (nat_lt at.probe.len at.limit) (seen.On (Looking (next_place at))) (seen.Over at.table)
+    (SeesIn (rank 2 (further at.table) (2 ^ 68 + 2 * (at.limit - at.probe.len) + 16)) at.table)
+    (λ more. let l : at.probe.len < at.limit = ltb-true at.probe.len at.limit more in (omega arith, refl))
+    (λ _. (omega arith, refl))
+
+-- a pair whose byte is the key's is compared first
+byte_sees : (at : Place) (hash word : ℕ) → SeesIn (rank 2 (further at.table) (2 ^ 68 + 2 * (at.limit - at.probe.len) + 17)) at.table (look_at word_kinds.Live at hash word)
+byte_sees at hash word =
+    cond_both (byte_of word == top_byte hash) (seen.On (Comparing at word)) (go_on at)
+    (SeesIn (rank 2 (further at.table) (2 ^ 68 + 2 * (at.limit - at.probe.len) + 17)) at.table)
+    (λ _. (omega arith, refl))
+    (λ _. let f = go_on_sees at in let l = f.0 in (omega (arith, l), f.1))
+
+-- what the word at a place tells
+look_sees : (kind : Kind) (at : Place) (hash word : ℕ) → SeesIn (rank 2 (further at.table) (2 ^ 68 + 2 * (at.limit - at.probe.len) + 17)) at.table (look_at kind at hash word)
+look_sees word_kinds.Empty at hash word = (omega arith, refl)
+look_sees word_kinds.Live at hash word = byte_sees at hash word
+look_sees word_kinds.Marked at hash word = byte_sees at hash word
+look_sees word_kinds.Copied at hash word = byte_sees at hash word
+look_sees word_kinds.Buried at hash word = let f = go_on_sees at in let l = f.0 in (omega (arith, l), f.1)
+look_sees word_kinds.Closed at hash word = let f = go_on_sees at in let l = f.0 in (omega (arith, l), f.1)
+
+-- a matching key ends the search
+match_sees : (kind : Kind) (at : Place) (word : ℕ) → SeesIn (rank 2 (further at.table) (2 ^ 68 + 16)) at.table (match_at kind at word)
+match_sees word_kinds.Empty at word = (omega arith, refl)
+match_sees word_kinds.Live at word = (omega arith, refl)
+match_sees word_kinds.Marked at word = (omega arith, refl)
+match_sees word_kinds.Copied at word = (omega arith, refl)
+match_sees word_kinds.Buried at word = (omega arith, refl)
+match_sees word_kinds.Closed at word = (omega arith, refl)
+
+-- and one that was compared
+compared_sees : (at : Place) (word : ℕ) (same : Bool) → SeesIn (rank 2 (further at.table) (2 ^ 68 + 2 * (at.limit - at.probe.len) + 16)) at.table (search_compared (Comparing at word) same)
+compared_sees at word true = let f = match_sees (kind_of word) at word in let l = f.0 in (omega (arith, l), f.1)
+compared_sees at word false = go_on_sees at
+
+-- a key and a pair at most are to be made
+pub unmade_most : (m : Made) → unmade m ≤ 2
+unmade_most Nothing = omega arith
+unmade_most Key = omega arith
+unmade_most (Pair n) = omega arith
+
+-- what is asked for a load is a number
+abbrev pub IsNumberAsked : (At → ℕ) → Ask → Type 0
+IsNumberAsked words (Load at) = IsNumber words at
+IsNumberAsked words _ = Unit {0}
+
+-- a first table is being opened
+abbrev pub IsOpening : State → Type 0
+IsOpening (Opening t) = Unit {0}
+IsOpening _ = ⊥
+
+module _ (made : Made) (how : ResizeMode) (words : At → ℕ) where
+  -- no more is left than this, and the call is at the root or behind it
+  abbrev pub Leads : ℕ → State → Type 0
+  Leads most s = (rank_in made s ≤ most) × IsAheadIn how words s
+
+  -- the same, of more
+  more : (a b : ℕ) (s : State) → a ≤ b → Leads a s → Leads b s
+  more a b s le f = let l = f.0 in (omega (arith, le, l), f.1)
+
+  -- a pair with the key is replaced
+  replaces_leads : (kind : Kind) (at : Place) (word : ℕ) → IsAhead how words at.table → Leads (rank 2 (further at.table) (2 ^ 68 + 3)) (replaces kind at word)
+  replaces_leads word_kinds.Empty at word h = (omega arith, h)
+  replaces_leads word_kinds.Live at word h = (omega (arith, unmade_most made), tt)
+  replaces_leads word_kinds.Marked at word h = (omega arith, h)
+  replaces_leads word_kinds.Copied at word h = (omega arith, h)
+  replaces_leads word_kinds.Buried at word h = (omega arith, h)
+  replaces_leads word_kinds.Closed at word h = (omega arith, h)
+
+  -- or removed
+  removes_leads : (kind : Kind) (at : Place) (word : ℕ) → IsAhead how words at.table → Leads (rank 2 (further at.table) (2 ^ 68 + 3)) (removes kind at word)
+  removes_leads word_kinds.Empty at word h = (omega arith, h)
+  removes_leads word_kinds.Live at word h = (omega arith, tt)
+  removes_leads word_kinds.Marked at word h = (omega arith, h)
+  removes_leads word_kinds.Copied at word h = (omega arith, h)
+  removes_leads word_kinds.Buried at word h = (omega arith, h)
+  removes_leads word_kinds.Closed at word h = (omega arith, h)
+
+  -- what is remembered of a pair is done, or its closure is shown it
+  recalls_leads : (choice : Option Choice) (at : Place) (word n : ℕ) → Leads (rank 2 0 0) (recalls choice at word n)
+  recalls_leads None at word n = (omega arith, tt)
+  recalls_leads (Some (choices.Replace old new)) at word n =
+      let put : Put = record { write = record { place = at; old = word }; pair = new } in
+      cond_both (old == n) (Putting put) (Showing (record { place = at; word = word })) (Leads (rank 2 0 0)) (λ _. (omega arith, tt)) (λ _. (omega arith, tt))
+  recalls_leads (Some (choices.Remove old)) at word n =
+      let removal : Removal = record { place = at; word = word } in
+      cond_both (old == n) (Burying removal) (Showing removal) (Leads (rank 2 0 0)) (λ _. (omega arith, tt)) (λ _. (omega arith, tt))
+
+  -- or shown to a closure
+  computes_leads : (kind : Kind) (held : Remembered) (at : Place) (word : ℕ) → IsAhead how words at.table → Leads (rank 2 (further at.table) (2 ^ 68 + 3)) (computes kind held at word)
+  computes_leads word_kinds.Empty held at word h = (omega arith, h)
+  computes_leads word_kinds.Live held at word h = more (rank 2 0 0) _ (recalls held.choice at word (pair_of word)) (omega arith) (recalls_leads held.choice at word (pair_of word))
+  computes_leads word_kinds.Marked held at word h = (omega arith, h)
+  computes_leads word_kinds.Copied held at word h = (omega arith, h)
+  computes_leads word_kinds.Buried held at word h = (omega arith, h)
+  computes_leads word_kinds.Closed held at word h = (omega arith, h)
+
+  -- a pair that was made goes where its key is absent
+  fills_leads : (gap : Gap) (n : ℕ) → IsGapAhead how words gap → Leads (rank 2 (hops_of gap) (2 ^ 68 + 3)) (fills gap n)
+  fills_leads gaps.NoRoot n h = (omega arith, tt)
+  fills_leads (gaps.At at) n h = (omega arith, tt)
+  fills_leads (gaps.After t) n h = (omega arith, h)
+
+  -- the key is absent
+  lacks_leads : (fill : Option ℕ) (gap : Gap) → IsGapAhead how words gap → Leads (rank 2 (hops_of gap) (2 ^ 68 + 10)) (lacks fill gap)
+  lacks_leads None gap h = (omega (arith, unmade_most made), h)
+  lacks_leads (Some n) gap h = more (rank 2 (hops_of gap) (2 ^ 68 + 3)) _ (fills gap n) (omega arith) (fills_leads gap n h)
+
+  absent_leads : (task : Task) (fill : Option ℕ) (gap : Gap) → IsGapAhead how words gap → Leads (rank 2 (hops_of gap) (2 ^ 68 + 10)) (absent task fill gap)
+  absent_leads Get fill gap h = (omega arith, tt)
+  absent_leads (Insert replace) fill gap h = (omega arith, tt)
+  absent_leads RemoveIf fill gap h = (omega arith, tt)
+  absent_leads Compute fill gap h = lacks_leads fill gap h
+
+module _ (made : Made) (words : At → ℕ) where
+  -- a table was passed
+  passes_leads : (how : ResizeMode) (task : Task) (fill : Option ℕ) (t : ℕ) → IsAhead how words t → Leads made how words (rank 2 (further t) (2 ^ 68 + 16)) (passes task how fill t)
+  passes_leads (Incremental chunk) task fill t h = (omega arith, (tt, h))
+  passes_leads Blocking task fill t h = more made Blocking words (rank 2 (further t) (2 ^ 68 + 10)) _ (absent task fill (gaps.After t)) (omega arith) (absent_leads made Blocking words task fill (gaps.After t) h)
+
+module _ (made : Made) (how : ResizeMode) (words : At → ℕ) where
+  -- where a search leads, no more is left than it saw
+  goes_leads : (task : Task) (held : Remembered) (s : Seen) → IsAhead how words (seen_in s) → Leads made how words (rank_of_seen s) (goes_as task how held s)
+  goes_leads task held (seen.On search) h = (omega arith, h)
+  goes_leads Get held (seen.Here at word) h = (omega arith, tt)
+  goes_leads (Insert false) held (seen.Here at word) h = (omega arith, tt)
+  goes_leads (Insert true) held (seen.Here at word) h = more made how words (rank 2 (further at.table) (2 ^ 68 + 3)) _ (replaces (kind_of word) at word) (omega arith) (replaces_leads made how words (kind_of word) at word h)
+  goes_leads RemoveIf held (seen.Here at word) h = more made how words (rank 2 (further at.table) (2 ^ 68 + 3)) _ (removes (kind_of word) at word) (omega arith) (removes_leads made how words (kind_of word) at word h)
+  goes_leads Compute held (seen.Here at word) h = more made how words (rank 2 (further at.table) (2 ^ 68 + 3)) _ (computes (kind_of word) held at word) (omega arith) (computes_leads made how words (kind_of word) held at word h)
+  goes_leads Get held (seen.Empty at) h = (omega arith, tt)
+  goes_leads (Insert replace) held (seen.Empty at) h = (omega (arith, unmade_most made), tt)
+  goes_leads RemoveIf held (seen.Empty at) h = (omega arith, tt)
+  goes_leads Compute held (seen.Empty at) h = more made how words (rank 2 (further at.table) (2 ^ 68 + 10)) _ (lacks held.fill (gaps.At at)) (omega arith) (lacks_leads made how words held.fill (gaps.At at) h)
+  goes_leads Get held (seen.Over t) h = passes_leads made words how Get held.fill t h
+  goes_leads (Insert replace) held (seen.Over t) h = (omega arith, h)
+  goes_leads RemoveIf held (seen.Over t) h = passes_leads made words how RemoveIf held.fill t h
+  goes_leads Compute held (seen.Over t) h = passes_leads made words how Compute held.fill t h
+
+  -- the root is where a call begins
+  at_root_ahead : (how : ResizeMode) (t : ℕ) → words Root ≡ t → IsAhead how words t
+  at_root_ahead (Incremental chunk) t is = omega (arith, is)
+  at_root_ahead Blocking t is = is
+
+  -- a call begins at the root
+  pub root_leads : (task : Task) (fill : Option ℕ) (word : ℕ) → words Root ≡ word → Leads made how words (rank 3 0 0 - 1) (at_root task fill word)
+  root_leads Get fill word is = cond_both (word == 0) (Ended Absent) (Searching (Sizing word)) (Leads made how words (rank 3 0 0 - 1)) (λ _. (omega arith, tt)) (λ _. (omega arith, at_root_ahead how word is))
+  root_leads (Insert replace) fill word is = cond_both (word == 0) Making (Searching (Sizing word)) (Leads made how words (rank 3 0 0 - 1)) (λ _. (omega arith, tt)) (λ _. (omega arith, at_root_ahead how word is))
+  root_leads RemoveIf fill word is = cond_both (word == 0) (Ended Absent) (Searching (Sizing word)) (Leads made how words (rank 3 0 0 - 1)) (λ _. (omega arith, tt)) (λ _. (omega arith, at_root_ahead how word is))
+  root_leads Compute fill word is =
+      cond_both (word == 0) (lacks fill gaps.NoRoot) (Searching (Sizing word)) (Leads made how words (rank 3 0 0 - 1))
+      (λ _. more made how words (rank 2 (2 ^ 32) (2 ^ 68 + 10)) _ (lacks fill gaps.NoRoot) (omega arith) (lacks_leads made how words fill gaps.NoRoot tt)) (λ _. (omega arith, at_root_ahead how word is))
+
+  -- the closure of a removal answered
+  agreed_leads : (removal : Removal) (agrees : Bool) → Leads made how words (rank 1 0 8) (agreed removal agrees)
+  agreed_leads removal true = (omega arith, tt)
+  agreed_leads removal false = (omega arith, tt)
+
+  -- a pair was written
+  written_leads : (write : Write) (n : ℕ) → Leads made how words (rank 1 0 0) (written write n)
+  written_leads write n = cond_both (write.old == 0) (Counting n) (Ended (Replaced (pair_of write.old) n)) (Leads made how words (rank 1 0 0)) (λ _. (omega arith, tt)) (λ _. (omega arith, tt))
+
+  -- what its closure answered leads on
+  offered_leads : (gap : Gap) (kind : OpKind) → IsGapAhead how words gap → Leads made how words (rank 2 (hops_of gap) (2 ^ 68 + 7)) (offered gap kind)
+  offered_leads gap op_kinds.Insert h = (omega (arith, unmade_most made), h)
+  offered_leads gap op_kinds.Remove h = (omega arith, tt)
+  offered_leads gap (op_kinds.Abort t) h = (omega arith, tt)
+
+  chosen_leads : (removal : Removal) (kind : OpKind) → Leads made how words (rank 1 0 8) (chosen removal kind)
+  chosen_leads removal op_kinds.Insert = (omega (arith, unmade_most made), tt)
+  chosen_leads removal op_kinds.Remove = (omega arith, tt)
+  chosen_leads removal (op_kinds.Abort t) = (omega arith, tt)
+
+-- something is left to a compute that makes its pair
+some_less : (made : Made) (purpose : Purpose) → 0 < rank_to_serve made purpose
+some_less made (purposes.Fill gap) = omega arith
+some_less made (purposes.Replace write) = omega arith
+
+-- the pair that a compute made leads on
+provides_leads : (made' made : Made) (how : ResizeMode) (words : At → ℕ) (purpose : Purpose) (n : ℕ) → IsPurposeAhead how words purpose → (rank_in made' (provides purpose n) < rank_to_serve made purpose) × IsAheadIn how words (provides purpose n)
+provides_leads made' made how words (purposes.Fill gap) n h = let f = fills_leads made' how words gap n h in let l = f.0 in (omega (arith, l), f.1)
+provides_leads made' made how words (purposes.Replace write) n h = (omega arith, tt)
+
+module _ (words words' : At → ℕ) (m : Machine) where
+  -- after this answer less is left, or a first table was opened; and the call is at the root or behind it
+  abbrev pub Ends : Made → State → Answer → Type 0
+  Ends made s answer =
+      let m' : Machine = after (record m { made = made; state = s }) answer in
+      (IsOpening s ⊎ (rank_in m'.made m'.state < rank_in made s)) × IsAheadIn m.mode words' m'.state
+
+  -- the root stays, and so does what is ahead of it
+  pub still_ahead : (how : ResizeMode) (t : ℕ) → words' Root ≡ words Root → IsAhead how words t → IsAhead how words' t
+  still_ahead (Incremental chunk) t same h = omega (arith, same, h)
+  still_ahead Blocking t same h = same ∙ h
+
+  still_gap : (gap : Gap) → words' Root ≡ words Root → IsGapAhead m.mode words gap → IsGapAhead m.mode words' gap
+  still_gap gaps.NoRoot same h = tt
+  still_gap (gaps.At at) same h = still_ahead m.mode at.table same h
+  still_gap (gaps.After t) same h = still_ahead m.mode t same h
+
+  still_purpose : (purpose : Purpose) → words' Root ≡ words Root → IsPurposeAhead m.mode words purpose → IsPurposeAhead m.mode words' purpose
+  still_purpose (purposes.Fill gap) same h = still_gap gap same h
+  still_purpose (purposes.Replace write) same h = tt
+
+  -- what was to be made was made, or refused
+  making_ends : (made : Made) (s : State) (answer : Answer) → IsMaking answer → ((n : ℕ) → Ends made s (Made_number n)) → ((refused : Refused) → Ends made s (Was_refused refused)) → Ends made s answer
+  making_ends made s answer told by_made by_refused =
+      ⊎_elim
+      (λ (h : (n : ℕ) × (answer ≡ Made_number n)). subst (Ends made s) (sym h.1) (by_made h.0))
+      (λ (h : (refused : Refused) × (answer ≡ Was_refused refused)). subst (Ends made s) (sym h.1) (by_refused h.0))
+      told
+
+  -- a search learns the size of its table
+  size_ends : (made : Made) (t : ℕ) (answer : Answer) → (slots : ℕ) × (limit : ℕ) × IsSize slots limit × (answer ≡ Size slots limit) → IsAhead m.mode words' t → Ends made (Searching (Sizing t)) answer
+  size_ends made t answer (slots, limit, size, e) h = let few : limit < 2 ^ 32 = size.few in subst (Ends made (Searching (Sizing t))) (sym e) (inr (omega arith), h)
+
+  -- an insertion's key is made, then its pair, then it is written
+  writing_ends : (made : Made) (write : Write) (answer : Answer) → IsRead words (Writing write) → IsPrompt m.task words (asks made m.hash (Writing write)) answer words' → Ends made (Writing write) answer
+  writing_ends Nothing write answer read told = making_ends Nothing (Writing write) answer told.0 (λ n. (inr (omega arith), tt)) (λ refused. (inr (omega arith), tt))
+  writing_ends Key write answer read told = making_ends Key (Writing write) answer told.0 (λ n. (inr (omega arith), tt)) (λ refused. (inr (omega arith), tt))
+  writing_ends (Pair n) write answer read told =
+      let at : At = Slot write.place.table write.place.probe.i in
+      let done : (answer ≡ Exchanged) × IsPut words at _ words' = exchange_done _ _ (words at) write.old read told in
+      let f = written_leads (Pair n) m.mode words' write n in
+      let l = f.0 in
+      subst (Ends (Pair n) (Writing write)) (sym done.0) (inr (omega (arith, l)), f.1)
+
+  -- a compute's key is made, once, and then its pair
+  pairing_ends : (made : Made) (purpose : Purpose) (answer : Answer) → IsPurposeAhead m.mode words purpose → IsPrompt m.task words (asks made m.hash (Pairing purpose)) answer words' → Ends made (Pairing purpose) answer
+  pairing_ends Nothing purpose answer h told = making_ends Nothing (Pairing purpose) answer told.0 (λ n. (inr (key_less purpose), still_purpose purpose (told.1 Root) h)) (λ refused. (inr (some_less Nothing purpose), tt))
+    where
+      key_less : (purpose : Purpose) → rank_to_serve Key purpose < rank_to_serve Nothing purpose
+      key_less (purposes.Fill gap) = omega arith
+      key_less (purposes.Replace write) = omega arith
+  pairing_ends Key purpose answer h told = making_ends Key (Pairing purpose) answer told.0 (λ n. let f = provides_leads Key Key m.mode words' purpose n (still_purpose purpose (told.1 Root) h) in (inr f.0, f.1)) (λ refused. (inr (some_less Key purpose), tt))
+  pairing_ends (Pair k) purpose answer h told = making_ends (Pair k) (Pairing purpose) answer told.0 (λ n. let f = provides_leads (Pair k) (Pair k) m.mode words' purpose n (still_purpose purpose (told.1 Root) h) in (inr f.0, f.1)) (λ refused. (inr (some_less (Pair k) purpose), tt))
+
+  -- a closure was shown a pair
+  showing_ends : (made : Made) (removal : Removal) (answer : Answer) → IsSaying m.task answer → Ends made (Showing removal) answer
+  showing_ends made removal answer told =
+      by_saying (λ task said. let m' : Machine = after (record m { task = task; made = made; state = Showing removal }) said in (⊥ ⊎ (rank_in m'.made m'.state < rank 1 0 9)) × IsAheadIn m.mode words' m'.state)
+      (λ agrees. let f = agreed_leads made m.mode words' removal agrees in let l = f.0 in (inr (omega (arith, l)), f.1))
+      (λ kind. let f = chosen_leads made m.mode words' removal kind in let l = f.0 in (inr (omega (arith, l)), f.1)) m.task answer told
+
+  -- a next table is further on
+  next_ends : (made : Made) (how : ResizeMode) (t word : ℕ) → IsIncremental how → IsAhead how words' t → (word ≡ 0) ⊎ ((t < word) × (word < 2 ^ 32)) → (rank_in made (next_or_end m.task m.remembered.fill t word) < rank 2 (further t) (2 ^ 68 + 16)) × IsAheadIn how words' (next_or_end m.task m.remembered.fill t word)
+  next_ends made (Incremental chunk) t word inc h number =
+      cond_both (word == 0) (absent m.task m.remembered.fill (gaps.After t)) (Searching (Sizing word)) (λ s. (rank_in made s < rank 2 (further t) (2 ^ 68 + 16)) × IsAheadIn (Incremental chunk) words' s)
+      (λ none. let f = absent_leads made (Incremental chunk) words' m.task m.remembered.fill (gaps.After t) h in let l = f.0 in (omega (arith, l), f.1))
+      (λ some.
+      ⊎_elim
+      (λ (none : word ≡ 0). absurd (let y : (word == 0) ≡ true = ap (λ n. n == 0) none in cc (y, some)))
+      (λ (up : (t < word) × (word < 2 ^ 32)). let a = up.0 in let b = up.1 in (omega (arith, a, b), omega (arith, a, h)))
+      number)
+  next_ends made Blocking t word inc h number = absurd inc
+
+  -- in each state
+  ends_in : (made : Made) (s : State) (answer : Answer) → IsRead words s → IsAheadIn m.mode words s → IsNumberAsked words (asks made m.hash s) → IsPrompt m.task words (asks made m.hash s) answer words' → Ends made s answer
+  ends_in made AtRoot answer read h number told =
+      let f = root_leads made m.mode words' m.task m.remembered.fill (words Root) (told.1 Root) in
+      let l = f.0 in
+      subst (Ends made AtRoot) (sym told.0) (inr (omega (arith, l)), f.1)
+  ends_in made Making answer read h number told = making_ends made Making answer told.0 (λ n. (inr (omega arith), tt)) (λ refused. (inr (omega arith), tt))
+  ends_in made (Opening t) answer read h number told =
+      let done : (answer ≡ Exchanged) × IsPut words Root t words' = exchange_done _ _ (words Root) 0 read told in
+      subst (Ends made (Opening t)) (sym done.0) (inl tt, at_root_ahead made m.mode words' m.mode t done.1.here)
+  ends_in made (Searching (Sizing t)) answer read h number told = size_ends made t answer told.0 (still_ahead m.mode t (told.1 Root) h)
+  ends_in made (Searching (Looking at)) answer read h number told =
+      let word : ℕ = words (Slot at.table at.probe.i) in
+      let a = look_sees (kind_of word) at m.hash word in
+      let b = goes_leads made m.mode words' m.task m.remembered (look at m.hash word) (subst (IsAhead m.mode words') (sym a.1) (still_ahead m.mode at.table (told.1 Root) h)) in
+      let i = a.0 in
+      let j = b.0 in
+      subst (Ends made (Searching (Looking at))) (sym told.0) (inr (omega (arith, i, j)), b.1)
+  ends_in made (Searching (Comparing at word)) answer read h number told =
+      let same : Bool = told.0.0 in
+      let a = compared_sees at word same in
+      let b = goes_leads made m.mode words' m.task m.remembered (search_compared (Comparing at word) same) (subst (IsAhead m.mode words') (sym a.1) (still_ahead m.mode at.table (told.1 Root) h)) in
+      let i = a.0 in
+      let j = b.0 in
+      subst (Ends made (Searching (Comparing at word))) (sym told.0.1) (inr (omega (arith, i, j)), b.1)
+  ends_in made (Writing write) answer read h number told = writing_ends made write answer read told
+  ends_in made (Offering gap) answer read h number told =
+      let f = offered_leads made m.mode words' gap told.0.0 (still_gap gap (told.1 Root) h) in
+      let l = f.0 in
+      subst (Ends made (Offering gap)) (sym told.0.1) (inr (omega (arith, l)), f.1)
+  ends_in made (Showing removal) answer read h number told = showing_ends made removal answer told.0
+  ends_in made (Pairing purpose) answer read h number told = pairing_ends made purpose answer h told
+  ends_in made (Putting put) answer read h number told =
+      let at : At = Slot put.write.place.table put.write.place.probe.i in
+      let done : (answer ≡ Exchanged) × IsPut words at _ words' = exchange_done _ _ (words at) put.write.old read told in
+      let f = written_leads made m.mode words' put.write put.pair in
+      let l = f.0 in
+      subst (Ends made (Putting put)) (sym done.0) (inr (omega (arith, l)), f.1)
+  ends_in made (Burying removal) answer read h number told =
+      let at : At = Slot removal.place.table removal.place.probe.i in
+      let done : (answer ≡ Exchanged) × IsPut words at _ words' = exchange_done _ _ (words at) removal.word read told in
+      subst (Ends made (Burying removal)) (sym done.0) (inr (omega arith), tt)
+  ends_in made (Counting n) answer read h number told = subst (Ends made (Counting n)) (sym told.0) (inr (omega arith), tt)
+  ends_in made (Uncounting n) answer read h number told = subst (Ends made (Uncounting n)) (sym told.0) (inr (omega arith), tt)
+  ends_in made (Leaving t) answer read h number told =
+      let f = next_ends made m.mode t (words (Next t)) h.0 (still_ahead m.mode t (told.1 Root) h.1) number in
+      subst (Ends made (Leaving t)) (sym told.0) (inr f.0, f.1)
+  ends_in made (Growing need) answer read h number told = subst (Ends made (Growing need)) (sym told.0) (inr (omega arith), tt)
+  ends_in made (Ended reply) answer read h number told = absurd told
+
+  -- of the machine
+  pub call_ends : (answer : Answer) → IsRead words m.state → IsAheadIn m.mode words m.state → IsNumberAsked words (ask_of m) → IsPrompt m.task words (ask_of m) answer words' → Ends m.made m.state answer
+  call_ends answer read h number told = ends_in m.made m.state answer read h number told

@@ -1,0 +1,82 @@
+-- A call over a chain of tables, with no other caller beside it, comes to an end.
+use Rattle.std.proofs.Common.{◌≡◌, ◌⊎◌, ◌^◌, ◌<◌, Option, Some, List, ◌++◌, append_assoc, refl, sym, ap, ◌∙◌, subst, arith}
+use Rattle.papaya_ask.specs.declared.ask.Ask.{Ask as Call_ask}
+use Rattle.papaya_ask.specs.declared.ask.Ask.TheVariants as call_asks
+use Rattle.papaya_ask.specs.declared.ask.Answer.{Answer as Call_answer}
+use Rattle.papaya_ask.specs.declared.ask.Answer.TheVariants.{Exchanged, Made as Made_number}
+use Rattle.papaya_ask.specs.declared.ask.StepKind.{StepKind}
+use Rattle.papaya_ask.specs.declared.ask.StepKind.TheVariants.{Replace}
+use Rattle.papaya_ask.specs.declared.copy_ask.CopyAsk.{CopyAsk}
+use Rattle.papaya_ask.specs.declared.copy_ask.CopyAsk.TheVariants as copy_asks
+use Rattle.papaya_chain.specs.declared.ask.Ask.{Ask}
+use Rattle.papaya_chain.specs.declared.ask.Ask.TheVariants as asks
+use Rattle.papaya_chain.specs.declared.ask.Answer.TheVariants as answers
+use Rattle.papaya_chain.specs.declared.ask.Answer.{Answer}
+use Rattle.papaya_chain.specs.declared.machine.Machine.{Machine}
+use Rattle.papaya_chain.specs.Machine.{IsStanding, after, ask_of, follows_of, kind_of_ask}
+use Rattle.papaya_law.specs.Allows.{AllAllowed}
+use Rattle.papaya_law.specs.Code.{Coding, IsHashed}
+use Rattle.papaya_law.specs.Exchange.{Setting, Exchange, run, start}
+use Rattle.papaya_law.proofs.Moments.{run-append}
+use Rattle.papaya_rests.specs.Told.{word_of}
+use Rattle.papaya_chain_rests.specs.Rests.{Rests}
+use Rattle.papaya_chain_rests.specs.Told.{Hands, IsTold}
+use Rattle.papaya_alone.specs.Ahead.{IsCurrent}
+use Rattle.papaya_alone.specs.Budget.{Budget, IsSpent, Spends, SpendsCall, SpendsCopy, SpendsExchange}
+use Rattle.papaya_alone.specs.Prompt.{IsBounded, IsServedAsk}
+use Rattle.papaya_alone.specs.Rank.{measure, rank_of}
+use Rattle.papaya_alone.proofs.MachineLaw.{phase_falls}
+use Rattle.papaya_alone.proofs.Measures.{measure_less, rank_small}
+
+-- each answer spends of some budget
+abbrev a_table : Budget
+a_table = record { tables = 1; exchanges = 0 }
+
+abbrev an_exchange : Budget
+an_exchange = record { tables = 0; exchanges = 1 }
+
+abbrev nothing_left : Budget
+nothing_left = record { tables = 0; exchanges = 0 }
+
+some_exchange : (kind : Option StepKind) → (before : Budget) × (later : Budget) × SpendsExchange kind before later
+some_exchange (Some Replace) = (nothing_left, nothing_left, refl)
+some_exchange kind = (an_exchange, nothing_left, (refl, omega arith))
+
+some_call : (kind : Option StepKind) (ask : Call_ask) (answer : Call_answer) → (before : Budget) × (later : Budget) × SpendsCall kind ask answer before later
+some_call kind (call_asks.MakeTable slots limit) (Made_number n) = (a_table, nothing_left, omega arith)
+some_call kind (call_asks.Exchange at old new) Exchanged = some_exchange kind
+some_call kind ask answer = (nothing_left, nothing_left, refl)
+
+some_copy : (ask : CopyAsk) (answer : Answer) → (before : Budget) × (later : Budget) × SpendsCopy ask answer before later
+some_copy (copy_asks.MakeTable slots limit) (answers.Call (Made_number n)) = (a_table, nothing_left, omega arith)
+some_copy (copy_asks.Exchange at old new) (answers.Call Exchanged) = (an_exchange, nothing_left, (refl, omega arith))
+some_copy ask answer = (nothing_left, nothing_left, refl)
+
+-- of some budget each answer spends
+pub some_budget : (kind : Option StepKind) (ask : Ask) (answer : Answer) → (before : Budget) × (later : Budget) × Spends kind ask answer before later
+some_budget kind (asks.Call ask) (answers.Call told) = some_call kind ask told
+some_budget kind (asks.Call ask) (answers.Hash hash) = (nothing_left, nothing_left, refl)
+some_budget kind (asks.Call ask) (answers.Count count) = (nothing_left, nothing_left, refl)
+some_budget kind (asks.Copy ask) answer = some_copy ask answer
+
+module _ {K P : Type 0} (g : Setting K P) (c : Coding K P) (hashed : IsHashed g c) (begun since : List (Exchange P)) (may : AllAllowed g start (begun ++ since)) (bounded : IsBounded g (run (begun ++ since) start)) (k : K) (m : Machine) (hands : Hands P) (r : Rests g c begun since k m hands) (current : IsCurrent (word_of g c (run (begun ++ since) start)) m) (answer : Answer) (es : List (Exchange P)) (hands' : Hands P) (told : IsTold g c k (run (begun ++ since) start) (kind_of_ask m) (follows_of m) hands (ask_of m) answer es hands') (served : IsServedAsk m.call.task (ask_of m) answer) where
+  -- the state comes from all exchanges
+  reaches : run es (run (begun ++ since) start) ≡ run (begun ++ (since ++ es)) start
+  reaches = sym (run-append (begun ++ since) es start) ∙ ap (λ l. run l start) (append_assoc begun since es)
+
+  -- the budget is spent, or less is left; and what was read stands there still
+  falls : (before later : Budget) → Spends (kind_of_ask m) (ask_of m) answer before later
+      → (IsSpent before later ⊎ ((later ≡ before) × (rank_of (run (begun ++ (since ++ es)) start).root (after m answer) < rank_of (run (begun ++ since) start).root m))) × IsCurrent (word_of g c (run (begun ++ (since ++ es)) start)) (after m answer)
+  falls before later spends =
+      subst (λ s. (IsSpent before later ⊎ ((later ≡ before) × (rank_of s.root (after m answer) < rank_of (run (begun ++ since) start).root m))) × IsCurrent (word_of g c s) (after m answer)) reaches
+      (phase_falls g c hashed begun since may k bounded hands m.helped m.call r.call answer es hands' before later m.phase r.phase current told served spends)
+
+  -- the measure falls
+  pub call_nears : (before later : Budget) → Spends (kind_of_ask m) (ask_of m) answer before later → later.exchanges < 2 ^ 128 → IsStanding (after m answer) → measure later (run (begun ++ (since ++ es)) start).root (after m answer) < measure before (run (begun ++ since) start).root m
+  call_nears before later spends few standing =
+      let small = rank_small (run (begun ++ (since ++ es)) start).root (after m answer) standing in
+      measure_less before later (rank_of (run (begun ++ since) start).root m) (rank_of (run (begun ++ (since ++ es)) start).root (after m answer)) few (omega (arith, small)) (falls before later spends).0
+
+  -- what was read stands there still
+  pub call_current : IsCurrent (word_of g c (run (begun ++ (since ++ es)) start)) (after m answer)
+  call_current = let (before, later, spends) = some_budget (kind_of_ask m) (ask_of m) answer in (falls before later spends).1

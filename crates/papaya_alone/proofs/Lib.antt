@@ -1,0 +1,20 @@
+-- what each answer leaves to a copy
+pub mod Telling
+pub mod Afters
+pub mod LinkEnds
+pub mod CarryEnds
+pub mod SettleEnds
+pub mod StepEnds
+pub mod CopyEnds
+pub mod CopyPrompts
+pub mod CopyLaw
+pub mod CallRanks
+pub mod CallPrompts
+pub mod Onwards
+pub mod CallLaw
+pub mod AsideRanks
+pub mod AsideCopies
+pub mod MachineLaw
+pub mod Measures
+pub mod ChainLaw
+pub mod CopierLaw

@@ -1,0 +1,57 @@
+-- What each answer leaves to the making of a table.
+use Rattle.std.proofs.Common.{◌≡◌, inl, inr, ℕ, ◌^◌, nat_le, sym, ◌∙◌, subst, arith}
+use Rattle.std.proofs.lemmas.Bool.{cond_both}
+use Rattle.papaya_words.specs.Table.{length_after}
+use Rattle.papaya_words.specs.declared.probe.Refused.TheVariants.{Capacity}
+use Rattle.papaya_ask.specs.declared.ask.At.{At}
+use Rattle.papaya_ask.specs.declared.ask.At.TheVariants.{Next}
+use Rattle.papaya_ask.specs.declared.ask.At.TheVariants as words_at
+use Rattle.papaya_ask.specs.declared.ask.Answer.TheVariants.{Exchanged}
+use Rattle.papaya_copy.specs.declared.link.Link.{Link}
+use Rattle.papaya_copy.specs.declared.link.Link.TheVariants as links
+use Rattle.papaya_copy.specs.declared.link.Linked.TheVariants as linked
+use Rattle.papaya_copy.specs.Link.{link_ask, making}
+use Rattle.papaya_chain.specs.declared.ask.Answer.{Answer}
+use Rattle.papaya_chain.specs.declared.ask.Answer.TheVariants as answers
+use Rattle.papaya_chain.specs.Machine.{link_after}
+use Rattle.papaya_rests.specs.Alone.{IsPut}
+use Rattle.papaya_rests.proofs.AloneSteps.{exchange_done}
+use Rattle.papaya_alone.specs.Prompt.{IsCopyPrompt}
+use Rattle.papaya_alone.specs.Measure.{left_of_link, left_of_linked}
+use Rattle.papaya_alone.specs.Current.{IsLinkRead, IsLinkedRead}
+use Rattle.papaya_alone.proofs.Telling.{IsPutAt, Nears, by_making}
+
+-- it exchanges a next table alone
+abbrev pub IsNoNext : At → Type 0
+IsNoNext (words_at.Next t) = ⊥
+IsNoNext _ = Unit {0}
+
+pub link_puts : (link : Link) (other : At) → IsNoNext other → IsPutAt (link_ask link) other → ⊥
+link_puts (links.Sizing behind unfit) other h e = e
+link_puts (links.Counting behind unfit len) other h e = e
+link_puts (links.Making behind len limit) other h e = e
+link_puts (links.Linking behind table) other h e = subst IsNoNext e h
+
+module _ (words words' : At → ℕ) (initial : ℕ) where
+  -- after this answer
+  abbrev pub LinkEnds : Link → Answer → Type 0
+  LinkEnds link answer = Nears answer (left_of_linked (link_after link initial answer)) (left_of_link link) × IsLinkedRead words' (link_after link initial answer)
+
+  -- in each state
+  pub link_ends : (link : Link) (answer : Answer) → IsLinkRead words link → IsCopyPrompt words (link_ask link) answer words' → LinkEnds link answer
+  link_ends (links.Sizing behind unfit) answer read told =
+      let (slots, limit, size, e) = told.0 in
+      subst (LinkEnds (links.Sizing behind unfit)) (sym e) (inr (omega arith), told.1 (Next behind) ∙ read)
+  link_ends (links.Counting behind unfit len) answer read told =
+      let asked : ℕ = length_after len told.0.0 initial unfit in
+      subst (LinkEnds (links.Counting behind unfit len)) (sym told.0.1)
+      (cond_both (nat_le asked (2 ^ 32)) (linked.On (making behind len unfit asked)) (linked.Refused Capacity) (λ l. Nears (answers.Count told.0.0) (left_of_linked l) 3 × IsLinkedRead words' l)
+      (λ fits. (inr (omega arith), told.1 (Next behind) ∙ read))
+      (λ over. (inr (omega arith), tt)))
+  link_ends (links.Making behind len limit) answer read told =
+      by_making (LinkEnds (links.Making behind len limit)) answer told.0
+      (λ n. (inl tt, told.1 (Next behind) ∙ read))
+      (λ refused. (inr (omega arith), tt))
+  link_ends (links.Linking behind table) answer read told =
+      let done : (answer ≡ answers.Call Exchanged) × IsPut words (Next behind) table words' = exchange_done _ _ (words (Next behind)) 0 read told in
+      subst (LinkEnds (links.Linking behind table)) (sym done.0) (inl tt, tt)

@@ -1,0 +1,226 @@
+-- A call over a chain of tables, with no other caller beside it, comes nearer its end with each answer.
+use Rattle.std.proofs.Common.{◌≡◌, ◌⊎◌, inl, inr, ⊎_elim, ℕ, suc, ◌<◌, ◌≤◌, Bool, true, false, Some, List, ◌++◌, refl, sym, ap, ◌∙◌, subst, arith}
+use Rattle.std.proofs.lemmas.Bool.{cases_lt, cases_order}
+use Rattle.papaya_words.specs.declared.probe.ResizeMode.{ResizeMode}
+use Rattle.papaya_words.specs.declared.probe.ResizeMode.TheVariants.{Incremental, Blocking}
+use Rattle.papaya_ask.specs.declared.ask.At.{At}
+use Rattle.papaya_call.specs.declared.machine.Machine.{Machine as Call_machine}
+use Rattle.papaya_copy.specs.declared.copying.Aim.TheVariants as aims
+use Rattle.papaya_copy.specs.declared.copying.Copying.{Copying}
+use Rattle.papaya_copy.specs.declared.copying.Copying.TheVariants as copyings
+use Rattle.papaya_copy.specs.declared.link.Link.{Link}
+use Rattle.papaya_copy.specs.declared.step.Step.TheVariants as steps
+use Rattle.papaya_copy.specs.Link.{follows, link_ask, link_kind}
+use Rattle.papaya_copy.specs.Copying.{copying_ask, copying_follows, copying_kind}
+use Rattle.papaya_chain.specs.declared.ask.Answer.{Answer}
+use Rattle.papaya_chain.specs.declared.ask.Answer.TheVariants as answers
+use Rattle.papaya_chain.specs.declared.machine.Machine.{Machine}
+use Rattle.papaya_chain.specs.declared.machine.Phase.{Phase}
+use Rattle.papaya_chain.specs.declared.machine.Phase.TheVariants.{Calling, Linking, Copying as Copying_root}
+use Rattle.papaya_chain.specs.Machine.{after, ask_of, follows_of, kind_of_ask}
+use Rattle.papaya_law.specs.Allows.{AllAllowed}
+use Rattle.papaya_law.specs.Class.{IsOn}
+use Rattle.papaya_law.specs.Code.{Coding, IsHashed}
+use Rattle.papaya_law.specs.Copying.{IsTarget}
+use Rattle.papaya_law.specs.Exchange.{Setting, State, Exchange, run, start, walk}
+use Rattle.papaya_law.specs.Invariant.{IsKeeping, IsSound}
+use Rattle.papaya_law.specs.Meaning.{map_left}
+use Rattle.papaya_law.proofs.Chain.{has_next, none_between, pos_before}
+use Rattle.papaya_law.proofs.OneMap.{keeping, keeping_sound}
+use Rattle.papaya_rests.specs.Copier.{RestsCopying, RestsLinked, aim_of}
+use Rattle.papaya_rests.specs.Rests as calls
+use Rattle.papaya_rests.specs.Rests.{IsModeOf}
+use Rattle.papaya_rests.specs.Told.{word_of}
+use Rattle.papaya_rests.proofs.CopierCopies.{copying_there, link_there}
+use Rattle.papaya_rests.proofs.CopierExchange.{copying_may, link_may}
+use Rattle.papaya_rests.proofs.RestsNames.{come_on}
+use Rattle.papaya_chain_rests.specs.Rests.{IsLinking, RestsPhase, left_by}
+use Rattle.papaya_chain_rests.specs.Told.{Hands, IsCopyTold, IsTold}
+use Rattle.papaya_chain_rests.proofs.Aside.{left_come}
+use Rattle.papaya_chain_rests.proofs.Making.{link_learns}
+use Rattle.papaya_alone.specs.Ahead.{IsAsideAhead, IsPhaseRead}
+use Rattle.papaya_alone.specs.Budget.{Budget, Spends, SpendsCopy}
+use Rattle.papaya_alone.specs.Current.{IsCopyingRead, IsIncremental}
+use Rattle.papaya_alone.specs.Prompt.{IsBounded, IsCopyPrompt, IsServedAsk}
+use Rattle.papaya_alone.specs.Rank.{rank_of_phase}
+use Rattle.papaya_alone.proofs.AsideCopies.{IsFor, IsKnown, aims_one, copying_lowers}
+use Rattle.papaya_alone.proofs.AsideRanks.{Lowers, linking_lowers}
+use Rattle.papaya_alone.proofs.CallLaw.{call_lowers}
+use Rattle.papaya_alone.proofs.CallPrompts.{asked_number, call_prompt}
+use Rattle.papaya_alone.proofs.CopyPrompts.{told_prompt, words_bare}
+use Rattle.papaya_alone.proofs.Onwards.{AimsAt, aims_at}
+
+module _ {K P : Type 0} (g : Setting K P) (s : State P) (sound : IsSound g s) where
+  -- where a table is on the chain there is a root
+  pub root_on : (t : ℕ) → IsOn s.first s.next t → IsOn s.first s.next s.root
+  root_on t (some, (k, is)) =
+      ⊎_elim
+      (λ (none : (s.root ≡ 0) × (s.first ≡ 0)). let first : 0 < s.first = pos_before s.next sound.rises 0 k s.first (omega arith) (subst (λ n. 0 < n) (sym is) some) in let z = none.1 in absurd (omega (arith, first, z)))
+      (λ (on : IsOn s.first s.next s.root). on)
+      sound.root
+
+  -- the root's next table is no later than that of a table behind it
+  pub root_next : (t : ℕ) → IsOn s.first s.next t → s.root ≤ t → 0 < s.next t → (0 < s.next s.root) × (s.next s.root ≤ s.next t)
+  root_next t on least some =
+      ⊎_elim
+      (λ (same : s.root ≡ t). (subst (λ y. 0 < s.next y) (sym same) some, let e : s.next s.root ≡ s.next t = ap s.next same in omega (arith, e)))
+      (⊎_elim
+      (λ (less : s.root < t).
+      let up : (s.next t ≡ 0) ⊎ ((0 < t) × (t < s.next t)) = sound.rises t in
+      let more : t < s.next t = ⊎_elim (λ (none : s.next t ≡ 0). absurd (omega (arith, none, some))) (λ (h : (0 < t) × (t < s.next t)). h.1) up in (
+        has_next s.next sound.rises s.first s.root t (root_on t on) on less,
+        ⊎_elim
+            (λ (h : s.next s.root ≤ t). omega (arith, h, more))
+            (λ (h : t < s.next s.root). absurd (none_between s.next sound.rises s.first s.root t (root_on t on) on less h))
+            (at_most (s.next s.root) t),
+      ))
+      (λ (more : t < s.root). absurd (omega (arith, more, least))))
+      (cases_order s.root t)
+    where
+      at_most : (a b : ℕ) → (a ≤ b) ⊎ (b < a)
+      at_most a b = ⊎_elim (λ (h : b < a). inr h) (λ (h : a ≤ b). inl h) (cases_lt b a)
+
+-- a mode without blocking, and with it
+pub incremental : (how : ResizeMode) (blocking : Bool) → IsModeOf how blocking → blocking ≡ false → IsIncremental how
+incremental (Incremental chunk) blocking is e = tt
+incremental Blocking blocking is e = absurd (cc (is, e))
+
+pub blocks : (how : ResizeMode) (blocking : Bool) → IsModeOf how blocking → blocking ≡ true → how ≡ Blocking
+blocks (Incremental chunk) blocking is e = absurd (cc (is, e))
+blocks Blocking blocking is e = refl
+
+module _ {K P : Type 0} (g : Setting K P) (c : Coding K P) (hashed : IsHashed g c) (begun since : List (Exchange P)) (may : AllAllowed g start (begun ++ since)) (k : K) (bounded : IsBounded g (run (begun ++ since) start)) (hands : Hands P) (helped : Bool) (call : Call_machine) (r : calls.Rests g c begun since k call hands.call) (answer : Answer) (es : List (Exchange P)) (hands' : Hands P) (before later : Budget) where
+  -- the state, and the words before the answer and after it
+  abbrev now : State P
+  now = run (begun ++ since) start
+
+  abbrev words : At → ℕ
+  words = word_of g c now
+
+  abbrev words' : At → ℕ
+  words' = word_of g c (run es now)
+
+  -- the state keeps the map
+  keeps : IsKeeping g now (map_left g (begun ++ since))
+  keeps = keeping g hashed.lawful (begun ++ since) may
+
+  -- and is sound
+  sound : IsSound g now
+  sound = keeping_sound g now (map_left g (begun ++ since)) keeps
+
+  -- the machine in a phase
+  abbrev at_phase : Phase → Machine
+  at_phase phase = record { call = call; helped = helped; phase = phase }
+
+  -- the budget is spent, or less is left; and what was read stands there still
+  abbrev pub Falls : Phase → Type 0
+  Falls phase = Lowers words words' before later (at_phase phase) (rank_of_phase now.root call phase) (after (at_phase phase) answer)
+
+  -- a table that a call was set aside in is on the chain
+  left_on : (t : ℕ) → left_by call.state ≡ Some t → IsOn now.first now.next t
+  left_on t e = come_on g c hashed begun since may k t (left_come g c hashed begun since may k hands.call call.task call.state r.stage t e)
+
+  -- it asks for itself
+  calling_falls : IsPhaseRead call.mode words call.state Calling → IsTold g c k now (kind_of_ask (at_phase Calling)) (follows_of (at_phase Calling)) hands (ask_of (at_phase Calling)) answer es hands' → IsServedAsk call.task (ask_of (at_phase Calling)) answer → Spends (kind_of_ask (at_phase Calling)) (ask_of (at_phase Calling)) answer before later → Falls Calling
+  calling_falls read told served spends =
+      let is : answer ≡ answers.Call told.told = told.is in
+      subst (λ a. IsServedAsk call.task (ask_of (at_phase Calling)) a → Spends (kind_of_ask (at_phase Calling)) (ask_of (at_phase Calling)) a before later → Lowers words words' before later (at_phase Calling) (rank_of_phase now.root call Calling) (after (at_phase Calling) a)) (sym is)
+      (λ serves spent. call_lowers words words' (words_bare g c now) before later helped call read.0 read.1 (asked_number g c hashed begun since may k bounded call hands.call r) told.told
+      (call_prompt g c hashed begun since may k bounded call hands.call r told.told es told.call serves told.tells) spent)
+      served spends
+
+  -- its next table is made
+  linking_falls : (link : Link) → IsLinking g c begun since k (at_phase (Linking link)) link → IsPhaseRead call.mode words call.state (Linking link) → IsCopyTold g c now (link_kind link) (follows link) hands (link_ask link) answer es hands' → SpendsCopy (link_ask link) answer before later → Falls (Linking link)
+  linking_falls link at read told spends =
+      let prompt : IsCopyPrompt words (link_ask link) answer words' =
+      told_prompt g c hashed now (map_left g (begun ++ since)) keeps bounded hands (link_kind link) (follows link) (link_ask link)
+      (link_there g c hashed now (map_left g (begun ++ since)) keeps hands.call.last hands.kept link at.rests)
+      (link_may g c hashed now (map_left g (begun ++ since)) keeps hands.call.last hands.kept link at.rests) answer es hands' told
+      in
+      let out = link_learns g c hashed begun since may k call.initial hands link at.rests answer es hands' told in
+      let later_sound : IsSound g (run (begun ++ (since ++ es)) start) = keeping_sound g (run (begun ++ (since ++ es)) start) (map_left g (begun ++ (since ++ es))) (keeping g hashed.lawful (begun ++ (since ++ es)) out.0) in
+      linking_lowers words words' before later (at_phase (Linking link)) read.0 link read.1 read.2 at.left answer prompt spends
+      (λ table e.
+      let led : ((run (begun ++ (since ++ es)) start).next (follows link) ≡ table) × (0 < table) = subst (RestsLinked g c (run (begun ++ (since ++ es)) start) hands'.call.last hands'.kept (follows link)) e out.1 in
+      let next = led.0 in
+      let some = led.1 in
+      ⊎_elim
+      (λ (none : (run (begun ++ (since ++ es)) start).next (follows link) ≡ 0). absurd (omega (arith, none, next, some)))
+      (λ (h : (0 < follows link) × (follows link < (run (begun ++ (since ++ es)) start).next (follows link))). let up = h.1 in omega (arith, up, next))
+      (later_sound.rises (follows link)))
+
+  -- the root is copied
+  module _ (copying : Copying) (rests : RestsCopying g c now hands.call.last hands.kept copying) (told : IsCopyTold g c now (copying_kind copying) (copying_follows copying) hands (copying_ask copying) answer es hands') where
+    -- what is told of the words is what they answer
+    copy_prompt : IsCopyPrompt words (copying_ask copying) answer words'
+    copy_prompt =
+        told_prompt g c hashed now (map_left g (begun ++ since)) keeps bounded hands (copying_kind copying) (copying_follows copying) (copying_ask copying)
+        (copying_there g c hashed now (map_left g (begun ++ since)) keeps hands.call.last hands.kept copying rests)
+        (copying_may g c hashed now (map_left g (begun ++ since)) keeps hands.call.last hands.kept copying rests) answer es hands' told
+
+    -- what is known of the words then
+    copying_falls : IsFor (at_phase (Copying_root copying)) (aim_of copying) → IsPhaseRead call.mode words call.state (Copying_root copying) → IsKnown call.mode words copying → SpendsCopy (copying_ask copying) answer before later → Falls (Copying_root copying)
+    copying_falls which read known spends = copying_lowers words words' (words_bare g c now) (words_bare g c (run es now)) before later (at_phase (Copying_root copying)) copying answer which read.1 read.0 known copy_prompt spends
+
+  -- a table that copies go to without blocking is the next one
+  target_next : g.blocking ≡ false → (from to : ℕ) → IsTarget g now from to → now.next from ≡ to
+  target_next inc from to target =
+      ⊎_elim
+      (λ (one : target.links ≡ 0). subst (λ n. walk now.next (suc n) from ≡ to) one target.is)
+      (λ (b : g.blocking ≡ true). absurd (cc (b, inc)))
+      target.mode
+
+  -- without blocking the root has a next table, no later than the one where the call goes on
+  known_helping : (how : ResizeMode) → IsIncremental how → g.blocking ≡ false → (copying : Copying) → RestsCopying g c now hands.call.last hands.kept copying → IsCopyingRead how words copying → IsAsideAhead how words call.state copying → (t : ℕ) → left_by call.state ≡ Some t → 0 < now.next t → AimsAt (aim_of copying) (now.next t)
+      → IsKnown how words copying
+  known_helping (Incremental chunk) how inc (copyings.Stepping aim steps.AtRoot) rests read ahead t left some is = (root_on g now sound t (left_on t left)).0
+  known_helping (Incremental chunk) how inc (copyings.Stepping aim (steps.Aiming from behind)) rests read ahead t left some is =
+      let same : behind ≡ from = ⊎_elim (λ (e : behind ≡ from). e) (λ h. absurd (cc (h.0, inc))) rests.1.given_up in
+      let root : now.root ≡ behind = read.1 ∙ sym same in
+      subst (λ y. 0 < now.next y) root (root_next g now sound t (left_on t left) (ahead t tt left) some).0
+  known_helping (Incremental chunk) how inc (copyings.Stepping aim (steps.Linking from link)) rests read ahead t left some is = tt
+  known_helping (Incremental chunk) how inc (copyings.Stepping aim (steps.Judging from to)) rests read ahead t left some is = tt
+  known_helping (Incremental chunk) how inc (copyings.Stepping aim (steps.Sizing from to)) rests read ahead t left some is = tt
+  known_helping (Incremental chunk) how inc (copyings.Stepping aim (steps.Counting from to len)) rests read ahead t left some is = tt
+  known_helping (Incremental chunk) how inc (copyings.Stepping aim (steps.Settling slots settle)) rests read ahead t left some is = tt
+  known_helping (Incremental chunk) how inc (copyings.Stepping aim (steps.Advancing slots)) rests read ahead t left some is = tt
+  known_helping (Incremental chunk) how inc (copyings.Stepping aim (steps.Promoting from to)) rests read ahead t left some is = λ n aims.
+      let one : n ≡ now.next t = aims_one aim n (now.next t) aims is in
+      let to_is : now.next from ≡ to = target_next inc from to rests.1.0.target in
+      let root : now.next now.root ≡ now.next from = ap now.next read.1 in
+      let l = (root_next g now sound t (left_on t left) (ahead t tt left) some).1 in
+      omega (arith, one, to_is, root, l)
+  known_helping (Incremental chunk) how inc (copyings.Lone slot settle) rests read ahead t left some is = tt
+  known_helping Blocking how inc copying rests read ahead t left some is = absurd how
+
+  -- with blocking there is a root
+  known_all : (how : ResizeMode) → how ≡ Blocking → (copying : Copying) (met : ℕ) → aim_of copying ≡ aims.All met → (t : ℕ) → left_by call.state ≡ Some t → IsKnown how words copying
+  known_all (Incremental chunk) e copying met is t left = absurd (cc e)
+  known_all Blocking e (copyings.Stepping aim steps.AtRoot) met is t left = (root_on g now sound t (left_on t left)).0
+  known_all Blocking e (copyings.Stepping aim (steps.Aiming from behind)) met is t left = tt
+  known_all Blocking e (copyings.Stepping aim (steps.Linking from link)) met is t left = tt
+  known_all Blocking e (copyings.Stepping aim (steps.Judging from to)) met is t left = tt
+  known_all Blocking e (copyings.Stepping aim (steps.Sizing from to)) met is t left = tt
+  known_all Blocking e (copyings.Stepping aim (steps.Counting from to len)) met is t left = tt
+  known_all Blocking e (copyings.Stepping aim (steps.Settling slots settle)) met is t left = tt
+  known_all Blocking e (copyings.Stepping aim (steps.Advancing slots)) met is t left = tt
+  known_all Blocking e (copyings.Stepping aim (steps.Promoting from to)) met is t left = λ n aims. absurd (subst (λ a. AimsAt a n) is aims)
+  known_all Blocking e (copyings.Lone slot settle) met is t left = tt
+
+  -- the root is copied for a call
+  helping_falls : (copying : Copying) → RestsPhase g c begun since k (at_phase (Copying_root copying)) hands (Copying_root copying) → IsPhaseRead call.mode words call.state (Copying_root copying) → IsCopyTold g c now (copying_kind copying) (copying_follows copying) hands (copying_ask copying) answer es hands' → SpendsCopy (copying_ask copying) answer before later → Falls (Copying_root copying)
+  helping_falls copying (inl at) read told spends =
+      let inc : IsIncremental call.mode = incremental call.mode g.blocking r.mode at.mode in
+      let is : AimsAt (aim_of copying) (now.next at.table) = subst (λ a. AimsAt a (now.next at.table)) (sym at.aim) (aims_at call.state (now.next at.table)) in
+      let some = at.next in
+      let up : at.table < now.next at.table = ⊎_elim (λ (none : now.next at.table ≡ 0). absurd (omega (arith, none, some))) (λ (h : (0 < at.table) × (at.table < now.next at.table)). h.1) (sound.rises at.table) in
+      copying_falls copying at.rests told (inl (inc, (now.next at.table, is, (at.table, at.left, up)))) read (known_helping call.mode inc at.mode copying at.rests read.0 read.1 at.table at.left at.next is) spends
+  helping_falls copying (inr at) read told spends =
+      let e : call.mode ≡ Blocking = blocks call.mode g.blocking r.mode at.mode in
+      copying_falls copying at.rests told (inr (e, (at.met, at.aim))) read (known_all call.mode e copying at.met at.aim at.table at.left) spends
+
+  -- in each phase
+  pub phase_falls : (phase : Phase) → RestsPhase g c begun since k (at_phase phase) hands phase → IsPhaseRead call.mode words call.state phase → IsTold g c k now (kind_of_ask (at_phase phase)) (follows_of (at_phase phase)) hands (ask_of (at_phase phase)) answer es hands' → IsServedAsk call.task (ask_of (at_phase phase)) answer → Spends (kind_of_ask (at_phase phase)) (ask_of (at_phase phase)) answer before later → Falls phase
+  phase_falls Calling at read told served spends = calling_falls read told served spends
+  phase_falls (Linking link) at read told served spends = linking_falls link at read told spends
+  phase_falls (Copying_root copying) at read told served spends = helping_falls copying at read told spends

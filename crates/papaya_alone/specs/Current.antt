@@ -1,0 +1,127 @@
+-- What a copy has read stands there still, where nobody else changes the words: so each exchange
+-- finds the word that it looks for.
+use Rattle.std.specs.Prelude.{◌≡◌, ℕ}
+use Rattle.papaya_words.specs.Word.{kind_of}
+use Rattle.papaya_words.specs.declared.probe.ResizeMode.{ResizeMode}
+use Rattle.papaya_words.specs.declared.probe.ResizeMode.TheVariants.{Incremental, Blocking}
+use Rattle.papaya_words.specs.declared.word.Kind.TheVariants as word_kinds
+use Rattle.papaya_ask.specs.declared.ask.At.{At}
+use Rattle.papaya_ask.specs.declared.ask.At.TheVariants as words_at
+use Rattle.papaya_copy.specs.declared.carry.Carried.{Carried}
+use Rattle.papaya_copy.specs.declared.carry.Carried.TheVariants as carried
+use Rattle.papaya_copy.specs.declared.carry.Carry.{Carry}
+use Rattle.papaya_copy.specs.declared.carry.Carry.TheVariants as carries
+use Rattle.papaya_copy.specs.declared.copying.Aim.{Aim}
+use Rattle.papaya_copy.specs.declared.copying.Aim.TheVariants as aims
+use Rattle.papaya_copy.specs.declared.copying.Copied.{Copied}
+use Rattle.papaya_copy.specs.declared.copying.Copied.TheVariants as copied
+use Rattle.papaya_copy.specs.declared.copying.Copying.{Copying}
+use Rattle.papaya_copy.specs.declared.copying.Copying.TheVariants as copyings
+use Rattle.papaya_copy.specs.declared.link.Link.{Link}
+use Rattle.papaya_copy.specs.declared.link.Linked.{Linked}
+use Rattle.papaya_copy.specs.declared.link.Linked.TheVariants as linked
+use Rattle.papaya_copy.specs.declared.settle.Settle.{Settle}
+use Rattle.papaya_copy.specs.declared.settle.Settle.TheVariants as settles
+use Rattle.papaya_copy.specs.declared.settle.Settled.{Settled}
+use Rattle.papaya_copy.specs.declared.settle.Settled.TheVariants as settled
+use Rattle.papaya_copy.specs.declared.settle.Slot.{Slot}
+use Rattle.papaya_copy.specs.declared.step.Step.{Step}
+use Rattle.papaya_copy.specs.declared.step.Step.TheVariants as steps
+use Rattle.papaya_copy.specs.declared.step.Stepped.{Stepped}
+use Rattle.papaya_copy.specs.declared.step.Stepped.TheVariants as stepped
+use Rattle.papaya_copy.specs.Link.{follows}
+use Rattle.papaya_copy.specs.Step.{slot_of}
+
+-- without blocking
+abbrev pub IsIncremental : ResizeMode → Type 0
+IsIncremental (Incremental chunk) = Unit {0}
+IsIncremental Blocking = ⊥
+
+-- with blocking, the table was not given up
+abbrev pub IsAlive : ResizeMode → (At → ℕ) → ℕ → Type 0
+IsAlive (Incremental chunk) words t = Unit {0}
+IsAlive Blocking words t = words (words_at.Aborted t) ≡ 0
+
+-- with blocking, a pair is carried to the target alone
+abbrev pub IsAtTarget : ResizeMode → Slot → ℕ → Type 0
+IsAtTarget (Incremental chunk) slot t = Unit {0}
+IsAtTarget Blocking slot t = t ≡ slot.to
+
+-- the table behind which another is linked has no next one
+abbrev pub IsLinkRead : (At → ℕ) → Link → Type 0
+IsLinkRead words link = words (words_at.Next (follows link)) ≡ 0
+
+abbrev pub IsLinkedRead : (At → ℕ) → Linked → Type 0
+IsLinkedRead words (linked.On link) = IsLinkRead words link
+IsLinkedRead words _ = Unit {0}
+
+module _ (mode : ResizeMode) (words : At → ℕ) where
+  -- a pair finds its place empty, and the table that it gives up was not given up
+  abbrev pub IsCarryRead : Slot → Carry → Type 0
+  IsCarryRead slot (carries.Hashing table) = IsAtTarget mode slot table
+  IsCarryRead slot (carries.Sizing hash table) = IsAtTarget mode slot table
+  IsCarryRead slot (carries.Looking hash at) = IsAtTarget mode slot at.table
+  IsCarryRead slot (carries.Comparing hash at word) = IsAtTarget mode slot at.table
+  IsCarryRead slot (carries.Placing hash at) = words (words_at.Slot at.table at.probe.i) ≡ 0
+  IsCarryRead slot (carries.Passing hash table) = IsIncremental mode
+  IsCarryRead slot (carries.Linking hash link) = IsIncremental mode × IsLinkRead words link
+  IsCarryRead slot (carries.Aborting table) = words (words_at.Aborted table) ≡ 0
+
+  -- the word of the slot that is copied
+  abbrev pub word_in : Slot → ℕ
+  word_in slot = words (words_at.Slot slot.from slot.index)
+
+  -- the pair of the marked word is carried, and the word stands in its slot
+  pub record IsCarrying (slot : Slot) (word : ℕ) : Type 0 where
+    pub alive : IsAlive mode words slot.to
+    pub stands : word_in slot ≡ word
+    pub marked : kind_of word ≡ word_kinds.Marked
+
+  abbrev pub IsCarriedRead : Slot → ℕ → Carried → Type 0
+  IsCarriedRead slot word (carried.On carry) = IsCarrying slot word × IsCarryRead slot carry
+  IsCarriedRead slot word carried.Carried = IsCarrying slot word
+  IsCarriedRead slot word _ = Unit {0}
+
+  abbrev pub IsSettleRead : Slot → Settle → Type 0
+  IsSettleRead slot settles.Looking = IsAlive mode words slot.to
+  IsSettleRead slot settles.Closing = IsAlive mode words slot.to × (word_in slot ≡ 0)
+  IsSettleRead slot (settles.Marking word) = IsAlive mode words slot.to × (word_in slot ≡ word)
+  IsSettleRead slot (settles.Carrying word carry) = IsCarrying slot word × IsCarryRead slot carry
+  IsSettleRead slot (settles.Finishing word) = IsAlive mode words slot.to × (word_in slot ≡ word)
+
+  abbrev pub IsSettledRead : Slot → Settled → Type 0
+  IsSettledRead slot (settled.On settle) = IsSettleRead slot settle
+  IsSettledRead slot settled.Settled = IsAlive mode words slot.to
+  IsSettledRead slot _ = Unit {0}
+
+  -- the table that is copied is the root, and so much of it was counted as copied
+  abbrev pub IsStepRead : Step → Type 0
+  IsStepRead steps.AtRoot = Unit {0}
+  IsStepRead (steps.Aiming from behind) = words words_at.Root ≡ from
+  IsStepRead (steps.Linking from link) = (words words_at.Root ≡ from) × IsLinkRead words link
+  IsStepRead (steps.Judging from to) = words words_at.Root ≡ from
+  IsStepRead (steps.Sizing from to) = (words words_at.Root ≡ from) × IsAlive mode words to
+  IsStepRead (steps.Counting from to len) = (words words_at.Root ≡ from) × IsAlive mode words to
+  IsStepRead (steps.Settling chunk settle) = (words words_at.Root ≡ chunk.from)
+      × (words (words_at.Done chunk.to) ≡ chunk.begun) × IsSettleRead (slot_of chunk) settle
+  IsStepRead (steps.Advancing chunk) = (words words_at.Root ≡ chunk.from)
+      × (words (words_at.Done chunk.to) ≡ chunk.begun)
+  IsStepRead (steps.Promoting from to) = words words_at.Root ≡ from
+
+  abbrev pub IsSteppedRead : Stepped → Type 0
+  IsSteppedRead (stepped.On step) = IsStepRead step
+  IsSteppedRead (stepped.Root root) = words words_at.Root ≡ root
+  IsSteppedRead _ = Unit {0}
+
+  -- a slot of its own is copied without blocking alone
+  abbrev pub IsAimRead : Aim → Type 0
+  IsAimRead (aims.Settle slot) = IsIncremental mode
+  IsAimRead _ = Unit {0}
+
+  abbrev pub IsCopyingRead : Copying → Type 0
+  IsCopyingRead (copyings.Stepping aim step) = IsAimRead aim × IsStepRead step
+  IsCopyingRead (copyings.Lone slot settle) = IsSettleRead slot settle
+
+  abbrev pub IsCopiedRead : Copied → Type 0
+  IsCopiedRead (copied.On copying) = IsCopyingRead copying
+  IsCopiedRead _ = Unit {0}

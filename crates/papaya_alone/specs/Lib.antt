@@ -1,0 +1,11 @@
+-- what an answer says in words, and what it spends
+pub mod Prompt
+pub mod Budget
+-- how much is left, and what was read and stands there still
+pub mod Measure
+pub mod Current
+-- how far a call is from its end, and where it stands in the chain
+pub mod Rank
+pub mod Ahead
+-- a copy for its own sake
+pub mod Copiers

@@ -1,0 +1,108 @@
+//! What an answer leaves to a call over a chain of tables, and to a copy, with no other caller
+//! beside it. The functions do nothing: their contracts are the laws.
+ghost use Rattle.std.specs.Prelude.{◌≡◌, ◌⊎◌, ℕ, ◌<◌, ◌^◌, List, Option, Some, ◌++◌};
+ghost use Rattle.papaya_words.specs.declared.probe.ResizeMode.{ResizeMode};
+ghost use Rattle.papaya_copy.specs.declared.copying.Copying.{Copying};
+ghost use Rattle.papaya_copy.specs.Copying.{copying_ask, copying_follows, copying_kind};
+ghost use Rattle.papaya_law.specs.Allows.{AllAllowed};
+ghost use Rattle.papaya_law.specs.Code.{Coding, IsHashed};
+ghost use Rattle.papaya_law.specs.Exchange.{Setting, State, Exchange, run, start};
+ghost use Rattle.papaya_law.specs.Invariant.{IsKeeping};
+ghost use Rattle.papaya_rests.specs.Copier.{RestsCopying};
+ghost use Rattle.papaya_rests.specs.Told.{word_of};
+ghost use Rattle.papaya_chain.specs.Copier.{IsStandingCopier, after as copier_after, all, ask_of as copier_ask, chunk, follows_of as copier_follows, kind_of_ask as copier_kind};
+ghost use Rattle.papaya_chain.specs.Machine.{IsStanding, after, ask_of, copying_after, follows_of, kind_of_ask, started};
+ghost use Rattle.papaya_chain_rests.specs.Copiers.{RestsCopier};
+ghost use Rattle.papaya_chain_rests.specs.Rests.{Rests};
+ghost use Rattle.papaya_chain_rests.specs.Told.{Hands, IsCopyTold, IsTold};
+ghost use Rattle.papaya_alone.specs.Ahead.{IsCurrent};
+ghost use Rattle.papaya_alone.specs.Budget.{Budget, IsSpent, Spends, SpendsCopy};
+ghost use Rattle.papaya_alone.specs.Copiers.{IsCopierRead, copier_measure};
+ghost use Rattle.papaya_alone.specs.Current.{IsCopiedRead, IsCopyingRead};
+ghost use Rattle.papaya_alone.specs.Measure.{left_of_copied, left_of_copying};
+ghost use Rattle.papaya_alone.specs.Prompt.{IsBounded, IsServedAsk};
+ghost use Rattle.papaya_alone.specs.Rank.{measure};
+
+use papaya_ask::ask::At;
+use papaya_ask::call::Task;
+use papaya_ask::copy_ask::CopyAsk;
+use papaya_chain::ask::Answer;
+use papaya_chain::copier::Copier;
+use papaya_chain::machine::Machine;
+
+/// Each answer brings a copy nearer its end: it spends the budget, or less is left. What the copy
+/// has read stands there still, so no exchange is lost.
+pub fn alone_copiers<K, P>()
+    ensures nearer { (g : Setting K P) (c : Coding K P) → IsHashed g c
+        → (s : State P) (m : K → Option P) → IsKeeping g s m → IsBounded g s
+        → (mode : ResizeMode) (initial : ℕ) (hands : Hands P) (copying : Copying)
+        → RestsCopying g c s hands.call.last hands.kept copying
+        → IsCopyingRead mode (word_of g c s) copying
+        → (answer : Answer) (es : List (Exchange P)) (hands' : Hands P)
+        → IsCopyTold g c s (copying_kind copying) (copying_follows copying) hands
+        (copying_ask copying) answer es hands' → (before later : Budget)
+        → SpendsCopy (copying_ask copying) answer before later
+        → IsSpent before later ⊎ ((later ≡ before)
+        × (left_of_copied (copying_after copying mode initial answer) < left_of_copying copying)) }
+    ensures current { (g : Setting K P) (c : Coding K P) → IsHashed g c
+        → (s : State P) (m : K → Option P) → IsKeeping g s m → IsBounded g s
+        → (mode : ResizeMode) (initial : ℕ) (hands : Hands P) (copying : Copying)
+        → RestsCopying g c s hands.call.last hands.kept copying
+        → IsCopyingRead mode (word_of g c s) copying
+        → (answer : Answer) (es : List (Exchange P)) (hands' : Hands P)
+        → IsCopyTold g c s (copying_kind copying) (copying_follows copying) hands
+        (copying_ask copying) answer es hands' → IsCopiedRead mode (word_of g c (run es s))
+        (copying_after copying mode initial answer) }
+{}
+
+/// Each answer brings a call over a chain nearer its end: its measure falls. What the call has read
+/// stands there still, so no exchange is lost. A budget counts how many tables may be made and words
+/// exchanged yet; what is to be made for the call is made or refused, and its closure answers.
+pub fn alone_calls<K, P>()
+    ensures begins { (words : At → ℕ) (task : Task) (hash : ℕ) (mode : ResizeMode) (initial : ℕ)
+        → IsCurrent words (started task hash mode initial) }
+    ensures nearer { (g : Setting K P) (c : Coding K P) → IsHashed g c
+        → (begun since : List (Exchange P)) → AllAllowed g start (begun ++ since)
+        → IsBounded g (run (begun ++ since) start) → (k : K) (m : Machine) (hands : Hands P)
+        → Rests g c begun since k m hands → IsCurrent (word_of g c (run (begun ++ since) start)) m
+        → (answer : Answer) (es : List (Exchange P)) (hands' : Hands P)
+        → IsTold g c k (run (begun ++ since) start) (kind_of_ask m) (follows_of m) hands (ask_of m)
+        answer es hands' → IsServedAsk m.call.task (ask_of m) answer → (before later : Budget)
+        → Spends (kind_of_ask m) (ask_of m) answer before later → later.exchanges < 2 ^ 128
+        → IsStanding (after m answer)
+        → measure later (run (begun ++ (since ++ es)) start).root (after m answer)
+        < measure before (run (begun ++ since) start).root m }
+    ensures current { (g : Setting K P) (c : Coding K P) → IsHashed g c
+        → (begun since : List (Exchange P)) → AllAllowed g start (begun ++ since)
+        → IsBounded g (run (begun ++ since) start) → (k : K) (m : Machine) (hands : Hands P)
+        → Rests g c begun since k m hands → IsCurrent (word_of g c (run (begun ++ since) start)) m
+        → (answer : Answer) (es : List (Exchange P)) (hands' : Hands P)
+        → IsTold g c k (run (begun ++ since) start) (kind_of_ask m) (follows_of m) hands (ask_of m)
+        answer es hands' → IsServedAsk m.call.task (ask_of m) answer
+        → IsCurrent (word_of g c (run (begun ++ (since ++ es)) start)) (after m answer) }
+{}
+
+/// Each answer brings a copy for its own sake nearer its end, of a chunk or of all: its measure
+/// falls, and what it has read stands there still.
+pub fn alone_all<K, P>()
+    ensures chunk { (words : At → ℕ) (mode : ResizeMode) (initial : ℕ)
+        → IsCopierRead words (chunk mode initial) }
+    ensures all { (words : At → ℕ) (mode : ResizeMode) (initial : ℕ)
+        → IsCopierRead words (all mode initial) }
+    ensures nearer { (g : Setting K P) (c : Coding K P) → IsHashed g c
+        → (s : State P) (m : K → Option P) → IsKeeping g s m → IsBounded g s
+        → (copier : Copier) (hands : Hands P) → RestsCopier g c s copier hands
+        → IsCopierRead (word_of g c s) copier → (ask : CopyAsk) → copier_ask copier ≡ Some ask
+        → (answer : Answer) (es : List (Exchange P)) (hands' : Hands P)
+        → IsCopyTold g c s (copier_kind copier) (copier_follows copier) hands ask answer es hands'
+        → (before later : Budget) → SpendsCopy ask answer before later
+        → later.exchanges < 2 ^ 128 → IsStandingCopier (copier_after copier answer)
+        → copier_measure later (copier_after copier answer) < copier_measure before copier }
+    ensures current { (g : Setting K P) (c : Coding K P) → IsHashed g c
+        → (s : State P) (m : K → Option P) → IsKeeping g s m → IsBounded g s
+        → (copier : Copier) (hands : Hands P) → RestsCopier g c s copier hands
+        → IsCopierRead (word_of g c s) copier → (ask : CopyAsk) → copier_ask copier ≡ Some ask
+        → (answer : Answer) (es : List (Exchange P)) (hands' : Hands P)
+        → IsCopyTold g c s (copier_kind copier) (copier_follows copier) hands ask answer es hands'
+        → IsCopierRead (word_of g c (run es s)) (copier_after copier answer) }
+{}
