@@ -1,10 +1,12 @@
 //! The entries of a trace.
 ghost use Rattle.std.specs.Prelude.{◌≡◌, ◌+◌, ◌<◌, ◌≤◌, ◌∷◌, reverse, OnOk, IfErr, vec_len, vec_capacity};
-ghost use Rattle.papaya_timeline.specs.Advances.{event_of, exchange_event, shown_event};
+ghost use Rattle.papaya_timeline.specs.Advances.{answered_event, call_event, copy_event, event_of, exchange_event, shown_event};
 ghost use Rattle.papaya_timeline.specs.Runs.{with_step};
 
-use papaya_ask::ask::{Answer, Ask, StepKind};
+use papaya_ask::ask::{Answer as CallAnswer, Ask as CallAsk, StepKind};
 use papaya_ask::call::Reply;
+use papaya_ask::copy_ask::CopyAsk;
+use papaya_chain::ask::{Answer, Ask};
 use papaya_timeline::trace::{Entry, Event};
 use papaya_words::probe::Refused;
 use papaya_words::word::Word;
@@ -22,16 +24,48 @@ fn exchange_event(kind: StepKind, old: u64, new: u64) -> Event
     }
 }
 
+/// The event of an exchange that was asked for: where another word stood there, none was made.
+fn answered_event(kind: Option<StepKind>, old: u64, new: u64, answer: CallAnswer) -> Event
+    ensures { result ≡ answered_event kind old new answer }
+{
+    match (answer, kind) {
+        (CallAnswer::Exchanged, Some(kind)) => exchange_event(kind, old, new),
+        _ => Event::Other,
+    }
+}
+
 /// The event of a call of a closure.
-fn shown_event(shown: Option<u64>, answer: Answer) -> Event
+fn shown_event(shown: Option<u64>, answer: CallAnswer) -> Event
     ensures { result ≡ shown_event shown answer }
 {
     match answer {
-        Answer::Op(kind) => Event::Shown(shown, kind),
-        Answer::Yes(agrees) => match shown {
+        CallAnswer::Op(kind) => Event::Shown(shown, kind),
+        CallAnswer::Yes(agrees) => match shown {
             Some(pair) => Event::Asked(pair, agrees),
             None => Event::Other,
         },
+        _ => Event::Other,
+    }
+}
+
+/// The event of an ask of the call itself that was answered.
+fn call_event(kind: Option<StepKind>, ask: CallAsk, answer: CallAnswer) -> Event
+    ensures { result ≡ call_event kind ask answer }
+{
+    match ask {
+        CallAsk::Exchange(_, old, new) => answered_event(kind, old, new, answer),
+        CallAsk::ShowNone => shown_event(None, answer),
+        CallAsk::ShowPair(pair) => shown_event(Some(pair), answer),
+        _ => Event::Other,
+    }
+}
+
+/// The event of an ask that was answered while a table is made or copied. A copy shows nothing.
+fn copy_event(kind: Option<StepKind>, ask: CopyAsk, answer: CallAnswer) -> Event
+    ensures { result ≡ copy_event kind ask answer }
+{
+    match ask {
+        CopyAsk::Exchange(_, old, new) => answered_event(kind, old, new, answer),
         _ => Event::Other,
     }
 }
@@ -40,16 +74,9 @@ fn shown_event(shown: Option<u64>, answer: Answer) -> Event
 pub(crate) fn event_of(kind: Option<StepKind>, ask: Ask, answer: Answer) -> Event
     ensures { result ≡ event_of kind ask answer }
 {
-    match ask {
-        Ask::Exchange(_, old, new) => match answer {
-            Answer::Exchanged => match kind {
-                Some(kind) => exchange_event(kind, old, new),
-                None => Event::Other,
-            },
-            _ => Event::Other,
-        },
-        Ask::ShowNone => shown_event(None, answer),
-        Ask::ShowPair(pair) => shown_event(Some(pair), answer),
+    match (ask, answer) {
+        (Ask::Call(ask), Answer::Call(answer)) => call_event(kind, ask, answer),
+        (Ask::Copy(ask), Answer::Call(answer)) => copy_event(kind, ask, answer),
         _ => Event::Other,
     }
 }

@@ -1,8 +1,14 @@
 //! Any number of callers, and any schedule of their steps.
+//!
+//! The map grows. A call that finds no place for its pair makes the next table, and goes on in it.
+//! Calls that may change the map copy pairs on their way, a chunk of the root each where the core
+//! is `Incremental`; where it is `Blocking` they copy all of the root. A caller that stops in the
+//! midst of a copy stops no other caller.
 ghost use Rattle.std.specs.Prelude.{◌≡◌, ◌<◌, ◌^◌, length, IfOk, IfErr, OnOk, IsSome, Some, None, is_some, MatchOption, reverse, ◌+◌, ◌*◌, ◌≤◌, []};
+ghost use Rattle.std.specs.Int.{IsPowerOfTwo};
 ghost use Rattle.papaya_law.specs.Content.{AreApart};
 ghost use Rattle.papaya_words.specs.Mode.{IsChunked};
-ghost use Rattle.papaya_call.specs.Machine.{IsStanding};
+ghost use Rattle.papaya_chain.specs.Machine.{IsStanding};
 ghost use Rattle.papaya_timeline.specs.Callers.{running};
 ghost use Rattle.papaya_store.specs.Store.{KeepsPairs, pair_of};
 ghost use Rattle.papaya_keys.specs.Hashes.{hash_of};
@@ -20,10 +26,11 @@ ghost use Rattle.papaya_timeline.specs.Runs.{TurnsRun, StopsEarly, TurnRuns, IsC
 
 use crate::callers::Callers;
 use crate::entries::{event_of, push_entry, push_step, reserve_entries};
-use papaya_ask::ask::Ask;
+use papaya_ask::ask::Ask as CallAsk;
 use papaya_ask::call::{Call, Reply, Task};
 use papaya_call::answers::Answers;
-use papaya_call::machine::Machine;
+use papaya_chain::ask::Ask;
+use papaya_chain::machine::Machine;
 use papaya_store::pairs::{KeyOf, Running};
 use papaya_store::store::Store;
 use papaya_timeline::trace::{Entry, Event, Trace, Turn};
@@ -48,6 +55,7 @@ pub struct Core<K: Hash + Eq, V, S: BuildHasher, A> {
 }
 
 impl<K: Hash + Eq, V, S: BuildHasher, A> Model for Core<K, V, S, A> {
+    ghost use Rattle.std.specs.Int.{IsPowerOfTwo};
     ghost use Rattle.papaya_timeline.specs.Core.{CoreState};
     ghost use Rattle.papaya_timeline.specs.Counted.{IsCounted};
     ghost use Rattle.papaya_timeline.specs.Kept.{IsLawfulCore};
@@ -64,7 +72,7 @@ impl<K: Hash + Eq, V, S: BuildHasher, A> Model for Core<K, V, S, A> {
 
     ghost invariant = { λ c. IsLawfulCore K.eq
         (hash_of K.hash_input S.build_hasher S.Hasher.write S.Hasher.finish c.store.hasher) c.store
-        c.callers c.mode × IsCounted c.store c.callers };
+        c.callers c.mode × IsCounted K.eq c.store c.callers × IsPowerOfTwo c.initial };
 }
 
 /// A call as it begins.
@@ -74,10 +82,11 @@ fn begin_call<K: Hash + Eq, V: Drop, S: BuildHasher, A>(
     initial: usize,
     call: Call<K, V, A>,
 ) -> Running<K, V, A>
-    requires { IsChunked mode }
+    requires chunked { IsChunked mode }
+    requires initial { IsPowerOfTwo initial }
     ensures begun { result ≡ begun (hash_of K.hash_input S.build_hasher S.Hasher.write
         S.Hasher.finish store.now.hasher) mode initial call }
-    ensures fits { result.machine.hash < 2 ^ 64 }
+    ensures fits { result.machine.call.hash < 2 ^ 64 }
     ensures standing { IsStanding result.machine }
 {
     let (task, key, value, answers) = match call {
@@ -100,7 +109,7 @@ fn reply_in(ask: Ask) -> Option<Reply>
     ensures { result ≡ reply_in ask }
 {
     match ask {
-        Ask::Done(reply) => Some(reply),
+        Ask::Call(CallAsk::Done(reply)) => Some(reply),
         _ => None,
     }
 }
@@ -115,8 +124,8 @@ impl<K: Hash + Eq, V, S: BuildHasher, A> Core<K, V, S, A> {
     /// number of pairs, but for what the calls have yet to add.
     pub fn running(&self, caller: usize) -> bool
         ensures running { result ≡ is_some (call_of self.now caller) }
-        ensures apart { AreApart K.eq (λ p. p.key) (content self.now.store) }
-        ensures counted { IsCounted self.now.store self.now.callers }
+        ensures apart { AreApart K.eq (λ p. p.key) (content K.eq self.now.store) }
+        ensures counted { IsCounted K.eq self.now.store self.now.callers }
     {
         self.callers.is_running(caller)
     }
@@ -149,8 +158,8 @@ impl<K: Hash + Eq + Drop, V: Drop, S: BuildHasher + Drop, A> Core<K, V, S, A> {
         ensures ok { IfOk result (λ core. IsAllowed mode capacity shards
             × IsNew mode capacity shards hasher core) }
         ensures err { IfErr result (λ e. IsSizeRefusal mode capacity shards e) }
-        ensures content { IfOk result (λ core. content core.store ≡ []) }
-        ensures counted { IfOk result (λ core. IsCounted core.store core.callers) }
+        ensures content { IfOk result (λ core. content K.eq core.store ≡ []) }
+        ensures counted { IfOk result (λ core. IsCounted K.eq core.store core.callers) }
     {
         let (store, initial) = Store::with_parts(alloc, mode, capacity, shards, hasher)?;
         Ok(Core {
@@ -172,7 +181,7 @@ impl<K: Hash + Eq + Drop, V: Drop, S: BuildHasher, A: Answers<K, V> + Drop> Core
         ensures ok { OnOk result (Begins (hash_of K.hash_input S.build_hasher S.Hasher.write
             S.Hasher.finish self.old.store.hasher) self.old caller call self.new) }
         ensures err { IfErr result (λ e. (e ≡ Refused.Memory) × (self.new ≡ self.old)) }
-        ensures counted { IsCounted self.new.store self.new.callers }
+        ensures counted { IsCounted K.eq self.new.store self.new.callers }
     {
         self.callers.seat(caller)?;
         let running = begin_call(&self.store, self.mode, self.initial, call);
@@ -183,19 +192,20 @@ impl<K: Hash + Eq + Drop, V: Drop, S: BuildHasher, A: Answers<K, V> + Drop> Core
     /// One step of a caller: what happened, and the reply where there is one.
     fn advance(&mut self, caller: usize, refuse: bool) -> (Event, Option<Reply>)
         requires { IsSome (call_of self.old caller) }
-        ensures advances { Advances K.eq (record { op = A.op_gives; yes = A.yes_gives }) refuse
-            self.old caller self.new result.0 result.1 }
+        ensures advances { Advances K.eq (record { op = A.op_gives; yes = A.yes_gives })
+            (hash_of K.hash_input S.build_hasher S.Hasher.write S.Hasher.finish) refuse self.old
+            caller self.new result.0 result.1 }
         ensures moves { MovesMap K.eq self.old caller self.new result.0 }
         ensures keeps { KeepsPairs self.old.store self.new.store }
         ensures shard { AddsToShard self.old caller self.new }
-        ensures counted { IsCounted self.new.store self.new.callers }
+        ensures counted { IsCounted K.eq self.new.store self.new.callers }
     {
         let mut running = self.callers.take(caller);
         let kind = running.machine.kind();
         let ask = running.machine.ask();
         let answer = self
             .store
-            .perform(self.alloc, caller, &mut running, ask, refuse);
+            .perform_ask(self.alloc, caller, &mut running, ask, refuse);
         running.machine.answer(answer);
         let event = event_of(kind, ask, answer);
         let reply = reply_in(running.machine.ask());
@@ -213,11 +223,13 @@ impl<K: Hash + Eq + Drop, V: Drop, S: BuildHasher, A: Answers<K, V> + Drop> Core
     pub fn step(&mut self, caller: usize, refuse_memory: bool) -> Option<Reply>
         requires { IsSome (call_of self.old caller) }
         ensures advances { (event : _) × Advances K.eq
-            (record { op = A.op_gives; yes = A.yes_gives }) refuse_memory self.old caller self.new
-            event result × MovesMap K.eq self.old caller self.new event }
+            (record { op = A.op_gives; yes = A.yes_gives })
+            (hash_of K.hash_input S.build_hasher S.Hasher.write S.Hasher.finish) refuse_memory
+            self.old caller self.new event result
+            × MovesMap K.eq self.old caller self.new event }
         ensures keeps { KeepsPairs self.old.store self.new.store }
         ensures shard { AddsToShard self.old caller self.new }
-        ensures counted { IsCounted self.new.store self.new.callers }
+        ensures counted { IsCounted K.eq self.new.store self.new.callers }
     {
         let (_, reply) = self.advance(caller, refuse_memory);
         reply
@@ -241,7 +253,7 @@ impl<K: Hash + Eq + Drop, V: Drop, S: BuildHasher, A: Answers<K, V> + Drop> Core
             (hash_of K.hash_input S.build_hasher S.Hasher.write S.Hasher.finish) schedule.items
             self.old self.new) }
         ensures keeps { KeepsPairs self.old.store self.new.store }
-        ensures counted { IsCounted self.new.store self.new.callers }
+        ensures counted { IsCounted K.eq self.new.store self.new.callers }
     {
         let mut entries = Vec::new(self.alloc);
         for (turn, what) in schedule.into_iter().enumerate() {
@@ -264,8 +276,8 @@ impl<K: Hash + Eq + Drop, V: Drop, S: BuildHasher, A: Answers<K, V> + Drop> Core
             × IsCutShort K.eq (record { op = A.op_gives; yes = A.yes_gives })
             (hash_of K.hash_input S.build_hasher S.Hasher.write S.Hasher.finish) turn what self.old
             (reverse entries.old.items) self.new) }
-        ensures counted { IsCounted self.old.store self.old.callers
-            → IsCounted self.new.store self.new.callers }
+        ensures counted { IsCounted K.eq self.old.store self.old.callers
+            → IsCounted K.eq self.new.store self.new.callers }
     {
         match what {
             Turn::Begin(caller, call) => {
@@ -296,8 +308,8 @@ impl<K: Hash + Eq + Drop, V: Drop, S: BuildHasher, A: Answers<K, V> + Drop> Core
             (hash_of K.hash_input S.build_hasher S.Hasher.write S.Hasher.finish) turn caller call
             self.old (reverse entries.old.items) self.new (reverse entries.new.items)) }
         ensures err { IfErr result (λ e. (e ≡ Refused.Memory) × (self.new ≡ self.old)) }
-        ensures counted { IsCounted self.old.store self.old.callers
-            → IsCounted self.new.store self.new.callers }
+        ensures counted { IsCounted K.eq self.old.store self.old.callers
+            → IsCounted K.eq self.new.store self.new.callers }
     {
         reserve_entries(entries, 1)?;
         self.begin(caller, call)?;
@@ -327,8 +339,8 @@ impl<K: Hash + Eq + Drop, V: Drop, S: BuildHasher, A: Answers<K, V> + Drop> Core
             refuse_memory self.old (reverse entries.old.items) self.new
             (reverse entries.new.items)) }
         ensures err { IfErr result (λ e. (e ≡ Refused.Memory) × (self.new ≡ self.old)) }
-        ensures counted { IsCounted self.old.store self.old.callers
-            → IsCounted self.new.store self.new.callers }
+        ensures counted { IsCounted K.eq self.old.store self.old.callers
+            → IsCounted K.eq self.new.store self.new.callers }
     {
         // The room is there before the step, so no step goes unrecorded.
         reserve_entries(entries, 2)?;
@@ -353,8 +365,8 @@ impl<K: Hash + Eq + Drop, V: Drop, S: BuildHasher, A: Answers<K, V> + Drop> Core
             × StepsRun K.eq (record { op = A.op_gives; yes = A.yes_gives })
             (hash_of K.hash_input S.build_hasher S.Hasher.write S.Hasher.finish) turn caller made
             self.old (reverse entries.old.items) self.new after)) }
-        ensures counted { IsCounted self.old.store self.old.callers
-            → IsCounted self.new.store self.new.callers }
+        ensures counted { IsCounted K.eq self.old.store self.old.callers
+            → IsCounted K.eq self.new.store self.new.callers }
     {
         for _made in 0..steps {
             if !self.running(caller) {

@@ -7,6 +7,8 @@ mod copying;
 #[cfg(test)]
 mod expect;
 #[cfg(test)]
+mod growth;
+#[cfg(test)]
 mod guards;
 #[cfg(test)]
 mod machines;

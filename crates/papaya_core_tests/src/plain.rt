@@ -10,7 +10,7 @@
 // alone.
 ghost use Rattle.std.specs.Prelude.{◌≡◌, ◌≤◌, ◌<◌};
 
-mod hashing;
+pub(crate) mod hashing;
 
 use crate::expect::is;
 use hashing::{APART, TOGETHER, Times};
@@ -24,7 +24,7 @@ use std::mem;
 use std::process::Abort;
 use std::test::Fail;
 
-type Numbers = Core<u64, u64, Times, Closure>;
+pub(crate) type Numbers = Core<u64, u64, Times, Closure>;
 
 /// The value of key 0 in a map that has it from the start.
 const FIRST_VALUE: u64 = 10;
@@ -34,7 +34,7 @@ const WHOLE: usize = 100;
 
 /// What the closure of a compute answers. Where there is none, it stores its own value.
 #[derive(Clone, Copy, Debug)]
-enum Closure {
+pub(crate) enum Closure {
     /// It adds its value to the one that is there.
     Adds(u64),
     /// It removes what is there.
@@ -71,7 +71,7 @@ impl Answers<u64, u64> for Closure {
 
 /// A call on a key.
 #[derive(Clone, Copy, Debug)]
-enum Asked {
+pub(crate) enum Asked {
     Get(u64),
     Insert(u64, u64),
     TryInsert(u64, u64),
@@ -79,7 +79,7 @@ enum Asked {
 }
 
 impl Asked {
-    fn key(self) -> u64 {
+    pub(crate) fn key(self) -> u64 {
         match self {
             Asked::Get(key)
             | Asked::Insert(key, _)
@@ -88,7 +88,7 @@ impl Asked {
         }
     }
 
-    fn call(self) -> Call<u64, u64, Closure> {
+    pub(crate) fn call(self) -> Call<u64, u64, Closure> {
         match self {
             Asked::Get(key) => Call::Get(key),
             Asked::Insert(key, value) => Call::Insert(key, value),
@@ -264,7 +264,12 @@ fn value_of(core: &Numbers, key: u64, number: u64) -> Option<u64> {
 }
 
 /// The reply to a caller's call on this key, by the values of the pairs.
-fn reply_by_value(core: &Numbers, trace: &Trace, caller: usize, key: u64) -> Option<Reply> {
+pub(crate) fn reply_by_value(
+    core: &Numbers,
+    trace: &Trace,
+    caller: usize,
+    key: u64,
+) -> Option<Reply> {
     let (_, reply) = reply_of(trace, caller)?;
     Some(match reply {
         Reply::Found(number) => Reply::Found(value_of(core, key, number)?),

@@ -10,8 +10,9 @@ invariant_of-result g c =
       new_lawful g.K.PartialEq.eq g.K.Hash.hash_input g.S.BuildHasher.build_hasher g.S.Hasher.Hasher.write g.S.Hasher.Hasher.finish g.met.K.Eq.laws g.met.K.Hash.respects_eq
           c.args.mode c.args.capacity c.in_ok-store.initial c.in_ok-store.store c.new.result
           (new-core c.in_ok-store.store c.new.result c.args.mode c.args.capacity c.in_ok-store.initial allowed.0 made.initial.0 few made.words c.new.ensures)
-          made.words c.new.ensures,
-      counted_new c.in_ok-store.store made.pairs c.new.result made.sum c.new.ensures,
+          made.words made.pairs c.new.ensures,
+      counted_new c.in_ok-store.store made.pairs g.K.PartialEq.eq c.new.result made.sum c.new.ensures,
+      made.initial.0,
     )
 
 pub returns-clause-ok : goal.returns-clause-ok
@@ -20,7 +21,7 @@ returns-clause-ok g c =
 
 pub returns-clause-counted : goal.returns-clause-counted
 returns-clause-counted g c =
-    let (allowed, made, few) = c.in_ok-store.ensures.ok in counted_new c.in_ok-store.store made.pairs c.new.result made.sum c.new.ensures
+    let (allowed, made, few) = c.in_ok-store.ensures.ok in counted_new c.in_ok-store.store made.pairs g.K.PartialEq.eq c.new.result made.sum c.new.ensures
 
 pub returns-clause-content : goal.returns-clause-content
-returns-clause-content g c = let (allowed, made, few) = c.in_ok-store.ensures.ok in new_content c.in_ok-store.store made.pairs
+returns-clause-content g c = let (allowed, made, few) = c.in_ok-store.ensures.ok in new_content c.in_ok-store.store made.pairs g.K.PartialEq.eq
