@@ -16,8 +16,9 @@ use Rattle.papaya_lines.specs.declared.printed.Printed.TheVariants as printed
 module _ {S : Type 0} where
   -- the map has this value at the key, or has not the key
   abbrev pub HasAt : MapState ℕ ℕ S → ℕ → Option ℕ → Type 0
-  HasAt s k found = MatchOption found (HasNone (λ key. k == key) s.store)
-      (λ value. (p : Stored ℕ ℕ) × Holds (λ key. k == key) s.store p × (p.value ≡ value))
+  HasAt s k found = MatchOption found (HasNone (λ a b. a == b) (λ key. k == key) s.store)
+      (λ value. (p : Stored ℕ ℕ) × Holds (λ a b. a == b) (λ key. k == key) s.store p
+      × (p.value ≡ value))
 
   -- The command makes of the one map the other, and this is printed; keys are hashed so. A removal
   -- is refused only where the root table has a next one.
@@ -32,7 +33,8 @@ module _ {S : Type 0} where
   Obeys hash (command.Update k) s text s' = (answer : Result (Option ℕ) Refused)
       × (text ≡ of_update answer) × IsUpdated (λ a b. a == b) (hash k) k
       (λ old new. new ≡ follower old) s answer s'
-  Obeys hash command.Len s text s' = (text ≡ printed.Length (length (content s.store))) × (s' ≡ s)
+  Obeys hash command.Len s text s' =
+      (text ≡ printed.Length (length (content (λ a b. a == b) s.store))) × (s' ≡ s)
   Obeys hash command.Slots s text s' = (text ≡ printed.Slots (slots_of s.store)) × (s' ≡ s)
 
   -- the line writes a command, and this does what it asks for

@@ -23,13 +23,13 @@ lookup_alike {V = V} eq law (p ∷ ps) j k e =
 module _ {K V S : Type 0} (eq : K → K → Bool) (law : IsEquivalence eq) where
   -- the pair that the finite map has at a key is logged under its number
   pub logged_there : (s : StoreState K V S) (k : K) (n : ℕ) (p : Stored K V) → map_in eq s k ≡ Some p → p.number ≡ n → pair_of s n ≡ Some p
-  logged_there s k n p there is = subst (λ m. pair_of s m ≡ Some p) is (logged_content s p (lookup_some eq (content s) k p there).0)
+  logged_there s k n p there is = subst (λ m. pair_of s m ≡ Some p) is (logged_content s eq p (lookup_some eq (content eq s) k p there).0)
 
   -- an update that puts the pair of before in its place leaves the map
   pub update_leaves : (s : StoreState K V S) (s' : StoreState K V S) (k : K) (o : Option (Stored K V)) → IsUpdate eq k o o (map_in eq s) (map_in eq s') → Same (map_in eq s) (map_in eq s')
   update_leaves s s' k o u j =
       ⊎_elim
-      (λ (y : eq j k ≡ true). u.class j y ∙ sym (lookup_alike eq law (content s) j k y ∙ u.before))
+      (λ (y : eq j k ≡ true). u.class j y ∙ sym (lookup_alike eq law (content eq s) j k y ∙ u.before))
       (λ (n : eq j k ≡ false). u.others j n)
       (cases_Bool (eq j k))
 

@@ -39,35 +39,35 @@ module _ {K V : Type 0} (eq : K → K → Bool) (classes : IsEquivalence eq) whe
   found_none (q ∷ ps) k none =
       cond-false (eq k q.key) (Some q) (lookup eq (λ (r : Stored K V). r.key) ps k) (none 0 q (omega arith)) ∙ found_none ps k (λ i d within. none (suc i) d (omega (arith, within)))
 
-module _ {K V S : Type 0} (eq : K → K → Bool) (classes : IsEquivalence eq) (s : StoreState K V S) (apart : AreApart eq (λ p. p.key) (content s)) (k : K) where
+module _ {K V S : Type 0} (eq : K → K → Bool) (classes : IsEquivalence eq) (s : StoreState K V S) (apart : AreApart eq (λ p. p.key) (content eq s)) (k : K) where
   -- a class that has what it had
   stays : (s' : StoreState K V S) → Unchanged eq s s' → (o : Option (Stored K V)) → map_in eq s k ≡ o → IsUpdate eq k o o (map_in eq s) (map_in eq s')
   stays s' unchanged o here = record {
     before = here;
-    class = λ j e. unchanged j ∙ lookup_alike eq classes (λ (p : Stored K V). p.key) (content s) j k e ∙ here;
+    class = λ j e. unchanged j ∙ lookup_alike eq classes (λ (p : Stored K V). p.key) (content eq s) j k e ∙ here;
     others = λ j e. unchanged j;
   }
 
   -- the class of a key that holds a pair
-  held_here : (p : Stored K V) → Holds (eq k) s p → map_in eq s k ≡ Some p
-  held_here p holds = found_apart eq classes (content s) apart k p holds.there holds.key
+  held_here : (p : Stored K V) → Holds eq (eq k) s p → map_in eq s k ≡ Some p
+  held_here p holds = found_apart eq classes (content eq s) apart k p holds.there holds.key
 
-  none_here : HasNone (eq k) s → map_in eq s k ≡ None
-  none_here none = found_none eq classes (content s) k none
+  none_here : HasNone eq (eq k) s → map_in eq s k ≡ None
+  none_here none = found_none eq classes (content eq s) k none
 
   -- a lookup that found a pair
-  pub get_found : (A : Type 0) (p : Stored K V) (n : ℕ) → Holds (eq k) s p → p.number ≡ n → IsAnswered {A = A} eq (Get k) (map_in eq s) (Found n) (map_in eq s)
+  pub get_found : (A : Type 0) (p : Stored K V) (n : ℕ) → Holds eq (eq k) s p → p.number ≡ n → IsAnswered {A = A} eq (Get k) (map_in eq s) (Found n) (map_in eq s)
   get_found A p n holds number = record { went = Some p; came = Some p; update = stays s (λ j. refl) (Some p) (held_here p holds); does = (number, refl) }
 
   -- and one that found none
-  pub get_absent : (A : Type 0) → HasNone (eq k) s → IsAnswered {A = A} eq (Get k) (map_in eq s) Absent (map_in eq s)
+  pub get_absent : (A : Type 0) → HasNone eq (eq k) s → IsAnswered {A = A} eq (Get k) (map_in eq s) Absent (map_in eq s)
   get_absent A none = record { went = None; came = None; update = stays s (λ j. refl) None (none_here none); does = refl }
 
   module _ (said : Stored K V → Bool → Type 0) (s' : StoreState K V S) where
     -- the pair of another equal key went
     went : (p : Stored K V) → eq k p.key ≡ true → IsUpdate eq p.key (Some p) None (map_in eq s) (map_in eq s') → IsUpdate eq k (Some p) None (map_in eq s) (map_in eq s')
     went p same update = record {
-      before = lookup_alike eq classes (λ (q : Stored K V). q.key) (content s) k p.key same ∙ update.before;
+      before = lookup_alike eq classes (λ (q : Stored K V). q.key) (content eq s) k p.key same ∙ update.before;
       class = λ j e. update.class j (classes.congr j k p.key e ∙ same);
       others = λ j e. update.others j (other j e);
     }
@@ -115,7 +115,7 @@ module _ {K V S : Type 0} (eq : K → K → Bool) (classes : IsEquivalence eq) (
     remove_said says a gives (Replaced m n) removal = absurd removal
     remove_said says a gives (Occupied n) removal = absurd removal
 
-module _ {K V S A : Type 0} (eq : K → K → Bool) (hash : S → K → ℕ) (classes : IsEquivalence eq) (s : MapState K V S) (apart : AreApart eq (λ p. p.key) (content s.store)) (k : K) (a : A) (says : Says K V A) where
+module _ {K V S A : Type 0} (eq : K → K → Bool) (hash : S → K → ℕ) (classes : IsEquivalence eq) (s : MapState K V S) (apart : AreApart eq (λ p. p.key) (content eq s.store)) (k : K) (a : A) (says : Says K V A) where
   -- a removal by an owned key is a call
   pub remove_called : {said : Stored K V → Bool → Type 0} (reply : Reply) (s' : MapState K V S) → IsRemovalBy eq (eq k) said s.store reply s'.store → (next_of s.store ≡ 0 → (refused : words.Refused) → reply ≡ Refused refused → ⊥) → next_of s.store ≡ 0 → Keeps s s' → ((p : Stored K V) (agrees : Bool) → said p agrees → (a' : A) × says.yes a p.key p.value agrees a') → IsCalled eq hash says s (RemoveIf k a) reply s'
   remove_called {said} reply s' whole never settled keeps gives = record {

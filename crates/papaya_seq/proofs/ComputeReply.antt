@@ -31,7 +31,7 @@ module _ {K V S T : Type 0} (eq : K → K → Bool) (classes : IsEquivalence eq)
   kept_update : (o : Option (Stored K V)) → map_in eq s.store k ≡ o → Same (map_in eq s.store) (map_in eq s'.store) → IsUpdate eq k o o (map_in eq s.store) (map_in eq s'.store)
   kept_update o here same = record {
     before = here;
-    class = λ j e. same j ∙ lookup_alike eq classes (λ (p : Stored K V). p.key) (content s.store) j k e ∙ here;
+    class = λ j e. same j ∙ lookup_alike eq classes (λ (p : Stored K V). p.key) (content eq s.store) j k e ∙ here;
     others = λ j e. same j;
   }
 

@@ -1,5 +1,5 @@
 -- What the closure of a compute is shown is what the map holds: the same call could go on otherwise, to a removal, which says so.
-use Rattle.std.proofs.Common.{◌≡◌, ℕ, ◌^◌, ◌<◌, negsuc, ◌+ℤ◌, Bool, true, Option, None, Some, List, inr, refl, sym, ◌∙◌, subst, eq-eqb}
+use Rattle.std.proofs.Common.{◌≡◌, ℕ, ◌^◌, ◌<◌, negsuc, Bool, true, Option, None, Some, List, inr, refl, sym, ◌∙◌, subst, eq-eqb}
 use Rattle.std.specs.Cmp.{IsEquivalence}
 use Rattle.std.specs.Prelude.{MatchBool}
 use Rattle.papaya_words.specs.Counter.{added}
@@ -41,6 +41,7 @@ use Rattle.papaya_seq.specs.Map.{IsLawfulMap, MapState}
 use Rattle.papaya_seq.proofs.Alone.{map_answered}
 use Rattle.papaya_seq.proofs.Answered.{logged_there}
 use Rattle.papaya_seq.proofs.ComputeStages.{IsUnasked}
+use Rattle.papaya_seq.proofs.Driving.{calling}
 use Rattle.papaya_seq.proofs.Steps.{IsMade, made_alone, made_more, words_of}
 
 -- the compute of a key, whatever a closure answers
@@ -49,11 +50,11 @@ compute_of k = Compute_call k tt
 
 -- and as a call under way that has made nothing
 abbrev pub computing : {K V : Type 0} → Machine → K → Option V → Running K V (Unit {0})
-computing m k left = record { machine = m; key = Own k; value = left; answers = Some tt }
+computing m k left = record { machine = calling m; key = Own k; value = left; answers = Some tt }
 
 -- a call under way, whatever its closure answers
 abbrev pub asking : {K V A : Type 0} → Running K V A → Running K V (Unit {0})
-asking r = record { machine = r.machine; key = r.key; value = r.value; answers = Some tt }
+asking r = record { machine = calling r.machine.call; key = r.key; value = r.value; answers = Some tt }
 
 -- only where it would fill a gap a machine shows that there is none
 pub offering : (made : Made) (h : ℕ) (state : State) → asks made h state ≡ ShowNone → (gap : Gap) × (state ≡ Offering gap)
@@ -110,7 +111,7 @@ exchange_made store at old new here =
     (sym (eq-eqb (word_at store.words at) old here)) (refl, refl)
 
 module _ {K V S H : Type 0} (eq : K → K → Bool) (input : K → List (List ℕ)) (build : S → H) (write : H → List ℕ → H) (finish : H → ℕ) (classes : IsEquivalence eq) (respects : (x y : K) → eq x y ≡ true → input x ≡ input y)
-    (s : MapState K V S) (lawful : IsLawfulMap eq (hash_of input build write finish s.store.hasher) s.store s.mode) (k : K) (fits : hash_of input build write finish s.store.hasher k < 2 ^ 64)
+    (s : MapState K V S) (lawful : IsLawfulMap eq (hash_of input build write finish s.store.hasher) s.store s.mode s.initial) (k : K) (fits : hash_of input build write finish s.store.hasher k < 2 ^ 64)
     (hash : ℕ) (left : Option V) where
   -- the machine of the compute
   abbrev at_state : State → Machine

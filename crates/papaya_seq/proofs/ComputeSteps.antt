@@ -23,6 +23,7 @@ use Rattle.papaya_call.specs.declared.compute.Remembered.{Remembered}
 use Rattle.papaya_call.specs.declared.machine.Machine.{Machine}
 use Rattle.papaya_call.specs.declared.machine.State.{State}
 use Rattle.papaya_call.specs.declared.machine.State.TheVariants.{AtRoot, Making, Opening, Searching, Writing, Offering, Showing, Pairing, Putting, Burying, Counting, Uncounting, Leaving, Growing, Ended}
+use Rattle.papaya_chain.specs.declared.machine.Machine.{Machine as Chain_machine}
 use Rattle.papaya_ask.specs.declared.search.Place.{Place}
 use Rattle.papaya_ask.specs.declared.search.Search.TheVariants.{Sizing, Looking, Comparing}
 use Rattle.papaya_call.specs.declared.write.Made.{Made}
@@ -37,7 +38,6 @@ use Rattle.papaya_store.specs.declared.pairs.KeyOf.{KeyOf}
 use Rattle.papaya_store.specs.declared.pairs.KeyOf.TheVariants.{Own, Logged}
 use Rattle.papaya_store.specs.declared.pairs.Pair.{Pair as LoggedPair}
 use Rattle.papaya_store.specs.declared.pairs.Running.{Running}
-use Rattle.papaya_timeline.specs.Advances.{reply_in}
 use Rattle.papaya_store.specs.Performs.{Performs, Refuses, same_stored, size_of}
 use Rattle.papaya_store.specs.Store.{StoreState, pair_of, stored_at, stored_in}
 use Rattle.papaya_store.specs.Tables.{Tables, put, table_of, word_at}
@@ -46,20 +46,21 @@ use Rattle.papaya_seq.specs.Map.{IsWriteCause}
 use Rattle.papaya_seq.proofs.ComputeStages.{IsAborting, IsFilling, IsInserting, IsPaired, IsPurposeThere, IsRemoving, IsUnasked, compared_sight, goes_unasked, look_sight}
 use Rattle.papaya_seq.proofs.Past.{IsFirst, IsSlotThere, blank_word}
 use Rattle.papaya_seq.proofs.RemovalTurns.{IsFound}
+use Rattle.papaya_seq.proofs.Driving.{reply_in}
 use Rattle.papaya_seq.proofs.Steps.{IsAnswerable, words_of}
 
 -- the last of a list that was pushed to
 pushed_last : {X : Type 0} (xs : List X) (x : X) → slice_get (xs ++ x ∷ []) (length xs) ≡ Some x
 pushed_last xs x = slice_get_read (xs ++ x ∷ []) (length xs + 1) (length xs) x (sym (length_push xs x)) (omega arith) (sym (get_or_push xs x x (length xs) refl))
 
-module _ {K V S A : Type 0} (eq : K → K → Bool) (says : Says K V A) (s : StoreState K V S) (k : K) (hash : ℕ) (mode : ResizeMode) (initial : ℕ) where
+module _ {K V S A : Type 0} (eq : K → K → Bool) (says : Says K V A) (s : StoreState K V S) (k : K) (hash : ℕ) (mode : ResizeMode) (initial : ℕ) (outer : Chain_machine) where
   -- the machine of a compute
   abbrev pub machine : Made → Remembered → State → Machine
   machine made held state = record { task = Compute; hash = hash; mode = mode; initial = initial; made = made; remembered = held; state = state }
 
   -- and its call
   abbrev pub call_at : Made → Remembered → State → KeyOf K → Option V → Option A → Running K V A
-  call_at made held state key left answers = record { machine = machine made held state; key = key; value = left; answers = answers }
+  call_at made held state key left answers = record { machine = record outer { call = machine made held state }; key = key; value = left; answers = answers }
 
   module _ (found : IsFound s) (left : Option V) (answers : Option A) where
     -- the call before its closure was called

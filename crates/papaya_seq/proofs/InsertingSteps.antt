@@ -1,5 +1,5 @@
 -- An insertion of a map for one caller, over one answer.
-use Rattle.std.proofs.Common.{◌≡◌, ℕ, ◌+◌, ◌≤◌, Bool, false, Option, None, Some, List, length, ◌⊎◌, inl, inr, refl, sym, ◌∙◌, ap, subst, arith}
+use Rattle.std.proofs.Common.{◌≡◌, ℕ, zero, suc, [], ◌+◌, ◌≤◌, Bool, false, Option, None, Some, List, length, ◌⊎◌, inl, inr, refl, sym, ◌∙◌, ap, subst, arith}
 use Rattle.papaya_words.specs.Table.{TableWords, new_table}
 use Rattle.papaya_words.specs.Word.{kind_of, pair_of as pair_number}
 use Rattle.papaya_words.specs.declared.limits.TheConstants.{MAX_LOG_LEN, MAX_TABLES}
@@ -24,10 +24,9 @@ use Rattle.papaya_ask.specs.Search.{IsSize, look, at_yes as search_compared}
 use Rattle.papaya_law.specs.Content.{lookup}
 use Rattle.papaya_rests.proofs.AloneSteps.{exchange_done}
 use Rattle.papaya_rests.proofs.RestsReplyRefused.{IsMaking}
-use Rattle.papaya_timeline.specs.Content.{map_in, pairs_of_table}
+use Rattle.papaya_timeline.specs.Content.{map_in, pairs_from}
 use Rattle.papaya_store.specs.declared.pairs.KeyOf.TheVariants.{Own, Logged}
 use Rattle.papaya_store.specs.declared.pairs.Running.{Running}
-use Rattle.papaya_timeline.specs.Advances.{reply_in}
 use Rattle.papaya_store.specs.Performs.{Performs, Refuses, own_key, same as same_keys, size_of}
 use Rattle.papaya_store.specs.Store.{StoreState, Stored, pair_of}
 use Rattle.papaya_store.specs.Tables.{Tables, table_of, word_at}
@@ -35,6 +34,7 @@ use Rattle.papaya_timeline.proofs.KeptTables.{index-zeros, made-there}
 use Rattle.papaya_seq.specs.Map.{IsWriteCause}
 use Rattle.papaya_seq.proofs.Inserting.{IsAtHand, IsEnd, IsPlain, IsRefusal, IsSized, IsStage, blank_stage, carried, compared_stage, looked_stage, refused_absent, root_stage, value_at_hand, written_stage}
 use Rattle.papaya_seq.proofs.Past.{IsFirst, IsPast}
+use Rattle.papaya_seq.proofs.Driving.{reply_in}
 use Rattle.papaya_seq.proofs.Steps.{IsAnswerable, words_of}
 
 module _ {K V S : Type 0} (s : StoreState K V S) (value : V) where
@@ -42,16 +42,16 @@ module _ {K V S : Type 0} (s : StoreState K V S) (value : V) where
   refused_end : (hash : ℕ) (left : Option V) (refused : Refused) → IsWriteCause hash s refused → IsEnd hash s value (Reply_refused refused) left
   refused_end hash left refused cause = (λ other e. subst (IsWriteCause hash s) (let f : refused ≡ other = cc in f) cause, λ n e. absurd cc)
 
-module _ {K V S A : Type 0} (eq : K → K → Bool) (says : Says K V A) (s : StoreState K V S) (value : V) (replace : Bool) (store : StoreState K V S) (r : Running K V A) (task_is : r.machine.task ≡ Insert replace) where
+module _ {K V S A : Type 0} (eq : K → K → Bool) (says : Says K V A) (s : StoreState K V S) (value : V) (replace : Bool) (store : StoreState K V S) (r : Running K V A) (task_is : r.machine.call.task ≡ Insert replace) where
   -- the call in this state
   abbrev at : Made → State → Running K V A
-  at made state = record r { machine = record r.machine { made = made; state = state } }
+  at made state = record r { machine = record r.machine { call = record r.machine.call { made = made; state = state } } }
 
   -- what is so after an answer
   abbrev Leads : Made → State → StoreState K V S → Running K V A → Answer → Type 0
   Leads made state store' later answer =
-      IsAtHand r.machine.hash s value (after (record r.machine { made = made; state = state }) answer).made store'.keys store'.pairs later.key later.value
-      × IsStage r.machine.hash s value store'.words later.value (after (record r.machine { made = made; state = state }) answer).made (after (record r.machine { made = made; state = state }) answer).state
+      IsAtHand r.machine.call.hash s value (after (record r.machine.call { made = made; state = state }) answer).made store'.keys store'.pairs later.key later.value
+      × IsStage r.machine.call.hash s value store'.words later.value (after (record r.machine.call { made = made; state = state }) answer).made (after (record r.machine.call { made = made; state = state }) answer).state
 
   -- an answer that is known, with what it leaves
   leads_by : (made : Made) (state : State) (answer told : Answer) (store' store1 : StoreState K V S) (later later1 : Running K V A) → answer ≡ told → store' ≡ store1 → later ≡ later1 → Leads made state store1 later1 told → Leads made state store' later answer
@@ -62,32 +62,32 @@ module _ {K V S A : Type 0} (eq : K → K → Bool) (says : Says K V A) (s : Sto
 
   -- what is to be made is refused
   refused_leads : (made : Made) (state : State) (most count : ℕ) (answer : Answer) (store' : StoreState K V S) (later : Running K V A) → store' ≡ store → later ≡ at made state → Refuses most count answer
-      → ((refused : Refused) → IsWriteCause r.machine.hash s refused → Leads made state store (at made state) (Was_refused refused)) → (most ≤ count → IsWriteCause r.machine.hash s Capacity) → Leads made state store' later answer
+      → ((refused : Refused) → IsWriteCause r.machine.call.hash s refused → Leads made state store (at made state) (Was_refused refused)) → (most ≤ count → IsWriteCause r.machine.call.hash s Capacity) → Leads made state store' later answer
   refused_leads made state most count answer store' later same stays (inl e) leads full = leads_by made state answer (Was_refused Memory) store' store later (at made state) e same stays (leads Memory (inl refl))
   refused_leads made state most count answer store' later same stays (inr (e, past)) leads full = leads_by made state answer (Was_refused Capacity) store' store later (at made state) e same stays (leads Capacity (full past))
 
   -- the key is logged, then the pair, then the exchange is made
-  writing_leads : (made : Made) (write : Write) (answer : Answer) (store' : StoreState K V S) (later : Running K V A) → IsRead (words_of store) (Writing write) → IsAtHand r.machine.hash s value made store.keys store.pairs r.key r.value → IsStage r.machine.hash s value store.words r.value made (Writing write) → Performs eq says false (asks made r.machine.hash (Writing write)) store (at made (Writing write)) answer store' later → Leads made (Writing write) store' later answer
+  writing_leads : (made : Made) (write : Write) (answer : Answer) (store' : StoreState K V S) (later : Running K V A) → IsRead (words_of store) (Writing write) → IsAtHand r.machine.call.hash s value made store.keys store.pairs r.key r.value → IsStage r.machine.call.hash s value store.words r.value made (Writing write) → Performs eq says false (asks made r.machine.call.hash (Writing write)) store (at made (Writing write)) answer store' later → Leads made (Writing write) store' later answer
   writing_leads Nothing write answer store' later read hand stage (inl (refused, (same, stays))) =
-      refused_leads Nothing (Writing write) MAX_LOG_LEN (length store.keys) answer store' later same stays refused (λ x cause. (hand, refused_end s value r.machine.hash r.value x cause))
+      refused_leads Nothing (Writing write) MAX_LOG_LEN (length store.keys) answer store' later same stays refused (λ x cause. (hand, refused_end s value r.machine.call.hash r.value x cause))
       (λ full. inr (refl, inl (subst (λ (l : List K). MAX_LOG_LEN ≤ length l) hand.2 full)))
   writing_leads Nothing write answer store' later read hand stage (inr (inl ((e, n, logged), stays))) = let own = hand.0.1 in let f : Own hand.0.0 ≡ Logged n = sym own ∙ logged in absurd cc
   writing_leads Nothing write answer store' later read hand stage (inr (inr (k, own, e, few, same, goes))) = leads_by Nothing (Writing write) answer _ store' _ later _ e same goes (((length store.keys, refl), hand.1, hand.3), stage)
   writing_leads Key write answer store' later read hand stage (inl (refused, (same, stays))) =
-      refused_leads Key (Writing write) MAX_LOG_LEN (length store.pairs) answer store' later same stays refused (λ x cause. (hand, refused_end s value r.machine.hash r.value x cause))
+      refused_leads Key (Writing write) MAX_LOG_LEN (length store.pairs) answer store' later same stays refused (λ x cause. (hand, refused_end s value r.machine.call.hash r.value x cause))
       (λ full. inr (refl, inr (inl (subst (λ l. MAX_LOG_LEN ≤ l) (ap length hand.2) full))))
   writing_leads Key write answer store' later read hand stage (inr (inl ((e, inl (k, own)), stays))) = let logged = hand.0.1 in let f : Own k ≡ Logged hand.0.0 = sym own ∙ logged in absurd cc
   writing_leads Key write answer store' later read hand stage (inr (inl ((e, inr none), stays))) = let has = hand.1 in let f : None ≡ Some value = sym none ∙ has in absurd cc
   writing_leads Key write answer store' later read hand stage (inr (inr (n, v, logged, has, e, few, same, goes))) = leads_by Key (Writing write) answer _ store' _ later _ e same goes (tt, stage)
   writing_leads (Pair n) write answer store' later read hand stage (made, stays) =
       let done = exchange_done _ _ (word_at store.words (Slot write.place.table write.place.probe.i)) write.old read made in
-      leads_by (Pair n) (Writing write) answer _ store' _ later _ done.0 done.1 stays (tt, written_stage r.machine.hash s value r.value replace r.machine.mode r.machine.remembered _ (Pair n) write n)
+      leads_by (Pair n) (Writing write) answer _ store' _ later _ done.0 done.1 stays (tt, written_stage r.machine.call.hash s value r.value replace r.machine.call.mode r.machine.call.remembered _ (Pair n) write n)
 
-  module _ (plain : IsPlain r.machine.hash s value) (rooted : (s.words.root ≡ 0 → ⊥) → (table : TableWords) × (table_of s.words.tables s.words.root ≡ Some table)) where
+  module _ (plain : IsPlain r.machine.call.hash s value) (rooted : (s.words.root ≡ 0 → ⊥) → (table : TableWords) × (table_of s.words.tables s.words.root ≡ Some table)) where
     -- the first table is made
-    making_leads : (made : Made) (answer : Answer) (store' : StoreState K V S) (later : Running K V A) → IsAtHand r.machine.hash s value made store.keys store.pairs r.key r.value → IsStage r.machine.hash s value store.words r.value made Making → Performs eq says false (asks made r.machine.hash Making) store (at made Making) answer store' later → Leads made Making store' later answer
+    making_leads : (made : Made) (answer : Answer) (store' : StoreState K V S) (later : Running K V A) → IsAtHand r.machine.call.hash s value made store.keys store.pairs r.key r.value → IsStage r.machine.call.hash s value store.words r.value made Making → Performs eq says false (asks made r.machine.call.hash Making) store (at made Making) answer store' later → Leads made Making store' later answer
     making_leads made answer store' later hand stage (inl (refused, same), stays) =
-        refused_leads made Making MAX_TABLES (length store.words.tables) answer store' later same stays refused (λ x cause. (hand, refused_end s value r.machine.hash r.value x cause))
+        refused_leads made Making MAX_TABLES (length store.words.tables) answer store' later same stays refused (λ x cause. (hand, refused_end s value r.machine.call.hash r.value x cause))
         (λ full. inr (refl, inr (inr (inl (subst (λ (w : Tables). MAX_TABLES ≤ length w.tables) stage.1 full)))))
     making_leads made answer store' later hand stage (inr (e, few, same), stays) =
         leads_by made Making answer _ store' _ later _ e same stays (
@@ -96,7 +96,7 @@ module _ {K V S A : Type 0} (eq : K → K → Bool) (says : Says K V A) (s : Sto
         )
 
     -- a table is searched
-    sizing_leads : (made : Made) (t : ℕ) (answer : Answer) (store' : StoreState K V S) (later : Running K V A) → IsAtHand r.machine.hash s value made store.keys store.pairs r.key r.value → (made ≡ Nothing) → IsSized r.machine.hash s value store.words t → Performs eq says false (asks made r.machine.hash (Searching (Sizing t))) store (at made (Searching (Sizing t))) answer store' later → Leads made (Searching (Sizing t)) store' later answer
+    sizing_leads : (made : Made) (t : ℕ) (answer : Answer) (store' : StoreState K V S) (later : Running K V A) → IsAtHand r.machine.call.hash s value made store.keys store.pairs r.key r.value → (made ≡ Nothing) → IsSized r.machine.call.hash s value store.words t → Performs eq says false (asks made r.machine.call.hash (Searching (Sizing t))) store (at made (Searching (Sizing t))) answer store' later → Leads made (Searching (Sizing t)) store' later answer
     sizing_leads made t answer store' later hand none (inl (same_words, root, (table, there))) (e, (same, stays)) =
         leads_by made (Searching (Sizing t)) answer (Size (length table.slots) table.limit) store' store later _ (e ∙ ap size_of there) same stays
         (hand, (none, inl (same_words, record { table = table; root = root; there = there; len = refl; limit = refl; place_is = refl; filled = λ j lt. absurd (omega arith) })))
@@ -105,26 +105,26 @@ module _ {K V S A : Type 0} (eq : K → K → Bool) (says : Says K V A) (s : Sto
         (hand, (none, inr (record { is_blank = blank; len = refl })))
 
     -- a place was looked at
-    looking_leads : (made : Made) (place : Place) (answer : Answer) (store' : StoreState K V S) (later : Running K V A) → IsStandingState r.machine.task (Searching (Looking place)) → IsAtHand r.machine.hash s value made store.keys store.pairs r.key r.value → (made ≡ Nothing) → ((store.words ≡ s.words) × IsPast r.machine.hash store.words place) ⊎ IsFirst store.words.tables place → Performs eq says false (asks made r.machine.hash (Searching (Looking place))) store (at made (Searching (Looking place))) answer store' later → Leads made (Searching (Looking place)) store' later answer
+    looking_leads : (made : Made) (place : Place) (answer : Answer) (store' : StoreState K V S) (later : Running K V A) → IsStandingState r.machine.call.task (Searching (Looking place)) → IsAtHand r.machine.call.hash s value made store.keys store.pairs r.key r.value → (made ≡ Nothing) → ((store.words ≡ s.words) × IsPast r.machine.call.hash store.words place) ⊎ IsFirst store.words.tables place → Performs eq says false (asks made r.machine.call.hash (Searching (Looking place))) store (at made (Searching (Looking place))) answer store' later → Leads made (Searching (Looking place)) store' later answer
     looking_leads made place answer store' later within hand none (inl (same_words, past)) (e, (same, stays)) =
         leads_by made (Searching (Looking place)) answer _ store' store later _ e same stays (
           hand,
-          subst (λ (w : Tables). IsStage r.machine.hash s value w r.value made (goes_as r.machine.task r.machine.mode r.machine.remembered (look place r.machine.hash (word_at w (Slot place.table place.probe.i))))) (sym same_words)
-              (carried r.machine.hash s value r.value replace r.machine.mode r.machine.remembered s.words r.value made r.machine.task (look place r.machine.hash (word_at s.words (Slot place.table place.probe.i))) refl refl none task_is
-              (looked_stage r.machine.hash s value r.value replace r.machine.mode r.machine.remembered (kind_of (word_at s.words (Slot place.table place.probe.i))) place (subst (λ (w : Tables). IsPast r.machine.hash w place) same_words past) within plain refl)),
+          subst (λ (w : Tables). IsStage r.machine.call.hash s value w r.value made (goes_as r.machine.call.task r.machine.call.mode r.machine.call.remembered (look place r.machine.call.hash (word_at w (Slot place.table place.probe.i))))) (sym same_words)
+              (carried r.machine.call.hash s value r.value replace r.machine.call.mode r.machine.call.remembered s.words r.value made r.machine.call.task (look place r.machine.call.hash (word_at s.words (Slot place.table place.probe.i))) refl refl none task_is
+              (looked_stage r.machine.call.hash s value r.value replace r.machine.call.mode r.machine.call.remembered (kind_of (word_at s.words (Slot place.table place.probe.i))) place (subst (λ (w : Tables). IsPast r.machine.call.hash w place) same_words past) within plain refl)),
         )
     looking_leads made place answer store' later within hand none (inr first) (e, (same, stays)) =
         leads_by made (Searching (Looking place)) answer _ store' store later _ e same stays (
           hand,
-          blank_stage r.machine.hash s value r.value replace r.machine.mode r.machine.remembered store.words made r.machine.task place task_is first within,
+          blank_stage r.machine.call.hash s value r.value replace r.machine.call.mode r.machine.call.remembered store.words made r.machine.call.task place task_is first within,
         )
 
     -- in each state
-    pub leads_in : (made : Made) (state : State) (answer : Answer) (store' : StoreState K V S) (later : Running K V A) → IsRead (words_of store) state → IsStandingState r.machine.task state → IsAtHand r.machine.hash s value made store.keys store.pairs r.key r.value → IsStage r.machine.hash s value store.words r.value made state → reply_in (asks made r.machine.hash state) ≡ None → Performs eq says false (asks made r.machine.hash state) store (at made state) answer store' later → Leads made state store' later answer
+    pub leads_in : (made : Made) (state : State) (answer : Answer) (store' : StoreState K V S) (later : Running K V A) → IsRead (words_of store) state → IsStandingState r.machine.call.task state → IsAtHand r.machine.call.hash s value made store.keys store.pairs r.key r.value → IsStage r.machine.call.hash s value store.words r.value made state → reply_in (asks made r.machine.call.hash state) ≡ None → Performs eq says false (asks made r.machine.call.hash state) store (at made state) answer store' later → Leads made state store' later answer
     leads_in made AtRoot answer store' later read stands hand stage going (e, (same, stays)) =
         leads_by made AtRoot answer _ store' store later _ e same stays (
           hand,
-          root_stage r.machine.hash s value r.value replace r.machine.mode r.machine.remembered store.words made r.machine.task store.words.root stage.0 task_is stage.1 refl
+          root_stage r.machine.call.hash s value r.value replace r.machine.call.mode r.machine.call.remembered store.words made r.machine.call.task store.words.root stage.0 task_is stage.1 refl
               (subst (λ (w : Tables). (w.root ≡ 0 → ⊥) → (table : TableWords) × (table_of w.tables w.root ≡ Some table)) (sym stage.1) rooted),
         )
     leads_in made Making answer store' later read stands hand stage going performs = making_leads made answer store' later hand stage performs
@@ -137,8 +137,8 @@ module _ {K V S A : Type 0} (eq : K → K → Bool) (says : Says K V A) (s : Sto
         let same_key = same_keys eq (own_key store r) (pair_of store (pair_number word)) in
         leads_by made (Searching (Comparing place word)) answer (Yes same_key) store' store later _ e same_store stays (
           hand,
-          carried r.machine.hash s value r.value replace r.machine.mode r.machine.remembered store.words r.value made r.machine.task (search_compared (Comparing place word) same_key) same_words refl none task_is
-              (compared_stage r.machine.hash s value r.value r.machine.mode r.machine.remembered (value_at_hand r.machine.hash s value made store.keys store.pairs r.key r.value none hand) replace place word same_key (subst (λ (w : Tables). IsPast r.machine.hash w place) same_words past) stands
+          carried r.machine.call.hash s value r.value replace r.machine.call.mode r.machine.call.remembered store.words r.value made r.machine.call.task (search_compared (Comparing place word) same_key) same_words refl none task_is
+              (compared_stage r.machine.call.hash s value r.value r.machine.call.mode r.machine.call.remembered (value_at_hand r.machine.call.hash s value made store.keys store.pairs r.key r.value none hand) replace place word same_key (subst (λ (w : Tables). IsPast r.machine.call.hash w place) same_words past) stands
               (sym (ap (λ (w : Tables). word_at w (Slot place.table place.probe.i)) same_words) ∙ read) live),
         )
     leads_in made (Writing write) answer store' later read stands hand stage going performs = writing_leads made write answer store' later read hand stage performs
@@ -152,11 +152,11 @@ module _ {K V S A : Type 0} (eq : K → K → Bool) (says : Says K V A) (s : Sto
     leads_in made (Uncounting n) answer store' later read stands hand stage going performs = absurd stage
     leads_in made (Leaving t) answer store' later read stands hand stage going performs = absurd stage
     leads_in made (Growing t) answer store' later read stands hand stage going (e, (same, stays)) =
-        leads_by made (Growing t) answer _ store' store later _ e same stays (hand, refused_end s value r.machine.hash r.value Capacity (inr (refl, inr (inr (inr stage)))))
+        leads_by made (Growing t) answer _ store' store later _ e same stays (hand, refused_end s value r.machine.call.hash r.value Capacity (inr (refl, inr (inr (inr stage)))))
     leads_in made (Ended reply) answer store' later read stands hand stage going performs = absurd cc
 
   -- what the machine asks about is there
-  pub answerable_in : (made : Made) (state : State) → ((n : ℕ) (t : TableWords) → table_of store.words.tables n ≡ Some t → IsSize (length t.slots) t.limit) → IsAtHand r.machine.hash s value made store.keys store.pairs r.key r.value → IsStage r.machine.hash s value store.words r.value made state → reply_in (asks made r.machine.hash state) ≡ None → IsAnswerable store r (asks made r.machine.hash state)
+  pub answerable_in : (made : Made) (state : State) → ((n : ℕ) (t : TableWords) → table_of store.words.tables n ≡ Some t → IsSize (length t.slots) t.limit) → IsAtHand r.machine.call.hash s value made store.keys store.pairs r.key r.value → IsStage r.machine.call.hash s value store.words r.value made state → reply_in (asks made r.machine.call.hash state) ≡ None → IsAnswerable store r (asks made r.machine.call.hash state)
   answerable_in made AtRoot sized hand stage going = tt
   answerable_in made Making sized hand stage going = tt
   answerable_in made (Opening t) sized hand stage going = tt
@@ -189,7 +189,7 @@ module _ {K V S A : Type 0} (eq : K → K → Bool) (says : Says K V A) (s : Sto
   log_full most count (inr (e, full)) = inr full
 
   -- where the key or the pair of a write was refused, memory is short or its log is full
-  write_refused : (made : Made) (write : Write) (store' : StoreState K V S) (later : Running K V A) → IsRead (words_of store) (Writing write) → IsAtHand r.machine.hash s value made store.keys store.pairs r.key r.value → Performs eq says false (asks made r.machine.hash (Writing write)) store r (Was_refused refused) store' later → LeavesSo store'
+  write_refused : (made : Made) (write : Write) (store' : StoreState K V S) (later : Running K V A) → IsRead (words_of store) (Writing write) → IsAtHand r.machine.call.hash s value made store.keys store.pairs r.key r.value → Performs eq says false (asks made r.machine.call.hash (Writing write)) store r (Was_refused refused) store' later → LeavesSo store'
   write_refused Nothing write store' later read hand (inl (full, (same, stays))) =
       (same, elim (log_full MAX_LOG_LEN (length store.keys) full) [ inl memory ↦ inl memory | inr most ↦ inr (inl (subst (λ (l : List K). MAX_LOG_LEN ≤ length l) hand.2 most)) ])
   write_refused Nothing write store' later read hand (inr (inl (has, stays))) = let e = has.0 in absurd cc
@@ -200,13 +200,20 @@ module _ {K V S A : Type 0} (eq : K → K → Bool) (says : Says K V A) (s : Sto
   write_refused Key write store' later read hand (inr (inr (n, v, logged, has, e, few, same, goes))) = absurd cc
   write_refused (Pair n) write store' later read hand (made, stays) = let done = exchange_done _ _ (word_at store.words (Slot write.place.table write.place.probe.i)) write.old read made in let f : Was_refused refused ≡ Exchanged = done.0 in absurd cc
 
+  -- from no table on there are no pairs
+  no_pairs : (n : ℕ) → pairs_from eq store n None ≡ []
+  no_pairs zero = refl
+  no_pairs (suc n) = refl
+
   -- what a refusal leaves of the store: it stays, and where an insertion was about to write why
-  pub refused_in : (made : Made) (state : State) (store' : StoreState K V S) (later : Running K V A) → IsMaking state → IsRead (words_of store) state → IsAtHand r.machine.hash s value made store.keys store.pairs r.key r.value → IsStage r.machine.hash s value store.words r.value made state
-      → ((write : Write) → state ≡ Writing write → replace ≡ false → map_in eq store k ≡ None) → Performs eq says false (asks made r.machine.hash state) store r (Was_refused refused) store' later → IsRefusal eq s k replace store' refused
+  pub refused_in : (made : Made) (state : State) (store' : StoreState K V S) (later : Running K V A) → IsMaking state → IsRead (words_of store) state → IsAtHand r.machine.call.hash s value made store.keys store.pairs r.key r.value → IsStage r.machine.call.hash s value store.words r.value made state
+      → ((write : Write) → state ≡ Writing write → replace ≡ false → map_in eq store k ≡ None) → Performs eq says false (asks made r.machine.call.hash state) store r (Was_refused refused) store' later → IsRefusal eq s k replace store' refused
   refused_in made Making store' later making read hand stage writes (inl (full, same), stays) = refused_absent eq s k replace store' refused (ap (λ (y : StoreState K V S). map_in eq y k) same ∙ rootless)
     where
       rootless : map_in eq store k ≡ None
-      rootless = ap (λ n. lookup eq (λ (p : Stored K V). p.key) (pairs_of_table store (table_of store.words.tables n)) k) read
+      rootless =
+          ap (λ n. lookup eq (λ (p : Stored K V). p.key) (pairs_from eq store (length store.words.tables) (table_of store.words.tables n)) k) read
+          ∙ ap (λ l. lookup eq (λ (p : Stored K V). p.key) l k) (no_pairs (length store.words.tables))
   refused_in made Making store' later making read hand stage writes (inr (e, few, same), stays) = absurd cc
   refused_in made (Writing write) store' later making read hand stage writes performs =
       let left = write_refused made write store' later read hand performs in

@@ -12,6 +12,7 @@ use Rattle.papaya_words.specs.declared.word.Kind.{Kind}
 use Rattle.papaya_words.specs.declared.word.Kind.TheVariants as kinds
 use Rattle.papaya_rests.specs.Alone.{IsBare}
 use Rattle.papaya_ask.specs.declared.ask.At.TheVariants.{Next, Root, Slot}
+use Rattle.papaya_law.specs.ChainContent.{missing_in, unless_found}
 use Rattle.papaya_law.specs.Content.{lookup}
 use Rattle.papaya_law.specs.Exchange.{Word, Empty, State, run, start}
 use Rattle.papaya_law.specs.Code.{IsOfKind, code}
@@ -20,13 +21,14 @@ use Rattle.papaya_law.specs.Grows.{Comes}
 use Rattle.papaya_law.proofs.CodeViews.{word_of_kind}
 use Rattle.papaya_law.proofs.Logs.{on_comes}
 use Rattle.papaya_law.proofs.OneMap.{sound}
-use Rattle.papaya_timeline.specs.Content.{content, listed, pairs_of_kind, pairs_of_slots, pairs_of_table}
+use Rattle.papaya_timeline.specs.Content.{content, listed, pairs_from, pairs_of_kind, pairs_of_slots}
 use Rattle.papaya_timeline.specs.declared.seat.Seat.{Seat}
 use Rattle.papaya_timeline.specs.Kept.{IsLawfulCore, setting_of, coding_of, low}
 use Rattle.papaya_store.specs.Store.{StoreState, Stored, pair_of, stored_at, stored_in}
 use Rattle.papaya_store.specs.Tables.{table_of, word_at}
 use Rattle.papaya_timeline.proofs.KeptSettings.{IsLawfulKeys, tables_hashed}
 use Rattle.papaya_seq.specs.Map.{HasNone, Holds, IsLawfulMap}
+use Rattle.papaya_seq.proofs.Driving.{words_single}
 
 -- the table that the root of a core names is there
 pub core_root_there : {K V S A : Type 0} (eq : K → K → Bool) (hash : K → ℕ) (callers : List (Seat K V A)) (mode : ResizeMode) (store : StoreState K V S) → IsLawfulKeys eq hash → IsLawfulCore eq hash store callers mode → (store.words.root ≡ 0 → ⊥) → (t : TableWords) × (table_of store.words.tables store.words.root ≡ Some t)
@@ -39,10 +41,10 @@ core_root_there {V = V} eq hash callers mode store keys lawful some =
     let comes : Comes now now.root = ⊎_elim (λ (none : (now.root ≡ 0) × (now.first ≡ 0)). absurd (some (sym is ∙ none.0))) (on_comes now now.root) (sound g hashed.lawful es kept.allowed).root in
     subst (λ n. (t : TableWords) × (table_of store.words.tables n ≡ Some t)) is (kept.made now.root (⊎_elim (λ (positive : 0 < now.root). positive) (λ (least : now.root ≤ 0). absurd (some (sym is ∙ omega arith))) (cases_lt 0 now.root)) comes)
 
-module _ {K V S : Type 0} (eq : K → K → Bool) (hash : K → ℕ) (mode : ResizeMode) (store : StoreState K V S) (lawful : IsLawfulMap eq hash store mode) where
+module _ {K V S : Type 0} (eq : K → K → Bool) (hash : K → ℕ) (mode : ResizeMode) (store : StoreState K V S) {initial : ℕ} (lawful : IsLawfulMap eq hash store mode initial) where
   -- no table has a next one
   pub single : (t : ℕ) → word_at store.words (Next t) ≡ 0
-  single t = let (es, (tales, kept)) = lawful.lawful.law in sym (kept.coded (Next t)) ∙ kept.single t
+  single = words_single store.words lawful.single
 
   -- the word of an empty slot is 0
   pub bare : IsBare (λ at. word_at store.words at)
@@ -108,16 +110,33 @@ module _ {K V S : Type 0} (store : StoreState K V S) where
   slots_logged [] = All-nil (λ p. pair_of store p.number ≡ Some p)
   slots_logged (word ∷ words) = All-append (λ p. pair_of store p.number ≡ Some p) (pairs_of_kind store (kind_of word) (number_of word)) (pairs_of_slots store words) (kind_logged (kind_of word) (number_of word)) (slots_logged words)
 
-  table_logged : (o : Option TableWords) → AreLogged (pairs_of_table store o)
-  table_logged None = All-nil (λ p. pair_of store p.number ≡ Some p)
-  table_logged (Some t) = slots_logged t.slots
+  module _ (eq : K → K → Bool) where
+    -- the pairs of a further table whose keys were not found before
+    found_logged : (o : Option (Stored K V)) (q : Stored K V) → pair_of store q.number ≡ Some q → AreLogged (unless_found o q)
+    found_logged None q logged = All-cons (λ p. pair_of store p.number ≡ Some p) q [] logged (All-nil (λ p. pair_of store p.number ≡ Some p))
+    found_logged (Some p) q logged = All-nil (λ p. pair_of store p.number ≡ Some p)
 
-  -- the content's pairs are logged
-  pub all_logged : All (λ p. pair_of store p.number ≡ Some p) (content store)
-  all_logged = table_logged (table_of store.words.tables store.words.root)
+    missing_logged : (ps qs : List (Stored K V)) → AreLogged qs → AreLogged (missing_in eq (λ p. p.key) ps qs)
+    missing_logged ps [] logged = All-nil (λ p. pair_of store p.number ≡ Some p)
+    missing_logged ps (q ∷ qs) logged =
+        All-append (λ p. pair_of store p.number ≡ Some p) (unless_found (lookup eq (λ p. p.key) ps q.key) q) (missing_in eq (λ p. p.key) ps qs)
+        (found_logged (lookup eq (λ p. p.key) ps q.key) q (logged 0 q (omega arith)))
+        (missing_logged ps qs (λ i d within. logged (suc i) d (omega (arith, within))))
 
-  pub logged_content : (p : Stored K V) → Contains (content store) p → pair_of store p.number ≡ Some p
-  logged_content p (k, within, is) = subst (λ q. pair_of store q.number ≡ Some q) is (all_logged k p within)
+    from_logged : (n : ℕ) (o : Option TableWords) → AreLogged (pairs_from eq store n o)
+    from_logged zero o = All-nil (λ p. pair_of store p.number ≡ Some p)
+    from_logged (suc n) None = All-nil (λ p. pair_of store p.number ≡ Some p)
+    from_logged (suc n) (Some t) =
+        let further = pairs_from eq store n (table_of store.words.tables t.next) in
+        All-append (λ p. pair_of store p.number ≡ Some p) (pairs_of_slots store t.slots) (missing_in eq (λ p. p.key) (pairs_of_slots store t.slots) further)
+        (slots_logged t.slots) (missing_logged (pairs_of_slots store t.slots) further (from_logged n (table_of store.words.tables t.next)))
+
+    -- the content's pairs are logged
+    pub all_logged : All (λ p. pair_of store p.number ≡ Some p) (content eq store)
+    all_logged = from_logged (length store.words.tables) (table_of store.words.tables store.words.root)
+
+    pub logged_content : (p : Stored K V) → Contains (content eq store) p → pair_of store p.number ≡ Some p
+    logged_content p (k, within, is) = subst (λ q. pair_of store q.number ≡ Some q) is (all_logged k p within)
 
   module _ (matches : K → Bool) where
     -- a pair of the log that matches
@@ -158,8 +177,8 @@ module _ {K V S : Type 0} (store : StoreState K V S) where
     decided = ⊎_elim (λ (one : IsMatched). inl one) (λ (none : MatchesBelow (length store.pairs)). inr (λ n p e. none n p (number_within n p e) e)) (decided_below (length store.pairs))
 
     -- where no pair of the log matches, none of the map's does
-    pub none_held : MatchesNone → HasNone matches store
-    none_held none k d within = none (slice_index_or (content store) k d).number (slice_index_or (content store) k d) (all_logged k d within)
+    pub none_held : (eq : K → K → Bool) → MatchesNone → HasNone eq matches store
+    none_held eq none k d within = none (slice_index_or (content eq store) k d).number (slice_index_or (content eq store) k d) (all_logged eq k d within)
 
 -- a key that isn't found in a list is equal to none of its keys
 pub lookup_none : {K V : Type 0} (eq : K → K → Bool) (ps : List (Stored K V)) (k : K) → lookup eq (λ p. p.key) ps k ≡ None → All (λ p. eq k p.key ≡ false) ps
@@ -183,9 +202,9 @@ lookup_some {K} {V} eq (q ∷ ps) k p e =
 
 module _ {K V S : Type 0} (eq : K → K → Bool) (matches : K → Bool) (k : K) (alike : (l : K) → matches l ≡ eq k l) (store : StoreState K V S) where
   -- a key that the finite map doesn't have matches none of its pairs
-  pub lookup_has_none : lookup eq (λ p. p.key) (content store) k ≡ None → HasNone matches store
-  lookup_has_none e i d within = alike (slice_index_or (content store) i d).key ∙ lookup_none eq (content store) k e i d within
+  pub lookup_has_none : lookup eq (λ p. p.key) (content eq store) k ≡ None → HasNone eq matches store
+  lookup_has_none e i d within = alike (slice_index_or (content eq store) i d).key ∙ lookup_none eq (content eq store) k e i d within
 
   -- and one that it has matches the pair that it has there
-  pub lookup_holds : (p : Stored K V) → lookup eq (λ q. q.key) (content store) k ≡ Some p → Holds matches store p
-  lookup_holds p e = let r = lookup_some eq (content store) k p e in record { there = r.0; key = alike p.key ∙ r.1 }
+  pub lookup_holds : (p : Stored K V) → lookup eq (λ q. q.key) (content eq store) k ≡ Some p → Holds eq matches store p
+  lookup_holds p e = let r = lookup_some eq (content eq store) k p e in record { there = r.0; key = alike p.key ∙ r.1 }

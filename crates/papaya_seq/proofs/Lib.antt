@@ -10,6 +10,7 @@ pub mod ComputeShown
 pub mod ComputeSteps
 pub mod ComputesDone
 pub mod Counting
+pub mod Driving
 pub mod Inserting
 pub mod InsertingRun
 pub mod InsertingSteps
@@ -18,6 +19,7 @@ pub mod LookFinds
 pub mod LookResults
 pub mod LookRun
 pub mod LookSteps
+pub mod NoPlace
 pub mod Past
 pub mod RemovalReply
 pub mod RemovalRun

@@ -26,7 +26,7 @@ use Rattle.papaya_seq.proofs.Lawful.{IsMatched, MatchesNone, decided, logged_con
 use Rattle.papaya_seq.proofs.LookRun.{look_alone}
 use Rattle.papaya_seq.proofs.LookSteps.{IsLooking, IsLookReply, IsLookUp, look_replies, lookup_looks, lookup_meets_none, none_replies}
 
-module _ {K V S : Type 0} (eq : K → K → Bool) (hash : K → ℕ) (mode : ResizeMode) (store : StoreState K V S) (lawful : IsLawfulMap eq hash store mode) (keys : IsLawfulKeys eq hash) (matches : K → Bool) where
+module _ {K V S : Type 0} (eq : K → K → Bool) (hash : K → ℕ) (mode : ResizeMode) (store : StoreState K V S) {initial : ℕ} (lawful : IsLawfulMap eq hash store mode initial) (keys : IsLawfulKeys eq hash) (matches : K → Bool) where
   -- where no pair of the log matches, the reply is that there is none
   unmatched_reply : MatchesNone store matches → (answers : List Answer) (m : Machine) (reply : Reply) → m.task ≡ Get_task → IsLooking store m.state → HasMetNone m.state → Replies matches store m answers reply → reply ≡ Absent
   unmatched_reply none [] m reply is_get looking met done = none_replies m.made m.hash m.state reply met done
@@ -41,7 +41,7 @@ module _ {K V S : Type 0} (eq : K → K → Bool) (hash : K → ℕ) (mode : Res
   -- the pair that a reply names is the map's, or there is none
   pub record Finds (reply : Reply) : Type 0 where
     pub found : Option (Stored K V)
-    pub is_found : IsFound matches store found
+    pub is_found : IsFound eq matches store found
     pub is_reply : reply_of found ≡ reply
 
   -- what the finite map does in a lookup of an equal key
@@ -56,8 +56,8 @@ module _ {K V S : Type 0} (eq : K → K → Bool) (hash : K → ℕ) (mode : Res
       has_pair : (o : Option (Stored K V)) → map_of {A = Unit {0}} eq (core_of (record { store = store; mode = mode; initial = 0 })) k ≡ o → Does {A = Unit {0}} (Get k) o (Found n) done.came → Finds (Found n)
       has_pair None is does = absurd does
       has_pair (Some p) is does =
-          let holds : Holds matches store p = lookup_holds eq matches k alike store p is in
-          record { found = Some p; is_found = (holds, logged_content store p holds.there); is_reply = ap Found does.0 }
+          let holds : Holds eq matches store p = lookup_holds eq matches k alike store p is in
+          record { found = Some p; is_found = (holds, logged_content store eq p holds.there); is_reply = ap Found does.0 }
   does_find k alike (Inserted n) fit m' done = absurd fit
   does_find k alike (Replaced o n) fit m' done = absurd fit
   does_find k alike (Occupied n) fit m' done = absurd fit
@@ -67,7 +67,7 @@ module _ {K V S : Type 0} (eq : K → K → Bool) (hash : K → ℕ) (mode : Res
   does_find k alike (Refused refused) fit m' done = absurd fit
 
 module _ {K V S H : Type 0} (eq : K → K → Bool) (input : K → List (List ℕ)) (build : S → H) (write : H → List ℕ → H) (finish : H → ℕ) (classes : IsEquivalence eq) (respects : (x y : K) → eq x y ≡ true → input x ≡ input y)
-    (s : MapState K V S) (lawful : IsLawfulMap eq (hash_of input build write finish s.store.hasher) s.store s.mode)
+    (s : MapState K V S) (lawful : IsLawfulMap eq (hash_of input build write finish s.store.hasher) s.store s.mode s.initial)
     (matches : K → Bool) (hashed : ℕ) (alike : (k l : K) → matches k ≡ true → matches l ≡ eq k l) (hashes_alike : (k : K) → matches k ≡ true → hashed ≡ hash_of input build write finish s.store.hasher k) (fits : hashed < 2 ^ 64) where
   -- equal keys hash alike
   pub keys : IsLawfulKeys eq (hash_of input build write finish s.store.hasher)
@@ -90,11 +90,11 @@ module _ {K V S H : Type 0} (eq : K → K → Bool) (input : K → List (List �
       by_none : MatchesNone s.store matches → Finds eq (hash_of input build write finish s.store.hasher) s.mode s.store lawful keys matches reply
       by_none none =
           let absent : reply ≡ Absent = unmatched_reply eq (hash_of input build write finish s.store.hasher) s.mode s.store lawful keys matches none answers (started Get_task hashed s.mode s.initial) reply refl tt tt replies in
-          record { found = None; is_found = none_held s.store matches none; is_reply = sym absent }
+          record { found = None; is_found = none_held s.store matches eq none; is_reply = sym absent }
 
   -- the pair that a lookup which was told of the tables has found when it replies
   pub look_up_finds : (m : Machine) → IsLookUp matches s.store (started Get_task hashed s.mode s.initial) m → (reply : Reply) → ask_of m ≡ Ask_done reply
-      → (found : Option (Stored K V)) × LooksUp matches s.store (started Get_task hashed s.mode s.initial) found × (reply_of found ≡ reply)
+      → (found : Option (Stored K V)) × LooksUp eq matches s.store (started Get_task hashed s.mode s.initial) found × (reply_of found ≡ reply)
   look_up_finds m kept reply done =
       let all = kept.told [] reply done in
       let finds = looked_up all.0 reply all.1 in

@@ -10,7 +10,14 @@ use Rattle.papaya_ask.specs.declared.call.Task.TheVariants.{Get as Get_task}
 use Rattle.papaya_ask.specs.declared.call.Reply.{Reply}
 use Rattle.papaya_ask.specs.declared.call.Reply.TheVariants.{Refused as Reply_refused}
 use Rattle.papaya_call.specs.declared.machine.Machine.{Machine}
-use Rattle.papaya_call.specs.Machine.{after, ask_of, kind_of_ask, started}
+use Rattle.papaya_call.specs.declared.machine.State.{State}
+use Rattle.papaya_call.specs.declared.machine.State.TheVariants.{Growing}
+use Rattle.papaya_call.specs.declared.need.Need.{Need}
+use Rattle.papaya_call.specs.Machine.{after, ask_of, started}
+use Rattle.papaya_chain.specs.declared.ask.Ask.TheVariants as chain_asks
+use Rattle.papaya_chain.specs.declared.ask.Answer.TheVariants as answers
+use Rattle.papaya_chain.specs.declared.machine.Machine.{Machine as Chain_machine}
+use Rattle.papaya_chain.specs.Machine as chain
 use Rattle.papaya_rests.proofs.Tasks.{same_task}
 use Rattle.papaya_store.specs.declared.pairs.KeyOf.TheVariants.{Own}
 use Rattle.papaya_store.specs.declared.pairs.Running.{Running}
@@ -18,7 +25,7 @@ use Rattle.papaya_timeline.specs.declared.trace.Entry.{Entry}
 use Rattle.papaya_timeline.specs.declared.trace.Event.{Event}
 use Rattle.papaya_timeline.specs.declared.trace.Event.TheVariants.{Begun, Replied}
 use Rattle.papaya_timeline.specs.declared.trace.Turn.TheVariants.{Begin, Finish}
-use Rattle.papaya_timeline.specs.Advances.{Advances, event_of, goes_on, reply_in}
+use Rattle.papaya_timeline.specs.Advances.{Advances, event_of, goes_on, reply_in as chain_reply}
 use Rattle.papaya_timeline.specs.Core.{CoreState}
 use Rattle.papaya_store.specs.Performs.{Performs, same_stored}
 use Rattle.papaya_timeline.specs.Runs.{History, StepsRun, with_event}
@@ -27,13 +34,14 @@ use Rattle.papaya_store.specs.Store.{Stored, pair_of}
 use Rattle.papaya_timeline.proofs.KeptSettings.{IsLawfulKeys}
 use Rattle.papaya_seq.specs.Looks.{IsToldBy, Replies, matches_in}
 use Rattle.papaya_seq.specs.Map.{IsLawfulMap, MapState, core_of}
+use Rattle.papaya_seq.proofs.Driving.{calling, goes_itself, reply_in}
 use Rattle.papaya_seq.proofs.LookSteps.{IsLooking, IsLookReply, look_replies, lookup_looks}
 
-module _ {K V S : Type 0} (eq : K → K → Bool) (hash : S → K → ℕ) (s : MapState K V S) (lawful : IsLawfulMap eq (hash s.store.hasher) s.store s.mode) (keys : IsLawfulKeys eq (hash s.store.hasher))
+module _ {K V S : Type 0} (eq : K → K → Bool) (hash : S → K → ℕ) (s : MapState K V S) (lawful : IsLawfulMap eq (hash s.store.hasher) s.store s.mode s.initial) (keys : IsLawfulKeys eq (hash s.store.hasher))
     (k : K) (matches : K → Bool) (alike : (l : K) → matches l ≡ eq k l) where
   -- the call under way, with its machine here
   abbrev pub getting : Machine → Running K V (Unit {0})
-  getting m = record { machine = m; key = Own k; value = None; answers = None }
+  getting m = record { machine = calling m; key = Own k; value = None; answers = None }
 
   -- the map as a core whose one caller is in this call, or in none
   abbrev pub core_in : Option (Running K V (Unit {0})) → CoreState K V S (Unit {0})
@@ -72,20 +80,29 @@ module _ {K V S : Type 0} (eq : K → K → Bool) (hash : S → K → ℕ) (s : 
   told_goes (AddToShard by) answer told = absurd told
   told_goes (Ask_done reply) answer told = absurd told
 
+  -- the event of a step
+  abbrev event_at : Machine → Answer → Event
+  event_at m answer = event_of (chain.kind_of_ask (calling m)) (chain_asks.Call (ask_of m)) (answers.Call answer)
+
+  -- a lookup needs no table to be made
+  not_growing : (need : Need) (state : State) → state ≡ Growing need → IsLooking s.store state → ⊥
+  not_growing need state e looking = subst (IsLooking s.store) e looking
+
   -- a step of the core, after which the call goes on or has replied
-  told_steps : (m : Machine) (answer : Answer) (reply : Option Reply) → IsToldBy matches s.store (ask_of m) answer → reply ≡ reply_in (ask_of (after m answer)) → ((refused : Refused) → reply ≡ Some (Reply_refused refused) → ⊥)
-      → Advances eq whatever false (core_in (Some (getting m))) 0 (core_in (goes_on reply (getting (after m answer)))) (event_of (kind_of_ask m) (ask_of m) answer) reply
-  told_steps m answer reply told is unrefused =
+  told_steps : (m : Machine) (answer : Answer) (reply : Option Reply) → m.task ≡ Get_task → IsLooking s.store m.state → IsToldBy matches s.store (ask_of m) answer → reply ≡ reply_in (ask_of (after m answer)) → ((refused : Refused) → reply ≡ Some (Reply_refused refused) → ⊥)
+      → Advances eq whatever hash false (core_in (Some (getting m))) 0 (core_in (goes_on reply (getting (after m answer)))) (event_at m answer) reply
+  told_steps m answer reply is_get looking told is unrefused =
+      let own : chain.after (calling m) (answers.Call answer) ≡ calling (after m answer) = goes_itself m answer (λ need e. not_growing need m.state e looking) (λ t e. inl is_get) in
       record {
         before = getting m;
         was = refl;
-        answer = answer;
+        answer = answers.Call answer;
         later = getting m;
-        performs = told_performs m (ask_of m) answer told;
+        performs = (answer, refl, told_performs m (ask_of m) answer told);
         machine = refl;
         event_is = refl;
-        reply_is = is;
-        callers = refl;
+        reply_is = is ∙ ap (λ (y : Chain_machine). chain_reply (chain.ask_of y)) (sym own);
+        callers = ap (λ (y : Chain_machine). record { caller = 0; call = goes_on reply (record { machine = y; key = Own k; value = None; answers = None }) } ∷ []) (sym own);
         mode = refl;
         initial = refl;
         cause = λ refused e. absurd (unrefused refused e);
@@ -104,15 +121,15 @@ module _ {K V S : Type 0} (eq : K → K → Bool) (hash : S → K → ℕ) (s : 
       → StepsRun eq whatever hash 1 0 steps (core_in (Some (getting begun))) (with_event 0 0 Begun []) (core_in (Some (getting m))) so_far
       → Replies matches s.store m (answer ∷ rest) reply → IsRun begun reply
   run_rest begun m so_far steps answer [] reply is_get looking run (told, done) =
-      let event : Event = event_of (kind_of_ask m) (ask_of m) answer in
+      let event : Event = event_at m answer in
       let looks : IsLooking s.store (after m answer).state = lookup_looks eq (hash s.store.hasher) s.mode s.store lawful keys matches m is_get looking answer told in
       let fit : IsLookReply reply = look_replies s.store (after m answer).made (after m answer).hash (after m answer).state reply looks done in
-      let step = told_steps m answer (Some reply) told (sym (ap reply_in done)) (λ refused e. let is : reply ≡ Reply_refused refused = cc e in subst IsLookReply is fit) in
+      let step = told_steps m answer (Some reply) is_get looking told (sym (ap reply_in done)) (λ refused e. let is : reply ≡ Reply_refused refused = cc e in subst IsLookReply is fit) in
       record { steps = suc steps; last = record { turn = 1; caller = 0; event = Replied reply }; before = with_event 1 0 event so_far; runs = (core_in (Some (getting m)), so_far, run, inl (event, Some reply, step, refl)); replied = refl }
   run_rest begun m so_far steps answer (next ∷ rest) reply is_get looking run (told, more) =
-      let event : Event = event_of (kind_of_ask m) (ask_of m) answer in
+      let event : Event = event_at m answer in
       let looks : IsLooking s.store (after m answer).state = lookup_looks eq (hash s.store.hasher) s.mode s.store lawful keys matches m is_get looking answer told in
-      let step = told_steps m answer None told (sym (told_goes (ask_of (after m answer)) next more.0)) (λ refused e. absurd cc) in
+      let step = told_steps m answer None is_get looking told (sym (told_goes (ask_of (after m answer)) next more.0)) (λ refused e. absurd cc) in
       run_rest begun (after m answer) (with_event 1 0 event so_far) (suc steps) next rest reply ((same_task m answer).0 ∙ is_get) looks (core_in (Some (getting m)), so_far, run, inl (event, None, step, refl)) more
 
   -- the whole call
@@ -126,6 +143,6 @@ module _ {K V S : Type 0} (eq : K → K → Bool) (hash : S → K → ℕ) (s : 
         steps = run.steps;
         last = run.last;
         before = run.before;
-        runs = (Finish 0 run.steps, core_in (Some (getting m)), with_event 0 0 Begun [], refl, (Begin 0 (Get k), core_of s, [], refl, (refl, refl), inl (refl, record { store = refl; callers = refl; mode = refl; initial = refl; fits = fits }, refl)), run.runs);
+        runs = (Finish 0 run.steps, core_in (Some (getting m)), with_event 0 0 Begun [], refl, (Begin 0 (Get k), core_of s, [], refl, (refl, refl), inl (refl, record { store = refl; callers = refl; mode = refl; initial = refl; fits = fits; power = lawful.power }, refl)), run.runs);
         replied = run.replied;
       }

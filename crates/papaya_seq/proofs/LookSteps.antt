@@ -250,7 +250,7 @@ pub record IsLookUp {K V S : Type 0} (matches : K → Bool) (store : StoreState 
   -- what it replies from here on, it replies from its begin
   pub told : (answers : List Answer) (reply : Reply) → Replies matches store m answers reply → (all : List Answer) × Replies matches store begun all reply
 
-module _ {K V S : Type 0} (eq : K → K → Bool) (hash : K → ℕ) (mode : ResizeMode) (store : StoreState K V S) (lawful : IsLawfulMap eq hash store mode) (keys : IsLawfulKeys eq hash) (matches : K → Bool)
+module _ {K V S : Type 0} (eq : K → K → Bool) (hash : K → ℕ) (mode : ResizeMode) (store : StoreState K V S) {initial : ℕ} (lawful : IsLawfulMap eq hash store mode initial) (keys : IsLawfulKeys eq hash) (matches : K → Bool)
     (m : Machine) (getting : m.task ≡ Get) (looking : IsLooking store m.state) (answer : Answer) (told : IsToldBy matches store (ask_of m) answer) where
   -- a lookup that is told what stands in the tables goes on, or has replied
   pub lookup_looks : IsLooking store (after m answer).state
@@ -286,6 +286,6 @@ module _ {K V S : Type 0} (eq : K → K → Bool) (hash : K → ℕ) (mode : Res
       }
 
 -- and it is kept of one that begins
-pub look_up_begins : {K V S : Type 0} (eq : K → K → Bool) (hash : K → ℕ) (mode : ResizeMode) (store : StoreState K V S) → IsLawfulMap eq hash store mode → (matches : K → Bool) (hashed initial : ℕ) → IsStanding (started Get hashed mode initial) → IsLookUp matches store (started Get hashed mode initial) (started Get hashed mode initial)
+pub look_up_begins : {K V S : Type 0} (eq : K → K → Bool) (hash : K → ℕ) (mode : ResizeMode) (store : StoreState K V S) {first : ℕ} → IsLawfulMap eq hash store mode first → (matches : K → Bool) (hashed initial : ℕ) → IsStanding (started Get hashed mode initial) → IsLookUp matches store (started Get hashed mode initial) (started Get hashed mode initial)
 look_up_begins eq hash mode store lawful matches hashed initial standing =
     record { standing = standing; task = refl; looking = tt; current = record { bare = bare eq hash mode store lawful; read = tt }; told = λ answers reply replies. (answers, replies) }

@@ -21,12 +21,12 @@ use Rattle.papaya_seq.proofs.Removing.{removal_by}
 -- a removal that found no pair
 pub removal_none : {K V S : Type 0} (eq : K → K → Bool) (matches : K → Bool) (said : Stored K V → Bool → Type 0) (s s' : StoreState K V S) (reply : Reply) → MatchesNone s matches → reply ≡ Absent → s' ≡ s → IsRemoval eq matches said s reply s'
 removal_none {K} {V} {S} eq matches said s s' reply none absent same =
-    subst (λ r. IsRemoval eq matches said s r s') (sym absent) (subst (λ (y : StoreState K V S). IsRemoval eq matches said s Absent y) (sym same) (none_held s matches none, λ j. refl))
+    subst (λ r. IsRemoval eq matches said s r s') (sym absent) (subst (λ (y : StoreState K V S). IsRemoval eq matches said s Absent y) (sym same) (none_held s matches eq none, λ j. refl))
 
 module _ {K V S F : Type 0} (g : Mut F (Bor K × (Bor V × Unit {0})) Bool) (eq : K → K → Bool) (classes : IsEquivalence eq) (matches : K → Bool) (k : K) (alike : (l : K) → matches l ≡ eq k l) (s s' : StoreState K V S) (agrees f : F) where
   -- equal keys have one pair
   one_pair : (i j : K) → eq i j ≡ true → map_in eq s i ≡ map_in eq s j
-  one_pair i j = lookup_alike eq classes (λ (p : Stored K V). p.key) (content s) i j
+  one_pair i j = lookup_alike eq classes (λ (p : Stored K V). p.key) (content eq s) i j
 
   -- a class that has what it had
   unchanged : (o : Option (Stored K V)) → IsUpdate eq k o o (map_in eq s) (map_in eq s') → Unchanged eq s s'
@@ -40,7 +40,7 @@ module _ {K V S F : Type 0} (g : Mut F (Bor K × (Bor V × Unit {0})) Bool) (eq 
   held : (p : Stored K V) (n : ℕ) → map_in eq s k ≡ Some p → p.number ≡ n → IsHeld eq matches n s p
   held p n here number =
       let holds = lookup_holds eq matches k alike s p here in
-      record { held = holds; logged = ap (pair_of s) (sym number) ∙ logged_content s p holds.there }
+      record { held = holds; logged = ap (pair_of s) (sym number) ∙ logged_content s eq p holds.there }
 
   -- the closure judged that very pair
   said : (p : Stored K V) (n : ℕ) (answered : Bool) → pair_of s n ≡ Some p → IsJudged g matches s agrees (Some (Agrees n answered)) f → Judges g agrees p answered

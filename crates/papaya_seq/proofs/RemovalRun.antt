@@ -1,5 +1,5 @@
 -- The invariant of a removal: what its machine, the store and the closure are between two asks.
-use Rattle.std.proofs.Common.{◌≡◌, ℕ, ◌^◌, ◌<◌, ℤ, negsuc, slice_get, Bool, None, refl, sym, ◌∙◌, ap, subst}
+use Rattle.std.proofs.Common.{◌≡◌, ℕ, ◌^◌, ◌<◌, ℤ, negsuc, slice_get, Bool, refl, sym, ◌∙◌, ap, subst}
 use denote.Ref.{Bor}
 use Rattle.std.specs.Fn.{Mut}
 use Rattle.papaya_rests.specs.Alone.{HasMetNone, IsRead}
@@ -16,13 +16,12 @@ use Rattle.papaya_call.specs.declared.machine.State.TheVariants.{AtRoot, Making,
 use Rattle.papaya_ask.specs.declared.search.Search.TheVariants.{Sizing, Looking, Comparing}
 use Rattle.papaya_call.specs.declared.write.Made.{Made}
 use Rattle.papaya_timeline.proofs.KeptSettings.{IsLawfulKeys}
-use Rattle.papaya_timeline.specs.Solo.{RunsAlone}
 use Rattle.papaya_store.specs.Store.{StoreState, pair_of, stored_in}
-use Rattle.papaya_seq.specs.Map.{IsLawfulMap, KeepsSlots, MapState, core_of}
+use Rattle.papaya_seq.specs.Map.{IsLawfulMap, KeepsSlots, MapState}
 use Rattle.papaya_seq.proofs.Lawful.{MatchesNone}
 use Rattle.papaya_seq.proofs.RemovalTurns.{IsFound, IsJudged, Turns, machine_turns}
 use Rattle.papaya_seq.proofs.Removing.{IsAnswer, IsEnd, IsLogOf, IsStage, answered_going, performed, removal_by, removing}
-use Rattle.papaya_seq.proofs.Steps.{IsMade, came_slots, made_alone, made_more, made_none, seated, words_of}
+use Rattle.papaya_seq.proofs.Steps.{IsMade, IsOver, came_slots, made_alone, made_more, made_none, words_of}
 
 module _ {K V S F : Type 0} (g : Mut F (Bor K × (Bor V × Unit {0})) Bool) (eq : K → K → Bool) (hash : S → K → ℕ) (matches : K → Bool) (hashed : ℕ) (map : MapState K V S) (agrees : F) where
   -- A removal by what matches keys so, and hashes so. Where it matches as an owned key is equal, it is the removal by that key; where it matches no logged pair, nothing happens.
@@ -118,11 +117,11 @@ module _ {K V S F : Type 0} (g : Mut F (Bor K × (Bor V × Unit {0})) Bool) (eq 
     judged_reply = subst (λ st. IsJudged g matches map.store agrees (said_in RemoveIf st) f) state_is now.judged
 
     -- by an owned key it is a call made alone
-    pub alone : IsLawfulKeys eq (hash map.store.hasher) → IsLawfulMap eq (hash map.store.hasher) map.store map.mode → (k : K) → ((l : K) → matches l ≡ eq k l) → hash map.store.hasher k ≡ hashed → hash map.store.hasher k < 2 ^ 64 → RunsAlone eq hash (core_of map) (removal_by k) reply (seated s None map.mode map.initial)
+    pub alone : IsLawfulKeys eq (hash map.store.hasher) → IsLawfulMap eq (hash map.store.hasher) map.store map.mode map.initial → (k : K) → ((l : K) → matches l ≡ eq k l) → hash map.store.hasher k ≡ hashed → hash map.store.hasher k < 2 ^ 64 → IsOver eq hash map (removal_by k) s reply
     alone keys lawful k alike same fits = made_alone eq hash map (removal_by k) keys lawful fits s (removing m k) reply e (now.matched k alike same)
 
     -- the root table's slots
-    pub removal_slots : IsLawfulKeys eq (hash map.store.hasher) → IsLawfulMap eq (hash map.store.hasher) map.store map.mode → (k : K) → ((l : K) → matches l ≡ eq k l) → hash map.store.hasher k ≡ hashed → hash map.store.hasher k < 2 ^ 64 → KeepsSlots map.store s
+    pub removal_slots : IsLawfulKeys eq (hash map.store.hasher) → IsLawfulMap eq (hash map.store.hasher) map.store map.mode map.initial → (k : K) → ((l : K) → matches l ≡ eq k l) → hash map.store.hasher k ≡ hashed → hash map.store.hasher k < 2 ^ 64 → KeepsSlots map.store s
     removal_slots keys lawful k alike same fits = came_slots eq hash map (removal_by k) keys lawful fits s (removing m k) (now.matched k alike same)
 
     -- and by what matches no pair, it finds nothing

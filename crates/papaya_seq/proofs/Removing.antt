@@ -1,5 +1,5 @@
 -- A removal whose asks are answered by a store and by a closure: what holds at each ask.
-use Rattle.std.proofs.Common.{◌≡◌, ⊎_elim, inl, inr, ℕ, ◌==◌, nat_lt, ◌+ℤ◌, Bool, true, false, Option, Some, None, refl, sym, ◌∙◌, ap, subst}
+use Rattle.std.proofs.Common.{◌≡◌, ⊎_elim, inl, inr, ℕ, ◌==◌, nat_lt, Bool, true, false, Option, Some, None, refl, sym, ◌∙◌, ap, subst}
 use denote.Ref.{Bor}
 use Rattle.std.specs.Fn.{Mut}
 use Rattle.papaya_words.specs.Counter.{added}
@@ -36,9 +36,9 @@ use Rattle.papaya_store.specs.Store.{StoreState, Stored, pair_of}
 use Rattle.papaya_store.specs.Tables.{put, table_of, word_at}
 use Rattle.papaya_store.specs.declared.pairs.KeyOf.TheVariants.{Own}
 use Rattle.papaya_store.specs.declared.pairs.Running.{Running}
-use Rattle.papaya_timeline.specs.Advances.{reply_in}
 use Rattle.papaya_seq.specs.Looks.{matches_in}
 use Rattle.papaya_seq.specs.Removes.{IsShown}
+use Rattle.papaya_seq.proofs.Driving.{calling, reply_in}
 
 -- the removal by a key of the map's own type, whatever a closure answers
 abbrev pub removal_by : {K V : Type 0} → K → Call K V (Unit {0})
@@ -46,7 +46,7 @@ removal_by k = RemoveIf_call k tt
 
 -- and as a call under way
 abbrev pub removing : {K V : Type 0} → Machine → K → Running K V (Unit {0})
-removing m k = record { machine = m; key = Own k; value = None; answers = Some tt }
+removing m k = record { machine = calling m; key = Own k; value = None; answers = Some tt }
 
 -- the logs and the hasher are as they were
 pub record IsLogOf {K V S : Type 0} (s s' : StoreState K V S) : Type 0 where

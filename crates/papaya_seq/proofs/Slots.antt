@@ -119,7 +119,7 @@ module _ {K V S A : Type 0} (eq : K → K → Bool) (says : Says K V A) (store :
   moves_root (SameKey n) (e, (same, stays)) = stays_there (SameKey n) same
   moves_root ShowNone (inl (none, (e, (same, stays)))) = stays_there ShowNone same
   moves_root ShowNone (inr (a, op, a', has, said, e, same, goes)) = stays_there ShowNone same
-  moves_root (ShowPair n) shows = stays_there (ShowPair n) (shown_there r.machine.task n shows)
+  moves_root (ShowPair n) shows = stays_there (ShowPair n) (shown_there r.machine.call.task n shows)
   moves_root (SizeOf n) (e, (same, stays)) = stays_there (SizeOf n) same
   moves_root MakeKey (inl (refused, (same, stays))) = stays_there MakeKey same
   moves_root MakeKey (inr (inl (has, (same, stays)))) = stays_there MakeKey same

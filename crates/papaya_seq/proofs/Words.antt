@@ -1,6 +1,7 @@
 -- The words of a map that is in order: its root table is there, and no copier was at a slot.
-use Rattle.std.proofs.Common.{◌≡◌, ⊎_elim, ℕ, ◌<◌, Bool, true, Some, sym, ◌∙◌, ap, subst, arith}
-use Rattle.papaya_words.specs.Table.{TableWords}
+use Rattle.std.proofs.Common.{◌≡◌, ⊎_elim, ℕ, zero, suc, ◌-◌, ◌<◌, ◌==◌, max, Bool, true, false, cond, [], ◌∷◌, slice_get, None, Some, sym, ◌∙◌, ap, subst, arith}
+use Rattle.papaya_words.specs.Table.{TableWords, new_table}
+use Rattle.papaya_words.specs.declared.limits.TheConstants.{LEAST_TABLE_LEN}
 use Rattle.papaya_words.specs.Word.{kind_of}
 use Rattle.papaya_words.specs.declared.probe.ResizeMode.{ResizeMode}
 use Rattle.papaya_words.specs.declared.word.Kind.TheVariants as kinds
@@ -12,12 +13,28 @@ use Rattle.papaya_law.proofs.CodeViews.{word_of_kind}
 use Rattle.papaya_law.proofs.Logs.{on_comes}
 use Rattle.papaya_law.proofs.OneMap.{sound}
 use Rattle.papaya_timeline.specs.Kept.{coding_of, low, setting_of}
+use Rattle.papaya_store.specs.New.{HasCapacity}
 use Rattle.papaya_store.specs.Store.{StoreState}
-use Rattle.papaya_store.specs.Tables.{table_of, word_at}
+use Rattle.papaya_store.specs.Tables.{Tables, table_of, word_at}
 use Rattle.papaya_timeline.proofs.KeptSettings.{IsLawfulKeys, tables_hashed}
+use Rattle.papaya_timeline.proofs.OneTable.{law_single}
 use Rattle.papaya_seq.specs.Map.{IsLawfulMap}
 
-module _ {K V S : Type 0} (eq : K → K → Bool) (hash : K → ℕ) (mode : ResizeMode) (store : StoreState K V S) (keys : IsLawfulKeys eq hash) (lawful : IsLawfulMap eq hash store mode) where
+-- a table of a new map has no next one
+pub new_single : (capacity initial : ℕ) (words : Tables) → HasCapacity capacity initial words → (n : ℕ) (t : TableWords) → table_of words.tables n ≡ Some t → t.next ≡ 0
+new_single zero initial words is n t there = by_number (n == 0) (sym (ap (λ (w : Tables). table_of w.tables n) is) ∙ there)
+  where
+    by_number : (b : Bool) → cond b None None ≡ Some t → t.next ≡ 0
+    by_number true e = let f : None ≡ Some t = e in absurd cc
+    by_number false e = let f : None ≡ Some t = e in absurd cc
+new_single (suc m) initial words (limit, is, e) n t there = by_number (n == 0) (n - 1) (sym (ap (λ (w : Tables). table_of w.tables n) e) ∙ there)
+  where
+    by_number : (b : Bool) (i : ℕ) → cond b None (slice_get (new_table 1 (max initial LEAST_TABLE_LEN) limit ∷ []) i) ≡ Some t → t.next ≡ 0
+    by_number true i f = let none : None ≡ Some t = f in absurd cc
+    by_number false zero f = let same : new_table 1 (max initial LEAST_TABLE_LEN) limit ≡ t = cc f in sym (ap (λ (v : TableWords). v.next) same)
+    by_number false (suc i) f = let none : None ≡ Some t = f in absurd cc
+
+module _ {K V S : Type 0} (eq : K → K → Bool) (hash : K → ℕ) (mode : ResizeMode) (store : StoreState K V S) (keys : IsLawfulKeys eq hash) {initial : ℕ} (lawful : IsLawfulMap eq hash store mode initial) where
   -- what is kept of the words, as the law has them
   words_sound : IsSound (setting_of eq (low hash) mode store.words.tables) (run lawful.lawful.law.0 start)
   words_sound =
@@ -40,7 +57,7 @@ module _ {K V S : Type 0} (eq : K → K → Bool) (hash : K → ℕ) (mode : Res
   not_shut t i e =
       let kept = lawful.lawful.law.1.1 in
       let further : 0 < (run lawful.lawful.law.0 start).next t = words_sound.further t i e in
-      let last : (run lawful.lawful.law.0 start).next t ≡ 0 = kept.single t in
+      let last : (run lawful.lawful.law.0 start).next t ≡ 0 = law_single eq store lawful.single hash mode [] lawful.lawful.law.0 lawful.lawful.law.1.0 kept t in
       absurd (omega arith)
 
   -- the word of a slot is of the kind that its number tells

@@ -41,11 +41,11 @@ abbrev pub found_number : Reply → Option ℕ
 found_number (Found n) = Some n
 found_number _ = None
 
-module _ {K V S : Type 0} (matches : K → Bool) (store : StoreState K V S) where
+module _ {K V S : Type 0} (eq : K → K → Bool) (matches : K → Bool) (store : StoreState K V S) where
   -- the pair that was found is the map's, or there is none
   abbrev pub IsFound : Option (Stored K V) → Type 0
-  IsFound None = HasNone matches store
-  IsFound (Some p) = Holds matches store p × (pair_of store p.number ≡ Some p)
+  IsFound None = HasNone eq matches store
+  IsFound (Some p) = Holds eq matches store p × (pair_of store p.number ≡ Some p)
 
   -- A lookup by this machine finds the map's pair, or that there is none, and this is what the
   -- machine replies when each of its asks is answered by what stands in the tables.

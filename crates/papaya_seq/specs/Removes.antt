@@ -27,14 +27,14 @@ IsShown {K = K} {V = V} g (Some p) f answer f' = (key : Bor K) × (value : Bor V
 module _ {K V S : Type 0} (eq : K → K → Bool) (matches : K → Bool) where
   -- the pair of this number is the map's pair whose key matches
   pub record IsHeld (n : ℕ) (s : StoreState K V S) (p : Stored K V) : Type 0 where
-    pub held : Holds matches s p
+    pub held : Holds eq matches s p
     pub logged : pair_of s n ≡ Some p
 
   -- A removal by this key: the pair that the closure agreed to went, or the map is as it was.
   -- `said` is what the closure answered of a pair.
   abbrev pub IsRemoval : (Stored K V → Bool → Type 0) → StoreState K V S → Reply → StoreState K V S
       → Type 0
-  IsRemoval said s Absent s' = HasNone matches s × Unchanged eq s s'
+  IsRemoval said s Absent s' = HasNone eq matches s × Unchanged eq s s'
   IsRemoval said s (Removed n) s' = (p : Stored K V) × IsHeld n s p × Removes eq matches s p s'
       × said p true
   IsRemoval said s (Kept n) s' = (p : Stored K V) × IsHeld n s p × Unchanged eq s s' × said p false
@@ -54,10 +54,10 @@ module _ {K V S : Type 0} (eq : K → K → Bool) (matches : K → Bool)
   -- pair.
   abbrev pub IsJudged : MapState K V S → Result (Result (Option (K × V)) (K × V)) words.Refused
       → MapState K V S → Type 0
-  IsJudged s (Ok (Ok None)) s' = HasNone matches s.store × Unchanged eq s.store s'.store
+  IsJudged s (Ok (Ok None)) s' = HasNone eq matches s.store × Unchanged eq s.store s'.store
       × Keeps s s'
   IsJudged s (Ok (Ok (Some entry))) s' = (p : Stored K V) × (entry_of p ≡ entry)
       × Removes eq matches s.store p s'.store × said p true × Keeps s s'
-  IsJudged s (Ok (Err entry)) s' = (p : Stored K V) × (entry_of p ≡ entry) × Holds matches s.store p
-      × said p false × Unchanged eq s.store s'.store × Keeps s s'
+  IsJudged s (Ok (Err entry)) s' = (p : Stored K V) × (entry_of p ≡ entry)
+      × Holds eq matches s.store p × said p false × Unchanged eq s.store s'.store × Keeps s s'
   IsJudged s (Err refused) s' = Unchanged eq s.store s'.store × Keeps s s'

@@ -9,7 +9,7 @@ use crate::seq::HashMap;
 use papaya_ask::ask::{Answer, Ask, OpKind};
 use papaya_ask::call::{Reply, Task};
 use papaya_call::answers::{Listed, Operation};
-use papaya_call::machine::Machine;
+use papaya_chain::machine::Machine;
 use papaya_keys::compute::Computed;
 use papaya_store::pairs::{KeyOf, Running};
 use papaya_store::store::Store;
@@ -90,7 +90,8 @@ impl<K: Hash + Eq + Drop, V: Drop, S: BuildHasher> HashMap<K, V, S> {
         let mut shown = None;
         let mut aborted = None;
         loop {
-            let ask = running.machine.ask();
+            // The call goes on for itself: the map has one table, and none is made after it.
+            let ask = running.machine.call.ask();
             let answer = match ask {
                 Ask::ShowNone => {
                     let entry = no_pair(&self.store);
@@ -104,7 +105,7 @@ impl<K: Hash + Eq + Drop, V: Drop, S: BuildHasher> HashMap<K, V, S> {
                 Ask::Done(reply) => return (shown, computed(reply, aborted)),
                 _ => self.store.perform(self.alloc, 0, &mut running, ask, false),
             };
-            running.machine.answer(answer);
+            running.machine.call.answer(answer);
         }
     }
 }

@@ -10,7 +10,7 @@ use crate::seq::HashMap;
 use papaya_ask::ask::Ask;
 use papaya_ask::call::{Reply, Task};
 use papaya_call::answers::Listed;
-use papaya_call::machine::Machine;
+use papaya_chain::machine::Machine;
 use papaya_store::pairs::{KeyOf, Running};
 use std::hash::{BuildHasher, Hash};
 
@@ -46,12 +46,13 @@ impl<K: Hash + Eq + Drop, V: Drop, S: BuildHasher> HashMap<K, V, S> {
             answers: None,
         };
         loop {
-            let ask = running.machine.ask();
+            // The call goes on for itself: the map has one table, and none is made after it.
+            let ask = running.machine.call.ask();
             if let Ask::Done(reply) = ask {
                 return (reply, value_left(running));
             }
             let answer = self.store.perform(self.alloc, 0, &mut running, ask, false);
-            running.machine.answer(answer);
+            running.machine.call.answer(answer);
         }
     }
 }

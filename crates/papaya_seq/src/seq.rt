@@ -77,7 +77,7 @@ impl<K: Hash + Eq, V, S: BuildHasher> Model for HashMap<K, V, S> {
 
     ghost invariant = { λ m. IsLawfulMap K.eq
         (hash_of K.hash_input S.build_hasher S.Hasher.write S.Hasher.finish m.store.hasher) m.store
-        m.mode };
+        m.mode m.initial };
 }
 
 impl<K: Hash + Eq + Drop, V: Drop, S: BuildHasher + Drop> HashMap<K, V, S> {
@@ -96,7 +96,7 @@ impl<K: Hash + Eq + Drop, V: Drop, S: BuildHasher + Drop> HashMap<K, V, S> {
     ) -> Result<HashMap<K, V, S>, Refused>
         ensures ok { IfOk result (λ map. IsAllowed mode capacity shards
             × IsNew {A = Unit {0}} mode capacity shards hasher (core_of map)) }
-        ensures empty { IfOk result (λ map. content map.store ≡ []) }
+        ensures empty { IfOk result (λ map. content K.eq map.store ≡ []) }
         ensures err { IfErr result (λ e. IsSizeRefusal mode capacity shards e) }
     {
         let (store, initial) = Store::with_parts(alloc, mode, capacity, shards, hasher)?;
@@ -116,7 +116,7 @@ impl<K: Hash + Eq + Drop, V: Drop, S: BuildHasher + Drop> HashMap<K, V, S> {
     ) -> Result<HashMap<K, V, S>, Refused>
         ensures ok { IfOk result (λ map. IsNew {A = Unit {0}} (ResizeMode.Incremental DEFAULT_CHUNK)
             capacity 1 hasher (core_of map)) }
-        ensures empty { IfOk result (λ map. content map.store ≡ []) }
+        ensures empty { IfOk result (λ map. content K.eq map.store ≡ []) }
         ensures err { IfErr result (λ e. IsSizeRefusal (ResizeMode.Incremental DEFAULT_CHUNK)
             capacity 1
             e) }
@@ -128,7 +128,7 @@ impl<K: Hash + Eq + Drop, V: Drop, S: BuildHasher + Drop> HashMap<K, V, S> {
     pub fn with_hasher(alloc: Global, hasher: S) -> Result<HashMap<K, V, S>, Refused>
         ensures ok { IfOk result (λ map. IsNew {A = Unit {0}}
             (ResizeMode.Incremental DEFAULT_CHUNK) 0 1 hasher (core_of map)) }
-        ensures empty { IfOk result (λ map. content map.store ≡ []) }
+        ensures empty { IfOk result (λ map. content K.eq map.store ≡ []) }
         ensures err { IfErr result (λ e. e ≡ Refused.Memory) }
     {
         HashMap::with_capacity_and_hasher(alloc, 0, hasher)
@@ -141,7 +141,8 @@ impl<K: Hash + Eq + Drop, V: Drop> HashMap<K, V, BuildHasherDefault<FoldHasher>>
     pub fn new(alloc: Global) -> Result<HashMap<K, V, BuildHasherDefault<FoldHasher>>, Refused>
         ensures new { IfOk result (λ map. IsNew {A = Unit {0}}
             (ResizeMode.Incremental DEFAULT_CHUNK) 0 1 map.store.hasher (core_of map)) }
-        ensures empty { IfOk result (λ map. (content map.store ≡ []) × (slots_of map.store ≡ 0)) }
+        ensures empty { IfOk result (λ map. (content K.eq map.store ≡ [])
+            × (slots_of map.store ≡ 0)) }
         ensures err { IfErr result (λ e. e ≡ Refused.Memory) }
     {
         HashMap::with_hasher(alloc, BuildHasherDefault::new())
@@ -154,7 +155,7 @@ impl<K: Hash + Eq + Drop, V: Drop> HashMap<K, V, BuildHasherDefault<FoldHasher>>
     ) -> Result<HashMap<K, V, BuildHasherDefault<FoldHasher>>, Refused>
         ensures new { IfOk result (λ map. IsNew {A = Unit {0}}
             (ResizeMode.Incremental DEFAULT_CHUNK) capacity 1 map.store.hasher (core_of map)) }
-        ensures empty { IfOk result (λ map. content map.store ≡ []) }
+        ensures empty { IfOk result (λ map. content K.eq map.store ≡ []) }
         ensures err { IfErr result (λ e. IsSizeRefusal (ResizeMode.Incremental DEFAULT_CHUNK)
             capacity 1
             e) }
@@ -166,7 +167,8 @@ impl<K: Hash + Eq + Drop, V: Drop> HashMap<K, V, BuildHasherDefault<FoldHasher>>
     pub fn default(alloc: Global) -> Result<HashMap<K, V, BuildHasherDefault<FoldHasher>>, Refused>
         ensures new { IfOk result (λ map. IsNew {A = Unit {0}}
             (ResizeMode.Incremental DEFAULT_CHUNK) 0 1 map.store.hasher (core_of map)) }
-        ensures empty { IfOk result (λ map. (content map.store ≡ []) × (slots_of map.store ≡ 0)) }
+        ensures empty { IfOk result (λ map. (content K.eq map.store ≡ [])
+            × (slots_of map.store ≡ 0)) }
         ensures err { IfErr result (λ e. e ≡ Refused.Memory) }
     {
         HashMap::new(alloc)
@@ -176,15 +178,16 @@ impl<K: Hash + Eq + Drop, V: Drop> HashMap<K, V, BuildHasherDefault<FoldHasher>>
 impl<K: Hash + Eq, V, S: BuildHasher> HashMap<K, V, S> {
     /// How many pairs the map has.
     pub fn len(&self) -> usize
-        ensures count { result ≡ length (content self.now.store) }
-        ensures apart { AreApart K.eq (λ p. p.key) (content self.now.store) }
+        ensures count { result ≡ length (content K.eq self.now.store) }
+        ensures apart { AreApart K.eq (λ p. p.key) (content K.eq self.now.store) }
     {
         self.store.count()
     }
 
     /// Has the map no pair?
     pub fn is_empty(&self) -> bool
-        ensures { MatchBool result (content self.now.store ≡ []) (content self.now.store ≢ []) }
+        ensures { MatchBool result (content K.eq self.now.store ≡ [])
+            (content K.eq self.now.store ≢ []) }
     {
         self.len() == 0
     }
@@ -223,9 +226,9 @@ impl<K: Hash + Eq, V, S: BuildHasher> HashMap<K, V, S> {
     pub fn get<Q: Equivalent<K>>(&self, key: &Q) -> Option<&V>
         ensures map { (k : _) → Q.matches key.now k ≡ true
             → option_map (λ v. v.now) result ≡ value_of (map_in K.eq self.now.store k) }
-        ensures answer { MatchOption result (HasNone (Q.matches key.now) self.now.store)
-            (λ v. (p : _) × Holds (Q.matches key.now) self.now.store p × (p.value ≡ v.now)) }
-        ensures machine { (found : _) × LooksUp (Q.matches key.now) self.now.store
+        ensures answer { MatchOption result (HasNone K.eq (Q.matches key.now) self.now.store)
+            (λ v. (p : _) × Holds K.eq (Q.matches key.now) self.now.store p × (p.value ≡ v.now)) }
+        ensures machine { (found : _) × LooksUp K.eq (Q.matches key.now) self.now.store
             (started Get (hash_of Q.hash_input S.build_hasher S.Hasher.write S.Hasher.finish
             self.now.store.hasher key.now) self.now.mode self.now.initial) found
             × (option_map (λ v. v.now) result ≡ value_of found) }
@@ -241,10 +244,10 @@ impl<K: Hash + Eq, V, S: BuildHasher> HashMap<K, V, S> {
     pub fn get_key_value<Q: Equivalent<K>>(&self, key: &Q) -> Option<(&K, &V)>
         ensures map { (k : _) → Q.matches key.now k ≡ true
             → option_map deref_pair result ≡ option_map entry_of (map_in K.eq self.now.store k) }
-        ensures answer { MatchOption result (HasNone (Q.matches key.now) self.now.store)
-            (λ found. (p : _) × Holds (Q.matches key.now) self.now.store p × (p.key ≡ found.0.now)
-            × (p.value ≡ found.1.now)) }
-        ensures machine { (found : _) × LooksUp (Q.matches key.now) self.now.store
+        ensures answer { MatchOption result (HasNone K.eq (Q.matches key.now) self.now.store)
+            (λ found. (p : _) × Holds K.eq (Q.matches key.now) self.now.store p
+            × (p.key ≡ found.0.now) × (p.value ≡ found.1.now)) }
+        ensures machine { (found : _) × LooksUp K.eq (Q.matches key.now) self.now.store
             (started Get (hash_of Q.hash_input S.build_hasher S.Hasher.write S.Hasher.finish
             self.now.store.hasher key.now) self.now.mode self.now.initial) found
             × (option_map deref_pair result ≡ option_map entry_of found) }
@@ -260,9 +263,10 @@ impl<K: Hash + Eq, V, S: BuildHasher> HashMap<K, V, S> {
     pub fn contains_key<Q: Equivalent<K>>(&self, key: &Q) -> bool
         ensures map { (k : _) → Q.matches key.now k ≡ true
             → result ≡ is_some (map_in K.eq self.now.store k) }
-        ensures answer { MatchBool result ((p : _) × Holds (Q.matches key.now) self.now.store p)
-            (HasNone (Q.matches key.now) self.now.store) }
-        ensures machine { (found : _) × LooksUp (Q.matches key.now) self.now.store
+        ensures answer { MatchBool result
+            ((p : _) × Holds K.eq (Q.matches key.now) self.now.store p)
+            (HasNone K.eq (Q.matches key.now) self.now.store) }
+        ensures machine { (found : _) × LooksUp K.eq (Q.matches key.now) self.now.store
             (started Get (hash_of Q.hash_input S.build_hasher S.Hasher.write S.Hasher.finish
             self.now.store.hasher key.now) self.now.mode self.now.initial) found
             × (result ≡ is_some found) }
@@ -427,8 +431,8 @@ impl<K: Hash + Eq + Drop, V: Drop, S: BuildHasher> HashMap<K, V, S> {
             S.Hasher.Hasher self.entry (IsRemoved K.eq (Q.matches key.now) (λ p. p.value) self.old
             (old_answered result))) }
         ensures removed { IfOk result (λ removed. MatchOption removed
-            (HasNone (Q.matches key.now) self.old.store)
-            (λ v. (p : _) × Holds (Q.matches key.now) self.old.store p × (p.value ≡ v.now))) }
+            (HasNone K.eq (Q.matches key.now) self.old.store)
+            (λ v. (p : _) × Holds K.eq (Q.matches key.now) self.old.store p × (p.value ≡ v.now))) }
         ensures never { next_of self.old.store ≡ 0 → IsOk result }
     {
         match self.remove_entry(key)? {
@@ -443,9 +447,9 @@ impl<K: Hash + Eq + Drop, V: Drop, S: BuildHasher> HashMap<K, V, S> {
             S.Hasher.Hasher self.entry (IsRemoved K.eq (Q.matches key.now) entry_of self.old
             (entry_answered result))) }
         ensures removed { IfOk result (λ removed. MatchOption removed
-            (HasNone (Q.matches key.now) self.old.store)
-            (λ found. (p : _) × Holds (Q.matches key.now) self.old.store p × (p.key ≡ found.0.now)
-            × (p.value ≡ found.1.now))) }
+            (HasNone K.eq (Q.matches key.now) self.old.store)
+            (λ found. (p : _) × Holds K.eq (Q.matches key.now) self.old.store p
+            × (p.key ≡ found.0.now) × (p.value ≡ found.1.now))) }
         ensures never { next_of self.old.store ≡ 0 → IsOk result }
     {
         match self.remove_by(key, |_, _| true) {
@@ -469,11 +473,11 @@ impl<K: Hash + Eq + Drop, V: Drop, S: BuildHasher> HashMap<K, V, S> {
             S.Hasher.Hasher self.entry (IsJudged K.eq (Q.matches key.now) (Judges F.FnMut agrees)
             self.old (judged_answered result))) }
         ensures removed { IfOk result (λ answered. IfOk answered
-            (λ removed. MatchOption removed (HasNone (Q.matches key.now) self.old.store)
-            (λ found. (p : _) × Holds (Q.matches key.now) self.old.store p
+            (λ removed. MatchOption removed (HasNone K.eq (Q.matches key.now) self.old.store)
+            (λ found. (p : _) × Holds K.eq (Q.matches key.now) self.old.store p
             × Judges F.FnMut agrees p true × (p.key ≡ found.0.now) × (p.value ≡ found.1.now)))) }
         ensures kept { IfOk result (λ answered. IfErr answered
-            (λ found. (p : _) × Holds (Q.matches key.now) self.old.store p
+            (λ found. (p : _) × Holds K.eq (Q.matches key.now) self.old.store p
             × Judges F.FnMut agrees p false × (p.key ≡ found.0.now) × (p.value ≡ found.1.now))) }
         ensures never { next_of self.old.store ≡ 0 → IsOk result }
     {

@@ -38,7 +38,7 @@ module _ {W S : Type 0} (eq : W → W → Bool) (laws : IsEquivalence eq) (words
     | inl same ↦
         let yes : eq w (get_or words i k) ≡ true = ap (eq w) is ∙ same in
         let new : count_in eq s'.store w ≡ v = ap count_of (inserts.update.class w same) ∙ inserts.value in
-        new ∙ next ∙ ap (λ n. n + 1) (sym (ap count_of (alike eq laws w k same (content s.store))) ∙ before w) ∙ sym (count_by_more_yes (eq w) words i k inside yes)
+        new ∙ next ∙ ap (λ n. n + 1) (sym (ap count_of (alike eq laws w k same (content eq s.store))) ∙ before w) ∙ sym (count_by_more_yes (eq w) words i k inside yes)
     | inr other ↦
         let no : eq w (get_or words i k) ≡ false = ap (eq w) is ∙ other in
         ap count_of (inserts.update.others w other) ∙ before w ∙ sym (count_by_more_no (eq w) words i k inside no)

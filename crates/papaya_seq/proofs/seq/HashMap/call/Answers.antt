@@ -21,12 +21,12 @@ abbrev hash : (g : Over) → g.row.S.Denot → g.row.K.Denot → ℕ
 hash g = hash_of g.K.Hash.hash_input g.S.BuildHasher.build_hasher g.S.Hasher.Hasher.write g.S.Hasher.Hasher.finish
 
 -- a lookup's pair and the number that is replied
-looked_up : {K V S : Type 0} (eq : K → K → Bool) (s : StoreState K V S) (k : K) (found : Option (Stored K V)) (n : ℕ) → IsFound (eq k) s found → option_map (λ p. p.number) found ≡ Some n → (p : Stored K V) × Holds (eq k) s p × (p.number ≡ n)
+looked_up : {K V S : Type 0} (eq : K → K → Bool) (s : StoreState K V S) (k : K) (found : Option (Stored K V)) (n : ℕ) → IsFound eq (eq k) s found → option_map (λ p. p.number) found ≡ Some n → (p : Stored K V) × Holds eq (eq k) s p × (p.number ≡ n)
 looked_up eq s k None n is e = let f : None ≡ Some n = e in absurd cc
 looked_up eq s k (Some p) n is e = (p, is.0, cc)
 
 -- and none
-looked_none : {K V S : Type 0} (eq : K → K → Bool) (s : StoreState K V S) (k : K) (found : Option (Stored K V)) → IsFound (eq k) s found → option_map (λ p. p.number) found ≡ None → HasNone (eq k) s
+looked_none : {K V S : Type 0} (eq : K → K → Bool) (s : StoreState K V S) (k : K) (found : Option (Stored K V)) → IsFound eq (eq k) s found → option_map (λ p. p.number) found ≡ None → HasNone eq (eq k) s
 looked_none eq s k None is e = is
 looked_none eq s k (Some p) is e = let f : Some p.number ≡ None = e in absurd cc
 
@@ -36,13 +36,13 @@ no_next None e = refl
 no_next (Some t) e = e
 
 -- the root table of a map in order has no next one
-settled : (g : Over) (s : MapState g.row.K.Denot g.row.V.Denot g.row.S.Denot) → IsLawfulMap g.K.PartialEq.eq (hash g s.store.hasher) s.store s.mode → next_of s.store ≡ 0
+settled : (g : Over) (s : MapState g.row.K.Denot g.row.V.Denot g.row.S.Denot) → IsLawfulMap g.K.PartialEq.eq (hash g s.store.hasher) s.store s.mode s.initial → next_of s.store ≡ 0
 settled g s lawful = no_next (table_of s.store.words.tables s.store.words.root) (single g.K.PartialEq.eq (hash g s.store.hasher) s.mode s.store lawful s.store.words.root)
 
 pub returns-in-Some : goal.returns-in-Some
 returns-in-Some g c =
-    let lawful = subst (λ s. IsLawfulMap g.K.PartialEq.eq (hash g s.store.hasher) s.store s.mode) c.self.view_is c.self.invariant in
-    let apart : AreApart g.K.PartialEq.eq (λ p. p.key) (content c.args.self.now.store) =
+    let lawful = subst (λ s. IsLawfulMap g.K.PartialEq.eq (hash g s.store.hasher) s.store s.mode s.initial) c.self.view_is c.self.invariant in
+    let apart : AreApart g.K.PartialEq.eq (λ p. p.key) (content g.K.PartialEq.eq c.args.self.now.store) =
     lawful_apart g.K.PartialEq.eq g.K.Hash.hash_input g.S.BuildHasher.build_hasher g.S.Hasher.Hasher.write g.S.Hasher.Hasher.finish g.met.K.Eq.laws g.met.K.Hash.respects_eq (core_of c.args.self.now) lawful.lawful in
     let (p, holds, number) = looked_up g.K.PartialEq.eq c.args.self.now.store c.in-Get.key c.look_up.ensures.0 c.in-Some.pair c.look_up.ensures.1.0 (sym c.look_up.ensures.2 ∙ c.in-Some.is) in
     subst (λ call. IsCalled g.K.PartialEq.eq (hash g) (record { op = g.A.Answers.op_gives; yes = g.A.Answers.yes_gives }) c.args.self.now call (Found c.in-Some.pair) c.args.self.now) (sym c.in-Get.is) (record {
@@ -55,8 +55,8 @@ returns-in-Some g c =
 
 pub returns-in-Get : goal.returns-in-Get
 returns-in-Get g c =
-    let lawful = subst (λ s. IsLawfulMap g.K.PartialEq.eq (hash g s.store.hasher) s.store s.mode) c.self.view_is c.self.invariant in
-    let apart : AreApart g.K.PartialEq.eq (λ p. p.key) (content c.args.self.now.store) =
+    let lawful = subst (λ s. IsLawfulMap g.K.PartialEq.eq (hash g s.store.hasher) s.store s.mode s.initial) c.self.view_is c.self.invariant in
+    let apart : AreApart g.K.PartialEq.eq (λ p. p.key) (content g.K.PartialEq.eq c.args.self.now.store) =
     lawful_apart g.K.PartialEq.eq g.K.Hash.hash_input g.S.BuildHasher.build_hasher g.S.Hasher.Hasher.write g.S.Hasher.Hasher.finish g.met.K.Eq.laws g.met.K.Hash.respects_eq (core_of c.args.self.now) lawful.lawful in
     let none = looked_none g.K.PartialEq.eq c.args.self.now.store c.in-Get.key c.look_up.ensures.0 c.look_up.ensures.1.0 (sym c.look_up.ensures.2 ∙ c.in-None.is) in
     subst (λ call. IsCalled g.K.PartialEq.eq (hash g) (record { op = g.A.Answers.op_gives; yes = g.A.Answers.yes_gives }) c.args.self.now call Absent c.args.self.now) (sym c.in-Get.is) (record {
@@ -69,8 +69,8 @@ returns-in-Get g c =
 
 pub returns-in-RemoveIf : goal.returns-in-RemoveIf
 returns-in-RemoveIf g c =
-    let lawful = subst (λ s. IsLawfulMap g.K.PartialEq.eq (hash g s.store.hasher) s.store s.mode) c.self.view_is c.self.invariant in
-    let apart : AreApart g.K.PartialEq.eq (λ p. p.key) (content c.args.self.now.store) =
+    let lawful = subst (λ s. IsLawfulMap g.K.PartialEq.eq (hash g s.store.hasher) s.store s.mode s.initial) c.self.view_is c.self.invariant in
+    let apart : AreApart g.K.PartialEq.eq (λ p. p.key) (content g.K.PartialEq.eq c.args.self.now.store) =
     lawful_apart g.K.PartialEq.eq g.K.Hash.hash_input g.S.BuildHasher.build_hasher g.S.Hasher.Hasher.write g.S.Hasher.Hasher.finish g.met.K.Eq.laws g.met.K.Hash.respects_eq (core_of c.args.self.now) lawful.lawful in
     subst (λ call. IsCalled g.K.PartialEq.eq (hash g) (record { op = g.A.Answers.op_gives; yes = g.A.Answers.yes_gives }) c.args.self.now call c.remove_by.result c.remove_by.new.self) (sym c.in-RemoveIf.is)
     (remove_called g.K.PartialEq.eq (hash g) g.met.K.Eq.laws c.args.self.now apart c.in-RemoveIf.key c.in-RemoveIf.answers (record { op = g.A.Answers.op_gives; yes = g.A.Answers.yes_gives }) c.remove_by.result c.remove_by.new.self c.remove_by.ensures.whole c.remove_by.ensures.never (settled g c.args.self.now lawful) c.remove_by.ensures.keeps (λ p agrees judges. (judges.2.0.now, subst (λ k. g.A.Answers.yes_gives c.in-RemoveIf.answers k p.value agrees judges.2.0.now) judges.3 (subst (λ v. g.A.Answers.yes_gives c.in-RemoveIf.answers judges.0.now v agrees judges.2.0.now) judges.4 (let met = judges.5.met in search rules)))))

@@ -7,6 +7,7 @@ use Rattle.papaya_call.specs.declared.answers.Operation.{Operation}
 use Rattle.papaya_call.specs.declared.answers.Operation.TheVariants.{Abort}
 use Rattle.papaya_ask.specs.declared.ask.Answer.{Answer}
 use Rattle.papaya_call.specs.declared.machine.Machine.{Machine}
+use Rattle.papaya_chain.specs.declared.machine.Machine.{Machine as Chain_machine}
 use Rattle.papaya_store.specs.declared.pairs.KeyOf.TheVariants.{Own}
 use Rattle.papaya_store.specs.declared.pairs.Running.{Running}
 use Rattle.papaya_store.specs.Store.{StoreState}
@@ -38,8 +39,8 @@ abbrev post : (g : Over) → g.row.F.Denot → Option (Bor g.row.K.Denot × Bor 
 post g = λ f shown operation. given.F-post g f shown operation
 
 -- the map is in order when the call begins
-lawful : (g : Over) (c : After-new g) → IsLawfulMap g.K.PartialEq.eq (hash g c.args.self.now.store.hasher) c.args.self.now.store c.args.self.now.mode
-lawful g c = subst (λ (m : MapState _ _ _). IsLawfulMap g.K.PartialEq.eq (hash g m.store.hasher) m.store m.mode) c.self.view_is c.self.invariant
+lawful : (g : Over) (c : After-new g) → IsLawfulMap g.K.PartialEq.eq (hash g c.args.self.now.store.hasher) c.args.self.now.store c.args.self.now.mode c.args.self.now.initial
+lawful g c = subst (λ (m : MapState _ _ _). IsLawfulMap g.K.PartialEq.eq (hash g m.store.hasher) m.store m.mode m.initial) c.self.view_is c.self.invariant
 
 -- the key's hash has 64 bits
 fits : (g : Over) (c : After-new g) → hash g c.args.self.now.store.hasher c.args.key < 2 ^ 64
@@ -49,7 +50,7 @@ pub loop-self-init : goal.loop-self-init
 loop-self-init g c =
     let view : MapState _ _ _ = record { store = c.self.inside.store; mode = c.self.inside.mode; initial = c.self.inside.initial } in
     subst (λ (m : MapState _ _ _). IsComputing g.K.PartialEq.eq (hash g) m c.args.key (post g) c.args.f c.self.inside.store (record { machine = c.new.result; key = Own c.args.key; value = None; answers = None }) (Some c.args.f) None None × (c.self.inside.mode ≡ m.mode) × (c.self.inside.initial ≡ m.initial)) c.self.view_is
-    (computing_begin g.K.PartialEq.eq (hash g) view c.args.key (post g) c.args.f (keys g c.self.inside.store.hasher) c.self.invariant c.new.result c.hash-hash.result None c.new.ensures.value c.hash-hash.ensures.value c.new.ensures.standing, refl, refl)
+    (computing_begin g.K.PartialEq.eq (hash g) view c.args.key (post g) c.args.f (keys g c.self.inside.store.hasher) c.self.invariant c.new.result c.hash-hash.result None c.new.ensures.value c.hash-hash.ensures.value c.new.ensures.standing.call, refl, refl)
 
 pub show-answer-requires : goal.show-answer-requires
 show-answer-requires g c = (
@@ -80,24 +81,25 @@ nearer m {r} {r1} {answer} {told} {next} same e goes is less = subst (λ (x : Ma
 pub loop-self-smaller : goal.loop-self-smaller
 loop-self-smaller g c =
     elim c.match-ask.branch [
-      | in-ShowNone w ↦ nearer c.loop-self.running.machine (ap (λ r. r.machine) w.running-is) w.answer-is c.answer.ensures.after refl (none_nears g.K.PartialEq.eq g.K.Hash.hash_input g.S.BuildHasher.build_hasher g.S.Hasher.Hasher.write g.S.Hasher.Hasher.finish g.met.K.Eq.laws g.met.K.Hash.respects_eq c.args.self.now (lawful g (goal.at.loop-self-smaller g c).After-new) c.args.key (fits g (goal.at.loop-self-smaller g c).After-new) (post g) c.args.f c.loop-self.self-inside.store c.loop-self.running c.loop-self.closure c.loop-self.shown c.loop-self.aborted c.loop-self.invariant.0 w.show-answer.result w.show-answer.new.value w.show-answer.new.closure w.show-answer.new.aborted w.no_pair-entry.result w.show-answer.ensures.0 w.show-answer.ensures.1 w.show-answer.ensures.2 w.show-answer.ensures.4 w.show-answer.ensures.5 (sym w.in-ShowNone.ensures.value))
-      | in-ShowPair w ↦ nearer c.loop-self.running.machine (ap (λ r. r.machine) w.running-is) w.answer-is c.answer.ensures.after refl (pair_nears g.K.PartialEq.eq g.K.Hash.hash_input g.S.BuildHasher.build_hasher g.S.Hasher.Hasher.write g.S.Hasher.Hasher.finish g.met.K.Eq.laws g.met.K.Hash.respects_eq c.args.self.now (lawful g (goal.at.loop-self-smaller g c).After-new) c.args.key (fits g (goal.at.loop-self-smaller g c).After-new) (post g) c.args.f c.loop-self.self-inside.store c.loop-self.running c.loop-self.closure c.loop-self.shown c.loop-self.aborted c.loop-self.invariant.0 w.show-answer-in-ShowPair.result w.show-answer-in-ShowPair.new.value w.show-answer-in-ShowPair.new.closure w.show-answer-in-ShowPair.new.aborted w.pair-entry.result w.show-answer-in-ShowPair.ensures.0 w.show-answer-in-ShowPair.ensures.1 w.show-answer-in-ShowPair.ensures.2 w.show-answer-in-ShowPair.ensures.4 w.show-answer-in-ShowPair.ensures.5 w.in-ShowPair.pair (sym w.in-ShowPair.ensures.value))
-      | in_default w ↦ nearer c.loop-self.running.machine (ap (λ r. r.machine) w.running-is) w.answer-is c.answer.ensures.after w.perform-answer.ensures.machine (computing_nears g.K.PartialEq.eq (hash g) c.args.self.now c.args.key (post g) c.args.f (keys g c.args.self.now.store.hasher) (lawful g (goal.at.loop-self-smaller g c).After-new) (record { op = λ a shown told a'. (told ≡ first_or (Abort 0) a.ops.items) × (a'.ops.items ≡ rest_of a.ops.items) × (a'.yes ≡ a.yes); yes = _ }) c.loop-self.self-inside.store c.loop-self.running w.perform-answer.result w.perform-answer.new.self w.perform-answer.new.running c.ask-ask.result c.ask-ask.ensures.value w.in_default.not-Done w.in_default.not-ShowNone w.in_default.not-ShowPair w.perform-answer.ensures.performs w.perform-answer.ensures.machine c.loop-self.closure c.loop-self.shown c.loop-self.aborted c.loop-self.invariant.0)
+      | in-ShowNone w ↦ nearer c.loop-self.running.machine.call (ap (λ r. r.machine.call) w.running-is) w.answer-is c.answer.ensures.after refl (none_nears g.K.PartialEq.eq g.K.Hash.hash_input g.S.BuildHasher.build_hasher g.S.Hasher.Hasher.write g.S.Hasher.Hasher.finish g.met.K.Eq.laws g.met.K.Hash.respects_eq c.args.self.now (lawful g (goal.at.loop-self-smaller g c).After-new) c.args.key (fits g (goal.at.loop-self-smaller g c).After-new) (post g) c.args.f c.loop-self.self-inside.store c.loop-self.running c.loop-self.closure c.loop-self.shown c.loop-self.aborted c.loop-self.invariant.0 w.show-answer.result w.show-answer.new.value w.show-answer.new.closure w.show-answer.new.aborted w.no_pair-entry.result w.show-answer.ensures.0 w.show-answer.ensures.1 w.show-answer.ensures.2 w.show-answer.ensures.4 w.show-answer.ensures.5 (sym w.in-ShowNone.ensures.value))
+      | in-ShowPair w ↦ nearer c.loop-self.running.machine.call (ap (λ r. r.machine.call) w.running-is) w.answer-is c.answer.ensures.after refl (pair_nears g.K.PartialEq.eq g.K.Hash.hash_input g.S.BuildHasher.build_hasher g.S.Hasher.Hasher.write g.S.Hasher.Hasher.finish g.met.K.Eq.laws g.met.K.Hash.respects_eq c.args.self.now (lawful g (goal.at.loop-self-smaller g c).After-new) c.args.key (fits g (goal.at.loop-self-smaller g c).After-new) (post g) c.args.f c.loop-self.self-inside.store c.loop-self.running c.loop-self.closure c.loop-self.shown c.loop-self.aborted c.loop-self.invariant.0 w.show-answer-in-ShowPair.result w.show-answer-in-ShowPair.new.value w.show-answer-in-ShowPair.new.closure w.show-answer-in-ShowPair.new.aborted w.pair-entry.result w.show-answer-in-ShowPair.ensures.0 w.show-answer-in-ShowPair.ensures.1 w.show-answer-in-ShowPair.ensures.2 w.show-answer-in-ShowPair.ensures.4 w.show-answer-in-ShowPair.ensures.5 w.in-ShowPair.pair (sym w.in-ShowPair.ensures.value))
+      | in_default w ↦ nearer c.loop-self.running.machine.call (ap (λ r. r.machine.call) w.running-is) w.answer-is c.answer.ensures.after (ap (λ (m : Chain_machine). m.call) w.perform-answer.ensures.machine) (computing_nears g.K.PartialEq.eq (hash g) c.args.self.now c.args.key (post g) c.args.f (keys g c.args.self.now.store.hasher) (lawful g (goal.at.loop-self-smaller g c).After-new) (record { op = λ a shown told a'. (told ≡ first_or (Abort 0) a.ops.items) × (a'.ops.items ≡ rest_of a.ops.items) × (a'.yes ≡ a.yes); yes = _ }) c.loop-self.self-inside.store c.loop-self.running w.perform-answer.result w.perform-answer.new.self w.perform-answer.new.running c.ask-ask.result c.ask-ask.ensures.value w.in_default.not-Done w.in_default.not-ShowNone w.in_default.not-ShowPair w.perform-answer.ensures.performs w.perform-answer.ensures.machine c.loop-self.closure c.loop-self.shown c.loop-self.aborted c.loop-self.invariant.0)
     ]
 
 module _ (g : Over) (map : MapState g.row.K.Denot g.row.V.Denot g.row.S.Denot) (key : g.row.K.Denot) (f : g.row.F.Denot) {A : Type 0} where
   -- the same call, told in other words
-  moved : {store store1 : StoreState g.row.K.Denot g.row.V.Denot g.row.S.Denot} {r r1 : Running g.row.K.Denot g.row.V.Denot A} {closure closure1 : Option g.row.F.Denot} {shown shown1 : Option ℕ} {aborted aborted1 : Option g.row.T.Denot} {answer told : Answer} {next m : Machine}
-      → store ≡ store1 → r ≡ r1 → closure ≡ closure1 → shown ≡ shown1 → aborted ≡ aborted1 → answer ≡ told → next ≡ after r.machine answer → r1.machine ≡ m
-      → IsComputing g.K.PartialEq.eq (hash g) map key (post g) f store1 (record r1 { machine = after m told }) closure1 shown1 aborted1
-      → IsComputing g.K.PartialEq.eq (hash g) map key (post g) f store (record r { machine = next }) closure shown aborted
+  moved : {store store1 : StoreState g.row.K.Denot g.row.V.Denot g.row.S.Denot} {r r1 : Running g.row.K.Denot g.row.V.Denot A} {closure closure1 : Option g.row.F.Denot} {shown shown1 : Option ℕ} {aborted aborted1 : Option g.row.T.Denot} {answer told : Answer} {next : Machine} {m : Chain_machine}
+      → store ≡ store1 → r ≡ r1 → closure ≡ closure1 → shown ≡ shown1 → aborted ≡ aborted1 → answer ≡ told → next ≡ after r.machine.call answer → r1.machine ≡ m
+      → IsComputing g.K.PartialEq.eq (hash g) map key (post g) f store1 (record r1 { machine = record m { call = after m.call told } }) closure1 shown1 aborted1
+      → IsComputing g.K.PartialEq.eq (hash g) map key (post g) f store (record r { machine = record r.machine { call = next } }) closure shown aborted
   moved {store} {store1} {r} {r1} {closure} {closure1} {shown} {shown1} {aborted} {aborted1} {answer} {told} {next} {m} s_is r_is c_is n_is a_is e goes same now =
-      subst (λ (x : Machine). IsComputing g.K.PartialEq.eq (hash g) map key (post g) f store (record r { machine = x }) closure shown aborted) (sym (goes ∙ ap (λ (q : Running g.row.K.Denot g.row.V.Denot A). after q.machine answer) r_is ∙ ap (λ (x : Machine). after x answer) same ∙ ap (after m) e))
-      (subst (λ (y : StoreState g.row.K.Denot g.row.V.Denot g.row.S.Denot). IsComputing g.K.PartialEq.eq (hash g) map key (post g) f y (record r { machine = after m told }) closure shown aborted) (sym s_is)
-      (subst (λ (q : Running g.row.K.Denot g.row.V.Denot A). IsComputing g.K.PartialEq.eq (hash g) map key (post g) f store1 (record q { machine = after m told }) closure shown aborted) (sym r_is)
-      (subst (λ (x : Option g.row.F.Denot). IsComputing g.K.PartialEq.eq (hash g) map key (post g) f store1 (record r1 { machine = after m told }) x shown aborted) (sym c_is)
-      (subst (λ (x : Option ℕ). IsComputing g.K.PartialEq.eq (hash g) map key (post g) f store1 (record r1 { machine = after m told }) closure1 x aborted) (sym n_is)
-      (subst (λ (x : Option g.row.T.Denot). IsComputing g.K.PartialEq.eq (hash g) map key (post g) f store1 (record r1 { machine = after m told }) closure1 shown1 x) (sym a_is) now)))))
+      subst (λ (x : Chain_machine). IsComputing g.K.PartialEq.eq (hash g) map key (post g) f store (record r { machine = x }) closure shown aborted)
+      (sym (ap (λ (x : Machine). record r.machine { call = x }) goes ∙ ap (λ (q : Running g.row.K.Denot g.row.V.Denot A). record q.machine { call = after q.machine.call answer }) r_is ∙ ap (λ (x : Chain_machine). record x { call = after x.call answer }) same ∙ ap (λ a. record m { call = after m.call a }) e))
+      (subst (λ (y : StoreState g.row.K.Denot g.row.V.Denot g.row.S.Denot). IsComputing g.K.PartialEq.eq (hash g) map key (post g) f y (record r { machine = record m { call = after m.call told } }) closure shown aborted) (sym s_is)
+      (subst (λ (q : Running g.row.K.Denot g.row.V.Denot A). IsComputing g.K.PartialEq.eq (hash g) map key (post g) f store1 (record q { machine = record m { call = after m.call told } }) closure shown aborted) (sym r_is)
+      (subst (λ (x : Option g.row.F.Denot). IsComputing g.K.PartialEq.eq (hash g) map key (post g) f store1 (record r1 { machine = record m { call = after m.call told } }) x shown aborted) (sym c_is)
+      (subst (λ (x : Option ℕ). IsComputing g.K.PartialEq.eq (hash g) map key (post g) f store1 (record r1 { machine = record m { call = after m.call told } }) closure1 x aborted) (sym n_is)
+      (subst (λ (x : Option g.row.T.Denot). IsComputing g.K.PartialEq.eq (hash g) map key (post g) f store1 (record r1 { machine = record m { call = after m.call told } }) closure1 shown1 x) (sym a_is) now)))))
 
 pub loop-self-preserved : goal.loop-self-preserved
 loop-self-preserved g c =
@@ -128,8 +130,9 @@ computed-requires g c =
 pub invariant_of-self : goal.invariant_of-self
 invariant_of-self g c =
     let a = computing_alone g.K.PartialEq.eq (hash g) c.args.self.now c.args.key (post g) c.args.f (keys g c.args.self.now.store.hasher) (lawful g (goal.at.invariant_of-self g c).After-new) c.loop-self.self-inside.store c.loop-self.running c.in-Done.reply c.in-Done.ensures.value c.loop-self.closure c.loop-self.shown c.loop-self.aborted c.loop-self.invariant.0 (fits g (goal.at.invariant_of-self g c).After-new) in
-    subst (λ mode. IsLawfulMap g.K.PartialEq.eq (hash g c.loop-self.self-inside.store.hasher) c.loop-self.self-inside.store mode) (sym c.loop-self.invariant.1)
-    (map_lawful g.K.PartialEq.eq g.K.Hash.hash_input g.S.BuildHasher.build_hasher g.S.Hasher.Hasher.write g.S.Hasher.Hasher.finish g.met.K.Eq.laws g.met.K.Hash.respects_eq c.args.self.now (compute_of c.args.key) c.in-Done.reply c.loop-self.self-inside.store (lawful g (goal.at.invariant_of-self g c).After-new) a)
+    subst (λ mode. IsLawfulMap g.K.PartialEq.eq (hash g c.loop-self.self-inside.store.hasher) c.loop-self.self-inside.store mode c.loop-self.self-inside.initial) (sym c.loop-self.invariant.1)
+    (subst (λ initial. IsLawfulMap g.K.PartialEq.eq (hash g c.loop-self.self-inside.store.hasher) c.loop-self.self-inside.store c.args.self.now.mode initial) (sym c.loop-self.invariant.2)
+    (map_lawful g.K.PartialEq.eq g.K.Hash.hash_input g.S.BuildHasher.build_hasher g.S.Hasher.Hasher.write g.S.Hasher.Hasher.finish g.met.K.Eq.laws g.met.K.Hash.respects_eq c.args.self.now (compute_of c.args.key) c.in-Done.reply c.loop-self.self-inside.store (lawful g (goal.at.invariant_of-self g c).After-new) a))
 
 pub returns-in-Done-clause-shown : goal.returns-in-Done-clause-shown
 returns-in-Done-clause-shown g c = (did g.K.PartialEq.eq (hash g) c.args.self.now c.args.key (post g) c.args.f (keys g c.args.self.now.store.hasher) (lawful g (goal.at.returns-in-Done-clause-shown g c).After-new) c.loop-self.self-inside.store c.loop-self.running c.in-Done.reply c.in-Done.ensures.value c.loop-self.closure c.loop-self.shown c.loop-self.aborted c.loop-self.invariant.0).shown_is

@@ -12,4 +12,4 @@ invariant-loop-self g l =
 
 -- what is left of it
 abbrev pub decreases-loop-self : goal.decreases-loop-self
-decreases-loop-self g l = left l.running.machine
+decreases-loop-self g l = left l.running.machine.call

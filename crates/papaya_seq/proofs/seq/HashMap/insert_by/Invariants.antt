@@ -12,4 +12,4 @@ invariant-loop-reply g l =
 
 -- what is left of it
 abbrev pub decreases-loop-reply : goal.decreases-loop-reply
-decreases-loop-reply g l = left l.running.machine
+decreases-loop-reply g l = left l.running.machine.call

@@ -10,10 +10,10 @@ use Rattle.papaya_seq.proofs.seq.HashMap.len.Goals as goal
 pub returns-clause-count : goal.returns-clause-count
 returns-clause-count g c =
     c.count.ensures.value
-    ∙ ap count_of (counted_sum c.self.inside.store c.self.invariant.counted c.count.ensures.fits)
-    ∙ ap (λ (s : MapState g.row.K.Denot g.row.V.Denot g.row.S.Denot). length (content s.store)) c.self.view_is
+    ∙ ap count_of (counted_sum g.K.PartialEq.eq c.self.inside.store c.self.invariant.counted c.count.ensures.fits)
+    ∙ ap (λ (s : MapState g.row.K.Denot g.row.V.Denot g.row.S.Denot). length (content g.K.PartialEq.eq s.store)) c.self.view_is
 
 pub returns-clause-apart : goal.returns-clause-apart
 returns-clause-apart g c =
-    subst (λ (s : MapState g.row.K.Denot g.row.V.Denot g.row.S.Denot). AreApart g.K.PartialEq.eq (λ p. p.key) (content s.store)) c.self.view_is
+    subst (λ (s : MapState g.row.K.Denot g.row.V.Denot g.row.S.Denot). AreApart g.K.PartialEq.eq (λ p. p.key) (content g.K.PartialEq.eq s.store)) c.self.view_is
     (lawful_apart g.K.PartialEq.eq g.K.Hash.hash_input g.S.BuildHasher.build_hasher g.S.Hasher.Hasher.write g.S.Hasher.Hasher.finish g.met.K.Eq.laws g.met.K.Hash.respects_eq (core_of (record { store = c.self.inside.store; mode = c.self.inside.mode; initial = c.self.inside.initial })) c.self.invariant.lawful)

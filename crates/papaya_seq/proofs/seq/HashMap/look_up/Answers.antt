@@ -27,8 +27,8 @@ module _ (g : Over) where
   query_hash = hash_of g.Q.Hash.hash_input g.S.BuildHasher.build_hasher g.S.Hasher.Hasher.write g.S.Hasher.Hasher.finish
 
   -- the map is in order
-  in_order : (c : After-new-machine g) → IsLawfulMap g.K.PartialEq.eq (key_hash c.args.self.now.store.hasher) c.args.self.now.store c.args.self.now.mode
-  in_order c = subst (λ (s : MapState g.row.K.Denot g.row.V.Denot g.row.S.Denot). IsLawfulMap g.K.PartialEq.eq (key_hash s.store.hasher) s.store s.mode) c.self.view_is c.self.invariant
+  in_order : (c : After-new-machine g) → IsLawfulMap g.K.PartialEq.eq (key_hash c.args.self.now.store.hasher) c.args.self.now.store c.args.self.now.mode c.args.self.now.initial
+  in_order c = subst (λ (s : MapState g.row.K.Denot g.row.V.Denot g.row.S.Denot). IsLawfulMap g.K.PartialEq.eq (key_hash s.store.hasher) s.store s.mode s.initial) c.self.view_is c.self.invariant
 
   keys : (c : After-new-machine g) → IsLawfulKeys g.K.PartialEq.eq (key_hash c.args.self.now.store.hasher)
   keys c = keys_lawful g.K.PartialEq.eq g.K.Hash.hash_input g.S.BuildHasher.build_hasher g.S.Hasher.Hasher.write g.S.Hasher.Hasher.finish g.met.K.Eq.laws g.met.K.Hash.respects_eq c.args.self.now.store.hasher

@@ -1,4 +1,4 @@
-use Rattle.std.proofs.Common.{◌≡◌, ⊎_elim, ℕ, ◌<◌, ◌^◌, ℤ, negsuc, fold, inl, None, ◌+ℤ◌, Bool, Option, rules, sym, ◌∙◌, ap, subst}
+use Rattle.std.proofs.Common.{◌≡◌, ⊎_elim, ℕ, ◌<◌, ◌^◌, ℤ, negsuc, fold, inl, Bool, Option, rules, sym, ◌∙◌, ap, subst}
 use denote.Ref.{Bor}
 use Rattle.std.specs.Fn.{Mut}
 use mir.Val.{SFits}
@@ -12,18 +12,17 @@ use Rattle.papaya_ask.specs.declared.ask.Answer.TheVariants.{Word as Word_read, 
 use Rattle.papaya_ask.specs.declared.ask.Ask.{Ask}
 use Rattle.papaya_ask.specs.declared.ask.Ask.TheVariants.{Done as Ask_done}
 use Rattle.papaya_store.specs.Performs.{Exchanges}
-use Rattle.papaya_timeline.specs.Solo.{RunsAlone}
 use Rattle.papaya_store.specs.Store.{StoreState, Stored}
 use Rattle.papaya_keys.specs.Hashes.{hash_of}
 use Rattle.papaya_store.specs.Tables.{Tables}
 use Rattle.papaya_timeline.proofs.KeptCore.{keys_lawful}
-use Rattle.papaya_timeline.proofs.SoloLaw.{alone_answered, alone_lawful}
-use Rattle.papaya_seq.specs.Map.{IsLawfulMap, MapState, core_of, slots_of}
+use Rattle.papaya_seq.specs.Map.{IsLawfulMap, MapState, slots_of}
+use Rattle.papaya_seq.proofs.Alone.{map_answered, map_lawful}
 use Rattle.papaya_seq.specs.Removes.{IsShown, Judges}
 use Rattle.papaya_seq.proofs.Lawful.{IsMatched, MatchesNone, bare, decided, single, sized}
 use Rattle.papaya_seq.proofs.Removing.{IsAnswer, IsEnd, open_kind, removal_by}
 use Rattle.papaya_seq.proofs.RemovalReply.{removal_done, removal_none}
-use Rattle.papaya_seq.proofs.Steps.{seated}
+use Rattle.papaya_seq.proofs.Steps.{IsOver}
 use Rattle.papaya_seq.proofs.RemovalRun.{IsUnderWay, alone, counts_out, ends, judged_reply, log_kept, next_turn, removal_slots, under_way, under_way_more, unmet}
 use Rattle.papaya_seq.proofs.RemovalTurns.{IsFound}
 use Rattle.papaya_seq.proofs.Words.{rooted, uncopied, unmarked}
@@ -85,8 +84,8 @@ stays g c =
     ]
 
 -- the map was in order
-lawful : (g : Over) (c : After-new-machine g) → IsLawfulMap g.K.PartialEq.eq (hash_of g.K.Hash.hash_input g.S.BuildHasher.build_hasher g.S.Hasher.Hasher.write g.S.Hasher.Hasher.finish c.args.self.now.store.hasher) c.args.self.now.store c.args.self.now.mode
-lawful g c = subst (λ s. IsLawfulMap g.K.PartialEq.eq (hash_of g.K.Hash.hash_input g.S.BuildHasher.build_hasher g.S.Hasher.Hasher.write g.S.Hasher.Hasher.finish s.store.hasher) s.store s.mode) c.self.view_is c.self.invariant
+lawful : (g : Over) (c : After-new-machine g) → IsLawfulMap g.K.PartialEq.eq (hash_of g.K.Hash.hash_input g.S.BuildHasher.build_hasher g.S.Hasher.Hasher.write g.S.Hasher.Hasher.finish c.args.self.now.store.hasher) c.args.self.now.store c.args.self.now.mode c.args.self.now.initial
+lawful g c = subst (λ s. IsLawfulMap g.K.PartialEq.eq (hash_of g.K.Hash.hash_input g.S.BuildHasher.build_hasher g.S.Hasher.Hasher.write g.S.Hasher.Hasher.finish s.store.hasher) s.store s.mode s.initial) c.self.view_is c.self.invariant
 
 -- so a removal may rest on it
 found : (g : Over) (c : After-new-machine g) → IsFound c.args.self.now.store
@@ -150,7 +149,7 @@ hashed g c m =
     ∙ sym (c.hash-hash.ensures.value ∙ ap (λ s. hash_of g.Q.Hash.hash_input g.S.BuildHasher.build_hasher g.S.Hasher.Hasher.write g.S.Hasher.Hasher.finish s.store.hasher c.args.key.now) c.self.view_is)
 
 -- so the removal is that by the pair's key, made alone
-made : (g : Over) (c : After-drop-agrees g) → IsLawfulMap g.K.PartialEq.eq (hash_of g.K.Hash.hash_input g.S.BuildHasher.build_hasher g.S.Hasher.Hasher.write g.S.Hasher.Hasher.finish c.args.self.now.store.hasher) c.args.self.now.store c.args.self.now.mode → (m : IsMatched c.args.self.now.store (g.Q.Equivalent.matches c.args.key.now)) → RunsAlone g.K.PartialEq.eq (hash_of g.K.Hash.hash_input g.S.BuildHasher.build_hasher g.S.Hasher.Hasher.write g.S.Hasher.Hasher.finish) (core_of c.args.self.now) (removal_by m.pair.key) c.in-Done.reply (seated c.loop-at.self-inside.store None c.args.self.now.mode c.args.self.now.initial)
+made : (g : Over) (c : After-drop-agrees g) → IsLawfulMap g.K.PartialEq.eq (hash_of g.K.Hash.hash_input g.S.BuildHasher.build_hasher g.S.Hasher.Hasher.write g.S.Hasher.Hasher.finish c.args.self.now.store.hasher) c.args.self.now.store c.args.self.now.mode c.args.self.now.initial → (m : IsMatched c.args.self.now.store (g.Q.Equivalent.matches c.args.key.now)) → IsOver g.K.PartialEq.eq (hash_of g.K.Hash.hash_input g.S.BuildHasher.build_hasher g.S.Hasher.Hasher.write g.S.Hasher.Hasher.finish) c.args.self.now (removal_by m.pair.key) c.loop-at.self-inside.store c.in-Done.reply
 made g c orderly m =
     alone g.F.FnMut g.K.PartialEq.eq (hash_of g.K.Hash.hash_input g.S.BuildHasher.build_hasher g.S.Hasher.Hasher.write g.S.Hasher.Hasher.finish) (g.Q.Equivalent.matches c.args.key.now) c.hash-hash.result c.args.self.now c.args.agrees
     c.loop-at.self-inside.store c.loop-at.agrees c.loop-at.machine c.loop-at.invariant.4 c.in-Done.reply (ends_with g c)
@@ -166,8 +165,8 @@ returns-in-Done-clause-whole g c =
       removal = ⊎_elim
           (λ (m : IsMatched map.store matches).
           removal_done g.F.FnMut g.K.PartialEq.eq g.met.K.Eq.laws matches m.pair.key (alike g c m) map.store later c.args.agrees c.loop-at.agrees c.in-Done.reply
-          (alone_answered g.K.PartialEq.eq g.K.Hash.hash_input g.S.BuildHasher.build_hasher g.S.Hasher.Hasher.write g.S.Hasher.Hasher.finish g.met.K.Eq.laws g.met.K.Hash.respects_eq
-          (core_of map) (seated later None map.mode map.initial) (removal_by m.pair.key) c.in-Done.reply (lawful g (goal.at.returns-in-Done-clause-whole g c).After-new-machine).lawful (made g c (lawful g (goal.at.returns-in-Done-clause-whole g c).After-new-machine) m))
+          (map_answered g.K.PartialEq.eq g.K.Hash.hash_input g.S.BuildHasher.build_hasher g.S.Hasher.Hasher.write g.S.Hasher.Hasher.finish g.met.K.Eq.laws g.met.K.Hash.respects_eq
+          map (removal_by m.pair.key) c.in-Done.reply later (lawful g (goal.at.returns-in-Done-clause-whole g c).After-new-machine) (made g c (lawful g (goal.at.returns-in-Done-clause-whole g c).After-new-machine) m))
           (judged_reply g.F.FnMut g.K.PartialEq.eq hash matches c.hash-hash.result map c.args.agrees later c.loop-at.agrees c.loop-at.machine c.loop-at.invariant.4 c.in-Done.reply (ends_with g c)))
           (λ (none : MatchesNone map.store matches).
           let nothing = unmet g.F.FnMut g.K.PartialEq.eq hash matches c.hash-hash.result map c.args.agrees later c.loop-at.agrees c.loop-at.machine c.loop-at.invariant.4 c.in-Done.reply (ends_with g c) none in
@@ -182,16 +181,16 @@ invariant_of-self g c =
     let map = c.args.self.now in
     let later = c.loop-at.self-inside.store in
     let before = lawful g (goal.at.invariant_of-self g c).After-new-machine in
-    subst (IsLawfulMap g.K.PartialEq.eq (hash later.hasher) later) (sym c.loop-at.invariant.2)
+    subst (λ mode. IsLawfulMap g.K.PartialEq.eq (hash later.hasher) later mode c.loop-at.self-inside.initial) (sym c.loop-at.invariant.2)
+    (subst (λ initial. IsLawfulMap g.K.PartialEq.eq (hash later.hasher) later map.mode initial) (sym c.loop-at.invariant.3)
     (⊎_elim
     (λ (m : IsMatched map.store matches).
-    let so = alone_lawful g.K.PartialEq.eq g.K.Hash.hash_input g.S.BuildHasher.build_hasher g.S.Hasher.Hasher.write g.S.Hasher.Hasher.finish g.met.K.Eq.laws g.met.K.Hash.respects_eq
-    (core_of map) (seated later None map.mode map.initial) (removal_by m.pair.key) c.in-Done.reply before.lawful (made g c before m) before.counted in
-    record { lawful = so.0; counted = so.1 })
+    map_lawful g.K.PartialEq.eq g.K.Hash.hash_input g.S.BuildHasher.build_hasher g.S.Hasher.Hasher.write g.S.Hasher.Hasher.finish g.met.K.Eq.laws g.met.K.Hash.respects_eq
+    map (removal_by m.pair.key) c.in-Done.reply later before (made g c before m))
     (λ (none : MatchesNone map.store matches).
     let nothing = unmet g.F.FnMut g.K.PartialEq.eq hash matches c.hash-hash.result map c.args.agrees later c.loop-at.agrees c.loop-at.machine c.loop-at.invariant.4 c.in-Done.reply (ends_with g c) none in
-    subst (λ s. IsLawfulMap g.K.PartialEq.eq (hash s.hasher) s map.mode) (sym nothing.1) before)
-    (decided map.store matches))
+    subst (λ s. IsLawfulMap g.K.PartialEq.eq (hash s.hasher) s map.mode map.initial) (sym nothing.1) before)
+    (decided map.store matches)))
 
 pub returns-in-Done-clause-never : goal.returns-in-Done-clause-never
 returns-in-Done-clause-never g c =
