@@ -137,6 +137,11 @@ abbrev pub replaces : Kind → Place → ℕ → State
 replaces Live at word = Writing (record { place = at; old = word })
 replaces _ at word = copied_from at
 
+-- an insertion that replaces nothing has its answer there
+abbrev pub occupies : Kind → Place → ℕ → State
+occupies Live at word = Ended (Occupied (pair_of word))
+occupies _ at word = copied_from at
+
 -- and is shown to the closure of a removal there
 abbrev pub removes : Kind → Place → ℕ → State
 removes Live at word = Showing (record { place = at; word = word })
@@ -149,7 +154,7 @@ computes _ held at word = copied_from at
 
 abbrev pub found : Task → Remembered → Place → ℕ → State
 found Get held at word = Ended (Found (pair_of word))
-found (Insert false) held at word = Ended (Occupied (pair_of word))
+found (Insert false) held at word = occupies (kind_of word) at word
 found (Insert true) held at word = replaces (kind_of word) at word
 found RemoveIf held at word = removes (kind_of word) at word
 found Compute held at word = computes (kind_of word) held at word

@@ -383,7 +383,7 @@ impl Machine {
     }
 
     /// A word at this place names a pair with a matching key. One that is marked can't be changed
-    /// here.
+    /// here, and each call but a lookup carries it on first.
     #[inline(always)]
     fn found(&self, place: Place, word: u64) -> State
         requires within { IsWithin place }
@@ -391,17 +391,14 @@ impl Machine {
         ensures value { result ≡ found self.now.task self.now.remembered place word }
         ensures standing { IsStandingState self.now.task result }
     {
-        match self.task {
-            Task::Get => return State::Ended(Reply::Found(Word(word).pair())),
-            Task::Insert { replace: false } => {
-                return State::Ended(Reply::Occupied(Word(word).pair()));
-            }
-            _ => {}
+        if self.task == Task::Get {
+            return State::Ended(Reply::Found(Word(word).pair()));
         }
         if Word(word).kind() != Kind::Live {
             return State::Growing(Need::Pair(place.table, place.probe.i));
         }
         match self.task {
+            Task::Insert { replace: false } => State::Ended(Reply::Occupied(Word(word).pair())),
             Task::RemoveIf => State::Showing(Removal { place, word }),
             Task::Compute => self.remembered.meets(place, word),
             _ => State::Writing(Write { place, old: word }),

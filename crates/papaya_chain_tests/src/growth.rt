@@ -3,7 +3,9 @@ ghost use Rattle.papaya_words.specs.Mode.{IsChunked};
 
 use crate::expect::{is, is_at};
 use crate::hashing::{APART, TOGETHER, Times};
-use crate::words::{Numbers, copies_all, copies_chunk, is_resizing, reply};
+use crate::words::{
+    Numbers, copies_all, copies_chunk, copies_to_a_mark, is_resizing, marked, reply,
+};
 use papaya_ask::call::{Reply, Task};
 use papaya_store::store::Store;
 use papaya_words::probe::{Refused, ResizeMode};
@@ -18,6 +20,8 @@ const KEYS: u64 = 1000;
 const MOST_CHUNKS: usize = 1000;
 
 const REPLACES: Task = Task::Insert { replace: true };
+
+const TRIES: Task = Task::Insert { replace: false };
 
 /// Any value, where a call stores none.
 const NO_VALUE: u64 = 0;
@@ -209,6 +213,27 @@ fn copy_ends_all(rt: &impl Abort, alloc: Global) -> Result<(), Refused> {
 #[test]
 fn a_copy_of_all_ends_every_resize(rt: HostRuntime) -> Result<(), Fail> {
     copy_ends_all(&rt, rt.alloc())?;
+    Ok(())
+}
+
+/// An insertion that replaces nothing meets its key's pair in a marked word: it copies the slot, and
+/// then it answers with the pair. The numbers of pairs are their keys.
+fn tries_carry_a_mark(rt: &impl Abort, alloc: Global) -> Result<(), Refused> {
+    let mode = ResizeMode::Incremental(1);
+    let mut words = no_words(alloc, mode, APART)?;
+    stores_until_it_grows(rt, alloc, &mut words, mode);
+    let key = copies_to_a_mark(alloc, &mut words, mode).unwrap_or(KEYS);
+    let tried = reply(alloc, &mut words, mode, TRIES, key, NO_VALUE);
+    is(rt, tried, Some(Reply::Occupied(key)));
+    is(rt, is_resizing(&words), true);
+    is(rt, marked(&words), None);
+    is(rt, value(alloc, &mut words, mode, key), Some(key));
+    Ok(())
+}
+
+#[test]
+fn an_insertion_that_replaces_nothing_carries_a_mark_on(rt: HostRuntime) -> Result<(), Fail> {
+    tries_carry_a_mark(&rt, rt.alloc())?;
     Ok(())
 }
 

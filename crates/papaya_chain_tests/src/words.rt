@@ -15,6 +15,7 @@ use papaya_chain::machine::Machine;
 use papaya_store::pairs::{KeyOf, Running};
 use papaya_store::store::Store;
 use papaya_words::probe::ResizeMode;
+use papaya_words::word::{Kind, Word};
 use std::alloc::Global;
 use std::marker::Model;
 
@@ -163,7 +164,7 @@ pub fn reply(
 {
     let mut call = Call::new(task, words.hash(&key), mode);
     let mut running = Running {
-        machine: call.machine.call,
+        machine: call.machine,
         key: KeyOf::Own(key),
         value: Some(value),
         answers: Some(Adds),
@@ -209,6 +210,40 @@ pub fn copies_all(alloc: Global, words: &mut Numbers, mode: ResizeMode) -> Optio
     requires { IsChunked mode }
 {
     asks_of(alloc, words, Copying::all(mode))
+}
+
+/// The pair of the first marked word in 32 slots of the root.
+pub fn marked(words: &Numbers) -> Option<u64> {
+    let root = words.word(At::Root);
+    for slot in 0..LEAST_LEN {
+        let word = Word(words.word(At::Slot(root, slot)));
+        if word.kind() == Kind::Marked {
+            return Some(word.pair());
+        }
+    }
+    None
+}
+
+/// Chunks are copied until a pair is marked, and no further. Answers with that pair.
+pub fn copies_to_a_mark(alloc: Global, words: &mut Numbers, mode: ResizeMode) -> Option<u64>
+    requires { IsChunked mode }
+{
+    let mut copy = Copying::chunk(mode);
+    for _ in 0..MOST_STEPS {
+        if let Some(pair) = marked(words) {
+            return Some(pair);
+        }
+        let Some(ask) = copy.ask() else {
+            copy = Copying::chunk(mode);
+            continue;
+        };
+        let answer = words.perform_copy(alloc, ask, false);
+        if !fits(&answer) {
+            return None;
+        }
+        copy.answer(answer);
+    }
+    None
 }
 
 /// Is the root being copied to another table?

@@ -42,6 +42,7 @@ use Rattle.papaya_call.specs.Compute.{fills, lacks, offered, chosen, provides, r
 use Rattle.papaya_call.specs.Machine.{after, ask_of, asks, absent, at_root, left as next_or_end, passes, replaces, removes, computes, goes_as, written, agreed}
 use Rattle.papaya_rests.specs.Alone.{IsSame, IsPut, IsMaking, IsSaying, IsPrompt, IsBare, IsRead, IsGapRead, IsPurposeRead, IsCurrent, word_of_place}
 use Rattle.papaya_rests.proofs.AloneSteps.{exchange_done, by_saying}
+use Rattle.papaya_rests.proofs.Leads.{occupies_leads}
 
 -- the word of a pair is that of no empty slot
 filled_kind : (code byte pair : ℕ) → code < 8 → kind_of (filled_word code byte pair) ≡ kind_of_code code
@@ -168,7 +169,7 @@ module _ (words : At → ℕ) where
   goes_read : (task : Task) (mode : ResizeMode) (held : Remembered) (s : Seen) → IsSeenThere s → IsRead words (goes_as task mode held s)
   goes_read task mode held (seen.On search) there = there
   goes_read Get mode held (seen.Here at word) there = tt
-  goes_read (Insert false) mode held (seen.Here at word) there = tt
+  goes_read (Insert false) mode held (seen.Here at word) there = occupies_leads (IsRead words) (kind_of word) at word tt tt
   goes_read (Insert true) mode held (seen.Here at word) there = replaces_read (kind_of word) at word there
   goes_read RemoveIf mode held (seen.Here at word) there = removes_read (kind_of word) at word there
   goes_read Compute mode held (seen.Here at word) there = computes_read (kind_of word) held at word there

@@ -41,6 +41,7 @@ use Rattle.papaya_ask.specs.Search.{IsSize, next_place, go_on, look_at, match_at
 use Rattle.papaya_call.specs.Compute.{fills, lacks, offered, chosen, provides, recalls}
 use Rattle.papaya_call.specs.Machine.{after, ask_of, asks, absent, at_root, left as next_or_end, passes, replaces, removes, computes, goes_as, written, agreed}
 use Rattle.papaya_rests.specs.Alone.{IsPut, IsMaking, IsSaying, IsPrompt, IsRead, left, left_in, left_to_search, left_to_write, left_to_pair, left_to_fill, left_to_serve}
+use Rattle.papaya_rests.proofs.Leads.{occupies_leads}
 
 -- the exchange of a word that stands there is done
 pub exchange_done : (P Q : Type 0) (word old : ℕ) → word ≡ old → MatchBool (word == old) P Q → P
@@ -160,7 +161,7 @@ module _ (made : Made) where
   goes_left : (task : Task) (mode : ResizeMode) (held : Remembered) (s : Seen) → left_in made (goes_as task mode held s) ≤ left_of_seen s
   goes_left task mode held (seen.On search) = omega arith
   goes_left Get mode held (seen.Here at word) = omega arith
-  goes_left (Insert false) mode held (seen.Here at word) = omega arith
+  goes_left (Insert false) mode held (seen.Here at word) = occupies_leads (λ s. left_in made s ≤ 5) (kind_of word) at word (omega arith) (omega arith)
   goes_left (Insert true) mode held (seen.Here at word) = omega (arith, replaces_left (kind_of word) at word)
   goes_left RemoveIf mode held (seen.Here at word) = removes_left (kind_of word) at word
   goes_left Compute mode held (seen.Here at word) = computes_left (kind_of word) held at word

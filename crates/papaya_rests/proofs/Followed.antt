@@ -41,6 +41,7 @@ use Rattle.papaya_call.specs.Machine.{HasClosure, IsChanger, IsStanding, IsStand
 use Rattle.papaya_rests.specs.Rests.{change_in}
 use Rattle.papaya_ask.specs.Search.{at_size, at_word, at_yes, go_on, look, look_at, match_at, compare_byte, next_place}
 use Rattle.papaya_rests.proofs.Standing.{computer_inserts, writer_inserts}
+use Rattle.papaya_rests.proofs.Leads.{occupies_leads}
 
 -- what a search saw names no table but n
 abbrev IsSeenAt : ℕ → Seen → Type 0
@@ -127,7 +128,7 @@ passes_at n task Blocking fill t is = absent_at n task fill (After t) is
 goes_at : (n : ℕ) (task : Task) (mode : ResizeMode) (held : Remembered) (s : Seen) → IsSeenAt n s → IsAtTable n (goes_as task mode held s)
 goes_at n task mode held (seen.On search) is = is
 goes_at n Get mode held (seen.Here at word) is = tt
-goes_at n (Insert false) mode held (seen.Here at word) is = tt
+goes_at n (Insert false) mode held (seen.Here at word) is = occupies_leads (IsAtTable n) (kind_of word) at word tt is
 goes_at n (Insert true) mode held (seen.Here at word) is = replaces_at n at is (kind_of word) word
 goes_at n RemoveIf mode held (seen.Here at word) is = removes_at n at is (kind_of word) word
 goes_at n Compute mode held (seen.Here at word) is = computes_at n (kind_of word) held at is word

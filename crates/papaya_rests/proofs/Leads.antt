@@ -28,7 +28,7 @@ use Rattle.papaya_call.specs.declared.machine.Machine.{Machine}
 use Rattle.papaya_call.specs.declared.machine.State.{State}
 use Rattle.papaya_call.specs.declared.machine.State.TheVariants.{Making, Searching, Writing, Offering, Showing, Putting, Burying, Leaving, Growing, Ended}
 use Rattle.papaya_call.specs.Compute.{fills, lacks, provides, recalls}
-use Rattle.papaya_call.specs.Machine.{absent, at_root, beaten, beaten_as, beaten_by, computes, found, goes_as, left, passes, removes, replaces}
+use Rattle.papaya_call.specs.Machine.{absent, at_root, beaten, beaten_as, beaten_by, computes, found, copied_from, goes_as, left, occupies, passes, removes, replaces}
 use Rattle.papaya_ask.specs.Search.{look as look_seen}
 use Rattle.papaya_call.specs.declared.need.Need.{Need}
 use Rattle.papaya_call.specs.declared.need.Need.TheVariants.{Room, Pair as Pair_at}
@@ -47,6 +47,16 @@ pub record HoldsOfLeads (Holds : State → Type 0) : Type 0 where
   pub burying : (removal : Removal) → Holds (Burying removal)
   pub leaving : (t : ℕ) → Holds (Leaving t)
   pub growing : (need : Need) → Holds (Growing need)
+
+-- what holds of the answer and of the table that is needed next holds where an insertion that replaces
+-- nothing met its key's pair
+pub occupies_leads : (Holds : State → Type 0) (kd : Kind) (at : Place) (word : ℕ) → Holds (Ended (Occupied (pair_of word))) → Holds (copied_from at) → Holds (occupies kd at word)
+occupies_leads Holds word_kinds.Empty at word answered needed = needed
+occupies_leads Holds word_kinds.Live at word answered needed = answered
+occupies_leads Holds word_kinds.Marked at word answered needed = needed
+occupies_leads Holds word_kinds.Copied at word answered needed = needed
+occupies_leads Holds word_kinds.Buried at word answered needed = needed
+occupies_leads Holds word_kinds.Closed at word answered needed = needed
 
 module _ (Holds : State → Type 0) (each : HoldsOfLeads Holds) where
   -- a pair for an absent key
@@ -130,7 +140,7 @@ module _ (Holds : State → Type 0) (each : HoldsOfLeads Holds) where
   -- a pair with a matching key
   found_leads : (task : Task) (held : Remembered) (at : Place) (word : ℕ) → Holds (found task held at word)
   found_leads Get held at word = each.ended_found (pair_of word)
-  found_leads (Insert false) held at word = each.ended_occupied (pair_of word)
+  found_leads (Insert false) held at word = occupies_leads Holds (kind_of word) at word (each.ended_occupied (pair_of word)) (each.growing (Pair_at at.table at.probe.i))
   found_leads (Insert true) held at word = replaces_leads (kind_of word) at word
   found_leads RemoveIf held at word = removes_leads (kind_of word) at word
   found_leads Compute held at word = computes_leads (kind_of word) held at word

@@ -15,7 +15,7 @@ use Rattle.papaya_law.specs.Exchange.{Word, Live, Marked, Copied, Setting, State
 use Rattle.papaya_law.specs.View.{Foreign, Here, Leaving, Gone, look, own, held, view}
 use Rattle.papaya_law.specs.Allows.{AllAllowed}
 use Rattle.papaya_law.specs.Code.{Coding, code}
-use Rattle.papaya_call.specs.Machine.{goes_as, computes, found, removes, replaces}
+use Rattle.papaya_call.specs.Machine.{goes_as, computes, found, occupies, removes, replaces}
 use Rattle.papaya_rests.specs.Told.{Hands}
 use Rattle.papaya_law.specs.Code.{IsHashed}
 use Rattle.papaya_rests.specs.Rests.{HadPair, HasMet, IsAt, IsMovingFrom, IsModeOf, MayRemove, MayWrite, RestsChoice, RestsFill, RestsStage, WasAtMoment}
@@ -85,6 +85,12 @@ module _ {K P : Type 0} (g : Setting K P) (c : Coding K P) (hashed : IsHashed g 
     replacing hands (inr e) =
         subst (λ y. RestsStage g c begun since k hands (Insert true) (replaces y at word)) (sym (marked_kind e)) (tt, (h.stands.come, moving e))
 
+    -- one that replaces nothing
+    trying : (hands : Hands P) → (h.was ≡ Live p) ⊎ (h.was ≡ Marked p) → RestsStage g c begun since k hands (Insert false) (occupies (kind_of word) at word)
+    trying hands (inl e) = subst (λ y. RestsStage g c begun since k hands (Insert false) (occupies y at word)) (sym (live_kind e)) (had_pair (inl e))
+    trying hands (inr e) =
+        subst (λ y. RestsStage g c begun since k hands (Insert false) (occupies y at word)) (sym (marked_kind e)) (tt, (h.stands.come, moving e))
+
     -- a removal
     removing : (hands : Hands P) → hands.last ≡ Some p → (h.was ≡ Live p) ⊎ (h.was ≡ Marked p) → RestsStage g c begun since k hands RemoveIf (removes (kind_of word) at word)
     removing hands last (inl e) = subst (λ y. RestsStage g c begun since k hands RemoveIf (removes y at word)) (sym (live_kind e)) (tt, removable hands last e)
@@ -104,7 +110,7 @@ module _ {K P : Type 0} (g : Setting K P) (c : Coding K P) (hashed : IsHashed g 
     finds : (hands : Hands P) → hands.last ≡ Some p → (held : Remembered) → RestsChoice g c begun since k hands held.choice → (task : Task) → (h.was ≡ Live p) ⊎ (h.was ≡ Marked p)
         → RestsStage g c begun since k hands task (found task held at word)
     finds hands last held own Get e = had_pair e
-    finds hands last held own (Insert false) e = had_pair e
+    finds hands last held own (Insert false) e = trying hands e
     finds hands last held own (Insert true) e = replacing hands e
     finds hands last held own RemoveIf e = removing hands last e
     finds hands last held own Compute e = computing hands last held own e

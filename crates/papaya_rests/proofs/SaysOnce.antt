@@ -35,6 +35,7 @@ use Rattle.papaya_call.specs.Compute.{fills, recalls}
 use Rattle.papaya_call.specs.Machine.{absent, after, ask_of, asks, at_root, beaten_as, beaten_by, computes, goes_as, left, removes, replaces, written}
 use Rattle.papaya_ask.specs.Search.{look as look_seen, at_word as search_loaded, at_yes as search_compared}
 use Rattle.papaya_rests.specs.Says.{HasShownNone, IsFilled}
+use Rattle.papaya_rests.proofs.Leads.{occupies_leads}
 
 -- a machine that has shown None asks to show it no more
 asks_other : (made : Made) (hash : ℕ) (fill : Option ℕ) (stage : Stage) → HasShownNone fill stage → asks made hash stage ≡ ShowNone → ⊥
@@ -112,7 +113,7 @@ replaces_shown fill word_kinds.Closed at word h = h
 goes_shown : (task : Task) (mode : ResizeMode) (held : Remembered) (s : Seen) → IsFilled held.fill → HasShownNone held.fill (goes_as task mode held s)
 goes_shown task mode held (seen.On way) h = h
 goes_shown Get mode held (seen.Here at word) h = tt
-goes_shown (Insert false) mode held (seen.Here at word) h = tt
+goes_shown (Insert false) mode held (seen.Here at word) h = occupies_leads (HasShownNone held.fill) (kind_of word) at word tt h
 goes_shown (Insert true) mode held (seen.Here at word) h = replaces_shown held.fill (kind_of word) at word h
 goes_shown RemoveIf mode held (seen.Here at word) h = removes_shown held.fill (kind_of word) at word h
 goes_shown Compute mode held (seen.Here at word) h = computes_shown (kind_of word) held at word h

@@ -40,6 +40,7 @@ use Rattle.papaya_ask.specs.Search.{look as look_seen, at_word as search_loaded,
 use Rattle.papaya_rests.specs.Says.{IsSaidBy, Said, Agrees, Inserts, Makes, Removes, ShowsPairs, StandsOn, said_in, said_in_reply, said_to_choose, said_to_claim, said_to_fill, said_to_remove, shown_by}
 use Rattle.papaya_rests.proofs.SaysWords.{live_is_some}
 use Rattle.papaya_rests.proofs.Tasks.{same_task}
+use Rattle.papaya_rests.proofs.Leads.{occupies_leads}
 
 -- a word that is not 0 names a pair
 pub shown_pair : (word : ℕ) → 0 < word → shown_by word ≡ Some (pair_of word)
@@ -112,7 +113,7 @@ replaces_silent word_kinds.Closed at word said e = cc e
 goes_held : (task : Task) (mode : ResizeMode) (held : Remembered) (s : Seen) → IsHeld task held.fill held.choice (goes_as task mode held s)
 goes_held task mode held (seen.On way) said e = absurd cc
 goes_held Get mode held (seen.Here at word) said e = absurd cc
-goes_held (Insert false) mode held (seen.Here at word) said e = absurd cc
+goes_held (Insert false) mode held (seen.Here at word) said e = absurd (occupies_leads (λ s. said_in (Insert false) s ≡ Some said → ⊥) (kind_of word) at word (λ is. cc is) (λ is. cc is) e)
 goes_held (Insert true) mode held (seen.Here at word) said e = absurd (replaces_silent (kind_of word) at word said e)
 goes_held RemoveIf mode held (seen.Here at word) said e = absurd (removes_silent (kind_of word) at word said e)
 goes_held Compute mode held (seen.Here at word) said e = computes_held (kind_of word) held at word refl said e

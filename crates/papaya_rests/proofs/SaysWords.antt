@@ -33,6 +33,7 @@ use Rattle.papaya_call.specs.Compute.{fills, recalls}
 use Rattle.papaya_call.specs.Machine.{absent, after, at_root, beaten_as, beaten_by, computes, goes_as, left, removes, replaces, written}
 use Rattle.papaya_ask.specs.Search.{look as look_seen, at_word as search_loaded, at_yes as search_compared}
 use Rattle.papaya_rests.specs.Says.{ShowsPairs}
+use Rattle.papaya_rests.proofs.Leads.{occupies_leads}
 
 -- a Live word is not 0
 pub live_is_some : (word : ℕ) → kind_of word ≡ word_kinds.Live → 0 < word
@@ -94,7 +95,7 @@ replaces_shows word_kinds.Closed at word = tt
 goes_shows : (task : Task) (mode : ResizeMode) (held : Remembered) (s : Seen) → ShowsPairs (goes_as task mode held s)
 goes_shows task mode held (seen.On way) = tt
 goes_shows Get mode held (seen.Here at word) = tt
-goes_shows (Insert false) mode held (seen.Here at word) = tt
+goes_shows (Insert false) mode held (seen.Here at word) = occupies_leads ShowsPairs (kind_of word) at word tt tt
 goes_shows (Insert true) mode held (seen.Here at word) = replaces_shows (kind_of word) at word
 goes_shows RemoveIf mode held (seen.Here at word) = removes_shows (kind_of word) at word refl
 goes_shows Compute mode held (seen.Here at word) = computes_shows (kind_of word) held at word refl

@@ -38,6 +38,7 @@ use Rattle.papaya_ask.specs.Search.{IsSize, IsWithin, IsSearching, IsSeen, next_
 use Rattle.papaya_call.specs.Write.{IsMade}
 use Rattle.papaya_call.specs.Compute.{IsChoice, IsFill, IsGap, IsPurpose, IsRemembered, chosen, fills, lacks, offered, provides, recalls, with_choice, with_pair}
 use Rattle.papaya_call.specs.Machine.{IsComputer, IsStanding, IsStandingState, IsWriter, MayInsert, IsFit, IsFitAsk, ask_of, asks, after, absent, at_root, beaten_as, beaten_by, computes, decided, decided_held, held_at_op, held_in, judged, left, paired, paired_held, passes, removes, replaces, goes_as, made_in, state_in, at_op, at_word, at_exchanged, at_found, at_yes, at_size, at_ok, at_refused, written}
+use Rattle.papaya_rests.proofs.Leads.{occupies_leads}
 
 -- a table with a size has a slot
 pub some_slots : (slots last : ℕ) → IsSize slots last → 0 < slots
@@ -136,7 +137,7 @@ passes_stands task Blocking fill t held = absent_stands task fill (After t) held
 goes_stands : (task : Task) (mode : ResizeMode) (held : Remembered) (s : Seen) → IsRemembered held → IsSeen s → IsStandingState task (goes_as task mode held s)
 goes_stands task mode held (seen.On search) is within = within
 goes_stands Get mode held (seen.Here at word) is within = tt
-goes_stands (Insert false) mode held (seen.Here at word) is within = tt
+goes_stands (Insert false) mode held (seen.Here at word) is within = occupies_leads (IsStandingState (Insert false)) (kind_of word) at word tt tt
 goes_stands (Insert true) mode held (seen.Here at word) is within = replaces_stands (kind_of word) at word within
 goes_stands RemoveIf mode held (seen.Here at word) is within = removes_stands (kind_of word) at word within
 goes_stands Compute mode held (seen.Here at word) is within = computes_stands (kind_of word) held at word is within

@@ -24,7 +24,7 @@ use Rattle.papaya_ask.specs.declared.search.Seen.TheVariants as seen
 use Rattle.papaya_call.specs.declared.write.Made.{Made}
 use Rattle.papaya_call.specs.declared.write.Made.TheVariants.{Nothing, Key, Pair}
 use Rattle.papaya_call.specs.declared.write.Write.{Write}
-use Rattle.papaya_call.specs.Machine.{at_root, goes_as, replaces, written}
+use Rattle.papaya_call.specs.Machine.{at_root, goes_as, occupies, replaces, written}
 use Rattle.papaya_ask.specs.Search.{IsWithin, go_on, look_at, match_at, at_yes as search_compared}
 use Rattle.papaya_store.specs.declared.pairs.KeyOf.{KeyOf}
 use Rattle.papaya_store.specs.declared.pairs.Pair.{Pair as LoggedPair}
@@ -128,7 +128,7 @@ module _ {K V S : Type 0} (hash : ℕ) (s : StoreState K V S) (value : V) where
     -- a pair with the key was found
     found_stage : (replace : Bool) (kind : Kind) (at : Place) (word : ℕ) → IsPast hash s.words at → IsWithin at → kind_of word ≡ kind → kind ≡ kinds.Live → IsSeenStage left replace mode held (match_at kind at word)
     found_stage true kinds.Live at word past within e live = subst (λ k. IsStage s.words left Nothing (replaces k at word)) (sym e) (slot_there hash s at past within)
-    found_stage false kinds.Live at word past within e live = (λ refused f. absurd cc, λ n f. has)
+    found_stage false kinds.Live at word past within e live = subst (λ k. IsStage s.words left Nothing (occupies k at word)) (sym e) (λ refused f. absurd cc, λ n f. has)
     found_stage replace kinds.Empty at word past within e live = absurd cc
     found_stage replace kinds.Marked at word past within e live = absurd cc
     found_stage replace kinds.Copied at word past within e live = absurd cc
