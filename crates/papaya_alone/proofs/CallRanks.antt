@@ -40,6 +40,7 @@ use Rattle.papaya_call.specs.declared.machine.State.TheVariants.{AtRoot, Making,
 use Rattle.papaya_ask.specs.Search.{IsSize, next_place, go_on, look_at, match_at, look, at_yes as search_compared}
 use Rattle.papaya_call.specs.Compute.{fills, lacks, offered, chosen, provides, recalls}
 use Rattle.papaya_call.specs.Machine.{after, ask_of, asks, absent, at_root, left as next_or_end, passes, replaces, removes, computes, goes_as, written, agreed}
+use Rattle.papaya_rests.proofs.Leads.{occupies_leads}
 use Rattle.papaya_rests.specs.Alone.{IsPut, IsMaking, IsSaying, IsPrompt, IsRead}
 use Rattle.papaya_rests.proofs.AloneSteps.{by_saying, exchange_done}
 use Rattle.papaya_alone.specs.Ahead.{IsAhead, IsAheadIn, IsGapAhead, IsPurposeAhead}
@@ -195,7 +196,7 @@ module _ (made : Made) (how : ResizeMode) (words : At → ℕ) where
   goes_leads : (task : Task) (held : Remembered) (s : Seen) → IsAhead how words (seen_in s) → Leads made how words (rank_of_seen s) (goes_as task how held s)
   goes_leads task held (seen.On search) h = (omega arith, h)
   goes_leads Get held (seen.Here at word) h = (omega arith, tt)
-  goes_leads (Insert false) held (seen.Here at word) h = (omega arith, tt)
+  goes_leads (Insert false) held (seen.Here at word) h = occupies_leads (Leads made how words (rank_of_seen (seen.Here at word))) (kind_of word) at word (omega arith, tt) (omega arith, h)
   goes_leads (Insert true) held (seen.Here at word) h = more made how words (rank 2 (further at.table) (2 ^ 68 + 3)) _ (replaces (kind_of word) at word) (omega arith) (replaces_leads made how words (kind_of word) at word h)
   goes_leads RemoveIf held (seen.Here at word) h = more made how words (rank 2 (further at.table) (2 ^ 68 + 3)) _ (removes (kind_of word) at word) (omega arith) (removes_leads made how words (kind_of word) at word h)
   goes_leads Compute held (seen.Here at word) h = more made how words (rank 2 (further at.table) (2 ^ 68 + 3)) _ (computes (kind_of word) held at word) (omega arith) (computes_leads made how words (kind_of word) held at word h)
