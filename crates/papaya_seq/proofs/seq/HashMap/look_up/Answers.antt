@@ -1,8 +1,7 @@
-use Rattle.std.proofs.Common.{◌≡◌, ℕ, sym, ◌∙◌, ap, subst, fold, ◌<◌, ◌^◌}
+use Rattle.std.proofs.Common.{◌≡◌, ℕ, sym, ◌∙◌, ap, subst, fold, length, ◌<◌, ◌^◌}
 use Rattle.papaya_ask.specs.declared.ask.Answer.TheVariants.{Word, Yes}
 use Rattle.papaya_ask.specs.declared.ask.Ask.{Ask}
 use Rattle.papaya_ask.specs.declared.call.Task.TheVariants.{Get}
-use Rattle.papaya_rests.specs.Alone.{left}
 use Rattle.papaya_call.specs.Machine.{IsStanding, ask_of, started}
 use Rattle.papaya_store.specs.Performs.{size_of}
 use Rattle.papaya_store.specs.Store.{pair_of}
@@ -13,7 +12,7 @@ use Rattle.papaya_timeline.proofs.KeptSettings.{IsLawfulKeys}
 use Rattle.papaya_seq.specs.Looks.{IsToldBy, found_number, matches_in}
 use Rattle.papaya_seq.specs.Map.{IsLawfulMap, MapState}
 use Rattle.papaya_seq.proofs.LookFinds.{look_up_finds, number_found}
-use Rattle.papaya_seq.proofs.LookSteps.{IsLookUp, look_up_begins, look_up_goes, lookup_nears}
+use Rattle.papaya_seq.proofs.LookSteps.{IsLookUp, look_up_begins, look_up_goes, lookup_left, lookup_nears}
 use Rattle.papaya_seq.proofs.seq.HashMap.look_up.Goals as goal
 use Rattle.papaya_seq.proofs.seq.HashMap.look_up.Goals.{After-answer, After-ask, After-new-machine, in-Load, in-SameKey, in-SizeOf}
 use Rattle.papaya_seq.proofs.seq.HashMap.look_up.Given.{Over}
@@ -67,7 +66,7 @@ loop-at-smaller g c =
     let s = c.args.self.now in
     let at = (goal.at.loop-at-smaller g c).After-new-machine in
     let kept = c.loop-at.invariant in
-    subst (λ m. left m < left c.loop-at.machine) (sym c.answer.ensures.after)
+    subst (λ m. lookup_left (length s.store.words.tables) m < lookup_left (length s.store.words.tables) c.loop-at.machine) (sym c.answer.ensures.after)
     (lookup_nears g.K.PartialEq.eq (key_hash g s.store.hasher) s.mode s.store (in_order g at) (keys g at) (g.Q.Equivalent.matches c.args.key.now) c.loop-at.machine kept.task kept.looking c.match-ask.answer (told g c) kept.current)
 
 pub loop-at-preserved : goal.loop-at-preserved
