@@ -31,26 +31,36 @@ use Rattle.papaya_timeline.proofs.KeptSettings.{IsLawfulKeys, tables_hashed}
 use Rattle.papaya_seq.specs.Map.{HasNone, Holds, IsLawfulMap}
 use Rattle.papaya_seq.proofs.Driving.{words_single}
 
-module _ {K V S A : Type 0} (eq : K → K → Bool) (hash : K → ℕ) (callers : List (Seat K V A)) (mode : ResizeMode) (store : StoreState K V S) (keys : IsLawfulKeys eq hash) (lawful : IsLawfulCore eq hash store callers mode) where
+module _ {K V S A : Type 0} (eq : K → K → Bool) (hash : K → ℕ) (callers : List (Seat K V A)) (mode : ResizeMode) (store : StoreState K V S) (lawful : IsLawfulCore eq hash store callers mode) where
   -- the words of a core as the law has them
   abbrev law_words : State (Stored K V)
   law_words = run lawful.law.0 start
 
-  -- are sound
-  core_sound : IsSound (setting_of {V = V} eq (low hash) mode store.words.tables) law_words
-  core_sound =
-      let hashed = tables_hashed {V = V} eq hash keys mode store.words.tables lawful.core.sizes in
-      sound (setting_of {V = V} eq (low hash) mode store.words.tables) hashed.lawful lawful.law.0 lawful.law.1.1.allowed
+  -- the word of an empty slot is 0
+  pub core_bare : IsBare (λ at. word_at store.words at)
+  core_bare t i empty =
+      let kept = lawful.law.1.1 in
+      let g = setting_of {V = V} eq (low hash) mode store.words.tables in
+      let c = coding_of {V = V} (low hash) in
+      let w : Word (Stored K V) = law_words.slot t i in
+      let is : w ≡ Empty = subst (λ kd. IsOfKind kd w) (ap kind_of (kept.coded (Slot t i)) ∙ empty) (word_of_kind g c w) in
+      sym (kept.coded (Slot t i)) ∙ ap (code g c) is
 
   -- a table of the chain is there
   core_comes_there : (n : ℕ) → Comes law_words n → (n ≡ 0 → ⊥) → (t : TableWords) × (table_of store.words.tables n ≡ Some t)
   core_comes_there n comes some = lawful.law.1.1.made n (⊎_elim (λ (positive : 0 < n). positive) (λ (least : n ≤ 0). absurd (some (omega arith))) (cases_lt 0 n)) comes
 
+  -- the words are sound
+  core_sound : IsLawfulKeys eq hash → IsSound (setting_of {V = V} eq (low hash) mode store.words.tables) law_words
+  core_sound keys =
+      let hashed = tables_hashed {V = V} eq hash keys mode store.words.tables lawful.core.sizes in
+      sound (setting_of {V = V} eq (low hash) mode store.words.tables) hashed.lawful lawful.law.0 lawful.law.1.1.allowed
+
   -- the table that the root of a core names is there
-  pub core_root_there : (store.words.root ≡ 0 → ⊥) → (t : TableWords) × (table_of store.words.tables store.words.root ≡ Some t)
-  core_root_there some =
+  pub core_root_there : IsLawfulKeys eq hash → (store.words.root ≡ 0 → ⊥) → (t : TableWords) × (table_of store.words.tables store.words.root ≡ Some t)
+  core_root_there keys some =
       let is : law_words.root ≡ store.words.root = lawful.law.1.1.coded Root in
-      let comes : Comes law_words law_words.root = ⊎_elim (λ (none : (law_words.root ≡ 0) × (law_words.first ≡ 0)). absurd (some (sym is ∙ none.0))) (on_comes law_words law_words.root) core_sound.root in
+      let comes : Comes law_words law_words.root = ⊎_elim (λ (none : (law_words.root ≡ 0) × (law_words.first ≡ 0)). absurd (some (sym is ∙ none.0))) (on_comes law_words law_words.root) (core_sound keys).root in
       subst (λ n. (t : TableWords) × (table_of store.words.tables n ≡ Some t)) is (core_comes_there law_words.root comes (λ zero. some (sym is ∙ zero)))
 
   -- and so is each next table
@@ -60,10 +70,10 @@ module _ {K V S A : Type 0} (eq : K → K → Bool) (hash : K → ℕ) (callers 
       subst (λ n. (v : TableWords) × (table_of store.words.tables n ≡ Some v)) is (core_comes_there (law_words.next t) (inr (t, refl)) (λ zero. some (sym is ∙ zero)))
 
   -- whose number is greater
-  pub core_next_rises : (t : ℕ) → (word_at store.words (Next t) ≡ 0 → ⊥) → t < word_at store.words (Next t)
-  core_next_rises t some =
+  pub core_next_rises : IsLawfulKeys eq hash → (t : ℕ) → (word_at store.words (Next t) ≡ 0 → ⊥) → t < word_at store.words (Next t)
+  core_next_rises keys t some =
       let is : law_words.next t ≡ word_at store.words (Next t) = lawful.law.1.1.coded (Next t) in
-      ⊎_elim (λ (zero : law_words.next t ≡ 0). absurd (some (sym is ∙ zero))) (λ (up : (0 < t) × (t < law_words.next t)). subst (λ n. t < n) is up.1) (core_sound.rises t)
+      ⊎_elim (λ (zero : law_words.next t ≡ 0). absurd (some (sym is ∙ zero))) (λ (up : (0 < t) × (t < law_words.next t)). subst (λ n. t < n) is up.1) ((core_sound keys).rises t)
 
 module _ {K V S : Type 0} (eq : K → K → Bool) (hash : K → ℕ) (mode : ResizeMode) (store : StoreState K V S) {initial : ℕ} (lawful : IsLawfulMap eq hash store mode initial) where
   -- no table has a next one
@@ -72,24 +82,7 @@ module _ {K V S : Type 0} (eq : K → K → Bool) (hash : K → ℕ) (mode : Res
 
   -- the word of an empty slot is 0
   pub bare : IsBare (λ at. word_at store.words at)
-  bare t i empty =
-      let (es, (tales, kept)) = lawful.lawful.law in
-      let g = setting_of {V = V} eq (low hash) mode store.words.tables in
-      let c = coding_of {V = V} (low hash) in
-      let w : Word (Stored K V) = (run es start).slot t i in
-      let is : w ≡ Empty = subst (λ kd. IsOfKind kd w) (ap kind_of (kept.coded (Slot t i)) ∙ empty) (word_of_kind g c w) in
-      sym (kept.coded (Slot t i)) ∙ ap (code g c) is
-
-  -- the table that the root names is there
-  pub root_there : IsLawfulKeys eq hash → (store.words.root ≡ 0 → ⊥) → (t : TableWords) × (table_of store.words.tables store.words.root ≡ Some t)
-  root_there keys = core_root_there eq hash [] mode store keys lawful.lawful
-
-  -- and each next table, whose number is greater
-  pub next_there : IsLawfulKeys eq hash → (t : ℕ) → (word_at store.words (Next t) ≡ 0 → ⊥) → (v : TableWords) × (table_of store.words.tables (word_at store.words (Next t)) ≡ Some v)
-  next_there keys = core_next_there eq hash [] mode store keys lawful.lawful
-
-  pub next_rises : IsLawfulKeys eq hash → (t : ℕ) → (word_at store.words (Next t) ≡ 0 → ⊥) → t < word_at store.words (Next t)
-  next_rises keys = core_next_rises eq hash [] mode store keys lawful.lawful
+  bare = core_bare eq hash [] mode store lawful.lawful
 
   -- each table has the size of a table
   pub sized : (n : ℕ) (t : TableWords) → table_of store.words.tables n ≡ Some t → IsSize (length t.slots) t.limit

@@ -1,5 +1,5 @@
 -- The machine of a lookup, whose asks are answered by the words that stand in the tables.
-use Rattle.std.proofs.Common.{◌≡◌, ℕ, ◌+◌, ◌*◌, ◌-◌, ◌^◌, ◌<◌, ◌≤◌, ◌==◌, nat_lt, Bool, true, false, List, ◌∷◌, Option, Some, None, length, refl, sym, ◌∙◌, ap, subst, arith, eq-eqb}
+use Rattle.std.proofs.Common.{◌≡◌, ℕ, ◌+◌, ◌*◌, ◌-◌, ◌^◌, ◌<◌, ◌≤◌, ◌==◌, nat_lt, Bool, true, false, List, [], ◌∷◌, Option, Some, None, length, refl, sym, ◌∙◌, ap, subst, arith, eq-eqb}
 use Rattle.std.proofs.lemmas.Bool.{cond_both}
 use Rattle.papaya_words.specs.Table.{TableWords}
 use Rattle.papaya_words.specs.Word.{kind_of, byte_of, top_byte, pair_of as number_of}
@@ -36,10 +36,10 @@ use Rattle.papaya_store.specs.Performs.{size_of}
 use Rattle.papaya_store.specs.Store.{StoreState, Stored, pair_of}
 use Rattle.papaya_store.specs.Tables.{table_of, word_at}
 use Rattle.papaya_seq.specs.Looks.{IsToldBy, Replies, matches_in}
+use Rattle.papaya_timeline.specs.Kept.{IsLawfulCore}
 use Rattle.papaya_timeline.proofs.KeptSettings.{IsLawfulKeys}
 use Rattle.papaya_timeline.proofs.KeptTables.{table_low}
-use Rattle.papaya_seq.specs.Map.{IsLawfulMap}
-use Rattle.papaya_seq.proofs.Lawful.{MatchesNone, bare, next_rises, next_there, root_there, sized}
+use Rattle.papaya_seq.proofs.Lawful.{MatchesNone, core_bare, core_next_rises, core_next_there, core_root_there}
 
 -- what a lookup replies
 abbrev pub IsLookReply : Reply → Type 0
@@ -52,6 +52,10 @@ IsLookReply (Removed n) = ⊥
 IsLookReply (Kept n) = ⊥
 IsLookReply (Aborted t) = ⊥
 IsLookReply (Refused refused) = ⊥
+
+-- a number that was told not to be 0
+some_number : (n : ℕ) → (n == 0) ≡ false → n ≡ 0 → ⊥
+some_number n some zero = let f : true ≡ false = sym (eq-eqb n 0 zero) ∙ some in cc
 
 -- a search of table t that saw this asks for no table's size next, and stays in the table
 abbrev SeesPlace : ℕ → Seen → Type 0
@@ -99,13 +103,11 @@ tables_ahead tables (Leaving t) = tables - t
 tables_ahead tables _ = 0
 
 -- the steps that are left to a lookup, at most, where there are so many tables
-abbrev left_ahead : ℕ → Made → State → ℕ
-left_ahead tables made s = 2 ^ 41 * tables_ahead tables s + left_in made s
-
 abbrev pub lookup_left : ℕ → Machine → ℕ
-lookup_left tables m = left_ahead tables m.made m.state
+lookup_left tables m = 2 ^ 41 * tables_ahead tables m.state + left_in m.made m.state
 
 module _ (tables : ℕ) where
+  -- past its table a lookup has no more tables ahead
   passes_ahead : (mode : ResizeMode) (fill : Option ℕ) (t : ℕ) → tables_ahead tables (passes Get mode fill t) ≤ tables - t
   passes_ahead (Incremental chunk) fill t = omega arith
   passes_ahead Blocking fill t = omega arith
@@ -191,7 +193,7 @@ module _ {K V S : Type 0} (store : StoreState K V S) where
     looks_in : (s : State) (answer : Answer) → IsLooking s → IsToldBy matches store (asks made hash s) answer → IsLooking (after (at_state s) answer).state
     looks_in AtRoot answer looking told =
         subst (λ a. IsLooking (after (at_state AtRoot) a).state) (sym told)
-        (cond_both (store.words.root == 0) (Ended Absent) (Searching (Sizing store.words.root)) IsLooking (λ _. tt) (λ some. root_there (λ zero. let f : true ≡ false = sym (eq-eqb store.words.root 0 zero) ∙ some in cc)))
+        (cond_both (store.words.root == 0) (Ended Absent) (Searching (Sizing store.words.root)) IsLooking (λ _. tt) (λ some. root_there (some_number store.words.root some)))
     looks_in (Searching (Sizing t)) answer (table, there) told =
         subst (λ a. IsLooking (after (at_state (Searching (Sizing t))) a).state) (sym (told ∙ ap size_of there)) tt
     looks_in (Searching (Looking at)) answer looking told =
@@ -201,7 +203,7 @@ module _ {K V S : Type 0} (store : StoreState K V S) where
     looks_in (Leaving t) answer looking told =
         let word : ℕ = word_at store.words (Next t) in
         subst (λ a. IsLooking (after (at_state (Leaving t)) a).state) (sym told)
-        (cond_both (word == 0) (Ended Absent) (Searching (Sizing word)) IsLooking (λ _. tt) (λ some. next_there t (λ zero. let f : true ≡ false = sym (eq-eqb word 0 zero) ∙ some in cc)))
+        (cond_both (word == 0) (Ended Absent) (Searching (Sizing word)) IsLooking (λ _. tt) (λ some. next_there t (some_number word some)))
     looks_in (Ended reply) answer looking told = absurd told
     looks_in Making answer looking told = absurd looking
     looks_in (Opening t) answer looking told = absurd looking
@@ -257,7 +259,7 @@ module _ {K V S : Type 0} (store : StoreState K V S) where
     lowers_in (Leaving t) answer looking read told =
         let word : ℕ = word_at store.words (Next t) in
         subst (Lowers (Leaving t)) (sym told)
-        (cond_both (word == 0) (Ended Absent) (Searching (Sizing word)) (λ s. lookup_left (length store.words.tables) (in_state s) < lookup_left (length store.words.tables) (in_state (Leaving t))) (λ _. omega arith) (λ some. enters_lowers t (λ zero. let f : true ≡ false = sym (eq-eqb word 0 zero) ∙ some in cc)))
+        (cond_both (word == 0) (Ended Absent) (Searching (Sizing word)) (λ s. lookup_left (length store.words.tables) (in_state s) < lookup_left (length store.words.tables) (in_state (Leaving t))) (λ _. omega arith) (λ some. enters_lowers t (some_number word some)))
     lowers_in (Ended reply) answer looking read told = absurd told
     lowers_in Making answer looking read told = absurd looking
     lowers_in (Opening t) answer looking read told = absurd looking
@@ -349,25 +351,25 @@ pub record IsLookUp {K V S : Type 0} (matches : K → Bool) (store : StoreState 
   -- what it replies from here on, it replies from its begin
   pub told : (answers : List Answer) (reply : Reply) → Replies matches store m answers reply → (all : List Answer) × Replies matches store begun all reply
 
-module _ {K V S : Type 0} (eq : K → K → Bool) (hash : K → ℕ) (mode : ResizeMode) (store : StoreState K V S) {initial : ℕ} (lawful : IsLawfulMap eq hash store mode initial) (keys : IsLawfulKeys eq hash) (matches : K → Bool)
+module _ {K V S : Type 0} (eq : K → K → Bool) (hash : K → ℕ) (mode : ResizeMode) (store : StoreState K V S) (lawful : IsLawfulCore {A = Unit {0}} eq hash store [] mode) (keys : IsLawfulKeys eq hash) (matches : K → Bool)
     (m : Machine) (getting : m.task ≡ Get) (looking : IsLooking store m.state) (answer : Answer) (told : IsToldBy matches store (ask_of m) answer) where
   -- a lookup that is told what stands in the tables goes on, or has replied
   pub lookup_looks : IsLooking store (after m answer).state
   lookup_looks =
       subst (λ task. IsLooking store (after (record m { task = task }) answer).state) (sym getting)
-      (looks_in store matches (root_there eq hash mode store lawful keys) (next_there eq hash mode store lawful keys) m.made m.remembered m.hash m.mode m.initial m.state answer looking told)
+      (looks_in store matches (core_root_there eq hash [] mode store lawful keys) (core_next_there eq hash [] mode store lawful) m.made m.remembered m.hash m.mode m.initial m.state answer looking told)
 
   -- it is nearer its end
   pub lookup_nears : IsCurrent (λ at. word_at store.words at) m.state → lookup_left (length store.words.tables) (after m answer) < lookup_left (length store.words.tables) m
   lookup_nears current =
       subst (λ task. lookup_left (length store.words.tables) (after (record m { task = task }) answer) < lookup_left (length store.words.tables) m) (sym getting)
-      (lowers_in store matches (sized eq hash mode store lawful) (next_there eq hash mode store lawful keys) (next_rises eq hash mode store lawful keys) m.made m.remembered m.hash m.mode m.initial m.state answer looking current.read told)
+      (lowers_in store matches lawful.core.sizes (core_next_there eq hash [] mode store lawful) (core_next_rises eq hash [] mode store lawful keys) m.made m.remembered m.hash m.mode m.initial m.state answer looking current.read told)
 
   -- and what it has read stands there still
   pub lookup_current : IsCurrent (λ at. word_at store.words at) m.state → IsCurrent (λ at. word_at store.words at) (after m answer).state
   lookup_current current =
       machine_stays (λ at. word_at store.words at) (λ at. word_at store.words at) m current.bare answer current.read
-      (prompt_in store matches m.made m.hash m.task (sized eq hash mode store lawful) m.state answer looking told)
+      (prompt_in store matches m.made m.hash m.task lawful.core.sizes m.state answer looking told)
 
   -- where no pair of the log matches, it meets none
   pub lookup_meets_none : MatchesNone store matches → HasMetNone m.state → HasMetNone (after m answer).state
@@ -385,6 +387,6 @@ module _ {K V S : Type 0} (eq : K → K → Bool) (hash : K → ℕ) (mode : Res
       }
 
 -- and it is kept of one that begins
-pub look_up_begins : {K V S : Type 0} (eq : K → K → Bool) (hash : K → ℕ) (mode : ResizeMode) (store : StoreState K V S) {first : ℕ} → IsLawfulMap eq hash store mode first → (matches : K → Bool) (hashed initial : ℕ) → IsStanding (started Get hashed mode initial) → IsLookUp matches store (started Get hashed mode initial) (started Get hashed mode initial)
+pub look_up_begins : {K V S : Type 0} (eq : K → K → Bool) (hash : K → ℕ) (mode : ResizeMode) (store : StoreState K V S) → IsLawfulCore {A = Unit {0}} eq hash store [] mode → (matches : K → Bool) (hashed initial : ℕ) → IsStanding (started Get hashed mode initial) → IsLookUp matches store (started Get hashed mode initial) (started Get hashed mode initial)
 look_up_begins eq hash mode store lawful matches hashed initial standing =
-    record { standing = standing; task = refl; looking = tt; current = record { bare = bare eq hash mode store lawful; read = tt }; told = λ answers reply replies. (answers, replies) }
+    record { standing = standing; task = refl; looking = tt; current = record { bare = core_bare eq hash [] mode store lawful; read = tt }; told = λ answers reply replies. (answers, replies) }
