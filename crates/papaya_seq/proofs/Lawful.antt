@@ -18,6 +18,7 @@ use Rattle.papaya_law.specs.Exchange.{Word, Empty, State, run, start}
 use Rattle.papaya_law.specs.Code.{IsOfKind, code}
 use Rattle.papaya_ask.specs.Search.{IsSize}
 use Rattle.papaya_law.specs.Grows.{Comes}
+use Rattle.papaya_law.specs.Invariant.{IsSound}
 use Rattle.papaya_law.proofs.CodeViews.{word_of_kind}
 use Rattle.papaya_law.proofs.Logs.{on_comes}
 use Rattle.papaya_law.proofs.OneMap.{sound}
@@ -30,16 +31,49 @@ use Rattle.papaya_timeline.proofs.KeptSettings.{IsLawfulKeys, tables_hashed}
 use Rattle.papaya_seq.specs.Map.{HasNone, Holds, IsLawfulMap}
 use Rattle.papaya_seq.proofs.Driving.{words_single}
 
--- the table that the root of a core names is there
-pub core_root_there : {K V S A : Type 0} (eq : K → K → Bool) (hash : K → ℕ) (callers : List (Seat K V A)) (mode : ResizeMode) (store : StoreState K V S) → IsLawfulKeys eq hash → IsLawfulCore eq hash store callers mode → (store.words.root ≡ 0 → ⊥) → (t : TableWords) × (table_of store.words.tables store.words.root ≡ Some t)
-core_root_there {V = V} eq hash callers mode store keys lawful some =
-    let (es, (tales, kept)) = lawful.law in
-    let hashed = tables_hashed {V = V} eq hash keys mode store.words.tables lawful.core.sizes in
-    let g = setting_of {V = V} eq (low hash) mode store.words.tables in
-    let now : State (Stored _ V) = run es start in
-    let is : now.root ≡ store.words.root = kept.coded Root in
-    let comes : Comes now now.root = ⊎_elim (λ (none : (now.root ≡ 0) × (now.first ≡ 0)). absurd (some (sym is ∙ none.0))) (on_comes now now.root) (sound g hashed.lawful es kept.allowed).root in
-    subst (λ n. (t : TableWords) × (table_of store.words.tables n ≡ Some t)) is (kept.made now.root (⊎_elim (λ (positive : 0 < now.root). positive) (λ (least : now.root ≤ 0). absurd (some (sym is ∙ omega arith))) (cases_lt 0 now.root)) comes)
+module _ {K V S A : Type 0} (eq : K → K → Bool) (hash : K → ℕ) (callers : List (Seat K V A)) (mode : ResizeMode) (store : StoreState K V S) (lawful : IsLawfulCore eq hash store callers mode) where
+  -- the words of a core as the law has them
+  abbrev law_words : State (Stored K V)
+  law_words = run lawful.law.0 start
+
+  -- the word of an empty slot is 0
+  pub core_bare : IsBare (λ at. word_at store.words at)
+  core_bare t i empty =
+      let kept = lawful.law.1.1 in
+      let g = setting_of {V = V} eq (low hash) mode store.words.tables in
+      let c = coding_of {V = V} (low hash) in
+      let w : Word (Stored K V) = law_words.slot t i in
+      let is : w ≡ Empty = subst (λ kd. IsOfKind kd w) (ap kind_of (kept.coded (Slot t i)) ∙ empty) (word_of_kind g c w) in
+      sym (kept.coded (Slot t i)) ∙ ap (code g c) is
+
+  -- a table of the chain is there
+  core_comes_there : (n : ℕ) → Comes law_words n → (n ≡ 0 → ⊥) → (t : TableWords) × (table_of store.words.tables n ≡ Some t)
+  core_comes_there n comes some = lawful.law.1.1.made n (⊎_elim (λ (positive : 0 < n). positive) (λ (least : n ≤ 0). absurd (some (omega arith))) (cases_lt 0 n)) comes
+
+  -- the words are sound
+  core_sound : IsLawfulKeys eq hash → IsSound (setting_of {V = V} eq (low hash) mode store.words.tables) law_words
+  core_sound keys =
+      let hashed = tables_hashed {V = V} eq hash keys mode store.words.tables lawful.core.sizes in
+      sound (setting_of {V = V} eq (low hash) mode store.words.tables) hashed.lawful lawful.law.0 lawful.law.1.1.allowed
+
+  -- the table that the root of a core names is there
+  pub core_root_there : IsLawfulKeys eq hash → (store.words.root ≡ 0 → ⊥) → (t : TableWords) × (table_of store.words.tables store.words.root ≡ Some t)
+  core_root_there keys some =
+      let is : law_words.root ≡ store.words.root = lawful.law.1.1.coded Root in
+      let comes : Comes law_words law_words.root = ⊎_elim (λ (none : (law_words.root ≡ 0) × (law_words.first ≡ 0)). absurd (some (sym is ∙ none.0))) (on_comes law_words law_words.root) (core_sound keys).root in
+      subst (λ n. (t : TableWords) × (table_of store.words.tables n ≡ Some t)) is (core_comes_there law_words.root comes (λ zero. some (sym is ∙ zero)))
+
+  -- and so is each next table
+  pub core_next_there : (t : ℕ) → (word_at store.words (Next t) ≡ 0 → ⊥) → (v : TableWords) × (table_of store.words.tables (word_at store.words (Next t)) ≡ Some v)
+  core_next_there t some =
+      let is : law_words.next t ≡ word_at store.words (Next t) = lawful.law.1.1.coded (Next t) in
+      subst (λ n. (v : TableWords) × (table_of store.words.tables n ≡ Some v)) is (core_comes_there (law_words.next t) (inr (t, refl)) (λ zero. some (sym is ∙ zero)))
+
+  -- whose number is greater
+  pub core_next_rises : IsLawfulKeys eq hash → (t : ℕ) → (word_at store.words (Next t) ≡ 0 → ⊥) → t < word_at store.words (Next t)
+  core_next_rises keys t some =
+      let is : law_words.next t ≡ word_at store.words (Next t) = lawful.law.1.1.coded (Next t) in
+      ⊎_elim (λ (zero : law_words.next t ≡ 0). absurd (some (sym is ∙ zero))) (λ (up : (0 < t) × (t < law_words.next t)). subst (λ n. t < n) is up.1) ((core_sound keys).rises t)
 
 module _ {K V S : Type 0} (eq : K → K → Bool) (hash : K → ℕ) (mode : ResizeMode) (store : StoreState K V S) {initial : ℕ} (lawful : IsLawfulMap eq hash store mode initial) where
   -- no table has a next one
@@ -48,17 +82,7 @@ module _ {K V S : Type 0} (eq : K → K → Bool) (hash : K → ℕ) (mode : Res
 
   -- the word of an empty slot is 0
   pub bare : IsBare (λ at. word_at store.words at)
-  bare t i empty =
-      let (es, (tales, kept)) = lawful.lawful.law in
-      let g = setting_of {V = V} eq (low hash) mode store.words.tables in
-      let c = coding_of {V = V} (low hash) in
-      let w : Word (Stored K V) = (run es start).slot t i in
-      let is : w ≡ Empty = subst (λ kd. IsOfKind kd w) (ap kind_of (kept.coded (Slot t i)) ∙ empty) (word_of_kind g c w) in
-      sym (kept.coded (Slot t i)) ∙ ap (code g c) is
-
-  -- the table that the root names is there
-  pub root_there : IsLawfulKeys eq hash → (store.words.root ≡ 0 → ⊥) → (t : TableWords) × (table_of store.words.tables store.words.root ≡ Some t)
-  root_there keys = core_root_there eq hash [] mode store keys lawful.lawful
+  bare = core_bare eq hash [] mode store lawful.lawful
 
   -- each table has the size of a table
   pub sized : (n : ℕ) (t : TableWords) → table_of store.words.tables n ≡ Some t → IsSize (length t.slots) t.limit

@@ -1,5 +1,6 @@
 -- What a lookup replies is what the map has.
 use Rattle.std.proofs.Common.{◌≡◌, ⊎_elim, ℕ, ◌<◌, ◌^◌, Bool, true, List, [], ◌∷◌, Option, Some, None, option_map, refl, sym, ◌∙◌, ap, subst}
+use Rattle.std.specs.Int.{IsPowerOfTwo}
 use Rattle.std.specs.Cmp.{IsEquivalence}
 use Rattle.papaya_words.specs.declared.probe.ResizeMode.{ResizeMode}
 use Rattle.papaya_ask.specs.declared.ask.Answer.{Answer}
@@ -13,6 +14,7 @@ use Rattle.papaya_rests.specs.Alone.{HasMetNone}
 use Rattle.papaya_call.specs.Machine.{after, ask_of, started}
 use Rattle.papaya_rests.proofs.Tasks.{same_task}
 use Rattle.papaya_timeline.specs.Content.{map_of}
+use Rattle.papaya_timeline.specs.Kept.{IsLawfulCore}
 use Rattle.papaya_timeline.specs.Maps.{Map, Does}
 use Rattle.papaya_timeline.specs.Solo.{IsAnswered}
 use Rattle.papaya_store.specs.Store.{StoreState, Stored}
@@ -21,12 +23,12 @@ use Rattle.papaya_timeline.proofs.SoloLaw.{alone_answered}
 use Rattle.papaya_timeline.proofs.KeptCore.{keys_lawful}
 use Rattle.papaya_timeline.proofs.KeptSettings.{IsLawfulKeys}
 use Rattle.papaya_seq.specs.Looks.{IsFound, LooksUp, Replies, found_number, reply_of}
-use Rattle.papaya_seq.specs.Map.{Holds, IsLawfulMap, MapState, core_of}
+use Rattle.papaya_seq.specs.Map.{Holds, MapState, core_of}
 use Rattle.papaya_seq.proofs.Lawful.{IsMatched, MatchesNone, decided, logged_content, lookup_has_none, lookup_holds, none_held}
 use Rattle.papaya_seq.proofs.LookRun.{look_alone}
 use Rattle.papaya_seq.proofs.LookSteps.{IsLooking, IsLookReply, IsLookUp, look_replies, lookup_looks, lookup_meets_none, none_replies}
 
-module _ {K V S : Type 0} (eq : K → K → Bool) (hash : K → ℕ) (mode : ResizeMode) (store : StoreState K V S) {initial : ℕ} (lawful : IsLawfulMap eq hash store mode initial) (keys : IsLawfulKeys eq hash) (matches : K → Bool) where
+module _ {K V S : Type 0} (eq : K → K → Bool) (hash : K → ℕ) (mode : ResizeMode) (store : StoreState K V S) (lawful : IsLawfulCore {A = Unit {0}} eq hash store [] mode) (keys : IsLawfulKeys eq hash) (matches : K → Bool) where
   -- where no pair of the log matches, the reply is that there is none
   unmatched_reply : MatchesNone store matches → (answers : List Answer) (m : Machine) (reply : Reply) → m.task ≡ Get_task → IsLooking store m.state → HasMetNone m.state → Replies matches store m answers reply → reply ≡ Absent
   unmatched_reply none [] m reply is_get looking met done = none_replies m.made m.hash m.state reply met done
@@ -67,7 +69,7 @@ module _ {K V S : Type 0} (eq : K → K → Bool) (hash : K → ℕ) (mode : Res
   does_find k alike (Refused refused) fit m' done = absurd fit
 
 module _ {K V S H : Type 0} (eq : K → K → Bool) (input : K → List (List ℕ)) (build : S → H) (write : H → List ℕ → H) (finish : H → ℕ) (classes : IsEquivalence eq) (respects : (x y : K) → eq x y ≡ true → input x ≡ input y)
-    (s : MapState K V S) (lawful : IsLawfulMap eq (hash_of input build write finish s.store.hasher) s.store s.mode s.initial)
+    (s : MapState K V S) (lawful : IsLawfulCore {A = Unit {0}} eq (hash_of input build write finish s.store.hasher) s.store [] s.mode) (power : IsPowerOfTwo s.initial)
     (matches : K → Bool) (hashed : ℕ) (alike : (k l : K) → matches k ≡ true → matches l ≡ eq k l) (hashes_alike : (k : K) → matches k ≡ true → hashed ≡ hash_of input build write finish s.store.hasher k) (fits : hashed < 2 ^ 64) where
   -- equal keys hash alike
   pub keys : IsLawfulKeys eq (hash_of input build write finish s.store.hasher)
@@ -84,8 +86,8 @@ module _ {K V S H : Type 0} (eq : K → K → Bool) (input : K → List (List �
       by_call one =
           let k : K = one.pair.key in
           let same : hashed ≡ hash_of input build write finish s.store.hasher k = hashes_alike k one.matched in
-          let alone = look_alone eq (hash_of input build write finish) s lawful keys k matches (λ l. alike k l one.matched) (subst (λ n. n < 2 ^ 64) same fits) answers reply (subst (λ n. Replies matches s.store (started Get_task n s.mode s.initial) answers reply) same replies) in
-          does_find eq (hash_of input build write finish s.store.hasher) s.mode s.store lawful keys matches k (λ l. alike k l one.matched) reply fit _ (alone_answered eq input build write finish classes respects (core_of s) _ (Get k) reply lawful.lawful alone)
+          let alone = look_alone eq (hash_of input build write finish) s lawful power keys k matches (λ l. alike k l one.matched) (subst (λ n. n < 2 ^ 64) same fits) answers reply (subst (λ n. Replies matches s.store (started Get_task n s.mode s.initial) answers reply) same replies) in
+          does_find eq (hash_of input build write finish s.store.hasher) s.mode s.store lawful keys matches k (λ l. alike k l one.matched) reply fit _ (alone_answered eq input build write finish classes respects (core_of s) _ (Get k) reply lawful alone)
 
       by_none : MatchesNone s.store matches → Finds eq (hash_of input build write finish s.store.hasher) s.mode s.store lawful keys matches reply
       by_none none =

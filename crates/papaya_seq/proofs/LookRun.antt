@@ -1,5 +1,6 @@
 -- A lookup whose asks are answered by what stands in the tables is the whole of one call of the core.
 use Rattle.std.proofs.Common.{◌≡◌, ℕ, suc, ◌<◌, ◌^◌, Bool, false, List, [], ◌∷◌, Option, Some, None, inl, refl, sym, ◌∙◌, ap, subst}
+use Rattle.std.specs.Int.{IsPowerOfTwo}
 use Rattle.papaya_words.specs.declared.probe.Refused.{Refused}
 use Rattle.papaya_ask.specs.declared.ask.Answer.{Answer}
 use Rattle.papaya_ask.specs.declared.ask.Answer.TheVariants.{Yes}
@@ -28,16 +29,17 @@ use Rattle.papaya_timeline.specs.declared.trace.Turn.TheVariants.{Begin, Finish}
 use Rattle.papaya_timeline.specs.Advances.{Advances, event_of, goes_on, reply_in as chain_reply}
 use Rattle.papaya_timeline.specs.Core.{CoreState}
 use Rattle.papaya_store.specs.Performs.{Performs, same_stored}
+use Rattle.papaya_timeline.specs.Kept.{IsLawfulCore}
 use Rattle.papaya_timeline.specs.Runs.{History, StepsRun, with_event}
 use Rattle.papaya_timeline.specs.Solo.{RunsAlone, whatever}
 use Rattle.papaya_store.specs.Store.{Stored, pair_of}
 use Rattle.papaya_timeline.proofs.KeptSettings.{IsLawfulKeys}
 use Rattle.papaya_seq.specs.Looks.{IsToldBy, Replies, matches_in}
-use Rattle.papaya_seq.specs.Map.{IsLawfulMap, MapState, core_of}
+use Rattle.papaya_seq.specs.Map.{MapState, core_of}
 use Rattle.papaya_seq.proofs.Driving.{calling, goes_itself, reply_in}
 use Rattle.papaya_seq.proofs.LookSteps.{IsLooking, IsLookReply, look_replies, lookup_looks}
 
-module _ {K V S : Type 0} (eq : K → K → Bool) (hash : S → K → ℕ) (s : MapState K V S) (lawful : IsLawfulMap eq (hash s.store.hasher) s.store s.mode s.initial) (keys : IsLawfulKeys eq (hash s.store.hasher))
+module _ {K V S : Type 0} (eq : K → K → Bool) (hash : S → K → ℕ) (s : MapState K V S) (lawful : IsLawfulCore {A = Unit {0}} eq (hash s.store.hasher) s.store [] s.mode) (power : IsPowerOfTwo s.initial) (keys : IsLawfulKeys eq (hash s.store.hasher))
     (k : K) (matches : K → Bool) (alike : (l : K) → matches l ≡ eq k l) where
   -- the call under way, with its machine here
   abbrev pub getting : Machine → Running K V (Unit {0})
@@ -143,6 +145,6 @@ module _ {K V S : Type 0} (eq : K → K → Bool) (hash : S → K → ℕ) (s : 
         steps = run.steps;
         last = run.last;
         before = run.before;
-        runs = (Finish 0 run.steps, core_in (Some (getting m)), with_event 0 0 Begun [], refl, (Begin 0 (Get k), core_of s, [], refl, (refl, refl), inl (refl, record { store = refl; callers = refl; mode = refl; initial = refl; fits = fits; power = lawful.power }, refl)), run.runs);
+        runs = (Finish 0 run.steps, core_in (Some (getting m)), with_event 0 0 Begun [], refl, (Begin 0 (Get k), core_of s, [], refl, (refl, refl), inl (refl, record { store = refl; callers = refl; mode = refl; initial = refl; fits = fits; power = power }, refl)), run.runs);
         replied = run.replied;
       }

@@ -1,5 +1,5 @@
 -- The machine of a lookup, whose asks are answered by the words that stand in the tables.
-use Rattle.std.proofs.Common.{◌≡◌, ℕ, ◌<◌, ◌==◌, nat_lt, Bool, true, false, List, ◌∷◌, Option, Some, None, length, refl, sym, ◌∙◌, ap, subst, eq-eqb}
+use Rattle.std.proofs.Common.{◌≡◌, ℕ, ◌+◌, ◌*◌, ◌-◌, ◌^◌, ◌<◌, ◌≤◌, ◌==◌, nat_lt, Bool, true, false, List, [], ◌∷◌, Option, Some, None, length, refl, sym, ◌∙◌, ap, subst, arith, eq-eqb}
 use Rattle.std.proofs.lemmas.Bool.{cond_both}
 use Rattle.papaya_words.specs.Table.{TableWords}
 use Rattle.papaya_words.specs.Word.{kind_of, byte_of, top_byte, pair_of as number_of}
@@ -8,8 +8,9 @@ use Rattle.papaya_words.specs.declared.probe.ResizeMode.TheVariants.{Incremental
 use Rattle.papaya_words.specs.declared.word.Kind.{Kind}
 use Rattle.papaya_words.specs.declared.word.Kind.TheVariants as word_kinds
 use Rattle.papaya_ask.specs.declared.ask.Answer.{Answer}
-use Rattle.papaya_ask.specs.declared.ask.Answer.TheVariants.{Word as Word_read, Yes}
+use Rattle.papaya_ask.specs.declared.ask.Answer.TheVariants.{Word as Word_read, Yes, Size}
 use Rattle.papaya_ask.specs.declared.ask.Ask.TheVariants.{Done as Ask_done}
+use Rattle.papaya_ask.specs.declared.ask.At.{At}
 use Rattle.papaya_ask.specs.declared.ask.At.TheVariants.{Next, Slot}
 use Rattle.papaya_ask.specs.declared.call.Reply.{Reply}
 use Rattle.papaya_ask.specs.declared.call.Reply.TheVariants.{Absent, Found, Inserted, Replaced, Occupied, Removed, Kept, Aborted, Refused}
@@ -24,8 +25,8 @@ use Rattle.papaya_ask.specs.declared.search.Search.TheVariants.{Sizing, Looking,
 use Rattle.papaya_ask.specs.declared.search.Seen.{Seen}
 use Rattle.papaya_ask.specs.declared.search.Seen.TheVariants as seen
 use Rattle.papaya_call.specs.declared.write.Made.{Made}
-use Rattle.papaya_rests.specs.Alone.{HasMetNone, IsCurrent, IsPrompt, IsSeeker, IsUnmatched, left}
-use Rattle.papaya_call.specs.Machine.{IsStanding, started, after, ask_of, asks, passes, goes_as}
+use Rattle.papaya_rests.specs.Alone.{HasMetNone, IsCurrent, IsPrompt, IsRead, IsSeeker, IsUnmatched, left_in}
+use Rattle.papaya_call.specs.Machine.{IsStanding, started, after, ask_of, asks, at_root, passes, goes_as}
 use Rattle.papaya_rests.proofs.AloneCurrent.{machine_stays}
 use Rattle.papaya_rests.proofs.AloneSteps.{machine_nears}
 use Rattle.papaya_rests.proofs.AloneUnmatched.{machine_meets_none}
@@ -35,9 +36,10 @@ use Rattle.papaya_store.specs.Performs.{size_of}
 use Rattle.papaya_store.specs.Store.{StoreState, Stored, pair_of}
 use Rattle.papaya_store.specs.Tables.{table_of, word_at}
 use Rattle.papaya_seq.specs.Looks.{IsToldBy, Replies, matches_in}
+use Rattle.papaya_timeline.specs.Kept.{IsLawfulCore}
 use Rattle.papaya_timeline.proofs.KeptSettings.{IsLawfulKeys}
-use Rattle.papaya_seq.specs.Map.{IsLawfulMap}
-use Rattle.papaya_seq.proofs.Lawful.{MatchesNone, bare, root_there, single, sized}
+use Rattle.papaya_timeline.proofs.KeptTables.{table_low}
+use Rattle.papaya_seq.proofs.Lawful.{MatchesNone, core_bare, core_next_rises, core_next_there, core_root_there}
 
 -- what a lookup replies
 abbrev pub IsLookReply : Reply → Type 0
@@ -51,22 +53,26 @@ IsLookReply (Kept n) = ⊥
 IsLookReply (Aborted t) = ⊥
 IsLookReply (Refused refused) = ⊥
 
--- a search that saw this asks for no table's size next
-abbrev SeesPlace : Seen → Type 0
-SeesPlace (seen.On (Sizing t)) = ⊥
-SeesPlace (seen.On (Looking at)) = Unit {0}
-SeesPlace (seen.On (Comparing at word)) = Unit {0}
-SeesPlace (seen.Empty at) = Unit {0}
-SeesPlace (seen.Here at word) = Unit {0}
-SeesPlace (seen.Over t) = Unit {0}
+-- a number that was told not to be 0
+some_number : (n : ℕ) → (n == 0) ≡ false → n ≡ 0 → ⊥
+some_number n some zero = let f : true ≡ false = sym (eq-eqb n 0 zero) ∙ some in cc
 
-go_on_place : (at : Place) → SeesPlace (go_on at)
-go_on_place at = cond_both (nat_lt at.probe.len at.limit) (seen.On (Looking (next_place at))) (seen.Over at.table) SeesPlace (λ _. tt) (λ _. tt)
+-- a search of table t that saw this asks for no table's size next, and stays in the table
+abbrev SeesPlace : ℕ → Seen → Type 0
+SeesPlace t (seen.On (Sizing u)) = ⊥
+SeesPlace t (seen.On (Looking at)) = at.table ≡ t
+SeesPlace t (seen.On (Comparing at word)) = at.table ≡ t
+SeesPlace t (seen.Empty at) = Unit {0}
+SeesPlace t (seen.Here at word) = Unit {0}
+SeesPlace t (seen.Over u) = u ≡ t
 
-byte_place : (at : Place) (hash word : ℕ) → SeesPlace (look_at word_kinds.Live at hash word)
-byte_place at hash word = cond_both (byte_of word == top_byte hash) (seen.On (Comparing at word)) (go_on at) SeesPlace (λ _. tt) (λ _. go_on_place at)
+go_on_place : (at : Place) → SeesPlace at.table (go_on at)
+go_on_place at = cond_both (nat_lt at.probe.len at.limit) (seen.On (Looking (next_place at))) (seen.Over at.table) (SeesPlace at.table) (λ _. refl) (λ _. refl)
 
-look_place : (kind : Kind) (at : Place) (hash word : ℕ) → SeesPlace (look_at kind at hash word)
+byte_place : (at : Place) (hash word : ℕ) → SeesPlace at.table (look_at word_kinds.Live at hash word)
+byte_place at hash word = cond_both (byte_of word == top_byte hash) (seen.On (Comparing at word)) (go_on at) (SeesPlace at.table) (λ _. refl) (λ _. go_on_place at)
+
+look_place : (kind : Kind) (at : Place) (hash word : ℕ) → SeesPlace at.table (look_at kind at hash word)
 look_place word_kinds.Empty at hash word = tt
 look_place word_kinds.Live at hash word = byte_place at hash word
 look_place word_kinds.Marked at hash word = byte_place at hash word
@@ -74,17 +80,54 @@ look_place word_kinds.Copied at hash word = byte_place at hash word
 look_place word_kinds.Buried at hash word = go_on_place at
 look_place word_kinds.Closed at hash word = go_on_place at
 
-match_place : (kind : Kind) (at : Place) (word : ℕ) → SeesPlace (match_at kind at word)
+match_place : (kind : Kind) (at : Place) (word : ℕ) → SeesPlace at.table (match_at kind at word)
 match_place word_kinds.Empty at word = tt
 match_place word_kinds.Live at word = tt
 match_place word_kinds.Marked at word = tt
-match_place word_kinds.Copied at word = tt
+match_place word_kinds.Copied at word = refl
 match_place word_kinds.Buried at word = tt
 match_place word_kinds.Closed at word = tt
 
-compared_place : (at : Place) (word : ℕ) (same : Bool) → SeesPlace (search_compared (Comparing at word) same)
+compared_place : (at : Place) (word : ℕ) (same : Bool) → SeesPlace at.table (search_compared (Comparing at word) same)
 compared_place at word true = match_place (kind_of word) at word
 compared_place at word false = go_on_place at
+
+-- How many tables a lookup may enter yet, where there are so many: those after the one that it
+-- searches or leaves, since a next table's number is greater.
+abbrev tables_ahead : ℕ → State → ℕ
+tables_ahead tables AtRoot = tables
+tables_ahead tables (Searching (Sizing t)) = tables - t
+tables_ahead tables (Searching (Looking at)) = tables - at.table
+tables_ahead tables (Searching (Comparing at word)) = tables - at.table
+tables_ahead tables (Leaving t) = tables - t
+tables_ahead tables _ = 0
+
+-- the steps that are left to a lookup, at most, where there are so many tables
+abbrev pub lookup_left : ℕ → Machine → ℕ
+lookup_left tables m = 2 ^ 41 * tables_ahead tables m.state + left_in m.made m.state
+
+module _ (tables : ℕ) where
+  -- past its table a lookup has no more tables ahead
+  passes_ahead : (mode : ResizeMode) (fill : Option ℕ) (t : ℕ) → tables_ahead tables (passes Get mode fill t) ≤ tables - t
+  passes_ahead (Incremental chunk) fill t = omega arith
+  passes_ahead Blocking fill t = omega arith
+
+  -- a search stays in its table until it is over
+  goes_ahead : (mode : ResizeMode) (held : Remembered) (t : ℕ) (s : Seen) → SeesPlace t s → tables_ahead tables (goes_as Get mode held s) ≤ tables - t
+  goes_ahead mode held t (seen.On (Sizing u)) place = absurd place
+  goes_ahead mode held t (seen.On (Looking at)) place = omega (arith, place)
+  goes_ahead mode held t (seen.On (Comparing at word)) place = omega (arith, place)
+  goes_ahead mode held t (seen.Here at word) place = omega arith
+  goes_ahead mode held t (seen.Empty at) place = omega arith
+  goes_ahead mode held t (seen.Over u) place = let a = passes_ahead mode held.fill u in omega (arith, place, a)
+
+-- a step by which no more tables are ahead lowers what is left
+stays_ahead : {tables tables' steps steps' : ℕ} → tables' ≤ tables → steps' < steps → 2 ^ 41 * tables' + steps' < 2 ^ 41 * tables + steps
+stays_ahead fewer nearer = omega (arith, fewer, nearer)
+
+-- and so does one to a further table
+enters : (tables t n : ℕ) → t < n → n ≤ tables → 2 ^ 41 * (tables - n) + 2 ^ 40 < 2 ^ 41 * (tables - t) + 5
+enters tables t n up low = omega (arith, up, low)
 
 module _ {K V S : Type 0} (store : StoreState K V S) where
   -- a lookup is here, and a table whose size it asks for is there
@@ -112,13 +155,13 @@ module _ {K V S : Type 0} (store : StoreState K V S) where
   passes_looking Blocking fill t = tt
 
   -- where a search leads that asks for no table's size next
-  goes_looking : (mode : ResizeMode) (held : Remembered) (s : Seen) → SeesPlace s → IsLooking (goes_as Get mode held s)
-  goes_looking mode held (seen.On (Sizing t)) place = absurd place
-  goes_looking mode held (seen.On (Looking at)) place = tt
-  goes_looking mode held (seen.On (Comparing at word)) place = tt
-  goes_looking mode held (seen.Here at word) place = tt
-  goes_looking mode held (seen.Empty at) place = tt
-  goes_looking mode held (seen.Over t) place = passes_looking mode held.fill t
+  goes_looking : (mode : ResizeMode) (held : Remembered) (t : ℕ) (s : Seen) → SeesPlace t s → IsLooking (goes_as Get mode held s)
+  goes_looking mode held t (seen.On (Sizing u)) place = absurd place
+  goes_looking mode held t (seen.On (Looking at)) place = tt
+  goes_looking mode held t (seen.On (Comparing at word)) place = tt
+  goes_looking mode held t (seen.Here at word) place = tt
+  goes_looking mode held t (seen.Empty at) place = tt
+  goes_looking mode held t (seen.Over u) place = passes_looking mode held.fill u
 
   -- a reply of a lookup
   pub look_replies : (made : Made) (hash : ℕ) (s : State) (reply : Reply) → IsLooking s → asks made hash s ≡ Ask_done reply → IsLookReply reply
@@ -140,7 +183,7 @@ module _ {K V S : Type 0} (store : StoreState K V S) where
   look_replies made hash (Uncounting n) reply looking e = absurd looking
   look_replies made hash (Growing t) reply looking e = absurd looking
 
-  module _ (matches : K → Bool) (root_there : (store.words.root ≡ 0 → ⊥) → (t : TableWords) × (table_of store.words.tables store.words.root ≡ Some t)) (single : (t : ℕ) → word_at store.words (Next t) ≡ 0)
+  module _ (matches : K → Bool) (root_there : (store.words.root ≡ 0 → ⊥) → (t : TableWords) × (table_of store.words.tables store.words.root ≡ Some t)) (next_there : (t : ℕ) → (word_at store.words (Next t) ≡ 0 → ⊥) → (v : TableWords) × (table_of store.words.tables (word_at store.words (Next t)) ≡ Some v))
       (made : Made) (held : Remembered) (hash : ℕ) (mode : ResizeMode) (initial : ℕ) where
     -- the machine in this state
     abbrev at_state : State → Machine
@@ -150,15 +193,17 @@ module _ {K V S : Type 0} (store : StoreState K V S) where
     looks_in : (s : State) (answer : Answer) → IsLooking s → IsToldBy matches store (asks made hash s) answer → IsLooking (after (at_state s) answer).state
     looks_in AtRoot answer looking told =
         subst (λ a. IsLooking (after (at_state AtRoot) a).state) (sym told)
-        (cond_both (store.words.root == 0) (Ended Absent) (Searching (Sizing store.words.root)) IsLooking (λ _. tt) (λ some. root_there (λ zero. let f : true ≡ false = sym (eq-eqb store.words.root 0 zero) ∙ some in cc)))
+        (cond_both (store.words.root == 0) (Ended Absent) (Searching (Sizing store.words.root)) IsLooking (λ _. tt) (λ some. root_there (some_number store.words.root some)))
     looks_in (Searching (Sizing t)) answer (table, there) told =
         subst (λ a. IsLooking (after (at_state (Searching (Sizing t))) a).state) (sym (told ∙ ap size_of there)) tt
     looks_in (Searching (Looking at)) answer looking told =
-        subst (λ a. IsLooking (after (at_state (Searching (Looking at))) a).state) (sym told) (goes_looking mode held (look at hash (word_at store.words (Slot at.table at.probe.i))) (look_place (kind_of (word_at store.words (Slot at.table at.probe.i))) at hash (word_at store.words (Slot at.table at.probe.i))))
+        subst (λ a. IsLooking (after (at_state (Searching (Looking at))) a).state) (sym told) (goes_looking mode held at.table (look at hash (word_at store.words (Slot at.table at.probe.i))) (look_place (kind_of (word_at store.words (Slot at.table at.probe.i))) at hash (word_at store.words (Slot at.table at.probe.i))))
     looks_in (Searching (Comparing at word)) answer looking told =
-        subst (λ a. IsLooking (after (at_state (Searching (Comparing at word))) a).state) (sym told) (goes_looking mode held (search_compared (Comparing at word) (matches_in matches (pair_of store (number_of word)))) (compared_place at word (matches_in matches (pair_of store (number_of word)))))
+        subst (λ a. IsLooking (after (at_state (Searching (Comparing at word))) a).state) (sym told) (goes_looking mode held at.table (search_compared (Comparing at word) (matches_in matches (pair_of store (number_of word)))) (compared_place at word (matches_in matches (pair_of store (number_of word)))))
     looks_in (Leaving t) answer looking told =
-        subst (λ a. IsLooking (after (at_state (Leaving t)) a).state) (sym (told ∙ ap Word_read (single t))) tt
+        let word : ℕ = word_at store.words (Next t) in
+        subst (λ a. IsLooking (after (at_state (Leaving t)) a).state) (sym told)
+        (cond_both (word == 0) (Ended Absent) (Searching (Sizing word)) IsLooking (λ _. tt) (λ some. next_there t (some_number word some)))
     looks_in (Ended reply) answer looking told = absurd told
     looks_in Making answer looking told = absurd looking
     looks_in (Opening t) answer looking told = absurd looking
@@ -171,6 +216,62 @@ module _ {K V S : Type 0} (store : StoreState K V S) where
     looks_in (Counting n) answer looking told = absurd looking
     looks_in (Uncounting n) answer looking told = absurd looking
     looks_in (Growing t) answer looking told = absurd looking
+
+  -- the words, but that no table has a next one
+  abbrev unlinked : At → ℕ
+  unlinked (Next t) = 0
+  unlinked at = word_at store.words at
+
+  module _ (matches : K → Bool) (sized : (n : ℕ) (t : TableWords) → table_of store.words.tables n ≡ Some t → IsSize (length t.slots) t.limit)
+      (next_there : (t : ℕ) → (word_at store.words (Next t) ≡ 0 → ⊥) → (v : TableWords) × (table_of store.words.tables (word_at store.words (Next t)) ≡ Some v))
+      (next_rises : (t : ℕ) → (word_at store.words (Next t) ≡ 0 → ⊥) → t < word_at store.words (Next t))
+      (made : Made) (held : Remembered) (hash : ℕ) (mode : ResizeMode) (initial : ℕ) where
+    -- the machine in this state
+    abbrev in_state : State → Machine
+    in_state s = record { task = Get; hash = hash; mode = mode; initial = initial; made = made; remembered = held; state = s }
+
+    -- an answer brings it nearer its end
+    abbrev Lowers : State → Answer → Type 0
+    Lowers s answer = lookup_left (length store.words.tables) (after (in_state s) answer) < lookup_left (length store.words.tables) (in_state s)
+
+    -- the next table comes after the one that was left
+    enters_lowers : (t : ℕ) → (word_at store.words (Next t) ≡ 0 → ⊥) → lookup_left (length store.words.tables) (in_state (Searching (Sizing (word_at store.words (Next t))))) < lookup_left (length store.words.tables) (in_state (Leaving t))
+    enters_lowers t some =
+        let (v, there) = next_there t some in
+        enters (length store.words.tables) t (word_at store.words (Next t)) (next_rises t some) (table_low store.words.tables (word_at store.words (Next t)) v there)
+
+    -- each answer does
+    lowers_in : (s : State) (answer : Answer) → IsLooking s → IsRead (λ at. word_at store.words at) s → IsToldBy matches store (asks made hash s) answer → Lowers s answer
+    lowers_in AtRoot answer looking read told =
+        let ahead : tables_ahead (length store.words.tables) (at_root Get held.fill store.words.root) ≤ length store.words.tables = cond_both (store.words.root == 0) (Ended Absent) (Searching (Sizing store.words.root)) (λ s. tables_ahead (length store.words.tables) s ≤ length store.words.tables) (λ _. omega arith) (λ _. omega arith) in
+        subst (Lowers AtRoot) (sym told) (stays_ahead ahead (machine_nears unlinked unlinked (in_state AtRoot) (Word_read store.words.root) tt (λ t. refl) (refl, λ at. refl)))
+    lowers_in (Searching (Sizing t)) answer (table, there) read told =
+        let ahead : length store.words.tables - t ≤ length store.words.tables - t = omega arith in
+        subst (Lowers (Searching (Sizing t))) (sym (told ∙ ap size_of there)) (stays_ahead ahead (machine_nears unlinked unlinked (in_state (Searching (Sizing t))) (Size (length table.slots) table.limit) tt (λ u. refl) ((length table.slots, table.limit, sized t table there, refl), λ at. refl)))
+    lowers_in (Searching (Looking at)) answer looking read told =
+        let word : ℕ = word_at store.words (Slot at.table at.probe.i) in
+        let ahead = goes_ahead (length store.words.tables) mode held at.table (look at hash word) (look_place (kind_of word) at hash word) in
+        subst (Lowers (Searching (Looking at))) (sym told) (stays_ahead ahead (machine_nears unlinked unlinked (in_state (Searching (Looking at))) (Word_read word) tt (λ t. refl) (refl, λ at. refl)))
+    lowers_in (Searching (Comparing at word)) answer looking read told =
+        let same : Bool = matches_in matches (pair_of store (number_of word)) in
+        let ahead = goes_ahead (length store.words.tables) mode held at.table (search_compared (Comparing at word) same) (compared_place at word same) in
+        subst (Lowers (Searching (Comparing at word))) (sym told) (stays_ahead ahead (machine_nears unlinked unlinked (in_state (Searching (Comparing at word))) (Yes same) read (λ t. refl) ((same, refl), λ at. refl)))
+    lowers_in (Leaving t) answer looking read told =
+        let word : ℕ = word_at store.words (Next t) in
+        subst (Lowers (Leaving t)) (sym told)
+        (cond_both (word == 0) (Ended Absent) (Searching (Sizing word)) (λ s. lookup_left (length store.words.tables) (in_state s) < lookup_left (length store.words.tables) (in_state (Leaving t))) (λ _. omega arith) (λ some. enters_lowers t (some_number word some)))
+    lowers_in (Ended reply) answer looking read told = absurd told
+    lowers_in Making answer looking read told = absurd looking
+    lowers_in (Opening t) answer looking read told = absurd looking
+    lowers_in (Writing write) answer looking read told = absurd looking
+    lowers_in (Showing removal) answer looking read told = absurd looking
+    lowers_in (Offering gap) answer looking read told = absurd looking
+    lowers_in (Pairing purpose) answer looking read told = absurd looking
+    lowers_in (Putting put) answer looking read told = absurd looking
+    lowers_in (Burying removal) answer looking read told = absurd looking
+    lowers_in (Counting n) answer looking read told = absurd looking
+    lowers_in (Uncounting n) answer looking read told = absurd looking
+    lowers_in (Growing t) answer looking read told = absurd looking
 
   module _ (matches : K → Bool) (made : Made) (hash : ℕ) where
     -- the words that it is told stand in the tables
@@ -250,25 +351,25 @@ pub record IsLookUp {K V S : Type 0} (matches : K → Bool) (store : StoreState 
   -- what it replies from here on, it replies from its begin
   pub told : (answers : List Answer) (reply : Reply) → Replies matches store m answers reply → (all : List Answer) × Replies matches store begun all reply
 
-module _ {K V S : Type 0} (eq : K → K → Bool) (hash : K → ℕ) (mode : ResizeMode) (store : StoreState K V S) {initial : ℕ} (lawful : IsLawfulMap eq hash store mode initial) (keys : IsLawfulKeys eq hash) (matches : K → Bool)
+module _ {K V S : Type 0} (eq : K → K → Bool) (hash : K → ℕ) (mode : ResizeMode) (store : StoreState K V S) (lawful : IsLawfulCore {A = Unit {0}} eq hash store [] mode) (keys : IsLawfulKeys eq hash) (matches : K → Bool)
     (m : Machine) (getting : m.task ≡ Get) (looking : IsLooking store m.state) (answer : Answer) (told : IsToldBy matches store (ask_of m) answer) where
   -- a lookup that is told what stands in the tables goes on, or has replied
   pub lookup_looks : IsLooking store (after m answer).state
   lookup_looks =
       subst (λ task. IsLooking store (after (record m { task = task }) answer).state) (sym getting)
-      (looks_in store matches (root_there eq hash mode store lawful keys) (single eq hash mode store lawful) m.made m.remembered m.hash m.mode m.initial m.state answer looking told)
+      (looks_in store matches (core_root_there eq hash [] mode store lawful keys) (core_next_there eq hash [] mode store lawful) m.made m.remembered m.hash m.mode m.initial m.state answer looking told)
 
   -- it is nearer its end
-  pub lookup_nears : IsCurrent (λ at. word_at store.words at) m.state → left (after m answer) < left m
+  pub lookup_nears : IsCurrent (λ at. word_at store.words at) m.state → lookup_left (length store.words.tables) (after m answer) < lookup_left (length store.words.tables) m
   lookup_nears current =
-      machine_nears (λ at. word_at store.words at) (λ at. word_at store.words at) m answer current.read (single eq hash mode store lawful)
-      (prompt_in store matches m.made m.hash m.task (sized eq hash mode store lawful) m.state answer looking told)
+      subst (λ task. lookup_left (length store.words.tables) (after (record m { task = task }) answer) < lookup_left (length store.words.tables) m) (sym getting)
+      (lowers_in store matches lawful.core.sizes (core_next_there eq hash [] mode store lawful) (core_next_rises eq hash [] mode store lawful keys) m.made m.remembered m.hash m.mode m.initial m.state answer looking current.read told)
 
   -- and what it has read stands there still
   pub lookup_current : IsCurrent (λ at. word_at store.words at) m.state → IsCurrent (λ at. word_at store.words at) (after m answer).state
   lookup_current current =
       machine_stays (λ at. word_at store.words at) (λ at. word_at store.words at) m current.bare answer current.read
-      (prompt_in store matches m.made m.hash m.task (sized eq hash mode store lawful) m.state answer looking told)
+      (prompt_in store matches m.made m.hash m.task lawful.core.sizes m.state answer looking told)
 
   -- where no pair of the log matches, it meets none
   pub lookup_meets_none : MatchesNone store matches → HasMetNone m.state → HasMetNone (after m answer).state
@@ -286,6 +387,6 @@ module _ {K V S : Type 0} (eq : K → K → Bool) (hash : K → ℕ) (mode : Res
       }
 
 -- and it is kept of one that begins
-pub look_up_begins : {K V S : Type 0} (eq : K → K → Bool) (hash : K → ℕ) (mode : ResizeMode) (store : StoreState K V S) {first : ℕ} → IsLawfulMap eq hash store mode first → (matches : K → Bool) (hashed initial : ℕ) → IsStanding (started Get hashed mode initial) → IsLookUp matches store (started Get hashed mode initial) (started Get hashed mode initial)
+pub look_up_begins : {K V S : Type 0} (eq : K → K → Bool) (hash : K → ℕ) (mode : ResizeMode) (store : StoreState K V S) → IsLawfulCore {A = Unit {0}} eq hash store [] mode → (matches : K → Bool) (hashed initial : ℕ) → IsStanding (started Get hashed mode initial) → IsLookUp matches store (started Get hashed mode initial) (started Get hashed mode initial)
 look_up_begins eq hash mode store lawful matches hashed initial standing =
-    record { standing = standing; task = refl; looking = tt; current = record { bare = bare eq hash mode store lawful; read = tt }; told = λ answers reply replies. (answers, replies) }
+    record { standing = standing; task = refl; looking = tt; current = record { bare = core_bare eq hash [] mode store lawful; read = tt }; told = λ answers reply replies. (answers, replies) }

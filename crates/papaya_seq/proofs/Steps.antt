@@ -179,7 +179,7 @@ module _ {K V S : Type 0} (eq : K → K → Bool) (hash : S → K → ℕ) (s : 
           own = step.own.own ∙ ap Some step.own_key ∙ sym step.call.own ∙ made.own;
           slots = keeps_more s.store store store' made.slots
               (slots_step eq whatever store (driven r) answer store' later (ask_of m) performs (opened made) step.grown
-              (core_root_there eq (hash s.store.hasher) (record { caller = 0; call = still r } ∷ []) s.mode store keys made.lawful));
+              (core_root_there eq (hash s.store.hasher) (record { caller = 0; call = still r } ∷ []) s.mode store made.lawful keys));
           opens = λ t e. elim (machine_opened m t answer e) [
             | inr old ↦
                 let (table, there) = step.call.opens t (ap chain_asks.Call old) in

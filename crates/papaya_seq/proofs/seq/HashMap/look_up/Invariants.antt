@@ -1,8 +1,8 @@
-use Rattle.papaya_rests.specs.Alone.{left}
+use Rattle.std.proofs.Common.{length}
 use Rattle.papaya_ask.specs.declared.call.Task.TheVariants.{Get}
 use Rattle.papaya_call.specs.Machine.{started}
 use Rattle.papaya_keys.specs.Hashes.{hash_of}
-use Rattle.papaya_seq.proofs.LookSteps.{IsLookUp}
+use Rattle.papaya_seq.proofs.LookSteps.{IsLookUp, lookup_left}
 use Rattle.papaya_seq.proofs.seq.HashMap.look_up.Given as goal
 
 -- the machine was told what stands in the tables
@@ -13,4 +13,4 @@ invariant-loop-at g l =
 
 -- the steps that are left to the lookup
 abbrev pub decreases-loop-at : goal.decreases-loop-at
-decreases-loop-at g l = left l.machine
+decreases-loop-at g l = lookup_left (length l.self.store.words.tables) l.machine
