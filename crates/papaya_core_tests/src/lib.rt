@@ -13,6 +13,8 @@ mod guards;
 #[cfg(test)]
 mod machines;
 #[cfg(test)]
+mod overflow;
+#[cfg(test)]
 mod plain;
 #[cfg(test)]
 mod schedules;

@@ -129,7 +129,7 @@ struct Outcome {
 }
 
 /// Makes a call whole, on a list of pairs in which no key stands twice.
-fn call_whole(pairs: &mut Vec<(u64, u64)>, call: Asked) -> Result<Reply, Fail> {
+pub(crate) fn call_whole(pairs: &mut Vec<(u64, u64)>, call: Asked) -> Result<Reply, Fail> {
     for (place, (key, value)) in pairs.iter_mut().enumerate() {
         if *key == call.key() {
             let old = *value;
@@ -246,7 +246,7 @@ fn reply_of(trace: &Trace, caller: usize) -> Option<(usize, Reply)> {
 }
 
 /// Did this caller's call reply before that one's began?
-fn is_before(trace: &Trace, caller: usize, other: usize) -> bool {
+pub(crate) fn is_before(trace: &Trace, caller: usize, other: usize) -> bool {
     for entry in &trace.entries {
         match entry.event {
             Event::Replied(_) if entry.caller == caller => return true,
