@@ -88,10 +88,9 @@ module _ {K P : Type 0} (g : Setting K P) (c : Coding K P) (k : K) (s : State P)
       let none : (es ≡ []) → (es ≡ []) ⊎ ((e : Exchange P) × (es ≡ e ∷ [])) = λ e. inl e in
       ⊎_elim (λ quiet. none quiet.0) (λ x. ⊎_elim (λ y. inr (y.by, y.made)) (λ z. ⊎_elim (λ y. none y.4) (λ y. none y.4) z) x) (told_cases ask answer es hands' h)
 
--- what holds of events of exchanges, of showings and of no event holds of a step's
-event_cases : (P : Event → Type 0) → P Other → ((kind : StepKind) (old new : Option ℕ) → P (Changed kind old new)) → ((kind : StepKind) → P (Moved kind)) → ((n : ℕ) (agrees : Bool) → P (Asked n agrees)) → ((n : Option ℕ) (op : OpKind) → P (Shown n op)) → (kind : Option StepKind) (ask : Ask) (answer : Answer) → P (call_event kind ask answer)
-event_cases P other changed moved asked shown kind (Load at) answer = other
-event_cases P other changed moved asked shown kind (Ask_exchange at old new) answer = by_answer answer
+-- what holds of events of exchanges and of no event holds where an exchange was asked for
+pub exchanged_cases : (P : Event → Type 0) → P Other → ((kind : StepKind) (old new : Option ℕ) → P (Changed kind old new)) → ((kind : StepKind) → P (Moved kind)) → (kind : Option StepKind) (old new : ℕ) (answer : Answer) → P (answered_event kind old new answer)
+exchanged_cases P other changed moved kind old new answer = by_answer answer
   where
     by_kind : (kind : Option StepKind) → P (kind_event kind old new)
     by_kind None = other
@@ -118,6 +117,11 @@ event_cases P other changed moved asked shown kind (Ask_exchange at old new) ans
     by_answer (Made_number n) = other
     by_answer Ok_done = other
     by_answer (Was_refused refused) = other
+
+-- what holds of events of exchanges, of showings and of no event holds of a step's
+event_cases : (P : Event → Type 0) → P Other → ((kind : StepKind) (old new : Option ℕ) → P (Changed kind old new)) → ((kind : StepKind) → P (Moved kind)) → ((n : ℕ) (agrees : Bool) → P (Asked n agrees)) → ((n : Option ℕ) (op : OpKind) → P (Shown n op)) → (kind : Option StepKind) (ask : Ask) (answer : Answer) → P (call_event kind ask answer)
+event_cases P other changed moved asked shown kind (Load at) answer = other
+event_cases P other changed moved asked shown kind (Ask_exchange at old new) answer = exchanged_cases P other changed moved kind old new answer
 event_cases P other changed moved asked shown kind (SameKey n) answer = other
 event_cases P other changed moved asked shown kind ShowNone answer = by_answer answer
   where
@@ -172,33 +176,7 @@ step_answered c turn shown op kind ask answer event before o said is (inr (showe
 -- that there is none a closure has been shown after a step only if it was before it, or is now
 pub event_none : (before : Bool) (kind : Option StepKind) (ask : Ask) (answer : Answer) → none_by (call_event kind ask answer) before ≡ true → (before ≡ true) ⊎ ((ask ≡ ShowNone) × ((op : OpKind) × (answer ≡ Op op)))
 event_none before kind (Load at) answer e = inl e
-event_none before kind (Ask_exchange at old new) answer e = inl (sym (kept answer) ∙ e)
-  where
-    by_kind : (kind : Option StepKind) → none_by (kind_event kind old new) before ≡ before
-    by_kind None = refl
-    by_kind (Some kinds.Open) = refl
-    by_kind (Some kinds.Claim) = refl
-    by_kind (Some kinds.Replace) = refl
-    by_kind (Some kinds.Bury) = refl
-    by_kind (Some kinds.Link) = refl
-    by_kind (Some kinds.Mark) = refl
-    by_kind (Some kinds.Close) = refl
-    by_kind (Some kinds.Place) = refl
-    by_kind (Some kinds.Finish) = refl
-    by_kind (Some kinds.Advance) = refl
-    by_kind (Some kinds.Promote) = refl
-    by_kind (Some kinds.Abort) = refl
-
-    kept : (answer : Answer) → none_by (answered_event kind old new answer) before ≡ before
-    kept Exchanged = by_kind kind
-    kept (Word_read word) = refl
-    kept (Found_instead word) = refl
-    kept (Yes same) = refl
-    kept (Op op) = refl
-    kept (Size slots limit) = refl
-    kept (Made_number n) = refl
-    kept Ok_done = refl
-    kept (Was_refused refused) = refl
+event_none before kind (Ask_exchange at old new) answer e = inl (sym (exchanged_cases (λ y. none_by y before ≡ before) refl (λ kind old new. refl) (λ kind. refl) kind old new answer) ∙ e)
 event_none before kind (SameKey n) answer e = inl e
 event_none before kind ShowNone answer e = by_answer answer e
   where

@@ -94,37 +94,7 @@ copy_kind_in m (Copying_root (Lone slot settle)) ask e = settling_kind settle
 pub copy_kind : (m : Machine) (ask : CopyAsk) → ask_of m ≡ asks.Copy ask → IsCopyKind (kind_of_ask m)
 copy_kind m ask e = copy_kind_in m m.phase ask e
 
--- what holds of events of exchanges and of no event holds where an exchange was asked for
-exchanged_cases : (P : Event → Type 0) → P Other → ((kind : StepKind) (old new : Option ℕ) → P (Changed kind old new)) → ((kind : StepKind) → P (Moved kind)) → (kind : Option StepKind) (old new : ℕ) (answer : Call_answer) → P (answered_event kind old new answer)
-exchanged_cases P other changed moved kind old new answer = by_answer answer
-  where
-    by_kind : (kind : Option StepKind) → P (kind_event kind old new)
-    by_kind None = other
-    by_kind (Some kinds.Open) = moved kinds.Open
-    by_kind (Some kinds.Claim) = changed kinds.Claim _ _
-    by_kind (Some kinds.Replace) = changed kinds.Replace _ _
-    by_kind (Some kinds.Bury) = changed kinds.Bury _ _
-    by_kind (Some kinds.Link) = moved kinds.Link
-    by_kind (Some kinds.Mark) = moved kinds.Mark
-    by_kind (Some kinds.Close) = moved kinds.Close
-    by_kind (Some kinds.Place) = moved kinds.Place
-    by_kind (Some kinds.Finish) = moved kinds.Finish
-    by_kind (Some kinds.Advance) = moved kinds.Advance
-    by_kind (Some kinds.Promote) = moved kinds.Promote
-    by_kind (Some kinds.Abort) = moved kinds.Abort
-
-    by_answer : (answer : Call_answer) → P (answered_event kind old new answer)
-    by_answer Exchanged = by_kind kind
-    by_answer (Word_read word) = other
-    by_answer (Found_instead word) = other
-    by_answer (Yes same) = other
-    by_answer (Op op) = other
-    by_answer (Size slots limit) = other
-    by_answer (Made_number n) = other
-    by_answer Ok_done = other
-    by_answer (Was_refused refused) = other
-
--- and where that was for a copy it changed no pair
+-- where an exchange was asked for a copy it changed no pair
 moved_cases : (P : Event → Type 0) → P Other → ((kind : StepKind) → P (Moved kind)) → (kind : Option StepKind) → IsCopyKind kind → (old new : ℕ) (answer : Call_answer) → P (answered_event kind old new answer)
 moved_cases P other moved kind copies old new answer = by_answer answer
   where
@@ -168,7 +138,7 @@ copied_cases P other kind exchanged ask (answers.Count count) = other
 
 -- of a kind that no machine asks for it would be a change of the map
 pub copy_cases : (P : Event → Type 0) → P Other → ((kind : StepKind) (old new : Option ℕ) → P (Changed kind old new)) → ((kind : StepKind) → P (Moved kind)) → (kind : Option StepKind) (ask : CopyAsk) (answer : Answer) → P (event_of kind (asks.Copy ask) answer)
-copy_cases P other changed moved kind ask answer = copied_cases P other kind (exchanged_cases P other changed moved kind) ask answer
+copy_cases P other changed moved kind ask answer = copied_cases P other kind (calls.exchanged_cases P other changed moved kind) ask answer
 
 -- what a machine asks for a copy leaves the map
 pub copy_moves : (P : Event → Type 0) → P Other → ((kind : StepKind) → P (Moved kind)) → (kind : Option StepKind) → IsCopyKind kind → (ask : CopyAsk) (answer : Answer) → P (event_of kind (asks.Copy ask) answer)
