@@ -1,5 +1,6 @@
 //! One table of slots, and how long tables are.
-ghost use Rattle.std.specs.Prelude.{◌≡◌, ℕ, Bool, ◌-◌, ◌^◌, ◌<◌, ◌≤◌, ◌⊎◌, true, false, max, MatchResult, IfOk, IfErr, length, slice_get, Some, slice_set};
+ghost use Rattle.std.specs.Prelude.{◌≡◌, ℕ, Bool, ◌-◌, ◌^◌, ◌<◌, ◌≤◌, ◌⊎◌, true, false, max};
+ghost use Rattle.std.specs.Prelude.{MatchResult, IfOk, IfErr, length, slice_get, Some, slice_set};
 ghost use Rattle.papaya_words.specs.Probe.{IsLimit};
 ghost use Rattle.std.specs.Int.{IsPowerOfTwo};
 ghost use Rattle.papaya_words.specs.Table.{length_after, limit_after};

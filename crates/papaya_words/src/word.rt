@@ -1,6 +1,8 @@
 //! The words of slots: what stands in a slot of a table, and how it may change.
 ghost use Rattle.std.specs.Prelude.{◌≡◌, ℕ, ◌+◌, ◌*◌, ◌%◌, ◌^◌, ◌<◌, ◌≤◌, ◌↔◌, ◌≢◌, IsTrue};
-ghost use Rattle.papaya_words.specs.Word.{kind_of, kind_of_code, byte_of, pair_of, filled_word, live_word, marked_word, copied_word, buried_word, top_byte, IsSlotStep};
+ghost use Rattle.papaya_words.specs.Word.{kind_of, kind_of_code, byte_of, pair_of, filled_word};
+ghost use Rattle.papaya_words.specs.Word.{live_word, marked_word, copied_word, buried_word};
+ghost use Rattle.papaya_words.specs.Word.{top_byte, IsSlotStep};
 ghost use Rattle.papaya_words.specs.declared.word.Kind.TheVariants.{Empty, Live, Marked, Copied, Buried, Closed};
 
 /// What a slot word says. Its code in the word is its place in this list, from 0.
