@@ -10,7 +10,10 @@ ghost use Rattle.papaya_law.specs.Exchange.{Setting, State, Exchange, run, start
 ghost use Rattle.papaya_law.specs.Invariant.{IsKeeping};
 ghost use Rattle.papaya_rests.specs.Copier.{RestsCopying};
 ghost use Rattle.papaya_rests.specs.Told.{word_of};
-ghost use Rattle.papaya_chain.specs.Copier.{IsStandingCopier, after as copier_after, all, ask_of as copier_ask, chunk, follows_of as copier_follows, kind_of_ask as copier_kind};
+ghost use Rattle.papaya_chain.specs.Copier.{IsStandingCopier, after as copier_after, all};
+ghost use Rattle.papaya_chain.specs.Copier.{ask_of as copier_ask, chunk};
+ghost use Rattle.papaya_chain.specs.Copier.{follows_of as copier_follows};
+ghost use Rattle.papaya_chain.specs.Copier.{kind_of_ask as copier_kind};
 ghost use Rattle.papaya_chain.specs.Machine.{IsStanding, after, ask_of, copying_after, follows_of, kind_of_ask, started};
 ghost use Rattle.papaya_chain_rests.specs.Copiers.{RestsCopier};
 ghost use Rattle.papaya_chain_rests.specs.Rests.{Rests};

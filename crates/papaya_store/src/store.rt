@@ -1,6 +1,8 @@
 //! What the machines of all callers ask about: the words of the tables, the logs of keys and pairs,
 //! and the count.
-ghost use Rattle.std.specs.Prelude.{◌≡◌, ℤ, ◌+◌, ◌-◌, ◌<◌, ◌^◌, ◌⊎◌, [], ◌∷◌, ◌++◌, ◌+ℤ◌, length, vec_len, vec_capacity, Some, None, FitsSigned, MatchOption, OnOk, IfOk, IfErr, ◌*◌, ◌≤◌, slice_get};
+ghost use Rattle.std.specs.Prelude.{◌≡◌, ℤ, ◌+◌, ◌-◌, ◌<◌, ◌^◌, ◌⊎◌, [], ◌∷◌, ◌++◌, ◌+ℤ◌, length};
+ghost use Rattle.std.specs.Prelude.{vec_len, vec_capacity, Some, None, FitsSigned, MatchOption};
+ghost use Rattle.std.specs.Prelude.{OnOk, IfOk, IfErr, ◌*◌, ◌≤◌, slice_get};
 ghost use Rattle.std.specs.Int.{w64, int_wrap};
 ghost use Rattle.papaya_words.specs.Counter.{added, count_of};
 ghost use Rattle.papaya_words.specs.declared.limits.TheConstants.{MAX_TABLE_LEN};
@@ -14,7 +16,10 @@ ghost use Rattle.papaya_keys.specs.Sizes.{IsTooMuch};
 ghost use Rattle.papaya_store.specs.Tables.{table_of, word_at, put, put_in, written};
 ghost use Rattle.papaya_store.specs.Store.{pair_of};
 ghost use Rattle.papaya_keys.specs.Hashes.{hash_of};
-ghost use Rattle.papaya_store.specs.Performs.{Exchanges, size_of, Performs, IsMake, Judges, DecidesPair, DecidesNone, ShowsPair, value_answered, Stays, Refuses, LogsKey, LogsPair, MakesTable, HasKey, HasNoPair, key_at, same};
+ghost use Rattle.papaya_store.specs.Performs.{Exchanges, size_of, Performs, IsMake, Judges};
+ghost use Rattle.papaya_store.specs.Performs.{DecidesPair, DecidesNone, ShowsPair, value_answered};
+ghost use Rattle.papaya_store.specs.Performs.{Stays, Refuses, LogsKey, LogsPair, MakesTable};
+ghost use Rattle.papaya_store.specs.Performs.{HasKey, HasNoPair, key_at, same};
 
 use crate::pairs::{KeyOf, Pair, Running};
 use papaya_ask::ask::{Answer, Ask, At, OpKind};

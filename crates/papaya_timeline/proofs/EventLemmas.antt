@@ -118,35 +118,26 @@ exchanged_cases P other changed moved kind old new answer = by_answer answer
     by_answer Ok_done = other
     by_answer (Was_refused refused) = other
 
+-- what holds of the answers of closures and of no event holds where a closure was shown something
+shown_cases : (P : Event → Type 0) → P Other → ((n : ℕ) (agrees : Bool) → P (Asked n agrees)) → (shown : Option ℕ) → ((op : OpKind) → P (Shown shown op)) → (answer : Answer) → P (shown_event shown answer)
+shown_cases P other asked None op_given (Yes agrees) = other
+shown_cases P other asked (Some n) op_given (Yes agrees) = asked n agrees
+shown_cases P other asked shown op_given (Op op) = op_given op
+shown_cases P other asked shown op_given Exchanged = other
+shown_cases P other asked shown op_given (Word_read word) = other
+shown_cases P other asked shown op_given (Found_instead word) = other
+shown_cases P other asked shown op_given (Size slots limit) = other
+shown_cases P other asked shown op_given (Made_number m) = other
+shown_cases P other asked shown op_given Ok_done = other
+shown_cases P other asked shown op_given (Was_refused refused) = other
+
 -- what holds of events of exchanges, of showings and of no event holds of a step's
 event_cases : (P : Event → Type 0) → P Other → ((kind : StepKind) (old new : Option ℕ) → P (Changed kind old new)) → ((kind : StepKind) → P (Moved kind)) → ((n : ℕ) (agrees : Bool) → P (Asked n agrees)) → ((n : Option ℕ) (op : OpKind) → P (Shown n op)) → (kind : Option StepKind) (ask : Ask) (answer : Answer) → P (call_event kind ask answer)
 event_cases P other changed moved asked shown kind (Load at) answer = other
 event_cases P other changed moved asked shown kind (Ask_exchange at old new) answer = exchanged_cases P other changed moved kind old new answer
 event_cases P other changed moved asked shown kind (SameKey n) answer = other
-event_cases P other changed moved asked shown kind ShowNone answer = by_answer answer
-  where
-    by_answer : (answer : Answer) → P (shown_event None answer)
-    by_answer (Yes agrees) = other
-    by_answer (Op op) = shown None op
-    by_answer Exchanged = other
-    by_answer (Word_read word) = other
-    by_answer (Found_instead word) = other
-    by_answer (Size slots limit) = other
-    by_answer (Made_number m) = other
-    by_answer Ok_done = other
-    by_answer (Was_refused refused) = other
-event_cases P other changed moved asked shown kind (ShowPair n) answer = by_answer answer
-  where
-    by_answer : (answer : Answer) → P (shown_event (Some n) answer)
-    by_answer (Yes agrees) = asked n agrees
-    by_answer (Op op) = shown (Some n) op
-    by_answer Exchanged = other
-    by_answer (Word_read word) = other
-    by_answer (Found_instead word) = other
-    by_answer (Size slots limit) = other
-    by_answer (Made_number m) = other
-    by_answer Ok_done = other
-    by_answer (Was_refused refused) = other
+event_cases P other changed moved asked shown kind ShowNone answer = shown_cases P other asked None (shown None) answer
+event_cases P other changed moved asked shown kind (ShowPair n) answer = shown_cases P other asked (Some n) (shown (Some n)) answer
 event_cases P other changed moved asked shown kind (SizeOf n) answer = other
 event_cases P other changed moved asked shown kind MakeKey answer = other
 event_cases P other changed moved asked shown kind MakePair answer = other
@@ -190,18 +181,7 @@ event_none before kind ShowNone answer e = by_answer answer e
     by_answer (Made_number m) e = inl e
     by_answer Ok_done e = inl e
     by_answer (Was_refused refused) e = inl e
-event_none before kind (ShowPair n) answer e = inl (sym (kept answer) ∙ e)
-  where
-    kept : (answer : Answer) → none_by (shown_event (Some n) answer) before ≡ before
-    kept (Yes agrees) = refl
-    kept (Op op) = refl
-    kept Exchanged = refl
-    kept (Word_read word) = refl
-    kept (Found_instead word) = refl
-    kept (Size slots limit) = refl
-    kept (Made_number m) = refl
-    kept Ok_done = refl
-    kept (Was_refused refused) = refl
+event_none before kind (ShowPair n) answer e = inl (sym (shown_cases (λ y. none_by y before ≡ before) refl (λ m agrees. refl) (Some n) (λ op. refl) answer) ∙ e)
 event_none before kind (SizeOf n) answer e = inl e
 event_none before kind MakeKey answer e = inl e
 event_none before kind MakePair answer e = inl e
@@ -247,30 +227,8 @@ event_change before kind (Ask_exchange at old new) answer once = by_answer answe
     by_answer Ok_done = refl
     by_answer (Was_refused refused) = refl
 event_change before kind (SameKey n) answer once = refl
-event_change before kind ShowNone answer once = by_answer answer
-  where
-    by_answer : (answer : Answer) → change_by (shown_event None answer) before ≡ before
-    by_answer (Yes agrees) = refl
-    by_answer (Op op) = refl
-    by_answer Exchanged = refl
-    by_answer (Word_read word) = refl
-    by_answer (Found_instead word) = refl
-    by_answer (Size slots limit) = refl
-    by_answer (Made_number m) = refl
-    by_answer Ok_done = refl
-    by_answer (Was_refused refused) = refl
-event_change before kind (ShowPair n) answer once = by_answer answer
-  where
-    by_answer : (answer : Answer) → change_by (shown_event (Some n) answer) before ≡ before
-    by_answer (Yes agrees) = refl
-    by_answer (Op op) = refl
-    by_answer Exchanged = refl
-    by_answer (Word_read word) = refl
-    by_answer (Found_instead word) = refl
-    by_answer (Size slots limit) = refl
-    by_answer (Made_number m) = refl
-    by_answer Ok_done = refl
-    by_answer (Was_refused refused) = refl
+event_change before kind ShowNone answer once = shown_cases (λ y. change_by y before ≡ before) refl (λ m agrees. refl) None (λ op. refl) answer
+event_change before kind (ShowPair n) answer once = shown_cases (λ y. change_by y before ≡ before) refl (λ m agrees. refl) (Some n) (λ op. refl) answer
 event_change before kind (SizeOf n) answer once = refl
 event_change before kind MakeKey answer once = refl
 event_change before kind MakePair answer once = refl
