@@ -20,24 +20,23 @@ module _ {S : Type 0} where
       (λ value. (p : Stored ℕ ℕ) × Holds (λ a b. a == b) (λ key. k == key) s.store p
       × (p.value ≡ value))
 
-  -- The command makes of the one map the other, and this is printed; keys are hashed so. A removal
-  -- is refused only where the root table has a next one.
-  abbrev pub Obeys : (ℕ → ℕ) → Command → MapState ℕ ℕ S → Printed → MapState ℕ ℕ S → Type 0
-  Obeys hash (command.Insert k v) s text s' = (answer : Result (Option ℕ) Refused)
-      × (text ≡ of_insertion answer) × IsInserted (λ a b. a == b) (hash k) k v s answer s'
-  Obeys hash (command.Get k) s text s' = (found : Option ℕ) × (text ≡ of_lookup found)
+  -- The command makes of the one map the other, and this is printed. A removal is refused only while
+  -- pairs are being moved to a further table.
+  abbrev pub Obeys : Command → MapState ℕ ℕ S → Printed → MapState ℕ ℕ S → Type 0
+  Obeys (command.Insert k v) s text s' = (answer : Result (Option ℕ) Refused)
+      × (text ≡ of_insertion answer) × IsInserted (λ a b. a == b) k v s answer s'
+  Obeys (command.Get k) s text s' = (found : Option ℕ) × (text ≡ of_lookup found)
       × HasAt s k found × (s' ≡ s)
-  Obeys hash (command.Remove k) s text s' = (answer : Result (Option ℕ) Refused)
+  Obeys (command.Remove k) s text s' = (answer : Result (Option ℕ) Refused)
       × (text ≡ of_removal answer) × IsRemoved (λ a b. a == b) (λ key. k == key) (λ p. p.value) s
       answer s' × (next_of s.store ≡ 0 → IsOk answer)
-  Obeys hash (command.Update k) s text s' = (answer : Result (Option ℕ) Refused)
-      × (text ≡ of_update answer) × IsUpdated (λ a b. a == b) (hash k) k
-      (λ old new. new ≡ follower old) s answer s'
-  Obeys hash command.Len s text s' =
+  Obeys (command.Update k) s text s' = (answer : Result (Option ℕ) Refused)
+      × (text ≡ of_update answer) × IsUpdated (λ a b. a == b) k (λ old new. new ≡ follower old) s
+      answer s'
+  Obeys command.Len s text s' =
       (text ≡ printed.Length (length (content (λ a b. a == b) s.store))) × (s' ≡ s)
-  Obeys hash command.Slots s text s' = (text ≡ printed.Slots (slots_of s.store)) × (s' ≡ s)
+  Obeys command.Slots s text s' = (text ≡ printed.Slots (slots_of s.store)) × (s' ≡ s)
 
   -- the line writes a command, and this does what it asks for
-  abbrev pub ObeysLine : (ℕ → ℕ) → List ℕ → MapState ℕ ℕ S → Printed → MapState ℕ ℕ S → Type 0
-  ObeysLine hash line s text s' = (what : Command) × WritesCommand line what
-      × Obeys hash what s text s'
+  abbrev pub ObeysLine : List ℕ → MapState ℕ ℕ S → Printed → MapState ℕ ℕ S → Type 0
+  ObeysLine line s text s' = (what : Command) × WritesCommand line what × Obeys what s text s'

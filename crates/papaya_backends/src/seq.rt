@@ -1,7 +1,5 @@
 //! The lines on a map for one caller: each is read, done and printed before the next is read.
 ghost use Rattle.std.specs.Prelude.{◌≡◌};
-ghost use Rattle.std.specs.Hash as fed;
-ghost use Rattle.papaya_keys.specs.Hashes.{hash_of};
 ghost use Rattle.papaya_lines.specs.Closures.{follower};
 ghost use Rattle.papaya_lines.specs.Commands.{WritesNone};
 ghost use Rattle.papaya_backends.specs.Seq.{Obeys, ObeysLine};
@@ -25,8 +23,7 @@ fn follower(value: &u64) -> u64
 
 /// Does what a command asks for, and answers what is printed of it.
 fn obey<S: BuildHasher + Drop>(map: &mut HashMap<u64, u64, S>, command: Command) -> Printed
-    ensures { Obeys (hash_of fed.u64 S.build_hasher S.Hasher.write S.Hasher.finish
-        map.old.store.hasher) command map.old result map.new }
+    ensures { Obeys command map.old result map.new }
 {
     match command {
         Command::Insert(key, value) => match map.insert(key, value) {
@@ -54,9 +51,7 @@ fn obey<S: BuildHasher + Drop>(map: &mut HashMap<u64, u64, S>, command: Command)
 }
 
 impl<S: BuildHasher + Drop> Obey for HashMap<u64, u64, S> {
-    ghost does = { λ old line printed new. ObeysLine
-        (hash_of fed.u64 S.build_hasher S.Hasher.write S.Hasher.finish old.store.hasher) line old
-        printed new };
+    ghost does = { λ old line printed new. ObeysLine line old printed new };
 
     ghost is_bad = { WritesNone };
 

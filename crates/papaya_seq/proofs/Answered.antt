@@ -1,8 +1,9 @@
 -- What the reply of an insertion says of the map, in terms of its pairs.
-use Rattle.std.proofs.Common.{◌≡◌, ⊎_elim, ℕ, Bool, true, false, cond, List, [], ◌∷◌, Option, Some, None, Result, Ok, refl, sym, ◌∙◌, ap, subst}
+use Rattle.std.proofs.Common.{◌≡◌, ⊎_elim, ℕ, Bool, true, false, cond, List, [], ◌∷◌, Option, Some, None, Result, Ok, Err, inl, inr, refl, sym, ◌∙◌, ap, subst}
 use Rattle.std.proofs.lemmas.Bool.{cases_Bool}
 use Rattle.std.specs.Cmp.{IsEquivalence}
 use Rattle.papaya_words.specs.declared.probe.Refused.{Refused}
+use Rattle.papaya_words.specs.declared.probe.Refused.TheVariants.{RemoveNothing}
 use Rattle.papaya_law.specs.Content.{lookup}
 use Rattle.papaya_ask.specs.declared.call.Call.TheVariants.{Insert, TryInsert}
 use Rattle.papaya_ask.specs.declared.call.Reply.TheVariants as replies
@@ -10,7 +11,7 @@ use Rattle.papaya_timeline.specs.Content.{content, map_in}
 use Rattle.papaya_timeline.specs.Maps.{Does, IsMadeOf, IsUpdate, Same, key_of}
 use Rattle.papaya_timeline.specs.Solo.{IsAnswered, IsNewIn}
 use Rattle.papaya_store.specs.Store.{StoreState, Stored, pair_of}
-use Rattle.papaya_seq.specs.Map.{Inserts, IsOccupied, IsTried, Keeps, MapState, insertion, value_of}
+use Rattle.papaya_seq.specs.Map.{Inserts, IsMakeRefusal, IsOccupied, IsTried, IsTryRefusal, IsWriteCause, IsWriteCauseAt, Keeps, MapState, insertion, value_of}
 use Rattle.papaya_seq.proofs.Lawful.{logged_content, lookup_some}
 
 -- equal keys have one pair in a list
@@ -142,6 +143,56 @@ module _ {K V S : Type 0} (eq : K → K → Bool) (law : IsEquivalence eq) where
     occupied_by reply n is d = occupied_there n (subst (λ r. IsAnswered {A = Unit {0}} eq (TryInsert k v) (map_in eq s) r (map_in eq s')) is d)
 
 -- an insertion that found its key in the map, by its number
-pub tried_there : {K V S : Type 0} (eq : K → K → Bool) (hash : ℕ) (k : K) (v : V) (s : MapState K V S) (result : Result (ℕ × Option V) Refused) (s' : MapState K V S) (n : ℕ) (left : V) → result ≡ Ok (n, Some left) → IsTried eq hash k v s result s'
+pub tried_there : {K V S : Type 0} (eq : K → K → Bool) (k : K) (v : V) (s : MapState K V S) (result : Result (ℕ × Option V) Refused) (s' : MapState K V S) (n : ℕ) (left : V) → result ≡ Ok (n, Some left) → IsTried eq k v s result s'
     → (p : Stored K V) × (pair_of s'.store n ≡ Some p) × (left ≡ v) × IsOccupied eq k s.store p.value s'.store × Keeps s s'
-tried_there eq hash k v s result s' n left is tried = subst (λ r. IsTried eq hash k v s r s') is tried
+tried_there eq k v s result s' n left is tried = subst (λ r. IsTried eq k v s r s') is tried
+
+-- and one that was refused
+pub tried_refused : {K V S : Type 0} (eq : K → K → Bool) (k : K) (v : V) (s : MapState K V S) (result : Result (ℕ × Option V) Refused) (s' : MapState K V S) (refused : Refused) → result ≡ Err refused → IsTried eq k v s result s' → IsTryRefusal eq k s refused s'
+tried_refused eq k v s result s' refused is tried = subst (λ r. IsTried eq k v s r s') is tried
+
+module _ {K V S : Type 0} (s s' : MapState K V S) where
+  -- a cause of a call that stores, without what the class of its key has
+  pub write_cause : (held : Option (Stored K V)) (refused : Refused) → IsWriteCauseAt s held refused s' → IsWriteCause s refused s'
+  write_cause held refused (inl memory) = inl memory
+  write_cause held refused (inr (is, inl full)) = inr (is, inl full)
+  write_cause held refused (inr (is, inr (needed, none))) = inr (is, inr none)
+
+  -- it is refused for want of memory, or at a limit
+  pub make_refusal : (refused : Refused) → IsWriteCause s refused s' → IsMakeRefusal refused
+  make_refusal refused (inl memory) = inl memory
+  make_refusal refused (inr (is, full)) = inr is
+
+module _ {K V : Type 0} (A : Type 0) (k : K) (v : V) where
+  -- what an insertion that replaces nothing does is the same whatever closures calls have
+  try_does : (went came : Option (Stored K V)) (reply : _) → Does {A = Unit {0}} (TryInsert k v) went reply came → Does {A = A} (TryInsert k v) went reply came
+  try_does None came (replies.Inserted n) d = d
+  try_does (Some p) came (replies.Occupied n) d = d
+  try_does (Some p) came (replies.Inserted n) d = absurd d
+  try_does None came (replies.Occupied n) d = absurd d
+  try_does None came replies.Absent d = absurd d
+  try_does (Some p) came replies.Absent d = absurd d
+  try_does None came (replies.Found n) d = absurd d
+  try_does (Some p) came (replies.Found n) d = absurd d
+  try_does None came (replies.Replaced m n) d = absurd d
+  try_does (Some p) came (replies.Replaced m n) d = absurd d
+  try_does None came (replies.Removed n) d = absurd d
+  try_does (Some p) came (replies.Removed n) d = absurd d
+  try_does None came (replies.Kept n) d = absurd d
+  try_does (Some p) came (replies.Kept n) d = absurd d
+  try_does None came (replies.Aborted t) d = absurd d
+  try_does (Some p) came (replies.Aborted t) d = absurd d
+  try_does None came (replies.Refused refused) d = absurd d
+  try_does (Some p) came (replies.Refused refused) d = absurd d
+
+  -- so is what it is answered
+  pub try_answered : (eq : K → K → Bool) (m m' : K → Option (Stored K V)) (reply : _) → IsAnswered {A = Unit {0}} eq (TryInsert k v) m reply m' → IsAnswered {A = A} eq (TryInsert k v) m reply m'
+  try_answered eq m m' (replies.Refused refused) d = (d.0, λ nothing. try_does (m k) (m k) (replies.Refused RemoveNothing) (d.1 nothing))
+  try_answered eq m m' (replies.Inserted n) d = record { went = d.went; came = d.came; update = d.update; does = try_does d.went d.came (replies.Inserted n) d.does }
+  try_answered eq m m' (replies.Occupied n) d = record { went = d.went; came = d.came; update = d.update; does = try_does d.went d.came (replies.Occupied n) d.does }
+  try_answered eq m m' replies.Absent d = record { went = d.went; came = d.came; update = d.update; does = try_does d.went d.came replies.Absent d.does }
+  try_answered eq m m' (replies.Found n) d = record { went = d.went; came = d.came; update = d.update; does = try_does d.went d.came (replies.Found n) d.does }
+  try_answered eq m m' (replies.Replaced o n) d = record { went = d.went; came = d.came; update = d.update; does = try_does d.went d.came (replies.Replaced o n) d.does }
+  try_answered eq m m' (replies.Removed n) d = record { went = d.went; came = d.came; update = d.update; does = try_does d.went d.came (replies.Removed n) d.does }
+  try_answered eq m m' (replies.Kept n) d = record { went = d.went; came = d.came; update = d.update; does = try_does d.went d.came (replies.Kept n) d.does }
+  try_answered eq m m' (replies.Aborted t) d = record { went = d.went; came = d.came; update = d.update; does = try_does d.went d.came (replies.Aborted t) d.does }

@@ -1,9 +1,10 @@
 -- What lookups and removals by an owned key do, as calls do it.
-use Rattle.std.proofs.Common.{◌≡◌, ⊎_elim, ℕ, zero, suc, Bool, true, false, List, [], ◌∷◌, ◌++◌, Option, Some, None, refl, sym, ◌∙◌, ap, subst, arith}
+use Rattle.std.proofs.Common.{◌≡◌, ⊎_elim, inl, inr, ℕ, zero, suc, Bool, true, false, List, [], ◌∷◌, ◌++◌, Option, Some, None, refl, sym, ◌∙◌, ap, subst, arith}
 use Rattle.std.proofs.lemmas.Bool.{cases_Bool, cond-true, cond-false}
 use Rattle.std.specs.Cmp.{IsEquivalence}
 use Rattle.std.specs.List.{All, Contains}
 use Rattle.papaya_words.specs.declared.probe.Refused as words
+use Rattle.papaya_words.specs.declared.probe.Refused.TheVariants.{Memory, Capacity, RemoveNothing}
 use Rattle.papaya_call.specs.Answers.{Says}
 use Rattle.papaya_law.specs.Content.{AreApart, lookup}
 use Rattle.papaya_ask.specs.declared.call.Call.{Call}
@@ -15,8 +16,8 @@ use Rattle.papaya_timeline.specs.Maps.{IsUpdate}
 use Rattle.papaya_timeline.specs.Solo.{IsAnswered, IsNewIn}
 use Rattle.papaya_store.specs.Store.{StoreState, Stored}
 use Rattle.papaya_timeline.proofs.SoloTimeline.{lookup_alike}
-use Rattle.papaya_seq.specs.Calls.{AreCalled, IsCalled, IsSaid}
-use Rattle.papaya_seq.specs.Map.{HasNone, Holds, Keeps, MapState, Unchanged, next_of}
+use Rattle.papaya_seq.specs.Calls.{AreCalled, IsCalled, IsJudged}
+use Rattle.papaya_seq.specs.Map.{HasNone, Holds, IsMakeRefusal, Keeps, MapState, Unchanged, next_of}
 use Rattle.papaya_seq.specs.Removes.{IsRemoval, IsRemovalBy}
 use Rattle.papaya_seq.proofs.Lawful.{number_is}
 
@@ -80,11 +81,11 @@ module _ {K V S : Type 0} (eq : K → K → Bool) (classes : IsEquivalence eq) (
             (cases_Bool (eq j p.key))
 
     -- a removal does what the finite map does
-    pub remove_answered : {A : Type 0} (a : A) (reply : Reply) → ((refused : words.Refused) → reply ≡ Refused refused → ⊥) → IsRemoval eq (eq k) said s reply s' → IsAnswered eq (RemoveIf k a) (map_in eq s) reply (map_in eq s')
+    pub remove_answered : {A : Type 0} (a : A) (reply : Reply) → ((refused : words.Refused) → reply ≡ Refused refused → refused ≡ RemoveNothing → ⊥) → IsRemoval eq (eq k) said s reply s' → IsAnswered eq (RemoveIf k a) (map_in eq s) reply (map_in eq s')
     remove_answered a Absent never (none, unchanged) = record { went = None; came = None; update = stays s' unchanged None (none_here none); does = refl }
     remove_answered a (Removed n) never (p, holds, removes, judged) = record { went = Some p; came = None; update = went p holds.held.key removes.update; does = (number_is s n p holds.logged, refl) }
     remove_answered a (Kept n) never (p, holds, unchanged, judged) = record { went = Some p; came = Some p; update = stays s' unchanged (Some p) (held_here p holds.held); does = (number_is s n p holds.logged, refl) }
-    remove_answered a (Refused refused) never unchanged = absurd (never refused refl)
+    remove_answered a (Refused refused) never unchanged = (unchanged, λ nothing. absurd (never refused refl nothing))
     remove_answered a (Aborted t) never removal = absurd removal
     remove_answered a (Found n) never removal = absurd removal
     remove_answered a (Inserted n) never removal = absurd removal
@@ -104,7 +105,7 @@ module _ {K V S : Type 0} (eq : K → K → Bool) (classes : IsEquivalence eq) (
     remove_fresh (Occupied n) removal = absurd removal
 
     -- and its closure's answers said so
-    pub remove_said : {A : Type 0} (says : Says K V A) (a : A) → ((p : Stored K V) (agrees : Bool) → said p agrees → (a' : A) × says.yes a p.key p.value agrees a') → (reply : Reply) → IsRemoval eq (eq k) said s reply s' → IsSaid eq says (RemoveIf k a) s reply s'
+    pub remove_said : {A : Type 0} (says : Says K V A) (a : A) → ((p : Stored K V) (agrees : Bool) → said p agrees → (a' : A) × says.yes a p.key p.value agrees a') → (reply : Reply) → IsRemoval eq (eq k) said s reply s' → IsJudged says a reply s
     remove_said says a gives Absent removal = tt
     remove_said says a gives (Removed n) (p, holds, removes, judged) = let answers = gives p true judged in (p, answers.0, holds.logged, answers.1)
     remove_said says a gives (Kept n) (p, holds, unchanged, judged) = let answers = gives p false judged in (p, answers.0, holds.logged, answers.1)
@@ -115,21 +116,26 @@ module _ {K V S : Type 0} (eq : K → K → Bool) (classes : IsEquivalence eq) (
     remove_said says a gives (Replaced m n) removal = absurd removal
     remove_said says a gives (Occupied n) removal = absurd removal
 
-module _ {K V S A : Type 0} (eq : K → K → Bool) (hash : S → K → ℕ) (classes : IsEquivalence eq) (s : MapState K V S) (apart : AreApart eq (λ p. p.key) (content eq s.store)) (k : K) (a : A) (says : Says K V A) where
+-- what is refused for memory or at a limit is no removal of nothing
+pub removes_something : (refused : words.Refused) → IsMakeRefusal refused → refused ≡ RemoveNothing → ⊥
+removes_something refused (inl memory) nothing = let f : Memory ≡ RemoveNothing = sym memory ∙ nothing in absurd cc
+removes_something refused (inr full) nothing = let f : Capacity ≡ RemoveNothing = sym full ∙ nothing in absurd cc
+
+module _ {K V S A : Type 0} (eq : K → K → Bool) (classes : IsEquivalence eq) (s : MapState K V S) (apart : AreApart eq (λ p. p.key) (content eq s.store)) (k : K) (a : A) (says : Says K V A) where
   -- a removal by an owned key is a call
-  pub remove_called : {said : Stored K V → Bool → Type 0} (reply : Reply) (s' : MapState K V S) → IsRemovalBy eq (eq k) said s.store reply s'.store → (next_of s.store ≡ 0 → (refused : words.Refused) → reply ≡ Refused refused → ⊥) → next_of s.store ≡ 0 → Keeps s s' → ((p : Stored K V) (agrees : Bool) → said p agrees → (a' : A) × says.yes a p.key p.value agrees a') → IsCalled eq hash says s (RemoveIf k a) reply s'
-  remove_called {said} reply s' whole never settled keeps gives = record {
-    answered = remove_answered eq classes s.store apart k said s'.store a reply (never settled) whole.removal;
+  pub remove_called : {said : Stored K V → Bool → Type 0} (reply : Reply) (s' : MapState K V S) → IsRemovalBy eq (eq k) said s.store reply s'.store → (next_of s.store ≡ 0 → (refused : words.Refused) → reply ≡ Refused refused → ⊥) → ((refused : words.Refused) → reply ≡ Refused refused → refused ≡ RemoveNothing → ⊥) → Keeps s s' → ((p : Stored K V) (agrees : Bool) → said p agrees → (a' : A) × says.yes a p.key p.value agrees a') → IsCalled eq says s (RemoveIf k a) reply s'
+  remove_called {said} reply s' whole never ordered keeps gives = record {
+    answered = remove_answered eq classes s.store apart k said s'.store a reply ordered whole.removal;
     fresh = remove_fresh eq classes s.store apart k said s'.store reply whole.removal;
     said = remove_said eq classes s.store apart k said s'.store says a gives reply whole.removal;
     cause = λ refused is unresized. never unresized refused is;
     keeps = keeps;
   }
 
-module _ {K V S A : Type 0} (eq : K → K → Bool) (hash : S → K → ℕ) (says : Says K V A) (reply : Reply) (call : Call K V A) (now s' : MapState K V S) (called : IsCalled eq hash says now call reply s') where
+module _ {K V S A : Type 0} (eq : K → K → Bool) (says : Says K V A) (reply : Reply) (call : Call K V A) (now s' : MapState K V S) (called : IsCalled eq says now call reply s') where
   -- one more call is made
-  pub called_more : (s : MapState K V S) (calls : List (Call K V A)) (replies : List Reply) → AreCalled eq hash says s calls replies now → AreCalled eq hash says s (calls ++ call ∷ []) (replies ++ reply ∷ []) s'
-  called_more s [] [] e = (s', subst (λ (y : MapState K V S). IsCalled eq hash says y call reply s') e called, refl)
+  pub called_more : (s : MapState K V S) (calls : List (Call K V A)) (replies : List Reply) → AreCalled eq says s calls replies now → AreCalled eq says s (calls ++ call ∷ []) (replies ++ reply ∷ []) s'
+  called_more s [] [] e = (s', subst (λ (y : MapState K V S). IsCalled eq says y call reply s') e called, refl)
   called_more s [] (r ∷ replies) e = absurd e
   called_more s (c ∷ calls) [] e = absurd e
   called_more s (c ∷ calls) (r ∷ replies) (middle, first, rest) = (middle, first, called_more middle calls replies rest)

@@ -1,261 +1,254 @@
--- A compute of a map for one caller, between two answers: what stands in the words where it is, and what it has at hand.
-use Rattle.std.proofs.Common.{◌≡◌, ℕ, ◌==◌, Bool, true, false, Option, None, Some, List, slice_get, sym, ◌∙◌, ap, subst}
-use Rattle.std.proofs.lemmas.Bool.{cond_both}
+-- Where a compute is: in the root, while its closure was not called and no pairs are being moved; or at the place of the pair that its closure was shown.
+use Rattle.std.proofs.Common.{◌≡◌, inl, inr, ℕ, ◌<◌, ◌==◌, nat_lt, Bool, true, false, Option, None, Some, refl, sym, ◌∙◌, ap, subst, arith}
+use Rattle.std.proofs.lemmas.Bool.{cond_both, eqb-true}
 use Rattle.papaya_words.specs.Table.{TableWords}
-use Rattle.papaya_words.specs.Word.{byte_of, kind_of, pair_of as number_of, top_byte}
-use Rattle.papaya_words.specs.declared.probe.Refused.TheVariants.{RemoveNothing}
+use Rattle.papaya_words.specs.Word.{kind_of, byte_of, pair_of as number_of, top_byte}
 use Rattle.papaya_words.specs.declared.probe.ResizeMode.{ResizeMode}
 use Rattle.papaya_words.specs.declared.probe.ResizeMode.TheVariants.{Incremental, Blocking}
 use Rattle.papaya_words.specs.declared.word.Kind.{Kind}
 use Rattle.papaya_words.specs.declared.word.Kind.TheVariants as kinds
-use Rattle.papaya_call.specs.declared.answers.Operation.{Operation}
-use Rattle.papaya_call.specs.declared.answers.Operation.TheVariants as ops
-use Rattle.papaya_ask.specs.declared.ask.Ask.TheVariants.{Done as Ask_done}
-use Rattle.papaya_ask.specs.declared.ask.At.TheVariants.{Slot}
-use Rattle.papaya_ask.specs.declared.call.Reply.{Reply}
-use Rattle.papaya_ask.specs.declared.call.Reply.TheVariants.{Absent, Found, Inserted, Replaced, Occupied, Removed, Kept, Aborted, Refused as Reply_refused}
+use Rattle.papaya_ask.specs.Search.{at_yes as search_compared, compare_byte, go_on, look, look_at, match_at, next_place}
+use Rattle.papaya_ask.specs.declared.ask.Answer.{Answer as Call_answer}
+use Rattle.papaya_ask.specs.declared.ask.Answer.TheVariants.{Word as Word_read, Made as Made_number, Refused as Was_refused}
+use Rattle.papaya_ask.specs.declared.ask.Ask.TheVariants.{ShowNone, ShowPair}
+use Rattle.papaya_ask.specs.declared.ask.At.TheVariants.{Next, Slot}
+use Rattle.papaya_ask.specs.declared.call.Reply.TheVariants.{Removed}
 use Rattle.papaya_ask.specs.declared.call.Task.TheVariants.{Compute}
-use Rattle.papaya_call.specs.declared.compute.Gap.{Gap}
-use Rattle.papaya_call.specs.declared.compute.Gap.TheVariants.{NoRoot, At as At_place, After}
-use Rattle.papaya_call.specs.declared.compute.Purpose.{Purpose}
-use Rattle.papaya_call.specs.declared.compute.Purpose.TheVariants.{Fill, Replace}
-use Rattle.papaya_call.specs.declared.compute.Remembered.{Remembered}
-use Rattle.papaya_call.specs.declared.machine.State.{State}
-use Rattle.papaya_call.specs.declared.machine.State.TheVariants.{AtRoot, Making, Opening, Searching, Writing, Offering, Showing, Pairing, Putting, Burying, Counting, Uncounting, Leaving, Growing, Ended}
 use Rattle.papaya_ask.specs.declared.search.Place.{Place}
 use Rattle.papaya_ask.specs.declared.search.Search.TheVariants.{Sizing, Looking, Comparing}
 use Rattle.papaya_ask.specs.declared.search.Seen.{Seen}
 use Rattle.papaya_ask.specs.declared.search.Seen.TheVariants as seen
+use Rattle.papaya_call.specs.declared.compute.Choice.{Choice}
+use Rattle.papaya_call.specs.declared.compute.Choice.TheVariants.{Replace as To_replace, Remove as To_remove}
+use Rattle.papaya_call.specs.declared.compute.Gap.TheVariants.{NoRoot}
+use Rattle.papaya_call.specs.declared.compute.Purpose.{Purpose}
+use Rattle.papaya_call.specs.declared.compute.Purpose.TheVariants.{Fill, Replace}
+use Rattle.papaya_call.specs.declared.machine.Machine.{Machine as Call_machine}
+use Rattle.papaya_call.specs.declared.machine.State.{State}
+use Rattle.papaya_call.specs.declared.machine.State.TheVariants.{AtRoot, Searching, Offering, Showing, Pairing, Putting, Burying, Counting, Uncounting, Leaving, Growing, Ended}
 use Rattle.papaya_call.specs.declared.write.Made.{Made}
 use Rattle.papaya_call.specs.declared.write.Made.TheVariants.{Nothing, Key, Pair}
-use Rattle.papaya_call.specs.Compute.{nothing}
-use Rattle.papaya_call.specs.Machine.{asks, computes, goes_as, passes}
-use Rattle.papaya_ask.specs.Search.{IsWithin, at_yes as search_compared, go_on, look_at, match_at}
-use Rattle.papaya_store.specs.Performs.{same_stored}
-use Rattle.papaya_store.specs.Store.{StoreState, Stored, pair_of}
-use Rattle.papaya_store.specs.Tables.{table_of, word_at}
-use Rattle.papaya_store.specs.declared.pairs.KeyOf.{KeyOf}
-use Rattle.papaya_store.specs.declared.pairs.KeyOf.TheVariants.{Own, Logged}
-use Rattle.papaya_seq.specs.Map.{IsWriteCause, IsFull}
-use Rattle.papaya_seq.proofs.Past.{IsBlank, IsFirst, IsPast, IsSlotThere, gone_past, not_zero, slot_there}
-use Rattle.papaya_seq.proofs.Removing.{IsOpen}
+use Rattle.papaya_call.specs.Answers.{Says}
+use Rattle.papaya_call.specs.Compute.{lacks, nothing}
+use Rattle.papaya_call.specs.Machine as calls
+use Rattle.papaya_call.specs.Machine.{asks, computes, goes_as}
+use Rattle.papaya_chain.specs.declared.ask.Ask.TheVariants as asked
+use Rattle.papaya_chain.specs.declared.ask.Answer.{Answer}
+use Rattle.papaya_chain.specs.declared.ask.Answer.TheVariants as answers
+use Rattle.papaya_chain.specs.declared.machine.Machine.{Machine}
+use Rattle.papaya_chain.specs.declared.machine.Phase.TheVariants.{Calling}
+use Rattle.papaya_chain.specs.Machine.{after, ask_of}
+use Rattle.papaya_chain_rests.specs.Rests.{left_by}
+use Rattle.papaya_law.specs.Code.{IsOfKind}
+use Rattle.papaya_law.specs.Exchange.{run, start}
+use Rattle.papaya_law.specs.Invariant.{shut}
+use Rattle.papaya_law.proofs.CodeViews.{word_of_kind}
+use Rattle.papaya_law.proofs.OneMap.{sound}
+use Rattle.papaya_rests.specs.Alone.{IsRead}
+use Rattle.papaya_rests.specs.Says.{Inserts, Makes, Removes, Said, StandsOn, said_to_choose, said_to_fill}
+use Rattle.papaya_rests.proofs.AloneSteps.{exchange_done}
+use Rattle.papaya_store.specs.Asks.{PerformsAsk}
+use Rattle.papaya_store.specs.Performs.{Performs, own_key, same as compares, size_of}
+use Rattle.papaya_store.specs.Store.{StoreState, pair_of}
+use Rattle.papaya_store.specs.Tables.{table_of, word_at, word_in}
+use Rattle.papaya_store.specs.declared.pairs.Running.{Running}
+use Rattle.papaya_timeline.specs.Kept.{coding_of, low, setting_of}
+use Rattle.papaya_timeline.proofs.KeptSettings.{IsLawfulKeys, tables_hashed}
+use Rattle.papaya_seq.specs.Map.{IsLawfulMap, next_in, next_of}
 
-module _ {K V S : Type 0} (hash : ℕ) (s : StoreState K V S) where
-  -- a pair of an absent key has a place, or there is none for it
-  abbrev pub IsGapThere : Gap → Type 0
-  IsGapThere NoRoot = Unit {0}
-  IsGapThere (At_place at) = IsSlotThere s.words.tables at
-  IsGapThere (After t) = IsFull hash s
+-- a value that was answered, of which a pair is yet to be made
+abbrev pub IsYetToMake : Said → Type 0
+IsYetToMake (Inserts shown) = Unit {0}
+IsYetToMake _ = ⊥
 
-  abbrev pub IsPurposeThere : Purpose → Type 0
-  IsPurposeThere (Fill gap) = IsGapThere gap
-  IsPurposeThere (Replace write) = IsSlotThere s.words.tables write.place
+remembered_none : (fill : Option ℕ) (choice : Option Choice) → ((said : Said) → said_to_fill fill ≡ Some said → IsYetToMake said) → ((said : Said) → said_to_choose choice ≡ Some said → IsYetToMake said) → record { fill = fill; choice = choice } ≡ nothing
+remembered_none None None filled chosen = refl
+remembered_none (Some n) choice filled chosen = absurd (filled (Makes None n) refl)
+remembered_none None (Some (To_replace old new)) filled chosen = absurd (chosen (Makes (Some old) new) refl)
+remembered_none None (Some (To_remove old)) filled chosen = absurd (chosen (Removes old) refl)
 
-  -- the pair that a word names is in the log
-  abbrev pub IsNamed : ℕ → Type 0
-  IsNamed word = (p : Stored K V) × (pair_of s (number_of word) ≡ Some p)
+-- a machine that stands on nothing else remembers nothing
+pub remembers_nothing : (m : Call_machine) → ((said : Said) → StandsOn m said → IsYetToMake said) → m.remembered ≡ nothing
+remembers_nothing m only = remembered_none m.remembered.fill m.remembered.choice (λ said e. only said (inr (inl e))) (λ said e. only said (inr (inr e)))
 
-  -- where a compute is that has not called its closure, and has changed nothing
-  abbrev pub IsUnasked : State → Type 0
-  IsUnasked AtRoot = Unit {0}
-  IsUnasked (Searching (Sizing t)) = (t ≡ s.words.root) × ((table : TableWords) × (table_of s.words.tables t ≡ Some table))
-  IsUnasked (Searching (Looking at)) = IsPast hash s.words at
-  IsUnasked (Searching (Comparing at word)) = IsPast hash s.words at × (kind_of word ≡ kinds.Live)
-  IsUnasked (Offering gap) = IsGapThere gap
-  IsUnasked (Showing removal) = IsSlotThere s.words.tables removal.place × IsNamed removal.word
-  IsUnasked (Leaving t) = IsFull hash s
-  IsUnasked Making = ⊥
-  IsUnasked (Opening t) = ⊥
-  IsUnasked (Writing write) = ⊥
-  IsUnasked (Pairing purpose) = ⊥
-  IsUnasked (Putting put) = ⊥
-  IsUnasked (Burying removal) = ⊥
-  IsUnasked (Counting n) = ⊥
-  IsUnasked (Uncounting n) = ⊥
-  IsUnasked (Growing t) = ⊥
-  IsUnasked (Ended reply) = ⊥
+-- only a pair whose key's byte matches is compared, and it is Live or was copied
+abbrev IsCompared : Kind → Type 0
+IsCompared kinds.Live = Unit {0}
+IsCompared kinds.Copied = Unit {0}
+IsCompared _ = ⊥
 
-  -- what it has at hand for the pair that it is to make
-  abbrev pub IsAtHand : Made → List K → KeyOf K → Type 0
-  IsAtHand Nothing keys key = ((k : K) × (key ≡ Own k)) × (keys ≡ s.keys)
-  IsAtHand Key keys key = (n : ℕ) × (k : K) × (key ≡ Logged n) × (slice_get keys n ≡ Some k)
-  IsAtHand (Pair n) keys key = ⊥
+-- a compute whose closure was not called is in the table of this number
+abbrev pub IsInRoot : ℕ → State → Type 0
+IsInRoot root AtRoot = Unit {0}
+IsInRoot root (Searching (Sizing t)) = t ≡ root
+IsInRoot root (Searching (Looking place)) = place.table ≡ root
+IsInRoot root (Searching (Comparing place word)) = (place.table ≡ root) × IsCompared (kind_of word)
+IsInRoot root (Leaving t) = t ≡ root
+IsInRoot root (Offering gap) = Unit {0}
+IsInRoot root (Showing removal) = Unit {0}
+IsInRoot root _ = ⊥
 
-  module _ (v : V) (now : StoreState K V S) where
-    -- the pair of this number was made of the value
-    abbrev pub IsPaired : ℕ → Type 0
-    IsPaired n = (p : Stored K V) × (pair_of now n ≡ Some p) × (p.value ≡ v)
+-- what its search saw there
+abbrev IsSeenIn : ℕ → Seen → Type 0
+IsSeenIn root (seen.On (Sizing t)) = t ≡ root
+IsSeenIn root (seen.On (Looking place)) = place.table ≡ root
+IsSeenIn root (seen.On (Comparing place word)) = (place.table ≡ root) × IsCompared (kind_of word)
+IsSeenIn root (seen.Empty place) = Unit {0}
+IsSeenIn root (seen.Here place word) = kind_of word ≡ kinds.Live
+IsSeenIn root (seen.Over t) = t ≡ root
 
-    -- and is remembered, since it fills a gap
-    abbrev pub IsFilling : Remembered → Type 0
-    IsFilling held = (n : ℕ) × (held.fill ≡ Some n) × IsPaired n
+module _ (root : ℕ) where
+  on_in : (place : Place) → place.table ≡ root → IsSeenIn root (go_on place)
+  on_in place there = cond_both (nat_lt place.probe.len place.limit) (seen.On (Looking (next_place place))) (seen.Over place.table) (IsSeenIn root) (λ _. there) (λ _. there)
 
-    -- what it ends with
-    abbrev pub IsInserted : Reply → Type 0
-    IsInserted (Inserted n) = IsPaired n
-    IsInserted (Replaced m n) = IsPaired n
-    IsInserted (Reply_refused refused) = IsWriteCause hash s refused
-    IsInserted Absent = ⊥
-    IsInserted (Found n) = ⊥
-    IsInserted (Occupied n) = ⊥
-    IsInserted (Removed n) = ⊥
-    IsInserted (Kept n) = ⊥
-    IsInserted (Aborted t) = ⊥
+  byte_in : (place : Place) (hash word : ℕ) → place.table ≡ root → IsCompared (kind_of word) → IsSeenIn root (compare_byte place hash word)
+  byte_in place hash word there kind = cond_both (byte_of word == top_byte hash) (seen.On (Comparing place word)) (go_on place) (IsSeenIn root) (λ _. (there, kind)) (λ _. on_in place there)
 
-    -- where a compute is whose closure answered this value
-    abbrev pub IsInserting : KeyOf K → Option V → Made → Remembered → State → Type 0
-    IsInserting key left made held (Pairing purpose) = (now.words ≡ s.words) × (now.pairs ≡ s.pairs) × IsAtHand made now.keys key × (left ≡ Some v) × IsPurposeThere purpose
-    IsInserting key left made held Making = (now.words ≡ s.words) × IsFilling held
-    IsInserting key left made held (Opening t) = IsBlank now.words.tables t × IsFilling held
-    IsInserting key left made held (Searching (Sizing t)) = IsBlank now.words.tables t × IsFilling held
-    IsInserting key left made held (Searching (Looking at)) = IsFirst now.words.tables at × IsFilling held
-    IsInserting key left made held (Searching (Comparing at word)) = ⊥
-    IsInserting key left made held (Putting put) = IsSlotThere now.words.tables put.write.place × IsPaired put.pair
-    IsInserting key left made held (Counting n) = IsPaired n
-    IsInserting key left made held (Growing t) = IsFull hash s
-    IsInserting key left made held (Ended reply) = IsInserted reply
-    IsInserting key left made held AtRoot = ⊥
-    IsInserting key left made held (Writing write) = ⊥
-    IsInserting key left made held (Offering gap) = ⊥
-    IsInserting key left made held (Showing removal) = ⊥
-    IsInserting key left made held (Burying removal) = ⊥
-    IsInserting key left made held (Uncounting n) = ⊥
-    IsInserting key left made held (Leaving t) = ⊥
+  -- a word that is not being copied
+  look_in : (kind : Kind) (place : Place) (hash word : ℕ) → kind_of word ≡ kind → (kind ≡ kinds.Marked → ⊥) → place.table ≡ root → IsSeenIn root (look_at kind place hash word)
+  look_in kinds.Empty place hash word is unmarked there = tt
+  look_in kinds.Buried place hash word is unmarked there = on_in place there
+  look_in kinds.Closed place hash word is unmarked there = on_in place there
+  look_in kinds.Live place hash word is unmarked there = byte_in place hash word there (subst IsCompared (sym is) tt)
+  look_in kinds.Copied place hash word is unmarked there = byte_in place hash word there (subst IsCompared (sym is) tt)
+  look_in kinds.Marked place hash word is unmarked there = absurd (unmarked refl)
 
-  -- what one ends with whose closure would remove
-  abbrev pub IsRemovedSo : Reply → Type 0
-  IsRemovedSo (Removed n) = Unit {0}
-  IsRemovedSo (Reply_refused refused) = refused ≡ RemoveNothing
-  IsRemovedSo (Inserted n) = ⊥
-  IsRemovedSo (Replaced m n) = ⊥
-  IsRemovedSo Absent = ⊥
-  IsRemovedSo (Found n) = ⊥
-  IsRemovedSo (Occupied n) = ⊥
-  IsRemovedSo (Kept n) = ⊥
-  IsRemovedSo (Aborted t) = ⊥
+  -- one whose key was compared
+  match_in : (kind : Kind) (place : Place) (word : ℕ) → kind_of word ≡ kind → IsCompared kind → place.table ≡ root → IsSeenIn root (match_at kind place word)
+  match_in kinds.Live place word is compared there = is
+  match_in kinds.Copied place word is compared there = there
+  match_in kind place word is compared there = absurd compared
 
-  -- and where it is
-  abbrev pub IsRemoving : StoreState K V S → State → Type 0
-  IsRemoving now (Burying removal) = IsSlotThere now.words.tables removal.place
-  IsRemoving now (Uncounting n) = Unit {0}
-  IsRemoving now (Ended reply) = IsRemovedSo reply
-  IsRemoving now AtRoot = ⊥
-  IsRemoving now Making = ⊥
-  IsRemoving now (Opening t) = ⊥
-  IsRemoving now (Searching search) = ⊥
-  IsRemoving now (Writing write) = ⊥
-  IsRemoving now (Offering gap) = ⊥
-  IsRemoving now (Showing removal) = ⊥
-  IsRemoving now (Pairing purpose) = ⊥
-  IsRemoving now (Putting put) = ⊥
-  IsRemoving now (Counting n) = ⊥
-  IsRemoving now (Leaving t) = ⊥
-  IsRemoving now (Growing t) = ⊥
+  compared_in : (place : Place) (word : ℕ) (alike : Bool) → place.table ≡ root → IsCompared (kind_of word) → IsSeenIn root (search_compared (Comparing place word) alike)
+  compared_in place word true there compared = match_in (kind_of word) place word refl compared there
+  compared_in place word false there compared = on_in place there
 
-  -- one whose closure ended it replies so
-  abbrev pub IsAbortedSo : Reply → Type 0
-  IsAbortedSo (Aborted t) = Unit {0}
-  IsAbortedSo (Reply_refused refused) = ⊥
-  IsAbortedSo (Inserted n) = ⊥
-  IsAbortedSo (Replaced m n) = ⊥
-  IsAbortedSo Absent = ⊥
-  IsAbortedSo (Found n) = ⊥
-  IsAbortedSo (Occupied n) = ⊥
-  IsAbortedSo (Removed n) = ⊥
-  IsAbortedSo (Kept n) = ⊥
+  -- and where that leads
+  goes_in : (mode : ResizeMode) (saw : Seen) → IsSeenIn root saw → IsInRoot root (goes_as Compute mode nothing saw)
+  goes_in mode (seen.On (Sizing t)) there = there
+  goes_in mode (seen.On (Looking place)) there = there
+  goes_in mode (seen.On (Comparing place word)) there = there
+  goes_in mode (seen.Empty place) there = tt
+  goes_in mode (seen.Here place word) live = subst (λ kind. IsInRoot root (computes kind nothing place word)) (sym live) tt
+  goes_in (Incremental chunk) (seen.Over t) there = there
+  goes_in Blocking (seen.Over t) there = tt
 
-  abbrev pub IsAborting : State → Type 0
-  IsAborting (Ended reply) = IsAbortedSo reply
-  IsAborting AtRoot = ⊥
-  IsAborting Making = ⊥
-  IsAborting (Opening t) = ⊥
-  IsAborting (Searching search) = ⊥
-  IsAborting (Writing write) = ⊥
-  IsAborting (Offering gap) = ⊥
-  IsAborting (Showing removal) = ⊥
-  IsAborting (Pairing purpose) = ⊥
-  IsAborting (Putting put) = ⊥
-  IsAborting (Burying removal) = ⊥
-  IsAborting (Counting n) = ⊥
-  IsAborting (Uncounting n) = ⊥
-  IsAborting (Leaving t) = ⊥
-  IsAborting (Growing t) = ⊥
+-- the next table of the root
+next_word : (o : Option TableWords) → word_in (λ (t : TableWords). t.next) o ≡ next_in o
+next_word None = refl
+next_word (Some t) = refl
 
-  -- where a compute is whose closure was called and answered so
-  abbrev pub IsAsked : {T : Type 0} → Operation V T → StoreState K V S → KeyOf K → Option V → Made → Remembered → State → Type 0
-  IsAsked (ops.Insert v) now key left made held state = IsInserting v now key left made held state
-  IsAsked ops.Remove now key left made held state = IsRemoving now state
-  IsAsked (ops.Abort t) now key left made held state = IsAborting state
+module _ {K V S : Type 0} (eq : K → K → Bool) (hash : K → ℕ) (mode : ResizeMode) (store : StoreState K V S) (keys : IsLawfulKeys eq hash) {initial : ℕ} (lawful : IsLawfulMap eq hash store mode initial) (last : next_of store ≡ 0) where
+  pub last_next : word_at store.words (Next store.words.root) ≡ 0
+  last_next = next_word (table_of store.words.tables store.words.root) ∙ last
 
-  -- what it ends with
-  abbrev pub IsEnd : {T : Type 0} → Operation V T → StoreState K V S → Reply → Type 0
-  IsEnd (ops.Insert v) now reply = IsInserted v now reply
-  IsEnd ops.Remove now reply = IsRemovedSo reply
-  IsEnd (ops.Abort t) now reply = IsAbortedSo reply
+  -- where no pairs are being moved, no word of the root is Marked
+  pub root_unmarked : (i : ℕ) → kind_of (word_at store.words (Slot store.words.root i)) ≡ kinds.Marked → ⊥
+  root_unmarked i marked =
+      let root = store.words.root in
+      let kept = lawful.lawful.law.1.1 in
+      let now = run lawful.lawful.law.0 start in
+      let word : IsOfKind kinds.Marked (now.slot root i) =
+      subst (λ kind. IsOfKind kind (now.slot root i)) (ap kind_of (kept.coded (Slot root i)) ∙ marked) (word_of_kind (setting_of eq (low hash) mode store.words.tables) (coding_of (low hash)) (now.slot root i)) in
+      let hashed = tables_hashed {V = V} eq hash keys mode store.words.tables lawful.lawful.core.sizes in
+      let further : 0 < now.next root = (sound (setting_of {V = V} eq (low hash) mode store.words.tables) hashed.lawful lawful.lawful.law.0 kept.allowed).further root i (ap shut word.1) in
+      let none : now.next root ≡ 0 = kept.coded (Next root) ∙ last_next in
+      absurd (omega (arith, further, none))
 
-  -- what a search of the root saw
-  abbrev pub IsSight : Seen → Type 0
-  IsSight (seen.On (Sizing t)) = ⊥
-  IsSight (seen.On (Looking at)) = IsPast hash s.words at
-  IsSight (seen.On (Comparing at word)) = IsPast hash s.words at × (kind_of word ≡ kinds.Live)
-  IsSight (seen.Empty at) = IsSlotThere s.words.tables at
-  IsSight (seen.Here at word) = (kind_of word ≡ kinds.Live) × IsSlotThere s.words.tables at × IsNamed word
-  IsSight (seen.Over t) = IsFull hash s
+-- a compute that goes on for itself and remembers nothing
+abbrev pub bare_at : Machine → State → Machine
+bare_at m state = record { call = record m.call { task = Compute; remembered = nothing; state = state }; helped = m.helped; phase = Calling }
 
-  -- a place that is filled
-  go_on_sight : (at : Place) → IsPast hash s.words at → (word_at s.words (Slot at.table at.probe.i) ≡ 0 → ⊥) → IsSight (go_on at)
-  go_on_sight at past filled = gone_past hash s IsSight at past filled (λ next. next) (λ full. full)
+pub bare_is : (m : Machine) (state : State) → m.call.task ≡ Compute → m.call.remembered ≡ nothing → m.phase ≡ Calling → m.call.state ≡ state → m ≡ bare_at m state
+bare_is m state task held phase is =
+    ap (λ p. record m { phase = p }) phase
+    ∙ ap (λ t. record { call = record m.call { task = t }; helped = m.helped; phase = Calling }) task
+    ∙ ap (λ h. record { call = record m.call { task = Compute; remembered = h }; helped = m.helped; phase = Calling }) held
+    ∙ ap (λ x. record { call = record m.call { task = Compute; remembered = nothing; state = x }; helped = m.helped; phase = Calling }) is
 
-  -- a place whose word is of this kind
-  pub look_sight : (kind : Kind) (at : Place) → IsPast hash s.words at → IsWithin at → IsOpen kind → kind_of (word_at s.words (Slot at.table at.probe.i)) ≡ kind → IsSight (look_at kind at hash (word_at s.words (Slot at.table at.probe.i)))
-  look_sight kinds.Empty at past within plain e = slot_there hash s at past within
-  look_sight kinds.Live at past within plain e =
-      cond_both (byte_of (word_at s.words (Slot at.table at.probe.i)) == top_byte hash) (seen.On (Comparing at (word_at s.words (Slot at.table at.probe.i)))) (go_on at) IsSight
-      (λ _. (past, e))
-      (λ _. go_on_sight at past (not_zero (word_at s.words (Slot at.table at.probe.i)) (λ f. cc)))
-  look_sight kinds.Marked at past within plain e = absurd plain
-  look_sight kinds.Copied at past within plain e = absurd plain
-  look_sight kinds.Buried at past within plain e = go_on_sight at past (not_zero (word_at s.words (Slot at.table at.probe.i)) (λ f. cc))
-  look_sight kinds.Closed at past within plain e = go_on_sight at past (not_zero (word_at s.words (Slot at.table at.probe.i)) (λ f. cc))
+module _ {K V S A : Type 0} (eq : K → K → Bool) (says : Says K V A) (hash : S → K → ℕ) (store : StoreState K V S) (r : Running K V A) (store' : StoreState K V S) (later : Running K V A) where
+  module _ (m : Machine) (last : word_at store.words (Next store.words.root) ≡ 0) (unmarked : (i : ℕ) → kind_of (word_at store.words (Slot store.words.root i)) ≡ kinds.Marked → ⊥) where
+    -- it is in the root after an answer
+    abbrev IsIn : State → Answer → Type 0
+    IsIn state answer = ((after (bare_at m state) answer).phase ≡ Calling) × IsInRoot store.words.root (after (bare_at m state) answer).call.state
 
-  -- a pair whose key was compared
-  pub compared_sight : (eq : K → K → Bool) (k : K) (at : Place) (word : ℕ) → IsPast hash s.words at → IsWithin at → word_at s.words (Slot at.table at.probe.i) ≡ word → kind_of word ≡ kinds.Live → (o : Option (Stored K V)) → pair_of s (number_of word) ≡ o → IsSight (search_compared (Comparing at word) (same_stored eq k o))
-  compared_sight eq k at word past within read live None is = go_on_sight at past (not_zero (word_at s.words (Slot at.table at.probe.i)) (λ f. let g : kind_of word ≡ kinds.Empty = sym (ap kind_of read) ∙ f in cc))
-  compared_sight eq k at word past within read live (Some p) is = by_key (eq k p.key)
-    where
-      by_key : (b : Bool) → IsSight (search_compared (Comparing at word) b)
-      by_key true = subst (λ kind. IsSight (match_at kind at word)) (sym live) (live, slot_there hash s at past within, (p, is))
-      by_key false = go_on_sight at past (not_zero (word_at s.words (Slot at.table at.probe.i)) (λ f. let g : kind_of word ≡ kinds.Empty = sym (ap kind_of read) ∙ f in cc))
+    sized_in : (t : ℕ) (o : Option TableWords) → t ≡ store.words.root → IsIn (Searching (Sizing t)) (answers.Call (size_of o))
+    sized_in t None there = (refl, there)
+    sized_in t (Some table) there = (refl, there)
 
-  passes_unasked : (mode : ResizeMode) (t : ℕ) → IsFull hash s → IsUnasked (passes Compute mode None t)
-  passes_unasked (Incremental chunk) t full = full
-  passes_unasked Blocking t full = full
+    -- and nothing was changed
+    pub root_stays : (state : State) (answer : Answer) → IsInRoot store.words.root state → (ask_of (bare_at m state) ≡ asked.Call ShowNone → ⊥) → ((n : ℕ) → ask_of (bare_at m state) ≡ asked.Call (ShowPair n) → ⊥) → PerformsAsk eq says hash false (ask_of (bare_at m state)) store r answer store' later → (store' ≡ store) × IsIn state answer
+    root_stays AtRoot answer there no_none no_pair (told, is, (e, (same, stays))) =
+        let root = store.words.root in
+        (same, subst (IsIn AtRoot) (sym (is ∙ ap answers.Call e)) (refl, cond_both (root == 0) (lacks None NoRoot) (Searching (Sizing root)) (IsInRoot root) (λ _. tt) (λ _. refl)))
+    root_stays (Searching (Sizing t)) answer there no_none no_pair (told, is, (e, (same, stays))) = (same, subst (IsIn (Searching (Sizing t))) (sym (is ∙ ap answers.Call e)) (sized_in t (table_of store.words.tables t) there))
+    root_stays (Searching (Looking place)) answer there no_none no_pair (told, is, (e, (same, stays))) =
+        let word : ℕ = word_at store.words (Slot place.table place.probe.i) in
+        let open_still : kind_of word ≡ kinds.Marked → ⊥ = subst (λ t. kind_of (word_at store.words (Slot t place.probe.i)) ≡ kinds.Marked → ⊥) (sym there) (unmarked place.probe.i) in
+        (same, subst (IsIn (Searching (Looking place))) (sym (is ∙ ap answers.Call e)) (refl, goes_in store.words.root m.call.mode (look place m.call.hash word) (look_in store.words.root (kind_of word) place m.call.hash word refl open_still there)))
+    root_stays (Searching (Comparing place word)) answer (there, compared) no_none no_pair (told, is, (e, (same, stays))) =
+        let alike : Bool = compares eq (own_key store r) (pair_of store (number_of word)) in
+        (same, subst (IsIn (Searching (Comparing place word))) (sym (is ∙ ap answers.Call e)) (refl, goes_in store.words.root m.call.mode (search_compared (Comparing place word) alike) (compared_in store.words.root place word alike there compared)))
+    root_stays (Leaving t) answer there no_none no_pair (told, is, (e, (same, stays))) =
+        (same, subst (IsIn (Leaving t)) (sym (is ∙ ap answers.Call e ∙ ap (λ n. answers.Call (Word_read (word_at store.words (Next n)))) there ∙ ap (λ n. answers.Call (Word_read n)) last)) (refl, tt))
+    root_stays (Offering gap) answer there no_none no_pair performs = absurd (no_none refl)
+    root_stays (Showing removal) answer there no_none no_pair performs = absurd (no_pair (number_of removal.word) refl)
+    root_stays state answer there no_none no_pair performs = absurd there
 
-  -- where a search leads a compute that remembers nothing
-  pub goes_unasked : (mode : ResizeMode) (sight : Seen) → IsSight sight → IsUnasked (goes_as Compute mode nothing sight)
-  goes_unasked mode (seen.On (Sizing t)) is = absurd is
-  goes_unasked mode (seen.On (Looking at)) is = is
-  goes_unasked mode (seen.On (Comparing at word)) is = is
-  goes_unasked mode (seen.Empty at) is = is
-  goes_unasked mode (seen.Here at word) (live, there, named) = subst (λ kind. IsUnasked (computes kind nothing at word)) (sym live) (there, named)
-  goes_unasked mode (seen.Over t) is = passes_unasked mode t is
+-- shown a pair, its closure answered a value: the pair that is made of it takes the place of that one
+abbrev pub IsReplacing : State → Type 0
+IsReplacing (Pairing (Replace write)) = 0 < write.old
+IsReplacing (Putting put) = 0 < put.write.old
+IsReplacing (Ended reply) = Unit {0}
+IsReplacing _ = ⊥
 
-  -- it has not replied
-  pub unasked_goes_on : (made : Made) (h : ℕ) (state : State) (reply : Reply) → IsUnasked state → asks made h state ≡ Ask_done reply → ⊥
-  unasked_goes_on made h AtRoot reply stage e = absurd cc
-  unasked_goes_on made h (Searching (Sizing t)) reply stage e = absurd cc
-  unasked_goes_on made h (Searching (Looking at)) reply stage e = absurd cc
-  unasked_goes_on made h (Searching (Comparing at word)) reply stage e = absurd cc
-  unasked_goes_on made h (Offering gap) reply stage e = absurd cc
-  unasked_goes_on made h (Showing removal) reply stage e = absurd cc
-  unasked_goes_on made h (Leaving t) reply stage e = absurd cc
-  unasked_goes_on made h Making reply stage e = stage
-  unasked_goes_on made h (Opening t) reply stage e = stage
-  unasked_goes_on made h (Writing write) reply stage e = stage
-  unasked_goes_on made h (Pairing purpose) reply stage e = stage
-  unasked_goes_on made h (Putting put) reply stage e = stage
-  unasked_goes_on made h (Burying removal) reply stage e = stage
-  unasked_goes_on made h (Counting n) reply stage e = stage
-  unasked_goes_on made h (Uncounting n) reply stage e = stage
-  unasked_goes_on made h (Growing t) reply stage e = stage
-  unasked_goes_on made h (Ended told) reply stage e = stage
+-- or it would have that one removed
+abbrev pub IsRemoving : State → Type 0
+IsRemoving (Burying removal) = Unit {0}
+IsRemoving (Uncounting n) = Unit {0}
+IsRemoving (Ended (Removed n)) = Unit {0}
+IsRemoving _ = ⊥
+
+-- such a call was not set aside
+pub replacing_stands : (state : State) → IsReplacing state → (t : ℕ) → left_by state ≡ Some t → ⊥
+replacing_stands (Leaving u) there t e = there
+replacing_stands (Growing need) there t e = there
+replacing_stands state there t e = absurd cc
+
+pub removing_stands : (state : State) → IsRemoving state → (t : ℕ) → left_by state ≡ Some t → ⊥
+removing_stands (Leaving u) there t e = there
+removing_stands (Growing need) there t e = there
+removing_stands state there t e = absurd cc
+
+module _ {K V S A : Type 0} (eq : K → K → Bool) (says : Says K V A) (store : StoreState K V S) (r : Running K V A) (store' : StoreState K V S) (later : Running K V A) (m : Call_machine) where
+  -- the call of a compute in a state
+  abbrev pub compute_at : Made → State → Call_machine
+  compute_at made state = record m { task = Compute; made = made; state = state }
+
+  -- the pair that is made of its value leads to the exchange
+  pairing_stays : (made : Made) (purpose : Purpose) (told : Call_answer) → IsReplacing (Pairing purpose) → IsReplacing (calls.after (compute_at made (Pairing purpose)) told).state
+  pairing_stays made (Fill gap) told there = absurd there
+  pairing_stays Nothing (Replace write) (Made_number n) there = there
+  pairing_stays Key (Replace write) (Made_number n) there = there
+  pairing_stays (Pair i) (Replace write) (Made_number n) there = there
+  pairing_stays made (Replace write) (Was_refused refused) there = tt
+  pairing_stays made (Replace write) told there = there
+
+  -- which isn't lost
+  pub replacing_stays : (made : Made) (state : State) (told : Call_answer) → IsReplacing state → IsRead (word_at store.words) state → Performs eq says false (asks made m.hash state) store r told store' later → IsReplacing (calls.after (compute_at made state) told).state
+  replacing_stays made (Pairing purpose) told there read performs = pairing_stays made purpose told there
+  replacing_stays made (Putting put) told there read (exchanges, stays) =
+      let done = exchange_done _ _ (word_at store.words (Slot put.write.place.table put.write.place.probe.i)) put.write.old read exchanges in
+      subst (λ a. IsReplacing (calls.after (compute_at made (Putting put)) a).state) (sym done.0)
+      (cond_both (put.write.old == 0) (Counting put.pair) (Ended _) IsReplacing (λ none. let zero : put.write.old ≡ 0 = eqb-true put.write.old 0 none in let some : 0 < put.write.old = there in absurd (omega (arith, zero, some))) (λ _. tt))
+  replacing_stays made (Ended reply) told there read (e, (same, stays)) = subst (λ a. IsReplacing (calls.after (compute_at made (Ended reply)) a).state) (sym e) tt
+  replacing_stays made state told there read performs = absurd there
+
+  -- nor is that of a burial
+  pub removing_stays : (made : Made) (state : State) (told : Call_answer) → IsRemoving state → IsRead (word_at store.words) state → Performs eq says false (asks made m.hash state) store r told store' later → IsRemoving (calls.after (compute_at made state) told).state
+  removing_stays made (Burying removal) told there read (exchanges, stays) =
+      let done = exchange_done _ _ (word_at store.words (Slot removal.place.table removal.place.probe.i)) removal.word read exchanges in
+      subst (λ a. IsRemoving (calls.after (compute_at made (Burying removal)) a).state) (sym done.0) tt
+  removing_stays made (Uncounting n) told there read (e, added, stays) = subst (λ a. IsRemoving (calls.after (compute_at made (Uncounting n)) a).state) (sym e) tt
+  removing_stays made (Ended reply) told there read (e, (same, stays)) = subst (λ a. IsRemoving (calls.after (compute_at made (Ended reply)) a).state) (sym e) there
+  removing_stays made state told there read performs = absurd there

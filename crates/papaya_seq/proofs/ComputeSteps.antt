@@ -1,334 +1,373 @@
 -- A compute of a map for one caller, over one answer that is not its closure's.
-use Rattle.std.proofs.Common.{◌≡◌, ℕ, ◌+◌, ◌<◌, ◌≤◌, ◌++◌, ◌∷◌, [], ◌==◌, Bool, false, Option, None, Some, List, length, slice_get, inl, inr, refl, sym, ◌∙◌, ap, subst, arith, eq-eqb}
-use Rattle.std.proofs.lemmas.Bool.{cond_both}
+use Rattle.std.proofs.Common.{◌≡◌, ◌⊎◌, inl, inr, ⊎_elim, ℕ, ◌+◌, ◌^◌, ◌<◌, ◌++◌, ◌∷◌, [], Bool, false, Option, None, Some, List, length, slice_get, refl, sym, ◌∙◌, ap, subst, arith}
 use Rattle.std.proofs.lemmas.Option.{slice_get_read}
 use Rattle.std.proofs.lemmas.List.{get_or_push, length_push}
-use Rattle.papaya_words.specs.Table.{TableWords, new_table}
-use Rattle.papaya_words.specs.Word.{kind_of, pair_of as number_of}
-use Rattle.papaya_words.specs.declared.limits.TheConstants.{MAX_LOG_LEN, MAX_TABLES}
+use denote.Ref.{Bor}
+use Rattle.papaya_words.specs.Word.{kind_of}
+use Rattle.papaya_words.specs.declared.limits.TheConstants.{MAX_LOG_LEN}
 use Rattle.papaya_words.specs.declared.probe.Refused.{Refused}
-use Rattle.papaya_words.specs.declared.probe.Refused.TheVariants.{Memory, Capacity}
-use Rattle.papaya_words.specs.declared.probe.ResizeMode.{ResizeMode}
-use Rattle.papaya_call.specs.Answers.{Says}
-use Rattle.papaya_ask.specs.declared.ask.Ask.TheVariants.{ShowNone, ShowPair}
-use Rattle.papaya_ask.specs.declared.ask.Answer.{Answer}
-use Rattle.papaya_ask.specs.declared.ask.Answer.TheVariants.{Word as Word_read, Yes, Size, Refused as Was_refused}
-use Rattle.papaya_ask.specs.declared.ask.At.TheVariants.{Root, Slot}
-use Rattle.papaya_ask.specs.declared.call.Reply.TheVariants.{Replaced}
+use Rattle.papaya_words.specs.declared.word.Kind.TheVariants.{Marked}
+use Rattle.papaya_call.specs.Answers.{Says as Answers_say}
+use Rattle.papaya_call.specs.declared.answers.Operation.{Operation}
+use Rattle.papaya_call.specs.declared.answers.Operation.TheVariants as ops
+use Rattle.papaya_ask.specs.declared.ask.Answer.{Answer as Call_answer}
+use Rattle.papaya_ask.specs.declared.ask.Answer.TheVariants.{Made as Made_number}
+use Rattle.papaya_ask.specs.declared.ask.Ask.{Ask as Call_ask}
+use Rattle.papaya_ask.specs.declared.ask.Ask.TheVariants.{ShowNone, ShowPair, MakePair, Done as Ask_done}
+use Rattle.papaya_ask.specs.declared.ask.At.TheVariants.{Next, Slot}
+use Rattle.papaya_ask.specs.declared.call.Reply.{Reply}
+use Rattle.papaya_ask.specs.declared.call.Reply.TheVariants.{Inserted, Replaced, Removed, Aborted, Refused as Reply_refused}
 use Rattle.papaya_ask.specs.declared.call.Task.TheVariants.{Compute}
-use Rattle.papaya_call.specs.declared.compute.Gap.TheVariants.{NoRoot, At as At_place, After}
 use Rattle.papaya_call.specs.declared.compute.Purpose.{Purpose}
 use Rattle.papaya_call.specs.declared.compute.Purpose.TheVariants.{Fill, Replace}
-use Rattle.papaya_call.specs.declared.compute.Remembered.{Remembered}
-use Rattle.papaya_call.specs.declared.machine.Machine.{Machine}
-use Rattle.papaya_call.specs.declared.machine.State.{State}
-use Rattle.papaya_call.specs.declared.machine.State.TheVariants.{AtRoot, Making, Opening, Searching, Writing, Offering, Showing, Pairing, Putting, Burying, Counting, Uncounting, Leaving, Growing, Ended}
-use Rattle.papaya_chain.specs.declared.machine.Machine.{Machine as Chain_machine}
-use Rattle.papaya_ask.specs.declared.search.Place.{Place}
-use Rattle.papaya_ask.specs.declared.search.Search.TheVariants.{Sizing, Looking, Comparing}
-use Rattle.papaya_call.specs.declared.write.Made.{Made}
-use Rattle.papaya_call.specs.declared.write.Made.TheVariants.{Nothing, Key, Pair}
+use Rattle.papaya_call.specs.declared.machine.Machine.{Machine as Call_machine}
+use Rattle.papaya_call.specs.declared.machine.State.TheVariants.{Pairing}
+use Rattle.papaya_call.specs.Compute.{nothing}
+use Rattle.papaya_call.specs.Machine as calls
+use Rattle.papaya_call.specs.Machine.{IsComputer}
+use Rattle.papaya_alone.specs.Ahead.{IsPhaseRead}
+use Rattle.papaya_chain.specs.declared.ask.Ask.{Ask}
+use Rattle.papaya_chain.specs.declared.ask.Ask.TheVariants as asked
+use Rattle.papaya_chain.specs.declared.ask.Answer.{Answer}
+use Rattle.papaya_chain.specs.declared.ask.Answer.TheVariants as answers
+use Rattle.papaya_chain.specs.declared.machine.Machine.{Machine}
+use Rattle.papaya_chain.specs.declared.machine.Phase.TheVariants.{Calling}
+use Rattle.papaya_chain.specs.Machine.{IsFitAsk, IsStanding, after, ask_of, asks_in}
+use Rattle.papaya_chain_rests.specs.Goes.{Goes, IsOwnStep}
+use Rattle.papaya_chain_rests.specs.Rests.{left_by}
+use Rattle.papaya_chain_rests.proofs.Once.{chain_once}
 use Rattle.papaya_rests.specs.Alone.{IsRead}
-use Rattle.papaya_call.specs.Compute.{lacks, nothing, provides, with_pair}
-use Rattle.papaya_call.specs.Machine.{IsStandingState, after, asks, goes_as}
-use Rattle.papaya_ask.specs.Search.{IsSize, look, look_at, at_yes as search_compared}
-use Rattle.papaya_call.specs.Write.{new_word}
-use Rattle.papaya_rests.proofs.AloneSteps.{exchange_done}
-use Rattle.papaya_store.specs.declared.pairs.KeyOf.{KeyOf}
-use Rattle.papaya_store.specs.declared.pairs.KeyOf.TheVariants.{Own, Logged}
-use Rattle.papaya_store.specs.declared.pairs.Pair.{Pair as LoggedPair}
+use Rattle.papaya_rests.specs.Says.{Agrees, Inserts, IsSaidBy, Makes, Removes, Said, StandsOn, said_for, said_in, said_in_reply, said_of_compute, show}
+use Rattle.papaya_rests.proofs.SaysOver.{machine_paired}
+use Rattle.papaya_store.specs.Asks.{PerformsAsk}
+use Rattle.papaya_store.specs.Performs.{LogsPair, Performs, Refuses, key_at}
+use Rattle.papaya_store.specs.Store.{KeepsPairs, StoreState, Stored, pair_of, stored_at, stored_in}
+use Rattle.papaya_store.specs.Tables.{word_at}
 use Rattle.papaya_store.specs.declared.pairs.Running.{Running}
-use Rattle.papaya_store.specs.Performs.{Performs, Refuses, same_stored, size_of}
-use Rattle.papaya_store.specs.Store.{StoreState, pair_of, stored_at, stored_in}
-use Rattle.papaya_store.specs.Tables.{Tables, put, table_of, word_at}
-use Rattle.papaya_timeline.proofs.KeptTables.{index-zeros, made-there}
-use Rattle.papaya_seq.specs.Map.{IsWriteCause}
-use Rattle.papaya_seq.proofs.ComputeStages.{IsAborting, IsFilling, IsInserting, IsPaired, IsPurposeThere, IsRemoving, IsUnasked, compared_sight, goes_unasked, look_sight}
-use Rattle.papaya_seq.proofs.Past.{IsFirst, IsSlotThere, blank_word}
-use Rattle.papaya_seq.proofs.RemovalTurns.{IsFound}
-use Rattle.papaya_seq.proofs.Driving.{reply_in}
-use Rattle.papaya_seq.proofs.Steps.{IsAnswerable, words_of}
+use Rattle.papaya_timeline.specs.Advances.{reply_in}
+use Rattle.papaya_timeline.specs.Content.{map_in}
+use Rattle.papaya_timeline.specs.Kept.{IsLawfulCore}
+use Rattle.papaya_timeline.specs.Solo.{whatever}
+use Rattle.papaya_timeline.proofs.ChainLemmas.{asks_own, chain_aborted, made_own, own_asks}
+use Rattle.papaya_timeline.proofs.CoreLemmas.{reply_asked}
+use Rattle.papaya_timeline.proofs.KeptLemmas.{IsLawfulKeys}
+use Rattle.papaya_timeline.proofs.KeptStep as kept_steps
+use Rattle.papaya_timeline.proofs.StepTells.{at_hand}
+use Rattle.papaya_timeline.proofs.StoreLemmas.{performed_ask, unnumbered}
+use Rattle.papaya_seq.specs.Map.{IsLawfulMap, IsWriteCauseAt, MapState, next_of}
+use Rattle.papaya_seq.proofs.Answering.{IsShowing, answering_performs}
+use Rattle.papaya_seq.proofs.Causes.{IsLogRefusal, IsNoTableRefusal, IsTableAsk, IsUnlogged, refused_so, unlogged_more, write_cause}
+use Rattle.papaya_seq.proofs.ComputeRun.{HasPair, IsAsked, IsComputing, IsDoing, IsFirstEnd, IsInsertEnd, IsInsertSaid, IsInserting, IsOnWay, IsToRemove, IsWaiting, Went, ended_by, map_at}
+use Rattle.papaya_seq.proofs.ComputeShown.{asking, compute_of}
+use Rattle.papaya_seq.proofs.ComputeStages.{IsInRoot, IsRemoving, IsReplacing, IsYetToMake, bare_at, bare_is, last_next, remembers_nothing, removing_stands, removing_stays, replacing_stands, replacing_stays, root_stays, root_unmarked}
+use Rattle.papaya_seq.proofs.Steps.{HasCome, came_more, made_goes, made_more, made_nears, made_ordered, made_says, seated}
 
 -- the last of a list that was pushed to
 pushed_last : {X : Type 0} (xs : List X) (x : X) → slice_get (xs ++ x ∷ []) (length xs) ≡ Some x
 pushed_last xs x = slice_get_read (xs ++ x ∷ []) (length xs + 1) (length xs) x (sym (length_push xs x)) (omega arith) (sym (get_or_push xs x x (length xs) refl))
 
-module _ {K V S A : Type 0} (eq : K → K → Bool) (says : Says K V A) (s : StoreState K V S) (k : K) (hash : ℕ) (mode : ResizeMode) (initial : ℕ) (outer : Chain_machine) where
-  -- the machine of a compute
-  abbrev pub machine : Made → Remembered → State → Machine
-  machine made held state = record { task = Compute; hash = hash; mode = mode; initial = initial; made = made; remembered = held; state = state }
+-- what is made for a purpose is yet to be made
+pub purpose_said : (purpose : Purpose) → (shown : Option ℕ) × (said_for purpose ≡ Inserts shown)
+purpose_said (Fill gap) = (None, refl)
+purpose_said (Replace write) = (_, refl)
 
-  -- and its call
-  abbrev pub call_at : Made → Remembered → State → KeyOf K → Option V → Option A → Running K V A
-  call_at made held state key left answers = record { machine = record outer { call = machine made held state }; key = key; value = left; answers = answers }
+-- an ask that is none of a closure
+pub unshown : (ask : Call_ask) → (ask ≡ ShowNone → ⊥) → ((n : ℕ) → ask ≡ ShowPair n → ⊥) → IsShowing ask → ⊥
+unshown ShowNone no_none no_pair showing = no_none refl
+unshown (ShowPair n) no_none no_pair showing = no_pair n refl
+unshown ask no_none no_pair showing = showing
 
-  module _ (found : IsFound s) (left : Option V) (answers : Option A) where
-    -- the call before its closure was called
-    abbrev unasked : State → Running K V A
-    unasked state = call_at Nothing nothing state (Own k) left answers
+module _ {K V S A : Type 0} (eq : K → K → Bool) (hash : S → K → ℕ) (s : MapState K V S) (k : K) (says : Answers_say K V A)
+    (store : StoreState K V S) (r : Running K V A) (answer : Answer) (store' : StoreState K V S) (later : Running K V A)
+    (going : reply_in (ask_of r.machine) ≡ None) (no_none : ask_of r.machine ≡ asked.Call ShowNone → ⊥) (no_pair : (n : ℕ) → ask_of r.machine ≡ asked.Call (ShowPair n) → ⊥)
+    (performed : PerformsAsk eq says hash false (ask_of r.machine) store r answer store' later) (same : later.machine ≡ r.machine) where
+  -- whatever its closure answers
+  performs : PerformsAsk eq whatever hash false (ask_of r.machine) store (asking r) answer store' (asking later) × (later.answers ≡ r.answers)
+  performs = answering_performs eq says (Some tt) hash false (ask_of r.machine) store r answer store' later (λ own is. unshown own (λ e. no_none (is ∙ ap asked.Call e)) (λ n e. no_pair n (is ∙ ap asked.Call e))) performed
 
-    -- what is so after an answer: nothing was changed
-    pub record Goes (state : State) (store' : StoreState K V S) (later : Running K V A) (answer : Answer) : Type 0 where
-      pub store : store' ≡ s
-      pub call : later ≡ unasked state
-      pub made : (after (machine Nothing nothing state) answer).made ≡ Nothing
-      pub remembered : (after (machine Nothing nothing state) answer).remembered ≡ nothing
-      pub stage : IsUnasked hash s (after (machine Nothing nothing state) answer).state
+  -- the machine after the answer
+  abbrev next : Machine
+  next = after r.machine answer
 
-    goes_by : (state : State) (answer told : Answer) (store' : StoreState K V S) (later : Running K V A) → answer ≡ told → store' ≡ s → later ≡ unasked state → Goes state s (unasked state) told → Goes state store' later answer
-    goes_by state answer told store' later e same stays goes =
-        subst (λ a. Goes state store' later a) (sym e) (subst (λ (y : StoreState K V S). Goes state y later told) (sym same) (subst (λ (q : Running K V A). Goes state s q told) (sym stays) goes))
+  -- it was not asked for its reply
+  unreplied : (reply : Reply) → ask_of r.machine ≡ asked.Call (Ask_done reply) → ⊥
+  unreplied reply e = let f : None ≡ Some reply = sym going ∙ ap reply_in e in absurd cc
 
-    root_goes : Goes AtRoot s (unasked AtRoot) (Word_read s.words.root)
-    root_goes = record {
-      store = refl;
-      call = refl;
-      made = refl;
-      remembered = refl;
-      stage = cond_both (s.words.root == 0) (lacks None NoRoot) (Searching (Sizing s.words.root)) (IsUnasked hash s) (λ _. tt) (λ some. (refl, found.rooted (λ none. let zero = eq-eqb s.words.root 0 none in absurd cc)));
+  -- no closure is shown anything
+  not_shown : (shown : Option ℕ) → ask_of r.machine ≡ asked.Call (show shown) → ⊥
+  not_shown None e = no_none e
+  not_shown (Some n) e = no_pair n e
+
+  module _ (keys : IsLawfulKeys eq (hash s.store.hasher)) (came : HasCome eq hash s (compute_of k) store (asking r)) (un : IsUnlogged eq hash s (compute_of k) store (asking r)) where
+    -- the core is in order
+    lawful_now : IsLawfulCore eq (hash s.store.hasher) store (seated store (Some (asking r)) s.mode s.initial).callers s.mode
+    lawful_now = subst (λ h. IsLawfulCore eq (hash h) store (seated store (Some (asking r)) s.mode s.initial).callers s.mode) came.hasher (came.lone going).lawful
+
+    -- the logs keep their pairs
+    keeps : KeepsPairs store store'
+    keeps =
+        let (es, (tales, kept)) = lawful_now.law in
+        (kept_steps.left eq (hash s.store.hasher) keys whatever hash false (seated store (Some (asking r)) s.mode s.initial) 0 (seated store' (Some (asking r)) s.mode s.initial) (asking r) answer (asking later) refl performs.0 (ap hash came.hasher) refl es tales lawful_now.core kept).logged
+
+    goes : Goes r.machine answer
+    goes = made_goes eq hash s (compute_of k) store (asking r) answer store' (asking later) going performs.0 same keys came
+
+    -- a pair was made of the value
+    abbrev HasMade : Said → Type 0
+    HasMade said = (shown : Option ℕ) × (n : ℕ) × (said ≡ Makes shown n) × StandsOn r.machine.call (Inserts shown) × (ask_of r.machine ≡ asked.Call MakePair) × (answer ≡ answers.Call (Made_number n))
+
+    -- what it stands on it stood on, or a pair was made
+    said_now : (said : Said) → (own : IsOwnStep r.machine answer) → IsSaidBy r.machine.call own.told said → HasMade said
+    said_now (Agrees n agrees) own (asks_it, is) = absurd (no_pair n (asks_own r.machine own.phase ∙ ap asked.Call asks_it))
+    said_now (Inserts shown) own (asks_it, is) = absurd (not_shown shown (asks_own r.machine own.phase ∙ ap asked.Call asks_it))
+    said_now (Removes n) own (asks_it, is) = absurd (no_pair n (asks_own r.machine own.phase ∙ ap asked.Call asks_it))
+    said_now (Makes shown n) own (stands, asks_it, is) = (shown, n, refl, stands, asks_own r.machine own.phase ∙ ap asked.Call asks_it, own.is ∙ ap answers.Call is)
+
+    said_goes : (said : Said) → StandsOn next.call said → StandsOn r.machine.call said ⊎ HasMade said
+    said_goes said stands =
+        ⊎_elim
+        (λ before. inl before)
+        (λ (by : (own : IsOwnStep r.machine answer) × IsSaidBy r.machine.call own.told said). inr (said_now said by.0 by.1))
+        (made_says eq hash s (compute_of k) store (asking r) answer store' (asking later) going performs.0 same keys came said stands)
+
+    -- and of a value of which a pair was made none is yet to be made
+    unpaired : (n : ℕ) (shown : Option ℕ) → ask_of r.machine ≡ asked.Call MakePair → answer ≡ answers.Call (Made_number n) → StandsOn next.call (Inserts shown) → ⊥
+    unpaired n shown e is stands =
+        let standing = (lawful_now.core.standing 0 (asking r) refl).call in
+        let there : StandsOn (calls.after r.machine.call (Made_number n)) (Inserts shown) = subst (λ d. StandsOn d (Inserts shown)) (made_own r.machine n e) (subst (λ a. StandsOn (after r.machine a).call (Inserts shown)) is stands) in
+        ⊎_elim
+        (λ filled. ⊎_elim (λ f. absurd (cc f)) (λ kept. kept.2 shown refl) (filled.1 (Inserts shown) there))
+        (λ replaced. ⊎_elim (λ f. absurd (cc f)) (λ kept. absurd (cc kept.1)) (replaced.2 (Inserts shown) there))
+        (machine_paired r.machine.call n came.task standing came.shows (own_asks r.machine MakePair e).1)
+
+    -- the pair that was made has the value
+    pair_made : (v : V) (n : ℕ) → r.value ≡ Some v → ask_of r.machine ≡ asked.Call MakePair → answer ≡ answers.Call (Made_number n) → HasPair v store' n
+    pair_made v n has e is = by_told (subst (λ ask. PerformsAsk eq whatever hash false ask store (asking r) answer store' (asking later)) e performs.0)
+      where
+        logged : (told : Call_answer) → told ≡ Made_number n → LogsPair told store (asking r) store' (asking later) → HasPair v store' n
+        logged told made (m, w, key, value, e, few, stays, moved) =
+            let number : length store.pairs ≡ n = cc (e, made) in
+            let as_value : w ≡ v = cc (value, has) in
+            let there : slice_get store.keys m ≡ Some k = sym (ap (key_at store.keys) key) ∙ came.own in
+            let pushed : pair_of store' (length store.pairs) ≡ Some (record { number = length store.pairs; key = k; value = w }) =
+            ap (λ (y : StoreState K V S). pair_of y (length store.pairs)) stays ∙ ap (stored_in store.keys (length store.pairs)) (pushed_last store.pairs (record { key = m; value = w })) ∙ ap (stored_at (length store.pairs) w) there in
+            (record { number = length store.pairs; key = k; value = w }, sym (ap (pair_of store') number) ∙ pushed, as_value)
+
+        by_told : PerformsAsk eq whatever hash false (asked.Call MakePair) store (asking r) answer store' (asking later) → HasPair v store' n
+        by_told (told, also, inl (none, stays)) = absurd (unmade none (cc (also, is)))
+          where
+            unmade : Refuses MAX_LOG_LEN (length store.pairs) told → told ≡ Made_number n → ⊥
+            unmade (inl refused) made = absurd (cc (refused, made))
+            unmade (inr (refused, full)) made = absurd (cc (refused, made))
+        by_told (told, also, inr (inl ((done, has_none), stays))) = let made : told ≡ Made_number n = cc (also, is) in absurd (cc (done, made))
+        by_told (told, also, inr (inr logs)) = logged told (cc (also, is)) logs
+
+    -- its value stays at hand until then
+    value_kept : (shown : Option ℕ) → StandsOn next.call (Inserts shown) → later.value ≡ r.value
+    value_kept shown stands =
+        ⊎_elim
+        (λ kept. kept)
+        (λ z. ⊎_elim
+        (λ pair. absurd (unpaired pair.0 shown pair.1 pair.2 stands))
+        (λ showing. absurd (not_shown showing.0 showing.2))
+        z)
+        (at_hand eq whatever hash false store (asking r) answer store' (asking later) (ask_of r.machine) performs.0)
+
+    -- the call after the answer
+    abbrev then : Running K V A
+    then = record later { machine = next }
+
+    came_after : HasCome eq hash s (compute_of k) store' (asking then)
+    came_after = came_more eq hash s (compute_of k) store (asking r) answer store' (asking later) going performs.0 same keys came
+
+    -- where it has replied, it stands on what the reply stands on
+    told_stands : (reply : Reply) → reply_in (ask_of next) ≡ Some reply → (said : Said) → said_of_compute reply ≡ Some said → StandsOn next.call said
+    told_stands reply told said is = inl (ap (said_in next.call.task) (ended_by next reply told).1 ∙ ap (λ t. said_in_reply t reply) came_after.task ∙ is)
+
+    -- only a closure aborts
+    unaborted : (t : ℕ) → reply_in (ask_of next) ≡ Some (Aborted t) → ⊥
+    unaborted t told = let (shown, asks_it, is) = chain_aborted r.machine answer goes t unreplied (reply_asked (ask_of next) (Aborted t) told) in not_shown shown asks_it
+
+    -- why it is refused
+    refused_why : (IsComputer r.machine.call.task → (purpose : Purpose) → r.machine.call.state ≡ Pairing purpose → r.machine.call.remembered ≡ nothing) → (refused : Refused) → reply_in (ask_of next) ≡ Some (Reply_refused refused) → IsLogRefusal s refused ⊎ (IsTableAsk r.machine × IsNoTableRefusal (map_at s store') refused)
+    refused_why first refused told =
+        elim (refused_so eq hash s (compute_of k) store (asking r) answer store' (asking later) going performs.0 same keys came un first refused told) [
+          | inl log ↦ inl log
+          | inr (inl table) ↦ inr table
+          | inr (inr removes) ↦ absurd (no_none removes.1)
+        ]
+
+    -- the call went a step for itself where it was not set aside
+    own_step : ((t : ℕ) → left_by r.machine.call.state ≡ Some t → ⊥) → IsOwnStep r.machine answer
+    own_step stands = elim goes [
+      | inl waits ↦ absurd (stands waits.from waits.left)
+      | inr (inl own) ↦ own
+      | inr (inr (inl enters)) ↦ absurd (stands enters.from enters.left)
+      | inr (inr (inr (inl begins))) ↦ absurd (stands begins.from begins.left)
+      | inr (inr (inr (inr ends))) ↦ absurd (stands ends.from ends.left)
+    ]
+
+    -- and was answered what it asked
+    own_performs : (own : IsOwnStep r.machine answer) → Performs eq whatever false (calls.ask_of r.machine.call) store (asking r) own.told store' (asking later)
+    own_performs own =
+        let (told, also, h) = subst (λ phase. PerformsAsk eq whatever hash false (asks_in r.machine.call phase) store (asking r) answer store' (asking later)) own.phase performs.0 in
+        let as_told : told ≡ own.told = cc (also, own.is) in
+        subst (λ a. Performs eq whatever false (calls.ask_of r.machine.call) store (asking r) a store' (asking later)) as_told h
+
+    -- what it has read stands there
+    read_now : r.machine.phase ≡ Calling → IsRead (word_at store.words) r.machine.call.state
+    read_now phase = (subst (λ p. IsPhaseRead r.machine.call.mode (word_at store.words) r.machine.call.state p) phase (came.lone going).current).0
+
+    -- it is a compute
+    as_compute : (Holds : Call_machine → Type 0) → Holds (record r.machine.call { task = Compute }) → Holds r.machine.call
+    as_compute Holds = subst (λ t. Holds (record r.machine.call { task = t })) (sym came.task)
+
+    -- its closure answered a value, where it was shown a pair
+    replacing_more : (r.machine.phase ≡ Calling) × IsReplacing r.machine.call.state → (next.phase ≡ Calling) × IsReplacing next.call.state
+    replacing_more (phase, there) =
+        let own = own_step (replacing_stands r.machine.call.state there) in (
+          own.goes_on,
+          subst (λ (d : Call_machine). IsReplacing d.state) (sym own.call)
+              (as_compute (λ d. IsReplacing (calls.after d own.told).state) (replacing_stays eq whatever store (asking r) store' (asking later) r.machine.call r.machine.call.made r.machine.call.state own.told there (read_now phase) (own_performs own))),
+        )
+
+    -- or it would have the pair removed
+    removing_more : (r.machine.phase ≡ Calling) × IsRemoving r.machine.call.state → (next.phase ≡ Calling) × IsRemoving next.call.state
+    removing_more (phase, there) =
+        let own = own_step (removing_stands r.machine.call.state there) in (
+          own.goes_on,
+          subst (λ (d : Call_machine). IsRemoving d.state) (sym own.call)
+              (as_compute (λ d. IsRemoving (calls.after d own.told).state) (removing_stays eq whatever store (asking r) store' (asking later) r.machine.call r.machine.call.made r.machine.call.state own.told there (read_now phase) (own_performs own))),
+        )
+
+    module _ (held : Option (Stored K V)) (v : V) (now : IsInserting s held v store r) where
+      -- the value is at hand, or is the pair's
+      insert_said : (said : Said) → StandsOn next.call said → IsInsertSaid v store' then said
+      insert_said (Agrees n agrees) stands = ⊎_elim (λ before. now.said (Agrees n agrees) before) (λ (made : HasMade (Agrees n agrees)). absurd (cc made.2)) (said_goes (Agrees n agrees) stands)
+      insert_said (Removes n) stands = ⊎_elim (λ before. now.said (Removes n) before) (λ (made : HasMade (Removes n)). absurd (cc made.2)) (said_goes (Removes n) stands)
+      insert_said (Makes shown n) stands =
+          ⊎_elim
+          (λ before. let (p, logged, value) = now.said (Makes shown n) before in (p, keeps n p logged, value))
+          (λ (made : HasMade (Makes shown n)).
+          let (shown', n', is, before, e, told) = made in
+          let number : n' ≡ n = cc is in
+          subst (HasPair v store') number (pair_made v n' (now.said (Inserts shown') before).0 e told))
+          (said_goes (Makes shown n) stands)
+      insert_said (Inserts shown) stands =
+          ⊎_elim
+          (λ before.
+          let (value, only) = now.said (Inserts shown) before in
+          (value_kept shown stands ∙ value, λ other there. ⊎_elim (λ was. only other was) (λ (made : HasMade other). absurd (unpaired made.1 shown made.4 made.5 stands)) (said_goes other there)))
+          (λ (made : HasMade (Inserts shown)). absurd (cc made.2))
+          (said_goes (Inserts shown) stands)
+
+      -- a call that is to make a pair remembers none
+      insert_first : (purpose : Purpose) → r.machine.call.state ≡ Pairing purpose → r.machine.call.remembered ≡ nothing
+      insert_first purpose is =
+          let (shown, said) = purpose_said purpose in
+          let (value, only) = now.said (Inserts shown) (inl (ap (said_in r.machine.call.task) is ∙ ap Some said)) in
+          remembers_nothing r.machine.call (λ other stands. subst IsYetToMake (sym (only other stands)) tt)
+
+      -- it is refused for a cause
+      table_refused : (held' : Option (Stored K V)) → IsOnWay held' r.machine → IsTableAsk r.machine → (refused : Refused) → IsNoTableRefusal (map_at s store') refused → IsWriteCauseAt s held' refused (map_at s store')
+      table_refused None way table refused (inl memory) = inl memory
+      table_refused None way table refused (inr (capacity, none)) = inr (capacity, inr (inl refl, none))
+      table_refused (Some p) way table refused why = absurd (subst IsReplacing (table way.0) way.1)
+
+      insert_refused : (refused : Refused) → IsLogRefusal s refused ⊎ (IsTableAsk r.machine × IsNoTableRefusal (map_at s store') refused) → IsWriteCauseAt s held refused (map_at s store')
+      insert_refused refused (inl (inl memory)) = inl memory
+      insert_refused refused (inl (inr (capacity, full))) = inr (capacity, inl full)
+      insert_refused refused (inr (table, why)) = table_refused held now.way table refused why
+
+      insert_ends : (reply : Reply) → reply_in (ask_of next) ≡ Some reply → IsInsertEnd s held v store' reply
+      insert_ends (Inserted n) told = insert_said (Makes None n) (told_stands (Inserted n) told (Makes None n) refl)
+      insert_ends (Replaced m n) told = insert_said (Makes (Some m) n) (told_stands (Replaced m n) told (Makes (Some m) n) refl)
+      insert_ends (Removed n) told = insert_said (Removes n) (told_stands (Removed n) told (Removes n) refl)
+      insert_ends (Aborted t) told = unaborted t told
+      insert_ends (Reply_refused refused) told = insert_refused refused (refused_why (λ computes. insert_first) refused told)
+      insert_ends reply told = tt
+
+      insert_way : (held' : Option (Stored K V)) → IsOnWay held' r.machine → IsOnWay held' next
+      insert_way None way = (chain_once r.machine answer (made_ordered eq hash s (compute_of k) store (asking r) answer store' (asking later) going performs.0 same keys came) way).1
+      insert_way (Some p) way = replacing_more way
+
+      inserting_more : IsInserting s held v store' then
+      inserting_more = record { said = insert_said; ends = insert_ends; way = insert_way held now.way }
+
+    -- what holds where its closure answered stays so
+    asked_more : {T : Type 0} (held : Option (Stored K V)) (o : Operation V T) → IsAsked s held o store r → IsAsked s held o store' then
+    asked_more held (ops.Insert v) now = inserting_more held v now
+    asked_more held ops.Remove now = to_remove held now
+      where
+        to_remove : (held : Option (Stored K V)) → IsToRemove held r.machine → IsToRemove held next
+        to_remove None told = let f : None ≡ Some _ = sym going ∙ told in absurd cc
+        to_remove (Some p) there = removing_more there
+    asked_more held (ops.Abort t) told = let f : None ≡ Some (Aborted 0) = sym going ∙ told in absurd cc
+
+    module _ {F T : Type 0} (post : F → Option (Bor K × Bor V) → Operation V T → Type 0) (f : F) (closure : Option F) (shown : Option ℕ) (lawful : IsLawfulMap eq (hash s.store.hasher) s.store s.mode s.initial) (now : IsWaiting {T = T} eq hash s k post f store r closure shown) where
+      -- one whose closure was not called stands on nothing
+      wait_silent : (said : Said) → StandsOn next.call said → ⊥
+      wait_silent said stands = ⊎_elim (λ before. now.silent said before) (λ (made : HasMade said). now.silent (Inserts made.0) made.3) (said_goes said stands)
+
+      wait_nothing : r.machine.call.remembered ≡ nothing
+      wait_nothing = remembers_nothing r.machine.call (λ other stands. absurd (now.silent other stands))
+
+      -- and is in the root still
+      wait_rooted : next_of s.store ≡ 0 → (store' ≡ s.store) × (next.phase ≡ Calling) × IsInRoot store'.words.root next.call.state
+      wait_rooted zero =
+          let (store_is, phase, there) = now.rooted zero in
+          let is : r.machine ≡ bare_at r.machine r.machine.call.state = bare_is r.machine r.machine.call.state came.task wait_nothing phase refl in
+          let last = subst (λ (y : StoreState K V S). word_at y.words (Next y.words.root) ≡ 0) (sym store_is) (last_next eq (hash s.store.hasher) s.mode s.store keys lawful zero) in
+          let unmarked = subst (λ (y : StoreState K V S). (i : ℕ) → kind_of (word_at y.words (Slot y.words.root i)) ≡ Marked → ⊥) (sym store_is) (root_unmarked eq (hash s.store.hasher) s.mode s.store keys lawful zero) in
+          let (stays, (on, in_root)) = root_stays eq whatever hash store (asking r) store' (asking later) r.machine last unmarked r.machine.call.state answer there (λ e. no_none (ap ask_of is ∙ e)) (λ n e. no_pair n (ap ask_of is ∙ e)) (subst (λ (m : Machine). PerformsAsk eq whatever hash false (ask_of m) store (asking r) answer store' (asking later)) is performs.0) in (
+            stays ∙ store_is,
+            subst (λ (m : Machine). (after m answer).phase ≡ Calling) (sym is) on,
+            subst (λ (y : StoreState K V S). IsInRoot y.words.root next.call.state) (sym stays) (subst (λ (m : Machine). IsInRoot store.words.root (after m answer).call.state) (sym is) in_root),
+          )
+
+      wait_ends : (reply : Reply) → reply_in (ask_of next) ≡ Some reply → IsFirstEnd s store' reply
+      wait_ends (Inserted n) told = wait_silent (Makes None n) (told_stands (Inserted n) told (Makes None n) refl)
+      wait_ends (Replaced m n) told = wait_silent (Makes (Some m) n) (told_stands (Replaced m n) told (Makes (Some m) n) refl)
+      wait_ends (Removed n) told = wait_silent (Removes n) (told_stands (Removed n) told (Removes n) refl)
+      wait_ends (Aborted t) told = unaborted t told
+      wait_ends (Reply_refused refused) told = (
+        λ zero. subst (IsInRoot store'.words.root) (ended_by next (Reply_refused refused) told).1 (wait_rooted zero).2,
+        write_cause s refused r.machine (map_at s store') (refused_why (λ computes purpose is. wait_nothing) refused told),
+      )
+      wait_ends reply told = tt
+
+      waiting_more : IsWaiting {T = T} eq hash s k post f store' then closure shown
+      waiting_more = record { closure_is = now.closure_is; unshown = now.unshown; silent = wait_silent; ends = wait_ends; rooted = wait_rooted }
+
+  module _ {F T : Type 0} (post : F → Option (Bor K × Bor V) → Operation V T → Type 0) (f : F) (closure : Option F) (shown : Option ℕ) (aborted : Option T) (keys : IsLawfulKeys eq (hash s.store.hasher)) (lawful : IsLawfulMap eq (hash s.store.hasher) s.store s.mode s.initial) (fits : hash s.store.hasher k < 2 ^ 64) (now : IsComputing eq hash s k post f store r closure shown aborted) where
+    -- it goes on
+    computing_more : IsStanding next → IsComputing eq hash s k post f store' (record later { machine = next }) closure shown aborted
+    computing_more standing =
+        let came = now.steps keys lawful fits in
+        record {
+          steps = made_more eq hash s (compute_of k) store (asking r) answer store' (asking later) going performs.0 same now.steps;
+          silence = performs.1 ∙ now.silence;
+          standing = standing;
+          unlogged = unlogged_more eq hash s (compute_of k) store (asking r) answer store' (asking later) going performs.0 same keys came now.unlogged;
+          phase = ⊎_elim
+              (λ (waits : IsWaiting {T = T} eq hash s k post f store r closure shown). inl (waiting_more keys came now.unlogged post f closure shown lawful waits))
+              (λ (does : IsDoing eq hash s k post f store r shown aborted). inr (record { operation = does.operation; said = does.said; shown_is = does.shown_is; kept = does.kept; asked = asked_more keys came now.unlogged (map_in eq s.store k) does.operation does.asked }))
+              now.phase;
+        }
+
+    -- and comes nearer its end
+    pub computing_went : IsFitAsk (ask_of r.machine) → Went eq hash s k post f store r.machine answer store' later closure shown aborted
+    computing_went fit = record {
+      fit = (performed_ask eq hash says false (ask_of r.machine) store r answer store' later (unnumbered store.words.tables ((now.steps keys lawful fits).lone going).lawful.core.sizes) fit performed).fit;
+      same = same;
+      nears = made_nears eq hash s (compute_of k) store (asking r) answer store' (asking later) going performs.0 same now.steps keys lawful fits;
+      goes = computing_more;
     }
 
-    sizing_goes : (table : TableWords) → table_of s.words.tables s.words.root ≡ Some table → Goes (Searching (Sizing s.words.root)) s (unasked (Searching (Sizing s.words.root))) (Size (length table.slots) table.limit)
-    sizing_goes table there = record {
-      store = refl;
-      call = refl;
-      made = refl;
-      remembered = refl;
-      stage = record { table = table; root = refl; there = there; len = refl; limit = refl; place_is = refl; filled = λ j lt. absurd (omega arith) };
-    }
-
-    -- in each state
-    pub unasked_goes : (state : State) (answer : Answer) (store' : StoreState K V S) (later : Running K V A) → IsRead (words_of s) state → IsStandingState Compute state → IsUnasked hash s state → (asks Nothing hash state ≡ ShowNone → ⊥) → ((n : ℕ) → asks Nothing hash state ≡ ShowPair n → ⊥) → Performs eq says false (asks Nothing hash state) s (unasked state) answer store' later → Goes state store' later answer
-    unasked_goes AtRoot answer store' later read stands stage no_none no_pair (e, (same, stays)) = goes_by AtRoot answer _ store' later e same stays root_goes
-    unasked_goes (Searching (Sizing t)) answer store' later read stands (root, (table, there)) no_none no_pair (e, (same, stays)) =
-        goes_by (Searching (Sizing t)) answer (Size (length table.slots) table.limit) store' later (e ∙ ap size_of there) same stays
-        (subst (λ i. Goes (Searching (Sizing i)) s (unasked (Searching (Sizing i))) (Size (length table.slots) table.limit)) (sym root) (sizing_goes table (subst (λ i. table_of s.words.tables i ≡ Some table) root there)))
-    unasked_goes (Searching (Looking place)) answer store' later read stands past no_none no_pair (e, (same, stays)) =
-        let word : ℕ = word_at s.words (Slot place.table place.probe.i) in
-        goes_by (Searching (Looking place)) answer _ store' later e same stays (record {
-          store = refl;
-          call = refl;
-          made = refl;
-          remembered = refl;
-          stage = goes_unasked hash s mode (look place hash word) (look_sight hash s (kind_of word) place past stands (found.unshut place.table place.probe.i) refl);
-        })
-    unasked_goes (Searching (Comparing place word)) answer store' later read stands (past, live) no_none no_pair (e, (same, stays)) =
-        let alike : Bool = same_stored eq k (pair_of s (number_of word)) in
-        goes_by (Searching (Comparing place word)) answer (Yes alike) store' later e same stays (record {
-          store = refl;
-          call = refl;
-          made = refl;
-          remembered = refl;
-          stage = goes_unasked hash s mode (search_compared (Comparing place word) alike) (compared_sight hash s eq k place word past stands read live (pair_of s (number_of word)) refl);
-        })
-    unasked_goes (Leaving t) answer store' later read stands full no_none no_pair (e, (same, stays)) =
-        goes_by (Leaving t) answer (Word_read 0) store' later (e ∙ ap Word_read (found.single t)) same stays (record { store = refl; call = refl; made = refl; remembered = refl; stage = full })
-    unasked_goes (Offering gap) answer store' later read stands stage no_none no_pair performs = absurd (no_none refl)
-    unasked_goes (Showing removal) answer store' later read stands stage no_none no_pair performs = absurd (no_pair (number_of removal.word) refl)
-    unasked_goes Making answer store' later read stands stage no_none no_pair performs = absurd stage
-    unasked_goes (Opening t) answer store' later read stands stage no_none no_pair performs = absurd stage
-    unasked_goes (Writing write) answer store' later read stands stage no_none no_pair performs = absurd stage
-    unasked_goes (Pairing purpose) answer store' later read stands stage no_none no_pair performs = absurd stage
-    unasked_goes (Putting put) answer store' later read stands stage no_none no_pair performs = absurd stage
-    unasked_goes (Burying removal) answer store' later read stands stage no_none no_pair performs = absurd stage
-    unasked_goes (Counting n) answer store' later read stands stage no_none no_pair performs = absurd stage
-    unasked_goes (Uncounting n) answer store' later read stands stage no_none no_pair performs = absurd stage
-    unasked_goes (Growing t) answer store' later read stands stage no_none no_pair performs = absurd stage
-    unasked_goes (Ended reply) answer store' later read stands stage no_none no_pair performs = absurd stage
-
-    -- what it asks about is there
-    pub unasked_there : (state : State) → IsUnasked hash s state → (asks Nothing hash state ≡ ShowNone → ⊥) → ((n : ℕ) → asks Nothing hash state ≡ ShowPair n → ⊥) → IsAnswerable s (unasked state) (asks Nothing hash state)
-    unasked_there AtRoot stage no_none no_pair = tt
-    unasked_there (Searching (Sizing t)) (root, (table, there)) no_none no_pair = (table, there, found.sized t table there)
-    unasked_there (Searching (Looking place)) stage no_none no_pair = tt
-    unasked_there (Searching (Comparing place word)) stage no_none no_pair = tt
-    unasked_there (Leaving t) stage no_none no_pair = tt
-    unasked_there (Offering gap) stage no_none no_pair = no_none refl
-    unasked_there (Showing removal) stage no_none no_pair = no_pair (number_of removal.word) refl
-    unasked_there Making stage no_none no_pair = absurd stage
-    unasked_there (Opening t) stage no_none no_pair = absurd stage
-    unasked_there (Writing write) stage no_none no_pair = absurd stage
-    unasked_there (Pairing purpose) stage no_none no_pair = absurd stage
-    unasked_there (Putting put) stage no_none no_pair = absurd stage
-    unasked_there (Burying removal) stage no_none no_pair = absurd stage
-    unasked_there (Counting n) stage no_none no_pair = absurd stage
-    unasked_there (Uncounting n) stage no_none no_pair = absurd stage
-    unasked_there (Growing t) stage no_none no_pair = absurd stage
-    unasked_there (Ended reply) stage no_none no_pair = absurd stage
-
-  module _ (v : V) (store : StoreState K V S) (key : KeyOf K) (left : Option V) (answers : Option A) where
-    -- the call after its closure answered
-    abbrev asked : Made → Remembered → State → Running K V A
-    asked made held state = call_at made held state key left answers
-
-    -- what is so after an answer
-    abbrev Leads : Made → Remembered → State → StoreState K V S → Running K V A → Answer → Type 0
-    Leads made held state store' later answer = let m : Machine = after (machine made held state) answer in IsInserting hash s v store' later.key later.value m.made m.remembered m.state
-
-    leads_by : (made : Made) (held : Remembered) (state : State) (answer told : Answer) (store' store1 : StoreState K V S) (later later1 : Running K V A) → answer ≡ told → store' ≡ store1 → later ≡ later1 → Leads made held state store1 later1 told → Leads made held state store' later answer
-    leads_by made held state answer told store' store1 later later1 e same stays leads =
-        subst (λ a. Leads made held state store' later a) (sym e)
-        (subst (λ (y : StoreState K V S). Leads made held state y later told) (sym same)
-        (subst (λ (q : Running K V A). Leads made held state store1 q told) (sym stays) leads))
-
-    -- what is to be made is refused
-    refused_leads : (made : Made) (held : Remembered) (state : State) (most count : ℕ) (answer : Answer) (store' : StoreState K V S) (later : Running K V A) → store' ≡ store → later ≡ asked made held state → Refuses most count answer
-        → ((refused : Refused) → IsWriteCause hash s refused → Leads made held state store (asked made held state) (Was_refused refused)) → (most ≤ count → IsWriteCause hash s Capacity) → Leads made held state store' later answer
-    refused_leads made held state most count answer store' later same stays (inl e) leads full = leads_by made held state answer (Was_refused Memory) store' store later (asked made held state) e same stays (leads Memory (inl refl))
-    refused_leads made held state most count answer store' later same stays (inr (e, past)) leads full = leads_by made held state answer (Was_refused Capacity) store' store later (asked made held state) e same stays (leads Capacity (full past))
-
-    -- the pair that was made
-    paired_now : (n : ℕ) (l : K) → slice_get store.keys n ≡ Some l → IsPaired hash s v (record store { pairs = store.pairs ++ record { key = n; value = v } ∷ [] }) (length store.pairs)
-    paired_now n l there =
-        let m : ℕ = length store.pairs in
-        (record { number = m; key = l; value = v }, ap (stored_in store.keys m) (pushed_last store.pairs (record { key = n; value = v })) ∙ ap (stored_at m v) there, refl)
-
-    -- where a pair that was made goes
-    provided : (purpose : Purpose) (held : Remembered) (n : ℕ) (store' : StoreState K V S) (key' : KeyOf K) (left' : Option V) → store'.words ≡ s.words → IsPurposeThere hash s purpose → IsPaired hash s v store' n → IsInserting hash s v store' key' left' Key (with_pair held purpose n) (provides purpose n)
-    provided (Fill NoRoot) held n store' key' left' same there paired = (same, (n, refl, paired))
-    provided (Fill (At_place at)) held n store' key' left' same there paired = (subst (λ (w : Tables). IsSlotThere w.tables at) (sym same) there, paired)
-    provided (Fill (After t)) held n store' key' left' same there paired = there
-    provided (Replace write) held n store' key' left' same there paired = (subst (λ (w : Tables). IsSlotThere w.tables write.place) (sym same) there, paired)
-
-    -- the key is logged, and then the pair
-    pairing_leads : (made : Made) (held : Remembered) (purpose : Purpose) (answer : Answer) (store' : StoreState K V S) (later : Running K V A) → IsInserting hash s v store key left made held (Pairing purpose) → Performs eq says false (asks made hash (Pairing purpose)) store (asked made held (Pairing purpose)) answer store' later → Leads made held (Pairing purpose) store' later answer
-    pairing_leads Nothing held purpose answer store' later (words, pairs, hand, has, there) (inl (refused, (same, stays))) =
-        refused_leads Nothing held (Pairing purpose) MAX_LOG_LEN (length store.keys) answer store' later same stays refused (λ x cause. cause)
-        (λ full. inr (refl, inl (subst (λ (l : List K). MAX_LOG_LEN ≤ length l) hand.1 full)))
-    pairing_leads Nothing held purpose answer store' later (words, pairs, hand, has, there) (inr (inl ((e, n, logged), stays))) = let own = hand.0.1 in let f : Own hand.0.0 ≡ Logged n = sym own ∙ logged in absurd cc
-    pairing_leads Nothing held purpose answer store' later (words, pairs, hand, has, there) (inr (inr (l, own, e, few, same, goes))) =
-        leads_by Nothing held (Pairing purpose) answer _ store' _ later _ e same goes (words, pairs, (length store.keys, l, refl, pushed_last store.keys l), has, there)
-    pairing_leads Key held purpose answer store' later (words, pairs, hand, has, there) (inl (refused, (same, stays))) =
-        refused_leads Key held (Pairing purpose) MAX_LOG_LEN (length store.pairs) answer store' later same stays refused (λ x cause. cause)
-        (λ full. inr (refl, inr (inl (subst (λ (l : List (LoggedPair V)). MAX_LOG_LEN ≤ length l) pairs full))))
-    pairing_leads Key held purpose answer store' later (words, pairs, hand, has, there) (inr (inl ((e, inl (l, own)), stays))) = let logged = hand.2 in let f : Own l ≡ Logged hand.0 = sym own ∙ logged in absurd cc
-    pairing_leads Key held purpose answer store' later (words, pairs, hand, has, there) (inr (inl ((e, inr none), stays))) = let f : None ≡ Some v = sym none ∙ has in absurd cc
-    pairing_leads Key held purpose answer store' later (words, pairs, (i, l, logged, kept), has, there) (inr (inr (n, w, key_is, value_is, e, few, same, goes))) =
-        let f : Logged i ≡ Logged n = sym logged ∙ key_is in
-        let g : Some v ≡ Some w = sym has ∙ value_is in
-        let at_key : i ≡ n = cc in
-        let value : v ≡ w = cc in
-        leads_by Key held (Pairing purpose) answer _ store' _ later _ e same goes
-        (provided purpose held (length store.pairs) (record store { pairs = store.pairs ++ record { key = n; value = w } ∷ [] }) _ _ words there (subst (λ (x : V). IsPaired hash s v (record store { pairs = store.pairs ++ record { key = n; value = x } ∷ [] }) (length store.pairs)) value (paired_now n l (subst (λ j. slice_get store.keys j ≡ Some l) at_key kept))))
-    pairing_leads (Pair n) held purpose answer store' later (words, pairs, hand, has, there) performs = absurd hand
-
-    -- an empty slot is seen where a pair is remembered
-    blank_leads : (held : Remembered) (place : Place) (made : Made) → IsFirst store.words.tables place → IsStandingState Compute (Searching (Looking place)) → IsFilling hash s v store held → IsInserting hash s v store key left made held (goes_as Compute mode held (look place hash (word_at store.words (Slot place.table place.probe.i))))
-    blank_leads held place made first within (n, filled, paired) =
-        let word : ℕ = word_at store.words (Slot place.table place.probe.i) in
-        let table = first.is_blank.table in
-        let i : place.probe.i < place.len = within.i in
-        let len : place.len ≡ length table.slots = first.len in
-        let there : IsSlotThere store.words.tables place = record { table = table; there = first.is_blank.there; within = omega arith } in
-        subst (λ kind. IsInserting hash s v store key left made held (goes_as Compute mode held (look_at kind place hash word))) (sym (ap kind_of (blank_word store.words place first)))
-        (subst (λ fill. IsInserting hash s v store key left made held (lacks fill (At_place place))) (sym filled) (there, paired))
-
-    -- in each state
-    pub inserting_leads : (made : Made) (held : Remembered) (state : State) (answer : Answer) (store' : StoreState K V S) (later : Running K V A) → IsRead (words_of store) state → IsStandingState Compute state → IsInserting hash s v store key left made held state → reply_in (asks made hash state) ≡ None → Performs eq says false (asks made hash state) store (asked made held state) answer store' later → Leads made held state store' later answer
-    inserting_leads made held (Pairing purpose) answer store' later read stands stage going performs = pairing_leads made held purpose answer store' later stage performs
-    inserting_leads made held Making answer store' later read stands (words, filling) going (inl (refused, same), stays) =
-        refused_leads made held Making MAX_TABLES (length store.words.tables) answer store' later same stays refused (λ x cause. cause)
-        (λ full. inr (refl, inr (inr (inl (subst (λ (w : Tables). MAX_TABLES ≤ length w.tables) words full)))))
-    inserting_leads made held Making answer store' later read stands (words, filling) going (inr (e, few, same), stays) =
-        leads_by made held Making answer _ store' _ later _ e same stays
-        (record { table = new_table (length store.words.tables + 1) 32 25; there = made-there store.words (length store.words.tables + 1) 32 25; blank = index-zeros 32 }, filling)
-    inserting_leads made held (Opening t) answer store' later read stands (blank, filling) going (opened, stays) =
-        let done = exchange_done _ _ (word_at store.words Root) 0 read opened in
-        leads_by made held (Opening t) answer _ store' _ later _ done.0 done.1 stays (blank, filling)
-    inserting_leads made held (Searching (Sizing t)) answer store' later read stands (blank, filling) going (e, (same, stays)) =
-        leads_by made held (Searching (Sizing t)) answer (Size (length blank.table.slots) blank.table.limit) store' store later _ (e ∙ ap size_of blank.there) same stays (record { is_blank = blank; len = refl }, filling)
-    inserting_leads made held (Searching (Looking place)) answer store' later read stands (first, filling) going (e, (same, stays)) =
-        leads_by made held (Searching (Looking place)) answer _ store' store later _ e same stays (blank_leads held place made first stands filling)
-    inserting_leads made held (Putting given) answer store' later read stands (there, paired) going (put_there, stays) =
-        let done = exchange_done _ _ (word_at store.words (Slot given.write.place.table given.write.place.probe.i)) given.write.old read put_there in
-        leads_by made held (Putting given) answer _ store' _ later _ done.0 done.1 stays
-        (cond_both (given.write.old == 0) (Counting given.pair) (Ended (Replaced (number_of given.write.old) given.pair)) (λ state. IsInserting hash s v (record store { words = put store.words (Slot given.write.place.table given.write.place.probe.i) (new_word hash given.pair) }) key left made held state) (λ _. paired) (λ _. paired))
-    inserting_leads made held (Counting n) answer store' later read stands paired going (e, (number, same), stays) = leads_by made held (Counting n) answer _ store' _ later _ e same stays paired
-    inserting_leads made held (Growing t) answer store' later read stands full going (e, (same, stays)) = leads_by made held (Growing t) answer _ store' store later _ e same stays (inr (refl, inr (inr (inr full))))
-    inserting_leads made held (Ended reply) answer store' later read stands stage going performs = absurd cc
-    inserting_leads made held (Searching (Comparing place word)) answer store' later read stands stage going performs = absurd stage
-    inserting_leads made held AtRoot answer store' later read stands stage going performs = absurd stage
-    inserting_leads made held (Writing write) answer store' later read stands stage going performs = absurd stage
-    inserting_leads made held (Offering gap) answer store' later read stands stage going performs = absurd stage
-    inserting_leads made held (Showing removal) answer store' later read stands stage going performs = absurd stage
-    inserting_leads made held (Burying removal) answer store' later read stands stage going performs = absurd stage
-    inserting_leads made held (Uncounting n) answer store' later read stands stage going performs = absurd stage
-    inserting_leads made held (Leaving t) answer store' later read stands stage going performs = absurd stage
-
-    -- what it asks about is there
-    pub inserting_there : (made : Made) (held : Remembered) (state : State) → ((n : ℕ) (t : TableWords) → table_of store.words.tables n ≡ Some t → IsSize (length t.slots) t.limit) → IsInserting hash s v store key left made held state → reply_in (asks made hash state) ≡ None → IsAnswerable store (asked made held state) (asks made hash state)
-    inserting_there Nothing held (Pairing purpose) sized (words, pairs, hand, has, there) going = hand.0
-    inserting_there Key held (Pairing purpose) sized (words, pairs, (i, l, logged, kept), has, there) going = (i, v, logged, has)
-    inserting_there (Pair n) held (Pairing purpose) sized (words, pairs, hand, has, there) going = absurd hand
-    inserting_there made held Making sized stage going = tt
-    inserting_there made held (Opening t) sized stage going = tt
-    inserting_there made held (Searching (Sizing t)) sized (blank, filling) going = (blank.table, blank.there, sized t blank.table blank.there)
-    inserting_there made held (Searching (Looking place)) sized stage going = tt
-    inserting_there made held (Putting put) sized (there, paired) going = (there.table, there.there, there.within)
-    inserting_there made held (Counting n) sized stage going = tt
-    inserting_there made held (Growing t) sized stage going = tt
-    inserting_there made held (Ended reply) sized stage going = absurd cc
-    inserting_there made held (Searching (Comparing place word)) sized stage going = absurd stage
-    inserting_there made held AtRoot sized stage going = absurd stage
-    inserting_there made held (Writing write) sized stage going = absurd stage
-    inserting_there made held (Offering gap) sized stage going = absurd stage
-    inserting_there made held (Showing removal) sized stage going = absurd stage
-    inserting_there made held (Burying removal) sized stage going = absurd stage
-    inserting_there made held (Uncounting n) sized stage going = absurd stage
-    inserting_there made held (Leaving t) sized stage going = absurd stage
-
-  module _ (store : StoreState K V S) (key : KeyOf K) (left : Option V) (answers : Option A) (made : Made) (held : Remembered) where
-    -- the same of one whose closure would remove
-    pub removing_leads : (state : State) (answer : Answer) (store' : StoreState K V S) (later : Running K V A) → IsRead (words_of store) state → IsRemoving hash s store state → reply_in (asks made hash state) ≡ None → Performs eq says false (asks made hash state) store (call_at made held state key left answers) answer store' later → IsRemoving hash s store' (after (machine made held state) answer).state
-    removing_leads (Burying removal) answer store' later read there going (buried, stays) =
-        let done = exchange_done _ _ (word_at store.words (Slot removal.place.table removal.place.probe.i)) removal.word read buried in
-        subst (λ a. IsRemoving hash s store' (after (machine made held (Burying removal)) a).state) (sym done.0) tt
-    removing_leads (Uncounting n) answer store' later read there going (e, (number, same), stays) = subst (λ a. IsRemoving hash s store' (after (machine made held (Uncounting n)) a).state) (sym e) tt
-    removing_leads (Ended reply) answer store' later read stage going performs = absurd cc
-    removing_leads AtRoot answer store' later read stage going performs = absurd stage
-    removing_leads Making answer store' later read stage going performs = absurd stage
-    removing_leads (Opening t) answer store' later read stage going performs = absurd stage
-    removing_leads (Searching search) answer store' later read stage going performs = absurd stage
-    removing_leads (Writing write) answer store' later read stage going performs = absurd stage
-    removing_leads (Offering gap) answer store' later read stage going performs = absurd stage
-    removing_leads (Showing removal) answer store' later read stage going performs = absurd stage
-    removing_leads (Pairing purpose) answer store' later read stage going performs = absurd stage
-    removing_leads (Putting put) answer store' later read stage going performs = absurd stage
-    removing_leads (Counting n) answer store' later read stage going performs = absurd stage
-    removing_leads (Leaving t) answer store' later read stage going performs = absurd stage
-    removing_leads (Growing t) answer store' later read stage going performs = absurd stage
-
-    pub removing_there : (state : State) → IsRemoving hash s store state → reply_in (asks made hash state) ≡ None → IsAnswerable store (call_at made held state key left answers) (asks made hash state)
-    removing_there (Burying removal) there going = (there.table, there.there, there.within)
-    removing_there (Uncounting n) stage going = tt
-    removing_there (Ended reply) stage going = absurd cc
-    removing_there AtRoot stage going = absurd stage
-    removing_there Making stage going = absurd stage
-    removing_there (Opening t) stage going = absurd stage
-    removing_there (Searching search) stage going = absurd stage
-    removing_there (Writing write) stage going = absurd stage
-    removing_there (Offering gap) stage going = absurd stage
-    removing_there (Showing removal) stage going = absurd stage
-    removing_there (Pairing purpose) stage going = absurd stage
-    removing_there (Putting put) stage going = absurd stage
-    removing_there (Counting n) stage going = absurd stage
-    removing_there (Leaving t) stage going = absurd stage
-    removing_there (Growing t) stage going = absurd stage
-
-    -- one whose closure ended it has replied
-    pub aborting_ended : (state : State) → IsAborting hash s state → reply_in (asks made hash state) ≡ None → ⊥
-    aborting_ended (Ended reply) stage going = absurd cc
-    aborting_ended AtRoot stage going = stage
-    aborting_ended Making stage going = stage
-    aborting_ended (Opening t) stage going = stage
-    aborting_ended (Searching search) stage going = stage
-    aborting_ended (Writing write) stage going = stage
-    aborting_ended (Offering gap) stage going = stage
-    aborting_ended (Showing removal) stage going = stage
-    aborting_ended (Pairing purpose) stage going = stage
-    aborting_ended (Putting put) stage going = stage
-    aborting_ended (Burying removal) stage going = stage
-    aborting_ended (Counting n) stage going = stage
-    aborting_ended (Uncounting n) stage going = stage
-    aborting_ended (Leaving t) stage going = stage
-    aborting_ended (Growing t) stage going = stage
+-- an ask that is no reply
+pub unreplied_ask : (ask : Ask) → ((reply : Reply) → ask ≡ asked.Call (Ask_done reply) → ⊥) → reply_in ask ≡ None
+unreplied_ask ask no_reply = by_reply (reply_in ask) refl
+  where
+    by_reply : (o : Option Reply) → reply_in ask ≡ o → reply_in ask ≡ None
+    by_reply None e = e
+    by_reply (Some reply) e = absurd (no_reply reply (reply_asked ask reply e))

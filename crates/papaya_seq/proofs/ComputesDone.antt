@@ -1,5 +1,5 @@
 -- What a compute says of the map, by what it answers.
-use Rattle.std.proofs.Common.{◌≡◌, ℕ, Bool, Option, Some, None, Result, Ok, Err, refl, sym, ◌∙◌, ap, subst}
+use Rattle.std.proofs.Common.{◌≡◌, ◌⊎◌, inl, inr, ℕ, Bool, Option, Some, None, Result, Ok, Err, refl, sym, ◌∙◌, ap, subst}
 use denote.Ref.{Bor}
 use Rattle.std.specs.Cmp.{IsEquivalence}
 use Rattle.papaya_words.specs.declared.probe.Refused.{Refused}
@@ -10,8 +10,8 @@ use Rattle.papaya_timeline.specs.Content.{map_in}
 use Rattle.papaya_timeline.specs.Maps.{IsUpdate}
 use Rattle.papaya_store.specs.Store.{Stored, pair_of}
 use Rattle.papaya_seq.specs.Answered.{IsParted}
-use Rattle.papaya_seq.specs.Computes.{ComputesBy, IsNew, Operates, Says, answer_map}
-use Rattle.papaya_seq.specs.Map.{Inserts, IsWriteCause, Keeps, MapState, Unchanged, deref_pair, entry_of, value_of}
+use Rattle.papaya_seq.specs.Computes.{Computes, ComputesBy, IsComputeRefusal, IsNew, IsRefusedFirst, Operates, Says, answer_map}
+use Rattle.papaya_seq.specs.Map.{Inserts, IsResizing, IsWriteCauseAt, Keeps, MapState, Unchanged, deref_pair, entry_of, value_of}
 use Rattle.papaya_keys.specs.declared.compute.Computed.{Computed}
 use Rattle.papaya_keys.specs.declared.compute.Computed.TheVariants.{Inserted, Updated, Removed, Aborted}
 use Rattle.papaya_seq.proofs.Answered.{logged_there, update_leaves}
@@ -30,7 +30,7 @@ module _ {K V T : Type 0} (post : Option (Bor K × Bor V) → Operation V T → 
   said_none o (None, are, said) = said
   said_none o (Some q, are, said) = let f : Some (deref_pair q) ≡ None = are in absurd cc
 
-module _ {K V S T : Type 0} (post : Option (Bor K × Bor V) → Operation V T → Type 0) (eq : K → K → Bool) (law : IsEquivalence eq) (hash : ℕ) (k : K) (s s' : MapState K V S) where
+module _ {K V S T : Type 0} (post : Option (Bor K × Bor V) → Operation V T → Type 0) (eq : K → K → Bool) (law : IsEquivalence eq) (k : K) (s s' : MapState K V S) where
   -- the class of the key had `held`, and has this value now, which the closure answered
   pub record StoresValue (held : Option (Stored K V)) (v : V) : Type 0 where
     pub before : map_in eq s.store k ≡ held
@@ -56,11 +56,22 @@ module _ {K V S T : Type 0} (post : Option (Bor K × Bor V) → Operation V T �
     pub there : map_in eq s.store k ≡ Some p
     pub logged : pair_of s.store n ≡ Some p
 
-  -- what may refuse the closure's answer
-  abbrev pub Refuses : Operation V T → Refused → Type 0
-  Refuses (Insert v) refused = IsWriteCause hash s.store refused
-  Refuses Remove refused = refused ≡ RemoveNothing
-  Refuses (Abort t) refused = ⊥
+  -- what may refuse the closure's answer, where the class had `held`
+  abbrev pub Refuses : Option (Stored K V) → Operation V T → Refused → Type 0
+  Refuses held (Insert v) refused = IsWriteCauseAt s held refused s'
+  Refuses held Remove refused = refused ≡ RemoveNothing
+  Refuses held (Abort t) refused = ⊥
+
+  -- the closure's answer was refused
+  pub record IsRefused (refused : Refused) : Type 0 where
+    pub held : Option (Stored K V)
+    pub operation : Operation V T
+    pub leaves : Leaves held operation
+    pub refuses : Refuses held operation refused
+
+  -- the call was refused before its closure was called
+  abbrev pub IsFirst : Refused → Type 0
+  IsFirst refused = IsResizing s × IsComputeRefusal eq s refused s'
 
   -- what each answer says
   abbrev pub Facts : Result (Computed ℕ T) Refused → Type 0
@@ -68,7 +79,7 @@ module _ {K V S T : Type 0} (post : Option (Bor K × Bor V) → Operation V T �
   Facts (Ok (Updated m n)) = (p : Stored K V) × Held p m × StoresPair (Some p) n
   Facts (Ok (Removed m)) = (p : Stored K V) × Held p m × Says post (Some p) Remove × Keeps s s'
   Facts (Ok (Aborted t)) = (held : Option (Stored K V)) × Leaves held (Abort t)
-  Facts (Err refused) = (held : Option (Stored K V)) × (operation : Operation V T) × Leaves held operation × Refuses operation refused
+  Facts (Err refused) = IsRefused refused ⊎ IsFirst refused
 
   -- each pair of what was done is in the log
   abbrev pub Logged : Result (Computed (Stored K V) T) Refused → Type 0
@@ -99,7 +110,7 @@ module _ {K V S T : Type 0} (post : Option (Bor K × Bor V) → Operation V T �
   held_by : (p : Stored K V) → map_in eq s.store k ≡ Some p → Held p p.number
   held_by p there = record { there = there; logged = logged_there eq law s.store k p.number p there refl }
 
-  facts : (done : Result (Computed (Stored K V) T) Refused) (held : Option (Stored K V)) (o : Operation V T) (next : Option (Stored K V)) → Says post held o → Operates hash k s.store s'.store held o done next → IsUpdate eq k held next (map_in eq s.store) (map_in eq s'.store) → Keeps s s' → Facts (answer_map (λ p. p.number) done) × Logged done
+  facts : (done : Result (Computed (Stored K V) T) Refused) (held : Option (Stored K V)) (o : Operation V T) (next : Option (Stored K V)) → Says post held o → Operates k s s' held o done next → IsUpdate eq k held next (map_in eq s.store) (map_in eq s'.store) → Keeps s s' → Facts (answer_map (λ p. p.number) done) × Logged done
   facts (Ok (Inserted q)) None (Insert v) next says does u keeps = (stored None next v q says does.0 does.1 u keeps, does.0.logged)
   facts (Ok (Updated old q)) (Some p) (Insert v) next says does u keeps =
       let same : p ≡ old = sym does.0 in
@@ -113,9 +124,9 @@ module _ {K V S T : Type 0} (post : Option (Bor K × Bor V) → Operation V T �
       (subst (λ (y : T). Facts (Ok (Aborted y))) (sym does.0) (None, leaves None next (Abort u') says does.1 u keeps), tt)
   facts (Ok (Aborted t)) (Some p) (Abort u') next says does u keeps =
       (subst (λ (y : T). Facts (Ok (Aborted y))) (sym does.0) (Some p, leaves (Some p) next (Abort u') says does.1 u keeps), tt)
-  facts (Err refused) None (Insert v) next says does u keeps = ((None, Insert v, leaves None next (Insert v) says does.1 u keeps, does.0), tt)
-  facts (Err refused) (Some p) (Insert v) next says does u keeps = ((Some p, Insert v, leaves (Some p) next (Insert v) says does.1 u keeps, does.0), tt)
-  facts (Err refused) None Remove next says does u keeps = ((None, Remove, leaves None next Remove says does.1 u keeps, does.0), tt)
+  facts (Err refused) None (Insert v) next says does u keeps = (inl (record { held = None; operation = Insert v; leaves = leaves None next (Insert v) says does.1 u keeps; refuses = does.0 }), tt)
+  facts (Err refused) (Some p) (Insert v) next says does u keeps = (inl (record { held = Some p; operation = Insert v; leaves = leaves (Some p) next (Insert v) says does.1 u keeps; refuses = does.0 }), tt)
+  facts (Err refused) None Remove next says does u keeps = (inl (record { held = None; operation = Remove; leaves = leaves None next Remove says does.1 u keeps; refuses = does.0 }), tt)
   facts (Ok (Inserted q)) (Some p) (Insert v) next says does u keeps = absurd does
   facts (Ok (Inserted q)) None Remove next says does u keeps = absurd does
   facts (Ok (Inserted q)) (Some p) Remove next says does u keeps = absurd does
@@ -139,10 +150,19 @@ module _ {K V S T : Type 0} (post : Option (Bor K × Bor V) → Operation V T �
   facts (Err refused) None (Abort t) next says does u keeps = absurd does
   facts (Err refused) (Some p) (Abort t) next says does u keeps = absurd does
 
+  -- so does one that was refused before its closure was called
+  facts_first : (done : Result (Computed (Stored K V) T) Refused) → IsRefusedFirst eq k s done s' → Facts (answer_map (λ p. p.number) done) × Logged done
+  facts_first done (resizing, (refused, is, refusal)) =
+      subst (λ (d : Result (Computed (Stored K V) T) Refused). Facts (answer_map (λ p. p.number) d) × Logged d) (sym is) (inr (resizing, refusal), tt)
+
+  facts_all : (done : Result (Computed (Stored K V) T) Refused) → Computes eq k (Says post) s done s' → Facts (answer_map (λ p. p.number) done) × Logged done
+  facts_all done (inl c) = facts done c.held c.operation c.next c.answered c.operates c.update c.keeps
+  facts_all done (inr first) = facts_first done first
+
   -- what the answer of a compute says that is known to be this one
-  pub facts_of : (result answer : Result (Computed ℕ T) Refused) → result ≡ answer → ComputesBy eq hash k (λ p. p.number) (Says post) s result s' → Facts answer
+  pub facts_of : (result answer : Result (Computed ℕ T) Refused) → result ≡ answer → ComputesBy eq k (λ p. p.number) (Says post) s result s' → Facts answer
   facts_of result answer is (done, names, c) =
-      subst (λ (a : Result (Computed ℕ T) Refused). Facts a) (sym names ∙ is) (facts done c.held c.operation c.next c.answered c.operates c.update c.keeps).0
+      subst (λ (a : Result (Computed ℕ T) Refused). Facts a) (sym names ∙ is) (facts_all done c).0
 
   -- the value that is shown of the pair that was stored is the one that was stored
   pub value_stored : (held : Option (Stored K V)) (n : ℕ) (w : V) → StoresPair held n → ((p : Stored K V) → pair_of s'.store n ≡ Some p → w ≡ p.value) → StoresValue held w
@@ -196,9 +216,9 @@ module _ {K V S T : Type 0} (post : Option (Bor K × Bor V) → Operation V T �
   shown_as (Err refused) (Ok (Aborted u)) l is = absurd is
 
   -- a compute that shows the entries of its pairs
-  pub computes_shown : (result named : Result (Computed ℕ T) Refused) (shown : Result (Computed (K × V) T) Refused) → result ≡ named → ComputesBy eq hash k (λ p. p.number) (Says post) s result s' → Shows named shown → ComputesBy eq hash k entry_of (Says post) s shown s'
+  pub computes_shown : (result named : Result (Computed ℕ T) Refused) (shown : Result (Computed (K × V) T) Refused) → result ≡ named → ComputesBy eq k (λ p. p.number) (Says post) s result s' → Shows named shown → ComputesBy eq k entry_of (Says post) s shown s'
   computes_shown result named shown is (done, names, c) shows =
-      let logged = (facts done c.held c.operation c.next c.answered c.operates c.update c.keeps).1 in
+      let logged = (facts_all done c).1 in
       let told : Shows (answer_map (λ p. p.number) done) shown = subst (λ (a : Result (Computed ℕ T) Refused). Shows a shown) (sym is ∙ names) shows in
       (done, shown_as done shown logged told, c)
 

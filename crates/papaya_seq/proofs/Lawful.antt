@@ -29,7 +29,6 @@ use Rattle.papaya_store.specs.Store.{StoreState, Stored, pair_of, stored_at, sto
 use Rattle.papaya_store.specs.Tables.{table_of, word_at}
 use Rattle.papaya_timeline.proofs.KeptSettings.{IsLawfulKeys, tables_hashed}
 use Rattle.papaya_seq.specs.Map.{HasNone, Holds, IsLawfulMap}
-use Rattle.papaya_seq.proofs.Driving.{words_single}
 
 module _ {K V S A : Type 0} (eq : K → K → Bool) (hash : K → ℕ) (callers : List (Seat K V A)) (mode : ResizeMode) (store : StoreState K V S) (lawful : IsLawfulCore eq hash store callers mode) where
   -- the words of a core as the law has them
@@ -76,10 +75,6 @@ module _ {K V S A : Type 0} (eq : K → K → Bool) (hash : K → ℕ) (callers 
       ⊎_elim (λ (zero : law_words.next t ≡ 0). absurd (some (sym is ∙ zero))) (λ (up : (0 < t) × (t < law_words.next t)). subst (λ n. t < n) is up.1) ((core_sound keys).rises t)
 
 module _ {K V S : Type 0} (eq : K → K → Bool) (hash : K → ℕ) (mode : ResizeMode) (store : StoreState K V S) {initial : ℕ} (lawful : IsLawfulMap eq hash store mode initial) where
-  -- no table has a next one
-  pub single : (t : ℕ) → word_at store.words (Next t) ≡ 0
-  single = words_single store.words lawful.single
-
   -- the word of an empty slot is 0
   pub bare : IsBare (λ at. word_at store.words at)
   bare = core_bare eq hash [] mode store lawful.lawful

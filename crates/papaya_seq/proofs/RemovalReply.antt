@@ -1,10 +1,11 @@
 -- What a removal replied is what it did to the finite map.
-use Rattle.std.proofs.Common.{◌≡◌, ⊎_elim, ℕ, Bool, true, false, Option, Some, None, refl, sym, ◌∙◌, ap, subst}
+use Rattle.std.proofs.Common.{◌≡◌, ⊎_elim, ◌⊎◌, ℕ, Bool, true, false, Option, Some, None, refl, sym, ◌∙◌, ap, subst}
 use denote.Ref.{Bor}
 use Rattle.std.proofs.lemmas.Bool.{cases_Bool}
 use Rattle.std.specs.Cmp.{IsEquivalence}
 use Rattle.std.specs.Fn.{Mut}
 use Rattle.papaya_rests.specs.Says.{Agrees, said_of_removal}
+use Rattle.papaya_words.specs.declared.probe.Refused.{Refused as Refused_words}
 use Rattle.papaya_ask.specs.declared.call.Reply.{Reply}
 use Rattle.papaya_ask.specs.declared.call.Reply.TheVariants.{Absent, Found, Inserted, Replaced, Occupied, Removed, Kept, Aborted, Refused}
 use Rattle.papaya_timeline.specs.Content.{content, map_in}
@@ -18,10 +19,17 @@ use Rattle.papaya_seq.proofs.Lawful.{MatchesNone, logged_content, lookup_has_non
 use Rattle.papaya_seq.proofs.RemovalTurns.{IsJudged}
 use Rattle.papaya_seq.proofs.Removing.{removal_by}
 
+-- a reply that there is none, or a refusal
+abbrev pub IsAbsentOrRefused : Reply → Type 0
+IsAbsentOrRefused reply = (reply ≡ Absent) ⊎ ((refused : Refused_words) × (reply ≡ Refused refused))
+
 -- a removal that found no pair
-pub removal_none : {K V S : Type 0} (eq : K → K → Bool) (matches : K → Bool) (said : Stored K V → Bool → Type 0) (s s' : StoreState K V S) (reply : Reply) → MatchesNone s matches → reply ≡ Absent → s' ≡ s → IsRemoval eq matches said s reply s'
-removal_none {K} {V} {S} eq matches said s s' reply none absent same =
-    subst (λ r. IsRemoval eq matches said s r s') (sym absent) (subst (λ (y : StoreState K V S). IsRemoval eq matches said s Absent y) (sym same) (none_held s matches eq none, λ j. refl))
+pub removal_none : {K V S : Type 0} (eq : K → K → Bool) (matches : K → Bool) (said : Stored K V → Bool → Type 0) (s s' : StoreState K V S) (reply : Reply) → MatchesNone s matches → IsAbsentOrRefused reply → Unchanged eq s s' → IsRemoval eq matches said s reply s'
+removal_none eq matches said s s' reply none ends same =
+    ⊎_elim
+    (λ (absent : reply ≡ Absent). subst (λ r. IsRemoval eq matches said s r s') (sym absent) (none_held s matches eq none, same))
+    (λ (refused : (why : Refused_words) × (reply ≡ Refused why)). subst (λ r. IsRemoval eq matches said s r s') (sym refused.1) same)
+    ends
 
 module _ {K V S F : Type 0} (g : Mut F (Bor K × (Bor V × Unit {0})) Bool) (eq : K → K → Bool) (classes : IsEquivalence eq) (matches : K → Bool) (k : K) (alike : (l : K) → matches l ≡ eq k l) (s s' : StoreState K V S) (agrees f : F) where
   -- equal keys have one pair

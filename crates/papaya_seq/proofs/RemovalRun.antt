@@ -1,133 +1,114 @@
--- The invariant of a removal: what its machine, the store and the closure are between two asks.
-use Rattle.std.proofs.Common.{◌≡◌, ℕ, ◌^◌, ◌<◌, ℤ, negsuc, slice_get, Bool, refl, sym, ◌∙◌, ap, subst}
+-- A removal by what matches a logged pair: it is the removal by that pair's key, made alone.
+use Rattle.std.proofs.Common.{Some, ◌≡◌, ℕ, ◌^◌, ◌<◌, Bool, false, None, refl, sym, ap, subst}
 use denote.Ref.{Bor}
 use Rattle.std.specs.Fn.{Mut}
-use Rattle.papaya_rests.specs.Alone.{HasMetNone, IsRead}
-use Rattle.papaya_call.specs.Machine.{after, ask_of, asks, started}
-use Rattle.papaya_rests.specs.Says.{said_in, said_of_removal}
-use Rattle.papaya_ask.specs.declared.ask.Answer.{Answer}
-use Rattle.papaya_ask.specs.declared.ask.Ask.TheVariants.{AddToShard, Done as Ask_done}
+use Rattle.papaya_ask.specs.declared.ask.Ask.TheVariants.{Done as Ask_done}
 use Rattle.papaya_ask.specs.declared.call.Reply.{Reply}
-use Rattle.papaya_ask.specs.declared.call.Reply.TheVariants.{Absent}
+use Rattle.papaya_ask.specs.declared.call.Reply.TheVariants.{Refused as Reply_refused}
+use Rattle.papaya_words.specs.declared.probe.Refused.{Refused}
+use Rattle.papaya_chain_rests.specs.Goes.{IsCause}
 use Rattle.papaya_ask.specs.declared.call.Task.TheVariants.{RemoveIf}
-use Rattle.papaya_call.specs.declared.machine.Machine.{Machine}
-use Rattle.papaya_call.specs.declared.machine.State.{State}
-use Rattle.papaya_call.specs.declared.machine.State.TheVariants.{AtRoot, Making, Opening, Searching, Writing, Offering, Showing, Pairing, Putting, Burying, Counting, Uncounting, Leaving, Growing, Ended}
-use Rattle.papaya_ask.specs.declared.search.Search.TheVariants.{Sizing, Looking, Comparing}
-use Rattle.papaya_call.specs.declared.write.Made.{Made}
-use Rattle.papaya_timeline.proofs.KeptSettings.{IsLawfulKeys}
-use Rattle.papaya_store.specs.Store.{StoreState, pair_of, stored_in}
-use Rattle.papaya_seq.specs.Map.{IsLawfulMap, KeepsSlots, MapState}
-use Rattle.papaya_seq.proofs.Lawful.{MatchesNone}
-use Rattle.papaya_seq.proofs.RemovalTurns.{IsFound, IsJudged, Turns, machine_turns}
-use Rattle.papaya_seq.proofs.Removing.{IsAnswer, IsEnd, IsLogOf, IsStage, answered_going, performed, removal_by, removing}
-use Rattle.papaya_seq.proofs.Steps.{IsMade, IsOver, came_slots, made_alone, made_more, made_none, words_of}
+use Rattle.papaya_alone.specs.Ahead.{IsPhaseRead}
+use Rattle.papaya_call.specs.declared.machine.State.TheVariants.{Ended}
+use Rattle.papaya_chain.specs.declared.ask.Answer.{Answer}
+use Rattle.papaya_chain.specs.declared.ask.Ask.TheVariants as asks
+use Rattle.papaya_chain.specs.declared.machine.Machine.{Machine}
+use Rattle.papaya_chain.specs.declared.machine.Phase.{Phase}
+use Rattle.papaya_chain.specs.declared.machine.Phase.TheVariants.{Calling, Linking, Copying as Copying_root}
+use Rattle.papaya_chain.specs.Machine.{IsFit, IsFitAsk, IsStanding, after, ask_of, asks_in, started}
+use Rattle.papaya_rests.specs.Alone.{IsRead}
+use Rattle.papaya_rests.specs.Says.{said_in, said_of_removal}
+use Rattle.papaya_rests.proofs.RestsHeld.{ended_in}
+use Rattle.papaya_store.specs.Asks.{PerformsAsk}
+use Rattle.papaya_store.specs.Store.{StoreState}
+use Rattle.papaya_store.specs.Tables.{word_at}
+use Rattle.papaya_timeline.specs.Advances.{reply_in}
+use Rattle.papaya_timeline.specs.Solo.{whatever}
+use Rattle.papaya_timeline.proofs.KeptLemmas.{IsLawfulKeys}
+use Rattle.papaya_timeline.proofs.StoreLemmas.{performed_ask, unnumbered}
+use Rattle.papaya_seq.specs.Map.{IsLawfulMap, MapState, next_of}
+use Rattle.papaya_seq.proofs.Ending.{left_of}
+use Rattle.papaya_seq.proofs.RemovalRoot.{IsInRoot, in_root_begun, in_root_more, unmarked}
+use Rattle.papaya_seq.proofs.RemovalTurns.{IsJudged, judged_more}
+use Rattle.papaya_seq.proofs.SeekTurns.{IsAnswered}
+use Rattle.papaya_seq.proofs.Removing.{IsLogOf, answered_going, log_kept, performed, removal_by, removing}
+use Rattle.papaya_seq.proofs.Steps.{HasCome, IsOver, came_more, came_nears, made_alone, made_caused, made_goes, made_none}
+
+-- a machine that has replied has ended
+pub ended_at : (m : Machine) (reply : Reply) → ask_of m ≡ asks.Call (Ask_done reply) → m.call.state ≡ Ended reply
+ended_at m reply e = by_phase m.phase e
+  where
+    by_phase : (phase : Phase) → asks_in m.call phase ≡ asks.Call (Ask_done reply) → m.call.state ≡ Ended reply
+    by_phase Calling is = ended_in m.call.made m.call.hash m.call.state reply cc
+    by_phase (Linking link) is = absurd cc
+    by_phase (Copying_root copying) is = absurd cc
 
 module _ {K V S F : Type 0} (g : Mut F (Bor K × (Bor V × Unit {0})) Bool) (eq : K → K → Bool) (hash : S → K → ℕ) (matches : K → Bool) (hashed : ℕ) (map : MapState K V S) (agrees : F) where
-  -- A removal by what matches keys so, and hashes so. Where it matches as an owned key is equal, it is the removal by that key; where it matches no logged pair, nothing happens.
-  pub record IsUnderWay (s : StoreState K V S) (f : F) (m : Machine) : Type 0 where
-    pub task : m.task ≡ RemoveIf
-    pub stage : IsStage map.store m.state s
-    pub read : IsRead (words_of s) m.state
-    pub judged : IsJudged g matches map.store agrees (said_in RemoveIf m.state) f
-    pub matched : (k : K) → ((l : K) → matches l ≡ eq k l) → hash map.store.hasher k ≡ hashed → IsMade eq hash map (removal_by k) s (removing m k)
-    pub unmatched : MatchesNone map.store matches → HasMetNone m.state × (s ≡ map.store)
+  -- The map is in order, and this key is equal to those that match, and hashes so.
+  pub record IsKey (k : K) : Type 0 where
+    pub keys : IsLawfulKeys eq (hash map.store.hasher)
+    pub lawful : IsLawfulMap eq (hash map.store.hasher) map.store map.mode map.initial
+    pub alike : (l : K) → matches l ≡ eq k l
+    pub hashes : hash map.store.hasher k ≡ hashed
+    pub fits : hashed < 2 ^ 64
+
+  -- The removal came there as one by this key, and its closure was called at most once. Where no pairs are being moved, it is in the root table.
+  pub record IsMatchedRun (k : K) (s : StoreState K V S) (f : F) (m : Machine) : Type 0 where
+    pub came : HasCome eq hash map (removal_by k) s (removing m k)
+    pub judged : IsJudged g matches map.store agrees (said_in RemoveIf m.call.state) f
+    pub rooted : next_of map.store ≡ 0 → IsInRoot map.store s m
 
   -- as it begins
-  pub under_way : IsUnderWay map.store agrees (started RemoveIf hashed map.mode map.initial)
-  under_way = record {
-    task = refl;
-    stage = refl;
-    read = tt;
+  pub matched_begun : (k : K) → IsKey k → IsMatchedRun k map.store agrees (started RemoveIf hashed map.mode map.initial)
+  matched_begun k key = record {
+    came = subst (λ h. HasCome eq hash map (removal_by k) map.store (removing (started RemoveIf h map.mode map.initial) k)) key.hashes
+        (made_none eq hash map (removal_by k) key.keys key.lawful (subst (λ h. h < 2 ^ 64) (sym key.hashes) key.fits));
     judged = refl;
-    matched = λ k alike same. subst (λ h. IsMade eq hash map (removal_by k) map.store (removing (started RemoveIf h map.mode map.initial) k)) same (made_none eq hash map (removal_by k));
-    unmatched = λ none. (tt, refl);
+    rooted = λ single. in_root_begun map.store hashed map.mode map.initial;
   }
 
-  module _ (found : IsFound map.store) (s : StoreState K V S) (f : F) (m : Machine) (now : IsUnderWay s f m) (answer : Answer) (s' : StoreState K V S) (f' : F) (told : IsAnswer g matches (ask_of m) s f answer s' f') where
-    -- an answer to its ask
-    pub next_turn : Turns g matches map.store agrees m answer s' f'
-    next_turn = machine_turns g matches map.store agrees found m now.task s f answer s' f' now.stage now.read now.judged told
+  module _ (k : K) (key : IsKey k) (s : StoreState K V S) (f : F) (m : Machine) (now : IsMatchedRun k s f m) (log : IsLogOf map.store s) (answer : Answer) (s' : StoreState K V S) (f' : F) (told : IsAnswered eq hash g matches (ask_of m) s f answer s' f') where
+    going : reply_in (ask_of m) ≡ None
+    going = answered_going g eq hash matches (ask_of m) s f answer s' f' told
+
+    -- the key's own removal is answered so
+    performs : PerformsAsk eq whatever hash false (ask_of m) s (removing m k) answer s' (removing m k)
+    performs = performed g eq hash matches k key.alike m now.came.task (ask_of m) s f answer s' f' told
+
+    -- it stands as it stood, and what it has read stands there
+    stands : IsStanding m
+    stands = (now.came.lone going).lawful.core.standing 0 (removing m k) refl
+
+    read : m.phase ≡ Calling → IsRead (word_at s.words) m.call.state
+    read is = (subst (IsPhaseRead m.call.mode (word_at s.words) m.call.state) is (now.came.lone going).current).0
+
+    -- the answer is within the limits
+    pub matched_fit : IsFitAsk (ask_of m) → IsFit answer
+    matched_fit fit = (performed_ask eq hash whatever false (ask_of m) s (removing m k) answer s' (removing m k) (unnumbered s.words.tables now.came.lawful.core.sizes) fit performs).fit
+
+    -- a refusal has a cause
+    pub matched_caused : (refused : Refused) → reply_in (ask_of (after m answer)) ≡ Some (Reply_refused refused) → IsCause m answer refused
+    matched_caused refused e = made_caused eq hash map (removal_by k) s (removing m k) answer s' (removing m k) going performs refl key.keys now.came refused e
 
     -- after it
-    pub under_way_more : IsUnderWay s' f' (after m answer)
-    under_way_more = record {
-      task = next_turn.task;
-      stage = next_turn.stage;
-      read = next_turn.read;
-      judged = next_turn.judged;
-      matched = λ k alike same. made_more eq hash map (removal_by k) s (removing m k) answer s' (removing m k)
-          (answered_going g matches (ask_of m) s f answer s' f' told) (performed g matches eq k alike m now.task (ask_of m) s f answer s' f' told) refl (now.matched k alike same);
-      unmatched = λ none. next_turn.unmet none (now.unmatched none).0;
+    pub matched_more : IsMatchedRun k s' f' (after m answer)
+    matched_more = record {
+      came = came_more eq hash map (removal_by k) s (removing m k) answer s' (removing m k) going performs refl key.keys now.came;
+      judged = judged_more g matches map.store agrees eq hash s f s' f' (log_kept map.store s log) m now.came.task answer
+          (made_goes eq hash map (removal_by k) s (removing m k) answer s' (removing m k) going performs refl key.keys now.came) stands.call.state read now.judged told;
+      rooted = λ single. in_root_more g eq hash matches map.store s f s' f' m answer single now.came.task
+          (unmarked eq (hash map.store.hasher) _ map.mode s key.keys now.came.lawful) read (now.rooted single) told;
     }
 
-  -- only a call that has ended replies
-  ended : (made : Made) (h : ℕ) (st : State) (s : StoreState K V S) (reply : Reply) → IsStage map.store st s → asks made h st ≡ Ask_done reply → st ≡ Ended reply
-  ended made h (Ended last) s reply stage e = ap Ended cc
-  ended made h AtRoot s reply stage e = absurd cc
-  ended made h (Searching (Sizing t)) s reply stage e = absurd cc
-  ended made h (Searching (Looking at)) s reply stage e = absurd cc
-  ended made h (Searching (Comparing at word)) s reply stage e = absurd cc
-  ended made h (Showing removal) s reply stage e = absurd cc
-  ended made h (Burying removal) s reply stage e = absurd cc
-  ended made h (Uncounting n) s reply stage e = absurd cc
-  ended made h (Leaving t) s reply stage e = absurd cc
-  ended made h Making s reply stage e = absurd stage
-  ended made h (Opening t) s reply stage e = absurd stage
-  ended made h (Writing write) s reply stage e = absurd stage
-  ended made h (Offering gap) s reply stage e = absurd stage
-  ended made h (Pairing purpose) s reply stage e = absurd stage
-  ended made h (Putting put) s reply stage e = absurd stage
-  ended made h (Counting n) s reply stage e = absurd stage
-  ended made h (Growing t) s reply stage e = absurd stage
+    -- and nearer its end
+    pub matched_nears : left_of s' (after m answer) < left_of s m
+    matched_nears = came_nears eq hash map (removal_by k) s (removing m k) answer s' (removing m k) going performs refl key.keys now.came
 
-  -- and only a buried pair is counted
-  counts : (made : Made) (h : ℕ) (st : State) (s : StoreState K V S) (by : ℤ) → IsStage map.store st s → asks made h st ≡ AddToShard by → by ≡ negsuc 0
-  counts made h (Uncounting n) s by stage e = cc
-  counts made h AtRoot s by stage e = absurd cc
-  counts made h (Searching (Sizing t)) s by stage e = absurd cc
-  counts made h (Searching (Looking at)) s by stage e = absurd cc
-  counts made h (Searching (Comparing at word)) s by stage e = absurd cc
-  counts made h (Showing removal) s by stage e = absurd cc
-  counts made h (Burying removal) s by stage e = absurd cc
-  counts made h (Leaving t) s by stage e = absurd cc
-  counts made h (Ended reply) s by stage e = absurd cc
-  counts made h Making s by stage e = absurd stage
-  counts made h (Opening t) s by stage e = absurd stage
-  counts made h (Writing write) s by stage e = absurd stage
-  counts made h (Offering gap) s by stage e = absurd stage
-  counts made h (Pairing purpose) s by stage e = absurd stage
-  counts made h (Putting put) s by stage e = absurd stage
-  counts made h (Counting n) s by stage e = absurd stage
-  counts made h (Growing t) s by stage e = absurd stage
-
-  pub counts_out : (s : StoreState K V S) (f : F) (m : Machine) → IsUnderWay s f m → (by : ℤ) → AddToShard by ≡ ask_of m → by ≡ negsuc 0
-  counts_out s f m now by e = counts m.made m.hash m.state s by now.stage (sym e)
-
-  module _ (s : StoreState K V S) (f : F) (m : Machine) (now : IsUnderWay s f m) (reply : Reply) (e : ask_of m ≡ Ask_done reply) where
-    state_is : m.state ≡ Ended reply
-    state_is = ended m.made m.hash m.state s reply now.stage e
-
-    -- a removal is not refused, and the logs are as they were
-    pub ends : IsEnd reply × IsLogOf map.store s
-    ends = subst (λ st. IsStage map.store st s) state_is now.stage
+  module _ (k : K) (key : IsKey k) (s : StoreState K V S) (f : F) (m : Machine) (now : IsMatchedRun k s f m) (reply : Reply) (ends : ask_of m ≡ asks.Call (Ask_done reply)) where
+    -- it was made alone
+    pub matched_over : IsOver eq hash map (removal_by k) s reply
+    matched_over = made_alone eq hash map (removal_by k) key.keys key.lawful (subst (λ h. h < 2 ^ 64) (sym key.hashes) key.fits) s (removing m k) reply (ap reply_in ends) (λ _ _ _. now.came)
 
     -- its reply is what its closure said
-    pub judged_reply : IsJudged g matches map.store agrees (said_of_removal reply) f
-    judged_reply = subst (λ st. IsJudged g matches map.store agrees (said_in RemoveIf st) f) state_is now.judged
-
-    -- by an owned key it is a call made alone
-    pub alone : IsLawfulKeys eq (hash map.store.hasher) → IsLawfulMap eq (hash map.store.hasher) map.store map.mode map.initial → (k : K) → ((l : K) → matches l ≡ eq k l) → hash map.store.hasher k ≡ hashed → hash map.store.hasher k < 2 ^ 64 → IsOver eq hash map (removal_by k) s reply
-    alone keys lawful k alike same fits = made_alone eq hash map (removal_by k) keys lawful fits s (removing m k) reply e (now.matched k alike same)
-
-    -- the root table's slots
-    pub removal_slots : IsLawfulKeys eq (hash map.store.hasher) → IsLawfulMap eq (hash map.store.hasher) map.store map.mode map.initial → (k : K) → ((l : K) → matches l ≡ eq k l) → hash map.store.hasher k ≡ hashed → hash map.store.hasher k < 2 ^ 64 → KeepsSlots map.store s
-    removal_slots keys lawful k alike same fits = came_slots eq hash map (removal_by k) keys lawful fits s (removing m k) (now.matched k alike same)
-
-    -- and by what matches no pair, it finds nothing
-    pub unmet : MatchesNone map.store matches → (reply ≡ Absent) × (s ≡ map.store)
-    unmet none = let was = now.unmatched none in (subst HasMetNone state_is was.0, was.1)
-
-    -- a pair that was logged still is
-    pub log_kept : (n : ℕ) → pair_of s n ≡ pair_of map.store n
-    log_kept n = let log = ends.1 in ap (λ keys. stored_in keys n (slice_get s.pairs n)) log.keys ∙ ap (λ pairs. stored_in map.store.keys n (slice_get pairs n)) log.pairs
+    pub matched_judged : IsJudged g matches map.store agrees (said_of_removal reply) f
+    matched_judged = subst (λ st. IsJudged g matches map.store agrees (said_in RemoveIf st) f) (ended_at m reply ends) now.judged

@@ -1,5 +1,5 @@
 -- Calls that are handed in as values, one after the other.
-use Rattle.std.specs.Prelude.{◌≡◌, ◌⊎◌, ℕ, Bool, true, false, Option, Some, None, List, [], ◌∷◌, option_map}
+use Rattle.std.specs.Prelude.{◌≡◌, ◌⊎◌, ℕ, Bool, true, false, Option, Some, List, [], ◌∷◌, option_map}
 use Rattle.papaya_words.specs.declared.probe.Refused as words
 use Rattle.papaya_words.specs.declared.probe.Refused.TheVariants as refusals
 use Rattle.papaya_call.specs.Answers.{Says}
@@ -12,7 +12,7 @@ use Rattle.papaya_ask.specs.declared.call.Reply.TheVariants.{Inserted, Replaced,
 use Rattle.papaya_timeline.specs.Content.{map_in}
 use Rattle.papaya_timeline.specs.Solo.{IsAnswered, IsNewIn}
 use Rattle.papaya_store.specs.Store.{StoreState, Stored, pair_of}
-use Rattle.papaya_seq.specs.Map.{IsWriteCause, IsWriteCauseAt, Keeps, MapState, entry_of, next_of}
+use Rattle.papaya_seq.specs.Map.{IsResizing, IsTryCause, IsWriteCauseAt, Keeps, MapState, entry_of}
 
 -- what the closure's answers give of the pair of this number
 abbrev pub Gives : {K V S A : Type 0} → Says K V A → A → StoreState K V S → ℕ → Bool → Type 0
@@ -24,22 +24,22 @@ abbrev pub Answers : {K V A : Type 0} → Says K V A → A → Option (Stored K 
     → Type 0
 Answers {A = A} says a held operation = (a' : A) × says.op a (option_map entry_of held) operation a'
 
-module _ {K V S A : Type 0} (says : Says K V A) (a : A) (held : Option (Stored K V))
-    (s' : StoreState K V S) where
+module _ {K V S A : Type 0} (says : Says K V A) (a : A) (s : MapState K V S)
+    (held : Option (Stored K V)) (s' : StoreState K V S) where
   -- they gave the value of the pair of this number
   abbrev GivesValue : ℕ → Type 0
   GivesValue n = (q : Stored K V) × (pair_of s' n ≡ Some q)
       × Answers says a held (ops.Insert q.value)
 
-  -- a compute's reply is what its closure's answers gave where they were shown what the class of
-  -- its key has
+  -- A compute's reply is what its closure's answers gave where they were shown what the class of
+  -- its key has. While pairs are being moved it may be refused before it shows anything.
   abbrev pub IsOperated : Reply → Type 0
   IsOperated (Inserted n) = GivesValue n
   IsOperated (Replaced m n) = GivesValue n
   IsOperated (Removed n) = Answers says a held ops.Remove
   IsOperated (Aborted t) = Answers says a held (ops.Abort t)
   IsOperated (Refused refusals.RemoveNothing) = Answers says a held ops.Remove
-  IsOperated (Refused refused) = (v : V) × Answers says a held (ops.Insert v)
+  IsOperated (Refused refused) = ((v : V) × Answers says a held (ops.Insert v)) ⊎ IsResizing s
   IsOperated _ = ⊥
 
 -- a removal's reply is what its closure's answers gave
@@ -49,34 +49,32 @@ IsJudged says a (Kept n) s = Gives says a s n false
 IsJudged says a _ s = Unit {0}
 
 -- the reply of a call that has a closure is what its answers gave
-abbrev pub IsSaid : {K V S A : Type 0} → (K → K → Bool) → Says K V A → Call K V A → StoreState K V S
+abbrev pub IsSaid : {K V S A : Type 0} → (K → K → Bool) → Says K V A → Call K V A → MapState K V S
     → Reply → StoreState K V S → Type 0
-IsSaid eq says (RemoveIf k a) s reply s' = IsJudged says a reply s
-IsSaid eq says (Compute k a) s reply s' = IsOperated says a (map_in eq s k) s' reply
+IsSaid eq says (RemoveIf k a) s reply s' = IsJudged says a reply s.store
+IsSaid eq says (Compute k a) s reply s' = IsOperated says a s (map_in eq s.store k) s' reply
 IsSaid eq says _ s reply s' = Unit {0}
 
--- A lookup is never refused, an insertion for a cause, and one that replaces nothing only where its
--- key is absent, a removal only while the root table has a next one, and a compute as an insertion,
--- or where its closure would remove what isn't there.
-abbrev pub MayRefuse : {K V S A : Type 0} → (K → K → Bool) → (K → ℕ) → StoreState K V S → Call K V A
-    → words.Refused → Type 0
-MayRefuse eq hash s (Get k) refused = ⊥
-MayRefuse eq hash s (Insert k v) refused = IsWriteCauseAt (hash k) s (map_in eq s k) refused
-MayRefuse eq hash s (TryInsert k v) refused = (map_in eq s k ≡ None)
-    × IsWriteCause (hash k) s refused
-MayRefuse eq hash s (RemoveIf k a) refused = next_of s ≡ 0 → ⊥
-MayRefuse eq hash s (Compute k a) refused = IsWriteCause (hash k) s refused
+-- A lookup is never refused, an insertion for a cause, a removal only while pairs are being moved,
+-- and a compute for a cause, or where its closure would remove what isn't there.
+abbrev pub MayRefuse : {K V S A : Type 0} → (K → K → Bool) → MapState K V S → Call K V A
+    → words.Refused → MapState K V S → Type 0
+MayRefuse eq s (Get k) refused s' = ⊥
+MayRefuse eq s (Insert k v) refused s' = IsWriteCauseAt s (map_in eq s.store k) refused s'
+MayRefuse eq s (TryInsert k v) refused s' = IsTryCause s (map_in eq s.store k) refused s'
+MayRefuse eq s (RemoveIf k a) refused s' = IsResizing s
+MayRefuse eq s (Compute k a) refused s' = IsWriteCauseAt s (map_in eq s.store k) refused s'
     ⊎ (refused ≡ refusals.RemoveNothing)
 
-module _ {K V S A : Type 0} (eq : K → K → Bool) (hash : S → K → ℕ) (says : Says K V A) where
+module _ {K V S A : Type 0} (eq : K → K → Bool) (says : Says K V A) where
   -- a call does what the finite map does, or is refused where it may be
   pub record IsCalled (s : MapState K V S) (call : Call K V A) (reply : Reply)
       (s' : MapState K V S) : Type 0 where
     pub answered : IsAnswered eq call (map_in eq s.store) reply (map_in eq s'.store)
     pub fresh : IsNewIn s.store reply
-    pub said : IsSaid eq says call s.store reply s'.store
+    pub said : IsSaid eq says call s reply s'.store
     pub cause : (refused : words.Refused) → reply ≡ Refused refused
-        → MayRefuse eq (hash s.store.hasher) s.store call refused
+        → MayRefuse eq s call refused s'
     pub keeps : Keeps s s'
 
   -- one reply a call

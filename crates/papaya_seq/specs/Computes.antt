@@ -1,5 +1,5 @@
 -- What a compute does, and what the calls do that are computes.
-use Rattle.std.specs.Prelude.{◌≡◌, ◌⊎◌, ℕ, Bool, Option, Some, None, Result, Ok, Err, option_map}
+use Rattle.std.specs.Prelude.{◌≡◌, ◌⊎◌, Bool, Option, Some, None, Result, Ok, Err, option_map}
 use denote.Ref.{Bor}
 use Rattle.papaya_words.specs.declared.probe.Refused.{Refused}
 use Rattle.papaya_words.specs.declared.probe.Refused.TheVariants.{RemoveNothing}
@@ -8,7 +8,7 @@ use Rattle.papaya_call.specs.declared.answers.Operation.TheVariants.{Insert, Rem
 use Rattle.papaya_timeline.specs.Content.{map_in}
 use Rattle.papaya_timeline.specs.Maps.{IsUpdate}
 use Rattle.papaya_store.specs.Store.{StoreState, Stored, pair_of}
-use Rattle.papaya_seq.specs.Map.{Inserts, IsWriteCause, IsOccupied, Keeps, MapState, Unchanged, deref_pair, entry_of}
+use Rattle.papaya_seq.specs.Map.{Inserts, IsOccupied, IsResizing, IsWriteCause, IsWriteCauseAt, Keeps, MapState, Unchanged, deref_pair, entry_of}
 use Rattle.papaya_keys.specs.declared.compute.Compute.{Compute}
 use Rattle.papaya_keys.specs.declared.compute.Compute.TheVariants as shown
 use Rattle.papaya_keys.specs.declared.compute.Computed.{Computed}
@@ -36,32 +36,50 @@ pub record IsNew {K V S : Type 0} (k : K) (v : V) (s s' : StoreState K V S)
   pub fresh : pair_of s q.number ≡ None
   pub logged : pair_of s' q.number ≡ Some q
 
-module _ {K V S T : Type 0} (hash : ℕ) (k : K) where
+module _ {K V S T : Type 0} (k : K) where
   -- What a compute does where the class of its key has `held` and its closure answered so: what it
   -- answers, and which pair the class has next.
-  abbrev pub Operates : StoreState K V S → StoreState K V S → Option (Stored K V) → Operation V T
+  abbrev pub Operates : MapState K V S → MapState K V S → Option (Stored K V) → Operation V T
       → Result (Computed (Stored K V) T) Refused → Option (Stored K V) → Type 0
-  Operates s s' None (Insert v) (Ok (Inserted q)) next = IsNew k v s s' q × (next ≡ Some q)
-  Operates s s' (Some p) (Insert v) (Ok (Updated old q)) next = (old ≡ p) × IsNew k v s s' q
+  Operates s s' None (Insert v) (Ok (Inserted q)) next = IsNew k v s.store s'.store q
       × (next ≡ Some q)
-  Operates s s' held (Insert v) (Err refused) next = IsWriteCause hash s refused × (next ≡ held)
+  Operates s s' (Some p) (Insert v) (Ok (Updated old q)) next = (old ≡ p)
+      × IsNew k v s.store s'.store q × (next ≡ Some q)
+  Operates s s' held (Insert v) (Err refused) next = IsWriteCauseAt s held refused s'
+      × (next ≡ held)
   Operates s s' None Remove (Err refused) next = (refused ≡ RemoveNothing) × (next ≡ None)
   Operates s s' (Some p) Remove (Ok (Removed old)) next = (old ≡ p) × (next ≡ None)
   Operates s s' held (Abort t) (Ok (Aborted u)) next = (u ≡ t) × (next ≡ held)
   Operates _ _ _ _ _ _ = ⊥
 
-module _ {K V S T : Type 0} (eq : K → K → Bool) (hash : ℕ) (k : K) where
-  -- A compute, of whose closure `said` says what it may answer where it is shown what the class of
-  -- the key has. It was called once, and answered `operation`.
-  pub record Computes (said : Option (Stored K V) → Operation V T → Type 0) (s : MapState K V S)
+-- refused, for a cause, with the map as it was
+abbrev pub IsComputeRefusal : {K V S : Type 0} → (K → K → Bool) → MapState K V S → Refused
+    → MapState K V S → Type 0
+IsComputeRefusal eq s refused s' = IsWriteCause s refused s' × Unchanged eq s.store s'.store
+    × Keeps s s'
+
+module _ {K V S T : Type 0} (eq : K → K → Bool) (k : K) where
+  -- A compute whose closure was called once, and answered `operation`. `said` says what it may
+  -- answer where it is shown what the class of the key has.
+  pub record CallsOnce (said : Option (Stored K V) → Operation V T → Type 0) (s : MapState K V S)
       (answer : Result (Computed (Stored K V) T) Refused) (s' : MapState K V S) : Type 0 where
     pub held : Option (Stored K V)
     pub operation : Operation V T
     pub answered : said held operation
     pub next : Option (Stored K V)
-    pub operates : Operates hash k s.store s'.store held operation answer next
+    pub operates : Operates k s s' held operation answer next
     pub update : IsUpdate eq k held next (map_in eq s.store) (map_in eq s'.store)
     pub keeps : Keeps s s'
+
+  -- one that was refused before its closure was called, which may be while pairs are being moved
+  abbrev pub IsRefusedFirst : MapState K V S → Result (Computed (Stored K V) T) Refused
+      → MapState K V S → Type 0
+  IsRefusedFirst s answer s' = IsResizing s × ((refused : Refused) × (answer ≡ Err refused)
+      × IsComputeRefusal eq s refused s')
+
+  abbrev pub Computes : (Option (Stored K V) → Operation V T → Type 0) → MapState K V S
+      → Result (Computed (Stored K V) T) Refused → MapState K V S → Type 0
+  Computes said s answer s' = CallsOnce said s answer s' ⊎ IsRefusedFirst s answer s'
 
 -- what was done, with something of each pair in its place
 abbrev pub computed_map : {P R T : Type 0} → (P → R) → Computed P T → Computed R T
@@ -77,19 +95,14 @@ answer_map shows (Ok done) = Ok (computed_map shows done)
 answer_map shows (Err refused) = Err refused
 
 -- a compute that answers something of each pair, as its number
-abbrev pub ComputesBy : {K V S T R : Type 0} → (K → K → Bool) → ℕ → K → (Stored K V → R)
+abbrev pub ComputesBy : {K V S T R : Type 0} → (K → K → Bool) → K → (Stored K V → R)
     → (Option (Stored K V) → Operation V T → Type 0) → MapState K V S
     → Result (Computed R T) Refused → MapState K V S → Type 0
-ComputesBy {K = K} {V = V} {T = T} eq hash k shows said s answer s' =
+ComputesBy {K = K} {V = V} {T = T} eq k shows said s answer s' =
     (done : Result (Computed (Stored K V) T) Refused) × (answer ≡ answer_map shows done)
-    × Computes eq hash k said s done s'
+    × Computes eq k said s done s'
 
-module _ {K V S : Type 0} (eq : K → K → Bool) (hash : ℕ) (k : K) where
-  -- refused, for a cause, with the map as it was
-  abbrev pub IsComputeRefusal : MapState K V S → Refused → MapState K V S → Type 0
-  IsComputeRefusal s refused s' = IsWriteCause hash s.store refused × Unchanged eq s.store s'.store
-      × Keeps s s'
-
+module _ {K V S : Type 0} (eq : K → K → Bool) (k : K) where
   -- What an update answers: the value that it computed of the key's, or that the key is absent, or
   -- a refusal. `computes` says what the closure may answer of a value.
   abbrev pub IsUpdated : (V → V → Type 0) → MapState K V S → Result (Option V) Refused
@@ -98,8 +111,9 @@ module _ {K V S : Type 0} (eq : K → K → Bool) (hash : ℕ) (k : K) where
       × Keeps s s'
   IsUpdated computes s (Ok (Some v)) s' = (old : V) × computes old v
       × Inserts eq k v s.store (Some old) s'.store × Keeps s s'
-  IsUpdated computes s (Err refused) s' = (p : Stored K V) × (map_in eq s.store k ≡ Some p)
-      × IsComputeRefusal s refused s'
+  IsUpdated computes s (Err refused) s' =
+      (((p : Stored K V) × (map_in eq s.store k ≡ Some p)) ⊎ IsResizing s)
+      × IsComputeRefusal eq s refused s'
 
   -- What an update answers that stores a value where the key is absent: the value that the key has
   -- then, or a refusal. `makes` says which value is stored.
@@ -108,7 +122,7 @@ module _ {K V S : Type 0} (eq : K → K → Bool) (hash : ℕ) (k : K) where
   IsUpdatedOrInserted computes makes s (Ok v) s' =
       (((old : V) × computes old v × Inserts eq k v s.store (Some old) s'.store)
       ⊎ (makes v × Inserts eq k v s.store None s'.store)) × Keeps s s'
-  IsUpdatedOrInserted computes makes s (Err refused) s' = IsComputeRefusal s refused s'
+  IsUpdatedOrInserted computes makes s (Err refused) s' = IsComputeRefusal eq s refused s'
 
   -- What an insertion of an absent key answers whose value a closure makes: the value that was
   -- stored, or the one that is there, or a refusal. `makes` says what the closure may answer.
@@ -116,8 +130,8 @@ module _ {K V S : Type 0} (eq : K → K → Bool) (hash : ℕ) (k : K) where
       → MapState K V S → Type 0
   IsTriedWith makes s (Ok (Ok v)) s' = makes v × Inserts eq k v s.store None s'.store × Keeps s s'
   IsTriedWith makes s (Ok (Err current)) s' = IsOccupied eq k s.store current s'.store × Keeps s s'
-  IsTriedWith makes s (Err refused) s' = (map_in eq s.store k ≡ None)
-      × IsComputeRefusal s refused s'
+  IsTriedWith makes s (Err refused) s' = ((map_in eq s.store k ≡ None) ⊎ IsResizing s)
+      × IsComputeRefusal eq s refused s'
 
   -- the same where it is not told which of the two it is
   abbrev pub HasValueOf : (V → Type 0) → MapState K V S → Result V Refused → MapState K V S → Type 0

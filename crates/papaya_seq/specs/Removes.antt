@@ -4,11 +4,17 @@ use denote.Ref.{Bor}
 use Rattle.std.specs.Fn.{Called, Mut}
 use Rattle.papaya_words.specs.declared.probe.Refused as words
 use Rattle.papaya_ask.specs.declared.ask.Answer.{Answer}
-use Rattle.papaya_ask.specs.declared.ask.Answer.TheVariants.{Yes, Ok as Ok_done}
+use Rattle.papaya_ask.specs.declared.ask.Answer.TheVariants.{Word as Word_read, Yes, Ok as Ok_done}
+use Rattle.papaya_ask.specs.declared.ask.Ask.{Ask}
+use Rattle.papaya_ask.specs.declared.ask.Ask.TheVariants.{Load, Exchange, SameKey, ShowNone, ShowPair, SizeOf, MakeKey, MakePair, MakeTable, AddToShard, Done as Ask_done}
 use Rattle.papaya_ask.specs.declared.call.Reply.{Reply}
 use Rattle.papaya_ask.specs.declared.call.Reply.TheVariants.{Absent, Removed, Kept, Refused}
+use Rattle.papaya_store.specs.Performs.{Exchanges, size_of}
 use Rattle.papaya_store.specs.Store.{StoreState, Stored, pair_of}
-use Rattle.papaya_seq.specs.Map.{HasNone, Holds, Keeps, MapState, Removes, Unchanged, entry_of}
+use Rattle.papaya_store.specs.Tables.{put, table_of, word_at}
+use Rattle.papaya_words.specs.Counter.{added}
+use Rattle.papaya_seq.specs.Looks.{matches_in}
+use Rattle.papaya_seq.specs.Map.{HasNone, Holds, IsMakeRefusal, KeepsRemoving, MapState, Removes, Unchanged, entry_of}
 
 -- the closure, as it is, may answer this of the pair that it is shown
 abbrev pub Judges : {F K V : Type 0} → Mut F (Bor K × (Bor V × Unit {0})) Bool → F → Stored K V
@@ -23,6 +29,31 @@ IsShown g None f answer f' = (answer ≡ Ok_done) × (f' ≡ f)
 IsShown {K = K} {V = V} g (Some p) f answer f' = (key : Bor K) × (value : Bor V) × (agrees : Bool)
     × (key.now ≡ p.key) × (value.now ≡ p.value) × (answer ≡ Yes agrees)
     × Called g f (key, (value, tt)) agrees f'
+
+-- a removal shows only a pair, and makes nothing
+abbrev pub IsRemovalAsk : Ask → Type 0
+IsRemovalAsk ShowNone = ⊥
+IsRemovalAsk MakeKey = ⊥
+IsRemovalAsk MakePair = ⊥
+IsRemovalAsk (MakeTable slots limit) = ⊥
+IsRemovalAsk (Ask_done reply) = ⊥
+IsRemovalAsk _ = Unit {0}
+
+module _ {K V S F : Type 0} (g : Mut F (Bor K × (Bor V × Unit {0})) Bool) (matches : K → Bool) where
+  -- an ask of a removal is answered by the store, and a showing by the closure
+  abbrev pub IsRemovalAnswer : Ask → StoreState K V S → F → Answer → StoreState K V S → F → Type 0
+  IsRemovalAnswer (Load at) s f answer s' f' = (answer ≡ Word_read (word_at s.words at)) × (s' ≡ s)
+      × (f' ≡ f)
+  IsRemovalAnswer (Exchange at old new) s f answer s' f' =
+      Exchanges (word_at s.words at) old (put s.words at new) answer s s' × (f' ≡ f)
+  IsRemovalAnswer (SameKey n) s f answer s' f' =
+      (answer ≡ Yes (matches_in matches (pair_of s n))) × (s' ≡ s) × (f' ≡ f)
+  IsRemovalAnswer (ShowPair n) s f answer s' f' = IsShown g (pair_of s n) f answer f' × (s' ≡ s)
+  IsRemovalAnswer (SizeOf t) s f answer s' f' = (answer ≡ size_of (table_of s.words.tables t))
+      × (s' ≡ s) × (f' ≡ f)
+  IsRemovalAnswer (AddToShard by) s f answer s' f' = (answer ≡ Ok_done)
+      × ((number : ℕ) × (s' ≡ record s { count = added s.count number by })) × (f' ≡ f)
+  IsRemovalAnswer ask s f answer s' f' = ⊥
 
 module _ {K V S : Type 0} (eq : K → K → Bool) (matches : K → Bool) where
   -- the pair of this number is the map's pair whose key matches
@@ -55,9 +86,10 @@ module _ {K V S : Type 0} (eq : K → K → Bool) (matches : K → Bool)
   abbrev pub IsJudged : MapState K V S → Result (Result (Option (K × V)) (K × V)) words.Refused
       → MapState K V S → Type 0
   IsJudged s (Ok (Ok None)) s' = HasNone eq matches s.store × Unchanged eq s.store s'.store
-      × Keeps s s'
+      × KeepsRemoving s s'
   IsJudged s (Ok (Ok (Some entry))) s' = (p : Stored K V) × (entry_of p ≡ entry)
-      × Removes eq matches s.store p s'.store × said p true × Keeps s s'
+      × Removes eq matches s.store p s'.store × said p true × KeepsRemoving s s'
   IsJudged s (Ok (Err entry)) s' = (p : Stored K V) × (entry_of p ≡ entry)
-      × Holds eq matches s.store p × said p false × Unchanged eq s.store s'.store × Keeps s s'
-  IsJudged s (Err refused) s' = Unchanged eq s.store s'.store × Keeps s s'
+      × Holds eq matches s.store p × said p false × Unchanged eq s.store s'.store × KeepsRemoving s s'
+  IsJudged s (Err refused) s' = IsMakeRefusal refused × Unchanged eq s.store s'.store
+      × KeepsRemoving s s'

@@ -4,10 +4,11 @@ ghost use Rattle.std.specs.Borrow.{sem};
 ghost use Rattle.std.specs.Fn.{FnReturnsAt};
 ghost use Rattle.papaya_timeline.specs.Content.{map_in};
 ghost use Rattle.papaya_store.specs.Store.{pair_of};
-ghost use Rattle.papaya_keys.specs.Hashes.{hash_of};
 ghost use Rattle.papaya_seq.specs.Answered.{IsParted, old_answered, value_answered};
-ghost use Rattle.papaya_seq.specs.Computes.{ComputesBy, HasValueOf, IsTriedWith, IsUpdated, IsUpdatedOrInserted, Says, Takes, compute_answered, tried_answered};
-ghost use Rattle.papaya_seq.specs.Map.{IsWriteCause, MapState, entry_of};
+ghost use Rattle.papaya_seq.specs.Computes.{ComputesBy, HasValueOf, IsTriedWith, IsUpdated};
+ghost use Rattle.papaya_seq.specs.Computes.{IsUpdatedOrInserted, Says, Takes, compute_answered};
+ghost use Rattle.papaya_seq.specs.Computes.{tried_answered};
+ghost use Rattle.papaya_seq.specs.Map.{IsMakeRefusal, MapState, entry_of};
 
 use crate::seq::HashMap;
 use papaya_call::answers::Operation;
@@ -29,9 +30,7 @@ impl<K: Hash + Eq + Drop, V: Drop, S: BuildHasher> HashMap<K, V, S> {
         f: F,
     ) -> Result<Computed<u64, T>, Refused>
         requires { Takes (F.pre f) (map_in K.eq self.old.store key) }
-        ensures { ComputesBy K.eq (hash_of K.hash_input S.build_hasher S.Hasher.write
-            S.Hasher.finish self.old.store.hasher key) key (λ p. p.number) (Says (F.post f))
-            self.old result self.new }
+        ensures { ComputesBy K.eq key (λ p. p.number) (Says (F.post f)) self.old result self.new }
     {
         self.compute_by(key, f).1
     }
@@ -50,24 +49,21 @@ impl<K: Hash + Eq + Drop, V: Drop, S: BuildHasher> HashMap<K, V, S> {
 
     /// What the closure makes of the key's pair, or of its absence: `compute` of 0.2.5. It is shown
     /// the pair, if there is one, and says what is stored, that the pair is removed, or that
-    /// nothing
-    /// is changed. Its references last for that one call of it.
+    /// nothing is changed. Its references last for that one call of it.
     ///
     /// Refused as [`HashMap::insert`], and with `Refused::RemoveNothing` where the closure would
-    /// remove and there is no pair.
+    /// remove and there is no pair. While pairs are being moved it may be refused before the closure
+    /// is called.
     ///
     /// It is [`HashMap::compute_into`], which says what the map is after it: take that where a
-    /// proof
-    /// needs it. No clause says it here, since the answer may own a `T`.
+    /// proof needs it. No clause says it here, since the answer may own a `T`.
     pub fn compute<T: Drop, F: FnMut(Option<(&K, &V)>) -> Operation<V, T>>(
         &mut self,
         key: K,
         f: F,
     ) -> Result<Compute<'_, K, V, T>, Refused>
         requires { Takes (F.pre f) (map_in K.eq self.old.store key) }
-        ensures { (after : MapState _ _ _) × ComputesBy K.eq
-            (hash_of K.hash_input S.build_hasher S.Hasher.write S.Hasher.finish
-            self.old.store.hasher key) key entry_of (Says (F.post f)) self.old
+        ensures { (after : MapState _ _ _) × ComputesBy K.eq key entry_of (Says (F.post f)) self.old
             (compute_answered result) after }
     {
         let mut aborted = None;
@@ -83,8 +79,7 @@ impl<K: Hash + Eq + Drop, V: Drop, S: BuildHasher> HashMap<K, V, S> {
     }
 
     /// [`HashMap::compute`] which leaves what its closure aborts with in `aborted`. So its answer
-    /// owns
-    /// nothing, and its clause says what the map is after it.
+    /// owns nothing, and its clause says what the map is after it.
     pub fn compute_into<T: Drop, F: FnMut(Option<(&K, &V)>) -> Operation<V, T>>(
         &mut self,
         key: K,
@@ -94,12 +89,10 @@ impl<K: Hash + Eq + Drop, V: Drop, S: BuildHasher> HashMap<K, V, S> {
         requires { Takes (F.pre f) (map_in K.eq self.old.store key) }
         ensures* computes { sem 𝓛 (ends_so K.row V.row S.row S.Hasher.row K.Hash S.BuildHasher
             S.Hasher.Hasher self.entry (λ after. (answer : _)
-            × ComputesBy K.eq (hash_of K.hash_input S.build_hasher S.Hasher.write S.Hasher.finish
-            self.old.store.hasher key) key entry_of (Says (F.post f)) self.old answer after
+            × ComputesBy K.eq key entry_of (Says (F.post f)) self.old answer after
             × IsParted answer (compute_answered result) aborted.old aborted.new)) }
         ensures parted { (answer : _) × (after : MapState _ _ _)
-            × ComputesBy K.eq (hash_of K.hash_input S.build_hasher S.Hasher.write S.Hasher.finish
-            self.old.store.hasher key) key entry_of (Says (F.post f)) self.old answer after
+            × ComputesBy K.eq key entry_of (Says (F.post f)) self.old answer after
             × IsParted answer (compute_answered result) aborted.old aborted.new }
     {
         let computed = self.compute_numbered(key, f)?;
@@ -129,18 +122,16 @@ impl<K: Hash + Eq + Drop, V: Drop, S: BuildHasher> HashMap<K, V, S> {
     /// Puts what the closure computes of the key's value in its place, and answers the new value:
     /// `update` of 0.2.5. `Ok(None)` where the key is absent.
     ///
-    /// Refused as [`HashMap::insert`], and only where the key is in the map.
+    /// Refused as [`HashMap::insert`], and only where the key is in the map, or while pairs are being
+    /// moved.
     pub fn update<F: Fn(&V) -> V>(&mut self, key: K, f: F) -> Result<Option<&V>, Refused>
         requires { F.IsAlwaysCallable f }
         ensures* updates { sem 𝓛 (ends_so K.row V.row S.row S.Hasher.row K.Hash S.BuildHasher
-            S.Hasher.Hasher self.entry (IsUpdated K.eq
-            (hash_of K.hash_input S.build_hasher S.Hasher.write S.Hasher.finish
-            self.old.store.hasher key) key (FnReturnsAt F.Fn f) self.old (old_answered result))) }
+            S.Hasher.Hasher self.entry (IsUpdated K.eq key (FnReturnsAt F.Fn f) self.old (old_answered result))) }
         ensures new { IfOk result (λ new. MatchOption new (map_in K.eq self.old.store key ≡ None)
             (λ v. (p : _) × (map_in K.eq self.old.store key ≡ Some p)
             × FnReturnsAt F.Fn f p.value v.now)) }
-        ensures err { IfErr result (IsWriteCause (hash_of K.hash_input S.build_hasher S.Hasher.write
-            S.Hasher.finish self.old.store.hasher key) self.old.store) }
+        ensures err { IfErr result IsMakeRefusal }
     {
         let (_, computed) = self.compute_by(
             key,
@@ -174,21 +165,17 @@ impl<K: Hash + Eq + Drop, V: Drop, S: BuildHasher> HashMap<K, V, S> {
     ) -> Result<&V, Refused>
         requires { U.IsAlwaysCallable update }
         ensures* stores { sem 𝓛 (ends_so K.row V.row S.row S.Hasher.row K.Hash S.BuildHasher
-            S.Hasher.Hasher self.entry (IsUpdatedOrInserted K.eq
-            (hash_of K.hash_input S.build_hasher S.Hasher.write S.Hasher.finish
-            self.old.store.hasher key) key (FnReturnsAt U.Fn update) (λ v. v ≡ value) self.old
+            S.Hasher.Hasher self.entry (IsUpdatedOrInserted K.eq key (FnReturnsAt U.Fn update) (λ v. v ≡ value) self.old
             (value_answered result))) }
         ensures value { IfOk result (λ v. MatchOption (map_in K.eq self.old.store key)
             (v.now ≡ value) (λ p. FnReturnsAt U.Fn update p.value v.now)) }
-        ensures err { IfErr result (IsWriteCause (hash_of K.hash_input S.build_hasher S.Hasher.write
-            S.Hasher.finish self.old.store.hasher key) self.old.store) }
+        ensures err { IfErr result IsMakeRefusal }
     {
         self.update_or_insert_with(key, update, || value)
     }
 
     /// The same where a closure makes the value: `update_or_insert_with` of 0.2.5. It is called
-    /// only
-    /// where the key is absent.
+    /// only where the key is absent.
     ///
     /// Refused as [`HashMap::insert`].
     pub fn update_or_insert_with<U: Fn(&V) -> V, F: FnOnce() -> V>(
@@ -200,14 +187,11 @@ impl<K: Hash + Eq + Drop, V: Drop, S: BuildHasher> HashMap<K, V, S> {
         requires update { U.IsAlwaysCallable update }
         requires absent { map_in K.eq self.old.store key ≡ None → F.pre f }
         ensures* stores { sem 𝓛 (ends_so K.row V.row S.row S.Hasher.row K.Hash S.BuildHasher
-            S.Hasher.Hasher self.entry (IsUpdatedOrInserted K.eq
-            (hash_of K.hash_input S.build_hasher S.Hasher.write S.Hasher.finish
-            self.old.store.hasher key) key (FnReturnsAt U.Fn update) (F.post f) self.old
+            S.Hasher.Hasher self.entry (IsUpdatedOrInserted K.eq key (FnReturnsAt U.Fn update) (F.post f) self.old
             (value_answered result))) }
         ensures value { IfOk result (λ v. MatchOption (map_in K.eq self.old.store key)
             (F.post f v.now) (λ p. FnReturnsAt U.Fn update p.value v.now)) }
-        ensures err { IfErr result (IsWriteCause (hash_of K.hash_input S.build_hasher S.Hasher.write
-            S.Hasher.finish self.old.store.hasher key) self.old.store) }
+        ensures err { IfErr result IsMakeRefusal }
     {
         let (_, computed) = self.compute_by(
             key,
@@ -236,7 +220,8 @@ impl<K: Hash + Eq + Drop, V: Drop, S: BuildHasher> HashMap<K, V, S> {
     /// `Ok` has the new value, and `Err` the one that the key has. The closure is called only where
     /// the key is absent.
     ///
-    /// Refused as [`HashMap::insert`], and only where the key is absent.
+    /// Refused as [`HashMap::insert`], and only where the key is absent, or while pairs are being
+    /// moved.
     pub fn try_insert_with<F: FnOnce() -> V>(
         &mut self,
         key: K,
@@ -244,15 +229,12 @@ impl<K: Hash + Eq + Drop, V: Drop, S: BuildHasher> HashMap<K, V, S> {
     ) -> Result<Result<&V, &V>, Refused>
         requires { map_in K.eq self.old.store key ≡ None → F.pre f }
         ensures* stores { sem 𝓛 (ends_so K.row V.row S.row S.Hasher.row K.Hash S.BuildHasher
-            S.Hasher.Hasher self.entry (IsTriedWith K.eq
-            (hash_of K.hash_input S.build_hasher S.Hasher.write S.Hasher.finish
-            self.old.store.hasher key) key (F.post f) self.old (tried_answered result))) }
+            S.Hasher.Hasher self.entry (IsTriedWith K.eq key (F.post f) self.old (tried_answered result))) }
         ensures stored { IfOk result (λ tried. IfOk tried
             (λ v. F.post f v.now × (map_in K.eq self.old.store key ≡ None))) }
         ensures occupied { IfOk result (λ tried. IfErr tried
             (λ v. (p : _) × (map_in K.eq self.old.store key ≡ Some p) × (p.value ≡ v.now))) }
-        ensures err { IfErr result (IsWriteCause (hash_of K.hash_input S.build_hasher S.Hasher.write
-            S.Hasher.finish self.old.store.hasher key) self.old.store) }
+        ensures err { IfErr result IsMakeRefusal }
     {
         let (shown, computed) = self.compute_by(
             key,
@@ -278,17 +260,15 @@ impl<K: Hash + Eq + Drop, V: Drop, S: BuildHasher> HashMap<K, V, S> {
     /// The value of a key, which the closure makes where the key is absent: `get_or_insert_with` of
     /// 0.2.5. The closure is called only there.
     ///
-    /// Refused as [`HashMap::insert`], and only where the key is absent.
+    /// Refused as [`HashMap::insert`], and only where the key is absent, or while pairs are being
+    /// moved.
     pub fn get_or_insert_with<F: FnOnce() -> V>(&mut self, key: K, f: F) -> Result<&V, Refused>
         requires { map_in K.eq self.old.store key ≡ None → F.pre f }
         ensures* stores { sem 𝓛 (ends_so K.row V.row S.row S.Hasher.row K.Hash S.BuildHasher
-            S.Hasher.Hasher self.entry (HasValueOf K.eq
-            (hash_of K.hash_input S.build_hasher S.Hasher.write S.Hasher.finish
-            self.old.store.hasher key) key (F.post f) self.old (value_answered result))) }
+            S.Hasher.Hasher self.entry (HasValueOf K.eq key (F.post f) self.old (value_answered result))) }
         ensures value { IfOk result (λ v. MatchOption (map_in K.eq self.old.store key)
             (F.post f v.now) (λ p. p.value ≡ v.now)) }
-        ensures err { IfErr result (IsWriteCause (hash_of K.hash_input S.build_hasher S.Hasher.write
-            S.Hasher.finish self.old.store.hasher key) self.old.store) }
+        ensures err { IfErr result IsMakeRefusal }
     {
         match self.try_insert_with(key, f)? {
             Ok(value) | Err(value) => Ok(value),

@@ -1,14 +1,14 @@
 //! Computes: their machine, answered by the store and by one call of a closure.
-ghost use Rattle.std.specs.Prelude.{◌≡◌, Some, None, option_map};
+ghost use Rattle.std.specs.Prelude.{◌≡◌, IfOk, Some, None, option_map};
 ghost use Rattle.papaya_timeline.specs.Content.{map_in};
-ghost use Rattle.papaya_keys.specs.Hashes.{hash_of};
 ghost use Rattle.papaya_seq.specs.Computes.{ComputesBy, Says, Takes};
 ghost use Rattle.papaya_seq.specs.Computing.{IsComputed, IsKept, Replies};
 
 use crate::seq::HashMap;
-use papaya_ask::ask::{Answer, Ask, OpKind};
+use papaya_ask::ask::{Answer as CallAnswer, Ask as CallAsk, OpKind};
 use papaya_ask::call::{Reply, Task};
 use papaya_call::answers::{Listed, Operation};
+use papaya_chain::ask::{Answer, Ask};
 use papaya_chain::machine::Machine;
 use papaya_keys::compute::Computed;
 use papaya_store::pairs::{KeyOf, Running};
@@ -29,7 +29,7 @@ fn show<K, V: Drop, T: Drop, F: FnOnce(Option<(&K, &V)>) -> Operation<V, T>>(
     closure: &mut Option<F>,
     value: &mut Option<V>,
     aborted: &mut Option<T>,
-) -> Answer
+) -> CallAnswer
     requires { (f : F) × (closure.old ≡ Some f) × F.pre f shown }
     ensures { (f : F) × (operation : Operation V T) × (closure.old ≡ Some f) × (closure.new ≡ None)
         × F.post f shown.entry operation × IsKept operation result value.old value.new aborted.old
@@ -38,7 +38,7 @@ fn show<K, V: Drop, T: Drop, F: FnOnce(Option<(&K, &V)>) -> Operation<V, T>>(
     let Some(f) = closure.take() else {
         unreachable!()
     };
-    Answer::Op(match f(shown) {
+    CallAnswer::Op(match f(shown) {
         Operation::Insert(made) => {
             *value = Some(made);
             OpKind::Insert
@@ -74,10 +74,10 @@ impl<K: Hash + Eq + Drop, V: Drop, S: BuildHasher> HashMap<K, V, S> {
         f: F,
     ) -> (Option<u64>, Result<Computed<u64, T>, Refused>)
         requires { Takes (F.pre f) (map_in K.eq self.old.store key) }
-        ensures shown { result.0 ≡ option_map (λ p. p.number) (map_in K.eq self.old.store key) }
-        ensures computes { ComputesBy K.eq (hash_of K.hash_input S.build_hasher S.Hasher.write
-            S.Hasher.finish self.old.store.hasher key) key (λ p. p.number) (Says (F.post f))
-            self.old result.1 self.new }
+        ensures shown { IfOk result.1 (λ _. result.0 ≡ option_map (λ p. p.number)
+            (map_in K.eq self.old.store key)) }
+        ensures computes { ComputesBy K.eq key (λ p. p.number) (Says (F.post f)) self.old result.1
+            self.new }
     {
         let hash = self.store.hash(&key);
         let mut running: Running<K, V, Listed<V>> = Running {
@@ -90,22 +90,23 @@ impl<K: Hash + Eq + Drop, V: Drop, S: BuildHasher> HashMap<K, V, S> {
         let mut shown = None;
         let mut aborted = None;
         loop {
-            // The call goes on for itself: the map has one table, and none is made after it.
-            let ask = running.machine.call.ask();
+            let ask = running.machine.ask();
             let answer = match ask {
-                Ask::ShowNone => {
+                Ask::Call(CallAsk::ShowNone) => {
                     let entry = no_pair(&self.store);
-                    show(entry, &mut closure, &mut running.value, &mut aborted)
+                    Answer::Call(show(entry, &mut closure, &mut running.value, &mut aborted))
                 }
-                Ask::ShowPair(pair) => {
+                Ask::Call(CallAsk::ShowPair(pair)) => {
                     shown = Some(pair);
                     let entry = self.store.pair(pair);
-                    show(entry, &mut closure, &mut running.value, &mut aborted)
+                    Answer::Call(show(entry, &mut closure, &mut running.value, &mut aborted))
                 }
-                Ask::Done(reply) => return (shown, computed(reply, aborted)),
-                _ => self.store.perform(self.alloc, 0, &mut running, ask, false),
+                Ask::Call(CallAsk::Done(reply)) => return (shown, computed(reply, aborted)),
+                _ => self
+                    .store
+                    .perform_ask(self.alloc, 0, &mut running, ask, false),
             };
-            running.machine.call.answer(answer);
+            running.machine.answer(answer);
         }
     }
 }

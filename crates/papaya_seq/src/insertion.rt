@@ -1,15 +1,15 @@
 //! Insertions: their machine, answered by the store.
-ghost use Rattle.std.specs.Prelude.{◌≡◌, ℕ, Bool, false, Option, Some, None, cond};
+ghost use Rattle.std.specs.Prelude.{◌≡◌, ℕ, false, Some, None};
 ghost use Rattle.papaya_words.specs.declared.probe.Refused.{Refused};
 ghost use Rattle.papaya_timeline.specs.Content.{map_in};
 ghost use Rattle.papaya_timeline.specs.Solo.{IsAnswered, IsNewIn};
-ghost use Rattle.papaya_keys.specs.Hashes.{hash_of};
-ghost use Rattle.papaya_seq.specs.Map.{IsWriteCause, IsWriteCauseAt, Keeps, insertion};
+ghost use Rattle.papaya_seq.specs.Map.{IsTryCause, IsWriteCauseAt, Keeps, insertion};
 
 use crate::seq::HashMap;
-use papaya_ask::ask::Ask;
+use papaya_ask::ask::Ask as CallAsk;
 use papaya_ask::call::{Reply, Task};
 use papaya_call::answers::Listed;
+use papaya_chain::ask::Ask;
 use papaya_chain::machine::Machine;
 use papaya_store::pairs::{KeyOf, Running};
 use std::hash::{BuildHasher, Hash};
@@ -29,12 +29,9 @@ impl<K: Hash + Eq + Drop, V: Drop, S: BuildHasher> HashMap<K, V, S> {
             result.0 (map_in K.eq self.new.store) }
         ensures fresh { IsNewIn self.old.store result.0 }
         ensures cause { (refused : Refused) → result.0 ≡ Reply.Refused refused
-            → IsWriteCauseAt (hash_of K.hash_input S.build_hasher S.Hasher.write S.Hasher.finish
-            self.old.store.hasher key) self.old.store (map_in K.eq self.old.store key) refused }
+            → IsWriteCauseAt self.old (map_in K.eq self.old.store key) refused self.new }
         ensures absent { replace ≡ false → (refused : Refused) → result.0 ≡ Reply.Refused refused
-            → (map_in K.eq self.old.store key ≡ None)
-            × IsWriteCause (hash_of K.hash_input S.build_hasher S.Hasher.write S.Hasher.finish
-            self.old.store.hasher key) self.old.store refused }
+            → IsTryCause self.old (map_in K.eq self.old.store key) refused self.new }
         ensures left { (n : ℕ) → result.0 ≡ Reply.Occupied n → result.1 ≡ Some value }
         ensures keeps { Keeps self.old self.new }
     {
@@ -46,13 +43,14 @@ impl<K: Hash + Eq + Drop, V: Drop, S: BuildHasher> HashMap<K, V, S> {
             answers: None,
         };
         loop {
-            // The call goes on for itself: the map has one table, and none is made after it.
-            let ask = running.machine.call.ask();
-            if let Ask::Done(reply) = ask {
+            let ask = running.machine.ask();
+            if let Ask::Call(CallAsk::Done(reply)) = ask {
                 return (reply, value_left(running));
             }
-            let answer = self.store.perform(self.alloc, 0, &mut running, ask, false);
-            running.machine.call.answer(answer);
+            let answer = self
+                .store
+                .perform_ask(self.alloc, 0, &mut running, ask, false);
+            running.machine.answer(answer);
         }
     }
 }

@@ -1,16 +1,17 @@
 //! Removals: their machine, answered by the words that stand in the tables and by a closure.
-ghost use Rattle.std.specs.Prelude.{◌≡◌, ℕ, Option, Some, None};
+ghost use Rattle.std.specs.Prelude.{◌≡◌};
 ghost use Rattle.papaya_words.specs.declared.probe.Refused.{Refused};
 ghost use Rattle.papaya_store.specs.Store.{pair_of};
-ghost use Rattle.papaya_keys.specs.Hashes.{hash_of};
-ghost use Rattle.papaya_seq.specs.Map.{Keeps, next_of};
-ghost use Rattle.papaya_seq.specs.Removes.{IsRemovalBy, IsShown, Judges};
+ghost use Rattle.papaya_seq.specs.Map.{IsMakeRefusal, KeepsRemoving, next_of};
+ghost use Rattle.papaya_seq.specs.Removes.{IsRemovalAnswer, IsRemovalAsk, IsRemovalBy, IsShown};
+ghost use Rattle.papaya_seq.specs.Removes.{Judges};
 
 use crate::lookup::matches;
 use crate::seq::HashMap;
-use papaya_ask::ask::{Answer, Ask};
+use papaya_ask::ask::{Answer as CallAnswer, Ask as CallAsk};
 use papaya_ask::call::{Reply, Task};
-use papaya_call::machine::Machine;
+use papaya_chain::ask::{Answer, Ask};
+use papaya_chain::machine::Machine;
 use papaya_keys::guard::Equivalent;
 use papaya_store::store::Store;
 use std::hash::{BuildHasher, Hash};
@@ -21,18 +22,51 @@ fn show<K: Hash + Eq, V, S: BuildHasher, F: FnMut(&K, &V) -> bool>(
     store: &Store<K, V, S>,
     pair: u64,
     agrees: &mut F,
-) -> Answer
+) -> CallAnswer
     requires { F.IsAlwaysCallable agrees.old }
     ensures callable { F.IsAlwaysCallable agrees.new }
     ensures shown { IsShown F.FnMut (pair_of store.now pair) agrees.old result agrees.new }
 {
     match store.pair(pair) {
-        Some((key, value)) => Answer::Yes(agrees(key, value)),
-        None => Answer::Ok,
+        Some((key, value)) => CallAnswer::Yes(agrees(key, value)),
+        None => CallAnswer::Ok,
     }
 }
 
-impl<K: Hash + Eq, V, S: BuildHasher> HashMap<K, V, S> {
+/// Answers what a removal asks: by the words that stand in the tables, and by its closure.
+#[inline]
+fn answer_removal<K: Hash + Eq, V, S: BuildHasher, Q: Equivalent<K>, F: FnMut(&K, &V) -> bool>(
+    store: &mut Store<K, V, S>,
+    ask: CallAsk,
+    key: &Q,
+    agrees: &mut F,
+) -> CallAnswer
+    requires callable { F.IsAlwaysCallable agrees.old }
+    requires asked { IsRemovalAsk ask }
+    ensures callable { F.IsAlwaysCallable agrees.new }
+    ensures answers { IsRemovalAnswer F.FnMut (Q.matches key.now) ask store.old agrees.old result
+        store.new agrees.new }
+{
+    match ask {
+        CallAsk::Load(at) => CallAnswer::Word(store.word(at)),
+        CallAsk::Exchange(at, old, new) => store.exchange(at, old, new),
+        CallAsk::SameKey(pair) => CallAnswer::Yes(matches(store, pair, key)),
+        CallAsk::ShowPair(pair) => show(store, pair, agrees),
+        CallAsk::SizeOf(table) => store.size_of(table),
+        CallAsk::AddToShard(by) => {
+            store.add_to_shard(0, by);
+            CallAnswer::Ok
+        }
+        // A removal shows only a pair, and makes nothing.
+        CallAsk::ShowNone
+        | CallAsk::MakeKey
+        | CallAsk::MakePair
+        | CallAsk::MakeTable { .. }
+        | CallAsk::Done(_) => unreachable!(),
+    }
+}
+
+impl<K: Hash + Eq + Drop, V: Drop, S: BuildHasher> HashMap<K, V, S> {
     /// Removes a key's pair if the closure agrees: what the machine replies.
     pub(crate) fn remove_by<Q: Equivalent<K>, F: FnMut(&K, &V) -> bool>(
         &mut self,
@@ -44,26 +78,19 @@ impl<K: Hash + Eq, V, S: BuildHasher> HashMap<K, V, S> {
             result self.new.store }
         ensures never { next_of self.old.store ≡ 0 → (refused : Refused)
             → result ≡ Reply.Refused refused → ⊥ }
-        ensures keeps { Keeps self.old self.new }
+        ensures refusal { (refused : Refused) → result ≡ Reply.Refused refused
+            → IsMakeRefusal refused }
+        ensures keeps { KeepsRemoving self.old self.new }
     {
         let hash = self.store.hash(key);
         let mut machine = Machine::new(Task::RemoveIf, hash, self.mode, self.initial);
         loop {
             let answer = match machine.ask() {
-                Ask::Load(at) => Answer::Word(self.store.word(at)),
-                Ask::Exchange(at, old, new) => self.store.exchange(at, old, new),
-                Ask::SameKey(pair) => Answer::Yes(matches(&self.store, pair, key)),
-                Ask::ShowPair(pair) => show(&self.store, pair, &mut agrees),
-                Ask::SizeOf(table) => self.store.size_of(table),
-                Ask::AddToShard(by) => {
-                    self.store.add_to_shard(0, by);
-                    Answer::Ok
-                }
-                Ask::Done(reply) => return reply,
-                // A removal shows only a pair, and makes nothing.
-                Ask::ShowNone | Ask::MakeKey | Ask::MakePair | Ask::MakeTable { .. } => {
-                    unreachable!()
-                }
+                Ask::Call(ask) => match ask {
+                    CallAsk::Done(reply) => return reply,
+                    _ => Answer::Call(answer_removal(&mut self.store, ask, key, &mut agrees)),
+                },
+                Ask::Copy(ask) => self.store.perform_copy(self.alloc, ask, false),
             };
             machine.answer(answer);
         }

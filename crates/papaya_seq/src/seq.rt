@@ -1,5 +1,8 @@
 //! The map for one caller.
-ghost use Rattle.std.specs.Prelude.{◌≡◌, ◌≢◌, ℕ, ◌<◌, Bool, true, false, Option, Some, None, List, [], ◌∷◌, ◌++◌, ◌≤◌, length, vec_len, vec_capacity, IfOk, IfErr, IsOk, IsSome, MatchOption, MatchBool, is_some, option_map};
+ghost use Rattle.std.specs.Prelude.{◌≡◌, ◌≢◌, ◌⊎◌, ◌<◌, ◌≤◌, true, false, Some, None};
+ghost use Rattle.std.specs.Prelude.{[], ◌∷◌, ◌++◌};
+ghost use Rattle.std.specs.Prelude.{IfOk, IfErr, IsOk, IsSome, MatchOption, MatchBool, is_some};
+ghost use Rattle.std.specs.Prelude.{length, option_map, vec_len, vec_capacity};
 ghost use Rattle.std.specs.Borrow.{sem};
 ghost use Rattle.papaya_words.specs.declared.limits.TheConstants.{DEFAULT_CHUNK};
 ghost use Rattle.papaya_call.specs.Machine.{started};
@@ -17,7 +20,9 @@ ghost use Rattle.papaya_seq.specs.Computes.{tried_answered};
 ghost use Rattle.papaya_seq.specs.Computing.{reply_of};
 ghost use Rattle.papaya_seq.specs.Looks.{LooksUp};
 ghost use Rattle.papaya_seq.specs.Removes.{IsJudged, Judges};
-ghost use Rattle.papaya_seq.specs.Map.{HasNone, HasValue, Holds, IsWriteCause, IsWriteCauseAt, IsInserted, IsRemoved, IsTried, IsTriedInto, core_of, deref_pair, next_of, slots_of, value_of, entry_of};
+ghost use Rattle.papaya_seq.specs.Map.{HasNone, HasValue, Holds, IsInserted, IsMakeRefusal};
+ghost use Rattle.papaya_seq.specs.Map.{IsRemoved, IsResizing, IsTried, IsTriedInto, core_of};
+ghost use Rattle.papaya_seq.specs.Map.{deref_pair, entry_of, next_of, slots_of, value_of};
 
 use papaya_ask::call::{Call, Reply};
 use papaya_call::answers::Answers;
@@ -220,8 +225,7 @@ impl<K: Hash + Eq, V, S: BuildHasher> HashMap<K, V, S> {
     /// The value of a key: `get` of 0.2.5. It takes no memory and is never refused.
     ///
     /// The answer is what the machine of a lookup replies where each of its loads is answered by
-    /// the
-    /// word that stands in the tables.
+    /// the word that stands in the tables.
     #[inline(always)]
     pub fn get<Q: Equivalent<K>>(&self, key: &Q) -> Option<&V>
         ensures map { (k : _) → Q.matches key.now k ≡ true
@@ -297,20 +301,19 @@ impl<K: Hash + Eq + Drop, V: Drop, S: BuildHasher> HashMap<K, V, S> {
     /// Stores a pair, and answers the value that its key had: `insert` of 0.2.5. As there, the new
     /// key takes the old one's place too.
     ///
-    /// `Refused::Memory` where a growth was refused. `Refused::Capacity` where the log of keys or
-    /// of
-    /// pairs is full, and where the key is absent and has no place left in the table. The map is as
-    /// it was then, and what was handed in is dropped, at once or with the map.
+    /// A table whose places are filled is followed by a further one, and while pairs are being moved
+    /// to it, each call that may change the map moves a chunk of them, or with `Blocking` all.
+    ///
+    /// `Refused::Memory` where a growth was refused. `Refused::Capacity` where the log of keys or of
+    /// pairs is full, and where a further table is needed, and there are as many as there may be or
+    /// it would have more than [`papaya_words::limits::MAX_TABLE_LEN`] slots. The map is as it was
+    /// then, and what was handed in is dropped, at once or with the map.
     pub fn insert(&mut self, key: K, value: V) -> Result<Option<&V>, Refused>
         ensures* inserts { sem 𝓛 (ends_so K.row V.row S.row S.Hasher.row K.Hash S.BuildHasher
-            S.Hasher.Hasher self.entry (IsInserted K.eq
-            (hash_of K.hash_input S.build_hasher S.Hasher.write S.Hasher.finish
-            self.old.store.hasher key) key value self.old (old_answered result))) }
+            S.Hasher.Hasher self.entry (IsInserted K.eq key value self.old (old_answered result))) }
         ensures old { IfOk result (λ old. option_map (λ v. v.now) old ≡ value_of
             (map_in K.eq self.old.store key)) }
-        ensures err { IfErr result (IsWriteCauseAt
-            (hash_of K.hash_input S.build_hasher S.Hasher.write S.Hasher.finish
-            self.old.store.hasher key) self.old.store (map_in K.eq self.old.store key)) }
+        ensures err { IfErr result IsMakeRefusal }
     {
         let (reply, _) = self.insert_by(key, value, true);
         match reply {
@@ -324,10 +327,9 @@ impl<K: Hash + Eq + Drop, V: Drop, S: BuildHasher> HashMap<K, V, S> {
     /// value that was handed in, where the key was in the map and it was not stored.
     ///
     /// It is [`HashMap::try_insert`] with a number in place of a reference. Refused as
-    /// [`HashMap::insert`], and only where the key is absent.
+    /// [`HashMap::insert`], and only where the key is absent, or while pairs are being moved.
     pub fn insert_absent(&mut self, key: K, value: V) -> Result<(u64, Option<V>), Refused>
-        ensures { IsTried K.eq (hash_of K.hash_input S.build_hasher S.Hasher.write S.Hasher.finish
-            self.old.store.hasher key) key value self.old result self.new }
+        ensures { IsTried K.eq key value self.old result self.new }
     {
         let (reply, left) = self.insert_by(key, value, false);
         match reply {
@@ -339,10 +341,8 @@ impl<K: Hash + Eq + Drop, V: Drop, S: BuildHasher> HashMap<K, V, S> {
     }
 
     /// [`HashMap::try_insert`] which leaves the value that was handed in in `left`, where the key
-    /// is in
-    /// the map. So its answer owns nothing, and its clause says what the map is after it. Refused
-    /// as
-    /// it is.
+    /// is in the map. So its answer owns nothing, and its clause says what the map is after it.
+    /// Refused as it is.
     pub fn try_insert_into(
         &mut self,
         key: K,
@@ -350,18 +350,15 @@ impl<K: Hash + Eq + Drop, V: Drop, S: BuildHasher> HashMap<K, V, S> {
         left: &mut Option<V>,
     ) -> Result<Result<&V, &V>, Refused>
         ensures* tries { sem 𝓛 (ends_so K.row V.row S.row S.Hasher.row K.Hash S.BuildHasher
-            S.Hasher.Hasher self.entry (IsTriedInto K.eq
-            (hash_of K.hash_input S.build_hasher S.Hasher.write S.Hasher.finish
-            self.old.store.hasher key) key value self.old (tried_answered result) left.old
-            left.new)) }
+            S.Hasher.Hasher self.entry (IsTriedInto K.eq key value self.old
+            (tried_answered result) left.old left.new)) }
         ensures stored { IfOk result (λ tried. IfOk tried
             (λ v. (v.now ≡ value) × (map_in K.eq self.old.store key ≡ None))) }
         ensures occupied { IfOk result (λ tried. IfErr tried
             (λ v. (value_of (map_in K.eq self.old.store key) ≡ Some v.now)
             × (left.new ≡ Some value))) }
-        ensures err { IfErr result (λ refused. (map_in K.eq self.old.store key ≡ None)
-            × IsWriteCause (hash_of K.hash_input S.build_hasher S.Hasher.write S.Hasher.finish
-            self.old.store.hasher key) self.old.store refused) }
+        ensures err { IfErr result (λ refused. IsMakeRefusal refused
+            × ((map_in K.eq self.old.store key ≡ None) ⊎ IsResizing self.old)) }
     {
         let (pair, unstored) = self.insert_absent(key, value)?;
         match unstored {
@@ -378,8 +375,7 @@ impl<K: Hash + Eq + Drop, V: Drop, S: BuildHasher> HashMap<K, V, S> {
     ///
     /// It is [`HashMap::try_insert_into`], which says what the map is after it. No clause says it
     /// here, since the answer may own a value. Refused as [`HashMap::insert`], and only where the
-    /// key
-    /// is absent.
+    /// key is absent, or while pairs are being moved.
     pub fn try_insert(
         &mut self,
         key: K,
@@ -390,9 +386,8 @@ impl<K: Hash + Eq + Drop, V: Drop, S: BuildHasher> HashMap<K, V, S> {
         ensures occupied { IfOk result (λ tried. IfErr tried
             (λ e. (value_of (map_in K.eq self.old.store key) ≡ Some e.current.now)
             × (e.not_inserted ≡ NotInserted.Value value))) }
-        ensures err { IfErr result (λ refused. (map_in K.eq self.old.store key ≡ None)
-            × IsWriteCause (hash_of K.hash_input S.build_hasher S.Hasher.write S.Hasher.finish
-            self.old.store.hasher key) self.old.store refused) }
+        ensures err { IfErr result (λ refused. IsMakeRefusal refused
+            × ((map_in K.eq self.old.store key ≡ None) ⊎ IsResizing self.old)) }
     {
         let mut left = None;
         match self.try_insert_into(key, value, &mut left)? {
@@ -409,23 +404,24 @@ impl<K: Hash + Eq + Drop, V: Drop, S: BuildHasher> HashMap<K, V, S> {
 
     /// The value of a key, which is stored where the key is absent: `get_or_insert` of 0.2.5.
     ///
-    /// Refused as [`HashMap::insert`], and only where the key is absent.
+    /// Refused as [`HashMap::insert`], and only where the key is absent, or while pairs are being
+    /// moved.
     pub fn get_or_insert(&mut self, key: K, value: V) -> Result<&V, Refused>
         ensures* inserts { sem 𝓛 (ends_so K.row V.row S.row S.Hasher.row K.Hash S.BuildHasher
-            S.Hasher.Hasher self.entry (HasValue K.eq
-            (hash_of K.hash_input S.build_hasher S.Hasher.write S.Hasher.finish
-            self.old.store.hasher key) key value self.old (value_answered result))) }
+            S.Hasher.Hasher self.entry (HasValue K.eq key value self.old
+            (value_answered result))) }
         ensures value { IfOk result (λ v. MatchOption (value_of (map_in K.eq self.old.store key))
             (v.now ≡ value) (λ current. v.now ≡ current)) }
-        ensures err { IfErr result (λ refused. (map_in K.eq self.old.store key ≡ None)
-            × IsWriteCause (hash_of K.hash_input S.build_hasher S.Hasher.write S.Hasher.finish
-            self.old.store.hasher key) self.old.store refused) }
+        ensures err { IfErr result (λ refused. IsMakeRefusal refused
+            × ((map_in K.eq self.old.store key ≡ None) ⊎ IsResizing self.old)) }
     {
         let (pair, _) = self.insert_absent(key, value)?;
         Ok(self.logged(pair))
     }
 
-    /// Removes a key's pair, and answers its value: `remove` of 0.2.5. It takes no memory.
+    /// Removes a key's pair, and answers its value: `remove` of 0.2.5. While no pairs are being moved
+    /// to a further table ([`HashMap::resizing`]), it takes no memory and is not refused. Else it
+    /// may be, as [`HashMap::insert`] is for want of a further table.
     pub fn remove<Q: Equivalent<K>>(&mut self, key: &Q) -> Result<Option<&V>, Refused>
         ensures* removes { sem 𝓛 (ends_so K.row V.row S.row S.Hasher.row K.Hash S.BuildHasher
             S.Hasher.Hasher self.entry (IsRemoved K.eq (Q.matches key.now) (λ p. p.value) self.old
@@ -433,6 +429,7 @@ impl<K: Hash + Eq + Drop, V: Drop, S: BuildHasher> HashMap<K, V, S> {
         ensures removed { IfOk result (λ removed. MatchOption removed
             (HasNone K.eq (Q.matches key.now) self.old.store)
             (λ v. (p : _) × Holds K.eq (Q.matches key.now) self.old.store p × (p.value ≡ v.now))) }
+        ensures err { IfErr result IsMakeRefusal }
         ensures never { next_of self.old.store ≡ 0 → IsOk result }
     {
         match self.remove_entry(key)? {
@@ -442,6 +439,7 @@ impl<K: Hash + Eq + Drop, V: Drop, S: BuildHasher> HashMap<K, V, S> {
     }
 
     /// Removes a key's pair, and answers the stored key and the value: `remove_entry` of 0.2.5.
+    /// Refused as [`HashMap::remove`].
     pub fn remove_entry<Q: Equivalent<K>>(&mut self, key: &Q) -> Result<Option<(&K, &V)>, Refused>
         ensures* removes { sem 𝓛 (ends_so K.row V.row S.row S.Hasher.row K.Hash S.BuildHasher
             S.Hasher.Hasher self.entry (IsRemoved K.eq (Q.matches key.now) entry_of self.old
@@ -450,6 +448,7 @@ impl<K: Hash + Eq + Drop, V: Drop, S: BuildHasher> HashMap<K, V, S> {
             (HasNone K.eq (Q.matches key.now) self.old.store)
             (λ found. (p : _) × Holds K.eq (Q.matches key.now) self.old.store p
             × (p.key ≡ found.0.now) × (p.value ≡ found.1.now))) }
+        ensures err { IfErr result IsMakeRefusal }
         ensures never { next_of self.old.store ≡ 0 → IsOk result }
     {
         match self.remove_by(key, |_, _| true) {
@@ -462,7 +461,7 @@ impl<K: Hash + Eq + Drop, V: Drop, S: BuildHasher> HashMap<K, V, S> {
     /// Removes a key's pair if the closure, which is shown it, answers true: `remove_if` of 0.2.5.
     ///
     /// `Ok(None)` where the key is absent, `Ok(Some(pair))` where that very pair was removed, and
-    /// `Err(pair)` where the closure answered false for it. It takes no memory.
+    /// `Err(pair)` where the closure answered false for it. Refused as [`HashMap::remove`].
     pub fn remove_if<Q: Equivalent<K>, F: FnMut(&K, &V) -> bool>(
         &mut self,
         key: &Q,
@@ -479,6 +478,7 @@ impl<K: Hash + Eq + Drop, V: Drop, S: BuildHasher> HashMap<K, V, S> {
         ensures kept { IfOk result (λ answered. IfErr answered
             (λ found. (p : _) × Holds K.eq (Q.matches key.now) self.old.store p
             × Judges F.FnMut agrees p false × (p.key ≡ found.0.now) × (p.value ≡ found.1.now))) }
+        ensures err { IfErr result IsMakeRefusal }
         ensures never { next_of self.old.store ≡ 0 → IsOk result }
     {
         match self.remove_by(key, agrees) {
@@ -494,8 +494,8 @@ impl<K: Hash + Eq + Drop, V: Drop, S: BuildHasher> HashMap<K, V, S> {
 
     /// Makes one call that was handed in as a value.
     fn call<A: Answers<K, V> + Drop>(&mut self, call: Call<K, V, A>) -> Reply
-        ensures { IsCalled K.eq (hash_of K.hash_input S.build_hasher S.Hasher.write S.Hasher.finish)
-            (record { op = A.op_gives; yes = A.yes_gives }) self.old call result self.new }
+        ensures { IsCalled K.eq (record { op = A.op_gives; yes = A.yes_gives }) self.old call result
+            self.new }
     {
         // The proof reads the map's invariant here.
         let _ = &self.store;
@@ -524,7 +524,6 @@ impl<K: Hash + Eq + Drop, V: Drop, S: BuildHasher> HashMap<K, V, S> {
         calls: Vec<Call<K, V, A>>,
     ) -> Result<Vec<Reply>, Refused>
         ensures ok { IfOk result (λ replies. AreCalled K.eq
-            (hash_of K.hash_input S.build_hasher S.Hasher.write S.Hasher.finish)
             (record { op = A.op_gives; yes = A.yes_gives }) self.old calls.items replies.items
             self.new) }
         ensures err { IfErr result (λ e. (e ≡ Refused.Memory) × (self.new ≡ self.old)) }

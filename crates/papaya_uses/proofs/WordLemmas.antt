@@ -45,8 +45,8 @@ module _ {W S : Type 0} (eq : W → W → Bool) (laws : IsEquivalence eq) (words
   ]
 
   -- so after an update by a closure that counts one more, and begins with 1
-  module _ {F : Type 0} (hash : ℕ) (g : Shared F (Bor ℕ × Unit {0}) ℕ) (f : F) (more : (shown : Bor ℕ) (n : ℕ) → g.post f (shown, tt) n → n ≡ min (shown.now + 1) (2 ^ 64 - 1)) (small : count_in eq s.store k + 1 ≤ 2 ^ 64 - 1) where
-    by_one : (v : ℕ) → IsUpdatedOrInserted eq hash k (FnReturnsAt g f) (λ v. v ≡ 1) s (Ok v) s' → (w : W) → count_in eq s'.store w ≡ count_by (eq w) (take (i + 1) words)
+  module _ {F : Type 0} (g : Shared F (Bor ℕ × Unit {0}) ℕ) (f : F) (more : (shown : Bor ℕ) (n : ℕ) → g.post f (shown, tt) n → n ≡ min (shown.now + 1) (2 ^ 64 - 1)) (small : count_in eq s.store k + 1 ≤ 2 ^ 64 - 1) where
+    by_one : (v : ℕ) → IsUpdatedOrInserted eq k (FnReturnsAt g f) (λ v. v ≡ 1) s (Ok v) s' → (w : W) → count_in eq s'.store w ≡ count_by (eq w) (take (i + 1) words)
     by_one v (inl (old, says, inserts), keeps) =
         let held : count_in eq s.store k ≡ old = ap count_of inserts.update.before ∙ count_is inserts.old old inserts.old_is in
         let next : v ≡ min (old + 1) (2 ^ 64 - 1) = more says.shown v says.says.met ∙ ap (λ n. min (n + 1) (2 ^ 64 - 1)) says.shows in
@@ -55,5 +55,5 @@ module _ {W S : Type 0} (eq : W → W → Bool) (laws : IsEquivalence eq) (words
         let none : count_in eq s.store k ≡ 0 = ap count_of inserts.update.before ∙ count_none inserts.old inserts.old_is in
         counted None v inserts (omega (arith, first, none))
 
-    pub one_on : (r : Result (Bor ℕ) Refused) (v : Bor ℕ) → r ≡ Ok v → IsUpdatedOrInserted eq hash k (FnReturnsAt g f) (λ v. v ≡ 1) s (value_answered r) s' → (w : W) → count_in eq s'.store w ≡ count_by (eq w) (take (i + 1) words)
-    one_on r v was done = by_one v.now (subst (λ z. IsUpdatedOrInserted eq hash k (FnReturnsAt g f) (λ v. v ≡ 1) s (value_answered z) s') was done)
+    pub one_on : (r : Result (Bor ℕ) Refused) (v : Bor ℕ) → r ≡ Ok v → IsUpdatedOrInserted eq k (FnReturnsAt g f) (λ v. v ≡ 1) s (value_answered r) s' → (w : W) → count_in eq s'.store w ≡ count_by (eq w) (take (i + 1) words)
+    one_on r v was done = by_one v.now (subst (λ z. IsUpdatedOrInserted eq k (FnReturnsAt g f) (λ v. v ≡ 1) s (value_answered z) s') was done)

@@ -26,10 +26,10 @@ pub returns-in-Err-remove : goal.returns-in-Err-remove
 returns-in-Err-remove g c = rw c.in-Remove.is (old_answered c.remove.result, sym (ap (λ r. of_removal (old_answered r)) c.in-Err-remove.is), c.remove.follows.holds-at-none, λ single. answered c.remove.result (c.remove.ensures.never single))
 
 pub returns-in-Ok-Some-update : goal.returns-in-Ok-Some-update
-returns-in-Ok-Some-update g c = rw c.in-Update.is (old_answered c.update.result, sym (ap (λ r. of_update (old_answered r)) (c.in-Ok-Some-update.is ∙ ap Ok c.in-Ok-Some-update.field-0-is)), followed _ _ _ _ _ (λ shown next is. is) c.args.map.now (old_answered c.update.result) _ c.update.follows.holds-at-none)
+returns-in-Ok-Some-update g c = rw c.in-Update.is (old_answered c.update.result, sym (ap (λ r. of_update (old_answered r)) (c.in-Ok-Some-update.is ∙ ap Ok c.in-Ok-Some-update.field-0-is)), followed _ _ _ _ (λ shown next is. is) c.args.map.now (old_answered c.update.result) _ c.update.follows.holds-at-none)
 
 pub returns-in-Ok-None-update : goal.returns-in-Ok-None-update
-returns-in-Ok-None-update g c = rw c.in-Update.is (old_answered c.update.result, sym (ap (λ r. of_update (old_answered r)) (c.in-Ok-None-update.is ∙ ap Ok c.in-Ok-None-update.field-0-is)), followed _ _ _ _ _ (λ shown next is. is) c.args.map.now (old_answered c.update.result) _ c.update.follows.holds-at-none)
+returns-in-Ok-None-update g c = rw c.in-Update.is (old_answered c.update.result, sym (ap (λ r. of_update (old_answered r)) (c.in-Ok-None-update.is ∙ ap Ok c.in-Ok-None-update.field-0-is)), followed _ _ _ _ (λ shown next is. is) c.args.map.now (old_answered c.update.result) _ c.update.follows.holds-at-none)
 
 pub returns-in-Err-update : goal.returns-in-Err-update
-returns-in-Err-update g c = rw c.in-Update.is (old_answered c.update.result, sym (ap (λ r. of_update (old_answered r)) (c.in-Err-update.is)), followed _ _ _ _ _ (λ shown next is. is) c.args.map.now (old_answered c.update.result) _ c.update.follows.holds-at-none)
+returns-in-Err-update g c = rw c.in-Update.is (old_answered c.update.result, sym (ap (λ r. of_update (old_answered r)) (c.in-Err-update.is)), followed _ _ _ _ (λ shown next is. is) c.args.map.now (old_answered c.update.result) _ c.update.follows.holds-at-none)

@@ -1,18 +1,16 @@
-use Rattle.std.proofs.Common.{rules, ◌≡◌, ℕ, Bool, Option, None, Some, option_map, inl, refl, sym, ◌∙◌, subst}
+use Rattle.std.proofs.Common.{rules, ◌≡◌, ℕ, Bool, Option, None, Some, option_map, refl, sym, ◌∙◌, subst}
 use Rattle.papaya_law.specs.Content.{AreApart}
-use Rattle.papaya_words.specs.Table.{TableWords}
-use Rattle.papaya_timeline.specs.Content.{content}
-use Rattle.papaya_store.specs.Tables.{table_of, word_in}
+use Rattle.papaya_timeline.specs.Content.{content, map_in}
 use Rattle.papaya_store.specs.Store.{StoreState, Stored}
 use Rattle.papaya_keys.specs.Hashes.{hash_of}
 use Rattle.papaya_ask.specs.declared.call.Reply.TheVariants.{Absent, Found, Refused}
 use Rattle.papaya_timeline.proofs.CountedCore.{lawful_apart}
 use Rattle.papaya_seq.specs.Calls.{IsCalled}
-use Rattle.papaya_seq.specs.Map.{HasNone, Holds, IsLawfulMap, MapState, core_of, next_in, next_of}
+use Rattle.papaya_seq.specs.Map.{HasNone, Holds, IsLawfulMap, core_of}
 use Rattle.papaya_seq.specs.Looks.{IsFound}
-use Rattle.papaya_seq.proofs.CallsDone.{get_absent, get_found, remove_called}
+use Rattle.papaya_seq.proofs.Answered.{try_answered}
+use Rattle.papaya_seq.proofs.CallsDone.{get_absent, get_found, remove_called, removes_something}
 use Rattle.papaya_seq.proofs.ComputeCalled.{compute_called}
-use Rattle.papaya_seq.proofs.Lawful.{single}
 use Rattle.papaya_seq.proofs.seq.HashMap.call.Goals as goal
 use Rattle.papaya_seq.proofs.seq.HashMap.call.Given.{Over}
 
@@ -30,27 +28,18 @@ looked_none : {K V S : Type 0} (eq : K → K → Bool) (s : StoreState K V S) (k
 looked_none eq s k None is e = is
 looked_none eq s k (Some p) is e = let f : Some p.number ≡ None = e in absurd cc
 
--- a table whose next is none has none
-no_next : (o : Option TableWords) → word_in (λ t. t.next) o ≡ 0 → next_in o ≡ 0
-no_next None e = refl
-no_next (Some t) e = e
-
--- the root table of a map in order has no next one
-settled : (g : Over) (s : MapState g.row.K.Denot g.row.V.Denot g.row.S.Denot) → IsLawfulMap g.K.PartialEq.eq (hash g s.store.hasher) s.store s.mode s.initial → next_of s.store ≡ 0
-settled g s lawful = no_next (table_of s.store.words.tables s.store.words.root) (single g.K.PartialEq.eq (hash g s.store.hasher) s.mode s.store lawful s.store.words.root)
-
 pub returns-in-Some : goal.returns-in-Some
 returns-in-Some g c =
     let lawful = subst (λ s. IsLawfulMap g.K.PartialEq.eq (hash g s.store.hasher) s.store s.mode s.initial) c.self.view_is c.self.invariant in
     let apart : AreApart g.K.PartialEq.eq (λ p. p.key) (content g.K.PartialEq.eq c.args.self.now.store) =
     lawful_apart g.K.PartialEq.eq g.K.Hash.hash_input g.S.BuildHasher.build_hasher g.S.Hasher.Hasher.write g.S.Hasher.Hasher.finish g.met.K.Eq.laws g.met.K.Hash.respects_eq (core_of c.args.self.now) lawful.lawful in
     let (p, holds, number) = looked_up g.K.PartialEq.eq c.args.self.now.store c.in-Get.key c.look_up.ensures.0 c.in-Some.pair c.look_up.ensures.1.0 (sym c.look_up.ensures.2 ∙ c.in-Some.is) in
-    subst (λ call. IsCalled g.K.PartialEq.eq (hash g) (record { op = g.A.Answers.op_gives; yes = g.A.Answers.yes_gives }) c.args.self.now call (Found c.in-Some.pair) c.args.self.now) (sym c.in-Get.is) (record {
+    subst (λ call. IsCalled g.K.PartialEq.eq (record { op = g.A.Answers.op_gives; yes = g.A.Answers.yes_gives }) c.args.self.now call (Found c.in-Some.pair) c.args.self.now) (sym c.in-Get.is) (record {
       answered = get_found g.K.PartialEq.eq g.met.K.Eq.laws c.args.self.now.store apart c.in-Get.key g.row.A.Denot p c.in-Some.pair holds number;
       fresh = tt;
       said = tt;
       cause = λ refused e. let f : Found c.in-Some.pair ≡ Refused refused = e in absurd cc;
-      keeps = record { hasher = refl; mode = refl; initial = refl; pairs = λ n p e. e; slots = inl refl };
+      keeps = record { hasher = refl; mode = refl; initial = refl; pairs = λ n p e. e };
     })
 
 pub returns-in-Get : goal.returns-in-Get
@@ -59,12 +48,12 @@ returns-in-Get g c =
     let apart : AreApart g.K.PartialEq.eq (λ p. p.key) (content g.K.PartialEq.eq c.args.self.now.store) =
     lawful_apart g.K.PartialEq.eq g.K.Hash.hash_input g.S.BuildHasher.build_hasher g.S.Hasher.Hasher.write g.S.Hasher.Hasher.finish g.met.K.Eq.laws g.met.K.Hash.respects_eq (core_of c.args.self.now) lawful.lawful in
     let none = looked_none g.K.PartialEq.eq c.args.self.now.store c.in-Get.key c.look_up.ensures.0 c.look_up.ensures.1.0 (sym c.look_up.ensures.2 ∙ c.in-None.is) in
-    subst (λ call. IsCalled g.K.PartialEq.eq (hash g) (record { op = g.A.Answers.op_gives; yes = g.A.Answers.yes_gives }) c.args.self.now call Absent c.args.self.now) (sym c.in-Get.is) (record {
+    subst (λ call. IsCalled g.K.PartialEq.eq (record { op = g.A.Answers.op_gives; yes = g.A.Answers.yes_gives }) c.args.self.now call Absent c.args.self.now) (sym c.in-Get.is) (record {
       answered = get_absent g.K.PartialEq.eq g.met.K.Eq.laws c.args.self.now.store apart c.in-Get.key g.row.A.Denot none;
       fresh = tt;
       said = tt;
       cause = λ refused e. let f : Absent ≡ Refused refused = e in absurd cc;
-      keeps = record { hasher = refl; mode = refl; initial = refl; pairs = λ n p e. e; slots = inl refl };
+      keeps = record { hasher = refl; mode = refl; initial = refl; pairs = λ n p e. e };
     })
 
 pub returns-in-RemoveIf : goal.returns-in-RemoveIf
@@ -72,10 +61,21 @@ returns-in-RemoveIf g c =
     let lawful = subst (λ s. IsLawfulMap g.K.PartialEq.eq (hash g s.store.hasher) s.store s.mode s.initial) c.self.view_is c.self.invariant in
     let apart : AreApart g.K.PartialEq.eq (λ p. p.key) (content g.K.PartialEq.eq c.args.self.now.store) =
     lawful_apart g.K.PartialEq.eq g.K.Hash.hash_input g.S.BuildHasher.build_hasher g.S.Hasher.Hasher.write g.S.Hasher.Hasher.finish g.met.K.Eq.laws g.met.K.Hash.respects_eq (core_of c.args.self.now) lawful.lawful in
-    subst (λ call. IsCalled g.K.PartialEq.eq (hash g) (record { op = g.A.Answers.op_gives; yes = g.A.Answers.yes_gives }) c.args.self.now call c.remove_by.result c.remove_by.new.self) (sym c.in-RemoveIf.is)
-    (remove_called g.K.PartialEq.eq (hash g) g.met.K.Eq.laws c.args.self.now apart c.in-RemoveIf.key c.in-RemoveIf.answers (record { op = g.A.Answers.op_gives; yes = g.A.Answers.yes_gives }) c.remove_by.result c.remove_by.new.self c.remove_by.ensures.whole c.remove_by.ensures.never (settled g c.args.self.now lawful) c.remove_by.ensures.keeps (λ p agrees judges. (judges.2.0.now, subst (λ k. g.A.Answers.yes_gives c.in-RemoveIf.answers k p.value agrees judges.2.0.now) judges.3 (subst (λ v. g.A.Answers.yes_gives c.in-RemoveIf.answers judges.0.now v agrees judges.2.0.now) judges.4 (let met = judges.5.met in search rules)))))
+    subst (λ call. IsCalled g.K.PartialEq.eq (record { op = g.A.Answers.op_gives; yes = g.A.Answers.yes_gives }) c.args.self.now call c.remove_by.result c.remove_by.new.self) (sym c.in-RemoveIf.is)
+    (remove_called g.K.PartialEq.eq g.met.K.Eq.laws c.args.self.now apart c.in-RemoveIf.key c.in-RemoveIf.answers (record { op = g.A.Answers.op_gives; yes = g.A.Answers.yes_gives }) c.remove_by.result c.remove_by.new.self c.remove_by.ensures.whole c.remove_by.ensures.never (λ refused is. removes_something refused (c.remove_by.ensures.refusal refused is)) c.remove_by.ensures.keeps.0 (λ p agrees judges. (judges.2.0.now, subst (λ k. g.A.Answers.yes_gives c.in-RemoveIf.answers k p.value agrees judges.2.0.now) judges.3 (subst (λ v. g.A.Answers.yes_gives c.in-RemoveIf.answers judges.0.now v agrees judges.2.0.now) judges.4 (let met = judges.5.met in search rules)))))
+
+pub returns-in-TryInsert : goal.returns-in-TryInsert
+returns-in-TryInsert g c =
+    let tried = c.insert_by-in-TryInsert.ensures in
+    subst (λ call. IsCalled g.K.PartialEq.eq (record { op = g.A.Answers.op_gives; yes = g.A.Answers.yes_gives }) c.args.self.now call c.insert_by-in-TryInsert.result.0 c.insert_by-in-TryInsert.new.self) (sym c.in-TryInsert.is) (record {
+      answered = try_answered g.row.A.Denot c.in-TryInsert.key c.in-TryInsert.value g.K.PartialEq.eq (map_in g.K.PartialEq.eq c.args.self.now.store) (map_in g.K.PartialEq.eq c.insert_by-in-TryInsert.new.self.store) c.insert_by-in-TryInsert.result.0 tried.answers;
+      fresh = tried.fresh;
+      said = tt;
+      cause = λ refused is. tried.absent refl refused is;
+      keeps = tried.keeps;
+    })
 
 pub returns : goal.returns
 returns g c =
-    subst (λ call. IsCalled g.K.PartialEq.eq (hash g) (record { op = g.A.Answers.op_gives; yes = g.A.Answers.yes_gives }) c.args.self.now call c.replied.result c.compute_by.new.self) (sym c.in-Compute.is)
-    (compute_called g.K.PartialEq.eq (hash g) g.met.K.Eq.laws c.args.self.now c.compute_by.new.self c.in-Compute.key c.in-Compute.answers (record { op = g.A.Answers.op_gives; yes = g.A.Answers.yes_gives }) (λ shown operation said. search rules) c.compute_by.result.1 c.replied.result c.replied.ensures c.compute_by.ensures.computes)
+    subst (λ call. IsCalled g.K.PartialEq.eq (record { op = g.A.Answers.op_gives; yes = g.A.Answers.yes_gives }) c.args.self.now call c.replied.result c.compute_by.new.self) (sym c.in-Compute.is)
+    (compute_called g.K.PartialEq.eq g.met.K.Eq.laws c.args.self.now c.compute_by.new.self c.in-Compute.key c.in-Compute.answers (record { op = g.A.Answers.op_gives; yes = g.A.Answers.yes_gives }) (λ shown operation said. search rules) c.compute_by.result.1 c.replied.result c.replied.ensures c.compute_by.ensures.computes)

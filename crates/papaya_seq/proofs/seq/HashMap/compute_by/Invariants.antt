@@ -1,7 +1,7 @@
 use Rattle.std.proofs.Common.{◌≡◌}
-use Rattle.papaya_rests.specs.Alone.{left}
 use Rattle.papaya_keys.specs.Hashes.{hash_of}
 use Rattle.papaya_seq.proofs.ComputeRun.{IsComputing}
+use Rattle.papaya_seq.proofs.Ending.{left_of}
 use Rattle.papaya_seq.proofs.seq.HashMap.compute_by.Given as goal
 
 -- the compute goes on as its machine says, in a map that keeps its mode and its initial capacity
@@ -12,4 +12,4 @@ invariant-loop-self g l =
 
 -- what is left of it
 abbrev pub decreases-loop-self : goal.decreases-loop-self
-decreases-loop-self g l = left l.running.machine.call
+decreases-loop-self g l = left_of l.self-inside.store l.running.machine

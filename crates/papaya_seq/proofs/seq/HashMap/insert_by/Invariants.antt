@@ -1,6 +1,6 @@
 use Rattle.std.proofs.Common.{◌≡◌}
-use Rattle.papaya_rests.specs.Alone.{left}
 use Rattle.papaya_keys.specs.Hashes.{hash_of}
+use Rattle.papaya_seq.proofs.Ending.{left_of}
 use Rattle.papaya_seq.proofs.InsertingRun.{IsInserting}
 use Rattle.papaya_seq.proofs.seq.HashMap.insert_by.Given as goal
 
@@ -12,4 +12,4 @@ invariant-loop-reply g l =
 
 -- what is left of it
 abbrev pub decreases-loop-reply : goal.decreases-loop-reply
-decreases-loop-reply g l = left l.running.machine.call
+decreases-loop-reply g l = left_of l.self-inside.store l.running.machine

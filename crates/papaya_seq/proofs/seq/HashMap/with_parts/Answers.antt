@@ -5,7 +5,6 @@ use Rattle.papaya_timeline.proofs.CoreLemmas.{new-core}
 use Rattle.papaya_timeline.proofs.CountedLemmas.{counted_new}
 use Rattle.papaya_timeline.proofs.KeptCore.{new_lawful}
 use Rattle.papaya_seq.proofs.Counting.{counted_none}
-use Rattle.papaya_seq.proofs.Words.{new_single}
 use Rattle.papaya_seq.proofs.seq.HashMap.with_parts.Goals as goal
 use Rattle.papaya_seq.proofs.seq.HashMap.with_parts.Goals.{In_ok-store}
 use Rattle.papaya_seq.proofs.seq.HashMap.with_parts.Given.{Over}
@@ -22,7 +21,6 @@ invariant_of-result g c =
       lawful = new_lawful g.K.PartialEq.eq g.K.Hash.hash_input g.S.BuildHasher.build_hasher g.S.Hasher.Hasher.write g.S.Hasher.Hasher.finish g.met.K.Eq.laws g.met.K.Hash.respects_eq
           c.args.mode c.args.capacity c.in_ok-store.initial c.in_ok-store.store [] core ok.1.words ok.1.pairs refl;
       counted = new_counted g c;
-      single = new_single c.args.capacity c.in_ok-store.initial c.in_ok-store.store.words ok.1.words;
       power = ok.1.initial.0;
     }
 

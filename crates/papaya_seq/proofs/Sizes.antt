@@ -1,0 +1,91 @@
+-- By how many slots a next table is counted: by those of the table that it is to follow.
+use Rattle.std.proofs.Common.{◌≡◌, ℕ, ◌^◌, nat_le, Bool, Option, None, Some, refl, ap, subst}
+use Rattle.std.proofs.lemmas.Bool.{cond_both}
+use Rattle.papaya_words.specs.Table.{length_after}
+use Rattle.papaya_words.specs.declared.probe.Refused.{Refused}
+use Rattle.papaya_words.specs.declared.probe.Refused.TheVariants.{Capacity}
+use Rattle.papaya_ask.specs.declared.ask.Answer.TheVariants.{Size}
+use Rattle.papaya_copy.specs.declared.link.Link.{Link}
+use Rattle.papaya_copy.specs.declared.link.Link.TheVariants as links
+use Rattle.papaya_copy.specs.declared.link.Linked.TheVariants as linked
+use Rattle.papaya_copy.specs.Link as link
+use Rattle.papaya_chain.specs.declared.ask.Answer.{Answer}
+use Rattle.papaya_chain.specs.declared.ask.Answer.TheVariants as answers
+use Rattle.papaya_chain.specs.declared.machine.Machine.{Machine}
+use Rattle.papaya_chain.specs.Machine as machine
+use Rattle.papaya_chain_rests.specs.Goes.{link_in}
+use Rattle.papaya_timeline.proofs.LinkStates.{In, IsStable, Linked_in, Of, machine_holds}
+
+-- `Sized` is what the number of a table and that of its slots are.
+module _ (Sized : ℕ → ℕ → Type 0) where
+  -- the table that is to get a next one has the slots by which that is counted
+  abbrev pub IsSizedLink : Link → Type 0
+  IsSizedLink (links.Counting behind unfit slots) = Sized behind slots
+  IsSizedLink _ = Unit {0}
+
+  -- the answer is the size of the table that is asked for
+  abbrev pub Told : Link → ℕ → Type 0
+  Told made slots = (behind : ℕ) (unfit : Bool) → made ≡ links.Sizing behind unfit → Sized behind slots
+
+  abbrev New : Link → ℕ → Type 0
+  New made n = Unit {0}
+
+  -- in other words
+  pub is_sized : (o : Option Link) → In IsSizedLink o → (behind slots : ℕ) (unfit : Bool) → o ≡ Some (links.Counting behind unfit slots) → Sized behind slots
+  is_sized o h behind slots unfit e = subst (In IsSizedLink) e h
+
+  pub sized_is : (o : Option Link) → ((behind slots : ℕ) (unfit : Bool) → o ≡ Some (links.Counting behind unfit slots) → Sized behind slots) → In IsSizedLink o
+  sized_is None h = tt
+  sized_is (Some (links.Counting behind unfit slots)) h = h behind slots unfit refl
+  sized_is (Some other) h = tt
+
+  -- the making of a table
+  link_size : (made : Link) (slots : ℕ) → Told made slots → IsSizedLink made → IsSizedLink (link.at_size made slots)
+  link_size (links.Sizing behind unfit) slots told h = told behind unfit refl
+  link_size other slots told h = h
+
+  link_made : (made : Link) (n : ℕ) → IsSizedLink made → IsSizedLink (link.at_made made n)
+  link_made (links.Making behind slots limit) n h = tt
+  link_made other n h = h
+
+  counted : (behind before : ℕ) (unfit : Bool) (asked : ℕ) → Linked_in IsSizedLink (link.counted behind before unfit asked)
+  counted behind before unfit asked = cond_both (nat_le asked (2 ^ 32)) (linked.On (link.making behind before unfit asked)) (linked.Refused Capacity) (Linked_in IsSizedLink) (λ _. tt) (λ _. tt)
+
+  link_count : (made : Link) (count initial : ℕ) → IsSizedLink made → Linked_in IsSizedLink (link.at_count made count initial)
+  link_count (links.Counting behind unfit slots) count initial h = counted behind slots unfit (length_after slots count initial unfit)
+  link_count other count initial h = h
+
+  link_refused : (made : Link) (refused : Refused) → IsSizedLink made → Linked_in IsSizedLink (link.at_refused made refused)
+  link_refused (links.Making behind slots limit) refused h = tt
+  link_refused other refused h = h
+
+  link_exchanged : (made : Link) → IsSizedLink made → Linked_in IsSizedLink (link.at_exchanged made)
+  link_exchanged (links.Linking behind table) h = tt
+  link_exchanged other h = h
+
+  link_found : (made : Link) (word : ℕ) → IsSizedLink made → Linked_in IsSizedLink (link.at_found made word)
+  link_found (links.Linking behind table) word h = tt
+  link_found other word h = h
+
+  stable : IsStable IsSizedLink Told New
+  stable = record {
+    fresh = λ behind unfit. tt;
+    sizes = link_size;
+    makes = λ made n new h. link_made made n h;
+    counts = link_count;
+    refuses = link_refused;
+    exchanges = link_exchanged;
+    finds = link_found;
+  }
+
+  -- where the machine counts by the slots of a table after an answer, it did before, or was told of them
+  pub machine_sized : (m : Machine) (answer : Answer) → ((slots limit : ℕ) → answer ≡ answers.Call (Size slots limit) → (behind : ℕ) (unfit : Bool) → link_in m.phase ≡ Some (links.Sizing behind unfit) → Sized behind slots) → In IsSizedLink (link_in m.phase) → In IsSizedLink (link_in (machine.after m answer).phase)
+  machine_sized m answer told h = machine_holds IsSizedLink Told New stable m answer (λ slots limit is. told_in (link_in m.phase) slots (told slots limit is)) (λ n aside is. new_in (link_in m.phase) n) h
+    where
+      told_in : (o : Option Link) (slots : ℕ) → ((behind : ℕ) (unfit : Bool) → o ≡ Some (links.Sizing behind unfit) → Sized behind slots) → Of Told o slots
+      told_in None slots told = tt
+      told_in (Some made) slots told = λ behind unfit e. told behind unfit (ap (λ y. Some y) e)
+
+      new_in : (o : Option Link) (n : ℕ) → Of New o n
+      new_in None n = tt
+      new_in (Some made) n = tt
