@@ -1,5 +1,8 @@
 //! Lines that are done one by one, on each map that has them done so.
 use crate::runs::{Case, expect, expect_bad, expect_cut, expect_full};
+use std::alloc::Global;
+use std::process::Abort;
+use std::sync::Wait;
 use std::test::Fail;
 
 /// The backends that have their lines done one by one.
@@ -31,22 +34,37 @@ fn replies(rt: HostRuntime) -> Result<(), Fail> {
     Ok(())
 }
 
-#[test]
-fn a_full_table(rt: HostRuntime) -> Result<(), Fail> {
-    let mut script = Vec::new(rt.alloc());
-    let mut output = String::new(rt.alloc());
+/// Runs 32 insertions of new keys and then these lines, which print this.
+fn expect_after_32<A: Abort + Wait>(
+    rt: &A,
+    alloc: Global,
+    args: &str,
+    lines: &str,
+    printed: &str,
+) -> Result<(), Fail> {
+    let mut script = String::new(alloc);
+    let mut output = String::new(alloc);
     for key in 0..32u64 {
-        let line = format!(in rt.alloc(); "i {key} 0\n")?;
-        script.extend_from_slice(line.as_bytes())?;
+        let line = format!(in alloc; "i {key} 0\n")?;
+        script.push_str(line.as_str())?;
         output.push_str("none\n")?;
     }
-    script.extend_from_slice(b"i 32 1\nlen\n")?;
-    output.push_str("refused 2 Capacity\nlen 32\n")?;
-    for args in BACKENDS {
-        let case = Case::good(script.as_slice(), output.as_str());
-        expect(&rt, rt.alloc(), args, case)?;
+    script.push_str(lines)?;
+    output.push_str(printed)?;
+    let case = Case::good(script.as_bytes(), output.as_str());
+    expect(rt, alloc, args, case)
+}
+
+/// A full table of 32 slots: the map for one caller goes on in a longer one.
+#[test]
+fn a_full_table(rt: HostRuntime) -> Result<(), Fail> {
+    let grown = "slots 32\nnone\nlen 33\nsome 1\nslots 64\n";
+    for args in ["seq inc:64 id", "seq block id"] {
+        let lines = "slots\ni 32 1\nlen\ng 32\nslots\n";
+        expect_after_32(&rt, rt.alloc(), args, lines, grown)?;
     }
-    Ok(())
+    let full = "refused 2 Capacity\nlen 32\n";
+    expect_after_32(&rt, rt.alloc(), "shared inc:64 id", "i 32 1\nlen\n", full)
 }
 
 #[test]

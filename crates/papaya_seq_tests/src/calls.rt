@@ -3,7 +3,7 @@ ghost use Rattle.std.specs.Prelude.{◌≡◌, IfOk, IfErr, MatchBool, is_some};
 ghost use Rattle.papaya_seq.specs.Map.{Inserts, Removes, Unchanged};
 
 use crate::expect::is;
-use crate::hashing::{APART, TOGETHER};
+use crate::hashing::TOGETHER;
 use crate::numbers::{Numbers, Usual, finds, has, inserts, provides, tries};
 use papaya_ask::call::{Call, Reply};
 use papaya_call::answers::Listed;
@@ -106,30 +106,6 @@ fn stores_and_removes(rt: &impl Abort, map: &mut Usual) {
 fn callers_know_the_map_after(rt: HostRuntime) -> Result<(), Fail> {
     let mut map: Usual = HashMap::new(rt.alloc())?;
     stores_and_removes(&rt, &mut map);
-    Ok(())
-}
-
-/// The keys below 32 are stored, and 32 is not.
-fn fills_the_table(rt: &impl Abort, map: &mut Numbers) {
-    for key in 0..32u64 {
-        inserts(rt, map, key, key, Ok(None));
-    }
-    is(rt, map.slots(), 32);
-    inserts(rt, map, 32, 1, Err(Refused::Capacity));
-    tries(rt, map, 32, 1, Err(Refused::Capacity));
-    provides(rt, map, 32, 1, Err(Refused::Capacity));
-    has(rt, map, 32);
-    finds(rt, map, 32, None);
-    for key in 0..32u64 {
-        finds(rt, map, key, Some(&key));
-    }
-}
-
-/// More keys than the table has room for are refused, and what is there stays.
-#[test]
-fn full_table_refuses(rt: HostRuntime) -> Result<(), Fail> {
-    let mut map: Numbers = HashMap::with_hasher(rt.alloc(), APART)?;
-    fills_the_table(&rt, &mut map);
     Ok(())
 }
 

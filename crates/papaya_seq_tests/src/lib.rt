@@ -8,6 +8,8 @@ mod computes;
 #[cfg(test)]
 mod expect;
 #[cfg(test)]
+mod growth;
+#[cfg(test)]
 mod hashing;
 #[cfg(test)]
 mod new;

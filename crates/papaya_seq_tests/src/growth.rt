@@ -1,0 +1,242 @@
+// Tables that grow while keys are stored, looked up, removed and updated.
+use crate::expect::{is, is_at};
+use crate::hashing::{APART, TOGETHER, Times};
+use crate::numbers::{Numbers, Usual, finds, has, inserts, removes, tries};
+use papaya_keys::occupied::{NotInserted, OccupiedError};
+use papaya_seq::seq::HashMap;
+use papaya_words::probe::{Refused, ResizeMode};
+use std::alloc::Global;
+use std::hash::{BuildHasherDefault, FoldHasher};
+use std::process::Abort;
+use std::test::Fail;
+
+/// A map of this mode, for so many pairs.
+fn made(
+    alloc: Global,
+    mode: ResizeMode,
+    capacity: usize,
+    hasher: Times,
+) -> Result<Numbers, Refused> {
+    HashMap::with_parts(alloc, mode, capacity, 1, hasher)
+}
+
+/// The keys from one to another are new, and each is its own value.
+fn stores(rt: &impl Abort, map: &mut Numbers, from: u64, to: u64) {
+    for key in from..to {
+        inserts(rt, map, key, key, Ok(None));
+    }
+}
+
+/// Each key below this one is there, and the two after it are not.
+fn has_below(rt: &impl Abort, map: &Numbers, end: u64) {
+    for key in 0..end {
+        is_at(rt, key as usize, map.get(&key), Some(&key));
+    }
+    is_at(rt, end as usize, map.get(&end), None);
+    is_at(rt, end as usize, map.contains_key(&u64::MAX), false);
+    has(rt, map, end as usize);
+}
+
+/// The root table has so many slots, and pairs are being moved or not.
+fn looks_so(rt: &impl Abort, map: &Numbers, keys: u64, slots: usize, resizing: bool) {
+    is_at(
+        rt,
+        keys as usize,
+        (map.slots(), map.resizing()),
+        (slots, resizing),
+    );
+}
+
+/// Keys are stored until there are so many, and then the map looks so; and so on.
+fn fills(rt: &impl Abort, map: &mut Numbers, looks: &[(u64, usize, bool)]) {
+    let mut stored = 0;
+    for &(keys, slots, resizing) in looks {
+        stores(rt, map, stored, keys);
+        stored = keys;
+        looks_so(rt, map, keys, slots, resizing);
+        has_below(rt, map, keys);
+    }
+}
+
+/// A new map of this mode is filled.
+fn fills_new(
+    rt: &impl Abort,
+    alloc: Global,
+    mode: ResizeMode,
+    capacity: usize,
+    hasher: Times,
+    looks: &[(u64, usize, bool)],
+) -> Result<(), Fail> {
+    let mut map = made(alloc, mode, capacity, hasher)?;
+    fills(rt, &mut map, looks);
+    Ok(())
+}
+
+/// A hundred keys on one path: a table of 128 slots has too few places for them.
+#[test]
+fn blocking_gives_up_a_table(rt: HostRuntime) -> Result<(), Fail> {
+    let looks = [
+        (26, 32, false),
+        (27, 64, false),
+        (31, 64, false),
+        (32, 64, false),
+        (64, 64, false),
+        (65, 256, false),
+        (100, 256, false),
+    ];
+    fills_new(&rt, rt.alloc(), ResizeMode::Blocking, 0, TOGETHER, &looks)
+}
+
+/// The same keys, of which each call moves some at most.
+#[test]
+fn chunks_fill_two_tables_in_turn(rt: HostRuntime) -> Result<(), Fail> {
+    let looks = [
+        (27, 64, false),
+        (32, 64, false),
+        (64, 64, false),
+        (65, 128, true),
+        (66, 128, true),
+        (67, 256, false),
+        (100, 256, false),
+    ];
+    let chunk = ResizeMode::Incremental(64);
+    fills_new(&rt, rt.alloc(), chunk, 0, TOGETHER, &looks)
+}
+
+/// Eight slots that are moved one at a time: the eighth call ends that.
+#[test]
+fn one_slot_a_call(rt: HostRuntime) -> Result<(), Fail> {
+    let looks = [
+        (8, 8, false),
+        (9, 8, true),
+        (10, 8, true),
+        (11, 8, true),
+        (12, 8, true),
+        (13, 8, true),
+        (14, 8, true),
+        (15, 8, true),
+        (16, 16, false),
+    ];
+    fills_new(
+        &rt,
+        rt.alloc(),
+        ResizeMode::Incremental(1),
+        6,
+        APART,
+        &looks,
+    )
+}
+
+/// With blocking the one call that needs it moves them all.
+#[test]
+fn one_call_moves_all(rt: HostRuntime) -> Result<(), Fail> {
+    let looks = [(8, 8, false), (9, 16, false)];
+    fills_new(&rt, rt.alloc(), ResizeMode::Blocking, 6, APART, &looks)
+}
+
+/// A table in which pairs were removed everywhere makes room for a smaller one.
+#[test]
+fn removed_pairs_leave_a_smaller_table(rt: HostRuntime) -> Result<(), Fail> {
+    let mut map = made(rt.alloc(), ResizeMode::default(), 0, TOGETHER)?;
+    for key in 0..26u64 {
+        stores(&rt, &mut map, key, key + 1);
+        removes(&rt, &mut map, key, Ok(Some(&key)));
+    }
+    looks_so(&rt, &map, 26, 32, false);
+    has(&rt, &map, 0);
+    stores(&rt, &mut map, 26, 27);
+    looks_so(&rt, &map, 27, 16, false);
+    has(&rt, &map, 1);
+    Ok(())
+}
+
+/// While pairs are being moved insertions do as they do at other times.
+fn insertions_while_moving(rt: &impl Abort, map: &mut Numbers) {
+    let occupied = OccupiedError {
+        current: &7,
+        not_inserted: NotInserted::Value(70),
+    };
+    tries(rt, map, 7, 70, Ok(Err(occupied)));
+    is(rt, map.get_or_insert(9, 9), Ok(&9));
+    inserts(rt, map, 4, 40, Ok(Some(&4)));
+    finds(rt, map, 4, Some(&40));
+}
+
+/// And so do updates and removals.
+fn changes_while_moving(rt: &impl Abort, map: &mut Numbers) {
+    let new = map.update(2, |value| value.wrapping_add(20));
+    is(rt, new, Ok(Some(&22)));
+    is(rt, map.update(11, |value| *value), Ok(None));
+    removes(rt, map, 3, Ok(Some(&3)));
+    removes(rt, map, 12, Ok(None));
+}
+
+#[test]
+fn calls_go_on_while_pairs_are_moved(rt: HostRuntime) -> Result<(), Fail> {
+    let mut map = made(rt.alloc(), ResizeMode::Incremental(1), 6, APART)?;
+    fills(&rt, &mut map, &[(9, 8, true)]);
+    insertions_while_moving(&rt, &mut map);
+    changes_while_moving(&rt, &mut map);
+    has(&rt, &map, 9);
+    Ok(())
+}
+
+/// The keys are 0 to 999, and the value of each is the key itself at first.
+const KEYS: u64 = 1000;
+
+/// Each key is new, and is found at once, as are older ones.
+fn stores_all(rt: &impl Abort, map: &mut Usual) {
+    for key in 0..KEYS {
+        inserts(rt, map, key, key, Ok(None));
+        let case = key as usize;
+        is_at(rt, case, map.get(&0), Some(&0));
+        is_at(rt, case, map.get(&(key / 2)), Some(&(key / 2)));
+        is_at(rt, case, map.get(&key), Some(&key));
+        is_at(rt, case, map.get(&(key + 1)), None);
+    }
+}
+
+/// The odd keys are removed, and one is added to the values of the even ones.
+fn removes_and_adds(rt: &impl Abort, map: &mut Usual) {
+    for key in 0..KEYS {
+        if key % 2 == 1 {
+            removes(rt, map, key, Ok(Some(&key)));
+        } else {
+            let new = map.update(key, |value| value.wrapping_add(1));
+            is_at(rt, key as usize, new, Ok(Some(&(key + 1))));
+        }
+    }
+}
+
+/// Then just the even keys are there, with the values after.
+fn has_the_even(rt: &impl Abort, map: &Usual) {
+    for key in 0..KEYS {
+        let value = key + 1;
+        let wanted = if key % 2 == 1 { None } else { Some(&value) };
+        is_at(rt, key as usize, map.get(&key), wanted);
+    }
+    has(rt, map, 500);
+}
+
+/// A thousand keys in a map of this mode.
+fn grows(rt: &impl Abort, alloc: Global, mode: ResizeMode) -> Result<(), Refused> {
+    let hasher = BuildHasherDefault::<FoldHasher>::new();
+    let mut map: Usual = HashMap::with_parts(alloc, mode, 0, 1, hasher)?;
+    stores_all(rt, &mut map);
+    removes_and_adds(rt, &mut map);
+    has_the_even(rt, &map);
+    Ok(())
+}
+
+#[test]
+fn a_thousand_keys(rt: HostRuntime) -> Result<(), Fail> {
+    for mode in [
+        ResizeMode::Incremental(1),
+        ResizeMode::Incremental(2),
+        ResizeMode::Incremental(64),
+        ResizeMode::Blocking,
+    ] {
+        grows(&rt, rt.alloc(), mode)?;
+    }
+    Ok(())
+}
