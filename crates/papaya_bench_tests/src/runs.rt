@@ -1,7 +1,9 @@
 // What is printed, and what no clause says of failures.
+use papaya_measure::growth::time_growth;
 use papaya_measure::run::{run_on, time_workload};
 use papaya_plan::plan::{Plan, Workload};
 use papaya_shell::fakes::{Sink, words};
+use papaya_words::probe::ResizeMode;
 use std::alloc::Global;
 use std::process::Abort;
 use std::rt::Clock;
@@ -101,6 +103,33 @@ fn a_line_of_time(rt: HostRuntime) -> Result<(), Fail> {
         is_line(&rt, line, names.next().copied())?;
     }
     is_part(&rt, names.next().copied(), None);
+    Ok(())
+}
+
+/// Asserts that a line of growth has these parts: a name, 40 keys, two times of which the second is
+/// that of one insertion, and 64 slots.
+fn is_growth<A: Abort>(rt: &A, line: &str, name: Option<&str>) -> Result<(), Fail> {
+    let mut parts = line.split(' ');
+    is_part(rt, parts.next(), name);
+    is_part(rt, parts.next(), Some("40"));
+    let all = parts.next().ok_or("a time")?.parse::<u64>()?;
+    let greatest = parts.next().ok_or("a time")?.parse::<u64>()?;
+    assert!(rt; greatest <= all, "in {line}");
+    is_part(rt, parts.next(), Some("64\n"));
+    is_part(rt, parts.next(), None);
+    Ok(())
+}
+
+#[test]
+fn lines_of_growth(rt: HostRuntime) -> Result<(), Fail> {
+    for (mode, name) in [
+        (ResizeMode::default(), "grow-incremental/seq/40"),
+        (ResizeMode::Blocking, "grow-blocking/seq/40"),
+    ] {
+        let mut printed = Vec::new(rt.alloc());
+        assert!(rt; time_growth(&rt, rt.alloc(), mode, 40, &mut printed).is_ok());
+        is_growth(&rt, std::str::from_utf8(printed.as_slice())?, Some(name))?;
+    }
     Ok(())
 }
 

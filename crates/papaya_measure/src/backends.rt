@@ -70,15 +70,20 @@ impl Backend {
 }
 
 /// The moment.
-fn now<R: Clock>(rt: &R) -> Result<Instant, Failure> {
+pub(crate) fn now<R: Clock>(rt: &R) -> Result<Instant, Failure> {
     Instant::now(rt).map_err(|_| Failure::Clock)
+}
+
+/// The nanoseconds since this moment.
+pub(crate) fn elapsed<R: Clock>(rt: &R, start: Instant) -> Result<u128, Failure> {
+    let elapsed = start.elapsed(rt).map_err(|_| Failure::Clock)?;
+    Ok(elapsed.as_nanos())
 }
 
 /// The measure of a run that began at `start` and has ended with this sum.
 fn ended<R: Clock>(rt: &R, start: Instant, sum: Result<u64, Failure>) -> Result<Measure, Failure> {
-    let elapsed = start.elapsed(rt).map_err(|_| Failure::Clock)?;
     Ok(Measure {
-        nanoseconds: elapsed.as_nanos(),
+        nanoseconds: elapsed(rt, start)?,
         checksum: sum?,
     })
 }

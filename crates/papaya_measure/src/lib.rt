@@ -2,6 +2,7 @@
 #![tactic(auto)]
 
 mod backends;
+pub mod growth;
 mod one_caller;
 pub mod run;
 mod shared;

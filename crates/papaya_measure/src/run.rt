@@ -4,10 +4,12 @@ ghost use Rattle.papaya_plan.specs.declared.arguments.Task.{Task};
 ghost use Rattle.papaya_plan.specs.Arguments.{words_of};
 
 use crate::backends::Backend;
+use crate::growth::time_growth;
 use papaya_plan::answers::compare;
 use papaya_plan::arguments::Task;
 use papaya_plan::plan::{Plan, Workload};
 use papaya_shell::failure::{Failure, ended};
+use papaya_words::probe::ResizeMode;
 use std::alloc::Global;
 use std::io::Write;
 use std::rt::Clock;
@@ -22,6 +24,9 @@ const CHECKED: (u32, u32) = (64, 2);
 
 /// How many keys a map has where it is timed, and in how many rounds.
 const TIMED: [(u32, u32); 2] = [(0x1000, 64), (0x1_0000, 4)];
+
+/// How many keys a map grows by.
+const GROWN: u32 = 0x1_0000;
 
 /// Prints what each backend's answers to one workload sum to. The sums are equal, or it fails.
 fn check_workload<R: Clock + Threads + Wait + Sync, W: Write>(
@@ -87,7 +92,7 @@ pub fn time_workload<R: Clock + Threads + Wait + Sync, W: Write>(
     Ok(())
 }
 
-/// Times each workload.
+/// Times each workload, and maps that grow.
 fn time<R: Clock + Threads + Wait + Sync, W: Write>(
     rt: &R,
     alloc: Global,
@@ -102,6 +107,9 @@ fn time<R: Clock + Threads + Wait + Sync, W: Write>(
             };
             time_workload(rt, alloc, plan, output)?;
         }
+    }
+    for mode in [ResizeMode::default(), ResizeMode::Blocking] {
+        time_growth(rt, alloc, mode, GROWN, output)?;
     }
     Ok(())
 }

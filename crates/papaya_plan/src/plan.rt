@@ -79,7 +79,7 @@ impl Plan {
         }
     }
 
-    /// For how many pairs a map is made. A table does not grow yet.
+    /// For how many pairs a map is made, so that no table grows in a round.
     pub fn capacity(self) -> usize
         ensures { self.keys ≤ result }
     {
