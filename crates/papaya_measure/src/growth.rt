@@ -11,7 +11,7 @@ use std::io::Write;
 use std::rt::Clock;
 
 /// What the insertions took that made a map grow.
-#[derive(Clone, Copy, Debug, PartialEq, Eq)]
+#[derive(Drop)]
 struct Growth {
     /// All of them, with the looks at the clock between.
     nanoseconds: u128,

@@ -11,10 +11,12 @@ const BACKENDS: [&str; 2] = ["seq inc:64 id", "shared inc:64 id"];
 #[test]
 fn replies(rt: HostRuntime) -> Result<(), Fail> {
     // Old values, absent keys, the greatest numbers, leading zeros, empty lines, no last line end.
-    let script =
-        b"\ng 1\nr 1\ni 1 10\ng 1\n\ni 01 11\ng 1\nr 2\nlen\nr 1\nr 1\ng 1\ni 1 12\ni 18446744073709551615 18446744073709551615\ng 0018446744073709551615\nr 18446744073709551615\nlen";
-    let output =
-        "none\nnone\nnone\nsome 10\nold 10\nsome 11\nnone\nlen 1\nremoved 11\nnone\nnone\nnone\nnone\nsome 18446744073709551615\nremoved 18446744073709551615\nlen 1\n";
+    let script = b"\ng 1\nr 1\ni 1 10\ng 1\n\ni 01 11\ng 1\nr 2\nlen\nr 1\nr 1\ng 1\ni 1 12\n\
+          i 18446744073709551615 18446744073709551615\ng 0018446744073709551615\n\
+          r 18446744073709551615\nlen";
+    let output = "none\nnone\nnone\nsome 10\nold 10\nsome 11\nnone\nlen 1\nremoved 11\nnone\n\
+         none\nnone\nnone\nsome 18446744073709551615\nremoved 18446744073709551615\n\
+         len 1\n";
     for args in [
         "seq inc:1 id",
         "seq inc:64 zero",

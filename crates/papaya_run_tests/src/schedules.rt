@@ -26,8 +26,9 @@ fn a_lookup_beside_an_insertion(rt: HostRuntime) -> Result<(), Fail> {
 #[test]
 fn replies(rt: HostRuntime) -> Result<(), Fail> {
     // An old value, the greatest numbers, leading zeros, empty lines, and no last line end.
-    let script =
-        b"\nbegin 63 i 18446744073709551615 1\n\nfinish 63\nbegin 63 i 00018446744073709551615 18446744073709551615\nfinish 063\nbegin 0 g 18446744073709551615\nfinish 00";
+    let script = b"\nbegin 63 i 18446744073709551615 1\n\nfinish 63\n\
+          begin 63 i 00018446744073709551615 18446744073709551615\nfinish 063\n\
+          begin 0 g 18446744073709551615\nfinish 00";
     let output = "63: none\n63: old 1\n0: some 18446744073709551615\n";
     for args in ["core inc:1 id", "core block zero"] {
         expect(&rt, rt.alloc(), args, Case::good(script, output))?;
@@ -39,8 +40,8 @@ fn replies(rt: HostRuntime) -> Result<(), Fail> {
 #[test]
 fn removals(rt: HostRuntime) -> Result<(), Fail> {
     // Of a key that is absent, of one that is there, and of one that is there no longer.
-    let script =
-        b"begin 0 r 7\nfinish 0\nbegin 0 i 7 1\nfinish 0\nbegin 0 r 7\nbegin 1 g 7\nfinish 1\nfinish 0\nbegin 1 g 7\nfinish 1\nbegin 0 r 7\nfinish 0\n";
+    let script = b"begin 0 r 7\nfinish 0\nbegin 0 i 7 1\nfinish 0\nbegin 0 r 7\nbegin 1 g 7\n\
+          finish 1\nfinish 0\nbegin 1 g 7\nfinish 1\nbegin 0 r 7\nfinish 0\n";
     let output = "0: none\n0: none\n1: some 1\n0: removed 1\n1: none\n0: none\n";
     for args in ["core inc:64 id", "core block zero"] {
         expect(&rt, rt.alloc(), args, Case::good(script, output))?;
@@ -52,8 +53,9 @@ fn removals(rt: HostRuntime) -> Result<(), Fail> {
 fn updates(rt: HostRuntime) -> Result<(), Fail> {
     // Of a key that is absent, of one that is there, and past the greatest value; an insertion of
     // the same caller afterwards prints the old value again.
-    let script =
-        b"begin 0 u 7\nfinish 0\nbegin 0 i 7 1\nfinish 0\nbegin 0 u 7\nbegin 1 g 7\nfinish 1\nfinish 0\nbegin 1 g 7\nfinish 1\nbegin 0 i 7 18446744073709551615\nfinish 0\nbegin 0 u 7\nfinish 0\n";
+    let script = b"begin 0 u 7\nfinish 0\nbegin 0 i 7 1\nfinish 0\nbegin 0 u 7\nbegin 1 g 7\n\
+          finish 1\nfinish 0\nbegin 1 g 7\nfinish 1\nbegin 0 i 7 18446744073709551615\n\
+          finish 0\nbegin 0 u 7\nfinish 0\n";
     let output = "0: none\n0: none\n1: some 1\n0: new 2\n1: some 2\n0: old 2\n0: new 0\n";
     for args in ["core inc:64 id", "core block zero"] {
         expect(&rt, rt.alloc(), args, Case::good(script, output))?;
@@ -65,10 +67,10 @@ fn updates(rt: HostRuntime) -> Result<(), Fail> {
 fn an_update_beside_an_insertion(rt: HostRuntime) -> Result<(), Fail> {
     // The update is stopped before its first step, and after it was shown the pair: its closure is
     // shown the pair that took that one's place.
-    let whole =
-        b"begin 0 i 7 1\nfinish 0\nbegin 0 u 7\nbegin 1 i 7 5\nfinish 1\nfinish 0\nbegin 1 g 7\nfinish 1\n";
-    let shown =
-        b"begin 0 i 7 1\nfinish 0\nbegin 0 u 7\nstep 0\nstep 0\nstep 0\nstep 0\nstep 0\nbegin 1 i 7 5\nfinish 1\nfinish 0\nbegin 1 g 7\nfinish 1\n";
+    let whole = b"begin 0 i 7 1\nfinish 0\nbegin 0 u 7\nbegin 1 i 7 5\nfinish 1\nfinish 0\n\
+          begin 1 g 7\nfinish 1\n";
+    let shown = b"begin 0 i 7 1\nfinish 0\nbegin 0 u 7\nstep 0\nstep 0\nstep 0\nstep 0\nstep 0\n\
+          begin 1 i 7 5\nfinish 1\nfinish 0\nbegin 1 g 7\nfinish 1\n";
     let output = "0: none\n1: old 1\n0: new 6\n1: some 6\n";
     expect(&rt, rt.alloc(), "core inc:64 id", Case::good(whole, output))?;
     expect(&rt, rt.alloc(), "core inc:64 id", Case::good(shown, output))
