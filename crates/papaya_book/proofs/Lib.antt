@@ -22,5 +22,6 @@ pub mod Tellings
 pub mod Found
 pub mod Tables
 pub mod Loaded
+pub mod Kept
 pub mod Opened
 pub mod TableSizes

@@ -30,6 +30,12 @@ pair_seen (Some r) = Some r.now
 abbrev pub IsTable : {K V S : Type 0} → List (Event K V S) → ℕ → Sheet → Type 0
 IsTable log t sheet = (w : Where Sheet) × (table_in (steps_of log) t ≡ Some w) × (w.value ≡ sheet)
 
+-- the table of this number has come, and it is of the book; or there is none, and the number is 0
+abbrev pub IsTableOf : {K V S : Type 0} → Book → ℕ → List (Event K V S) → Option (Bor Sheet)
+    → Type 0
+IsTableOf name found log table = MatchOption table (found ≡ 0)
+    (λ r. IsTable log found r.now × (r.now.book ≡ name))
+
 -- where the word is a pair's, the pair that it names was told, and has its number
 abbrev pub NamesPair : {K V : Type 0} → ℕ → Option (Named K V) → Type 0
 NamesPair {K} {V} found state = (kind_of found ≡ word_kinds.Empty → ⊥)
@@ -78,14 +84,14 @@ module _ {K V S : Type 0} (eq : K → K → Bool) (hash : S → K → ℕ) (b : 
       (table : Option (Bor Sheet)) : Type 0 where
     pub lawful : IsLawfulLog eq hash b log
     pub is : (state_of log).root ≡ found
-    pub names : MatchOption table (found ≡ 0) (λ r. IsTable log found r.now × (r.now.book ≡ name))
+    pub names : IsTableOf name found log table
 
   -- the number of the table after t, and that table
   pub record IsNext (name : Book) (t found : ℕ) (log : List (Event K V S))
       (table : Option (Bor Sheet)) : Type 0 where
     pub lawful : IsLawfulLog eq hash b log
     pub is : (state_of log).next t ≡ found
-    pub names : MatchOption table (found ≡ 0) (λ r. IsTable log found r.now × (r.now.book ≡ name))
+    pub names : IsTableOf name found log table
 
   -- An exchange of a slot was tried, and this is the pair that the slot named before. It lies in
   -- the logs.

@@ -1,4 +1,6 @@
--- what a clause sees of a table, of a token, and of a key's hash
+-- what a clause sees of a pair, of a table, of a token, and of a key's hash
+pub mod Pairs
+pub mod Brought
 pub mod Sheets
 pub mod Tokens
 pub mod Hashes

@@ -2,11 +2,10 @@
 use Rattle.std.specs.Prelude.{◌≡◌, ◌≤◌, List, [], ◌∷◌}
 use Rattle.papaya_words.specs.declared.limits.TheConstants.{MAX_LOG_LEN, MAX_TABLES}
 use Rattle.papaya_book.specs.declared.rule.own.Given.{Given}
-use Rattle.papaya_book.specs.declared.rule.own.Given.TheVariants.{Key, Pair, Table}
+use Rattle.papaya_book.specs.declared.rule.own.Given.TheVariants.{Pair, Table}
 
 -- no word can name it
 abbrev pub IsPastLimit : Given → Type 0
-IsPastLimit (Key n) = MAX_LOG_LEN ≤ n
 IsPastLimit (Pair n) = MAX_LOG_LEN ≤ n
 IsPastLimit (Table n) = MAX_TABLES ≤ n
 

@@ -15,7 +15,7 @@ use Rattle.papaya_law.specs.Hashing.{hashed}
 use Rattle.papaya_law.specs.Code.{Coding}
 use Rattle.papaya_law.specs.Invariant.{named}
 use Rattle.papaya_book.specs.Sheets.{Sheet}
-use Rattle.papaya_book.specs.declared.rule.entry.Pair.{Pair}
+use Rattle.papaya_book.specs.Pairs.{Pair}
 use Rattle.papaya_book.specs.declared.rule.entry.Named.{Named}
 use Rattle.papaya_book.specs.declared.rule.entry.Named.TheVariants as names
 use Rattle.papaya_book.specs.declared.rule.entry.Step.{Step}

@@ -6,7 +6,6 @@ abbrev pub begun_of : {K V S H : Type 0} → Parts K V S H → Begun K V S
 begun_of p = record {
   hasher = p.hasher;
   mode = p.mode;
-  keys = p.keys;
   pairs = p.pairs;
   tables = p.tables;
 }

@@ -14,6 +14,7 @@ use Rattle.papaya_book.specs.declared.rule.entry.Begun.{Begun}
 use Rattle.papaya_book.specs.declared.rule.entry.Step.{Step}
 use Rattle.papaya_book.specs.declared.rule.entry.Event.{Event}
 use Rattle.papaya_book.specs.declared.rule.entry.Event.TheVariants.{Begin, Home}
+use Rattle.papaya_book.specs.Pairs.{IsKeyIn}
 use Rattle.papaya_book.specs.Logs.{Entered, Member, coding_of, entries_of, exchanges_of, in_table, key_at, name_in, owner, seals_of, setting_of, state_of, steps_of, table_in}
 
 -- the words of a table of which nothing is said yet
@@ -41,7 +42,7 @@ module _ {K V S : Type 0} where
   -- book that has this name.
   abbrev pub IsPlaced : Begun K V S → Option Book → Named K V → Type 0
   IsPlaced b name names.Nothing = Unit {0}
-  IsPlaced b name (names.Pair p) = Shows b.pairs p × Shows b.keys p.value.key
+  IsPlaced b name (names.Pair p) = Shows b.pairs p × IsKeyIn b.pairs p.value.key
   IsPlaced b name (names.Table w) = Shows b.tables w × (w.index < 2 ^ 32)
       × (name ≡ Some w.value.book)
 

@@ -10,6 +10,7 @@ ghost use Rattle.papaya_book.specs.declared.rule.entry.Named.TheVariants.{Nothin
 
 pub mod exchanges;
 pub mod gains;
+pub mod kept;
 pub mod layer;
 pub mod logs;
 pub mod maker;

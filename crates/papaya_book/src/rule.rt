@@ -3,6 +3,7 @@
 pub mod entry;
 pub mod law;
 pub mod own;
+pub mod pair;
 pub mod steps;
 pub mod token;
 pub mod trade;

@@ -3,6 +3,7 @@ ghost use Rattle.std.specs.Prelude.{◌≡◌};
 ghost use Rattle.papaya_book.specs.Keys.{IsLawful as AreLawful};
 
 use crate::book::Book;
+use crate::book::kept::KeptRoot;
 use crate::keyed::Keyed;
 use crate::rule::entry::{Step, Stored};
 use crate::rule::own::{Given, Own, with_last};
@@ -16,14 +17,16 @@ use std::alloc::Global;
 use std::hash::{BuildHasher, Hash};
 use std::sync::Wait;
 
-/// The book that a call works on, what it has seen of that book's log, and the exchanges of slots
-/// that were made through this window.
+/// The book that a call works on, what it has seen of that book's log, the exchanges of slots that
+/// were made through this window, and the root as the caller keeps it.
 #[derive(Drop)]
 pub struct Window<'a, K: Hash + Eq, V, S: Keyed<K>> {
     pub book: &'a Book<K, V, S>,
     pub sight: Sight<K, V, S>,
     pub own: Own<Step<K, V>>,
+    kept: KeptRoot<'a, K, V, S>,
     ghost same_book: { sight.book ≡ book.now.begun.book },
+    ghost kept_book: { kept ≡ book.now.begun.book },
     ghost keyed: { AreLawful S.keys },
 }
 
@@ -39,10 +42,12 @@ impl<'a, K: Hash + Eq, V, S: BuildHasher> Window<'a, K, V, S> {
     #[inline(always)]
     pub fn new(
         book: &'a Book<K, V, S>,
+        kept: &KeptRoot<'a, K, V, S>,
         sight: &Sight<K, V, S>,
         own: &Own<Step<K, V>>,
     ) -> Window<'a, K, V, S>
-        requires { sight.now.book ≡ book.now.begun.book }
+        requires kept { kept.now ≡ book.now.begun.book }
+        requires seen { sight.now.book ≡ book.now.begun.book }
         ensures book { result.book ≡ book.entry }
         ensures sight { result.sight ≡ sight.now }
         ensures own { result.own.done ≡ own.now.done }
@@ -51,6 +56,7 @@ impl<'a, K: Hash + Eq, V, S: BuildHasher> Window<'a, K, V, S> {
             book,
             sight: sight.again(),
             own: own.again(),
+            kept: kept.again(),
         }
     }
 
@@ -71,7 +77,7 @@ impl<'a, K: Hash + Eq, V, S: BuildHasher> Window<'a, K, V, S> {
         ensures root { IsRoot self.old self.new result.0 result.1 }
         ensures own { self.new.own ≡ self.old.own }
     {
-        self.book.root(&mut self.sight)
+        self.book.root_by(&self.kept, &mut self.sight)
     }
 
     /// One atomic load of the number of the next table, and that table.

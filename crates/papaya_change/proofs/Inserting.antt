@@ -152,9 +152,9 @@ module _ {K V S H : Type 0} (eq : K → K → Bool) (input : K → List (List �
 module _ {K V S H : Type 0} (eq : K → K → Bool) (hash : S → K → ℕ) (b : Begun K V S) (name : Book) (key : K) (value : V) where
   -- an insertion that begins
   pub begins : (log : List (Event K V S)) (x : Insertion K V S H) → IsLawfulLog eq hash b log → (initial : ℕ) → x.writer.call.machine ≡ started (Insert true) (hash b.hasher key) b.mode initial → x.writer.call.table ≡ None → x.writer.call.last ≡ None → x.writer.call.taken ≡ None → x.writer.call.put ≡ None
-      → x.made ≡ None → x.writer.key ≡ Some key → x.writer.logged ≡ None → x.writer.value ≡ Some value → IsInserting eq hash b name key value log log x
-  begins log x l initial machine table last taken put made own logged left = record {
-    writing = subst (λ (z : Option (Stored K V)). IsWriting eq hash b name key (made_list z) log log x.writer) (sym made) (begins_writing eq hash b name key log x.writer l (Insert true) initial machine table last taken put own logged);
+      → x.made ≡ None → x.writer.key ≡ Some key → x.writer.brought ≡ None → x.writer.value ≡ Some value → IsInserting eq hash b name key value log log x
+  begins log x l initial machine table last taken put made own brought left = record {
+    writing = subst (λ (z : Option (Stored K V)). IsWriting eq hash b name key (made_list z) log log x.writer) (sym made) (begins_writing eq hash b name key log x.writer l (Insert true) initial machine table last taken put own brought);
     task_is = ap (λ (z : Machine). z.task) machine;
     left_is = λ v e. let f = sym left ∙ e in sym (cc f);
     made_is = λ q e. let f = sym made ∙ e in absurd (cc f);

@@ -4,6 +4,7 @@ pub mod Doing
 pub mod Exchanging
 pub mod Opens
 pub mod OnePair
+pub mod OwnKeys
 pub mod Written
 pub mod WritingSteps
 pub mod Refusals

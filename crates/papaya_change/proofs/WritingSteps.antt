@@ -49,12 +49,15 @@ use Rattle.papaya_change.proofs.Written.{Writing, WritingOn, goes_on, own_query,
 
 -- such a call that begins
 pub begins : {K V S H : Type 0} (eq : K → K → Bool) (hash : S → K → ℕ) (b : Begun K V S) (name : Book) (key : K) (log : List (Event K V S)) (w : Writer K V S H) → IsLawfulLog eq hash b log → (task : Task) (initial : ℕ) → w.call.machine ≡ started task (hash b.hasher key) b.mode initial
-    → w.call.table ≡ None → w.call.last ≡ None → w.call.taken ≡ None → w.call.put ≡ None → w.key ≡ Some key → w.logged ≡ None → IsWriting eq hash b name key [] log log w
-begins eq hash b name key log w l task initial machine table last taken put own logged = record {
+    → w.call.table ≡ None → w.call.last ≡ None → w.call.taken ≡ None → w.call.put ≡ None → w.key ≡ Some key → w.brought ≡ None → IsWriting eq hash b name key [] log log w
+begins eq hash b name key log w l task initial machine table last taken put own brought = record {
   calling = rw (machine, table, last, taken, put) (begins_calling eq hash b name (eq key) (hash b.hasher key) (Some key) refl log l task initial);
-  own_is = λ k e. let f = sym own ∙ e in sym (cc f);
-  logged_is = λ p e. let f = sym logged ∙ e in absurd (cc f);
-  some_key = λ e. let f = sym own ∙ e in absurd (cc f);
+  keyed = record {
+    own_is = λ k e. let f = sym own ∙ e in sym (cc f);
+    brought_is = λ p e. let f = sym brought ∙ e in absurd (cc f);
+    brought_placed = rw brought tt;
+    some = λ e. let f = sym own ∙ e in absurd (cc f);
+  };
   put_placed = rw put tt;
   opens = λ n e. let f = sym (ap ask_of machine) ∙ e in absurd (cc f);
 }
@@ -106,14 +109,14 @@ module _ {K V S H : Type 0} (eq : K → K → Bool) (input : K → List (List �
           -- it was opened
           pub opened_here : (found == 0) ≡ true → IsTable log' new lent.now → On log' (record w { call = record w.call { table = Some lent }; opening = opening' }) Exchanged
           opened_here is holds =
-              goes_on eq input build write finish classes respects b name key made begun log w r made log' (record w { call = record w.call { table = Some lent }; opening = opening' }) Exchanged refl refl tt
+              goes_on eq input build write finish classes respects b name key made begun log w r made log' (record w { call = record w.call { table = Some lent }; opening = opening' }) Exchanged r.keyed tt
               (opened eq input build write finish classes respects b (eq key) (input key) query (Some key) name begun log log' m w.call.table w.call.last made w.call.taken w.call.put r.calling new found t state asks_zero kind_open tried lent is holds)
               r.put_placed (λ n e. absurd (opens_once m Exchanged new n asks_zero (inl refl) e))
 
           -- another one was
           pub opened_there : (found == 0) ≡ false → IsTable log' found lent.now → On log' (record w { call = record w.call { table = Some lent }; opening = opening' }) (Found_instead found)
           opened_there is holds =
-              goes_on eq input build write finish classes respects b name key made begun log w r made log' (record w { call = record w.call { table = Some lent }; opening = opening' }) (Found_instead found) refl refl tt
+              goes_on eq input build write finish classes respects b name key made begun log w r made log' (record w { call = record w.call { table = Some lent }; opening = opening' }) (Found_instead found) r.keyed tt
               (beaten eq input build write finish classes respects b (eq key) (input key) query (Some key) name begun log log' m w.call.table w.call.last made w.call.taken w.call.put r.calling new found t state asks_zero kind_open tried lent is holds)
               r.put_placed (λ n e. absurd (opens_once m (Found_instead found) new n asks_zero (inr (found, refl)) e))
 
@@ -123,7 +126,7 @@ module _ {K V S H : Type 0} (eq : K → K → Bool) (input : K → List (List �
         let calling = loads eq input build write finish classes respects b (eq key) (input key) query (Some key) name begun log log' pre (loaded_lawful eq hash b name log' at word w.call.table c.table w.call.last c.last is) m w.call.table w.call.last made w.call.taken w.call.put r.calling at word c.table c.last asks is in
         let same : record w.call { table = c.table; last = c.last } ≡ c = λ i. record { machine = sym machine i; table = c.table; last = c.last; taken = sym taken i; put = sym put i } in
         subst (λ (z : Driver K V S H). On log' (record w { call = z }) (Word_read word)) same
-        (goes_on eq input build write finish classes respects b name key made begun log w r made log' (record w { call = record w.call { table = c.table; last = c.last } }) (Word_read word) refl refl tt calling
+        (goes_on eq input build write finish classes respects b name key made begun log w r made log' (record w { call = record w.call { table = c.table; last = c.last } }) (Word_read word) r.keyed tt calling
         r.put_placed (unopened eq input build write finish classes respects b name key made begun log w r log' (Word_read word) w.opening (λ n h. let f = sym asks ∙ h in cc f) (λ s l h. let f = sym asks ∙ h in cc f)))
 
     -- a table whose size is asked for is held
@@ -133,14 +136,14 @@ module _ {K V S H : Type 0} (eq : K → K → Bool) (input : K → List (List �
     -- its size was told
     pub sized_on : (t : ℕ) (lent : Bor Sheet) → w.call.table ≡ Some lent → (slots limit : ℕ) → slots ≡ length lent.now.slots → limit ≡ lent.now.limit → IsSize slots limit → ask_of m ≡ SizeOf t → On log w (Size slots limit)
     sized_on t lent has slots limit slots_is limit_is size asks =
-        goes_on eq input build write finish classes respects b name key made begun log w r made log w (Size slots limit) refl refl size
+        goes_on eq input build write finish classes respects b name key made begun log w r made log w (Size slots limit) r.keyed size
         (sized eq input build write finish classes respects b (eq key) (input key) query (Some key) name begun log m w.call.table w.call.last made w.call.taken w.call.put r.calling t lent has slots limit slots_is limit_is asks)
         r.put_placed (unopened eq input build write finish classes respects b name key made begun log w r log (Size slots limit) w.opening (λ n h. let f = sym asks ∙ h in cc f) (λ s l h. let f = sym asks ∙ h in cc f))
 
     -- the change was counted
     pub counted_on : (by : _) → ask_of m ≡ AddToShard by → On log w Ok_done
     counted_on by asks =
-        goes_on eq input build write finish classes respects b name key made begun log w r made log w Ok_done refl refl tt
+        goes_on eq input build write finish classes respects b name key made begun log w r made log w Ok_done r.keyed tt
         (counted eq input build write finish classes respects b (eq key) (input key) query (Some key) name begun log m w.call.table w.call.last made w.call.taken w.call.put r.calling by asks)
         r.put_placed (unopened eq input build write finish classes respects b name key made begun log w r log Ok_done w.opening (λ n h. let f = sym asks ∙ h in cc f) (λ s l h. let f = sym asks ∙ h in cc f))
 
@@ -169,14 +172,14 @@ module _ {K V S H : Type 0} (eq : K → K → Bool) (input : K → List (List �
         -- it was made
         slot_changed : (found == old) ≡ true → On log' (record w { call = record w.call { taken = pair; put = put } }) Exchanged
         slot_changed is =
-            goes_on eq input build write finish classes respects b name key made begun log w r made log' (record w { call = record w.call { taken = pair; put = put } }) Exchanged refl refl tt
+            goes_on eq input build write finish classes respects b name key made begun log w r made log' (record w { call = record w.call { taken = pair; put = put } }) Exchanged r.keyed tt
             (exchanged eq input build write finish classes respects b (eq key) (input key) query (Some key) name begun log log' m w.call.table w.call.last made w.call.taken w.call.put r.calling t i old new found put pair asks s own is)
             (put_is_placed put own) (unopened eq input build write finish classes respects b name key made begun log w r log' Exchanged w.opening (λ n h. let f = sym asks ∙ h in cc f) (λ z l h. let f = sym asks ∙ h in cc f))
 
         -- it was not
         slot_lost : (found == old) ≡ false → On log' (record w { call = record w.call { last = or_last pair w.call.last } }) (Found_instead found)
         slot_lost is =
-            goes_on eq input build write finish classes respects b name key made begun log w r made log' (record w { call = record w.call { last = or_last pair w.call.last } }) (Found_instead found) refl refl tt
+            goes_on eq input build write finish classes respects b name key made begun log w r made log' (record w { call = record w.call { last = or_last pair w.call.last } }) (Found_instead found) r.keyed tt
             (lost eq input build write finish classes respects b (eq key) (input key) query (Some key) name begun log log' m w.call.table w.call.last made w.call.taken w.call.put r.calling t i old new found put pair asks s is)
             r.put_placed (unopened eq input build write finish classes respects b name key made begun log w r log' (Found_instead found) w.opening (λ n h. let f = sym asks ∙ h in cc f) (λ z l h. let f = sym asks ∙ h in cc f))
 

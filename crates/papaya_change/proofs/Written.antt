@@ -2,7 +2,7 @@
 use Rattle.std.proofs.Common.{◌≡◌, ◌⊎◌, inl, inr, ⊎_elim, ℕ, ◌<◌, ◌^◌, Bool, true, Option, None, Some, List, [], ◌∷◌, append-nil, refl, sym, ap, ◌∙◌, subst, arith}
 use Rattle.std.specs.Cmp.{IsEquivalence}
 use mathlib.Core.List.{IsPrefix}
-use Rattle.boxcar.specs.Table.{Shows, Where}
+use Rattle.boxcar.specs.Table.{Where}
 use Rattle.logbook.specs.Pages.{Book, nib, may_write}
 use Rattle.logbook.specs.declared.tokens.Pen.{Pen}
 use Rattle.papaya_words.specs.declared.probe.Refused.{Refused}
@@ -25,7 +25,7 @@ use Rattle.papaya_lookup.specs.History.{key_of}
 use Rattle.papaya_book.specs.Logs.{Stored, number_of, pair_named}
 use Rattle.papaya_book.specs.Makers.{IsMade}
 use Rattle.papaya_book.specs.Rule.{IsLawfulLog, IsPlaced}
-use Rattle.papaya_change.specs.Writing.{IsOpening, IsWriting, IsWritingOn}
+use Rattle.papaya_change.specs.Writing.{HasKey, IsOpening, IsWriting, IsWritingOn}
 use Rattle.papaya_change.proofs.Changing.{compared, held_later, quiet}
 use Rattle.papaya_lookup.proofs.Readings.{IsQuery}
 
@@ -35,9 +35,7 @@ module _ {K V S H : Type 0} (eq : K → K → Bool) (hash : S → K → ℕ) (b 
   with_given answer on = (
     record {
       calling = on.0.calling;
-      own_is = on.0.own_is;
-      logged_is = on.0.logged_is;
-      some_key = on.0.some_key;
+      keyed = on.0.keyed;
       put_placed = on.0.put_placed;
       opens = on.0.opens;
     },
@@ -102,31 +100,26 @@ module _ {K V S H : Type 0} (eq : K → K → Bool) (input : K → List (List �
           → (n : ℕ) → ask_of (after m answer) ≡ Ask_exchange Root 0 n → IsOpening b name log' n opening
       unopened log' answer opening opens makes n e = ⊎_elim (λ h. absurd (makes h.1.0 h.1.1 h.1.2)) (λ h. absurd (opens n h)) (machine_opened m n answer e)
 
-      -- the key was logged, or not
-      pub key_made : (own : Option K) (logged : Option (Where K)) (answer : Answer) → ask_of m ≡ MakeKey → IsPlainAnswer answer → ((k : K) → own ≡ Some k → k ≡ key) → ((p : Where K) → logged ≡ Some p → (p.value ≡ key) × Shows b.keys p) → (own ≡ None → (p : Where K) × (logged ≡ Some p))
-          → WritingOn log (record w { key = own; logged = logged }) answer
-      key_made own logged answer asks plain own_is logged_is some = (
+      -- nothing was made for the key
+      pub key_made : (answer : Answer) → ask_of m ≡ MakeKey → IsPlainAnswer answer → WritingOn log w answer
+      key_made answer asks plain = (
         record {
           calling = quiet eq input build write finish classes respects b (eq key) (input key) own_query (Some key) name begun log log ([], append-nil log) r.calling.lawful m w.call.table w.call.last made w.call.taken w.call.put r.calling
               MakeKey asks answer w.call.last made w.call.table r.calling.number (record { told = (make_answer answer plain, (refl, refl)); number_is = refl; same = refl; busy = λ z. z }) r.calling.holds_table r.calling.last_placed r.calling.made_placed;
-          own_is = own_is;
-          logged_is = logged_is;
-          some_key = some;
+          keyed = r.keyed;
           put_placed = r.put_placed;
           opens = unopened log answer w.opening (λ n h. let f = sym asks ∙ h in cc f) (λ s l h. let f = sym asks ∙ h in cc f);
         },
         plain_fit answer plain,
       )
 
-      -- it goes on with its key
-      pub goes_on : (made' : List (Stored K V)) (log' : List (Event K V S)) (w' : Writer K V S H) (answer : Answer) → w'.key ≡ w.key → w'.logged ≡ w.logged → IsFit answer → IsCalling eq hash b name (eq key) (hash b.hasher key) (Some key) begun log' (after w'.call.machine answer) w'.call.table w'.call.last made' w'.call.taken w'.call.put
+      -- it goes on with the key that it has
+      pub goes_on : (made' : List (Stored K V)) (log' : List (Event K V S)) (w' : Writer K V S H) (answer : Answer) → HasKey b name key w'.key w'.brought → IsFit answer → IsCalling eq hash b name (eq key) (hash b.hasher key) (Some key) begun log' (after w'.call.machine answer) w'.call.table w'.call.last made' w'.call.taken w'.call.put
           → IsPlaced b (Some name) (pair_named w'.call.put) → ((n : ℕ) → ask_of (after w'.call.machine answer) ≡ Ask_exchange Root 0 n → IsOpening b name log' n w'.opening) → IsWritingOn eq hash b name key made' begun log' w' answer
-      goes_on made' log' w' answer own logged fit calling placed opens = (
+      goes_on made' log' w' answer keyed fit calling placed opens = (
         record {
           calling = calling;
-          own_is = λ k e. r.own_is k (sym own ∙ e);
-          logged_is = λ p e. r.logged_is p (sym logged ∙ e);
-          some_key = λ e. let h = r.some_key (sym own ∙ e) in (h.0, logged ∙ h.1);
+          keyed = keyed;
           put_placed = placed;
           opens = opens;
         },
@@ -134,17 +127,17 @@ module _ {K V S H : Type 0} (eq : K → K → Bool) (input : K → List (List �
       )
 
       -- the pair was not logged
-      pub pair_unmade : (left : Option V) (answer : Answer) → ask_of m ≡ MakePair → ((refused : Refused) × (answer ≡ Was_refused refused)) ⊎ (answer ≡ Ok_done) → IsPlainAnswer answer → WritingOn log (record w { value = left }) answer
-      pair_unmade left answer asks unmade plain =
-          goes_on made log (record w { value = left }) answer refl refl (plain_fit answer plain)
+      pub pair_unmade : (left : Option V) (own : Option K) (brought : Option (Stored K V)) (answer : Answer) → HasKey b name key own brought → ask_of m ≡ MakePair → ((refused : Refused) × (answer ≡ Was_refused refused)) ⊎ (answer ≡ Ok_done) → IsPlainAnswer answer → WritingOn log (record w { value = left; key = own; brought = brought }) answer
+      pair_unmade left own brought answer keyed asks unmade plain =
+          goes_on made log (record w { value = left; key = own; brought = brought }) answer keyed (plain_fit answer plain)
           (quiet eq input build write finish classes respects b (eq key) (input key) own_query (Some key) name begun log log ([], append-nil log) r.calling.lawful m w.call.table w.call.last made w.call.taken w.call.put r.calling
           MakePair asks answer w.call.last made w.call.table r.calling.number (record { told = inl (unmade, (refl, refl)); number_is = refl; same = refl; busy = λ z. z }) r.calling.holds_table r.calling.last_placed r.calling.made_placed)
           r.put_placed (unopened log answer w.opening (λ n h. let f = sym asks ∙ h in cc f) (λ s l h. let f = sym asks ∙ h in cc f))
 
       -- the pair was logged
-      pub pair_made : (q : Stored K V) (left : Option V) → ask_of m ≡ MakePair → q.index < 2 ^ 48 → key_of q ≡ key → IsPlaced b (Some name) (names.Pair q) → IsWritingOn eq hash b name key (q ∷ made) begun log (record w { value = left }) (Made_number q.index)
-      pair_made q left asks low key_is placed =
-          goes_on (q ∷ made) log (record w { value = left }) (Made_number q.index) refl refl low
+      pub pair_made : (q : Stored K V) (left : Option V) (own : Option K) (brought : Option (Stored K V)) → HasKey b name key own brought → ask_of m ≡ MakePair → q.index < 2 ^ 48 → key_of q ≡ key → IsPlaced b (Some name) (names.Pair q) → IsWritingOn eq hash b name key (q ∷ made) begun log (record w { value = left; key = own; brought = brought }) (Made_number q.index)
+      pair_made q left own brought keyed asks low key_is placed =
+          goes_on (q ∷ made) log (record w { value = left; key = own; brought = brought }) (Made_number q.index) keyed low
           (quiet eq input build write finish classes respects b (eq key) (input key) own_query (Some key) name begun log log ([], append-nil log) r.calling.lawful m w.call.table w.call.last made w.call.taken w.call.put r.calling
           MakePair asks (Made_number q.index) w.call.last (q ∷ made) w.call.table r.calling.number (record { told = inr (q, ap (λ z. Some z) key_is, refl, refl, refl); number_is = refl; same = refl; busy = λ z. z }) r.calling.holds_table r.calling.last_placed
           (λ p one. ⊎_elim (λ is. subst (λ (z : Stored K V). IsPlaced b (Some name) (names.Pair z)) (sym is) placed) (λ other. r.calling.made_placed p other) one))
@@ -153,14 +146,14 @@ module _ {K V S H : Type 0} (eq : K → K → Bool) (input : K → List (List �
       -- the key was compared
       pub key_compared : (n : ℕ) (same : Bool) → ((p : Stored K V) → w.call.last ≡ Some p → same ≡ eq key (key_of p)) → ask_of m ≡ SameKey n → WritingOn log w (Yes same)
       key_compared n same is asks =
-          goes_on made log w (Yes same) refl refl tt
+          goes_on made log w (Yes same) r.keyed tt
           (compared eq input build write finish classes respects b (eq key) (input key) own_query (Some key) name begun log m w.call.table w.call.last made w.call.taken w.call.put r.calling n same is asks)
           r.put_placed (unopened log (Yes same) w.opening (λ i h. let f = sym asks ∙ h in cc f) (λ s l h. let f = sym asks ∙ h in cc f))
 
       -- no table was made
       pub table_unmade : (log' : List (Event K V S)) → IsPrefix log log' → IsLawfulLog eq hash b log' → (slots limit : ℕ) (refused : Refused) → ask_of m ≡ MakeTable slots limit → WritingOn log' w (Was_refused refused)
       table_unmade log' pre l' slots limit refused asks =
-          goes_on made log' w (Was_refused refused) refl refl tt
+          goes_on made log' w (Was_refused refused) r.keyed tt
           (quiet eq input build write finish classes respects b (eq key) (input key) own_query (Some key) name begun log log' pre l' m w.call.table w.call.last made w.call.taken w.call.put r.calling
           (MakeTable slots limit) asks (Was_refused refused) w.call.last made w.call.table r.calling.number (record { told = (inl (inl (refused, refl)), (refl, refl)); number_is = refl; same = refl; busy = λ z. z })
           (held_later log log' pre r.calling.number w.call.table r.calling.holds_table) r.calling.last_placed r.calling.made_placed)
@@ -170,7 +163,7 @@ module _ {K V S H : Type 0} (eq : K → K → Bool) (input : K → List (List �
       pub table_made : (log' : List (Event K V S)) → IsPrefix log log' → IsLawfulLog eq hash b log' → (slots limit : ℕ) (t : Where Sheet) (seal : Pen) (i : ℕ) → i ≡ number_of t → ask_of m ≡ MakeTable slots limit → IsMade t.value log' → IsPlaced b (Some name) (names.Table t) → seal.book ≡ name → seal.nib ≡ nib may_write t.value.seal 0
           → WritingOn log' (record w { opening = Some (t, seal) }) (Made_number i)
       table_made log' pre l' slots limit t seal i number_is asks is_made placed book is =
-          goes_on made log' (record w { opening = Some (t, seal) }) (Made_number i) refl refl (let low = placed.1 in omega arith)
+          goes_on made log' (record w { opening = Some (t, seal) }) (Made_number i) r.keyed (let low = placed.1 in omega arith)
           (quiet eq input build write finish classes respects b (eq key) (input key) own_query (Some key) name begun log log' pre l' m w.call.table w.call.last made w.call.taken w.call.put r.calling
           (MakeTable slots limit) asks (Made_number i) w.call.last made w.call.table r.calling.number (record { told = (inr (i, omega arith, refl), (refl, refl)); number_is = refl; same = refl; busy = λ z. z })
           (held_later log log' pre r.calling.number w.call.table r.calling.holds_table) r.calling.last_placed r.calling.made_placed)

@@ -1,6 +1,6 @@
 -- What a call on the shared map that inserts holds and rests on, whatever its task.
 use Rattle.std.specs.Prelude.{◌≡◌, ◌⊎◌, ℕ, Bool, Option, None, Some, List, ◌∷◌}
-use Rattle.boxcar.specs.Table.{Shows, Where}
+use Rattle.boxcar.specs.Table.{Where}
 use Rattle.logbook.specs.Pages.{Book, nib, may_write}
 use Rattle.logbook.specs.declared.tokens.Pen.{Pen}
 use Rattle.papaya_words.specs.declared.probe.Refused.{Refused as Cause}
@@ -22,6 +22,7 @@ use Rattle.papaya_lookup.specs.History.{key_of}
 use Rattle.papaya_book.specs.Logs.{Stored, number_of, pair_named}
 use Rattle.papaya_book.specs.Limits.{IsFull}
 use Rattle.papaya_book.specs.Makers.{IsMade}
+use Rattle.papaya_book.specs.Pairs.{KeyHeld}
 use Rattle.papaya_book.specs.Rule.{IsPlaced}
 
 -- the table of this number was made, and its seal is at hand
@@ -35,6 +36,21 @@ pub record IsOpening {K V S : Type 0} (b : Begun K V S) (name : Book) (log : Lis
   pub placed : IsPlaced b (Some name) (Table table)
   pub seal_book : seal.book ≡ name
   pub seal_nib : seal.nib ≡ nib may_write table.value.seal 0
+
+-- A call by this key has it at hand, or a pair that brought it to the log.
+pub record HasKey {K V S : Type 0} (b : Begun K V S) (name : Book) (key : K) (own : Option K)
+    (brought : Option (Stored K V)) : Type 0 where
+  pub own_is : (k : K) → own ≡ Some k → k ≡ key
+  pub brought_is : (p : Stored K V) → brought ≡ Some p → (key_of p ≡ key)
+      × (p.value.key.at ≡ None)
+  pub brought_placed : IsPlaced b (Some name) (pair_named brought)
+  pub some : own ≡ None → (p : Stored K V) × (brought ≡ Some p)
+
+-- The key of a new pair is the one at hand, or else it lies at the pair that brought it.
+abbrev pub IsKeyBy : {K V : Type 0} → Option K → Option (Stored K V) → KeyHeld K → Type 0
+IsKeyBy (Some k) brought held = held ≡ record { value = k; at = None }
+IsKeyBy None (Some p) held = held ≡ record { value = p.value.key.value; at = Some (p.bucket, p.row) }
+IsKeyBy None None held = ⊥
 
 -- no pair was logged: there was no memory or no number for it, or nothing to log
 abbrev pub IsUnlogged : Answer → Type 0
@@ -56,15 +72,12 @@ IsUnsaid given answer = (cause : Cause) → answer ≡ Refused cause → (cause 
 
 module _ {K V S H : Type 0} (eq : K → K → Bool) (hash : S → K → ℕ) (b : Begun K V S)
     (name : Book) where
-  -- A call by this key that has made these pairs. It holds the key as it was handed in, or as it
-  -- was logged.
+  -- a call by this key that has made these pairs
   pub record IsWriting (key : K) (made : List (Stored K V)) (begun log : List (Event K V S))
       (w : Writer K V S H) : Type 0 where
     pub calling : IsCalling eq hash b name (eq key) (hash b.hasher key) (Some key) begun log
         w.call.machine w.call.table w.call.last made w.call.taken w.call.put
-    pub own_is : (k : K) → w.key ≡ Some k → k ≡ key
-    pub logged_is : (p : Where K) → w.logged ≡ Some p → (p.value ≡ key) × Shows b.keys p
-    pub some_key : w.key ≡ None → (p : Where K) × (w.logged ≡ Some p)
+    pub keyed : HasKey b name key w.key w.brought
     pub put_placed : IsPlaced b (Some name) (pair_named w.call.put)
     pub opens : (n : ℕ) → ask_of w.call.machine ≡ Exchange Root 0 n
         → IsOpening b name log n w.opening

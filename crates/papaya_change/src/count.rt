@@ -1,6 +1,7 @@
 //! The count of a map's pairs, in shards, so that callers seldom meet at one word.
 ghost use Rattle.std.specs.Prelude.{◌≡◌, ◌<◌, ◌≤◌, Err, IfErr, length};
 
+use crossbeam_utils::CachePadded;
 use papaya_words::limits::MAX_SHARDS;
 use papaya_words::probe::Refused;
 use std::alloc::Global;
@@ -9,11 +10,11 @@ use std::sync::atomic::{AtomicI64, Ordering};
 /// A signed number in shards. Its additions are steps apart from the changes that they count, so a
 /// sum may lag behind them, and no contract says what it is.
 ///
-/// 0.2.5 gives each shard a cache line of its own, and takes their number from the machine's
-/// processors.
+/// As in 0.2.5 each shard has cache lines of its own. There their number is taken from the
+/// machine's processors.
 #[derive(Drop)]
 pub struct Count {
-    shards: Vec<AtomicI64>,
+    shards: Vec<CachePadded<AtomicI64>>,
 }
 
 impl Count {
@@ -31,7 +32,7 @@ impl Count {
         }
     }
 
-    /// What the caller adds to whose guard has this number.
+    /// What the caller adds to who has this number.
     #[inline(always)]
     pub fn shard(&self, guard_number: u64) -> Shard<'_> {
         Shard {
@@ -51,10 +52,10 @@ impl Count {
 }
 
 /// So many shards of 0, or none where there is no memory.
-fn row(alloc: Global, len: usize) -> Option<Vec<AtomicI64>> {
+fn row(alloc: Global, len: usize) -> Option<Vec<CachePadded<AtomicI64>>> {
     let mut shards = Vec::with_capacity(alloc, len).ok()?;
     for _ in 0..len {
-        shards.push(AtomicI64::new(0)).ok()?;
+        shards.push(CachePadded::new(AtomicI64::new(0))).ok()?;
     }
     Some(shards)
 }

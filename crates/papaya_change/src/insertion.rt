@@ -34,7 +34,7 @@ pub struct Insertion<'a, K: Hash + Eq, V, S: BuildHasher> {
 }
 
 impl<'a, K: Hash + Eq + Drop, V: Drop, S: BuildHasher> Insertion<'a, K, V, S> {
-    /// Logs the pair of the logged key and the value.
+    /// Logs the pair of the key and the value.
     fn make_pair<R: Wait>(&mut self, rt: &R, window: &Window<'a, K, V, S>) -> Answer
         requires standing { IsStanding self.old.writer.call.machine }
         requires can { CanInsert window.now self.old }
@@ -95,7 +95,7 @@ impl<'a, K: Hash + Eq + Drop, V: Drop, S: BuildHasher> Insertion<'a, K, V, S> {
             Ask::Load(at) => Some(self.writer.load(at, window)),
             Ask::SizeOf(_) => Some(self.writer.size(window)),
             Ask::SameKey(_) => Some(self.writer.same(window)),
-            Ask::MakeKey => Some(self.writer.make_key(rt, window)),
+            Ask::MakeKey => Some(self.writer.make_key(window)),
             Ask::MakePair => Some(self.make_pair(rt, window)),
             Ask::MakeTable { len, limit } => {
                 Some(self.writer.make_table(rt, alloc, len, limit, window))
@@ -129,7 +129,7 @@ impl<'a, K: Hash + Eq + Drop, V: Drop, S: BuildHasher> Insertion<'a, K, V, S> {
         }
         let book = window.book;
         match &self.writer.call.taken {
-            Some(taken) => Ok(Some(&book.pair(taken).value)),
+            Some(taken) => Ok(Some(book.pair(taken).value())),
             None => Ok(None),
         }
     }
@@ -164,7 +164,7 @@ pub fn insert<'a, R: Wait, K: Hash + Eq + Drop, V: Drop, S: BuildHasher>(
         writer: Writer {
             call: Driver::new(task, hash, book.parts.mode, initial),
             key: Some(key),
-            logged: None,
+            brought: None,
             value: Some(value),
             opening: None,
             given: Own::nothing(),

@@ -44,7 +44,7 @@ pub fn entry<'a, K: Hash + Eq, V, S: BuildHasher>(
     ensures { AreOf result stored.now }
 {
     let pair = book.pair(stored);
-    (book.key(pair), &pair.value)
+    (book.key(pair), pair.value())
 }
 
 impl<'a, K: Hash + Eq, V, S: BuildHasher> Removal<'a, K, V, S> {

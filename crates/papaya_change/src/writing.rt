@@ -10,7 +10,8 @@ ghost use Rattle.papaya_ask.specs.declared.ask.StepKind.TheVariants.{Bury};
 ghost use Rattle.papaya_words.specs.Word.{pair_of};
 ghost use Rattle.papaya_book.specs.Plays.{IsPutting};
 ghost use Rattle.papaya_change.specs.Doing.{was_made};
-ghost use Rattle.papaya_change.specs.Writing.{IsUnlogged, IsUnsaid};
+ghost use Rattle.papaya_rests.specs.Told.{or_last};
+ghost use Rattle.papaya_change.specs.Writing.{IsKeyBy, IsUnlogged, IsUnsaid};
 ghost use Rattle.papaya_book.specs.declared.rule.entry.Named.TheVariants.{Pair as PairNamed};
 
 use boxcar::Pushed;
@@ -18,6 +19,7 @@ use logbook::Pen;
 use papaya_ask::ask::{Answer, At};
 use papaya_book::rule::entry::Stored;
 use papaya_book::rule::own::{Given, Own};
+use papaya_book::rule::pair::Pair;
 use papaya_book::table::Table;
 use papaya_book::window::Window;
 use papaya_lookup::driver::Driver;
@@ -27,17 +29,43 @@ use std::alloc::Global;
 use std::hash::{BuildHasher, Hash};
 use std::sync::Wait;
 
-/// A call that inserts, under way: its key until that is logged, and the value of the pair that it
-/// makes next until that is. A table that it has made is opened by its next step. Where a log gave
-/// it a number past the log's limit, contracts see that number.
+/// A call that inserts, under way: its key until that goes into the log with a first pair, then
+/// the pair that brought it, and the value of the pair that it makes next until that is logged. A
+/// table that it has made is opened by its next step. Where a log gave it a number past the log's
+/// limit, contracts see that number.
 #[derive(Drop)]
 pub struct Writer<'a, K: Hash + Eq, V, S: BuildHasher> {
     pub call: Driver<'a, K, V, S>,
     pub key: Option<K>,
-    pub logged: Option<Pushed<K>>,
+    pub brought: Option<Stored<K, V>>,
     pub value: Option<V>,
     pub opening: Option<(Pushed<Table<K, V, S>>, Pen)>,
     pub given: Own<Given>,
+}
+
+/// A pair of this value, with the key that is at hand, or else by the pair that brought it.
+#[inline(always)]
+fn pair_by<K, V>(key: Option<K>, brought: &Option<Stored<K, V>>, value: V) -> Pair<K, V>
+    requires { key ≡ None → (p : _) × (brought.now ≡ Some p) × (p.value.key.at ≡ None) }
+    ensures key { IsKeyBy key brought.now result.key }
+    ensures value { result.value ≡ value }
+{
+    match (key, brought) {
+        (Some(key), _) => Pair::new(key, value),
+        (None, Some(first)) => Pair::by_key_of(first, value),
+        (None, None) => unreachable!(),
+    }
+}
+
+/// The pair that brought the key before, or else this one.
+#[inline(always)]
+fn or_this<K, V>(brought: Option<Stored<K, V>>, pair: &Stored<K, V>) -> Option<Stored<K, V>>
+    ensures { result ≡ or_last brought (Some pair.now) }
+{
+    match brought {
+        Some(first) => Some(first),
+        None => Some(pair.again()),
+    }
 }
 
 impl<'a, K: Hash + Eq + Drop, V: Drop, S: BuildHasher> Writer<'a, K, V, S> {
@@ -85,48 +113,28 @@ impl<'a, K: Hash + Eq + Drop, V: Drop, S: BuildHasher> Writer<'a, K, V, S> {
         };
         let book = window.book;
         let found = book.key(book.pair(last));
-        let same = match (&self.key, &self.logged) {
+        let same = match (&self.key, &self.brought) {
             (Some(key), _) => *key == *found,
-            (None, Some(token)) => *book.parts.keys.value(token) == *found,
+            (None, Some(pair)) => *book.key(book.pair(pair)) == *found,
             (None, None) => unreachable!(),
         };
         Answer::Yes(same)
     }
 
-    /// Logs the key.
-    pub fn make_key<R: Wait>(&mut self, rt: &R, window: &Window<'a, K, V, S>) -> Answer
-        requires can { CanWrite window.now self.old }
-        requires asks { ask_of self.old.call.machine ≡ MakeKey }
-        requires standing { IsStanding self.old.call.machine }
-        ensures machine { self.new.call.machine ≡ self.old.call.machine }
-        ensures value { self.new.value ≡ self.old.value }
-        ensures unsaid { IsUnsaid self.new.given.done result }
-        ensures put { self.new.call.put ≡ self.old.call.put }
-        ensures writes { Writes window.now self.old window.now self.new result }
+    /// The key goes into the log of pairs, with the first pair, so that nothing is made for it
+    /// now. It has no number yet, and its machine asks for none.
+    pub fn make_key(&self, window: &Window<'a, K, V, S>) -> Answer
+        requires can { CanWrite window.now self.now }
+        requires asks { ask_of self.now.call.machine ≡ MakeKey }
+        requires standing { IsStanding self.now.call.machine }
+        ensures unsaid { IsUnsaid self.now.given.done result }
+        ensures writes { Writes window.now self.now window.now self.now result }
     {
-        let Some(key) = self.key.take() else {
-            return Answer::Ok;
-        };
-        match window.book.log_key(rt, key) {
-            Ok(token) => {
-                let number = token.index();
-                if number >= MAX_LOG_LEN {
-                    self.given = window.book.gave_key(&token);
-                    self.logged = Some(token);
-                    return Answer::Refused(Refused::Capacity);
-                }
-                self.logged = Some(token);
-                Answer::Made(number as u64)
-            }
-            Err(key) => {
-                self.key = Some(key);
-                Answer::Refused(Refused::Memory)
-            }
-        }
+        let _ = window;
+        Answer::Made(0)
     }
 
-    /// Logs the pair of the logged key and the value, and hands it out. Where there is none, what
-    /// the
+    /// Logs the pair of the key and the value, and hands it out. Where there is none, what the
     /// machine is to be answered.
     pub fn log_pair<R: Wait>(
         &mut self,
@@ -151,22 +159,24 @@ impl<'a, K: Hash + Eq + Drop, V: Drop, S: BuildHasher> Writer<'a, K, V, S> {
         ensures writes { IfErr result (λ answer. Writes window.now self.old window.now self.new
             answer) }
     {
-        let Some(key) = &self.logged else {
-            return Err(Answer::Ok);
-        };
-        let key = key.again();
         let Some(value) = self.value.take() else {
             return Err(Answer::Ok);
         };
-        let Ok(pair) = window.book.log_pair(rt, key, value) else {
-            return Err(Answer::Refused(Refused::Memory));
-        };
-        let number = pair.index();
-        if number >= MAX_LOG_LEN {
-            self.given = window.book.gave_pair(&pair);
-            return Err(Answer::Refused(Refused::Capacity));
+        let pair = pair_by(self.key.take(), &self.brought, value);
+        match window.book.log_pair(rt, pair) {
+            Ok(pair) => {
+                self.brought = or_this(self.brought.take(), &pair);
+                if pair.index() >= MAX_LOG_LEN {
+                    self.given = window.book.gave_pair(&pair);
+                    return Err(Answer::Refused(Refused::Capacity));
+                }
+                Ok(pair)
+            }
+            Err(back) => {
+                self.key = back.into_key();
+                Err(Answer::Refused(Refused::Memory))
+            }
         }
-        Ok(pair)
     }
 
     /// Makes a table, and keeps it with its seal until it is tried to be opened.

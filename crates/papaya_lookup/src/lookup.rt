@@ -77,7 +77,7 @@ fn look_at<'a, K: Hash + Eq, V, S: BuildHasher, Q: Equivalent<K>>(
             let same = key.equivalent(book.key(pair));
             let compared = Search::Comparing(at, word).at_yes(same);
             match compared {
-                Seen::Here(..) => Turn::Found(&pair.value),
+                Seen::Here(..) => Turn::Found(pair.value()),
                 _ => without(compared),
             }
         }

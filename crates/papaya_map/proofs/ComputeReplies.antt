@@ -287,10 +287,10 @@ module _ {K V T : Type 0} (eq : K → K → Bool) (key : K) (older old new : Lis
 
 -- a compute that begins
 pub begins : {K V S T H F : Type 0} (eq : K → K → Bool) (hash : S → K → ℕ) (b : Begun K V S) (name : Book) (operates : F → Option (Stored K V) → Operation V T → F → Type 0) (key : K) (first : F) (log : List (Event K V S)) (x : Computing K V S T H) → IsLawfulLog eq hash b log → (initial : ℕ) → x.writer.call.machine ≡ started Compute (hash b.hasher key) b.mode initial
-    → x.writer.call.table ≡ None → x.writer.call.last ≡ None → x.writer.call.taken ≡ None → x.writer.call.put ≡ None → x.writer.key ≡ Some key → x.writer.logged ≡ None → x.shown ≡ None → x.chosen ≡ None → IsComputing eq hash b name operates key first log log x first
-begins eq hash b name operates key first log x l initial machine table last taken put own logged shown chosen = record {
+    → x.writer.call.table ≡ None → x.writer.call.last ≡ None → x.writer.call.taken ≡ None → x.writer.call.put ≡ None → x.writer.key ≡ Some key → x.writer.brought ≡ None → x.shown ≡ None → x.chosen ≡ None → IsComputing eq hash b name operates key first log log x first
+begins eq hash b name operates key first log x l initial machine table last taken put own brought shown chosen = record {
   made = [];
-  writing = begins_writing eq hash b name key log x.writer l Compute initial machine table last taken put own logged;
+  writing = begins_writing eq hash b name key log x.writer l Compute initial machine table last taken put own brought;
   task_is = ap (λ (z : Machine). z.task) machine;
   words = rw machine tt;
   shown_placed = rw shown tt;

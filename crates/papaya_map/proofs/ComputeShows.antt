@@ -172,9 +172,7 @@ module _ {K V S T H F : Type 0} (eq : K → K → Bool) (input : K → List (Lis
     asked : (shown : Option ℕ) (value : Option V) → ask_of w.call.machine ≡ show shown → IsWriting eq hash b name key made begun log (record w { call = record w.call { machine = w' }; value = value })
     asked shown value asks = record {
       calling = called shown asks;
-      own_is = r.own_is;
-      logged_is = r.logged_is;
-      some_key = r.some_key;
+      keyed = r.keyed;
       put_placed = r.put_placed;
       opens = λ n e. ⊎_elim (λ h. let no = h.0 in absurd (cc no)) (λ h. absurd (not_root shown asks n h)) (machine_opened w.call.machine n (Op kind) e);
     }

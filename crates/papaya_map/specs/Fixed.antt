@@ -6,8 +6,7 @@ use Rattle.papaya_words.specs.declared.probe.ResizeMode.{ResizeMode}
 use Rattle.papaya_book.specs.declared.rule.entry.Begun.{Begun}
 
 -- Which book it has; what that was opened with: the hasher, how the map resizes, and the logs of
--- keys, of pairs and of tables; and the initial capacity, in slots, by which its first table is
--- sized.
+-- pairs and of tables; and the initial capacity, in slots, by which its first table is sized.
 pub record Fixed (K V S : Type 0) : Type 0 where
   pub book : Book
   pub begun : Begun K V S

@@ -255,7 +255,7 @@ impl<'a, K: Hash + Eq + Drop, V: Drop, S: BuildHasher, T: Drop> Computing<'a, K,
             Ask::Load(at) => self.writer.load(at, window),
             Ask::SizeOf(_) => self.writer.size(window),
             Ask::SameKey(_) => self.writer.same(window),
-            Ask::MakeKey => self.writer.make_key(rt, window),
+            Ask::MakeKey => self.writer.make_key(window),
             Ask::MakeTable { len, limit } => {
                 self.writer.make_table(rt, alloc, len, limit, window)
             }
@@ -443,7 +443,7 @@ pub fn compute<
         writer: Writer {
             call: Driver::new(Task::Compute, hash, book.parts.mode, initial),
             key: Some(key),
-            logged: None,
+            brought: None,
             value: None,
             opening: None,
             given: Own::nothing(),

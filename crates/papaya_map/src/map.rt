@@ -16,6 +16,7 @@ ghost use Rattle.papaya_change.specs.Showings.{Judges, Operates};
 
 use crate::computing::compute;
 use papaya_book::book::Book;
+use papaya_book::book::kept::KeptRoot;
 use papaya_book::book::parts::Parts;
 use papaya_book::keyed::Keyed;
 use papaya_book::rule::entry::Step;
@@ -59,16 +60,18 @@ impl<K: Hash + Eq, V, S: BuildHasher> Model for HashMap<K, V, S> {
     } };
 }
 
-/// What a caller has seen of a map's history, and what it changed itself. It has no bytes.
-/// Contracts see that history, which is legal, the changes that were made by this pass, oldest
-/// first, and which book they are of. Where its last insertion or compute was refused since a log
-/// is full, they see the number that the log gave.
+/// What a caller has seen of a map's history, and what it changed itself. Of all this it keeps no
+/// more than a number, by which its calls pick a shard of the map's count. Contracts see that
+/// history, which is legal, the changes that were made by this pass, oldest first, and which book
+/// they are of. Where its last insertion or compute was refused since a log is full, they see the
+/// number that the log gave.
 ///
 /// Each call by a pass stands in the history after all that the pass had seen before, and
 /// afterwards the pass has seen the call's own moment. A call that changes the map makes one change
 /// by its pass, and any other call makes none.
 #[derive(Drop)]
 pub struct Pass<K: Hash + Eq, V, S: BuildHasher> {
+    number: u64,
     sight: Sight<K, V, S>,
     own: Own<Step<K, V>>,
     given: Own<Given>,
@@ -87,18 +90,28 @@ impl<K: Hash + Eq, V, S: BuildHasher> Model for Pass<K, V, S> {
     ghost invariant = { λ p. IsLegalHistory K.eq key_of (history_of p.sight.log) };
 }
 
-/// A map, as calls take it. What it answers stays for as long as the map does. Contracts see what
-/// they see of the map.
-#[derive(Drop)]
+/// A map, as calls take it. What it answers stays for as long as the map does. It keeps the root as
+/// it was found when the map was pinned, so that calls need not look for the table again. Contracts
+/// see what they see of the map.
 pub struct HashMapRef<'a, K: Hash + Eq, V, S: BuildHasher> {
     map: &'a HashMap<K, V, S>,
-    guard: u64,
+    kept: KeptRoot<'a, K, V, S>,
 }
 
 impl<'a, K: Hash + Eq, V, S: BuildHasher> Model for HashMapRef<'a, K, V, S> {
     ghost Value = { Fixed K V S };
 
     ghost view = { λ r. r.map.now };
+
+    ghost invariant = { λ r. r.kept ≡ r.map.now.book };
+}
+
+// By hand, so that a caller's proof sees the whole value to its end.
+impl<'a, K: Hash + Eq, V, S: BuildHasher> Drop for HashMapRef<'a, K, V, S> {
+    fn drop(self) {
+        let Self { map: _, kept } = self;
+        drop(kept);
+    }
 }
 
 impl<K: Hash + Eq + Drop, V: Drop, S: BuildHasher + Drop> HashMap<K, V, S> {
@@ -182,14 +195,14 @@ impl<K: Hash + Eq + Drop, V: Drop> HashMap<K, V, BuildHasherDefault<FoldHasher>>
 }
 
 impl<K: Hash + Eq, V, S: BuildHasher> HashMap<K, V, S> {
-    /// The map, as calls take it.
+    /// The map, as calls take it. It writes no word.
     #[inline]
     pub fn pin(&self) -> HashMapRef<'_, K, V, S>
         ensures { result ≡ self.now }
     {
         HashMapRef {
             map: self,
-            guard: self.collector.enter().number(),
+            kept: self.book.keep_root(),
         }
     }
 
@@ -214,6 +227,7 @@ impl<K: Hash + Eq, V, S: BuildHasher> HashMap<K, V, S> {
     {
         let sight = self.book.unseen();
         Pass {
+            number: self.collector.enter().number(),
             sight,
             own: Own::nothing(),
             given: Own::nothing(),
@@ -252,7 +266,7 @@ impl<'a, K: Hash + Eq, V, S: BuildHasher> HashMapRef<'a, K, V, S> {
             pass.new.history result }
     {
         let map: &'a HashMap<K, V, S> = self.map;
-        let mut window = Window::new(&map.book, &pass.sight, &pass.own);
+        let mut window = Window::new(&map.book, &self.kept, &pass.sight, &pass.own);
         let found = look_up(&mut window, key);
         pass.sight = window.sight;
         pass.own = window.own;
@@ -283,8 +297,8 @@ impl<'a, K: Hash + Eq, V, S: BuildHasher> HashMapRef<'a, K, V, S> {
             (Judges F.FnMut) should_remove result }
     {
         let map: &'a HashMap<K, V, S> = self.map;
-        let shard = map.count.shard(self.guard);
-        let mut window = Window::new(&map.book, &pass.sight, &pass.own);
+        let shard = map.count.shard(pass.number);
+        let mut window = Window::new(&map.book, &self.kept, &pass.sight, &pass.own);
         let removed = remove(rt, &shard, &mut window, key, should_remove);
         pass.sight = window.sight;
         pass.own = window.own;
@@ -327,8 +341,8 @@ impl<'a, K: Hash + Eq + Drop, V: Drop, S: BuildHasher> HashMapRef<'a, K, V, S> {
     /// Stores a pair, and answers the value that its key had: `insert` of 0.2.5. As there, the new
     /// key takes the old one's place too.
     ///
-    /// `Refused::Memory` where a growth was refused. `Refused::Capacity` where the log of keys, of
-    /// pairs or of tables is full: it gave a number past its limit, which the pass shows then. Or
+    /// `Refused::Memory` where a growth was refused. `Refused::Capacity` where the log of pairs or of
+    /// tables is full: it gave a number past its limit, which the pass shows then. Or
     /// where the key has no pair, and each of its places in the table is filled. Refused, the pass
     /// makes no change, and else this one.
     pub fn insert_as<R: Wait>(
@@ -351,8 +365,8 @@ impl<'a, K: Hash + Eq + Drop, V: Drop, S: BuildHasher> HashMapRef<'a, K, V, S> {
             pass.new.given }
     {
         let map: &'a HashMap<K, V, S> = self.map;
-        let shard = map.count.shard(self.guard);
-        let mut window = Window::new(&map.book, &pass.sight, &pass.own);
+        let shard = map.count.shard(pass.number);
+        let mut window = Window::new(&map.book, &self.kept, &pass.sight, &pass.own);
         let mut given = Own::nothing();
         let before = insert(
             rt,
@@ -401,8 +415,8 @@ impl<'a, K: Hash + Eq + Drop, V: Drop, S: BuildHasher> HashMapRef<'a, K, V, S> {
             f result }
     {
         let map: &'a HashMap<K, V, S> = self.map;
-        let shard = map.count.shard(self.guard);
-        let mut window = Window::new(&map.book, &pass.sight, &pass.own);
+        let shard = map.count.shard(pass.number);
+        let mut window = Window::new(&map.book, &self.kept, &pass.sight, &pass.own);
         let mut given = Own::nothing();
         let computed = compute(
             rt,

@@ -13,7 +13,7 @@ use std::test::*;
 
 /// The book has no pair of this key.
 fn lacks(rt: &impl Abort, book: &Book<u64, u64, Times>, key: u64) {
-    let mut window = Window::new(book, &book.pass(), &Own::nothing());
+    let mut window = Window::new(book, &book.keep_root(), &book.pass(), &Own::nothing());
     is(rt, look_up(&mut window, &key).is_none(), true);
 }
 

@@ -1,7 +1,7 @@
 //! Opening the book of a map, and logging what callers put into it.
 ghost use Rattle.papaya_book.specs.Books.{IsIn};
 ghost use Rattle.std.specs.Prelude.{◌≡◌, ◌^◌, ◌<◌, Some, IfOk, IfErr, [], ◌∷◌};
-ghost use Rattle.boxcar.specs.Table.{Shows};
+ghost use Rattle.papaya_book.specs.Pairs.{IsKeyIn};
 ghost use Rattle.papaya_book.specs.Parts.{begun_of};
 ghost use Rattle.papaya_book.specs.declared.rule.entry.Event.TheVariants.{Begin};
 ghost use Rattle.papaya_book.specs.declared.rule.entry.Named.TheVariants.{Pair as PairNamed};
@@ -9,27 +9,25 @@ ghost use Rattle.papaya_book.specs.declared.rule.own.Given.TheVariants as given;
 
 use crate::book::Book;
 use crate::book::parts::Parts;
-use crate::rule::entry::{Pair, Stored};
+use crate::rule::entry::Stored;
 use crate::rule::own::{Given, Own};
+use crate::rule::pair::{KeyAt, Pair, first_of};
 use crate::rule::trade::Sight;
-use boxcar::Pushed;
 use papaya_words::probe::ResizeMode;
 use std::alloc::{AllocError, Global};
 use std::hash::{BuildHasher, Hash};
 use std::sync::Wait;
 
 impl<K: Hash + Eq + Drop, V: Drop, S: BuildHasher + Drop> Parts<K, V, S> {
-    /// The hasher, and three logs that hold nothing.
+    /// The hasher, and two logs that hold nothing.
     pub fn new(alloc: Global, mode: ResizeMode, hasher: S) -> Result<Parts<K, V, S>, AllocError>
         ensures { IfOk result (λ p. (p.hasher ≡ hasher) × (p.mode ≡ mode)) }
     {
-        let keys = boxcar::Vec::new(alloc)?;
         let pairs = boxcar::Vec::new(alloc)?;
         let tables = boxcar::Vec::new(alloc)?;
         Ok(Parts {
             hasher,
             mode,
-            keys,
             pairs,
             tables,
         })
@@ -60,20 +58,15 @@ impl<K: Hash + Eq, V, S: BuildHasher> Book<K, V, S> {
     }
 
     /// Its key.
-    pub fn key<'a>(&'a self, pair: &Pair<K, V>) -> &'a K
-        requires { Shows self.now.parts.keys pair.now.key }
+    #[inline(always)]
+    pub fn key<'a>(&'a self, pair: &'a Pair<K, V>) -> &'a K
+        requires { IsKeyIn self.now.parts.pairs pair.now.key }
         ensures { result.now ≡ pair.now.key.value }
     {
-        self.parts.keys.value(&pair.key)
-    }
-
-    /// What tells that the log of keys gave this number.
-    pub fn gave_key(&self, key: &Pushed<K>) -> Own<Given>
-        requires { Shows self.now.parts.keys key.now }
-        ensures { result.done ≡ given.Key key.now.index ∷ [] }
-    {
-        let number = Given::Key(key.index());
-        Own::only(&number)
+        match &pair.key {
+            KeyAt::Here(key) => key,
+            KeyAt::With(first) => self.parts.pairs.value(&first_of(first)).brought_key(),
+        }
     }
 
     /// What tells that the log of pairs gave this number.
@@ -102,26 +95,13 @@ impl<K: Hash + Eq, V, S: BuildHasher> Book<K, V, S> {
 }
 
 impl<K: Hash + Eq + Drop, V: Drop, S: BuildHasher> Book<K, V, S> {
-    /// The key, logged. It comes back where there is no memory.
-    pub fn log_key<R: Wait>(&self, rt: &R, key: K) -> Result<Pushed<K>, K>
-        ensures ok { IfOk result (λ p. Shows self.now.parts.keys p × (p.value ≡ key)) }
-        ensures err { IfErr result (λ k. k ≡ key) }
-    {
-        self.parts.keys.push_shown(rt, key)
-    }
-
-    /// The pair of a logged key, logged. It comes back where there is no memory.
-    pub fn log_pair<R: Wait>(
-        &self,
-        rt: &R,
-        key: Pushed<K>,
-        value: V,
-    ) -> Result<Stored<K, V>, Pair<K, V>>
-        requires { Shows self.now.parts.keys key }
+    /// The pair, logged. It comes back where there is no memory.
+    pub fn log_pair<R: Wait>(&self, rt: &R, pair: Pair<K, V>) -> Result<Stored<K, V>, Pair<K, V>>
+        requires { IsKeyIn self.now.parts.pairs pair.key }
         ensures placed { IfOk result (λ p. IsIn self.now (PairNamed p)) }
-        ensures ok { IfOk result (λ p. (p.value.key ≡ key) × (p.value.value ≡ value)) }
-        ensures err { IfErr result (λ p. (p.key ≡ key) × (p.value ≡ value)) }
+        ensures ok { IfOk result (λ p. p.value ≡ pair) }
+        ensures err { IfErr result (λ back. back ≡ pair) }
     {
-        self.parts.pairs.push_shown(rt, Pair { key, value })
+        self.parts.pairs.push_shown(rt, pair)
     }
 }

@@ -1,18 +1,17 @@
 //! What a map's book is opened with.
-use crate::rule::entry::{Event, Pair};
+use crate::rule::entry::Event;
+use crate::rule::pair::Pair;
 use crate::table::Table;
 use logbook::Opening;
 use papaya_words::probe::ResizeMode;
 use std::hash::{BuildHasher, Hash};
 
-/// The hasher, how the map resizes, and the logs of keys, of pairs and of tables. A key, a pair or
-/// a
-/// table stays where it was logged.
+/// The hasher, how the map resizes, and the logs of pairs and of tables. A pair or a table stays
+/// where it was logged.
 #[derive(Drop)]
 pub struct Parts<K: Hash + Eq, V, S: BuildHasher> {
     pub hasher: S,
     pub mode: ResizeMode,
-    pub keys: boxcar::Vec<K>,
     pub pairs: boxcar::Vec<Pair<K, V>>,
     pub tables: boxcar::Vec<Table<K, V, S>>,
 }

@@ -5,18 +5,12 @@
 ghost use Rattle.logbook.specs.Pages.{Book, book_coded};
 ghost use Rattle.papaya_book.specs.Sheets.{Sheet as SheetOf, sheet_coded};
 
+use crate::rule::pair::Pair;
 use boxcar::Pushed;
 use papaya_ask::ask::{At, StepKind};
 use papaya_words::probe::ResizeMode;
 use std::collections::LinkedList;
 use std::marker::Model;
-
-/// What lies in the pair log: a value, and the token of its key in the key log.
-#[derive(Drop)]
-pub struct Pair<K, V> {
-    pub key: Pushed<K>,
-    pub value: V,
-}
 
 /// A pair as the log names it: its number, the places where the pair log keeps it, and the pair.
 pub type Stored<K, V> = Pushed<Pair<K, V>>;
@@ -88,12 +82,11 @@ pub enum Named<K, V> {
     Table(Laid),
 }
 
-/// What the book was opened with: the hasher, how the map resizes, and the logs of keys, of pairs
-/// and of tables.
+/// What the book was opened with: the hasher, how the map resizes, and the logs of pairs and of
+/// tables.
 pub struct Begun<K, V, S> {
     pub hasher: S,
     pub mode: ResizeMode,
-    pub keys: boxcar::Vec<K>,
     pub pairs: boxcar::Vec<Pair<K, V>>,
     pub tables: boxcar::Vec<Sheet>,
 }

@@ -17,7 +17,7 @@ impl<K: Hash + Eq, V, S: BuildHasher> Rule<Event<K, V, S>, Named<K, V>> for Law<
     ghost use Rattle.papaya_book.specs.Rule.{IsKept};
     ghost use Rattle.papaya_book.specs.Tokens.{stands};
     ghost use Rattle.papaya_book.specs.Trade.{kept, Moved};
-    ghost use Rattle.papaya_book.specs.contracts.rule.entry.Pair.{the_row as PairOf};
+    ghost use Rattle.papaya_book.specs.contracts.rule.pair.Pair.{the_row as PairOf};
     ghost use Rattle.papaya_book.specs.contracts.rule.entry.Sheet.{the_row as SheetRow};
 
     ghost holds = { λ cells log. IsKept K.eq (hash_of K.hash_input S.build_hasher S.Hasher.write
@@ -42,7 +42,7 @@ pub struct Found<K, V> {
 impl<K, V, S> Gain<Event<K, V, S>, Named<K, V>> for Found<K, V> {
     ghost use Rattle.papaya_book.specs.Tokens.{stands};
     ghost use Rattle.papaya_book.specs.Trade.{shown};
-    ghost use Rattle.papaya_book.specs.contracts.rule.entry.Pair.{the_row as PairOf};
+    ghost use Rattle.papaya_book.specs.contracts.rule.pair.Pair.{the_row as PairOf};
     ghost use Rattle.papaya_book.specs.contracts.rule.entry.Sheet.{the_row as SheetRow};
 
     ghost after = { λ names about answer. shown (stands (PairOf K.row V.row)) (stands SheetRow)

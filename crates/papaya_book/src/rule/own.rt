@@ -13,7 +13,6 @@ use std::marker::{Model, PhantomData};
 /// A number that one of a book's logs gave to what was put into it.
 #[derive(Clone, Copy)]
 pub enum Given {
-    Key(usize),
     Pair(usize),
     Table(usize),
 }

@@ -8,8 +8,9 @@ ghost use Rattle.papaya_book.specs.Logs.{brought};
 ghost use Rattle.papaya_book.specs.Parts.{begun_of};
 
 use crate::book::parts::Parts;
-use crate::rule::entry::{Event, Named, Pair};
+use crate::rule::entry::{Event, Named};
 use crate::rule::law::{Found, Law};
+use crate::rule::pair::Pair;
 use crate::rule::token::Known;
 use crate::table::Table;
 use logbook::{Gained, Offer, Plain, Seen, Start};

@@ -1,6 +1,6 @@
 use Rattle.std.proofs.Common.{◌≡◌, ◌+◌, sym, ap, ◌∙◌}
 use Rattle.logbook.specs.Pages.{Nib}
-use Rattle.papaya_book.specs.contracts.rule.entry.Pair.{the_row as PairOf}
+use Rattle.papaya_book.specs.contracts.rule.pair.Pair.{the_row as PairOf}
 use Rattle.papaya_book.specs.contracts.rule.entry.Sheet.{the_row as SheetRow}
 use Rattle.papaya_book.specs.Hashes.{hash_of}
 use Rattle.papaya_book.specs.Parts.{begun_of}

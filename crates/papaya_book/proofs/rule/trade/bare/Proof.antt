@@ -27,7 +27,7 @@ use Rattle.papaya_book.specs.Tokens.{stands}
 use Rattle.papaya_book.specs.Trade.{shown, kept, Moved}
 use Rattle.papaya_book.proofs.Made.{stands_twice}
 use Rattle.papaya_book.proofs.Trades.{bare_offer}
-use Rattle.papaya_book.specs.contracts.rule.entry.Pair as Pair
+use Rattle.papaya_book.specs.contracts.rule.pair.Pair as Pair
 use Rattle.papaya_book.specs.contracts.rule.entry.Sheet.{the_row as SheetRow}
 use Rattle.papaya_book.specs.contracts.rule.entry.Event as Event
 use Rattle.papaya_book.specs.contracts.rule.entry.Named as Named

@@ -21,7 +21,7 @@ use Rattle.atomic_table.proofs.Walks.{proved}
 use Rattle.logbook.proofs.Fields.{token, Token, token_made, ends}
 use Rattle.papaya_book.specs.Tokens.{stands}
 use Rattle.papaya_book.specs.Trade.{kept}
-use Rattle.papaya_book.specs.contracts.rule.entry.Pair as Pair
+use Rattle.papaya_book.specs.contracts.rule.pair.Pair as Pair
 use Rattle.papaya_book.specs.contracts.rule.entry.Sheet.{the_row as SheetRow}
 use Rattle.papaya_book.specs.contracts.rule.trade.begin.{ended, clauses}
 use Rattle.papaya_book.specs.contracts.rule.trade.begin.Key.{name as #self}

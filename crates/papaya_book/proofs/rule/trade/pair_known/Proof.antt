@@ -23,7 +23,7 @@ use Rattle.logbook.specs.contracts.tokens.Gained as Gained
 use denote.Exit.{no}
 use Rattle.papaya_book.specs.Tokens.{stands}
 use Rattle.papaya_book.specs.Trade.{shown}
-use Rattle.papaya_book.specs.contracts.rule.entry.Pair as Pair
+use Rattle.papaya_book.specs.contracts.rule.pair.Pair as Pair
 use Rattle.papaya_book.specs.contracts.rule.entry.Sheet.{the_row as SheetRow}
 use Rattle.papaya_book.specs.contracts.rule.entry.Event as Event
 use Rattle.papaya_book.specs.contracts.rule.entry.Named as Named

@@ -15,7 +15,7 @@ pair-requires g c = subst (λ (o : _). IsPlaced (begun_of c.args.window.now.book
 pub returns-in-Some-clause-put : goal.returns-in-Some-clause-put
 returns-in-Some-clause-put g c = λ key value begun r.
     let some : (refused : Cause) → c.requires.done.0 ≡ Refused refused → ⊥ = λ refused e. let both : c.ask.result ≡ Done (Refused refused) = c.ask.ensures.value ∙ (c.requires.done.1 ∙ ap Done e) in elim c.match-ask.branch [ in-Done+in-Absent-1 w ↦ search rules | in-Load-1 w ↦ search rules ] in
-    replaced g.K.PartialEq.eq g.K.Hash.hash_input g.S.BuildHasher.build_hasher g.S.Hasher.Hasher.write g.S.Hasher.Hasher.finish g.met.K.Eq.laws g.met.K.Hash.respects_eq (begun_of c.args.window.now.book.now.parts) c.args.window.now.book.now.begun.book key value begun c.args.window.now.sight.log c.args.self.now r c.requires.done.0 c.requires.done.1 some _ c.in-Some.taken c.in-Some.is (ap (λ z. z.value) c.pair.ensures)
+    replaced g.K.PartialEq.eq g.K.Hash.hash_input g.S.BuildHasher.build_hasher g.S.Hasher.Hasher.write g.S.Hasher.Hasher.finish g.met.K.Eq.laws g.met.K.Hash.respects_eq (begun_of c.args.window.now.book.now.parts) c.args.window.now.book.now.begun.book key value begun c.args.window.now.sight.log c.args.self.now r c.requires.done.0 c.requires.done.1 some _ c.in-Some.taken c.in-Some.is (c.value.ensures ∙ ap (λ z. z.value) c.pair.ensures)
 
 pub returns-in-None-clause-put : goal.returns-in-None-clause-put
 returns-in-None-clause-put g c = λ key value begun r.

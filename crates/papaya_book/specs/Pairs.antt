@@ -1,0 +1,28 @@
+-- What a clause sees of a pair.
+use Rattle.std.specs.Prelude.{◌≡◌, ℕ, MatchOption, Option}
+use Rattle.std.specs.Coded.{coded_option}
+use base.Stored.{Coded, coded×, coded_ℕ, coded_via}
+use Rattle.boxcar.specs.Table.{Shelves, id_at}
+
+-- A key, and where it lies: beside its pair's value, or at the pair that brought it. Of that one
+-- this tells the bucket of the log of pairs, and the bucket's name.
+pub record KeyHeld (K : Type 0) : Type 0 where
+  pub value : K
+  pub at : Option (ℕ × ℕ)
+
+pub record Pair (K V : Type 0) : Type 0 where
+  pub key : KeyHeld K
+  pub value : V
+
+abbrev pub pair_coded : {K V : Type 0} → Coded K → Coded V → Coded (Pair K V)
+pair_coded {K} {V} k v = coded_via
+    (coded× (coded× k (coded_option (coded× coded_ℕ coded_ℕ))) v)
+    (λ (p : Pair K V). ((p.key.value, p.key.at), p.value))
+    (λ x y e i. record {
+      key = record { value = (e i).0.0; at = (e i).0.1 };
+      value = (e i).1;
+    })
+
+-- where the key lies at another pair, that one is in this log
+abbrev pub IsKeyIn : {K : Type 0} → Shelves → KeyHeld K → Type 0
+IsKeyIn log key = MatchOption key.at (Unit {0}) (λ at. at.1 ≡ id_at log.buckets at.0)
