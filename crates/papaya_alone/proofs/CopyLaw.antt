@@ -23,7 +23,7 @@ use Rattle.papaya_alone.proofs.Telling.{copy_spends}
 
 module _ {K P : Type 0} (g : Setting K P) (c : Coding K P) (hashed : IsHashed g c) (s : State P) (m : K → Option P) (keeps : IsKeeping g s m) (bounded : IsBounded g s) (mode : ResizeMode) (initial : ℕ) (hands : Hands P) (copying : Copying) (r : RestsCopying g c s hands.call.last hands.kept copying) (read : IsCopyingRead mode (word_of g c s) copying) (answer : Answer) (es : List (Exchange P)) (hands' : Hands P) (told : IsCopyTold g c s (copying_kind copying) (copying_follows copying) hands (copying_ask copying) answer es hands') where
   -- what is told of the words is what they answer
-  prompt : IsCopyPrompt (word_of g c s) (copying_ask copying) answer (word_of g c (run es s))
+  pub prompt : IsCopyPrompt (word_of g c s) (copying_ask copying) answer (word_of g c (run es s))
   prompt =
       told_prompt g c hashed s m keeps bounded hands (copying_kind copying) (copying_follows copying) (copying_ask copying)
       (copying_there g c hashed s m keeps hands.call.last hands.kept copying r)

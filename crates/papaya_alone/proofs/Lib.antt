@@ -17,4 +17,7 @@ pub mod AsideCopies
 pub mod MachineLaw
 pub mod Measures
 pub mod ChainLaw
-pub mod CopierLaw
+pub mod CopyLeads
+pub mod ResizerLaw
+pub mod ResizerEnds
+pub mod ChunkCounts

@@ -37,7 +37,7 @@ use Rattle.papaya_rests.proofs.RestsNames.{come_on}
 use Rattle.papaya_chain_rests.specs.Rests.{IsLinking, RestsPhase, left_by}
 use Rattle.papaya_chain_rests.specs.Told.{Hands, IsCopyTold, IsTold}
 use Rattle.papaya_chain_rests.proofs.Aside.{left_come}
-use Rattle.papaya_chain_rests.proofs.Making.{link_learns}
+use Rattle.papaya_chain_rests.proofs.Making.{link_learns_all}
 use Rattle.papaya_alone.specs.Ahead.{IsAsideAhead, IsPhaseRead}
 use Rattle.papaya_alone.specs.Budget.{Budget, Spends, SpendsCopy}
 use Rattle.papaya_alone.specs.Current.{IsCopyingRead, IsIncremental}
@@ -137,7 +137,7 @@ module _ {K P : Type 0} (g : Setting K P) (c : Coding K P) (hashed : IsHashed g 
       (link_there g c hashed now (map_left g (begun ++ since)) keeps hands.call.last hands.kept link at.rests)
       (link_may g c hashed now (map_left g (begun ++ since)) keeps hands.call.last hands.kept link at.rests) answer es hands' told
       in
-      let out = link_learns g c hashed begun since may k call.initial hands link at.rests answer es hands' told in
+      let out = link_learns_all g c hashed begun since may call.initial hands link at.rests answer es hands' told in
       let later_sound : IsSound g (run (begun ++ (since ++ es)) start) = keeping_sound g (run (begun ++ (since ++ es)) start) (map_left g (begun ++ (since ++ es))) (keeping g hashed.lawful (begun ++ (since ++ es)) out.0) in
       linking_lowers words words' before later (at_phase (Linking link)) read.0 link read.1 read.2 at.left answer prompt spends
       (λ table e.

@@ -55,11 +55,11 @@ by_making Q answer told by_made by_refused =
 
 module _ (words words' : At → ℕ) (before later : Budget) where
   -- it spends of the budget, or leaves the budget and spends nothing
-  abbrev Spent : CopyAsk → Answer → Type 0
+  abbrev pub Spent : CopyAsk → Answer → Type 0
   Spent ask answer = SpendsCopy ask answer before later → IsSpent before later ⊎ ((later ≡ before) × (IsSpending answer → ⊥))
 
   -- by what is asked
-  spent_by : (ask : CopyAsk) (answer : Answer) → IsCopyPrompt words ask answer words' → Spent ask answer
+  pub spent_by : (ask : CopyAsk) (answer : Answer) → IsCopyPrompt words ask answer words' → Spent ask answer
   spent_by (Load at) answer told = subst (Spent (Load at)) (sym told.0.0) (λ same. inr (same, λ h. h))
   spent_by (Exchange at old new) answer told =
       by_test (words at == old) ((answer ≡ answers.Call Exchanged) × IsPut words at new words') ((answer ≡ answers.Call (Found_instead (words at))) × IsSame words words') (Spent (Exchange at old new) answer) told

@@ -7,5 +7,7 @@ pub mod Current
 -- how far a call is from its end, and where it stands in the chain
 pub mod Rank
 pub mod Ahead
--- a copy for its own sake
-pub mod Copiers
+-- a call that resizes the map
+pub mod Resizers
+-- one caller's chunks end a resize
+pub mod Chunks

@@ -2,6 +2,7 @@
 //! beside it. The functions do nothing: their contracts are the laws.
 ghost use Rattle.std.specs.Prelude.{◌≡◌, ◌⊎◌, ℕ, ◌<◌, ◌^◌, List, Option, Some, ◌++◌};
 ghost use Rattle.papaya_words.specs.declared.probe.ResizeMode.{ResizeMode};
+ghost use Rattle.papaya_ask.specs.declared.call.Reply.TheVariants.{Done as Reply_done};
 ghost use Rattle.papaya_copy.specs.declared.copying.Copying.{Copying};
 ghost use Rattle.papaya_copy.specs.Copying.{copying_ask, copying_follows, copying_kind};
 ghost use Rattle.papaya_law.specs.Allows.{AllAllowed};
@@ -10,17 +11,15 @@ ghost use Rattle.papaya_law.specs.Exchange.{Setting, State, Exchange, run, start
 ghost use Rattle.papaya_law.specs.Invariant.{IsKeeping};
 ghost use Rattle.papaya_rests.specs.Copier.{RestsCopying};
 ghost use Rattle.papaya_rests.specs.Told.{word_of};
-ghost use Rattle.papaya_chain.specs.Copier.{IsStandingCopier, after as copier_after, all};
-ghost use Rattle.papaya_chain.specs.Copier.{ask_of as copier_ask, chunk};
-ghost use Rattle.papaya_chain.specs.Copier.{follows_of as copier_follows};
-ghost use Rattle.papaya_chain.specs.Copier.{kind_of_ask as copier_kind};
+ghost use Rattle.papaya_chain.specs.Resizer.{IsStandingResizer, after as resizer_after};
+ghost use Rattle.papaya_chain.specs.Resizer.{ask_of as resizer_ask, begun, reply_of};
 ghost use Rattle.papaya_chain.specs.Machine.{IsStanding, after, ask_of, copying_after, follows_of, kind_of_ask, started};
-ghost use Rattle.papaya_chain_rests.specs.Copiers.{RestsCopier};
+ghost use Rattle.papaya_chain_rests.specs.Resizers.{IsStageTold, RestsResizer};
 ghost use Rattle.papaya_chain_rests.specs.Rests.{Rests};
 ghost use Rattle.papaya_chain_rests.specs.Told.{Hands, IsCopyTold, IsTold};
 ghost use Rattle.papaya_alone.specs.Ahead.{IsCurrent};
 ghost use Rattle.papaya_alone.specs.Budget.{Budget, IsSpent, Spends, SpendsCopy};
-ghost use Rattle.papaya_alone.specs.Copiers.{IsCopierRead, copier_measure};
+ghost use Rattle.papaya_alone.specs.Resizers.{HasResized, IsResizerRead, resizer_measure};
 ghost use Rattle.papaya_alone.specs.Current.{IsCopiedRead, IsCopyingRead};
 ghost use Rattle.papaya_alone.specs.Measure.{left_of_copied, left_of_copying};
 ghost use Rattle.papaya_alone.specs.Prompt.{IsBounded, IsServedAsk};
@@ -30,8 +29,8 @@ use papaya_ask::ask::At;
 use papaya_ask::call::Task;
 use papaya_ask::copy_ask::CopyAsk;
 use papaya_chain::ask::Answer;
-use papaya_chain::copier::Copier;
 use papaya_chain::machine::Machine;
+use papaya_chain::resizer::{Resize, Resizer};
 
 /// Each answer brings a copy nearer its end: it spends the budget, or less is left. What the copy
 /// has read stands there still, so no exchange is lost.
@@ -85,27 +84,35 @@ pub fn alone_calls<K, P>()
         → IsCurrent (word_of g c (run (begun ++ (since ++ es)) start)) (after m answer) }
 {}
 
-/// Each answer brings a copy for its own sake nearer its end, of a chunk or of all: its measure
-/// falls, and what it has read stands there still.
-pub fn alone_all<K, P>()
-    ensures chunk { (words : At → ℕ) (mode : ResizeMode) (initial : ℕ)
-        → IsCopierRead words (chunk mode initial) }
-    ensures all { (words : At → ℕ) (mode : ResizeMode) (initial : ℕ)
-        → IsCopierRead words (all mode initial) }
+/// Each answer brings a resizer nearer its end: its measure falls, and what it has read stands there
+/// still. When it has ended, what was wanted is done.
+pub fn alone_resizers<K, P>()
+    ensures begins { (words : At → ℕ) (resize : Resize) (mode : ResizeMode) (initial : ℕ)
+        → IsResizerRead words (begun resize mode initial) }
     ensures nearer { (g : Setting K P) (c : Coding K P) → IsHashed g c
         → (s : State P) (m : K → Option P) → IsKeeping g s m → IsBounded g s
-        → (copier : Copier) (hands : Hands P) → RestsCopier g c s copier hands
-        → IsCopierRead (word_of g c s) copier → (ask : CopyAsk) → copier_ask copier ≡ Some ask
+        → (resizer : Resizer) (hands : Hands P) → RestsResizer g c s resizer hands
+        → IsResizerRead (word_of g c s) resizer
         → (answer : Answer) (es : List (Exchange P)) (hands' : Hands P)
-        → IsCopyTold g c s (copier_kind copier) (copier_follows copier) hands ask answer es hands'
-        → (before later : Budget) → SpendsCopy ask answer before later
-        → later.exchanges < 2 ^ 128 → IsStandingCopier (copier_after copier answer)
-        → copier_measure later (copier_after copier answer) < copier_measure before copier }
+        → IsStageTold g c s resizer.state hands answer es hands' → (ask : CopyAsk)
+        → resizer_ask resizer ≡ Some ask → (before later : Budget)
+        → SpendsCopy ask answer before later → later.exchanges < 2 ^ 128
+        → IsStandingResizer (resizer_after resizer answer)
+        → resizer_measure later (run es s).root (resizer_after resizer answer)
+        < resizer_measure before s.root resizer }
     ensures current { (g : Setting K P) (c : Coding K P) → IsHashed g c
         → (s : State P) (m : K → Option P) → IsKeeping g s m → IsBounded g s
-        → (copier : Copier) (hands : Hands P) → RestsCopier g c s copier hands
-        → IsCopierRead (word_of g c s) copier → (ask : CopyAsk) → copier_ask copier ≡ Some ask
+        → (resizer : Resizer) (hands : Hands P) → RestsResizer g c s resizer hands
+        → IsResizerRead (word_of g c s) resizer
         → (answer : Answer) (es : List (Exchange P)) (hands' : Hands P)
-        → IsCopyTold g c s (copier_kind copier) (copier_follows copier) hands ask answer es hands'
-        → IsCopierRead (word_of g c (run es s)) (copier_after copier answer) }
+        → IsStageTold g c s resizer.state hands answer es hands'
+        → IsResizerRead (word_of g c (run es s)) (resizer_after resizer answer) }
+    ensures ends { (g : Setting K P) (c : Coding K P) → IsHashed g c
+        → (s : State P) (m : K → Option P) → IsKeeping g s m → IsBounded g s
+        → (resizer : Resizer) (hands : Hands P) → RestsResizer g c s resizer hands
+        → IsResizerRead (word_of g c s) resizer
+        → (answer : Answer) (es : List (Exchange P)) (hands' : Hands P)
+        → IsStageTold g c s resizer.state hands answer es hands'
+        → reply_of (resizer_after resizer answer) ≡ Some Reply_done
+        → HasResized (word_of g c (run es s)) g.size answer resizer.resize }
 {}

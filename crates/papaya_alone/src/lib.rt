@@ -5,3 +5,4 @@
 #![tactic(auto)]
 
 pub mod alone;
+pub mod chunks;

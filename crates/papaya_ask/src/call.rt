@@ -17,6 +17,10 @@ pub enum Call<K, V, A> {
     /// Stores, removes or leaves the key's pair, as the closure answers that is shown it, or that
     /// there is none: `compute` of 0.2.5. Where nothing is there to be removed, 0.2.5 panics.
     Compute(K, A),
+    /// Makes room for so many pairs more than the map counts: `reserve` of 0.2.5.
+    Reserve(usize),
+    /// Ends the resize that is under way. In 0.2.5 no public call does only this.
+    CopyAll,
 }
 
 /// What a machine does: the call without what was handed in, which the backend keeps.
@@ -53,6 +57,8 @@ pub enum Reply {
     Kept(u64),
     /// The closure ended the call so, and changed nothing.
     Aborted(u64),
+    /// A call on no key has done what it was to do.
+    Done,
     /// The call changed nothing: what it was to make was refused, there is no room for it, or the
     /// closure would remove where nothing is.
     Refused(Refused),

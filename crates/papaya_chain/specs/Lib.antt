@@ -1,2 +1,3 @@
 pub mod Machine
-pub mod Copier
+pub mod Room
+pub mod Resizer

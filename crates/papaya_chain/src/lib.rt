@@ -6,5 +6,5 @@
 #![tactic(auto)]
 
 pub mod ask;
-pub mod copier;
 pub mod machine;
+pub mod resizer;

@@ -32,7 +32,7 @@ pub enum Phase {
 
 /// What follows an answer while a table is made. One that was not asked for leads nowhere.
 #[inline]
-fn link_after(link: Link, answer: Answer, initial: usize) -> Linked
+pub(crate) fn link_after(link: Link, answer: Answer, initial: usize) -> Linked
     requires standing { IsStandingLink link }
     requires initial { IsPowerOfTwo initial }
     requires fit { IsFit answer }

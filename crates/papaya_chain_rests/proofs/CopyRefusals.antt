@@ -1,4 +1,4 @@
--- A copier ends refused only where a table that it makes is, or would be too long.
+-- A copy ends refused only where a table that it makes is, or would be too long.
 use Rattle.std.proofs.Common.{◌≡◌, ℕ, ◌==◌, ◌||◌, nat_lt, nat_le, not, Bool, true, false, Option, None, Some, refl, ap, ◌∙◌}
 use Rattle.std.proofs.lemmas.Bool.{cond_both}
 use Rattle.papaya_words.specs.Word.{kind_of, byte_of, top_byte}

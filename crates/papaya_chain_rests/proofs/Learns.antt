@@ -50,7 +50,7 @@ use Rattle.papaya_chain_rests.specs.Rests.{IsCopyingAll, IsHelping, IsLinking, R
 use Rattle.papaya_chain_rests.specs.Told.{Hands, IsCopyTold, IsTold, told_of}
 use Rattle.papaya_chain_rests.proofs.Aside.{left_come}
 use Rattle.papaya_chain_rests.proofs.CopyTold.{copying_learns}
-use Rattle.papaya_chain_rests.proofs.Making.{link_learns}
+use Rattle.papaya_chain_rests.proofs.Making.{link_learns_all}
 use Rattle.papaya_chain_rests.proofs.Onward.{onward_rests}
 use Rattle.papaya_chain_rests.proofs.Outcomes.{all_rests, copied_rests, linked_rests}
 use Rattle.papaya_chain_rests.proofs.Stays.{next_stays}
@@ -207,7 +207,7 @@ module _ {K P : Type 0} (g : Setting K P) (c : Coding K P) (hashed : IsHashed g 
       link_rests : (link : Link) → IsLinking g c begun since k (at_phase call (Linking link)) link → (answer : Answer) → IsCopyTold g c now (link_kind link) (follows link) hands (link_ask link) answer es hands'
           → Learned (after (at_phase call (Linking link)) answer) es hands'
       link_rests link at answer h =
-          let out = link_learns g c hashed begun since may k call.initial hands link at.rests answer es hands' h in
+          let out = link_learns_all g c hashed begun since may call.initial hands link at.rests answer es hands' h in
           let told = copy_hands g c now (link_kind link) (follows link) hands (link_ask link) answer es hands' h in (
             out.0,
             linked_rests g c hashed begun (since ++ es) out.0 k at.mode (at_phase call (Linking link)) hands' chunked (aside_later out.0 (follows link) at.left told.0 told.1) at.changes (follows link) at.left (link_after link call.initial answer) out.1,

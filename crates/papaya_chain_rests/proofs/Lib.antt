@@ -18,9 +18,11 @@ pub mod Order
 pub mod Once
 -- why it is refused
 pub mod CopyRefusals
+pub mod LinkRefusals
 pub mod Refusals
--- a copy for its own sake
-pub mod OwnCopies
+-- a call that resizes the map
+pub mod ResizerRests
+pub mod ResizerRefusals
 -- it stands within its tables
 pub mod CopyStanding
 pub mod Standing

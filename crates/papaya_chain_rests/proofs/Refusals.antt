@@ -1,13 +1,11 @@
 -- Why a call over a chain is refused.
-use Rattle.std.proofs.Common.{◌≡◌, ◌⊎◌, inl, inr, ℕ, ◌==◌, ◌<◌, ◌^◌, Bool, true, false, nat_le, cond, Option, None, Some, List, [], ◌∷◌, refl, sym, ap, ◌∙◌, subst, leb-false}
+use Rattle.std.proofs.Common.{◌≡◌, ◌⊎◌, inl, inr, ⊎_elim, ℕ, ◌==◌, Bool, true, false, cond, Option, None, Some, List, [], ◌∷◌, refl, sym, ap, ◌∙◌, subst}
 use Rattle.std.proofs.lemmas.Bool.{cond_both}
-use Rattle.papaya_words.specs.Table.{length_after}
 use Rattle.papaya_words.specs.declared.probe.Refused.{Refused}
-use Rattle.papaya_words.specs.declared.probe.Refused.TheVariants.{Capacity}
 use Rattle.papaya_words.specs.declared.probe.ResizeMode.{ResizeMode}
 use Rattle.papaya_words.specs.declared.probe.ResizeMode.TheVariants.{Incremental, Blocking}
 use Rattle.papaya_ask.specs.declared.ask.Answer.{Answer as Call_answer}
-use Rattle.papaya_ask.specs.declared.ask.Answer.TheVariants.{Word as Word_read, Exchanged, Found as Found_instead, Yes, Refused as Was_refused}
+use Rattle.papaya_ask.specs.declared.ask.Answer.TheVariants.{Word as Word_read, Exchanged, Found as Found_instead, Refused as Was_refused}
 use Rattle.papaya_ask.specs.declared.ask.Ask.TheVariants.{Done as Ask_done}
 use Rattle.papaya_ask.specs.declared.ask.At.{At}
 use Rattle.papaya_ask.specs.declared.ask.At.TheVariants.{Slot}
@@ -34,7 +32,6 @@ use Rattle.papaya_copy.specs.declared.link.Link.{Link}
 use Rattle.papaya_copy.specs.declared.link.Link.TheVariants as links
 use Rattle.papaya_copy.specs.declared.link.Linked.{Linked}
 use Rattle.papaya_copy.specs.declared.link.Linked.TheVariants as linked
-use Rattle.papaya_copy.specs.Link as making
 use Rattle.papaya_copy.specs.Link.{link_ask}
 use Rattle.papaya_chain.specs.declared.ask.Ask.{Ask}
 use Rattle.papaya_chain.specs.declared.ask.Ask.TheVariants as asked
@@ -52,7 +49,8 @@ use Rattle.papaya_law.specs.Exchange.{Setting, State, Exchange}
 use Rattle.papaya_chain_rests.specs.Goes.{IsCause, IsInOrder, IsOwnRefusal, IsOwnStep, IsToMake, WasNotMade, WouldBeTooLong, link_in, link_in_copying}
 use Rattle.papaya_chain_rests.specs.Rests.{left_by}
 use Rattle.papaya_chain_rests.specs.Told.{Hands, IsTold}
-use Rattle.papaya_chain_rests.proofs.CopyRefusals.{copying_asks, copying_count_as, copying_exchanged_none, copying_found_none, copying_refused_as, copying_word_none, copying_yes_none, of_copied, of_link, of_linked}
+use Rattle.papaya_chain_rests.proofs.CopyRefusals.{copying_asks, of_copied, of_link, of_linked}
+use Rattle.papaya_chain_rests.proofs.LinkRefusals.{HasCountedTooMany, HasNotMade, copying_ends, link_why}
 use Rattle.papaya_chain_rests.proofs.Names.{call_asks}
 use Rattle.papaya_chain_rests.proofs.Replies.{anew, aside_asks}
 
@@ -125,62 +123,20 @@ module _ (m : Machine) where
   copied_ends t left refused copied.Chunk e = sym (ap (λ ask. of_asked (asked.Call ask)) (aside_asks m.call.made m.call.hash m.call.state t left)) ∙ e
   copied_ends t left refused (copied.Refused other) e = e
 
--- the copy of the root ends refused where the making of its table does
-copying_ends : (goes : Copying) (mode : ResizeMode) (initial : ℕ) (answer : Answer) (refused : Refused) → of_copied (copying_after goes mode initial answer) ≡ Some refused → of_link (λ made. link_after made initial answer) (link_in_copying goes) ≡ Some refused
-copying_ends goes mode initial (answers.Call (Word_read word)) refused e = absurd (cc (copying_word_none goes mode word, e))
-copying_ends goes mode initial (answers.Call Exchanged) refused e = absurd (cc (copying_exchanged_none goes mode, e))
-copying_ends goes mode initial (answers.Call (Found_instead word)) refused e = absurd (cc (copying_found_none goes mode word, e))
-copying_ends goes mode initial (answers.Call (Yes same)) refused e = absurd (cc (copying_yes_none goes mode same, e))
-copying_ends goes mode initial (answers.Call (Was_refused other)) refused e = sym (copying_refused_as goes mode other) ∙ e
-copying_ends goes mode initial (answers.Count count) refused e = sym (copying_count_as goes mode count initial) ∙ e
-copying_ends goes mode initial answer refused e = absurd cc
-
--- the making of a table is refused while it counts, or is made
-linking_none : (before table initial : ℕ) (answer : Answer) → of_linked (link_after (links.Linking before table) initial answer) ≡ None
-linking_none before table initial (answers.Call Exchanged) = refl
-linking_none before table initial (answers.Call told) = refl
-linking_none before table initial (answers.Hash hash) = refl
-linking_none before table initial (answers.Count count) = refl
-
-sizing_none : (before : ℕ) (unfit : Bool) (initial : ℕ) (answer : Answer) → of_linked (link_after (links.Sizing before unfit) initial answer) ≡ None
-sizing_none before unfit initial (answers.Call Exchanged) = refl
-sizing_none before unfit initial (answers.Call told) = refl
-sizing_none before unfit initial (answers.Hash hash) = refl
-sizing_none before unfit initial (answers.Count count) = refl
-
-counting_none : (before slots : ℕ) (unfit : Bool) (initial : ℕ) (told : Call_answer) → of_linked (link_after (links.Counting before unfit slots) initial (answers.Call told)) ≡ None
-counting_none before slots unfit initial Exchanged = refl
-counting_none before slots unfit initial (Found_instead word) = refl
-counting_none before slots unfit initial told = refl
-
 module _ (m : Machine) (answer : Answer) (refused : Refused) where
-  -- a count is refused where the next length is past all lengths
-  too_long : (before slots count : ℕ) (unfit : Bool) → of_linked (making.counted before slots unfit (length_after slots count m.call.initial unfit)) ≡ Some refused → (refused ≡ Capacity) × (2 ^ 32 < length_after slots count m.call.initial unfit)
-  too_long before slots count unfit e = by_length (nat_le (length_after slots count m.call.initial unfit) (2 ^ 32)) refl e
-    where
-      by_length : (fits : Bool) → nat_le (length_after slots count m.call.initial unfit) (2 ^ 32) ≡ fits → of_linked (cond fits (linked.On (making.making before slots unfit (length_after slots count m.call.initial unfit))) (linked.Refused Capacity)) ≡ Some refused
-          → (refused ≡ Capacity) × (2 ^ 32 < length_after slots count m.call.initial unfit)
-      by_length true is e = absurd cc
-      by_length false is e = let same : Capacity ≡ refused = cc e in (sym same, leb-false (length_after slots count m.call.initial unfit) (2 ^ 32) is)
-
   -- the making of a table is refused by an answer, or by a count
-  made_why : (made : Link) → link_in m.phase ≡ Some made → ask_of m ≡ asked.Copy (link_ask made) → (answer' : Answer) → answer ≡ answer' → of_linked (link_after made m.call.initial answer') ≡ Some refused → WasNotMade m answer refused ⊎ WouldBeTooLong m answer refused
-  made_why (links.Making before slots limit) stands says (answers.Call (Was_refused other)) is e =
-      let same : other ≡ refused = cc e in
-      inl (record { slots = slots; limit = limit; asks = says; is = is ∙ ap (λ r. answers.Call (Was_refused r)) same })
-  made_why (links.Counting before unfit slots) stands says (answers.Count count) is e =
-      let long = too_long before slots count unfit e in
-      inr (record { capacity = long.0; behind = before; unfit = unfit; slots = slots; link = stands; asks = says; count = count; is = is; long = long.1 })
-  made_why (links.Linking before table) stands says answer' is e = absurd (cc (linking_none before table m.call.initial answer', e))
-  made_why (links.Sizing before unfit) stands says answer' is e = absurd (cc (sizing_none before unfit m.call.initial answer', e))
-  made_why (links.Making before slots limit) stands says answer' is e = absurd cc
-  made_why (links.Counting before unfit slots) stands says (answers.Call told) is e = absurd (cc (counting_none before slots unfit m.call.initial told, e))
-  made_why (links.Counting before unfit slots) stands says (answers.Hash hash) is e = absurd cc
+  made_why : (made : Link) → link_in m.phase ≡ Some made → ask_of m ≡ asked.Copy (link_ask made) → of_linked (link_after made m.call.initial answer) ≡ Some refused → WasNotMade m answer refused ⊎ WouldBeTooLong m answer refused
+  made_why made stands says e =
+      ⊎_elim
+      (λ (a : HasNotMade made answer refused). inl (record { slots = a.slots; limit = a.limit; asks = says ∙ ap asked.Copy a.asks; is = a.is }))
+      (λ (b : HasCountedTooMany made m.call.initial answer refused).
+      inr (record { capacity = b.capacity; behind = b.behind; unfit = b.unfit; slots = b.slots; link = stands ∙ ap Some b.link; asks = says ∙ ap (λ l. asked.Copy (link_ask l)) b.link; count = b.count; is = b.is; long = b.long }))
+      (link_why made m.call.initial answer refused e)
 
   -- where a copy makes one
   held_why : (goes : Copying) → m.phase ≡ Copying_root goes → (held : Option Link) → link_in_copying goes ≡ held → of_link (λ made. link_after made m.call.initial answer) held ≡ Some refused → WasNotMade m answer refused ⊎ WouldBeTooLong m answer refused
   held_why goes phase None holds e = absurd cc
-  held_why goes phase (Some made) holds e = made_why made (ap link_in phase ∙ holds) (ap (asks_in m.call) phase ∙ ap asked.Copy (copying_asks goes made holds)) answer refl e
+  held_why goes phase (Some made) holds e = made_why made (ap link_in phase ∙ holds) (ap (asks_in m.call) phase ∙ ap asked.Copy (copying_asks goes made holds)) e
 
   -- what is refused to the call was to be made for it
   abbrev Makes : Type 0
@@ -213,7 +169,7 @@ module _ (m : Machine) (answer : Answer) (refused : Refused) where
     phase_why : (phase : Phase) → m.phase ≡ phase → IsInOrder m answer phase → IsCause m answer refused
     phase_why Calling e order = inl (called_why order.0 e order.1 (called_steps m order.0))
     phase_why (Linking made) e order =
-        inr (record { from = order.0; left = order.1; why = made_why made (ap link_in e) (ap (asks_in m.call) e) answer refl (linked_ends m refused (link_after made m.call.initial answer) (ended (Linking made) e)) })
+        inr (record { from = order.0; left = order.1; why = made_why made (ap link_in e) (ap (asks_in m.call) e) (linked_ends m refused (link_after made m.call.initial answer) (ended (Linking made) e)) })
       where
         ended : (phase : Phase) → m.phase ≡ phase → of_asked (ask_of (after_in m answer phase)) ≡ Some refused
         ended phase e = sym (ap (λ p. of_asked (ask_of (after_in m answer p))) e) ∙ ap of_asked ends

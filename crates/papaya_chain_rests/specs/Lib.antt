@@ -3,5 +3,5 @@ pub mod Told
 pub mod Rests
 -- where an answer leaves its call
 pub mod Goes
--- a copy for its own sake
-pub mod Copiers
+-- a call that resizes the map
+pub mod Resizers

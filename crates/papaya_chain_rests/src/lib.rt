@@ -1,8 +1,9 @@
 //! What a call over a chain of tables rests on, and so what it replies.
 //!
-//! The laws of `papaya_rests` for calls and for copiers are put together here: a call that is set
-//! aside rests on what it rested on, and the copier on facts of the words alone.
+//! The laws of `papaya_rests` for calls and for copies are put together here: a call that is set
+//! aside rests on what it rested on, and its copy on facts of the words alone, as a call does that
+//! resizes the map.
 #![tactic(auto)]
 
-pub mod copiers;
+pub mod resizers;
 pub mod rests;

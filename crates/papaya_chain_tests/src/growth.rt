@@ -2,12 +2,10 @@
 ghost use Rattle.papaya_words.specs.Mode.{IsChunked};
 
 use crate::expect::{is, is_at};
-use crate::hashing::{APART, TOGETHER, Times};
-use crate::words::{
-    Numbers, copies_all, copies_chunk, copies_to_a_mark, is_resizing, marked, reply,
-};
+use crate::hashing::{APART, TOGETHER};
+use crate::words::{Numbers, copies_to_a_mark, is_resizing, marked, no_words, reply, resizes};
 use papaya_ask::call::{Reply, Task};
-use papaya_store::store::Store;
+use papaya_chain::resizer::Resize;
 use papaya_words::probe::{Refused, ResizeMode};
 use std::alloc::Global;
 use std::process::Abort;
@@ -26,12 +24,6 @@ const TRIES: Task = Task::Insert { replace: false };
 /// Any value, where a call stores none.
 const NO_VALUE: u64 = 0;
 
-/// Words with no table yet, and one shard.
-fn no_words(alloc: Global, mode: ResizeMode, hasher: Times) -> Result<Numbers, Refused> {
-    let (words, _) = Store::with_parts(alloc, mode, 0, 1, hasher)?;
-    Ok(words)
-}
-
 /// What a lookup of the key finds.
 fn value(alloc: Global, words: &mut Numbers, mode: ResizeMode, key: u64) -> Option<u64>
     requires { IsChunked mode }
@@ -47,7 +39,7 @@ fn value(alloc: Global, words: &mut Numbers, mode: ResizeMode, key: u64) -> Opti
 
 /// The first key, the one in the middle and the newest are there with their values, and the one
 /// after it is not.
-fn has_up_to(rt: &impl Abort, alloc: Global, words: &mut Numbers, mode: ResizeMode, newest: u64)
+pub fn has_up_to(rt: &impl Abort, alloc: Global, words: &mut Numbers, mode: ResizeMode, newest: u64)
     requires { IsChunked mode }
 {
     is_at(rt, newest as usize, value(alloc, words, mode, 0), Some(0));
@@ -72,7 +64,7 @@ fn has_up_to(rt: &impl Abort, alloc: Global, words: &mut Numbers, mode: ResizeMo
 }
 
 /// The keys are stored one after another: each is new, and is found at once.
-fn stores_all(rt: &impl Abort, alloc: Global, words: &mut Numbers, mode: ResizeMode)
+pub fn stores_all(rt: &impl Abort, alloc: Global, words: &mut Numbers, mode: ResizeMode)
     requires { IsChunked mode }
 {
     for key in 0..KEYS {
@@ -169,7 +161,7 @@ fn chunks_to_the_end(alloc: Global, words: &mut Numbers, mode: ResizeMode) -> us
         if !is_resizing(words) {
             return chunks;
         }
-        let _ = copies_chunk(alloc, words, mode);
+        let _ = resizes(alloc, words, mode, Resize::Chunk, false);
     }
     MOST_CHUNKS
 }
@@ -187,7 +179,7 @@ fn chunks_end_a_resize(rt: &impl Abort, alloc: Global) -> Result<(), Refused> {
 }
 
 /// The newest key: the pairs have the keys' numbers.
-fn newest(words: &Numbers) -> u64 {
+pub fn newest(words: &Numbers) -> u64 {
     (words.count() as u64).wrapping_sub(1)
 }
 
@@ -202,8 +194,8 @@ fn copy_ends_all(rt: &impl Abort, alloc: Global) -> Result<(), Refused> {
     let mode = ResizeMode::Incremental(1);
     let mut words = no_words(alloc, mode, APART)?;
     stores_all(rt, alloc, &mut words, mode);
-    let copied = copies_all(alloc, &mut words, mode);
-    is(rt, copied.is_some(), true);
+    let copied = resizes(alloc, &mut words, mode, Resize::CopyAll, false);
+    is(rt, copied, Some(Reply::Done));
     is(rt, is_resizing(&words), false);
     let last = newest(&words);
     has_up_to(rt, alloc, &mut words, mode, last);

@@ -8,4 +8,6 @@ mod growth;
 #[cfg(test)]
 mod hashing;
 #[cfg(test)]
+mod room;
+#[cfg(test)]
 mod words;

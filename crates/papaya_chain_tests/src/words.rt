@@ -10,11 +10,11 @@ use papaya_ask::call::{Reply, Task};
 use papaya_ask::copy_ask::CopyAsk;
 use papaya_call::answers::{Answers, Operation};
 use papaya_chain::ask::{Answer, Ask};
-use papaya_chain::copier::Copier;
 use papaya_chain::machine::Machine;
+use papaya_chain::resizer::{Resize, Resizer};
 use papaya_store::pairs::{KeyOf, Running};
 use papaya_store::store::Store;
-use papaya_words::probe::ResizeMode;
+use papaya_words::probe::{Refused, ResizeMode};
 use papaya_words::word::{Kind, Word};
 use std::alloc::Global;
 use std::marker::Model;
@@ -26,6 +26,12 @@ const MOST_STEPS: usize = 20_000_000;
 const LEAST_LEN: usize = 32;
 
 pub type Numbers = Store<u64, u64, Times>;
+
+/// Words with no table yet, and one shard.
+pub fn no_words(alloc: Global, mode: ResizeMode, hasher: Times) -> Result<Numbers, Refused> {
+    let (words, _) = Store::with_parts(alloc, mode, 0, 1, hasher)?;
+    Ok(words)
+}
 
 /// The closure of each call here: it adds one to what it is shown, and agrees to each removal.
 #[derive(Drop)]
@@ -48,48 +54,44 @@ impl Answers<u64, u64> for Adds {
     }
 }
 
-/// A copier under way, which stands.
+/// A call that resizes the words, under way, which stands.
 #[derive(Drop)]
-struct Copying {
-    copier: Copier,
+struct Resizing {
+    resizer: Resizer,
 }
 
-impl Model for Copying {
-    ghost use Rattle.papaya_chain.specs.Copier.{IsStandingCopier};
-    ghost use Rattle.papaya_chain.specs.declared.copier.Copier.{Copier};
+impl Model for Resizing {
+    ghost use Rattle.papaya_chain.specs.Resizer.{IsStandingResizer};
+    ghost use Rattle.papaya_chain.specs.declared.resizer.Resizer.{Resizer};
 
-    ghost Value = { Copier };
+    ghost Value = { Resizer };
 
-    ghost view = { λ copy. copy.copier };
+    ghost view = { λ resizing. resizing.resizer };
 
-    ghost invariant = { λ copy. IsStandingCopier copy.copier };
+    ghost invariant = { λ resizing. IsStandingResizer resizing.resizer };
 }
 
-impl Copying {
-    fn chunk(mode: ResizeMode) -> Copying
+impl Resizing {
+    fn new(resize: Resize, mode: ResizeMode) -> Resizing
         requires { IsChunked mode }
     {
-        Copying {
-            copier: Copier::chunk(mode, LEAST_LEN),
-        }
-    }
-
-    fn all(mode: ResizeMode) -> Copying
-        requires { IsChunked mode }
-    {
-        Copying {
-            copier: Copier::all(mode, LEAST_LEN),
+        Resizing {
+            resizer: Resizer::new(resize, mode, LEAST_LEN),
         }
     }
 
     fn ask(&self) -> Option<CopyAsk> {
-        self.copier.ask()
+        self.resizer.ask()
+    }
+
+    fn reply(&self) -> Option<Reply> {
+        self.resizer.reply()
     }
 
     fn answer(&mut self, answer: Answer)
         requires { IsFit answer }
     {
-        self.copier.answer(answer);
+        self.resizer.answer(answer);
     }
 }
 
@@ -183,33 +185,29 @@ pub fn reply(
     None
 }
 
-/// A copy is driven to its end, in so many asks. Nothing where it takes too many.
-fn asks_of(alloc: Global, words: &mut Numbers, mut copy: Copying) -> Option<usize> {
-    for asked in 0..MOST_STEPS {
-        let Some(ask) = copy.ask() else {
-            return Some(asked);
+/// A call that resizes the words is driven to its reply; each table that it would make is refused
+/// where that is wanted. Nothing where it takes too many steps.
+pub fn resizes(
+    alloc: Global,
+    words: &mut Numbers,
+    mode: ResizeMode,
+    resize: Resize,
+    refuse: bool,
+) -> Option<Reply>
+    requires { IsChunked mode }
+{
+    let mut resizing = Resizing::new(resize, mode);
+    for _ in 0..MOST_STEPS {
+        let Some(ask) = resizing.ask() else {
+            return resizing.reply();
         };
-        let answer = words.perform_copy(alloc, ask, false);
+        let answer = words.perform_copy(alloc, ask, refuse);
         if !fits(&answer) {
             return None;
         }
-        copy.answer(answer);
+        resizing.answer(answer);
     }
     None
-}
-
-/// A chunk is copied, or nothing where the root has no next table.
-pub fn copies_chunk(alloc: Global, words: &mut Numbers, mode: ResizeMode) -> Option<usize>
-    requires { IsChunked mode }
-{
-    asks_of(alloc, words, Copying::chunk(mode))
-}
-
-/// All is copied.
-pub fn copies_all(alloc: Global, words: &mut Numbers, mode: ResizeMode) -> Option<usize>
-    requires { IsChunked mode }
-{
-    asks_of(alloc, words, Copying::all(mode))
 }
 
 /// The pair of the first marked word in 32 slots of the root.
@@ -228,13 +226,13 @@ pub fn marked(words: &Numbers) -> Option<u64> {
 pub fn copies_to_a_mark(alloc: Global, words: &mut Numbers, mode: ResizeMode) -> Option<u64>
     requires { IsChunked mode }
 {
-    let mut copy = Copying::chunk(mode);
+    let mut copy = Resizing::new(Resize::Chunk, mode);
     for _ in 0..MOST_STEPS {
         if let Some(pair) = marked(words) {
             return Some(pair);
         }
         let Some(ask) = copy.ask() else {
-            copy = Copying::chunk(mode);
+            copy = Resizing::new(Resize::Chunk, mode);
             continue;
         };
         let answer = words.perform_copy(alloc, ask, false);
@@ -244,6 +242,14 @@ pub fn copies_to_a_mark(alloc: Global, words: &mut Numbers, mode: ResizeMode) ->
         copy.answer(answer);
     }
     None
+}
+
+/// How many slots the root has, or 0 where there is none.
+pub fn slots(words: &Numbers) -> usize {
+    match words.size_of(words.word(At::Root)) {
+        CallAnswer::Size { len, .. } => len,
+        _ => 0,
+    }
 }
 
 /// Is the root being copied to another table?

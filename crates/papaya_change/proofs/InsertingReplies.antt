@@ -6,7 +6,7 @@ use denote.Bor.{Bor}
 use Rattle.logbook.specs.Pages.{Book}
 use Rattle.papaya_ask.specs.declared.ask.Ask.TheVariants.{Done}
 use Rattle.papaya_ask.specs.declared.call.Reply.{Reply}
-use Rattle.papaya_ask.specs.declared.call.Reply.TheVariants.{Absent, Found, Inserted, Replaced, Occupied, Removed, Kept, Aborted, Refused}
+use Rattle.papaya_ask.specs.declared.call.Reply.TheVariants.{Absent, Found, Inserted, Replaced, Occupied, Removed, Kept, Aborted, Done as Reply_done, Refused}
 use Rattle.papaya_ask.specs.declared.call.Task.{Task}
 use Rattle.papaya_ask.specs.declared.call.Task.TheVariants.{Insert}
 use Rattle.papaya_call.specs.Machine.{ask_of}
@@ -74,6 +74,7 @@ module _ {K V S H : Type 0} (eq : K → K → Bool) (input : K → List (List �
     put_reply (Removed n) fits some = absurd fits
     put_reply (Kept n) fits some = absurd fits
     put_reply (Aborted t) fits some = absurd fits
+    put_reply Reply_done fits some = absurd fits
     put_reply (Refused refused) fits some = absurd (some refused refl)
 
     pub put_replied : (reply : Reply) → ask_of x.writer.call.machine ≡ Done reply → ((refused : _) → reply ≡ Refused refused → ⊥) → (answer : Option (Bor V)) → MatchOption answer (x.writer.call.taken ≡ None) (λ v. (p : Stored K V) × (x.writer.call.taken ≡ Some p) × (v.now ≡ p.value.value)) → IsPut eq key value (history_of begun) (history_of log) answer

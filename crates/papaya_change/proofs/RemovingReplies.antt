@@ -7,7 +7,7 @@ use Rattle.logbook.specs.Pages.{Book}
 use Rattle.papaya_words.specs.declared.probe.Refused.{Refused as Cause}
 use Rattle.papaya_ask.specs.declared.ask.Ask.TheVariants.{Done}
 use Rattle.papaya_ask.specs.declared.call.Reply.{Reply}
-use Rattle.papaya_ask.specs.declared.call.Reply.TheVariants.{Absent, Found, Inserted, Replaced, Occupied, Removed, Kept, Aborted, Refused}
+use Rattle.papaya_ask.specs.declared.call.Reply.TheVariants.{Absent, Found, Inserted, Replaced, Occupied, Removed, Kept, Aborted, Done as Reply_done, Refused}
 use Rattle.papaya_ask.specs.declared.call.Task.{Task}
 use Rattle.papaya_ask.specs.declared.call.Task.TheVariants.{RemoveIf}
 use Rattle.papaya_call.specs.declared.machine.Machine.{Machine}
@@ -42,6 +42,7 @@ IsNoRemoval (Occupied n) = Unit {0}
 IsNoRemoval (Removed n) = ⊥
 IsNoRemoval (Kept n) = ⊥
 IsNoRemoval (Aborted t) = Unit {0}
+IsNoRemoval Reply_done = Unit {0}
 IsNoRemoval (Refused cause) = ⊥
 
 -- where two are the same, both are there or neither is
@@ -103,6 +104,7 @@ module _ {K V S H F : Type 0} (eq : K → K → Bool) (input : K → List (List 
   replies_no_other (Removed n) never is = never
   replies_no_other (Kept n) never is = never
   replies_no_other (Aborted t) never is = is
+  replies_no_other Reply_done never is = is
   replies_no_other (Refused cause) never is = never
 
   pub no_other : (reply : Reply) → IsNoRemoval reply → ask_of m ≡ Done reply → ⊥

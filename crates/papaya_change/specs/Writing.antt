@@ -49,7 +49,10 @@ pub record HasKey {K V S : Type 0} (b : Begun K V S) (name : Book) (key : K) (ow
 -- The key of a new pair is the one at hand, or else it lies at the pair that brought it.
 abbrev pub IsKeyBy : {K V : Type 0} → Option K → Option (Stored K V) → KeyHeld K → Type 0
 IsKeyBy (Some k) brought held = held ≡ record { value = k; at = None }
-IsKeyBy None (Some p) held = held ≡ record { value = p.value.key.value; at = Some (p.bucket, p.row) }
+IsKeyBy None (Some p) held = held ≡ record {
+  value = p.value.key.value;
+  at = Some (p.bucket, p.row);
+}
 IsKeyBy None None held = ⊥
 
 -- no pair was logged: there was no memory or no number for it, or nothing to log

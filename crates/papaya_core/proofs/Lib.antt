@@ -1,1 +1,2 @@
--- no lemma: they stand in papaya_timeline
+-- Lemmas of their own: most stand in papaya_timeline.
+pub mod Steps

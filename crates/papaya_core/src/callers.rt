@@ -1,9 +1,8 @@
-//! The callers, and the calls that they have under way.
+//! The callers, and the calls that they have under way: on one key, or to resize the map.
 ghost use Rattle.std.specs.Prelude.{◌≡◌, ◌<◌, length, [], ◌∷◌, ◌++◌, None, Some, is_some, IsSome, OnOk, IfErr, slice_get, slice_set};
-ghost use Rattle.papaya_timeline.specs.Callers.{running, with_call, with_seat, IsSeated, IsSeatAt};
+ghost use Rattle.papaya_timeline.specs.Callers.{working, with_seat, with_work, IsSeated, IsSeatAt};
 
-use papaya_store::pairs::Running;
-pub use papaya_timeline::seat::Seat;
+pub use papaya_timeline::seat::{Seat, Work};
 use papaya_words::probe::Refused;
 use std::alloc::Global;
 use std::marker::Model;
@@ -43,37 +42,37 @@ fn add_seat<K: Drop, V: Drop, A: Drop>(
 ) -> Result<(), Refused>
     ensures ok { OnOk result (seats.new.items ≡ seats.old.items ++ record {
       caller = caller;
-      call = None;
+      work = None;
     } ∷ []) }
     ensures err { IfErr result (λ e. (e ≡ Refused.Memory) × (seats.new.items ≡ seats.old.items)) }
 {
-    match seats.push(Seat { caller, call: None }) {
+    match seats.push(Seat { caller, work: None }) {
         Ok(()) => Ok(()),
         Err(_) => Err(Refused::Memory),
     }
 }
 
-/// Takes a call out of a seat.
-fn take_call<K, V, A>(seats: &mut Vec<Seat<K, V, A>>, place: usize) -> Option<Running<K, V, A>>
+/// Takes the work out of a seat.
+fn take_work<K, V, A>(seats: &mut Vec<Seat<K, V, A>>, place: usize) -> Option<Work<K, V, A>>
     requires { place < length seats.old.items }
     ensures seat { (seat : Seat K V A) → slice_get seats.old.items place ≡ Some seat
-        → (result ≡ seat.call) × (seats.new.items ≡ slice_set seats.old.items place
-        (record seat { call = None })) }
+        → (result ≡ seat.work) × (seats.new.items ≡ slice_set seats.old.items place
+        (record seat { work = None })) }
 {
-    seats[place].call.take()
+    seats[place].work.take()
 }
 
-/// Puts a call into a seat.
-fn put_call<K: Drop, V: Drop, A: Drop>(
+/// Puts work into a seat.
+fn put_work<K: Drop, V: Drop, A: Drop>(
     seats: &mut Vec<Seat<K, V, A>>,
     place: usize,
-    running: Running<K, V, A>,
+    work: Work<K, V, A>,
 )
     requires { place < length seats.old.items }
     ensures { (seat : Seat K V A) → slice_get seats.old.items place ≡ Some seat
-        → seats.new.items ≡ slice_set seats.old.items place (record seat { call = Some running }) }
+        → seats.new.items ≡ slice_set seats.old.items place (record seat { work = Some work }) }
 {
-    seats[place].call = Some(running);
+    seats[place].work = Some(work);
 }
 
 impl<K, V, A> Callers<K, V, A> {
@@ -88,24 +87,24 @@ impl<K, V, A> Callers<K, V, A> {
 
     /// Is this caller in a call?
     pub fn is_running(&self, caller: usize) -> bool
-        ensures { result ≡ is_some (running self.now caller) }
+        ensures { result ≡ is_some (working self.now caller) }
     {
         match self.seats.get(place_of(&self.seats, caller)) {
-            Some(seat) => seat.call.is_some(),
+            Some(seat) => seat.work.is_some(),
             None => false,
         }
     }
 
     /// Takes the call of a caller that is in one.
-    pub fn take(&mut self, caller: usize) -> Running<K, V, A>
-        requires { IsSome (running self.old caller) }
-        ensures call { running self.old caller ≡ Some result }
-        ensures taken { self.new ≡ with_call self.old caller None }
+    pub fn take(&mut self, caller: usize) -> Work<K, V, A>
+        requires { IsSome (working self.old caller) }
+        ensures call { working self.old caller ≡ Some result }
+        ensures taken { self.new ≡ with_work self.old caller None }
         ensures seat { IsSeated self.new caller }
     {
         let place = place_of(&self.seats, caller);
-        match take_call(&mut self.seats, place) {
-            Some(running) => running,
+        match take_work(&mut self.seats, place) {
+            Some(work) => work,
             None => unreachable!(),
         }
     }
@@ -126,11 +125,11 @@ impl<K: Drop, V: Drop, A: Drop> Callers<K, V, A> {
     }
 
     /// Gives a caller that has a seat this call.
-    pub fn put(&mut self, caller: usize, running: Running<K, V, A>)
+    pub fn put(&mut self, caller: usize, work: Work<K, V, A>)
         requires { IsSeated self.old caller }
-        ensures { self.new ≡ with_call self.old caller (Some running) }
+        ensures { self.new ≡ with_work self.old caller (Some work) }
     {
         let place = place_of(&self.seats, caller);
-        put_call(&mut self.seats, place, running);
+        put_work(&mut self.seats, place, work);
     }
 }

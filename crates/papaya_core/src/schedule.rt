@@ -1,36 +1,46 @@
 //! Any number of callers, and any schedule of their steps.
 //!
+//! A call is on one key, or it resizes the map: it makes room ahead, or copies all that is left to
+//! copy, and leaves every pair as it is. The steps of both mix in any order.
+//!
 //! The map grows. A call that finds no place for its pair makes the next table, and goes on in it.
 //! Calls that may change the map copy pairs on their way, a chunk of the root each where the core
 //! is `Incremental`; where it is `Blocking` they copy all of the root. A caller that stops in the
 //! midst of a copy stops no other caller.
-ghost use Rattle.std.specs.Prelude.{◌≡◌, ◌<◌, ◌^◌, length, IfOk, IfErr, OnOk, IsSome, Some, None, is_some, MatchOption, reverse, ◌+◌, ◌*◌, ◌≤◌, []};
+ghost use Rattle.std.specs.Prelude.{◌≡◌, ℕ, ◌<◌, ◌^◌, length, IfOk, IfErr, OnOk, IsSome, Some, None, is_some, MatchOption, reverse, ◌+◌, ◌*◌, ◌≤◌, []};
 ghost use Rattle.std.specs.Int.{IsPowerOfTwo};
 ghost use Rattle.papaya_law.specs.Content.{AreApart};
 ghost use Rattle.papaya_words.specs.Mode.{IsChunked};
 ghost use Rattle.papaya_chain.specs.Machine.{IsStanding};
-ghost use Rattle.papaya_timeline.specs.Callers.{running};
+ghost use Rattle.papaya_words.specs.Table.{TableWords};
+ghost use Rattle.papaya_ask.specs.Search.{IsSize};
+ghost use Rattle.papaya_chain.specs.Resizer.{IsStandingResizer, reply_of};
+ghost use Rattle.papaya_store.specs.Tables.{table_of};
+ghost use Rattle.papaya_timeline.specs.Callers.{working};
+ghost use Rattle.papaya_timeline.specs.Maps.{key_of};
+ghost use Rattle.papaya_core.specs.Goes.{CallGoes, IsStandingWork, ResizerGoes, WorkGoes};
 ghost use Rattle.papaya_store.specs.Store.{KeepsPairs, pair_of};
 ghost use Rattle.papaya_keys.specs.Hashes.{hash_of};
-ghost use Rattle.papaya_timeline.specs.Core.{call_of};
+ghost use Rattle.papaya_timeline.specs.Core.{work_of};
 ghost use Rattle.papaya_timeline.specs.Content.{content};
 ghost use Rattle.papaya_timeline.specs.Counted.{IsCounted};
-ghost use Rattle.papaya_timeline.specs.Begins.{Begins, begun};
-ghost use Rattle.papaya_timeline.specs.Advances.{AddsToShard, Advances, event_of, reply_in};
+ghost use Rattle.papaya_timeline.specs.Begins.{Begins, begun, begun_work};
+ghost use Rattle.papaya_timeline.specs.Advances.{AddsToShard, event_of, reply_in};
 ghost use Rattle.papaya_timeline.specs.Headline.{HasTimeline};
 ghost use Rattle.papaya_timeline.specs.Moves.{MovesMap};
 ghost use Rattle.papaya_timeline.specs.New.{IsNew};
 ghost use Rattle.papaya_keys.specs.Sizes.{IsSizeRefusal};
 ghost use Rattle.papaya_keys.specs.Sizes.{IsAllowed};
-ghost use Rattle.papaya_timeline.specs.Runs.{TurnsRun, StopsEarly, TurnRuns, IsCutShort, BeginRuns, StepRuns, StepsRun};
+ghost use Rattle.papaya_timeline.specs.Runs.{Steps, TurnsRun, StopsEarly, TurnRuns, IsCutShort, BeginRuns, StepRuns, StepsRun};
 
-use crate::callers::Callers;
+use crate::callers::{Callers, Work};
 use crate::entries::{event_of, push_entry, push_step, reserve_entries};
 use papaya_ask::ask::Ask as CallAsk;
 use papaya_ask::call::{Call, Reply, Task};
 use papaya_call::answers::Answers;
 use papaya_chain::ask::Ask;
 use papaya_chain::machine::Machine;
+use papaya_chain::resizer::{Resize, Resizer};
 use papaya_store::pairs::{KeyOf, Running};
 use papaya_store::store::Store;
 use papaya_timeline::trace::{Entry, Event, Trace, Turn};
@@ -75,33 +85,57 @@ impl<K: Hash + Eq, V, S: BuildHasher, A> Model for Core<K, V, S, A> {
         c.callers c.mode × IsCounted K.eq c.store c.callers × IsPowerOfTwo c.initial };
 }
 
+/// A call on one key as it begins: its task, the key, and what else it was handed.
+fn call_on<K: Hash + Eq, V: Drop, S: BuildHasher, A>(
+    store: &Store<K, V, S>,
+    mode: ResizeMode,
+    initial: usize,
+    task: Task,
+    key: K,
+    handed: (Option<V>, Option<A>),
+) -> Work<K, V, A>
+    requires chunked { IsChunked mode }
+    requires initial { IsPowerOfTwo initial }
+    ensures begun { result ≡ Work.Call (begun (hash_of K.hash_input S.build_hasher S.Hasher.write
+        S.Hasher.finish store.now.hasher) mode initial task key handed.0 handed.1) }
+    ensures fits { hash_of K.hash_input S.build_hasher S.Hasher.write S.Hasher.finish
+        store.now.hasher key < 2 ^ 64 }
+{
+    let (value, answers) = handed;
+    Work::Call(Running {
+        machine: Machine::new(task, store.hash(&key), mode, initial),
+        key: KeyOf::Own(key),
+        value,
+        answers,
+    })
+}
+
 /// A call as it begins.
 fn begin_call<K: Hash + Eq, V: Drop, S: BuildHasher, A>(
     store: &Store<K, V, S>,
     mode: ResizeMode,
     initial: usize,
     call: Call<K, V, A>,
-) -> Running<K, V, A>
+) -> Work<K, V, A>
     requires chunked { IsChunked mode }
     requires initial { IsPowerOfTwo initial }
-    ensures begun { result ≡ begun (hash_of K.hash_input S.build_hasher S.Hasher.write
+    ensures begun { result ≡ begun_work (hash_of K.hash_input S.build_hasher S.Hasher.write
         S.Hasher.finish store.now.hasher) mode initial call }
-    ensures fits { result.machine.call.hash < 2 ^ 64 }
-    ensures standing { IsStanding result.machine }
+    ensures fits { (k : K) → key_of call ≡ Some k → hash_of K.hash_input S.build_hasher
+        S.Hasher.write S.Hasher.finish store.now.hasher k < 2 ^ 64 }
 {
-    let (task, key, value, answers) = match call {
-        Call::Get(key) => (Task::Get, key, None, None),
-        Call::Insert(key, value) => (Task::Insert { replace: true }, key, Some(value), None),
-        Call::TryInsert(key, value) => (Task::Insert { replace: false }, key, Some(value), None),
-        Call::RemoveIf(key, answers) => (Task::RemoveIf, key, None, Some(answers)),
-        Call::Compute(key, answers) => (Task::Compute, key, None, Some(answers)),
+    let (task, key, handed) = match call {
+        Call::Get(key) => (Task::Get, key, (None, None)),
+        Call::Insert(key, value) => (Task::Insert { replace: true }, key, (Some(value), None)),
+        Call::TryInsert(key, value) => (Task::Insert { replace: false }, key, (Some(value), None)),
+        Call::RemoveIf(key, answers) => (Task::RemoveIf, key, (None, Some(answers))),
+        Call::Compute(key, answers) => (Task::Compute, key, (None, Some(answers))),
+        Call::Reserve(more) => {
+            return Work::Resize(Resizer::new(Resize::Reserve(more), mode, initial));
+        }
+        Call::CopyAll => return Work::Resize(Resizer::new(Resize::CopyAll, mode, initial)),
     };
-    Running {
-        machine: Machine::new(task, store.hash(&key), mode, initial),
-        key: KeyOf::Own(key),
-        value,
-        answers,
-    }
+    call_on(store, mode, initial, task, key, handed)
 }
 
 /// The reply of a machine that asks no more.
@@ -114,8 +148,82 @@ fn reply_in(ask: Ask) -> Option<Reply>
     }
 }
 
-/// Lets a call go.
-fn end_call<K: Drop, V: Drop, A: Drop>(_running: Running<K, V, A>) {}
+/// One ask of a call on one key: what happened, the reply where there is one, and the call if it
+/// goes on.
+fn advance_call<K: Hash + Eq + Drop, V: Drop, S: BuildHasher, A: Answers<K, V> + Drop>(
+    alloc: Global,
+    store: &mut Store<K, V, S>,
+    caller: usize,
+    mut running: Running<K, V, A>,
+    refuse: bool,
+) -> (Event, Option<Reply>, Option<Work<K, V, A>>)
+    requires sizes { (n : ℕ) (t : TableWords) → table_of store.old.words.tables n ≡ Some t
+        → IsSize (length t.slots) t.limit }
+    requires standing { IsStanding running.machine }
+    ensures { CallGoes K.eq (record { op = A.op_gives; yes = A.yes_gives })
+        (hash_of K.hash_input S.build_hasher S.Hasher.write S.Hasher.finish) refuse store.old caller
+        store.new result.0 result.1 result.2 running }
+{
+    let kind = running.machine.kind();
+    let ask = running.machine.ask();
+    let answer = store.perform_ask(alloc, caller, &mut running, ask, refuse);
+    running.machine.answer(answer);
+    let event = event_of(kind, ask, answer);
+    match reply_in(running.machine.ask()) {
+        Some(reply) => (event, Some(reply), None),
+        None => (event, None, Some(Work::Call(running))),
+    }
+}
+
+/// One ask of a call that resizes the map: what happened, the reply where there is one, and the call
+/// if it goes on.
+fn advance_resizer<K: Hash + Eq + Drop, V: Drop, S: BuildHasher, A>(
+    alloc: Global,
+    store: &mut Store<K, V, S>,
+    mut resizer: Resizer,
+    refuse: bool,
+) -> (Event, Option<Reply>, Option<Work<K, V, A>>)
+    requires sizes { (n : ℕ) (t : TableWords) → table_of store.old.words.tables n ≡ Some t
+        → IsSize (length t.slots) t.limit }
+    requires standing { IsStandingResizer resizer }
+    requires going { reply_of resizer ≡ None }
+    ensures { ResizerGoes K.eq (hash_of K.hash_input S.build_hasher S.Hasher.write S.Hasher.finish)
+        refuse store.old store.new result.0 result.1 result.2 resizer }
+{
+    let kind = resizer.kind();
+    let ask = match resizer.ask() {
+        Some(ask) => ask,
+        None => unreachable!(),
+    };
+    let answer = store.perform_copy(alloc, ask, refuse);
+    resizer.answer(answer);
+    let event = event_of(kind, Ask::Copy(ask), answer);
+    match resizer.reply() {
+        Some(reply) => (event, Some(reply), None),
+        None => (event, None, Some(Work::Resize(resizer))),
+    }
+}
+
+/// One ask of a call: what happened, the reply where there is one, and the call if it goes on.
+fn advance_work<K: Hash + Eq + Drop, V: Drop, S: BuildHasher, A: Answers<K, V> + Drop>(
+    alloc: Global,
+    store: &mut Store<K, V, S>,
+    caller: usize,
+    work: Work<K, V, A>,
+    refuse: bool,
+) -> (Event, Option<Reply>, Option<Work<K, V, A>>)
+    requires sizes { (n : ℕ) (t : TableWords) → table_of store.old.words.tables n ≡ Some t
+        → IsSize (length t.slots) t.limit }
+    requires standing { IsStandingWork work }
+    ensures { WorkGoes K.eq (record { op = A.op_gives; yes = A.yes_gives })
+        (hash_of K.hash_input S.build_hasher S.Hasher.write S.Hasher.finish) refuse store.old caller
+        store.new result.0 result.1 result.2 work }
+{
+    match work {
+        Work::Call(running) => advance_call(alloc, store, caller, running, refuse),
+        Work::Resize(resizer) => advance_resizer(alloc, store, resizer, refuse),
+    }
+}
 
 impl<K: Hash + Eq, V, S: BuildHasher, A> Core<K, V, S, A> {
     /// Is this caller in a call?
@@ -123,7 +231,7 @@ impl<K: Hash + Eq, V, S: BuildHasher, A> Core<K, V, S, A> {
     /// The contract also says of any core, whatever calls are under way, that its count is the
     /// number of pairs, but for what the calls have yet to add.
     pub fn running(&self, caller: usize) -> bool
-        ensures running { result ≡ is_some (call_of self.now caller) }
+        ensures running { result ≡ is_some (work_of self.now caller) }
         ensures apart { AreApart K.eq (λ p. p.key) (content K.eq self.now.store) }
         ensures counted { IsCounted K.eq self.now.store self.now.callers }
     {
@@ -177,22 +285,22 @@ impl<K: Hash + Eq + Drop, V: Drop, S: BuildHasher, A: Answers<K, V> + Drop> Core
     ///
     /// `Refused::Memory` where a growth was refused: the call and what it was handed are dropped.
     pub fn begin(&mut self, caller: usize, call: Call<K, V, A>) -> Result<(), Refused>
-        requires { call_of self.old caller ≡ None }
+        requires { work_of self.old caller ≡ None }
         ensures ok { OnOk result (Begins (hash_of K.hash_input S.build_hasher S.Hasher.write
             S.Hasher.finish self.old.store.hasher) self.old caller call self.new) }
         ensures err { IfErr result (λ e. (e ≡ Refused.Memory) × (self.new ≡ self.old)) }
         ensures counted { IsCounted K.eq self.new.store self.new.callers }
     {
         self.callers.seat(caller)?;
-        let running = begin_call(&self.store, self.mode, self.initial, call);
-        self.callers.put(caller, running);
+        let work = begin_call(&self.store, self.mode, self.initial, call);
+        self.callers.put(caller, work);
         Ok(())
     }
 
     /// One step of a caller: what happened, and the reply where there is one.
     fn advance(&mut self, caller: usize, refuse: bool) -> (Event, Option<Reply>)
-        requires { IsSome (call_of self.old caller) }
-        ensures advances { Advances K.eq (record { op = A.op_gives; yes = A.yes_gives })
+        requires { IsSome (work_of self.old caller) }
+        ensures steps { Steps K.eq (record { op = A.op_gives; yes = A.yes_gives })
             (hash_of K.hash_input S.build_hasher S.Hasher.write S.Hasher.finish) refuse self.old
             caller self.new result.0 result.1 }
         ensures moves { MovesMap K.eq self.old caller self.new result.0 }
@@ -200,18 +308,11 @@ impl<K: Hash + Eq + Drop, V: Drop, S: BuildHasher, A: Answers<K, V> + Drop> Core
         ensures shard { AddsToShard self.old caller self.new }
         ensures counted { IsCounted K.eq self.new.store self.new.callers }
     {
-        let mut running = self.callers.take(caller);
-        let kind = running.machine.kind();
-        let ask = running.machine.ask();
-        let answer = self
-            .store
-            .perform_ask(self.alloc, caller, &mut running, ask, refuse);
-        running.machine.answer(answer);
-        let event = event_of(kind, ask, answer);
-        let reply = reply_in(running.machine.ask());
-        match reply {
-            Some(_) => end_call(running),
-            None => self.callers.put(caller, running),
+        let work = self.callers.take(caller);
+        let (event, reply, rest) = advance_work(self.alloc, &mut self.store, caller, work, refuse);
+        match rest {
+            Some(work) => self.callers.put(caller, work),
+            None => {}
         }
         (event, reply)
     }
@@ -221,9 +322,8 @@ impl<K: Hash + Eq + Drop, V: Drop, S: BuildHasher, A: Answers<K, V> + Drop> Core
     /// With `refuse_memory` a step that would make a key, a pair or a table answers
     /// `Refused::Memory`, and any other step is an ordinary one.
     pub fn step(&mut self, caller: usize, refuse_memory: bool) -> Option<Reply>
-        requires { IsSome (call_of self.old caller) }
-        ensures advances { (event : _) × Advances K.eq
-            (record { op = A.op_gives; yes = A.yes_gives })
+        requires { IsSome (work_of self.old caller) }
+        ensures steps { (event : _) × Steps K.eq (record { op = A.op_gives; yes = A.yes_gives })
             (hash_of K.hash_input S.build_hasher S.Hasher.write S.Hasher.finish) refuse_memory
             self.old caller self.new event result
             × MovesMap K.eq self.old caller self.new event }
@@ -303,7 +403,7 @@ impl<K: Hash + Eq + Drop, V: Drop, S: BuildHasher, A: Answers<K, V> + Drop> Core
         caller: usize,
         call: Call<K, V, A>,
     ) -> Result<(), Refused>
-        requires { call_of self.old caller ≡ None }
+        requires { work_of self.old caller ≡ None }
         ensures ok { OnOk result (BeginRuns K.eq (record { op = A.op_gives; yes = A.yes_gives })
             (hash_of K.hash_input S.build_hasher S.Hasher.write S.Hasher.finish) turn caller call
             self.old (reverse entries.old.items) self.new (reverse entries.new.items)) }
@@ -333,7 +433,7 @@ impl<K: Hash + Eq + Drop, V: Drop, S: BuildHasher, A: Answers<K, V> + Drop> Core
         caller: usize,
         refuse_memory: bool,
     ) -> Result<(), Refused>
-        requires { IsSome (call_of self.old caller) }
+        requires { IsSome (work_of self.old caller) }
         ensures ok { OnOk result (StepRuns K.eq (record { op = A.op_gives; yes = A.yes_gives })
             (hash_of K.hash_input S.build_hasher S.Hasher.write S.Hasher.finish) turn caller
             refuse_memory self.old (reverse entries.old.items) self.new

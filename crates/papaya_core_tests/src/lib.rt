@@ -17,6 +17,8 @@ mod overflow;
 #[cfg(test)]
 mod plain;
 #[cfg(test)]
+mod resizing;
+#[cfg(test)]
 mod schedules;
 #[cfg(test)]
 mod words;

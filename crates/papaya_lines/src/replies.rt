@@ -39,6 +39,8 @@ fn printed_of<S: BuildHasher + Drop>(
         Reply::Replaced { old, .. } => Some(Printed::Old(value_of(core, old)?)),
         Reply::Removed(pair) => Some(Printed::Removed(value_of(core, pair)?)),
         Reply::Refused(refused) => Some(Printed::Refused(refused)),
+        // No line begins a call that replies so.
+        Reply::Done => None,
     }
 }
 

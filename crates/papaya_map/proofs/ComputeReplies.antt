@@ -9,7 +9,7 @@ use Rattle.papaya_call.specs.declared.answers.Operation.{Operation}
 use Rattle.papaya_call.specs.declared.answers.Operation.TheVariants as operation
 use Rattle.papaya_ask.specs.declared.ask.Ask.TheVariants.{Done}
 use Rattle.papaya_ask.specs.declared.call.Reply.{Reply}
-use Rattle.papaya_ask.specs.declared.call.Reply.TheVariants.{Absent, Found, Inserted, Replaced, Occupied, Removed, Kept, Aborted, Refused}
+use Rattle.papaya_ask.specs.declared.call.Reply.TheVariants.{Absent, Found, Inserted, Replaced, Occupied, Removed, Kept, Aborted, Done as Reply_done, Refused}
 use Rattle.papaya_ask.specs.declared.call.Task.{Task}
 use Rattle.papaya_ask.specs.declared.call.Task.TheVariants.{Compute}
 use Rattle.papaya_call.specs.declared.machine.Machine.{Machine}
@@ -48,6 +48,7 @@ IsNoCompute (Occupied n) = Unit {0}
 IsNoCompute (Removed n) = ⊥
 IsNoCompute (Kept n) = Unit {0}
 IsNoCompute (Aborted t) = ⊥
+IsNoCompute Reply_done = Unit {0}
 IsNoCompute (Refused cause) = ⊥
 
 -- what is there is this
@@ -253,6 +254,7 @@ module _ {K V S T H F : Type 0} (eq : K → K → Bool) (input : K → List (Lis
   replies_no_other (Removed n) never is = never
   replies_no_other (Kept n) never is = is
   replies_no_other (Aborted t) never is = never
+  replies_no_other Reply_done never is = is
   replies_no_other (Refused cause) never is = never
 
   pub no_other : (reply : Reply) → IsNoCompute reply → ask_of m ≡ Done reply → ⊥

@@ -341,10 +341,10 @@ impl<'a, K: Hash + Eq + Drop, V: Drop, S: BuildHasher> HashMapRef<'a, K, V, S> {
     /// Stores a pair, and answers the value that its key had: `insert` of 0.2.5. As there, the new
     /// key takes the old one's place too.
     ///
-    /// `Refused::Memory` where a growth was refused. `Refused::Capacity` where the log of pairs or of
-    /// tables is full: it gave a number past its limit, which the pass shows then. Or
-    /// where the key has no pair, and each of its places in the table is filled. Refused, the pass
-    /// makes no change, and else this one.
+    /// `Refused::Memory` where a growth was refused. `Refused::Capacity` where the log of pairs or
+    /// that of tables is full: it gave a number past its limit, which the pass shows then. Or where
+    /// the key has no pair, and each of its places in the table is filled. Refused, the pass makes no
+    /// change, and else this one.
     pub fn insert_as<R: Wait>(
         &self,
         rt: &R,

@@ -1,7 +1,7 @@
 -- What a machine rests on, by its parts: where each part is carried over, all of it is.
 use Rattle.std.proofs.Common.{◌≡◌, ℕ, Bool, true, false, Option, None, Some, List, sym, ap, ◌∙◌, subst}
 use Rattle.papaya_ask.specs.declared.call.Reply.{Reply}
-use Rattle.papaya_ask.specs.declared.call.Reply.TheVariants.{Absent, Found, Inserted, Replaced, Occupied, Removed, Kept, Aborted, Refused as Reply_refused}
+use Rattle.papaya_ask.specs.declared.call.Reply.TheVariants.{Absent, Found, Inserted, Replaced, Occupied, Removed, Kept, Aborted, Done as Reply_done, Refused as Reply_refused}
 use Rattle.papaya_ask.specs.declared.call.Task.{Task}
 use Rattle.papaya_ask.specs.declared.call.Task.TheVariants.{Get, Insert, RemoveIf, Compute}
 use Rattle.papaya_call.specs.declared.compute.Choice.{Choice}
@@ -88,6 +88,7 @@ module _ {K P : Type 0} (g g' : Setting K P) (c : Coding K P) (begun since since
   reply_carried Get (Removed n) r = r
   reply_carried Get (Kept n) r = r
   reply_carried Get (Aborted t) r = r
+  reply_carried Get Reply_done r = absurd r
   reply_carried Get (Reply_refused refused) r = r
   reply_carried (Insert replace) Absent r = r
   reply_carried (Insert replace) (Found n) r = r
@@ -99,6 +100,7 @@ module _ {K P : Type 0} (g g' : Setting K P) (c : Coding K P) (begun since since
   reply_carried (Insert replace) (Removed n) r = r
   reply_carried (Insert replace) (Kept n) r = r
   reply_carried (Insert replace) (Aborted t) r = r
+  reply_carried (Insert replace) Reply_done r = absurd r
   reply_carried (Insert replace) (Reply_refused refused) r = r
   reply_carried RemoveIf Absent r = carried.moment None r
   reply_carried RemoveIf (Found n) r = r
@@ -108,6 +110,7 @@ module _ {K P : Type 0} (g g' : Setting K P) (c : Coding K P) (begun since since
   reply_carried RemoveIf (Removed n) r = r
   reply_carried RemoveIf (Kept n) r = had_carried n r
   reply_carried RemoveIf (Aborted t) r = r
+  reply_carried RemoveIf Reply_done r = absurd r
   reply_carried RemoveIf (Reply_refused refused) r = r
   reply_carried Compute Absent r = r
   reply_carried Compute (Found n) r = r
@@ -117,6 +120,7 @@ module _ {K P : Type 0} (g g' : Setting K P) (c : Coding K P) (begun since since
   reply_carried Compute (Removed n) r = r
   reply_carried Compute (Kept n) r = r
   reply_carried Compute (Aborted t) r = r
+  reply_carried Compute Reply_done r = absurd r
   reply_carried Compute (Reply_refused refused) r = r
 
   -- each stage

@@ -7,7 +7,7 @@ use Rattle.papaya_ask.specs.declared.ask.Answer.TheVariants.{Op}
 use Rattle.papaya_ask.specs.declared.ask.OpKind.TheVariants as ops
 use Rattle.papaya_ask.specs.declared.ask.StepKind.TheVariants as kinds
 use Rattle.papaya_ask.specs.declared.call.Reply.{Reply}
-use Rattle.papaya_ask.specs.declared.call.Reply.TheVariants.{Absent, Found, Inserted, Replaced, Occupied, Removed, Kept, Aborted, Refused as Reply_refused}
+use Rattle.papaya_ask.specs.declared.call.Reply.TheVariants.{Absent, Found, Inserted, Replaced, Occupied, Removed, Kept, Aborted, Done as Reply_done, Refused as Reply_refused}
 use Rattle.papaya_ask.specs.declared.call.Task.{Task}
 use Rattle.papaya_ask.specs.declared.call.Task.TheVariants.{Compute}
 use Rattle.papaya_call.specs.declared.compute.Choice.{Choice}
@@ -66,6 +66,7 @@ module _ (n : ℕ) (agrees : Bool) where
   agrees_no_reply (Removed i) e = cc e
   agrees_no_reply (Kept i) e = cc e
   agrees_no_reply (Aborted with) e = cc e
+  agrees_no_reply Reply_done e = cc e
   agrees_no_reply (Reply_refused refused) e = cc e
 
   -- nor does a state of it

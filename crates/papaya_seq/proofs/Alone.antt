@@ -10,14 +10,14 @@ use Rattle.papaya_store.specs.Store.{KeepsPairs, StoreState}
 use Rattle.papaya_keys.specs.Hashes.{hash_of}
 use Rattle.papaya_timeline.proofs.SoloLaw.{alone_answered, alone_lawful, alone_logged}
 use Rattle.papaya_seq.specs.Map.{IsLawfulMap, MapState, core_of}
-use Rattle.papaya_seq.proofs.Steps.{IsOver, seated}
+use Rattle.papaya_seq.proofs.Turns.{IsOver, seated_work}
 
 module _ {K V S H : Type 0} (eq : K → K → Bool) (input : K → List (List ℕ)) (build : S → H) (write : H → List ℕ → H) (finish : H → ℕ) (classes : IsEquivalence eq) (respects : (x y : K) → eq x y ≡ true → input x ≡ input y)
     (s : MapState K V S) (call : Call K V (Unit {0})) (reply : Reply) (store : StoreState K V S)
     (lawful : IsLawfulMap eq (hash_of input build write finish s.store.hasher) s.store s.mode s.initial) (over : IsOver eq (hash_of input build write finish) s call store reply) where
   -- the core when the call has replied
   abbrev left : CoreState K V S (Unit {0})
-  left = seated store None s.mode s.initial
+  left = seated_work store None s.mode s.initial
 
   -- the finite map
   pub map_answered : IsAnswered eq call (map_in eq s.store) reply (map_in eq store)

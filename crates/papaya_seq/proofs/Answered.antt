@@ -5,11 +5,12 @@ use Rattle.std.specs.Cmp.{IsEquivalence}
 use Rattle.papaya_words.specs.declared.probe.Refused.{Refused}
 use Rattle.papaya_words.specs.declared.probe.Refused.TheVariants.{RemoveNothing}
 use Rattle.papaya_law.specs.Content.{lookup}
+use Rattle.papaya_ask.specs.declared.call.Call.{Call}
 use Rattle.papaya_ask.specs.declared.call.Call.TheVariants.{Insert, TryInsert}
 use Rattle.papaya_ask.specs.declared.call.Reply.TheVariants as replies
 use Rattle.papaya_timeline.specs.Content.{content, map_in}
-use Rattle.papaya_timeline.specs.Maps.{Does, IsMadeOf, IsUpdate, Same, key_of}
-use Rattle.papaya_timeline.specs.Solo.{IsAnswered, IsNewIn}
+use Rattle.papaya_timeline.specs.Maps.{Does, IsMadeOf, IsUpdate, IsUpdateBy, Same, key_of, at_key}
+use Rattle.papaya_timeline.specs.Solo.{CallDoes, IsAnswered, IsNewIn}
 use Rattle.papaya_store.specs.Store.{StoreState, Stored, pair_of}
 use Rattle.papaya_seq.specs.Map.{Inserts, IsMakeRefusal, IsOccupied, IsTried, IsTryRefusal, IsWriteCause, IsWriteCauseAt, Keeps, MapState, insertion, value_of}
 use Rattle.papaya_seq.proofs.Lawful.{logged_content, lookup_some}
@@ -54,9 +55,9 @@ module _ {K V S : Type 0} (eq : K → K → Bool) (law : IsEquivalence eq) where
 
     -- a key that was absent has a new pair
     pub inserted_made : (replace : Bool) (n : ℕ) → IsAnswered eq (insertion replace k v) (map_in eq s) (replies.Inserted n) (map_in eq s') → IsNewIn s (replies.Inserted n) → IsMade None n
-    inserted_made replace n d fresh = from replace d.went d.came (subst (λ j. IsUpdate eq j d.went d.came (map_in eq s) (map_in eq s')) (key_is replace) d.update) d.does
+    inserted_made replace n d fresh = from replace d.went d.came (subst (λ j. IsUpdateBy eq j d.went d.came (map_in eq s) (map_in eq s')) (key_is replace) d.update) d.does
       where
-        key_is : (b : Bool) → key_of (insertion b k v) ≡ k
+        key_is : (b : Bool) → key_of (insertion b k v) ≡ Some k
         key_is true = refl
         key_is false = refl
 
@@ -101,6 +102,7 @@ module _ {K V S : Type 0} (eq : K → K → Bool) (law : IsEquivalence eq) where
     neither_made (replies.Inserted n) d fresh replaced refused = (n, inserted_made true n d fresh)
     neither_made (replies.Replaced m n) d fresh replaced refused = absurd (replaced m n refl)
     neither_made (replies.Refused r) d fresh replaced refused = absurd (refused r refl)
+    neither_made replies.Done d fresh replaced refused = let f : Some k ≡ None = d.0 in absurd cc
     neither_made replies.Absent d fresh replaced refused = absurd (none d.went d.does)
       where
         none : (went : Option (Stored K V)) → Does {A = Unit {0}} (Insert k v) went replies.Absent d.came → ⊥
@@ -163,6 +165,29 @@ module _ {K V S : Type 0} (s s' : MapState K V S) where
   make_refusal refused (inl memory) = inl memory
   make_refusal refused (inr (is, full)) = inr is
 
+module _ {K V A B : Type 0} (eq : K → K → Bool) (call : Call K V A) (other : Call K V B) (k : K) (key : key_of call ≡ Some k) (other_key : key_of other ≡ Some k) (alike : (went came : Option (Stored K V)) (reply : _) → Does call went reply came → Does other went reply came) where
+  -- what one call on a key does, another does that is like it
+  does_alike : (m m' : K → Option (Stored K V)) (reply : _) → CallDoes eq call m reply m' → CallDoes eq other m reply m'
+  does_alike m m' reply d = record {
+    went = d.went;
+    came = d.came;
+    update = subst (λ j. IsUpdateBy eq j d.went d.came m m') (key ∙ sym other_key) d.update;
+    does = alike d.went d.came reply d.does;
+  }
+
+  -- so it is answered alike
+  answered_alike : (m m' : K → Option (Stored K V)) (reply : _) → IsAnswered eq call m reply m' → IsAnswered eq other m reply m'
+  answered_alike m m' (replies.Refused refused) d = (d.0, λ nothing. subst (λ j. Does other (at_key m j) (replies.Refused RemoveNothing) (at_key m j)) (key ∙ sym other_key) (alike (at_key m (key_of call)) (at_key m (key_of call)) (replies.Refused RemoveNothing) (d.1 nothing)))
+  answered_alike m m' replies.Done d = (let f : None ≡ Some k = sym d.0 ∙ key in absurd cc, d.1)
+  answered_alike m m' (replies.Inserted n) d = does_alike m m' (replies.Inserted n) d
+  answered_alike m m' (replies.Occupied n) d = does_alike m m' (replies.Occupied n) d
+  answered_alike m m' replies.Absent d = does_alike m m' replies.Absent d
+  answered_alike m m' (replies.Found n) d = does_alike m m' (replies.Found n) d
+  answered_alike m m' (replies.Replaced o n) d = does_alike m m' (replies.Replaced o n) d
+  answered_alike m m' (replies.Removed n) d = does_alike m m' (replies.Removed n) d
+  answered_alike m m' (replies.Kept n) d = does_alike m m' (replies.Kept n) d
+  answered_alike m m' (replies.Aborted t) d = does_alike m m' (replies.Aborted t) d
+
 module _ {K V : Type 0} (A : Type 0) (k : K) (v : V) where
   -- what an insertion that replaces nothing does is the same whatever closures calls have
   try_does : (went came : Option (Stored K V)) (reply : _) → Does {A = Unit {0}} (TryInsert k v) went reply came → Does {A = A} (TryInsert k v) went reply came
@@ -182,17 +207,37 @@ module _ {K V : Type 0} (A : Type 0) (k : K) (v : V) where
   try_does (Some p) came (replies.Kept n) d = absurd d
   try_does None came (replies.Aborted t) d = absurd d
   try_does (Some p) came (replies.Aborted t) d = absurd d
+  try_does None came replies.Done d = absurd d
+  try_does (Some p) came replies.Done d = absurd d
   try_does None came (replies.Refused refused) d = absurd d
   try_does (Some p) came (replies.Refused refused) d = absurd d
 
-  -- so is what it is answered
+  -- so is what one does that replaces
+  insert_does : (went came : Option (Stored K V)) (reply : _) → Does {A = Unit {0}} (Insert k v) went reply came → Does {A = A} (Insert k v) went reply came
+  insert_does None came (replies.Inserted n) d = d
+  insert_does None came (replies.Occupied n) d = absurd d
+  insert_does None came replies.Absent d = absurd d
+  insert_does None came (replies.Found n) d = absurd d
+  insert_does None came (replies.Replaced m n) d = absurd d
+  insert_does None came (replies.Removed n) d = absurd d
+  insert_does None came (replies.Kept n) d = absurd d
+  insert_does None came (replies.Aborted t) d = absurd d
+  insert_does None came replies.Done d = absurd d
+  insert_does None came (replies.Refused refused) d = absurd d
+  insert_does (Some p) came (replies.Inserted n) d = absurd d
+  insert_does (Some p) came (replies.Occupied n) d = absurd d
+  insert_does (Some p) came replies.Absent d = absurd d
+  insert_does (Some p) came (replies.Found n) d = absurd d
+  insert_does (Some p) came (replies.Replaced m n) d = d
+  insert_does (Some p) came (replies.Removed n) d = absurd d
+  insert_does (Some p) came (replies.Kept n) d = absurd d
+  insert_does (Some p) came (replies.Aborted t) d = absurd d
+  insert_does (Some p) came replies.Done d = absurd d
+  insert_does (Some p) came (replies.Refused refused) d = absurd d
+
+  -- so is what they are answered
   pub try_answered : (eq : K → K → Bool) (m m' : K → Option (Stored K V)) (reply : _) → IsAnswered {A = Unit {0}} eq (TryInsert k v) m reply m' → IsAnswered {A = A} eq (TryInsert k v) m reply m'
-  try_answered eq m m' (replies.Refused refused) d = (d.0, λ nothing. try_does (m k) (m k) (replies.Refused RemoveNothing) (d.1 nothing))
-  try_answered eq m m' (replies.Inserted n) d = record { went = d.went; came = d.came; update = d.update; does = try_does d.went d.came (replies.Inserted n) d.does }
-  try_answered eq m m' (replies.Occupied n) d = record { went = d.went; came = d.came; update = d.update; does = try_does d.went d.came (replies.Occupied n) d.does }
-  try_answered eq m m' replies.Absent d = record { went = d.went; came = d.came; update = d.update; does = try_does d.went d.came replies.Absent d.does }
-  try_answered eq m m' (replies.Found n) d = record { went = d.went; came = d.came; update = d.update; does = try_does d.went d.came (replies.Found n) d.does }
-  try_answered eq m m' (replies.Replaced o n) d = record { went = d.went; came = d.came; update = d.update; does = try_does d.went d.came (replies.Replaced o n) d.does }
-  try_answered eq m m' (replies.Removed n) d = record { went = d.went; came = d.came; update = d.update; does = try_does d.went d.came (replies.Removed n) d.does }
-  try_answered eq m m' (replies.Kept n) d = record { went = d.went; came = d.came; update = d.update; does = try_does d.went d.came (replies.Kept n) d.does }
-  try_answered eq m m' (replies.Aborted t) d = record { went = d.went; came = d.came; update = d.update; does = try_does d.went d.came (replies.Aborted t) d.does }
+  try_answered eq = answered_alike eq (TryInsert k v) (TryInsert k v) k refl refl try_does
+
+  pub insert_answered : (eq : K → K → Bool) (m m' : K → Option (Stored K V)) (reply : _) → IsAnswered {A = Unit {0}} eq (Insert k v) m reply m' → IsAnswered {A = A} eq (Insert k v) m reply m'
+  insert_answered eq = answered_alike eq (Insert k v) (Insert k v) k refl refl insert_does

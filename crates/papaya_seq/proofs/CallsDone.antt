@@ -1,5 +1,5 @@
 -- What lookups and removals by an owned key do, as calls do it.
-use Rattle.std.proofs.Common.{◌≡◌, ⊎_elim, inl, inr, ℕ, zero, suc, Bool, true, false, List, [], ◌∷◌, ◌++◌, Option, Some, None, refl, sym, ◌∙◌, ap, subst, arith}
+use Rattle.std.proofs.Common.{◌≡◌, ⊎_elim, inl, inr, ℕ, zero, suc, Bool, true, false, List, [], ◌∷◌, ◌++◌, Option, Some, None, Result, Ok, Err, MatchResult, OnOk, IfErr, refl, sym, ◌∙◌, ap, subst, arith}
 use Rattle.std.proofs.lemmas.Bool.{cases_Bool, cond-true, cond-false}
 use Rattle.std.specs.Cmp.{IsEquivalence}
 use Rattle.std.specs.List.{All, Contains}
@@ -10,15 +10,16 @@ use Rattle.papaya_law.specs.Content.{AreApart, lookup}
 use Rattle.papaya_ask.specs.declared.call.Call.{Call}
 use Rattle.papaya_ask.specs.declared.call.Call.TheVariants.{Get, RemoveIf}
 use Rattle.papaya_ask.specs.declared.call.Reply.{Reply}
-use Rattle.papaya_ask.specs.declared.call.Reply.TheVariants.{Absent, Found, Inserted, Replaced, Occupied, Removed, Kept, Aborted, Refused}
+use Rattle.papaya_ask.specs.declared.call.Reply.TheVariants.{Absent, Found, Inserted, Replaced, Occupied, Removed, Kept, Aborted, Done, Refused}
 use Rattle.papaya_timeline.specs.Content.{content, map_in}
-use Rattle.papaya_timeline.specs.Maps.{IsUpdate}
+use Rattle.papaya_timeline.specs.Maps.{IsUpdate, Map, Same, key_of}
 use Rattle.papaya_timeline.specs.Solo.{IsAnswered, IsNewIn}
 use Rattle.papaya_store.specs.Store.{StoreState, Stored}
 use Rattle.papaya_timeline.proofs.SoloTimeline.{lookup_alike}
-use Rattle.papaya_seq.specs.Calls.{AreCalled, IsCalled, IsJudged}
+use Rattle.papaya_seq.specs.Calls.{AreCalled, IsCalled, IsDone, IsJudged, IsSaid, MayRefuse}
 use Rattle.papaya_seq.specs.Map.{HasNone, Holds, IsMakeRefusal, Keeps, MapState, Unchanged, next_of}
 use Rattle.papaya_seq.specs.Removes.{IsRemoval, IsRemovalBy}
+use Rattle.papaya_seq.specs.Resizes.{IsCopyCause, IsReserveCause}
 use Rattle.papaya_seq.proofs.Lawful.{number_is}
 
 module _ {K V : Type 0} (eq : K → K → Bool) (classes : IsEquivalence eq) where
@@ -87,6 +88,7 @@ module _ {K V S : Type 0} (eq : K → K → Bool) (classes : IsEquivalence eq) (
     remove_answered a (Kept n) never (p, holds, unchanged, judged) = record { went = Some p; came = Some p; update = stays s' unchanged (Some p) (held_here p holds.held); does = (number_is s n p holds.logged, refl) }
     remove_answered a (Refused refused) never unchanged = (unchanged, λ nothing. absurd (never refused refl nothing))
     remove_answered a (Aborted t) never removal = absurd removal
+    remove_answered a Done never removal = absurd removal
     remove_answered a (Found n) never removal = absurd removal
     remove_answered a (Inserted n) never removal = absurd removal
     remove_answered a (Replaced m n) never removal = absurd removal
@@ -99,6 +101,7 @@ module _ {K V S : Type 0} (eq : K → K → Bool) (classes : IsEquivalence eq) (
     remove_fresh (Kept n) removal = tt
     remove_fresh (Refused refused) removal = tt
     remove_fresh (Aborted t) removal = absurd removal
+    remove_fresh Done removal = absurd removal
     remove_fresh (Found n) removal = absurd removal
     remove_fresh (Inserted n) removal = absurd removal
     remove_fresh (Replaced m n) removal = absurd removal
@@ -111,10 +114,18 @@ module _ {K V S : Type 0} (eq : K → K → Bool) (classes : IsEquivalence eq) (
     remove_said says a gives (Kept n) (p, holds, unchanged, judged) = let answers = gives p false judged in (p, answers.0, holds.logged, answers.1)
     remove_said says a gives (Refused refused) removal = tt
     remove_said says a gives (Aborted t) removal = absurd removal
+    remove_said says a gives Done removal = absurd removal
     remove_said says a gives (Found n) removal = absurd removal
     remove_said says a gives (Inserted n) removal = absurd removal
     remove_said says a gives (Replaced m n) removal = absurd removal
     remove_said says a gives (Occupied n) removal = absurd removal
+
+-- a call on a key has another reply than one that resizes the map
+pub keyed_undone : {K V A : Type 0} (eq : K → K → Bool) (call : Call K V A) (k : K) → key_of call ≡ Some k → (reply : Reply) (m m' : Map K V) → IsAnswered eq call m reply m' → reply ≡ Done → ⊥
+keyed_undone eq call k keyed reply m m' answered is =
+    let done : (key_of call ≡ None) × Same m m' = subst (λ r. IsAnswered eq call m r m') is answered in
+    let f : None ≡ Some k = sym done.0 ∙ keyed in
+    absurd cc
 
 -- what is refused for memory or at a limit is no removal of nothing
 pub removes_something : (refused : words.Refused) → IsMakeRefusal refused → refused ≡ RemoveNothing → ⊥
@@ -129,6 +140,7 @@ module _ {K V S A : Type 0} (eq : K → K → Bool) (classes : IsEquivalence eq)
     fresh = remove_fresh eq classes s.store apart k said s'.store reply whole.removal;
     said = remove_said eq classes s.store apart k said s'.store says a gives reply whole.removal;
     cause = λ refused is unresized. never unresized refused is;
+    done = λ is. keyed_undone eq (RemoveIf k a) k refl reply (map_in eq s.store) (map_in eq s'.store) (remove_answered eq classes s.store apart k said s'.store a reply ordered whole.removal) is;
     keeps = keeps;
   }
 
@@ -139,3 +151,32 @@ module _ {K V S A : Type 0} (eq : K → K → Bool) (says : Says K V A) (reply :
   called_more s [] (r ∷ replies) e = absurd e
   called_more s (c ∷ calls) [] e = absurd e
   called_more s (c ∷ calls) (r ∷ replies) (middle, first, rest) = (middle, first, called_more middle calls replies rest)
+
+module _ {K V S A : Type 0} (eq : K → K → Bool) (says : Says K V A) (call : Call K V A) (no_key : key_of call ≡ None) (s s' : MapState K V S) (unchanged : Unchanged eq s.store s'.store) (keeps : Keeps s s') (said : (reply : Reply) → IsSaid eq says call s reply s'.store) (makes : (refused : words.Refused) → MayRefuse eq s call refused s' → IsMakeRefusal refused) where
+  -- what resizes the map is a call
+  pub resized_called : (done : Result (Unit {0}) words.Refused) (reply : Reply) → MatchResult done (λ _. reply ≡ Done) (λ e. reply ≡ Refused e) → OnOk done (IsDone eq call s.store s'.store) → IfErr done (λ e. MayRefuse eq s call e s') → IsCalled eq says s call reply s'
+  resized_called (Ok u) reply is ok err = subst (λ r. IsCalled eq says s call r s') (sym is) (record {
+    answered = (no_key, unchanged);
+    fresh = tt;
+    said = said Done;
+    cause = λ refused e. let f : Done ≡ Refused refused = e in absurd cc;
+    done = λ e. ok;
+    keeps = keeps;
+  })
+  resized_called (Err refused) reply is ok err = subst (λ r. IsCalled eq says s call r s') (sym is) (record {
+    answered = (unchanged, λ nothing. absurd (removes_something refused (makes refused err) nothing));
+    fresh = tt;
+    said = said (Refused refused);
+    cause = λ other e. let same : refused ≡ other = let f : Refused refused ≡ Refused other = e in cc f in subst (λ r. MayRefuse eq s call r s') same err;
+    done = λ e. let f : Refused refused ≡ Done = e in absurd cc;
+    keeps = keeps;
+  })
+
+-- room, and the end of a resize, are refused for want of memory or at a limit
+pub reserve_makes : {K V S : Type 0} (eq : K → K → Bool) (s : MapState K V S) (more : ℕ) (refused : words.Refused) (s' : MapState K V S) → IsReserveCause eq s more refused s' → IsMakeRefusal refused
+reserve_makes eq s more refused s' (inl memory) = inl memory
+reserve_makes eq s more refused s' (inr (capacity, full)) = inr capacity
+
+pub copy_makes : {K V S : Type 0} (s : MapState K V S) (refused : words.Refused) (s' : MapState K V S) → IsCopyCause s refused s' → IsMakeRefusal refused
+copy_makes s refused s' (moving, inl memory) = inl memory
+copy_makes s refused s' (moving, inr (capacity, none)) = inr capacity

@@ -10,7 +10,6 @@ use Rattle.papaya_ask.specs.declared.ask.Answer.TheVariants.{Op, Size, Refused a
 use Rattle.papaya_ask.specs.declared.ask.Ask.TheVariants.{Load, ShowNone, MakeKey, MakePair}
 use Rattle.papaya_ask.specs.declared.ask.At.TheVariants.{Next}
 use Rattle.papaya_ask.specs.declared.ask.OpKind.TheVariants.{Remove}
-use Rattle.papaya_ask.specs.declared.call.Call.{Call}
 use Rattle.papaya_ask.specs.declared.call.Reply.TheVariants.{Refused as Reply_refused}
 use Rattle.papaya_ask.specs.declared.call.Task.{Task}
 use Rattle.papaya_ask.specs.declared.call.Task.TheVariants as tasks
@@ -47,7 +46,6 @@ use Rattle.papaya_store.specs.Store.{StoreState}
 use Rattle.papaya_store.specs.Tables.{table_of}
 use Rattle.papaya_store.specs.declared.pairs.Running.{Running}
 use Rattle.papaya_timeline.specs.Advances.{reply_in}
-use Rattle.papaya_timeline.specs.Begins.{begun}
 use Rattle.papaya_timeline.specs.Core.{CoreState}
 use Rattle.papaya_timeline.specs.Kept.{IsLawfulCore}
 use Rattle.papaya_timeline.specs.Solo.{whatever}
@@ -55,7 +53,9 @@ use Rattle.papaya_timeline.proofs.KeptLemmas.{IsLawfulKeys}
 use Rattle.papaya_timeline.proofs.KeptStep as kept_steps
 use Rattle.papaya_timeline.proofs.KeptTables.{HasMoreTables}
 use Rattle.papaya_seq.specs.Map.{HasNoTable, IsLogFull, IsWriteCause, MapState}
+use Rattle.papaya_seq.proofs.KeyCalls.{KeyCall, first_of}
 use Rattle.papaya_seq.proofs.Logs.{IsFirst, SameLogs, copy_logs, first_before, own_logs, unmade_before}
+use Rattle.papaya_seq.proofs.OwnSteps.{own_performs}
 use Rattle.papaya_seq.proofs.Sizes.{is_sized, machine_sized, sized_is}
 use Rattle.papaya_seq.proofs.Steps.{HasCome, made_caused, made_goes, seated, stepped}
 
@@ -105,7 +105,7 @@ link_asked m made e = by_phase m.phase e
     by_phase (Copying_root goes) e = ap asks.Copy (copying_asks goes made e)
 
 -- a size that is answered is that of a table
-sized_as : (o : Option TableWords) (slots limit : ℕ) → size_of o ≡ Size slots limit → (t : TableWords) × (o ≡ Some t) × (length t.slots ≡ slots)
+pub sized_as : (o : Option TableWords) (slots limit : ℕ) → size_of o ≡ Size slots limit → (t : TableWords) × (o ≡ Some t) × (length t.slots ≡ slots)
 sized_as None slots limit e = absurd cc
 sized_as (Some t) slots limit e = let same : length t.slots ≡ slots = cc e in (t, refl, same)
 
@@ -117,7 +117,31 @@ PairsFirst m = IsComputer m.task → (purpose : Purpose) → m.state ≡ Pairing
 pub insert_pairs : (m : Call_machine) (replace : Bool) → m.task ≡ tasks.Insert replace → PairsFirst m
 insert_pairs m replace e computes purpose _ = absurd (subst IsComputer e computes)
 
-module _ {K V S : Type 0} (eq : K → K → Bool) (hash : S → K → ℕ) (s : MapState K V S) (call : Call K V (Unit {0})) where
+-- what was refused at a limit, or for want of memory
+pub by_limit : (refused : Refused) (most count : ℕ) (told : Call_answer) → told ≡ Was_refused refused → Refuses most count told → (refused ≡ Memory) ⊎ ((refused ≡ Capacity) × (most ≤ count))
+by_limit refused most count told is (inl memory) = let f : Was_refused refused ≡ Was_refused Memory = sym is ∙ memory in let g : refused ≡ Memory = cc f in inl g
+by_limit refused most count told is (inr (capacity, full)) = let f : Was_refused refused ≡ Was_refused Capacity = sym is ∙ capacity in let g : refused ≡ Capacity = cc f in inr (g, full)
+
+module _ {K V S : Type 0} (s : MapState K V S) (store store' : StoreState K V S) (refused : Refused) where
+  -- a table was refused
+  tables_full : (told : Call_answer) → told ≡ Was_refused refused → Refuses MAX_TABLES (length store.words.tables) told → store' ≡ store → IsNoTableRefusal (record s { store = store' }) refused
+  tables_full told is none stays = elim (by_limit refused MAX_TABLES (length store.words.tables) told is none) [
+    | inl memory ↦ inl memory
+    | inr (capacity, full) ↦ inr (capacity, inl (subst (λ (y : StoreState K V S). MAX_TABLES ≤ length y.words.tables) (sym stays) full))
+  ]
+
+  pub table_refused : (slots limit : ℕ) (told : Call_answer) → told ≡ Was_refused refused → (Refuses MAX_TABLES (length store.words.tables) told × (store' ≡ store)) ⊎ MakesTable told slots limit store store' → IsNoTableRefusal (record s { store = store' }) refused
+  table_refused slots limit told is (inl (none, stays)) = tables_full told is none stays
+  table_refused slots limit told is (inr (made, few, more)) = absurd (cc (made, is))
+
+  -- or would be too long, by the count, after one that is there
+  pub table_long : refused ≡ Capacity → (behind slots : ℕ) (unfit : Bool) → HasSlots store behind slots → 2 ^ 32 < length_after slots (count_of store.count.sum) s.initial unfit → store' ≡ store → IsNoTableRefusal (record s { store = store' }) refused
+  table_long capacity behind slots unfit (table, there, is) long stays =
+      let at_slots : 2 ^ 32 < length_after (length table.slots) (count_of store.count.sum) s.initial unfit = subst (λ n. 2 ^ 32 < length_after n (count_of store.count.sum) s.initial unfit) (sym is) long in
+      subst (λ (y : StoreState K V S). IsNoTableRefusal (record s { store = y }) refused) (sym stays)
+      (inr (capacity, inr (record { behind = behind; table = table; there = there; unfit = unfit; long = at_slots })))
+
+module _ {K V S : Type 0} (eq : K → K → Bool) (hash : S → K → ℕ) (s : MapState K V S) (call : KeyCall K V) where
   -- What a call under way has logged so far, its mode and initial capacity, and the table whose next one it makes.
   pub record IsUnlogged (store : StoreState K V S) (r : Running K V (Unit {0})) : Type 0 where
     -- until its key is made the log of keys is as it was
@@ -130,7 +154,7 @@ module _ {K V S : Type 0} (eq : K → K → Bool) (hash : S → K → ℕ) (s : 
     pub sized : (behind slots : ℕ) (unfit : Bool) → link_in r.machine.phase ≡ Some (links.Counting behind unfit slots) → HasSlots store behind slots
 
   -- a call that begins
-  pub unlogged_none : IsUnlogged s.store (begun (hash s.store.hasher) s.mode s.initial call)
+  pub unlogged_none : IsUnlogged s.store (first_of (hash s.store.hasher) s.mode s.initial call)
   unlogged_none = record {
     keys = λ e. refl;
     pairs = λ e. refl;
@@ -200,12 +224,8 @@ module _ {K V S : Type 0} (eq : K → K → Bool) (hash : S → K → ℕ) (s : 
     unlogged_aside t left stage is = let logs = aside_logs t left in unlogged_then (record own { state = stage }) is refl refl (λ e. (e, logs.0)) (λ first. (first, logs.1))
 
     -- what it asks for itself is answered
-    own_performs : (told : Call_answer) → r.machine.phase ≡ Calling → answer ≡ answers.Call told → Performs eq whatever false (call_machine.ask_of own) store r told store' later
-    own_performs told calling is =
-        let (other, also, h) = subst (λ phase. PerformsAsk eq whatever hash false (asks_in own phase) store r answer store' later) calling performs in
-        let f : answers.Call other ≡ answers.Call told = sym also ∙ is in
-        let as_told : other ≡ told = cc f in
-        subst (λ y. Performs eq whatever false (call_machine.ask_of own) store r y store' later) as_told h
+    told_performs : (told : Call_answer) → r.machine.phase ≡ Calling → answer ≡ answers.Call told → Performs eq whatever false (call_machine.ask_of own) store r told store' later
+    told_performs told calling is = own_performs eq whatever hash store r answer store' later told calling is performs
 
     standing : IsStandingState own.task own.state
     standing = (now_lawful.core.standing 0 r refl).call.state
@@ -213,7 +233,7 @@ module _ {K V S : Type 0} (eq : K → K → Bool) (hash : S → K → ℕ) (s : 
     unlogged_own : IsOwnStep r.machine answer → IsUnlogged store' (stepped later r.machine answer)
     unlogged_own step =
         let stays = settings_stay own step.told in
-        let logs = own_logs eq whatever false own store r store' later own.made own.state step.told standing (own_performs step.told step.phase step.is) in
+        let logs = own_logs eq whatever false own store r store' later own.made own.state step.told standing (told_performs step.told step.phase step.is) in
         unlogged_then (call_machine.after own step.told) step.call stays.0 stays.1 (λ e. (unmade_before own step.told e, logs.0 e))
         (λ first. let own_first = subst (λ task. IsFirst task (call_machine.after own step.told).made (call_machine.after own step.told).remembered) (same_task own step.told).0 first in (first_before own step.told own_first, logs.1 own_first))
 
@@ -232,14 +252,9 @@ module _ {K V S : Type 0} (eq : K → K → Bool) (hash : S → K → ℕ) (s : 
       abbrev then : MapState K V S
       then = record { store = store'; mode = s.mode; initial = s.initial }
 
-      -- what was refused at a limit, or for want of memory
-      by_limit : (most count : ℕ) (told : Call_answer) → told ≡ Was_refused refused → Refuses most count told → (refused ≡ Memory) ⊎ ((refused ≡ Capacity) × (most ≤ count))
-      by_limit most count told is (inl memory) = let f : Was_refused refused ≡ Was_refused Memory = sym is ∙ memory in let g : refused ≡ Memory = cc f in inl g
-      by_limit most count told is (inr (capacity, full)) = let f : Was_refused refused ≡ Was_refused Capacity = sym is ∙ capacity in let g : refused ≡ Capacity = cc f in inr (g, full)
-
       -- the key was
       key_refused : own.made ≡ Nothing → (told : Call_answer) → told ≡ Was_refused refused → Performs eq whatever false MakeKey store r told store' later → IsLogRefusal s refused
-      key_refused unmade told is (inl (none, stays)) = elim (by_limit MAX_LOG_LEN (length store.keys) told is none) [
+      key_refused unmade told is (inl (none, stays)) = elim (by_limit refused MAX_LOG_LEN (length store.keys) told is none) [
         | inl memory ↦ inl memory
         | inr (capacity, full) ↦ inr (capacity, inl (subst (λ y. MAX_LOG_LEN ≤ length y) (un.keys unmade) full))
       ]
@@ -248,23 +263,12 @@ module _ {K V S : Type 0} (eq : K → K → Bool) (hash : S → K → ℕ) (s : 
 
       -- a pair was
       pair_refused : IsFirst own.task own.made own.remembered → (told : Call_answer) → told ≡ Was_refused refused → Performs eq whatever false MakePair store r told store' later → IsLogRefusal s refused
-      pair_refused unpaired told is (inl (none, stays)) = elim (by_limit MAX_LOG_LEN (length store.pairs) told is none) [
+      pair_refused unpaired told is (inl (none, stays)) = elim (by_limit refused MAX_LOG_LEN (length store.pairs) told is none) [
         | inl memory ↦ inl memory
         | inr (capacity, full) ↦ inr (capacity, inr (subst (λ y. MAX_LOG_LEN ≤ length y) (un.pairs unpaired) full))
       ]
       pair_refused unpaired told is (inr (inl (has, stays))) = absurd (cc (has.0, is))
       pair_refused unpaired told is (inr (inr (n, v, logged, value, made, few, more, moved))) = absurd (cc (made, is))
-
-      -- a table was
-      tables_full : (told : Call_answer) → told ≡ Was_refused refused → Refuses MAX_TABLES (length store.words.tables) told → store' ≡ store → IsNoTableRefusal then refused
-      tables_full told is none stays = elim (by_limit MAX_TABLES (length store.words.tables) told is none) [
-        | inl memory ↦ inl memory
-        | inr (capacity, full) ↦ inr (capacity, inl (subst (λ (y : StoreState K V S). MAX_TABLES ≤ length y.words.tables) (sym stays) full))
-      ]
-
-      table_refused : (slots limit : ℕ) (told : Call_answer) → told ≡ Was_refused refused → (Refuses MAX_TABLES (length store.words.tables) told × (store' ≡ store)) ⊎ MakesTable told slots limit store store' → IsNoTableRefusal then refused
-      table_refused slots limit told is (inl (none, stays)) = tables_full told is none stays
-      table_refused slots limit told is (inr (made, few, more)) = absurd (cc (made, is))
 
       -- an insertion that is to make its pair has made none
       writer_first : (task : Task) (held : Remembered) → IsWriter task → IsFirst task Key held
@@ -288,7 +292,7 @@ module _ {K V S : Type 0} (eq : K → K → Bool) (hash : S → K → ℕ) (s : 
       Why = (IsLogAsk r.machine × IsLogRefusal s refused) ⊎ (IsTableAsk r.machine × IsNoTableRefusal then refused)
 
       make_refused : (made : Made) (stage : Stage) → own.made ≡ made → own.state ≡ stage → r.machine.phase ≡ Calling → (told : Call_answer) → told ≡ Was_refused refused → IsToMake (call_asks made own.hash stage) → Performs eq whatever false (call_asks made own.hash stage) store r told store' later → Why
-      make_refused made Making m e calling told is makes h = inr (λ _. e, table_refused FIRST_TABLE_LEN FIRST_TABLE_LIMIT told is h.0)
+      make_refused made Making m e calling told is makes h = inr (λ _. e, table_refused s store store' refused FIRST_TABLE_LEN FIRST_TABLE_LIMIT told is h.0)
       make_refused Nothing (Writing write) m e calling told is makes h = inl ((calling, subst IsLogStage (sym e) tt), key_refused m told is h)
       make_refused Key (Writing write) m e calling told is makes h =
           let writes : IsWriter own.task = (subst (IsStandingState own.task) e standing).0 in
@@ -315,7 +319,7 @@ module _ {K V S : Type 0} (eq : K → K → Bool) (hash : S → K → ℕ) (s : 
       -- the call's own refusal
       own_refused : IsOwnRefusal r.machine answer refused → Why ⊎ IsRemoveNothing r.machine answer refused
       own_refused because = elim because.why [
-        | inl (makes, is) ↦ inl (make_refused own.made own.state refl refl because.own.phase because.own.told is makes (own_performs because.own.told because.own.phase because.own.is))
+        | inl (makes, is) ↦ inl (make_refused own.made own.state refl refl because.own.phase because.own.told is makes (told_performs because.own.told because.own.phase because.own.is))
         | inr (nothing_there, shows, removes) ↦ inr (nothing_there, shows, because.own.is ∙ ap answers.Call removes)
       ]
 
@@ -329,7 +333,7 @@ module _ {K V S : Type 0} (eq : K → K → Bool) (hash : S → K → ℕ) (s : 
           let ((told, is, h), stays) = subst (λ ask. PerformsAsk eq whatever hash false ask store r answer store' later) because.asks performs in
           let f : answers.Call told ≡ answers.Call (Was_refused refused) = sym is ∙ because.is in
           let as_told : told ≡ Was_refused refused = cc f in
-          table_refused because.slots because.limit told as_told h
+          table_refused s store store' refused because.slots because.limit told as_told h
 
       -- or would be too long
       next_long : WouldBeTooLong r.machine answer refused → IsNoTableRefusal then refused
@@ -337,11 +341,9 @@ module _ {K V S : Type 0} (eq : K → K → Bool) (hash : S → K → ℕ) (s : 
           let ((is, stays), unmoved) = subst (λ ask. PerformsAsk eq whatever hash false ask store r answer store' later) because.asks performs in
           let f : answers.Count because.count ≡ answers.Count (count_of store.count.sum) = sym because.is ∙ is in
           let counted : because.count ≡ count_of store.count.sum = cc f in
-          let (table, there, slots) = still_there because.behind because.slots (un.sized because.behind because.slots because.unfit because.link) in
-          let at_slots : 2 ^ 32 < length_after (length table.slots) because.count own.initial because.unfit = subst (λ n. 2 ^ 32 < length_after n because.count own.initial because.unfit) (sym slots) because.long in
-          let at_count : 2 ^ 32 < length_after (length table.slots) (count_of store'.count.sum) own.initial because.unfit = subst (λ n. 2 ^ 32 < length_after (length table.slots) n own.initial because.unfit) (counted ∙ ap (λ (y : StoreState K V S). count_of y.count.sum) (sym stays)) at_slots in
-          let at_initial : 2 ^ 32 < length_after (length table.slots) (count_of store'.count.sum) s.initial because.unfit = subst (λ n. 2 ^ 32 < length_after (length table.slots) (count_of store'.count.sum) n because.unfit) un.initial at_count in
-          inr (because.capacity, inr (record { behind = because.behind; table = table; there = there; unfit = because.unfit; long = at_initial }))
+          let at_count : 2 ^ 32 < length_after because.slots (count_of store.count.sum) own.initial because.unfit = subst (λ n. 2 ^ 32 < length_after because.slots n own.initial because.unfit) counted because.long in
+          let at_initial : 2 ^ 32 < length_after because.slots (count_of store.count.sum) s.initial because.unfit = subst (λ n. 2 ^ 32 < length_after because.slots (count_of store.count.sum) n because.unfit) un.initial at_count in
+          table_long s store store' refused because.capacity because.behind because.slots because.unfit (un.sized because.behind because.slots because.unfit because.link) at_initial stays
 
       next_table : IsTableRefusal r.machine answer refused → IsTableAsk r.machine × IsNoTableRefusal then refused
       next_table because = elim because.why [

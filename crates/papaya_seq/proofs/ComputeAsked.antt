@@ -46,9 +46,10 @@ use Rattle.papaya_seq.specs.Computing.{IsKept}
 use Rattle.papaya_seq.specs.Map.{IsLawfulMap, MapState, deref_pair, entry_of}
 use Rattle.papaya_seq.proofs.Causes.{unlogged_more}
 use Rattle.papaya_seq.proofs.ComputeRun.{IsAsked, IsComputing, IsDoing, IsInsertSaid, IsInserting, IsLeft, IsOnWay, IsToRemove, IsWaiting, Went, as_number, kept_as}
-use Rattle.papaya_seq.proofs.ComputeShown.{asking, compute_of, offering, showing, shows_none, shows_pair}
+use Rattle.papaya_seq.proofs.ComputeShown.{asking, offering, showing, shows_none, shows_pair}
 use Rattle.papaya_seq.proofs.ComputeStages.{IsRemoving, IsReplacing, bare_at, bare_is, remembers_nothing}
 use Rattle.papaya_seq.proofs.Ending.{left_of}
+use Rattle.papaya_seq.proofs.KeyCalls.{keyed_compute}
 use Rattle.papaya_seq.proofs.Steps.{HasCome, made_more, made_nears}
 
 -- a call that is to make a pair goes on
@@ -123,7 +124,7 @@ module _ {K V S A F T H : Type 0} (eq : K → K → Bool) (input : K → List (L
   keys = keys_lawful eq input build write finish classes respects s.store.hasher
 
   -- it came here
-  came : HasCome eq (hash_of input build write finish) s (compute_of k) store (asking r)
+  came : HasCome eq (hash_of input build write finish) s (keyed_compute k) store (asking r)
   came = now.steps keys lawful fits
 
   -- it shows none where the map has none
@@ -207,16 +208,16 @@ module _ {K V S A F T H : Type 0} (eq : K → K → Bool) (input : K → List (L
       -- so it goes on
       goes_on : IsStanding (after r.machine (answers.Call told)) → Waits → AreOf entry (map_in eq s.store k) → (shown' : Option ℕ) → shown' ≡ option_map (λ p. p.number) (map_in eq s.store k) → IsAsked s (map_in eq s.store k) o store then → IsComputing eq (hash_of input build write finish) s k post f store then closure' shown' aborted'
       goes_on standing waits are shown' shown_is there = record {
-        steps = made_more eq (hash_of input build write finish) s (compute_of k) store (asking r) (answers.Call told) store (asking later) going performs refl now.steps;
+        steps = made_more eq (hash_of input build write finish) s (keyed_compute k) store (asking r) (answers.Call told) store (asking later) going performs refl now.steps;
         silence = now.silence;
         standing = standing;
-        unlogged = unlogged_more eq (hash_of input build write finish) s (compute_of k) store (asking r) (answers.Call told) store (asking later) going performs refl keys came now.unlogged;
+        unlogged = unlogged_more eq (hash_of input build write finish) s (keyed_compute k) store (asking r) (answers.Call told) store (asking later) going performs refl keys came now.unlogged;
         phase = inr (record { operation = o; said = said waits.closure_is are; shown_is = shown_is; kept = kept_is.2; asked = there });
       }
 
       -- and nearer its end
       nears : left_of store (after r.machine (answers.Call told)) < left_of store r.machine
-      nears = made_nears eq (hash_of input build write finish) s (compute_of k) store (asking r) (answers.Call told) store (asking later) going performs refl now.steps keys lawful fits
+      nears = made_nears eq (hash_of input build write finish) s (keyed_compute k) store (asking r) (answers.Call told) store (asking later) going performs refl now.steps keys lawful fits
 
     module _ (e : ask_of r.machine ≡ asked.Call ShowNone) where
       none_performs : PerformsAsk eq whatever (hash_of input build write finish) false (ask_of r.machine) store (asking r) (answers.Call told) store (asking later)

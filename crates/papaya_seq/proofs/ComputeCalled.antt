@@ -21,6 +21,14 @@ use Rattle.papaya_keys.specs.declared.compute.Computed.{Computed}
 use Rattle.papaya_keys.specs.declared.compute.Computed.TheVariants.{Inserted, Updated, Removed, Aborted}
 use Rattle.papaya_seq.proofs.Answered.{update_leaves, write_cause}
 
+-- no compute replies as a call does that resizes the map
+undone : (answer : Result (Computed ℕ ℕ) Refused) → reply_of answer ≡ replies.Done → ⊥
+undone (Ok (Inserted n)) e = cc e
+undone (Ok (Updated m n)) e = cc e
+undone (Ok (Removed n)) e = cc e
+undone (Ok (Aborted t)) e = cc e
+undone (Err refused) e = cc e
+
 module _ {K V S A : Type 0} (eq : K → K → Bool) (classes : IsEquivalence eq) (s s' : MapState K V S) (k : K) (a : A) (says : Answers_say K V A) where
   -- what is replied of a compute that did this
   abbrev Called : Reply → Type 0
@@ -54,6 +62,7 @@ module _ {K V S A : Type 0} (eq : K → K → Bool) (classes : IsEquivalence eq)
     fresh = new.fresh;
     said = (q, new.logged, subst (λ o. Answers says a o (ops.Insert q.value)) (sym update.before) (subst (λ w. Answers says a None (ops.Insert w)) (sym new.value) answers));
     cause = λ refused e. let f : replies.Inserted q.number ≡ replies.Refused refused = e in absurd cc;
+    done = undone (Ok (Inserted q.number));
     keeps = keeps;
   }
   called keeps (Some p) (ops.Insert v) (Ok (Updated old q)) next answers (same, new, is) update = record {
@@ -61,6 +70,7 @@ module _ {K V S A : Type 0} (eq : K → K → Bool) (classes : IsEquivalence eq)
     fresh = new.fresh;
     said = (q, new.logged, subst (λ o. Answers says a o (ops.Insert q.value)) (sym update.before) (subst (λ w. Answers says a (Some p) (ops.Insert w)) (sym new.value) answers));
     cause = λ refused e. let f : replies.Replaced old.number q.number ≡ replies.Refused refused = e in absurd cc;
+    done = undone (Ok (Updated old.number q.number));
     keeps = keeps;
   }
   called keeps None (ops.Insert v) (Err refused) next answers (cause, is) update = record {
@@ -68,6 +78,7 @@ module _ {K V S A : Type 0} (eq : K → K → Bool) (classes : IsEquivalence eq)
     fresh = tt;
     said = subst (λ o. IsOperated says a s o s'.store (replies.Refused refused)) (sym update.before) (insertion_said None v refused (write_cause s s' None refused cause) answers);
     cause = λ other e. inl (subst (λ r. IsWriteCauseAt s (map_in eq s.store k) r s') (let f : replies.Refused refused ≡ replies.Refused other = e in cc) (subst (λ o. IsWriteCauseAt s o refused s') (sym update.before) cause));
+    done = undone (Err refused);
     keeps = keeps;
   }
   called keeps (Some p) (ops.Insert v) (Err refused) next answers (cause, is) update = record {
@@ -75,6 +86,7 @@ module _ {K V S A : Type 0} (eq : K → K → Bool) (classes : IsEquivalence eq)
     fresh = tt;
     said = subst (λ o. IsOperated says a s o s'.store (replies.Refused refused)) (sym update.before) (insertion_said (Some p) v refused (write_cause s s' (Some p) refused cause) answers);
     cause = λ other e. inl (subst (λ r. IsWriteCauseAt s (map_in eq s.store k) r s') (let f : replies.Refused refused ≡ replies.Refused other = e in cc) (subst (λ o. IsWriteCauseAt s o refused s') (sym update.before) cause));
+    done = undone (Err refused);
     keeps = keeps;
   }
   called keeps None ops.Remove (Err refused) next answers (nothing_there, is) update =
@@ -86,6 +98,7 @@ module _ {K V S A : Type 0} (eq : K → K → Bool) (classes : IsEquivalence eq)
         fresh = tt;
         said = subst (λ o. Answers says a o ops.Remove) (sym update.before) answers;
         cause = λ other e. inr (let f : replies.Refused RemoveNothing ≡ replies.Refused other = e in cc);
+        done = undone (Err RemoveNothing);
         keeps = keeps;
       })
   called keeps (Some p) ops.Remove (Ok (Removed old)) next answers (same, is) update = record {
@@ -93,6 +106,7 @@ module _ {K V S A : Type 0} (eq : K → K → Bool) (classes : IsEquivalence eq)
     fresh = tt;
     said = subst (λ o. Answers says a o ops.Remove) (sym update.before) answers;
     cause = λ refused e. let f : replies.Removed old.number ≡ replies.Refused refused = e in absurd cc;
+    done = undone (Ok (Removed old.number));
     keeps = keeps;
   }
   called keeps None (ops.Abort t) (Ok (Aborted u)) next answers (same, is) update = record {
@@ -100,6 +114,7 @@ module _ {K V S A : Type 0} (eq : K → K → Bool) (classes : IsEquivalence eq)
     fresh = tt;
     said = subst (λ o. Answers says a o (ops.Abort u)) (sym update.before) (subst (λ w. Answers says a None (ops.Abort w)) (sym same) answers);
     cause = λ refused e. let f : replies.Aborted u ≡ replies.Refused refused = e in absurd cc;
+    done = undone (Ok (Aborted u));
     keeps = keeps;
   }
   called keeps (Some p) (ops.Abort t) (Ok (Aborted u)) next answers (same, is) update = record {
@@ -107,6 +122,7 @@ module _ {K V S A : Type 0} (eq : K → K → Bool) (classes : IsEquivalence eq)
     fresh = tt;
     said = subst (λ o. Answers says a o (ops.Abort u)) (sym update.before) (subst (λ w. Answers says a (Some p) (ops.Abort w)) (sym same) answers);
     cause = λ refused e. let f : replies.Aborted u ≡ replies.Refused refused = e in absurd cc;
+    done = undone (Ok (Aborted u));
     keeps = keeps;
   }
   called keeps None (ops.Insert v) (Ok (Updated old q)) next answers o update = absurd o
@@ -137,6 +153,7 @@ module _ {K V S A : Type 0} (eq : K → K → Bool) (classes : IsEquivalence eq)
         fresh = tt;
         said = moving_said (map_in eq s.store k) refused resizing cause;
         cause = λ other e. inl (subst (λ r. IsWriteCauseAt s (map_in eq s.store k) r s') (let f : replies.Refused refused ≡ replies.Refused other = e in cc) (caused_moving (map_in eq s.store k) refused resizing cause));
+        done = undone (Err refused);
         keeps = kept;
       })
 

@@ -70,6 +70,7 @@ IsOther replies.Absent = Unit {0}
 IsOther (replies.Found n) = Unit {0}
 IsOther (replies.Occupied n) = Unit {0}
 IsOther (replies.Kept n) = Unit {0}
+IsOther replies.Done = Unit {0}
 IsOther _ = ⊥
 
 module _ {K V S : Type 0} (eq : K → K → Bool) (k : K) (s store : StoreState K V S) where
@@ -94,6 +95,7 @@ module _ {K V S : Type 0} (eq : K → K → Bool) (k : K) (s store : StoreState 
   never (replies.Found n) other done = found_never n done.went done.came done.does
   never (replies.Occupied n) other done = occupied_never n done.went done.came done.does
   never (replies.Kept n) other done = kept_never n done.went done.came done.does
+  never replies.Done other done = let f : Some k ≡ None = done.0 in absurd cc
   never reply other done = other
 
 module _ {K V S T : Type 0} (eq : K → K → Bool) (classes : IsEquivalence eq) (k : K) (said : Option (Stored K V) → Operation V T → Type 0) (s s' : MapState K V S) (keeps : Keeps s s') where

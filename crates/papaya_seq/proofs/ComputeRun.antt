@@ -35,9 +35,10 @@ use Rattle.papaya_seq.specs.Computes.{Says}
 use Rattle.papaya_seq.specs.Computing.{IsKept}
 use Rattle.papaya_seq.specs.Map.{IsResizing, IsWriteCause, IsWriteCauseAt, MapState, next_of}
 use Rattle.papaya_seq.proofs.Causes.{IsUnlogged, unlogged_none}
-use Rattle.papaya_seq.proofs.ComputeShown.{asking, compute_of}
+use Rattle.papaya_seq.proofs.ComputeShown.{asking}
 use Rattle.papaya_seq.proofs.ComputeStages.{IsInRoot, IsRemoving, IsReplacing}
 use Rattle.papaya_seq.proofs.Ending.{left_of}
+use Rattle.papaya_seq.proofs.KeyCalls.{keyed_compute}
 use Rattle.papaya_seq.proofs.Steps.{IsMade, made_none}
 
 -- only a machine that has ended replies
@@ -159,10 +160,10 @@ module _ {K V S A F T : Type 0} (eq : K → K → Bool) (hash : S → K → ℕ)
 
   -- Where a compute is between two answers: it came there by steps of the core.
   pub record IsComputing (store : StoreState K V S) (r : Running K V A) (closure : Option F) (shown : Option ℕ) (aborted : Option T) : Type 0 where
-    pub steps : IsMade eq hash s (compute_of k) store (asking r)
+    pub steps : IsMade eq hash s (keyed_compute k) store (asking r)
     pub silence : r.answers ≡ None
     pub standing : IsStanding r.machine
-    pub unlogged : IsUnlogged eq hash s (compute_of k) store (asking r)
+    pub unlogged : IsUnlogged eq hash s (keyed_compute k) store (asking r)
     pub phase : IsWaiting store r closure shown ⊎ IsDoing store r shown aborted
 
   -- it begins
@@ -170,10 +171,10 @@ module _ {K V S A F T : Type 0} (eq : K → K → Bool) (hash : S → K → ℕ)
   computing_begin m hashed aborted is hash_same standing =
       let begun : m ≡ started Compute (hash s.store.hasher k) s.mode s.initial = is ∙ ap (λ n. started Compute n s.mode s.initial) hash_same in
       subst (λ (x : Machine). IsComputing s.store (record { machine = x; key = Own k; value = None; answers = None }) (Some f) None aborted) (sym begun) (record {
-        steps = made_none eq hash s (compute_of k);
+        steps = made_none eq hash s (keyed_compute k);
         silence = refl;
         standing = subst IsStanding begun standing;
-        unlogged = unlogged_none eq hash s (compute_of k);
+        unlogged = unlogged_none eq hash s (keyed_compute k);
         phase = inl (record { closure_is = refl; unshown = refl; silent = begins_silent s.mode s.initial (hash s.store.hasher k); ends = λ reply e. absurd cc; rooted = λ zero. (refl, refl, tt) });
       })
 

@@ -50,6 +50,7 @@ use Rattle.papaya_seq.specs.Map.{IsLawfulMap, MapState}
 use Rattle.papaya_seq.proofs.Alone.{map_answered}
 use Rattle.papaya_seq.proofs.Answered.{logged_there}
 use Rattle.papaya_seq.proofs.Answering.{answering}
+use Rattle.papaya_seq.proofs.KeyCalls.{keyed_compute}
 use Rattle.papaya_seq.proofs.Steps.{HasCome, came_more, made_alone, made_unchanged, stepped}
 
 -- the compute of a key, whatever a closure answers
@@ -98,7 +99,7 @@ module _ {K V S H : Type 0} (eq : K → K → Bool) (input : K → List (List �
     (s : MapState K V S) (lawful : IsLawfulMap eq (hash_of input build write finish s.store.hasher) s.store s.mode s.initial) (k : K) (fits : hash_of input build write finish s.store.hasher k < 2 ^ 64) where
   -- the call came there
   abbrev Came : StoreState K V S → Running K V (Unit {0}) → Type 0
-  Came store r = HasCome eq (hash_of input build write finish) s (compute_of k) store r
+  Came store r = HasCome eq (hash_of input build write finish) s (keyed_compute k) store r
 
   -- keys hash alike
   keys : IsLawfulKeys eq (hash_of input build write finish s.store.hasher)
@@ -108,7 +109,7 @@ module _ {K V S H : Type 0} (eq : K → K → Bool) (input : K → List (List �
   pub came_answered : (store : StoreState K V S) (r : Running K V (Unit {0})) (reply : Reply) → reply_in (ask_of r.machine) ≡ Some reply → Came store r → IsAnswered eq (compute_of k) (map_in eq s.store) reply (map_in eq store)
   came_answered store r reply told came =
       map_answered eq input build write finish classes respects s (compute_of k) reply store lawful
-      (made_alone eq (hash_of input build write finish) s (compute_of k) keys lawful fits store r reply told (λ _ _ _. came))
+      (made_alone eq (hash_of input build write finish) s (keyed_compute k) keys lawful fits store r reply told (λ _ _ _. came))
 
   -- a removal that is refused where nothing is was shown that there is none
   none_there : (o : Option (Stored K V)) → Does (compute_of k) o (Reply_refused RemoveNothing) o → o ≡ None
@@ -131,7 +132,7 @@ module _ {K V S H : Type 0} (eq : K → K → Bool) (input : K → List (List �
     none_shown : (gap : Gap) → Came store (at_state (Offering gap)) → map_in eq s.store k ≡ None
     none_shown gap came =
         let r : Running K V (Unit {0}) = at_state (Offering gap) in
-        let refused = came_more eq (hash_of input build write finish) s (compute_of k) store r (answers.Call (Op kinds.Remove)) store r refl (Op kinds.Remove, refl, inr (tt, ops.Remove, tt, refl, tt, refl, refl, refl)) refl keys came in
+        let refused = came_more eq (hash_of input build write finish) s (keyed_compute k) store r (answers.Call (Op kinds.Remove)) store r refl (Op kinds.Remove, refl, inr (tt, ops.Remove, tt, refl, tt, refl, refl, refl)) refl keys came in
         none_there (map_in eq s.store k) ((came_answered store (stepped r r.machine (answers.Call (Op kinds.Remove))) (Reply_refused RemoveNothing) refl refused).1 refl)
 
     -- the pair that is shown is logged
@@ -153,15 +154,15 @@ module _ {K V S H : Type 0} (eq : K → K → Bool) (input : K → List (List �
         let (p, logged) = shown_logged removal came in
         let r : Running K V (Unit {0}) = at_state (Showing removal) in
         let read : word_at store.words place ≡ removal.word = (came.lone refl).current.0 in
-        let chosen = came_more eq (hash_of input build write finish) s (compute_of k) store r (answers.Call (Op kinds.Remove)) store r refl (Op kinds.Remove, refl, inr (p, logged, (tt, ops.Remove, tt, refl, tt, refl, refl, refl))) refl keys came in
+        let chosen = came_more eq (hash_of input build write finish) s (keyed_compute k) store r (answers.Call (Op kinds.Remove)) store r refl (Op kinds.Remove, refl, inr (p, logged, (tt, ops.Remove, tt, refl, tt, refl, refl, refl))) refl keys came in
         let r1 : Running K V (Unit {0}) = stepped r r.machine (answers.Call (Op kinds.Remove)) in
         let store1 : StoreState K V S = record store { words = put store.words place (grave_word removal.word) } in
-        let buried = came_more eq (hash_of input build write finish) s (compute_of k) store r1 (answers.Call Exchanged) store1 r1 refl (Exchanged, refl, (exchange_made store place removal.word (grave_word removal.word) read, refl)) refl keys chosen in
+        let buried = came_more eq (hash_of input build write finish) s (keyed_compute k) store r1 (answers.Call Exchanged) store1 r1 refl (Exchanged, refl, (exchange_made store place removal.word (grave_word removal.word) read, refl)) refl keys chosen in
         let r2 : Running K V (Unit {0}) = stepped r1 r1.machine (answers.Call Exchanged) in
         let store2 : StoreState K V S = record store1 { count = added store1.count 0 (negsuc 0) } in
-        let counted = came_more eq (hash_of input build write finish) s (compute_of k) store1 r2 (answers.Call Ok_done) store2 r2 refl (Ok_done, refl, (refl, (0, refl), refl)) refl keys buried in
+        let counted = came_more eq (hash_of input build write finish) s (keyed_compute k) store1 r2 (answers.Call Ok_done) store2 r2 refl (Ok_done, refl, (refl, (0, refl), refl)) refl keys buried in
         let (q, here, number) = pair_there n (map_in eq store2) (came_answered store2 (stepped r2 r2.machine (answers.Call Ok_done)) (Removed n) refl counted) in
-        let keeps = (made_unchanged eq (hash_of input build write finish) s (compute_of k) keys lawful fits store r refl refl came).1 in
+        let keeps = (made_unchanged eq (hash_of input build write finish) s (keyed_compute k) keys lawful fits store r refl refl came).1 in
         (q, here, number, keeps n q (logged_there eq classes s.store k n q here number))
 
   module _ {A : Type 0} (store : StoreState K V S) (r : Running K V A) (came : Came store (asking r)) where

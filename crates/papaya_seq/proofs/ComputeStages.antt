@@ -1,20 +1,18 @@
 -- Where a compute is: in the root, while its closure was not called and no pairs are being moved; or at the place of the pair that its closure was shown.
-use Rattle.std.proofs.Common.{◌≡◌, inl, inr, ℕ, ◌<◌, ◌==◌, nat_lt, Bool, true, false, Option, None, Some, refl, sym, ◌∙◌, ap, subst, arith}
+use Rattle.std.proofs.Common.{◌≡◌, inl, inr, ℕ, ◌<◌, ◌==◌, Bool, false, Option, None, Some, refl, sym, ◌∙◌, ap, subst, arith}
 use Rattle.std.proofs.lemmas.Bool.{cond_both, eqb-true}
 use Rattle.papaya_words.specs.Table.{TableWords}
-use Rattle.papaya_words.specs.Word.{kind_of, byte_of, pair_of as number_of, top_byte}
+use Rattle.papaya_words.specs.Word.{kind_of, pair_of as number_of}
 use Rattle.papaya_words.specs.declared.probe.ResizeMode.{ResizeMode}
 use Rattle.papaya_words.specs.declared.probe.ResizeMode.TheVariants.{Incremental, Blocking}
-use Rattle.papaya_words.specs.declared.word.Kind.{Kind}
 use Rattle.papaya_words.specs.declared.word.Kind.TheVariants as kinds
-use Rattle.papaya_ask.specs.Search.{at_yes as search_compared, compare_byte, go_on, look, look_at, match_at, next_place}
+use Rattle.papaya_ask.specs.Search.{at_yes as search_compared, look}
 use Rattle.papaya_ask.specs.declared.ask.Answer.{Answer as Call_answer}
 use Rattle.papaya_ask.specs.declared.ask.Answer.TheVariants.{Word as Word_read, Made as Made_number, Refused as Was_refused}
 use Rattle.papaya_ask.specs.declared.ask.Ask.TheVariants.{ShowNone, ShowPair}
 use Rattle.papaya_ask.specs.declared.ask.At.TheVariants.{Next, Slot}
 use Rattle.papaya_ask.specs.declared.call.Reply.TheVariants.{Removed}
 use Rattle.papaya_ask.specs.declared.call.Task.TheVariants.{Compute}
-use Rattle.papaya_ask.specs.declared.search.Place.{Place}
 use Rattle.papaya_ask.specs.declared.search.Search.TheVariants.{Sizing, Looking, Comparing}
 use Rattle.papaya_ask.specs.declared.search.Seen.{Seen}
 use Rattle.papaya_ask.specs.declared.search.Seen.TheVariants as seen
@@ -39,22 +37,15 @@ use Rattle.papaya_chain.specs.declared.machine.Machine.{Machine}
 use Rattle.papaya_chain.specs.declared.machine.Phase.TheVariants.{Calling}
 use Rattle.papaya_chain.specs.Machine.{after, ask_of}
 use Rattle.papaya_chain_rests.specs.Rests.{left_by}
-use Rattle.papaya_law.specs.Code.{IsOfKind}
-use Rattle.papaya_law.specs.Exchange.{run, start}
-use Rattle.papaya_law.specs.Invariant.{shut}
-use Rattle.papaya_law.proofs.CodeViews.{word_of_kind}
-use Rattle.papaya_law.proofs.OneMap.{sound}
 use Rattle.papaya_rests.specs.Alone.{IsRead}
 use Rattle.papaya_rests.specs.Says.{Inserts, Makes, Removes, Said, StandsOn, said_to_choose, said_to_fill}
 use Rattle.papaya_rests.proofs.AloneSteps.{exchange_done}
 use Rattle.papaya_store.specs.Asks.{PerformsAsk}
 use Rattle.papaya_store.specs.Performs.{Performs, own_key, same as compares, size_of}
 use Rattle.papaya_store.specs.Store.{StoreState, pair_of}
-use Rattle.papaya_store.specs.Tables.{table_of, word_at, word_in}
+use Rattle.papaya_store.specs.Tables.{table_of, word_at}
 use Rattle.papaya_store.specs.declared.pairs.Running.{Running}
-use Rattle.papaya_timeline.specs.Kept.{coding_of, low, setting_of}
-use Rattle.papaya_timeline.proofs.KeptSettings.{IsLawfulKeys, tables_hashed}
-use Rattle.papaya_seq.specs.Map.{IsLawfulMap, next_in, next_of}
+use Rattle.papaya_seq.proofs.TableSearch.{IsSearchIn, IsSeenIn, IsSettledKind, compared_in, loaded_in, settled_kind, settled_live}
 
 -- a value that was answered, of which a pair is yet to be made
 abbrev pub IsYetToMake : Said → Type 0
@@ -71,89 +62,22 @@ remembered_none None (Some (To_remove old)) filled chosen = absurd (chosen (Remo
 pub remembers_nothing : (m : Call_machine) → ((said : Said) → StandsOn m said → IsYetToMake said) → m.remembered ≡ nothing
 remembers_nothing m only = remembered_none m.remembered.fill m.remembered.choice (λ said e. only said (inr (inl e))) (λ said e. only said (inr (inr e)))
 
--- only a pair whose key's byte matches is compared, and it is Live or was copied
-abbrev IsCompared : Kind → Type 0
-IsCompared kinds.Live = Unit {0}
-IsCompared kinds.Copied = Unit {0}
-IsCompared _ = ⊥
-
 -- a compute whose closure was not called is in the table of this number
 abbrev pub IsInRoot : ℕ → State → Type 0
 IsInRoot root AtRoot = Unit {0}
-IsInRoot root (Searching (Sizing t)) = t ≡ root
-IsInRoot root (Searching (Looking place)) = place.table ≡ root
-IsInRoot root (Searching (Comparing place word)) = (place.table ≡ root) × IsCompared (kind_of word)
+IsInRoot root (Searching search) = IsSearchIn (λ word. IsSettledKind (kind_of word)) root search
 IsInRoot root (Leaving t) = t ≡ root
 IsInRoot root (Offering gap) = Unit {0}
 IsInRoot root (Showing removal) = Unit {0}
 IsInRoot root _ = ⊥
 
--- what its search saw there
-abbrev IsSeenIn : ℕ → Seen → Type 0
-IsSeenIn root (seen.On (Sizing t)) = t ≡ root
-IsSeenIn root (seen.On (Looking place)) = place.table ≡ root
-IsSeenIn root (seen.On (Comparing place word)) = (place.table ≡ root) × IsCompared (kind_of word)
-IsSeenIn root (seen.Empty place) = Unit {0}
-IsSeenIn root (seen.Here place word) = kind_of word ≡ kinds.Live
-IsSeenIn root (seen.Over t) = t ≡ root
-
-module _ (root : ℕ) where
-  on_in : (place : Place) → place.table ≡ root → IsSeenIn root (go_on place)
-  on_in place there = cond_both (nat_lt place.probe.len place.limit) (seen.On (Looking (next_place place))) (seen.Over place.table) (IsSeenIn root) (λ _. there) (λ _. there)
-
-  byte_in : (place : Place) (hash word : ℕ) → place.table ≡ root → IsCompared (kind_of word) → IsSeenIn root (compare_byte place hash word)
-  byte_in place hash word there kind = cond_both (byte_of word == top_byte hash) (seen.On (Comparing place word)) (go_on place) (IsSeenIn root) (λ _. (there, kind)) (λ _. on_in place there)
-
-  -- a word that is not being copied
-  look_in : (kind : Kind) (place : Place) (hash word : ℕ) → kind_of word ≡ kind → (kind ≡ kinds.Marked → ⊥) → place.table ≡ root → IsSeenIn root (look_at kind place hash word)
-  look_in kinds.Empty place hash word is unmarked there = tt
-  look_in kinds.Buried place hash word is unmarked there = on_in place there
-  look_in kinds.Closed place hash word is unmarked there = on_in place there
-  look_in kinds.Live place hash word is unmarked there = byte_in place hash word there (subst IsCompared (sym is) tt)
-  look_in kinds.Copied place hash word is unmarked there = byte_in place hash word there (subst IsCompared (sym is) tt)
-  look_in kinds.Marked place hash word is unmarked there = absurd (unmarked refl)
-
-  -- one whose key was compared
-  match_in : (kind : Kind) (place : Place) (word : ℕ) → kind_of word ≡ kind → IsCompared kind → place.table ≡ root → IsSeenIn root (match_at kind place word)
-  match_in kinds.Live place word is compared there = is
-  match_in kinds.Copied place word is compared there = there
-  match_in kind place word is compared there = absurd compared
-
-  compared_in : (place : Place) (word : ℕ) (alike : Bool) → place.table ≡ root → IsCompared (kind_of word) → IsSeenIn root (search_compared (Comparing place word) alike)
-  compared_in place word true there compared = match_in (kind_of word) place word refl compared there
-  compared_in place word false there compared = on_in place there
-
-  -- and where that leads
-  goes_in : (mode : ResizeMode) (saw : Seen) → IsSeenIn root saw → IsInRoot root (goes_as Compute mode nothing saw)
-  goes_in mode (seen.On (Sizing t)) there = there
-  goes_in mode (seen.On (Looking place)) there = there
-  goes_in mode (seen.On (Comparing place word)) there = there
-  goes_in mode (seen.Empty place) there = tt
-  goes_in mode (seen.Here place word) live = subst (λ kind. IsInRoot root (computes kind nothing place word)) (sym live) tt
-  goes_in (Incremental chunk) (seen.Over t) there = there
-  goes_in Blocking (seen.Over t) there = tt
-
--- the next table of the root
-next_word : (o : Option TableWords) → word_in (λ (t : TableWords). t.next) o ≡ next_in o
-next_word None = refl
-next_word (Some t) = refl
-
-module _ {K V S : Type 0} (eq : K → K → Bool) (hash : K → ℕ) (mode : ResizeMode) (store : StoreState K V S) (keys : IsLawfulKeys eq hash) {initial : ℕ} (lawful : IsLawfulMap eq hash store mode initial) (last : next_of store ≡ 0) where
-  pub last_next : word_at store.words (Next store.words.root) ≡ 0
-  last_next = next_word (table_of store.words.tables store.words.root) ∙ last
-
-  -- where no pairs are being moved, no word of the root is Marked
-  pub root_unmarked : (i : ℕ) → kind_of (word_at store.words (Slot store.words.root i)) ≡ kinds.Marked → ⊥
-  root_unmarked i marked =
-      let root = store.words.root in
-      let kept = lawful.lawful.law.1.1 in
-      let now = run lawful.lawful.law.0 start in
-      let word : IsOfKind kinds.Marked (now.slot root i) =
-      subst (λ kind. IsOfKind kind (now.slot root i)) (ap kind_of (kept.coded (Slot root i)) ∙ marked) (word_of_kind (setting_of eq (low hash) mode store.words.tables) (coding_of (low hash)) (now.slot root i)) in
-      let hashed = tables_hashed {V = V} eq hash keys mode store.words.tables lawful.lawful.core.sizes in
-      let further : 0 < now.next root = (sound (setting_of {V = V} eq (low hash) mode store.words.tables) hashed.lawful lawful.lawful.law.0 kept.allowed).further root i (ap shut word.1) in
-      let none : now.next root ≡ 0 = kept.coded (Next root) ∙ last_next in
-      absurd (omega (arith, further, none))
+-- what its search saw there leads on
+goes_in : (root : ℕ) (mode : ResizeMode) (saw : Seen) → IsSeenIn (λ word. IsSettledKind (kind_of word)) root saw → IsInRoot root (goes_as Compute mode nothing saw)
+goes_in root mode (seen.On search) there = there
+goes_in root mode (seen.Empty place) there = tt
+goes_in root mode (seen.Here place word) (there, settled, uncopied) = subst (λ kind. IsInRoot root (computes kind nothing place word)) (sym (settled_live (kind_of word) settled uncopied)) tt
+goes_in root (Incremental chunk) (seen.Over t) there = there
+goes_in root Blocking (seen.Over t) there = tt
 
 -- a compute that goes on for itself and remembers nothing
 abbrev pub bare_at : Machine → State → Machine
@@ -172,23 +96,23 @@ module _ {K V S A : Type 0} (eq : K → K → Bool) (says : Says K V A) (hash : 
     abbrev IsIn : State → Answer → Type 0
     IsIn state answer = ((after (bare_at m state) answer).phase ≡ Calling) × IsInRoot store.words.root (after (bare_at m state) answer).call.state
 
-    sized_in : (t : ℕ) (o : Option TableWords) → t ≡ store.words.root → IsIn (Searching (Sizing t)) (answers.Call (size_of o))
-    sized_in t None there = (refl, there)
-    sized_in t (Some table) there = (refl, there)
+    size_in : (t : ℕ) (o : Option TableWords) → t ≡ store.words.root → IsIn (Searching (Sizing t)) (answers.Call (size_of o))
+    size_in t None there = (refl, (there, tt))
+    size_in t (Some table) there = (refl, (there, tt))
 
     -- and nothing was changed
     pub root_stays : (state : State) (answer : Answer) → IsInRoot store.words.root state → (ask_of (bare_at m state) ≡ asked.Call ShowNone → ⊥) → ((n : ℕ) → ask_of (bare_at m state) ≡ asked.Call (ShowPair n) → ⊥) → PerformsAsk eq says hash false (ask_of (bare_at m state)) store r answer store' later → (store' ≡ store) × IsIn state answer
     root_stays AtRoot answer there no_none no_pair (told, is, (e, (same, stays))) =
         let root = store.words.root in
-        (same, subst (IsIn AtRoot) (sym (is ∙ ap answers.Call e)) (refl, cond_both (root == 0) (lacks None NoRoot) (Searching (Sizing root)) (IsInRoot root) (λ _. tt) (λ _. refl)))
-    root_stays (Searching (Sizing t)) answer there no_none no_pair (told, is, (e, (same, stays))) = (same, subst (IsIn (Searching (Sizing t))) (sym (is ∙ ap answers.Call e)) (sized_in t (table_of store.words.tables t) there))
+        (same, subst (IsIn AtRoot) (sym (is ∙ ap answers.Call e)) (refl, cond_both (root == 0) (lacks None NoRoot) (Searching (Sizing root)) (IsInRoot root) (λ _. tt) (λ _. (refl, tt))))
+    root_stays (Searching (Sizing t)) answer there no_none no_pair (told, is, (e, (same, stays))) = (same, subst (IsIn (Searching (Sizing t))) (sym (is ∙ ap answers.Call e)) (size_in t (table_of store.words.tables t) there.0))
     root_stays (Searching (Looking place)) answer there no_none no_pair (told, is, (e, (same, stays))) =
         let word : ℕ = word_at store.words (Slot place.table place.probe.i) in
-        let open_still : kind_of word ≡ kinds.Marked → ⊥ = subst (λ t. kind_of (word_at store.words (Slot t place.probe.i)) ≡ kinds.Marked → ⊥) (sym there) (unmarked place.probe.i) in
-        (same, subst (IsIn (Searching (Looking place))) (sym (is ∙ ap answers.Call e)) (refl, goes_in store.words.root m.call.mode (look place m.call.hash word) (look_in store.words.root (kind_of word) place m.call.hash word refl open_still there)))
-    root_stays (Searching (Comparing place word)) answer (there, compared) no_none no_pair (told, is, (e, (same, stays))) =
+        let open_still : kind_of word ≡ kinds.Marked → ⊥ = subst (λ t. kind_of (word_at store.words (Slot t place.probe.i)) ≡ kinds.Marked → ⊥) (sym there.0) (unmarked place.probe.i) in
+        (same, subst (IsIn (Searching (Looking place))) (sym (is ∙ ap answers.Call e)) (refl, goes_in store.words.root m.call.mode (look place m.call.hash word) (loaded_in (λ n. IsSettledKind (kind_of n)) store.words.root (Looking place) m.call.hash word there (settled_kind (kind_of word) open_still))))
+    root_stays (Searching (Comparing place word)) answer there no_none no_pair (told, is, (e, (same, stays))) =
         let alike : Bool = compares eq (own_key store r) (pair_of store (number_of word)) in
-        (same, subst (IsIn (Searching (Comparing place word))) (sym (is ∙ ap answers.Call e)) (refl, goes_in store.words.root m.call.mode (search_compared (Comparing place word) alike) (compared_in store.words.root place word alike there compared)))
+        (same, subst (IsIn (Searching (Comparing place word))) (sym (is ∙ ap answers.Call e)) (refl, goes_in store.words.root m.call.mode (search_compared (Comparing place word) alike) (compared_in (λ n. IsSettledKind (kind_of n)) store.words.root (Comparing place word) alike there)))
     root_stays (Leaving t) answer there no_none no_pair (told, is, (e, (same, stays))) =
         (same, subst (IsIn (Leaving t)) (sym (is ∙ ap answers.Call e ∙ ap (λ n. answers.Call (Word_read (word_at store.words (Next n)))) there ∙ ap (λ n. answers.Call (Word_read n)) last)) (refl, tt))
     root_stays (Offering gap) answer there no_none no_pair performs = absurd (no_none refl)

@@ -32,7 +32,7 @@ use Rattle.papaya_chain.specs.declared.ask.Answer.{Answer}
 use Rattle.papaya_chain.specs.declared.ask.Answer.TheVariants as answers
 use Rattle.papaya_chain.specs.declared.machine.Machine.{Machine}
 use Rattle.papaya_chain.specs.declared.machine.Phase.TheVariants.{Calling}
-use Rattle.papaya_chain.specs.Machine.{IsFitAsk, IsStanding, after, ask_of, asks_in}
+use Rattle.papaya_chain.specs.Machine.{IsFitAsk, IsStanding, after, ask_of}
 use Rattle.papaya_chain_rests.specs.Goes.{Goes, IsOwnStep}
 use Rattle.papaya_chain_rests.specs.Rests.{left_by}
 use Rattle.papaya_chain_rests.proofs.Once.{chain_once}
@@ -58,9 +58,12 @@ use Rattle.papaya_seq.specs.Map.{IsLawfulMap, IsWriteCauseAt, MapState, next_of}
 use Rattle.papaya_seq.proofs.Answering.{IsShowing, answering_performs}
 use Rattle.papaya_seq.proofs.Causes.{IsLogRefusal, IsNoTableRefusal, IsTableAsk, IsUnlogged, refused_so, unlogged_more, write_cause}
 use Rattle.papaya_seq.proofs.ComputeRun.{HasPair, IsAsked, IsComputing, IsDoing, IsFirstEnd, IsInsertEnd, IsInsertSaid, IsInserting, IsOnWay, IsToRemove, IsWaiting, Went, ended_by, map_at}
-use Rattle.papaya_seq.proofs.ComputeShown.{asking, compute_of}
-use Rattle.papaya_seq.proofs.ComputeStages.{IsInRoot, IsRemoving, IsReplacing, IsYetToMake, bare_at, bare_is, last_next, remembers_nothing, removing_stands, removing_stays, replacing_stands, replacing_stays, root_stays, root_unmarked}
+use Rattle.papaya_seq.proofs.ComputeShown.{asking}
+use Rattle.papaya_seq.proofs.ComputeStages.{IsInRoot, IsRemoving, IsReplacing, IsYetToMake, bare_at, bare_is, remembers_nothing, removing_stands, removing_stays, replacing_stands, replacing_stays, root_stays}
+use Rattle.papaya_seq.proofs.OwnSteps.{own_performs, own_step}
 use Rattle.papaya_seq.proofs.Steps.{HasCome, came_more, made_goes, made_more, made_nears, made_ordered, made_says, seated}
+use Rattle.papaya_seq.proofs.KeyCalls.{keyed_compute}
+use Rattle.papaya_seq.proofs.Unmarked.{last_next, unmarked}
 
 -- the last of a list that was pushed to
 pushed_last : {X : Type 0} (xs : List X) (x : X) → slice_get (xs ++ x ∷ []) (length xs) ≡ Some x
@@ -98,7 +101,7 @@ module _ {K V S A : Type 0} (eq : K → K → Bool) (hash : S → K → ℕ) (s 
   not_shown None e = no_none e
   not_shown (Some n) e = no_pair n e
 
-  module _ (keys : IsLawfulKeys eq (hash s.store.hasher)) (came : HasCome eq hash s (compute_of k) store (asking r)) (un : IsUnlogged eq hash s (compute_of k) store (asking r)) where
+  module _ (keys : IsLawfulKeys eq (hash s.store.hasher)) (came : HasCome eq hash s (keyed_compute k) store (asking r)) (un : IsUnlogged eq hash s (keyed_compute k) store (asking r)) where
     -- the core is in order
     lawful_now : IsLawfulCore eq (hash s.store.hasher) store (seated store (Some (asking r)) s.mode s.initial).callers s.mode
     lawful_now = subst (λ h. IsLawfulCore eq (hash h) store (seated store (Some (asking r)) s.mode s.initial).callers s.mode) came.hasher (came.lone going).lawful
@@ -110,7 +113,7 @@ module _ {K V S A : Type 0} (eq : K → K → Bool) (hash : S → K → ℕ) (s 
         (kept_steps.left eq (hash s.store.hasher) keys whatever hash false (seated store (Some (asking r)) s.mode s.initial) 0 (seated store' (Some (asking r)) s.mode s.initial) (asking r) answer (asking later) refl performs.0 (ap hash came.hasher) refl es tales lawful_now.core kept).logged
 
     goes : Goes r.machine answer
-    goes = made_goes eq hash s (compute_of k) store (asking r) answer store' (asking later) going performs.0 same keys came
+    goes = made_goes eq hash s (keyed_compute k) store (asking r) answer store' (asking later) going performs.0 same keys came
 
     -- a pair was made of the value
     abbrev HasMade : Said → Type 0
@@ -128,7 +131,7 @@ module _ {K V S A : Type 0} (eq : K → K → Bool) (hash : S → K → ℕ) (s 
         ⊎_elim
         (λ before. inl before)
         (λ (by : (own : IsOwnStep r.machine answer) × IsSaidBy r.machine.call own.told said). inr (said_now said by.0 by.1))
-        (made_says eq hash s (compute_of k) store (asking r) answer store' (asking later) going performs.0 same keys came said stands)
+        (made_says eq hash s (keyed_compute k) store (asking r) answer store' (asking later) going performs.0 same keys came said stands)
 
     -- and of a value of which a pair was made none is yet to be made
     unpaired : (n : ℕ) (shown : Option ℕ) → ask_of r.machine ≡ asked.Call MakePair → answer ≡ answers.Call (Made_number n) → StandsOn next.call (Inserts shown) → ⊥
@@ -177,8 +180,8 @@ module _ {K V S A : Type 0} (eq : K → K → Bool) (hash : S → K → ℕ) (s 
     abbrev then : Running K V A
     then = record later { machine = next }
 
-    came_after : HasCome eq hash s (compute_of k) store' (asking then)
-    came_after = came_more eq hash s (compute_of k) store (asking r) answer store' (asking later) going performs.0 same keys came
+    came_after : HasCome eq hash s (keyed_compute k) store' (asking then)
+    came_after = came_more eq hash s (keyed_compute k) store (asking r) answer store' (asking later) going performs.0 same keys came
 
     -- where it has replied, it stands on what the reply stands on
     told_stands : (reply : Reply) → reply_in (ask_of next) ≡ Some reply → (said : Said) → said_of_compute reply ≡ Some said → StandsOn next.call said
@@ -191,28 +194,18 @@ module _ {K V S A : Type 0} (eq : K → K → Bool) (hash : S → K → ℕ) (s 
     -- why it is refused
     refused_why : (IsComputer r.machine.call.task → (purpose : Purpose) → r.machine.call.state ≡ Pairing purpose → r.machine.call.remembered ≡ nothing) → (refused : Refused) → reply_in (ask_of next) ≡ Some (Reply_refused refused) → IsLogRefusal s refused ⊎ (IsTableAsk r.machine × IsNoTableRefusal (map_at s store') refused)
     refused_why first refused told =
-        elim (refused_so eq hash s (compute_of k) store (asking r) answer store' (asking later) going performs.0 same keys came un first refused told) [
+        elim (refused_so eq hash s (keyed_compute k) store (asking r) answer store' (asking later) going performs.0 same keys came un first refused told) [
           | inl log ↦ inl log
           | inr (inl table) ↦ inr table
           | inr (inr removes) ↦ absurd (no_none removes.1)
         ]
 
-    -- the call went a step for itself where it was not set aside
-    own_step : ((t : ℕ) → left_by r.machine.call.state ≡ Some t → ⊥) → IsOwnStep r.machine answer
-    own_step stands = elim goes [
-      | inl waits ↦ absurd (stands waits.from waits.left)
-      | inr (inl own) ↦ own
-      | inr (inr (inl enters)) ↦ absurd (stands enters.from enters.left)
-      | inr (inr (inr (inl begins))) ↦ absurd (stands begins.from begins.left)
-      | inr (inr (inr (inr ends))) ↦ absurd (stands ends.from ends.left)
-    ]
+    -- the call went a step for itself where it was not set aside, and was answered what it asked
+    abbrev own_goes : ((t : ℕ) → left_by r.machine.call.state ≡ Some t → ⊥) → IsOwnStep r.machine answer
+    own_goes = own_step r.machine answer goes
 
-    -- and was answered what it asked
-    own_performs : (own : IsOwnStep r.machine answer) → Performs eq whatever false (calls.ask_of r.machine.call) store (asking r) own.told store' (asking later)
-    own_performs own =
-        let (told, also, h) = subst (λ phase. PerformsAsk eq whatever hash false (asks_in r.machine.call phase) store (asking r) answer store' (asking later)) own.phase performs.0 in
-        let as_told : told ≡ own.told = cc (also, own.is) in
-        subst (λ a. Performs eq whatever false (calls.ask_of r.machine.call) store (asking r) a store' (asking later)) as_told h
+    abbrev told_performs : (own : IsOwnStep r.machine answer) → Performs eq whatever false (calls.ask_of r.machine.call) store (asking r) own.told store' (asking later)
+    told_performs own = own_performs eq whatever hash store (asking r) answer store' (asking later) own.told own.phase own.is performs.0
 
     -- what it has read stands there
     read_now : r.machine.phase ≡ Calling → IsRead (word_at store.words) r.machine.call.state
@@ -225,19 +218,19 @@ module _ {K V S A : Type 0} (eq : K → K → Bool) (hash : S → K → ℕ) (s 
     -- its closure answered a value, where it was shown a pair
     replacing_more : (r.machine.phase ≡ Calling) × IsReplacing r.machine.call.state → (next.phase ≡ Calling) × IsReplacing next.call.state
     replacing_more (phase, there) =
-        let own = own_step (replacing_stands r.machine.call.state there) in (
+        let own = own_goes (replacing_stands r.machine.call.state there) in (
           own.goes_on,
           subst (λ (d : Call_machine). IsReplacing d.state) (sym own.call)
-              (as_compute (λ d. IsReplacing (calls.after d own.told).state) (replacing_stays eq whatever store (asking r) store' (asking later) r.machine.call r.machine.call.made r.machine.call.state own.told there (read_now phase) (own_performs own))),
+              (as_compute (λ d. IsReplacing (calls.after d own.told).state) (replacing_stays eq whatever store (asking r) store' (asking later) r.machine.call r.machine.call.made r.machine.call.state own.told there (read_now phase) (told_performs own))),
         )
 
     -- or it would have the pair removed
     removing_more : (r.machine.phase ≡ Calling) × IsRemoving r.machine.call.state → (next.phase ≡ Calling) × IsRemoving next.call.state
     removing_more (phase, there) =
-        let own = own_step (removing_stands r.machine.call.state there) in (
+        let own = own_goes (removing_stands r.machine.call.state there) in (
           own.goes_on,
           subst (λ (d : Call_machine). IsRemoving d.state) (sym own.call)
-              (as_compute (λ d. IsRemoving (calls.after d own.told).state) (removing_stays eq whatever store (asking r) store' (asking later) r.machine.call r.machine.call.made r.machine.call.state own.told there (read_now phase) (own_performs own))),
+              (as_compute (λ d. IsRemoving (calls.after d own.told).state) (removing_stays eq whatever store (asking r) store' (asking later) r.machine.call r.machine.call.made r.machine.call.state own.told there (read_now phase) (told_performs own))),
         )
 
     module _ (held : Option (Stored K V)) (v : V) (now : IsInserting s held v store r) where
@@ -288,7 +281,7 @@ module _ {K V S A : Type 0} (eq : K → K → Bool) (hash : S → K → ℕ) (s 
       insert_ends reply told = tt
 
       insert_way : (held' : Option (Stored K V)) → IsOnWay held' r.machine → IsOnWay held' next
-      insert_way None way = (chain_once r.machine answer (made_ordered eq hash s (compute_of k) store (asking r) answer store' (asking later) going performs.0 same keys came) way).1
+      insert_way None way = (chain_once r.machine answer (made_ordered eq hash s (keyed_compute k) store (asking r) answer store' (asking later) going performs.0 same keys came) way).1
       insert_way (Some p) way = replacing_more way
 
       inserting_more : IsInserting s held v store' then
@@ -317,9 +310,9 @@ module _ {K V S A : Type 0} (eq : K → K → Bool) (hash : S → K → ℕ) (s 
       wait_rooted zero =
           let (store_is, phase, there) = now.rooted zero in
           let is : r.machine ≡ bare_at r.machine r.machine.call.state = bare_is r.machine r.machine.call.state came.task wait_nothing phase refl in
-          let last = subst (λ (y : StoreState K V S). word_at y.words (Next y.words.root) ≡ 0) (sym store_is) (last_next eq (hash s.store.hasher) s.mode s.store keys lawful zero) in
-          let unmarked = subst (λ (y : StoreState K V S). (i : ℕ) → kind_of (word_at y.words (Slot y.words.root i)) ≡ Marked → ⊥) (sym store_is) (root_unmarked eq (hash s.store.hasher) s.mode s.store keys lawful zero) in
-          let (stays, (on, in_root)) = root_stays eq whatever hash store (asking r) store' (asking later) r.machine last unmarked r.machine.call.state answer there (λ e. no_none (ap ask_of is ∙ e)) (λ n e. no_pair n (ap ask_of is ∙ e)) (subst (λ (m : Machine). PerformsAsk eq whatever hash false (ask_of m) store (asking r) answer store' (asking later)) is performs.0) in (
+          let last = subst (λ (y : StoreState K V S). word_at y.words (Next y.words.root) ≡ 0) (sym store_is) (last_next s.store zero) in
+          let open_still = subst (λ (y : StoreState K V S). (i : ℕ) → kind_of (word_at y.words (Slot y.words.root i)) ≡ Marked → ⊥) (sym store_is) (unmarked eq (hash s.store.hasher) [] s.mode s.store keys lawful.lawful s.store.words.root (last_next s.store zero)) in
+          let (stays, (on, in_root)) = root_stays eq whatever hash store (asking r) store' (asking later) r.machine last open_still r.machine.call.state answer there (λ e. no_none (ap ask_of is ∙ e)) (λ n e. no_pair n (ap ask_of is ∙ e)) (subst (λ (m : Machine). PerformsAsk eq whatever hash false (ask_of m) store (asking r) answer store' (asking later)) is performs.0) in (
             stays ∙ store_is,
             subst (λ (m : Machine). (after m answer).phase ≡ Calling) (sym is) on,
             subst (λ (y : StoreState K V S). IsInRoot y.words.root next.call.state) (sym stays) (subst (λ (m : Machine). IsInRoot store.words.root (after m answer).call.state) (sym is) in_root),
@@ -345,10 +338,10 @@ module _ {K V S A : Type 0} (eq : K → K → Bool) (hash : S → K → ℕ) (s 
     computing_more standing =
         let came = now.steps keys lawful fits in
         record {
-          steps = made_more eq hash s (compute_of k) store (asking r) answer store' (asking later) going performs.0 same now.steps;
+          steps = made_more eq hash s (keyed_compute k) store (asking r) answer store' (asking later) going performs.0 same now.steps;
           silence = performs.1 ∙ now.silence;
           standing = standing;
-          unlogged = unlogged_more eq hash s (compute_of k) store (asking r) answer store' (asking later) going performs.0 same keys came now.unlogged;
+          unlogged = unlogged_more eq hash s (keyed_compute k) store (asking r) answer store' (asking later) going performs.0 same keys came now.unlogged;
           phase = ⊎_elim
               (λ (waits : IsWaiting {T = T} eq hash s k post f store r closure shown). inl (waiting_more keys came now.unlogged post f closure shown lawful waits))
               (λ (does : IsDoing eq hash s k post f store r shown aborted). inr (record { operation = does.operation; said = does.said; shown_is = does.shown_is; kept = does.kept; asked = asked_more keys came now.unlogged (map_in eq s.store k) does.operation does.asked }))
@@ -360,7 +353,7 @@ module _ {K V S A : Type 0} (eq : K → K → Bool) (hash : S → K → ℕ) (s 
     computing_went fit = record {
       fit = (performed_ask eq hash says false (ask_of r.machine) store r answer store' later (unnumbered store.words.tables ((now.steps keys lawful fits).lone going).lawful.core.sizes) fit performed).fit;
       same = same;
-      nears = made_nears eq hash s (compute_of k) store (asking r) answer store' (asking later) going performs.0 same now.steps keys lawful fits;
+      nears = made_nears eq hash s (keyed_compute k) store (asking r) answer store' (asking later) going performs.0 same now.steps keys lawful fits;
       goes = computing_more;
     }
 

@@ -1,7 +1,7 @@
 -- Where the machine of an insertion goes from the root, and from its write.
-use Rattle.std.proofs.Common.{◌≡◌, ℕ, ◌==◌, nat_lt, Bool, true, false, refl, sym, subst}
+use Rattle.std.proofs.Common.{◌≡◌, ℕ, ◌==◌, Bool, true, false, refl, sym, subst}
 use Rattle.std.proofs.lemmas.Bool.{cond_both}
-use Rattle.papaya_words.specs.Word.{byte_of, kind_of, pair_of, top_byte}
+use Rattle.papaya_words.specs.Word.{kind_of, pair_of}
 use Rattle.papaya_words.specs.declared.probe.ResizeMode.{ResizeMode}
 use Rattle.papaya_words.specs.declared.word.Kind.{Kind}
 use Rattle.papaya_words.specs.declared.word.Kind.TheVariants as kinds
@@ -15,7 +15,7 @@ use Rattle.papaya_ask.specs.declared.search.Search.{Search}
 use Rattle.papaya_ask.specs.declared.search.Search.TheVariants.{Sizing, Looking, Comparing}
 use Rattle.papaya_ask.specs.declared.search.Seen.{Seen}
 use Rattle.papaya_ask.specs.declared.search.Seen.TheVariants as seen
-use Rattle.papaya_ask.specs.Search.{go_on, look_at, match_at, next_place, at_size as search_sized, at_word as search_loaded, at_yes as search_compared}
+use Rattle.papaya_ask.specs.Search.{at_word as search_loaded, at_yes as search_compared}
 use Rattle.papaya_call.specs.declared.compute.Remembered.{Remembered}
 use Rattle.papaya_call.specs.declared.machine.Machine.{Machine}
 use Rattle.papaya_call.specs.declared.machine.State.{State}
@@ -25,6 +25,7 @@ use Rattle.papaya_call.specs.declared.write.Made.TheVariants.{Nothing, Key, Pair
 use Rattle.papaya_call.specs.declared.write.Write.{Write}
 use Rattle.papaya_call.specs.Machine.{after, found, goes_as, needed, occupies, replaces}
 use Rattle.papaya_alone.specs.Rank.{table_of}
+use Rattle.papaya_seq.proofs.TableSearch.{IsSeenIn, MayCompare, compared_in, loaded_in, sized_in}
 
 -- an insertion's search is in this table, or has ended there
 abbrev pub IsIn : ℕ → State → Type 0
@@ -34,13 +35,6 @@ IsIn t (Growing need) = needed need ≡ t
 IsIn t (Ended (Occupied n)) = Unit {0}
 IsIn t _ = ⊥
 
--- what a search of the table has seen
-abbrev IsSeenIn : ℕ → Seen → Type 0
-IsSeenIn t (seen.On search) = table_of search ≡ t
-IsSeenIn t (seen.Empty at) = at.table ≡ t
-IsSeenIn t (seen.Here at word) = at.table ≡ t
-IsSeenIn t (seen.Over table) = table ≡ t
-
 -- a write is under way, or was made or refused
 abbrev pub HasWritten : State → Type 0
 HasWritten (Writing write) = Unit {0}
@@ -49,46 +43,16 @@ HasWritten (Ended (Occupied n)) = ⊥
 HasWritten (Ended reply) = Unit {0}
 HasWritten _ = ⊥
 
+-- it may compare any word
+abbrev Anything : ℕ → Type 0
+Anything word = Unit {0}
+
+compares : (search : Search) → MayCompare Anything search
+compares (Sizing table) = tt
+compares (Looking at) = tt
+compares (Comparing at word) = tt
+
 module _ (t : ℕ) where
-  -- a search goes on in its table
-  go_on_in : (at : Place) → at.table ≡ t → IsSeenIn t (go_on at)
-  go_on_in at is = cond_both (nat_lt at.probe.len at.limit) (seen.On (Looking (next_place at))) (seen.Over at.table) (IsSeenIn t) (λ _. is) (λ _. is)
-
-  compare_in : (at : Place) (hash word : ℕ) → at.table ≡ t → IsSeenIn t (look_at kinds.Live at hash word)
-  compare_in at hash word is = cond_both (byte_of word == top_byte hash) (seen.On (Comparing at word)) (go_on at) (IsSeenIn t) (λ _. is) (λ _. go_on_in at is)
-
-  look_in : (kind : Kind) (at : Place) (hash word : ℕ) → at.table ≡ t → IsSeenIn t (look_at kind at hash word)
-  look_in kinds.Empty at hash word is = is
-  look_in kinds.Live at hash word is = compare_in at hash word is
-  look_in kinds.Marked at hash word is = compare_in at hash word is
-  look_in kinds.Copied at hash word is = compare_in at hash word is
-  look_in kinds.Buried at hash word is = go_on_in at is
-  look_in kinds.Closed at hash word is = go_on_in at is
-
-  match_in : (kind : Kind) (at : Place) (word : ℕ) → at.table ≡ t → IsSeenIn t (match_at kind at word)
-  match_in kinds.Empty at word is = is
-  match_in kinds.Live at word is = is
-  match_in kinds.Marked at word is = is
-  match_in kinds.Copied at word is = is
-  match_in kinds.Buried at word is = is
-  match_in kinds.Closed at word is = is
-
-  loaded_in : (search : Search) (hash word : ℕ) → table_of search ≡ t → IsSeenIn t (search_loaded search hash word)
-  loaded_in (Sizing table) hash word is = is
-  loaded_in (Looking at) hash word is = look_in (kind_of word) at hash word is
-  loaded_in (Comparing at read) hash word is = is
-
-  compared_in : (search : Search) (same : Bool) → table_of search ≡ t → IsSeenIn t (search_compared search same)
-  compared_in (Sizing table) same is = is
-  compared_in (Looking at) same is = is
-  compared_in (Comparing at word) true is = match_in (kind_of word) at word is
-  compared_in (Comparing at word) false is = go_on_in at is
-
-  sized_in : (search : Search) (hash slots limit : ℕ) → table_of search ≡ t → table_of (search_sized search hash slots limit) ≡ t
-  sized_in (Sizing table) hash slots limit is = is
-  sized_in (Looking at) hash slots limit is = is
-  sized_in (Comparing at word) hash slots limit is = is
-
   -- a pair with the key was met
   replaces_in : (kind : Kind) (at : Place) (word : ℕ) → at.table ≡ t → IsIn t (replaces kind at word)
   replaces_in kinds.Empty at word is = is
@@ -111,9 +75,9 @@ module _ (t : ℕ) where
   found_in false held at word is = occupies_in (kind_of word) at word is
 
   -- what an insertion's search saw leads here
-  goes_in : (replace : Bool) (mode : ResizeMode) (held : Remembered) (saw : Seen) → IsSeenIn t saw → IsIn t (goes_as (Insert replace) mode held saw)
-  goes_in replace mode held (seen.On search) is = is
-  goes_in replace mode held (seen.Here at word) is = found_in replace held at word is
+  goes_in : (replace : Bool) (mode : ResizeMode) (held : Remembered) (saw : Seen) → IsSeenIn Anything t saw → IsIn t (goes_as (Insert replace) mode held saw)
+  goes_in replace mode held (seen.On search) is = is.0
+  goes_in replace mode held (seen.Here at word) is = found_in replace held at word is.0
   goes_in replace mode held (seen.Empty at) is = is
   goes_in replace mode held (seen.Over table) is = is
 
@@ -124,12 +88,12 @@ module _ (m : Machine) (made : Made) where
 
   -- an insertion that searches a table stays in it, or ends there
   pub searches_in : (replace : Bool) (t : ℕ) (search : Search) (told : Answer) → m.task ≡ Insert replace → table_of search ≡ t → IsIn t (after (in_state (Searching search)) told).state
-  searches_in replace t search (Word_read word) task is = subst (λ (y : Task). IsIn t (goes_as y m.mode m.remembered (search_loaded search m.hash word))) (sym task) (goes_in t replace m.mode m.remembered (search_loaded search m.hash word) (loaded_in t search m.hash word is))
+  searches_in replace t search (Word_read word) task is = subst (λ (y : Task). IsIn t (goes_as y m.mode m.remembered (search_loaded search m.hash word))) (sym task) (goes_in t replace m.mode m.remembered (search_loaded search m.hash word) (loaded_in Anything t search m.hash word (is, compares search) (λ _. tt)))
   searches_in replace t search Exchanged task is = is
   searches_in replace t search (Found_instead word) task is = is
-  searches_in replace t search (Yes same) task is = subst (λ (y : Task). IsIn t (goes_as y m.mode m.remembered (search_compared search same))) (sym task) (goes_in t replace m.mode m.remembered (search_compared search same) (compared_in t search same is))
+  searches_in replace t search (Yes same) task is = subst (λ (y : Task). IsIn t (goes_as y m.mode m.remembered (search_compared search same))) (sym task) (goes_in t replace m.mode m.remembered (search_compared search same) (compared_in Anything t search same (is, compares search)))
   searches_in replace t search (Op kind) task is = is
-  searches_in replace t search (Size slots limit) task is = sized_in t search m.hash slots limit is
+  searches_in replace t search (Size slots limit) task is = (sized_in Anything t search m.hash slots limit (is, compares search)).0
   searches_in replace t search (Made_number n) task is = is
   searches_in replace t search Ok_done task is = is
   searches_in replace t search (Was_refused refused) task is = is

@@ -5,8 +5,7 @@ use Rattle.papaya_words.specs.declared.probe.Refused.{Refused}
 use Rattle.papaya_ask.specs.declared.ask.Answer.{Answer as Call_answer}
 use Rattle.papaya_ask.specs.declared.ask.Answer.TheVariants.{Word as Word_read, Exchanged, Found as Found_instead, Yes, Op, Size, Made as Made_number, Ok as Ok_done, Refused as Was_refused}
 use Rattle.papaya_ask.specs.declared.ask.At.TheVariants.{Slot}
-use Rattle.papaya_ask.specs.declared.call.Call.{Call}
-use Rattle.papaya_ask.specs.declared.call.Reply.TheVariants.{Absent, Found, Inserted, Replaced, Occupied, Removed, Kept, Aborted, Refused as Reply_refused}
+use Rattle.papaya_ask.specs.declared.call.Reply.TheVariants.{Absent, Found, Inserted, Replaced, Occupied, Removed, Kept, Aborted, Done, Refused as Reply_refused}
 use Rattle.papaya_ask.specs.declared.call.Task.TheVariants.{Insert}
 use Rattle.papaya_ask.specs.declared.search.Search.TheVariants.{Sizing}
 use Rattle.papaya_call.specs.declared.machine.Machine.{Machine as Call_machine}
@@ -34,27 +33,19 @@ use Rattle.papaya_store.specs.Store.{StoreState}
 use Rattle.papaya_store.specs.Tables.{word_at}
 use Rattle.papaya_store.specs.declared.pairs.Running.{Running}
 use Rattle.papaya_timeline.specs.Advances.{goes_on, reply_in}
-use Rattle.papaya_timeline.specs.Begins.{key_of_call, task_of_call}
-use Rattle.papaya_timeline.specs.Callers.{running}
+use Rattle.papaya_timeline.specs.Callers.{as_work, call_in, running}
 use Rattle.papaya_timeline.specs.Content.{map_in}
 use Rattle.papaya_timeline.specs.Core.{CoreState}
 use Rattle.papaya_timeline.specs.Solo.{whatever}
 use Rattle.papaya_timeline.proofs.KeptSettings.{IsLawfulKeys}
-use Rattle.papaya_seq.specs.Map.{IsLawfulMap, MapState, insertion, next_of}
+use Rattle.papaya_seq.specs.Map.{IsLawfulMap, MapState, next_of}
 use Rattle.papaya_seq.proofs.Causes.{IsLogRefusal}
 use Rattle.papaya_seq.proofs.Inserting.{HasWritten, IsIn, counts_on, searches_in, writes_on}
-use Rattle.papaya_seq.proofs.InsertingSteps.{own_performs, own_step, search_stays, write_unbeaten}
+use Rattle.papaya_seq.proofs.InsertingSteps.{search_stays, write_unbeaten}
+use Rattle.papaya_seq.proofs.KeyCalls.{KeyCall, keyed_insertion}
 use Rattle.papaya_seq.proofs.NoPlace as places
+use Rattle.papaya_seq.proofs.OwnSteps.{leaves_none, own_performs, own_step}
 use Rattle.papaya_seq.proofs.Steps.{HasCome, came_more, made_goes, made_unchanged, seated, stepped, still}
-
--- the key and the task of an insertion
-pub key_of_insertion : {K V : Type 0} (replace : Bool) (k : K) (value : V) → key_of_call (insertion replace k value) ≡ k
-key_of_insertion true k value = refl
-key_of_insertion false k value = refl
-
-pub task_of_insertion : {K V : Type 0} (replace : Bool) (k : K) (value : V) → task_of_call (insertion replace k value) ≡ Insert replace
-task_of_insertion true k value = refl
-task_of_insertion false k value = refl
 
 -- a machine that asks for itself goes on, in these states
 asking : (m : Machine) (state : State) → m.phase ≡ Calling → m.call.state ≡ state → reply_in (ask_of m) ≡ reply_in (asks_in (record m.call { state = state }) Calling)
@@ -66,8 +57,8 @@ writing_goes Key call write = refl
 writing_goes (Pair n) call write = refl
 
 module _ {K V S : Type 0} (eq : K → K → Bool) (hash : S → K → ℕ) (s : MapState K V S) (replace : Bool) (k : K) (value : V) where
-  abbrev call : Call K V (Unit {0})
-  call = insertion replace k value
+  abbrev call : KeyCall K V
+  call = keyed_insertion replace k value
 
   -- The insertion is at the root, which has no next table, or searches it, or writes where it may replace; from there it is refused for want of room in a log alone, and only where it may replace.
   abbrev pub IsRootStage : StoreState K V S → State → Type 0
@@ -99,6 +90,7 @@ module _ {K V S : Type 0} (eq : K → K → Bool) (hash : S → K → ℕ) (s : 
   written_stage store (Ended (Removed n)) only written caused = tt
   written_stage store (Ended (Kept n)) only written caused = tt
   written_stage store (Ended (Aborted n)) only written caused = tt
+  written_stage store (Ended Done) only written caused = tt
   written_stage store AtRoot only written caused = absurd written
   written_stage store Making only written caused = absurd written
   written_stage store (Opening t) only written caused = absurd written
@@ -124,18 +116,18 @@ module _ {K V S : Type 0} (eq : K → K → Bool) (hash : S → K → ℕ) (s : 
   counted_stage store m n Ok_done = tt
   counted_stage store m n (Was_refused refused) = tt
 
-  module _ (keys : IsLawfulKeys eq (hash s.store.hasher)) (lawful : IsLawfulMap eq (hash s.store.hasher) s.store s.mode s.initial) (fits : hash s.store.hasher (key_of_call call) < 2 ^ 64) where
+  module _ (keys : IsLawfulKeys eq (hash s.store.hasher)) (lawful : IsLawfulMap eq (hash s.store.hasher) s.store s.mode s.initial) (fits : hash s.store.hasher k < 2 ^ 64) where
     module _ (store : StoreState K V S) (r : Running K V (Unit {0})) (came : HasCome eq hash s call store r) (going : reply_in (ask_of r.machine) ≡ None) where
       abbrev now_core : CoreState K V S (Unit {0})
       now_core = seated store (still r) s.mode s.initial
 
       goes : running now_core.callers 0 ≡ Some r
-      goes = ap (λ o. goes_on o r) going
+      goes = ap (λ o. call_in (as_work (goes_on o r))) going
 
       -- a key that is absent now was absent, while the call has changed nothing
       was_absent : change_in r.machine.call.state ≡ None → (other : K) → own_key store r ≡ Some other → map_in eq store other ≡ None → map_in eq s.store k ≡ None
       was_absent none other own absent =
-          let same : other ≡ k = let f : Some other ≡ Some k = sym own ∙ came.own ∙ ap Some (key_of_insertion replace k value) in cc f in
+          let same : other ≡ k = let f : Some other ≡ Some k = sym own ∙ came.own in cc f in
           sym ((made_unchanged eq hash s call keys lawful fits store r going none came).0 k) ∙ subst (λ (x : K). map_in eq store x ≡ None) same absent
 
       rootless : r.machine.call.state ≡ AtRoot → store.words.root ≡ 0 → map_in eq s.store k ≡ None
@@ -165,20 +157,20 @@ module _ {K V S : Type 0} (eq : K → K → Bool) (hash : S → K → ℕ) (s : 
       next = stepped later r.machine answer
 
       task : r.machine.call.task ≡ Insert replace
-      task = came.task ∙ task_of_insertion replace k value
+      task = came.task
 
       next_came : HasCome eq hash s call store' next
       next_came = came_more eq hash s call store r answer store' later going performs same keys came
 
       next_task : next.machine.call.task ≡ Insert replace
-      next_task = next_came.task ∙ task_of_insertion replace k value
+      next_task = next_came.task
 
       module _ (calling : r.machine.phase ≡ Calling) (unleft : left_by r.machine.call.state ≡ None) where
         own : IsOwnStep r.machine answer
-        own = own_step r.machine answer (made_goes eq hash s call store r answer store' later going performs same keys came) unleft
+        own = own_step r.machine answer (made_goes eq hash s call store r answer store' later going performs same keys came) (leaves_none (left_by r.machine.call.state) unleft)
 
         told_performs : Performs eq whatever false (calls.ask_of r.machine.call) store r own.told store' later
-        told_performs = own_performs eq whatever store r hash own.told store' later calling (subst (λ a. PerformsAsk eq whatever hash false (ask_of r.machine) store r a store' later) own.is performs)
+        told_performs = own_performs eq whatever hash store r answer store' later own.told calling own.is performs
 
         -- the state after the answer, from this one
         led : (state : State) → r.machine.call.state ≡ state → next.machine.call.state ≡ (calls.after (record r.machine.call { state = state }) own.told).state
@@ -201,6 +193,7 @@ module _ {K V S : Type 0} (eq : K → K → Bool) (hash : S → K → ℕ) (s : 
         searched (Ended (Removed n)) e stays last here = absurd here
         searched (Ended (Kept n)) e stays last here = absurd here
         searched (Ended (Aborted n)) e stays last here = absurd here
+        searched (Ended Done) e stays last here = absurd here
         searched (Ended (Reply_refused refused)) e stays last here = absurd here
         searched AtRoot e stays last here = absurd here
         searched Making e stays last here = absurd here

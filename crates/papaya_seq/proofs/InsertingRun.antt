@@ -2,7 +2,6 @@
 use Rattle.std.proofs.Common.{◌≡◌, ◌⊎◌, inl, inr, ℕ, ◌^◌, ◌<◌, Bool, true, false, Option, None, Some, refl, sym, ◌∙◌, ap, subst}
 use Rattle.std.proofs.lemmas.Bool.{cases_eq}
 use Rattle.papaya_words.specs.declared.probe.Refused.{Refused}
-use Rattle.papaya_words.specs.declared.probe.ResizeMode.{ResizeMode}
 use Rattle.papaya_ask.specs.declared.ask.Answer.TheVariants.{Op, Ok as Ok_done}
 use Rattle.papaya_ask.specs.declared.ask.Ask.TheVariants.{Load, Exchange, SameKey, ShowNone, ShowPair, SizeOf, MakeKey, MakePair, MakeTable, AddToShard, Done as Ask_done}
 use Rattle.papaya_ask.specs.declared.ask.OpKind.TheVariants.{Remove}
@@ -27,7 +26,6 @@ use Rattle.papaya_store.specs.Store.{StoreState}
 use Rattle.papaya_store.specs.declared.pairs.KeyOf.TheVariants.{Own}
 use Rattle.papaya_store.specs.declared.pairs.Running.{Running}
 use Rattle.papaya_timeline.specs.Advances.{reply_in}
-use Rattle.papaya_timeline.specs.Begins.{begun, key_of_call}
 use Rattle.papaya_timeline.specs.Content.{map_in}
 use Rattle.papaya_timeline.specs.Solo.{whatever}
 use Rattle.papaya_timeline.proofs.KeptSettings.{IsLawfulKeys}
@@ -37,9 +35,11 @@ use Rattle.papaya_seq.proofs.Answering.{answering, silent_performs}
 use Rattle.papaya_seq.proofs.Causes.{IsLogRefusal, IsNoTableRefusal, IsRemoveNothing, IsTableAsk, IsUnlogged, insert_pairs, refused_so, unlogged_more, unlogged_none, write_cause}
 use Rattle.papaya_seq.proofs.Ending.{left_of}
 use Rattle.papaya_seq.proofs.Inserting.{HasWritten}
-use Rattle.papaya_seq.proofs.InsertingRoot.{IsResting, IsRootStage, key_of_insertion, resting_more, task_of_insertion, written_more}
+use Rattle.papaya_seq.proofs.InsertingRoot.{IsResting, IsRootStage, resting_more, written_more}
 use Rattle.papaya_seq.proofs.InsertingSteps.{copy_stays, value_stays}
-use Rattle.papaya_seq.proofs.Steps.{HasCome, IsMade, IsOver, came_nears, made_alone, made_more, made_none}
+use Rattle.papaya_seq.proofs.Steps.{HasCome, IsMade, came_nears, made_alone, made_more, made_none}
+use Rattle.papaya_seq.proofs.KeyCalls.{keyed_insertion}
+use Rattle.papaya_seq.proofs.Turns.{IsOver}
 
 -- the value is at hand until the call writes
 abbrev pub IsAtHand : {V : Type 0} → V → Machine → Option V → Type 0
@@ -52,27 +52,14 @@ left_in s store = record s { store = store }
 module _ {K V S A : Type 0} (eq : K → K → Bool) (hash : S → K → ℕ) (s : MapState K V S) (replace : Bool) (k : K) (value : V) where
   -- Where an insertion is between two answers: it came there by steps of the core, has its value at hand until it writes, and is in the root, where no pairs are being moved, or its key is absent.
   pub record IsInserting (store : StoreState K V S) (r : Running K V A) : Type 0 where
-    pub steps : IsMade eq hash s (insertion replace k value) store (answering None r)
+    pub steps : IsMade eq hash s (keyed_insertion replace k value) store (answering None r)
     pub silence : r.answers ≡ None
     pub standing : IsStanding r.machine
     pub hand : IsAtHand value r.machine r.value
     pub resting : next_of s.store ≡ 0 → IsResting eq hash s replace k value store r.machine
-    pub unlogged : IsUnlogged eq hash s (insertion replace k value) store (answering None r)
+    pub unlogged : IsUnlogged eq hash s (keyed_insertion replace k value) store (answering None r)
     -- where it was refused there is a cause
     pub caused : (refused : Refused) → reply_in (ask_of r.machine) ≡ Some (Reply_refused refused) → IsWriteCause s refused (left_in s store)
-
--- an insertion as it begins
-abbrev insertion_begun : {K V A : Type 0} → ℕ → ResizeMode → ℕ → Bool → K → V → Running K V A
-insertion_begun hash mode initial replace k value = record { machine = started (Insert replace) hash mode initial; key = Own k; value = Some value; answers = None }
-
--- the call of an insertion begins so
-begun_insertion : {K V : Type 0} (hash : K → ℕ) (mode : ResizeMode) (initial : ℕ) (replace : Bool) (k : K) (value : V) → begun hash mode initial (insertion replace k value) ≡ insertion_begun (hash k) mode initial replace k value
-begun_insertion hash mode initial true k value = refl
-begun_insertion hash mode initial false k value = refl
-
--- the hash of its key
-same_fits : {K V : Type 0} (hash : K → ℕ) (replace : Bool) (k : K) (value : V) → hash k < 2 ^ 64 → hash (key_of_call (insertion replace k value)) < 2 ^ 64
-same_fits hash replace k value fits = subst (λ x. hash x < 2 ^ 64) (sym (key_of_insertion replace k value)) fits
 
 -- a machine that asks on has not replied
 unreplied : (ask : Ask) → ((reply : Reply) → ask ≡ asks.Call (Ask_done reply) → ⊥) → reply_in ask ≡ None
@@ -95,12 +82,12 @@ module _ {K V S A : Type 0} (eq : K → K → Bool) (hash : S → K → ℕ) (s 
   inserting_begin m hashed is hash_same standing =
       let machine : m ≡ started (Insert replace) (hash s.store.hasher k) s.mode s.initial = is ∙ ap (λ n. started (Insert replace) n s.mode s.initial) hash_same in
       subst (λ (x : Machine). IsInserting {A = A} eq hash s replace k value s.store (record { machine = x; key = Own k; value = Some value; answers = None })) (sym machine) (record {
-        steps = subst (IsMade eq hash s (insertion replace k value) s.store) (begun_insertion (hash s.store.hasher) s.mode s.initial replace k value) (made_none eq hash s (insertion replace k value));
+        steps = made_none eq hash s (keyed_insertion replace k value);
         silence = refl;
         standing = subst IsStanding machine standing;
         hand = inl refl;
         resting = λ last. inr (record { calling = refl; stage = last });
-        unlogged = subst (IsUnlogged eq hash s (insertion replace k value) s.store) (begun_insertion (hash s.store.hasher) s.mode s.initial replace k value) (unlogged_none eq hash s (insertion replace k value));
+        unlogged = unlogged_none eq hash s (keyed_insertion replace k value);
         caused = λ refused e. let f : None ≡ Some (Reply_refused refused) = e in absurd cc;
       })
 
@@ -110,11 +97,11 @@ module _ {K V S A : Type 0} (eq : K → K → Bool) (hash : S → K → ℕ) (s 
       going : reply_in (ask_of r.machine) ≡ None
       going = ap reply_in (sym is) ∙ unreplied ask open_still
 
-      came : HasCome eq hash s (insertion replace k value) store (answering None r)
-      came = now.steps keys lawful (same_fits (hash s.store.hasher) replace k value fits)
+      came : HasCome eq hash s (keyed_insertion replace k value) store (answering None r)
+      came = now.steps keys lawful fits
 
       task : r.machine.call.task ≡ Insert replace
-      task = came.task ∙ task_of_insertion replace k value
+      task = came.task
 
       performs : PerformsAsk eq says hash false (ask_of r.machine) store r answer store' later
       performs = subst (λ y. PerformsAsk eq says hash false y store r answer store' later) is performed
@@ -129,11 +116,11 @@ module _ {K V S A : Type 0} (eq : K → K → Bool) (hash : S → K → ℕ) (s 
 
       -- less is left
       pub inserting_nears : left_of store' (after r.machine answer) < left_of store r.machine
-      inserting_nears = came_nears eq hash s (insertion replace k value) store (answering None r) answer store' (answering None later) going silent.0 same keys came
+      inserting_nears = came_nears eq hash s (keyed_insertion replace k value) store (answering None r) answer store' (answering None later) going silent.0 same keys came
 
       -- a write goes on
       writes_more : (state : State) → r.machine.phase ≡ Calling → r.machine.call.state ≡ state → HasWritten state → IsAtHand value (after r.machine answer) later.value
-      writes_more state calling e written = inr (written_more eq hash s replace k value keys lawful (same_fits (hash s.store.hasher) replace k value fits) store (answering None r) answer store' (answering None later) going silent.0 same came state calling e written)
+      writes_more state calling e written = inr (written_more eq hash s replace k value keys lawful fits store (answering None r) answer store' (answering None later) going silent.0 same came state calling e written)
 
       -- the value is at hand until the call writes
       hand_more : IsAtHand value r.machine r.value → IsAtHand value (after r.machine answer) later.value
@@ -160,7 +147,7 @@ module _ {K V S A : Type 0} (eq : K → K → Bool) (hash : S → K → ℕ) (s 
 
       -- a refusal is of a log, or of a table
       refusal : (refused : Refused) → reply_in (ask_of (after r.machine answer)) ≡ Some (Reply_refused refused) → IsLogRefusal s refused ⊎ (IsTableAsk r.machine × IsNoTableRefusal (left_in s store') refused)
-      refusal refused e = elim (refused_so eq hash s (insertion replace k value) store (answering None r) answer store' (answering None later) going silent.0 same keys came now.unlogged (insert_pairs r.machine.call replace task) refused e) [
+      refusal refused e = elim (refused_so eq hash s (keyed_insertion replace k value) store (answering None r) answer store' (answering None later) going silent.0 same keys came now.unlogged (insert_pairs r.machine.call replace task) refused e) [
         | inl log ↦ inl log
         | inr (inl table) ↦ inr table
         | inr (inr removes) ↦ absurd (unoffered refused removes)
@@ -176,19 +163,19 @@ module _ {K V S A : Type 0} (eq : K → K → Bool) (hash : S → K → ℕ) (s 
       -- and it goes on
       pub inserting_more : IsStanding (after r.machine answer) → IsInserting eq hash s replace k value store' (record later { machine = after r.machine answer })
       inserting_more standing = record {
-        steps = made_more eq hash s (insertion replace k value) store (answering None r) answer store' (answering None later) going silent.0 same now.steps;
+        steps = made_more eq hash s (keyed_insertion replace k value) store (answering None r) answer store' (answering None later) going silent.0 same now.steps;
         silence = silent.1 ∙ now.silence;
         standing = standing;
         hand = hand_more now.hand;
-        resting = λ last. resting_more eq hash s replace k value keys lawful (same_fits (hash s.store.hasher) replace k value fits) store (answering None r) answer store' (answering None later) going silent.0 same came log_refusal (now.resting last);
-        unlogged = unlogged_more eq hash s (insertion replace k value) store (answering None r) answer store' (answering None later) going silent.0 same keys came now.unlogged;
+        resting = λ last. resting_more eq hash s replace k value keys lawful fits store (answering None r) answer store' (answering None later) going silent.0 same came log_refusal (now.resting last);
+        unlogged = unlogged_more eq hash s (keyed_insertion replace k value) store (answering None r) answer store' (answering None later) going silent.0 same keys came now.unlogged;
         caused = λ refused e. write_cause s refused r.machine (left_in s store') (refusal refused e);
       }
 
     module _ (store : StoreState K V S) (r : Running K V A) (reply : Reply) (e : asks.Call (Ask_done reply) ≡ ask_of r.machine) (now : IsInserting eq hash s replace k value store r) where
       -- it has replied: it was made alone
       pub inserting_alone : IsOver eq hash s (insertion replace k value) store reply
-      inserting_alone = made_alone eq hash s (insertion replace k value) keys lawful (same_fits (hash s.store.hasher) replace k value fits) store (answering None r) reply (sym (ap reply_in e)) now.steps
+      inserting_alone = made_alone eq hash s (keyed_insertion replace k value) keys lawful fits store (answering None r) reply (sym (ap reply_in e)) now.steps
 
       -- its machine is at its end
       ended : r.machine.phase ≡ Calling → r.machine.call.state ≡ Ended reply

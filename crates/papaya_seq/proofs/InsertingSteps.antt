@@ -1,5 +1,5 @@
 -- What an answer leaves an insertion of a map for one caller.
-use Rattle.std.proofs.Common.{◌≡◌, ◌⊎◌, inl, inr, ℕ, Bool, false, None, Some, length, refl, sym, ◌∙◌, ap, subst}
+use Rattle.std.proofs.Common.{◌≡◌, ◌⊎◌, inl, inr, ℕ, Bool, false, length, refl, sym, ◌∙◌, ap, subst}
 use Rattle.papaya_words.specs.declared.probe.Refused.TheVariants.{Memory, Capacity}
 use Rattle.papaya_ask.specs.declared.ask.Answer.{Answer as Call_answer}
 use Rattle.papaya_ask.specs.declared.ask.Answer.TheVariants.{Exchanged, Found as Found_instead, Made as Made_number, Ok as Ok_done, Refused as Was_refused}
@@ -14,16 +14,12 @@ use Rattle.papaya_call.specs.declared.machine.State.TheVariants.{AtRoot, Making,
 use Rattle.papaya_call.specs.declared.write.Made.{Made}
 use Rattle.papaya_call.specs.declared.write.Made.TheVariants.{Nothing, Key, Pair}
 use Rattle.papaya_call.specs.declared.write.Write.{Write}
-use Rattle.papaya_call.specs.Machine.{IsStandingState, asks, ask_of as call_ask}
+use Rattle.papaya_call.specs.Machine.{IsStandingState, asks}
 use Rattle.papaya_call.specs.Write.{write_ask}
 use Rattle.papaya_chain.specs.declared.ask.Answer.{Answer}
-use Rattle.papaya_chain.specs.declared.ask.Answer.TheVariants as answers
-use Rattle.papaya_chain.specs.declared.machine.Machine.{Machine}
 use Rattle.papaya_chain.specs.declared.machine.Phase.{Phase}
 use Rattle.papaya_chain.specs.declared.machine.Phase.TheVariants.{Calling, Linking, Copying as Copying_root}
 use Rattle.papaya_chain.specs.Machine.{ask_of, asks_in}
-use Rattle.papaya_chain_rests.specs.Goes.{Goes, IsOwnStep}
-use Rattle.papaya_chain_rests.specs.Rests.{left_by}
 use Rattle.papaya_rests.proofs.AloneSteps.{exchange_done}
 use Rattle.papaya_store.specs.Asks.{PerformsAsk}
 use Rattle.papaya_store.specs.Performs.{Performs}
@@ -32,22 +28,7 @@ use Rattle.papaya_store.specs.Tables.{word_at}
 use Rattle.papaya_store.specs.declared.pairs.Running.{Running}
 use Rattle.papaya_seq.proofs.Inserting.{HasWritten}
 
--- a call that is not set aside goes on for itself
-pub own_step : (m : Machine) (answer : Answer) → Goes m answer → left_by m.call.state ≡ None → IsOwnStep m answer
-own_step m answer (inl waits) none = let f : None ≡ Some waits.from = sym none ∙ waits.left in absurd cc
-own_step m answer (inr (inl own)) none = own
-own_step m answer (inr (inr (inl entered))) none = let f : None ≡ Some entered.from = sym none ∙ entered.left in absurd cc
-own_step m answer (inr (inr (inr (inl begun)))) none = let f : None ≡ Some begun.from = sym none ∙ begun.left in absurd cc
-own_step m answer (inr (inr (inr (inr refused)))) none = let f : None ≡ Some refused.from = sym none ∙ refused.left in absurd cc
-
 module _ {K V S A : Type 0} (eq : K → K → Bool) (says : Says K V A) (store : StoreState K V S) (r : Running K V A) where
-  -- what a call asks for itself is answered
-  pub own_performs : (hash : S → K → ℕ) (told : Call_answer) (store' : StoreState K V S) (later : Running K V A) → r.machine.phase ≡ Calling → PerformsAsk eq says hash false (ask_of r.machine) store r (answers.Call told) store' later → Performs eq says false (call_ask r.machine.call) store r told store' later
-  own_performs hash told store' later calling performs =
-      let (other, is, own) = subst (λ phase. PerformsAsk eq says hash false (asks_in r.machine.call phase) store r (answers.Call told) store' later) calling performs in
-      let same : other ≡ told = cc is in
-      subst (λ a. Performs eq says false (call_ask r.machine.call) store r a store' later) same own
-
   -- a copy changes nothing of the call
   pub copy_stays : (hash : S → K → ℕ) (answer : Answer) (store' : StoreState K V S) (later : Running K V A) → (r.machine.phase ≡ Calling) ⊎ (PerformsAsk eq says hash false (ask_of r.machine) store r answer store' later → later ≡ r)
   copy_stays hash answer store' later = by_phase r.machine.phase refl

@@ -18,6 +18,7 @@ pub mod Inserting
 pub mod InsertingRoot
 pub mod InsertingRun
 pub mod InsertingSteps
+pub mod KeyCalls
 pub mod Lawful
 pub mod Logs
 pub mod LookFinds
@@ -25,6 +26,7 @@ pub mod LookResults
 pub mod LookRun
 pub mod LookSteps
 pub mod NoPlace
+pub mod OwnSteps
 pub mod RemovalRefused
 pub mod RemovalReply
 pub mod RemovalRoot
@@ -33,11 +35,18 @@ pub mod RemovalTurns
 pub mod RemovalWays
 pub mod Removed
 pub mod Removing
+pub mod ResizerCauses
+pub mod ResizerRun
+pub mod ResizerSizes
+pub mod ResizerSteps
+pub mod Rooms
 pub mod SeekLaw
-pub mod SeekNears
 pub mod SeekSteps
 pub mod SeekTurns
 pub mod Seeking
 pub mod Sizes
 pub mod Steps
+pub mod TableSearch
+pub mod Turns
+pub mod Unmarked
 pub mod UpdatesDone

@@ -27,6 +27,7 @@ use Rattle.papaya_timeline.specs.declared.trace.Event.{Event}
 use Rattle.papaya_timeline.specs.declared.trace.Event.TheVariants.{Begun, Replied}
 use Rattle.papaya_timeline.specs.declared.trace.Turn.TheVariants.{Begin, Finish}
 use Rattle.papaya_timeline.specs.Advances.{Advances, event_of, goes_on, reply_in as chain_reply}
+use Rattle.papaya_timeline.specs.Callers.{as_work}
 use Rattle.papaya_timeline.specs.Core.{CoreState}
 use Rattle.papaya_store.specs.Performs.{Performs, same_stored}
 use Rattle.papaya_timeline.specs.Kept.{IsLawfulCore}
@@ -47,7 +48,7 @@ module _ {K V S : Type 0} (eq : K → K → Bool) (hash : S → K → ℕ) (s : 
 
   -- the map as a core whose one caller is in this call, or in none
   abbrev pub core_in : Option (Running K V (Unit {0})) → CoreState K V S (Unit {0})
-  core_in call = record { store = s.store; callers = record { caller = 0; call = call } ∷ []; mode = s.mode; initial = s.initial }
+  core_in call = record { store = s.store; callers = record { caller = 0; work = as_work call } ∷ []; mode = s.mode; initial = s.initial }
 
   -- the key matches what the query matches
   matches_same : (o : Option (Stored K V)) → matches_in matches o ≡ same_stored eq k o
@@ -104,7 +105,7 @@ module _ {K V S : Type 0} (eq : K → K → Bool) (hash : S → K → ℕ) (s : 
         machine = refl;
         event_is = refl;
         reply_is = is ∙ ap (λ (y : Chain_machine). chain_reply (chain.ask_of y)) (sym own);
-        callers = ap (λ (y : Chain_machine). record { caller = 0; call = goes_on reply (record { machine = y; key = Own k; value = None; answers = None }) } ∷ []) (sym own);
+        callers = ap (λ (y : Chain_machine). record { caller = 0; work = as_work (goes_on reply (record { machine = y; key = Own k; value = None; answers = None })) } ∷ []) (sym own);
         mode = refl;
         initial = refl;
         cause = λ refused e. absurd (unrefused refused e);
@@ -127,12 +128,12 @@ module _ {K V S : Type 0} (eq : K → K → Bool) (hash : S → K → ℕ) (s : 
       let looks : IsLooking s.store (after m answer).state = lookup_looks eq (hash s.store.hasher) s.mode s.store lawful keys matches m is_get looking answer told in
       let fit : IsLookReply reply = look_replies s.store (after m answer).made (after m answer).hash (after m answer).state reply looks done in
       let step = told_steps m answer (Some reply) is_get looking told (sym (ap reply_in done)) (λ refused e. let is : reply ≡ Reply_refused refused = cc e in subst IsLookReply is fit) in
-      record { steps = suc steps; last = record { turn = 1; caller = 0; event = Replied reply }; before = with_event 1 0 event so_far; runs = (core_in (Some (getting m)), so_far, run, inl (event, Some reply, step, refl)); replied = refl }
+      record { steps = suc steps; last = record { turn = 1; caller = 0; event = Replied reply }; before = with_event 1 0 event so_far; runs = (core_in (Some (getting m)), so_far, run, inl (event, Some reply, inl step, refl)); replied = refl }
   run_rest begun m so_far steps answer (next ∷ rest) reply is_get looking run (told, more) =
       let event : Event = event_at m answer in
       let looks : IsLooking s.store (after m answer).state = lookup_looks eq (hash s.store.hasher) s.mode s.store lawful keys matches m is_get looking answer told in
       let step = told_steps m answer None is_get looking told (sym (told_goes (ask_of (after m answer)) next more.0)) (λ refused e. absurd cc) in
-      run_rest begun (after m answer) (with_event 1 0 event so_far) (suc steps) next rest reply ((same_task m answer).0 ∙ is_get) looks (core_in (Some (getting m)), so_far, run, inl (event, None, step, refl)) more
+      run_rest begun (after m answer) (with_event 1 0 event so_far) (suc steps) next rest reply ((same_task m answer).0 ∙ is_get) looks (core_in (Some (getting m)), so_far, run, inl (event, None, inl step, refl)) more
 
   -- the whole call
   pub look_alone : hash s.store.hasher k < 2 ^ 64 → (answers : List Answer) (reply : Reply) → Replies matches s.store (started Get_task (hash s.store.hasher k) s.mode s.initial) answers reply → RunsAlone eq hash (core_of s) (Get k) reply (core_in None)
@@ -145,6 +146,6 @@ module _ {K V S : Type 0} (eq : K → K → Bool) (hash : S → K → ℕ) (s : 
         steps = run.steps;
         last = run.last;
         before = run.before;
-        runs = (Finish 0 run.steps, core_in (Some (getting m)), with_event 0 0 Begun [], refl, (Begin 0 (Get k), core_of s, [], refl, (refl, refl), inl (refl, record { store = refl; callers = refl; mode = refl; initial = refl; fits = fits; power = power }, refl)), run.runs);
+        runs = (Finish 0 run.steps, core_in (Some (getting m)), with_event 0 0 Begun [], refl, (Begin 0 (Get k), core_of s, [], refl, (refl, refl), inl (refl, record { store = refl; callers = refl; mode = refl; initial = refl; fits = λ j e. subst (λ x. hash s.store.hasher x < 2 ^ 64) (let same : k ≡ j = cc e in same) fits; power = power }, refl)), run.runs);
         replied = run.replied;
       }

@@ -7,7 +7,7 @@ use Rattle.std.specs.Fn.{Mut}
 use Rattle.papaya_rests.specs.Says.{Agrees, said_of_removal}
 use Rattle.papaya_words.specs.declared.probe.Refused.{Refused as Refused_words}
 use Rattle.papaya_ask.specs.declared.call.Reply.{Reply}
-use Rattle.papaya_ask.specs.declared.call.Reply.TheVariants.{Absent, Found, Inserted, Replaced, Occupied, Removed, Kept, Aborted, Refused}
+use Rattle.papaya_ask.specs.declared.call.Reply.TheVariants.{Absent, Found, Inserted, Replaced, Occupied, Removed, Kept, Aborted, Done, Refused}
 use Rattle.papaya_timeline.specs.Content.{content, map_in}
 use Rattle.papaya_timeline.specs.Maps.{Does, IsUpdate}
 use Rattle.papaya_timeline.specs.Solo.{IsAnswered}
@@ -127,6 +127,7 @@ module _ {K V S F : Type 0} (g : Mut F (Bor K × (Bor V × Unit {0})) Bool) (eq 
       (p, holds, unchanged (Some p) (subst (λ o. IsUpdate eq k (Some p) o (map_in eq s) (map_in eq s')) came update), said p n false holds.logged judged)
   removal_done (Refused refused) answered judged = answered.0
   removal_done (Aborted t) answered judged = absurd (aborted_not t answered.went answered.came answered.does)
+  removal_done Done answered judged = let f : Some k ≡ None = answered.0 in absurd cc
   removal_done (Found n) answered judged = absurd (found_not n answered.went answered.came answered.does)
   removal_done (Inserted n) answered judged = absurd (inserted_not n answered.went answered.came answered.does)
   removal_done (Replaced m n) answered judged = absurd (replaced_not m n answered.went answered.came answered.does)

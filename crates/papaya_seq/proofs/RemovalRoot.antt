@@ -1,13 +1,12 @@
 -- A removal in a map of which no pairs are being moved: it stays in the root table, which keeps its slots and has no next one, and is not refused.
-use Rattle.std.proofs.Common.{◌≡◌, ⊎_elim, ◌≢◌, ℕ, ◌==◌, ◌<◌, ◌-◌, nat_lt, slice_get, slice_set, length, length-set, Bool, true, false, cond, Option, Some, None, List, refl, sym, ◌∙◌, ap, subst, arith}
+use Rattle.std.proofs.Common.{◌≡◌, ⊎_elim, ◌≢◌, ℕ, ◌==◌, ◌-◌, nat_lt, slice_get, slice_set, length, length-set, Bool, true, false, cond, Option, Some, None, refl, sym, ◌∙◌, ap, subst}
 use denote.Ref.{Bor}
 use Rattle.std.specs.Fn.{Mut}
 use Rattle.std.proofs.lemmas.Bool.{cond_both}
 use Rattle.papaya_words.specs.Table.{TableWords}
-use Rattle.papaya_words.specs.Word.{byte_of, kind_of, pair_of as number_of, top_byte}
+use Rattle.papaya_words.specs.Word.{kind_of, pair_of as number_of}
 use Rattle.papaya_words.specs.declared.probe.ResizeMode.{ResizeMode}
 use Rattle.papaya_words.specs.declared.probe.ResizeMode.TheVariants.{Incremental, Blocking}
-use Rattle.papaya_words.specs.declared.word.Kind.{Kind}
 use Rattle.papaya_words.specs.declared.word.Kind.TheVariants as kinds
 use Rattle.papaya_call.specs.Machine.{ask_of as call_ask_of, goes_as, passes, removes}
 use Rattle.papaya_call.specs.Remove.{grave_word}
@@ -16,14 +15,13 @@ use Rattle.papaya_call.specs.declared.machine.State.{State}
 use Rattle.papaya_call.specs.declared.machine.State.TheVariants.{AtRoot, Making, Opening, Searching, Writing, Offering, Showing, Pairing, Putting, Burying, Counting, Uncounting, Leaving, Growing, Ended}
 use Rattle.papaya_call.specs.declared.remove.Removal.{Removal}
 use Rattle.papaya_call.specs.declared.write.Made.{Made}
-use Rattle.papaya_ask.specs.Search.{at_yes as search_compared, go_on, look, look_at, match_at, next_place}
+use Rattle.papaya_ask.specs.Search.{look}
 use Rattle.papaya_ask.specs.declared.ask.Answer.{Answer as Call_answer}
 use Rattle.papaya_ask.specs.declared.ask.Answer.TheVariants.{Word as Word_read, Exchanged, Yes, Ok as Ok_done}
 use Rattle.papaya_ask.specs.declared.ask.At.TheVariants.{Next, Slot}
 use Rattle.papaya_ask.specs.declared.call.Reply.{Reply}
 use Rattle.papaya_ask.specs.declared.call.Reply.TheVariants.{Absent, Refused as Reply_refused}
 use Rattle.papaya_ask.specs.declared.call.Task.TheVariants.{RemoveIf}
-use Rattle.papaya_ask.specs.declared.search.Place.{Place}
 use Rattle.papaya_ask.specs.declared.search.Search.TheVariants.{Sizing, Looking, Comparing}
 use Rattle.papaya_ask.specs.declared.search.Seen.{Seen}
 use Rattle.papaya_ask.specs.declared.search.Seen.TheVariants as seen
@@ -32,38 +30,19 @@ use Rattle.papaya_chain.specs.declared.ask.Answer.TheVariants as answers
 use Rattle.papaya_chain.specs.declared.machine.Machine.{Machine}
 use Rattle.papaya_chain.specs.declared.machine.Phase.TheVariants.{Calling}
 use Rattle.papaya_chain.specs.Machine.{after, ask_of, asks_in, started}
-use Rattle.papaya_law.specs.Code.{IsOfKind}
-use Rattle.papaya_law.specs.Exchange.{run, start}
-use Rattle.papaya_law.specs.Invariant.{shut}
-use Rattle.papaya_law.proofs.CodeViews.{word_of_kind}
-use Rattle.papaya_law.proofs.OneMap.{sound}
 use Rattle.papaya_rests.specs.Alone.{IsRead}
 use Rattle.papaya_rests.proofs.AloneSteps.{exchange_done}
 use Rattle.papaya_store.specs.Performs.{size_of}
 use Rattle.papaya_store.specs.Store.{StoreState, Stored, pair_of}
-use Rattle.papaya_store.specs.Tables.{Tables, put, put_in, table_of, word_at, word_in}
-use Rattle.papaya_timeline.specs.Kept.{IsLawfulCore, coding_of, low, setting_of}
-use Rattle.papaya_timeline.specs.declared.seat.Seat.{Seat}
+use Rattle.papaya_store.specs.Tables.{Tables, put, put_in, table_of, word_at}
 use Rattle.papaya_timeline.proofs.CoreLemmas.{cases_same}
-use Rattle.papaya_timeline.proofs.KeptSettings.{IsLawfulKeys, tables_hashed}
 use Rattle.papaya_timeline.proofs.KeptTables.{table_at, written-here, written-other, written-root}
 use Rattle.papaya_seq.specs.Looks.{matches_in}
 use Rattle.papaya_seq.specs.Map.{next_in, next_of, slots_in, slots_of}
 use Rattle.papaya_seq.specs.Removes.{IsRemovalAnswer, IsShown}
 use Rattle.papaya_seq.proofs.SeekTurns.{IsAnswered}
-
--- no pair is marked in a table without a next one
-pub unmarked : {K V S A : Type 0} (eq : K → K → Bool) (hash : K → ℕ) (callers : List (Seat K V A)) (mode : ResizeMode) (store : StoreState K V S) → IsLawfulKeys eq hash → IsLawfulCore eq hash store callers mode
-    → (t : ℕ) → word_at store.words (Next t) ≡ 0 → (i : ℕ) → kind_of (word_at store.words (Slot t i)) ≡ kinds.Marked → ⊥
-unmarked {K} {V} {S} {A} eq hash callers mode store keys lawful t last i marked =
-    let (es, (tales, kept)) = lawful.law in
-    let setting = setting_of {V = V} eq (low hash) mode store.words.tables in
-    let now = run es start in
-    let of_kind : IsOfKind (kind_of (word_at store.words (Slot t i))) (now.slot t i) = subst (λ n. IsOfKind (kind_of n) (now.slot t i)) (kept.coded (Slot t i)) (word_of_kind setting (coding_of {V = V} (low hash)) (now.slot t i)) in
-    let word : IsOfKind kinds.Marked (now.slot t i) = subst (λ k. IsOfKind k (now.slot t i)) marked of_kind in
-    let further : 0 < now.next t = (sound setting (tables_hashed {V = V} eq hash keys mode store.words.tables lawful.core.sizes).lawful es kept.allowed).further t i (ap shut word.1) in
-    let none : now.next t ≡ 0 = kept.coded (Next t) ∙ last in
-    absurd (omega (arith, further, none))
+use Rattle.papaya_seq.proofs.TableSearch.{IsSearchIn, IsSeenIn, IsSettledKind, compared_in, loaded_in, settled_kind, settled_live}
+use Rattle.papaya_seq.proofs.Unmarked.{next_is}
 
 -- a table is as long as another, and has the same next one
 pub record IsAsLong (o o' : Option TableWords) : Type 0 where
@@ -105,14 +84,6 @@ module _ (w : Tables) (n i word : ℕ) where
           (λ (other : u ≢ n). subst (λ o. IsAsLong (table_of w.tables u) o) (sym (written-other w (Slot n i) n word t there u other)) (record { slots = refl; next = refl }))
           (cases_same u n)
 
--- the next table's number is the word that stands there
-pub next_is : (tables : List TableWords) (t : ℕ) → word_in (λ v. v.next) (table_of tables t) ≡ next_in (table_of tables t)
-next_is tables t = by_table (table_of tables t)
-  where
-    by_table : (o : Option TableWords) → word_in (λ v. v.next) o ≡ next_in o
-    by_table None = refl
-    by_table (Some v) = refl
-
 -- the words of the root table, as another store has them
 pub record IsRootOf {K V S : Type 0} (s s' : StoreState K V S) : Type 0 where
   pub root : s'.words.root ≡ s.words.root
@@ -126,12 +97,6 @@ same_root {K} {V} {S} s s' same = record {
   next = ap (λ (y : StoreState K V S). next_of y) same;
 }
 
--- a word that may be compared in the root table
-abbrev pub IsComparable : Kind → Type 0
-IsComparable kinds.Live = Unit {0}
-IsComparable kinds.Copied = Unit {0}
-IsComparable _ = ⊥
-
 -- a reply that is no refusal
 abbrev pub IsEnd : Reply → Type 0
 IsEnd (Reply_refused refused) = ⊥
@@ -140,9 +105,7 @@ IsEnd _ = Unit {0}
 -- a removal that stays in the root table
 abbrev pub IsRootStage : ℕ → State → Type 0
 IsRootStage root AtRoot = Unit {0}
-IsRootStage root (Searching (Sizing t)) = t ≡ root
-IsRootStage root (Searching (Looking at)) = at.table ≡ root
-IsRootStage root (Searching (Comparing at word)) = (at.table ≡ root) × IsComparable (kind_of word)
+IsRootStage root (Searching search) = IsSearchIn (λ word. IsSettledKind (kind_of word)) root search
 IsRootStage root (Showing removal) = Unit {0}
 IsRootStage root (Burying removal) = Unit {0}
 IsRootStage root (Uncounting n) = Unit {0}
@@ -150,49 +113,15 @@ IsRootStage root (Leaving t) = t ≡ root
 IsRootStage root (Ended reply) = IsEnd reply
 IsRootStage root _ = ⊥
 
--- what a search of the root table sees
-abbrev IsRootSight : ℕ → Seen → Type 0
-IsRootSight root (seen.On search) = IsRootStage root (Searching search)
-IsRootSight root (seen.Empty at) = Unit {0}
-IsRootSight root (seen.Here at word) = kind_of word ≡ kinds.Live
-IsRootSight root (seen.Over t) = t ≡ root
-
-module _ (root : ℕ) (at : Place) (here : at.table ≡ root) where
-  go_on_root : IsRootSight root (go_on at)
-  go_on_root = cond_both (nat_lt at.probe.len at.limit) (seen.On (Looking (next_place at))) (seen.Over at.table) (IsRootSight root) (λ _. here) (λ _. here)
-
-  compared_byte : (hash word : ℕ) → IsComparable (kind_of word) → IsRootSight root (cond (byte_of word == top_byte hash) (seen.On (Comparing at word)) (go_on at))
-  compared_byte hash word comparable = cond_both (byte_of word == top_byte hash) (seen.On (Comparing at word)) (go_on at) (IsRootSight root) (λ _. (here, comparable)) (λ _. go_on_root)
-
-  look_root : (hash word : ℕ) (kind : Kind) → kind_of word ≡ kind → (kind ≡ kinds.Marked → ⊥) → IsRootSight root (look_at kind at hash word)
-  look_root hash word kinds.Empty is open_still = tt
-  look_root hash word kinds.Live is open_still = compared_byte hash word (subst IsComparable (sym is) tt)
-  look_root hash word kinds.Marked is open_still = absurd (open_still refl)
-  look_root hash word kinds.Copied is open_still = compared_byte hash word (subst IsComparable (sym is) tt)
-  look_root hash word kinds.Buried is open_still = go_on_root
-  look_root hash word kinds.Closed is open_still = go_on_root
-
-  matched_root : (word : ℕ) (kind : Kind) → kind_of word ≡ kind → IsComparable kind → IsRootSight root (match_at kind at word)
-  matched_root word kinds.Live is comparable = is
-  matched_root word kinds.Copied is comparable = here
-  matched_root word kinds.Empty is comparable = absurd comparable
-  matched_root word kinds.Marked is comparable = absurd comparable
-  matched_root word kinds.Buried is comparable = absurd comparable
-  matched_root word kinds.Closed is comparable = absurd comparable
-
-  compared_root : (word : ℕ) → IsComparable (kind_of word) → (b : Bool) → IsRootSight root (search_compared (Comparing at word) b)
-  compared_root word comparable true = matched_root word (kind_of word) refl comparable
-  compared_root word comparable false = go_on_root
-
 passes_root : (root : ℕ) (mode : ResizeMode) (fill : Option ℕ) (t : ℕ) → t ≡ root → IsRootStage root (passes RemoveIf mode fill t)
 passes_root root (Incremental chunk) fill t here = here
 passes_root root Blocking fill t here = tt
 
 -- where a search of it leads
-goes_root : (root : ℕ) (mode : ResizeMode) (held : Remembered) (sight : Seen) → IsRootSight root sight → IsRootStage root (goes_as RemoveIf mode held sight)
+goes_root : (root : ℕ) (mode : ResizeMode) (held : Remembered) (sight : Seen) → IsSeenIn (λ word. IsSettledKind (kind_of word)) root sight → IsRootStage root (goes_as RemoveIf mode held sight)
 goes_root root mode held (seen.On search) is = is
 goes_root root mode held (seen.Empty at) is = tt
-goes_root root mode held (seen.Here at word) live = subst (λ kind. IsRootStage root (removes kind at word)) (sym live) tt
+goes_root root mode held (seen.Here at word) (here, settled, uncopied) = subst (λ kind. IsRootStage root (removes kind at word)) (sym (settled_live (kind_of word) settled uncopied)) tt
 goes_root root mode held (seen.Over t) here = passes_root root mode held.fill t here
 
 -- The removal has stayed in the root table.
@@ -225,8 +154,8 @@ module _ {K V S F : Type 0} (g : Mut F (Bor K × (Bor V × Unit {0})) Bool) (mat
   stays st told answer e kept phase stage = subst (StaysInRoot st) (sym e) (record { kept = kept; phase = phase; stage = stage })
 
   sized_root : (t : ℕ) → t ≡ s.words.root → (answer : Call_answer) (o : Option TableWords) → answer ≡ size_of o → IsRootOf s s' → StaysInRoot (Searching (Sizing t)) answer
-  sized_root t here answer None e kept = stays (Searching (Sizing t)) Ok_done answer e kept refl here
-  sized_root t here answer (Some table) e kept = stays (Searching (Sizing t)) _ answer e kept refl here
+  sized_root t here answer None e kept = stays (Searching (Sizing t)) Ok_done answer e kept refl (here, tt)
+  sized_root t here answer (Some table) e kept = stays (Searching (Sizing t)) _ answer e kept refl (here, tt)
 
   shown_root : (removal : Removal) (answer : Call_answer) (o : Option (Stored K V)) → IsShown g o f answer f' → IsRootOf s s' → StaysInRoot (Showing removal) answer
   shown_root removal answer None (e, _) kept = stays (Showing removal) Ok_done answer e kept refl tt
@@ -242,16 +171,16 @@ module _ {K V S F : Type 0} (g : Mut F (Bor K × (Bor V × Unit {0})) Bool) (mat
   pub root_stays : (st : State) (answer : Call_answer) → IsRootStage s.words.root st → IsRead (word_at s.words) st → IsRemovalAnswer g matches (call_ask_of (at st).call) s f answer s' f' → StaysInRoot st answer
   root_stays AtRoot answer stage read (e, same, _) =
       stays AtRoot (Word_read s.words.root) answer e (same_root s s' same) refl
-      (cond_both (s.words.root == 0) (Ended Absent) (Searching (Sizing s.words.root)) (IsRootStage s.words.root) (λ _. tt) (λ _. refl))
-  root_stays (Searching (Sizing t)) answer stage read (e, same, _) = sized_root t stage answer (table_of s.words.tables t) e (same_root s s' same)
+      (cond_both (s.words.root == 0) (Ended Absent) (Searching (Sizing s.words.root)) (IsRootStage s.words.root) (λ _. tt) (λ _. (refl, tt)))
+  root_stays (Searching (Sizing t)) answer stage read (e, same, _) = sized_root t stage.0 answer (table_of s.words.tables t) e (same_root s s' same)
   root_stays (Searching (Looking place)) answer stage read (e, same, _) =
       let word = word_at s.words (Slot place.table place.probe.i) in
       stays (Searching (Looking place)) (Word_read word) answer e (same_root s s' same) refl
       (goes_root s.words.root mode held (look place hashed word)
-      (look_root s.words.root place stage hashed word (kind_of word) refl (λ marked. open_still place.probe.i (ap (λ t. kind_of (word_at s.words (Slot t place.probe.i))) (sym stage) ∙ marked))))
-  root_stays (Searching (Comparing place word)) answer (here, comparable) read (e, same, _) =
+      (loaded_in (λ n. IsSettledKind (kind_of n)) s.words.root (Looking place) hashed word stage (settled_kind (kind_of word) (λ marked. open_still place.probe.i (ap (λ t. kind_of (word_at s.words (Slot t place.probe.i))) (sym stage.0) ∙ marked)))))
+  root_stays (Searching (Comparing place word)) answer stage read (e, same, _) =
       stays (Searching (Comparing place word)) (Yes (matches_in matches (pair_of s (number_of word)))) answer e (same_root s s' same) refl
-      (goes_root s.words.root mode held _ (compared_root s.words.root place here word comparable (matches_in matches (pair_of s (number_of word)))))
+      (goes_root s.words.root mode held _ (compared_in (λ n. IsSettledKind (kind_of n)) s.words.root (Comparing place word) (matches_in matches (pair_of s (number_of word))) stage))
   root_stays (Showing removal) answer stage read (shown, same) = shown_root removal answer (pair_of s (number_of removal.word)) shown (same_root s s' same)
   root_stays (Burying removal) answer stage read (exchanges, _) =
       let n = removal.place.table in

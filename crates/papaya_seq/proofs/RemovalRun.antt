@@ -28,11 +28,14 @@ use Rattle.papaya_timeline.proofs.KeptLemmas.{IsLawfulKeys}
 use Rattle.papaya_timeline.proofs.StoreLemmas.{performed_ask, unnumbered}
 use Rattle.papaya_seq.specs.Map.{IsLawfulMap, MapState, next_of}
 use Rattle.papaya_seq.proofs.Ending.{left_of}
-use Rattle.papaya_seq.proofs.RemovalRoot.{IsInRoot, in_root_begun, in_root_more, unmarked}
+use Rattle.papaya_seq.proofs.RemovalRoot.{IsInRoot, in_root_begun, in_root_more}
 use Rattle.papaya_seq.proofs.RemovalTurns.{IsJudged, judged_more}
 use Rattle.papaya_seq.proofs.SeekTurns.{IsAnswered}
 use Rattle.papaya_seq.proofs.Removing.{IsLogOf, answered_going, log_kept, performed, removal_by, removing}
-use Rattle.papaya_seq.proofs.Steps.{HasCome, IsOver, came_more, came_nears, made_alone, made_caused, made_goes, made_none}
+use Rattle.papaya_seq.proofs.Steps.{HasCome, came_more, came_nears, made_alone, made_caused, made_goes, made_none}
+use Rattle.papaya_seq.proofs.Turns.{IsOver}
+use Rattle.papaya_seq.proofs.KeyCalls.{keyed_removal}
+use Rattle.papaya_seq.proofs.Unmarked.{unmarked}
 
 -- a machine that has replied has ended
 pub ended_at : (m : Machine) (reply : Reply) → ask_of m ≡ asks.Call (Ask_done reply) → m.call.state ≡ Ended reply
@@ -54,15 +57,15 @@ module _ {K V S F : Type 0} (g : Mut F (Bor K × (Bor V × Unit {0})) Bool) (eq 
 
   -- The removal came there as one by this key, and its closure was called at most once. Where no pairs are being moved, it is in the root table.
   pub record IsMatchedRun (k : K) (s : StoreState K V S) (f : F) (m : Machine) : Type 0 where
-    pub came : HasCome eq hash map (removal_by k) s (removing m k)
+    pub came : HasCome eq hash map (keyed_removal k) s (removing m k)
     pub judged : IsJudged g matches map.store agrees (said_in RemoveIf m.call.state) f
     pub rooted : next_of map.store ≡ 0 → IsInRoot map.store s m
 
   -- as it begins
   pub matched_begun : (k : K) → IsKey k → IsMatchedRun k map.store agrees (started RemoveIf hashed map.mode map.initial)
   matched_begun k key = record {
-    came = subst (λ h. HasCome eq hash map (removal_by k) map.store (removing (started RemoveIf h map.mode map.initial) k)) key.hashes
-        (made_none eq hash map (removal_by k) key.keys key.lawful (subst (λ h. h < 2 ^ 64) (sym key.hashes) key.fits));
+    came = subst (λ h. HasCome eq hash map (keyed_removal k) map.store (removing (started RemoveIf h map.mode map.initial) k)) key.hashes
+        (made_none eq hash map (keyed_removal k) key.keys key.lawful (subst (λ h. h < 2 ^ 64) (sym key.hashes) key.fits));
     judged = refl;
     rooted = λ single. in_root_begun map.store hashed map.mode map.initial;
   }
@@ -88,26 +91,26 @@ module _ {K V S F : Type 0} (g : Mut F (Bor K × (Bor V × Unit {0})) Bool) (eq 
 
     -- a refusal has a cause
     pub matched_caused : (refused : Refused) → reply_in (ask_of (after m answer)) ≡ Some (Reply_refused refused) → IsCause m answer refused
-    matched_caused refused e = made_caused eq hash map (removal_by k) s (removing m k) answer s' (removing m k) going performs refl key.keys now.came refused e
+    matched_caused refused e = made_caused eq hash map (keyed_removal k) s (removing m k) answer s' (removing m k) going performs refl key.keys now.came refused e
 
     -- after it
     pub matched_more : IsMatchedRun k s' f' (after m answer)
     matched_more = record {
-      came = came_more eq hash map (removal_by k) s (removing m k) answer s' (removing m k) going performs refl key.keys now.came;
+      came = came_more eq hash map (keyed_removal k) s (removing m k) answer s' (removing m k) going performs refl key.keys now.came;
       judged = judged_more g matches map.store agrees eq hash s f s' f' (log_kept map.store s log) m now.came.task answer
-          (made_goes eq hash map (removal_by k) s (removing m k) answer s' (removing m k) going performs refl key.keys now.came) stands.call.state read now.judged told;
+          (made_goes eq hash map (keyed_removal k) s (removing m k) answer s' (removing m k) going performs refl key.keys now.came) stands.call.state read now.judged told;
       rooted = λ single. in_root_more g eq hash matches map.store s f s' f' m answer single now.came.task
           (unmarked eq (hash map.store.hasher) _ map.mode s key.keys now.came.lawful) read (now.rooted single) told;
     }
 
     -- and nearer its end
     pub matched_nears : left_of s' (after m answer) < left_of s m
-    matched_nears = came_nears eq hash map (removal_by k) s (removing m k) answer s' (removing m k) going performs refl key.keys now.came
+    matched_nears = came_nears eq hash map (keyed_removal k) s (removing m k) answer s' (removing m k) going performs refl key.keys now.came
 
   module _ (k : K) (key : IsKey k) (s : StoreState K V S) (f : F) (m : Machine) (now : IsMatchedRun k s f m) (reply : Reply) (ends : ask_of m ≡ asks.Call (Ask_done reply)) where
     -- it was made alone
     pub matched_over : IsOver eq hash map (removal_by k) s reply
-    matched_over = made_alone eq hash map (removal_by k) key.keys key.lawful (subst (λ h. h < 2 ^ 64) (sym key.hashes) key.fits) s (removing m k) reply (ap reply_in ends) (λ _ _ _. now.came)
+    matched_over = made_alone eq hash map (keyed_removal k) key.keys key.lawful (subst (λ h. h < 2 ^ 64) (sym key.hashes) key.fits) s (removing m k) reply (ap reply_in ends) (λ _ _ _. now.came)
 
     -- its reply is what its closure said
     pub matched_judged : IsJudged g matches map.store agrees (said_of_removal reply) f

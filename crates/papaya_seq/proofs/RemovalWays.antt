@@ -26,12 +26,13 @@ use Rattle.papaya_seq.proofs.Ending.{left_of}
 use Rattle.papaya_seq.proofs.Lawful.{IsMatched, MatchesNone, decided}
 use Rattle.papaya_chain_rests.specs.Goes.{IsCause}
 use Rattle.papaya_seq.proofs.RemovalRefused.{cause_makes}
-use Rattle.papaya_seq.proofs.RemovalRoot.{IsInRoot, IsRootStage, in_root_begun, in_root_more, unmarked}
+use Rattle.papaya_seq.proofs.RemovalRoot.{IsInRoot, IsRootStage, in_root_begun, in_root_more}
 use Rattle.papaya_seq.proofs.RemovalRun.{IsKey, IsMatchedRun, ended_at, matched_begun, matched_caused, matched_fit, matched_more, matched_nears}
 use Rattle.papaya_seq.proofs.SeekLaw.{seek_caused, seek_core, seek_fit, seek_more, seek_nears}
 use Rattle.papaya_seq.proofs.Seeking.{IsSeeking, seek_begin}
 use Rattle.papaya_seq.proofs.SeekTurns.{IsAnswered}
 use Rattle.papaya_seq.proofs.Removing.{IsLogOf, answered_going, answered_log, log_more, removal_asks, same_log}
+use Rattle.papaya_seq.proofs.Unmarked.{unmarked}
 
 -- an ask of the call is the machine's own
 own_ask : (m : Machine) (ask : Call_ask) → ask_of m ≡ asks.Call ask → call_ask_of m.call ≡ ask

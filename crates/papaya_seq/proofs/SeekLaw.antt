@@ -31,7 +31,7 @@ use Rattle.papaya_seq.proofs.Seeking.{IsSeeking, Seeks, own_hashed, own_setting}
 use Rattle.papaya_seq.proofs.SeekTurns.{IsAnswered, IsTurn, turn_caused, turned}
 use Rattle.papaya_chain_rests.specs.Goes.{IsCause}
 use Rattle.papaya_seq.proofs.SeekSteps as steps
-use Rattle.papaya_seq.proofs.SeekNears.{turn_nears}
+use Rattle.papaya_seq.proofs.SeekSteps.{turn_nears}
 
 -- what such a call replies
 ends_in : (made : Made) (hash : ℕ) (st : State) → Seeks st → (reply : Reply) → reply_in (asks.Call (calls.asks made hash st)) ≡ Some reply → (reply ≡ Absent) ⊎ ((refused : Refused) × (reply ≡ Reply_refused refused))

@@ -306,6 +306,7 @@ module _ {K V S : Type 0} (eq : K → K → Bool) (hash : S → K → ℕ) (s : 
     few = left.few seeking.kept.few;
     tables_few = left.tables_few seeking.kept.tables_few;
     calls = λ d q e. absurd cc;
+    resizers = λ d z e. absurd cc;
     apart = λ d e q q' x. absurd cc;
   }
 

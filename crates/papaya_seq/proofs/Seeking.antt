@@ -114,7 +114,7 @@ module _ {K V S : Type 0} (eq : K → K → Bool) (hash : S → K → ℕ) (s : 
           tale = tale;
           core = core;
           kept = subst (λ l. IsKept {A = Unit {0}} eq (hash s.store.hasher) s.mode s.store [] l (λ d. tale)) same_es
-              (record { allowed = kept.allowed; coded = kept.coded; made = kept.made; logged = kept.logged; few = kept.few; tables_few = kept.tables_few; calls = λ d r e. absurd cc; apart = λ d e r q x. absurd cc });
+              (record { allowed = kept.allowed; coded = kept.coded; made = kept.made; logged = kept.logged; few = kept.few; tables_few = kept.tables_few; calls = λ d r e. absurd cc; resizers = λ d z e. absurd cc; apart = λ d e r q x. absurd cc });
           rests = record {
             chunked = core.chunked;
             call = record { hash = refl; mode = mode_of s.mode; made = record { keys = λ q l. absurd l; made_is = tt; fill_is = tt; choice_is = tt }; stage = tt };

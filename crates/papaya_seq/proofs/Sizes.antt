@@ -27,7 +27,7 @@ module _ (Sized : ℕ → ℕ → Type 0) where
   abbrev pub Told : Link → ℕ → Type 0
   Told made slots = (behind : ℕ) (unfit : Bool) → made ≡ links.Sizing behind unfit → Sized behind slots
 
-  abbrev New : Link → ℕ → Type 0
+  abbrev pub New : Link → ℕ → Type 0
   New made n = Unit {0}
 
   -- in other words
@@ -67,7 +67,7 @@ module _ (Sized : ℕ → ℕ → Type 0) where
   link_found (links.Linking behind table) word h = tt
   link_found other word h = h
 
-  stable : IsStable IsSizedLink Told New
+  pub stable : IsStable IsSizedLink Told New
   stable = record {
     fresh = λ behind unfit. tt;
     sizes = link_size;

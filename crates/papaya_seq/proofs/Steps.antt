@@ -1,9 +1,7 @@
 -- The call of a map for one caller as the steps of a core with one seat.
 use Rattle.std.proofs.Common.{◌≡◌, ◌⊎◌, ℕ, suc, ◌^◌, ◌<◌, Bool, false, Option, None, Some, List, [], ◌∷◌, ◌++◌, inl, refl, sym, ◌∙◌, ap, subst, arith}
-use Rattle.std.specs.Int.{IsPowerOfTwo}
 use Rattle.papaya_words.specs.declared.probe.Refused.{Refused}
 use Rattle.papaya_words.specs.declared.probe.ResizeMode.{ResizeMode}
-use Rattle.papaya_ask.specs.declared.call.Call.{Call}
 use Rattle.papaya_ask.specs.declared.call.Reply.{Reply}
 use Rattle.papaya_ask.specs.declared.call.Reply.TheVariants.{Refused as Reply_refused}
 use Rattle.papaya_rests.specs.Rests.{change_in}
@@ -24,30 +22,31 @@ use Rattle.papaya_store.specs.declared.pairs.Running.{Running}
 use Rattle.papaya_timeline.specs.declared.trace.Entry.{Entry}
 use Rattle.papaya_timeline.specs.declared.trace.Event.{Event}
 use Rattle.papaya_timeline.specs.declared.trace.Event.TheVariants.{Begun, Replied}
-use Rattle.papaya_timeline.specs.declared.trace.Turn.TheVariants.{Begin, Finish}
 use Rattle.papaya_timeline.specs.declared.seat.Seat.{Seat}
 use Rattle.papaya_timeline.specs.Advances.{Advances, event_of, goes_on, reply_in}
-use Rattle.papaya_timeline.specs.Begins.{Begins, begun, key_of_call, task_of_call}
-use Rattle.papaya_timeline.specs.Callers.{running}
+use Rattle.papaya_timeline.specs.Callers.{as_work, call_in, running}
 use Rattle.papaya_timeline.specs.Core.{CoreState}
 use Rattle.papaya_timeline.specs.Ends.{IsLone, IsNearer, lone_measure}
-use Rattle.papaya_timeline.specs.Kept.{IsLawfulCore, begun_tales, coding_of, low, setting_of, told_tales}
-use Rattle.papaya_timeline.specs.Runs.{History, StepsRun, TurnsRun, with_event, with_step}
-use Rattle.papaya_timeline.specs.Solo.{RunsAlone, whatever}
+use Rattle.papaya_timeline.specs.Kept.{IsLawfulCore, coding_of, low, setting_of, told_tales}
+use Rattle.papaya_timeline.specs.Resized.{IsLoneWork}
+use Rattle.papaya_timeline.specs.Runs.{History, StepsRun, with_event, with_step}
+use Rattle.papaya_timeline.specs.Solo.{whatever}
 use Rattle.papaya_timeline.proofs.Abandoned.{IsLeft, call_left}
 use Rattle.papaya_timeline.proofs.CallersLemmas.{same_item}
 use Rattle.papaya_timeline.proofs.CoreLemmas.{reply_asked}
-use Rattle.papaya_timeline.proofs.HeadlineLemmas.{advance-core, begin-core}
+use Rattle.papaya_timeline.proofs.HeadlineLemmas.{advance-core}
 use Rattle.papaya_timeline.proofs.KeptCore.{performs-hasher}
-use Rattle.papaya_timeline.proofs.KeptLemmas.{IsLawfulKeys, IsStep, kept_begin, kept_step}
+use Rattle.papaya_timeline.proofs.KeptLemmas.{IsLawfulKeys, IsStep, kept_step}
 use Rattle.papaya_timeline.proofs.KeptStep as kept_steps
 use Rattle.papaya_timeline.proofs.SoloEnds.{lone_begin, lone_step}
 use Rattle.papaya_seq.specs.Map.{IsLawfulMap, MapState, Unchanged, core_of}
 use Rattle.papaya_seq.proofs.Ending.{left_of, left_to}
+use Rattle.papaya_seq.proofs.KeyCalls.{KeyCall, first_of, key_fits}
+use Rattle.papaya_seq.proofs.Turns.{IsOver, begins_so, last_entry, made_over, seated_work, start, turns_made}
 
--- a core whose one seat has this call
+-- a core whose one seat has this call on a key
 abbrev pub seated : {K V S A : Type 0} → StoreState K V S → Option (Running K V A) → ResizeMode → ℕ → CoreState K V S A
-seated store call mode initial = record { store = store; callers = record { caller = 0; call = call } ∷ []; mode = mode; initial = initial }
+seated store call mode initial = seated_work store (as_work call) mode initial
 
 -- a call is under way until it has replied
 abbrev pub still : {K V A : Type 0} → Running K V A → Option (Running K V A)
@@ -57,59 +56,47 @@ still r = goes_on (reply_in (ask_of r.machine)) r
 abbrev pub stepped : {K V A : Type 0} → Running K V A → Machine → Answer → Running K V A
 stepped later m answer = record later { machine = after m answer }
 
-module _ {K V S : Type 0} (eq : K → K → Bool) (hash : S → K → ℕ) (s : MapState K V S) (call : Call K V (Unit {0})) where
-  -- the call as it begins, in its seat
-  abbrev start : CoreState K V S (Unit {0})
-  start = seated s.store (Some (begun (hash s.store.hasher) s.mode s.initial call)) s.mode s.initial
-
+module _ {K V S : Type 0} (eq : K → K → Bool) (hash : S → K → ℕ) (s : MapState K V S) (call : KeyCall K V) where
   -- The call came to this by steps of the core, which is in order; where it has replied, the last of them gave the reply.
   pub record HasCome (store : StoreState K V S) (r : Running K V (Unit {0})) : Type 0 where
     pub steps : ℕ
     pub history : History
-    pub runs : StepsRun eq whatever hash 1 0 steps start (with_event 0 0 Begun []) (seated store (still r) s.mode s.initial) history
+    pub runs : StepsRun eq whatever hash 1 0 steps (start eq hash s call.call) (with_event 0 0 Begun []) (seated store (still r) s.mode s.initial) history
     pub replied : (reply : Reply) → reply_in (ask_of r.machine) ≡ Some reply → (last : Entry) × (before : History) × (history ≡ last ∷ before) × (last.event ≡ Replied reply)
-    pub lawful : IsLawfulCore eq (hash s.store.hasher) store (record { caller = 0; call = still r } ∷ []) s.mode
+    pub lawful : IsLawfulCore eq (hash s.store.hasher) store (record { caller = 0; work = as_work (still r) } ∷ []) s.mode
     -- until then it is alone, and what it has read stands there
     pub lone : reply_in (ask_of r.machine) ≡ None → IsLone eq hash (seated store (Some r) s.mode s.initial) r
     -- its key is the call's, logged or not
-    pub own : own_key store r ≡ Some (key_of_call call)
-    pub task : r.machine.call.task ≡ task_of_call call
-    pub hash_is : r.machine.call.hash ≡ hash s.store.hasher (key_of_call call)
+    pub own : own_key store r ≡ Some call.key
+    pub task : r.machine.call.task ≡ call.task
+    pub hash_is : r.machine.call.hash ≡ hash s.store.hasher call.key
     pub shows : ShowsPairs r.machine.call.state
     pub hasher : store.hasher ≡ s.store.hasher
 
   -- so from a map that is in order
   abbrev pub IsMade : StoreState K V S → Running K V (Unit {0}) → Type 0
-  IsMade store r = IsLawfulKeys eq (hash s.store.hasher) → IsLawfulMap eq (hash s.store.hasher) s.store s.mode s.initial → hash s.store.hasher (key_of_call call) < 2 ^ 64 → HasCome store r
+  IsMade store r = IsLawfulKeys eq (hash s.store.hasher) → IsLawfulMap eq (hash s.store.hasher) s.store s.mode s.initial → hash s.store.hasher call.key < 2 ^ 64 → HasCome store r
 
   -- a call that begins
-  pub made_none : IsMade s.store (begun (hash s.store.hasher) s.mode s.initial call)
+  pub made_none : IsMade s.store (first_of (hash s.store.hasher) s.mode s.initial call)
   made_none keys lawful fits =
-      let begins : Begins (hash s.store.hasher) (core_of s) 0 call start = record { store = refl; callers = refl; mode = refl; initial = refl; fits = fits; power = lawful.power } in
-      let (es, (tales, kept)) = lawful.lawful.law in
+      let first = first_of (hash s.store.hasher) s.mode s.initial call in
+      let lone : IsLone eq hash (seated s.store (Some first) s.mode s.initial) first =
+      subst (λ w. IsLoneWork eq hash (seated_work {A = Unit {0}} s.store (Some w) s.mode s.initial) w) (call.begins (hash s.store.hasher) s.mode s.initial)
+      (lone_begin eq hash (core_of s) keys call.call (start eq hash s call.call) refl lawful.lawful (begins_so eq hash s call.call (key_fits (hash s.store.hasher) call fits) lawful.power)) in
       record {
         steps = 0;
         history = with_event 0 0 Begun [];
-        runs = (refl, refl);
+        runs = (ap (λ w. seated_work s.store (Some w) s.mode s.initial) (sym (call.begins (hash s.store.hasher) s.mode s.initial)), refl);
         replied = λ reply e. let f : None ≡ Some reply = e in absurd cc;
-        lawful = record {
-          core = begin-core (hash s.store.hasher) (core_of s) 0 call start begins lawful.lawful.core;
-          law = (es, (begun_tales tales 0 es, kept_begin eq (hash s.store.hasher) keys (core_of s) 0 call start begins fits lawful.lawful.core.chunked es tales kept));
-        };
-        lone = λ going. lone_begin eq hash (core_of s) keys call start refl lawful.lawful begins;
+        lawful = lone.lawful;
+        lone = λ going. lone;
         own = refl;
         task = refl;
         hash_is = refl;
         shows = tt;
         hasher = refl;
       }
-
-  -- the last of a step's entries is its reply
-  last_entry : (event : Event) (o : Option Reply) (before : History) (reply : Reply) → o ≡ Some reply → (last : Entry) × (rest : History) × (with_step 1 0 event o before ≡ last ∷ rest) × (last.event ≡ Replied reply)
-  last_entry event None before reply e = let f : None ≡ Some reply = e in absurd cc
-  last_entry event (Some told) before reply e =
-      let same : told ≡ reply = cc in
-      (record { turn = 1; caller = 0; event = Replied told }, with_event 1 0 event before, refl, ap Replied same)
 
   module _ (store : StoreState K V S) (r : Running K V (Unit {0})) (answer : Answer) (store' : StoreState K V S) (later : Running K V (Unit {0})) (going : reply_in (ask_of r.machine) ≡ None) (performs : PerformsAsk eq whatever hash false (ask_of r.machine) store r answer store' later) (same : later.machine ≡ r.machine) (keys : IsLawfulKeys eq (hash s.store.hasher)) (came : HasCome store r) where
     -- the core with the call under way
@@ -119,8 +106,8 @@ module _ {K V S : Type 0} (eq : K → K → Bool) (hash : S → K → ℕ) (s : 
     under_way : still r ≡ Some r
     under_way = ap (λ o. goes_on o r) going
 
-    now_lawful : IsLawfulCore eq (hash s.store.hasher) store (record { caller = 0; call = Some r } ∷ []) s.mode
-    now_lawful = subst (λ o. IsLawfulCore eq (hash s.store.hasher) store (record { caller = 0; call = o } ∷ []) s.mode) under_way came.lawful
+    now_lawful : IsLawfulCore eq (hash s.store.hasher) store (record { caller = 0; work = as_work (Some r) } ∷ []) s.mode
+    now_lawful = subst (λ o. IsLawfulCore eq (hash s.store.hasher) store (record { caller = 0; work = as_work o } ∷ []) s.mode) under_way came.lawful
 
     -- the call after the answer
     abbrev next : Running K V (Unit {0})
@@ -224,7 +211,7 @@ module _ {K V S : Type 0} (eq : K → K → Bool) (hash : S → K → ℕ) (s : 
         record {
           steps = suc came.steps;
           history = with_step 1 0 event reply came.history;
-          runs = (now, came.history, subst (λ o. StepsRun eq whatever hash 1 0 came.steps start (with_event 0 0 Begun []) (seated store o s.mode s.initial) came.history) under_way came.runs, inl (event, reply, made_step, refl));
+          runs = (now, came.history, subst (λ o. StepsRun eq whatever hash 1 0 came.steps (start eq hash s call.call) (with_event 0 0 Begun []) (seated store o s.mode s.initial) came.history) under_way came.runs, inl (event, reply, inl made_step, refl));
           replied = λ x e. last_entry event reply came.history x e;
           lawful = record { core = core; law = (es ++ step.made, (told_tales tales 0 step.made step.hands, step.kept)) };
           lone = next_lone;
@@ -241,43 +228,21 @@ module _ {K V S : Type 0} (eq : K → K → Bool) (hash : S → K → ℕ) (s : 
 
   -- and the call comes nearer its end
   pub made_nears : (store : StoreState K V S) (r : Running K V (Unit {0})) (answer : Answer) (store' : StoreState K V S) (later : Running K V (Unit {0})) → reply_in (ask_of r.machine) ≡ None → PerformsAsk eq whatever hash false (ask_of r.machine) store r answer store' later → later.machine ≡ r.machine → IsMade store r
-      → IsLawfulKeys eq (hash s.store.hasher) → IsLawfulMap eq (hash s.store.hasher) s.store s.mode s.initial → hash s.store.hasher (key_of_call call) < 2 ^ 64 → left_of store' (after r.machine answer) < left_of store r.machine
+      → IsLawfulKeys eq (hash s.store.hasher) → IsLawfulMap eq (hash s.store.hasher) s.store s.mode s.initial → hash s.store.hasher call.key < 2 ^ 64 → left_of store' (after r.machine answer) < left_of store r.machine
   made_nears store r answer store' later going performs same made keys lawful fits = came_nears store r answer store' later going performs same keys (made keys lawful fits)
 
-  -- the turns of a run that made so many steps
-  pub turns_made : hash s.store.hasher (key_of_call call) < 2 ^ 64 → IsPowerOfTwo s.initial → (steps : ℕ) (s' : CoreState K V S (Unit {0})) (history : History) → StepsRun eq whatever hash 1 0 steps start (with_event 0 0 Begun []) s' history → TurnsRun eq whatever hash (Begin 0 call ∷ Finish 0 steps ∷ []) 2 (core_of s) s' history
-  turns_made fits power steps s' history runs = (
-    Finish 0 steps,
-    start,
-    with_event 0 0 Begun [],
-    refl,
-    (Begin 0 call, core_of s, [], refl, (refl, refl), inl (refl, record { store = refl; callers = refl; mode = refl; initial = refl; fits = fits; power = power }, refl)),
-    runs,
-  )
-
   -- a call under way that has changed nothing has left the map as it was
-  pub made_unchanged : IsLawfulKeys eq (hash s.store.hasher) → IsLawfulMap eq (hash s.store.hasher) s.store s.mode s.initial → hash s.store.hasher (key_of_call call) < 2 ^ 64 → (store : StoreState K V S) (r : Running K V (Unit {0})) → reply_in (ask_of r.machine) ≡ None → change_in r.machine.call.state ≡ None → HasCome store r → Unchanged eq s.store store × KeepsPairs s.store store
+  pub made_unchanged : IsLawfulKeys eq (hash s.store.hasher) → IsLawfulMap eq (hash s.store.hasher) s.store s.mode s.initial → hash s.store.hasher call.key < 2 ^ 64 → (store : StoreState K V S) (r : Running K V (Unit {0})) → reply_in (ask_of r.machine) ≡ None → change_in r.machine.call.state ≡ None → HasCome store r → Unchanged eq s.store store × KeepsPairs s.store store
   made_unchanged keys lawful fits store r going none came =
       let left : IsLeft eq hash (core_of s) (seated store (still r) s.mode s.initial) r =
-      call_left eq hash (core_of s) keys whatever (seated store (still r) s.mode s.initial) came.history r (ap (λ o. goes_on o r) going) call came.steps lawful.lawful refl (turns_made fits lawful.power came.steps (seated store (still r) s.mode s.initial) came.history came.runs) none in
+      call_left eq hash (core_of s) keys whatever (seated store (still r) s.mode s.initial) came.history r (ap (λ o. call_in (as_work (goes_on o r))) going) call.call came.steps lawful.lawful refl (turns_made eq hash s call.call (key_fits (hash s.store.hasher) call fits) lawful.power came.steps (seated store (still r) s.mode s.initial) came.history came.runs) none in
       (left.map, left.keeps)
 
-  -- The call has replied: it was made alone.
-  pub record IsOver (store : StoreState K V S) (reply : Reply) : Type 0 where
-    pub ran : RunsAlone eq hash (core_of s) call reply (seated store None s.mode s.initial)
-
-  pub made_alone : IsLawfulKeys eq (hash s.store.hasher) → IsLawfulMap eq (hash s.store.hasher) s.store s.mode s.initial → hash s.store.hasher (key_of_call call) < 2 ^ 64 → (store : StoreState K V S) (r : Running K V (Unit {0})) (reply : Reply) → reply_in (ask_of r.machine) ≡ Some reply → IsMade store r → IsOver store reply
+  -- a call that has replied was made alone
+  pub made_alone : IsLawfulKeys eq (hash s.store.hasher) → IsLawfulMap eq (hash s.store.hasher) s.store s.mode s.initial → hash s.store.hasher call.key < 2 ^ 64 → (store : StoreState K V S) (r : Running K V (Unit {0})) (reply : Reply) → reply_in (ask_of r.machine) ≡ Some reply → IsMade store r → IsOver eq hash s call.call store reply
   made_alone keys lawful fits store r reply told made =
       let came = made keys lawful fits in
       let ends = came.replied reply told in
-      let over = subst (λ (o : Option Reply). StepsRun eq whatever hash 1 0 came.steps start (with_event 0 0 Begun []) (seated store (goes_on o r) s.mode s.initial) came.history) told came.runs in
-      record {
-        ran = record {
-          idle = refl;
-          steps = came.steps;
-          last = ends.0;
-          before = ends.1;
-          runs = turns_made fits lawful.power came.steps (seated store None s.mode s.initial) (ends.0 ∷ ends.1) (subst (λ (h : History). StepsRun eq whatever hash 1 0 came.steps start (with_event 0 0 Begun []) (seated store None s.mode s.initial) h) ends.2 over);
-          replied = ends.3;
-        };
-      }
+      made_over eq hash s call.call (key_fits (hash s.store.hasher) call fits) lawful.power came.steps store came.history
+      (subst (λ (o : Option Reply). StepsRun eq whatever hash 1 0 came.steps (start eq hash s call.call) (with_event 0 0 Begun []) (seated store (goes_on o r) s.mode s.initial) came.history) told came.runs)
+      reply ends.0 ends.1 ends.2 ends.3

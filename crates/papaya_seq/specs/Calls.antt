@@ -6,13 +6,14 @@ use Rattle.papaya_call.specs.Answers.{Says}
 use Rattle.papaya_call.specs.declared.answers.Operation.{Operation}
 use Rattle.papaya_call.specs.declared.answers.Operation.TheVariants as ops
 use Rattle.papaya_ask.specs.declared.call.Call.{Call}
-use Rattle.papaya_ask.specs.declared.call.Call.TheVariants.{Get, Insert, TryInsert, RemoveIf, Compute}
+use Rattle.papaya_ask.specs.declared.call.Call.TheVariants.{Get, Insert, TryInsert, RemoveIf, Compute, Reserve, CopyAll}
 use Rattle.papaya_ask.specs.declared.call.Reply.{Reply}
-use Rattle.papaya_ask.specs.declared.call.Reply.TheVariants.{Inserted, Replaced, Removed, Kept, Aborted, Refused}
+use Rattle.papaya_ask.specs.declared.call.Reply.TheVariants.{Inserted, Replaced, Removed, Kept, Aborted, Done, Refused}
 use Rattle.papaya_timeline.specs.Content.{map_in}
 use Rattle.papaya_timeline.specs.Solo.{IsAnswered, IsNewIn}
 use Rattle.papaya_store.specs.Store.{StoreState, Stored, pair_of}
-use Rattle.papaya_seq.specs.Map.{IsResizing, IsTryCause, IsWriteCauseAt, Keeps, MapState, entry_of}
+use Rattle.papaya_seq.specs.Map.{IsResizing, IsTryCause, IsWriteCauseAt, Keeps, MapState, entry_of, next_of}
+use Rattle.papaya_seq.specs.Resizes.{HasRoomFor, IsCopyCause, IsReserveCause}
 
 -- what the closure's answers give of the pair of this number
 abbrev pub Gives : {K V S A : Type 0} → Says K V A → A → StoreState K V S → ℕ → Bool → Type 0
@@ -56,7 +57,8 @@ IsSaid eq says (Compute k a) s reply s' = IsOperated says a s (map_in eq s.store
 IsSaid eq says _ s reply s' = Unit {0}
 
 -- A lookup is never refused, an insertion for a cause, a removal only while pairs are being moved,
--- and a compute for a cause, or where its closure would remove what isn't there.
+-- and a compute for a cause, or where its closure would remove what isn't there. Room is refused for
+-- a cause, and the end of a resize for one while pairs are being moved.
 abbrev pub MayRefuse : {K V S A : Type 0} → (K → K → Bool) → MapState K V S → Call K V A
     → words.Refused → MapState K V S → Type 0
 MayRefuse eq s (Get k) refused s' = ⊥
@@ -65,6 +67,16 @@ MayRefuse eq s (TryInsert k v) refused s' = IsTryCause s (map_in eq s.store k) r
 MayRefuse eq s (RemoveIf k a) refused s' = IsResizing s
 MayRefuse eq s (Compute k a) refused s' = IsWriteCauseAt s (map_in eq s.store k) refused s'
     ⊎ (refused ≡ refusals.RemoveNothing)
+MayRefuse eq s (Reserve more) refused s' = IsReserveCause eq s more refused s'
+MayRefuse eq s CopyAll refused s' = IsCopyCause s refused s'
+
+-- What is so when a call is done: there is room, or no pairs are being moved. A call on a key has
+-- another reply.
+abbrev pub IsDone : {K V S A : Type 0} → (K → K → Bool) → Call K V A → StoreState K V S
+    → StoreState K V S → Type 0
+IsDone eq (Reserve more) s s' = HasRoomFor eq s more s'
+IsDone eq CopyAll s s' = next_of s' ≡ 0
+IsDone eq _ s s' = ⊥
 
 module _ {K V S A : Type 0} (eq : K → K → Bool) (says : Says K V A) where
   -- a call does what the finite map does, or is refused where it may be
@@ -75,6 +87,7 @@ module _ {K V S A : Type 0} (eq : K → K → Bool) (says : Says K V A) where
     pub said : IsSaid eq says call s reply s'.store
     pub cause : (refused : words.Refused) → reply ≡ Refused refused
         → MayRefuse eq s call refused s'
+    pub done : reply ≡ Done → IsDone eq call s.store s'.store
     pub keeps : Keeps s s'
 
   -- one reply a call

@@ -34,6 +34,7 @@ Replies replies.Absent aborted = ⊥
 Replies (replies.Found n) aborted = ⊥
 Replies (replies.Occupied n) aborted = ⊥
 Replies (replies.Kept n) aborted = ⊥
+Replies replies.Done aborted = ⊥
 
 -- and this is answered of it
 abbrev pub IsComputed : {T : Type 0} → Reply → Option T → Result (Computed ℕ T) Refused → Type 0
@@ -47,6 +48,7 @@ IsComputed replies.Absent aborted answer = ⊥
 IsComputed (replies.Found n) aborted answer = ⊥
 IsComputed (replies.Occupied n) aborted answer = ⊥
 IsComputed (replies.Kept n) aborted answer = ⊥
+IsComputed replies.Done aborted answer = ⊥
 
 -- the reply that says what a compute did
 abbrev pub reply_of : Result (Computed ℕ ℕ) Refused → Reply

@@ -6,3 +6,4 @@ pub mod Ends
 pub mod Looks
 pub mod Map
 pub mod Removes
+pub mod Resizes

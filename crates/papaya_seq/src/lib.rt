@@ -9,4 +9,5 @@ mod insertion;
 pub mod laws;
 mod lookup;
 mod removal;
+mod resizing;
 pub mod seq;

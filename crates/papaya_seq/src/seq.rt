@@ -1,7 +1,7 @@
 //! The map for one caller.
 ghost use Rattle.std.specs.Prelude.{◌≡◌, ◌≢◌, ◌⊎◌, ◌<◌, ◌≤◌, true, false, Some, None};
 ghost use Rattle.std.specs.Prelude.{[], ◌∷◌, ◌++◌};
-ghost use Rattle.std.specs.Prelude.{IfOk, IfErr, IsOk, IsSome, MatchOption, MatchBool, is_some};
+ghost use Rattle.std.specs.Prelude.{IfOk, IfErr, IsOk, IsSome, MatchOption, MatchResult, MatchBool, is_some};
 ghost use Rattle.std.specs.Prelude.{length, option_map, vec_len, vec_capacity};
 ghost use Rattle.std.specs.Borrow.{sem};
 ghost use Rattle.papaya_words.specs.declared.limits.TheConstants.{DEFAULT_CHUNK};
@@ -53,6 +53,16 @@ fn replied(computed: Result<Computed<u64, u64>, Refused>) -> Reply
         Ok(Computed::Updated { old, new }) => Reply::Replaced { old, new },
         Ok(Computed::Removed(pair)) => Reply::Removed(pair),
         Ok(Computed::Aborted(with)) => Reply::Aborted(with),
+        Err(refused) => Reply::Refused(refused),
+    }
+}
+
+/// What a call did that resizes the map, as a reply.
+fn resized(done: Result<(), Refused>) -> Reply
+    ensures { MatchResult done (λ _. result ≡ Reply.Done) (λ e. result ≡ Reply.Refused e) }
+{
+    match done {
+        Ok(()) => Reply::Done,
         Err(refused) => Reply::Refused(refused),
     }
 }
@@ -512,6 +522,8 @@ impl<K: Hash + Eq + Drop, V: Drop, S: BuildHasher> HashMap<K, V, S> {
             Call::Compute(key, mut answers) => {
                 replied(self.compute_by(key, |shown| answers.op(shown)).1)
             }
+            Call::Reserve(more) => resized(self.reserve(more)),
+            Call::CopyAll => resized(self.copy_all()),
         }
     }
 

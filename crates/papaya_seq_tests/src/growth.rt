@@ -11,7 +11,7 @@ use std::process::Abort;
 use std::test::Fail;
 
 /// A map of this mode, for so many pairs.
-fn made(
+pub fn made(
     alloc: Global,
     mode: ResizeMode,
     capacity: usize,
@@ -28,7 +28,7 @@ fn stores(rt: &impl Abort, map: &mut Numbers, from: u64, to: u64) {
 }
 
 /// Each key below this one is there, and the two after it are not.
-fn has_below(rt: &impl Abort, map: &Numbers, end: u64) {
+pub fn has_below(rt: &impl Abort, map: &Numbers, end: u64) {
     for key in 0..end {
         is_at(rt, key as usize, map.get(&key), Some(&key));
     }
@@ -38,7 +38,7 @@ fn has_below(rt: &impl Abort, map: &Numbers, end: u64) {
 }
 
 /// The root table has so many slots, and pairs are being moved or not.
-fn looks_so(rt: &impl Abort, map: &Numbers, keys: u64, slots: usize, resizing: bool) {
+pub fn looks_so(rt: &impl Abort, map: &Numbers, keys: u64, slots: usize, resizing: bool) {
     is_at(
         rt,
         keys as usize,
@@ -48,7 +48,7 @@ fn looks_so(rt: &impl Abort, map: &Numbers, keys: u64, slots: usize, resizing: b
 }
 
 /// Keys are stored until there are so many, and then the map looks so; and so on.
-fn fills(rt: &impl Abort, map: &mut Numbers, looks: &[(u64, usize, bool)]) {
+pub fn fills(rt: &impl Abort, map: &mut Numbers, looks: &[(u64, usize, bool)]) {
     let mut stored = 0;
     for &(keys, slots, resizing) in looks {
         stores(rt, map, stored, keys);

@@ -20,4 +20,6 @@ mod refused;
 #[cfg(test)]
 mod removals;
 #[cfg(test)]
+mod resizing;
+#[cfg(test)]
 mod texts;

@@ -1,5 +1,5 @@
 -- A call that was made alone and is given up while it has changed nothing: the map is as it was, and the core is in order without it.
-use Rattle.std.proofs.Common.{◌≡◌, ℕ, pos, ◌+ℤ◌, Bool, true, None, Some, List, [], ◌∷◌, inl, inr, sym, ◌∙◌, ap}
+use Rattle.std.proofs.Common.{◌≡◌, ℕ, pos, ◌+ℤ◌, Bool, true, None, Some, List, [], ◌∷◌, inl, inr, sym, ◌∙◌, ap, subst}
 use Rattle.std.specs.Cmp.{IsEquivalence}
 use Rattle.std.specs.Int.{w64, int_wrap}
 use Rattle.papaya_call.specs.Answers.{Says}
@@ -12,17 +12,18 @@ use Rattle.papaya_store.specs.declared.pairs.Running.{Running}
 use Rattle.papaya_store.specs.Store.{KeepsPairs}
 use Rattle.papaya_timeline.specs.declared.seat.Seat.{Seat}
 use Rattle.papaya_timeline.specs.declared.trace.Turn.TheVariants.{Begin, Finish}
-use Rattle.papaya_timeline.specs.Callers.{running}
+use Rattle.papaya_timeline.specs.Callers.{running, working}
+use Rattle.papaya_timeline.specs.declared.seat.Work.TheVariants as works
 use Rattle.papaya_timeline.specs.Content.{map_of}
 use Rattle.papaya_timeline.specs.Core.{CoreState}
 use Rattle.papaya_timeline.specs.Counted.{IsCounted, owed_in as owed_by_seats}
 use Rattle.papaya_timeline.specs.Kept.{IsLawfulCore}
 use Rattle.papaya_timeline.specs.Maps.{Same}
 use Rattle.papaya_timeline.specs.Runs.{History, TurnsRun}
-use Rattle.papaya_timeline.proofs.CallersLemmas.{same_item}
+use Rattle.papaya_timeline.proofs.CallersLemmas.{call-under_way, same_item}
 use Rattle.papaya_timeline.proofs.KeptCore.{keys_lawful}
 use Rattle.papaya_timeline.proofs.KeptLemmas.{IsLawfulKeys}
-use Rattle.papaya_timeline.proofs.SoloRun.{Goes, IsSole, runs_to, without_seat}
+use Rattle.papaya_timeline.proofs.SoloRun.{Goes, IsSole, IsUnmoved, one_seat, runs_to, without_seat}
 
 -- What a call leaves that has changed nothing, where it is taken out of its seat. Its count is right if it has nothing yet to add.
 pub record IsLeft {K V S A : Type 0} (eq : K → K → Bool) (hash : S → K → ℕ) (s s' : CoreState K V S A) (r : Running K V A) : Type 0 where
@@ -38,13 +39,13 @@ module _ {K V S A : Type 0} (eq : K → K → Bool) (hash : S → K → ℕ) (s 
   -- the call that is under way is the one that was made
   sole_left : (change_in r.machine.call.state ≡ None) → IsSole eq hash s law says s' h → IsLeft eq hash s s' r
   sole_left none sole =
-      let is : sole.call ≡ r = same_item sole.call r (sym (ap (λ (l : List (Seat K V A)). running l 0) sole.callers) ∙ under_way) in
+      let is : sole.work ≡ works.Call r = same_item sole.work (works.Call r) (sym (ap (λ (l : List (Seat K V A)). working l 0) sole.callers) ∙ call-under_way (working s'.callers 0) r under_way) in
       record {
-        map = sole.unmoved (ap (λ (q : Running K V A). change_in q.machine.call.state) is ∙ none);
+        map = subst (IsUnmoved eq hash s law says s') is sole.unmoved none;
         core = without_seat eq hash s law s' {says = says} sole.follows;
         counted = λ owes counted.
-            ap (λ z. int_wrap w64 (s'.store.count.sum +ℤ (z +ℤ pos 0))) (sym (ap (λ (q : Running K V A). owed_in (ask_of q.machine)) is ∙ owes))
-            ∙ sym (ap (λ (l : List (Seat K V A)). int_wrap w64 (s'.store.count.sum +ℤ owed_by_seats l)) sole.callers) ∙ sole.follows.counted counted;
+            ap (λ z. int_wrap w64 (s'.store.count.sum +ℤ (z +ℤ pos 0))) (sym owes)
+            ∙ sym (ap (λ (l : List (Seat K V A)). int_wrap w64 (s'.store.count.sum +ℤ owed_by_seats l)) (sole.callers ∙ ap (λ w. one_seat (Some w)) is)) ∙ sole.follows.counted counted;
         hasher_is = sole.follows.hasher_is;
         mode_is = sole.follows.mode_is;
         initial_is = sole.follows.initial_is;

@@ -33,7 +33,7 @@ use Rattle.papaya_timeline.specs.Begins.{task_of_call}
 use Rattle.papaya_timeline.specs.Core.{CoreState, IsCore}
 use Rattle.papaya_timeline.specs.Kept.{IsKept, Tale, setting_of, coding_of, low, told_tales}
 use Rattle.papaya_timeline.specs.Content.{map_of}
-use Rattle.papaya_timeline.specs.Maps.{Map, Does, IsUpdate, Same, key_of}
+use Rattle.papaya_timeline.specs.Maps.{IsUpdateBy, Map, Does, IsUpdate, Same, key_of}
 use Rattle.papaya_timeline.specs.Moves.{IsOwnChange, MovesMap}
 use Rattle.papaya_store.specs.Store.{Stored, pair_of as pair_numbered}
 use Rattle.papaya_timeline.specs.Runs.{History}
@@ -127,7 +127,7 @@ module _ {K V S A : Type 0} (eq : K → K → Bool) (hash : K → ℕ) (law : Is
     )
 
     -- A change is one that a call of this key and of the machine's kind makes: an insertion of the pair that comes, or a removal.
-    made_by : (call : Call K V A) → key_of call ≡ k → task_of_call call ≡ m.call.task → (old new : Option ℕ) → IsChanger m.call.task → change_in m.call.state ≡ None → (went came : Option (Stored K V)) → IsUpdate eq k went came (replay eq es) (replay eq (es ++ step.made)) → number_in went ≡ old → number_in came ≡ new → MayPut k m.call.task (tales c).hands.call.made went came
+    made_by : (call : Call K V A) → key_of call ≡ Some k → task_of_call call ≡ Some m.call.task → (old new : Option ℕ) → IsChanger m.call.task → change_in m.call.state ≡ None → (went came : Option (Stored K V)) → IsUpdate eq k went came (replay eq es) (replay eq (es ++ step.made)) → number_in went ≡ old → number_in came ≡ new → MayPut k m.call.task (tales c).hands.call.made went came
         → (reply : Reply) × Does call went reply came × (change_of_reply reply ≡ Some (number_in went, number_in came)) → IsOwnChange eq s c s' old new
     made_by call key task old new changes none went came update went_is came_is may (reply, does, tells) = record {
       running_call = x.before;
@@ -135,10 +135,10 @@ module _ {K V S A : Type 0} (eq : K → K → Bool) (hash : K → ℕ) (law : Is
       changes = changes;
       call = call;
       task = task;
-      own = step.call.own ∙ ap (λ j. Some j) (sym key);
+      own = step.call.own ∙ sym key;
       went = went;
       came = came;
-      update = subst (λ j. IsUpdate eq j went came (map_of eq s) (map_of eq s')) (sym key) (same_update k went came update);
+      update = subst (λ j. IsUpdateBy eq j went came (map_of eq s) (map_of eq s')) (sym key) (same_update k went came update);
       went_is = went_is;
       came_is = came_is;
       fresh = came_fresh none went came may;
@@ -149,23 +149,23 @@ module _ {K V S A : Type 0} (eq : K → K → Bool) (hash : K → ℕ) (law : Is
 
     own_change : (task : Task) → m.call.task ≡ task → (old new : Option ℕ) → IsChanger m.call.task → ((n : ℕ) → new ≡ Some n → MayInsert task) → change_in m.call.state ≡ None → (went came : Option (Stored K V)) → IsUpdate eq k went came (replay eq es) (replay eq (es ++ step.made)) → number_in went ≡ old → number_in came ≡ new → MayPut k m.call.task (tales c).hands.call.made went came → IsOwnChange eq s c s' old new
     own_change (tasks.Insert true) is old new changes inserts none went (Some q) update went_is came_is (made, own, replaces) =
-        made_by (Insert k q.value) refl (sym is) old new changes none went (Some q) update went_is came_is (made, own, replaces)
+        made_by (Insert k q.value) refl (ap (λ t. Some t) (sym is)) old new changes none went (Some q) update went_is came_is (made, own, replaces)
         (insertion_does {A = A} (Insert k q.value) k went q refl own refl (subst (MayReplace went) is replaces))
     own_change (tasks.Insert false) is old new changes inserts none went (Some q) update went_is came_is (made, own, replaces) =
-        made_by (TryInsert k q.value) refl (sym is) old new changes none went (Some q) update went_is came_is (made, own, replaces)
+        made_by (TryInsert k q.value) refl (ap (λ t. Some t) (sym is)) old new changes none went (Some q) update went_is came_is (made, own, replaces)
         (insertion_does {A = A} (TryInsert k q.value) k went q refl own refl (subst (MayReplace went) is replaces))
     own_change tasks.Compute is old new changes inserts none went (Some q) update went_is came_is (made, own, replaces) =
         let call : Call K V A = Compute k (step.call.answers (subst HasClosure (sym is) tt)).0 in
-        made_by call refl (sym is) old new changes none went (Some q) update went_is came_is (made, own, replaces)
+        made_by call refl (ap (λ t. Some t) (sym is)) old new changes none went (Some q) update went_is came_is (made, own, replaces)
         (insertion_does call k went q refl own tt (subst (MayReplace went) is replaces))
     own_change tasks.Get is old new changes inserts none went (Some q) update went_is came_is may = absurd (inserts q.number (sym came_is))
     own_change tasks.RemoveIf is old new changes inserts none went (Some q) update went_is came_is may = absurd (inserts q.number (sym came_is))
     own_change tasks.RemoveIf is old new changes inserts none (Some p) None update went_is came_is closure =
         let call : Call K V A = RemoveIf k (step.call.answers closure).0 in
-        made_by call refl (sym is) old new changes none (Some p) None update went_is came_is closure (removal_does call p tt)
+        made_by call refl (ap (λ t. Some t) (sym is)) old new changes none (Some p) None update went_is came_is closure (removal_does call p tt)
     own_change tasks.Compute is old new changes inserts none (Some p) None update went_is came_is closure =
         let call : Call K V A = Compute k (step.call.answers closure).0 in
-        made_by call refl (sym is) old new changes none (Some p) None update went_is came_is closure (removal_does call p tt)
+        made_by call refl (ap (λ t. Some t) (sym is)) old new changes none (Some p) None update went_is came_is closure (removal_does call p tt)
     own_change tasks.Get is old new changes inserts none (Some p) None update went_is came_is closure = absurd (subst HasClosure is closure)
     own_change (tasks.Insert replace) is old new changes inserts none (Some p) None update went_is came_is closure = absurd (subst HasClosure is closure)
     own_change task is old new changes inserts none None None update went_is came_is may = absurd may

@@ -15,15 +15,16 @@ use Rattle.papaya_ask.specs.declared.ask.StepKind.TheVariants as kinds
 use Rattle.papaya_ask.specs.declared.copy_ask.CopyAsk.{CopyAsk}
 use Rattle.papaya_ask.specs.declared.copy_ask.CopyAsk.TheVariants as copies
 use Rattle.papaya_ask.specs.Search.{IsSize}
-use Rattle.papaya_law.specs.Allows.{AllAllowed}
+use Rattle.papaya_law.specs.Allows.{AllAllowed, Allows}
 use Rattle.papaya_law.specs.Class.{IsOn}
 use Rattle.papaya_law.specs.Code.{Coding, IsHashed}
-use Rattle.papaya_law.specs.Exchange.{Setting, State, Exchange, run, start}
+use Rattle.papaya_law.specs.Exchange.{Setting, State, Exchange, after as state_after, run, start}
 use Rattle.papaya_law.specs.Invariant.{IsSound}
 use Rattle.papaya_law.specs.Meaning.{map_left}
 use Rattle.papaya_law.proofs.Logs.{on_comes}
 use Rattle.papaya_law.proofs.OneMap.{keeping, keeping_sound}
-use Rattle.papaya_rests.specs.Told.{IsAsked, word_of}
+use Rattle.papaya_rests.specs.Told.{IsAsked, IsWritten, word_of}
+use Rattle.papaya_rests.specs.Copier.{IsCopyAsked}
 use Rattle.papaya_chain.specs.declared.ask.Ask.{Ask}
 use Rattle.papaya_chain.specs.declared.ask.Ask.TheVariants as asks
 use Rattle.papaya_chain.specs.declared.ask.Answer.{Answer}
@@ -58,7 +59,7 @@ module _ (w : Tables) (at : At) (new : ℕ) (placed : IsPlaced w.tables at) wher
   write_tables = ap (λ n. 2 ^ 32 - n) (placed-many w at new placed)
 
   -- it spends an exchange where its word may change less often then
-  write_spends : changes_at (length w.tables) at new < changes_at (length w.tables) at (word_at w at) → ((budget_in (put w at new)).tables ≡ (budget_in w).tables) × ((budget_in (put w at new)).exchanges < (budget_in w).exchanges)
+  pub write_spends : changes_at (length w.tables) at new < changes_at (length w.tables) at (word_at w at) → ((budget_in (put w at new)).tables ≡ (budget_in w).tables) × ((budget_in (put w at new)).exchanges < (budget_in w).exchanges)
   write_spends less = (write_tables, let change = placed-changes w at new placed in omega (arith, change, less))
 
   -- and leaves the budget where it may change as often
@@ -96,7 +97,7 @@ module _ {K V S A : Type 0} (eq : K → K → Bool) (hash : K → ℕ) (law : Is
   sound = keeping_sound g now (map_left g es) (keeping g hashed.lawful es kept.allowed)
 
   -- a table that was made has a number no greater than how many there are
-  made_low : (t : ℕ) → IsMade store t → t ≤ length store.words.tables
+  pub made_low : (t : ℕ) → IsMade store t → t ≤ length store.words.tables
   made_low t (words, there) = table_low store.words.tables t words there
 
   -- and so has a table of the chain
@@ -125,6 +126,48 @@ module _ {K V S A : Type 0} (eq : K → K → Bool) (hash : K → ℕ) (law : Is
   -- after any answer the budget's exchanges are within a bound
   pub budget_bounded : (budget_of store).exchanges < 2 ^ 128
   budget_bounded = exchanges_few store.words kept.tables_few (λ n t there. (core.sizes n t there).most)
+
+  module _ (store' : StoreState K V S) where
+    -- the budget after an answer that leaves the words
+    pub same_words : store' ≡ store → budget_of store' ≡ budget_of store
+    same_words same = ap (λ (y : StoreState K V S). budget_of y) same
+
+    -- a table, made or refused
+    pub made_or : (told : Call_answer) (slots limit : ℕ) (R : Call_answer → Type 0) → ((n : ℕ) → (budget_of store').tables < (budget_of store).tables → R (Made_number n)) → ((refused : _) → budget_of store' ≡ budget_of store → R (Was_refused refused)) → (Refuses MAX_TABLES (length store.words.tables) told × (store' ≡ store)) ⊎ MakesTable told slots limit store store' → R told
+    made_or told slots limit R made none (inl (refuses, same)) = let no = refusal _ _ told refuses in subst R (sym no.1) (none no.0 (same_words same))
+    made_or told slots limit R made none (inr (is, few, grown)) =
+        subst R (sym is) (made (length store.words.tables + 1) (subst (λ (y : StoreState K V S). (budget_of y).tables < (budget_of store).tables) (sym grown) (made_spends store.words (length store.words.tables + 1) slots limit few)))
+
+    -- what is asked for a copy, where an exchange that is made spends one
+    module _ (hashes : S → K → ℕ) (refuse : Bool) where
+      -- an exchange that was made spends one
+      abbrev pub IsSpentAt : At → ℕ → Type 0
+      IsSpentAt at new = ((budget_in (put store.words at new)).tables ≡ (budget_of store).tables) × ((budget_in (put store.words at new)).exchanges < (budget_of store).exchanges)
+
+      pub copied_spends : (ask : CopyAsk) → ((at : At) (old new : ℕ) → ask ≡ copies.Exchange at old new → (word_at store.words at == old) ≡ true → IsSpentAt at new) → (answer : Answer) → PerformsCopy eq hashes refuse ask store answer store' → SpendsCopy ask answer (budget_of store) (budget_of store')
+      copied_spends (copies.Load at) spent answer (is, same) = same_words same
+      copied_spends (copies.Exchange at old new) spent answer (told, is, h) =
+          subst (λ y. SpendsCopy (copies.Exchange at old new) y (budget_of store) (budget_of store')) (sym is)
+          (matched (SpendsCopy (copies.Exchange at old new) (answers.Call told) (budget_of store) (budget_of store')) (word_at store.words at == old) _ _ h
+          (λ hit done. subst (λ y. SpendsCopy (copies.Exchange at old new) (answers.Call y) (budget_of store) (budget_of store')) (sym done.0)
+          (subst (λ (y : StoreState K V S). ((budget_of y).tables ≡ (budget_of store).tables) × ((budget_of y).exchanges < (budget_of store).exchanges)) (sym done.1) (spent at old new refl hit)))
+          (λ miss lost. subst (λ y. SpendsCopy (copies.Exchange at old new) (answers.Call y) (budget_of store) (budget_of store')) (sym lost.0) (same_words lost.1)))
+      copied_spends (copies.SizeOf n) spent answer (is, same) = same_words same
+      copied_spends (copies.HashOf n) spent answer (is, fits, same) = same_words same
+      copied_spends (copies.SamePair m n) spent answer (is, same) = same_words same
+      copied_spends copies.Count spent answer (is, same) = same_words same
+      copied_spends (copies.MakeTable slots limit) spent answer (told, is, h) =
+          subst (λ y. SpendsCopy (copies.MakeTable slots limit) y (budget_of store) (budget_of store')) (sym is)
+          (matched (SpendsCopy (copies.MakeTable slots limit) (answers.Call told) (budget_of store) (budget_of store')) refuse _ _ h
+          (λ _ none. subst (λ y. SpendsCopy (copies.MakeTable slots limit) (answers.Call y) (budget_of store) (budget_of store')) (sym none.0) (same_words none.1))
+          (λ _ makes. made_or told slots limit (λ y. SpendsCopy (copies.MakeTable slots limit) (answers.Call y) (budget_of store) (budget_of store')) (λ n less. less) (λ refused same. same) makes))
+
+  -- an exchange of a copy that was made, wherever it was asked for
+  pub copy_spent : (at : At) (new : ℕ) (kind : _) (kept_pair : Option (Stored K V)) (e : Exchange (Stored K V)) → IsCopyAsked c kind at new now kept_pair e → Allows g now e → IsWritten g c now at new (state_after now e) → IsPlaced store.words.tables at → ((budget_in (put store.words at new)).tables ≡ (budget_of store).tables) × ((budget_in (put store.words at new)).exchanges < (budget_of store).exchanges)
+  copy_spent at new kind kept_pair e is allows written placed =
+      write_spends store.words at new placed
+      (subst (λ y. changes_at (length store.words.tables) at new < changes_at (length store.words.tables) at y) (kept.coded at)
+      (copy_fewer g c now (length store.words.tables) sound slots_most (λ t on. made_low t (on_made t on)) kind at new kept_pair e is allows (sym written.here)))
 
   module _ (caller : ℕ) (r : Running K V A) (was : running callers caller ≡ Some r) where
     -- the call's own facts
@@ -159,77 +202,48 @@ module _ {K V S A : Type 0} (eq : K → K → Bool) (hash : K → ℕ) (law : Is
         let stands : word_of g c now at ≡ old = kept.coded at ∙ eqb-true (word_at store.words at) old hit in
         let x = asked_copy g c store r es tale (Some call.key) hashed call.key call.split may call.rests kept.coded kept.made call.opens call.links call.own (λ t. refl) at old new e stands in
         let placed = placed_copy g c store r es tale (Some call.key) hashed call.key call.split may call.rests kept.coded kept.made call.opens call.links call.own (λ t. refl) at old new e in
-        write_spends store.words at new placed
-        (subst (λ y. changes_at (length store.words.tables) at new < changes_at (length store.words.tables) at y) (kept.coded at)
-        (copy_fewer g c now (length store.words.tables) sound slots_most (λ t on. made_low t (on_made t on)) (kind_of_ask r.machine) at new tale.hands.kept x.0 x.1 x.2 (sym x.3.here)))
+        copy_spent at new (kind_of_ask r.machine) tale.hands.kept x.0 x.1 x.2 x.3 placed
 
     module _ (says : Says K V A) (refuse : Bool) (store' : StoreState K V S) (later : Running K V A) where
-      -- the budget after an answer that leaves the words
-      same_words : store' ≡ store → budget_of store' ≡ budget_of store
-      same_words same = ap (λ (y : StoreState K V S). budget_of y) same
-
       -- an exchange, made or lost
       spends_exchange : (at : At) (old new : ℕ) → ask_of r.machine ≡ asks.Call (Ask_exchange at old new) → (told : Call_answer) → Exchanges (word_at store.words at) old (put store.words at new) told store store' → SpendsCall (kind_of_ask r.machine) (Ask_exchange at old new) told (budget_of store) (budget_of store')
       spends_exchange at old new e told h =
           matched (SpendsCall (kind_of_ask r.machine) (Ask_exchange at old new) told (budget_of store) (budget_of store')) (word_at store.words at == old) _ _ h
           (λ hit done. subst (λ y. SpendsCall (kind_of_ask r.machine) (Ask_exchange at old new) y (budget_of store) (budget_of store')) (sym done.0)
           (subst (λ (y : StoreState K V S). SpendsExchange (kind_of_ask r.machine) (budget_of store) (budget_of y)) (sym done.1) (call_exchanges at old new e hit)))
-          (λ miss lost. subst (λ y. SpendsCall (kind_of_ask r.machine) (Ask_exchange at old new) y (budget_of store) (budget_of store')) (sym lost.0) (same_words lost.1))
-
-      spends_copy : (at : At) (old new : ℕ) → ask_of r.machine ≡ asks.Copy (copies.Exchange at old new) → (told : Call_answer) → Exchanges (word_at store.words at) old (put store.words at new) told store store' → SpendsCopy (copies.Exchange at old new) (answers.Call told) (budget_of store) (budget_of store')
-      spends_copy at old new e told h =
-          matched (SpendsCopy (copies.Exchange at old new) (answers.Call told) (budget_of store) (budget_of store')) (word_at store.words at == old) _ _ h
-          (λ hit done. subst (λ y. SpendsCopy (copies.Exchange at old new) (answers.Call y) (budget_of store) (budget_of store')) (sym done.0)
-          (subst (λ (y : StoreState K V S). ((budget_of y).tables ≡ (budget_of store).tables) × ((budget_of y).exchanges < (budget_of store).exchanges)) (sym done.1) (copy_exchanges at old new e hit)))
-          (λ miss lost. subst (λ y. SpendsCopy (copies.Exchange at old new) (answers.Call y) (budget_of store) (budget_of store')) (sym lost.0) (same_words lost.1))
-
-      -- a table, made or refused
-      made_or : (told : Call_answer) (slots limit : ℕ) (R : Call_answer → Type 0) → ((n : ℕ) → (budget_of store').tables < (budget_of store).tables → R (Made_number n)) → ((refused : _) → budget_of store' ≡ budget_of store → R (Was_refused refused)) → (Refuses MAX_TABLES (length store.words.tables) told × (store' ≡ store)) ⊎ MakesTable told slots limit store store' → R told
-      made_or told slots limit R made none (inl (refuses, same)) = let no = refusal _ _ told refuses in subst R (sym no.1) (none no.0 (same_words same))
-      made_or told slots limit R made none (inr (is, few, grown)) =
-          subst R (sym is) (made (length store.words.tables + 1) (subst (λ (y : StoreState K V S). (budget_of y).tables < (budget_of store).tables) (sym grown) (made_spends store.words (length store.words.tables + 1) slots limit few)))
+          (λ miss lost. subst (λ y. SpendsCall (kind_of_ask r.machine) (Ask_exchange at old new) y (budget_of store) (budget_of store')) (sym lost.0) (same_words store' lost.1))
 
       -- what a call asks
       spends_call : (ask : Call_ask) → ask_of r.machine ≡ asks.Call ask → (told : Call_answer) → Performs eq says refuse ask store r told store' later → SpendsCall (kind_of_ask r.machine) ask told (budget_of store) (budget_of store')
-      spends_call (Load at) e told (is, stays) = same_words stays.0
+      spends_call (Load at) e told (is, stays) = same_words store' stays.0
       spends_call (Ask_exchange at old new) e told (h, as_was) = spends_exchange at old new e told h
-      spends_call (SameKey n) e told (is, stays) = same_words stays.0
-      spends_call ShowNone e told h = same_words (none_shown says store r told store' later h).store
-      spends_call (ShowPair n) e told h = same_words (pair_shown says r.machine.call.task n store r told store' later h).store
-      spends_call (SizeOf n) e told (is, stays) = same_words stays.0
-      spends_call MakeKey e told h = matched (budget_of store' ≡ budget_of store) refuse _ _ h (λ _ none. same_words none.1.0) (λ _ makes. key_spends makes)
+      spends_call (SameKey n) e told (is, stays) = same_words store' stays.0
+      spends_call ShowNone e told h = same_words store' (none_shown says store r told store' later h).store
+      spends_call (ShowPair n) e told h = same_words store' (pair_shown says r.machine.call.task n store r told store' later h).store
+      spends_call (SizeOf n) e told (is, stays) = same_words store' stays.0
+      spends_call MakeKey e told h = matched (budget_of store' ≡ budget_of store) refuse _ _ h (λ _ none. same_words store' none.1.0) (λ _ makes. key_spends makes)
         where
           key_spends : (Refuses MAX_LOG_LEN (length store.keys) told × Stays store r store' later) ⊎ (HasKey told r × Stays store r store' later) ⊎ LogsKey told store r store' later → budget_of store' ≡ budget_of store
-          key_spends (inl (refuses, stays)) = same_words stays.0
-          key_spends (inr (inl (has, stays))) = same_words stays.0
+          key_spends (inl (refuses, stays)) = same_words store' stays.0
+          key_spends (inr (inl (has, stays))) = same_words store' stays.0
           key_spends (inr (inr (k, own, is, few, grown, moved))) = ap (λ (y : StoreState K V S). budget_of y) grown
-      spends_call MakePair e told h = matched (budget_of store' ≡ budget_of store) refuse _ _ h (λ _ none. same_words none.1.0) (λ _ makes. pair_spends makes)
+      spends_call MakePair e told h = matched (budget_of store' ≡ budget_of store) refuse _ _ h (λ _ none. same_words store' none.1.0) (λ _ makes. pair_spends makes)
         where
           pair_spends : (Refuses MAX_LOG_LEN (length store.pairs) told × Stays store r store' later) ⊎ (HasNoPair told r × Stays store r store' later) ⊎ LogsPair told store r store' later → budget_of store' ≡ budget_of store
-          pair_spends (inl (refuses, stays)) = same_words stays.0
-          pair_spends (inr (inl (has, stays))) = same_words stays.0
+          pair_spends (inl (refuses, stays)) = same_words store' stays.0
+          pair_spends (inr (inl (has, stays))) = same_words store' stays.0
           pair_spends (inr (inr (n, v, key, value, is, few, grown, moved))) = ap (λ (y : StoreState K V S). budget_of y) grown
       spends_call (MakeTable slots limit) e told h =
           matched (SpendsCall (kind_of_ask r.machine) (MakeTable slots limit) told (budget_of store) (budget_of store')) refuse _ _ h
-          (λ _ none. subst (λ y. SpendsCall (kind_of_ask r.machine) (MakeTable slots limit) y (budget_of store) (budget_of store')) (sym none.0) (same_words none.1.0))
-          (λ _ makes. made_or told slots limit (λ y. SpendsCall (kind_of_ask r.machine) (MakeTable slots limit) y (budget_of store) (budget_of store')) (λ n less. less) (λ refused same. same) makes.0)
+          (λ _ none. subst (λ y. SpendsCall (kind_of_ask r.machine) (MakeTable slots limit) y (budget_of store) (budget_of store')) (sym none.0) (same_words store' none.1.0))
+          (λ _ makes. made_or store' told slots limit (λ y. SpendsCall (kind_of_ask r.machine) (MakeTable slots limit) y (budget_of store) (budget_of store')) (λ n less. less) (λ refused same. same) makes.0)
       spends_call (AddToShard by) e told (is, (number, grown), as_was) = ap (λ (y : StoreState K V S). budget_of y) grown
-      spends_call (Ask_done reply) e told (is, stays) = same_words stays.0
+      spends_call (Ask_done reply) e told (is, stays) = same_words store' stays.0
 
       -- and what is asked for its copy
       module _ (hashes : S → K → ℕ) where
         spends_for_copy : (ask : CopyAsk) → ask_of r.machine ≡ asks.Copy ask → (answer : Answer) → PerformsCopy eq hashes refuse ask store answer store' → SpendsCopy ask answer (budget_of store) (budget_of store')
-        spends_for_copy (copies.Load at) e answer (is, same) = same_words same
-        spends_for_copy (copies.Exchange at old new) e answer (told, is, h) = subst (λ y. SpendsCopy (copies.Exchange at old new) y (budget_of store) (budget_of store')) (sym is) (spends_copy at old new e told h)
-        spends_for_copy (copies.SizeOf n) e answer (is, same) = same_words same
-        spends_for_copy (copies.HashOf n) e answer (is, fits, same) = same_words same
-        spends_for_copy (copies.SamePair m n) e answer (is, same) = same_words same
-        spends_for_copy copies.Count e answer (is, same) = same_words same
-        spends_for_copy (copies.MakeTable slots limit) e answer (told, is, h) =
-            subst (λ y. SpendsCopy (copies.MakeTable slots limit) y (budget_of store) (budget_of store')) (sym is)
-            (matched (SpendsCopy (copies.MakeTable slots limit) (answers.Call told) (budget_of store) (budget_of store')) refuse _ _ h
-            (λ _ none. subst (λ y. SpendsCopy (copies.MakeTable slots limit) (answers.Call y) (budget_of store) (budget_of store')) (sym none.0) (same_words none.1))
-            (λ _ makes. made_or told slots limit (λ y. SpendsCopy (copies.MakeTable slots limit) (answers.Call y) (budget_of store) (budget_of store')) (λ n less. less) (λ refused same. same) makes))
+        spends_for_copy ask e answer h = copied_spends store' hashes refuse ask (λ at old new is hit. copy_exchanges at old new (e ∙ ap asks.Copy is) hit) answer h
 
         -- each answer
         pub performs_spends : (ask : Ask) → ask_of r.machine ≡ ask → (answer : Answer) → PerformsAsk eq says hashes refuse ask store r answer store' later → Spends (kind_of_ask r.machine) ask answer (budget_of store) (budget_of store')

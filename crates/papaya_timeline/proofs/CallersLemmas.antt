@@ -1,10 +1,13 @@
--- The call that each caller has under way, and what takes it and puts it back.
+-- What each caller has under way, and what takes it and puts it back.
 use Rattle.std.proofs.Common.{◌≡◌, ◌≢◌, ℕ, zero, suc, ◌<◌, ◌≤◌, ◌==◌, Bool, true, false, cond, List, [], ◌∷◌, length, slice_get, slice_set, Option, Some, None, refl, sym, ◌∙◌, ap, subst, arith, ⊎_elim, eq-eqb, eqb-true, ◌++◌, IsSome, is_some}
 use Rattle.std.proofs.lemmas.Bool.{cases_Bool, cases_lt}
 use Rattle.std.proofs.lemmas.Option.{slice_get_within}
+use Rattle.papaya_chain.specs.declared.resizer.Resizer.{Resizer}
 use Rattle.papaya_store.specs.declared.pairs.Running.{Running}
+use Rattle.papaya_timeline.specs.declared.seat.Work.{Work}
+use Rattle.papaya_timeline.specs.declared.seat.Work.TheVariants.{Call, Resize}
 use Rattle.papaya_timeline.specs.declared.seat.Seat.{Seat}
-use Rattle.papaya_timeline.specs.Callers.{running, with_call, with_seat, IsSeated, IsSeatAt}
+use Rattle.papaya_timeline.specs.Callers.{as_work, call_in, resizer_in, resizing, running, working, with_call, with_work, with_seat, IsSeated, IsSeatAt}
 
 -- what a place of a list has, it has alone
 pub same_item : {A : Type 0} (x y : A) → Some x ≡ Some y → x ≡ y
@@ -38,33 +41,33 @@ module _ {K V A : Type 0} where
     here = at.here;
   }
 
-  -- the call of the first seat of a caller is the caller's
-  pub running-at : (seats : List (Seat K V A)) (caller place : ℕ) (seat : Seat K V A) → IsSeatAt seats caller place → slice_get seats place ≡ Some seat → running seats caller ≡ seat.call
-  running-at [] caller place seat at e = let f : None ≡ Some seat = e in cc
-  running-at (x ∷ xs) caller zero seat at e =
+  -- the work of the first seat of a caller is the caller's
+  pub working-at : (seats : List (Seat K V A)) (caller place : ℕ) (seat : Seat K V A) → IsSeatAt seats caller place → slice_get seats place ≡ Some seat → working seats caller ≡ seat.work
+  working-at [] caller place seat at e = let f : None ≡ Some seat = e in cc
+  working-at (x ∷ xs) caller zero seat at e =
       let same : x ≡ seat = same_item x seat e in
-      ap (λ b. cond b x.call (running xs caller)) (eq-eqb x.caller caller (at.here x refl)) ∙ ap (λ s. s.call) same
-  running-at (x ∷ xs) caller (suc place) seat at e =
-      ap (λ b. cond b x.call (running xs caller)) (differs x.caller caller (at.before 0 x (omega arith) refl))
-      ∙ running-at xs caller place seat (later x xs caller place at) e
+      ap (λ b. cond b x.work (working xs caller)) (eq-eqb x.caller caller (at.here x refl)) ∙ ap (λ s. s.work) same
+  working-at (x ∷ xs) caller (suc place) seat at e =
+      ap (λ b. cond b x.work (working xs caller)) (differs x.caller caller (at.before 0 x (omega arith) refl))
+      ∙ working-at xs caller place seat (later x xs caller place at) e
 
-  -- with no seat a caller has no call
-  pub running-none : (seats : List (Seat K V A)) (caller : ℕ) → IsSeatAt seats caller (length seats) → running seats caller ≡ None
-  running-none [] caller at = refl
-  running-none (x ∷ xs) caller at =
-      ap (λ b. cond b x.call (running xs caller)) (differs x.caller caller (at.before 0 x (omega arith) refl))
-      ∙ running-none xs caller (later x xs caller (length xs) at)
+  -- with no seat a caller has no work
+  pub working-none : (seats : List (Seat K V A)) (caller : ℕ) → IsSeatAt seats caller (length seats) → working seats caller ≡ None
+  working-none [] caller at = refl
+  working-none (x ∷ xs) caller at =
+      ap (λ b. cond b x.work (working xs caller)) (differs x.caller caller (at.before 0 x (omega arith) refl))
+      ∙ working-none xs caller (later x xs caller (length xs) at)
 
   -- a write to the first seat of a caller
-  pub with_call-at : (seats : List (Seat K V A)) (caller place : ℕ) (seat : Seat K V A) (call : Option (Running K V A)) → IsSeatAt seats caller place → slice_get seats place ≡ Some seat → with_call seats caller call ≡ slice_set seats place (record seat { call = call })
-  with_call-at [] caller place seat call at e = let f : None ≡ Some seat = e in cc
-  with_call-at (x ∷ xs) caller zero seat call at e =
+  pub with_work-at : (seats : List (Seat K V A)) (caller place : ℕ) (seat : Seat K V A) (work : Option (Work K V A)) → IsSeatAt seats caller place → slice_get seats place ≡ Some seat → with_work seats caller work ≡ slice_set seats place (record seat { work = work })
+  with_work-at [] caller place seat work at e = let f : None ≡ Some seat = e in cc
+  with_work-at (x ∷ xs) caller zero seat work at e =
       let same : x ≡ seat = same_item x seat e in
-      ap (λ b. cond b (record x { call = call } ∷ xs) (x ∷ with_call xs caller call)) (eq-eqb x.caller caller (at.here x refl))
-      ∙ ap (λ (s : Seat K V A). record s { call = call } ∷ xs) same
-  with_call-at (x ∷ xs) caller (suc place) seat call at e =
-      ap (λ b. cond b (record x { call = call } ∷ xs) (x ∷ with_call xs caller call)) (differs x.caller caller (at.before 0 x (omega arith) refl))
-      ∙ ap (λ (s : List (Seat K V A)). x ∷ s) (with_call-at xs caller place seat call (later x xs caller place at) e)
+      ap (λ b. cond b (record x { work = work } ∷ xs) (x ∷ with_work xs caller work)) (eq-eqb x.caller caller (at.here x refl))
+      ∙ ap (λ (s : Seat K V A). record s { work = work } ∷ xs) same
+  with_work-at (x ∷ xs) caller (suc place) seat work at e =
+      ap (λ b. cond b (record x { work = work } ∷ xs) (x ∷ with_work xs caller work)) (differs x.caller caller (at.before 0 x (omega arith) refl))
+      ∙ ap (λ (s : List (Seat K V A)). x ∷ s) (with_work-at xs caller place seat work (later x xs caller place at) e)
 
   -- a caller with a seat has a first one
   pub seated-within : (seats : List (Seat K V A)) (caller place : ℕ) → IsSeatAt seats caller place → IsSeated seats caller → place < length seats
@@ -74,20 +77,20 @@ module _ {K V A : Type 0} where
       (λ (past : length seats ≤ place). let lt = slice_get_within seats i seat there in absurd (at.before i seat (omega arith) there is))
       (cases_lt place (length seats))
 
-  -- a caller with a call has a seat
-  pub running-within : (seats : List (Seat K V A)) (caller place : ℕ) → IsSeatAt seats caller place → IsSome (running seats caller) → place < length seats
-  running-within seats caller place at some =
+  -- a caller with work has a seat
+  pub working-within : (seats : List (Seat K V A)) (caller place : ℕ) → IsSeatAt seats caller place → IsSome (working seats caller) → place < length seats
+  working-within seats caller place at some =
       ⊎_elim
       (λ (within : place < length seats). within)
       (λ (past : length seats ≤ place).
       let e : place ≡ length seats = let w = at.within in omega arith in
-      let none : running seats caller ≡ None = running-none seats caller (subst (IsSeatAt seats caller) e at) in
+      let none : working seats caller ≡ None = working-none seats caller (subst (IsSeatAt seats caller) e at) in
       let f : false ≡ true = sym (ap is_some none) ∙ some in
       cc)
       (cases_lt place (length seats))
 
   -- a seat at the end for a caller that had none
-  pub with_seat-end : (seats : List (Seat K V A)) (caller : ℕ) → IsSeatAt seats caller (length seats) → with_seat seats caller ≡ seats ++ record { caller = caller; call = None } ∷ []
+  pub with_seat-end : (seats : List (Seat K V A)) (caller : ℕ) → IsSeatAt seats caller (length seats) → with_seat seats caller ≡ seats ++ record { caller = caller; work = None } ∷ []
   with_seat-end [] caller at = refl
   with_seat-end (x ∷ xs) caller at =
       ap (λ b. cond b (x ∷ xs) (x ∷ with_seat xs caller)) (differs x.caller caller (at.before 0 x (omega arith) refl))
@@ -107,54 +110,100 @@ module _ {K V A : Type 0} where
   seat-seated seats caller place at lt = let (x, there) = item_there seats place lt in (place, x, there, at.here x there)
 
   -- the caller has its seat after its call was taken or put back
-  pub with_call-seated : (seats : List (Seat K V A)) (caller place : ℕ) (call : Option (Running K V A)) → IsSeatAt seats caller place → place < length seats → IsSeated (with_call seats caller call) caller
-  with_call-seated [] caller place call at lt = absurd (omega arith)
-  with_call-seated (x ∷ xs) caller zero call at lt =
-      subst (λ (s : List (Seat K V A)). IsSeated s caller) (sym (with_call-at (x ∷ xs) caller zero x call at refl)) (0, record x { call = call }, refl, at.here x refl)
-  with_call-seated (x ∷ xs) caller (suc place) call at lt =
-      let (i, seat, there, is) = with_call-seated xs caller place call (later x xs caller place at) (omega arith) in
-      let e : with_call (x ∷ xs) caller call ≡ x ∷ with_call xs caller call = ap (λ b. cond b (record x { call = call } ∷ xs) (x ∷ with_call xs caller call)) (differs x.caller caller (at.before 0 x (omega arith) refl)) in
+  pub with_work-seated : (seats : List (Seat K V A)) (caller place : ℕ) (work : Option (Work K V A)) → IsSeatAt seats caller place → place < length seats → IsSeated (with_work seats caller work) caller
+  with_work-seated [] caller place work at lt = absurd (omega arith)
+  with_work-seated (x ∷ xs) caller zero work at lt =
+      subst (λ (s : List (Seat K V A)). IsSeated s caller) (sym (with_work-at (x ∷ xs) caller zero x work at refl)) (0, record x { work = work }, refl, at.here x refl)
+  with_work-seated (x ∷ xs) caller (suc place) work at lt =
+      let (i, seat, there, is) = with_work-seated xs caller place work (later x xs caller place at) (omega arith) in
+      let e : with_work (x ∷ xs) caller work ≡ x ∷ with_work xs caller work = ap (λ b. cond b (record x { work = work } ∷ xs) (x ∷ with_work xs caller work)) (differs x.caller caller (at.before 0 x (omega arith) refl)) in
       subst (λ (s : List (Seat K V A)). IsSeated s caller) (sym e) (suc i, seat, there, is)
 
   -- a caller that was given a seat at the end has it
-  pub end-seated : (seats : List (Seat K V A)) (caller : ℕ) → IsSeated (seats ++ record { caller = caller; call = None } ∷ []) caller
-  end-seated [] caller = (0, record { caller = caller; call = None }, refl, refl)
+  pub end-seated : (seats : List (Seat K V A)) (caller : ℕ) → IsSeated (seats ++ record { caller = caller; work = None } ∷ []) caller
+  end-seated [] caller = (0, record { caller = caller; work = None }, refl, refl)
   end-seated (x ∷ xs) caller = let (i, seat, there, is) = end-seated xs caller in (suc i, seat, there, is)
 
-  -- a seat that was added leaves each caller's call
-  with_seat-first : (x : Seat K V A) (xs more : List (Seat K V A)) (other : ℕ) (b : Bool) → running more other ≡ running xs other → running (cond b (x ∷ xs) (x ∷ more)) other ≡ running (x ∷ xs) other
+  -- a seat that was added leaves each caller's work
+  with_seat-first : (x : Seat K V A) (xs more : List (Seat K V A)) (other : ℕ) (b : Bool) → working more other ≡ working xs other → working (cond b (x ∷ xs) (x ∷ more)) other ≡ working (x ∷ xs) other
   with_seat-first x xs more other true e = refl
-  with_seat-first x xs more other false e = ap (λ y. cond (x.caller == other) x.call y) e
+  with_seat-first x xs more other false e = ap (λ y. cond (x.caller == other) x.work y) e
 
-  pub running-with_seat : (seats : List (Seat K V A)) (caller other : ℕ) → running (with_seat seats caller) other ≡ running seats other
-  running-with_seat [] caller other = either_way (caller == other) None
-  running-with_seat (x ∷ xs) caller other = with_seat-first x xs (with_seat xs caller) other (x.caller == caller) (running-with_seat xs caller other)
+  pub working-with_seat : (seats : List (Seat K V A)) (caller other : ℕ) → working (with_seat seats caller) other ≡ working seats other
+  working-with_seat [] caller other = either_way (caller == other) None
+  working-with_seat (x ∷ xs) caller other = with_seat-first x xs (with_seat xs caller) other (x.caller == caller) (working-with_seat xs caller other)
 
-  -- a call that was put into another's seat leaves a caller's call
-  other-first : (x : Seat K V A) (xs more : List (Seat K V A)) (caller other : ℕ) (call : Option (Running K V A)) (b : Bool) → (x.caller == caller) ≡ b → other ≢ caller → running more other ≡ running xs other → running (cond b (record x { call = call } ∷ xs) (x ∷ more)) other ≡ running (x ∷ xs) other
-  other-first x xs more caller other call true is differ e =
+  -- work that was put into another's seat leaves a caller's work
+  other-first : (x : Seat K V A) (xs more : List (Seat K V A)) (caller other : ℕ) (work : Option (Work K V A)) (b : Bool) → (x.caller == caller) ≡ b → other ≢ caller → working more other ≡ working xs other → working (cond b (record x { work = work } ∷ xs) (x ∷ more)) other ≡ working (x ∷ xs) other
+  other-first x xs more caller other work true is differ e =
       let elsewhere : (x.caller == other) ≡ false = differs x.caller other (λ same. differ (sym same ∙ eqb-true x.caller caller is)) in
-      ap (λ b. cond b call (running xs other)) elsewhere ∙ sym (ap (λ b. cond b x.call (running xs other)) elsewhere)
-  other-first x xs more caller other call false is differ e = ap (λ y. cond (x.caller == other) x.call y) e
+      ap (λ b. cond b work (working xs other)) elsewhere ∙ sym (ap (λ b. cond b x.work (working xs other)) elsewhere)
+  other-first x xs more caller other work false is differ e = ap (λ y. cond (x.caller == other) x.work y) e
 
-  pub running-other : (seats : List (Seat K V A)) (caller other : ℕ) (call : Option (Running K V A)) → other ≢ caller → running (with_call seats caller call) other ≡ running seats other
-  running-other [] caller other call differ = refl
-  running-other (x ∷ xs) caller other call differ = other-first x xs (with_call xs caller call) caller other call (x.caller == caller) refl differ (running-other xs caller other call differ)
+  pub working-other : (seats : List (Seat K V A)) (caller other : ℕ) (work : Option (Work K V A)) → other ≢ caller → working (with_work seats caller work) other ≡ working seats other
+  working-other [] caller other work differ = refl
+  working-other (x ∷ xs) caller other work differ = other-first x xs (with_work xs caller work) caller other work (x.caller == caller) refl differ (working-other xs caller other work differ)
 
-  -- a caller's call is the one that was put into its seat
-  same-first : (x : Seat K V A) (xs more : List (Seat K V A)) (caller : ℕ) (call : Option (Running K V A)) (r : Running K V A) (b : Bool) → (x.caller == caller) ≡ b → (running more caller ≡ Some r → call ≡ Some r) → running (cond b (record x { call = call } ∷ xs) (x ∷ more)) caller ≡ Some r → call ≡ Some r
-  same-first x xs more caller call r true is f h = sym (ap (λ b. cond b call (running xs caller)) is) ∙ h
-  same-first x xs more caller call r false is f h = f (sym (ap (λ b. cond b x.call (running more caller)) is) ∙ h)
+  -- a caller's work is the one that was put into its seat
+  same-first : (x : Seat K V A) (xs more : List (Seat K V A)) (caller : ℕ) (work : Option (Work K V A)) (r : Work K V A) (b : Bool) → (x.caller == caller) ≡ b → (working more caller ≡ Some r → work ≡ Some r) → working (cond b (record x { work = work } ∷ xs) (x ∷ more)) caller ≡ Some r → work ≡ Some r
+  same-first x xs more caller work r true is f h = sym (ap (λ b. cond b work (working xs caller)) is) ∙ h
+  same-first x xs more caller work r false is f h = f (sym (ap (λ b. cond b x.work (working more caller)) is) ∙ h)
 
-  pub running-same : (seats : List (Seat K V A)) (caller : ℕ) (call : Option (Running K V A)) (r : Running K V A) → running (with_call seats caller call) caller ≡ Some r → call ≡ Some r
-  running-same [] caller call r e = let f : None ≡ Some r = e in cc
-  running-same (x ∷ xs) caller call r e = same-first x xs (with_call xs caller call) caller call r (x.caller == caller) refl (running-same xs caller call r) e
+  pub working-same : (seats : List (Seat K V A)) (caller : ℕ) (work : Option (Work K V A)) (r : Work K V A) → working (with_work seats caller work) caller ≡ Some r → work ≡ Some r
+  working-same [] caller work r e = let f : None ≡ Some r = e in cc
+  working-same (x ∷ xs) caller work r e = same-first x xs (with_work xs caller work) caller work r (x.caller == caller) refl (working-same xs caller work r) e
 
   -- of two calls put into one seat the second stays
-  twice-first : (x : Seat K V A) (xs once : List (Seat K V A)) (caller : ℕ) (first second : Option (Running K V A)) (b : Bool) → (x.caller == caller) ≡ b → with_call once caller second ≡ with_call xs caller second → with_call (cond b (record x { call = first } ∷ xs) (x ∷ once)) caller second ≡ cond b (record x { call = second } ∷ xs) (x ∷ with_call xs caller second)
-  twice-first x xs once caller first second true is e = ap (λ b. cond b (record x { call = second } ∷ xs) (record x { call = first } ∷ with_call xs caller second)) is
-  twice-first x xs once caller first second false is e = ap (λ b. cond b (record x { call = second } ∷ once) (x ∷ with_call once caller second)) is ∙ ap (λ (s : List (Seat K V A)). x ∷ s) e
+  twice-first : (x : Seat K V A) (xs once : List (Seat K V A)) (caller : ℕ) (first second : Option (Work K V A)) (b : Bool) → (x.caller == caller) ≡ b → with_work once caller second ≡ with_work xs caller second → with_work (cond b (record x { work = first } ∷ xs) (x ∷ once)) caller second ≡ cond b (record x { work = second } ∷ xs) (x ∷ with_work xs caller second)
+  twice-first x xs once caller first second true is e = ap (λ b. cond b (record x { work = second } ∷ xs) (record x { work = first } ∷ with_work xs caller second)) is
+  twice-first x xs once caller first second false is e = ap (λ b. cond b (record x { work = second } ∷ once) (x ∷ with_work once caller second)) is ∙ ap (λ (s : List (Seat K V A)). x ∷ s) e
 
-  pub with_call-twice : (seats : List (Seat K V A)) (caller : ℕ) (first second : Option (Running K V A)) → with_call (with_call seats caller first) caller second ≡ with_call seats caller second
-  with_call-twice [] caller first second = refl
-  with_call-twice (x ∷ xs) caller first second = twice-first x xs (with_call xs caller first) caller first second (x.caller == caller) refl (with_call-twice xs caller first second)
+  pub with_work-twice : (seats : List (Seat K V A)) (caller : ℕ) (first second : Option (Work K V A)) → with_work (with_work seats caller first) caller second ≡ with_work seats caller second
+  with_work-twice [] caller first second = refl
+  with_work-twice (x ∷ xs) caller first second = twice-first x xs (with_work xs caller first) caller first second (x.caller == caller) refl (with_work-twice xs caller first second)
+
+  -- what is under way, where a call on one key is, or one that resizes the map
+  pub call-under_way : (work : Option (Work K V A)) (r : Running K V A) → call_in work ≡ Some r → work ≡ Some (Call r)
+  call-under_way None r e = let f : None ≡ Some r = e in cc
+  call-under_way (Some (Call q)) r e = ap (λ (y : Running K V A). Some (Call y)) (same_item q r e)
+  call-under_way (Some (Resize z)) r e = let f : None ≡ Some r = e in cc
+
+  pub resizer-under_way : (work : Option (Work K V A)) (z : Resizer) → resizer_in work ≡ Some z → work ≡ Some (Resize z)
+  resizer-under_way None z e = let f : None ≡ Some z = e in cc
+  resizer-under_way (Some (Call q)) z e = let f : None ≡ Some z = e in cc
+  resizer-under_way (Some (Resize y)) z e = ap (λ (x : Resizer). Some (Resize x)) (same_item y z e)
+
+  -- a seat that was added leaves each caller's call, and so does work that was put into another's seat
+  pub running-with_seat : (seats : List (Seat K V A)) (caller other : ℕ) → running (with_seat seats caller) other ≡ running seats other
+  running-with_seat seats caller other = ap call_in (working-with_seat seats caller other)
+
+  pub resizing-with_seat : (seats : List (Seat K V A)) (caller other : ℕ) → resizing (with_seat seats caller) other ≡ resizing seats other
+  resizing-with_seat seats caller other = ap resizer_in (working-with_seat seats caller other)
+
+  pub running-elsewhere : (seats : List (Seat K V A)) (caller other : ℕ) (work : Option (Work K V A)) → other ≢ caller → running (with_work seats caller work) other ≡ running seats other
+  running-elsewhere seats caller other work differ = ap call_in (working-other seats caller other work differ)
+
+  pub resizing-elsewhere : (seats : List (Seat K V A)) (caller other : ℕ) (work : Option (Work K V A)) → other ≢ caller → resizing (with_work seats caller work) other ≡ resizing seats other
+  resizing-elsewhere seats caller other work differ = ap resizer_in (working-other seats caller other work differ)
+
+  pub running-other : (seats : List (Seat K V A)) (caller other : ℕ) (call : Option (Running K V A)) → other ≢ caller → running (with_call seats caller call) other ≡ running seats other
+  running-other seats caller other call differ = running-elsewhere seats caller other (as_work call) differ
+
+  -- a caller's work is what was put into its seat
+  pub running-here : (seats : List (Seat K V A)) (caller : ℕ) (work : Option (Work K V A)) (r : Running K V A) → running (with_work seats caller work) caller ≡ Some r → work ≡ Some (Call r)
+  running-here seats caller work r e = working-same seats caller work (Call r) (call-under_way (working (with_work seats caller work) caller) r e)
+
+  pub resizing-here : (seats : List (Seat K V A)) (caller : ℕ) (work : Option (Work K V A)) (z : Resizer) → resizing (with_work seats caller work) caller ≡ Some z → work ≡ Some (Resize z)
+  resizing-here seats caller work z e = working-same seats caller work (Resize z) (resizer-under_way (working (with_work seats caller work) caller) z e)
+
+  -- so it is with a call on one key, and then there is no resizer
+  pub call-put : (call : Option (Running K V A)) (r : Running K V A) → as_work call ≡ Some (Call r) → call ≡ Some r
+  call-put None r e = let f : None ≡ Some (Call r) = e in cc
+  call-put (Some q) r e = ap call_in e
+
+  pub no-resizer : (call : Option (Running K V A)) (z : Resizer) → as_work call ≡ Some (Resize z) → ⊥
+  no-resizer None z e = let f : None ≡ Some (Resize z) = e in absurd cc
+  no-resizer (Some q) z e = let f : Some q ≡ None = ap call_in e in absurd cc
+
+  pub running-same : (seats : List (Seat K V A)) (caller : ℕ) (call : Option (Running K V A)) (r : Running K V A) → running (with_call seats caller call) caller ≡ Some r → call ≡ Some r
+  running-same seats caller call r e = call-put call r (running-here seats caller (as_work call) r e)

@@ -11,21 +11,33 @@ use Rattle.papaya_chain.specs.declared.ask.Ask.{Ask}
 use Rattle.papaya_chain.specs.declared.ask.Ask.TheVariants as asks
 use Rattle.papaya_chain.specs.declared.ask.Answer.{Answer}
 use Rattle.papaya_chain.specs.declared.machine.Machine.{Machine}
-use Rattle.papaya_chain.specs.Machine.{IsStanding, IsFitAsk, ask_of}
+use Rattle.papaya_chain.specs.Machine.{IsStanding, IsFitAsk, ask_of, started}
 use Rattle.papaya_ask.specs.declared.call.Call.{Call}
 use Rattle.papaya_timeline.specs.Advances.{reply_in}
-use Rattle.papaya_timeline.specs.Begins.{begun}
+use Rattle.papaya_timeline.specs.Begins.{begun_work}
+use Rattle.papaya_chain.specs.declared.resizer.Resize.{Resize}
+use Rattle.papaya_chain.specs.declared.resizer.Resize.TheVariants as resizes
+use Rattle.papaya_chain.specs.declared.resizer.Resizer.{Resizer}
+use Rattle.papaya_chain.specs.Resizer.{IsStandingIn, IsStandingResizer, reply_of}
+use Rattle.papaya_chain.specs.Resizer as resizers
+use Rattle.papaya_copy.specs.Link.{IsFitCopyAsk}
+use Rattle.papaya_ask.specs.declared.copy_ask.CopyAsk.{CopyAsk}
+use Rattle.papaya_store.specs.Copies.{PerformsCopy}
+use Rattle.papaya_timeline.specs.declared.seat.Work.{Work}
+use Rattle.papaya_timeline.specs.declared.seat.Work.TheVariants as works
+use Rattle.papaya_timeline.proofs.Begun.{call_begun, resizer_begun_is}
 use Rattle.papaya_store.specs.declared.pairs.Running.{Running}
 use Rattle.papaya_timeline.specs.declared.seat.Seat.{Seat}
-use Rattle.papaya_timeline.specs.Callers.{running, with_call, with_seat}
+use Rattle.papaya_timeline.specs.Callers.{resizing, running, with_seat, with_work}
 use Rattle.papaya_store.specs.Tables.{Tables}
 use Rattle.papaya_store.specs.Store.{StoreState}
+use Rattle.papaya_chain_rests.proofs.Standing.{started_stands}
 use Rattle.papaya_store.specs.Asks.{PerformsAsk}
 use Rattle.papaya_timeline.specs.Core.{IsCore, IsGoing}
 use Rattle.papaya_store.specs.New.{HasCapacity}
 use Rattle.papaya_keys.proofs.TableSizes.{table_size}
-use Rattle.papaya_timeline.proofs.CallersLemmas.{running-with_seat, running-other, running-same}
-use Rattle.papaya_timeline.proofs.StoreLemmas.{AllSized, numbered, unnumbered, performed_ask, append-sized}
+use Rattle.papaya_timeline.proofs.CallersLemmas.{resizing-elsewhere, resizing-here, resizing-with_seat, running-elsewhere, running-here, running-with_seat}
+use Rattle.papaya_timeline.proofs.StoreLemmas.{AllSized, numbered, unnumbered, performed_ask, performed_copy, append-sized}
 
 -- two numbers are the same or they differ
 pub cases_same : (a b : ℕ) → (a ≡ b) ⊎ (a ≢ b)
@@ -40,23 +52,45 @@ pub reply_asked : (ask : Ask) (reply : Reply) → reply_in ask ≡ Some reply �
 reply_asked (asks.Call (Ask_done r)) reply e = let same : r ≡ reply = cc in ap (λ y. asks.Call (Ask_done y)) same
 reply_asked ask reply e = let f : None ≡ Some reply = e in absurd cc
 
--- a call that begins has not replied
-pub begun-going : {K V A : Type 0} (hash : K → ℕ) (mode : ResizeMode) (initial : ℕ) (call : Call K V A) → IsGoing (begun hash mode initial call).machine
-begun-going hash mode initial call = still_going (begun hash mode initial call).machine refl
+-- a call that begins stands, and has not replied
+pub begun-core : {K V A : Type 0} (hash : K → ℕ) (mode : ResizeMode) (initial : ℕ) (call : Call K V A) → IsChunked mode → IsPowerOfTwo initial
+    → ((r : Running K V A) → begun_work hash mode initial call ≡ works.Call r → IsStanding r.machine × IsGoing r.machine) × ((z : Resizer) → begun_work hash mode initial call ≡ works.Resize z → IsStandingResizer z × (reply_of z ≡ None))
+begun-core {K} {V} {A} hash mode initial call chunked power = (
+  λ r e. let is = call_begun hash mode initial call r e in
+      subst (λ (y : Running K V A). IsStanding y.machine × IsGoing y.machine) (sym is.is)
+      (started_stands is.task (hash is.key) mode initial chunked power, still_going (started is.task (hash is.key) mode initial) refl),
+  λ z e. let is = resizer_begun_is hash mode initial call z e in
+      subst (λ (y : Resizer). IsStandingResizer y × (reply_of y ≡ None)) (sym is.is)
+      (record { chunked = chunked; initial = power; state = standing_begun is.resize }, unreplied is.resize),
+)
+  where
+    standing_begun : (resize : Resize) → IsStandingIn (resizers.begun_in resize)
+    standing_begun resizes.Chunk = tt
+    standing_begun resizes.CopyAll = tt
+    standing_begun (resizes.Reserve more) = tt
+
+    unreplied : (resize : Resize) → resizers.reply_in (resizers.begun_in resize) ≡ None
+    unreplied resizes.Chunk = refl
+    unreplied resizes.CopyAll = refl
+    unreplied (resizes.Reserve more) = refl
 
 module _ {K V S A : Type 0} where
-  -- a call was put into a seat, or taken out of it
-  pub with_call-core : (store : StoreState K V S) (callers : List (Seat K V A)) (mode : ResizeMode) (caller : ℕ) (call : Option (Running K V A)) → IsCore store callers mode → ((r : Running K V A) → call ≡ Some r → IsStanding r.machine × IsGoing r.machine) → IsCore store (with_call callers caller call) mode
-  with_call-core store callers mode caller call core stands = record {
+  -- work was put into a seat, or taken out of it
+  pub with_work-core : (store : StoreState K V S) (callers : List (Seat K V A)) (mode : ResizeMode) (caller : ℕ) (work : Option (Work K V A)) → IsCore store callers mode → ((r : Running K V A) → work ≡ Some (works.Call r) → IsStanding r.machine × IsGoing r.machine) → ((z : Resizer) → work ≡ Some (works.Resize z) → IsStandingResizer z × (reply_of z ≡ None)) → IsCore store (with_work callers caller work) mode
+  with_work-core store callers mode caller work core stands resizes = record {
     chunked = core.chunked;
     sizes = core.sizes;
     standing = λ other r e. elim (cases_same other caller) [
-      | inl same ↦ (stands r (running-same callers caller call r (subst (λ (d : ℕ). running (with_call callers caller call) d ≡ Some r) same e))).0
-      | inr differ ↦ core.standing other r (sym (running-other callers caller other call differ) ∙ e)
+      | inl same ↦ (stands r (running-here callers caller work r (subst (λ (d : ℕ). running (with_work callers caller work) d ≡ Some r) same e))).0
+      | inr differ ↦ core.standing other r (sym (running-elsewhere callers caller other work differ) ∙ e)
     ];
     going = λ other r e. elim (cases_same other caller) [
-      | inl same ↦ (stands r (running-same callers caller call r (subst (λ (d : ℕ). running (with_call callers caller call) d ≡ Some r) same e))).1
-      | inr differ ↦ core.going other r (sym (running-other callers caller other call differ) ∙ e)
+      | inl same ↦ (stands r (running-here callers caller work r (subst (λ (d : ℕ). running (with_work callers caller work) d ≡ Some r) same e))).1
+      | inr differ ↦ core.going other r (sym (running-elsewhere callers caller other work differ) ∙ e)
+    ];
+    resizers = λ other z e. elim (cases_same other caller) [
+      | inl same ↦ resizes z (resizing-here callers caller work z (subst (λ (d : ℕ). resizing (with_work callers caller work) d ≡ Some z) same e))
+      | inr differ ↦ core.resizers other z (sym (resizing-elsewhere callers caller other work differ) ∙ e)
     ];
   }
 
@@ -67,13 +101,8 @@ module _ {K V S A : Type 0} where
     sizes = core.sizes;
     standing = λ other r e. core.standing other r (sym (running-with_seat callers caller other) ∙ e);
     going = λ other r e. core.going other r (sym (running-with_seat callers caller other) ∙ e);
+    resizers = λ other z e. core.resizers other z (sym (resizing-with_seat callers caller other) ∙ e);
   }
-
-  -- a caller began a call
-  pub begun-core : (store : StoreState K V S) (callers : List (Seat K V A)) (mode : ResizeMode) (caller : ℕ) (r : Running K V A) → IsCore store callers mode → IsStanding r.machine → IsGoing r.machine → IsCore store (with_call (with_seat callers caller) caller (Some r)) mode
-  begun-core store callers mode caller r core stands goes =
-      with_call-core store (with_seat callers caller) mode caller (Some r) (with_seat-core store callers mode caller core)
-      (λ q e. let same : r ≡ q = cc in subst (λ (y : Running K V A). IsStanding y.machine × IsGoing y.machine) same (stands, goes))
 
   -- an ask of a caller was answered
   pub performed-core : (eq : K → K → Bool) (says : Says K V A) (hash : S → K → ℕ) (refuse : Bool) (store : StoreState K V S) (callers : List (Seat K V A)) (mode : ResizeMode) (r : Running K V A) (a : Answer) (store' : StoreState K V S) (later : Running K V A) → IsCore store callers mode → IsFitAsk (ask_of r.machine) → PerformsAsk eq says hash refuse (ask_of r.machine) store r a store' later → IsCore store' callers mode
@@ -82,6 +111,17 @@ module _ {K V S A : Type 0} where
     sizes = numbered store'.words.tables (performed_ask eq hash says refuse (ask_of r.machine) store r a store' later (unnumbered store.words.tables core.sizes) fit performs).sized;
     standing = core.standing;
     going = core.going;
+    resizers = core.resizers;
+  }
+
+  -- so it is with one of a copy
+  pub copied-core : (eq : K → K → Bool) (hash : S → K → ℕ) (refuse : Bool) (ask : CopyAsk) (store : StoreState K V S) (callers : List (Seat K V A)) (mode : ResizeMode) (a : Answer) (store' : StoreState K V S) → IsCore store callers mode → IsFitCopyAsk ask → PerformsCopy eq hash refuse ask store a store' → IsCore store' callers mode
+  copied-core eq hash refuse ask store callers mode a store' core fit performs = record {
+    chunked = core.chunked;
+    sizes = numbered store'.words.tables (performed_copy eq hash refuse ask store a store' (unnumbered store.words.tables core.sizes) fit performs).sized;
+    standing = core.standing;
+    going = core.going;
+    resizers = core.resizers;
   }
 
 no-tables : (words : Tables) → words ≡ record { root = 0; tables = [] } → AllSized words.tables
@@ -99,4 +139,5 @@ new-core store callers mode capacity initial chunked power most words none = rec
   sizes = numbered store.words.tables (new-sized capacity initial store.words power most words);
   standing = λ caller r e. let f : None ≡ Some r = sym (ap (λ (y : List (Seat _ _ _)). running y caller) none) ∙ e in cc;
   going = λ caller r e. let f : None ≡ Some r = sym (ap (λ (y : List (Seat _ _ _)). running y caller) none) ∙ e in absurd cc;
+  resizers = λ caller z e. let f : None ≡ Some z = sym (ap (λ (y : List (Seat _ _ _)). resizing y caller) none) ∙ e in absurd cc;
 }

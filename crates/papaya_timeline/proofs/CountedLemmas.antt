@@ -8,6 +8,9 @@ use Rattle.papaya_words.specs.declared.word.Kind.{Kind}
 use Rattle.papaya_words.specs.declared.word.Kind.TheVariants as kinds
 use Rattle.papaya_call.specs.Answers.{Says}
 use Rattle.papaya_ask.specs.declared.call.Call.{Call}
+use Rattle.papaya_ask.specs.declared.call.Call.TheVariants.{Get, Insert, TryInsert, RemoveIf, Compute, Reserve, CopyAll}
+use Rattle.papaya_words.specs.declared.probe.ResizeMode.{ResizeMode}
+use Rattle.papaya_timeline.specs.Callers.{call_in}
 use Rattle.papaya_ask.specs.declared.call.Reply.{Reply}
 use Rattle.papaya_law.specs.Allows.{AllAllowed}
 use Rattle.papaya_law.specs.Content.{AreApart, lookup}
@@ -25,9 +28,9 @@ use Rattle.papaya_store.specs.declared.pairs.Running.{Running}
 use Rattle.papaya_timeline.specs.declared.seat.Seat.{Seat}
 use Rattle.papaya_timeline.specs.declared.trace.Event.{Event}
 use Rattle.papaya_timeline.specs.Advances.{Advances, goes_on}
-use Rattle.papaya_timeline.specs.Begins.{Begins, begun}
+use Rattle.papaya_timeline.specs.Begins.{Begins, begun_work}
 use Rattle.papaya_timeline.specs.Content.{content, pairs_from, pairs_of_kind, pairs_of_slots}
-use Rattle.papaya_timeline.specs.Core.{CoreState, IsCore, call_of}
+use Rattle.papaya_timeline.specs.Core.{CoreState, IsCore, work_of}
 use Rattle.papaya_timeline.specs.Counted.{IsCounted, owed_in, owed_of}
 use Rattle.papaya_timeline.specs.Kept.{IsKept, Tale, setting_of, coding_of, low, told_tales}
 use Rattle.papaya_store.specs.Store.{StoreState, Stored}
@@ -76,12 +79,22 @@ module _ {K V S : Type 0} (store : StoreState K V S) (none : store.pairs ≡ [])
         ∙ length_fits 0 (omega arith)
         ∙ sym (ap (λ (l : List (Stored K V)). pos (length l)) new_content)
 
+-- a call that begins owes nothing
+begun_owes : {K V A : Type 0} (hash : K → ℕ) (mode : ResizeMode) (initial : ℕ) (call : Call K V A) → owed_of (call_in (Some (begun_work hash mode initial call))) ≡ pos 0
+begun_owes hash mode initial (Get k) = refl
+begun_owes hash mode initial (Insert k v) = refl
+begun_owes hash mode initial (TryInsert k v) = refl
+begun_owes hash mode initial (RemoveIf k a) = refl
+begun_owes hash mode initial (Compute k a) = refl
+begun_owes hash mode initial (Reserve more) = refl
+begun_owes hash mode initial CopyAll = refl
+
 -- a begin leaves the sum and the pairs, and its call owes nothing
-pub counted_begin : {K V S A : Type 0} (eq : K → K → Bool) (hash : K → ℕ) (s : CoreState K V S A) (caller : ℕ) (call : Call K V A) (s' : CoreState K V S A) → Begins hash s caller call s' → call_of s caller ≡ None → IsCounted eq s.store s.callers → IsCounted eq s'.store s'.callers
+pub counted_begin : {K V S A : Type 0} (eq : K → K → Bool) (hash : K → ℕ) (s : CoreState K V S A) (caller : ℕ) (call : Call K V A) (s' : CoreState K V S A) → Begins hash s caller call s' → work_of s caller ≡ None → IsCounted eq s.store s.callers → IsCounted eq s'.store s'.callers
 counted_begin {K} {V} {S} {A} eq hash s caller call s' begins free counted =
     subst (λ (y : StoreState K V S). IsCounted eq y s'.callers) (sym begins.store)
     (ap (λ (l : List (Seat K V A)). int_wrap w64 (s.store.count.sum +ℤ owed_in l)) begins.callers
-    ∙ ap (λ z. int_wrap w64 (s.store.count.sum +ℤ z)) (owed-begun s.callers caller free (Some (begun hash s.mode s.initial call)) ∙ omega (arith, ints))
+    ∙ ap (λ z. int_wrap w64 (s.store.count.sum +ℤ z)) (owed-begun s.callers caller free (Some (begun_work hash s.mode s.initial call)) ∙ ap (λ z. owed_in s.callers +ℤ z) (begun_owes hash s.mode s.initial call) ∙ omega (arith, ints))
     ∙ counted)
 
 module _ {K V S A : Type 0} (eq : K → K → Bool) (hash : K → ℕ) (law : IsLawfulKeys eq hash) {says : Says K V A} {hashes : S → K → ℕ} (refuse : Bool) (s : CoreState K V S A) (caller : ℕ) (s' : CoreState K V S A) (event : Event) (reply : Option Reply)

@@ -29,7 +29,7 @@ use Rattle.papaya_rests.specs.Says.{show}
 use Rattle.papaya_store.specs.declared.pairs.Running.{Running}
 use Rattle.papaya_timeline.specs.declared.trace.Event.{Event}
 use Rattle.papaya_timeline.specs.Advances.{event_of}
-use Rattle.papaya_timeline.specs.Maps.{Map, key_of}
+use Rattle.papaya_timeline.specs.Maps.{Map, at_key, key_of}
 use Rattle.papaya_store.specs.Asks.{PerformsAsk}
 use Rattle.papaya_store.specs.Copies.{PerformsCopy, hash_in}
 use Rattle.papaya_store.specs.Performs.{Performs, HasKey, HasNoPair, LogsKey, LogsPair, Refuses, ShowsPair, Stays, size_of}
@@ -101,9 +101,9 @@ module _ {K V S A : Type 0} (eq : K → K → Bool) (says : Says K V A) (refuse 
   call_unrefused (AddToShard by) (e, same, as_was) is = cc
   call_unrefused (Ask_done reply) (e, stays) is = cc
 
-module _ {K V S A : Type 0} (eq : K → K → Bool) (says : Says K V A) (hash : S → K → ℕ) (refuse : Bool) (s : StoreState K V S) (r : Running K V A) (a : Answer) (s' : StoreState K V S) (r' : Running K V A) where
+module _ {K V S : Type 0} (eq : K → K → Bool) (hash : S → K → ℕ) (refuse : Bool) (s : StoreState K V S) (a : Answer) (s' : StoreState K V S) where
   -- nor does one to a copy
-  copy_unrefused : (ask : CopyAsk) → PerformsCopy eq hash refuse ask s a s' → a ≡ answers.Call (Was_refused RemoveNothing) → ⊥
+  pub copy_unrefused : (ask : CopyAsk) → PerformsCopy eq hash refuse ask s a s' → a ≡ answers.Call (Was_refused RemoveNothing) → ⊥
   copy_unrefused (copies.Load at) (e, same) is = cc
   copy_unrefused (copies.Exchange at old new) (told, e, ex) is =
       matched ⊥ (word_at s.words at == old) _ _ ex
@@ -126,10 +126,11 @@ module _ {K V S A : Type 0} (eq : K → K → Bool) (says : Says K V A) (hash : 
       (λ table. let f = table.0 in cc)
       made)
 
+module _ {K V S A : Type 0} (eq : K → K → Bool) (says : Says K V A) (hash : S → K → ℕ) (refuse : Bool) (s : StoreState K V S) (r : Running K V A) (a : Answer) (s' : StoreState K V S) (r' : Running K V A) where
   -- no answer refuses the removal of nothing
   pub unrefused : (ask : Ask) → PerformsAsk eq says hash refuse ask s r a s' r' → a ≡ answers.Call (Was_refused RemoveNothing) → ⊥
   unrefused (asks.Call ask) (told, e, performs) is = let refused : told ≡ Was_refused RemoveNothing = cc (e, is) in call_unrefused eq says refuse s r told s' r' ask performs refused
-  unrefused (asks.Copy ask) (performs, as_was) is = copy_unrefused ask performs is
+  unrefused (asks.Copy ask) (performs, as_was) is = copy_unrefused eq hash refuse s a s' ask performs is
 
 -- why a call is refused that would remove nothing: its closure was just shown that there is none
 pub removes_nothing : (m : Machine) (a : Answer) → (a ≡ answers.Call (Was_refused RemoveNothing) → ⊥) → IsCause m a RemoveNothing → (ask_of m ≡ asks.Call ShowNone) × (a ≡ answers.Call (Op op_kinds.Remove))
@@ -146,7 +147,7 @@ removes_nothing m a never (inr by) =
 
 module _ {K V A : Type 0} (call : Call K V A) (m : Machine) (a : Answer) (c turn : ℕ) (event : Event) (h : History) (now : Map K V) (maps : List (Map K V)) (event_is : event ≡ event_of (kind_of_ask m) (ask_of m) a) where
   -- what is shown in a step was last shown after it
-  shown_last : (shown : Option ℕ) (op : OpKind) → ask_of m ≡ asks.Call (show shown) → a ≡ answers.Call (Op op) → AtSomeMoment (λ m. number_in (m (key_of call)) ≡ shown) c h maps → WasShownLast call shown op c (entry turn c event ∷ h) (now ∷ maps)
+  shown_last : (shown : Option ℕ) (op : OpKind) → ask_of m ≡ asks.Call (show shown) → a ≡ answers.Call (Op op) → AtSomeMoment (λ m. number_in (at_key m (key_of call)) ≡ shown) c h maps → WasShownLast call shown op c (entry turn c event ∷ h) (now ∷ maps)
   shown_last shown op asking is at = (
     last_shown-own c turn event h ∙ ap (λ e. shown_by e (last_shown c h)) (event_is ∙ event_shown shown op (kind_of_ask m) (ask_of m) a asking is),
     inr (not_begin-own c c turn event (ap begins event_is ∙ event_begins (kind_of_ask m) (ask_of m) a), at),
@@ -154,7 +155,7 @@ module _ {K V A : Type 0} (call : Call K V A) (m : Machine) (a : Answer) (c turn
 
   -- so where a step ends the call, its closure was shown in it what the key had at a moment of the call
   pub step_ending : Goes m a → ((after m a).call.task ≡ m.call.task) → ((reply : Reply) → ask_of m ≡ asks.Call (Ask_done reply) → ⊥) → (ask_of m ≡ asks.Call ShowNone → m.call.task ≡ tasks.Compute)
-      → ((shown : Option ℕ) → ask_of m ≡ asks.Call (show shown) → AtSomeMoment (λ m. number_in (m (key_of call)) ≡ shown) c h maps)
+      → ((shown : Option ℕ) → ask_of m ≡ asks.Call (show shown) → AtSomeMoment (λ m. number_in (at_key m (key_of call)) ≡ shown) c h maps)
       → (reply : Reply) → (reply ≡ Refused RemoveNothing → (ask_of m ≡ asks.Call ShowNone) × (a ≡ answers.Call (Op op_kinds.Remove))) → ask_of (after m a) ≡ asks.Call (Ask_done reply) → IsEnding (after m a).call.task call reply c (entry turn c event ∷ h) (now ∷ maps)
   step_ending goes task open_still offers showing reply removes done = record {
     aborts = λ t is. let (shown, asking, told) = chain_aborted m a goes t open_still (done ∙ ap (λ y. asks.Call (Ask_done y)) is) in (shown, shown_last shown (op_kinds.Abort t) asking told (showing shown asking));

@@ -44,7 +44,7 @@ module _ {K P : Type 0} (g : Setting K P) (c : Coding K P) (s : State P) (last k
   step_follows (steps.Settling chunk goes) rests e = settle_follows (step.slot_of chunk) goes rests.3 e
   step_follows other rests e = absurd cc
 
-  copying_follows : (goes : Copying) → RestsCopying g c s last kept goes → copying.copying_ask goes ≡ MakeTable slots limit → On (copying.copying_follows goes)
+  pub copying_follows : (goes : Copying) → RestsCopying g c s last kept goes → copying.copying_ask goes ≡ MakeTable slots limit → On (copying.copying_follows goes)
   copying_follows (Stepping aim goes) rests e = step_follows goes rests.1 e
   copying_follows (Lone slot goes) rests e = settle_follows slot goes rests.1 e
 

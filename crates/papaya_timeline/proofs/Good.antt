@@ -6,19 +6,20 @@ use Rattle.papaya_call.specs.Answers.{Says}
 use Rattle.papaya_law.specs.Exchange.{Exchange}
 use Rattle.papaya_law.specs.Meaning.{map_of}
 use Rattle.papaya_call.specs.declared.answers.Operation.TheVariants as ops
-use Rattle.papaya_ask.specs.declared.call.Call.TheVariants.{Get, Insert, TryInsert, RemoveIf, Compute}
+use Rattle.papaya_ask.specs.declared.call.Call.TheVariants.{Get, Insert, TryInsert, RemoveIf, Compute, Reserve, CopyAll}
 use Rattle.papaya_rests.specs.Rests.{change_in}
 use Rattle.papaya_rests.specs.Says.{HasShownNone, Said, Agrees, Inserts, Makes, Removes, ShowsPairs, StandsOn}
 use Rattle.papaya_rests.specs.Told.{IsOneOf}
 use Rattle.papaya_store.specs.declared.pairs.Running.{Running}
 use Rattle.papaya_timeline.specs.declared.trace.Turn.{Turn}
-use Rattle.papaya_timeline.specs.Begins.{task_of_call}
-use Rattle.papaya_timeline.specs.Callers.{running}
+use Rattle.papaya_timeline.proofs.Begun.{the_task}
+use Rattle.papaya_timeline.specs.Callers.{resizing, running}
+use Rattle.papaya_chain.specs.declared.resizer.Resizer.{Resizer}
 use Rattle.papaya_timeline.specs.Core.{CoreState, IsCore}
 use Rattle.papaya_timeline.specs.Given.{AreGiven, HasLeft}
 use Rattle.papaya_timeline.specs.Headline.{AreLogged, AreNew}
 use Rattle.papaya_timeline.specs.Kept.{IsKept, Tale, setting_of}
-use Rattle.papaya_timeline.specs.Maps.{Map, key_of}
+use Rattle.papaya_timeline.specs.Maps.{Map, at_key, key_of}
 use Rattle.papaya_store.specs.Performs.{own_key}
 use Rattle.papaya_store.specs.Store.{KeepsPairs, StoreState, Stored, pair_of}
 use Rattle.papaya_timeline.specs.Runs.{History}
@@ -31,6 +32,8 @@ IsValueOf (Insert k w) v = w ≡ v
 IsValueOf (TryInsert k w) v = w ≡ v
 IsValueOf (RemoveIf k a) v = ⊥
 IsValueOf (Compute k a) v = Unit {0}
+IsValueOf (Reserve more) v = ⊥
+IsValueOf CopyAll v = ⊥
 
 -- What a machine stands on was said by its closure in the call. A value that it answered is at hand until a pair is made of it, and then is the pair's.
 abbrev pub WasSaid : {K V S A : Type 0} → StoreState K V S → Running K V A → ℕ → History → Answered V → Said → Type 0
@@ -51,8 +54,10 @@ module _ {K V : Type 0} (eq : K → K → Bool) where
   module _ {S A : Type 0} where
     -- A call under way, which began in the run, and the history of its caller.
     pub record IsTied (store : StoreState K V S) (r : Running K V A) (call : Call K V A) (caller : ℕ) (tale : Tale K V) (h : History) (maps : List (Map K V)) (answers : Answered V) : Type 0 where
-      pub key : own_key store r ≡ Some (key_of call)
-      pub task : r.machine.call.task ≡ task_of_call call
+      pub own : K
+      pub key : own_key store r ≡ Some own
+      pub key_is : key_of call ≡ Some own
+      pub task : r.machine.call.task ≡ the_task call
       -- the value that is at hand, and that of a pair that was made, is the call's
       pub value : (v : V) → r.value ≡ Some v → IsValueOf call v
       pub made : (q : Stored K V) → IsOneOf tale.hands.call.made q → IsValueOf call q.value
@@ -63,7 +68,7 @@ module _ {K V : Type 0} (eq : K → K → Bool) where
       -- a closure that was shown that there is none will not be shown it again
       pub once : was_shown_none caller h ≡ true → HasShownNone r.machine.call.remembered.fill r.machine.call.state
       -- what its key had after some of the exchanges since the call began, it had at a moment of the call
-      pub moments : (so_far rest : List (Exchange (Stored K V))) → so_far ++ rest ≡ tale.since → AtSomeMoment (λ m. m (key_of call) ≡ replayed (replay tale.begun) so_far (key_of call)) caller h maps
+      pub moments : (so_far rest : List (Exchange (Stored K V))) → so_far ++ rest ≡ tale.since → AtSomeMoment (λ m. at_key m (key_of call) ≡ at_key (replayed (replay tale.begun) so_far) (key_of call)) caller h maps
 
     -- The history has a timeline of maps, the newest of which is the replay of all exchanges; and the calls under way stand to it as they should.
     pub record IsGood (says : Says K V A) (hash : K → ℕ) (schedule : List (Turn K V A)) (first : StoreState K V S) (start : Map K V) (s : CoreState K V S A) (h : History) : Type 0 where
@@ -78,6 +83,8 @@ module _ {K V : Type 0} (eq : K → K → Bool) where
       pub given : AreGiven says s.store schedule h answers
       -- what the closures of the calls under way have left
       pub left : (caller : ℕ) (r : Running K V A) (call : Call K V A) → running s.callers caller ≡ Some r → open_call schedule caller h ≡ Some call → (a : A) → r.answers ≡ Some a → HasLeft says s.store schedule a caller h answers
+      -- a call that resizes the map has no key, and changes none
+      pub resized : (caller : ℕ) (z : Resizer) (call : Call K V A) → resizing s.callers caller ≡ Some z → open_call schedule caller h ≡ Some call → (key_of call ≡ None) × (change_of caller h ≡ None)
       -- the pairs of the log where the run began are there, and those that came since, or were made by calls that began since, are new
       pub kept_pairs : KeepsPairs first s.store
       pub fresh : AreNew first schedule h

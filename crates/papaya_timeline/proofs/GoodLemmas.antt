@@ -1,5 +1,5 @@
 -- Begins and steps keep a good history.
-use Rattle.std.proofs.Common.{rules, arith, ◌≡◌, ◌≢◌, ◌⊎◌, inl, inr, ⊎_elim, ℕ, ◌<◌, ◌^◌, Bool, true, false, cond, Option, None, Some, List, [], ◌∷◌, ◌++◌, length, slice_get, refl, sym, ◌∙◌, ap, subst, eq-eqb}
+use Rattle.std.proofs.Common.{rules, arith, ◌≡◌, ◌≢◌, ◌⊎◌, inl, inr, ⊎_elim, ℕ, ◌<◌, Bool, true, false, cond, Option, None, Some, List, [], ◌∷◌, ◌++◌, length, slice_get, refl, sym, ◌∙◌, ap, subst, eq-eqb}
 use Rattle.std.proofs.lemmas.Bool.{cases_Bool}
 use Rattle.papaya_words.specs.declared.probe.ResizeMode.{ResizeMode}
 use Rattle.papaya_words.specs.declared.probe.Refused.TheVariants.{RemoveNothing}
@@ -8,7 +8,7 @@ use Rattle.papaya_ask.specs.declared.ask.Answer.TheVariants.{Op, Made as Made_nu
 use Rattle.papaya_ask.specs.declared.ask.OpKind.{OpKind}
 use Rattle.papaya_ask.specs.declared.ask.StepKind.{StepKind}
 use Rattle.papaya_ask.specs.declared.call.Call.{Call}
-use Rattle.papaya_ask.specs.declared.call.Call.TheVariants.{Get, Insert, TryInsert, RemoveIf, Compute}
+use Rattle.papaya_ask.specs.declared.call.Call.TheVariants.{Get, Insert, TryInsert, RemoveIf, Compute, Reserve, CopyAll}
 use Rattle.papaya_ask.specs.declared.call.Reply.{Reply}
 use Rattle.papaya_ask.specs.declared.call.Task.{Task}
 use Rattle.papaya_ask.specs.declared.call.Task.TheVariants as tasks
@@ -36,19 +36,22 @@ use Rattle.papaya_timeline.specs.declared.trace.Turn.TheVariants.{Begin}
 use Rattle.papaya_timeline.specs.declared.trace.Event.{Event}
 use Rattle.papaya_timeline.specs.declared.trace.Event.TheVariants.{Begun, Changed, Moved, Asked, Shown, Other, Replied}
 use Rattle.papaya_timeline.specs.Advances.{Advances, goes_on}
-use Rattle.papaya_timeline.specs.Begins.{Begins, begun, key_of_call, task_of_call, value_of_call}
-use Rattle.papaya_timeline.specs.Callers.{running, with_seat}
+use Rattle.papaya_timeline.specs.Begins.{Begins, answers_of_call, begun, begun_work, value_of_call}
+use Rattle.papaya_timeline.proofs.Begun.{IsBegun, call_begun, resizer_begun_is, task_is_own, the_task}
+use Rattle.papaya_timeline.specs.declared.seat.Work.TheVariants as works
+use Rattle.papaya_timeline.specs.Callers.{as_work, resizing, running, with_call, with_seat, with_work}
+use Rattle.papaya_chain.specs.declared.resizer.Resizer.{Resizer}
 use Rattle.papaya_timeline.specs.Content.{map_of}
 use Rattle.papaya_timeline.specs.Core.{CoreState, IsCore}
 use Rattle.papaya_timeline.specs.Given.{AreGiven, GivesIn, HasLeft, begun_answers}
 use Rattle.papaya_timeline.specs.Headline.{AreLogged, AreNew, ComesNew, HasTimeline}
 use Rattle.papaya_timeline.specs.Kept.{IsKept, Tale, setting_of, coding_of, low, told_tales, begun_tales}
-use Rattle.papaya_timeline.specs.Maps.{Map, Does, key_of}
+use Rattle.papaya_timeline.specs.Maps.{Map, Does, at_key, key_of}
 use Rattle.papaya_store.specs.Asks.{PerformsAsk}
 use Rattle.papaya_timeline.specs.Runs.{History, with_step}
 use Rattle.papaya_store.specs.Store.{KeepsPairs, StoreState, Stored, pair_of}
 use Rattle.papaya_timeline.specs.Timeline.{Answered, Timeline, IsLegal, MayChange, FitsOpen, FitsShown, IsAgreed, IsUnused, change_of, change_by, none_by, number_in, open_call, open_after, begun_by, begins, is_begin, was_shown_none, AtSomeMoment}
-use Rattle.papaya_timeline.proofs.CallersLemmas.{running-same, running-other, running-with_seat, same_item, differs}
+use Rattle.papaya_timeline.proofs.CallersLemmas.{no-resizer, resizing-elsewhere, resizing-here, resizing-with_seat, running-same, running-other, running-elsewhere, running-here, running-with_seat, same_item, differs}
 use Rattle.papaya_timeline.proofs.ChainLemmas.{chain_changed, chain_once, own_asks}
 use Rattle.papaya_timeline.proofs.CoreLemmas.{cases_same, reply_asked}
 use Rattle.papaya_timeline.proofs.EndingLemmas.{removes_nothing, step_ending, unrefused}
@@ -65,7 +68,7 @@ use Rattle.papaya_timeline.proofs.StepEvents.{copy_kind, one_exchange, event_beg
 use Rattle.papaya_timeline.proofs.StepTells.{Tells, answering as answered_by, event_tells, made_number, told_made}
 use Rattle.papaya_timeline.proofs.TellLemmas.{IsAnswering}
 use Rattle.papaya_timeline.proofs.TiedLemmas.{IsEnding, HasMoreLogs, grown, tied_other, tied_entry, tied_fits, at_showing, at_showing_none, moments_more}
-use Rattle.papaya_timeline.proofs.TimelineLemmas.{entry, open_call-own, open_call-other, change_of-own, not_begin-own, logged_more, logged_unused, was_shown_none-own}
+use Rattle.papaya_timeline.proofs.TimelineLemmas.{entry, open_call-own, open_call-other, change_of-other, change_of-own, not_begin-own, logged_more, logged_unused, was_shown_none-own}
 
 -- a call that goes on is the one after its step
 goes : {A : Type 0} (reply : Option Reply) (r' r : A) → goes_on reply r' ≡ Some r → (reply ≡ None) × (r' ≡ r)
@@ -84,12 +87,14 @@ past_log first s keeps (Some p) there =
     absurd (omega (arith, below))
 
 -- a pair of a compute may have any value
-computed : {K V A : Type 0} (call : Call K V A) → task_of_call call ≡ tasks.Compute → (v : V) → IsValueOf call v
+computed : {K V A : Type 0} (call : Call K V A) → the_task call ≡ tasks.Compute → (v : V) → IsValueOf call v
 computed (Get k) is v = absurd cc
 computed (Insert k w) is v = absurd cc
 computed (TryInsert k w) is v = absurd cc
 computed (RemoveIf k a) is v = absurd cc
 computed (Compute k a) is v = tt
+computed (Reserve more) is v = absurd cc
+computed CopyAll is v = absurd cc
 
 module _ {K V S A : Type 0} (eq : K → K → Bool) (hash : K → ℕ) (law : IsLawfulKeys eq hash) where
   -- One step of a call, in a run whose history is good.
@@ -146,8 +151,8 @@ module _ {K V S A : Type 0} (eq : K → K → Bool) (hash : K → ℕ) (law : Is
     changed = advance_changed eq hash law refuse s s' c event reply x good.core core' good.es good.tales good.kept step
 
     -- the key of an open call
-    own_is : (call : Call K V A) → open_call schedule c h ≡ Some call → step.call.key ≡ key_of call
-    own_is call e = same_item step.call.key (key_of call) (sym step.call.own ∙ (good.tied c x.before call x.was e).key)
+    own_is : (call : Call K V A) → open_call schedule c h ≡ Some call → Some step.call.key ≡ key_of call
+    own_is call e = let tied = good.tied c x.before call x.was e in sym step.call.own ∙ tied.key ∙ sym tied.key_is
 
     -- what the event of the step tells of it
     told : (e : Event) → event ≡ e → Tells e (ask_of x.before.machine) x.answer
@@ -172,8 +177,8 @@ module _ {K V S A : Type 0} (eq : K → K → Bool) (hash : K → ℕ) (law : Is
         let tied = good.tied c x.before call x.was e in
         let (at, from, to, asking) = told (Changed kind old new) is in
         let change : change_in (after m x.answer).call.state ≡ Some (old, new) = changed ∙ sym (event_change (change_in m.call.state) (kind_of_ask m) (ask_of m) x.answer (copy_kind m) (chain_once m)) ∙ ap (λ y. change_by y (change_in m.call.state)) (sym x.event_is ∙ is) in
-        let said : IsSaidChange (task_of_call call) m.call old (number_in came) =
-        subst (λ n. IsSaidChange (task_of_call call) m.call old n) (sym came_is) (subst (λ t. IsSaidChange t m.call old new) tied.task (chain_changed m x.answer goes_by (good.core.standing c x.before x.was) at from to asking old new change)) in
+        let said : IsSaidChange (the_task call) m.call old (number_in came) =
+        subst (λ n. IsSaidChange (the_task call) m.call old n) (sym came_is) (subst (λ t. IsSaidChange t m.call old new) tied.task (chain_changed m x.answer goes_by (good.core.standing c x.before x.was) at from to asking old new change)) in
         change_agreed call s.store x.before c h good.answers tied.said old came (logged went came may) said
       where
         logged : (went came : Option (Stored K V)) → MayPut step.call.key x.before.machine.call.task (good.tales c).hands.call.made went came → (q : Stored K V) → came ≡ Some q → pair_of s.store q.number ≡ Some q
@@ -294,7 +299,9 @@ module _ {K V S A : Type 0} (eq : K → K → Bool) (hash : K → ℕ) (law : Is
         let m = x.before.machine in
         let tied = good.tied c x.before call x.was e in
         record {
-          key = step.own.own ∙ ap (λ k. Some k) (step.own_key ∙ own_is call e);
+          own = step.own.key;
+          key = step.own.own;
+          key_is = sym (own_is call e) ∙ ap (λ k. Some k) (sym step.own_key);
           task = (chain_task m x.answer order).0 ∙ tied.task;
           value = λ v had. ⊎_elim (λ was. tied.value v was) (λ computes. computed call (sym tied.task ∙ computes) v) (grows.value_stays v had);
           made = λ q made. ⊎_elim
@@ -309,7 +316,7 @@ module _ {K V S A : Type 0} (eq : K → K → Bool) (hash : K → ℕ) (law : Is
               (λ was. (shows_once m x.answer order (tied.once was)).1)
               (λ (now : (ask_of m ≡ asks.Call ShowNone) × ((op : OpKind) × (x.answer ≡ told_to.Call (Op op)))). subst (λ y. HasShownNone (after m y).call.remembered.fill (after m y).call.state) (sym now.1.1) (chain_offered m now.1.0 now.0))
               (event_none (was_shown_none c h) (kind_of_ask m) (ask_of m) x.answer (ap (λ y. none_by y (was_shown_none c h)) (sym x.event_is) ∙ sym (was_shown_none-own c turn event h) ∙ shown));
-          moments = subst (λ (l : List (Exchange (Stored K V))). (so_far rest : List (Exchange (Stored K V))) → so_far ++ rest ≡ (good.tales c).since ++ step.made → AtSomeMoment (λ m. m (key_of call) ≡ replayed eq (replay eq (good.tales c).begun) so_far (key_of call)) c later_history (replay eq (l ++ step.made) ∷ replay eq good.es ∷ good.maps)) step.call.split
+          moments = subst (λ (l : List (Exchange (Stored K V))). (so_far rest : List (Exchange (Stored K V))) → so_far ++ rest ≡ (good.tales c).since ++ step.made → AtSomeMoment (λ m. at_key m (key_of call) ≡ at_key (replayed eq (replay eq (good.tales c).begun) so_far) (key_of call)) c later_history (replay eq (l ++ step.made) ∷ replay eq good.es ∷ good.maps)) step.call.split
               (moments_more eq (key_of call) c (entry turn c event) h (replay eq good.es ∷ good.maps) (good.tales c).begun (good.tales c).since step.made one
               no_begin tied.moments);
         }
@@ -332,7 +339,7 @@ module _ {K V S A : Type 0} (eq : K → K → Bool) (hash : K → ℕ) (law : Is
     fits (Some call) e rep some =
         let was = sym opened ∙ e in
         let done : ask_of (after x.before.machine x.answer) ≡ asks.Call (Ask_done rep) = reply_asked (ask_of (after x.before.machine x.answer)) rep (sym x.reply_is ∙ some) in
-        tied_fits eq s'.store r' call c (tales c) later_history later_maps later_answers (low hash) s'.mode s'.store.words.tables step.own.key (step.own_key ∙ own_is call was) (tied_own call was) step.own.rests rep done (ending call was rep some done)
+        tied_fits eq s'.store r' call c (tales c) later_history later_maps later_answers (low hash) s'.mode s'.store.words.tables step.own.key (ap (λ k. Some k) step.own_key ∙ own_is call was) (tied_own call was) step.own.rests rep done (ending call was rep some done)
 
     -- a call of another that is open now was open before
     open_other : (d : ℕ) (call : Call K V A) → d ≢ c → open_call schedule d later_history ≡ Some call → open_call schedule d h ≡ Some call
@@ -417,9 +424,24 @@ module _ {K V S A : Type 0} (eq : K → K → Bool) (hash : K → ℕ) (law : Is
       | inr differ ↦ made_others d r call differ now (open_other d call differ e) q made
     ]
 
+    -- a resizer is another caller's, and stays as it stood
+    resizes_other : (d : ℕ) (z : Resizer) → resizing s'.callers d ≡ Some z → (d ≢ c) × (resizing s.callers d ≡ Some z)
+    resizes_other d z now =
+        let before : resizing (with_call s.callers c (goes_on reply r')) d ≡ Some z = sym (ap (λ (y : List (Seat K V A)). resizing y d) x.callers) ∙ now in
+        elim (cases_same d c) [
+          | inl same ↦ absurd (no-resizer (goes_on reply r') z (resizing-here s.callers c (as_work (goes_on reply r')) z (ap (resizing (with_call s.callers c (goes_on reply r'))) (sym same) ∙ before)))
+          | inr differ ↦ (differ, sym (resizing-elsewhere s.callers c d (as_work (goes_on reply r')) differ) ∙ before)
+        ]
+
+    resized : (d : ℕ) (z : Resizer) (call : Call K V A) → resizing s'.callers d ≡ Some z → open_call schedule d later_history ≡ Some call → (key_of call ≡ None) × (change_of d later_history ≡ None)
+    resized d z call now e =
+        let (differ, before) = resizes_other d z now in
+        let was = good.resized d z call before (open_other d call differ e) in
+        (was.0, change_of-other c d turn event h (λ y. differ (sym y)) ∙ was.1)
+
     -- the call goes on
     goes_on_good : IsGood eq says hash schedule first start s' later_history
-    goes_on_good = record { es = es; tales = tales; maps = replay eq good.es ∷ good.maps; answers = later_answers; core = core'; kept = step.kept; timeline = timeline; logged = logged; given = given; left = left; kept_pairs = λ n p there. grows.pairs_stay n p (good.kept_pairs n p there); fresh = fresh; made_new = made_new; unused = unused; tied = tied }
+    goes_on_good = record { es = es; tales = tales; maps = replay eq good.es ∷ good.maps; answers = later_answers; core = core'; kept = step.kept; timeline = timeline; logged = logged; given = given; left = left; resized = resized; kept_pairs = λ n p there. grows.pairs_stay n p (good.kept_pairs n p there); fresh = fresh; made_new = made_new; unused = unused; tied = tied }
 
     -- or it replies
     replies_good : (rep : Reply) → reply ≡ Some rep → IsGood eq says hash schedule first start s' (entry turn c (Replied rep) ∷ later_history)
@@ -439,6 +461,10 @@ module _ {K V S A : Type 0} (eq : K → K → Bool) (hash : K → ℕ) (law : Is
             let ne : c ≢ d = λ z. differ (sym z) in
             inr (inr (ne, left_others d r call differ now (open_other d call differ (sym (open_call-other schedule c d turn (Replied rep) later_history ne) ∙ e)) a had))
       ];
+      resized = λ d z call now e.
+          let ne : c ≢ d = λ y. (resizes_other d z now).0 (sym y) in
+          let was = resized d z call now (sym (open_call-other schedule c d turn (Replied rep) later_history ne) ∙ e) in
+          (was.0, change_of-other c d turn (Replied rep) later_history ne ∙ was.1);
       kept_pairs = λ n p there. grows.pairs_stay n p (good.kept_pairs n p there);
       fresh = (λ call began. tt, fresh);
       made_new = λ d r call now e q made. elim (cases_same d c) [
@@ -461,14 +487,14 @@ module _ {K V S A : Type 0} (eq : K → K → Bool) (hash : K → ℕ) (law : Is
   good_step refuse schedule first start s s' h turn c event (Some rep) x as_hashed core' good = replies_good refuse schedule first start s s' h turn c event (Some rep) x as_hashed core' good rep refl
 
   -- a begin adds a call that rests on the exchanges as they are
-  pub good_begin : (says : Says K V A) (schedule : List (Turn K V A)) (first : StoreState K V S) (start : Map K V) (s s' : CoreState K V S A) (h : History) (turn c : ℕ) (call : Call K V A) → slice_get schedule turn ≡ Some (Begin c call) → Begins hash s c call s' → hash (key_of_call call) < 2 ^ 64 → IsCore s'.store s'.callers s'.mode → IsGood eq says hash schedule first start s h → IsGood eq says hash schedule first start s' (entry turn c Begun ∷ h)
-  good_begin says schedule first start s s' h turn c call at x low_hash core' good = record {
+  pub good_begin : (says : Says K V A) (schedule : List (Turn K V A)) (first : StoreState K V S) (start : Map K V) (s s' : CoreState K V S A) (h : History) (turn c : ℕ) (call : Call K V A) → slice_get schedule turn ≡ Some (Begin c call) → Begins hash s c call s' → IsCore s'.store s'.callers s'.mode → IsGood eq says hash schedule first start s h → IsGood eq says hash schedule first start s' (entry turn c Begun ∷ h)
+  good_begin says schedule first start s s' h turn c call at x core' good = record {
     es = good.es;
     tales = tales;
     maps = replay eq good.es ∷ good.maps;
     answers = None ∷ good.answers;
     core = core';
-    kept = kept_begin eq hash law s c call s' x low_hash good.core.chunked good.es good.tales good.kept;
+    kept = kept_begin eq hash law s c call s' x good.core.chunked good.es good.tales good.kept;
     timeline = (λ j. refl, refl, good.timeline);
     logged = (logged.0, logged);
     given = (
@@ -478,7 +504,7 @@ module _ {K V S A : Type 0} (eq : K → K → Bool) (hash : K → ℕ) (law : Is
     left = λ d r other now e a had. elim (cases_same d c) [
       | inl same ↦
           let is = run_same d r same now in
-          inl (sym same, refl, ap (λ o. begun_answers (begun_by o)) at ∙ ap (λ (y : Running K V A). y.answers) is ∙ had)
+          inl (sym same, refl, ap (λ o. begun_answers (begun_by o)) at ∙ ap (λ (y : Running K V A). y.answers) (sym is.is) ∙ had)
       | inr differ ↦
           let ne : c ≢ d = λ z. differ (sym z) in
           inr (inr (
@@ -487,6 +513,19 @@ module _ {K V S A : Type 0} (eq : K → K → Bool) (hash : K → ℕ) (law : Is
                 (good.left d r other (run_other d r differ now) (sym (open_call-other schedule c d turn Begun h ne) ∙ e) a had),
           ))
     ];
+    resized = λ d z other now e.
+        let begun_callers = with_work (with_seat s.callers c) c (Some (begun_work hash s.mode s.initial call)) in
+        let before : resizing begun_callers d ≡ Some z = sym (ap (λ (y : List (Seat K V A)). resizing y d) x.callers) ∙ now in
+        elim (cases_same d c) [
+          | inl same ↦
+              let is = resizer_begun_is hash s.mode s.initial call z (same_item (begun_work hash s.mode s.initial call) (works.Resize z) (resizing-here (with_seat s.callers c) c (Some (begun_work hash s.mode s.initial call)) z (ap (resizing begun_callers) (sym same) ∙ before))) in
+              let is_call : call ≡ other = same_item call other (sym (open_call-own schedule c turn Begun h ∙ ap begun_by at) ∙ sym (ap (λ y. open_call schedule y (entry turn c Begun ∷ h)) same) ∙ e) in
+              (ap (λ (y : Call K V A). key_of y) (sym is_call) ∙ is.no_key, subst (λ y. change_of y (entry turn c Begun ∷ h) ≡ None) (sym same) (change_of-own c turn Begun h))
+          | inr differ ↦
+              let ne : c ≢ d = λ y. differ (sym y) in
+              let was = good.resized d z other (sym (resizing-with_seat s.callers c d) ∙ sym (resizing-elsewhere (with_seat s.callers c) c d (Some (begun_work hash s.mode s.initial call)) differ) ∙ before) (sym (open_call-other schedule c d turn Begun h ne) ∙ e) in
+              (was.0, change_of-other c d turn Begun h ne ∙ was.1)
+        ];
     kept_pairs = subst (λ (y : StoreState K V S). KeepsPairs first y) (sym x.store) good.kept_pairs;
     fresh = (λ call began. tt, good.fresh);
     made_new = λ d r other now e q made. elim (cases_same d c) [
@@ -507,11 +546,11 @@ module _ {K V S A : Type 0} (eq : K → K → Bool) (hash : K → ℕ) (law : Is
 
       run_other : (d : ℕ) (r : Running K V A) → d ≢ c → running s'.callers d ≡ Some r → running s.callers d ≡ Some r
       run_other d r differ now =
-          sym (running-with_seat s.callers c d) ∙ sym (running-other (with_seat s.callers c) c d (Some (begun hash s.mode s.initial call)) differ) ∙ sym (ap (λ (y : List (Seat K V A)). running y d) x.callers) ∙ now
+          sym (running-with_seat s.callers c d) ∙ sym (running-elsewhere (with_seat s.callers c) c d (Some (begun_work hash s.mode s.initial call)) differ) ∙ sym (ap (λ (y : List (Seat K V A)). running y d) x.callers) ∙ now
 
-      run_same : (d : ℕ) (r : Running K V A) → d ≡ c → running s'.callers d ≡ Some r → begun hash s.mode s.initial call ≡ r
+      run_same : (d : ℕ) (r : Running K V A) → d ≡ c → running s'.callers d ≡ Some r → IsBegun hash s.mode s.initial call r
       run_same d r same now =
-          same_item (begun hash s.mode s.initial call) r (running-same (with_seat s.callers c) c (Some (begun hash s.mode s.initial call)) r (sym (ap (λ (y : List (Seat K V A)). running y c) x.callers) ∙ ap (running s'.callers) (sym same) ∙ now))
+          call_begun hash s.mode s.initial call r (same_item (begun_work hash s.mode s.initial call) (works.Call r) (running-here (with_seat s.callers c) c (Some (begun_work hash s.mode s.initial call)) r (sym (ap (λ (y : List (Seat K V A)). running y c) x.callers) ∙ ap (running s'.callers) (sym same) ∙ now)))
 
       tale_other : (d : ℕ) → d ≢ c → tales d ≡ good.tales d
       tale_other d differ = ap (λ b. cond b (record { begun = good.es; since = []; hands = no_hands }) (good.tales d)) (differs d c differ)
@@ -534,8 +573,8 @@ module _ {K V S A : Type 0} (eq : K → K → Bool) (hash : K → ℕ) (law : Is
             let is_call : call ≡ other = same_item call other (sym (open_call-own schedule c turn Begun h ∙ ap begun_by at) ∙ sym (ap (λ y. open_call schedule y (entry turn c Begun ∷ h)) same) ∙ e) in
             subst (λ y. IsTied eq s'.store r other y (tales y) (entry turn c Begun ∷ h) (replay eq good.es ∷ replay eq good.es ∷ good.maps) (None ∷ good.answers)) (sym same)
             (subst (λ y. IsTied eq s'.store r y c (tales c) (entry turn c Begun ∷ h) (replay eq good.es ∷ replay eq good.es ∷ good.maps) (None ∷ good.answers)) is_call
-            (subst (λ y. IsTied eq s'.store y call c (tales c) (entry turn c Begun ∷ h) (replay eq good.es ∷ replay eq good.es ∷ good.maps) (None ∷ good.answers)) is
-            (subst (λ y. IsTied eq s'.store (begun hash s.mode s.initial call) call c y (entry turn c Begun ∷ h) (replay eq good.es ∷ replay eq good.es ∷ good.maps) (None ∷ good.answers)) (sym tale_same) tied_begun)))
+            (subst (λ y. IsTied eq s'.store y call c (tales c) (entry turn c Begun ∷ h) (replay eq good.es ∷ replay eq good.es ∷ good.maps) (None ∷ good.answers)) (sym is.is)
+            (subst (λ y. IsTied eq s'.store (begun hash s.mode s.initial is.task is.key (value_of_call call) (answers_of_call call)) call c y (entry turn c Begun ∷ h) (replay eq good.es ∷ replay eq good.es ∷ good.maps) (None ∷ good.answers)) (sym tale_same) (tied_begun r is))))
         | inr differ ↦
             let ne : c ≢ d = λ z. differ (sym z) in
             subst (λ y. IsTied eq s'.store r other d y (entry turn c Begun ∷ h) (replay eq good.es ∷ replay eq good.es ∷ good.maps) (None ∷ good.answers)) (sym (tale_other d differ))
@@ -547,32 +586,29 @@ module _ {K V S A : Type 0} (eq : K → K → Bool) (hash : K → ℕ) (law : Is
           nothing_before [] rest none = refl
           nothing_before (y ∷ so_far) rest none = cc
 
-          tied_begun : IsTied eq s'.store (begun hash s.mode s.initial call) call c (record { begun = good.es; since = []; hands = no_hands }) (entry turn c Begun ∷ h) (replay eq good.es ∷ replay eq good.es ∷ good.maps) (None ∷ good.answers)
-          tied_begun = record {
-            key = key_is call;
-            task = refl;
+          tied_begun : (r : Running K V A) (is : IsBegun hash s.mode s.initial call r) → IsTied eq s'.store (begun hash s.mode s.initial is.task is.key (value_of_call call) (answers_of_call call)) call c (record { begun = good.es; since = []; hands = no_hands }) (entry turn c Begun ∷ h) (replay eq good.es ∷ replay eq good.es ∷ good.maps) (None ∷ good.answers)
+          tied_begun r is = record {
+            own = is.key;
+            key = refl;
+            key_is = is.key_is;
+            task = task_is_own call is.task is.task_is;
             value = begun_value call;
             made = λ q made. absurd made;
             change = change_of-own c turn Begun h;
-            said = λ said stands. absurd (begun_stands (task_of_call call) (hash (key_of_call call)) s.mode s.initial said stands);
+            said = λ said stands. absurd (begun_stands is.task (hash is.key) s.mode s.initial said stands);
             shows = tt;
             once = λ shown. let f : false ≡ true = sym (was_shown_none-own c turn Begun h) ∙ shown in absurd cc;
-            moments = λ so_far rest none. inl (ap (λ l. replayed eq (replay eq good.es) l (key_of call)) (sym (nothing_before so_far rest none)));
+            moments = λ so_far rest none. inl (ap (λ l. at_key (replayed eq (replay eq good.es) l) (key_of call)) (sym (nothing_before so_far rest none)));
           }
             where
-              key_is : (call : Call K V A) → Some (key_of_call call) ≡ Some (key_of call)
-              key_is (Get k) = refl
-              key_is (Insert k v) = refl
-              key_is (TryInsert k v) = refl
-              key_is (RemoveIf k a) = refl
-              key_is (Compute k a) = refl
-
               begun_value : (call : Call K V A) (v : V) → value_of_call call ≡ Some v → IsValueOf call v
               begun_value (Get k) v had = let f : None ≡ Some v = had in absurd cc
               begun_value (Insert k w) v had = same_item w v had
               begun_value (TryInsert k w) v had = same_item w v had
               begun_value (RemoveIf k a) v had = let f : None ≡ Some v = had in absurd cc
               begun_value (Compute k a) v had = tt
+              begun_value (Reserve more) v had = let f : None ≡ Some v = had in absurd cc
+              begun_value CopyAll v had = let f : None ≡ Some v = had in absurd cc
 
   -- a run begins with no entry and the core's map
   pub good_start : (says : Says K V A) (schedule : List (Turn K V A)) (s : CoreState K V S A) (es : List (Exchange (Stored K V))) (tales : ℕ → Tale K V) → IsCore s.store s.callers s.mode → IsKept eq hash s.mode s.store s.callers es tales → IsGood eq says hash schedule s.store (map_of eq s) s []
@@ -587,6 +623,7 @@ module _ {K V S A : Type 0} (eq : K → K → Bool) (hash : K → ℕ) (law : Is
     logged = (λ j p e. let (t, i, there) = standing j p e in kept.logged t i p there, tt);
     given = tt;
     left = λ d r call now e a had. let f : None ≡ Some call = e in absurd cc;
+    resized = λ d z call now e. let f : None ≡ Some call = e in absurd cc;
     kept_pairs = λ n p there. there;
     fresh = tt;
     made_new = λ d r call now e q made. let f : None ≡ Some call = e in absurd cc;

@@ -9,34 +9,44 @@ use Rattle.papaya_call.specs.Answers.{Says}
 use Rattle.papaya_law.specs.Exchange.{Exchange}
 use Rattle.papaya_chain.specs.declared.ask.Ask.TheVariants as asks
 use Rattle.papaya_chain.specs.Machine.{IsStanding, ask_of, after}
-use Rattle.papaya_chain_rests.proofs.Standing.{chain_ask_fits, chain_stands, started_stands}
+use Rattle.papaya_chain_rests.proofs.Standing.{chain_ask_fits, chain_stands}
 use Rattle.papaya_store.specs.declared.pairs.Running.{Running}
 use Rattle.papaya_timeline.specs.declared.seat.Seat.{Seat}
 use Rattle.papaya_timeline.specs.declared.trace.Turn.{Turn}
 use Rattle.papaya_timeline.specs.declared.trace.Turn.TheVariants.{Begin, Step, Finish}
 use Rattle.papaya_timeline.specs.declared.trace.Event.{Event}
 use Rattle.papaya_timeline.specs.Advances.{Advances, goes_on}
-use Rattle.papaya_timeline.specs.Begins.{Begins, begun, key_of_call, task_of_call}
-use Rattle.papaya_timeline.specs.Callers.{with_call, with_seat}
+use Rattle.papaya_timeline.specs.Begins.{Begins, begun_work}
+use Rattle.papaya_timeline.specs.Callers.{as_work, resizer_in, with_seat, with_work}
 use Rattle.papaya_timeline.specs.Content.{map_of}
 use Rattle.papaya_timeline.specs.Core.{IsGoing, CoreState, IsCore}
 use Rattle.papaya_timeline.specs.Headline.{HasTimeline}
 use Rattle.papaya_timeline.specs.Kept.{IsKept, IsLawfulCore, Tale, setting_of, coding_of, low}
 use Rattle.papaya_timeline.specs.Maps.{Map}
 use Rattle.papaya_timeline.specs.Moves.{MovesMap}
+use Rattle.papaya_timeline.specs.Resizes.{Resizes}
+use Rattle.papaya_timeline.specs.declared.seat.Work.{Work}
+use Rattle.papaya_timeline.specs.declared.seat.Work.TheVariants as works
+use Rattle.papaya_chain.specs.declared.ask.Answer.{Answer}
+use Rattle.papaya_chain.specs.declared.resizer.Resizer.{Resizer}
+use Rattle.papaya_chain.specs.Resizer.{IsStandingResizer, after as after_resize, reply_of}
+use Rattle.papaya_timeline.proofs.CopyAnswers.{left_logged}
+use Rattle.papaya_timeline.proofs.GoodResized.{good_resize, resize_moves}
+use Rattle.papaya_timeline.proofs.KeptResized.{goes_on-call, goes_on-resizer, left as resize_left}
+use Rattle.papaya_timeline.proofs.ResizerStands.{resizer_fits, resizer_stands}
 use Rattle.papaya_timeline.specs.Runs.{History, StepRuns, BeginRuns, StepsRun, TurnRuns, TurnsRun, IsCutShort, StopsEarly}
 use Rattle.papaya_store.specs.Store.{KeepsPairs, StoreState, Stored}
 use Rattle.papaya_keys.specs.Hashes.{hash_of}
-use Rattle.papaya_timeline.proofs.CallersLemmas.{same_item}
+use Rattle.papaya_timeline.proofs.CallersLemmas.{call-put, no-resizer, same_item}
 use Rattle.papaya_timeline.proofs.ChainLemmas.{own_asks}
-use Rattle.papaya_timeline.proofs.CoreLemmas.{begun-core, still_going, performed-core, with_call-core}
+use Rattle.papaya_timeline.proofs.CoreLemmas.{begun-core, copied-core, performed-core, still_going, with_seat-core, with_work-core}
 use Rattle.papaya_timeline.proofs.Good.{IsGood}
 use Rattle.papaya_timeline.proofs.GoodLemmas.{good_start, good_begin, good_step, good_end}
 use Rattle.papaya_timeline.proofs.AdvanceLemmas.{advance_moves}
 use Rattle.papaya_timeline.proofs.KeptCore.{keys_lawful}
 use Rattle.papaya_timeline.proofs.KeptLemmas.{IsLawfulKeys, kept_step}
 use Rattle.papaya_timeline.proofs.MachineLemmas.{machine_offers}
-use Rattle.papaya_timeline.proofs.StoreLemmas.{performed_ask, unnumbered}
+use Rattle.papaya_timeline.proofs.StoreLemmas.{performed_ask, performed_copy, unnumbered}
 use Rattle.papaya_timeline.proofs.TiedLemmas.{grown}
 
 module _ {K V S A : Type 0} where
@@ -51,20 +61,41 @@ module _ {K V S A : Type 0} where
       let r : Running K V A = record x.later { machine = after m x.answer } in
       subst (λ y. IsCore s'.store s'.callers y) (sym x.mode)
       (subst (λ (y : List (Seat K V A)). IsCore s'.store y s.mode) (sym x.callers)
-      (with_call-core s'.store s.callers s.mode caller (goes_on reply r) kept (still reply r stands (λ none. still_going (after m x.answer) (sym x.reply_is ∙ none)))))
+      (with_work-core s'.store s.callers s.mode caller (as_work (goes_on reply r)) kept (λ q e. still reply r stands (λ none. still_going (after m x.answer) (sym x.reply_is ∙ none)) q (call-put (goes_on reply r) q e)) (λ z e. absurd (no-resizer (goes_on reply r) z e))))
     where
       still : (reply : Option Reply) (r : Running K V A) → IsStanding r.machine → (reply ≡ None → IsGoing r.machine) → (q : Running K V A) → goes_on reply r ≡ Some q → IsStanding q.machine × IsGoing q.machine
       still None r stands goes q e = subst (λ (y : Running K V A). IsStanding y.machine × IsGoing y.machine) (same_item r q e) (stands, goes refl)
       still (Some rep) r stands goes q e = let f : None ≡ Some q = e in cc
 
+  -- so it does after a step of a resizer
+  pub resize-core : (eq : K → K → Bool) (hash : S → K → ℕ) (refuse : Bool) (s : CoreState K V S A) (caller : ℕ) (s' : CoreState K V S A) (event : Event) (reply : Option Reply) → Resizes eq hash refuse s caller s' event reply → IsCore s.store s.callers s.mode → IsCore s'.store s'.callers s'.mode
+  resize-core eq hash refuse s caller s' event reply x core =
+      let standing = (core.resizers caller x.before x.was).0 in
+      let fit = resizer_fits x.before standing x.ask x.asked in
+      let stands = resizer_stands x.before x.answer standing (performed_copy eq hash refuse x.ask s.store x.answer s'.store (unnumbered s.store.words.tables core.sizes) fit x.performs).fit in
+      let kept : IsCore s'.store s.callers s.mode = copied-core eq hash refuse x.ask s.store s.callers s.mode x.answer s'.store core fit x.performs in
+      subst (λ y. IsCore s'.store s'.callers y) (sym x.mode)
+      (subst (λ (y : List (Seat K V A)). IsCore s'.store y s.mode) (sym x.callers)
+      (with_work-core s'.store s.callers s.mode caller (goes_on reply (works.Resize (after_resize x.before x.answer))) kept
+      (λ r e. absurd (goes_on-call reply (after_resize x.before x.answer) r _ refl e))
+      (λ z e. subst (λ y. IsStandingResizer y × (reply_of y ≡ None)) (goes_on-resizer reply (after_resize x.before x.answer) z _ refl e) (stands, sym x.reply_is ∙ going reply z (resumed x.before x.answer) e))))
+    where
+      resumed : Resizer → Answer → Work K V A
+      resumed z a = works.Resize (after_resize z a)
+
+      going : (reply : Option Reply) (z : Resizer) (w : Work K V A) → goes_on reply w ≡ Some (works.Resize z) → reply ≡ None
+      going None z w e = refl
+      going (Some rep) z w e = let f : None ≡ Some z = ap resizer_in e in absurd cc
+
   -- and after a begin
   pub begin-core : (hash : K → ℕ) (s : CoreState K V S A) (caller : ℕ) (call : Call K V A) (s' : CoreState K V S A) → Begins hash s caller call s' → IsCore s.store s.callers s.mode → IsCore s'.store s'.callers s'.mode
   begin-core hash s caller call s' x core =
-      let r : Running K V A = begun hash s.mode s.initial call in
+      let w : Work K V A = begun_work hash s.mode s.initial call in
+      let begins = begun-core hash s.mode s.initial call core.chunked x.power in
       subst (λ y. IsCore s'.store s'.callers y) (sym x.mode)
       (subst (λ (y : List (Seat K V A)). IsCore s'.store y s.mode) (sym x.callers)
-      (subst (λ (y : StoreState K V S). IsCore y (with_call (with_seat s.callers caller) caller (Some r)) s.mode) (sym x.store)
-      (begun-core s.store s.callers s.mode caller r core (started_stands (task_of_call call) (hash (key_of_call call)) s.mode s.initial core.chunked x.power) (still_going r.machine refl))))
+      (subst (λ (y : StoreState K V S). IsCore y (with_work (with_seat s.callers caller) caller (Some w)) s.mode) (sym x.store)
+      (with_work-core s.store (with_seat s.callers caller) s.mode caller (Some w) (with_seat-core s.store s.callers s.mode caller core) (λ r e. begins.0 r (same_item w (works.Call r) e)) (λ z e. begins.1 z (same_item w (works.Resize z) e)))))
 
 module _ {K V S A : Type 0} (eq : K → K → Bool) (says : Says K V A) (hash : S → K → ℕ) (hasher : S) (law : IsLawfulKeys eq (hash hasher)) (schedule : List (Turn K V A)) (first : StoreState K V S) (start : Map K V) where
   -- a good history of a core with this hasher
@@ -76,7 +107,7 @@ module _ {K V S A : Type 0} (eq : K → K → Bool) (says : Says K V A) (hash : 
   passes s s' before after same as_before good = subst (λ y. Good y after) (sym same) (subst (λ y. Good s y) (sym as_before) good)
 
   step_runs : (turn caller : ℕ) (refuse : Bool) (s s' : CoreState K V S A) (before after : History) → StepRuns eq says hash turn caller refuse s before s' after → Good s before → Good s' after
-  step_runs turn caller refuse s s' before after (inl (event, reply, x, is)) (same, good) = (
+  step_runs turn caller refuse s s' before after (inl (event, reply, inl x, is)) (same, good) = (
     ap (λ (y : S). y) (grown eq says hash refuse (ask_of x.before.machine) s.store x.before x.answer s'.store x.later x.performs offers).hasher_is ∙ same,
     subst (λ y. IsGood eq says (hash hasher) schedule first start s' y) (sym is)
         (good_step eq (hash hasher) law refuse schedule first start s s' before turn caller event reply x (ap hash same) (advance-core eq says hash refuse s caller s' event reply x good.core) good),
@@ -88,6 +119,11 @@ module _ {K V S A : Type 0} (eq : K → K → Bool) (says : Says K V A) (hash : 
           let call = good.kept.calls caller x.before x.was in
           let tale = good.tales caller in
           machine_offers (setting_of eq (low (hash hasher)) s.mode s.store.words.tables) (coding_of (low (hash hasher))) tale.begun tale.since call.key x.before.machine.call tale.hands.call call.rests.call (own_asks x.before.machine ShowNone asking).1
+  step_runs turn caller refuse s s' before after (inl (event, reply, inr x, is)) (same, good) = (
+    (resize_left eq (hash hasher) law refuse s caller s' event reply x (ap hash same) good.es good.tales good.core good.kept).hasher_is ∙ same,
+    subst (λ y. IsGood eq says (hash hasher) schedule first start s' y) (sym is)
+        (good_resize eq (hash hasher) law refuse schedule first start s s' before turn caller event reply x (ap hash same) (resize-core eq hash refuse s caller s' event reply x good.core) good),
+  )
   step_runs turn caller refuse s s' before after (inr (idle, passed)) good = passes s s' before after passed.0 passed.1 good
 
   begin_runs : (turn caller : ℕ) (call : Call K V A) (s s' : CoreState K V S A) (before after : History) → slice_get schedule turn ≡ Some (Begin caller call) → BeginRuns eq says hash turn caller call s before s' after → Good s before → Good s' after
@@ -95,7 +131,7 @@ module _ {K V S A : Type 0} (eq : K → K → Bool) (says : Says K V A) (hash : 
       let x : Begins (hash hasher) s caller call s' = subst (λ (y : S). Begins (hash y) s caller call s') same begins in (
         ap (λ (y : StoreState K V S). y.hasher) x.store ∙ same,
         subst (λ y. IsGood eq says (hash hasher) schedule first start s' y) (sym is)
-            (good_begin eq (hash hasher) law says schedule first start s s' before turn caller call there x x.fits (begin-core (hash hasher) s caller call s' x good.core) good),
+            (good_begin eq (hash hasher) law says schedule first start s s' before turn caller call there x (begin-core (hash hasher) s caller call s' x good.core) good),
       )
   begin_runs turn caller call s s' before after there (inr (r, busy, passed)) good = passes s s' before after passed.0 passed.1 good
 
@@ -170,3 +206,14 @@ module _ {K V S A H : Type 0} (eq : K → K → Bool) (input : K → List (List 
           let call = kept.calls caller x.before x.was in
           let hash : K → ℕ = hash_of input build write finish s.store.hasher in
           machine_offers (setting_of eq (low hash) s.mode s.store.words.tables) (coding_of (low hash)) (tales caller).begun (tales caller).since call.key x.before.machine.call (tales caller).hands.call call.rests.call (own_asks x.before.machine ShowNone asking).1
+
+  -- a step of a resizer leaves the map, and the log of pairs
+  pub lawful_resizes : (refuse : Bool) (s s' : CoreState K V S A) (caller : ℕ) (event : Event) (reply : Option Reply) → Always s → Resizes eq (hash_of input build write finish) refuse s caller s' event reply → MovesMap eq s caller s' event × KeepsPairs s.store s'.store
+  lawful_resizes refuse s s' caller event reply always x =
+      let (es, (tales, kept)) = always.law in
+      let hash : K → ℕ = hash_of input build write finish s.store.hasher in
+      let law : IsLawfulKeys eq hash = keys_lawful eq input build write finish classes respects s.store.hasher in
+      let core' = resize-core eq (hash_of input build write finish) refuse s caller s' event reply x always.core in (
+        resize_moves eq hash law refuse s s' caller event reply x refl always.core core' es tales kept,
+        λ n p there. left_logged (setting_of eq (low hash) s.mode s.store.words.tables) (coding_of (low hash)) s.store es (tales caller).hands (resize_left eq hash law refuse s caller s' event reply x refl es tales always.core kept) n p there,
+      )

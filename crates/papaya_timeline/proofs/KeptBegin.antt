@@ -15,14 +15,27 @@ use Rattle.papaya_chain_rests.specs.Told.{no_hands}
 use Rattle.papaya_store.specs.declared.pairs.Pair.{Pair}
 use Rattle.papaya_store.specs.declared.pairs.Running.{Running}
 use Rattle.papaya_timeline.specs.declared.seat.Seat.{Seat}
-use Rattle.papaya_timeline.specs.Begins.{begun, key_of_call}
-use Rattle.papaya_timeline.specs.Callers.{running, with_call, with_seat}
+use Rattle.papaya_chain.specs.declared.resizer.Resize.{Resize}
+use Rattle.papaya_chain.specs.declared.resizer.Resize.TheVariants.{Chunk, CopyAll, Reserve}
+use Rattle.papaya_chain.specs.declared.resizer.Resizer.{Resizer}
+use Rattle.papaya_chain.specs.declared.resizer.State.TheVariants.{Opening}
+use Rattle.papaya_chain.specs.Resizer.{begun_in}
+use Rattle.papaya_chain_rests.specs.Resizers.{HasLink}
+use Rattle.papaya_copy.specs.declared.link.Link.{Link}
+use Rattle.papaya_copy.specs.declared.link.Link.TheVariants.{Linking}
+use Rattle.papaya_timeline.specs.declared.seat.Work.{Work}
+use Rattle.papaya_timeline.specs.declared.seat.Work.TheVariants as works
+use Rattle.papaya_timeline.specs.Begins.{begun_work}
+use Rattle.papaya_timeline.specs.Callers.{resizing, running, with_seat, with_work}
+use Rattle.papaya_timeline.specs.Maps.{key_of}
+use Rattle.papaya_timeline.proofs.Begun.{IsBegun, IsResizeBegun, call_begun, resizer_begun_is}
+use Rattle.papaya_timeline.proofs.ResizerLaws.{resizer_begins}
 use Rattle.papaya_timeline.specs.Core.{CoreState}
-use Rattle.papaya_timeline.specs.Kept.{IsKept, IsCall, Tale, is_blocking, setting_of, coding_of, low, begun_tales}
+use Rattle.papaya_timeline.specs.Kept.{IsKept, IsCall, IsResizing, Tale, is_blocking, setting_of, coding_of, low, begun_tales}
 use Rattle.papaya_store.specs.New.{HasCapacity}
 use Rattle.papaya_store.specs.Store.{StoreState, Stored}
 use Rattle.papaya_store.specs.Tables.{Tables, table_of, word_at, word_in}
-use Rattle.papaya_timeline.proofs.CallersLemmas.{differs, running-other, running-same, running-with_seat}
+use Rattle.papaya_timeline.proofs.CallersLemmas.{differs, resizing-elsewhere, resizing-here, resizing-with_seat, running-elsewhere, running-here, running-with_seat, same_item}
 use Rattle.papaya_timeline.proofs.CoreLemmas.{cases_same}
 use Rattle.papaya_timeline.proofs.KeptClosures.{begun_answers}
 use Rattle.papaya_timeline.proofs.KeptTables.{word-made}
@@ -41,10 +54,10 @@ no_words (Done n) = elim (n == 0) as (λ b. 0 ≡ word_in (λ t. t.done) (cond b
 no_words (Slot n i) = elim (n == 0) as (λ b. 0 ≡ word_in (λ t. slice_index t.slots i) (cond b None (slice_get {X = TableWords} [] (n - 1)))) [ true ↦ refl | false ↦ refl ]
 
 module _ {K V S A : Type 0} (eq : K → K → Bool) (hash : K → ℕ) where
-  module _ (s : CoreState K V S A) (caller : ℕ) (call : Call K V A) (fits : hash (key_of_call call) < 2 ^ 64) (chunked : IsChunked s.mode) (es : List (Exchange (Stored K V))) (tales : ℕ → Tale K V) (kept : IsKept eq hash s.mode s.store s.callers es tales) where
+  module _ (s : CoreState K V S A) (caller : ℕ) (call : Call K V A) (fits : (k : K) → key_of call ≡ Some k → hash k < 2 ^ 64) (chunked : IsChunked s.mode) (es : List (Exchange (Stored K V))) (tales : ℕ → Tale K V) (kept : IsKept eq hash s.mode s.store s.callers es tales) where
     -- the call as it begins, what is told of it, and the callers then
-    abbrev r : Running K V A
-    r = begun hash s.mode s.initial call
+    abbrev work : Work K V A
+    work = begun_work hash s.mode s.initial call
 
     -- what is told of it: nothing was exchanged since
     abbrev new_tale : Tale K V
@@ -52,22 +65,22 @@ module _ {K V S A : Type 0} (eq : K → K → Bool) (hash : K → ℕ) where
 
     -- the callers then
     abbrev callers' : List (Seat K V A)
-    callers' = with_call (with_seat s.callers caller) caller (Some r)
+    callers' = with_work (with_seat s.callers caller) caller (Some work)
 
     -- the tales then
     abbrev tales' : ℕ → Tale K V
     tales' = begun_tales tales caller es
 
-    -- the call rests on the exchanges as they are
-    new_call : IsCall eq hash s.mode s.store r es new_tale
-    new_call = record {
-      key = key_of_call call;
+    -- a call on one key rests on the exchanges as they are
+    new_call : (r : Running K V A) → IsBegun hash s.mode s.initial call r → IsCall eq hash s.mode s.store r es new_tale
+    new_call r x = subst (λ (y : Running K V A). IsCall eq hash s.mode s.store y es new_tale) (sym x.is) (record {
+      key = x.key;
       own = refl;
-      answers = begun_answers call;
+      answers = begun_answers call x.task x.task_is;
       split = append-nil es;
       rests = record {
         chunked = chunked;
-        call = record { hash = sym (mod-eq_of_lt fits); mode = mode_of s.mode; made = record { keys = λ q l. absurd l; made_is = tt; fill_is = tt; choice_is = tt }; stage = tt };
+        call = record { hash = sym (mod-eq_of_lt (fits x.key x.key_is)); mode = mode_of s.mode; made = record { keys = λ q l. absurd l; made_is = tt; fill_is = tt; choice_is = tt }; stage = tt };
         phase = tt;
       };
       last = λ p l. absurd cc;
@@ -76,7 +89,27 @@ module _ {K V S A : Type 0} (eq : K → K → Bool) (hash : K → ℕ) where
       opens = λ t l. absurd cc;
       links = λ behind t l. absurd cc;
       unwritten = λ p l. absurd l;
-    }
+    })
+
+    -- a call that resizes the map rests on nothing
+    new_resizer : (z : Resizer) → IsResizeBegun hash s.mode s.initial call z → IsResizing eq hash s.mode s.store z es new_tale
+    new_resizer z x = subst (λ (y : Resizer). IsResizing eq hash s.mode s.store y es new_tale) (sym x.is) (record {
+      rests = resizer_begins (setting_of eq (low hash) s.mode s.store.words.tables) (coding_of (low hash)) (run es start) no_hands x.resize s.mode s.initial chunked (mode_of s.mode);
+      last = λ p l. absurd cc;
+      carried = λ p l. absurd cc;
+      opens = λ t l. absurd (unopened x.resize t l);
+      links = λ behind t l. absurd (unlinked x.resize (Linking behind t) l);
+    })
+      where
+        unopened : (resize : Resize) (t : ℕ) → begun_in resize ≡ Opening t → ⊥
+        unopened Chunk t e = absurd cc
+        unopened CopyAll t e = absurd cc
+        unopened (Reserve more) t e = absurd cc
+
+        unlinked : (resize : Resize) (link : Link) → HasLink (begun_in resize) link → ⊥
+        unlinked Chunk link e = absurd cc
+        unlinked CopyAll link e = absurd e
+        unlinked (Reserve more) link e = absurd e
 
     -- its tale is the new one
     new_is : (d : ℕ) → d ≡ caller → new_tale ≡ tales' d
@@ -88,16 +121,26 @@ module _ {K V S A : Type 0} (eq : K → K → Bool) (hash : K → ℕ) where
 
     -- and so do their calls
     other_runs : (d : ℕ) (q : Running K V A) → d ≢ caller → running callers' d ≡ Some q → running s.callers d ≡ Some q
-    other_runs d q differ runs = sym (running-with_seat s.callers caller d) ∙ sym (running-other (with_seat s.callers caller) caller d (Some r) differ) ∙ runs
+    other_runs d q differ runs = sym (running-with_seat s.callers caller d) ∙ sym (running-elsewhere (with_seat s.callers caller) caller d (Some work) differ) ∙ runs
+
+    other_resizes : (d : ℕ) (z : Resizer) → d ≢ caller → resizing callers' d ≡ Some z → resizing s.callers d ≡ Some z
+    other_resizes d z differ resizes = sym (resizing-with_seat s.callers caller d) ∙ sym (resizing-elsewhere (with_seat s.callers caller) caller d (Some work) differ) ∙ resizes
 
     -- each call rests on what is told of it
     calls : (d : ℕ) (q : Running K V A) → running callers' d ≡ Some q → IsCall eq hash s.mode s.store q es (tales' d)
     calls d q runs = elim (cases_same d caller) [
       | inl same ↦
-          let f : Some r ≡ Some q = running-same (with_seat s.callers caller) caller (Some r) q (ap (running callers') (sym same) ∙ runs) in
-          let is : r ≡ q = cc in
-          subst (IsCall eq hash s.mode s.store q es) (new_is d same) (subst (λ y. IsCall eq hash s.mode s.store y es new_tale) is new_call)
+          let f : Some work ≡ Some (works.Call q) = running-here (with_seat s.callers caller) caller (Some work) q (ap (running callers') (sym same) ∙ runs) in
+          subst (IsCall eq hash s.mode s.store q es) (new_is d same) (new_call q (call_begun hash s.mode s.initial call q (same_item work (works.Call q) f)))
       | inr differ ↦ subst (IsCall eq hash s.mode s.store q es) (other_is d differ) (kept.calls d q (other_runs d q differ runs))
+    ]
+
+    resizers : (d : ℕ) (z : Resizer) → resizing callers' d ≡ Some z → IsResizing eq hash s.mode s.store z es (tales' d)
+    resizers d z resizes = elim (cases_same d caller) [
+      | inl same ↦
+          let f : Some work ≡ Some (works.Resize z) = resizing-here (with_seat s.callers caller) caller (Some work) z (ap (resizing callers') (sym same) ∙ resizes) in
+          subst (IsResizing eq hash s.mode s.store z es) (new_is d same) (new_resizer z (resizer_begun_is hash s.mode s.initial call z (same_item work (works.Resize z) f)))
+      | inr differ ↦ subst (IsResizing eq hash s.mode s.store z es) (other_is d differ) (kept.resizers d z (other_resizes d z differ resizes))
     ]
 
     -- no two calls have made one pair
@@ -112,7 +155,7 @@ module _ {K V S A : Type 0} (eq : K → K → Bool) (hash : K → ℕ) where
 
     -- the core after the begin
     pub begin_kept : IsKept eq hash s.mode s.store callers' es tales'
-    begin_kept = record { allowed = kept.allowed; coded = kept.coded; made = kept.made; logged = kept.logged; few = kept.few; tables_few = kept.tables_few; calls = calls; apart = apart }
+    begin_kept = record { allowed = kept.allowed; coded = kept.coded; made = kept.made; logged = kept.logged; few = kept.few; tables_few = kept.tables_few; calls = calls; resizers = resizers; apart = apart }
 
 module _ {K V S : Type 0} (A : Type 0) (eq : K → K → Bool) (hash : K → ℕ) where
   module _ (mode : ResizeMode) (store : StoreState K V S) (pairs : store.pairs ≡ []) (tales : ℕ → Tale K V) where
@@ -133,6 +176,7 @@ module _ {K V S : Type 0} (A : Type 0) (eq : K → K → Bool) (hash : K → ℕ
       few = few;
       tables_few = omega arith;
       calls = λ d q l. absurd cc;
+      resizers = λ d z l. absurd cc;
       apart = λ d e q q' l. absurd cc;
     }
       where
@@ -156,6 +200,7 @@ module _ {K V S : Type 0} (A : Type 0) (eq : K → K → Bool) (hash : K → ℕ
       few = few;
       tables_few = omega arith;
       calls = λ d q l. absurd cc;
+      resizers = λ d z l. absurd cc;
       apart = λ d e q q' l. absurd cc;
     }
       where

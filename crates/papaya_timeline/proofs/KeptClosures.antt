@@ -1,11 +1,14 @@
 -- A call with a closure has its answers as long as it is under way.
-use Rattle.std.proofs.Common.{◌≡◌, ℕ, Bool, Option, Some, ◌⊎◌, inl, inr, refl, ◌∙◌, ap}
+use Rattle.std.proofs.Common.{◌≡◌, ℕ, Bool, true, false, Option, None, Some, ◌⊎◌, inl, inr, refl, sym, ◌∙◌, ap, subst}
 use Rattle.papaya_call.specs.Answers.{Says}
 use Rattle.papaya_ask.specs.declared.ask.Ask.{Ask as Call_ask}
 use Rattle.papaya_ask.specs.declared.ask.Ask.TheVariants.{Load, Exchange, SameKey, ShowNone, ShowPair, SizeOf, MakeKey, MakePair, MakeTable, AddToShard, Done as Ask_done}
 use Rattle.papaya_ask.specs.declared.ask.Answer.{Answer as Call_answer}
 use Rattle.papaya_ask.specs.declared.call.Call.{Call}
-use Rattle.papaya_ask.specs.declared.call.Call.TheVariants.{Get, Insert, TryInsert, RemoveIf, Compute}
+use Rattle.papaya_ask.specs.declared.call.Call.TheVariants.{Get, Insert, TryInsert, RemoveIf, Compute, Reserve, CopyAll}
+use Rattle.papaya_ask.specs.declared.call.Task.{Task}
+use Rattle.papaya_ask.specs.declared.call.Task.TheVariants as tasks
+use Rattle.papaya_timeline.proofs.CallersLemmas.{same_item}
 use Rattle.papaya_call.specs.Machine.{HasClosure}
 use Rattle.papaya_chain.specs.declared.ask.Ask.{Ask}
 use Rattle.papaya_chain.specs.declared.ask.Ask.TheVariants as asks
@@ -24,12 +27,14 @@ HasAnswers {A = A} answers = (a : A) × (answers ≡ Some a)
 
 module _ {K V A : Type 0} where
   -- it begins with them
-  pub begun_answers : (call : Call K V A) → HasClosure (task_of_call call) → HasAnswers (answers_of_call call)
-  begun_answers (Get k) asks = absurd asks
-  begun_answers (Insert k v) asks = absurd asks
-  begun_answers (TryInsert k v) asks = absurd asks
-  begun_answers (RemoveIf k a) asks = (a, refl)
-  begun_answers (Compute k a) asks = (a, refl)
+  pub begun_answers : (call : Call K V A) (task : Task) → task_of_call call ≡ Some task → HasClosure task → HasAnswers (answers_of_call call)
+  begun_answers (Get k) task is asks = absurd (subst HasClosure (sym (same_item tasks.Get task is)) asks)
+  begun_answers (Insert k v) task is asks = absurd (subst HasClosure (sym (same_item (tasks.Insert true) task is)) asks)
+  begun_answers (TryInsert k v) task is asks = absurd (subst HasClosure (sym (same_item (tasks.Insert false) task is)) asks)
+  begun_answers (RemoveIf k a) task is asks = (a, refl)
+  begun_answers (Compute k a) task is asks = (a, refl)
+  begun_answers (Reserve more) task is asks = let f : None ≡ Some task = is in absurd cc
+  begun_answers CopyAll task is asks = let f : None ≡ Some task = is in absurd cc
 
   -- a call that stays keeps them
   same_call : (r r' : Running K V A) → HasAnswers r.answers → r' ≡ r → HasAnswers r'.answers

@@ -1,5 +1,5 @@
 -- A core keeps to the law when it is made, and by each begin and each step.
-use Rattle.std.proofs.Common.{◌≡◌, ℕ, ◌==◌, ◌<◌, ◌^◌, Bool, true, List, [], ◌++◌, Option, Some, inl, inr, refl, sym, ap, subst, fold}
+use Rattle.std.proofs.Common.{◌≡◌, ℕ, ◌==◌, Bool, true, List, [], ◌++◌, Option, Some, inl, inr, refl, sym, ap, subst, fold}
 use Rattle.std.specs.Cmp.{IsEquivalence}
 use Rattle.papaya_words.specs.declared.probe.ResizeMode.{ResizeMode}
 use Rattle.papaya_call.specs.Answers.{Says}
@@ -21,7 +21,7 @@ use Rattle.papaya_timeline.specs.declared.trace.Event.{Event}
 use Rattle.papaya_ask.specs.declared.call.Reply.TheVariants.{Refused as Reply_refused}
 use Rattle.papaya_words.specs.declared.probe.Refused.{Refused}
 use Rattle.papaya_timeline.specs.Advances.{Advances, event_of, goes_on, reply_in}
-use Rattle.papaya_timeline.specs.Begins.{Begins, key_of_call}
+use Rattle.papaya_timeline.specs.Begins.{Begins}
 use Rattle.papaya_timeline.specs.Callers.{running, with_call}
 use Rattle.papaya_timeline.specs.Core.{CoreState, IsCore}
 use Rattle.papaya_timeline.specs.Kept.{IsKept, IsLawfulCore, Tale, coding_of, low, setting_of}
@@ -109,10 +109,10 @@ module _ {K V S A H : Type 0} (eq : K → K → Bool) (input : K → List (List 
       record { core = core; law = (kept.0, (tales, kept.1)) }
 
   -- after a begin
-  pub begin_lawful : (s : CoreState K V S A) (caller : ℕ) (call : Call K V A) (s' : CoreState K V S A) → Begins (hash_of input build write finish s.store.hasher) s caller call s' → hash_of input build write finish s.store.hasher (key_of_call call) < 2 ^ 64 → IsCore s'.store s'.callers s'.mode → Lawful s → Lawful s'
-  begin_lawful s caller call s' begins fits core lawful =
+  pub begin_lawful : (s : CoreState K V S A) (caller : ℕ) (call : Call K V A) (s' : CoreState K V S A) → Begins (hash_of input build write finish s.store.hasher) s caller call s' → IsCore s'.store s'.callers s'.mode → Lawful s → Lawful s'
+  begin_lawful s caller call s' begins core lawful =
       let (es, (tales, kept)) = lawful.law in
-      let kept' = kept_begin eq (hash_of input build write finish s.store.hasher) (keys_lawful eq input build write finish classes respects s.store.hasher) s caller call s' begins fits lawful.core.chunked es tales kept in
+      let kept' = kept_begin eq (hash_of input build write finish s.store.hasher) (keys_lawful eq input build write finish classes respects s.store.hasher) s caller call s' begins lawful.core.chunked es tales kept in
       let same : s.store.hasher ≡ s'.store.hasher = ap (λ (y : StoreState K V S). y.hasher) (sym begins.store) in
       record { core = core; law = subst (λ h. (es : _) × ((tales : _) × IsKept eq (hash_of input build write finish h) s'.mode s'.store s'.callers es tales)) same (es, (_, kept')) }
 

@@ -1,5 +1,5 @@
 -- A step of one caller keeps a core's words to the law of exchanges.
-use Rattle.std.proofs.Common.{◌≡◌, ◌≢◌, ℕ, ◌%◌, ◌^◌, ◌<◌, Bool, cond, List, ◌++◌, length, Option, Some, None, ◌⊎◌, inl, inr, refl, sym, ◌∙◌, ap, subst, arith, append_assoc, eq-eqb}
+use Rattle.std.proofs.Common.{◌≡◌, ◌≢◌, ℕ, ◌%◌, ◌^◌, ◌<◌, Bool, List, ◌++◌, length, Option, Some, None, ◌⊎◌, inl, inr, refl, sym, ◌∙◌, ap, subst, arith, append_assoc}
 use Rattle.papaya_call.specs.Answers.{Says}
 use Rattle.papaya_ask.specs.declared.ask.Ask.TheVariants.{Exchange as Ask_exchange}
 use Rattle.papaya_ask.specs.declared.ask.At.TheVariants.{Root}
@@ -8,10 +8,8 @@ use Rattle.papaya_chain.specs.declared.ask.Ask.{Ask}
 use Rattle.papaya_chain.specs.declared.ask.Ask.TheVariants as asks
 use Rattle.papaya_chain.specs.declared.ask.Answer.{Answer}
 use Rattle.papaya_law.specs.Allows.{AllAllowed}
-use Rattle.papaya_law.specs.Class.{IsOn}
 use Rattle.papaya_law.specs.Code.{Coding}
 use Rattle.papaya_law.specs.Exchange.{Setting, Exchange, run, start}
-use Rattle.papaya_law.specs.Grows.{Agrees}
 use Rattle.papaya_law.specs.Invariant.{named}
 use Rattle.papaya_law.specs.Meaning.{map_left}
 use Rattle.papaya_call.specs.Machine.{HasClosure}
@@ -22,28 +20,23 @@ use Rattle.papaya_chain_rests.specs.Goes.{link_in}
 use Rattle.papaya_chain_rests.specs.Rests.{Rests}
 use Rattle.papaya_chain_rests.specs.Told.{Hands, IsTold}
 use Rattle.papaya_law.specs.Code.{IsHashed}
-use Rattle.papaya_law.proofs.Grows.{all_carries, map_of_carries}
-use Rattle.papaya_law.proofs.Logs.{on_comes}
-use Rattle.papaya_law.proofs.OneMap.{start_keeps}
 use Rattle.papaya_chain_rests.proofs.Learns.{all_learns}
 use Rattle.papaya_chain_rests.proofs.Order.{in_order}
 use Rattle.papaya_chain_rests.proofs.Replies.{chain_task}
-use Rattle.papaya_chain_rests.proofs.Stays.{all_carries as rests_carries, all_stays}
 use Rattle.papaya_store.specs.declared.pairs.Running.{Running}
-use Rattle.papaya_timeline.specs.declared.seat.Seat.{Seat}
-use Rattle.papaya_timeline.specs.Callers.{running, with_call}
+use Rattle.papaya_timeline.specs.Callers.{as_work, running, with_call}
 use Rattle.papaya_timeline.specs.Core.{CoreState, IsCore}
 use Rattle.papaya_timeline.specs.Kept.{IsKept, IsCall, IsLogged, IsMade, Tale, setting_of, coding_of, low, told_tales}
 use Rattle.papaya_store.specs.Asks.{PerformsAsk}
 use Rattle.papaya_store.specs.Store.{Stored, pair_of}
-use Rattle.papaya_timeline.proofs.CallersLemmas.{differs, running-other, running-same}
-use Rattle.papaya_timeline.proofs.CoreLemmas.{cases_same}
+use Rattle.papaya_timeline.proofs.CallersLemmas.{call-put, no-resizer}
+use Rattle.papaya_timeline.proofs.KeptOthers as others
 use Rattle.papaya_timeline.proofs.KeptAnswer.{IsAnswered, Stands}
 use Rattle.papaya_timeline.proofs.KeptClosures.{answers_asked}
 use Rattle.papaya_timeline.proofs.KeptCopied.{answered_copy}
 use Rattle.papaya_timeline.proofs.KeptLogs.{pair_below}
 use Rattle.papaya_timeline.proofs.KeptPerformed.{answered_call}
-use Rattle.papaya_timeline.proofs.KeptSettings.{IsLawfulKeys, tables_hashed, grown_agrees}
+use Rattle.papaya_timeline.proofs.KeptSettings.{IsLawfulKeys, tables_hashed}
 use Rattle.papaya_timeline.proofs.MadeTables.{chain_opens, copy_made, is_made, made_is, machine_made}
 
 module _ {K V S A : Type 0} (eq : K → K → Bool) (hash : K → ℕ) (law : IsLawfulKeys eq hash) (says : Says K V A) (hashes : S → K → ℕ) (refuse : Bool) (s : CoreState K V S A) (caller : ℕ) (s' : CoreState K V S A)
@@ -101,27 +94,37 @@ module _ {K V S A : Type 0} (eq : K → K → Bool) (hash : K → ℕ) (law : Is
   all : AllAllowed g start es'
   all = subst (AllAllowed g start) (longer_split (tales caller) call.split) learnt.0
 
-  -- the tables that have come are as they were
-  agrees : Agrees (IsOn (run es' start).first (run es' start).next) g g'
-  agrees = grown_agrees eq hash s.mode s'.mode s.store.words.tables s'.store.words.tables mode_is left.grown (IsOn (run es' start).first (run es' start).next) (λ t on. left.there t on.0 (on_comes (run es' start) t on))
+  -- what the step leaves of the core
+  leaving : others.IsLeaving eq hash law s caller s' mode_is es tales core kept left.made left.hands (IsOneOf (tales caller).hands.call.made)
+  leaving = record {
+    allowed = all;
+    keys = left.keys;
+    logged = left.logged;
+    few = left.few;
+    tables_few = left.tables_few;
+    grown = left.grown;
+    coded = left.coded;
+    there = left.there;
+    slots = left.slots;
+    mine_logged = λ p mine. left.logged p.number p (call.made p mine);
+    mine_apart = λ d r runs differ p p' mine other. kept.apart caller d before r was runs (λ same. differ (sym same)) p p' mine other;
+  }
 
   -- the stepping call's task stays
   same_task : (after before.machine a).call.task ≡ before.machine.call.task
   same_task = (chain_task before.machine a (in_order g c (tales caller).begun (tales caller).since call.key before.machine (tales caller).hands (run es start) a left.made left.hands call.rests left.told)).0
 
-  -- what a call rests on in the grown setting
+  -- what its call rests on in the grown setting
   grown_rests : (tale : Tale K V) (split : tale.begun ++ tale.since ≡ es) (k : K) (m : _) (hands : Hands (Stored K V)) → Rests g c tale.begun (tale.since ++ left.made) k m hands → Rests g' c tale.begun (tale.since ++ left.made) k m hands
-  grown_rests tale split k m hands rests =
-      let to : es' ≡ tale.begun ++ (tale.since ++ left.made) = sym (longer_split tale split) in
-      rests_carries g g' c hashed tale.begun (tale.since ++ left.made) (subst (AllAllowed g start) to all) (subst (λ l. Agrees (IsOn (run l start).first (run l start).next) g g') to agrees) k m hands rests
+  grown_rests = others.grown_rests eq hash law s caller s' mode_is es tales core kept left.made left.hands leaving
 
   -- the map is the same in the grown setting
   pub same_map : (k : K) → map_left g' es k ≡ map_left g es k
-  same_map k = ap (λ f. f k) (map_of_carries g g' (IsOn (run es' start).first (run es' start).next) agrees es (λ y. None))
+  same_map = others.same_map eq hash law s caller s' mode_is es tales core kept left.made left.hands leaving
 
   -- a table that was made is still there
   still_there : (t : ℕ) → IsMade s.store t → IsMade s'.store t
-  still_there t w = let grown = left.grown t w.0 w.1 in (grown.0, grown.1)
+  still_there = others.still_there eq hash law s caller s' mode_is es tales core kept left.made left.hands leaving
 
   -- a pair of the log has a number below its length
   below : (p : Stored K V) → IsLogged s.store p → p.number < length s.store.pairs
@@ -192,96 +195,25 @@ module _ {K V S A : Type 0} (eq : K → K → Bool) (hash : K → ℕ) (law : Is
   unfolding own_call
   own_call-key hands e = refl
 
-  -- another call's facts
-  other_unwritten : (d : ℕ) (r : Running K V A) → running s.callers d ≡ Some r → d ≢ caller → (p : Stored K V) → IsOneOf (tales d).hands.call.made p → change_in r.machine.call.state ≡ None → (t x : ℕ) (q : Stored K V) → named ((run es' start).slot t x) ≡ Some q → q.number ≢ p.number
-  other_unwritten d r runs differ p made none t x q names = elim (left.slots t x q names) [
-    | inl (u, y, stood) ↦ (kept.calls d r runs).unwritten p made none u y q stood
-    | inr mine ↦ kept.apart caller d before r was runs (λ same. differ (sym same)) q p mine made
-  ]
-
-  -- so it rests on what is told of it after the step
-  other_call : (d : ℕ) (r : Running K V A) → running s.callers d ≡ Some r → d ≢ caller → (hands : Hands (Stored K V)) → (tales d).hands ≡ hands → IsCall eq hash s'.mode s'.store r es' (record { begun = (tales d).begun; since = (tales d).since ++ left.made; hands = hands })
-  other_call d r runs differ hands e =
-      let o = kept.calls d r runs in
-      let tale : Tale K V = tales d in
-      let stays : Rests g c tale.begun (tale.since ++ left.made) o.key r.machine tale.hands =
-      all_stays g c hashed tale.begun tale.since left.made (subst (AllAllowed g start) (sym (longer_split tale o.split)) all) o.key r.machine tale.hands o.rests in
-      record {
-        key = o.key;
-        own = left.keys r.key o.key o.own;
-        answers = o.answers;
-        split = longer_split tale o.split;
-        rests = subst (Rests g' c tale.begun (tale.since ++ left.made) o.key r.machine) e (grown_rests tale o.split o.key r.machine tale.hands stays);
-        last = λ p l. left.logged p.number p (o.last p (ap (λ (y : Hands (Stored K V)). y.call.last) e ∙ l));
-        carried = λ p l. left.logged p.number p (o.carried p (ap (λ (y : Hands (Stored K V)). y.kept) e ∙ l));
-        made = λ p l. left.logged p.number p (o.made p (subst (λ (y : Hands (Stored K V)). IsOneOf y.call.made p) (sym e) l));
-        opens = λ t opening. still_there t (o.opens t opening);
-        links = λ behind t linking. still_there t (o.links behind t linking);
-        unwritten = λ p l. other_unwritten d r runs differ p (subst (λ (y : Hands (Stored K V)). IsOneOf y.call.made p) (sym e) l);
-      }
-
   -- the tales after the step
   abbrev pub tales' : ℕ → Tale K V
   tales' = told_tales tales caller left.made left.hands
 
   -- the stepping call was told of what its answer says
   pub own_hands : (d : ℕ) → d ≡ caller → left.hands ≡ (tales' d).hands
-  own_hands d same = sym (ap (λ b. cond b left.hands (tales d).hands) (eq-eqb d caller same))
+  own_hands = others.own_hands eq hash law s caller s' mode_is es tales core kept left.made left.hands leaving
 
-  -- and no other call of anything
-  other_hands : (d : ℕ) → d ≢ caller → (tales d).hands ≡ (tales' d).hands
-  other_hands d differ = sym (ap (λ b. cond b left.hands (tales d).hands) (differs d caller differ))
+  -- the stepping call's pairs are not another's
+  own_apart : (d : ℕ) (r : Running K V A) → running s.callers d ≡ Some r → d ≢ caller → (p p' : Stored K V) → IsOneOf left.hands.call.made p → IsOneOf (tales d).hands.call.made p' → p.number ≢ p'.number
+  own_apart d r runs differ p p' mine other = elim (left.new p mine) [
+    | inl old ↦ kept.apart caller d before r was runs (λ same. differ (sym same)) p p' old other
+    | inr (number, value, there) ↦ (λ same. let lt : p'.number < length s.store.pairs = below p' ((kept.calls d r runs).made p' other) in omega arith)
+  ]
 
   module _ (goes : Option (Running K V A)) (callers : s'.callers ≡ with_call s.callers caller goes) (goes_is : (q : Running K V A) → goes ≡ Some q → record later { machine = after before.machine a } ≡ q) where
-    -- the call of another caller is the one of before
-    other_runs : (d : ℕ) (r : Running K V A) → d ≢ caller → running s'.callers d ≡ Some r → running s.callers d ≡ Some r
-    other_runs d r differ runs = sym (running-other s.callers caller d goes differ) ∙ sym (ap (λ (y : List (Seat K V A)). running y d) callers) ∙ runs
-
-    -- the stepping call goes on as its machine says
-    own_runs : (d : ℕ) (r : Running K V A) → d ≡ caller → running s'.callers d ≡ Some r → record later { machine = after before.machine a } ≡ r
-    own_runs d r same runs = goes_is r (running-same s.callers caller goes r (sym (ap (λ (y : List (Seat K V A)). running y caller) callers) ∙ ap (running s'.callers) (sym same) ∙ runs))
-
-    -- each call rests on what is told of it
-    calls : (d : ℕ) (r : Running K V A) → running s'.callers d ≡ Some r → IsCall eq hash s'.mode s'.store r es' (tales' d)
-    calls d r runs = elim (cases_same d caller) [
-      | inl same ↦ subst (λ y. IsCall eq hash s'.mode s'.store r es' (tales' y)) (sym same)
-          (subst (λ y. IsCall eq hash s'.mode s'.store y es' (tales' caller)) (own_runs d r same runs) (own_call (tales' caller).hands (own_hands caller refl)))
-      | inr differ ↦ other_call d r (other_runs d r differ runs) differ (tales' d).hands (other_hands d differ)
-    ]
-
-    -- the stepping call's pairs are not another's
-    own_apart : (d : ℕ) (r : Running K V A) → running s.callers d ≡ Some r → d ≢ caller → (p p' : Stored K V) → IsOneOf left.hands.call.made p → IsOneOf (tales d).hands.call.made p' → p.number ≢ p'.number
-    own_apart d r runs differ p p' mine other = elim (left.new p mine) [
-      | inl old ↦ kept.apart caller d before r was runs (λ same. differ (sym same)) p p' old other
-      | inr (number, value, there) ↦ (λ same. let lt : p'.number < length s.store.pairs = below p' ((kept.calls d r runs).made p' other) in omega arith)
-    ]
-
-    -- no two calls have made one pair
-    apart : (d e : ℕ) (r q : Running K V A) → running s'.callers d ≡ Some r → running s'.callers e ≡ Some q → d ≢ e → (p p' : Stored K V) → IsOneOf (tales' d).hands.call.made p → IsOneOf (tales' e).hands.call.made p' → p.number ≢ p'.number
-    apart d e r q runs_d runs_e differ p p' made_d made_e = elim (cases_same d caller) [
-      | inl d_steps ↦ elim (cases_same e caller) [
-        | inl e_steps ↦ absurd (differ (d_steps ∙ sym e_steps))
-        | inr e_not ↦ own_apart e q (other_runs e q e_not runs_e) e_not p p' (subst (λ (y : Hands (Stored K V)). IsOneOf y.call.made p) (sym (own_hands d d_steps)) made_d) (subst (λ (y : Hands (Stored K V)). IsOneOf y.call.made p') (sym (other_hands e e_not)) made_e)
-      ]
-      | inr d_not ↦ elim (cases_same e caller) [
-        | inl e_steps ↦ (λ same. own_apart d r (other_runs d r d_not runs_d) d_not p' p (subst (λ (y : Hands (Stored K V)). IsOneOf y.call.made p') (sym (own_hands e e_steps)) made_e) (subst (λ (y : Hands (Stored K V)). IsOneOf y.call.made p) (sym (other_hands d d_not)) made_d) (sym same))
-        | inr e_not ↦ kept.apart d e r q (other_runs d r d_not runs_d) (other_runs e q e_not runs_e) differ p p' (subst (λ (y : Hands (Stored K V)). IsOneOf y.call.made p) (sym (other_hands d d_not)) made_d) (subst (λ (y : Hands (Stored K V)). IsOneOf y.call.made p') (sym (other_hands e e_not)) made_e)
-      ]
-    ]
-
-    -- a pair that a slot names is logged
-    logged : (t x : ℕ) (p : Stored K V) → named ((run es' start).slot t x) ≡ Some p → IsLogged s'.store p
-    logged t x p names = elim (left.slots t x p names) [ inl stood ↦ stood_logged p stood | inr mine ↦ left.logged p.number p (call.made p mine) ]
-
     -- the core after the step
     pub step_kept : IsKept eq hash s'.mode s'.store s'.callers es' tales'
-    step_kept = record {
-      allowed = all_carries g hashed.lawful g' es' start (λ k. None) (start_keeps g hashed.lawful) all agrees;
-      coded = left.coded;
-      made = λ t some comes. still_there t (left.there t some comes);
-      logged = logged;
-      few = left.few kept.few;
-      tables_few = left.tables_few kept.tables_few;
-      calls = calls;
-      apart = apart;
-    }
+    step_kept = others.leaves_kept eq hash law s caller s' mode_is es tales core kept left.made left.hands leaving (as_work goes) callers
+        (λ r e. subst (λ y. IsCall eq hash s'.mode s'.store y es' (tales' caller)) (goes_is r (call-put goes r e)) (own_call (tales' caller).hands (own_hands caller refl)))
+        (λ z e. absurd (no-resizer goes z e))
+        (λ r e d q runs differ. own_apart d q runs differ)

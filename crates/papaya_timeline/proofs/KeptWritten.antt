@@ -12,7 +12,7 @@ use Rattle.papaya_law.specs.Exchange.{Setting, State, Exchange, after as state_a
 use Rattle.papaya_law.specs.Grows.{Comes}
 use Rattle.papaya_law.proofs.Logs.{on_comes}
 use Rattle.papaya_call.specs.Machine as call_machine
-use Rattle.papaya_rests.specs.Copier.{IsCopyAsked, IsThere, last_after, told_last}
+use Rattle.papaya_rests.specs.Copier.{IsCopyAsked, IsThere}
 use Rattle.papaya_rests.specs.Rests.{change_of_kind}
 use Rattle.papaya_rests.specs.Told.{IsTold as IsCallTold, IsAsked, IsWritten, told_of, word_of}
 use Rattle.papaya_rests.proofs.RestsExchange.{machine_may}
@@ -22,8 +22,6 @@ use Rattle.papaya_chain.specs.declared.ask.Answer.TheVariants as answers
 use Rattle.papaya_chain.specs.Machine.{ask_of, kind_in, kind_of_ask}
 use Rattle.papaya_chain_rests.specs.Goes.{link_in}
 use Rattle.papaya_chain_rests.specs.Rests.{Rests}
-use Rattle.papaya_chain_rests.specs.Told.{Hands}
-use Rattle.papaya_chain_rests.specs.Told as copies_told
 use Rattle.papaya_chain_rests.proofs.Names.{call_asks, copies_may, copies_there}
 use Rattle.papaya_copy.specs.declared.link.Link.TheVariants.{Linking}
 use Rattle.papaya_store.specs.declared.pairs.Running.{Running}
@@ -32,10 +30,9 @@ use Rattle.papaya_store.specs.Store.{StoreState, Stored}
 use Rattle.papaya_store.specs.Tables.{word_at, put, table_of}
 use Rattle.papaya_timeline.specs.Kept.{IsMade, Tale, slots_in}
 use Rattle.papaya_timeline.proofs.KeptAnswer.{IsAnswered, Tells, changed, exchanged, own_told}
-use Rattle.papaya_timeline.proofs.KeptExchange.{IsChanged, IsCopied_on, changes, copies, root_empty}
+use Rattle.papaya_timeline.proofs.KeptExchange.{IsChanged, changes, root_empty}
 use Rattle.papaya_timeline.proofs.KeptTables.{IsPlaced}
 use Rattle.papaya_timeline.proofs.MachineLemmas.{machine_once}
-use Rattle.papaya_timeline.proofs.MadeTables.{machine_links}
 
 module _ {Q K V S A : Type 0} (g : Setting Q (Stored K V)) (c : Coding Q (Stored K V)) (store : StoreState K V S) (r : Running K V A) (es : List (Exchange (Stored K V))) (tale : Tale K V) (own : Option K)
     (hashed : IsHashed g c) (key : Q)
@@ -135,24 +132,3 @@ module _ {Q K V S A : Type 0} (g : Setting Q (Stored K V)) (c : Coding Q (Stored
     pub asked_copy : word_of g c now at ≡ old → (e : Exchange (Stored K V)) × IsCopyAsked c (kind_of_ask r.machine) at new now tale.hands.kept e × Allows g now e × IsWritten g c now at new (state_after now e)
     asked_copy = subst (λ s. word_of g c s at ≡ old → (e : Exchange (Stored K V)) × IsCopyAsked c (kind_of_ask r.machine) at new s tale.hands.kept e × Allows g s e × IsWritten g c s at new (state_after s e)) same_now
         (λ stands. copies_may g c hashed tale.begun tale.since may key r.machine tale.hands rests at old new a stands)
-
-    -- it was made
-    pub copy_exchanged : (word_at store.words at == old) ≡ true → IsAnswered g c store r es tale own key (asks.Copy (Copy_exchange at old new)) (answers.Call Exchanged) (record store { words = put store.words at new }) r
-    copy_exchanged hit =
-        let stands : word_of g c now at ≡ old = coded at ∙ eqb-true (word_at store.words at) old hit in
-        let x = asked_copy stands in
-        let hands : Hands (Stored K V) = copies_told.told_of (last_after x.0 tale.hands.call.last) tale.hands in
-        let on : IsCopied_on now tale.hands.call.last new at x.0 = copies now tale.hands.call.last new g c tale.hands.kept (kind_of_ask r.machine) at x.0 x.1 x.2 in
-        let told : Tells g c store r es tale own key (asks.Copy (Copy_exchange at old new)) (answers.Call Exchanged) (x.0 ∷ []) hands =
-        subst (λ b. MatchBool b
-        ((answers.Call Exchanged ≡ answers.Call Exchanged) × ((y : Exchange (Stored K V)) × IsCopyAsked c (kind_of_ask r.machine) at new now tale.hands.kept y × (x.0 ∷ [] ≡ y ∷ []) × (hands ≡ copies_told.told_of (last_after y tale.hands.call.last) tale.hands)))
-        ((answers.Call Exchanged ≡ answers.Call (Found_instead (word_of g c now at))) × (x.0 ∷ [] ≡ []) × (hands ≡ copies_told.told_of (told_last now at tale.hands.call.last) tale.hands)))
-        (sym (ap (λ y. y == old) (coded at) ∙ hit)) (refl, (x.0, x.1, refl, refl)) in
-        exchanged g c store r es tale own hashed key rests coded there owns (asks.Copy (Copy_exchange at old new)) a at new x.0 hands told placed_copy x.3
-        (λ t some comes. elim (on.comes t comes) [
-          | inl before ↦ there t some before
-          | inr (u, next, same_table) ↦ links u t (machine_links r.machine u old t (a ∙ ap (λ y. asks.Copy (Copy_exchange y old new)) next ∙ ap (λ y. asks.Copy (Copy_exchange (Next u) old y)) same_table))
-        ])
-        (λ t y p h. inl (on.slots t y p h))
-        (λ none. (sym (changed g c store r es tale own hashed key rests coded there (asks.Copy (Copy_exchange at old new)) a (answers.Call Exchanged) (x.0 ∷ []) hands told) ∙ none, on.slots))
-        on.last_is refl refl

@@ -11,7 +11,7 @@ use Rattle.papaya_ask.specs.declared.ask.Answer.{Answer as Call_answer}
 use Rattle.papaya_ask.specs.declared.ask.StepKind.{StepKind}
 use Rattle.papaya_ask.specs.declared.ask.StepKind.TheVariants as kinds
 use Rattle.papaya_ask.specs.declared.call.Call.{Call}
-use Rattle.papaya_ask.specs.declared.call.Call.TheVariants.{Get, Insert, TryInsert, RemoveIf, Compute}
+use Rattle.papaya_ask.specs.declared.call.Call.TheVariants.{Get, Insert, TryInsert, RemoveIf, Compute, Reserve, CopyAll}
 use Rattle.papaya_ask.specs.declared.call.Reply.{Reply}
 use Rattle.papaya_ask.specs.declared.call.Reply.TheVariants.{Inserted, Replaced, Removed}
 use Rattle.papaya_ask.specs.declared.call.Task.{Task}
@@ -42,7 +42,8 @@ use Rattle.papaya_timeline.specs.declared.trace.Turn.{Turn}
 use Rattle.papaya_timeline.specs.declared.trace.Event.{Event}
 use Rattle.papaya_timeline.specs.declared.trace.Event.TheVariants as events
 use Rattle.papaya_timeline.specs.Advances.{call_event, event_of, answered_event, kind_event}
-use Rattle.papaya_timeline.specs.Begins.{task_of_call}
+use Rattle.papaya_timeline.proofs.Begun.{the_task}
+use Rattle.papaya_timeline.proofs.CallersLemmas.{same_item}
 use Rattle.papaya_timeline.specs.Kept.{setting_of, coding_of, low}
 use Rattle.papaya_timeline.specs.Maps.{Map, Does, IsUpdate, Same, key_of}
 use Rattle.papaya_store.specs.Store.{Stored}
@@ -67,25 +68,29 @@ MayPut k task made None None = ⊥
 
 module _ {K V A : Type 0} where
   -- an insertion puts in a pair of its key and of a value that may be the call's, in place of none or, where it replaces, of another
-  pub insertion_does : (call : Call K V A) (k : K) (went : Option (Stored K V)) (q : Stored K V) → key_of call ≡ k → q.key ≡ k → IsValueOf call q.value → MayReplace went (task_of_call call) → (reply : Reply) × Does call went reply (Some q) × (change_of_reply reply ≡ Some (number_in went, number_in (Some q)))
+  pub insertion_does : (call : Call K V A) (k : K) (went : Option (Stored K V)) (q : Stored K V) → key_of call ≡ Some k → q.key ≡ k → IsValueOf call q.value → MayReplace went (the_task call) → (reply : Reply) × Does call went reply (Some q) × (change_of_reply reply ≡ Some (number_in went, number_in (Some q)))
   insertion_does (Get j) k went q key own value may = absurd value
-  insertion_does (Insert j v) k None q key own value may = (Inserted q.number, (q, record { number = refl; key = own ∙ sym key; value = sym value }, refl), refl)
-  insertion_does (Insert j v) k (Some p) q key own value may = (Replaced p.number q.number, (refl, (q, record { number = refl; key = own ∙ sym key; value = sym value }, refl)), refl)
-  insertion_does (TryInsert j v) k None q key own value may = (Inserted q.number, (q, record { number = refl; key = own ∙ sym key; value = sym value }, refl), refl)
+  insertion_does (Insert j v) k None q key own value may = (Inserted q.number, (q, record { number = refl; key = own ∙ sym (same_item _ _ key); value = sym value }, refl), refl)
+  insertion_does (Insert j v) k (Some p) q key own value may = (Replaced p.number q.number, (refl, (q, record { number = refl; key = own ∙ sym (same_item _ _ key); value = sym value }, refl)), refl)
+  insertion_does (TryInsert j v) k None q key own value may = (Inserted q.number, (q, record { number = refl; key = own ∙ sym (same_item _ _ key); value = sym value }, refl), refl)
   insertion_does (TryInsert j v) k (Some p) q key own value (inl none) = let f : Some p ≡ None = none in cc
   insertion_does (TryInsert j v) k (Some p) q key own value (inr (inl replaces)) = let f : Insert_task false ≡ Insert_task true = replaces in cc
   insertion_does (TryInsert j v) k (Some p) q key own value (inr (inr computes)) = let f : Insert_task false ≡ Compute_task = computes in cc
   insertion_does (RemoveIf j a) k went q key own value may = absurd value
-  insertion_does (Compute j a) k None q key own value may = (Inserted q.number, (q, (q.value, record { number = refl; key = own ∙ sym key; value = refl }), refl), refl)
-  insertion_does (Compute j a) k (Some p) q key own value may = (Replaced p.number q.number, (refl, (q, (q.value, record { number = refl; key = own ∙ sym key; value = refl }), refl)), refl)
+  insertion_does (Compute j a) k None q key own value may = (Inserted q.number, (q, (q.value, record { number = refl; key = own ∙ sym (same_item _ _ key); value = refl }), refl), refl)
+  insertion_does (Compute j a) k (Some p) q key own value may = (Replaced p.number q.number, (refl, (q, (q.value, record { number = refl; key = own ∙ sym (same_item _ _ key); value = refl }), refl)), refl)
+  insertion_does (Reserve more) k went q key own value may = absurd value
+  insertion_does CopyAll k went q key own value may = absurd value
 
   -- a call that has a closure takes out a pair
-  pub removal_does : (call : Call K V A) (p : Stored K V) → HasClosure (task_of_call call) → (reply : Reply) × Does call (Some p) reply None × (change_of_reply reply ≡ Some (number_in (Some p), None))
+  pub removal_does : (call : Call K V A) (p : Stored K V) → HasClosure (the_task call) → (reply : Reply) × Does call (Some p) reply None × (change_of_reply reply ≡ Some (number_in (Some p), None))
   removal_does (Get j) p removes = absurd removes
   removal_does (Insert j v) p removes = absurd removes
   removal_does (TryInsert j v) p removes = absurd removes
   removal_does (RemoveIf j a) p removes = (Removed p.number, (refl, refl), refl)
   removal_does (Compute j a) p removes = (Removed p.number, (refl, refl), refl)
+  removal_does (Reserve more) p removes = absurd removes
+  removal_does CopyAll p removes = absurd removes
 
 module _ {K V : Type 0} where
   -- a map with another pair for the class of a key

@@ -105,7 +105,7 @@ module _ (Holds : Link → Type 0) (Told New : Link → ℕ → Type 0) (stable 
   Stepped_holds (stepped.On goes) = HoldsIn (link_in_step goes)
   Stepped_holds _ = Unit {0}
 
-  abbrev Copied_holds : Copied → Type 0
+  abbrev pub Copied_holds : Copied → Type 0
   Copied_holds (copied.On goes) = HoldsIn (link_in_copying goes)
   Copied_holds _ = Unit {0}
 
@@ -372,7 +372,7 @@ module _ (Holds : Link → Type 0) (Told New : Link → ℕ → Type 0) (stable 
   copying_called goes mode (Op kind) told new h = h
   copying_called goes mode Ok_done told new h = h
 
-  copying_after : (goes : Copying) (mode : ResizeMode) (initial : ℕ) (answer : Answer) → ((slots limit : ℕ) → answer ≡ answers.Call (Size slots limit) → ToldIn (link_in_copying goes) slots) → ((n : ℕ) → answer ≡ answers.Call (Made_number n) → NewIn (link_in_copying goes) n) → HoldsIn (link_in_copying goes) → Copied_holds (machine.copying_after goes mode initial answer)
+  pub copying_after : (goes : Copying) (mode : ResizeMode) (initial : ℕ) (answer : Answer) → ((slots limit : ℕ) → answer ≡ answers.Call (Size slots limit) → ToldIn (link_in_copying goes) slots) → ((n : ℕ) → answer ≡ answers.Call (Made_number n) → NewIn (link_in_copying goes) n) → HoldsIn (link_in_copying goes) → Copied_holds (machine.copying_after goes mode initial answer)
   copying_after goes mode initial (answers.Call answer) told new h = copying_called goes mode answer (λ slots limit e. told slots limit (ap answers.Call e)) (λ n e. new n (ap answers.Call e)) h
   copying_after (Stepping aim goes) mode initial (answers.Hash hash) told new h = step_hash goes hash h
   copying_after (Lone slot goes) mode initial (answers.Hash hash) told new h = settle_hash goes hash h
@@ -387,7 +387,7 @@ module _ (Holds : Link → Type 0) (Told New : Link → ℕ → Type 0) (stable 
   link_called made (Found_instead word) told new h = stable.finds made word h
   link_called made other told new h = h
 
-  link_after : (made : Link) (initial : ℕ) (answer : Answer) → ((slots limit : ℕ) → answer ≡ answers.Call (Size slots limit) → ToldIn (Some made) slots) → ((n : ℕ) → answer ≡ answers.Call (Made_number n) → NewIn (Some made) n) → HoldsIn (Some made) → Linked_holds (machine.link_after made initial answer)
+  pub link_after : (made : Link) (initial : ℕ) (answer : Answer) → ((slots limit : ℕ) → answer ≡ answers.Call (Size slots limit) → ToldIn (Some made) slots) → ((n : ℕ) → answer ≡ answers.Call (Made_number n) → NewIn (Some made) n) → HoldsIn (Some made) → Linked_holds (machine.link_after made initial answer)
   link_after made initial (answers.Call answer) told new h = link_called made answer (λ slots limit e. told slots limit (ap answers.Call e)) (λ n e. new n (ap answers.Call e)) h
   link_after made initial (answers.Hash hash) told new h = h
   link_after made initial (answers.Count count) told new h = stable.counts made count initial h

@@ -65,10 +65,10 @@ module _ (Made : ℕ → Type 0) where
   IsMadeLink (links.Linking behind table) = Made table
   IsMadeLink _ = Unit {0}
 
-  abbrev Told : Link → ℕ → Type 0
+  abbrev pub Told : Link → ℕ → Type 0
   Told made slots = Unit {0}
 
-  abbrev New : Link → ℕ → Type 0
+  abbrev pub New : Link → ℕ → Type 0
   New made n = Made n
 
   -- in other words: what is about to be linked was made
@@ -108,7 +108,7 @@ module _ (Made : ℕ → Type 0) where
   link_found (links.Linking behind table) word h = tt
   link_found other word h = h
 
-  stable : IsStable IsMadeLink Told New
+  pub stable : IsStable IsMadeLink Told New
   stable = record {
     fresh = λ behind unfit. tt;
     sizes = λ made slots told h. link_size made slots h;
@@ -132,7 +132,7 @@ module _ (Made : ℕ → Type 0) where
       new_in (Some link) n made = made
 
 -- A copier that asks for an exchange of a table's next word is about to link a table.
-link_asks : (made : Link) (behind old new : ℕ) → link.link_ask made ≡ Exchange (Next behind) old new → Some made ≡ Some (links.Linking behind new)
+pub link_asks : (made : Link) (behind old new : ℕ) → link.link_ask made ≡ Exchange (Next behind) old new → Some made ≡ Some (links.Linking behind new)
 link_asks (links.Linking after table) behind old new e = cc
 link_asks other behind old new e = absurd cc
 
@@ -149,7 +149,7 @@ step_asks (steps.Linking from made) behind old new e = link_asks made behind old
 step_asks (steps.Settling chunk goes) behind old new e = settle_asks goes (step.slot_of chunk) behind old new e
 step_asks other behind old new e = absurd cc
 
-copying_asks : (goes : Copying) (behind old new : ℕ) → copying.copying_ask goes ≡ Exchange (Next behind) old new → link_in_copying goes ≡ Some (links.Linking behind new)
+pub copying_asks : (goes : Copying) (behind old new : ℕ) → copying.copying_ask goes ≡ Exchange (Next behind) old new → link_in_copying goes ≡ Some (links.Linking behind new)
 copying_asks (Stepping aim goes) behind old new e = step_asks goes behind old new e
 copying_asks (Lone slot goes) behind old new e = settle_asks goes slot behind old new e
 
@@ -187,7 +187,7 @@ chain_opens m answer t opening order = elim (machine_goes m answer order) [
 
 module _ {K V S A : Type 0} (eq : K → K → Bool) (says : Says K V A) (hash : S → K → ℕ) (refuse : Bool) (s : StoreState K V S) (r : Running K V A) (a : Answer) (s' : StoreState K V S) (r' : Running K V A) where
   -- a number that a copier is told of one that was made is that of a table
-  copier_made : (ask : CopyAsk) → PerformsCopy eq hash refuse ask s a s' → (n : ℕ) → a ≡ answers.Call (Made_number n) → IsMade s' n
+  pub copier_made : (ask : CopyAsk) → PerformsCopy eq hash refuse ask s a s' → (n : ℕ) → a ≡ answers.Call (Made_number n) → IsMade s' n
   copier_made (copies.Load at) (is, same) n made = let f = sym is ∙ made in absurd cc
   copier_made (copies.Exchange at old new) (told, is, h) n made =
       let f : told ≡ Made_number n = (let g : answers.Call told ≡ answers.Call (Made_number n) = sym is ∙ made in cc) in

@@ -5,7 +5,7 @@ use Rattle.std.proofs.lemmas.List.FromFn.{length-enumerate_from, get_or-enumerat
 use Rattle.std.proofs.lemmas.Option.{slice_get_read}
 use Rattle.papaya_call.specs.Answers.{Says}
 use Rattle.papaya_timeline.specs.declared.trace.Turn.{Turn}
-use Rattle.papaya_timeline.specs.Core.{CoreState, call_of}
+use Rattle.papaya_timeline.specs.Core.{CoreState, work_of}
 use Rattle.papaya_timeline.specs.Runs.{History, StepRuns, StepsRun, TurnRuns, TurnsRun, IsCutShort, StopsEarly}
 
 -- what is not there is nothing
@@ -22,7 +22,7 @@ numbered_item xs n p lt e =
 
 module _ {K V S A : Type 0} (eq : K → K → Bool) (says : Says K V A) (hash : S → K → ℕ) where
   -- further steps of a caller that is in no call are passed over
-  pub StepsRun-idle : (turn caller made more steps : ℕ) (s : CoreState K V S A) (before : History) (s' : CoreState K V S A) (after : History) → steps ≡ made + more → call_of s' caller ≡ None → StepsRun eq says hash turn caller made s before s' after → StepsRun eq says hash turn caller steps s before s' after
+  pub StepsRun-idle : (turn caller made more steps : ℕ) (s : CoreState K V S A) (before : History) (s' : CoreState K V S A) (after : History) → steps ≡ made + more → work_of s' caller ≡ None → StepsRun eq says hash turn caller made s before s' after → StepsRun eq says hash turn caller steps s before s' after
   StepsRun-idle turn caller made zero steps s before s' after e idle runs =
       let same : made ≡ steps = omega arith in
       subst (λ (n : ℕ). StepsRun eq says hash turn caller n s before s' after) same runs

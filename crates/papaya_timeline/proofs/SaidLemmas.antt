@@ -8,7 +8,7 @@ use Rattle.papaya_ask.specs.declared.ask.Answer.TheVariants.{Op, Made as Made_nu
 use Rattle.papaya_ask.specs.declared.ask.OpKind.{OpKind}
 use Rattle.papaya_ask.specs.declared.ask.OpKind.TheVariants as kinds
 use Rattle.papaya_ask.specs.declared.call.Call.{Call}
-use Rattle.papaya_ask.specs.declared.call.Call.TheVariants.{Get, Insert, TryInsert, RemoveIf, Compute}
+use Rattle.papaya_ask.specs.declared.call.Call.TheVariants.{Get, Insert, TryInsert, RemoveIf, Compute, Reserve, CopyAll}
 use Rattle.papaya_call.specs.declared.machine.Machine.{Machine as Call_machine}
 use Rattle.papaya_call.specs.Machine as calls
 use Rattle.papaya_chain.specs.declared.ask.Ask.TheVariants as asks
@@ -21,7 +21,7 @@ use Rattle.papaya_chain_rests.specs.Goes.{IsOwnStep}
 use Rattle.papaya_store.specs.declared.pairs.Running.{Running}
 use Rattle.papaya_timeline.specs.declared.trace.Event.{Event}
 use Rattle.papaya_timeline.specs.Advances.{event_of}
-use Rattle.papaya_timeline.specs.Begins.{task_of_call}
+use Rattle.papaya_timeline.proofs.Begun.{the_task}
 use Rattle.papaya_store.specs.Asks.{PerformsAsk}
 use Rattle.papaya_store.specs.Performs.{value_answered}
 use Rattle.papaya_timeline.specs.Runs.{History}
@@ -129,7 +129,7 @@ module _ {K V S A : Type 0} (eq : K → K → Bool) (says : Says K V A) (hash : 
 
 module _ {K V S A : Type 0} where
   -- A change is one to which the closure of the call has agreed, where the call has one.
-  pub change_agreed : (call : Call K V A) (s : StoreState K V S) (r : Running K V A) (c : ℕ) (h : History) (answers : Answered V) → ((said : Said) → StandsOn r.machine.call said → WasSaid s r c h answers said) → (old : Option ℕ) (came : Option (Stored K V)) → ((q : Stored K V) → came ≡ Some q → pair_of s q.number ≡ Some q) → IsSaidChange (task_of_call call) r.machine.call old (number_in came) → IsAgreed (Some call) c old came h answers
+  pub change_agreed : (call : Call K V A) (s : StoreState K V S) (r : Running K V A) (c : ℕ) (h : History) (answers : Answered V) → ((said : Said) → StandsOn r.machine.call said → WasSaid s r c h answers said) → (old : Option ℕ) (came : Option (Stored K V)) → ((q : Stored K V) → came ≡ Some q → pair_of s q.number ≡ Some q) → IsSaidChange (the_task call) r.machine.call old (number_in came) → IsAgreed (Some call) c old came h answers
   change_agreed (Get j) s r c h answers before old came logged said = tt
   change_agreed (Insert j v) s r c h answers before old came logged said = tt
   change_agreed (TryInsert j v) s r c h answers before old came logged said = tt
@@ -142,3 +142,5 @@ module _ {K V S A : Type 0} where
       subst (λ (y : Stored K V). WasAnswered c old (ops.Insert y.value) h answers) same was
   change_agreed (Compute j x) s r c h answers before (Some n) None logged said = before (Removes n) said
   change_agreed (Compute j x) s r c h answers before None None logged said = absurd said
+  change_agreed (Reserve more) s r c h answers before old came logged said = tt
+  change_agreed CopyAll s r c h answers before old came logged said = tt

@@ -7,7 +7,8 @@ use Rattle.papaya_call.specs.declared.write.Made.TheVariants.{Nothing}
 use Rattle.papaya_ask.specs.declared.ask.At.TheVariants.{Root}
 use Rattle.papaya_ask.specs.declared.ask.Ask.TheVariants.{ShowPair}
 use Rattle.papaya_ask.specs.declared.call.Call.{Call}
-use Rattle.papaya_ask.specs.declared.call.Call.TheVariants.{Get, Insert, TryInsert, RemoveIf, Compute}
+use Rattle.papaya_ask.specs.declared.call.Call.TheVariants.{Get, Insert, TryInsert, RemoveIf, Compute, Reserve, CopyAll}
+use Rattle.papaya_ask.specs.declared.call.Task.{Task}
 use Rattle.papaya_law.specs.Allows.{AllAllowed}
 use Rattle.papaya_law.specs.Code.{Coding, IsHashed}
 use Rattle.papaya_law.specs.Exchange.{Exchange, Setting, State, run, start}
@@ -29,8 +30,14 @@ use Rattle.papaya_keys.specs.Hashes.{hash_of}
 use Rattle.papaya_timeline.specs.declared.seat.Seat.{Seat}
 use Rattle.papaya_timeline.specs.declared.trace.Event.{Event}
 use Rattle.papaya_timeline.specs.Advances.{Advances}
-use Rattle.papaya_timeline.specs.Begins.{Begins, begun, key_of_call, task_of_call, value_of_call}
-use Rattle.papaya_timeline.specs.Callers.{running, with_call, with_seat}
+use Rattle.papaya_timeline.specs.Begins.{Begins, begun_work, task_of_call, value_of_call}
+use Rattle.papaya_timeline.specs.Callers.{running, with_call, with_seat, with_work}
+use Rattle.papaya_timeline.specs.declared.seat.Work.{Work}
+use Rattle.papaya_timeline.specs.declared.seat.Work.TheVariants as works
+use Rattle.papaya_timeline.specs.Resized.{IsLoneWork}
+use Rattle.papaya_alone.specs.Resizers.{IsResizerRead}
+use Rattle.papaya_alone.proofs.ResizerLaw.{begun_read}
+use Rattle.papaya_timeline.proofs.Begun.{call_begun, resizer_begun_is, task_is_own, the_task}
 use Rattle.papaya_timeline.specs.Core.{CoreState, IsCore}
 use Rattle.papaya_timeline.specs.Ends.{HasValue, IsLone, IsMaker, IsNearer, budget_of, lone_measure}
 use Rattle.papaya_timeline.specs.Kept.{IsCall, IsKept, IsLawfulCore, Tale, coding_of, low, setting_of, told_tales}
@@ -41,31 +48,56 @@ use Rattle.papaya_timeline.proofs.KeptCore.{keys_lawful, performs-hasher}
 use Rattle.papaya_timeline.proofs.KeptLemmas.{IsLawfulKeys, IsStep, hashed_setting, kept_step}
 use Rattle.papaya_timeline.proofs.MachineLemmas.{machine_shows}
 use Rattle.papaya_timeline.proofs.MakerSteps.{ask_served, next_maker}
-use Rattle.papaya_timeline.proofs.SoloRun.{follows_begin, one_seat}
+use Rattle.papaya_timeline.proofs.SoloRun.{Follows, follows_begin, one_seat}
 use Rattle.papaya_timeline.specs.Solo.{whatever}
 
 -- an insertion begins with its value
-begun_value : {K V A : Type 0} (call : Call K V A) → HasValue (task_of_call call) Nothing (value_of_call call)
-begun_value (Get k) = tt
-begun_value (Insert k v) = (v, refl)
-begun_value (TryInsert k v) = (v, refl)
-begun_value (RemoveIf k a) = tt
-begun_value (Compute k a) = tt
+module _ {K V A : Type 0} where
+  begins_with : (call : Call K V A) (task : Task) → task ≡ the_task call → HasValue task Nothing (value_of_call call)
+  begins_with (Get k) task e = subst (λ t. HasValue {V = V} t Nothing None) (sym e) tt
+  begins_with (Insert k v) task e = subst (λ t. HasValue t Nothing (Some v)) (sym e) (v, refl)
+  begins_with (TryInsert k v) task e = subst (λ t. HasValue t Nothing (Some v)) (sym e) (v, refl)
+  begins_with (RemoveIf k a) task e = subst (λ t. HasValue {V = V} t Nothing None) (sym e) tt
+  begins_with (Compute k a) task e = subst (λ t. HasValue {V = V} t Nothing None) (sym e) tt
+  begins_with (Reserve more) task e = subst (λ t. HasValue {V = V} t Nothing None) (sym e) tt
+  begins_with CopyAll task e = subst (λ t. HasValue {V = V} t Nothing None) (sym e) tt
+
+  begun_value : (call : Call K V A) (task : Task) → task_of_call call ≡ Some task → HasValue task Nothing (value_of_call call)
+  begun_value call task is = begins_with call task (task_is_own call task is)
 
 module _ {K V S A : Type 0} (eq : K → K → Bool) (hash : S → K → ℕ) (s : CoreState K V S A) (law : IsLawfulKeys eq (hash s.store.hasher)) where
   -- a call that begins alone is so
-  pub lone_begin : (call : Call K V A) (s' : CoreState K V S A) → s.callers ≡ [] → IsLawfulCore eq (hash s.store.hasher) s.store s.callers s.mode → Begins (hash s.store.hasher) s 0 call s' → IsLone eq hash s' (begun (hash s.store.hasher) s.mode s.initial call)
-  lone_begin call s' idle lawful x =
-      let f = follows_begin eq hash s law whatever call s' idle lawful.core lawful.law.0 lawful.law.1.0 lawful.law.1.1 x in
-      record {
-        callers = x.callers ∙ ap (λ (l : List (Seat K V A)). with_call (with_seat l 0) 0 (Some (begun (hash s.store.hasher) s.mode s.initial call))) idle;
-        lawful = record { core = f.core; law = subst (λ y. (es : _) × ((tales : _) × IsKept eq (hash y) s'.mode s'.store s'.callers es tales)) (sym f.hasher_is) (f.es, (f.tales, f.kept)) };
-        maker = record { key = (key_of_call call, refl); value = begun_value call; answered = tt };
-        current = (tt, tt);
-      }
+  pub lone_begin : (call : Call K V A) (s' : CoreState K V S A) → s.callers ≡ [] → IsLawfulCore eq (hash s.store.hasher) s.store s.callers s.mode → Begins (hash s.store.hasher) s 0 call s' → IsLoneWork eq hash s' (begun_work (hash s.store.hasher) s.mode s.initial call)
+  lone_begin call s' idle lawful x = by_work (begun_work (hash s.store.hasher) s.mode s.initial call) refl
+    where
+      f : Follows eq hash s law whatever s'
+      f = follows_begin eq hash s law whatever call s' idle lawful.core lawful.law.0 lawful.law.1.0 lawful.law.1.1 x
+
+      alone : (work : Work K V A) → begun_work (hash s.store.hasher) s.mode s.initial call ≡ work → s'.callers ≡ one_seat (Some work)
+      alone work e = x.callers ∙ ap (λ (l : List (Seat K V A)). with_work (with_seat l 0) 0 (Some (begun_work (hash s.store.hasher) s.mode s.initial call))) idle ∙ ap (λ w. one_seat (Some w)) e
+
+      in_order' : IsLawfulCore eq (hash s'.store.hasher) s'.store s'.callers s'.mode
+      in_order' = record { core = f.core; law = subst (λ y. (es : _) × ((tales : _) × IsKept eq (hash y) s'.mode s'.store s'.callers es tales)) (sym f.hasher_is) (f.es, (f.tales, f.kept)) }
+
+      by_work : (work : Work K V A) → begun_work (hash s.store.hasher) s.mode s.initial call ≡ work → IsLoneWork eq hash s' work
+      by_work (works.Call r) e =
+          let is = call_begun (hash s.store.hasher) s.mode s.initial call r e in
+          record {
+            callers = alone (works.Call r) e;
+            lawful = in_order';
+            maker = subst (λ (y : Running K V A). IsMaker y) (sym is.is) (record { key = (is.key, refl); value = begun_value call is.task is.task_is; answered = tt });
+            current = subst (λ (y : Running K V A). IsCurrent (word_at s'.store.words) y.machine) (sym is.is) (tt, tt);
+          }
+      by_work (works.Resize z) e =
+          let is = resizer_begun_is (hash s.store.hasher) s.mode s.initial call z e in
+          record {
+            callers = alone (works.Resize z) e;
+            lawful = in_order';
+            read = subst (IsResizerRead (word_at s'.store.words)) (sym is.is) (begun_read s.mode (word_at s'.store.words) is.resize);
+          }
 
   module _ (says : Says K V A) (refuse : Bool) (s' : CoreState K V S A) (event : Event) (x : Advances eq says hash refuse s 0 s' event None) (core : IsCore s.store s.callers s.mode) (es : List (Exchange (Stored K V))) (tales : ℕ → Tale K V) (kept : IsKept eq (hash s.store.hasher) s.mode s.store s.callers es tales)
-      (alone : s.callers ≡ one_seat (Some x.before)) (maker : IsMaker x.before) (current : IsCurrent (word_at s.store.words) x.before.machine) where
+      (alone : s.callers ≡ one_seat (Some (works.Call x.before))) (maker : IsMaker x.before) (current : IsCurrent (word_at s.store.words) x.before.machine) where
     -- the setting and the coding
     abbrev g : Setting K (Stored K V)
     g = setting_of eq (low (hash s.store.hasher)) s.mode s.store.words.tables
@@ -91,7 +123,7 @@ module _ {K V S A : Type 0} (eq : K → K → Bool) (hash : S → K → ℕ) (s 
     abbrev later : Running K V A
     later = record x.later { machine = after x.before.machine x.answer }
 
-    still_alone : s'.callers ≡ one_seat (Some later)
+    still_alone : s'.callers ≡ one_seat (Some (works.Call later))
     still_alone = x.callers ∙ ap (λ (l : List (Seat K V A)). with_call l 0 (Some later)) alone
 
     -- the words, as the law has them
@@ -172,11 +204,11 @@ module _ {K V S A : Type 0} (eq : K → K → Bool) (hash : S → K → ℕ) (s 
   lone_step says refuse r s' event lone x =
       let same : r ≡ x.before = same_item r x.before (sym (ap (λ (l : List (Seat K V A)). running l 0) lone.callers) ∙ x.was) in
       subst (λ y. IsNearer eq hash s y s') (sym same)
-      (nearer_from says refuse s' event x lone.lawful.core lone.lawful.law.0 lone.lawful.law.1.0 lone.lawful.law.1.1 (lone.callers ∙ ap (λ y. one_seat (Some y)) same) (subst IsMaker same lone.maker) (subst (λ (y : Running K V A). IsCurrent (word_at s.store.words) y.machine) same lone.current))
+      (nearer_from says refuse s' event x lone.lawful.core lone.lawful.law.0 lone.lawful.law.1.0 lone.lawful.law.1.1 (lone.callers ∙ ap (λ y. one_seat (Some (works.Call y))) same) (subst IsMaker same lone.maker) (subst (λ (y : Running K V A). IsCurrent (word_at s.store.words) y.machine) same lone.current))
 
 module _ {K V S A H : Type 0} (eq : K → K → Bool) (input : K → List (List ℕ)) (build : S → H) (write : H → List ℕ → H) (finish : H → ℕ) (classes : IsEquivalence eq) (respects : (x y : K) → eq x y ≡ true → input x ≡ input y) (s s' : CoreState K V S A) where
   -- a call that begins alone, with keys hashed as they are
-  pub alone_begins : (call : Call K V A) → s.callers ≡ [] → IsLawfulCore eq (hash_of input build write finish s.store.hasher) s.store s.callers s.mode → Begins (hash_of input build write finish s.store.hasher) s 0 call s' → IsLone eq (hash_of input build write finish) s' (begun (hash_of input build write finish s.store.hasher) s.mode s.initial call)
+  pub alone_begins : (call : Call K V A) → s.callers ≡ [] → IsLawfulCore eq (hash_of input build write finish s.store.hasher) s.store s.callers s.mode → Begins (hash_of input build write finish s.store.hasher) s 0 call s' → IsLoneWork eq (hash_of input build write finish) s' (begun_work (hash_of input build write finish s.store.hasher) s.mode s.initial call)
   alone_begins call idle lawful x = lone_begin eq (hash_of input build write finish) s (keys_lawful eq input build write finish classes respects s.store.hasher) call s' idle lawful x
 
   -- and its steps

@@ -5,7 +5,7 @@ use Rattle.papaya_call.specs.Answers.{Says}
 use Rattle.papaya_ask.specs.declared.ask.Ask.TheVariants.{Done as Ask_done}
 use Rattle.papaya_ask.specs.declared.call.Call.{Call}
 use Rattle.papaya_ask.specs.declared.call.Reply.{Reply}
-use Rattle.papaya_ask.specs.declared.call.Reply.TheVariants.{Absent, Found, Inserted, Replaced, Occupied, Removed, Kept, Aborted, Refused}
+use Rattle.papaya_ask.specs.declared.call.Reply.TheVariants.{Absent, Found, Inserted, Replaced, Occupied, Removed, Kept, Aborted, Done, Refused}
 use Rattle.papaya_ask.specs.declared.call.Task.{Task}
 use Rattle.papaya_ask.specs.declared.call.Task.TheVariants.{Insert, Compute}
 use Rattle.papaya_law.specs.Exchange.{Exchange, Setting}
@@ -15,14 +15,21 @@ use Rattle.papaya_rests.specs.Rests.{IsOwnPair, IsReply, change_in}
 use Rattle.papaya_rests.specs.Told.{Hands, IsOneOf}
 use Rattle.papaya_timeline.specs.declared.seat.Seat.{Seat}
 use Rattle.papaya_store.specs.declared.pairs.Pair.{Pair}
-use Rattle.papaya_store.specs.declared.pairs.Running.{Running}
 use Rattle.papaya_timeline.specs.declared.trace.Entry.{Entry}
 use Rattle.papaya_timeline.specs.declared.trace.Event.{Event}
 use Rattle.papaya_timeline.specs.declared.trace.Event.TheVariants.{Begun, Changed, Moved, Asked, Shown, Other, Replied}
 use Rattle.papaya_timeline.specs.declared.trace.Turn.TheVariants.{Begin, Finish}
 use Rattle.papaya_timeline.specs.Advances.{Advances, event_of}
-use Rattle.papaya_timeline.specs.Begins.{Begins, begun}
-use Rattle.papaya_timeline.specs.Callers.{running, with_call, with_seat}
+use Rattle.papaya_timeline.specs.Begins.{Begins, begun_work}
+use Rattle.papaya_timeline.specs.Callers.{resizing, running, with_call, with_seat, with_work, working}
+use Rattle.papaya_timeline.specs.declared.seat.Work.{Work}
+use Rattle.papaya_timeline.specs.declared.seat.Work.TheVariants as works
+use Rattle.papaya_timeline.specs.Resizes.{Resizes}
+use Rattle.papaya_chain.specs.Resizer.{after as after_resize}
+use Rattle.papaya_timeline.proofs.CopyAnswers.{left_logged}
+use Rattle.papaya_timeline.proofs.CountedResized.{counted_resize}
+use Rattle.papaya_timeline.proofs.GoodResized.{resize_same, resizer_replies}
+use Rattle.papaya_timeline.proofs.KeptResized.{left as resize_left, resize_kept}
 use Rattle.papaya_timeline.specs.Content.{map_in, map_of}
 use Rattle.papaya_timeline.specs.Core.{CoreState, IsCore}
 use Rattle.papaya_timeline.specs.Counted.{IsCounted, owed_in}
@@ -33,12 +40,12 @@ use Rattle.papaya_store.specs.Store.{KeepsPairs, StoreState, Stored, pair_of, st
 use Rattle.papaya_timeline.specs.Timeline.{begins, open_after}
 use Rattle.papaya_timeline.specs.Maps.{Same}
 use Rattle.papaya_timeline.proofs.AdvanceLemmas.{unmoved}
-use Rattle.papaya_timeline.proofs.CallersLemmas.{same_item}
+use Rattle.papaya_timeline.proofs.CallersLemmas.{call-under_way, resizer-under_way, same_item}
 use Rattle.papaya_timeline.proofs.ChainLemmas.{own_asks}
 use Rattle.papaya_timeline.proofs.CoreLemmas.{reply_asked}
 use Rattle.papaya_timeline.proofs.CountedLemmas.{counted_begin, counted_step}
-use Rattle.papaya_timeline.proofs.StepEvents.{event_begins, event_open}
-use Rattle.papaya_timeline.proofs.HeadlineLemmas.{advance-core, begin-core}
+use Rattle.papaya_timeline.proofs.StepEvents.{event_begins, event_open, stage_moves}
+use Rattle.papaya_timeline.proofs.HeadlineLemmas.{advance-core, begin-core, resize-core}
 use Rattle.papaya_timeline.proofs.KeptCore.{performs-hasher}
 use Rattle.papaya_timeline.proofs.KeptLemmas.{IsLawfulKeys, IsStep, kept_begin, kept_step}
 use Rattle.papaya_timeline.proofs.KeptLogs.{pair_below}
@@ -78,9 +85,9 @@ module _ {K V S : Type 0} where
       by_pair None e = e
       by_pair (Some p) e = let lt : n < length store.pairs = pair_below store n p e in absurd (omega arith)
 
--- the one seat, with this call
-abbrev pub one_seat : {K V A : Type 0} → Option (Running K V A) → List (Seat K V A)
-one_seat call = record { caller = 0; call = call } ∷ []
+-- the one seat, with this work
+abbrev pub one_seat : {K V A : Type 0} → Option (Work K V A) → List (Seat K V A)
+one_seat work = record { caller = 0; work = work } ∷ []
 
 module _ {K V S A : Type 0} (eq : K → K → Bool) (hash : S → K → ℕ) (s : CoreState K V S A) (law : IsLawfulKeys eq (hash s.store.hasher)) (says : Says K V A) where
   -- A core that came of the core s by the steps of one call: it is in order, and its logs have grown.
@@ -104,8 +111,8 @@ module _ {K V S A : Type 0} (eq : K → K → Bool) (hash : S → K → ℕ) (s 
     es = es;
     tales = begun_tales tales 0 es;
     core = begin-core (hash s.store.hasher) s 0 call s' x core;
-    kept = kept_begin eq (hash s.store.hasher) law s 0 call s' x x.fits core.chunked es tales kept;
-    counted = counted_begin eq (hash s.store.hasher) s 0 call s' x (ap (λ (l : List (Seat K V A)). running l 0) idle);
+    kept = kept_begin eq (hash s.store.hasher) law s 0 call s' x core.chunked es tales kept;
+    counted = counted_begin eq (hash s.store.hasher) s 0 call s' x (ap (λ (l : List (Seat K V A)). working l 0) idle);
     hasher_is = ap (λ (y : StoreState K V S). y.hasher) x.store;
     mode_is = x.mode;
     initial_is = x.initial;
@@ -146,6 +153,25 @@ module _ {K V S A : Type 0} (eq : K → K → Bool) (hash : S → K → ℕ) (s 
         new = new_after now s' event reply f x;
       }
 
+  -- so it is after a step of a resizer
+  follows_resize : (now s' : CoreState K V S A) (event : Event) (reply : Option Reply) → Follows now → Resizes eq hash false now 0 s' event reply → Follows s'
+  follows_resize now s' event reply f x =
+      let left = resize_left eq (hash s.store.hasher) law false now 0 s' event reply x (ap hash f.hasher_is) f.es f.tales f.core f.kept in
+      let core' = resize-core eq hash false now 0 s' event reply x f.core in
+      record {
+        es = f.es ++ left.made;
+        tales = told_tales f.tales 0 left.made left.hands';
+        core = core';
+        kept = resize_kept eq (hash s.store.hasher) law false now 0 s' event reply x (ap hash f.hasher_is) f.es f.tales f.core f.kept;
+        counted = λ was. counted_resize eq (hash s.store.hasher) law false now 0 s' event reply x (ap hash f.hasher_is) f.es f.tales f.core core' f.kept (f.counted was);
+        hasher_is = left.hasher_is ∙ f.hasher_is;
+        mode_is = x.mode ∙ f.mode_is;
+        initial_is = x.initial ∙ f.initial_is;
+        keeps = λ n p e. left_logged (setting_of eq (low (hash s.store.hasher)) now.mode now.store.words.tables) (coding_of (low (hash s.store.hasher))) now.store f.es (f.tales 0).hands left n p (f.keeps n p e);
+        longer = let more = f.longer in let same = ap (λ (l : List (Pair V)). length l) left.pairs_are in omega (arith, more, same);
+        new = λ q made. f.new q (subst (λ l. IsOneOf l q) left.same_made made);
+      }
+
   -- the pair that a call replies that it made was not logged at the begin
   owned : (g : Setting K (Stored K V)) (first since : List (Exchange (Stored K V))) (k : K) (hands : Hands (Stored K V)) (n : ℕ) → ((q : Stored K V) → IsOneOf hands.made q → length s.store.pairs ≤ q.number) → IsOwnPair g (coding_of (low (hash s.store.hasher))) first since k hands n → pair_of s.store n ≡ None
   owned g first since k hands n new (q, made, number) = past_log s.store n (let most = new q made in let same : q.number ≡ n = number in omega arith)
@@ -162,6 +188,7 @@ module _ {K V S A : Type 0} (eq : K → K → Bool) (hash : S → K → ℕ) (s 
   unlogged_by g first since k hands task (Removed n) new own = tt
   unlogged_by g first since k hands task (Kept n) new own = tt
   unlogged_by g first since k hands task (Aborted t) new own = tt
+  unlogged_by g first since k hands task Done new own = tt
   unlogged_by g first since k hands task (Refused refused) new own = tt
   unlogged_by g first since k hands _ _ new own = absurd own
 
@@ -176,16 +203,24 @@ module _ {K V S A : Type 0} (eq : K → K → Bool) (hash : S → K → ℕ) (s 
       unlogged_by g tale.begun tale.since step.own.key tale.hands.call m.call.task reply (new_after now s' event (Some reply) f x)
       (machine_replies g (coding_of (low (hash s.store.hasher))) tale.begun tale.since step.own.key m.call tale.hands.call step.own.rests.call reply (own_asks m (Ask_done reply) done).1).0
 
+  -- while a call has changed nothing, the map is as it was at the begin, and one that resizes it changes nothing
+  abbrev pub IsUnmoved : CoreState K V S A → Work K V A → Type 0
+  IsUnmoved s' (works.Call r) = change_in r.machine.call.state ≡ None → Same (map_of eq s) (map_of eq s')
+  IsUnmoved s' (works.Resize z) = Same (map_of eq s) (map_of eq s')
+
+  unmoved_where : (s' : CoreState K V S A) (work : Work K V A) → Same (map_of eq s) (map_of eq s') → IsUnmoved s' work
+  unmoved_where s' (works.Call r) same = λ none. same
+  unmoved_where s' (works.Resize z) same = same
+
   -- the call is open, and no other caller has a seat
   pub record IsSole (s' : CoreState K V S A) (h : History) : Type 0 where
     pub follows : Follows s'
-    pub call : Running K V A
-    pub callers : s'.callers ≡ one_seat (Some call)
+    pub work : Work K V A
+    pub callers : s'.callers ≡ one_seat (Some work)
     pub events : List Event
     pub of_steps : AreOfSteps events
     pub history : h ≡ open_history events
-    -- while it has changed nothing, the map is as it was
-    pub unmoved : change_in call.machine.call.state ≡ None → Same (map_of eq s) (map_of eq s')
+    pub unmoved : IsUnmoved s' work
 
   -- the call has replied
   pub record IsOver (s' : CoreState K V S A) (h : History) (reply : Reply) : Type 0 where
@@ -207,14 +242,14 @@ module _ {K V S A : Type 0} (eq : K → K → Bool) (hash : S → K → ℕ) (s 
   begin_runs : (call : Call K V A) (s' : CoreState K V S A) (h : History) → s.callers ≡ [] → IsCore s.store s.callers s.mode → (es : List (Exchange (Stored K V))) (tales : ℕ → Tale K V) → IsKept eq (hash s.store.hasher) s.mode s.store s.callers es tales → BeginRuns eq says hash 0 0 call s [] s' h → IsSole s' h
   begin_runs call s' h idle core es tales kept (inl (none, x, told)) = record {
     follows = follows_begin call s' idle core es tales kept x;
-    call = begun (hash s.store.hasher) s.mode s.initial call;
-    callers = x.callers ∙ ap (λ (l : List (Seat K V A)). with_call (with_seat l 0) 0 (Some (begun (hash s.store.hasher) s.mode s.initial call))) idle;
+    work = begun_work (hash s.store.hasher) s.mode s.initial call;
+    callers = x.callers ∙ ap (λ (l : List (Seat K V A)). with_work (with_seat l 0) 0 (Some (begun_work (hash s.store.hasher) s.mode s.initial call))) idle;
     events = [];
     of_steps = tt;
     history = told;
-    unmoved = λ none j. ap (λ (y : StoreState K V S). map_in eq y j) x.store;
+    unmoved = unmoved_where s' (begun_work (hash s.store.hasher) s.mode s.initial call) (λ j. ap (λ (y : StoreState K V S). map_in eq y j) x.store);
   }
-  begin_runs call s' h idle core es tales kept (inr (r, busy, passed)) = let f : None ≡ Some r = sym (ap (λ (l : List (Seat K V A)). running l 0) idle) ∙ busy in absurd cc
+  begin_runs call s' h idle core es tales kept (inr (r, busy, passed)) = let f : None ≡ Some r = sym (ap (λ (l : List (Seat K V A)). working l 0) idle) ∙ busy in absurd cc
 
   -- the call is open, or it has replied
   abbrev pub Goes : CoreState K V S A → History → Type 0
@@ -225,15 +260,15 @@ module _ {K V S A : Type 0} (eq : K → K → Bool) (hash : S → K → ℕ) (s 
   step_unmoved now s' h event reply sole x none =
       let f = sole.follows in
       let (before, same) = unmoved eq (hash s.store.hasher) law false now s' 0 event reply x f.core (advance-core eq says hash false now 0 s' event reply x f.core) f.es f.tales f.kept (step_of now s' event reply f x) none in
-      let is : sole.call ≡ x.before = same_item sole.call x.before (sym (ap (λ (l : List (Seat K V A)). running l 0) sole.callers) ∙ x.was) in
-      let first = sole.unmoved (ap (λ (r : Running K V A). change_in r.machine.call.state) is ∙ before) in
+      let is : sole.work ≡ works.Call x.before = same_item sole.work (works.Call x.before) (sym (ap (λ (l : List (Seat K V A)). working l 0) sole.callers) ∙ call-under_way (working now.callers 0) x.before x.was) in
+      let first : Same (map_of eq s) (map_of eq now) = subst (IsUnmoved now) is sole.unmoved before in
       λ j. same j ∙ first j
 
   -- a step of the open call
   sole_steps : (now s' : CoreState K V S A) (h h' : History) (event : Event) (reply : Option Reply) → IsSole now h → Advances eq says hash false now 0 s' event reply → h' ≡ with_step 1 0 event reply h → Goes s' h'
   sole_steps now s' h h' event None sole x told = inl (record {
     follows = follows_step now s' event None sole.follows x;
-    call = record x.later { machine = after x.before.machine x.answer };
+    work = works.Call (record x.later { machine = after x.before.machine x.answer });
     callers = x.callers ∙ ap (λ (l : List (Seat K V A)). with_call l 0 (Some (record x.later { machine = after x.before.machine x.answer }))) sole.callers;
     events = event ∷ sole.events;
     of_steps = (event_of_step now s' event None x, sole.of_steps);
@@ -252,11 +287,46 @@ module _ {K V S A : Type 0} (eq : K → K → Bool) (hash : S → K → ℕ) (s 
     },
   )
 
+  -- a step of the open call that resizes the map
+  sole_resizes : (now s' : CoreState K V S A) (h h' : History) (event : Event) (reply : Option Reply) → IsSole now h → Resizes eq hash false now 0 s' event reply → h' ≡ with_step 1 0 event reply h → Goes s' h'
+  sole_resizes now s' h h' event None sole x told = inl (record {
+    follows = follows_resize now s' event None sole.follows x;
+    work = works.Resize (after_resize x.before x.answer);
+    callers = x.callers ∙ ap (λ (l : List (Seat K V A)). with_work l 0 (Some (works.Resize (after_resize x.before x.answer)))) sole.callers;
+    events = event ∷ sole.events;
+    of_steps = (subst IsOfStep (sym x.event_is) (stage_moves IsOfStep tt (λ kind. tt) x.before.state x.ask x.answer), sole.of_steps);
+    history = told ∙ ap (with_event 1 0 event) sole.history;
+    unmoved = λ j. moves j ∙ first j;
+  })
+    where
+      first : Same (map_of eq s) (map_of eq now)
+      first = subst (IsUnmoved now) (same_item sole.work (works.Resize x.before) (sym (ap (λ (l : List (Seat K V A)). working l 0) sole.callers) ∙ resizer-under_way (working now.callers 0) x.before x.was)) sole.unmoved
+
+      moves : Same (map_of eq now) (map_of eq s')
+      moves = resize_same eq (hash s.store.hasher) law false now s' 0 event None x (ap hash sole.follows.hasher_is) sole.follows.core (resize-core eq hash false now 0 s' event None x sole.follows.core) sole.follows.es sole.follows.tales sole.follows.kept
+  sole_resizes now s' h h' event (Some reply) sole x told = inr (
+    reply,
+    record {
+      follows = follows_resize now s' event (Some reply) sole.follows x;
+      callers = x.callers ∙ ap (λ (l : List (Seat K V A)). with_work l 0 None) sole.callers;
+      events = event ∷ sole.events;
+      of_steps = (subst IsOfStep (sym x.event_is) (stage_moves IsOfStep tt (λ kind. tt) x.before.state x.ask x.answer), sole.of_steps);
+      history = told ∙ ap (λ l. with_event 1 0 (Replied reply) (with_event 1 0 event l)) sole.history;
+      unlogged = elim (resizer_replies (after_resize x.before x.answer).state reply (sym x.reply_is)) [
+        | inl done ↦ subst (IsNewIn s.store) (sym done) tt
+        | inr (refused, is) ↦ subst (IsNewIn s.store) (sym is) tt
+      ];
+    },
+  )
+
   -- a step, or one that is passed over
   step_runs : (now s' : CoreState K V S A) (h h' : History) → Goes now h → StepRuns eq says hash 1 0 false now h s' h' → Goes s' h'
-  step_runs now s' h h' (inl sole) (inl (event, reply, x, told)) = sole_steps now s' h h' event reply sole x told
-  step_runs now s' h h' (inr (r, over)) (inl (event, reply, x, told)) =
+  step_runs now s' h h' (inl sole) (inl (event, reply, inl x, told)) = sole_steps now s' h h' event reply sole x told
+  step_runs now s' h h' (inl sole) (inl (event, reply, inr x, told)) = sole_resizes now s' h h' event reply sole x told
+  step_runs now s' h h' (inr (r, over)) (inl (event, reply, inl x, told)) =
       let f : None ≡ Some x.before = sym (ap (λ (l : List (Seat K V A)). running l 0) over.callers) ∙ x.was in absurd cc
+  step_runs now s' h h' (inr (r, over)) (inl (event, reply, inr x, told)) =
+      let f : None ≡ Some x.before = sym (ap (λ (l : List (Seat K V A)). resizing l 0) over.callers) ∙ x.was in absurd cc
   step_runs now s' h h' goes (inr (idle, (same, as_before))) = subst (λ y. Goes y h') (sym same) (subst (Goes now) (sym as_before) goes)
 
   -- so many steps
@@ -305,7 +375,7 @@ module _ {K V S A : Type 0} (eq : K → K → Bool) (hash : S → K → ℕ) (s 
   pub without_seat : (s' : CoreState K V S A) {says : Says K V A} → Follows eq hash s law says s' → IsLawfulCore {A = A} eq (hash s'.store.hasher) s'.store [] s'.mode
   without_seat s' f =
       record {
-        core = record { chunked = f.core.chunked; sizes = f.core.sizes; standing = λ caller r e. let n : None ≡ Some r = e in absurd cc; going = λ caller r e. let n : None ≡ Some r = e in absurd cc };
+        core = record { chunked = f.core.chunked; sizes = f.core.sizes; standing = λ caller r e. let n : None ≡ Some r = e in absurd cc; going = λ caller r e. let n : None ≡ Some r = e in absurd cc; resizers = λ caller z e. let n : None ≡ Some z = e in absurd cc };
         law = subst (λ y. (es : _) × ((tales : _) × IsKept {A = A} eq (hash y) s'.mode s'.store [] es tales)) (sym f.hasher_is) (
           f.es,
           (
@@ -318,6 +388,7 @@ module _ {K V S A : Type 0} (eq : K → K → Bool) (hash : S → K → ℕ) (s 
               few = f.kept.few;
               tables_few = f.kept.tables_few;
               calls = λ caller r e. let n : None ≡ Some r = e in absurd cc;
+              resizers = λ caller z e. let n : None ≡ Some z = e in absurd cc;
               apart = λ c d r q e. let n : None ≡ Some r = e in absurd cc;
             },
           ),

@@ -7,13 +7,14 @@ use Rattle.papaya_words.specs.declared.probe.Refused.TheVariants.{RemoveNothing}
 use Rattle.papaya_ask.specs.declared.ask.OpKind.{OpKind}
 use Rattle.papaya_ask.specs.declared.ask.OpKind.TheVariants as kinds
 use Rattle.papaya_ask.specs.declared.call.Call.{Call}
+use Rattle.papaya_ask.specs.declared.call.Call.TheVariants.{Get, Insert, TryInsert, RemoveIf, Compute, Reserve, CopyAll}
 use Rattle.papaya_ask.specs.declared.call.Reply.{Reply}
-use Rattle.papaya_ask.specs.declared.call.Reply.TheVariants.{Absent, Found, Inserted, Replaced, Occupied, Removed, Kept, Aborted, Refused}
+use Rattle.papaya_ask.specs.declared.call.Reply.TheVariants.{Absent, Found, Inserted, Replaced, Occupied, Removed, Kept, Aborted, Done, Refused}
 use Rattle.papaya_timeline.specs.declared.trace.Turn.{Turn}
 use Rattle.papaya_timeline.specs.declared.trace.Turn.TheVariants.{Begin, Finish}
 use Rattle.papaya_timeline.specs.declared.trace.Event.{Event}
 use Rattle.papaya_timeline.specs.declared.trace.Event.TheVariants.{Begun, Changed, Moved, Asked, Shown, Other, Replied}
-use Rattle.papaya_timeline.specs.Maps.{Map, Does, IsUpdate, Same, key_of}
+use Rattle.papaya_timeline.specs.Maps.{Map, Does, IsUpdate, IsUpdateBy, Same, at_key, key_of}
 use Rattle.papaya_timeline.specs.Runs.{History, with_event}
 use Rattle.papaya_timeline.specs.Solo.{CallDoes, IsAnswered}
 use Rattle.papaya_store.specs.Store.{Stored}
@@ -66,6 +67,7 @@ by_change (Found n) x e = absurd cc
 by_change (Occupied n) x e = absurd cc
 by_change (Kept n) x e = absurd cc
 by_change (Aborted t) x e = absurd cc
+by_change Done x e = absurd cc
 by_change (Refused refused) x e = absurd cc
 
 module _ {K V : Type 0} where
@@ -89,6 +91,26 @@ module _ {K V : Type 0} where
     others = λ j e. next j ∙ update.others j e ∙ first j;
   }
 
+  -- so it is of the class of a call's key
+  update_same_by : (eq : K → K → Bool) (k : Option K) (went came : Option (Stored K V)) (start m m' m'' : Map K V) → Same start m → IsUpdateBy eq k went came m m' → Same m' m'' → IsUpdateBy eq k went came start m''
+  update_same_by eq None went came start m m' m'' first update next = update
+  update_same_by eq (Some k) went came start m m' m'' first update next = update_same eq k went came start m m' m'' first update next
+
+  -- two maps that are the same have the same there
+  at_same_key : (m m' : Map K V) → Same m m' → (k : Option K) → at_key m' k ≡ at_key m k
+  at_same_key m m' same None = refl
+  at_same_key m m' same (Some k) = same k
+
+-- a call that does something has a key
+does_keyed : {K V A : Type 0} (call : Call K V A) (here : Option (Stored K V)) (reply : Reply) (next : Option (Stored K V)) → Does call here reply next → (k : K) × (key_of call ≡ Some k)
+does_keyed (Get k) here reply next does = (k, refl)
+does_keyed (Insert k v) here reply next does = (k, refl)
+does_keyed (TryInsert k v) here reply next does = (k, refl)
+does_keyed (RemoveIf k a) here reply next does = (k, refl)
+does_keyed (Compute k a) here reply next does = (k, refl)
+does_keyed (Reserve more) here reply next does = absurd does
+does_keyed CopyAll here reply next does = absurd does
+
 module _ {K V A : Type 0} (eq : K → K → Bool) (call : Call K V A) (steps : ℕ) (start : Map K V) where
   -- the call begins, and its caller makes its steps
   abbrev schedule : List (Turn K V A)
@@ -100,7 +122,7 @@ module _ {K V A : Type 0} (eq : K → K → Bool) (call : Call K V A) (steps : �
     pub came : Option (Stored K V)
     pub reply : Reply
     pub made_is : made ≡ Some (number_in went, number_in came)
-    pub update : IsUpdate eq (key_of call) went came start m
+    pub update : IsUpdateBy eq (key_of call) went came start m
     pub does : Does call went reply came
     pub changes : change_of_reply reply ≡ Some (number_in went, number_in came)
 
@@ -116,7 +138,7 @@ module _ {K V A : Type 0} (eq : K → K → Bool) (call : Call K V A) (steps : �
     came = x.came;
     reply = x.reply;
     made_is = x.made_is;
-    update = update_same eq (key_of call) x.went x.came start start m m' (λ j. refl) x.update same;
+    update = update_same_by eq (key_of call) x.went x.came start start m m' (λ j. refl) x.update same;
     does = x.does;
     changes = x.changes;
   })
@@ -131,7 +153,7 @@ module _ {K V A : Type 0} (eq : K → K → Bool) (call : Call K V A) (steps : �
           came = x.came;
           reply = reply;
           made_is = ap (λ o. Some (o, new)) (sym x.went_is) ∙ ap (λ o. Some (number_in x.went, o)) (sym x.came_is);
-          update = update_same eq (key_of call) x.went x.came start m m' m' all.0 (subst (λ k. IsUpdate eq k x.went x.came m m') (sym key) x.update) (λ j. refl);
+          update = update_same_by eq (key_of call) x.went x.came start m m' m' all.0 (subst (λ k. IsUpdateBy eq k x.went x.came m m') (sym key) x.update) (λ j. refl);
           does = does;
           changes = changes;
         })
@@ -177,7 +199,7 @@ module _ {K V A : Type 0} (eq : K → K → Bool) (call : Call K V A) (steps : �
       | inr once ↦ record {
         went = once.went;
         came = once.came;
-        update = update_same eq (key_of call) once.went once.came start start m m' (λ j. refl) once.update same;
+        update = update_same_by eq (key_of call) once.went once.came start start m m' (λ j. refl) once.update same;
         does = subst (λ r. Does call once.went r once.came) (sym (by_change once.reply x (once.changes ∙ sym once.made_is ∙ made)) ∙ by_change reply x changes) once.does;
       }
     ]
@@ -201,28 +223,30 @@ module _ {K V A : Type 0} (eq : K → K → Bool) (call : Call K V A) (steps : �
     at_start P none at = at_same start P 0 h (m ∷ maps) (all_same none) at
 
     -- what the call does where the class of its key has this, it does at the start
-    does_at_start : (reply : Reply) (m0 : Map K V) → Same start m0 → Does call (m0 (key_of call)) reply (m0 (key_of call)) → Does call (start (key_of call)) reply (start (key_of call))
-    does_at_start reply m0 first does = subst (λ o. Does call o reply o) (first (key_of call)) does
+    does_at_start : (reply : Reply) (m0 : Map K V) → Same start m0 → Does call (at_key m0 (key_of call)) reply (at_key m0 (key_of call)) → Does call (at_key start (key_of call)) reply (at_key start (key_of call))
+    does_at_start reply m0 first does = subst (λ o. Does call o reply o) (at_same_key start m0 first (key_of call)) does
 
     -- a reply for which the map stays is the map's
-    kept : (reply : Reply) → change_of 0 h ≡ None → Does call (start (key_of call)) reply (start (key_of call)) → CallDoes eq call start reply m'
+    kept : (reply : Reply) → change_of 0 h ≡ None → Does call (at_key start (key_of call)) reply (at_key start (key_of call)) → CallDoes eq call start reply m'
     kept reply none does = record {
-      went = start (key_of call);
-      came = start (key_of call);
-      update = record { before = refl; class = λ j e. unchanged none j ∙ alike j (key_of call) e; others = λ j e. unchanged none j };
+      went = at_key start (key_of call);
+      came = at_key start (key_of call);
+      update =
+          let (k, is) = does_keyed call (at_key start (key_of call)) reply (at_key start (key_of call)) does in
+          subst (λ o. IsUpdateBy eq o (at_key start o) (at_key start o) start m') (sym is) (record { before = refl; class = λ j e. unchanged none j ∙ alike j k e; others = λ j e. unchanged none j });
       does = does;
     }
 
     -- a reply without a change is the map's
-    answered : (reply : Reply) → change_of 0 h ≡ None → AtSomeMoment (λ m. Does call (m (key_of call)) reply (m (key_of call))) 0 h (m ∷ maps) → CallDoes eq call start reply m'
+    answered : (reply : Reply) → change_of 0 h ≡ None → AtSomeMoment (λ m. Does call (at_key m (key_of call)) reply (at_key m (key_of call))) 0 h (m ∷ maps) → CallDoes eq call start reply m'
     answered reply none at =
-        let (m0, first, does) = at_start (λ m. Does call (m (key_of call)) reply (m (key_of call))) none at in
+        let (m0, first, does) = at_start (λ m. Does call (at_key m (key_of call)) reply (at_key m (key_of call))) none at in
         kept reply none (does_at_start reply m0 first does)
 
     -- what a closure ends when it is shown what stands there, the call does where that stands
-    does_as_shown : (reply : Reply) (shown : Option ℕ) (kind : OpKind) → change_of 0 h ≡ None → WasLastShown eq call reply shown kind 0 h (m ∷ maps) → Does call (start (key_of call)) reply (start (key_of call))
+    does_as_shown : (reply : Reply) (shown : Option ℕ) (kind : OpKind) → change_of 0 h ≡ None → WasLastShown eq call reply shown kind 0 h (m ∷ maps) → Does call (at_key start (key_of call)) reply (at_key start (key_of call))
     does_as_shown reply shown kind none last =
-        let (m0, first, (is, does)) = at_start (λ m. (number_in (m (key_of call)) ≡ shown) × Does call (m (key_of call)) reply (m (key_of call))) none last.1 in
+        let (m0, first, (is, does)) = at_start (λ m. (number_in (at_key m (key_of call)) ≡ shown) × Does call (at_key m (key_of call)) reply (at_key m (key_of call))) none last.1 in
         does_at_start reply m0 first does
 
     -- a reply that fits is the finite map's
@@ -231,6 +255,7 @@ module _ {K V A : Type 0} (eq : K → K → Bool) (call : Call K V A) (steps : �
     fits_answered (Aborted t) fits =
         let (none, (shown, last)) = fits in
         kept (Aborted t) none (does_as_shown (Aborted t) shown (kinds.Abort t) none last)
+    fits_answered Done fits = (fits.0, unchanged fits.1)
     fits_answered Absent fits = answered Absent fits.0 fits.1
     fits_answered (Found n) fits = answered (Found n) fits.0 fits.1
     fits_answered (Inserted n) fits = changed (Inserted n) (None, Some n) refl fits

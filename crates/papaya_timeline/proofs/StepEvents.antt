@@ -30,6 +30,9 @@ use Rattle.papaya_chain.specs.declared.ask.Ask.TheVariants as asks
 use Rattle.papaya_chain.specs.declared.ask.Answer.{Answer}
 use Rattle.papaya_chain.specs.declared.ask.Answer.TheVariants as answers
 use Rattle.papaya_chain.specs.declared.machine.Machine.{Machine}
+use Rattle.papaya_chain.specs.declared.resizer.State.{State as Stage}
+use Rattle.papaya_chain.specs.declared.resizer.State.TheVariants as stages
+use Rattle.papaya_chain.specs.Resizer.{kind_in as stage_kind}
 use Rattle.papaya_chain.specs.declared.machine.Phase.{Phase}
 use Rattle.papaya_chain.specs.declared.machine.Phase.TheVariants.{Calling, Linking, Copying as Copying_root}
 use Rattle.papaya_chain.specs.Machine.{ask_of, asks_in, kind_in, kind_of_ask}
@@ -143,6 +146,25 @@ copy_cases P other changed moved kind ask answer = copied_cases P other kind (ca
 -- what a machine asks for a copy leaves the map
 pub copy_moves : (P : Event → Type 0) → P Other → ((kind : StepKind) → P (Moved kind)) → (kind : Option StepKind) → IsCopyKind kind → (ask : CopyAsk) (answer : Answer) → P (event_of kind (asks.Copy ask) answer)
 copy_moves P other moved kind copies ask answer = copied_cases P other kind (moved_cases P other moved kind copies) ask answer
+
+-- and so does what a resizer asks, also where it opens a table
+open_moves : (P : Event → Type 0) → P Other → ((kind : StepKind) → P (Moved kind)) → (old new : ℕ) (answer : Call_answer) → P (answered_event (Some kinds.Open) old new answer)
+open_moves P other moved old new Exchanged = moved kinds.Open
+open_moves P other moved old new (Word_read word) = other
+open_moves P other moved old new (Found_instead word) = other
+open_moves P other moved old new (Yes same) = other
+open_moves P other moved old new (Op op) = other
+open_moves P other moved old new (Size slots limit) = other
+open_moves P other moved old new (Made_number n) = other
+open_moves P other moved old new Ok_done = other
+open_moves P other moved old new (Was_refused refused) = other
+
+pub stage_moves : (P : Event → Type 0) → P Other → ((kind : StepKind) → P (Moved kind)) → (stage : Stage) (ask : CopyAsk) (answer : Answer) → P (event_of (stage_kind stage) (asks.Copy ask) answer)
+stage_moves P other moved (stages.Opening table) ask answer = copied_cases P other (Some kinds.Open) (open_moves P other moved) ask answer
+stage_moves P other moved (stages.Linking link) ask answer = copy_moves P other moved (link_kind link) (linking_kind link) ask answer
+stage_moves P other moved (stages.Copying from (Stepping aim step)) ask answer = copy_moves P other moved (step_kind step) (stepping_kind step) ask answer
+stage_moves P other moved (stages.Copying from (Lone slot settle)) ask answer = copy_moves P other moved (settle_kind settle) (settling_kind settle) ask answer
+stage_moves P other moved stage ask answer = copy_moves P other moved None tt ask answer
 
 -- a step begins no call
 pub event_begins : (kind : Option StepKind) (ask : Ask) (answer : Answer) → begins (event_of kind ask answer) ≡ false

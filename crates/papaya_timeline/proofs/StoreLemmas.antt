@@ -197,7 +197,7 @@ module _ {K V S : Type 0} where
 
   module _ (eq : K → K → Bool) (hash : S → K → ℕ) where
     -- what an answered ask of a copier leaves
-    performed_copy : (refuse : Bool) (ask : CopyAsk) (s : StoreState K V S) (a : Chain_answer) (s' : StoreState K V S) → AllSized s.words.tables → IsFitCopyAsk ask → PerformsCopy eq hash refuse ask s a s' → IsKeptAsked a s'
+    pub performed_copy : (refuse : Bool) (ask : CopyAsk) (s : StoreState K V S) (a : Chain_answer) (s' : StoreState K V S) → AllSized s.words.tables → IsFitCopyAsk ask → PerformsCopy eq hash refuse ask s a s' → IsKeptAsked a s'
     performed_copy refuse (copies.Load at) s a s' all fit (e, same) = as_call a _ s' e (quiet _ s s' tt same all)
     performed_copy refuse (copies.Exchange at old new) s a s' all fit (told, is, ex) = as_call a told s' is (exchanged at old new s told s' all ex)
     performed_copy refuse (copies.SizeOf n) s a s' all fit (e, same) = as_call a (size_of (table_of s.words.tables n)) s' e (quiet _ s s' (sized_answer _ s n all refl) same all)

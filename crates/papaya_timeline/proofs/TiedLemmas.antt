@@ -4,9 +4,9 @@ use Rattle.papaya_ask.specs.declared.ask.Ask.{Ask as Call_ask}
 use Rattle.papaya_ask.specs.declared.ask.Ask.TheVariants.{Load, Exchange as Ask_exchange, SameKey, ShowNone, ShowPair, SizeOf, MakeKey, MakePair, MakeTable, AddToShard, Done as Ask_done}
 use Rattle.papaya_ask.specs.declared.ask.Answer.{Answer as Call_answer}
 use Rattle.papaya_ask.specs.declared.call.Call.{Call}
-use Rattle.papaya_ask.specs.declared.call.Call.TheVariants.{Get, Insert, TryInsert, RemoveIf, Compute}
+use Rattle.papaya_ask.specs.declared.call.Call.TheVariants.{Get, Insert, TryInsert, RemoveIf, Compute, Reserve, CopyAll}
 use Rattle.papaya_ask.specs.declared.call.Reply.{Reply}
-use Rattle.papaya_ask.specs.declared.call.Reply.TheVariants.{Absent, Found, Inserted, Replaced, Occupied, Removed, Kept, Aborted, Refused}
+use Rattle.papaya_ask.specs.declared.call.Reply.TheVariants.{Absent, Found, Inserted, Replaced, Occupied, Removed, Kept, Aborted, Done, Refused}
 use Rattle.papaya_ask.specs.declared.call.Task.{Task}
 use Rattle.papaya_ask.specs.declared.call.Task.TheVariants as tasks
 use Rattle.papaya_call.specs.declared.answers.Operation.{Operation}
@@ -36,9 +36,9 @@ use Rattle.papaya_store.specs.declared.pairs.KeyOf.TheVariants.{Own, Logged}
 use Rattle.papaya_store.specs.declared.pairs.Running.{Running}
 use Rattle.papaya_timeline.specs.declared.trace.Entry.{Entry}
 use Rattle.papaya_timeline.specs.declared.trace.Event.{Event}
-use Rattle.papaya_timeline.specs.Begins.{task_of_call}
+use Rattle.papaya_timeline.proofs.Begun.{the_task}
 use Rattle.papaya_timeline.specs.Kept.{Tale, told_tales, setting_of, coding_of}
-use Rattle.papaya_timeline.specs.Maps.{Map, Does, key_of}
+use Rattle.papaya_timeline.specs.Maps.{Map, Does, at_key, key_of}
 use Rattle.papaya_store.specs.Asks.{PerformsAsk}
 use Rattle.papaya_store.specs.Copies.{PerformsCopy}
 use Rattle.papaya_store.specs.Performs.{Performs, own_key, key_at, Stays, LogsKey, LogsPair, Decides, ShowsPair, Refuses, HasKey, HasNoPair}
@@ -193,13 +193,13 @@ module _ {K V S A : Type 0} where
 
 module _ {K V : Type 0} (eq : K → K → Bool) where
   -- each key's moments, after an entry that begins no call of the caller's, and after one exchange more at most
-  pub moments_more : (k : K) (caller : ℕ) (e : Entry) (h : History) (maps : List (Map K V)) (begun since made : List (Exchange (Stored K V))) → (made ≡ []) ⊎ ((x : Exchange (Stored K V)) × (made ≡ x ∷ [])) → is_begin caller e ≡ false
-      → ((so_far rest : List (Exchange (Stored K V))) → so_far ++ rest ≡ since → AtSomeMoment (λ m. m k ≡ replayed eq (replay eq begun) so_far k) caller h maps)
-      → (so_far rest : List (Exchange (Stored K V))) → so_far ++ rest ≡ since ++ made → AtSomeMoment (λ m. m k ≡ replayed eq (replay eq begun) so_far k) caller (e ∷ h) (replay eq ((begun ++ since) ++ made) ∷ maps)
+  pub moments_more : (k : Option K) (caller : ℕ) (e : Entry) (h : History) (maps : List (Map K V)) (begun since made : List (Exchange (Stored K V))) → (made ≡ []) ⊎ ((x : Exchange (Stored K V)) × (made ≡ x ∷ [])) → is_begin caller e ≡ false
+      → ((so_far rest : List (Exchange (Stored K V))) → so_far ++ rest ≡ since → AtSomeMoment (λ m. at_key m k ≡ at_key (replayed eq (replay eq begun) so_far) k) caller h maps)
+      → (so_far rest : List (Exchange (Stored K V))) → so_far ++ rest ≡ since ++ made → AtSomeMoment (λ m. at_key m k ≡ at_key (replayed eq (replay eq begun) so_far) k) caller (e ∷ h) (replay eq ((begun ++ since) ++ made) ∷ maps)
   moments_more k caller e h maps begun since made one no_begin moments so_far rest is =
       ⊎_elim
       (λ part. inr (no_begin, moments so_far part.0 part.1))
-      (λ (whole : so_far ≡ since ++ made). inl (ap (λ m. m k) (replay-three eq begun since made) ∙ ap (λ l. replayed eq (replay eq begun) l k) (sym whole)))
+      (λ (whole : so_far ≡ since ++ made). inl (ap (λ m. at_key m k) (replay-three eq begun since made) ∙ ap (λ l. at_key (replayed eq (replay eq begun) l) k) (sym whole)))
       (beginning-cases so_far rest since made one is)
 
 module _ {K V S A : Type 0} where
@@ -217,7 +217,7 @@ module _ {K V S A : Type 0} where
 module _ {K V A : Type 0} where
   -- what a compute's closure was last shown, its key had at a moment of the call
   abbrev pub WasShownLast : Call K V A → Option ℕ → OpKind → ℕ → History → List (Map K V) → Type 0
-  WasShownLast call shown kind caller h maps = (last_shown caller h ≡ Some (shown, kind)) × AtSomeMoment (λ m. number_in (m (key_of call)) ≡ shown) caller h maps
+  WasShownLast call shown kind caller h maps = (last_shown caller h ≡ Some (shown, kind)) × AtSomeMoment (λ m. number_in (at_key m (key_of call)) ≡ shown) caller h maps
 
   -- A closure may end its call: by an abort, or by a removal where it was shown that there is none.
   pub record IsEnding (task : Task) (call : Call K V A) (reply : Reply) (caller : ℕ) (h : History) (maps : List (Map K V)) : Type 0 where
@@ -237,28 +237,28 @@ module _ {K V A : Type 0} where
 module _ {K V A : Type 0} (eq : K → K → Bool) where
   -- what the key of a call had since its begin, it had at a moment of the call
   abbrev pub Moments : Call K V A → ℕ → Tale K V → History → List (Map K V) → Type 0
-  Moments call caller tale h maps = (so_far rest : List (Exchange (Stored K V))) → so_far ++ rest ≡ tale.since → AtSomeMoment (λ m. m (key_of call) ≡ replayed eq (replay eq tale.begun) so_far (key_of call)) caller h maps
+  Moments call caller tale h maps = (so_far rest : List (Exchange (Stored K V))) → so_far ++ rest ≡ tale.since → AtSomeMoment (λ m. at_key m (key_of call) ≡ at_key (replayed eq (replay eq tale.begun) so_far) (key_of call)) caller h maps
 
-  module _ (call : Call K V A) (caller : ℕ) (tale : Tale K V) (h : History) (maps : List (Map K V)) (hash : K → ℕ) (mode : ResizeMode) (tables : List TableWords) (k : K) (own : k ≡ key_of call) (moments : Moments call caller tale h maps) where
+  module _ (call : Call K V A) (caller : ℕ) (tale : Tale K V) (h : History) (maps : List (Map K V)) (hash : K → ℕ) (mode : ResizeMode) (tables : List TableWords) (k : K) (own : Some k ≡ key_of call) (moments : Moments call caller tale h maps) where
     -- so what a machine rests on of a moment was so at a moment of the run
-    pub at_moment : (v : Option (Stored K V)) → WasAtMoment (setting_of eq hash mode tables) (coding_of hash) tale.begun tale.since k v → AtSomeMoment (λ m. m (key_of call) ≡ v) caller h maps
+    pub at_moment : (v : Option (Stored K V)) → WasAtMoment (setting_of eq hash mode tables) (coding_of hash) tale.begun tale.since k v → AtSomeMoment (λ m. at_key m (key_of call) ≡ v) caller h maps
     at_moment v was =
-        let value : replayed eq (replay eq tale.begun) was.so_far (key_of call) ≡ v =
-        ap (replayed eq (replay eq tale.begun) was.so_far) (sym own)
+        let value : at_key (replayed eq (replay eq tale.begun) was.so_far) (key_of call) ≡ v =
+        ap (at_key (replayed eq (replay eq tale.begun) was.so_far)) (sym own)
         ∙ ap (λ m. replayed eq m was.so_far k) (sym (map_replayed eq hash mode tables tale.begun (λ j. None)))
         ∙ ap (λ m. m k) (sym (map_replayed eq hash mode tables was.so_far _))
         ∙ was.value_is in
-        at_weaker (λ m. m (key_of call) ≡ replayed eq (replay eq tale.begun) was.so_far (key_of call)) (λ m. m (key_of call) ≡ v) caller h maps (λ m e. e ∙ value) (moments was.so_far was.rest was.is)
+        at_weaker (λ m. at_key m (key_of call) ≡ at_key (replayed eq (replay eq tale.begun) was.so_far) (key_of call)) (λ m. at_key m (key_of call) ≡ v) caller h maps (λ m e. e ∙ value) (moments was.so_far was.rest was.is)
 
     -- a reply that leaves what its key had then
-    pub at_answer : (v : Option (Stored K V)) (reply : Reply) → Does call v reply v → WasAtMoment (setting_of eq hash mode tables) (coding_of hash) tale.begun tale.since k v → AtSomeMoment (λ m. Does call (m (key_of call)) reply (m (key_of call))) caller h maps
+    pub at_answer : (v : Option (Stored K V)) (reply : Reply) → Does call v reply v → WasAtMoment (setting_of eq hash mode tables) (coding_of hash) tale.begun tale.since k v → AtSomeMoment (λ m. Does call (at_key m (key_of call)) reply (at_key m (key_of call))) caller h maps
     at_answer v reply does was =
-        at_weaker (λ m. m (key_of call) ≡ v) (λ m. Does call (m (key_of call)) reply (m (key_of call))) caller h maps (λ m e. subst (λ y. Does call y reply y) (sym e) does) (at_moment v was)
+        at_weaker (λ m. at_key m (key_of call) ≡ v) (λ m. Does call (at_key m (key_of call)) reply (at_key m (key_of call))) caller h maps (λ m e. subst (λ y. Does call y reply y) (sym e) does) (at_moment v was)
 
     -- and what a closure is shown of it
-    at_number : (v : Option (Stored K V)) (shown : Option ℕ) → number_in v ≡ shown → WasAtMoment (setting_of eq hash mode tables) (coding_of hash) tale.begun tale.since k v → AtSomeMoment (λ m. number_in (m (key_of call)) ≡ shown) caller h maps
+    at_number : (v : Option (Stored K V)) (shown : Option ℕ) → number_in v ≡ shown → WasAtMoment (setting_of eq hash mode tables) (coding_of hash) tale.begun tale.since k v → AtSomeMoment (λ m. number_in (at_key m (key_of call)) ≡ shown) caller h maps
     at_number v shown number was =
-        at_weaker (λ m. m (key_of call) ≡ v) (λ m. number_in (m (key_of call)) ≡ shown) caller h maps (λ m e. ap (λ (o : Option (Stored K V)). number_in o) e ∙ number) (at_moment v was)
+        at_weaker (λ m. at_key m (key_of call) ≡ v) (λ m. number_in (at_key m (key_of call)) ≡ shown) caller h maps (λ m e. ap (λ (o : Option (Stored K V)). number_in o) e ∙ number) (at_moment v was)
 
     pub at_showing : (p : Stored K V) (n : ℕ) → p.number ≡ n → WasAtMoment (setting_of eq hash mode tables) (coding_of hash) tale.begun tale.since k (Some p) → FitsShown eq (Some call) (Some n) caller h maps
     at_showing p n number was = (at_number (Some p) (Some n) (ap Some number) was, tt)
@@ -273,7 +273,9 @@ module _ {K V A : Type 0} (eq : K → K → Bool) where
         → ((n : ℕ) (k : K) → slice_get s.keys n ≡ Some k → slice_get s'.keys n ≡ Some k) → KeepsPairs s s' → (made ≡ []) ⊎ ((x : Exchange (Stored K V)) × (made ≡ x ∷ [])) → c ≢ d → (tales d).begun ++ (tales d).since ≡ es
         → IsTied eq s r call d (tales d) h maps answers → IsTied eq s' r call d (told_tales tales c made hands d) (entry turn c event ∷ h) (replay eq (es ++ made) ∷ maps) (o ∷ answers)
     tied_other s s' r call c d turn event tales made hands h es maps o answers keys pairs one differ split tied = record {
-      key = own_key_stays s s' r (key_of call) keys tied.key;
+      own = tied.own;
+      key = own_key_stays s s' r tied.own keys tied.key;
+      key_is = tied.key_is;
       task = tied.task;
       value = tied.value;
       made = λ q one. tied.made q (subst (λ (y : Hands (Stored K V)). IsOneOf y.call.made q) (ap (λ b. cond b hands (tales d).hands) (differs d c (λ z. differ (sym z)))) one);
@@ -281,7 +283,7 @@ module _ {K V A : Type 0} (eq : K → K → Bool) where
       said = λ said stands. said-other s s' r c d turn event h o answers pairs differ said (tied.said said stands);
       shows = tied.shows;
       once = λ e. tied.once (sym (was_shown_none-other c d turn event h differ) ∙ e);
-      moments = subst (λ (l : List (Exchange (Stored K V))). (so_far rest : List (Exchange (Stored K V))) → so_far ++ rest ≡ (tales d).since ++ made → AtSomeMoment (λ m. m (key_of call) ≡ replayed eq (replay eq (tales d).begun) so_far (key_of call)) d (entry turn c event ∷ h) (replay eq (l ++ made) ∷ maps)) split
+      moments = subst (λ (l : List (Exchange (Stored K V))). (so_far rest : List (Exchange (Stored K V))) → so_far ++ rest ≡ (tales d).since ++ made → AtSomeMoment (λ m. at_key m (key_of call) ≡ at_key (replayed eq (replay eq (tales d).begun) so_far) (key_of call)) d (entry turn c event ∷ h) (replay eq (l ++ made) ∷ maps)) split
           (moments_more eq (key_of call) d (entry turn c event) h maps (tales d).begun (tales d).since made one (not_begin-other c d turn event differ) tied.moments);
     }
 
@@ -289,7 +291,9 @@ module _ {K V A : Type 0} (eq : K → K → Bool) where
     pub tied_entry : (s s' : StoreState K V S) (r : Running K V A) (call : Call K V A) (c d turn : ℕ) (event : Event) (tale : Tale K V) (h : History) (m : Map K V) (maps : List (Map K V)) (o : Option (Operation V ℕ)) (answers : Answered V) → s' ≡ s → c ≢ d
         → IsTied eq s r call d tale h maps answers → IsTied eq s' r call d tale (entry turn c event ∷ h) (m ∷ maps) (o ∷ answers)
     tied_entry s s' r call c d turn event tale h m maps o answers same differ tied = record {
+      own = tied.own;
       key = ap (λ (y : StoreState K V S). own_key y r) same ∙ tied.key;
+      key_is = tied.key_is;
       task = tied.task;
       value = tied.value;
       made = tied.made;
@@ -301,7 +305,7 @@ module _ {K V A : Type 0} (eq : K → K → Bool) where
     }
 
     -- where the machine asks no more, its reply fits
-    pub tied_fits : (s : StoreState K V S) (r : Running K V A) (call : Call K V A) (caller : ℕ) (tale : Tale K V) (h : History) (maps : List (Map K V)) (answers : Answered V) (hash : K → ℕ) (mode : ResizeMode) (tables : List TableWords) (k : K) → k ≡ key_of call
+    pub tied_fits : (s : StoreState K V S) (r : Running K V A) (call : Call K V A) (caller : ℕ) (tale : Tale K V) (h : History) (maps : List (Map K V)) (answers : Answered V) (hash : K → ℕ) (mode : ResizeMode) (tables : List TableWords) (k : K) → Some k ≡ key_of call
         → IsTied eq s r call caller tale h maps answers → Rests (setting_of eq hash mode tables) (coding_of hash) tale.begun tale.since k r.machine tale.hands → (reply : Reply) → ask_of r.machine ≡ asks.Call (Ask_done reply) → IsEnding r.machine.call.task call reply caller h maps → Fits eq call reply caller h maps
     tied_fits s r call caller tale h maps answers hash mode tables k own tied rests reply done ending =
         let replied = (own_asks r.machine (Ask_done reply) done).1 in
@@ -310,14 +314,15 @@ module _ {K V A : Type 0} (eq : K → K → Bool) where
         (λ said e. tied.said said (inl (machine_says r.machine.call reply replied ∙ ap (λ t. said_in_reply t reply) tied.task ∙ e)))
         (subst (λ t. IsEnding t call reply caller h maps) tied.task ending) tied.moments
       where
-        answer : (call : Call K V A) (v : Option (Stored K V)) (reply : Reply) → k ≡ key_of call → Moments call caller tale h maps → Does call v reply v → WasAtMoment (setting_of eq hash mode tables) (coding_of hash) tale.begun tale.since k v → AtSomeMoment (λ m. Does call (m (key_of call)) reply (m (key_of call))) caller h maps
+        answer : (call : Call K V A) (v : Option (Stored K V)) (reply : Reply) → Some k ≡ key_of call → Moments call caller tale h maps → Does call v reply v → WasAtMoment (setting_of eq hash mode tables) (coding_of hash) tale.begun tale.since k v → AtSomeMoment (λ m. Does call (at_key m (key_of call)) reply (at_key m (key_of call))) caller h maps
         answer call v reply own moments = at_answer call caller tale h maps hash mode tables k own moments v reply
 
         -- only a compute may remove nothing
         no_compute : (task : Task) (call : Call K V A) (refused : Refusal) (X : Type 0) → (task ≡ tasks.Compute → ⊥) → IsEnding task call (Refused refused) caller h maps → refused ≡ RemoveNothing → X
         no_compute task call refused X other ending is = absurd (other (ending.nothing (ap Refused is)).0)
 
-        by_reply : (call : Call K V A) (reply : Reply) → k ≡ key_of call → IsReply (setting_of eq hash mode tables) (coding_of hash) tale.begun tale.since k tale.hands.call (task_of_call call) reply → change_of caller h ≡ change_of_reply reply → SaidForReply s r (task_of_call call) reply caller h answers → IsEnding (task_of_call call) call reply caller h maps → Moments call caller tale h maps → Fits eq call reply caller h maps
+        by_reply : (call : Call K V A) (reply : Reply) → Some k ≡ key_of call → IsReply (setting_of eq hash mode tables) (coding_of hash) tale.begun tale.since k tale.hands.call (the_task call) reply → change_of caller h ≡ change_of_reply reply → SaidForReply s r (the_task call) reply caller h answers → IsEnding (the_task call) call reply caller h maps → Moments call caller tale h maps → Fits eq call reply caller h maps
+        by_reply (Get j) Done own is change said ending moments = absurd is
         by_reply (Get j) Absent own is change said ending moments = (change, answer (Get j) None Absent own moments refl is)
         by_reply (Get j) (Found n) own (p, number, was) change said ending moments = (change, answer (Get j) (Some p) (Found n) own moments (number, refl) was)
         by_reply (Get j) (Inserted n) own is change said ending moments = absurd is
@@ -327,6 +332,7 @@ module _ {K V A : Type 0} (eq : K → K → Bool) where
         by_reply (Get j) (Kept n) own is change said ending moments = absurd is
         by_reply (Get j) (Aborted t) own is change said ending moments = absurd is
         by_reply (Get j) (Refused refused) own is change said ending moments = absurd is
+        by_reply (Insert j v) Done own is change said ending moments = absurd is
         by_reply (Insert j v) Absent own is change said ending moments = absurd is
         by_reply (Insert j v) (Found n) own is change said ending moments = absurd is
         by_reply (Insert j v) (Inserted n) own is change said ending moments = change
@@ -336,6 +342,7 @@ module _ {K V A : Type 0} (eq : K → K → Bool) where
         by_reply (Insert j v) (Kept n) own is change said ending moments = absurd is
         by_reply (Insert j v) (Aborted t) own is change said ending moments = absurd is
         by_reply (Insert j v) (Refused refused) own is change said ending moments = (change, no_compute (tasks.Insert true) (Insert j v) refused _ (λ same. let f : tasks.Insert true ≡ tasks.Compute = same in absurd cc) ending)
+        by_reply (TryInsert j v) Done own is change said ending moments = absurd is
         by_reply (TryInsert j v) Absent own is change said ending moments = absurd is
         by_reply (TryInsert j v) (Found n) own is change said ending moments = absurd is
         by_reply (TryInsert j v) (Inserted n) own is change said ending moments = change
@@ -345,6 +352,7 @@ module _ {K V A : Type 0} (eq : K → K → Bool) where
         by_reply (TryInsert j v) (Kept n) own is change said ending moments = absurd is
         by_reply (TryInsert j v) (Aborted t) own is change said ending moments = absurd is
         by_reply (TryInsert j v) (Refused refused) own is change said ending moments = (change, no_compute (tasks.Insert false) (TryInsert j v) refused _ (λ same. let f : tasks.Insert false ≡ tasks.Compute = same in absurd cc) ending)
+        by_reply (RemoveIf j a) Done own is change said ending moments = absurd is
         by_reply (RemoveIf j a) Absent own is change said ending moments = (change, answer (RemoveIf j a) None Absent own moments refl is)
         by_reply (RemoveIf j a) (Found n) own is change said ending moments = absurd is
         by_reply (RemoveIf j a) (Inserted n) own is change said ending moments = absurd is
@@ -354,6 +362,7 @@ module _ {K V A : Type 0} (eq : K → K → Bool) where
         by_reply (RemoveIf j a) (Kept n) own (p, number, was) change said ending moments = ((change, answer (RemoveIf j a) (Some p) (Kept n) own moments (number, refl) was), said (Agrees n false) refl)
         by_reply (RemoveIf j a) (Aborted t) own is change said ending moments = absurd is
         by_reply (RemoveIf j a) (Refused refused) own is change said ending moments = (change, no_compute tasks.RemoveIf (RemoveIf j a) refused _ (λ same. let f : tasks.RemoveIf ≡ tasks.Compute = same in absurd cc) ending)
+        by_reply (Compute j a) Done own is change said ending moments = absurd is
         by_reply (Compute j a) Absent own is change said ending moments = absurd is
         by_reply (Compute j a) (Found n) own is change said ending moments = absurd is
         by_reply (Compute j a) (Inserted n) own is change said ending moments = change
@@ -370,3 +379,5 @@ module _ {K V A : Type 0} (eq : K → K → Bool) where
               let (computes, (last, at)) = ending.nothing (ap Refused nothing) in
               (last, at_weaker (λ m. number_in (m j) ≡ None) (λ m. (number_in (m j) ≡ None) × Does (Compute j a) (m j) (Refused RemoveNothing) (m j)) caller h maps (λ m e. (e, nothing_does j a (m j) e)) at),
         )
+        by_reply (Reserve more) reply own is change said ending moments = let f : Some k ≡ None = own in absurd cc
+        by_reply CopyAll reply own is change said ending moments = let f : Some k ≡ None = own in absurd cc

@@ -3,23 +3,22 @@ use Rattle.std.specs.Prelude.{◌≡◌, ℕ, ◌<◌, ◌^◌, true, false, Opt
 use Rattle.std.specs.Int.{IsPowerOfTwo}
 use Rattle.papaya_words.specs.declared.probe.ResizeMode.{ResizeMode}
 use Rattle.papaya_ask.specs.declared.call.Call.{Call}
-use Rattle.papaya_ask.specs.declared.call.Call.TheVariants.{Get, Insert, TryInsert, RemoveIf, Compute}
+use Rattle.papaya_ask.specs.declared.call.Call.TheVariants.{Get, Insert, TryInsert, RemoveIf, Compute, Reserve, CopyAll}
 use Rattle.papaya_ask.specs.declared.call.Task.{Task}
-use Rattle.papaya_ask.specs.declared.call.Task.TheVariants.{Get as Get_task, Insert as Insert_task, RemoveIf as RemoveIf_task, Compute as Compute_task}
+use Rattle.papaya_ask.specs.declared.call.Task.TheVariants as tasks
+use Rattle.papaya_chain.specs.declared.resizer.Resize.{Resize}
+use Rattle.papaya_chain.specs.declared.resizer.Resize.TheVariants as resizes
 use Rattle.papaya_chain.specs.Machine.{started}
+use Rattle.papaya_chain.specs.Resizer as resizer
 use Rattle.papaya_store.specs.declared.pairs.KeyOf.TheVariants.{Own}
 use Rattle.papaya_store.specs.declared.pairs.Running.{Running}
-use Rattle.papaya_timeline.specs.Callers.{with_call, with_seat}
+use Rattle.papaya_timeline.specs.declared.seat.Work.{Work}
+use Rattle.papaya_timeline.specs.declared.seat.Work.TheVariants as works
+use Rattle.papaya_timeline.specs.Callers.{with_seat, with_work}
 use Rattle.papaya_timeline.specs.Core.{CoreState}
+use Rattle.papaya_timeline.specs.Maps.{key_of}
 
--- the key that a call was handed, its value, its closure's answers, and its task
-abbrev pub key_of_call : {K V A : Type 0} → Call K V A → K
-key_of_call (Get k) = k
-key_of_call (Insert k v) = k
-key_of_call (TryInsert k v) = k
-key_of_call (RemoveIf k a) = k
-key_of_call (Compute k a) = k
-
+-- the value that a call was handed, its closure's answers, and its task
 abbrev pub value_of_call : {K V A : Type 0} → Call K V A → Option V
 value_of_call (Insert k v) = Some v
 value_of_call (TryInsert k v) = Some v
@@ -30,32 +29,48 @@ answers_of_call (RemoveIf k a) = Some a
 answers_of_call (Compute k a) = Some a
 answers_of_call _ = None
 
-abbrev pub task_of_call : {K V A : Type 0} → Call K V A → Task
-task_of_call (Get k) = Get_task
-task_of_call (Insert k v) = Insert_task true
-task_of_call (TryInsert k v) = Insert_task false
-task_of_call (RemoveIf k a) = RemoveIf_task
-task_of_call (Compute k a) = Compute_task
+abbrev pub task_of_call : {K V A : Type 0} → Call K V A → Option Task
+task_of_call (Get k) = Some tasks.Get
+task_of_call (Insert k v) = Some (tasks.Insert true)
+task_of_call (TryInsert k v) = Some (tasks.Insert false)
+task_of_call (RemoveIf k a) = Some tasks.RemoveIf
+task_of_call (Compute k a) = Some tasks.Compute
+task_of_call _ = None
 
--- a call as it begins
-abbrev pub begun : {K V A : Type 0} → (K → ℕ) → ResizeMode → ℕ → Call K V A → Running K V A
-begun hash mode initial call =
-    record {
-      machine = started (task_of_call call) (hash (key_of_call call)) mode initial;
-      key = Own (key_of_call call);
-      value = value_of_call call;
-      answers = answers_of_call call;
-    }
+module _ {K V A : Type 0} (hash : K → ℕ) (mode : ResizeMode) (initial : ℕ) where
+  -- a call on this key as it begins
+  abbrev pub begun : Task → K → Option V → Option A → Running K V A
+  begun task key value answers =
+      record {
+        machine = started task (hash key) mode initial;
+        key = Own key;
+        value = value;
+        answers = answers;
+      }
+
+  -- a call that resizes the map as it begins
+  abbrev pub resizer_begun : Resize → Work K V A
+  resizer_begun resize = works.Resize (resizer.begun resize mode initial)
+
+  -- a call as it begins
+  abbrev pub begun_work : Call K V A → Work K V A
+  begun_work (Get k) = works.Call (begun tasks.Get k None None)
+  begun_work (Insert k v) = works.Call (begun (tasks.Insert true) k (Some v) None)
+  begun_work (TryInsert k v) = works.Call (begun (tasks.Insert false) k (Some v) None)
+  begun_work (RemoveIf k a) = works.Call (begun tasks.RemoveIf k None (Some a))
+  begun_work (Compute k a) = works.Call (begun tasks.Compute k None (Some a))
+  begun_work (Reserve more) = resizer_begun (resizes.Reserve more)
+  begun_work CopyAll = resizer_begun resizes.CopyAll
 
 -- a begin changes no word, no log and no other caller's call
 pub record Begins {K V S A : Type 0} (hash : K → ℕ) (s : CoreState K V S A) (caller : ℕ)
     (call : Call K V A) (s' : CoreState K V S A) : Type 0 where
   pub store : s'.store ≡ s.store
-  pub callers : s'.callers ≡ with_call (with_seat s.callers caller) caller
-      (Some (begun hash s.mode s.initial call))
+  pub callers : s'.callers ≡ with_work (with_seat s.callers caller) caller
+      (Some (begun_work hash s.mode s.initial call))
   pub mode : s'.mode ≡ s.mode
   pub initial : s'.initial ≡ s.initial
-  -- the key's hash has 64 bits
-  pub fits : hash (key_of_call call) < 2 ^ 64
+  -- the hash of its key, if it has one, has 64 bits
+  pub fits : (k : K) → key_of call ≡ Some k → hash k < 2 ^ 64
   -- a table is made by an initial capacity that is a length of tables
   pub power : IsPowerOfTwo s.initial

@@ -1,28 +1,60 @@
--- The calls that callers have under way.
+-- The calls that callers have under way: on one key, or to resize the map.
 use Rattle.std.specs.Prelude.{◌≡◌, ◌≢◌, ℕ, ◌<◌, ◌≤◌, ◌==◌, if◌then◌else◌, List, [], ◌∷◌, length, Option, Some, None, slice_get}
 use Rattle.papaya_store.specs.declared.pairs.Running.{Running}
 use Rattle.papaya_timeline.specs.declared.seat.Seat.{Seat}
+use Rattle.papaya_chain.specs.declared.resizer.Resizer.{Resizer}
+use Rattle.papaya_timeline.specs.declared.seat.Work.{Work}
+use Rattle.papaya_timeline.specs.declared.seat.Work.TheVariants.{Call, Resize}
 
 module _ {K V A : Type 0} where
-  -- the call that a caller has under way
+  -- the call on one key that is under way, if one is
+  abbrev pub call_in : Option (Work K V A) → Option (Running K V A)
+  call_in None = None
+  call_in (Some (Call r)) = Some r
+  call_in (Some (Resize resizer)) = None
+
+  -- the call that resizes the map, if one is under way
+  abbrev pub resizer_in : Option (Work K V A) → Option Resizer
+  resizer_in None = None
+  resizer_in (Some (Call r)) = None
+  resizer_in (Some (Resize resizer)) = Some resizer
+
+  -- what a caller has under way
+  abbrev pub working : List (Seat K V A) → ℕ → Option (Work K V A)
+  working [] caller = None
+  working (seat ∷ seats) caller = if seat.caller == caller then seat.work else working seats caller
+
+  -- the call on one key that a caller has under way
   abbrev pub running : List (Seat K V A) → ℕ → Option (Running K V A)
-  running [] caller = None
-  running (seat ∷ seats) caller = if seat.caller == caller then seat.call else running seats caller
+  running seats caller = call_in (working seats caller)
+
+  -- the call that resizes the map, which a caller has under way
+  abbrev pub resizing : List (Seat K V A) → ℕ → Option Resizer
+  resizing seats caller = resizer_in (working seats caller)
 
   -- the caller has a seat
   abbrev pub IsSeated : List (Seat K V A) → ℕ → Type 0
   IsSeated seats caller = (place : ℕ) × (seat : Seat K V A) × (slice_get seats place ≡ Some seat)
       × (seat.caller ≡ caller)
 
-  -- the seats, with this call in that of the caller
+  -- the seats, with this work in that of the caller
+  abbrev pub with_work : List (Seat K V A) → ℕ → Option (Work K V A) → List (Seat K V A)
+  with_work [] caller work = []
+  with_work (seat ∷ seats) caller work = if seat.caller == caller
+      then record seat { work = work } ∷ seats else seat ∷ with_work seats caller work
+
+  -- a call on one key, as work
+  abbrev pub as_work : Option (Running K V A) → Option (Work K V A)
+  as_work None = None
+  as_work (Some r) = Some (Call r)
+
+  -- the seats, with this call on one key in that of the caller
   abbrev pub with_call : List (Seat K V A) → ℕ → Option (Running K V A) → List (Seat K V A)
-  with_call [] caller call = []
-  with_call (seat ∷ seats) caller call = if seat.caller == caller
-      then record seat { call = call } ∷ seats else seat ∷ with_call seats caller call
+  with_call seats caller call = with_work seats caller (as_work call)
 
   -- the seats, with one for the caller
   abbrev pub with_seat : List (Seat K V A) → ℕ → List (Seat K V A)
-  with_seat [] caller = record { caller = caller; call = None } ∷ []
+  with_seat [] caller = record { caller = caller; work = None } ∷ []
   with_seat (seat ∷ seats) caller = if seat.caller == caller then seat ∷ seats
       else seat ∷ with_seat seats caller
 

@@ -1,5 +1,5 @@
 -- What the core holds, and what always holds of it.
-use Rattle.std.specs.Prelude.{◌≡◌, ℕ, List, Option, Some, length}
+use Rattle.std.specs.Prelude.{◌≡◌, ℕ, List, None, Option, Some, length}
 use Rattle.papaya_words.specs.Table.{TableWords}
 use Rattle.papaya_words.specs.declared.probe.ResizeMode.{ResizeMode}
 use Rattle.papaya_ask.specs.Search.{IsSize}
@@ -11,7 +11,10 @@ use Rattle.papaya_chain.specs.declared.machine.Machine.{Machine}
 use Rattle.papaya_chain.specs.Machine.{IsStanding, ask_of}
 use Rattle.papaya_store.specs.declared.pairs.Running.{Running}
 use Rattle.papaya_timeline.specs.declared.seat.Seat.{Seat}
-use Rattle.papaya_timeline.specs.Callers.{running}
+use Rattle.papaya_timeline.specs.Callers.{resizing, running, working}
+use Rattle.papaya_timeline.specs.declared.seat.Work.{Work}
+use Rattle.papaya_chain.specs.declared.resizer.Resizer.{Resizer}
+use Rattle.papaya_chain.specs.Resizer.{IsStandingResizer, reply_of}
 use Rattle.papaya_store.specs.Tables.{table_of}
 use Rattle.papaya_store.specs.Store.{StoreState}
 
@@ -23,7 +26,11 @@ pub record CoreState (K V S A : Type 0) : Type 0 where
   pub mode : ResizeMode
   pub initial : ℕ
 
--- the call that a caller has under way
+-- what a caller has under way
+abbrev pub work_of : {K V S A : Type 0} → CoreState K V S A → ℕ → Option (Work K V A)
+work_of s caller = working s.callers caller
+
+-- the call on one key that a caller has under way
 abbrev pub call_of : {K V S A : Type 0} → CoreState K V S A → ℕ → Option (Running K V A)
 call_of s caller = running s.callers caller
 
@@ -31,8 +38,8 @@ call_of s caller = running s.callers caller
 abbrev pub IsGoing : Machine → Type 0
 IsGoing m = (reply : Reply) → ask_of m ≡ Call (Ask_done reply) → ⊥
 
--- each table has the size of a table, each machine stands within its table, and no call under way
--- has replied
+-- each table has the size of a table, each machine and each resizer stands within its tables, and no
+-- call under way has replied
 pub record IsCore {K V S A : Type 0} (store : StoreState K V S) (callers : List (Seat K V A))
     (mode : ResizeMode) : Type 0 where
   pub chunked : IsChunked mode
@@ -41,3 +48,5 @@ pub record IsCore {K V S A : Type 0} (store : StoreState K V S) (callers : List 
   pub standing : (caller : ℕ) (r : Running K V A) → running callers caller ≡ Some r
       → IsStanding r.machine
   pub going : (caller : ℕ) (r : Running K V A) → running callers caller ≡ Some r → IsGoing r.machine
+  pub resizers : (caller : ℕ) (resizer : Resizer) → resizing callers caller ≡ Some resizer
+      → IsStandingResizer resizer × (reply_of resizer ≡ None)

@@ -5,12 +5,13 @@ use Rattle.papaya_chain.specs.Machine.{ask_of}
 use Rattle.papaya_chain_rests.specs.Goes as calls
 use Rattle.papaya_store.specs.declared.pairs.Running.{Running}
 use Rattle.papaya_timeline.specs.declared.seat.Seat.{Seat}
+use Rattle.papaya_timeline.specs.Callers.{call_in}
 use Rattle.papaya_timeline.specs.Content.{content}
 use Rattle.papaya_store.specs.Store.{StoreState}
 
 module _ {K V A : Type 0} where
-  -- what a call under way has yet to add to the count, for a change that it made; 0 where there is
-  -- no call
+  -- what a call on one key has yet to add to the count, for a change that it made; 0 where there is
+  -- no such call
   abbrev pub owed_of : Option (Running K V A) → ℤ
   owed_of None = pos 0
   owed_of (Some r) = calls.owed_in (ask_of r.machine)
@@ -18,7 +19,7 @@ module _ {K V A : Type 0} where
   -- what all calls under way have yet to add
   abbrev pub owed_in : List (Seat K V A) → ℤ
   owed_in [] = pos 0
-  owed_in (seat ∷ seats) = owed_of seat.call +ℤ owed_in seats
+  owed_in (seat ∷ seats) = owed_of (call_in seat.work) +ℤ owed_in seats
 
 -- The sum of the shards, with what is yet to be added, is the number of pairs in the map. A sum is
 -- one of 64 bits.

@@ -19,6 +19,7 @@ use Rattle.papaya_store.specs.declared.pairs.KeyOf.TheVariants.{Own, Logged}
 use Rattle.papaya_store.specs.declared.pairs.Running.{Running}
 use Rattle.papaya_store.specs.Store.{StoreState}
 use Rattle.papaya_store.specs.Tables.{Tables, word_at}
+use Rattle.papaya_timeline.specs.declared.seat.Work.TheVariants.{Call}
 use Rattle.papaya_timeline.specs.Core.{CoreState}
 use Rattle.papaya_timeline.specs.Kept.{IsLawfulCore}
 
@@ -89,7 +90,7 @@ pub record IsMaker {K V A : Type 0} (r : Running K V A) : Type 0 where
 -- still, and it has what it is to make.
 pub record IsLone {K V S A : Type 0} (eq : K → K → Bool) (hash : S → K → ℕ)
     (s : CoreState K V S A) (r : Running K V A) : Type 0 where
-  pub callers : s.callers ≡ record { caller = 0; call = Some r } ∷ []
+  pub callers : s.callers ≡ record { caller = 0; work = Some (Call r) } ∷ []
   pub lawful : IsLawfulCore eq (hash s.store.hasher) s.store s.callers s.mode
   pub maker : IsMaker r
   pub current : IsCurrent (word_at s.store.words) r.machine

@@ -24,7 +24,10 @@ use Rattle.papaya_rests.specs.Rests.{change_in}
 use Rattle.papaya_rests.specs.Told.{IsOneOf, word_of}
 use Rattle.papaya_store.specs.declared.pairs.Running.{Running}
 use Rattle.papaya_timeline.specs.declared.seat.Seat.{Seat}
-use Rattle.papaya_timeline.specs.Callers.{running}
+use Rattle.papaya_timeline.specs.Callers.{resizing, running}
+use Rattle.papaya_chain.specs.declared.resizer.Resizer.{Resizer}
+use Rattle.papaya_chain.specs.declared.resizer.State.TheVariants.{Opening}
+use Rattle.papaya_chain_rests.specs.Resizers.{HasLink, RestsResizer}
 use Rattle.papaya_timeline.specs.Core.{IsCore}
 use Rattle.papaya_store.specs.Performs.{own_key}
 use Rattle.papaya_store.specs.Store.{StoreState, Stored, pair_of}
@@ -75,6 +78,19 @@ module _ {K V S : Type 0} (store : StoreState K V S) where
   abbrev pub IsMade : ℕ → Type 0
   IsMade t = (words : TableWords) × (table_of store.words.tables t ≡ Some words)
 
+module _ {K V S : Type 0} (eq : K → K → Bool) (hash : K → ℕ) (mode : ResizeMode)
+    (store : StoreState K V S) where
+  -- a call that resizes the map rests on what is told of it, after the exchanges es
+  pub record IsResizing (resizer : Resizer) (es : List (Exchange (Stored K V)))
+      (tale : Tale K V) : Type 0 where
+    pub rests : RestsResizer (setting_of eq (low hash) mode store.words.tables)
+        (coding_of (low hash)) (run es start) resizer tale.hands
+    pub last : (p : Stored K V) → tale.hands.call.last ≡ Some p → IsLogged store p
+    pub carried : (p : Stored K V) → tale.hands.kept ≡ Some p → IsLogged store p
+    -- the table that it is about to open or to link was made
+    pub opens : (t : ℕ) → resizer.state ≡ Opening t → IsMade store t
+    pub links : (behind t : ℕ) → HasLink resizer.state (Linking behind t) → IsMade store t
+
 module _ {K V S A : Type 0} (eq : K → K → Bool) (hash : K → ℕ) (mode : ResizeMode)
     (store : StoreState K V S) where
   -- a call under way rests on what is told of it, after the exchanges es
@@ -116,6 +132,8 @@ module _ {K V S A : Type 0} (eq : K → K → Bool) (hash : K → ℕ) (mode : R
     pub tables_few : length store.words.tables ≤ MAX_TABLES
     pub calls : (caller : ℕ) (r : Running K V A) → running callers caller ≡ Some r
         → IsCall r es (tales caller)
+    pub resizers : (caller : ℕ) (resizer : Resizer) → resizing callers caller ≡ Some resizer
+        → IsResizing eq hash mode store resizer es (tales caller)
     -- two calls make two pairs
     pub apart : (c d : ℕ) (r q : Running K V A) → running callers c ≡ Some r
         → running callers d ≡ Some q → c ≢ d → (p p' : Stored K V) → IsOneOf (tales c).hands.call.made p

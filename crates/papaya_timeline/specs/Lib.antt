@@ -11,6 +11,8 @@ pub mod Kept
 pub mod Maps
 pub mod Moves
 pub mod New
+pub mod Resized
+pub mod Resizes
 pub mod Runs
 pub mod Solo
 pub mod Timeline

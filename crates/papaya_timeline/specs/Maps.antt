@@ -1,7 +1,7 @@
 -- Stored pairs, finite maps, and what each call on one key replies and changes.
 use Rattle.std.specs.Prelude.{◌≡◌, ℕ, Bool, true, false, Option, None, Some}
 use Rattle.papaya_ask.specs.declared.call.Call.{Call}
-use Rattle.papaya_ask.specs.declared.call.Call.TheVariants.{Get, Insert, TryInsert, RemoveIf, Compute}
+use Rattle.papaya_ask.specs.declared.call.Call.TheVariants.{Get, Insert, TryInsert, RemoveIf, Compute, Reserve, CopyAll}
 use Rattle.papaya_ask.specs.declared.call.Reply.{Reply}
 use Rattle.papaya_ask.specs.declared.call.Reply.TheVariants.{Absent, Found, Inserted, Replaced, Occupied, Removed, Kept, Aborted, Refused}
 use Rattle.papaya_words.specs.declared.probe.Refused.TheVariants.{RemoveNothing}
@@ -11,13 +11,20 @@ use Rattle.papaya_store.specs.Store.{Stored}
 abbrev pub Map : (K V : Type 0) → Type 0
 Map K V = K → Option (Stored K V)
 
--- the key of a call
-abbrev pub key_of : {K V A : Type 0} → Call K V A → K
-key_of (Get k) = k
-key_of (Insert k v) = k
-key_of (TryInsert k v) = k
-key_of (RemoveIf k a) = k
-key_of (Compute k a) = k
+-- the key of a call, where it has one: a call that resizes the map has none
+abbrev pub key_of : {K V A : Type 0} → Call K V A → Option K
+key_of (Get k) = Some k
+key_of (Insert k v) = Some k
+key_of (TryInsert k v) = Some k
+key_of (RemoveIf k a) = Some k
+key_of (Compute k a) = Some k
+key_of (Reserve more) = None
+key_of CopyAll = None
+
+-- what the class of this key has, where there is a key
+abbrev pub at_key : {K V : Type 0} → Map K V → Option K → Option (Stored K V)
+at_key m None = None
+at_key m (Some k) = m k
 
 module _ {K V : Type 0} where
   -- a pair of this number that was made of the key and the value that the call was handed
@@ -64,3 +71,9 @@ pub record IsUpdate {K V : Type 0} (eq : K → K → Bool) (k : K) (old new : Op
   pub before : m k ≡ old
   pub class : (j : K) → eq j k ≡ true → m' j ≡ new
   pub others : (j : K) → eq j k ≡ false → m' j ≡ m j
+
+-- the same of the class of a call's key, where it has one
+abbrev pub IsUpdateBy : {K V : Type 0} → (K → K → Bool) → Option K → (old new : Option (Stored K V))
+    → (m m' : Map K V) → Type 0
+IsUpdateBy eq None old new m m' = ⊥
+IsUpdateBy eq (Some k) old new m m' = IsUpdate eq k old new m m'

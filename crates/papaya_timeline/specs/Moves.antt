@@ -10,7 +10,7 @@ use Rattle.papaya_timeline.specs.declared.trace.Event.TheVariants.{Changed}
 use Rattle.papaya_timeline.specs.Begins.{task_of_call}
 use Rattle.papaya_timeline.specs.Content.{map_of}
 use Rattle.papaya_timeline.specs.Core.{CoreState, call_of}
-use Rattle.papaya_timeline.specs.Maps.{Does, IsUpdate, Same, key_of}
+use Rattle.papaya_timeline.specs.Maps.{Does, IsUpdateBy, Same, key_of}
 use Rattle.papaya_store.specs.Performs.{own_key}
 use Rattle.papaya_store.specs.Store.{Stored}
 use Rattle.papaya_timeline.specs.Timeline.{IsFresh, number_in}
@@ -26,11 +26,11 @@ module _ {K V S A : Type 0} (eq : K → K → Bool) (s : CoreState K V S A) (cal
     pub changes : IsChanger running_call.machine.call.task
     -- the call is of the kind that its machine runs
     pub call : Call K V A
-    pub task : task_of_call call ≡ running_call.machine.call.task
-    pub own : own_key s.store running_call ≡ Some (key_of call)
+    pub task : task_of_call call ≡ Some running_call.machine.call.task
+    pub own : own_key s.store running_call ≡ key_of call
     pub went : Option (Stored K V)
     pub came : Option (Stored K V)
-    pub update : IsUpdate eq (key_of call) went came (map_of eq s) (map_of eq s')
+    pub update : IsUpdateBy eq (key_of call) went came (map_of eq s) (map_of eq s')
     pub went_is : number_in went ≡ old
     pub came_is : number_in came ≡ new
     -- no pair of the map has the number of the one that comes

@@ -3,15 +3,16 @@ use Rattle.std.specs.Prelude.{◌≡◌, ℕ, zero, suc, ◌<◌, Bool, false, L
 use Rattle.papaya_ask.specs.declared.call.Call.{Call}
 use Rattle.papaya_ask.specs.declared.call.Reply.{Reply}
 use Rattle.papaya_call.specs.Answers.{Says}
-use Rattle.papaya_store.specs.declared.pairs.Running.{Running}
+use Rattle.papaya_timeline.specs.declared.seat.Work.{Work}
 use Rattle.papaya_timeline.specs.declared.trace.Turn.{Turn}
 use Rattle.papaya_timeline.specs.declared.trace.Turn.TheVariants.{Begin, Step, Finish}
 use Rattle.papaya_timeline.specs.declared.trace.Entry.{Entry}
 use Rattle.papaya_timeline.specs.declared.trace.Event.{Event}
 use Rattle.papaya_timeline.specs.declared.trace.Event.TheVariants.{Begun, Replied}
-use Rattle.papaya_timeline.specs.Core.{CoreState, call_of}
+use Rattle.papaya_timeline.specs.Core.{CoreState, work_of}
 use Rattle.papaya_timeline.specs.Begins.{Begins}
 use Rattle.papaya_timeline.specs.Advances.{Advances}
+use Rattle.papaya_timeline.specs.Resizes.{Resizes}
 
 -- a history is a trace, its newest entry first
 abbrev pub History : Type 0
@@ -33,22 +34,27 @@ module _ {K V S A : Type 0} (eq : K → K → Bool) (says : Says K V A) (hash : 
   abbrev pub PassesOver : CoreState K V S A → History → CoreState K V S A → History → Type 0
   PassesOver s before s' after = (s' ≡ s) × (after ≡ before)
 
+  -- one step of a caller: of its call on one key, or of its call that resizes the map
+  abbrev pub Steps : Bool → CoreState K V S A → ℕ → CoreState K V S A → Event → Option Reply → Type 0
+  Steps refuse s caller s' event reply = Advances eq says hash refuse s caller s' event reply
+      ⊎ Resizes eq hash refuse s caller s' event reply
+
   -- a caller that is in no call begins one, and one that is in a call is passed over
   abbrev pub BeginRuns : (turn caller : ℕ) → Call K V A → CoreState K V S A → History
       → CoreState K V S A → History → Type 0
   BeginRuns turn caller call s before s' after =
-      ((call_of s caller ≡ None) × Begins (hash s.store.hasher) s caller call s'
+      ((work_of s caller ≡ None) × Begins (hash s.store.hasher) s caller call s'
       × (after ≡ with_event turn caller Begun before))
-      ⊎ ((under_way : Running K V A) × (call_of s caller ≡ Some under_way)
+      ⊎ ((under_way : Work K V A) × (work_of s caller ≡ Some under_way)
       × PassesOver s before s' after)
 
   -- a caller that is in a call makes one step, and one that is in none is passed over
   abbrev pub StepRuns : (turn caller : ℕ) → Bool → CoreState K V S A → History → CoreState K V S A
       → History → Type 0
   StepRuns turn caller refuse s before s' after =
-      ((event : Event) × (reply : Option Reply) × Advances eq says hash refuse s caller s' event reply
+      ((event : Event) × (reply : Option Reply) × Steps refuse s caller s' event reply
       × (after ≡ with_step turn caller event reply before))
-      ⊎ ((call_of s caller ≡ None) × PassesOver s before s' after)
+      ⊎ ((work_of s caller ≡ None) × PassesOver s before s' after)
 
   -- so many steps of one caller, with memory
   abbrev pub StepsRun : (turn caller steps : ℕ) → CoreState K V S A → History → CoreState K V S A

@@ -3,13 +3,13 @@ use Rattle.std.specs.Prelude.{◌≡◌, ℕ, Bool, [], ◌∷◌, Option, None}
 use Rattle.papaya_call.specs.Answers.{Says}
 use Rattle.papaya_ask.specs.declared.call.Call.{Call}
 use Rattle.papaya_ask.specs.declared.call.Reply.{Reply}
-use Rattle.papaya_ask.specs.declared.call.Reply.TheVariants.{Absent, Found, Inserted, Replaced, Occupied, Removed, Kept, Aborted, Refused}
+use Rattle.papaya_ask.specs.declared.call.Reply.TheVariants.{Absent, Found, Inserted, Replaced, Occupied, Removed, Kept, Aborted, Done, Refused}
 use Rattle.papaya_words.specs.declared.probe.Refused.TheVariants.{RemoveNothing}
 use Rattle.papaya_timeline.specs.declared.trace.Turn.TheVariants.{Begin, Finish}
 use Rattle.papaya_timeline.specs.declared.trace.Entry.{Entry}
 use Rattle.papaya_timeline.specs.declared.trace.Event.TheVariants.{Replied}
 use Rattle.papaya_timeline.specs.Core.{CoreState}
-use Rattle.papaya_timeline.specs.Maps.{Map, Does, IsUpdate, Same, key_of}
+use Rattle.papaya_timeline.specs.Maps.{Map, Does, IsUpdateBy, Same, at_key, key_of}
 use Rattle.papaya_timeline.specs.Runs.{History, TurnsRun}
 use Rattle.papaya_store.specs.Store.{StoreState, Stored, pair_of}
 
@@ -19,7 +19,7 @@ pub record CallDoes {K V A : Type 0} (eq : K → K → Bool) (call : Call K V A)
     (reply : Reply) (m' : Map K V) : Type 0 where
   pub went : Option (Stored K V)
   pub came : Option (Stored K V)
-  pub update : IsUpdate eq (key_of call) went came m m'
+  pub update : IsUpdateBy eq (key_of call) went came m m'
   pub does : Does call went reply came
 
 -- a call that is refused leaves the map, and every other does what the finite map does; a removal
@@ -27,8 +27,9 @@ pub record CallDoes {K V A : Type 0} (eq : K → K → Bool) (call : Call K V A)
 abbrev pub IsAnswered : {K V A : Type 0} → (K → K → Bool) → Call K V A → Map K V → Reply → Map K V
     → Type 0
 IsAnswered eq call m (Refused refused) m' = Same m m'
-    × (refused ≡ RemoveNothing → Does call (m (key_of call)) (Refused RemoveNothing)
-    (m (key_of call)))
+    × (refused ≡ RemoveNothing → Does call (at_key m (key_of call)) (Refused RemoveNothing)
+    (at_key m (key_of call)))
+IsAnswered eq call m Done m' = (key_of call ≡ None) × Same m m'
 IsAnswered eq call m (Aborted t) m' = CallDoes eq call m (Aborted t) m'
 IsAnswered eq call m Absent m' = CallDoes eq call m Absent m'
 IsAnswered eq call m (Found n) m' = CallDoes eq call m (Found n) m'

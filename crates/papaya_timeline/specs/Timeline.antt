@@ -10,9 +10,9 @@ use Rattle.papaya_call.specs.declared.answers.Operation.TheVariants as ops
 use Rattle.papaya_ask.specs.declared.ask.OpKind.{OpKind}
 use Rattle.papaya_ask.specs.declared.ask.OpKind.TheVariants as kinds
 use Rattle.papaya_ask.specs.declared.call.Call.{Call}
-use Rattle.papaya_ask.specs.declared.call.Call.TheVariants.{Get, Insert, TryInsert, RemoveIf, Compute}
+use Rattle.papaya_ask.specs.declared.call.Call.TheVariants.{Get, Insert, TryInsert, RemoveIf, Compute, Reserve, CopyAll}
 use Rattle.papaya_ask.specs.declared.call.Reply.{Reply}
-use Rattle.papaya_ask.specs.declared.call.Reply.TheVariants.{Absent, Found, Inserted, Replaced, Occupied, Removed, Kept, Aborted, Refused as Was_refused}
+use Rattle.papaya_ask.specs.declared.call.Reply.TheVariants.{Absent, Found, Inserted, Replaced, Occupied, Removed, Kept, Aborted, Done, Refused as Was_refused}
 use Rattle.papaya_timeline.specs.declared.trace.Turn.{Turn}
 use Rattle.papaya_timeline.specs.declared.trace.Turn.TheVariants.{Begin, Step, Finish}
 use Rattle.papaya_timeline.specs.declared.trace.Entry.{Entry}
@@ -20,7 +20,7 @@ use Rattle.papaya_timeline.specs.declared.trace.Event.{Event}
 use Rattle.papaya_timeline.specs.declared.trace.Event.TheVariants.{Begun, Changed, Asked, Shown, Replied}
 use Rattle.papaya_timeline.specs.Runs.{History}
 use Rattle.papaya_store.specs.Store.{Stored}
-use Rattle.papaya_timeline.specs.Maps.{Map, Does, Same, IsUpdate, key_of}
+use Rattle.papaya_timeline.specs.Maps.{Map, Does, Same, IsUpdate, at_key, key_of}
 
 -- the call that a turn begins
 abbrev pub begun_by : {K V A : Type 0} → Option (Turn K V A) → Option (Call K V A)
@@ -179,6 +179,8 @@ IsAgreed (Some (RemoveIf k a)) caller None came before said = ⊥
 IsAgreed (Some (RemoveIf k a)) caller (Some n) came before said = WasAsked caller n true before
 IsAgreed (Some (Compute k a)) caller old came before said =
     WasAnswered caller old (operation_for came) before said
+IsAgreed (Some (Reserve more)) caller old came before said = Unit {0}
+IsAgreed (Some CopyAll) caller old came before said = Unit {0}
 
 module _ {K V A : Type 0} (eq : K → K → Bool) where
   -- An open call changes the class of its own key once, as such a call does. Of a call that began
@@ -186,14 +188,15 @@ module _ {K V A : Type 0} (eq : K → K → Bool) where
   abbrev pub MayChange : Option (Call K V A) → Change → K → Option (Stored K V)
       → Option (Stored K V) → Type 0
   MayChange None made k old new = Unit {0}
-  MayChange (Some call) made k old new = (key_of call ≡ k) × (made ≡ None)
+  MayChange (Some call) made k old new = (key_of call ≡ Some k) × (made ≡ None)
       × ((reply : Reply) × Does call old reply new
       × (change_of_reply reply ≡ Some (number_in old, number_in new)))
 
   -- a reply without a change is the call's for the map at some moment since it began
   abbrev pub IsAnswer : Call K V A → Reply → ℕ → History → List (Map K V) → Type 0
   IsAnswer call reply caller before maps = (change_of caller before ≡ None)
-      × AtSomeMoment (λ m. Does call (m (key_of call)) reply (m (key_of call))) caller before maps
+      × AtSomeMoment (λ m. Does call (at_key m (key_of call)) reply (at_key m (key_of call)))
+      caller before maps
 
   -- the closure ended the call when it was last shown this, which the class of its key had at some
   -- moment since the call began
@@ -201,8 +204,8 @@ module _ {K V A : Type 0} (eq : K → K → Bool) where
       → Type 0
   WasLastShown call reply shown kind caller before maps =
       (last_shown caller before ≡ Some (shown, kind))
-      × AtSomeMoment (λ m. (number_in (m (key_of call)) ≡ shown)
-      × Does call (m (key_of call)) reply (m (key_of call))) caller before maps
+      × AtSomeMoment (λ m. (number_in (at_key m (key_of call)) ≡ shown)
+      × Does call (at_key m (key_of call)) reply (at_key m (key_of call))) caller before maps
 
   -- a call is refused without a change; where that is for a removal of nothing, its closure was
   -- shown that there is none
@@ -225,6 +228,8 @@ module _ {K V A : Type 0} (eq : K → K → Bool) where
   Fits call (Aborted t) caller before maps = (change_of caller before ≡ None)
       × ((shown : Option ℕ) × WasLastShown call (Aborted t) shown (kinds.Abort t) caller before
       maps)
+  -- a call that resizes the map made no change
+  Fits call Done caller before maps = (key_of call ≡ None) × (change_of caller before ≡ None)
   Fits call (Was_refused refused) caller before maps = FitsRefused call refused caller before maps
 
   abbrev pub FitsOpen : Option (Call K V A) → Reply → ℕ → History → List (Map K V) → Type 0
@@ -236,7 +241,7 @@ module _ {K V A : Type 0} (eq : K → K → Bool) where
   abbrev pub FitsShown : Option (Call K V A) → Option ℕ → ℕ → History → List (Map K V) → Type 0
   FitsShown None shown caller before maps = Unit {0}
   FitsShown (Some call) shown caller before maps =
-      AtSomeMoment (λ m. number_in (m (key_of call)) ≡ shown) caller before maps
+      AtSomeMoment (λ m. number_in (at_key m (key_of call)) ≡ shown) caller before maps
       × IsShownOnce shown (was_shown_none caller before)
 
   -- A change of one class: the pair that goes and the pair that comes have the numbers told, and

@@ -1,9 +1,19 @@
 //! A caller's seat.
+use papaya_chain::resizer::Resizer;
 use papaya_store::pairs::Running;
+
+/// A call under way.
+#[derive(Drop)]
+pub enum Work<K, V, A> {
+    /// A call on one key.
+    Call(Running<K, V, A>),
+    /// A call that resizes the map.
+    Resize(Resizer),
+}
 
 /// A caller that has begun a call at some time, and the call that it has under way.
 #[derive(Drop)]
 pub struct Seat<K, V, A> {
     pub caller: usize,
-    pub call: Option<Running<K, V, A>>,
+    pub work: Option<Work<K, V, A>>,
 }

@@ -1,11 +1,14 @@
 //! One caller, with no other beside it. The functions do nothing: their contracts are laws.
-ghost use Rattle.std.specs.Prelude.{◌≡◌, Bool, [], None};
+ghost use Rattle.std.specs.Prelude.{◌≡◌, Bool, [], None, Some};
 ghost use Rattle.papaya_timeline.specs.Advances.{Advances};
-ghost use Rattle.papaya_timeline.specs.Begins.{Begins, begun};
+ghost use Rattle.papaya_timeline.specs.Begins.{Begins, begun_work};
 ghost use Rattle.papaya_timeline.specs.Content.{map_of};
 ghost use Rattle.papaya_timeline.specs.Core.{CoreState};
 ghost use Rattle.papaya_timeline.specs.Counted.{IsCounted};
 ghost use Rattle.papaya_timeline.specs.Ends.{IsLone, IsNearer};
+ghost use Rattle.papaya_timeline.specs.Resized.{IsLoneResizer, IsLoneWork, IsNearerResized, IsResized};
+ghost use Rattle.papaya_timeline.specs.Resizes.{Resizes};
+ghost use Rattle.papaya_ask.specs.declared.call.Reply.TheVariants.{Done as Reply_done};
 ghost use Rattle.papaya_timeline.specs.Kept.{IsLawfulCore};
 ghost use Rattle.papaya_timeline.specs.Solo.{IsAnswered, IsNewIn, RunsAlone, whatever};
 ghost use Rattle.papaya_store.specs.Store.{KeepsPairs};
@@ -13,6 +16,7 @@ ghost use Rattle.papaya_keys.specs.Hashes.{hash_of};
 
 use crate::trace::Event;
 use papaya_ask::call::{Call, Reply};
+use papaya_chain::resizer::Resizer;
 use papaya_store::pairs::Running;
 use std::hash::{BuildHasher, Hash};
 
@@ -43,20 +47,32 @@ pub fn one_call<K: Hash + Eq, V, S: BuildHasher, A, B>()
 {}
 
 /// A call that is made alone comes to its end: until it replies, each of its steps lowers a measure,
-/// which the words and the call's machine give, whatever its closure answers. So a map for one
-/// caller may step it until it replies.
+/// which the words and what is under way give, whatever its closure answers. So a map for one
+/// caller may step it until it replies. When a call that resizes the map is done, what was wanted is
+/// so: nothing is left to copy, or there is room.
 pub fn one_call_ends<K: Hash + Eq, V, S: BuildHasher, A>()
     ensures begins { (s s' : CoreState K V S A) (call : Call K V A) → s.callers ≡ []
         → IsLawfulCore K.eq (hash_of K.hash_input S.build_hasher S.Hasher.write S.Hasher.finish
         s.store.hasher) s.store s.callers s.mode → Begins (hash_of K.hash_input S.build_hasher
-        S.Hasher.write S.Hasher.finish s.store.hasher) s 0 call s' → IsLone K.eq
+        S.Hasher.write S.Hasher.finish s.store.hasher) s 0 call s' → IsLoneWork K.eq
         (hash_of K.hash_input S.build_hasher S.Hasher.write S.Hasher.finish) s'
-        (begun (hash_of K.hash_input S.build_hasher S.Hasher.write S.Hasher.finish s.store.hasher)
-        s.mode s.initial call) }
+        (begun_work (hash_of K.hash_input S.build_hasher S.Hasher.write S.Hasher.finish
+        s.store.hasher) s.mode s.initial call) }
     ensures nearer { (refuse : Bool) (s s' : CoreState K V S A) (r : Running K V A)
         (event : Event) → IsLone K.eq
         (hash_of K.hash_input S.build_hasher S.Hasher.write S.Hasher.finish) s r
         → Advances K.eq whatever (hash_of K.hash_input S.build_hasher S.Hasher.write S.Hasher.finish)
         refuse s 0 s' event None → IsNearer K.eq
         (hash_of K.hash_input S.build_hasher S.Hasher.write S.Hasher.finish) s r s' }
+    ensures resizer_nearer { (refuse : Bool) (s s' : CoreState K V S A) (resizer : Resizer)
+        (event : Event) → IsLoneResizer K.eq
+        (hash_of K.hash_input S.build_hasher S.Hasher.write S.Hasher.finish) s resizer
+        → Resizes K.eq (hash_of K.hash_input S.build_hasher S.Hasher.write S.Hasher.finish)
+        refuse s 0 s' event None → IsNearerResized K.eq
+        (hash_of K.hash_input S.build_hasher S.Hasher.write S.Hasher.finish) s resizer s' }
+    ensures resized { (refuse : Bool) (s s' : CoreState K V S A) (resizer : Resizer)
+        (event : Event) → IsLoneResizer K.eq
+        (hash_of K.hash_input S.build_hasher S.Hasher.write S.Hasher.finish) s resizer
+        → Resizes K.eq (hash_of K.hash_input S.build_hasher S.Hasher.write S.Hasher.finish)
+        refuse s 0 s' event (Some Reply_done) → IsResized resizer.resize s'.store }
 {}

@@ -1,11 +1,11 @@
 use Rattle.std.proofs.Common.{List, Some, sym, ap, subst, ◌∙◌}
 use Rattle.papaya_timeline.specs.declared.seat.Seat.{Seat}
-use Rattle.papaya_timeline.specs.Callers.{with_call, IsSeated, IsSeatAt}
-use Rattle.papaya_timeline.proofs.CallersLemmas.{item_there, seated-within, with_call-at}
+use Rattle.papaya_timeline.specs.Callers.{with_work, IsSeated, IsSeatAt}
+use Rattle.papaya_timeline.proofs.CallersLemmas.{item_there, seated-within, with_work-at}
 use Rattle.papaya_core.proofs.callers.Callers.put.Goals as goal
 
-pub put_call-requires : goal.put_call-requires
-put_call-requires g c =
+pub put_work-requires : goal.put_work-requires
+put_work-requires g c =
     let seats = c.self.inside.seats.items in
     let at : IsSeatAt seats c.args.caller c.place_of-place.result = subst (λ (xs : List (Seat _ _ _)). IsSeatAt xs c.args.caller c.place_of-place.result) c.deref.ensures.value c.place_of-place.ensures in
     seated-within seats c.args.caller c.place_of-place.result at (subst (λ (xs : List (Seat _ _ _)). IsSeated xs c.args.caller) (sym c.self.view_is) c.requires)
@@ -16,5 +16,5 @@ returns g c =
     let at : IsSeatAt seats c.args.caller c.place_of-place.result = subst (λ (xs : List (Seat _ _ _)). IsSeatAt xs c.args.caller c.place_of-place.result) c.deref.ensures.value c.place_of-place.ensures in
     let within = seated-within seats c.args.caller c.place_of-place.result at (subst (λ (xs : List (Seat _ _ _)). IsSeated xs c.args.caller) (sym c.self.view_is) c.requires) in
     let (seat, there) = item_there seats c.place_of-place.result within in
-    c.put_call.ensures seat there ∙ sym (with_call-at seats c.args.caller c.place_of-place.result seat (Some c.args.running) at there)
-    ∙ ap (λ (xs : List (Seat _ _ _)). with_call xs c.args.caller (Some c.args.running)) c.self.view_is
+    c.put_work.ensures seat there ∙ sym (with_work-at seats c.args.caller c.place_of-place.result seat (Some c.args.work) at there)
+    ∙ ap (λ (xs : List (Seat _ _ _)). with_work xs c.args.caller (Some c.args.work)) c.self.view_is

@@ -1,15 +1,16 @@
-use Rattle.std.proofs.Common.{rules, ◌≡◌, ℕ, Bool, Option, None, Some, option_map, refl, sym, ◌∙◌, subst}
+use Rattle.std.proofs.Common.{rules, ◌≡◌, ℕ, Bool, true, false, Option, None, Some, option_map, refl, sym, ◌∙◌, subst}
 use Rattle.papaya_law.specs.Content.{AreApart}
 use Rattle.papaya_timeline.specs.Content.{content, map_in}
 use Rattle.papaya_store.specs.Store.{StoreState, Stored}
 use Rattle.papaya_keys.specs.Hashes.{hash_of}
-use Rattle.papaya_ask.specs.declared.call.Reply.TheVariants.{Absent, Found, Refused}
+use Rattle.papaya_ask.specs.declared.call.Call.TheVariants.{CopyAll, Reserve}
+use Rattle.papaya_ask.specs.declared.call.Reply.TheVariants.{Absent, Done, Found, Refused}
 use Rattle.papaya_timeline.proofs.CountedCore.{lawful_apart}
 use Rattle.papaya_seq.specs.Calls.{IsCalled}
-use Rattle.papaya_seq.specs.Map.{HasNone, Holds, IsLawfulMap, core_of}
+use Rattle.papaya_seq.specs.Map.{HasNone, Holds, IsLawfulMap, core_of, insertion}
 use Rattle.papaya_seq.specs.Looks.{IsFound}
-use Rattle.papaya_seq.proofs.Answered.{try_answered}
-use Rattle.papaya_seq.proofs.CallsDone.{get_absent, get_found, remove_called, removes_something}
+use Rattle.papaya_seq.proofs.Answered.{insert_answered, try_answered}
+use Rattle.papaya_seq.proofs.CallsDone.{copy_makes, get_absent, get_found, keyed_undone, remove_called, removes_something, reserve_makes, resized_called}
 use Rattle.papaya_seq.proofs.ComputeCalled.{compute_called}
 use Rattle.papaya_seq.proofs.seq.HashMap.call.Goals as goal
 use Rattle.papaya_seq.proofs.seq.HashMap.call.Given.{Over}
@@ -39,6 +40,7 @@ returns-in-Some g c =
       fresh = tt;
       said = tt;
       cause = λ refused e. let f : Found c.in-Some.pair ≡ Refused refused = e in absurd cc;
+      done = λ e. let f : Found c.in-Some.pair ≡ Done = e in absurd cc;
       keeps = record { hasher = refl; mode = refl; initial = refl; pairs = λ n p e. e };
     })
 
@@ -53,6 +55,7 @@ returns-in-Get g c =
       fresh = tt;
       said = tt;
       cause = λ refused e. let f : Absent ≡ Refused refused = e in absurd cc;
+      done = λ e. let f : Absent ≡ Done = e in absurd cc;
       keeps = record { hasher = refl; mode = refl; initial = refl; pairs = λ n p e. e };
     })
 
@@ -64,6 +67,18 @@ returns-in-RemoveIf g c =
     subst (λ call. IsCalled g.K.PartialEq.eq (record { op = g.A.Answers.op_gives; yes = g.A.Answers.yes_gives }) c.args.self.now call c.remove_by.result c.remove_by.new.self) (sym c.in-RemoveIf.is)
     (remove_called g.K.PartialEq.eq g.met.K.Eq.laws c.args.self.now apart c.in-RemoveIf.key c.in-RemoveIf.answers (record { op = g.A.Answers.op_gives; yes = g.A.Answers.yes_gives }) c.remove_by.result c.remove_by.new.self c.remove_by.ensures.whole c.remove_by.ensures.never (λ refused is. removes_something refused (c.remove_by.ensures.refusal refused is)) c.remove_by.ensures.keeps.0 (λ p agrees judges. (judges.2.0.now, subst (λ k. g.A.Answers.yes_gives c.in-RemoveIf.answers k p.value agrees judges.2.0.now) judges.3 (subst (λ v. g.A.Answers.yes_gives c.in-RemoveIf.answers judges.0.now v agrees judges.2.0.now) judges.4 (let met = judges.5.met in search rules)))))
 
+pub returns-in-Insert : goal.returns-in-Insert
+returns-in-Insert g c =
+    let inserted = c.insert_by.ensures in
+    subst (λ call. IsCalled g.K.PartialEq.eq (record { op = g.A.Answers.op_gives; yes = g.A.Answers.yes_gives }) c.args.self.now call c.insert_by.result.0 c.insert_by.new.self) (sym c.in-Insert.is) (record {
+      answered = insert_answered g.row.A.Denot c.in-Insert.key c.in-Insert.value g.K.PartialEq.eq (map_in g.K.PartialEq.eq c.args.self.now.store) (map_in g.K.PartialEq.eq c.insert_by.new.self.store) c.insert_by.result.0 inserted.answers;
+      fresh = inserted.fresh;
+      said = tt;
+      cause = inserted.cause;
+      done = λ is. keyed_undone g.K.PartialEq.eq (insertion true c.in-Insert.key c.in-Insert.value) c.in-Insert.key refl c.insert_by.result.0 (map_in g.K.PartialEq.eq c.args.self.now.store) (map_in g.K.PartialEq.eq c.insert_by.new.self.store) inserted.answers is;
+      keeps = inserted.keeps;
+    })
+
 pub returns-in-TryInsert : goal.returns-in-TryInsert
 returns-in-TryInsert g c =
     let tried = c.insert_by-in-TryInsert.ensures in
@@ -72,10 +87,21 @@ returns-in-TryInsert g c =
       fresh = tried.fresh;
       said = tt;
       cause = λ refused is. tried.absent refl refused is;
+      done = λ is. keyed_undone g.K.PartialEq.eq (insertion false c.in-TryInsert.key c.in-TryInsert.value) c.in-TryInsert.key refl c.insert_by-in-TryInsert.result.0 (map_in g.K.PartialEq.eq c.args.self.now.store) (map_in g.K.PartialEq.eq c.insert_by-in-TryInsert.new.self.store) tried.answers is;
       keeps = tried.keeps;
     })
 
-pub returns : goal.returns
-returns g c =
+pub returns-in-Compute : goal.returns-in-Compute
+returns-in-Compute g c =
     subst (λ call. IsCalled g.K.PartialEq.eq (record { op = g.A.Answers.op_gives; yes = g.A.Answers.yes_gives }) c.args.self.now call c.replied.result c.compute_by.new.self) (sym c.in-Compute.is)
     (compute_called g.K.PartialEq.eq g.met.K.Eq.laws c.args.self.now c.compute_by.new.self c.in-Compute.key c.in-Compute.answers (record { op = g.A.Answers.op_gives; yes = g.A.Answers.yes_gives }) (λ shown operation said. search rules) c.compute_by.result.1 c.replied.result c.replied.ensures c.compute_by.ensures.computes)
+
+pub returns-in-Reserve : goal.returns-in-Reserve
+returns-in-Reserve g c =
+    subst (λ call. IsCalled g.K.PartialEq.eq (record { op = g.A.Answers.op_gives; yes = g.A.Answers.yes_gives }) c.args.self.now call c.resized.result c.reserve.new.self) (sym c.in-Reserve.is)
+    (resized_called g.K.PartialEq.eq (record { op = g.A.Answers.op_gives; yes = g.A.Answers.yes_gives }) (Reserve c.in-Reserve.more) refl c.args.self.now c.reserve.new.self c.reserve.ensures.map c.reserve.ensures.keeps (λ reply. tt) (λ refused. reserve_makes g.K.PartialEq.eq c.args.self.now c.in-Reserve.more refused c.reserve.new.self) c.reserve.result c.resized.result c.resized.ensures c.reserve.ensures.ok c.reserve.ensures.err)
+
+pub returns : goal.returns
+returns g c =
+    subst (λ call. IsCalled g.K.PartialEq.eq (record { op = g.A.Answers.op_gives; yes = g.A.Answers.yes_gives }) c.args.self.now call c.resized-in-CopyAll.result c.copy_all.new.self) (sym c.in-CopyAll.is)
+    (resized_called g.K.PartialEq.eq (record { op = g.A.Answers.op_gives; yes = g.A.Answers.yes_gives }) CopyAll refl c.args.self.now c.copy_all.new.self c.copy_all.ensures.map c.copy_all.ensures.keeps (λ reply. tt) (λ refused. copy_makes c.args.self.now refused c.copy_all.new.self) c.copy_all.result c.resized-in-CopyAll.result c.resized-in-CopyAll.ensures c.copy_all.ensures.ok c.copy_all.ensures.err)

@@ -24,10 +24,12 @@ use Rattle.papaya_seq.proofs.ComputeRun.{IsComputing, Went, computing_begin, wen
 use Rattle.papaya_seq.proofs.ComputeShown.{asking, compute_of}
 use Rattle.papaya_seq.proofs.ComputeSteps.{computing_went, unreplied_ask}
 use Rattle.papaya_seq.proofs.Ending.{left_of}
-use Rattle.papaya_seq.proofs.Steps.{IsOver, made_alone}
+use Rattle.papaya_seq.proofs.Steps.{made_alone}
+use Rattle.papaya_seq.proofs.Turns.{IsOver}
 use Rattle.papaya_seq.proofs.seq.HashMap.compute_by.Goals as goal
 use Rattle.papaya_seq.proofs.seq.HashMap.compute_by.Goals.{After-answer-arg-1, After-new, In-Call-Done, in-Call-ShowNone, in-Call-ShowPair, in_default}
 use Rattle.papaya_seq.proofs.seq.HashMap.compute_by.Given as given
+use Rattle.papaya_seq.proofs.KeyCalls.{keyed_compute}
 use Rattle.papaya_seq.proofs.seq.HashMap.compute_by.Given.{Over}
 
 -- the hash of a key
@@ -156,7 +158,7 @@ replied g c =
 
 -- so the call was made alone
 alone : (g : Over) (c : In-Call-Done g) → IsLawfulMap g.K.PartialEq.eq (hash g c.args.self.now.store.hasher) c.args.self.now.store c.args.self.now.mode c.args.self.now.initial → hash g c.args.self.now.store.hasher c.args.key < 2 ^ 64 → IsOver g.K.PartialEq.eq (hash g) c.args.self.now (compute_of c.args.key) c.loop-self.self-inside.store c.in-Call-Done.reply
-alone g c orderly fit = made_alone g.K.PartialEq.eq (hash g) c.args.self.now (compute_of c.args.key) (keys g c.args.self.now.store.hasher) orderly fit c.loop-self.self-inside.store (asking c.loop-self.running) c.in-Call-Done.reply (replied g c) c.loop-self.invariant.0.steps
+alone g c orderly fit = made_alone g.K.PartialEq.eq (hash g) c.args.self.now (keyed_compute c.args.key) (keys g c.args.self.now.store.hasher) orderly fit c.loop-self.self-inside.store (asking c.loop-self.running) c.in-Call-Done.reply (replied g c) c.loop-self.invariant.0.steps
 
 -- the map that it left
 abbrev left : (g : Over) (c : In-Call-Done g) → MapState g.row.K.Denot g.row.V.Denot g.row.S.Denot

@@ -16,7 +16,7 @@ use Rattle.papaya_seq.specs.Map.{IsLawfulMap, IsTryCause, IsWriteCauseAt, MapSta
 use Rattle.papaya_seq.proofs.Alone.{map_answered, map_hasher, map_lawful, map_logged}
 use Rattle.papaya_seq.proofs.Ending.{left_of}
 use Rattle.papaya_seq.proofs.InsertingRun.{IsInserting, inserting_absent, inserting_alone, inserting_begin, inserting_cause, inserting_fit, inserting_left, inserting_more, inserting_nears, left_in}
-use Rattle.papaya_seq.proofs.Steps.{IsOver}
+use Rattle.papaya_seq.proofs.Turns.{IsOver}
 use Rattle.papaya_seq.proofs.seq.HashMap.insert_by.Goals as goal
 use Rattle.papaya_seq.proofs.seq.HashMap.insert_by.Goals.{After-new, After-perform_ask-answer, After-answer, After-value_left}
 use Rattle.papaya_seq.proofs.seq.HashMap.insert_by.Given.{Over}

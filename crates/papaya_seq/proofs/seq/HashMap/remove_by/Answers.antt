@@ -15,7 +15,7 @@ use Rattle.papaya_seq.proofs.SeekLaw.{seek_ends, seek_lawful}
 use Rattle.papaya_seq.proofs.RemovalWays.{HasMatch, HasNoMatch, IsQuery, IsUnderWay, asked_so, key_of, slots_kept, under_way, under_way_fit, under_way_more, under_way_nears, unrefused}
 use Rattle.papaya_seq.proofs.Removing.{answered_call, answered_copy, log_kept, removal_by}
 use Rattle.papaya_seq.proofs.SeekTurns.{IsAnswered}
-use Rattle.papaya_seq.proofs.Steps.{IsOver}
+use Rattle.papaya_seq.proofs.Turns.{IsOver}
 use Rattle.papaya_seq.proofs.seq.HashMap.remove_by.Goals as goal
 use Rattle.papaya_seq.proofs.seq.HashMap.remove_by.Goals.{After-answer, After-drop-agrees, After-new-machine, in-Call+in_default, in-Copy}
 use Rattle.papaya_seq.proofs.seq.HashMap.remove_by.Given as given

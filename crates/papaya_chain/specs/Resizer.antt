@@ -1,0 +1,186 @@
+-- A call that resizes the map: what it asks, and where each answer leads it.
+use Rattle.std.specs.Prelude.{ℕ, ◌+◌, ◌==◌, nat_le, if◌then◌else◌, Option, None, Some}
+use Rattle.std.specs.Int.{IsPowerOfTwo}
+use Rattle.papaya_words.specs.Mode.{IsChunked}
+use Rattle.papaya_words.specs.declared.probe.Refused.TheVariants.{Capacity}
+use Rattle.papaya_words.specs.declared.probe.ResizeMode.{ResizeMode}
+use Rattle.papaya_ask.specs.Search.{IsSize}
+use Rattle.papaya_ask.specs.declared.ask.Answer.{Answer as Call_answer}
+use Rattle.papaya_ask.specs.declared.ask.Answer.TheVariants.{Word, Exchanged, Found, Size, Made, Refused as Was_refused}
+use Rattle.papaya_ask.specs.declared.ask.At.TheVariants.{Root, Next}
+use Rattle.papaya_ask.specs.declared.ask.StepKind.{StepKind}
+use Rattle.papaya_ask.specs.declared.ask.StepKind.TheVariants.{Open}
+use Rattle.papaya_ask.specs.declared.call.Reply.{Reply}
+use Rattle.papaya_ask.specs.declared.call.Reply.TheVariants as replies
+use Rattle.papaya_ask.specs.declared.copy_ask.CopyAsk.{CopyAsk}
+use Rattle.papaya_ask.specs.declared.copy_ask.CopyAsk.TheVariants.{Load, Exchange, SizeOf, Count, MakeTable}
+use Rattle.papaya_copy.specs.declared.copying.Aim.TheVariants as aims
+use Rattle.papaya_copy.specs.declared.copying.Copied.{Copied}
+use Rattle.papaya_copy.specs.declared.copying.Copied.TheVariants as copied_to
+use Rattle.papaya_copy.specs.declared.copying.Copying.TheVariants.{Stepping}
+use Rattle.papaya_copy.specs.declared.link.Link.TheVariants as links
+use Rattle.papaya_copy.specs.declared.link.Linked.{Linked}
+use Rattle.papaya_copy.specs.declared.link.Linked.TheVariants as linked_to
+use Rattle.papaya_copy.specs.declared.step.Step.TheVariants as steps
+use Rattle.papaya_copy.specs.Copying.{IsStandingCopying, copying_ask, copying_follows, copying_kind}
+use Rattle.papaya_copy.specs.Link.{IsStandingLink, follows, link_ask, link_kind}
+use Rattle.papaya_chain.specs.declared.ask.Answer.{Answer}
+use Rattle.papaya_chain.specs.declared.ask.Answer.TheVariants as answers
+use Rattle.papaya_chain.specs.declared.resizer.Resize.{Resize}
+use Rattle.papaya_chain.specs.declared.resizer.Resize.TheVariants.{Chunk, Reserve}
+use Rattle.papaya_chain.specs.declared.resizer.Resizer.{Resizer}
+use Rattle.papaya_chain.specs.declared.resizer.Room.{Room}
+use Rattle.papaya_chain.specs.declared.resizer.State.{State}
+use Rattle.papaya_chain.specs.declared.resizer.State.TheVariants.{AtRoot, Making, Opening, Sizing, Counting, Looking, Linking, Copying, Done, Refused}
+use Rattle.papaya_chain.specs.Machine.{copying_after, link_after}
+use Rattle.papaya_chain.specs.Room.{IsStandingRoom, room_of}
+
+-- one that begins: a chunk is copied at once, and all else begins at the root
+abbrev pub begun_in : Resize → State
+begun_in Chunk = Copying 0 (Stepping aims.Chunk steps.AtRoot)
+begun_in _ = AtRoot
+
+abbrev pub begun : Resize → ResizeMode → (initial : ℕ) → Resizer
+begun resize mode initial = record {
+  mode = mode;
+  initial = initial;
+  resize = resize;
+  state = begun_in resize;
+}
+
+-- what is asked, if anything
+abbrev pub asks_in : State → Option CopyAsk
+asks_in AtRoot = Some (Load Root)
+asks_in (Making room) = Some (MakeTable room.len room.limit)
+asks_in (Opening table) = Some (Exchange Root 0 table)
+asks_in (Sizing root) = Some (SizeOf root)
+asks_in (Counting root len) = Some Count
+asks_in (Looking root room) = Some (Load (Next root))
+asks_in (Linking link) = Some (link_ask link)
+asks_in (Copying from copying) = Some (copying_ask copying)
+asks_in _ = None
+
+abbrev pub ask_of : Resizer → Option CopyAsk
+ask_of resizer = asks_in resizer.state
+
+-- the reply of one that has ended
+abbrev pub reply_in : State → Option Reply
+reply_in Done = Some replies.Done
+reply_in (Refused refused) = Some (replies.Refused refused)
+reply_in _ = None
+
+abbrev pub reply_of : Resizer → Option Reply
+reply_of resizer = reply_in resizer.state
+
+-- the kind of the exchange that is asked for
+abbrev pub kind_in : State → Option StepKind
+kind_in (Opening table) = Some Open
+kind_in (Linking link) = link_kind link
+kind_in (Copying from copying) = copying_kind copying
+kind_in _ = None
+
+abbrev pub kind_of_ask : Resizer → Option StepKind
+kind_of_ask resizer = kind_in resizer.state
+
+-- the table that one in the making is to follow
+abbrev pub follows_in : State → ℕ
+follows_in (Linking link) = follows link
+follows_in (Copying from copying) = copying_follows copying
+follows_in _ = 0
+
+abbrev pub follows_of : Resizer → ℕ
+follows_of resizer = follows_in resizer.state
+
+-- a first table of this size is made, where there may be such a one
+abbrev pub makes : Option Room → State
+makes None = Refused Capacity
+makes (Some room) = Making room
+
+-- all of this root is copied
+abbrev pub copies : (root : ℕ) → State
+copies root = Copying root (Stepping (aims.All root) steps.AtRoot)
+
+-- the root is this table, or there is none
+abbrev pub at_root : Resize → (root : ℕ) → State
+at_root (Reserve more) root = if root == 0 then makes (room_of more) else Sizing root
+at_root _ root = if root == 0 then Done else Looking root None
+
+-- the root has so many slots, and this room is wanted
+abbrev pub judges : (root len : ℕ) → Option Room → State
+judges root len None = Refused Capacity
+judges root len (Some room) = if nat_le room.len len then Done else Looking root (Some room)
+
+abbrev pub at_count : Resize → (root len count : ℕ) → State
+at_count (Reserve more) root len count = judges root len (room_of (count + more))
+at_count _ root len count = Done
+
+-- the root has no next table: one of this size is made, where one is wanted
+abbrev pub at_last : (root : ℕ) → Option Room → State
+at_last root None = Done
+at_last root (Some room) = Linking (links.Making root room.len room.limit)
+
+abbrev pub at_next : (root : ℕ) → Option Room → (next : ℕ) → State
+at_next root room next = if next == 0 then at_last root room else copies root
+
+-- an answer to what is asked while nothing is linked or copied
+abbrev pub told_root : Resize → State → Call_answer → State
+told_root resize AtRoot (Word root) = at_root resize root
+told_root resize (Making room) (Made table) = Opening table
+told_root resize (Making room) (Was_refused refused) = Refused refused
+told_root resize (Opening table) Exchanged = AtRoot
+told_root resize (Opening table) (Found word) = AtRoot
+told_root resize (Sizing root) (Size slots limit) = Counting root slots
+told_root resize (Looking root room) (Word next) = at_next root room next
+told_root resize state answer = state
+
+abbrev pub counted : Resize → State → (count : ℕ) → State
+counted resize (Counting root len) count = at_count resize root len count
+counted resize state count = state
+
+abbrev pub called : Resize → State → Answer → State
+called resize state (answers.Call answer) = told_root resize state answer
+called resize state (answers.Count count) = counted resize state count
+called resize state (answers.Hash hash) = state
+
+-- the making of the table after this root leads here
+abbrev pub linked : (root : ℕ) → Linked → State
+linked root (linked_to.On link) = Linking link
+linked root (linked_to.Table table) = copies root
+linked root (linked_to.Refused refused) = Refused refused
+
+-- a copy is over
+abbrev pub over : Resize → State
+over Chunk = Done
+over _ = AtRoot
+
+-- the copy leads here
+abbrev pub copied : Resize → (from : ℕ) → Copied → State
+copied resize from (copied_to.On copying) = Copying from copying
+copied resize from (copied_to.Refused refused) = Refused refused
+copied resize from _ = over resize
+
+abbrev pub after_in : Resize → ResizeMode → (initial : ℕ) → Answer → State → State
+after_in resize mode initial answer (Linking link) =
+    linked (follows link) (link_after link initial answer)
+after_in resize mode initial answer (Copying from copying) =
+    copied resize from (copying_after copying mode initial answer)
+after_in resize mode initial answer state = called resize state answer
+
+-- the resizer after an answer
+abbrev pub after : Resizer → Answer → Resizer
+after resizer answer = record resizer {
+  state = after_in resizer.resize resizer.mode resizer.initial answer resizer.state;
+}
+
+-- it stands within its tables
+abbrev pub IsStandingIn : State → Type 0
+IsStandingIn (Making room) = IsSize room.len room.limit
+IsStandingIn (Looking root room) = IsStandingRoom room
+IsStandingIn (Linking link) = IsStandingLink link
+IsStandingIn (Copying from copying) = IsStandingCopying copying
+IsStandingIn _ = Unit {0}
+
+pub record IsStandingResizer (resizer : Resizer) : Type 0 where
+  pub chunked : IsChunked resizer.mode
+  pub initial : IsPowerOfTwo resizer.initial
+  pub state : IsStandingIn resizer.state

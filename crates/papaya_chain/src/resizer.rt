@@ -1,0 +1,356 @@
+//! Calls that resize the map and change no pair of it: a copy of a chunk or of all, and room that is
+//! made ahead.
+ghost use Rattle.std.specs.Prelude.{◌≡◌, ◌+◌};
+ghost use Rattle.std.specs.Int.{IsPowerOfTwo};
+ghost use Rattle.papaya_words.specs.Mode.{IsChunked};
+ghost use Rattle.papaya_ask.specs.Search.{IsSize};
+ghost use Rattle.papaya_copy.specs.Link.{IsFitCopyAsk, IsStandingLink, IsStandingLinked};
+ghost use Rattle.papaya_copy.specs.Copying.{IsStandingCopied, IsStandingCopying};
+ghost use Rattle.papaya_chain.specs.Machine.{IsFit};
+ghost use Rattle.papaya_chain.specs.Resizer.{IsStandingIn, IsStandingResizer, after, ask_of, at_count};
+ghost use Rattle.papaya_chain.specs.Resizer.{at_next, at_root, begun, called, copied, follows_of};
+ghost use Rattle.papaya_chain.specs.Resizer.{kind_of_ask, linked, makes, over, reply_of};
+ghost use Rattle.papaya_chain.specs.Room.{IsStandingRoom, room_of};
+
+use crate::ask::Answer;
+use crate::machine::{copying_after, link_after};
+use papaya_ask::ask::{Answer as CallAnswer, At, StepKind};
+use papaya_ask::call::Reply;
+use papaya_ask::copy_ask::CopyAsk;
+use papaya_copy::copying::{Aim, Copied, Copying};
+use papaya_copy::link::{Link, Linked};
+use papaya_copy::step::Step;
+use papaya_words::limits::MAX_TABLE_LEN;
+use papaya_words::probe::{Refused, ResizeMode, entries_for, limit};
+use papaya_words::table::table_len;
+
+/// What is wanted.
+#[derive(Clone, Copy, Debug, PartialEq, Eq)]
+pub enum Resize {
+    /// A copy of one chunk of the root, if the root is being copied.
+    Chunk,
+    /// The end of the resize that is under way: then the root has no next table.
+    CopyAll,
+    /// A root with slots for so many pairs more than the map counts: `reserve` of 0.2.5.
+    Reserve(usize),
+}
+
+/// The size of a table that is made for a number of pairs.
+#[derive(Clone, Copy)]
+pub struct Room {
+    /// How many slots it has.
+    pub len: usize,
+    /// At how many places, but for the first, a search of it looks.
+    pub limit: usize,
+}
+
+/// Where a resizer stands, between two answers.
+#[derive(Clone, Copy)]
+pub enum State {
+    /// It loads the root.
+    AtRoot,
+    /// There is no root, and it makes one of this size.
+    Making(Room),
+    /// It opens this table, which it made.
+    Opening(u64),
+    /// It asks for the size of this root.
+    Sizing(u64),
+    /// It asks for the count of pairs.
+    Counting {
+        root: u64,
+        /// How many slots the root has.
+        len: usize,
+    },
+    /// It looks for the table after this root.
+    Looking {
+        root: u64,
+        /// The size of the next table, where one is to be made if there is none.
+        room: Option<Room>,
+    },
+    /// It makes the next table.
+    Linking(Link),
+    /// It copies.
+    Copying {
+        /// All of the root is copied, which was this table as the copy began; 0 for a chunk.
+        from: u64,
+        copying: Copying,
+    },
+    /// What was wanted is done.
+    Done,
+    /// A table could not be made. What is marked stays marked, and the next copier carries it on.
+    Refused(Refused),
+}
+
+/// The size of a table for so many pairs more than the map counts, where there may be such a one.
+#[tactic(auto, using(crate::proofs::Room::too_many, crate::proofs::Room::too_long, crate::proofs::Room::fits, crate::proofs::Room::fits_size))]
+fn room_for(count: usize, more: usize) -> Option<Room>
+    ensures value { result ≡ room_of (count + more) }
+    ensures standing { IsStandingRoom result }
+{
+    let pairs = count.checked_add(more)?;
+    match entries_for(pairs) {
+        Ok(entries) if entries <= MAX_TABLE_LEN => {
+            let len = table_len(entries);
+            Some(Room {
+                len,
+                limit: limit(len),
+            })
+        }
+        _ => None,
+    }
+}
+
+impl State {
+    /// The first table is made, for so many pairs.
+    fn making(more: usize) -> State
+        ensures value { result ≡ makes (room_of more) }
+        ensures standing { IsStandingIn result }
+    {
+        match room_for(0, more) {
+            Some(room) => State::Making(room),
+            None => State::Refused(Refused::Capacity),
+        }
+    }
+
+    /// All of this root is copied.
+    fn copying(root: u64) -> State
+        ensures value { result ≡ Rattle.papaya_chain.specs.Resizer.copies root }
+        ensures standing { IsStandingIn result }
+    {
+        State::Copying {
+            from: root,
+            copying: Copying::Stepping(Aim::All(root), Step::AtRoot),
+        }
+    }
+}
+
+impl Resize {
+    /// The root is this table, or there is none.
+    fn at_root(self, root: u64) -> State
+        ensures value { result ≡ at_root self root }
+        ensures standing { IsStandingIn result }
+    {
+        match self {
+            Resize::Reserve(more) if root == 0 => State::making(more),
+            Resize::Reserve(_) => State::Sizing(root),
+            Resize::Chunk | Resize::CopyAll if root == 0 => State::Done,
+            Resize::Chunk | Resize::CopyAll => State::Looking { root, room: None },
+        }
+    }
+
+    /// The map counts so many pairs, and its root has so many slots.
+    fn at_count(self, root: u64, len: usize, count: usize) -> State
+        ensures value { result ≡ at_count self root len count }
+        ensures standing { IsStandingIn result }
+    {
+        match self {
+            Resize::Reserve(more) => match room_for(count, more) {
+                None => State::Refused(Refused::Capacity),
+                Some(room) if room.len <= len => State::Done,
+                room => State::Looking { root, room },
+            },
+            Resize::Chunk | Resize::CopyAll => State::Done,
+        }
+    }
+
+    /// A copy of a chunk, or of all of a root, is over.
+    fn over(self) -> State
+        ensures value { result ≡ over self }
+        ensures standing { IsStandingIn result }
+    {
+        match self {
+            Resize::Chunk => State::Done,
+            Resize::CopyAll | Resize::Reserve(_) => State::AtRoot,
+        }
+    }
+
+    /// A copy led here, which began when `from` was the root.
+    fn copied(self, from: u64, copied: Copied) -> State
+        requires { IsStandingCopied copied }
+        ensures value { result ≡ Rattle.papaya_chain.specs.Resizer.copied self from copied }
+        ensures standing { IsStandingIn result }
+    {
+        match copied {
+            Copied::On(copying) => State::Copying { from, copying },
+            Copied::Search(_) | Copied::Root(_) | Copied::Chunk => self.over(),
+            Copied::Refused(refused) => State::Refused(refused),
+        }
+    }
+}
+
+/// The table after the root is this one, or there is none.
+fn at_next(root: u64, room: Option<Room>, next: u64) -> State
+    requires { IsStandingRoom room }
+    ensures value { result ≡ at_next root room next }
+    ensures standing { IsStandingIn result }
+{
+    if next != 0 {
+        return State::copying(root);
+    }
+    match room {
+        None => State::Done,
+        Some(Room { len, limit }) => State::Linking(Link::Making {
+            after: root,
+            len,
+            limit,
+        }),
+    }
+}
+
+/// The making of the table after this root led here.
+fn linked(root: u64, linked: Linked) -> State
+    requires { IsStandingLinked linked }
+    ensures value { result ≡ Rattle.papaya_chain.specs.Resizer.linked root linked }
+    ensures standing { IsStandingIn result }
+{
+    match linked {
+        Linked::On(link) => State::Linking(link),
+        Linked::Table(_) => State::copying(root),
+        Linked::Refused(refused) => State::Refused(refused),
+    }
+}
+
+/// A resizer under way. It is plain data, as a call is.
+///
+/// In 0.2.5 these are `reserve`, and what `clear`, `retain` and the iterators begin with, a copy of
+/// all.
+#[derive(Clone, Copy)]
+pub struct Resizer {
+    pub mode: ResizeMode,
+    /// The initial capacity of the map in slots: no table is made shorter.
+    pub initial: usize,
+    pub resize: Resize,
+    pub state: State,
+}
+
+impl Resizer {
+    /// One that begins.
+    pub fn new(resize: Resize, mode: ResizeMode, initial: usize) -> Resizer
+        requires chunked { IsChunked mode }
+        requires initial { IsPowerOfTwo initial }
+        ensures value { result ≡ begun resize mode initial }
+        ensures standing { IsStandingResizer result }
+    {
+        let state = match resize {
+            Resize::Chunk => State::Copying {
+                from: 0,
+                copying: Copying::Stepping(Aim::Chunk, Step::AtRoot),
+            },
+            Resize::CopyAll | Resize::Reserve(_) => State::AtRoot,
+        };
+        Resizer {
+            mode,
+            initial,
+            resize,
+            state,
+        }
+    }
+
+    /// What is asked next; nothing more where it has ended.
+    pub fn ask(&self) -> Option<CopyAsk>
+        requires { IsStandingResizer self.now }
+        ensures { result ≡ ask_of self.now }
+    {
+        match self.state {
+            State::AtRoot => Some(CopyAsk::Load(At::Root)),
+            State::Making(Room { len, limit }) => Some(CopyAsk::MakeTable { len, limit }),
+            State::Opening(table) => Some(CopyAsk::Exchange(At::Root, 0, table)),
+            State::Sizing(root) => Some(CopyAsk::SizeOf(root)),
+            State::Counting { .. } => Some(CopyAsk::Count),
+            State::Looking { root, .. } => Some(CopyAsk::Load(At::Next(root))),
+            State::Linking(link) => Some(link.ask()),
+            State::Copying { copying, .. } => Some(copying.ask()),
+            State::Done | State::Refused(_) => None,
+        }
+    }
+
+    /// The reply of one that has ended.
+    pub fn reply(&self) -> Option<Reply>
+        ensures { result ≡ reply_of self.now }
+    {
+        match self.state {
+            State::Done => Some(Reply::Done),
+            State::Refused(refused) => Some(Reply::Refused(refused)),
+            _ => None,
+        }
+    }
+
+    /// The kind of the exchange that is asked for, if one is.
+    pub fn kind(&self) -> Option<StepKind>
+        ensures { result ≡ kind_of_ask self.now }
+    {
+        match self.state {
+            State::Opening(_) => Some(StepKind::Open),
+            State::Linking(link) => link.kind(),
+            State::Copying { copying, .. } => copying.kind(),
+            _ => None,
+        }
+    }
+
+    /// The table that one in the making is to follow; 0 for a first table, or where none is made.
+    pub fn follows(&self) -> u64
+        ensures { result ≡ follows_of self.now }
+    {
+        match self.state {
+            State::Linking(link) => link.follows(),
+            State::Copying { copying, .. } => copying.follows(),
+            _ => 0,
+        }
+    }
+
+    /// What follows an answer while nothing is linked or copied. One that was not asked for leads
+    /// nowhere.
+    fn called(&self, answer: Answer) -> State
+        requires standing { IsStandingIn self.now.state }
+        requires fit { IsFit answer }
+        ensures value { result ≡ called self.now.resize self.now.state answer }
+        ensures standing { IsStandingIn result }
+    {
+        match (self.state, answer) {
+            (State::AtRoot, Answer::Call(CallAnswer::Word(root))) => self.resize.at_root(root),
+            (State::Making(_), Answer::Call(CallAnswer::Made(table))) => State::Opening(table),
+            (State::Making(_), Answer::Call(CallAnswer::Refused(refused))) => {
+                State::Refused(refused)
+            }
+            (State::Opening(_), Answer::Call(CallAnswer::Exchanged | CallAnswer::Found(_))) => {
+                State::AtRoot
+            }
+            (State::Sizing(root), Answer::Call(CallAnswer::Size { len, .. })) => {
+                State::Counting { root, len }
+            }
+            (State::Counting { root, len }, Answer::Count(count)) => {
+                self.resize.at_count(root, len, count)
+            }
+            (State::Looking { root, room }, Answer::Call(CallAnswer::Word(next))) => {
+                at_next(root, room, next)
+            }
+            (state, _) => state,
+        }
+    }
+
+    /// Goes on after an answer to what was asked.
+    pub fn answer(&mut self, answer: Answer)
+        requires standing { IsStandingResizer self.old }
+        requires fit { IsFit answer }
+        ensures after { self.new ≡ after self.old answer }
+        ensures standing { IsStandingResizer self.new }
+    {
+        self.state = match self.state {
+            State::Linking(link) => {
+                linked(link.follows(), link_after(link, answer, self.initial))
+            }
+            State::Copying { from, copying } => {
+                let copied = copying_after(copying, answer, self.mode, self.initial);
+                self.resize.copied(from, copied)
+            }
+            State::AtRoot
+            | State::Making(_)
+            | State::Opening(_)
+            | State::Sizing(_)
+            | State::Counting { .. }
+            | State::Looking { .. }
+            | State::Done
+            | State::Refused(_) => self.called(answer),
+        };
+    }
+}

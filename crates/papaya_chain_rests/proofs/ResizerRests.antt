@@ -1,0 +1,233 @@
+-- What a call that resizes the map rests on.
+use Rattle.std.proofs.Common.{◌≡◌, ⊎_elim, ℕ, ◌+◌, ◌==◌, ◌<◌, nat_le, eqb-true, Option, None, Some, List, [], ◌∷◌, refl, sym, ◌∙◌, subst}
+use Rattle.std.proofs.lemmas.Bool.{cond_both, eqb-false}
+use Rattle.papaya_words.specs.Mode.{IsChunked}
+use Rattle.papaya_words.specs.declared.probe.Refused.{Refused}
+use Rattle.papaya_words.specs.declared.probe.ResizeMode.{ResizeMode}
+use Rattle.papaya_ask.specs.declared.ask.Answer.TheVariants.{Word as Word_read, Exchanged, Found as Found_instead, Size, Made as Made_number, Refused as Was_refused}
+use Rattle.papaya_ask.specs.declared.ask.At.{At}
+use Rattle.papaya_ask.specs.declared.ask.At.TheVariants.{Root, Next}
+use Rattle.papaya_ask.specs.declared.copy_ask.CopyAsk.{CopyAsk}
+use Rattle.papaya_ask.specs.declared.copy_ask.CopyAsk.TheVariants.{Load, Exchange as Ask_exchange, SizeOf, Count, MakeTable}
+use Rattle.papaya_copy.specs.declared.copying.Aim.{Aim}
+use Rattle.papaya_copy.specs.declared.copying.Aim.TheVariants as aims
+use Rattle.papaya_copy.specs.declared.copying.Copied.{Copied}
+use Rattle.papaya_copy.specs.declared.copying.Copied.TheVariants as copied_to
+use Rattle.papaya_copy.specs.declared.link.Linked.{Linked}
+use Rattle.papaya_copy.specs.declared.link.Linked.TheVariants as linked_to
+use Rattle.papaya_copy.specs.Copying.{copying_ask}
+use Rattle.papaya_copy.specs.Link.{follows, link_ask}
+use Rattle.papaya_chain.specs.declared.ask.Answer.{Answer}
+use Rattle.papaya_chain.specs.declared.ask.Answer.TheVariants as answers
+use Rattle.papaya_chain.specs.declared.resizer.Resize.{Resize}
+use Rattle.papaya_chain.specs.declared.resizer.Resize.TheVariants.{Chunk, CopyAll, Reserve}
+use Rattle.papaya_chain.specs.declared.resizer.Room.{Room}
+use Rattle.papaya_chain.specs.declared.resizer.State.{State as Stage}
+use Rattle.papaya_chain.specs.declared.resizer.State.TheVariants.{AtRoot, Making, Opening, Sizing, Counting, Looking, Linking, Copying, Done, Refused as Ended_refused}
+use Rattle.papaya_chain.specs.Machine.{copying_after, link_after}
+use Rattle.papaya_chain.specs.Resizer.{after_in, asks_in, at_count, at_last, at_next, at_root, begun_in, copied, copies, follows_in, judges, kind_in, linked, makes, over}
+use Rattle.papaya_chain.specs.Room.{room_of}
+use Rattle.papaya_law.specs.Allows.{AllAllowed, Allows}
+use Rattle.papaya_law.specs.Class.{IsOn}
+use Rattle.papaya_law.specs.Code.{Coding, IsHashed}
+use Rattle.papaya_law.specs.Exchange.{Setting, State, Exchange, Open, after as state_after, run}
+use Rattle.papaya_law.specs.Grows.{Agrees}
+use Rattle.papaya_law.specs.Invariant.{IsKeeping}
+use Rattle.papaya_law.proofs.Chain.{next_zero}
+use Rattle.papaya_law.proofs.Grows.{on_run}
+use Rattle.papaya_law.proofs.Later.{later_run}
+use Rattle.papaya_law.proofs.OneMap.{keeping_sound}
+use Rattle.papaya_rests.specs.Copier.{AreThere, IsStillAimed, RestsCopied, RestsLinked, aim_of}
+use Rattle.papaya_rests.specs.Rests.{IsModeOf}
+use Rattle.papaya_rests.specs.Told.{IsWritten, word_of}
+use Rattle.papaya_rests.proofs.CopierCopies.{copying_there, link_there}
+use Rattle.papaya_rests.proofs.CopierExchange.{copying_may, link_may}
+use Rattle.papaya_rests.proofs.CopierStays.{copying_stays}
+use Rattle.papaya_rests.proofs.CopierTables.{copying_carries}
+use Rattle.papaya_rests.proofs.RestsLearn.{by_test}
+use Rattle.papaya_chain_rests.specs.Resizers.{IsOwnAim, IsStageAsked, IsStageTold, RestsStage}
+use Rattle.papaya_chain_rests.specs.Told.{Hands, IsCopyTold, Quiet}
+use Rattle.papaya_chain_rests.proofs.CopyTold.{copying_learns}
+use Rattle.papaya_chain_rests.proofs.Making.{link_learns}
+
+-- it goes on copying a chunk, or all
+still_own : (aim aim' : Aim) → IsOwnAim aim → IsStillAimed aim aim' → IsOwnAim aim'
+still_own aims.Chunk aim' own still = subst IsOwnAim (sym still) tt
+still_own (aims.All met) aim' own still = subst IsOwnAim (sym still.1) tt
+still_own (aims.Search table) aim' own still = absurd own
+still_own (aims.Settle slot) aim' own still = absurd own
+
+module _ {K P : Type 0} (g : Setting K P) (c : Coding K P) where
+  pub stage_begins : (s : State P) (hands : Hands P) (resize : Resize) → RestsStage g c s hands (begun_in resize)
+  stage_begins s hands Chunk = (tt, (tt, tt))
+  stage_begins s hands CopyAll = tt
+  stage_begins s hands (Reserve more) = tt
+
+  pub stage_stays : IsHashed g c → (s : State P) (m : K → Option P) → IsKeeping g s m → (es : List (Exchange P)) → AllAllowed g s es → (hands : Hands P) (stage : Stage) → RestsStage g c s hands stage → RestsStage g c (run es s) hands stage
+  stage_stays hashed s m keeps es may hands AtRoot r = tt
+  stage_stays hashed s m keeps es may hands (Making room) r = tt
+  stage_stays hashed s m keeps es may hands (Opening table) r = r
+  stage_stays hashed s m keeps es may hands (Sizing root) r = on_run g hashed.lawful es s m keeps may root r
+  stage_stays hashed s m keeps es may hands (Counting root len) r = (on_run g hashed.lawful es s m keeps may root r.0, r.1)
+  stage_stays hashed s m keeps es may hands (Looking root room) r = on_run g hashed.lawful es s m keeps may root r
+  stage_stays hashed s m keeps es may hands (Linking link) r = record { on = on_run g hashed.lawful es s m keeps may (follows link) r.on; rises = r.rises }
+  stage_stays hashed s m keeps es may hands (Copying from copying) (own, r) =
+      (own, copying_stays g c hashed.lawful s (run es s) (next_zero s.next (keeping_sound g s m keeps).rises) (later_run g hashed.lawful es s may) (on_run g hashed.lawful es s m keeps may) hands.call.last hands.kept copying r)
+  stage_stays hashed s m keeps es may hands Done r = tt
+  stage_stays hashed s m keeps es may hands (Ended_refused refused) r = tt
+
+  pub stage_carries : (g' : Setting K P) (s : State P) (m : K → Option P) → IsKeeping g s m → Agrees (IsOn s.first s.next) g g' → (hands : Hands P) (stage : Stage) → RestsStage g c s hands stage → RestsStage g' c s hands stage
+  stage_carries g' s m keeps agrees hands AtRoot r = tt
+  stage_carries g' s m keeps agrees hands (Making room) r = tt
+  stage_carries g' s m keeps agrees hands (Opening table) r = r
+  stage_carries g' s m keeps agrees hands (Sizing root) r = r
+  stage_carries g' s m keeps agrees hands (Counting root len) r = (r.0, r.1 ∙ sym (agrees.size root r.0))
+  stage_carries g' s m keeps agrees hands (Looking root room) r = r
+  stage_carries g' s m keeps agrees hands (Linking link) r = record { on = r.on; rises = r.rises }
+  stage_carries g' s m keeps agrees hands (Copying from copying) (own, r) = (own, copying_carries g g' c s (keeping_sound g s m keeps) agrees hands.call.last hands.kept copying r)
+  stage_carries g' s m keeps agrees hands Done r = tt
+  stage_carries g' s m keeps agrees hands (Ended_refused refused) r = tt
+
+  module _ (hashed : IsHashed g c) (s : State P) (m : K → Option P) (keeps : IsKeeping g s m) (hands : Hands P) where
+    -- what it names is there
+    abbrev There : CopyAsk → Type 0
+    There = AreThere g c s hands.call.last hands.kept
+
+    pub stage_there : (stage : Stage) → RestsStage g c s hands stage → (ask : CopyAsk) → asks_in stage ≡ Some ask → There ask
+    stage_there AtRoot r ask e = let is : Load Root ≡ ask = cc e in subst There is tt
+    stage_there (Making room) r ask e = let is : MakeTable room.len room.limit ≡ ask = cc e in subst There is tt
+    stage_there (Opening table) r ask e = let is : Ask_exchange Root 0 table ≡ ask = cc e in subst There is tt
+    stage_there (Sizing root) r ask e = let is : SizeOf root ≡ ask = cc e in subst There is r
+    stage_there (Counting root len) r ask e = let is : Count ≡ ask = cc e in subst There is tt
+    stage_there (Looking root room) r ask e = let is : Load (Next root) ≡ ask = cc e in subst There is r
+    stage_there (Linking link) r ask e = let is : link_ask link ≡ ask = cc e in subst There is (link_there g c hashed s m keeps hands.call.last hands.kept link r)
+    stage_there (Copying from copying) (own, r) ask e = let is : copying_ask copying ≡ ask = cc e in subst There is (copying_there g c hashed s m keeps hands.call.last hands.kept copying r)
+    stage_there Done r ask e = absurd cc
+    stage_there (Ended_refused refused) r ask e = absurd cc
+
+    -- what it exchanges is allowed
+    abbrev May : Stage → At → (old new : ℕ) → Type 0
+    May stage at old new = word_of g c s at ≡ old → (e : Exchange P) × IsStageAsked g c s stage at new hands e × Allows g s e × IsWritten g c s at new (state_after s e)
+
+    -- a table is opened where there is no root
+    opens : (table : ℕ) → RestsStage g c s hands (Opening table) → May (Opening table) Root 0 table
+    opens table r none = (Open table, refl, (none, r), record { here = refl; others = others })
+      where
+        others : (other : At) → (other ≡ Root → ⊥) → word_of g c (state_after s (Open table)) other ≡ word_of g c s other
+        others Root different = absurd (different refl)
+        others _ different = refl
+
+    pub stage_may : (stage : Stage) → RestsStage g c s hands stage → (at : At) (old new : ℕ) → asks_in stage ≡ Some (Ask_exchange at old new) → May stage at old new
+    stage_may (Opening table) r at old new e =
+        let same_at : Root ≡ at = cc e in
+        let same_old : 0 ≡ old = cc e in
+        let same_new : table ≡ new = cc e in
+        subst (λ y. May (Opening table) y old new) same_at (subst (λ y. May (Opening table) Root y new) same_old (subst (May (Opening table) Root 0) same_new (opens table r)))
+    stage_may (Linking link) r at old new e = let is : link_ask link ≡ Ask_exchange at old new = cc e in link_may g c hashed s m keeps hands.call.last hands.kept link r at old new is
+    stage_may (Copying from copying) (own, r) at old new e = let is : copying_ask copying ≡ Ask_exchange at old new = cc e in copying_may g c hashed s m keeps hands.call.last hands.kept copying r at old new is
+    stage_may stage r at old new e = absurd cc
+
+  module _ (s : State P) (hands : Hands P) where
+    -- what it is told, where it asks as a copy does
+    pub told_of_ask : (stage : Stage) (is : CopyAsk) → asks_in stage ≡ Some is → (answer : Answer) (es : List (Exchange P)) (hands' : Hands P) → (ask : CopyAsk) × (asks_in stage ≡ Some ask) × IsCopyTold g c s (kind_in stage) (follows_in stage) hands ask answer es hands'
+        → IsCopyTold g c s (kind_in stage) (follows_in stage) hands is answer es hands'
+    told_of_ask stage is asks answer es hands' (ask, asked, told) = let same : ask ≡ is = cc (asks, asked) in subst (λ a. IsCopyTold g c s (kind_in stage) (follows_in stage) hands a answer es hands') same told
+
+    -- where a copy is over, or a first table is made
+    over_rests : (resize : Resize) → RestsStage g c s hands (over resize)
+    over_rests Chunk = tt
+    over_rests CopyAll = tt
+    over_rests (Reserve more) = tt
+
+    makes_rests : (room : Option Room) → RestsStage g c s hands (makes room)
+    makes_rests None = tt
+    makes_rests (Some room) = tt
+
+    -- where the root led
+    root_rests : (root : ℕ) → ((root ≡ 0 → ⊥) → IsOn s.first s.next root) → (resize : Resize) → RestsStage g c s hands (at_root resize root)
+    root_rests root on Chunk = cond_both (root == 0) Done (Looking root None) (RestsStage g c s hands) (λ _. tt) (λ some. on (eqb-false root 0 some))
+    root_rests root on CopyAll = cond_both (root == 0) Done (Looking root None) (RestsStage g c s hands) (λ _. tt) (λ some. on (eqb-false root 0 some))
+    root_rests root on (Reserve more) = cond_both (root == 0) (makes (room_of more)) (Sizing root) (RestsStage g c s hands) (λ _. makes_rests (room_of more)) (λ some. on (eqb-false root 0 some))
+
+    -- and a count
+    judges_rests : (root len : ℕ) → IsOn s.first s.next root → (room : Option Room) → RestsStage g c s hands (judges root len room)
+    judges_rests root len on None = tt
+    judges_rests root len on (Some room) = cond_both (nat_le room.len len) Done (Looking root (Some room)) (RestsStage g c s hands) (λ _. tt) (λ _. on)
+
+    count_rests : (root len count : ℕ) → IsOn s.first s.next root → (resize : Resize) → RestsStage g c s hands (at_count resize root len count)
+    count_rests root len count on Chunk = tt
+    count_rests root len count on CopyAll = tt
+    count_rests root len count on (Reserve more) = judges_rests root len on (room_of (count + more))
+
+    -- and the next table
+    last_rests : (root : ℕ) → IsOn s.first s.next root → (room : Option Room) → RestsStage g c s hands (at_last root room)
+    last_rests root on None = tt
+    last_rests root on (Some room) = record { on = on; rises = tt }
+
+    next_rests : (root : ℕ) → IsOn s.first s.next root → (room : Option Room) (next : ℕ) → RestsStage g c s hands (at_next root room next)
+    next_rests root on room next = cond_both (next == 0) (at_last root room) (copies root) (RestsStage g c s hands) (λ _. last_rests root on room) (λ _. (tt, (tt, tt)))
+
+    -- where the making of a table led
+    linked_rests : (root : ℕ) (end : Linked) → RestsLinked g c s hands.call.last hands.kept root end → RestsStage g c s hands (linked root end)
+    linked_rests root (linked_to.On link) r = r.1
+    linked_rests root (linked_to.Table table) r = (tt, (tt, tt))
+    linked_rests root (linked_to.Refused refused) r = tt
+
+    -- and the copy
+    copied_rests : (resize : Resize) (from : ℕ) (aim : Aim) → IsOwnAim aim → (end : Copied) → RestsCopied g c s hands.call.last hands.kept aim end → RestsStage g c s hands (copied resize from end)
+    copied_rests resize from aim own (copied_to.On copying) is = (still_own aim (aim_of copying) own is.0, is.1)
+    copied_rests resize from aim own (copied_to.Search table) is = over_rests resize
+    copied_rests resize from aim own (copied_to.Root root) is = over_rests resize
+    copied_rests resize from aim own copied_to.Chunk is = over_rests resize
+    copied_rests resize from aim own (copied_to.Refused refused) is = tt
+
+  module _ (hashed : IsHashed g c) (s : State P) (m : K → Option P) (keeps : IsKeeping g s m) (resize : Resize) (mode : ResizeMode) (initial : ℕ) (hands : Hands P) where
+    -- what was exchanged was allowed, and it rests where the answer led it
+    abbrev HasGone : Stage → Answer → List (Exchange P) → Hands P → Type 0
+    HasGone stage answer es hands' = AllAllowed g s es × RestsStage g c (run es s) hands' (after_in resize mode initial answer stage)
+
+    -- where nothing was exchanged
+    quiet : (stage : Stage) (answer answer' : Answer) (es : List (Exchange P)) (hands' : Hands P) → answer ≡ answer' → es ≡ [] → RestsStage g c s hands' (after_in resize mode initial answer' stage) → HasGone stage answer es hands'
+    quiet stage answer answer' es hands' a e r = subst (λ y. HasGone stage y es hands') (sym a) (subst (λ y. HasGone stage answer' y hands') (sym e) (tt, r))
+
+    -- the root is on the chain, where there is one
+    on_root : (s.root ≡ 0 → ⊥) → IsOn s.first s.next s.root
+    on_root some = ⊎_elim (λ none. absurd (some none.0)) (λ on. on) (keeping_sound g s m keeps).root
+
+    -- after each answer
+    pub stage_learns : IsModeOf mode g.blocking → IsChunked mode → (stage : Stage) → RestsStage g c s hands stage → (answer : Answer) (es : List (Exchange P)) (hands' : Hands P) → IsStageTold g c s stage hands answer es hands' → HasGone stage answer es hands'
+    stage_learns moded chunked AtRoot r answer es hands' told =
+        let h = told_of_ask s hands AtRoot (Load Root) refl answer es hands' told in
+        quiet AtRoot answer (answers.Call (Word_read s.root)) es hands' h.0 h.1 (root_rests s hands' s.root on_root resize)
+    stage_learns moded chunked (Making room) r answer es hands' told =
+        let h = told_of_ask s hands (Making room) (MakeTable room.len room.limit) refl answer es hands' told in
+        ⊎_elim
+        (λ (u : (refused : Refused) × (answer ≡ answers.Call (Was_refused refused))). quiet (Making room) answer (answers.Call (Was_refused u.0)) es hands' u.1 h.1.0 tt)
+        (λ (n : (n : ℕ) × (0 < n) × (answer ≡ answers.Call (Made_number n))). quiet (Making room) answer (answers.Call (Made_number n.0)) es hands' n.2 h.1.0 n.1)
+        h.0
+    stage_learns moded chunked (Opening table) r answer es hands' told =
+        by_test (s.root == 0)
+        ((answer ≡ answers.Call Exchanged) × (es ≡ Open table ∷ []) × (hands' ≡ hands))
+        ((answer ≡ answers.Call (Found_instead s.root)) × Quiet g c hands es hands')
+        (HasGone (Opening table) answer es hands') told
+        (λ none (a, e, h). subst (λ y. HasGone (Opening table) y es hands') (sym a) (subst (λ y. HasGone (Opening table) (answers.Call Exchanged) y hands') (sym e) (((eqb-true s.root 0 none, r), tt), tt)))
+        (λ some (a, h). quiet (Opening table) answer (answers.Call (Found_instead s.root)) es hands' a h.0 tt)
+    stage_learns moded chunked (Sizing root) r answer es hands' told =
+        let h = told_of_ask s hands (Sizing root) (SizeOf root) refl answer es hands' told in
+        quiet (Sizing root) answer (answers.Call (Size (g.size root) h.0.0)) es hands' h.0.2 h.1.0 (r, refl)
+    stage_learns moded chunked (Counting root len) r answer es hands' told =
+        let h = told_of_ask s hands (Counting root len) Count refl answer es hands' told in
+        quiet (Counting root len) answer (answers.Count h.0.0) es hands' h.0.1 h.1.0 (count_rests s hands' root len h.0.0 r.0 resize)
+    stage_learns moded chunked (Looking root room) r answer es hands' told =
+        let h = told_of_ask s hands (Looking root room) (Load (Next root)) refl answer es hands' told in
+        quiet (Looking root room) answer (answers.Call (Word_read (s.next root))) es hands' h.0 h.1 (next_rests s hands' root r room (s.next root))
+    stage_learns moded chunked (Linking link) r answer es hands' told =
+        let h = told_of_ask s hands (Linking link) (link_ask link) refl answer es hands' told in
+        let out = link_learns g c s m keeps initial hands link r answer es hands' h in
+        (out.0, linked_rests (run es s) hands' (follows link) (link_after link initial answer) out.1)
+    stage_learns moded chunked (Copying from copying) (own, r) answer es hands' told =
+        let h = told_of_ask s hands (Copying from copying) (copying_ask copying) refl answer es hands' told in
+        let out = copying_learns g c hashed s m keeps mode moded chunked initial hands copying r answer es hands' h in
+        (out.0, copied_rests (run es s) hands' resize from (aim_of copying) own (copying_after copying mode initial answer) out.1)
+    stage_learns moded chunked Done r answer es hands' told = let e = told.1 in absurd cc
+    stage_learns moded chunked (Ended_refused refused) r answer es hands' told = let e = told.1 in absurd cc

@@ -1,0 +1,113 @@
+-- What a call that resizes the map rests on: facts of the words alone.
+use Rattle.std.specs.Prelude.{◌≡◌, ◌⊎◌, ℕ, ◌+◌, ◌^◌, ◌<◌, ◌==◌, Bool, Some, List, [], ◌∷◌, MatchBool}
+use Rattle.papaya_words.specs.Mode.{IsChunked}
+use Rattle.papaya_words.specs.Table.{length_after}
+use Rattle.papaya_words.specs.declared.probe.Refused.{Refused}
+use Rattle.papaya_words.specs.declared.probe.Refused.TheVariants.{Capacity}
+use Rattle.papaya_ask.specs.declared.ask.Answer.TheVariants.{Word as Word_read, Exchanged, Found as Found_instead, Refused as Was_refused}
+use Rattle.papaya_ask.specs.declared.ask.At.{At}
+use Rattle.papaya_ask.specs.declared.copy_ask.CopyAsk.{CopyAsk}
+use Rattle.papaya_ask.specs.declared.copy_ask.CopyAsk.TheVariants.{Count, MakeTable}
+use Rattle.papaya_copy.specs.declared.copying.Aim.{Aim}
+use Rattle.papaya_copy.specs.declared.copying.Aim.TheVariants as aims
+use Rattle.papaya_copy.specs.declared.link.Link.{Link}
+use Rattle.papaya_copy.specs.declared.link.Link.TheVariants as links
+use Rattle.papaya_chain.specs.declared.ask.Answer.{Answer}
+use Rattle.papaya_chain.specs.declared.ask.Answer.TheVariants as answers
+use Rattle.papaya_chain.specs.declared.resizer.Resize.TheVariants.{Reserve}
+use Rattle.papaya_chain.specs.declared.resizer.Resizer.{Resizer}
+use Rattle.papaya_chain.specs.declared.resizer.State.{State as Stage}
+use Rattle.papaya_chain.specs.declared.resizer.State.TheVariants.{Opening, Sizing, Counting, Looking, Linking, Copying}
+use Rattle.papaya_chain.specs.Resizer.{ask_of, asks_in, follows_in, kind_in}
+use Rattle.papaya_chain.specs.Room.{entries_of}
+use Rattle.papaya_law.specs.Class.{IsOn}
+use Rattle.papaya_law.specs.Code.{Coding}
+use Rattle.papaya_law.specs.Exchange.{Setting, State, Exchange, Open}
+use Rattle.papaya_rests.specs.Copier.{IsCopyAsked, RestsCopying, RestsLink, aim_of}
+use Rattle.papaya_rests.specs.Rests.{IsModeOf}
+use Rattle.papaya_chain_rests.specs.Goes.{link_in_copying}
+use Rattle.papaya_chain_rests.specs.Told.{Hands, IsCopyTold, Quiet}
+
+-- it copies a chunk, or all, and no key is looked for then
+abbrev pub IsOwnAim : Aim → Type 0
+IsOwnAim aims.Chunk = Unit {0}
+IsOwnAim (aims.All met) = Unit {0}
+IsOwnAim _ = ⊥
+
+module _ {K P : Type 0} (g : Setting K P) (c : Coding K P) (s : State P) where
+  abbrev pub RestsStage : Hands P → Stage → Type 0
+  RestsStage hands (Opening table) = 0 < table
+  RestsStage hands (Sizing root) = IsOn s.first s.next root
+  RestsStage hands (Counting root len) = IsOn s.first s.next root × (len ≡ g.size root)
+  RestsStage hands (Looking root room) = IsOn s.first s.next root
+  RestsStage hands (Linking link) = RestsLink g c s link
+  RestsStage hands (Copying from copying) = IsOwnAim (aim_of copying)
+      × RestsCopying g c s hands.call.last hands.kept copying
+  RestsStage hands _ = Unit {0}
+
+  pub record RestsResizer (resizer : Resizer) (hands : Hands P) : Type 0 where
+    pub mode : IsModeOf resizer.mode g.blocking
+    pub chunked : IsChunked resizer.mode
+    pub stage : RestsStage hands resizer.state
+
+  -- a first table is opened, where there is none
+  abbrev pub IsOpenTold : (table : ℕ) → Hands P → Answer → List (Exchange P) → Hands P → Type 0
+  IsOpenTold table hands answer es hands' = MatchBool (s.root == 0)
+      ((answer ≡ answers.Call Exchanged) × (es ≡ Open table ∷ []) × (hands' ≡ hands))
+      ((answer ≡ answers.Call (Found_instead s.root)) × Quiet g c hands es hands')
+
+  -- The answer to what a resizer asks is true of the words in s, and es has the exchange, if one was
+  -- made. It opens a table, or asks as a copy does.
+  abbrev pub IsStageTold : Stage → Hands P → Answer → List (Exchange P) → Hands P → Type 0
+  IsStageTold (Opening table) hands answer es hands' = IsOpenTold table hands answer es hands'
+  IsStageTold stage hands answer es hands' = (ask : CopyAsk) × (asks_in stage ≡ Some ask)
+      × IsCopyTold g c s (kind_in stage) (follows_in stage) hands ask answer es hands'
+
+  -- the exchange of the law that a resizer asks for
+  abbrev pub IsStageAsked : Stage → At → ℕ → Hands P → Exchange P → Type 0
+  IsStageAsked (Opening table) at new hands e = e ≡ Open table
+  IsStageAsked stage at new hands e = IsCopyAsked c (kind_in stage) at new s hands.kept e
+
+-- the making of a table that is under way, if one is
+abbrev pub HasLink : Stage → Link → Type 0
+HasLink (Linking link) other = link ≡ other
+HasLink (Copying from copying) link = link_in_copying copying ≡ Some link
+HasLink _ link = ⊥
+
+-- a table was to be made, of these sizes, and was refused so
+pub record WasNotMade (resizer : Resizer) (answer : Answer) (refused : Refused) : Type 0 where
+  pub slots : ℕ
+  pub limit : ℕ
+  pub asks : ask_of resizer ≡ Some (MakeTable slots limit)
+  pub is : answer ≡ answers.Call (Was_refused refused)
+
+-- the table after one of so many slots would be longer than a table may be, by the count answered
+pub record WouldBeTooLong (resizer : Resizer) (answer : Answer) (refused : Refused) : Type 0 where
+  pub capacity : refused ≡ Capacity
+  pub behind : ℕ
+  pub unfit : Bool
+  pub slots : ℕ
+  pub link : HasLink resizer.state (links.Counting behind unfit slots)
+  pub asks : ask_of resizer ≡ Some Count
+  pub count : ℕ
+  pub is : answer ≡ answers.Count count
+  pub long : 2 ^ 32 < length_after slots count resizer.initial unfit
+
+-- there is no root, or the map counts so many pairs
+abbrev pub IsCountTold : Answer → (count : ℕ) → Type 0
+IsCountTold answer count = ((answer ≡ answers.Call (Word_read 0)) × (count ≡ 0))
+    ⊎ (answer ≡ answers.Count count)
+
+-- room was asked for, for more pairs than a table may have slots for
+pub record IsTooMuchRoom (resizer : Resizer) (answer : Answer) (refused : Refused) : Type 0 where
+  pub capacity : refused ≡ Capacity
+  pub more : ℕ
+  pub resize : resizer.resize ≡ Reserve more
+  pub count : ℕ
+  pub counts : IsCountTold answer count
+  pub long : 2 ^ 32 < entries_of (count + more)
+
+-- why an answer ends a resizer refused
+abbrev pub IsResizeCause : Resizer → Answer → Refused → Type 0
+IsResizeCause resizer answer refused = WasNotMade resizer answer refused
+    ⊎ WouldBeTooLong resizer answer refused ⊎ IsTooMuchRoom resizer answer refused

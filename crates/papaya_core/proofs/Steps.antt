@@ -1,0 +1,132 @@
+-- One step of what was under way keeps a core lawful and counted, and is a step of a caller.
+use Rattle.std.proofs.Common.{◌≡◌, inl, inr, Bool, ℕ, true, List, Option, None, Some, refl, sym, ◌∙◌, ap, subst}
+use Rattle.std.specs.Cmp.{IsEquivalence}
+use Rattle.papaya_ask.specs.declared.call.Reply.{Reply}
+use Rattle.papaya_call.specs.Answers.{Says}
+use Rattle.papaya_chain.specs.declared.resizer.Resizer.{Resizer}
+use Rattle.papaya_chain.specs.declared.resizer.State.{State as Stage}
+use Rattle.papaya_chain.specs.declared.resizer.State.TheVariants as stages
+use Rattle.papaya_chain.specs.Machine.{ask_of}
+use Rattle.papaya_chain.specs.Resizer as resizer
+use Rattle.papaya_law.specs.Exchange.{run, start}
+use Rattle.papaya_store.specs.declared.pairs.Running.{Running}
+use Rattle.papaya_store.specs.Store.{KeepsPairs, StoreState}
+use Rattle.papaya_keys.specs.Hashes.{hash_of}
+use Rattle.papaya_timeline.specs.declared.seat.Seat.{Seat}
+use Rattle.papaya_timeline.specs.declared.seat.Work.{Work}
+use Rattle.papaya_timeline.specs.declared.seat.Work.TheVariants as works
+use Rattle.papaya_timeline.specs.declared.trace.Event.{Event}
+use Rattle.papaya_timeline.specs.Advances.{AddsToShard, Advances}
+use Rattle.papaya_timeline.specs.Callers.{call_in, resizer_in, running, with_work, working}
+use Rattle.papaya_timeline.specs.Core.{CoreState, IsCore}
+use Rattle.papaya_timeline.specs.Counted.{IsCounted}
+use Rattle.papaya_timeline.specs.Kept.{IsKept, IsLawfulCore, coding_of, low, setting_of}
+use Rattle.papaya_timeline.specs.Moves.{MovesMap}
+use Rattle.papaya_timeline.specs.Resizes.{Resizes}
+use Rattle.papaya_timeline.specs.Runs.{Steps}
+use Rattle.papaya_timeline.proofs.CallersLemmas.{same_item}
+use Rattle.papaya_timeline.proofs.CountedLemmas.{counted_step}
+use Rattle.papaya_timeline.proofs.CountedResized.{counted_resize}
+use Rattle.papaya_timeline.proofs.HeadlineLemmas.{advance-core, lawful_keeps, lawful_moves, lawful_resizes, resize-core}
+use Rattle.papaya_timeline.proofs.KeptCore.{keys_lawful, lawful_caused, step_lawful}
+use Rattle.papaya_timeline.proofs.KeptResized.{left, resize_kept, stage_left}
+use Rattle.papaya_timeline.proofs.ResizerLaws.{resizer_refused}
+use Rattle.papaya_core.specs.Goes.{CallGoes, IsStandingWork, ResizerGoes, WorkGoes}
+use Rattle.papaya_words.specs.declared.probe.ResizeMode.{ResizeMode}
+
+-- a resizer that has not ended asks something
+pub unended_asks : (stage : Stage) → resizer.reply_in stage ≡ None → resizer.asks_in stage ≡ None → ⊥
+unended_asks stages.Done going none = absurd cc
+unended_asks (stages.Refused refused) going none = absurd cc
+unended_asks stage going none = absurd cc
+
+-- what a caller has under way stands, and has not ended
+pub work_stands : {K V S A : Type 0} (store : StoreState K V S) (callers : List (Seat K V A)) (mode : ResizeMode) → IsCore store callers mode → (caller : ℕ) (work : Work K V A) → working callers caller ≡ Some work → IsStandingWork work
+work_stands store callers mode core caller (works.Call r) was = core.standing caller r (ap call_in was)
+work_stands store callers mode core caller (works.Resize z) was = core.resizers caller z (ap resizer_in was)
+
+module _ {K V S A H : Type 0} (eq : K → K → Bool) (input : K → List (List ℕ)) (build : S → H) (write : H → List ℕ → H) (finish : H → ℕ) (classes : IsEquivalence eq) (respects : (x y : K) → eq x y ≡ true → input x ≡ input y) (says : Says K V A) (refuse : Bool) (s : CoreState K V S A) (caller : ℕ) (s' : CoreState K V S A) (event : Event) (reply : Option Reply) where
+  -- keys are hashed so
+  abbrev hashes : S → K → ℕ
+  hashes = hash_of input build write finish
+
+  -- what holds of the core after the step
+  pub record IsSound : Type 0 where
+    pub steps : Steps eq says hashes refuse s caller s' event reply
+    pub lawful : IsLawfulCore eq (hashes s'.store.hasher) s'.store s'.callers s'.mode
+    pub counted : IsCounted eq s'.store s'.callers
+    pub moves : MovesMap eq s caller s' event
+    pub keeps : KeepsPairs s.store s'.store
+    pub shard : AddsToShard s caller s'
+
+  module _ (lawful : IsLawfulCore eq (hashes s.store.hasher) s.store s.callers s.mode) (counted : IsCounted eq s.store s.callers) (rest : Option (Work K V A)) (callers : s'.callers ≡ with_work s.callers caller rest) (mode : s'.mode ≡ s.mode) (initial : s'.initial ≡ s.initial) where
+    -- of a call on one key
+    call_sound : (before : Running K V A) → working s.callers caller ≡ Some (works.Call before) → CallGoes eq says hashes refuse s.store caller s'.store event reply rest before → IsSound
+    call_sound before was goes =
+        let (es, (tales, kept)) = lawful.law in
+        let law = keys_lawful eq input build write finish classes respects s.store.hasher in
+        let runs : running s.callers caller ≡ Some before = ap call_in was in
+        let x : Advances eq says hashes refuse s caller s' event reply = record {
+          before = before;
+          was = runs;
+          answer = goes.answer;
+          later = goes.later;
+          performs = goes.performs;
+          machine = goes.machine;
+          event_is = goes.event_is;
+          reply_is = goes.reply_is;
+          callers = callers ∙ ap (with_work s.callers caller) goes.work_is;
+          mode = mode;
+          initial = initial;
+          cause = λ refused e. lawful_caused eq input build write finish classes respects says refuse s lawful caller before runs goes.answer s'.store goes.later goes.performs refused (sym goes.reply_is ∙ e);
+        } in
+        let core' = advance-core eq says hashes refuse s caller s' event reply x lawful.core in
+        record {
+          steps = inl x;
+          lawful = step_lawful eq input build write finish classes respects refuse s caller s' event reply x core' lawful;
+          counted = counted_step eq (hashes s.store.hasher) law refuse s caller s' event reply x refl es tales lawful.core core' kept counted;
+          moves = lawful_moves eq input build write finish classes respects says refuse s s' caller event reply lawful x;
+          keeps = lawful_keeps eq input build write finish classes respects says refuse s s' caller event reply lawful x;
+          shard = λ r by is asks. goes.shard by (ap (λ (o : Running K V A). ask_of o.machine) (same_item before r (sym runs ∙ is)) ∙ asks);
+        }
+
+    -- of a call that resizes the map
+    resizer_sound : (before : Resizer) → working s.callers caller ≡ Some (works.Resize before) → ResizerGoes eq hashes refuse s.store s'.store event reply rest before → IsSound
+    resizer_sound before was goes =
+        let (es, (tales, kept)) = lawful.law in
+        let law = keys_lawful eq input build write finish classes respects s.store.hasher in
+        let now = kept.resizers caller before (ap resizer_in was) in
+        let told = stage_left eq (hashes s.store.hasher) law hashes refuse s es (tales caller) lawful.core before refl kept.allowed kept.coded kept.made now before.state refl goes.ask goes.asked goes.answer s'.store goes.performs in
+        let x : Resizes eq hashes refuse s caller s' event reply = record {
+          before = before;
+          was = ap resizer_in was;
+          ask = goes.ask;
+          asked = goes.asked;
+          answer = goes.answer;
+          performs = goes.performs;
+          event_is = goes.event_is;
+          reply_is = goes.reply_is;
+          callers = callers ∙ ap (with_work s.callers caller) goes.work_is;
+          mode = mode;
+          initial = initial;
+          cause = λ refused e. resizer_refused (setting_of eq (low (hashes s.store.hasher)) s.mode s.store.words.tables) (coding_of (low (hashes s.store.hasher))) (run es start) before (tales caller).hands now.rests goes.answer told.made told.hands' told.told refused (sym goes.reply_is ∙ e);
+        } in
+        let core' = resize-core eq hashes refuse s caller s' event reply x lawful.core in
+        let moved = lawful_resizes eq input build write finish classes respects refuse s s' caller event reply lawful x in
+        record {
+          steps = inr x;
+          lawful = record {
+            core = core';
+            law = subst (λ y. (es : _) × ((tales : _) × IsKept eq (hashes y) s'.mode s'.store s'.callers es tales)) (sym (left eq (hashes s.store.hasher) law refuse s caller s' event reply x refl es tales lawful.core kept).hasher_is)
+                (_, (_, resize_kept eq (hashes s.store.hasher) law refuse s caller s' event reply x refl es tales lawful.core kept));
+          };
+          counted = counted_resize eq (hashes s.store.hasher) law refuse s caller s' event reply x refl es tales lawful.core core' kept counted;
+          moves = moved.0;
+          keeps = moved.1;
+          shard = λ r by is asks. let f : None ≡ Some r = sym (ap call_in was) ∙ is in absurd cc;
+        }
+
+    -- whatever was under way
+    pub work_sound : (work : Work K V A) → working s.callers caller ≡ Some work → WorkGoes eq says hashes refuse s.store caller s'.store event reply rest work → IsSound
+    work_sound (works.Call before) was goes = call_sound before was goes
+    work_sound (works.Resize before) was goes = resizer_sound before was goes

@@ -1,0 +1,70 @@
+-- The whole of one call of a map for one caller, as turns of a core with one seat.
+use Rattle.std.proofs.Common.{◌≡◌, ℕ, ◌^◌, ◌<◌, Bool, Option, None, Some, [], ◌∷◌, inl, refl, subst}
+use Rattle.std.specs.Int.{IsPowerOfTwo}
+use Rattle.papaya_words.specs.declared.probe.ResizeMode.{ResizeMode}
+use Rattle.papaya_ask.specs.declared.call.Call.{Call}
+use Rattle.papaya_ask.specs.declared.call.Reply.{Reply}
+use Rattle.papaya_store.specs.Store.{StoreState}
+use Rattle.papaya_timeline.specs.declared.seat.Work.{Work}
+use Rattle.papaya_timeline.specs.declared.trace.Entry.{Entry}
+use Rattle.papaya_timeline.specs.declared.trace.Event.{Event}
+use Rattle.papaya_timeline.specs.declared.trace.Event.TheVariants.{Begun, Replied}
+use Rattle.papaya_timeline.specs.declared.trace.Turn.TheVariants.{Begin, Finish}
+use Rattle.papaya_timeline.specs.Begins.{Begins, begun_work}
+use Rattle.papaya_timeline.specs.Core.{CoreState}
+use Rattle.papaya_timeline.specs.Maps.{key_of}
+use Rattle.papaya_timeline.specs.Runs.{History, StepsRun, TurnsRun, with_event, with_step}
+use Rattle.papaya_timeline.specs.Solo.{RunsAlone, whatever}
+use Rattle.papaya_seq.specs.Map.{MapState, core_of}
+
+-- a core whose one seat has this
+abbrev pub seated_work : {K V S A : Type 0} → StoreState K V S → Option (Work K V A) → ResizeMode → ℕ → CoreState K V S A
+seated_work store work mode initial = record { store = store; callers = record { caller = 0; work = work } ∷ []; mode = mode; initial = initial }
+
+-- the last of a step's entries is its reply
+pub last_entry : (event : Event) (o : Option Reply) (before : History) (reply : Reply) → o ≡ Some reply → (last : Entry) × (rest : History) × (with_step 1 0 event o before ≡ last ∷ rest) × (last.event ≡ Replied reply)
+last_entry event None before reply e = let f : None ≡ Some reply = e in absurd cc
+last_entry event (Some told) before reply e =
+    let same : told ≡ reply = cc in
+    (record { turn = 1; caller = 0; event = Replied told }, with_event 1 0 event before, refl, subst (λ r. Replied told ≡ Replied r) same refl)
+
+module _ {K V S : Type 0} (eq : K → K → Bool) (hash : S → K → ℕ) (s : MapState K V S) (call : Call K V (Unit {0})) where
+  -- the call as it begins, in its seat
+  abbrev pub start : CoreState K V S (Unit {0})
+  start = seated_work s.store (Some (begun_work (hash s.store.hasher) s.mode s.initial call)) s.mode s.initial
+
+  -- the hash of its key has 64 bits
+  abbrev pub IsHashed : Type 0
+  IsHashed = (k : K) → key_of call ≡ Some k → hash s.store.hasher k < 2 ^ 64
+
+  -- it begins
+  pub begins_so : IsHashed → IsPowerOfTwo s.initial → Begins (hash s.store.hasher) (core_of s) 0 call start
+  begins_so fits power = record { store = refl; callers = refl; mode = refl; initial = refl; fits = fits; power = power }
+
+  -- the turns of a run that made so many steps
+  pub turns_made : IsHashed → IsPowerOfTwo s.initial → (steps : ℕ) (s' : CoreState K V S (Unit {0})) (history : History) → StepsRun eq whatever hash 1 0 steps start (with_event 0 0 Begun []) s' history → TurnsRun eq whatever hash (Begin 0 call ∷ Finish 0 steps ∷ []) 2 (core_of s) s' history
+  turns_made fits power steps s' history runs = (
+    Finish 0 steps,
+    start,
+    with_event 0 0 Begun [],
+    refl,
+    (Begin 0 call, core_of s, [], refl, (refl, refl), inl (refl, begins_so fits power, refl)),
+    runs,
+  )
+
+  -- The call has replied: it was made alone.
+  pub record IsOver (store : StoreState K V S) (reply : Reply) : Type 0 where
+    pub ran : RunsAlone eq hash (core_of s) call reply (seated_work store None s.mode s.initial)
+
+  pub made_over : IsHashed → IsPowerOfTwo s.initial → (steps : ℕ) (store : StoreState K V S) (history : History) → StepsRun eq whatever hash 1 0 steps start (with_event 0 0 Begun []) (seated_work store None s.mode s.initial) history
+      → (reply : Reply) (last : Entry) (before : History) → history ≡ last ∷ before → last.event ≡ Replied reply → IsOver store reply
+  made_over fits power steps store history runs reply last before ends replied = record {
+    ran = record {
+      idle = refl;
+      steps = steps;
+      last = last;
+      before = before;
+      runs = turns_made fits power steps (seated_work store None s.mode s.initial) (last ∷ before) (subst (λ (h : History). StepsRun eq whatever hash 1 0 steps start (with_event 0 0 Begun []) (seated_work store None s.mode s.initial) h) ends runs);
+      replied = replied;
+    };
+  }

@@ -1,0 +1,215 @@
+// Room that is made ahead, and resizes that are ended. Where the tests run with a failing allocation,
+// as by `rt try --test --fail-alloc N`, a call here meets it.
+use crate::expect::{is, is_at};
+use crate::growth::{fills, has_below, looks_so, made};
+use crate::hashing::APART;
+use crate::numbers::{Numbers, Usual, finds, has, inserts};
+use papaya_ask::call::{Call, Reply};
+use papaya_call::answers::Listed;
+use papaya_seq::seq::HashMap;
+use papaya_words::probe::{Refused, ResizeMode};
+use std::alloc::Global;
+use std::hash::BuildHasher;
+use std::process::Abort;
+use std::test::Fail;
+
+/// Either mode, with chunks of one slot.
+const MODES: [ResizeMode; 2] = [ResizeMode::Incremental(1), ResizeMode::Blocking];
+
+/// Room for so many more pairs leaves a root of so many slots, and no pairs are being moved.
+fn reserves<S: BuildHasher>(
+    rt: &impl Abort,
+    map: &mut HashMap<u64, u64, S>,
+    more: usize,
+    slots: usize,
+) {
+    is_at(rt, more, map.reserve(more), Ok(()));
+    is_at(rt, more, (map.slots(), map.resizing()), (slots, false));
+}
+
+#[test]
+fn a_new_map_gets_its_first_table(rt: HostRuntime) -> Result<(), Fail> {
+    let mut map: Usual = HashMap::new(rt.alloc())?;
+    reserves(&rt, &mut map, 0, 8);
+    reserves(&rt, &mut map, 6, 8);
+    has(&rt, &map, 0);
+    Ok(())
+}
+
+/// Five pairs in sixteen slots, and room for twenty more.
+fn makes_room_beside_five(rt: &impl Abort, map: &mut Usual) {
+    for key in 0..5u64 {
+        inserts(rt, map, key, key, Ok(None));
+    }
+    is(rt, map.slots(), 16);
+    reserves(rt, map, 20, 64);
+    for key in 0..5u64 {
+        finds(rt, map, key, Some(&key));
+    }
+    has(rt, map, 5);
+}
+
+#[test]
+fn room_beside_pairs(rt: HostRuntime) -> Result<(), Fail> {
+    let mut map: Usual = HashMap::with_capacity(rt.alloc(), 10)?;
+    makes_room_beside_five(&rt, &mut map);
+    Ok(())
+}
+
+/// For so many pairs there is no table, and the map is as it was.
+fn too_much(rt: &impl Abort, map: &mut Numbers) {
+    for more in [1usize << 61, usize::MAX, 3_221_225_473] {
+        is_at(rt, more, map.reserve(more), Err(Refused::Capacity));
+        looks_so(rt, map, 9, 8, true);
+        has_below(rt, map, 9);
+    }
+}
+
+/// Eight full slots, and room for so many more.
+fn grows_ahead(
+    rt: &impl Abort,
+    alloc: Global,
+    mode: ResizeMode,
+    more: usize,
+    slots: usize,
+) -> Result<(), Fail> {
+    let mut map = made(alloc, mode, 6, APART)?;
+    fills(rt, &mut map, &[(8, 8, false)]);
+    // Nothing is being moved, so nothing is copied.
+    is(rt, map.copy_all(), Ok(()));
+    looks_so(rt, &map, 8, 8, false);
+    reserves(rt, &mut map, more, slots);
+    has_below(rt, &map, 8);
+    Ok(())
+}
+
+#[test]
+fn full_tables_grow_ahead(rt: HostRuntime) -> Result<(), Fail> {
+    for mode in MODES {
+        grows_ahead(&rt, rt.alloc(), mode, 4, 16)?;
+        grows_ahead(&rt, rt.alloc(), mode, 8, 32)?;
+    }
+    Ok(())
+}
+
+/// A resize that is under way is ended.
+fn ends(rt: &impl Abort, map: &mut Numbers) {
+    is(rt, map.copy_all(), Ok(()));
+    looks_so(rt, map, 9, 16, false);
+    has_below(rt, map, 9);
+    is(rt, map.copy_all(), Ok(()));
+    looks_so(rt, map, 9, 16, false);
+}
+
+/// Calls of which three resize the map.
+fn six_calls(alloc: Global) -> Result<Vec<Call<u64, u64, Listed<u64>>>, Fail> {
+    Ok(vec![in alloc;
+        Call::Reserve(9),
+        Call::Insert(9, 9u64),
+        Call::Reserve(1usize << 61),
+        Call::CopyAll,
+        Call::Get(9),
+        Call::Get(11u64),
+    ]?)
+}
+
+/// What they reply where nine pairs were logged before.
+fn six_replies(alloc: Global) -> Result<Vec<Reply>, Fail> {
+    Ok(vec![in alloc;
+        Reply::Done,
+        Reply::Inserted(9),
+        Reply::Refused(Refused::Capacity),
+        Reply::Done,
+        Reply::Found(9),
+        Reply::Absent,
+    ]?)
+}
+
+/// While nine pairs are being moved there is room made for nine more: eighteen want 24 slots.
+fn runs_in_turn(rt: &impl Abort, alloc: Global, map: &mut Numbers) -> Result<(), Fail> {
+    let replies = map.run(six_calls(alloc)?)?;
+    is(rt, replies, six_replies(alloc)?);
+    looks_so(rt, map, 10, 32, false);
+    has_below(rt, map, 10);
+    Ok(())
+}
+
+/// What is done while nine pairs are being moved to sixteen slots.
+#[derive(Clone, Copy)]
+enum Midst {
+    TooMuch,
+    Ends,
+    RunsInTurn,
+}
+
+#[test]
+fn in_the_midst_of_a_resize(rt: HostRuntime) -> Result<(), Fail> {
+    for midst in [Midst::TooMuch, Midst::Ends, Midst::RunsInTurn] {
+        let mut map = made(rt.alloc(), ResizeMode::Incremental(1), 6, APART)?;
+        fills(&rt, &mut map, &[(9, 8, true)]);
+        match midst {
+            Midst::TooMuch => too_much(&rt, &mut map),
+            Midst::Ends => ends(&rt, &mut map),
+            Midst::RunsInTurn => runs_in_turn(&rt, rt.alloc(), &mut map)?,
+        }
+    }
+    Ok(())
+}
+
+/// Has the map the keys below this one, each with itself, and no other?
+fn keeps_below(map: &Numbers, end: u64) -> bool {
+    for key in 0..end {
+        if map.get(&key) != Some(&key) {
+            return false;
+        }
+    }
+    map.get(&end).is_none() && map.len() as u64 == end
+}
+
+/// What was done, or whether the map was as it was where memory was refused.
+fn kept(map: &Numbers, done: Result<(), Refused>, end: u64) -> Result<bool, Refused> {
+    match done {
+        Ok(()) | Err(Refused::Memory) => Ok(keeps_below(map, end)),
+        Err(refused) => Err(refused),
+    }
+}
+
+/// Stores a key, and again where memory was refused for it.
+fn stores_again(map: &mut Numbers, key: u64) -> Result<bool, Refused> {
+    match map.insert(key, key).map(|_| ()) {
+        Err(Refused::Memory) => {
+            let kept = keeps_below(map, key);
+            let _ = map.insert(key, key)?;
+            Ok(kept)
+        }
+        stored => stored.map(|()| true),
+    }
+}
+
+/// Nine keys, of which the last asks for a further table; then the end of the resize, and room: is
+/// each key there after each call?
+fn refusals_keep(map: &mut Numbers) -> Result<bool, Refused> {
+    for key in 0..9u64 {
+        if !stores_again(map, key)? {
+            return Ok(false);
+        }
+    }
+    let ended = map.copy_all();
+    if !kept(map, ended, 9)? {
+        return Ok(false);
+    }
+    let reserved = map.reserve(40);
+    kept(map, reserved, 9)
+}
+
+#[test]
+fn refused_resizes_leave_the_map(rt: HostRuntime) -> Result<(), Fail> {
+    for mode in MODES {
+        let mut map = match made(rt.alloc(), mode, 6, APART) {
+            Err(Refused::Memory) => made(rt.alloc(), mode, 6, APART)?,
+            first => first?,
+        };
+        assert!(rt; refusals_keep(&mut map)?);
+    }
+    Ok(())
+}

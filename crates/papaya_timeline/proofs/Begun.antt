@@ -1,0 +1,84 @@
+-- A call as it begins: on one key, or to resize the map.
+use Rattle.std.proofs.Common.{◌≡◌, ℕ, None, Some, true, false, refl, sym, ◌∙◌, ap}
+use Rattle.papaya_words.specs.declared.probe.ResizeMode.{ResizeMode}
+use Rattle.papaya_ask.specs.declared.call.Call.{Call}
+use Rattle.papaya_ask.specs.declared.call.Call.TheVariants.{Get, Insert, TryInsert, RemoveIf, Compute, Reserve, CopyAll}
+use Rattle.papaya_ask.specs.declared.call.Task.{Task}
+use Rattle.papaya_ask.specs.declared.call.Task.TheVariants as tasks
+use Rattle.papaya_chain.specs.declared.resizer.Resize.{Resize}
+use Rattle.papaya_chain.specs.declared.resizer.Resize.TheVariants as resizes
+use Rattle.papaya_chain.specs.declared.resizer.Resizer.{Resizer}
+use Rattle.papaya_chain.specs.Resizer as resizer
+use Rattle.papaya_store.specs.declared.pairs.Running.{Running}
+use Rattle.papaya_timeline.specs.declared.seat.Work.{Work}
+use Rattle.papaya_timeline.specs.declared.seat.Work.TheVariants as works
+use Rattle.papaya_timeline.specs.Begins.{answers_of_call, begun, begun_work, task_of_call, value_of_call}
+use Rattle.papaya_timeline.specs.Callers.{call_in, resizer_in}
+use Rattle.papaya_timeline.specs.Maps.{key_of}
+use Rattle.papaya_timeline.proofs.CallersLemmas.{same_item}
+
+-- the task of a call on a key; one that resizes the map looks for nothing
+abbrev pub the_task : {K V A : Type 0} → Call K V A → Task
+the_task (Get k) = tasks.Get
+the_task (Insert k v) = tasks.Insert true
+the_task (TryInsert k v) = tasks.Insert false
+the_task (RemoveIf k a) = tasks.RemoveIf
+the_task (Compute k a) = tasks.Compute
+the_task (Reserve more) = tasks.Get
+the_task CopyAll = tasks.Get
+
+-- it is the call's own, where the call has one
+pub task_is_own : {K V A : Type 0} (call : Call K V A) (task : Task) → task_of_call call ≡ Some task → task ≡ the_task call
+task_is_own (Get k) task e = sym (same_item tasks.Get task e)
+task_is_own (Insert k v) task e = sym (same_item (tasks.Insert true) task e)
+task_is_own (TryInsert k v) task e = sym (same_item (tasks.Insert false) task e)
+task_is_own (RemoveIf k a) task e = sym (same_item tasks.RemoveIf task e)
+task_is_own (Compute k a) task e = sym (same_item tasks.Compute task e)
+task_is_own (Reserve more) task e = let f : None ≡ Some task = e in absurd cc
+task_is_own CopyAll task e = let f : None ≡ Some task = e in absurd cc
+
+module _ {K V A : Type 0} (hash : K → ℕ) (mode : ResizeMode) (initial : ℕ) where
+  -- a call on a key
+  pub record IsBegun (call : Call K V A) (r : Running K V A) : Type 0 where
+    pub key : K
+    pub task : Task
+    pub key_is : key_of call ≡ Some key
+    pub task_is : task_of_call call ≡ Some task
+    pub is : r ≡ begun hash mode initial task key (value_of_call call) (answers_of_call call)
+
+  -- a call that resizes the map
+  pub record IsResizeBegun (call : Call K V A) (z : Resizer) : Type 0 where
+    pub resize : Resize
+    pub no_key : key_of call ≡ None
+    pub is : z ≡ resizer.begun resize mode initial
+
+  -- what was put into a seat is what it is
+  same_call : (q r : Running K V A) (w : Work K V A) → w ≡ works.Call q → w ≡ works.Call r → r ≡ q
+  same_call q r w is e = sym (same_item q r (ap (λ (w : Work K V A). call_in (Some w)) (sym is ∙ e)))
+
+  same_resizer : (y z : Resizer) (w : Work K V A) → w ≡ works.Resize y → w ≡ works.Resize z → z ≡ y
+  same_resizer y z w is e = sym (same_item y z (ap (λ (w : Work K V A). resizer_in (Some w)) (sym is ∙ e)))
+
+  no_call : (y : Resizer) (r : Running K V A) (w : Work K V A) → w ≡ works.Resize y → w ≡ works.Call r → ⊥
+  no_call y r w is e = let f : None ≡ Some r = ap (λ (w : Work K V A). call_in (Some w)) (sym is ∙ e) in absurd cc
+
+  no_resizer : (r : Running K V A) (z : Resizer) (w : Work K V A) → w ≡ works.Call r → w ≡ works.Resize z → ⊥
+  no_resizer r z w is e = let f : Some r ≡ None = ap (λ (w : Work K V A). call_in (Some w)) (sym is ∙ e) in absurd cc
+
+  pub call_begun : (call : Call K V A) (r : Running K V A) → begun_work hash mode initial call ≡ works.Call r → IsBegun call r
+  call_begun (Get k) r e = record { key = k; task = tasks.Get; key_is = refl; task_is = refl; is = same_call (begun hash mode initial tasks.Get k None None) r _ refl e }
+  call_begun (Insert k v) r e = record { key = k; task = tasks.Insert true; key_is = refl; task_is = refl; is = same_call (begun hash mode initial (tasks.Insert true) k (Some v) None) r _ refl e }
+  call_begun (TryInsert k v) r e = record { key = k; task = tasks.Insert false; key_is = refl; task_is = refl; is = same_call (begun hash mode initial (tasks.Insert false) k (Some v) None) r _ refl e }
+  call_begun (RemoveIf k a) r e = record { key = k; task = tasks.RemoveIf; key_is = refl; task_is = refl; is = same_call (begun hash mode initial tasks.RemoveIf k None (Some a)) r _ refl e }
+  call_begun (Compute k a) r e = record { key = k; task = tasks.Compute; key_is = refl; task_is = refl; is = same_call (begun hash mode initial tasks.Compute k None (Some a)) r _ refl e }
+  call_begun (Reserve more) r e = absurd (no_call (resizer.begun (resizes.Reserve more) mode initial) r _ refl e)
+  call_begun CopyAll r e = absurd (no_call (resizer.begun resizes.CopyAll mode initial) r _ refl e)
+
+  pub resizer_begun_is : (call : Call K V A) (z : Resizer) → begun_work hash mode initial call ≡ works.Resize z → IsResizeBegun call z
+  resizer_begun_is (Get k) z e = absurd (no_resizer (begun hash mode initial tasks.Get k None None) z _ refl e)
+  resizer_begun_is (Insert k v) z e = absurd (no_resizer (begun hash mode initial (tasks.Insert true) k (Some v) None) z _ refl e)
+  resizer_begun_is (TryInsert k v) z e = absurd (no_resizer (begun hash mode initial (tasks.Insert false) k (Some v) None) z _ refl e)
+  resizer_begun_is (RemoveIf k a) z e = absurd (no_resizer (begun hash mode initial tasks.RemoveIf k None (Some a)) z _ refl e)
+  resizer_begun_is (Compute k a) z e = absurd (no_resizer (begun hash mode initial tasks.Compute k None (Some a)) z _ refl e)
+  resizer_begun_is (Reserve more) z e = record { resize = resizes.Reserve more; no_key = refl; is = same_resizer (resizer.begun (resizes.Reserve more) mode initial) z _ refl e }
+  resizer_begun_is CopyAll z e = record { resize = resizes.CopyAll; no_key = refl; is = same_resizer (resizer.begun resizes.CopyAll mode initial) z _ refl e }

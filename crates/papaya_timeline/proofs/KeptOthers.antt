@@ -1,0 +1,222 @@
+-- A step of one caller leaves what all others rest on, and so keeps a core's words to the law of exchanges.
+use Rattle.std.proofs.Common.{◌≡◌, ◌≢◌, ℕ, ◌<◌, ◌≤◌, Bool, cond, List, ◌++◌, length, Option, Some, None, ◌⊎◌, inl, inr, sym, ◌∙◌, ap, subst, append_assoc, eq-eqb}
+use Rattle.papaya_words.specs.declared.limits.TheConstants.{MAX_LOG_LEN, MAX_TABLES}
+use Rattle.papaya_ask.specs.declared.ask.At.{At}
+use Rattle.papaya_law.specs.Allows.{AllAllowed}
+use Rattle.papaya_law.specs.Class.{IsOn}
+use Rattle.papaya_law.specs.Code.{Coding, IsHashed}
+use Rattle.papaya_law.specs.Exchange.{Setting, Exchange, run, start}
+use Rattle.papaya_law.specs.Grows.{Agrees, Comes}
+use Rattle.papaya_law.specs.Invariant.{named}
+use Rattle.papaya_law.specs.Meaning.{map_left}
+use Rattle.papaya_law.proofs.Grows.{all_carries, map_of_carries}
+use Rattle.papaya_law.proofs.Logs.{on_comes}
+use Rattle.papaya_law.proofs.Moments.{allowed_first, allowed_rest, run-append}
+use Rattle.papaya_law.proofs.OneMap.{keeping, start_keeps}
+use Rattle.papaya_rests.specs.Rests.{change_in}
+use Rattle.papaya_rests.specs.Told.{IsOneOf, word_of}
+use Rattle.papaya_chain.specs.declared.resizer.Resizer.{Resizer}
+use Rattle.papaya_chain_rests.specs.Rests.{Rests}
+use Rattle.papaya_chain_rests.specs.Resizers.{RestsResizer}
+use Rattle.papaya_chain_rests.specs.Told.{Hands}
+use Rattle.papaya_chain_rests.proofs.Stays.{all_carries as rests_carries, all_stays}
+use Rattle.papaya_store.specs.declared.pairs.KeyOf.{KeyOf}
+use Rattle.papaya_store.specs.declared.pairs.Running.{Running}
+use Rattle.papaya_store.specs.Performs.{key_at}
+use Rattle.papaya_store.specs.Store.{Stored, pair_of}
+use Rattle.papaya_store.specs.Tables.{word_at}
+use Rattle.papaya_timeline.specs.declared.seat.Seat.{Seat}
+use Rattle.papaya_timeline.specs.declared.seat.Work.{Work}
+use Rattle.papaya_timeline.specs.declared.seat.Work.TheVariants as works
+use Rattle.papaya_timeline.specs.Callers.{resizing, running, with_work}
+use Rattle.papaya_timeline.specs.Core.{CoreState, IsCore}
+use Rattle.papaya_timeline.specs.Kept.{IsKept, IsCall, IsLogged, IsMade, IsResizing, Tale, setting_of, coding_of, low, told_tales}
+use Rattle.papaya_timeline.proofs.CallersLemmas.{differs, resizing-elsewhere, resizing-here, running-elsewhere, running-here}
+use Rattle.papaya_timeline.proofs.CoreLemmas.{cases_same}
+use Rattle.papaya_timeline.proofs.KeptAnswer.{Stands}
+use Rattle.papaya_timeline.proofs.KeptSettings.{IsLawfulKeys, tables_hashed, grown_agrees}
+use Rattle.papaya_timeline.proofs.KeptTables.{HasMoreTables}
+use Rattle.papaya_timeline.proofs.ResizerLaws.{resizer_carries, resizer_stays}
+
+module _ {K V S A : Type 0} (eq : K → K → Bool) (hash : K → ℕ) (law : IsLawfulKeys eq hash) (s : CoreState K V S A) (caller : ℕ) (s' : CoreState K V S A)
+    (mode_is : s'.mode ≡ s.mode) (es : List (Exchange (Stored K V))) (tales : ℕ → Tale K V) (core : IsCore s.store s.callers s.mode) (kept : IsKept eq hash s.mode s.store s.callers es tales)
+    (made : List (Exchange (Stored K V))) (hands : Hands (Stored K V)) where
+  -- the setting before and after the step, and the coding
+  abbrev g : Setting K (Stored K V)
+  g = setting_of eq (low hash) s.mode s.store.words.tables
+
+  abbrev g' : Setting K (Stored K V)
+  g' = setting_of eq (low hash) s'.mode s'.store.words.tables
+
+  abbrev c : Coding K (Stored K V)
+  c = coding_of (low hash)
+
+  -- the exchanges and the tales after it
+  abbrev pub es' : List (Exchange (Stored K V))
+  es' = es ++ made
+
+  abbrev pub tales' : ℕ → Tale K V
+  tales' = told_tales tales caller made hands
+
+  -- What a step leaves: what was exchanged was allowed, logs and tables grow, and a pair that a slot names stood in one before, or is the stepping call's.
+  pub record IsLeaving (Mine : Stored K V → Type 0) : Type 0 where
+    pub allowed : AllAllowed g start es'
+    pub keys : (at : KeyOf K) (k : K) → key_at s.store.keys at ≡ Some k → key_at s'.store.keys at ≡ Some k
+    pub logged : (n : ℕ) (p : Stored K V) → pair_of s.store n ≡ Some p → pair_of s'.store n ≡ Some p
+    pub few : length s.store.pairs ≤ MAX_LOG_LEN → length s'.store.pairs ≤ MAX_LOG_LEN
+    pub tables_few : length s.store.words.tables ≤ MAX_TABLES → length s'.store.words.tables ≤ MAX_TABLES
+    pub grown : HasMoreTables s.store.words.tables s'.store.words.tables
+    pub coded : (at : At) → word_of g c (run es' start) at ≡ word_at s'.store.words at
+    pub there : (t : ℕ) → 0 < t → Comes (run es' start) t → IsMade s.store t
+    pub slots : (t x : ℕ) (p : Stored K V) → named ((run es' start).slot t x) ≡ Some p → Stands (run es start) p ⊎ Mine p
+    -- the stepping call's pairs are logged, and are no other call's
+    pub mine_logged : (p : Stored K V) → Mine p → IsLogged s'.store p
+    pub mine_apart : (d : ℕ) (r : Running K V A) → running s.callers d ≡ Some r → d ≢ caller → (p p' : Stored K V) → Mine p → IsOneOf (tales d).hands.call.made p' → p.number ≢ p'.number
+
+  module _ {Mine : Stored K V → Type 0} (left : IsLeaving Mine) where
+    -- keys are placed by their hashes
+    hashed : IsHashed g c
+    hashed = tables_hashed eq hash law s.mode s.store.words.tables core.sizes
+
+    -- the tables that have come are as they were
+    pub agrees : Agrees (IsOn (run es' start).first (run es' start).next) g g'
+    agrees = grown_agrees eq hash s.mode s'.mode s.store.words.tables s'.store.words.tables mode_is left.grown (IsOn (run es' start).first (run es' start).next) (λ t on. left.there t on.0 (on_comes (run es' start) t on))
+
+    -- the map is the same in the grown setting
+    pub same_map : (k : K) → map_left g' es k ≡ map_left g es k
+    same_map k = ap (λ f. f k) (map_of_carries g g' (IsOn (run es' start).first (run es' start).next) agrees es (λ y. None))
+
+    -- a table that was made is still there
+    pub still_there : (t : ℕ) → IsMade s.store t → IsMade s'.store t
+    still_there t w = let grown = left.grown t w.0 w.1 in (grown.0, grown.1)
+
+    -- the exchanges of the step come after those of a tale
+    pub longer_split : (tale : Tale K V) → tale.begun ++ tale.since ≡ es → tale.begun ++ (tale.since ++ made) ≡ es'
+    longer_split tale split = sym (append_assoc tale.begun tale.since made) ∙ ap (λ l. l ++ made) split
+
+    -- what a call rests on in the grown setting
+    pub grown_rests : (tale : Tale K V) (split : tale.begun ++ tale.since ≡ es) (k : K) (m : _) (hands : Hands (Stored K V)) → Rests g c tale.begun (tale.since ++ made) k m hands → Rests g' c tale.begun (tale.since ++ made) k m hands
+    grown_rests tale split k m hands rests =
+        let to : es' ≡ tale.begun ++ (tale.since ++ made) = sym (longer_split tale split) in
+        rests_carries g g' c hashed tale.begun (tale.since ++ made) (subst (AllAllowed g start) to left.allowed) (subst (λ l. Agrees (IsOn (run l start).first (run l start).next) g g') to agrees) k m hands rests
+
+    -- and so what a resizer rests on
+    pub grown_resizer : (z : Resizer) (hands : Hands (Stored K V)) → RestsResizer g c (run es' start) z hands → RestsResizer g' c (run es' start) z hands
+    grown_resizer z hands rests = resizer_carries g g' c (run es' start) (map_left g es') (keeping g hashed.lawful es' left.allowed) agrees z hands rests
+
+    -- a pair that stood in a slot is logged
+    pub stood_logged : (p : Stored K V) → Stands (run es start) p → IsLogged s'.store p
+    stood_logged p (t, x, names) = left.logged p.number p (kept.logged t x p names)
+
+    -- another call's facts
+    other_unwritten : (d : ℕ) (r : Running K V A) → running s.callers d ≡ Some r → d ≢ caller → (p : Stored K V) → IsOneOf (tales d).hands.call.made p → change_in r.machine.call.state ≡ None → (t x : ℕ) (q : Stored K V) → named ((run es' start).slot t x) ≡ Some q → q.number ≢ p.number
+    other_unwritten d r runs differ p is_made none t x q names = elim (left.slots t x q names) [
+      | inl (u, y, stood) ↦ (kept.calls d r runs).unwritten p is_made none u y q stood
+      | inr mine ↦ left.mine_apart d r runs differ q p mine is_made
+    ]
+
+    -- so it rests on what is told of it after the step
+    other_call : (d : ℕ) (r : Running K V A) → running s.callers d ≡ Some r → d ≢ caller → (hands : Hands (Stored K V)) → (tales d).hands ≡ hands → IsCall eq hash s'.mode s'.store r es' (record { begun = (tales d).begun; since = (tales d).since ++ made; hands = hands })
+    other_call d r runs differ hands e =
+        let o = kept.calls d r runs in
+        let tale : Tale K V = tales d in
+        let stays : Rests g c tale.begun (tale.since ++ made) o.key r.machine tale.hands =
+        all_stays g c hashed tale.begun tale.since made (subst (AllAllowed g start) (sym (longer_split tale o.split)) left.allowed) o.key r.machine tale.hands o.rests in
+        record {
+          key = o.key;
+          own = left.keys r.key o.key o.own;
+          answers = o.answers;
+          split = longer_split tale o.split;
+          rests = subst (Rests g' c tale.begun (tale.since ++ made) o.key r.machine) e (grown_rests tale o.split o.key r.machine tale.hands stays);
+          last = λ p l. left.logged p.number p (o.last p (ap (λ (y : Hands (Stored K V)). y.call.last) e ∙ l));
+          carried = λ p l. left.logged p.number p (o.carried p (ap (λ (y : Hands (Stored K V)). y.kept) e ∙ l));
+          made = λ p l. left.logged p.number p (o.made p (subst (λ (y : Hands (Stored K V)). IsOneOf y.call.made p) (sym e) l));
+          opens = λ t opening. still_there t (o.opens t opening);
+          links = λ behind t linking. still_there t (o.links behind t linking);
+          unwritten = λ p l. other_unwritten d r runs differ p (subst (λ (y : Hands (Stored K V)). IsOneOf y.call.made p) (sym e) l);
+        }
+
+    -- and so does another resizer
+    other_resizer : (d : ℕ) (z : Resizer) → resizing s.callers d ≡ Some z → (hands : Hands (Stored K V)) → (tales d).hands ≡ hands → IsResizing eq hash s'.mode s'.store z es' (record { begun = (tales d).begun; since = (tales d).since ++ made; hands = hands })
+    other_resizer d z resizes hands e =
+        let o = kept.resizers d z resizes in
+        let stays : RestsResizer g c (run es' start) z (tales d).hands =
+        subst (λ w. RestsResizer g c w z (tales d).hands) (sym (run-append es made start))
+        (resizer_stays g c hashed (run es start) (map_left g es) (keeping g hashed.lawful es (allowed_first g es made start left.allowed)) made (allowed_rest g es made start left.allowed) z (tales d).hands o.rests) in
+        record {
+          rests = subst (RestsResizer g' c (run es' start) z) e (grown_resizer z (tales d).hands stays);
+          last = λ p l. left.logged p.number p (o.last p (ap (λ (y : Hands (Stored K V)). y.call.last) e ∙ l));
+          carried = λ p l. left.logged p.number p (o.carried p (ap (λ (y : Hands (Stored K V)). y.kept) e ∙ l));
+          opens = λ t opening. still_there t (o.opens t opening);
+          links = λ behind t linking. still_there t (o.links behind t linking);
+        }
+
+    -- the stepping caller was told of what its answer says
+    pub own_hands : (d : ℕ) → d ≡ caller → hands ≡ (tales' d).hands
+    own_hands d same = sym (ap (λ b. cond b hands (tales d).hands) (eq-eqb d caller same))
+
+    -- and no other of anything
+    other_hands : (d : ℕ) → d ≢ caller → (tales d).hands ≡ (tales' d).hands
+    other_hands d differ = sym (ap (λ b. cond b hands (tales d).hands) (differs d caller differ))
+
+    module _ (work : Option (Work K V A)) (callers : s'.callers ≡ with_work s.callers caller work)
+        (own_call : (r : Running K V A) → work ≡ Some (works.Call r) → IsCall eq hash s'.mode s'.store r es' (tales' caller))
+        (own_resizer : (z : Resizer) → work ≡ Some (works.Resize z) → IsResizing eq hash s'.mode s'.store z es' (tales' caller))
+        (own_apart : (r : Running K V A) → work ≡ Some (works.Call r) → (d : ℕ) (q : Running K V A) → running s.callers d ≡ Some q → d ≢ caller → (p p' : Stored K V) → IsOneOf hands.call.made p → IsOneOf (tales d).hands.call.made p' → p.number ≢ p'.number) where
+      -- the call of another caller is the one of before
+      other_runs : (d : ℕ) (r : Running K V A) → d ≢ caller → running s'.callers d ≡ Some r → running s.callers d ≡ Some r
+      other_runs d r differ runs = sym (running-elsewhere s.callers caller d work differ) ∙ sym (ap (λ (y : List (Seat K V A)). running y d) callers) ∙ runs
+
+      other_resizes : (d : ℕ) (z : Resizer) → d ≢ caller → resizing s'.callers d ≡ Some z → resizing s.callers d ≡ Some z
+      other_resizes d z differ runs = sym (resizing-elsewhere s.callers caller d work differ) ∙ sym (ap (λ (y : List (Seat K V A)). resizing y d) callers) ∙ runs
+
+      -- the stepping caller goes on with its work
+      own_runs : (d : ℕ) (r : Running K V A) → d ≡ caller → running s'.callers d ≡ Some r → work ≡ Some (works.Call r)
+      own_runs d r same runs = running-here s.callers caller work r (sym (ap (λ (y : List (Seat K V A)). running y caller) callers) ∙ ap (running s'.callers) (sym same) ∙ runs)
+
+      own_resizes : (d : ℕ) (z : Resizer) → d ≡ caller → resizing s'.callers d ≡ Some z → work ≡ Some (works.Resize z)
+      own_resizes d z same runs = resizing-here s.callers caller work z (sym (ap (λ (y : List (Seat K V A)). resizing y caller) callers) ∙ ap (resizing s'.callers) (sym same) ∙ runs)
+
+      -- each call rests on what is told of it
+      calls : (d : ℕ) (r : Running K V A) → running s'.callers d ≡ Some r → IsCall eq hash s'.mode s'.store r es' (tales' d)
+      calls d r runs = elim (cases_same d caller) [
+        | inl same ↦ subst (λ y. IsCall eq hash s'.mode s'.store r es' (tales' y)) (sym same) (own_call r (own_runs d r same runs))
+        | inr differ ↦ other_call d r (other_runs d r differ runs) differ (tales' d).hands (other_hands d differ)
+      ]
+
+      resizers : (d : ℕ) (z : Resizer) → resizing s'.callers d ≡ Some z → IsResizing eq hash s'.mode s'.store z es' (tales' d)
+      resizers d z resizes = elim (cases_same d caller) [
+        | inl same ↦ subst (λ y. IsResizing eq hash s'.mode s'.store z es' (tales' y)) (sym same) (own_resizer z (own_resizes d z same resizes))
+        | inr differ ↦ other_resizer d z (other_resizes d z differ resizes) (tales' d).hands (other_hands d differ)
+      ]
+
+      -- no two calls have made one pair
+      apart : (d e : ℕ) (r q : Running K V A) → running s'.callers d ≡ Some r → running s'.callers e ≡ Some q → d ≢ e → (p p' : Stored K V) → IsOneOf (tales' d).hands.call.made p → IsOneOf (tales' e).hands.call.made p' → p.number ≢ p'.number
+      apart d e r q runs_d runs_e differ p p' made_d made_e = elim (cases_same d caller) [
+        | inl d_steps ↦ elim (cases_same e caller) [
+          | inl e_steps ↦ absurd (differ (d_steps ∙ sym e_steps))
+          | inr e_not ↦ own_apart r (own_runs d r d_steps runs_d) e q (other_runs e q e_not runs_e) e_not p p' (subst (λ (y : Hands (Stored K V)). IsOneOf y.call.made p) (sym (own_hands d d_steps)) made_d) (subst (λ (y : Hands (Stored K V)). IsOneOf y.call.made p') (sym (other_hands e e_not)) made_e)
+        ]
+        | inr d_not ↦ elim (cases_same e caller) [
+          | inl e_steps ↦ (λ same. own_apart q (own_runs e q e_steps runs_e) d r (other_runs d r d_not runs_d) d_not p' p (subst (λ (y : Hands (Stored K V)). IsOneOf y.call.made p') (sym (own_hands e e_steps)) made_e) (subst (λ (y : Hands (Stored K V)). IsOneOf y.call.made p) (sym (other_hands d d_not)) made_d) (sym same))
+          | inr e_not ↦ kept.apart d e r q (other_runs d r d_not runs_d) (other_runs e q e_not runs_e) differ p p' (subst (λ (y : Hands (Stored K V)). IsOneOf y.call.made p) (sym (other_hands d d_not)) made_d) (subst (λ (y : Hands (Stored K V)). IsOneOf y.call.made p') (sym (other_hands e e_not)) made_e)
+        ]
+      ]
+
+      -- a pair that a slot names is logged
+      logged : (t x : ℕ) (p : Stored K V) → named ((run es' start).slot t x) ≡ Some p → IsLogged s'.store p
+      logged t x p names = elim (left.slots t x p names) [ inl stood ↦ stood_logged p stood | inr mine ↦ left.mine_logged p mine ]
+
+      -- the core after the step
+      pub leaves_kept : IsKept eq hash s'.mode s'.store s'.callers es' tales'
+      leaves_kept = record {
+        allowed = all_carries g hashed.lawful g' es' start (λ k. None) (start_keeps g hashed.lawful) left.allowed agrees;
+        coded = left.coded;
+        made = λ t some comes. still_there t (left.there t some comes);
+        logged = logged;
+        few = left.few kept.few;
+        tables_few = left.tables_few kept.tables_few;
+        calls = calls;
+        resizers = resizers;
+        apart = apart;
+      }
