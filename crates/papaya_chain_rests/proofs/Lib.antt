@@ -14,6 +14,9 @@ pub mod Names
 pub mod Goes
 pub mod Replies
 pub mod Order
+-- the table that it is about to link
+pub mod LinkStates
+pub mod LinkMade
 -- what its closure is shown once
 pub mod Once
 -- why it is refused

@@ -20,7 +20,7 @@ use Rattle.papaya_chain_rests.proofs.Goes.{machine_goes}
 use Rattle.papaya_chain_rests.proofs.Names.{call_asks}
 
 -- a call that is set aside has shown it where it remembers what to insert
-aside_filled : (fill : Option ℕ) (stage : Stage) (t : ℕ) → left_by stage ≡ Some t → HasShownNone fill stage → IsFilled fill
+pub aside_filled : (fill : Option ℕ) (stage : Stage) (t : ℕ) → left_by stage ≡ Some t → HasShownNone fill stage → IsFilled fill
 aside_filled fill (Leaving u) t e h = h
 aside_filled fill (Growing need) t e h = h
 aside_filled fill stage t e h = absurd cc

@@ -41,7 +41,7 @@ same_aimed (Growing (Room t)) n aim still = still
 same_aimed stage n aim still = still
 
 -- for no chunk alone, and not for all
-not_chunk : (stage : Stage) (n : ℕ) → aim_for stage n ≡ aims.Chunk → ⊥
+pub not_chunk : (stage : Stage) (n : ℕ) → aim_for stage n ≡ aims.Chunk → ⊥
 not_chunk (Growing (Pair_at t x)) n e = cc e
 not_chunk (Growing (Room t)) n e = cc e
 not_chunk stage n e = cc e

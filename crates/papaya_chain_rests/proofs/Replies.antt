@@ -46,7 +46,7 @@ aside_asks made hash (Leaving u) t e = let same : u ≡ t = cc e in ap (λ n. Lo
 aside_asks made hash (Growing need) t e = let same : needed need ≡ t = cc e in ap (λ n. Load (Next n)) same
 aside_asks made hash stage t e = absurd cc
 
-aside_unchanged : (stage : Stage) (t : ℕ) → left_by stage ≡ Some t → change_in stage ≡ None
+pub aside_unchanged : (stage : Stage) (t : ℕ) → left_by stage ≡ Some t → change_in stage ≡ None
 aside_unchanged (Leaving u) t e = refl
 aside_unchanged (Growing need) t e = refl
 aside_unchanged stage t e = absurd cc

@@ -1,7 +1,9 @@
 pub mod Alone
 pub mod Answered
 pub mod Answering
+pub mod Burying
 pub mod CallsDone
+pub mod AtOnce
 pub mod Causes
 pub mod ComputeAsked
 pub mod ComputeCalled
@@ -15,6 +17,7 @@ pub mod Counting
 pub mod Driving
 pub mod Ending
 pub mod Inserting
+pub mod InsertingDone
 pub mod InsertingRoot
 pub mod InsertingRun
 pub mod InsertingSteps
@@ -25,8 +28,10 @@ pub mod LookFinds
 pub mod LookResults
 pub mod LookRun
 pub mod LookSteps
+pub mod LookTurns
 pub mod NoPlace
 pub mod OwnSteps
+pub mod RemovalDone
 pub mod RemovalRefused
 pub mod RemovalReply
 pub mod RemovalRoot
@@ -40,6 +45,7 @@ pub mod ResizerRun
 pub mod ResizerSizes
 pub mod ResizerSteps
 pub mod Rooms
+pub mod Searching
 pub mod SeekLaw
 pub mod SeekSteps
 pub mod SeekTurns

@@ -22,7 +22,7 @@ use Rattle.papaya_keys.specs.Hashes.{hash_of}
 use Rattle.papaya_timeline.proofs.SoloLaw.{alone_answered}
 use Rattle.papaya_timeline.proofs.KeptCore.{keys_lawful}
 use Rattle.papaya_timeline.proofs.KeptSettings.{IsLawfulKeys}
-use Rattle.papaya_seq.specs.Looks.{IsFound, LooksUp, Replies, found_number, reply_of}
+use Rattle.papaya_seq.specs.Looks.{IsFound, LooksUp, Replies, reply_of}
 use Rattle.papaya_seq.specs.Map.{Holds, MapState, core_of}
 use Rattle.papaya_seq.proofs.Lawful.{IsMatched, MatchesNone, decided, logged_content, lookup_has_none, lookup_holds, none_held}
 use Rattle.papaya_seq.proofs.LookRun.{look_alone}
@@ -102,6 +102,11 @@ module _ {K V S H : Type 0} (eq : K → K → Bool) (input : K → List (List �
       let all = kept.told [] reply done in
       let finds = looked_up all.0 reply all.1 in
       (finds.found, (finds.is_found, (all.0, subst (Replies matches s.store (started Get_task hashed s.mode s.initial) all.0) (sym finds.is_reply) all.1)), finds.is_reply)
+
+-- the number in a reply that names a pair that was found
+abbrev pub found_number : Reply → Option ℕ
+found_number (Found n) = Some n
+found_number _ = None
 
 -- the number in the reply is the pair's
 pub number_found : {K V : Type 0} (found : Option (Stored K V)) → found_number (reply_of found) ≡ option_map (λ p. p.number) found

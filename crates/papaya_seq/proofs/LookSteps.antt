@@ -26,7 +26,7 @@ use Rattle.papaya_ask.specs.declared.search.Seen.{Seen}
 use Rattle.papaya_ask.specs.declared.search.Seen.TheVariants as seen
 use Rattle.papaya_call.specs.declared.write.Made.{Made}
 use Rattle.papaya_rests.specs.Alone.{HasMetNone, IsCurrent, IsPrompt, IsRead, IsSeeker, IsUnmatched, left_in}
-use Rattle.papaya_call.specs.Machine.{IsStanding, started, after, ask_of, asks, at_root, passes, goes_as}
+use Rattle.papaya_call.specs.Machine.{started, after, ask_of, asks, at_root, passes, goes_as}
 use Rattle.papaya_rests.proofs.AloneCurrent.{machine_stays}
 use Rattle.papaya_rests.proofs.AloneSteps.{machine_nears}
 use Rattle.papaya_rests.proofs.AloneUnmatched.{machine_meets_none}
@@ -345,7 +345,6 @@ none_replies made hash (Growing t) reply none e = absurd none
 
 -- What is kept of a lookup: where it stands, and how it came there from its begin.
 pub record IsLookUp {K V S : Type 0} (matches : K → Bool) (store : StoreState K V S) (begun m : Machine) : Type 0 where
-  pub standing : IsStanding m
   pub task : m.task ≡ Get
   pub looking : IsLooking store m.state
   pub current : IsCurrent (λ at. word_at store.words at) m.state
@@ -377,10 +376,9 @@ module _ {K V S : Type 0} (eq : K → K → Bool) (hash : K → ℕ) (mode : Res
   lookup_meets_none none met = machine_meets_none m (subst IsSeeker (sym getting) tt) answer met (unmatched_in store matches m.made m.hash none m.state answer looking told)
 
   -- so what is kept of it is kept
-  pub look_up_goes : (begun : Machine) → IsLookUp matches store begun m → IsStanding (after m answer) → IsLookUp matches store begun (after m answer)
-  look_up_goes begun kept standing =
+  pub look_up_goes : (begun : Machine) → IsLookUp matches store begun m → IsLookUp matches store begun (after m answer)
+  look_up_goes begun kept =
       record {
-        standing = standing;
         task = (same_task m answer).0 ∙ getting;
         looking = lookup_looks;
         current = lookup_current kept.current;
@@ -388,6 +386,6 @@ module _ {K V S : Type 0} (eq : K → K → Bool) (hash : K → ℕ) (mode : Res
       }
 
 -- and it is kept of one that begins
-pub look_up_begins : {K V S : Type 0} (eq : K → K → Bool) (hash : K → ℕ) (mode : ResizeMode) (store : StoreState K V S) → IsLawfulCore {A = Unit {0}} eq hash store [] mode → (matches : K → Bool) (hashed initial : ℕ) → IsStanding (started Get hashed mode initial) → IsLookUp matches store (started Get hashed mode initial) (started Get hashed mode initial)
-look_up_begins eq hash mode store lawful matches hashed initial standing =
-    record { standing = standing; task = refl; looking = tt; current = record { bare = core_bare eq hash [] mode store lawful; read = tt }; told = λ answers reply replies. (answers, replies) }
+pub look_up_begins : {K V S : Type 0} (eq : K → K → Bool) (hash : K → ℕ) (mode : ResizeMode) (store : StoreState K V S) → IsLawfulCore {A = Unit {0}} eq hash store [] mode → (matches : K → Bool) (hashed initial : ℕ) → IsLookUp matches store (started Get hashed mode initial) (started Get hashed mode initial)
+look_up_begins eq hash mode store lawful matches hashed initial =
+    record { task = refl; looking = tt; current = record { bare = core_bare eq hash [] mode store lawful; read = tt }; told = λ answers reply replies. (answers, replies) }

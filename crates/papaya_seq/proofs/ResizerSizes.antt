@@ -23,7 +23,7 @@ use Rattle.papaya_chain.specs.Resizer.{after_in, at_count, at_last, at_next, at_
 use Rattle.papaya_chain.specs.Room.{room_of}
 use Rattle.papaya_chain_rests.specs.Goes.{link_in_copying}
 use Rattle.papaya_chain_rests.specs.Resizers.{HasLink}
-use Rattle.papaya_timeline.proofs.LinkStates.{Copied_holds, In, Linked_in, Of, copying_after, link_after}
+use Rattle.papaya_chain_rests.proofs.LinkStates.{Copied_holds, In, Linked_in, Of, copying_after, link_after}
 use Rattle.papaya_seq.proofs.Sizes.{IsSizedLink, New, Told, is_sized, sized_is, stable}
 
 -- `Sized` is what the number of a table and that of its slots are.

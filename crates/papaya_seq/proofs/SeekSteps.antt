@@ -61,7 +61,8 @@ use Rattle.papaya_timeline.specs.Kept.{IsMade, Tale, slots_in}
 use Rattle.papaya_timeline.specs.Solo.{whatever}
 use Rattle.papaya_timeline.proofs.BudgetSpends.{kept_bounded, budget_bounded}
 use Rattle.papaya_timeline.proofs.KeptSettings.{IsLawfulKeys}
-use Rattle.papaya_timeline.proofs.MadeTables.{copy_made, is_made, machine_made, made_is}
+use Rattle.papaya_chain_rests.proofs.LinkMade.{is_made, machine_made, made_is}
+use Rattle.papaya_timeline.proofs.MadeTables.{copy_made}
 use Rattle.papaya_timeline.proofs.StoreLemmas.{AllSized, IsKeptAsked, numbered, performed_ask, unnumbered, matched}
 use Rattle.papaya_timeline.specs.Ends.{budget_in, budget_of}
 use Rattle.papaya_timeline.proofs.BudgetLaw.{copy_fewer}

@@ -14,7 +14,7 @@ use Rattle.papaya_chain.specs.declared.ask.Answer.TheVariants as answers
 use Rattle.papaya_chain.specs.declared.machine.Machine.{Machine}
 use Rattle.papaya_chain.specs.Machine as machine
 use Rattle.papaya_chain_rests.specs.Goes.{link_in}
-use Rattle.papaya_timeline.proofs.LinkStates.{In, IsStable, Linked_in, Of, machine_holds}
+use Rattle.papaya_chain_rests.proofs.LinkStates.{In, IsStable, Linked_in, Of, machine_holds}
 
 -- `Sized` is what the number of a table and that of its slots are.
 module _ (Sized : ℕ → ℕ → Type 0) where

@@ -1,9 +1,12 @@
 pub mod Answered
+pub mod Buries
 pub mod Calls
 pub mod Computes
 pub mod Computing
+pub mod Drives
 pub mod Ends
 pub mod Looks
 pub mod Map
 pub mod Removes
 pub mod Resizes
+pub mod Searches

@@ -1,9 +1,10 @@
 -- A lookup by the words that stand in the tables.
-use Rattle.std.specs.Prelude.{◌≡◌, ℕ, Bool, false, Option, Some, None, List, [], ◌∷◌}
+use Rattle.std.specs.Prelude.{◌≡◌, Bool, false, Option, Some, None, List, [], ◌∷◌}
 use Rattle.papaya_ask.specs.declared.ask.Ask.{Ask}
 use Rattle.papaya_ask.specs.declared.ask.Ask.TheVariants.{Load, SameKey, SizeOf, Done}
 use Rattle.papaya_ask.specs.declared.ask.Answer.{Answer}
 use Rattle.papaya_ask.specs.declared.ask.Answer.TheVariants.{Word, Yes}
+use Rattle.papaya_ask.specs.declared.ask.At.TheVariants.{Root, Slot}
 use Rattle.papaya_ask.specs.declared.call.Reply.{Reply}
 use Rattle.papaya_ask.specs.declared.call.Reply.TheVariants.{Absent, Found}
 use Rattle.papaya_call.specs.declared.machine.Machine.{Machine}
@@ -18,6 +19,14 @@ abbrev pub matches_in : {K V : Type 0} → (K → Bool) → Option (Stored K V) 
 matches_in matches None = false
 matches_in matches (Some p) = matches p.key
 
+-- what the search of a table asks, and the load of the root
+abbrev pub IsSearchAsk : Ask → Type 0
+IsSearchAsk (Load Root) = Unit {0}
+IsSearchAsk (Load (Slot t i)) = Unit {0}
+IsSearchAsk (SameKey n) = Unit {0}
+IsSearchAsk (SizeOf t) = Unit {0}
+IsSearchAsk _ = ⊥
+
 module _ {K V S : Type 0} (matches : K → Bool) (store : StoreState K V S) where
   -- a load is answered by the word that stands there, a size by the table, a comparison by the pair
   abbrev pub IsToldBy : Ask → Answer → Type 0
@@ -31,15 +40,16 @@ module _ {K V S : Type 0} (matches : K → Bool) (store : StoreState K V S) wher
   Replies m [] reply = ask_of m ≡ Done reply
   Replies m (answer ∷ rest) reply = IsToldBy (ask_of m) answer × Replies (after m answer) rest reply
 
+  -- the machine searches the root, and comes to another one when each of its asks is answered so
+  abbrev pub Comes : Machine → List Answer → Machine → Type 0
+  Comes m [] m' = m' ≡ m
+  Comes m (answer ∷ rest) m' = IsSearchAsk (ask_of m) × IsToldBy (ask_of m) answer
+      × Comes (after m answer) rest m'
+
 -- the reply that names the pair that was found
 abbrev pub reply_of : {K V : Type 0} → Option (Stored K V) → Reply
 reply_of None = Absent
 reply_of (Some p) = Found p.number
-
--- the number in a reply that names a pair that was found
-abbrev pub found_number : Reply → Option ℕ
-found_number (Found n) = Some n
-found_number _ = None
 
 module _ {K V S : Type 0} (eq : K → K → Bool) (matches : K → Bool) (store : StoreState K V S) where
   -- the pair that was found is the map's, or there is none

@@ -1,4 +1,4 @@
-//! Insertions: their machine, answered by the store.
+//! Insertions: at once where that will do, and else by their machine, answered by the store.
 ghost use Rattle.std.specs.Prelude.{◌≡◌, ℕ, false, Some, None};
 ghost use Rattle.papaya_words.specs.declared.probe.Refused.{Refused};
 ghost use Rattle.papaya_timeline.specs.Content.{map_in};
@@ -6,6 +6,7 @@ ghost use Rattle.papaya_timeline.specs.Solo.{IsAnswered, IsNewIn};
 ghost use Rattle.papaya_seq.specs.Map.{IsTryCause, IsWriteCauseAt, Keeps, insertion};
 
 use crate::seq::HashMap;
+use crate::writing::insert_at_once;
 use papaya_ask::ask::Ask as CallAsk;
 use papaya_ask::call::{Reply, Task};
 use papaya_call::answers::Listed;
@@ -15,7 +16,8 @@ use papaya_store::pairs::{KeyOf, Running};
 use std::hash::{BuildHasher, Hash};
 
 /// The value that a call was handed and has not logged.
-fn value_left<K: Drop, V, A: Drop>(running: Running<K, V, A>) -> Option<V>
+#[inline(always)]
+pub(crate) fn value_left<K: Drop, V, A: Drop>(running: Running<K, V, A>) -> Option<V>
     ensures { result ≡ running.value }
 {
     let Running { value, .. } = running;
@@ -23,8 +25,30 @@ fn value_left<K: Drop, V, A: Drop>(running: Running<K, V, A>) -> Option<V>
 }
 
 impl<K: Hash + Eq + Drop, V: Drop, S: BuildHasher> HashMap<K, V, S> {
-    /// Inserts a pair: what the machine replies, and the value where it was not logged.
+    /// Inserts a pair: what the machine replies, and the value where it was not logged. Most
+    /// insertions end where the root's search does, and run no machine.
+    #[inline]
     pub(crate) fn insert_by(&mut self, key: K, value: V, replace: bool) -> (Reply, Option<V>)
+        ensures answers { IsAnswered K.eq (insertion replace key value) (map_in K.eq self.old.store)
+            result.0 (map_in K.eq self.new.store) }
+        ensures fresh { IsNewIn self.old.store result.0 }
+        ensures cause { (refused : Refused) → result.0 ≡ Reply.Refused refused
+            → IsWriteCauseAt self.old (map_in K.eq self.old.store key) refused self.new }
+        ensures absent { replace ≡ false → (refused : Refused) → result.0 ≡ Reply.Refused refused
+            → IsTryCause self.old (map_in K.eq self.old.store key) refused self.new }
+        ensures left { (n : ℕ) → result.0 ≡ Reply.Occupied n → result.1 ≡ Some value }
+        ensures keeps { Keeps self.old self.new }
+    {
+        let hash = self.store.hash(&key);
+        match insert_at_once(&mut self.store, self.alloc, key, value, hash, replace) {
+            Ok(done) => done,
+            Err((key, value)) => self.insert_stepwise(key, value, replace),
+        }
+    }
+
+    /// The same by the machine, step by step.
+    #[inline(never)]
+    fn insert_stepwise(&mut self, key: K, value: V, replace: bool) -> (Reply, Option<V>)
         ensures answers { IsAnswered K.eq (insertion replace key value) (map_in K.eq self.old.store)
             result.0 (map_in K.eq self.new.store) }
         ensures fresh { IsNewIn self.old.store result.0 }

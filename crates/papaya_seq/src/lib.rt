@@ -10,4 +10,6 @@ pub mod laws;
 mod lookup;
 mod removal;
 mod resizing;
+mod search;
 pub mod seq;
+mod writing;

@@ -1,17 +1,19 @@
-//! Lookups: the machine of a lookup, answered by the words that stand in the tables.
+//! Lookups, by the words that stand in the tables. The machine of a lookup stands in the proof.
 ghost use Rattle.std.specs.Prelude.{◌≡◌, option_map};
 ghost use Rattle.papaya_call.specs.Machine.{started};
 ghost use Rattle.papaya_ask.specs.declared.call.Task.TheVariants.{Get};
 ghost use Rattle.papaya_store.specs.Store.{pair_of};
 ghost use Rattle.papaya_keys.specs.Hashes.{hash_of};
-ghost use Rattle.papaya_seq.specs.Looks.{LooksUp, found_number, matches_in};
+ghost use Rattle.papaya_seq.specs.Looks.{LooksUp, matches_in};
 
+use crate::search::{Turn, search};
 use crate::seq::HashMap;
-use papaya_ask::ask::{Answer, Ask};
-use papaya_ask::call::{Reply, Task};
-use papaya_call::machine::Machine;
+use papaya_ask::ask::{Answer, At};
+use papaya_ask::search::Place;
 use papaya_keys::guard::Equivalent;
 use papaya_store::store::Store;
+use papaya_words::probe::ResizeMode;
+use papaya_words::word::Word;
 use std::hash::{BuildHasher, Hash};
 
 /// Does the key of this pair match?
@@ -29,17 +31,6 @@ pub(crate) fn matches<K: Hash + Eq, V, S: BuildHasher, Q: Equivalent<K>>(
     }
 }
 
-/// The number of the pair that a lookup found.
-#[inline(always)]
-fn found_in(reply: Reply) -> Option<u64>
-    ensures { result ≡ found_number reply }
-{
-    match reply {
-        Reply::Found(pair) => Some(pair),
-        _ => None,
-    }
-}
-
 impl<K: Hash + Eq, V, S: BuildHasher> HashMap<K, V, S> {
     /// The number of a key's pair.
     #[inline(always)]
@@ -49,17 +40,19 @@ impl<K: Hash + Eq, V, S: BuildHasher> HashMap<K, V, S> {
             self.now.store.hasher key.now) self.now.mode self.now.initial) found
             × (result ≡ option_map (λ p. p.number) found) }
     {
-        let mut machine = Machine::new(Task::Get, self.store.hash(key), self.mode, self.initial);
-        loop {
-            let answer = match machine.ask() {
-                Ask::Load(at) => Answer::Word(self.store.word(at)),
-                Ask::SameKey(pair) => Answer::Yes(matches(&self.store, pair, key)),
-                Ask::SizeOf(table) => self.store.size_of(table),
-                Ask::Done(reply) => return found_in(reply),
-                // A lookup asks for nothing else.
-                _ => unreachable!(),
-            };
-            machine.answer(answer);
+        let hash = self.store.hash(key);
+        let mut table = self.store.word(At::Root);
+        while let Answer::Size { len, limit } = self.store.size_of(table) {
+            let first = Place::first(hash, table, len, limit);
+            match search(&self.store, key, hash, first) {
+                Turn::Here(_, word) => return Some(Word(word).pair()),
+                Turn::Over(passed) => match self.mode {
+                    ResizeMode::Incremental(_) => table = self.store.word(At::Next(passed)),
+                    ResizeMode::Blocking => return None,
+                },
+                _ => return None,
+            }
         }
+        None
     }
 }

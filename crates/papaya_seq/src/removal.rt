@@ -1,5 +1,10 @@
 //! Removals: their machine, answered by the words that stand in the tables and by a closure.
-ghost use Rattle.std.specs.Prelude.{◌≡◌};
+ghost use Rattle.std.specs.Prelude.{◌≡◌, ℕ, Bool, IsSome, MatchOption, Some, length};
+ghost use Rattle.papaya_words.specs.Word.{pair_of as number_of};
+ghost use Rattle.papaya_ask.specs.Search.{IsSize};
+ghost use Rattle.papaya_ask.specs.declared.ask.At.TheVariants.{Slot};
+ghost use Rattle.papaya_store.specs.Tables.{table_of, word_at};
+ghost use Rattle.papaya_seq.specs.Buries.{IsBuried, IsRemovedAtOnce};
 ghost use Rattle.papaya_words.specs.declared.probe.Refused.{Refused};
 ghost use Rattle.papaya_store.specs.Store.{pair_of};
 ghost use Rattle.papaya_seq.specs.Map.{IsMakeRefusal, KeepsRemoving, next_of};
@@ -7,13 +12,16 @@ ghost use Rattle.papaya_seq.specs.Removes.{IsRemovalAnswer, IsRemovalAsk, IsRemo
 ghost use Rattle.papaya_seq.specs.Removes.{Judges};
 
 use crate::lookup::matches;
+use crate::search::{Turn, search_root};
 use crate::seq::HashMap;
-use papaya_ask::ask::{Answer as CallAnswer, Ask as CallAsk};
+use papaya_ask::ask::{Answer as CallAnswer, Ask as CallAsk, At};
 use papaya_ask::call::{Reply, Task};
+use papaya_call::remove::Removal;
 use papaya_chain::ask::{Answer, Ask};
 use papaya_chain::machine::Machine;
 use papaya_keys::guard::Equivalent;
 use papaya_store::store::Store;
+use papaya_words::word::{Kind, Word};
 use std::hash::{BuildHasher, Hash};
 
 /// Shows a pair to the closure of a removal.
@@ -66,9 +74,88 @@ fn answer_removal<K: Hash + Eq, V, S: BuildHasher, Q: Equivalent<K>, F: FnMut(&K
     }
 }
 
+/// Shows the pair to the closure of a removal, and buries it where the closure agrees.
+#[inline(always)]
+fn bury<K: Hash + Eq, V, S: BuildHasher, F: FnMut(&K, &V) -> bool>(
+    store: &mut Store<K, V, S>,
+    removal: Removal,
+    agrees: &mut F,
+) -> Reply
+    requires callable { F.IsAlwaysCallable agrees.old }
+    requires stands { word_at store.old.words
+        (Slot removal.place.table removal.place.probe.i) ≡ removal.word }
+    requires logged { IsSome (pair_of store.old (number_of removal.word)) }
+    ensures callable { F.IsAlwaysCallable agrees.new }
+    ensures buried { (matches : K → Bool) → IsBuried F.FnMut matches removal store.old agrees.old
+        result store.new agrees.new }
+{
+    let pair = removal.pair();
+    match show(store, pair, agrees) {
+        CallAnswer::Yes(true) => {}
+        CallAnswer::Yes(false) => return Reply::Kept(pair),
+        _ => unreachable!(),
+    }
+    let word = Word(removal.word);
+    let at = At::Slot(removal.place.table, removal.place.probe.i);
+    let _ = store.exchange(at, removal.word, Word::buried(word.hash_byte(), pair).0);
+    store.add_to_shard(0, -1);
+    Reply::Removed(pair)
+}
+
+/// Removes a key's pair at once. Nothing is done where there is no root, where the root has all its
+/// places filled, and where the pair is being moved.
+#[inline(always)]
+fn remove_at_once<K: Hash + Eq, V, S: BuildHasher, Q: Equivalent<K>, F: FnMut(&K, &V) -> bool>(
+    store: &mut Store<K, V, S>,
+    key: &Q,
+    hash: u64,
+    agrees: &mut F,
+) -> Option<Reply>
+    requires callable { F.IsAlwaysCallable agrees.old }
+    requires sized { (n : ℕ) (t : _) → table_of store.old.words.tables n ≡ Some t
+        → IsSize (length t.slots) t.limit }
+    ensures callable { F.IsAlwaysCallable agrees.new }
+    ensures removed { MatchOption result ((store.new ≡ store.old) × (agrees.new ≡ agrees.old))
+        (λ reply. IsRemovedAtOnce F.FnMut (Q.matches key.now) hash store.old agrees.old reply
+        store.new agrees.new) }
+{
+    match search_root(store, key, hash) {
+        Some(Turn::Empty(_)) => Some(Reply::Absent),
+        Some(Turn::Here(place, word)) if Word(word).kind() == Kind::Live => {
+            Some(bury(store, Removal { place, word }, agrees))
+        }
+        _ => None,
+    }
+}
+
 impl<K: Hash + Eq + Drop, V: Drop, S: BuildHasher> HashMap<K, V, S> {
-    /// Removes a key's pair if the closure agrees: what the machine replies.
+    /// Removes a key's pair if the closure agrees: what the machine replies. Most removals end where
+    /// the root's search does, and run no machine.
+    #[inline]
     pub(crate) fn remove_by<Q: Equivalent<K>, F: FnMut(&K, &V) -> bool>(
+        &mut self,
+        key: &Q,
+        mut agrees: F,
+    ) -> Reply
+        requires { F.IsAlwaysCallable agrees }
+        ensures whole { IsRemovalBy K.eq (Q.matches key.now) (Judges F.FnMut agrees) self.old.store
+            result self.new.store }
+        ensures never { next_of self.old.store ≡ 0 → (refused : Refused)
+            → result ≡ Reply.Refused refused → ⊥ }
+        ensures refusal { (refused : Refused) → result ≡ Reply.Refused refused
+            → IsMakeRefusal refused }
+        ensures keeps { KeepsRemoving self.old self.new }
+    {
+        let hash = self.store.hash(key);
+        match remove_at_once(&mut self.store, key, hash, &mut agrees) {
+            Some(reply) => reply,
+            None => self.remove_stepwise(key, agrees),
+        }
+    }
+
+    /// The same by the machine, step by step.
+    #[inline(never)]
+    fn remove_stepwise<Q: Equivalent<K>, F: FnMut(&K, &V) -> bool>(
         &mut self,
         key: &Q,
         mut agrees: F,

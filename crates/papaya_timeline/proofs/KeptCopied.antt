@@ -26,7 +26,7 @@ use Rattle.papaya_timeline.proofs.FollowedTables.{machine_follows}
 use Rattle.papaya_timeline.proofs.KeptAnswer.{IsAnswered, changed}
 use Rattle.papaya_timeline.proofs.KeptTables.{table_low}
 use Rattle.papaya_timeline.proofs.KeptWritten.{asked_copy, on_there}
-use Rattle.papaya_timeline.proofs.MadeTables.{machine_links}
+use Rattle.papaya_chain_rests.proofs.LinkMade.{machine_links}
 use Rattle.papaya_timeline.proofs.CopyAnswers.{IsAsker, copied_left, left_logged}
 use Rattle.papaya_store.specs.declared.pairs.Pair.{Pair}
 use Rattle.papaya_store.specs.Performs.{key_at}

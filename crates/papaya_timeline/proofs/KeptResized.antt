@@ -49,7 +49,7 @@ use Rattle.papaya_timeline.proofs.KeptAnswer.{Stands}
 use Rattle.papaya_timeline.proofs.KeptOthers as others
 use Rattle.papaya_timeline.proofs.KeptSettings.{IsLawfulKeys, tables_hashed}
 use Rattle.papaya_timeline.proofs.KeptTables.{table_low}
-use Rattle.papaya_timeline.proofs.MadeTables.{copying_asks, link_asks}
+use Rattle.papaya_chain_rests.proofs.LinkMade.{copying_asks, link_asks}
 use Rattle.papaya_timeline.proofs.ResizerLaws.{resizer_learns, resizer_may, resizer_names}
 use Rattle.papaya_timeline.proofs.ResizerTables.{stage_is, stage_links, stage_made, stage_opens}
 use Rattle.papaya_timeline.proofs.StoreLemmas.{matched}

@@ -37,7 +37,8 @@ use Rattle.papaya_timeline.proofs.KeptCopied.{answered_copy}
 use Rattle.papaya_timeline.proofs.KeptLogs.{pair_below}
 use Rattle.papaya_timeline.proofs.KeptPerformed.{answered_call}
 use Rattle.papaya_timeline.proofs.KeptSettings.{IsLawfulKeys, tables_hashed}
-use Rattle.papaya_timeline.proofs.MadeTables.{chain_opens, copy_made, is_made, made_is, machine_made}
+use Rattle.papaya_chain_rests.proofs.LinkMade.{is_made, made_is, machine_made}
+use Rattle.papaya_timeline.proofs.MadeTables.{chain_opens, copy_made}
 
 module _ {K V S A : Type 0} (eq : K → K → Bool) (hash : K → ℕ) (law : IsLawfulKeys eq hash) (says : Says K V A) (hashes : S → K → ℕ) (refuse : Bool) (s : CoreState K V S A) (caller : ℕ) (s' : CoreState K V S A)
     (before : Running K V A) (a : Answer) (later : Running K V A) (was : running s.callers caller ≡ Some before) (performs : PerformsAsk eq says hashes refuse (ask_of before.machine) s.store before a s'.store later) (hasher : hashes s.store.hasher ≡ hash)

@@ -40,7 +40,6 @@ pub mod KeptStep
 pub mod KeptTables
 pub mod KeptWritten
 pub mod LegalLemmas
-pub mod LinkStates
 pub mod MachineLemmas
 pub mod MakerLemmas
 pub mod MakerSteps

@@ -1,4 +1,4 @@
--- The table that a machine is about to link is one that was made: it stays so whatever is answered.
+-- A table that a call asks to open, or is told of, is one that was made.
 use Rattle.std.proofs.Common.{◌≡◌, ◌⊎◌, inl, inr, ℕ, ◌+◌, ◌==◌, ◌^◌, nat_le, Bool, [], ◌∷◌, ◌++◌, length, Option, None, Some, refl, sym, ◌∙◌, ap, subst}
 use Rattle.std.proofs.lemmas.Bool.{cond_both}
 use Rattle.papaya_words.specs.Table.{TableWords, length_after, new_table}
@@ -54,112 +54,8 @@ use Rattle.papaya_store.specs.Store.{StoreState, Stored, pair_of}
 use Rattle.papaya_store.specs.Tables.{table_of, word_at}
 use Rattle.papaya_timeline.specs.Kept.{IsMade}
 use Rattle.papaya_timeline.proofs.KeptTables.{made-there}
-use Rattle.papaya_timeline.proofs.LinkStates.{In, IsStable, Linked_in, Of, machine_holds}
 use Rattle.papaya_timeline.proofs.MachineLemmas.{machine_opens}
 use Rattle.papaya_timeline.proofs.StoreLemmas.{matched}
-
--- `Made` is what a table is that was made.
-module _ (Made : ℕ → Type 0) where
-  -- the table that is about to be linked was made
-  abbrev pub IsMadeLink : Link → Type 0
-  IsMadeLink (links.Linking behind table) = Made table
-  IsMadeLink _ = Unit {0}
-
-  abbrev pub Told : Link → ℕ → Type 0
-  Told made slots = Unit {0}
-
-  abbrev pub New : Link → ℕ → Type 0
-  New made n = Made n
-
-  -- in other words: what is about to be linked was made
-  pub is_made : (o : Option Link) → In IsMadeLink o → (behind table : ℕ) → o ≡ Some (links.Linking behind table) → Made table
-  is_made o h behind table e = subst (In IsMadeLink) e h
-
-  pub made_is : (o : Option Link) → ((behind table : ℕ) → o ≡ Some (links.Linking behind table) → Made table) → In IsMadeLink o
-  made_is None h = tt
-  made_is (Some (links.Linking behind table)) h = h behind table refl
-  made_is (Some other) h = tt
-
-  -- the making of a table
-  link_size : (made : Link) (slots : ℕ) → IsMadeLink made → IsMadeLink (link.at_size made slots)
-  link_size (links.Sizing behind unfit) slots h = tt
-  link_size other slots h = h
-
-  link_made : (made : Link) (n : ℕ) → Made n → IsMadeLink made → IsMadeLink (link.at_made made n)
-  link_made (links.Making behind slots limit) n new h = new
-  link_made other n new h = h
-
-  counted : (behind before : ℕ) (unfit : Bool) (asked : ℕ) → Linked_in IsMadeLink (link.counted behind before unfit asked)
-  counted behind before unfit asked = cond_both (nat_le asked (2 ^ 32)) (linked.On (link.making behind before unfit asked)) (linked.Refused Capacity) (Linked_in IsMadeLink) (λ _. tt) (λ _. tt)
-
-  link_count : (made : Link) (count initial : ℕ) → IsMadeLink made → Linked_in IsMadeLink (link.at_count made count initial)
-  link_count (links.Counting behind unfit slots) count initial h = counted behind slots unfit (length_after slots count initial unfit)
-  link_count other count initial h = h
-
-  link_refused : (made : Link) (refused : Refused) → IsMadeLink made → Linked_in IsMadeLink (link.at_refused made refused)
-  link_refused (links.Making behind slots limit) refused h = tt
-  link_refused other refused h = h
-
-  link_exchanged : (made : Link) → IsMadeLink made → Linked_in IsMadeLink (link.at_exchanged made)
-  link_exchanged (links.Linking behind table) h = tt
-  link_exchanged other h = h
-
-  link_found : (made : Link) (word : ℕ) → IsMadeLink made → Linked_in IsMadeLink (link.at_found made word)
-  link_found (links.Linking behind table) word h = tt
-  link_found other word h = h
-
-  pub stable : IsStable IsMadeLink Told New
-  stable = record {
-    fresh = λ behind unfit. tt;
-    sizes = λ made slots told h. link_size made slots h;
-    makes = link_made;
-    counts = link_count;
-    refuses = link_refused;
-    exchanges = link_exchanged;
-    finds = link_found;
-  }
-
-  -- where the machine is about to link a table after an answer, that one was made before, or is the one of which it was told
-  pub machine_made : (m : Machine) (answer : Answer) → ((n : ℕ) → (m.phase ≡ Calling → ⊥) → answer ≡ answers.Call (Made_number n) → Made n) → In IsMadeLink (link_in m.phase) → In IsMadeLink (link_in (machine.after m answer).phase)
-  machine_made m answer new h = machine_holds IsMadeLink Told New stable m answer (λ slots limit is. told_in (link_in m.phase) slots) (λ n aside is. new_in (link_in m.phase) n (new n aside is)) h
-    where
-      told_in : (o : Option Link) (slots : ℕ) → Of Told o slots
-      told_in None slots = tt
-      told_in (Some made) slots = tt
-
-      new_in : (o : Option Link) (n : ℕ) → Made n → Of New o n
-      new_in None n made = tt
-      new_in (Some link) n made = made
-
--- A copier that asks for an exchange of a table's next word is about to link a table.
-pub link_asks : (made : Link) (behind old new : ℕ) → link.link_ask made ≡ Exchange (Next behind) old new → Some made ≡ Some (links.Linking behind new)
-link_asks (links.Linking after table) behind old new e = cc
-link_asks other behind old new e = absurd cc
-
-carry_asks : (goes : Carry) (marked behind old new : ℕ) → carry.carry_ask goes marked ≡ Exchange (Next behind) old new → link_in_carry goes ≡ Some (links.Linking behind new)
-carry_asks (carries.Linking hash made) marked behind old new e = link_asks made behind old new e
-carry_asks other marked behind old new e = absurd cc
-
-settle_asks : (goes : Settle) (slot : Slot) (behind old new : ℕ) → settle.settle_ask goes slot ≡ Exchange (Next behind) old new → link_in_settle goes ≡ Some (links.Linking behind new)
-settle_asks (settles.Carrying marked goes) slot behind old new e = carry_asks goes marked behind old new e
-settle_asks other slot behind old new e = absurd cc
-
-step_asks : (goes : Step) (behind old new : ℕ) → step.step_ask goes ≡ Exchange (Next behind) old new → link_in_step goes ≡ Some (links.Linking behind new)
-step_asks (steps.Linking from made) behind old new e = link_asks made behind old new e
-step_asks (steps.Settling chunk goes) behind old new e = settle_asks goes (step.slot_of chunk) behind old new e
-step_asks other behind old new e = absurd cc
-
-pub copying_asks : (goes : Copying) (behind old new : ℕ) → copying.copying_ask goes ≡ Exchange (Next behind) old new → link_in_copying goes ≡ Some (links.Linking behind new)
-copying_asks (Stepping aim goes) behind old new e = step_asks goes behind old new e
-copying_asks (Lone slot goes) behind old new e = settle_asks goes slot behind old new e
-
-pub machine_links : (m : Machine) (behind old new : ℕ) → machine.ask_of m ≡ asks.Copy (Exchange (Next behind) old new) → link_in m.phase ≡ Some (links.Linking behind new)
-machine_links m behind old new e = by_phase m.phase e
-  where
-    by_phase : (phase : Phase) → machine.asks_in m.call phase ≡ asks.Copy (Exchange (Next behind) old new) → link_in phase ≡ Some (links.Linking behind new)
-    by_phase Calling e = absurd cc
-    by_phase (Linking made) e = link_asks made behind old new cc
-    by_phase (Copying_root goes) e = copying_asks goes behind old new cc
 
 -- A call that asks to open a table asked so before, or the table that it asked for was just made.
 opens_at : (call : Call_machine) (phase : Phase) (t : ℕ) → machine.asks_in call phase ≡ asks.Call (Own_exchange Root 0 t) → call_machine.ask_of call ≡ Own_exchange Root 0 t

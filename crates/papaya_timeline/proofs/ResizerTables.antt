@@ -23,8 +23,8 @@ use Rattle.papaya_chain.specs.Resizer.{after_in, at_count, at_last, at_next, at_
 use Rattle.papaya_chain.specs.Room.{room_of}
 use Rattle.papaya_chain_rests.specs.Goes.{link_in_copying}
 use Rattle.papaya_chain_rests.specs.Resizers.{HasLink}
-use Rattle.papaya_timeline.proofs.LinkStates.{Copied_holds, In, Linked_in, Of, copying_after, link_after}
-use Rattle.papaya_timeline.proofs.MadeTables.{IsMadeLink, New, Told, is_made, made_is, stable}
+use Rattle.papaya_chain_rests.proofs.LinkStates.{Copied_holds, In, Linked_in, Of, copying_after, link_after}
+use Rattle.papaya_chain_rests.proofs.LinkMade.{IsMadeLink, New, Told, is_made, made_is, stable}
 
 -- `Made` is what a table is that was made.
 module _ (Made : ℕ → Type 0) where

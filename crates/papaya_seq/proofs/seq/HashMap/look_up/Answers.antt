@@ -1,23 +1,37 @@
-use Rattle.std.proofs.Common.{◌≡◌, ℕ, sym, ◌∙◌, ap, subst, fold, length, ◌<◌, ◌^◌}
-use Rattle.papaya_ask.specs.declared.ask.Answer.TheVariants.{Word, Yes}
-use Rattle.papaya_ask.specs.declared.ask.Ask.{Ask}
+use Rattle.std.proofs.Common.{rules, ◌≡◌, ℕ, ◌<◌, ◌^◌, Option, None, Some, option_map, fold, length, refl, sym, ◌∙◌, ap, subst, arith}
+use Rattle.papaya_words.specs.Word.{pair_of as number_of}
+use Rattle.papaya_ask.specs.declared.ask.Answer.TheVariants.{Size}
+use Rattle.papaya_ask.specs.declared.ask.At.TheVariants.{Next, Root}
+use Rattle.papaya_ask.specs.declared.call.Reply.{Reply}
+use Rattle.papaya_ask.specs.declared.call.Reply.TheVariants.{Absent, Found}
 use Rattle.papaya_ask.specs.declared.call.Task.TheVariants.{Get}
-use Rattle.papaya_call.specs.Machine.{IsStanding, ask_of, started}
+use Rattle.papaya_call.specs.declared.machine.State.{State}
+use Rattle.papaya_call.specs.declared.machine.State.TheVariants.{Ended}
+use Rattle.papaya_call.specs.Machine.{goes, passes, started}
 use Rattle.papaya_store.specs.Performs.{size_of}
-use Rattle.papaya_store.specs.Store.{pair_of}
-use Rattle.papaya_keys.specs.Hashes.{hash_of}
+use Rattle.papaya_store.specs.Store.{StoreState}
 use Rattle.papaya_store.specs.Tables.{table_of, word_at}
+use Rattle.papaya_keys.specs.Hashes.{hash_of}
 use Rattle.papaya_timeline.proofs.KeptCore.{keys_lawful}
 use Rattle.papaya_timeline.proofs.KeptSettings.{IsLawfulKeys}
-use Rattle.papaya_seq.specs.Looks.{IsToldBy, found_number, matches_in}
+use Rattle.papaya_seq.specs.Looks.{LooksUp}
 use Rattle.papaya_seq.specs.Map.{IsLawfulMap, MapState}
-use Rattle.papaya_seq.proofs.LookFinds.{look_up_finds, number_found}
-use Rattle.papaya_seq.proofs.LookSteps.{IsLookUp, look_up_begins, look_up_goes, lookup_left, lookup_nears}
+use Rattle.papaya_seq.specs.Searches.{IsTurn, seen_by}
+use Rattle.papaya_seq.specs.declared.search.Turn.{Turn}
+use Rattle.papaya_seq.proofs.LookFinds.{found_number, look_up_finds, number_found}
+use Rattle.papaya_seq.proofs.LookSteps.{IsLookUp, lookup_left}
+use Rattle.papaya_seq.proofs.LookTurns.{empty_else, next_loaded, none_sized, numbered, passed_last, root_loaded, searched}
 use Rattle.papaya_seq.proofs.seq.HashMap.look_up.Goals as goal
-use Rattle.papaya_seq.proofs.seq.HashMap.look_up.Goals.{After-answer, After-new-machine, in-Load, in-SameKey, in-SizeOf}
+use Rattle.papaya_seq.proofs.seq.HashMap.look_up.Goals.{After-hash-hash, After-search, After-word-table-in-Incremental, In-Over}
 use Rattle.papaya_seq.proofs.seq.HashMap.look_up.Given.{Over}
 
 module _ (g : Over) where
+  abbrev Store : Type 0
+  Store = StoreState g.row.K.Denot g.row.V.Denot g.row.S.Denot
+
+  abbrev Map : Type 0
+  Map = MapState g.row.K.Denot g.row.V.Denot g.row.S.Denot
+
   -- the hash of a key, and of what is looked for
   abbrev key_hash : g.row.S.Denot → g.row.K.Denot → ℕ
   key_hash = hash_of g.K.Hash.hash_input g.S.BuildHasher.build_hasher g.S.Hasher.Hasher.write g.S.Hasher.Hasher.finish
@@ -26,55 +40,108 @@ module _ (g : Over) where
   query_hash = hash_of g.Q.Hash.hash_input g.S.BuildHasher.build_hasher g.S.Hasher.Hasher.write g.S.Hasher.Hasher.finish
 
   -- the map is in order
-  in_order : (c : After-new-machine g) → IsLawfulMap g.K.PartialEq.eq (key_hash c.args.self.now.store.hasher) c.args.self.now.store c.args.self.now.mode c.args.self.now.initial
-  in_order c = subst (λ (s : MapState g.row.K.Denot g.row.V.Denot g.row.S.Denot). IsLawfulMap g.K.PartialEq.eq (key_hash s.store.hasher) s.store s.mode s.initial) c.self.view_is c.self.invariant
+  in_order : (c : After-hash-hash g) → IsLawfulMap g.K.PartialEq.eq (key_hash c.args.self.now.store.hasher) c.args.self.now.store c.args.self.now.mode c.args.self.now.initial
+  in_order c = subst (λ (s : Map). IsLawfulMap g.K.PartialEq.eq (key_hash s.store.hasher) s.store s.mode s.initial) c.self.view_is c.self.invariant
 
-  keys : (c : After-new-machine g) → IsLawfulKeys g.K.PartialEq.eq (key_hash c.args.self.now.store.hasher)
+  keys : (c : After-hash-hash g) → IsLawfulKeys g.K.PartialEq.eq (key_hash c.args.self.now.store.hasher)
   keys c = keys_lawful g.K.PartialEq.eq g.K.Hash.hash_input g.S.BuildHasher.build_hasher g.S.Hasher.Hasher.write g.S.Hasher.Hasher.finish g.met.K.Eq.laws g.met.K.Hash.respects_eq c.args.self.now.store.hasher
 
-  -- each ask was answered by what stands in the tables
-  told : (c : After-answer g) → IsToldBy (g.Q.Equivalent.matches c.args.key.now) c.args.self.now.store (ask_of c.loop-at.machine) c.match-ask.answer
-  told c =
-      let by = λ (ask : Ask). IsToldBy (g.Q.Equivalent.matches c.args.key.now) c.args.self.now.store ask c.match-ask.answer in
-      elim c.match-ask.branch [
-        | in-Load w ↦ subst by w.in-Load.ensures.value (w.answer-is ∙ ap Word (w.word.ensures ∙ ap (λ (s : MapState g.row.K.Denot g.row.V.Denot g.row.S.Denot). word_at s.store.words w.in-Load.at) c.self.view_is))
-        | in-SameKey w ↦ subst by w.in-SameKey.ensures.value (w.answer-is ∙ ap Yes (w.matches.ensures ∙ ap (λ (s : MapState g.row.K.Denot g.row.V.Denot g.row.S.Denot). matches_in (g.Q.Equivalent.matches c.args.key.now) (pair_of s.store w.in-SameKey.pair)) c.self.view_is))
-        | in-SizeOf w ↦ subst by w.in-SizeOf.ensures.value (w.answer-is ∙ w.size_of-answer.ensures ∙ ap (λ (s : MapState g.row.K.Denot g.row.V.Denot g.row.S.Denot). size_of (table_of s.store.words.tables w.in-SizeOf.table)) c.self.view_is)
-      ]
+  -- in a map that is in order, the machine of the lookup came here
+  abbrev Orderly : Map → Type 0
+  Orderly s = IsLawfulMap g.K.PartialEq.eq (key_hash s.store.hasher) s.store s.mode s.initial
 
-pub loop-at-init : goal.loop-at-init
-loop-at-init g c =
-    let s = c.args.self.now in
-    let hashed = query_hash g s.store.hasher c.args.key.now in
-    let hash_is : c.hash.result ≡ hashed = c.hash.ensures.value ∙ ap (λ (y : MapState g.row.K.Denot g.row.V.Denot g.row.S.Denot). query_hash g y.store.hasher c.args.key.now) c.self.view_is in
-    let is : c.new-machine.result ≡ started Get hashed s.mode s.initial = c.new-machine.ensures.value ∙ ap (λ h. started Get h c.self.inside.mode c.self.inside.initial) hash_is ∙ ap (λ (y : MapState g.row.K.Denot g.row.V.Denot g.row.S.Denot). started Get hashed y.mode y.initial) c.self.view_is in
-    subst (IsLookUp (g.Q.Equivalent.matches c.args.key.now) s.store (started Get hashed s.mode s.initial)) (sym is)
-    (look_up_begins g.K.PartialEq.eq (key_hash g s.store.hasher) s.mode s.store (in_order g c).lawful (g.Q.Equivalent.matches c.args.key.now) hashed s.initial (subst IsStanding is c.new-machine.ensures.standing))
+  same_keys : (s : Map) → IsLawfulKeys g.K.PartialEq.eq (key_hash s.store.hasher)
+  same_keys s = keys_lawful g.K.PartialEq.eq g.K.Hash.hash_input g.S.BuildHasher.build_hasher g.S.Hasher.Hasher.write g.S.Hasher.Hasher.finish g.met.K.Eq.laws g.met.K.Hash.respects_eq s.store.hasher
 
-pub returns-in-Done : goal.returns-in-Done
-returns-in-Done g c =
-    let s = c.args.self.now in
-    let hashed = query_hash g s.store.hasher c.args.key.now in
-    let hash_is : c.hash.result ≡ hashed = c.hash.ensures.value ∙ ap (λ (y : MapState g.row.K.Denot g.row.V.Denot g.row.S.Denot). query_hash g y.store.hasher c.args.key.now) c.self.view_is in
-    let found = look_up_finds g.K.PartialEq.eq g.K.Hash.hash_input g.S.BuildHasher.build_hasher g.S.Hasher.Hasher.write g.S.Hasher.Hasher.finish g.met.K.Eq.laws g.met.K.Hash.respects_eq
-    s (in_order g (goal.at.returns-in-Done g c).After-new-machine).lawful (in_order g (goal.at.returns-in-Done g c).After-new-machine).power (g.Q.Equivalent.matches c.args.key.now) hashed (g.met.Q.Equivalent.matches_equal_keys c.args.key.now) (λ k e. ap (λ i. g.S.Hasher.Hasher.finish (fold g.S.Hasher.Hasher.write (g.S.BuildHasher.build_hasher s.store.hasher) i)) (g.met.Q.Equivalent.hashes_as_key c.args.key.now k e)) (subst (λ n. n < 2 ^ 64) hash_is c.hash.ensures.fits)
-    c.loop-at.machine c.loop-at.invariant c.in-Done.reply (sym c.in-Done.ensures.value) in
-    (found.0, found.1, c.found_in.ensures ∙ sym (ap found_number found.2) ∙ number_found found.0)
+  module _ (s : Map) (key : g.row.Q.Denot) (h : ℕ) where
+    abbrev Comes : State → Type 0
+    Comes stage = IsLookUp (g.Q.Equivalent.matches key) s.store (started Get h s.mode s.initial) (record (started Get h s.mode s.initial) { state = stage })
 
-pub loop-at-smaller : goal.loop-at-smaller
-loop-at-smaller g c =
-    let s = c.args.self.now in
-    let at = (goal.at.loop-at-smaller g c).After-new-machine in
-    let kept = c.loop-at.invariant in
-    subst (λ m. lookup_left (length s.store.words.tables) m < lookup_left (length s.store.words.tables) c.loop-at.machine) (sym c.answer.ensures.after)
-    (lookup_nears g.K.PartialEq.eq (key_hash g s.store.hasher) s.mode s.store (in_order g at).lawful (keys g at) (g.Q.Equivalent.matches c.args.key.now) c.loop-at.machine kept.task kept.looking c.match-ask.answer (told g c) kept.current)
+    abbrev left : State → ℕ
+    left stage = lookup_left (length s.store.words.tables) (record (started Get h s.mode s.initial) { state = stage })
 
-pub loop-at-preserved : goal.loop-at-preserved
-loop-at-preserved g c =
+    -- what the machine replied is what was found
+    found_so : Orderly s → h ≡ query_hash s.store.hasher key → h < 2 ^ 64 → (reply : Reply) (answer : Option ℕ) → answer ≡ found_number reply → Comes (Ended reply)
+        → (found : _) × LooksUp g.K.PartialEq.eq (g.Q.Equivalent.matches key) s.store (started Get (query_hash s.store.hasher key) s.mode s.initial) found × (answer ≡ option_map (λ p. p.number) found)
+    found_so orderly hash_is fits reply answer is came =
+        let found = look_up_finds g.K.PartialEq.eq g.K.Hash.hash_input g.S.BuildHasher.build_hasher g.S.Hasher.Hasher.write g.S.Hasher.Hasher.finish g.met.K.Eq.laws g.met.K.Hash.respects_eq
+        s orderly.lawful orderly.power (g.Q.Equivalent.matches key) h (g.met.Q.Equivalent.matches_equal_keys key) (λ k e. hash_is ∙ ap (λ i. g.S.Hasher.Hasher.finish (fold g.S.Hasher.Hasher.write (g.S.BuildHasher.build_hasher s.store.hasher) i)) (g.met.Q.Equivalent.hashes_as_key key k e)) fits
+        (record (started Get h s.mode s.initial) { state = Ended reply }) came reply refl in
+        (found.0, subst (λ n. LooksUp g.K.PartialEq.eq (g.Q.Equivalent.matches key) s.store (started Get n s.mode s.initial) found.0) hash_is found.1, is ∙ sym (ap found_number found.2) ∙ number_found found.0)
+
+  -- the hash that was made
+  hash_made : (c : After-hash-hash g) → c.hash-hash.result ≡ query_hash c.args.self.now.store.hasher c.args.key.now
+  hash_made c = c.hash-hash.ensures.value ∙ ap (λ (y : Map). query_hash y.store.hasher c.args.key.now) c.self.view_is
+
+  -- a table was searched
+  led : (c : After-search g) → Orderly c.args.self.now → Comes c.args.self.now c.args.key.now c.hash-hash.result (goes (started Get c.hash-hash.result c.args.self.now.mode c.args.self.now.initial) (seen_by c.search.result))
+      × (left c.args.self.now c.args.key.now c.hash-hash.result (goes (started Get c.hash-hash.result c.args.self.now.mode c.args.self.now.initial) (seen_by c.search.result)) < left c.args.self.now c.args.key.now c.hash-hash.result (numbered c.loop-len.table))
+  led c orderly =
+      let s = c.args.self.now in
+      searched g.K.PartialEq.eq (key_hash s.store.hasher) s.mode s.store orderly.lawful (same_keys s) (g.Q.Equivalent.matches c.args.key.now) c.hash-hash.result s.initial c.loop-len.table c.in-Size.len c.in-Size.limit
+      (ap (λ (y : Map). size_of (table_of y.store.words.tables c.loop-len.table)) (sym c.self.view_is) ∙ sym c.size_of.ensures ∙ c.in-Size.is) c.loop-len.invariant c.first-first.result c.first-first.ensures.value c.search.result
+      (subst (λ (y : Map). IsTurn (g.Q.Equivalent.matches c.args.key.now) y.store c.hash-hash.result c.first-first.result c.search.result) c.self.view_is c.search.ensures.turn)
+
+pub loop-len-init : goal.loop-len-init
+loop-len-init g c =
     let s = c.args.self.now in
-    let at = (goal.at.loop-at-preserved g c).After-new-machine in
-    let kept = c.loop-at.invariant in
-    let begun = started Get (query_hash g s.store.hasher c.args.key.now) s.mode s.initial in
-    subst (IsLookUp (g.Q.Equivalent.matches c.args.key.now) s.store begun) (sym c.answer.ensures.after)
-    (look_up_goes g.K.PartialEq.eq (key_hash g s.store.hasher) s.mode s.store (in_order g at).lawful (keys g at) (g.Q.Equivalent.matches c.args.key.now) c.loop-at.machine kept.task kept.looking c.match-ask.answer (told g c)
-    begun kept (subst IsStanding c.answer.ensures.after c.answer.ensures.standing))
+    subst (λ n. Comes g s c.args.key.now c.hash-hash.result (numbered n)) (sym (c.word-table.ensures ∙ ap (λ (y : Map g). word_at y.store.words Root) c.self.view_is))
+    (root_loaded g.K.PartialEq.eq (key_hash g s.store.hasher) s.mode s.store (in_order g (goal.at.loop-len-init g c).After-hash-hash).lawful (same_keys g s) (g.Q.Equivalent.matches c.args.key.now) c.hash-hash.result s.initial)
+
+pub returns-in-Here : goal.returns-in-Here
+returns-in-Here g c =
+    let h = (goal.at.returns-in-Here g c).After-hash-hash in
+    let came = (led g (goal.at.returns-in-Here g c).After-search (in_order g h)).0 in
+    found_so g c.args.self.now c.args.key.now c.hash-hash.result (in_order g h) (hash_made g h) c.hash-hash.ensures.fits (Found (number_of c.in-Here.word)) (Some c.pair.result) (ap Some c.pair.ensures)
+    (subst (λ (t : Turn). Comes g c.args.self.now c.args.key.now c.hash-hash.result (goes (started Get c.hash-hash.result c.args.self.now.mode c.args.self.now.initial) (seen_by t))) c.in-Here.is came)
+
+-- past a table
+passed : (g : Over) (c : In-Over g) → Orderly g c.args.self.now → Comes g c.args.self.now c.args.key.now c.hash-hash.result (passes Get c.args.self.now.mode None c.in-Over.passed) × (left g c.args.self.now c.args.key.now c.hash-hash.result (passes Get c.args.self.now.mode None c.in-Over.passed) < left g c.args.self.now c.args.key.now c.hash-hash.result (numbered c.loop-len.table))
+passed g c orderly =
+    let s = c.args.self.now in
+    subst (λ (t : Turn). Comes g s c.args.key.now c.hash-hash.result (goes (started Get c.hash-hash.result s.mode s.initial) (seen_by t)) × (left g s c.args.key.now c.hash-hash.result (goes (started Get c.hash-hash.result s.mode s.initial) (seen_by t)) < left g s c.args.key.now c.hash-hash.result (numbered c.loop-len.table))) c.in-Over.is
+    (led g (goal.at.In-Over g c).After-search orderly)
+
+-- the number of the next one was loaded
+next : (g : Over) (c : After-word-table-in-Incremental g) → Orderly g c.args.self.now → Comes g c.args.self.now c.args.key.now c.hash-hash.result (numbered c.word-table-in-Incremental.result) × (left g c.args.self.now c.args.key.now c.hash-hash.result (numbered c.word-table-in-Incremental.result) < left g c.args.self.now c.args.key.now c.hash-hash.result (numbered c.loop-len.table))
+next g c orderly =
+    let s = c.args.self.now in
+    let before = passed g (goal.at.After-word-table-in-Incremental g c).In-Over orderly in
+    let all = next_loaded g.K.PartialEq.eq (key_hash g s.store.hasher) s.mode s.store orderly.lawful (same_keys g s) (g.Q.Equivalent.matches c.args.key.now) c.hash-hash.result s.initial c.in-Over.passed c.in-Incremental.field-0 (ap (λ (y : Map g). y.mode) (sym c.self.view_is) ∙ c.in-Incremental.is) before.0 in
+    let less : left g s c.args.key.now c.hash-hash.result (passes Get s.mode None c.in-Over.passed) < left g s c.args.key.now c.hash-hash.result (numbered c.loop-len.table) = before.1 in
+    let fewer : left g s c.args.key.now c.hash-hash.result (numbered (word_at s.store.words (Next c.in-Over.passed))) < left g s c.args.key.now c.hash-hash.result (passes Get s.mode None c.in-Over.passed) = all.1 in
+    subst (λ n. Comes g s c.args.key.now c.hash-hash.result (numbered n) × (left g s c.args.key.now c.hash-hash.result (numbered n) < left g s c.args.key.now c.hash-hash.result (numbered c.loop-len.table))) (sym (c.word-table-in-Incremental.ensures ∙ ap (λ (y : Map g). word_at y.store.words (Next c.in-Over.passed)) c.self.view_is))
+    (all.0, omega (arith, less, fewer))
+
+pub loop-len-smaller : goal.loop-len-smaller
+loop-len-smaller g c = let at = goal.at.loop-len-smaller g c in (next g at.After-word-table-in-Incremental (in_order g at.After-hash-hash)).1
+
+pub loop-len-preserved : goal.loop-len-preserved
+loop-len-preserved g c = let at = goal.at.loop-len-preserved g c in (next g at.After-word-table-in-Incremental (in_order g at.After-hash-hash)).0
+
+pub returns-in-Blocking : goal.returns-in-Blocking
+returns-in-Blocking g c =
+    let at = goal.at.returns-in-Blocking g c in
+    let s = c.args.self.now in
+    let orderly = in_order g at.After-hash-hash in
+    found_so g s c.args.key.now c.hash-hash.result orderly (hash_made g at.After-hash-hash) c.hash-hash.ensures.fits Absent None refl
+    (passed_last g.K.PartialEq.eq (key_hash g s.store.hasher) s.mode s.store orderly.lawful (same_keys g s) (g.Q.Equivalent.matches c.args.key.now) c.hash-hash.result s.initial c.in-Over.passed (ap (λ (y : Map g). y.mode) (sym c.self.view_is) ∙ c.in-Blocking.is) (passed g at.In-Over orderly).0)
+
+pub returns-in_default-search : goal.returns-in_default-search
+returns-in_default-search g c =
+    let at = goal.at.returns-in_default-search g c in
+    let s = c.args.self.now in
+    let orderly = in_order g at.After-hash-hash in
+    let (place, empty) = empty_else c.search.result c.search.ensures.over (λ place word e. search rules) (λ t e. search rules) in
+    found_so g s c.args.key.now c.hash-hash.result orderly (hash_made g at.After-hash-hash) c.hash-hash.ensures.fits Absent None refl
+    (subst (λ (t : Turn). Comes g s c.args.key.now c.hash-hash.result (goes (started Get c.hash-hash.result s.mode s.initial) (seen_by t))) empty (led g at.After-search orderly).0)
+
+pub returns : goal.returns
+returns g c =
+    let at = goal.at.returns g c in
+    let s = c.args.self.now in
+    let orderly = in_order g at.After-hash-hash in
+    let size : c.size_of.result ≡ size_of (table_of s.store.words.tables c.loop-len.table) = c.size_of.ensures ∙ ap (λ (y : Map g). size_of (table_of y.store.words.tables c.loop-len.table)) c.self.view_is in
+    let unsized : (slots limit : ℕ) → c.size_of.result ≡ Size slots limit → ⊥ = λ slots limit e. search rules in
+    found_so g s c.args.key.now c.hash-hash.result orderly (hash_made g at.After-hash-hash) c.hash-hash.ensures.fits Absent None refl
+    (none_sized g.K.PartialEq.eq (key_hash g s.store.hasher) s.mode s.store orderly.lawful (same_keys g s) (g.Q.Equivalent.matches c.args.key.now) c.hash-hash.result s.initial c.loop-len.table (λ slots limit e. unsized slots limit (size ∙ e)) c.loop-len.invariant)

@@ -1,189 +1,49 @@
-use Rattle.std.proofs.Common.{◌≡◌, ⊎_elim, ℕ, ◌<◌, fold, sym, ◌∙◌, ap, subst}
-use Rattle.papaya_ask.specs.declared.ask.Ask.TheVariants.{Done as Ask_done}
-use Rattle.papaya_chain.specs.declared.ask.Ask.TheVariants as asks
-use Rattle.papaya_chain.specs.Machine.{IsFitAsk, ask_of}
+use Rattle.std.proofs.Common.{ℕ, fold, sym, ◌∙◌, ap, subst}
+use Rattle.papaya_ask.specs.declared.call.Task.TheVariants.{RemoveIf}
+use Rattle.papaya_call.specs.Machine.{started}
 use Rattle.papaya_keys.specs.Hashes.{hash_of}
-use Rattle.papaya_timeline.specs.Advances.{reply_in}
 use Rattle.papaya_timeline.proofs.KeptCore.{keys_lawful}
-use Rattle.papaya_seq.specs.Map.{IsLawfulMap, MapState}
-use Rattle.papaya_seq.specs.Removes.{Judges}
-use Rattle.papaya_seq.proofs.Alone.{map_answered, map_lawful}
-use Rattle.papaya_seq.proofs.Ending.{left_of}
-use Rattle.papaya_seq.proofs.RemovalReply.{removal_done, removal_none}
-use Rattle.papaya_seq.proofs.RemovalRun.{matched_judged, matched_over}
-use Rattle.papaya_seq.proofs.SeekLaw.{seek_ends, seek_lawful}
-use Rattle.papaya_seq.proofs.RemovalWays.{HasMatch, HasNoMatch, IsQuery, IsUnderWay, asked_so, key_of, slots_kept, under_way, under_way_fit, under_way_more, under_way_nears, unrefused}
-use Rattle.papaya_seq.proofs.Removing.{answered_call, answered_copy, log_kept, removal_by}
-use Rattle.papaya_seq.proofs.SeekTurns.{IsAnswered}
-use Rattle.papaya_seq.proofs.Turns.{IsOver}
+use Rattle.papaya_seq.specs.Buries.{itself}
+use Rattle.papaya_seq.specs.Map.{MapState}
+use Rattle.papaya_seq.proofs.Burying.{leads_under_way}
+use Rattle.papaya_seq.proofs.RemovalDone.{RemovalDone, removal_finished}
+use Rattle.papaya_seq.proofs.RemovalWays.{IsQuery, under_way}
 use Rattle.papaya_seq.proofs.seq.HashMap.remove_by.Goals as goal
-use Rattle.papaya_seq.proofs.seq.HashMap.remove_by.Goals.{After-answer, After-drop-agrees, After-new-machine, in-Call+in_default, in-Copy}
-use Rattle.papaya_seq.proofs.seq.HashMap.remove_by.Given as given
+use Rattle.papaya_seq.proofs.seq.HashMap.remove_by.Goals.{In-Some}
 use Rattle.papaya_seq.proofs.seq.HashMap.remove_by.Given.{Over}
 
 -- how keys are hashed
 abbrev hashes : (g : Over) → g.row.S.Denot → g.row.K.Denot → ℕ
 hashes g = hash_of g.K.Hash.hash_input g.S.BuildHasher.build_hasher g.S.Hasher.Hasher.write g.S.Hasher.Hasher.finish
 
--- the map was in order
-lawful : (g : Over) (c : After-new-machine g) → IsLawfulMap g.K.PartialEq.eq (hashes g c.args.self.now.store.hasher) c.args.self.now.store c.args.self.now.mode c.args.self.now.initial
-lawful g c = subst (λ s. IsLawfulMap g.K.PartialEq.eq (hashes g s.store.hasher) s.store s.mode s.initial) c.self.view_is c.self.invariant
-
--- what matches a key matches as the key is equal, and hashes as it does
-query : (g : Over) (c : After-new-machine g) → IsQuery g.F.FnMut g.K.PartialEq.eq (hashes g) (g.Q.Equivalent.matches c.args.key.now) c.hash-hash.result c.args.self.now c.args.agrees
-query g c = record {
-  keys = keys_lawful g.K.PartialEq.eq g.K.Hash.hash_input g.S.BuildHasher.build_hasher g.S.Hasher.Hasher.write g.S.Hasher.Hasher.finish g.met.K.Eq.laws g.met.K.Hash.respects_eq c.args.self.now.store.hasher;
-  lawful = lawful g c;
-  alike = λ k matched l. g.met.Q.Equivalent.matches_equal_keys c.args.key.now k l matched;
-  hashes = λ k matched. ap (λ input. g.S.Hasher.Hasher.finish (fold g.S.Hasher.Hasher.write (g.S.BuildHasher.build_hasher c.args.self.now.store.hasher) input)) (sym (g.met.Q.Equivalent.hashes_as_key c.args.key.now k matched))
-      ∙ sym (c.hash-hash.ensures.value ∙ ap (λ s. hash_of g.Q.Hash.hash_input g.S.BuildHasher.build_hasher g.S.Hasher.Hasher.write g.S.Hasher.Hasher.finish s.store.hasher c.args.key.now) c.self.view_is);
-  fits = c.hash-hash.ensures.fits;
-}
-
--- the ask was answered by the store, and a showing by the closure
-told : (g : Over) (c : After-answer g) → IsAnswered g.K.PartialEq.eq (hashes g) g.F.FnMut (g.Q.Equivalent.matches c.args.key.now) (ask_of c.loop-ask.machine) c.loop-ask.self-inside.store c.loop-ask.agrees c.match-ask.answer c.match-ask.self-inside.store c.match-ask.agrees
-told g c =
-    elim c.match-ask.branch [
-      | in-Call+in_default w ↦ answered_call g.F.FnMut g.K.PartialEq.eq (hashes g) (g.Q.Equivalent.matches c.args.key.now) c.loop-ask.machine w.in-Call.ask w.in-Call.ensures.value c.loop-ask.self-inside.store c.loop-ask.agrees w.answer_removal.result w.answer_removal.new.store w.answer_removal.new.agrees w.answer_removal.ensures.answers
-          c.match-ask.answer c.match-ask.self-inside.store c.match-ask.agrees w.answer-is (ap (λ i. i.store) w.self-inside-is) w.agrees-is
-      | in-Copy w ↦ answered_copy g.F.FnMut g.K.PartialEq.eq (hashes g) (g.Q.Equivalent.matches c.args.key.now) c.loop-ask.machine w.in-Copy.ask w.in-Copy.ensures.value c.loop-ask.self-inside.store c.loop-ask.agrees w.perform_copy-answer.result w.perform_copy-answer.new.self w.perform_copy-answer.ensures
-          c.match-ask.answer c.match-ask.self-inside.store c.match-ask.agrees w.answer-is (ap (λ i. i.store) w.self-inside-is) w.agrees-is
-    ]
-
--- the closure may be called again
-callable : (g : Over) (c : After-answer g) → given.F-IsAlwaysCallable g c.match-ask.agrees
-callable g c =
-    elim c.match-ask.branch [
-      | in-Call+in_default w ↦ subst (given.F-IsAlwaysCallable g) (sym w.agrees-is) w.answer_removal.ensures.callable
-      | in-Copy w ↦ subst (given.F-IsAlwaysCallable g) (sym w.agrees-is) c.loop-ask.invariant.0
-    ]
-
--- the mode and the initial capacity stay
-stays : (g : Over) (c : After-answer g) → (c.match-ask.self-inside.mode ≡ c.loop-ask.self-inside.mode) × (c.match-ask.self-inside.initial ≡ c.loop-ask.self-inside.initial)
-stays g c =
-    elim c.match-ask.branch [
-      | in-Call+in_default w ↦ (ap (λ i. i.mode) w.self-inside-is, ap (λ i. i.initial) w.self-inside-is)
-      | in-Copy w ↦ (ap (λ i. i.mode) w.self-inside-is, ap (λ i. i.initial) w.self-inside-is)
-    ]
-
-pub loop-ask-init : goal.loop-ask-init
-loop-ask-init g c =
+-- it was done at once
+done : (g : Over) (c : In-Some g) → RemovalDone g.F.FnMut g.K.PartialEq.eq (hashes g) (g.Q.Equivalent.matches c.args.key.now) c.args.self.now c.args.agrees c.in-Some.reply (record { store = c.remove_at_once.new.store; mode = c.self.inside.mode; initial = c.self.inside.initial })
+done g c =
     let matches = g.Q.Equivalent.matches c.args.key.now in
-    let view : MapState _ _ _ = record { store = c.self.inside.store; mode = c.self.inside.mode; initial = c.self.inside.initial } in (
-      c.requires,
-      c.new-machine.ensures.standing,
-      ap (λ (m : MapState _ _ _). m.mode) c.self.view_is,
-      ap (λ (m : MapState _ _ _). m.initial) c.self.view_is,
-      subst (λ (m : MapState _ _ _). IsUnderWay g.F.FnMut g.K.PartialEq.eq (hashes g) matches c.hash-hash.result m c.args.agrees c.self.inside.store c.args.agrees c.new-machine.result) c.self.view_is
-          (subst (λ m. IsUnderWay g.F.FnMut g.K.PartialEq.eq (hashes g) matches c.hash-hash.result view c.args.agrees c.self.inside.store c.args.agrees m) (sym c.new-machine.ensures.value)
-          (under_way g.F.FnMut g.K.PartialEq.eq (hashes g) matches c.hash-hash.result view c.args.agrees)),
-    )
-
-pub answer_removal-requires : goal.answer_removal-requires
-answer_removal-requires g c = record {
-  callable = c.loop-ask.invariant.0;
-  asked = asked_so g.F.FnMut g.K.PartialEq.eq (hashes g) (g.Q.Equivalent.matches c.args.key.now) c.hash-hash.result c.args.self.now c.args.agrees (query g (goal.at.answer_removal-requires g c).After-new-machine)
-      c.loop-ask.self-inside.store c.loop-ask.agrees c.loop-ask.machine c.loop-ask.invariant.4 c.loop-ask.invariant.1 c.in-Call.ask (sym c.in-Call.ensures.value) c.in_default.not-Done;
-}
-
-pub answer-requires-clause-fit : goal.answer-requires-clause-fit
-answer-requires-clause-fit g c =
-    let answered : IsAnswered g.K.PartialEq.eq (hashes g) g.F.FnMut (g.Q.Equivalent.matches c.args.key.now) (ask_of c.loop-ask.machine) c.loop-ask.self-inside.store c.loop-ask.agrees c.match-ask.answer c.match-ask.self-inside.store c.match-ask.agrees =
-    elim c.match-ask.branch [
-      | in-Call+in_default w ↦ answered_call g.F.FnMut g.K.PartialEq.eq (hashes g) (g.Q.Equivalent.matches c.args.key.now) c.loop-ask.machine w.in-Call.ask w.in-Call.ensures.value c.loop-ask.self-inside.store c.loop-ask.agrees w.answer_removal.result w.answer_removal.new.store w.answer_removal.new.agrees w.answer_removal.ensures.answers
-          c.match-ask.answer c.match-ask.self-inside.store c.match-ask.agrees w.answer-is (ap (λ i. i.store) w.self-inside-is) w.agrees-is
-      | in-Copy w ↦ answered_copy g.F.FnMut g.K.PartialEq.eq (hashes g) (g.Q.Equivalent.matches c.args.key.now) c.loop-ask.machine w.in-Copy.ask w.in-Copy.ensures.value c.loop-ask.self-inside.store c.loop-ask.agrees w.perform_copy-answer.result w.perform_copy-answer.new.self w.perform_copy-answer.ensures
-          c.match-ask.answer c.match-ask.self-inside.store c.match-ask.agrees w.answer-is (ap (λ i. i.store) w.self-inside-is) w.agrees-is
-    ] in
-    under_way_fit g.F.FnMut g.K.PartialEq.eq (hashes g) (g.Q.Equivalent.matches c.args.key.now) c.hash-hash.result c.args.self.now c.args.agrees
-    c.loop-ask.self-inside.store c.loop-ask.agrees c.loop-ask.machine c.loop-ask.invariant.4 c.match-ask.answer c.match-ask.self-inside.store c.match-ask.agrees answered
-    (query g (goal.at.answer-requires-clause-fit g c).After-new-machine) (subst IsFitAsk c.ask.ensures.value c.ask.ensures.size)
-
-pub loop-ask-preserved : goal.loop-ask-preserved
-loop-ask-preserved g c =
-    let later = under_way_more g.F.FnMut g.K.PartialEq.eq (hashes g) (g.Q.Equivalent.matches c.args.key.now) c.hash-hash.result c.args.self.now c.args.agrees
-    c.loop-ask.self-inside.store c.loop-ask.agrees c.loop-ask.machine c.loop-ask.invariant.4 c.match-ask.answer c.match-ask.self-inside.store c.match-ask.agrees (told g c) in (
-      callable g c,
-      c.answer.ensures.standing,
-      (stays g c).0 ∙ c.loop-ask.invariant.2,
-      (stays g c).1 ∙ c.loop-ask.invariant.3,
-      subst (IsUnderWay g.F.FnMut g.K.PartialEq.eq (hashes g) (g.Q.Equivalent.matches c.args.key.now) c.hash-hash.result c.args.self.now c.args.agrees c.match-ask.self-inside.store c.match-ask.agrees) (sym c.answer.ensures.after) later,
-    )
-
-pub loop-ask-smaller : goal.loop-ask-smaller
-loop-ask-smaller g c =
-    let nearer = under_way_nears g.F.FnMut g.K.PartialEq.eq (hashes g) (g.Q.Equivalent.matches c.args.key.now) c.hash-hash.result c.args.self.now c.args.agrees
-    c.loop-ask.self-inside.store c.loop-ask.agrees c.loop-ask.machine c.loop-ask.invariant.4 c.match-ask.answer c.match-ask.self-inside.store c.match-ask.agrees (told g c)
-    (query g (goal.at.loop-ask-smaller g c).After-new-machine) in
-    subst (λ m. left_of c.match-ask.self-inside.store m < left_of c.loop-ask.self-inside.store c.loop-ask.machine) (sym c.answer.ensures.after) nearer
-
--- the machine has replied
-replied : (g : Over) (c : After-drop-agrees g) → ask_of c.loop-ask.machine ≡ asks.Call (Ask_done c.in-Done.reply)
-replied g c = sym c.in-Call.ensures.value ∙ ap asks.Call c.in-Done.is
-
--- where a pair matches, the removal is that by the pair's key, made alone
-made : (g : Over) (c : After-drop-agrees g) → IsQuery g.F.FnMut g.K.PartialEq.eq (hashes g) (g.Q.Equivalent.matches c.args.key.now) c.hash-hash.result c.args.self.now c.args.agrees
-    → (has : HasMatch g.F.FnMut g.K.PartialEq.eq (hashes g) (g.Q.Equivalent.matches c.args.key.now) c.hash-hash.result c.args.self.now c.args.agrees c.loop-ask.self-inside.store c.loop-ask.agrees c.loop-ask.machine)
-    → IsOver g.K.PartialEq.eq (hashes g) c.args.self.now (removal_by has.one.pair.key) c.loop-ask.self-inside.store c.in-Done.reply
-made g c asked has =
-    let matches = g.Q.Equivalent.matches c.args.key.now in
-    matched_over g.F.FnMut g.K.PartialEq.eq (hashes g) matches c.hash-hash.result c.args.self.now c.args.agrees has.one.pair.key
-    (key_of g.F.FnMut g.K.PartialEq.eq (hashes g) matches c.hash-hash.result c.args.self.now c.args.agrees asked has.one) c.loop-ask.self-inside.store c.loop-ask.agrees c.loop-ask.machine has.run c.in-Done.reply (replied g c)
-
-pub returns-in-Done-clause-whole : goal.returns-in-Done-clause-whole
-returns-in-Done-clause-whole g c =
-    let matches = g.Q.Equivalent.matches c.args.key.now in
-    let map = c.args.self.now in
-    let later = c.loop-ask.self-inside.store in
-    let asked = query g (goal.at.returns-in-Done-clause-whole g c).After-new-machine in
-    record {
-      removal = ⊎_elim
-          (λ (has : HasMatch g.F.FnMut g.K.PartialEq.eq (hashes g) matches c.hash-hash.result map c.args.agrees later c.loop-ask.agrees c.loop-ask.machine).
-          removal_done g.F.FnMut g.K.PartialEq.eq g.met.K.Eq.laws matches has.one.pair.key (asked.alike has.one.pair.key has.one.matched) map.store later c.args.agrees c.loop-ask.agrees c.in-Done.reply
-          (map_answered g.K.PartialEq.eq g.K.Hash.hash_input g.S.BuildHasher.build_hasher g.S.Hasher.Hasher.write g.S.Hasher.Hasher.finish g.met.K.Eq.laws g.met.K.Hash.respects_eq
-          map (removal_by has.one.pair.key) c.in-Done.reply later asked.lawful (made g c asked has))
-          (matched_judged g.F.FnMut g.K.PartialEq.eq (hashes g) matches c.hash-hash.result map c.args.agrees has.one.pair.key
-          (key_of g.F.FnMut g.K.PartialEq.eq (hashes g) matches c.hash-hash.result map c.args.agrees asked has.one) later c.loop-ask.agrees c.loop-ask.machine has.run c.in-Done.reply (replied g c)))
-          (λ (lacks : HasNoMatch g.F.FnMut g.K.PartialEq.eq (hashes g) matches c.hash-hash.result map c.args.agrees later c.loop-ask.machine).
-          removal_none g.K.PartialEq.eq matches (Judges g.F.FnMut c.args.agrees) map.store later c.in-Done.reply lacks.none
-          (seek_ends g.K.PartialEq.eq (hashes g) g.F.FnMut matches map c.hash-hash.result later c.loop-ask.machine lacks.seeking c.in-Done.reply (ap reply_in (replied g c)))
-          lacks.seeking.same)
-          (c.loop-ask.invariant.4.way asked);
-    }
+    let view : MapState g.row.K.Denot g.row.V.Denot g.row.S.Denot = record { store = c.self.inside.store; mode = c.self.inside.mode; initial = c.self.inside.initial } in
+    let query : IsQuery g.F.FnMut g.K.PartialEq.eq (hashes g) matches c.hash-hash.result view c.args.agrees = record {
+      keys = keys_lawful g.K.PartialEq.eq g.K.Hash.hash_input g.S.BuildHasher.build_hasher g.S.Hasher.Hasher.write g.S.Hasher.Hasher.finish g.met.K.Eq.laws g.met.K.Hash.respects_eq view.store.hasher;
+      lawful = c.self.invariant;
+      alike = λ k matched l. g.met.Q.Equivalent.matches_equal_keys c.args.key.now k l matched;
+      hashes = λ k matched. ap (λ input. g.S.Hasher.Hasher.finish (fold g.S.Hasher.Hasher.write (g.S.BuildHasher.build_hasher view.store.hasher) input)) (sym (g.met.Q.Equivalent.hashes_as_key c.args.key.now k matched)) ∙ sym c.hash-hash.ensures.value;
+      fits = c.hash-hash.ensures.fits;
+    } in
+    let removed = c.in-Some.ensures.removed view.mode view.initial in
+    let now = leads_under_way g.F.FnMut g.K.PartialEq.eq (hashes g) matches c.hash-hash.result view c.args.agrees removed.answers view.store c.args.agrees (itself (started RemoveIf c.hash-hash.result view.mode view.initial)) c.remove_at_once.new.store c.remove_at_once.new.agrees removed.end removed.leads (under_way g.F.FnMut g.K.PartialEq.eq (hashes g) matches c.hash-hash.result view c.args.agrees) in
+    subst (λ (m : MapState g.row.K.Denot g.row.V.Denot g.row.S.Denot). RemovalDone g.F.FnMut g.K.PartialEq.eq (hashes g) matches m c.args.agrees c.in-Some.reply (record { store = c.remove_at_once.new.store; mode = c.self.inside.mode; initial = c.self.inside.initial })) c.self.view_is
+    (removal_finished g.F.FnMut g.K.PartialEq.eq g.K.Hash.hash_input g.S.BuildHasher.build_hasher g.S.Hasher.Hasher.write g.S.Hasher.Hasher.finish g.met.K.Eq.laws g.met.K.Hash.respects_eq matches c.hash-hash.result view c.args.agrees query c.remove_at_once.new.store c.remove_at_once.new.agrees removed.end now c.in-Some.reply removed.replied)
 
 pub invariant_of-self : goal.invariant_of-self
-invariant_of-self g c =
-    let matches = g.Q.Equivalent.matches c.args.key.now in
-    let map = c.args.self.now in
-    let later = c.loop-ask.self-inside.store in
-    let asked = query g (goal.at.invariant_of-self g c).After-new-machine in
-    subst (λ mode. IsLawfulMap g.K.PartialEq.eq (hashes g later.hasher) later mode c.loop-ask.self-inside.initial) (sym c.loop-ask.invariant.2)
-    (subst (λ initial. IsLawfulMap g.K.PartialEq.eq (hashes g later.hasher) later map.mode initial) (sym c.loop-ask.invariant.3)
-    (⊎_elim
-    (λ (has : HasMatch g.F.FnMut g.K.PartialEq.eq (hashes g) matches c.hash-hash.result map c.args.agrees later c.loop-ask.agrees c.loop-ask.machine).
-    map_lawful g.K.PartialEq.eq g.K.Hash.hash_input g.S.BuildHasher.build_hasher g.S.Hasher.Hasher.write g.S.Hasher.Hasher.finish g.met.K.Eq.laws g.met.K.Hash.respects_eq
-    map (removal_by has.one.pair.key) c.in-Done.reply later asked.lawful (made g c asked has))
-    (λ (lacks : HasNoMatch g.F.FnMut g.K.PartialEq.eq (hashes g) matches c.hash-hash.result map c.args.agrees later c.loop-ask.machine).
-    seek_lawful g.K.PartialEq.eq (hashes g) map c.hash-hash.result asked.keys asked.fits asked.lawful later c.loop-ask.machine lacks.seeking)
-    (c.loop-ask.invariant.4.way asked)))
+invariant_of-self g c = (done g (goal.at.invariant_of-self g c).In-Some).orderly
 
-pub returns-in-Done-clause-never : goal.returns-in-Done-clause-never
-returns-in-Done-clause-never g c = λ single refused is.
-    unrefused g.F.FnMut g.K.PartialEq.eq (hashes g) (g.Q.Equivalent.matches c.args.key.now) c.hash-hash.result c.args.self.now c.args.agrees c.loop-ask.self-inside.store c.loop-ask.agrees c.loop-ask.machine c.loop-ask.invariant.4
-    (query g (goal.at.returns-in-Done-clause-never g c).After-new-machine) single refused (replied g c ∙ ap (λ r. asks.Call (Ask_done r)) is)
+pub returns-in-Some-clause-whole : goal.returns-in-Some-clause-whole
+returns-in-Some-clause-whole g c = (done g (goal.at.returns-in-Some-clause-whole g c).In-Some).whole
 
-pub returns-in-Done-clause-keeps : goal.returns-in-Done-clause-keeps
-returns-in-Done-clause-keeps g c = (
-  record {
-    hasher = c.loop-ask.invariant.4.log.hasher;
-    mode = c.loop-ask.invariant.2;
-    initial = c.loop-ask.invariant.3;
-    pairs = λ n p e. log_kept c.args.self.now.store c.loop-ask.self-inside.store c.loop-ask.invariant.4.log n ∙ e;
-  },
-  λ single. slots_kept g.F.FnMut g.K.PartialEq.eq (hashes g) (g.Q.Equivalent.matches c.args.key.now) c.hash-hash.result c.args.self.now c.args.agrees c.loop-ask.self-inside.store c.loop-ask.agrees c.loop-ask.machine c.loop-ask.invariant.4
-      (query g (goal.at.returns-in-Done-clause-keeps g c).After-new-machine) single,
-)
+pub returns-in-Some-clause-never : goal.returns-in-Some-clause-never
+returns-in-Some-clause-never g c = (done g (goal.at.returns-in-Some-clause-never g c).In-Some).never
 
-pub returns-in-Done-clause-refusal : goal.returns-in-Done-clause-refusal
-returns-in-Done-clause-refusal g c = λ refused is.
-    c.loop-ask.invariant.4.refusal (query g (goal.at.returns-in-Done-clause-refusal g c).After-new-machine) refused (ap reply_in (replied g c ∙ ap (λ r. asks.Call (Ask_done r)) is))
+pub returns-in-Some-clause-refusal : goal.returns-in-Some-clause-refusal
+returns-in-Some-clause-refusal g c = (done g (goal.at.returns-in-Some-clause-refusal g c).In-Some).refusal
+
+pub returns-in-Some-clause-keeps : goal.returns-in-Some-clause-keeps
+returns-in-Some-clause-keeps g c = (done g (goal.at.returns-in-Some-clause-keeps g c).In-Some).keeps

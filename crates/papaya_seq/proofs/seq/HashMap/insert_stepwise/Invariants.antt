@@ -2,7 +2,7 @@ use Rattle.std.proofs.Common.{◌≡◌}
 use Rattle.papaya_keys.specs.Hashes.{hash_of}
 use Rattle.papaya_seq.proofs.Ending.{left_of}
 use Rattle.papaya_seq.proofs.InsertingRun.{IsInserting}
-use Rattle.papaya_seq.proofs.seq.HashMap.insert_by.Given as goal
+use Rattle.papaya_seq.proofs.seq.HashMap.insert_stepwise.Given as goal
 
 -- the insertion goes on as its machine says
 abbrev pub invariant-loop-reply : goal.invariant-loop-reply

@@ -3,7 +3,7 @@ use Rattle.papaya_chain.specs.Machine.{IsStanding}
 use Rattle.papaya_keys.specs.Hashes.{hash_of}
 use Rattle.papaya_seq.proofs.Ending.{left_of}
 use Rattle.papaya_seq.proofs.RemovalWays.{IsUnderWay}
-use Rattle.papaya_seq.proofs.seq.HashMap.remove_by.Given as goal
+use Rattle.papaya_seq.proofs.seq.HashMap.remove_stepwise.Given as goal
 
 -- the closure may be called, and the removal is under way, in a map that keeps its mode and its initial capacity
 abbrev pub invariant-loop-ask : goal.invariant-loop-ask

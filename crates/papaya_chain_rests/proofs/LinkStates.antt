@@ -400,7 +400,7 @@ module _ (Holds : Link → Type 0) (Told New : Link → ℕ → Type 0) (stable 
   going_on m true aims.Chunk next = tt
   going_on m true (aims.All met) next = tt
 
-  onward : (m : Machine) (next : ℕ) → HoldsIn (link_in (machine.onward m next).phase)
+  pub onward : (m : Machine) (next : ℕ) → HoldsIn (link_in (machine.onward m next).phase)
   onward m next = going_on m m.helped (machine.aim_for m.call.state next) next
 
   grows : (m : Machine) (mode : ResizeMode) (need : Need) (next : ℕ) → HoldsIn (link_in (machine.grows_as m mode need next).phase)

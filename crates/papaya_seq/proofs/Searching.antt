@@ -1,0 +1,226 @@
+-- The search of one table: each turn is one or two answers of the machine, and brings it nearer its end.
+use Rattle.std.proofs.Common.{◌≡◌, ℕ, ◌+◌, ◌*◌, ◌-◌, ◌<◌, ◌≤◌, ◌==◌, nat_lt, if◌then◌else◌, Bool, true, false, List, [], ◌∷◌, ◌++◌, Option, refl, sym, ◌∙◌, ap, subst, arith}
+use Rattle.std.proofs.lemmas.Bool.{cond_both, ne_eqb}
+use Rattle.papaya_words.specs.Word.{byte_of, kind_of, pair_of as number_of, top_byte}
+use Rattle.papaya_words.specs.declared.word.Kind.{Kind}
+use Rattle.papaya_words.specs.declared.word.Kind.TheVariants as kinds
+use Rattle.papaya_ask.specs.declared.ask.Answer.{Answer}
+use Rattle.papaya_ask.specs.declared.ask.Answer.TheVariants.{Ok as Ok_done, Size, Word as Word_read, Yes}
+use Rattle.papaya_ask.specs.declared.ask.At.{At}
+use Rattle.papaya_ask.specs.declared.ask.At.TheVariants.{Slot}
+use Rattle.papaya_ask.specs.declared.call.Task.{Task}
+use Rattle.papaya_ask.specs.declared.call.Task.TheVariants.{Get, Insert, RemoveIf, Compute}
+use Rattle.papaya_ask.specs.declared.search.Place.{Place}
+use Rattle.papaya_ask.specs.declared.search.Search.TheVariants.{Sizing, Looking, Comparing}
+use Rattle.papaya_ask.specs.declared.search.Seen.{Seen}
+use Rattle.papaya_ask.specs.declared.search.Seen.TheVariants.{On, Over}
+use Rattle.papaya_ask.specs.Search.{IsSeen, at_yes, compare_byte, first_place, go_on, look, look_at, match_at, next_place}
+use Rattle.papaya_call.specs.declared.machine.Machine.{Machine}
+use Rattle.papaya_call.specs.declared.machine.State.{State}
+use Rattle.papaya_call.specs.declared.machine.State.TheVariants.{AtRoot, Making, Searching}
+use Rattle.papaya_call.specs.declared.compute.Gap.TheVariants.{NoRoot}
+use Rattle.papaya_call.specs.Machine.{absent, after, at_root, goes}
+use Rattle.papaya_store.specs.Store.{StoreState, pair_of}
+use Rattle.papaya_store.specs.Performs.{size_of}
+use Rattle.papaya_store.specs.Tables.{table_of, word_at}
+use Rattle.papaya_seq.specs.Looks.{Comes, matches_in}
+use Rattle.papaya_seq.specs.Searches.{IsMatchedBy, IsTurn, IsTurned, Sees, SeesFrom, StandsBy, left_at, left_to, seen_by}
+use Rattle.papaya_seq.specs.declared.search.Turn.{Turn}
+use Rattle.papaya_seq.specs.declared.search.Turn.TheVariants as turns
+
+-- what is left to a search that has seen this
+abbrev left_seen : Seen → ℕ
+left_seen (On (Looking at)) = left_at at
+left_seen (On (Comparing at word)) = 2 * (at.limit + 1 - at.probe.len)
+left_seen _ = 0
+
+-- the next place is nearer the last one
+on_left : (at : Place) → at.probe.len ≤ at.limit → left_seen (go_on at) < 2 * (at.limit + 1 - at.probe.len)
+on_left at within = cond_both (nat_lt at.probe.len at.limit) (On (Looking (next_place at))) (Over at.table) (λ s. left_seen s < 2 * (at.limit + 1 - at.probe.len)) (λ _. omega (arith, within)) (λ _. omega (arith, within))
+
+byte_left : (at : Place) (hash word : ℕ) → at.probe.len ≤ at.limit → left_seen (compare_byte at hash word) < left_at at
+byte_left at hash word within =
+    let next = on_left at within in
+    cond_both (byte_of word == top_byte hash) (On (Comparing at word)) (go_on at) (λ s. left_seen s < left_at at) (λ _. omega arith) (λ _. omega (arith, next))
+
+-- a word lowers what is left
+pub look_left : (kind : Kind) (at : Place) (hash word : ℕ) → at.probe.len ≤ at.limit → left_seen (look_at kind at hash word) < left_at at
+look_left kinds.Empty at hash word within = omega arith
+look_left kinds.Live at hash word within = byte_left at hash word within
+look_left kinds.Marked at hash word within = byte_left at hash word within
+look_left kinds.Copied at hash word within = byte_left at hash word within
+look_left kinds.Buried at hash word within = let next = on_left at within in omega (arith, next)
+look_left kinds.Closed at hash word within = let next = on_left at within in omega (arith, next)
+
+match_left : (kind : Kind) (at : Place) (word : ℕ) → left_seen (match_at kind at word) ≡ 0
+match_left kinds.Empty at word = refl
+match_left kinds.Live at word = refl
+match_left kinds.Marked at word = refl
+match_left kinds.Copied at word = refl
+match_left kinds.Buried at word = refl
+match_left kinds.Closed at word = refl
+
+-- and so does a comparison
+pub yes_left : (at : Place) (word : ℕ) (same : Bool) → at.probe.len ≤ at.limit → left_seen (at_yes (Comparing at word) same) < left_seen (On (Comparing at word))
+yes_left at word true within = let none = match_left (kind_of word) at word in omega (arith, none, within)
+yes_left at word false within = on_left at within
+
+-- what is left after a turn
+pub turn_left : (turn : Turn) → left_to turn ≡ left_seen (seen_by turn)
+turn_left (turns.Next at) = refl
+turn_left (turns.Empty at) = refl
+turn_left (turns.Here at word) = refl
+turn_left (turns.Over t) = refl
+
+on_turned : (at : Place) → IsTurned (go_on at)
+on_turned at = cond_both (nat_lt at.probe.len at.limit) (On (Looking (next_place at))) (Over at.table) IsTurned (λ _. tt) (λ _. tt)
+
+-- a word whose pair's key is not to be compared
+abbrev Uncompared : Seen → Type 0
+Uncompared seen = ((at : Place) (word : ℕ) → seen ≡ On (Comparing at word) → ⊥) → IsTurned seen
+
+byte_turned : (at : Place) (hash word : ℕ) → Uncompared (compare_byte at hash word)
+byte_turned at hash word = cond_both (byte_of word == top_byte hash) (On (Comparing at word)) (go_on at) Uncompared (λ _ none. absurd (none at word refl)) (λ _ none. on_turned at)
+
+pub look_turned : (kind : Kind) (at : Place) (hash word : ℕ) → Uncompared (look_at kind at hash word)
+look_turned kinds.Empty at hash word = λ none. tt
+look_turned kinds.Live at hash word = byte_turned at hash word
+look_turned kinds.Marked at hash word = byte_turned at hash word
+look_turned kinds.Copied at hash word = byte_turned at hash word
+look_turned kinds.Buried at hash word = λ none. on_turned at
+look_turned kinds.Closed at hash word = λ none. on_turned at
+
+match_turned : (kind : Kind) (at : Place) (word : ℕ) → IsTurned (match_at kind at word)
+match_turned kinds.Empty at word = tt
+match_turned kinds.Live at word = tt
+match_turned kinds.Marked at word = tt
+match_turned kinds.Copied at word = tt
+match_turned kinds.Buried at word = tt
+match_turned kinds.Closed at word = tt
+
+-- after a comparison it is so
+pub yes_turned : (at : Place) (word : ℕ) (same : Bool) → IsTurned (at_yes (Comparing at word) same)
+yes_turned at word true = match_turned (kind_of word) at word
+yes_turned at word false = on_turned at
+
+-- a search that goes on stands by no word
+stands_on : (words : At → ℕ) (at : Place) → StandsBy words (go_on at)
+stands_on words at = cond_both (nat_lt at.probe.len at.limit) (On (Looking (next_place at))) (Over at.table) (StandsBy words) (λ _. tt) (λ _. tt)
+
+stands_byte : (words : At → ℕ) (at : Place) (hash word : ℕ) → words (Slot at.table at.probe.i) ≡ word → StandsBy words (compare_byte at hash word)
+stands_byte words at hash word is = cond_both (byte_of word == top_byte hash) (On (Comparing at word)) (go_on at) (StandsBy words) (λ _. is) (λ _. stands_on words at)
+
+-- what a word tells stands by the word
+pub stands_look : (words : At → ℕ) (kind : Kind) (at : Place) (hash word : ℕ) → words (Slot at.table at.probe.i) ≡ word → kind_of word ≡ kind → StandsBy words (look_at kind at hash word)
+stands_look words kinds.Empty at hash word is empty = ap kind_of is ∙ empty
+stands_look words kinds.Live at hash word is e = stands_byte words at hash word is
+stands_look words kinds.Marked at hash word is e = stands_byte words at hash word is
+stands_look words kinds.Copied at hash word is e = stands_byte words at hash word is
+stands_look words kinds.Buried at hash word is e = stands_on words at
+stands_look words kinds.Closed at hash word is e = stands_on words at
+
+stands_match : (words : At → ℕ) (kind : Kind) (at : Place) (word : ℕ) → words (Slot at.table at.probe.i) ≡ word → StandsBy words (match_at kind at word)
+stands_match words kinds.Empty at word is = is
+stands_match words kinds.Live at word is = is
+stands_match words kinds.Marked at word is = is
+stands_match words kinds.Copied at word is = tt
+stands_match words kinds.Buried at word is = is
+stands_match words kinds.Closed at word is = is
+
+-- and so does a comparison
+pub stands_yes : (words : At → ℕ) (at : Place) (word : ℕ) (same : Bool) → words (Slot at.table at.probe.i) ≡ word → StandsBy words (at_yes (Comparing at word) same)
+stands_yes words at word true is = stands_match words (kind_of word) at word is
+stands_yes words at word false is = stands_on words at
+
+-- a call that loaded the number of a root searches it
+root_searched : (task : Task) (fill : Option ℕ) (root : ℕ) → (root ≡ 0 → ⊥) → at_root task fill root ≡ Searching (Sizing root)
+root_searched Get fill root some = ap (λ (b : Bool). if b then absent Get fill NoRoot else Searching (Sizing root)) (ne_eqb root 0 some)
+root_searched RemoveIf fill root some = ap (λ (b : Bool). if b then absent RemoveIf fill NoRoot else Searching (Sizing root)) (ne_eqb root 0 some)
+root_searched Compute fill root some = ap (λ (b : Bool). if b then absent Compute fill NoRoot else Searching (Sizing root)) (ne_eqb root 0 some)
+root_searched (Insert replace) fill root some = ap (λ (b : Bool). if b then Making else Searching (Sizing root)) (ne_eqb root 0 some)
+
+module _ {K V S : Type 0} (matches : K → Bool) (store : StoreState K V S) where
+  -- from where a machine came it goes on
+  pub comes_on : (first rest : List Answer) (m m' m'' : Machine) → Comes matches store m first m' → Comes matches store m' rest m'' → Comes matches store m (first ++ rest) m''
+  comes_on [] rest m m' m'' is more = subst (λ (x : Machine). Comes matches store x rest m'') is more
+  comes_on (answer ∷ first) rest m m' m'' (asked, told, came) more = (asked, told, comes_on first rest (after m answer) m' m'' came more)
+
+  module _ (hash : ℕ) where
+    -- a search stands where it begins
+    pub sees_begun : (at : Place) → Sees matches store hash at (On (Looking at))
+    sees_begun at m = ([], refl)
+
+    -- what it sees from a place that it came to, it sees from the first one
+    pub sees_on : (at place : Place) (seen : Seen) → Sees matches store hash at (On (Looking place)) → Sees matches store hash place seen → Sees matches store hash at seen
+    sees_on at place seen before goes_on m =
+        let came = before m in
+        let more = goes_on m in
+        (came.0 ++ more.0, comes_on came.0 more.0 (record m { hash = hash; state = Searching (Looking at) }) (record m { hash = hash; state = Searching (Looking place) }) (record m { hash = hash; state = goes m seen }) came.1 more.1)
+
+    module _ (at : Place) where
+      -- the word that stands at the place
+      abbrev pub word_there : ℕ
+      word_there = word_at store.words (Slot at.table at.probe.i)
+
+      -- it was loaded
+      pub sees_word : Sees matches store hash at (look at hash word_there)
+      sees_word m = (Word_read word_there ∷ [], (tt, refl, refl))
+
+      -- and the key of its pair was compared
+      pub sees_same : (place : Place) (word : ℕ) → look at hash word_there ≡ On (Comparing place word) → Sees matches store hash at (at_yes (Comparing place word) (matches_in matches (pair_of store (number_of word))))
+      sees_same place word compares m =
+          let same : Bool = matches_in matches (pair_of store (number_of word)) in
+          let looks : Machine = record m { hash = hash; state = Searching (Looking at) } in
+          let asks : Machine = record m { hash = hash; state = Searching (Comparing place word) } in
+          let led : Machine = record m { hash = hash; state = goes m (at_yes (Comparing place word) same) } in
+          let came : Comes matches store looks (Word_read word_there ∷ []) asks = subst (λ s. Comes matches store looks (Word_read word_there ∷ []) (record m { hash = hash; state = goes m s })) compares (tt, refl, refl) in
+          (Word_read word_there ∷ Yes same ∷ [], comes_on (Word_read word_there ∷ []) (Yes same ∷ []) looks asks led came (tt, refl, refl))
+
+      -- what was seen is a turn
+      pub turn_seen : (turn : Turn) (seen : Seen) → seen_by turn ≡ seen → Sees matches store hash at seen → IsSeen seen → StandsBy (λ w. word_at store.words w) seen → IsMatchedBy matches store hash seen → IsTurn matches store hash at turn
+      turn_seen turn seen is sees within stands matched = record { sees = subst (Sees matches store hash at) (sym is) sees; within = subst IsSeen (sym is) within; stands = subst (StandsBy (λ w. word_at store.words w)) (sym is) stands; matched = subst (IsMatchedBy matches store hash) (sym is) matched }
+
+      -- a word alone finds no pair
+      matched_on : IsMatchedBy matches store hash (go_on at)
+      matched_on = cond_both (nat_lt at.probe.len at.limit) (On (Looking (next_place at))) (Over at.table) (IsMatchedBy matches store hash) (λ _. tt) (λ _. tt)
+
+      matched_byte : (word : ℕ) → IsMatchedBy matches store hash (compare_byte at hash word)
+      matched_byte word = cond_both (byte_of word == top_byte hash) (On (Comparing at word)) (go_on at) (IsMatchedBy matches store hash) (λ _. tt) (λ _. matched_on)
+
+      pub matched_look : (kind : Kind) (word : ℕ) → IsMatchedBy matches store hash (look_at kind at hash word)
+      matched_look kinds.Empty word = tt
+      matched_look kinds.Live word = matched_byte word
+      matched_look kinds.Marked word = matched_byte word
+      matched_look kinds.Copied word = matched_byte word
+      matched_look kinds.Buried word = matched_on
+      matched_look kinds.Closed word = matched_on
+
+      matched_kind : (kind : Kind) (word : ℕ) → matches_in matches (pair_of store (number_of word)) ≡ true → IsMatchedBy matches store hash (match_at kind at word)
+      matched_kind kinds.Empty word is = is
+      matched_kind kinds.Live word is = is
+      matched_kind kinds.Marked word is = is
+      matched_kind kinds.Copied word is = tt
+      matched_kind kinds.Buried word is = is
+      matched_kind kinds.Closed word is = is
+
+      -- a comparison finds one that matches
+      pub matched_yes : (word : ℕ) (same : Bool) → same ≡ matches_in matches (pair_of store (number_of word)) → IsMatchedBy matches store hash (at_yes (Comparing at word) same)
+      matched_yes word true is = matched_kind (kind_of word) word (sym is)
+      matched_yes word false is = matched_on
+
+    -- a turn from where the turns before it led
+    pub turns_on : (at place : Place) (turn : Turn) → IsTurn matches store hash at (turns.Next place) → IsTurn matches store hash place turn → IsTurn matches store hash at turn
+    turns_on at place turn before next = record { sees = sees_on at place (seen_by turn) before.sees next.sees; within = next.within; stands = next.stands; matched = next.matched }
+
+    -- a root that is there was loaded, and its size asked for
+    pub sees_root : (slots limit : ℕ) → size_of (table_of store.words.tables store.words.root) ≡ Size slots limit → (seen : Seen) → Sees matches store hash (first_place hash store.words.root slots limit) seen → SeesFrom matches store hash AtRoot seen
+    sees_root slots limit size seen sees m =
+        let root : ℕ = store.words.root in
+        let some : root ≡ 0 → ⊥ = λ zero. let none : Ok_done ≡ Size slots limit = sym (ap (λ n. size_of (table_of store.words.tables n)) zero) ∙ size in absurd cc in
+        let begun : Machine = record m { hash = hash; state = AtRoot } in
+        let sizes : Machine = record m { hash = hash; state = Searching (Sizing root) } in
+        let looks : Machine = record m { hash = hash; state = Searching (Looking (first_place hash root slots limit)) } in
+        let loaded : Comes matches store begun (Word_read root ∷ []) sizes = (tt, refl, ap (λ (s : State). record m { hash = hash; state = s }) (sym (root_searched m.task m.remembered.fill root some))) in
+        let sized : Comes matches store sizes (Size slots limit ∷ []) looks = (tt, sym size, refl) in
+        let more = sees m in
+        (Word_read root ∷ (Size slots limit ∷ more.0), comes_on (Word_read root ∷ []) (Size slots limit ∷ more.0) begun sizes (record m { hash = hash; state = goes m seen }) loaded (comes_on (Size slots limit ∷ []) more.0 sizes looks (record m { hash = hash; state = goes m seen }) sized more.1))

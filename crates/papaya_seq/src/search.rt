@@ -1,0 +1,108 @@
+//! The search of one table for a key, by the words that stand there: one loop for every call.
+ghost use Rattle.std.specs.Prelude.{◌≡◌, ◌<◌, ℕ, Some, length};
+ghost use Rattle.papaya_ask.specs.Search.{IsSize, IsWithin};
+ghost use Rattle.papaya_store.specs.Tables.{table_of};
+ghost use Rattle.papaya_seq.specs.Searches.{IsRootTurn, IsTurn, IsTurned, left_at, left_to, seen_by};
+ghost use Rattle.papaya_seq.specs.declared.search.Turn.TheVariants.{Next};
+
+use crate::lookup::matches;
+use papaya_ask::ask::{Answer, At};
+use papaya_ask::search::{Place, Search, Seen};
+use papaya_keys::guard::Equivalent;
+use papaya_store::store::Store;
+use papaya_words::word::Word;
+use std::hash::{BuildHasher, Hash};
+
+/// Where a turn of a search leads.
+#[derive(Clone, Copy)]
+pub(crate) enum Turn {
+    /// This place is looked at next.
+    Next(Place),
+    /// Nothing was ever at this place, so the key is not here.
+    Empty(Place),
+    /// The word at this place names a pair with a matching key.
+    Here(Place, u64),
+    /// The key is not in this table, but may be in the next.
+    Over(u64),
+}
+
+/// What a search has seen that compares no key next, as a turn.
+#[inline(always)]
+fn turn_of(seen: Seen) -> Turn
+    requires { IsTurned seen }
+    ensures { seen_by result ≡ seen }
+{
+    match seen {
+        Seen::On(Search::Looking(at)) => Turn::Next(at),
+        Seen::Empty(at) => Turn::Empty(at),
+        Seen::Here(at, word) => Turn::Here(at, word),
+        Seen::Over(table) => Turn::Over(table),
+        Seen::On(_) => unreachable!(),
+    }
+}
+
+/// Looks at one place of a table: loads its word, and compares the key of the pair that it names
+/// where the hash byte agrees.
+#[inline(always)]
+fn look_at<K: Hash + Eq, V, S: BuildHasher, Q: Equivalent<K>>(
+    store: &Store<K, V, S>,
+    key: &Q,
+    hash: u64,
+    at: Place,
+) -> Turn
+    requires { IsWithin at }
+    ensures turn { IsTurn (Q.matches key.now) store.now hash at result }
+    ensures fewer { left_to result < left_at at }
+{
+    let word = store.word(At::Slot(at.table, at.probe.i));
+    let seen = at.look(hash, word);
+    match seen {
+        Seen::On(Search::Comparing(place, named)) => {
+            let same = matches(store, Word(named).pair(), key);
+            turn_of(Search::Comparing(place, named).at_yes(same))
+        }
+        _ => turn_of(seen),
+    }
+}
+
+/// Searches one table from this place on.
+#[inline(always)]
+pub(crate) fn search<K: Hash + Eq, V, S: BuildHasher, Q: Equivalent<K>>(
+    store: &Store<K, V, S>,
+    key: &Q,
+    hash: u64,
+    at: Place,
+) -> Turn
+    requires { IsWithin at }
+    ensures turn { IsTurn (Q.matches key.now) store.now hash at result }
+    ensures over { (place : _) → result ≡ Next place → ⊥ }
+{
+    let mut place = at;
+    loop {
+        match look_at(store, key, hash, place) {
+            Turn::Next(next) => place = next,
+            turn => return turn,
+        }
+    }
+}
+
+/// Searches the root, where there is one.
+#[inline(always)]
+pub(crate) fn search_root<K: Hash + Eq, V, S: BuildHasher, Q: Equivalent<K>>(
+    store: &Store<K, V, S>,
+    key: &Q,
+    hash: u64,
+) -> Option<Turn>
+    requires { (n : ℕ) (t : _) → table_of store.now.words.tables n ≡ Some t
+        → IsSize (length t.slots) t.limit }
+    ensures { (turn : _) → result ≡ Some turn → IsRootTurn (Q.matches key.now) store.now hash turn }
+{
+    let table = store.word(At::Root);
+    match store.size_of(table) {
+        Answer::Size { len, limit } => {
+            let first = Place::first(hash, table, len, limit);
+            Some(search(store, key, hash, first))
+        }
+        _ => None,
+    }
+}

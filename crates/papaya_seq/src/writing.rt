@@ -1,0 +1,98 @@
+//! An insertion whose search ends where most do: its pair is logged and written at once. The machine
+//! stands in the proof.
+ghost use Rattle.std.specs.Prelude.{◌≡◌, ℕ, IfOk, IfErr, length, Some};
+ghost use Rattle.papaya_ask.specs.Search.{IsSize};
+ghost use Rattle.papaya_ask.specs.declared.ask.At.TheVariants.{Slot};
+ghost use Rattle.papaya_keys.specs.Hashes.{hash_of};
+ghost use Rattle.papaya_rests.specs.Alone.{IsBare};
+ghost use Rattle.papaya_store.specs.Tables.{table_of, word_at};
+ghost use Rattle.papaya_seq.specs.Drives.{IsInsertedAtOnce, IsWritten};
+
+use crate::insertion::value_left;
+use crate::search::{Turn, search_root};
+use papaya_ask::ask::{Answer, Ask, At};
+use papaya_ask::call::{Reply, Task};
+use papaya_call::answers::Listed;
+use papaya_call::write::Write;
+use papaya_chain::machine::Machine;
+use papaya_store::pairs::{KeyOf, Running};
+use papaya_store::store::Store;
+use papaya_words::probe::ResizeMode;
+use papaya_words::word::{Kind, Word, h2};
+use std::alloc::Global;
+use std::hash::{BuildHasher, Hash};
+
+/// Logs a key and its pair, and writes the pair where its search ended, in place of the word that
+/// stands there.
+#[inline(always)]
+fn write<K: Hash + Eq + Drop, V: Drop, S: BuildHasher>(
+    store: &mut Store<K, V, S>,
+    alloc: Global,
+    key: K,
+    value: V,
+    hash: u64,
+    write: Write,
+) -> (Reply, Option<V>)
+    requires { word_at store.old.words (Slot write.place.table write.place.probe.i) ≡ write.old }
+    ensures { IsWritten K.eq (hash_of K.hash_input S.build_hasher S.Hasher.write S.Hasher.finish)
+        hash write key value store.old result store.new }
+{
+    let mut running: Running<K, V, Listed<V>> = Running {
+        // The store asks the key and the value alone.
+        machine: Machine::new(Task::Get, hash, ResizeMode::Blocking, 1),
+        key: KeyOf::Own(key),
+        value: Some(value),
+        answers: None,
+    };
+    let logged = store.perform(alloc, 0, &mut running, Ask::MakeKey, false);
+    if let Answer::Refused(refused) = logged {
+        return (Reply::Refused(refused), value_left(running));
+    }
+    let pair = match store.perform(alloc, 0, &mut running, Ask::MakePair, false) {
+        Answer::Made(pair) => pair,
+        Answer::Refused(refused) => return (Reply::Refused(refused), value_left(running)),
+        _ => unreachable!(),
+    };
+    let at = At::Slot(write.place.table, write.place.probe.i);
+    let _ = store.exchange(at, write.old, Word::live(h2(hash), pair).0);
+    if write.old == 0 {
+        store.add_to_shard(0, 1);
+        return (Reply::Inserted(pair), None);
+    }
+    let old = Word(write.old).pair();
+    (Reply::Replaced { old, new: pair }, None)
+}
+
+/// Inserts a pair at once, or gives it back: where there is no root, where the root has no place for
+/// its key, and where its key's pair is being moved.
+#[inline(always)]
+pub(crate) fn insert_at_once<K: Hash + Eq + Drop, V: Drop, S: BuildHasher>(
+    store: &mut Store<K, V, S>,
+    alloc: Global,
+    key: K,
+    value: V,
+    hash: u64,
+    replace: bool,
+) -> Result<(Reply, Option<V>), (K, V)>
+    requires sized { (n : ℕ) (t : _) → table_of store.old.words.tables n ≡ Some t
+        → IsSize (length t.slots) t.limit }
+    requires bare { IsBare (λ at. word_at store.old.words at) }
+    ensures ok { IfOk result (λ done. IsInsertedAtOnce K.eq
+        (hash_of K.hash_input S.build_hasher S.Hasher.write S.Hasher.finish) hash replace key value
+        store.old done store.new) }
+    ensures err { IfErr result (λ back. (back ≡ (key, value)) × (store.new ≡ store.old)) }
+{
+    match search_root(store, &key, hash) {
+        Some(Turn::Empty(place)) => {
+            let claim = Write { place, old: 0 };
+            Ok(write(store, alloc, key, value, hash, claim))
+        }
+        Some(Turn::Here(place, word)) if Word(word).kind() == Kind::Live => {
+            if !replace {
+                return Ok((Reply::Occupied(Word(word).pair()), Some(value)));
+            }
+            Ok(write(store, alloc, key, value, hash, Write { place, old: word }))
+        }
+        _ => Err((key, value)),
+    }
+}
