@@ -6,15 +6,13 @@ use prog.Atomic.{either}
 use Rattle.boxcar.specs.Table.{Where}
 use Rattle.logbook.specs.Pages.{Book, Cell, cell, gives, keeps, may_write, nib, step, Goes, Moves}
 use Rattle.papaya_ask.specs.declared.ask.At.{At}
-use Rattle.papaya_ask.specs.declared.ask.At.TheVariants.{Root, Next, Aborted, Done, Slot}
-use Rattle.papaya_ask.specs.declared.ask.StepKind.{StepKind}
-use Rattle.papaya_ask.specs.declared.ask.StepKind.TheVariants as kinds
+use Rattle.papaya_ask.specs.declared.ask.At.TheVariants.{Root, Done}
 use Rattle.papaya_law.specs.Allows.{Allows, AllAllowed}
 use Rattle.papaya_law.specs.Code.{Coding}
-use Rattle.papaya_law.specs.Exchange.{Exchange, Setting, State, after, start}
+use Rattle.papaya_law.specs.Exchange.{Setting, State, after, start}
 use Rattle.papaya_law.specs.Grows.{AllSized, Entry, IsLawfulPlan, Plan, exchanges, places_in, setting_in, size_in}
 use Rattle.papaya_law.specs.Hashing.{hashed}
-use Rattle.papaya_rests.specs.Told.{Hands, IsAsked, IsWritten, word_of}
+use Rattle.papaya_rests.specs.Told.{IsWritten, word_of}
 use Rattle.papaya_law.proofs.Logs.{log_grows, lawful_in}
 use Rattle.papaya_book.specs.declared.rule.entry.Begun.{Begun}
 use Rattle.papaya_book.specs.declared.rule.entry.Named.{Named}
@@ -25,7 +23,6 @@ use Rattle.papaya_book.specs.declared.rule.entry.Event.TheVariants.{Begin, Home,
 use Rattle.papaya_book.specs.Sheets.{Sheet}
 use Rattle.papaya_book.specs.Logs.{Stored, Member, brought, coding_of, comes, entries_of, entry_of, exchange_of, exchanges_of, is_blocking, key_at, kind_of, made_of, name_in, number_of, or_else, owner, place_of, places_of, seals_of, setting_of, slots_of, state_of, steps_of, table_in, word_names}
 use Rattle.papaya_book.specs.Makers.{Brings, CanBring, IsMade, key_of, table_of}
-use Rattle.papaya_book.specs.Plays.{Numbered, hands_of}
 use Rattle.papaya_book.specs.Rule.{IsBlank, IsKept, IsLawfulLog, IsPlaced, flag, seal_at, word_in}
 use Rattle.papaya_book.specs.Trade.{Answered, Moved}
 use Rattle.papaya_book.specs.Sheets.{Sheet}
@@ -43,38 +40,6 @@ or_none : {X : Type 0} (x y : Option X) → or_else x y ≡ None → x ≡ None
 or_none None y e = refl
 or_none (Some x) y e = absurd (cc e)
 
--- no exchange that is asked for links a table
-asked_links : {K P : Type 0} (c : Coding K P) (kind : Option StepKind) (at : At) (new : ℕ) (s : State P) (hands : Hands P) (e : Exchange P) → IsAsked c kind at new s hands e → (t : ℕ) → (after s e).next t ≡ s.next t
-asked_links c None at new s hands e h t = absurd h
-asked_links c (Some kinds.Open) Root new s hands e h t = ap (λ (z : Exchange _). (after s z).next t) h
-asked_links c (Some kinds.Open) (Next u) new s hands e h t = absurd h
-asked_links c (Some kinds.Open) (Aborted u) new s hands e h t = absurd h
-asked_links c (Some kinds.Open) (Done u) new s hands e h t = absurd h
-asked_links c (Some kinds.Open) (Slot u x) new s hands e h t = absurd h
-asked_links c (Some kinds.Claim) Root new s hands e h t = absurd h
-asked_links c (Some kinds.Claim) (Next u) new s hands e h t = absurd h
-asked_links c (Some kinds.Claim) (Aborted u) new s hands e h t = absurd h
-asked_links c (Some kinds.Claim) (Done u) new s hands e h t = absurd h
-asked_links c (Some kinds.Claim) (Slot u x) new s hands e h t = ap (λ (z : Exchange _). (after s z).next t) h.2
-asked_links c (Some kinds.Replace) Root new s hands e h t = absurd h
-asked_links c (Some kinds.Replace) (Next u) new s hands e h t = absurd h
-asked_links c (Some kinds.Replace) (Aborted u) new s hands e h t = absurd h
-asked_links c (Some kinds.Replace) (Done u) new s hands e h t = absurd h
-asked_links c (Some kinds.Replace) (Slot u x) new s hands e h t = ap (λ (z : Exchange _). (after s z).next t) h.4
-asked_links c (Some kinds.Bury) Root new s hands e h t = absurd h
-asked_links c (Some kinds.Bury) (Next u) new s hands e h t = absurd h
-asked_links c (Some kinds.Bury) (Aborted u) new s hands e h t = absurd h
-asked_links c (Some kinds.Bury) (Done u) new s hands e h t = absurd h
-asked_links c (Some kinds.Bury) (Slot u x) new s hands e h t = ap (λ (z : Exchange _). (after s z).next t) h.2
-asked_links c (Some kinds.Link) at new s hands e h t = absurd h
-asked_links c (Some kinds.Mark) at new s hands e h t = absurd h
-asked_links c (Some kinds.Close) at new s hands e h t = absurd h
-asked_links c (Some kinds.Place) at new s hands e h t = absurd h
-asked_links c (Some kinds.Finish) at new s hands e h t = absurd h
-asked_links c (Some kinds.Advance) at new s hands e h t = absurd h
-asked_links c (Some kinds.Promote) at new s hands e h t = absurd h
-asked_links c (Some kinds.Abort) at new s hands e h t = absurd h
-
 -- a table whose words were made is made in each longer log
 pub made_since : {K V S : Type 0} (sheet : Sheet) (v log : List (Event K V S)) → IsPrefix v log → IsMade sheet v → IsMade sheet log
 made_since sheet v log pre m =
@@ -91,7 +56,7 @@ module _ {K V S : Type 0} (eq : K → K → Bool) (hash : S → K → ℕ) (plan
     (cs : List Cell) (log : List (Event K V S)) (h : IsKept eq hash cs log) (e : Step K V) (w : Where Sheet) (with_it : comes e ≡ names.Table w) (at : At) (k new : ℕ) (key : key_at (steps_of log) at ≡ Some k) (some : new ≢ 0)
     (may : Allows (setting_of eq (hash h.begun.hasher) h.begun.mode log) (state_of log) (exchange_of e))
     (written : IsWritten (setting_of eq (hash h.begun.hasher) h.begun.mode log) (coding_of (hash h.begun.hasher)) (state_of log) at new (after (state_of log) (exchange_of e)))
-    (unlinking : (t : ℕ) → (after (state_of log) (exchange_of e)).next t ≡ (state_of log).next t) (placed : IsPlaced h.begun (name_in log) (comes e)) (none : table_in (steps_of log) (number_of w) ≡ None) (made : IsMade w.value log) (within : w.value.seal < length cs) (away : (cell cs w.value.seal).1 ≡ false) where
+    (placed : IsPlaced h.begun (name_in log) (comes e)) (none : table_in (steps_of log) (number_of w) ≡ None) (made : IsMade w.value log) (within : w.value.seal < length cs) (away : (cell cs w.value.seal).1 ≡ false) where
   abbrev b : Begun K V S
   b = h.begun
 
@@ -189,7 +154,6 @@ module _ {K V S : Type 0} (eq : K → K → Bool) (hash : S → K → ℕ) (plan
         subst (λ (s : State (Stored K V)). IsBlank s t) (sym (state_more log e))
         (blank_stays g c (state_of log) s' t (λ a of_t. written.others a (λ same. let gone : key_at es a ≡ None = keyless es t a of_t before in let there : key_at es a ≡ Some k = ap (key_at es) same ∙ key in cc (gone, there))) (h.lawful.blank t before));
     unopened = unopened';
-    unlinked = λ t. ap (λ (s : State (Stored K V)). s.next t) (state_more log e) ∙ (unlinking t ∙ h.lawful.unlinked t);
     apart = apart';
   }
 
@@ -292,8 +256,7 @@ module _ {K V S : Type 0} (eq : K → K → Bool) (hash : S → K → ℕ) (plan
       let placed' : IsPlaced h.begun (name_in log) (comes e) = subst (λ (z : Begun K V S × Option Book × Named K V). IsPlaced z.0 z.1 z.2) (λ i. (sym same i, sym named' i, sym m.0.meant.with_it i)) placed in
       let told : Answered log names_it = word_answer (setting_of eq (hash h.begun.hasher) h.begun.mode log) log h.lawful.allowed at in
       let made' = made_since w.value v log pre made in
-      let unlinking = asked_links Numbered (kind_of ask) at new (state_of log) (hands_of (made_of ask)) (exchange_of e) m.0.meant.asked in
-      let more = kept_brought eq hash plans cs log h e w m.0.meant.with_it at k new key' some m.0.allowed m.0.written unlinking placed' m.1 made' within away in (
+      let more = kept_brought eq hash plans cs log h e w m.0.meant.with_it at k new key' some m.0.allowed m.0.written placed' m.1 made' within away in (
         gives,
         Stepped e ∷ [],
         Some names_it,
@@ -306,7 +269,7 @@ module _ {K V S : Type 0} (eq : K → K → Bool) (hash : S → K → ℕ) (plan
             since = pre;
             begun = h.begun;
             lawful = h.lawful;
-            now = lawful_brought eq hash plans cs log h e w m.0.meant.with_it at k new key' some m.0.allowed m.0.written unlinking placed' m.1 made' within away;
+            now = lawful_brought eq hash plans cs log h e w m.0.meant.with_it at k new key' some m.0.allowed m.0.written placed' m.1 made' within away;
             is = stands;
             state_is = refl;
             after = rw is (e, record { asked = m.0.meant.asked; with_it = m.0.meant.with_it ∙ sym with_it }, refl);

@@ -5,6 +5,7 @@ use Rattle.boxcar.specs.Table.{Where}
 use Rattle.papaya_words.specs.Word.{kind_of, pair_of}
 use Rattle.papaya_words.specs.declared.word.Kind.TheVariants as kinds
 use Rattle.papaya_law.specs.Allows.{AllAllowed}
+use Rattle.papaya_law.specs.Class.{IsOn}
 use Rattle.papaya_law.specs.Code.{Coding, IsLawfulCoding, code, kind}
 use Rattle.papaya_law.specs.Exchange.{Word, Empty, Closed, Live, Marked, Copied, Buried, Setting, State, after, run, start}
 use Rattle.papaya_law.specs.Grows.{Comes, brings, exchanges}
@@ -69,6 +70,12 @@ module _ {K V : Type 0} where
   -- so has the table after another one
   pub next_came : (es : List (Step K V)) (t n : ℕ) → (run (exchanges (map entry_of es)) start).next t ≡ n → n ≢ 0 → (w : Where Sheet) × (table_in es n ≡ Some w)
   next_came es t n is some = ⊎_elim (λ h. h) (λ d. absurd (none_before (Stored K V) n (omega arith) d)) (chain_came es start n (inr (t, is)))
+
+  -- so has each table on the chain
+  pub on_came : (es : List (Step K V)) (t : ℕ) → IsOn (run (exchanges (map entry_of es)) start).first (run (exchanges (map entry_of es)) start).next t → (w : Where Sheet) × (table_in es t ≡ Some w)
+  on_came es t on =
+      let some = on.0 in
+      ⊎_elim (λ h. h) (λ d. absurd (none_before (Stored K V) t some d)) (chain_came es start t (on_comes (run (exchanges (map entry_of es)) start) t on))
 
 module _ {K P : Type 0} (g : Setting K P) (c : Coding K P) (lawful : IsLawfulCoding g c) where
   -- a word of no pair

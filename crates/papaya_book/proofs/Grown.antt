@@ -41,21 +41,6 @@ root_stays g s (steps.Advance t b c) a q h = h
 root_stays g s (steps.Promote t n) a q h = let m = a.target.made in absurd (omega arith)
 root_stays g s (steps.Abort t) a q h = h
 
--- an exchange with which no table comes links none
-quiet_links : {K V : Type 0} (s : State (Stored K V)) (e : Step K V) → IsQuiet (comes e) → (t : ℕ) → (after s (exchange_of e)).next t ≡ s.next t
-quiet_links s (steps.Open w) q t = absurd q
-quiet_links s (steps.Claim u x p) q t = refl
-quiet_links s (steps.Replace u x p p') q t = refl
-quiet_links s (steps.Bury u x p) q t = refl
-quiet_links s (steps.Link u w) q t = absurd q
-quiet_links s (steps.Mark u x p) q t = refl
-quiet_links s (steps.Close u x) q t = refl
-quiet_links s (steps.Place u x p) q t = refl
-quiet_links s (steps.Finish u x p) q t = refl
-quiet_links s (steps.Advance u b c) q t = refl
-quiet_links s (steps.Promote u n) q t = refl
-quiet_links s (steps.Abort u) q t = refl
-
 abbrev flag_of : Bool → ℕ
 flag_of z = cond z 1 0
 
@@ -137,6 +122,5 @@ module _ {K V S : Type 0} (eq : K → K → Bool) (hash : S → K → ℕ) (plan
         (λ at' of_t. written.others at' (λ same. let gone : key_at (steps_of log) at' ≡ None = keyless (steps_of log) t at' of_t none' in let there : key_at (steps_of log) at' ≡ Some k = ap (key_at (steps_of log)) same ∙ key in cc (gone, there)))
         (l.blank t none'));
     unopened = λ r t. same_tables t ∙ l.unopened (root_stays g (state_of log) e may quiet (ap (λ (s : State (Stored K V)). s.root) (sym (state_more log e)) ∙ r)) t;
-    unlinked = λ t. ap (λ (s : State (Stored K V)). s.next t) (state_more log e) ∙ (quiet_links (state_of log) e quiet t ∙ l.unlinked t);
     apart = λ at' at'' j x y. l.apart at' at'' j (sym (same_keys at') ∙ x) (sym (same_keys at'') ∙ y);
   }

@@ -25,3 +25,9 @@ pub mod Loaded
 pub mod Kept
 pub mod Opened
 pub mod TableSizes
+-- whose exchange a wish is of
+pub mod Wishes
+pub mod Words
+pub mod Fetching
+-- a table that is linked is another than all that have come
+pub mod Linking

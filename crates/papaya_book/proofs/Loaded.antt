@@ -36,7 +36,7 @@ module _ {K V S : Type 0} (eq : K → K → Bool) (hash : S → K → ℕ) (b : 
     pub book : table.value.book ≡ name
 
   -- what a table says that came under the number that was found
-  found_table : (w : Where Sheet) → IsLawfulLog eq hash b log → state ≡ Some (names.Table w) → table_in (steps_of log) found ≡ Some w → IsFoundTable
+  pub found_table : (w : Where Sheet) → IsLawfulLog eq hash b log → state ≡ Some (names.Table w) → table_in (steps_of log) found ≡ Some w → IsFoundTable
   found_table w lawful gained came =
       let by = table_came (steps_of log) found w came in
       let placed = lawful.placed (names.Table w) (came_entered (names.Table w) log by.0) in

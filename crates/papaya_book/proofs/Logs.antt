@@ -52,7 +52,7 @@ pub or_nothing : {X : Type 0} (x : Option X) → or_else x None ≡ x
 or_nothing None = refl
 or_nothing (Some x) = refl
 
-either_table : (x y : Option (Where Sheet)) (w : Where Sheet) → or_else x y ≡ Some w → (x ≡ Some w) ⊎ (y ≡ Some w)
+pub either_table : (x y : Option (Where Sheet)) (w : Where Sheet) → or_else x y ≡ Some w → (x ≡ Some w) ⊎ (y ≡ Some w)
 either_table None y w e = inr e
 either_table (Some x) y w e = inl e
 

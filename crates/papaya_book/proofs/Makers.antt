@@ -75,7 +75,6 @@ module _ {K V S : Type 0} (eq : K → K → Bool) (hash : S → K → ℕ) where
             (entered_last n log e h);
         blank = subst (λ (es : List (Step K V)). (t : ℕ) → table_in es t ≡ None → IsBlank (Rattle.papaya_law.specs.Exchange.run (exchanges (map entry_of es)) start) t) same l.blank;
         unopened = subst (λ (es : List (Step K V)). (Rattle.papaya_law.specs.Exchange.run (exchanges (map entry_of es)) start).root ≡ 0 → (t : ℕ) → table_in es t ≡ None) same l.unopened;
-        unlinked = subst (λ (es : List (Step K V)). (t : ℕ) → (Rattle.papaya_law.specs.Exchange.run (exchanges (map entry_of es)) start).next t ≡ 0) same l.unlinked;
         apart = subst (λ (es : List (Step K V)). (at at' : At) (k : ℕ) → key_at es at ≡ Some k → key_at es at' ≡ Some k → at ≡ at') same l.apart;
       }
 

@@ -32,7 +32,7 @@ pub can_open : {K V S : Type 0} (eq : K → K → Bool) (hash : S → K → ℕ)
 can_open eq hash b made w v log pre l is = (
   record {
     step = steps.Open w;
-    meant = record { asked = refl; with_it = refl };
+    meant = record { asked = inl refl; with_it = refl };
     allowed = (is, omega arith);
     written = record { here = refl; others = λ at n. others_stay (setting_of eq (hash b.hasher) b.mode log) (coding_of (hash b.hasher)) (state_of log) (number_of w) at n };
   },

@@ -79,3 +79,7 @@ module _ {K V S : Type 0} (g : Setting K (Stored K V)) (log : List (Event K V S)
   word_answer (Aborted t) = tt
   word_answer (Done t) = tt
   word_answer (Slot t x) = pair_answer (named ((state_of log).slot t x)) (λ p e. came_entered (names.Pair p) log (pair_came g (steps_of log) allowed p t x e))
+
+  -- so is a table that has come
+  pub number_answer : (t : ℕ) → Answered log (table_named (table_in (steps_of log) t))
+  number_answer t = table_answer (table_in (steps_of log) t) (table_entered t)

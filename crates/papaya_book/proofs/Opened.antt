@@ -17,7 +17,7 @@ use Rattle.papaya_book.specs.Plays.{IsMeant}
 use Rattle.papaya_book.proofs.Logs.{steps-append, table_append}
 
 -- a number equals itself, as the test says it
-same_number : (n : ℕ) → (n == n) ≡ true
+pub same_number : (n : ℕ) → (n == n) ≡ true
 same_number n = ⊎_elim (λ h. h) (λ h. absurd (eqb-false n n h refl)) (cases_Bool (n == n))
 
 -- a number that is not 0, as the test says it

@@ -38,7 +38,6 @@ module _ {K V S : Type 0} (eq : K → K → Bool) (hash : S → K → ℕ) (b : 
     placed = λ n h. ⊎_elim (λ i. subst (IsPlaced b None) i tt) (λ i. absurd i) h;
     blank = λ t e. record { next = refl; aborted = refl; done = refl; slots = λ x. refl };
     unopened = λ r t. refl;
-    unlinked = λ t. refl;
     apart = λ at at' k x y. (only_root K V at k x).0 ∙ sym (only_root K V at' k y).0;
   }
 

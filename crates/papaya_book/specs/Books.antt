@@ -5,13 +5,14 @@ use Rattle.logbook.specs.Pages.{nib, may_write}
 use Rattle.logbook.specs.declared.tokens.Pen.{Pen}
 use Rattle.boxcar.specs.Table.{Where}
 use Rattle.papaya_ask.specs.declared.ask.At.{At}
-use Rattle.papaya_ask.specs.declared.ask.At.TheVariants.{Root, Slot}
+use Rattle.papaya_ask.specs.declared.ask.At.TheVariants.{Root, Next, Slot}
 use Rattle.papaya_ask.specs.declared.ask.StepKind.{StepKind}
-use Rattle.papaya_ask.specs.declared.ask.StepKind.TheVariants.{Open}
+use Rattle.papaya_ask.specs.declared.ask.StepKind.TheVariants.{Open, Link}
 use Rattle.papaya_book.specs.declared.book.Book.{Book}
 use Rattle.papaya_book.specs.declared.rule.entry.Event.{Event}
 use Rattle.papaya_book.specs.declared.rule.entry.Named.{Named}
 use Rattle.papaya_book.specs.declared.rule.entry.Named.TheVariants as names
+use Rattle.papaya_book.specs.declared.rule.steps.Copy.{Copy}
 use Rattle.papaya_book.specs.declared.rule.steps.Laying.{Laying}
 use Rattle.papaya_book.specs.declared.rule.steps.Put.{Put}
 use Rattle.papaya_book.specs.declared.rule.steps.Wish.{Wish}
@@ -118,3 +119,42 @@ module _ {K V S H : Type 0} (keys : Keys K S) (book : Book K V S H) where
       → List (Event K V S) → ℕ → List (Event K V S) → Option (Stored K V) → Type 0
   PutsSlot t x kind made words = calls.IsSlotTried keys.eq keys.hash (begun_of book.parts)
       book.begun.book t x kind words.0 words.1 (Some made) (names.Pair made)
+
+  -- the word that stands at a place
+  abbrev pub IsWord : At → ℕ → List (Event K V S) → Type 0
+  IsWord = calls.IsWord keys.eq keys.hash (begun_of book.parts)
+
+  -- an exchange for a copy, which may carry this pair: nothing comes with it
+  abbrev pub CanCopy : At → Option StepKind → (kept : Option (Stored K V)) → (words : ℕ × ℕ)
+      → List (Event K V S) → Type 0
+  CanCopy at kind kept words = plays.CanExchange keys.eq keys.hash (begun_of book.parts) at kind
+      words.0 words.1 kept names.Nothing
+
+  abbrev pub CanCarry : Copy K V → (old new : ℕ) → List (Event K V S) → Type 0
+  CanCarry copy old new = CanCopy copy.at copy.kind copy.kept.now (old, new)
+
+  abbrev pub Carries : Copy K V → (old new : ℕ) → List (Event K V S) → ℕ → List (Event K V S)
+      → Option (Named K V) → Type 0
+  Carries copy old new = calls.IsTried keys.eq keys.hash (begun_of book.parts) copy.at copy.kind old
+      new copy.kept.now names.Nothing
+
+  abbrev pub CopiesWord : At → Option StepKind → (kept : Option (Stored K V)) → (words : ℕ × ℕ)
+      → List (Event K V S) → ℕ → List (Event K V S) → Type 0
+  CopiesWord at kind kept words seen found log = (state : Option (Named K V))
+      × calls.IsTried keys.eq keys.hash (begun_of book.parts) at kind words.0 words.1 kept
+      names.Nothing seen found log state
+
+  abbrev pub CopiesSlot : (t x : ℕ) → Option StepKind → (kept : Option (Stored K V))
+      → (words : ℕ × ℕ) → List (Event K V S) → ℕ → List (Event K V S) → Option (Stored K V) → Type 0
+  CopiesSlot t x kind kept words = calls.IsSlotTried keys.eq keys.hash (begun_of book.parts)
+      book.begun.book t x kind words.0 words.1 kept names.Nothing
+
+  -- an exchange that makes the table the next one after t, which had none
+  abbrev pub CanLink : (t : ℕ) → Where Sheet → List (Event K V S) → Type 0
+  CanLink t table = plays.CanExchange keys.eq keys.hash (begun_of book.parts) (Next t) (Some Link) 0
+      (table.index + 1) None (names.Table table)
+
+  abbrev pub Links : (t : ℕ) → Where Sheet → List (Event K V S) → ℕ → List (Event K V S) → Type 0
+  Links t table seen found log = (state : Option (Named K V))
+      × calls.IsTried keys.eq keys.hash (begun_of book.parts) (Next t) (Some Link) 0
+      (table.index + 1) None (names.Table table) seen found log state

@@ -30,6 +30,10 @@ pair_seen (Some r) = Some r.now
 abbrev pub IsTable : {K V S : Type 0} → List (Event K V S) → ℕ → Sheet → Type 0
 IsTable log t sheet = (w : Where Sheet) × (table_in (steps_of log) t ≡ Some w) × (w.value ≡ sheet)
 
+-- the table of this number has come
+abbrev pub HasCome : {K V S : Type 0} → List (Event K V S) → ℕ → Type 0
+HasCome log t = (w : Where Sheet) × (table_in (steps_of log) t ≡ Some w)
+
 -- the table of this number has come, and it is of the book; or there is none, and the number is 0
 abbrev pub IsTableOf : {K V S : Type 0} → Book → ℕ → List (Event K V S) → Option (Bor Sheet)
     → Type 0
@@ -49,6 +53,11 @@ module _ {K V S : Type 0} (eq : K → K → Bool) (hash : S → K → ℕ) (b : 
     pub lawful : IsLawfulLog eq hash b log
     pub is : word_in eq hash b log at ≡ found
     pub state_is : state ≡ Some (word_names (steps_of log) (state_of log) at)
+
+  -- the word that stands at a place after the log
+  pub record IsWord (at : At) (found : ℕ) (log : List (Event K V S)) : Type 0 where
+    pub lawful : IsLawfulLog eq hash b log
+    pub is : word_in eq hash b log at ≡ found
 
   -- an exchange was made after a log that goes on from what was seen, or another word was found
   pub record IsTried (at : At) (kind : Option StepKind) (old new : ℕ) (made : Option (Stored K V))

@@ -10,9 +10,12 @@ pub mod Logs
 pub mod Rule
 pub mod Plays
 pub mod Makers
+pub mod Fetches
 pub mod Trade
 pub mod Own
 pub mod Limits
+-- how a map resizes
+pub mod Modes
 pub mod Parts
 pub mod Calls
 -- the same by the keys of the map and the book

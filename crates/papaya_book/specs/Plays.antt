@@ -7,7 +7,8 @@ use Rattle.papaya_ask.specs.declared.ask.StepKind.{StepKind}
 use Rattle.papaya_ask.specs.declared.ask.StepKind.TheVariants as kinds
 use Rattle.papaya_law.specs.Allows.{Allows}
 use Rattle.papaya_law.specs.Code.{Coding}
-use Rattle.papaya_law.specs.Exchange.{after}
+use Rattle.papaya_law.specs.Exchange.{Exchange, State, after}
+use Rattle.papaya_rests.specs.Copier.{IsCopyAsked}
 use Rattle.papaya_rests.specs.Told.{IsAsked, IsWritten, Hands}
 use Rattle.papaya_book.specs.declared.rule.entry.Named.{Named}
 use Rattle.papaya_book.specs.declared.rule.entry.Begun.{Begun}
@@ -34,6 +35,13 @@ IsPutting kind = (kind ≡ Some kinds.Claim) ⊎ (kind ≡ Some kinds.Replace)
 abbrev pub Numbered : {K V : Type 0} → Coding K (Stored K V)
 Numbered = coding_of (λ k. 0)
 
+-- The exchange of the law that is asked for: by a call, with a pair that it made, or for a copy, with
+-- the pair that is carried.
+abbrev pub IsWished : {K V : Type 0} → Option StepKind → At → ℕ → State (Stored K V)
+    → Option (Stored K V) → Exchange (Stored K V) → Type 0
+IsWished kind at new s made e = IsAsked Numbered kind at new s (hands_of made) e
+    ⊎ IsCopyAsked Numbered kind at new s made e
+
 module _ {K V S : Type 0} (eq : K → K → Bool) (hash : S → K → ℕ) where
   -- a load tells the word that stands at the place, and what it names
   pub record Looked (at : At) (found : ℕ) (log : List (Event K V S))
@@ -47,11 +55,11 @@ module _ {K V S : Type 0} (eq : K → K → Bool) (hash : S → K → ℕ) where
       → View (Event K V S) (Named K V) → Type 0
   Looks s v found w = Looked (place_of s.ask) found w.0 w.1.1
 
-  -- the exchange is of the kind that was asked for, with the pair that the call made, and what
-  -- comes with it was handed over
+  -- the exchange is of the kind that was asked for, with the pair that the call made or carries, and
+  -- what comes with it was handed over
   pub record IsMeant (at : At) (kind : Option StepKind) (new : ℕ) (made : Option (Stored K V))
       (brings : Named K V) (before : List (Event K V S)) (e : Step K V) : Type 0 where
-    pub asked : IsAsked Numbered kind at new (state_of before) (hands_of made) (exchange_of e)
+    pub asked : IsWished kind at new (state_of before) made (exchange_of e)
     pub with_it : comes e ≡ brings
 
   -- An exchange that may be made at any time when its old word stands there: there is one of the

@@ -58,8 +58,6 @@ module _ {K V S : Type 0} where
       -- a table that has not come is blank, and before there is a root none has come
       pub blank : (t : ℕ) → table_in (steps_of log) t ≡ None → IsBlank (state_of log) t
       pub unopened : (state_of log).root ≡ 0 → (t : ℕ) → table_in (steps_of log) t ≡ None
-      -- no table has a next one, as long as no call links one
-      pub unlinked : (t : ℕ) → (state_of log).next t ≡ 0
       -- no two places share a word
       pub apart : (at at' : At) (k : ℕ) → key_at (steps_of log) at ≡ Some k
           → key_at (steps_of log) at' ≡ Some k → at ≡ at'

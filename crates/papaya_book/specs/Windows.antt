@@ -3,6 +3,7 @@ use Rattle.std.specs.Prelude.{◌≡◌, ℕ, Bool, Option, ◌++◌}
 use mathlib.Core.List.{IsPrefix}
 use denote.Bor.{Bor}
 use Rattle.boxcar.specs.Table.{Where}
+use Rattle.papaya_ask.specs.declared.ask.At.{At}
 use Rattle.papaya_ask.specs.declared.ask.StepKind.{StepKind}
 use Rattle.papaya_book.specs.declared.keyed.Keyed as keyed
 use Rattle.papaya_book.specs.declared.rule.entry.Named.{Named}
@@ -35,6 +36,9 @@ module _ {K V S H : Type 0} {d : keyed.Ghosts S K H} where
   abbrev pub IsTable : Window K V S H d → ℕ → Sheet → Type 0
   IsTable w = calls.IsTable w.sight.log
 
+  abbrev pub HasCome : Window K V S H d → ℕ → Type 0
+  HasCome w = calls.HasCome w.sight.log
+
   abbrev pub IsMade : Window K V S H d → Sheet → Type 0
   IsMade w sheet = makers.IsMade sheet w.sight.log
 
@@ -65,6 +69,29 @@ module _ {K V S H : Type 0} {d : keyed.Ghosts S K H} where
         → Option (Stored K V) → Type 0
     PutsSlot t x kind made words found = books.PutsSlot d.keys w.book.now t x kind made words
         w.sight.log found w'.sight.log
+
+    abbrev pub IsWord : At → ℕ → Type 0
+    IsWord at word = books.IsWord d.keys w.book.now at word w'.sight.log
+
+    abbrev pub CopiesWord : At → Option StepKind → (kept : Option (Stored K V)) → (words : ℕ × ℕ)
+        → ℕ → Type 0
+    CopiesWord at kind kept words found = books.CopiesWord d.keys w.book.now at kind kept words
+        w.sight.log found w'.sight.log
+
+    abbrev pub CopiesSlot : (t x : ℕ) → Option StepKind → (kept : Option (Stored K V))
+        → (words : ℕ × ℕ) → ℕ → Option (Stored K V) → Type 0
+    CopiesSlot t x kind kept words found = books.CopiesSlot d.keys w.book.now t x kind kept words
+        w.sight.log found w'.sight.log
+
+    abbrev pub Links : (t : ℕ) → Where Sheet → ℕ → Type 0
+    Links t table found = books.Links d.keys w.book.now t table w.sight.log found w'.sight.log
+
+  abbrev pub CanCopy : Window K V S H d → At → Option StepKind → (kept : Option (Stored K V))
+      → (words : ℕ × ℕ) → Type 0
+  CanCopy w at kind kept words = books.CanCopy d.keys w.book.now at kind kept words w.sight.log
+
+  abbrev pub CanLink : Window K V S H d → (t : ℕ) → Where Sheet → Type 0
+  CanLink w t table = books.CanLink d.keys w.book.now t table w.sight.log
 
   abbrev pub CanTrySlot : Window K V S H d → (t x : ℕ) → Option StepKind → (words : ℕ × ℕ) → Type 0
   CanTrySlot w t x kind words = books.CanTrySlot d.keys w.book.now t x kind words w.sight.log

@@ -1,6 +1,8 @@
 //! The book of a map: its own words, and the steps on words.
 ghost use Rattle.std.specs.Prelude.{◌≡◌, ◌<◌, [], ◌∷◌, Some, None, length};
 ghost use mathlib.Core.List.{IsPrefix};
+ghost use Rattle.papaya_words.specs.Mode.{IsChunked};
+ghost use Rattle.papaya_book.specs.Modes.{IsChunked-prop};
 ghost use Rattle.papaya_book.specs.Calls.{IsTable};
 ghost use Rattle.papaya_book.specs.Logs.{first_in, key_at, name_in, steps_of};
 ghost use Rattle.papaya_book.specs.Parts.{begun_of};
@@ -8,6 +10,7 @@ ghost use Rattle.papaya_book.specs.Sheets.{word_named};
 ghost use Rattle.papaya_book.specs.declared.rule.entry.Event.TheVariants.{Begin};
 ghost use Rattle.papaya_book.specs.declared.rule.entry.Named.TheVariants.{Nothing, Pair as PairNamed};
 
+pub mod copies;
 pub mod exchanges;
 pub mod gains;
 pub mod kept;
@@ -39,6 +42,7 @@ pub struct Book<K: Hash + Eq, V, S: BuildHasher> {
     pub maker: Cell<K, V, S>,
     pub begun: Sight<K, V, S>,
     pub origin: Sight<K, V, S>,
+    ghost chunked: { IsChunked parts.mode } by { IsChunked-prop parts.mode },
     ghost root_is: { root ≡ word_named begun.book 0 },
     ghost maker_is: { maker ≡ word_named begun.book 1 },
     ghost begins: { first_in begun.log ≡ Some (Begin (begun_of parts)) },

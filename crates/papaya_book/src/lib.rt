@@ -11,6 +11,8 @@
 #![tactic(auto)]
 
 pub mod book;
+pub mod copies;
+pub mod count;
 pub mod keyed;
 pub mod rule;
 pub mod table;

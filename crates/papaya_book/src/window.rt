@@ -203,6 +203,7 @@ impl<'a, K: Hash + Eq, V, S: BuildHasher> Window<'a, K, V, S> {
         ensures sees { Sees self.old self.new }
         ensures err { IfErr result (λ e. (e ≡ Refused.Memory)
             ⊎ ((e ≡ Refused.Capacity) × IsFull given.new.done)) }
+        ensures ok { IfOk result (λ r. given.new.done ≡ given.old.done) }
         ensures made { IfOk result (λ r. IsMade self.new r.0.value) }
         ensures placed { IfOk result (λ r. IsIn self.old (TableNamed r.0)) }
         ensures pen { IfOk result (λ r. Seals self.old.book.now r.1 r.0.value) }

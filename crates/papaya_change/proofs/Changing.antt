@@ -1,45 +1,55 @@
 -- After each answer a changing call rests again, and holds what it was told of last.
-use Rattle.std.proofs.Common.{◌≡◌, ◌⊎◌, inl, ⊎_elim, ℕ, ◌+◌, ◌<◌, ◌==◌, Bool, true, false, if◌then◌else◌, MatchOption, Option, None, Some, List, [], ◌++◌, length, append-nil, refl, sym, ap, ◌∙◌, subst, arith}
+use Rattle.std.proofs.Common.{◌≡◌, ◌⊎◌, inl, inr, ⊎_elim, ℕ, ◌+◌, ◌<◌, ◌==◌, Bool, true, false, if◌then◌else◌, MatchOption, Option, None, Some, List, [], ◌++◌, length, append-nil, refl, sym, ap, ◌∙◌, subst, arith}
 use Rattle.std.proofs.lemmas.Bool.{eq-eqb, ne_eqb}
 use Rattle.std.specs.Cmp.{IsEquivalence}
 use mathlib.Core.List.{IsPrefix}
 use denote.Bor.{Bor}
 use Rattle.logbook.specs.Pages.{Book}
+use Rattle.logbook.specs.declared.tokens.Pen.{Pen}
+use Rattle.boxcar.specs.Table.{Where}
 use Rattle.papaya_ask.specs.declared.ask.At.{At}
 use Rattle.papaya_ask.specs.declared.ask.At.TheVariants.{Root, Next, Aborted, Done, Slot}
 use Rattle.papaya_ask.specs.declared.ask.Ask.{Ask}
 use Rattle.papaya_ask.specs.declared.ask.Ask.TheVariants.{Load, SizeOf, SameKey, AddToShard}
 use Rattle.papaya_ask.specs.declared.ask.Answer.{Answer}
 use Rattle.papaya_ask.specs.declared.ask.Answer.TheVariants.{Word as Word_read, Size, Yes, Ok as Ok_done}
-use Rattle.papaya_call.specs.declared.machine.Machine.{Machine}
 use Rattle.papaya_rests.specs.Followed.{IsAtTable, IsCounting, table_asked, told_table}
 use Rattle.papaya_law.specs.Allows.{AllAllowed}
-use Rattle.papaya_law.specs.Class.{IsOn}
-use Rattle.papaya_law.specs.Exchange.{Setting, run, start}
+use Rattle.papaya_law.specs.Code.{IsHashed}
+use Rattle.papaya_law.specs.Exchange.{Setting, start}
 use Rattle.papaya_ask.specs.declared.call.Task.{Task}
-use Rattle.papaya_call.specs.Machine.{after, ask_of, kind_of_ask, started}
+use Rattle.papaya_call.specs.Machine as calls
+use Rattle.papaya_chain.specs.declared.ask.Answer.TheVariants as answers
+use Rattle.papaya_chain.specs.declared.ask.Ask.TheVariants.{Call}
+use Rattle.papaya_chain.specs.declared.machine.Machine.{Machine}
+use Rattle.papaya_chain.specs.declared.machine.Phase.TheVariants as phases
+use Rattle.papaya_chain.specs.Machine.{after, ask_of, kind_of_ask, started}
+use Rattle.papaya_chain_rests.specs.Told.{Hands}
+use Rattle.papaya_chain_rests.proofs.Names.{call_asks}
 use Rattle.papaya_words.specs.declared.probe.ResizeMode.{ResizeMode}
 use Rattle.papaya_words.specs.declared.probe.ResizeMode.TheVariants.{Incremental, Blocking}
 use Rattle.papaya_rests.specs.Rests.{IsModeOf, change_after, change_in}
-use Rattle.papaya_rests.specs.Told.{Hands, IsOneOf, IsTold, or_last, told_of, word_of}
-use Rattle.papaya_rests.proofs.Followed.{counts_after, table_named, table_told}
+use Rattle.papaya_rests.specs.Told.{IsOneOf, IsTold, or_last, told_of, word_of}
+use Rattle.papaya_rests.specs.Told as told_calls
+use Rattle.papaya_rests.proofs.Followed.{counts_after, table_named}
 use Rattle.papaya_rests.proofs.RestsNames.{IsNamed, ask_named, slot_named}
-use Rattle.papaya_rests.proofs.RestsReply.{machine_changes}
 use Rattle.papaya_book.specs.Sheets.{Sheet}
 use Rattle.papaya_book.specs.declared.rule.entry.Begun.{Begun}
 use Rattle.papaya_book.specs.declared.rule.entry.Event.{Event}
 use Rattle.papaya_book.specs.Calls.{IsTable}
-use Rattle.papaya_change.specs.Changing.{IsCalling, hands_with}
-use Rattle.papaya_lookup.specs.Driver.{IsLoaded}
-use Rattle.papaya_lookup.specs.Driver.{IsHeldAt}
+use Rattle.papaya_words.specs.Mode.{IsChunked}
+use Rattle.papaya_change.specs.Changing.{HasChanged, IsBringing, IsCalling, IsForm, IsFresh, hands_with}
+use Rattle.papaya_change.specs.Driver.{IsHeldAt, IsLoaded}
 use Rattle.papaya_book.specs.Hashes.{hash_of}
 use Rattle.papaya_book.specs.Logs.{Stored, exchanges_of, is_blocking, pair_named, state_of, steps_of}
 use Rattle.papaya_lookup.specs.Lookups.{coding_for}
 use Rattle.papaya_book.specs.Rule.{IsLawfulLog, IsPlaced}
-use Rattle.papaya_lookup.proofs.Driving.{IsResting, coded, resting_later, resting_told, wide, word_wide}
+use Rattle.papaya_lookup.proofs.Driving.{IsResting, word_wide}
+use Rattle.papaya_change.proofs.OwnSteps.{IsBarren, own_at, own_barren, own_changes, own_told}
+use Rattle.papaya_change.proofs.Resting.{ChainResting, resting_later, resting_told}
 use Rattle.papaya_book.proofs.Loaded.{table_since}
 use Rattle.papaya_book.proofs.Logs.{prefix_trans, table_came}
-use Rattle.papaya_lookup.proofs.Readings.{IsQuery, allowed_with, fed, hashed_with}
+use Rattle.papaya_lookup.proofs.Readings.{IsQuery, allowed_with, coding, fed, hashed_with, key_form, setting}
 use Rattle.papaya_book.proofs.TableSizes.{sizes}
 
 -- the map resizes as its setting says
@@ -83,20 +93,26 @@ module _ {K V S : Type 0} (eq : K → K → Bool) (hash : S → K → ℕ) (b : 
   loaded_lawful log (Done t) word table table' last last' is = absurd is
 
   -- a call that begins
-  pub begins : (matches : K → Bool) (by : ℕ) (k : Option K) → by ≡ (coding_for {V = V} hash b.hasher by).hash k → (log : List (Event K V S)) → IsLawfulLog eq hash b log → (task : Task) (initial : ℕ) → IsCalling eq hash b name matches by k log log (started task by b.mode initial) None None [] None None
-  begins matches by k hash_is log l task initial = record {
+  pub begins : (matches : K → Bool) (by : ℕ) (k : Option K) → by ≡ (coding_for {V = V} hash b.hasher by).hash k → (log : List (Event K V S)) → IsLawfulLog eq hash b log → IsChunked b.mode → (task : Task) (initial : ℕ) → IsCalling eq hash b name matches by k log log (started task by b.mode initial) None None None [] None None None
+  begins matches by k hash_is log l chunked task initial = record {
     lawful = l;
     seen = ([], append-nil log);
     since = [];
     is = append-nil (exchanges_of log);
-    rests = record { hash = hash_is; mode = mode_is b.mode; made = record { keys = λ q none. absurd none; made_is = tt; fill_is = tt; choice_is = tt }; stage = tt };
+    rests = record {
+      chunked = chunked;
+      call = record { hash = hash_is; mode = mode_is b.mode; made = record { keys = λ q none. absurd none; made_is = tt; fill_is = tt; choice_is = tt }; stage = tt };
+      phase = tt;
+    };
     number = 0;
-    at_table = tt;
+    at_table = λ still. tt;
     holds_table = refl;
     last_placed = tt;
+    kept_placed = tt;
     made_placed = λ q none. absurd none;
     taken_placed = tt;
     changed = λ change e. absurd (cc e);
+    brings = λ n e. absurd e;
   }
 
 module _ {K V S H : Type 0} (eq : K → K → Bool) (input : K → List (List ℕ)) (build : S → H) (write : H → List ℕ → H) (finish : H → ℕ) (classes : IsEquivalence eq) (respects : (x y : K) → eq x y ≡ true → input x ≡ input y)
@@ -104,159 +120,193 @@ module _ {K V S H : Type 0} (eq : K → K → Bool) (input : K → List (List �
   abbrev hash : S → K → ℕ
   hash = hash_of input build write finish
 
-  abbrev pub Calling : List (Event K V S) → Machine → Option (Bor Sheet) → (last : Option (Stored K V)) → List (Stored K V) → (taken put : Option (Stored K V)) → Type 0
-  Calling log m table last made taken put = IsCalling eq hash b name matches (fed eq input build write finish classes respects b matches query lawful) k begun log m table last made taken put
+  -- the hash of what it is called by, which is a lawful further key
+  abbrev by : ℕ
+  by = fed eq input build write finish classes respects b matches query lawful
+
+  pub form : IsForm eq hash b matches by
+  form = key_form eq input build write finish classes respects b matches query lawful []
+
+  abbrev pub Calling : List (Event K V S) → Machine → Option (Bor Sheet) → (last kept : Option (Stored K V)) → List (Stored K V) → (taken put : Option (Stored K V)) → Option (Where Sheet × Pen) → Type 0
+  Calling log m table last kept made taken put fresh = IsCalling eq hash b name matches by k begun log m table last kept made taken put fresh
 
   abbrev pub Resting : List (Event K V S) → Machine → Hands (Stored K V) → Type 0
-  Resting log m hands = IsResting eq input build write finish classes respects b matches query lawful k (exchanges_of begun) log m hands
+  Resting log m hands = ChainResting eq input build write finish classes respects b matches by form k (exchanges_of begun) log m hands
 
   -- the setting of a log, and the coding
   abbrev pub Wide : List (Event K V S) → Setting (Option K) (Stored K V)
-  Wide log = wide eq input build write finish classes respects b matches query lawful k (exchanges_of begun) log
+  Wide log = setting eq input build write finish classes respects b matches query lawful log
 
   abbrev pub Coded : Rattle.papaya_law.specs.Code.Coding (Option K) (Stored K V)
-  Coded = coded eq input build write finish classes respects b matches query lawful k (exchanges_of begun)
+  Coded = coding eq input build write finish classes respects b matches query lawful
+
+  abbrev hashed : (log : List (Event K V S)) → IsLawfulLog eq hash b log → IsHashed (Wide log) Coded
+  hashed log l = hashed_with eq input build write finish classes respects b matches query lawful log l
+
+  -- the pairs that a call itself was told of
+  abbrev pub call_hands : (last : Option (Stored K V)) → List (Stored K V) → told_calls.Hands (Stored K V)
+  call_hands last made = record { last = last; made = made }
 
   -- what a call rests on
-  pub rests_of : (log : List (Event K V S)) (m : Machine) (table : Option (Bor Sheet)) (last : Option (Stored K V)) (made : List (Stored K V)) (taken put : Option (Stored K V)) → Calling log m table last made taken put → Resting log m (hands_with last made)
-  rests_of log m table last made taken put r = record { since = r.since; is = r.is; rests = r.rests }
+  pub rests_of : (log : List (Event K V S)) (m : Machine) (table : Option (Bor Sheet)) (last kept : Option (Stored K V)) (made : List (Stored K V)) (taken put : Option (Stored K V)) (fresh : Option (Where Sheet × Pen)) → Calling log m table last kept made taken put fresh → Resting log m (hands_with last kept made)
+  rests_of log m table last kept made taken put fresh r = record { since = r.since; is = r.is; rests = r.rests }
 
-  module _ (log : List (Event K V S)) (m : Machine) (table : Option (Bor Sheet)) (last : Option (Stored K V)) (made : List (Stored K V)) (taken put : Option (Stored K V)) (r : Calling log m table last made taken put) where
+  -- and its call, whatever it is set aside for
+  pub call_rests : (log : List (Event K V S)) (m : Machine) (table : Option (Bor Sheet)) (last kept : Option (Stored K V)) (made : List (Stored K V)) (taken put : Option (Stored K V)) (fresh : Option (Where Sheet × Pen)) → Calling log m table last kept made taken put fresh → IsResting eq input build write finish classes respects b matches query lawful k (exchanges_of begun) log m.call (call_hands last made)
+  call_rests log m table last kept made taken put fresh r = record { since = r.since; is = r.is; rests = r.rests.call }
+
+  module _ (log : List (Event K V S)) (m : Machine) (table : Option (Bor Sheet)) (last kept : Option (Stored K V)) (made : List (Stored K V)) (taken put : Option (Stored K V)) (fresh : Option (Where Sheet × Pen)) (r : Calling log m table last kept made taken put fresh) where
     abbrev may : AllAllowed (Wide log) start (exchanges_of begun ++ r.since)
     may = subst (AllAllowed (Wide log) start) (sym r.is) (allowed_with eq input build write finish classes respects b matches query lawful log r.lawful)
 
-    -- what it names is on the chain
-    named_on : IsNamed (Wide log) Coded (hashed_with eq input build write finish classes respects b matches query lawful log r.lawful) (exchanges_of begun) r.since may k (ask_of m)
-    named_on = ask_named (Wide log) Coded (hashed_with eq input build write finish classes respects b matches query lawful log r.lawful) (exchanges_of begun) r.since may k (hands_with last made) m.task m.hash m.made m.state r.rests.stage
+    -- what its call names is on the chain
+    abbrev NamedOn : Ask → Type 0
+    NamedOn ask = IsNamed (Wide log) Coded (hashed log r.lawful) (exchanges_of begun) r.since may k ask
+
+    named_on : (ask : Ask) → ask_of m ≡ Call ask → NamedOn ask
+    named_on ask e = subst NamedOn (call_asks m ask e).1 (ask_named (Wide log) Coded (hashed log r.lawful) (exchanges_of begun) r.since may k (call_hands last made) m.call.task m.call.hash m.call.made m.call.state r.rests.call.stage)
+
+    -- the table that it names is the one told of last
+    named_last : (ask : Ask) → ask_of m ≡ Call ask → (t : ℕ) → table_asked ask ≡ Some t → t ≡ r.number
+    named_last ask e t asked = let own = call_asks m ask e in table_named m.call r.number t (r.at_table own.0) (ap table_asked own.1 ∙ asked)
 
     -- a table whose size it asks for is held
-    pub size_table : (t : ℕ) → ask_of m ≡ SizeOf t → MatchOption table ⊥ (λ z. IsTable log t z.now)
-    size_table t e =
-        let on = subst (IsNamed (Wide log) Coded (hashed_with eq input build write finish classes respects b matches query lawful log r.lawful) (exchanges_of begun) r.since may k) e named_on in
-        held_named log r.number t table on.0 (table_named m r.number t r.at_table (ap table_asked e)) r.holds_table
+    pub size_table : (t : ℕ) → ask_of m ≡ Call (SizeOf t) → MatchOption table ⊥ (λ z. IsTable log t z.now)
+    size_table t e = held_named log r.number t table (named_on (SizeOf t) e).0 (named_last (SizeOf t) e t refl) r.holds_table
 
-    next_table : (t : ℕ) → ask_of m ≡ Load (Next t) → MatchOption table ⊥ (λ z. IsTable log t z.now)
-    next_table t e =
-        let on = subst (IsNamed (Wide log) Coded (hashed_with eq input build write finish classes respects b matches query lawful log r.lawful) (exchanges_of begun) r.since may k) e named_on in
-        held_named log r.number t table on.0 (table_named m r.number t r.at_table (ap table_asked e)) r.holds_table
+    next_table : (t : ℕ) → ask_of m ≡ Call (Load (Next t)) → MatchOption table ⊥ (λ z. IsTable log t z.now)
+    next_table t e = held_named log r.number t table (named_on (Load (Next t)) e).0 (named_last (Load (Next t)) e t refl) r.holds_table
 
     -- the table of a slot has the slot
     has_slot : (t x : ℕ) → x < (Wide log).size t → (o : Option (Bor Sheet)) → MatchOption o ⊥ (λ z. IsTable log t z.now) → MatchOption o ⊥ (λ z. IsTable log t z.now × (x < length z.now.slots))
     has_slot t x low None h = h
     has_slot t x low (Some z) h = (h, subst (λ n. x < n) ((sizes (steps_of log) t h.0 h.1).0 ∙ ap (λ (y : Sheet). length y.slots) h.2) low)
 
-    slot_by : (t x : ℕ) → table_asked (ask_of m) ≡ Some t → IsOn (run (exchanges_of begun ++ r.since) start).first (run (exchanges_of begun ++ r.since) start).next t × (x < (Wide log).size t) → IsHeldAt (Slot t x) log table
-    slot_by t x asked on = has_slot t x on.1 table (held_named log r.number t table on.0.0 (table_named m r.number t r.at_table asked) r.holds_table)
-
     -- a slot that is loaded or exchanged is one of the table that is held
-    pub slot_table : (t x : ℕ) → (ask_of m ≡ Load (Slot t x)) ⊎ ((old : ℕ) × (new : ℕ) × (ask_of m ≡ Rattle.papaya_ask.specs.declared.ask.Ask.TheVariants.Exchange (Slot t x) old new)) → IsHeldAt (Slot t x) log table
-    slot_table t x e =
-        let on = slot_named (Wide log) Coded (hashed_with eq input build write finish classes respects b matches query lawful log r.lawful) (exchanges_of begun) r.since may k (ask_of m) named_on t x e in
-        slot_by t x (⊎_elim (λ h. ap table_asked h) (λ h. ap table_asked h.2) e) on
+    slot_by : (ask : Ask) → ask_of m ≡ Call ask → (t x : ℕ) → (ask ≡ Load (Slot t x)) ⊎ ((old : ℕ) × (new : ℕ) × (ask ≡ Rattle.papaya_ask.specs.declared.ask.Ask.TheVariants.Exchange (Slot t x) old new)) → IsHeldAt (Slot t x) log table
+    slot_by ask e t x is =
+        let on = slot_named (Wide log) Coded (hashed log r.lawful) (exchanges_of begun) r.since may k ask (named_on ask e) t x is in
+        let asked : table_asked ask ≡ Some t = ⊎_elim (λ h. ap table_asked h) (λ h. ap table_asked h.2) is in
+        has_slot t x on.1 table (held_named log r.number t table on.0.0 (named_last ask e t asked) r.holds_table)
 
-    -- where a load names a place that machines load
-    pub load_table : (at : At) → ask_of m ≡ Load at → Rattle.papaya_rests.specs.Followed.MayAsk m.task (kind_of_ask m) (Load at) → IsHeldAt at log table
+    pub slot_table : (t x : ℕ) → (ask_of m ≡ Call (Load (Slot t x))) ⊎ ((old : ℕ) × (new : ℕ) × (ask_of m ≡ Call (Rattle.papaya_ask.specs.declared.ask.Ask.TheVariants.Exchange (Slot t x) old new))) → IsHeldAt (Slot t x) log table
+    slot_table t x (inl e) = slot_by (Load (Slot t x)) e t x (inl refl)
+    slot_table t x (inr (old, new, e)) = slot_by (Rattle.papaya_ask.specs.declared.ask.Ask.TheVariants.Exchange (Slot t x) old new) e t x (inr (old, new, refl))
+
+    -- where a load names a place that calls load
+    pub load_table : (at : At) → ask_of m ≡ Call (Load at) → Rattle.papaya_rests.specs.Followed.MayAsk m.call.task (calls.kind_of_ask m.call) (Load at) → IsHeldAt at log table
     load_table Root e asks = tt
     load_table (Next t) e asks = next_table t e
     load_table (Slot t x) e asks = slot_table t x (inl e)
     load_table (Aborted t) e asks = asks
     load_table (Done t) e asks = asks
 
-  module _ (log log' : List (Event K V S)) (pre : IsPrefix log log') (l' : IsLawfulLog eq hash b log') (m : Machine) (table : Option (Bor Sheet)) (last : Option (Stored K V)) (made : List (Stored K V)) (taken put : Option (Stored K V)) (r : Calling log m table last made taken put) where
-    -- it rests on the longer log
-    pub later : Resting log' m (hands_with last made)
-    later = resting_later eq input build write finish classes respects b matches query lawful k (exchanges_of begun) log r.lawful m (hands_with last made) (rests_of log m table last made taken put r) log' l' pre
+  -- A call was told of the words after this log, with which the log grew to the other.
+  module _ (v before log : List (Event K V S)) (lb : IsLawfulLog eq hash b before) (l : IsLawfulLog eq hash b log) (pre : IsPrefix v before) (more : IsPrefix before log) (m : Machine) (table : Option (Bor Sheet)) (last kept : Option (Stored K V)) (made : List (Stored K V)) (taken put : Option (Stored K V)) (fresh : Option (Where Sheet × Pen)) (r : Calling v m table last kept made taken put fresh) (ask : Ask) (asks : ask_of m ≡ Call ask) (answer : Answer) where
+    abbrev own : (m.phase ≡ phases.Calling) × (calls.ask_of m.call ≡ ask)
+    own = call_asks m ask asks
 
+    abbrev pub Tells : (last' : Option (Stored K V)) → List (Stored K V) → Type 0
+    Tells last' made' = IsTold (Wide log) Coded k (state_of before) (kind_of_ask m) (call_hands last made) ask answer (exchanges_of more.0) (call_hands last' made')
+
+    module _ (last' : Option (Stored K V)) (made' : List (Stored K V)) (tells : Tells last' made') where
+      -- it rests again
+      on : Resting log (after m (answers.Call answer)) (hands_with last' kept made')
+      on =
+          let mid = resting_later eq input build write finish classes respects b matches by form k (exchanges_of begun) v r.lawful m (hands_with last kept made) (rests_of v m table last kept made taken put fresh r) before lb pre in
+          resting_told eq input build write finish classes respects b matches by form k (exchanges_of begun) before lb m (hands_with last kept made) mid log l more (answers.Call answer) (hands_with last' kept made')
+          (own_told m own.0 answer (Wide log) Coded k (state_of before) (hands_with last kept made) (exchanges_of more.0) (call_hands last' made') ask own.1 tells)
+
+      changes : change_in (after m (answers.Call answer)).call.state ≡ change_after (kind_of_ask m) ask answer (change_in m.call.state)
+      changes =
+          own_changes m own.0 answer (Wide log) Coded (hashed log l) k r.rests.call.hash (state_of before) (hands_with last kept made) (exchanges_of more.0) (call_hands last' made') ask own.1 tells
+
+      -- and is under way with what it holds then
+      pub answered : (table' : Option (Bor Sheet)) (taken' put' : Option (Stored K V)) (fresh' : Option (Where Sheet × Pen)) → MatchOption table' (told_table ask answer r.number ≡ 0) (λ t. IsTable log (told_table ask answer r.number) t.now)
+          → IsPlaced b (Some name) (pair_named last') → ((q : Stored K V) → IsOneOf made' q → IsPlaced b (Some name) (pair_named (Some q))) → IsPlaced b (Some name) (pair_named taken')
+          → ((change : Option ℕ × Option ℕ) → change_after (kind_of_ask m) ask answer (change_in m.call.state) ≡ Some change → HasChanged eq begun log taken' put' change)
+          → ((n : ℕ) → IsBringing (ask_of (after m (answers.Call answer))) n → IsFresh b name log n fresh') → Calling log (after m (answers.Call answer)) table' last' kept made' taken' put' fresh'
+      answered table' taken' put' fresh' holds placed placed' placed'' changed brings = record {
+        lawful = l;
+        seen = prefix_trans begun v log r.seen (prefix_trans v before log pre more);
+        since = on.since;
+        is = on.is;
+        rests = on.rests;
+        number = told_table ask answer r.number;
+        at_table = λ still. subst (λ (a : Ask). IsAtTable (told_table a answer r.number) (after m (answers.Call answer)).call.state) own.1 (own_at m own.0 answer r.number (r.at_table own.0) still);
+        holds_table = holds;
+        last_placed = placed;
+        kept_placed = r.kept_placed;
+        made_placed = placed';
+        taken_placed = placed'';
+        changed = λ change e. changed change (sym changes ∙ e);
+        brings = brings;
+      }
+
+  module _ (log log' : List (Event K V S)) (pre : IsPrefix log log') (l' : IsLawfulLog eq hash b log') (m : Machine) (table : Option (Bor Sheet)) (last kept : Option (Stored K V)) (made : List (Stored K V)) (taken put : Option (Stored K V)) (fresh : Option (Where Sheet × Pen)) (r : Calling log m table last kept made taken put fresh) where
     -- An answer that is true of the log's words, with which nothing is exchanged and nothing was changed before.
-    pub record IsQuiet (ask : Ask) (answer : Answer) (last' : Option (Stored K V)) (made' : List (Stored K V)) (number' : ℕ) : Type 0 where
-      pub told : IsTold (Wide log') Coded k (state_of log') (kind_of_ask m) (hands_with last made) ask answer [] (hands_with last' made')
-      pub number_is : told_table ask answer r.number ≡ number'
-      pub same : change_after (kind_of_ask m) ask answer (change_in m.state) ≡ change_in m.state
+    pub record IsQuiet (ask : Ask) (answer : Answer) (last' : Option (Stored K V)) (made' : List (Stored K V)) (fresh' : Option (Where Sheet × Pen)) : Type 0 where
+      pub told : IsTold (Wide log') Coded k (state_of log') (kind_of_ask m) (call_hands last made) ask answer [] (call_hands last' made')
+      pub same : change_after (kind_of_ask m) ask answer (change_in m.call.state) ≡ change_in m.call.state
       pub busy : IsCounting ask → ⊥
+      pub brings : (n : ℕ) → IsBringing (ask_of (after m (answers.Call answer))) n → IsFresh b name log' n fresh'
 
-    pub quiet : (ask : Ask) → ask_of m ≡ ask → (answer : Answer) (last' : Option (Stored K V)) (made' : List (Stored K V)) (table' : Option (Bor Sheet)) (number' : ℕ) → IsQuiet ask answer last' made' number'
-        → MatchOption table' (number' ≡ 0) (λ t. IsTable log' number' t.now) → IsPlaced b (Some name) (pair_named last') → ((q : Stored K V) → IsOneOf made' q → IsPlaced b (Some name) (pair_named (Some q))) → Calling log' (after m answer) table' last' made' taken put
-    quiet ask asks answer last' made' table' number' q holds placed placed' =
-        let told = subst (λ (a : Ask). IsTold (Wide log') Coded k (state_of log') (kind_of_ask m) (hands_with last made) a answer [] (hands_with last' made')) (sym asks) q.told in
-        let on = resting_told eq input build write finish classes respects b matches query lawful k (exchanges_of begun) log' l' m (hands_with last made) later log' l' ([], append-nil log') answer (hands_with last' made') told in
-        let changes : change_in (after m answer).state ≡ change_in m.state =
-        machine_changes (Wide log') Coded (hashed_with eq input build write finish classes respects b matches query lawful log' l') k (state_of log') m later.rests.hash (hands_with last made) [] (hands_with last' made') answer told
-        ∙ (ap (λ (a : Ask). change_after (kind_of_ask m) a answer (change_in m.state)) asks ∙ q.same) in record {
-          lawful = l';
-          seen = prefix_trans begun log log' r.seen pre;
-          since = on.since;
-          is = on.is;
-          rests = on.rests;
-          number = number';
-          at_table = subst (λ (n : ℕ). IsAtTable n (after m answer).state) (ap (λ (a : Ask). told_table a answer r.number) asks ∙ q.number_is) (table_told m answer r.number r.at_table);
-          holds_table = holds;
-          last_placed = placed;
-          made_placed = placed';
-          taken_placed = r.taken_placed;
-          changed = λ change e. absurd (q.busy (subst IsCounting asks (counts_after m change (sym changes ∙ e))));
-        }
+    -- no table comes after an ask for something else
+    pub barren : (ask : Ask) → ask_of m ≡ Call ask → IsBarren ask → (answer : Answer) (fresh' : Option (Where Sheet × Pen)) (n : ℕ) → IsBringing (ask_of (after m (answers.Call answer))) n → IsFresh b name log' n fresh'
+    barren ask asks none answer fresh' n brings = let own = call_asks m ask asks in absurd (own_barren m own.0 answer ask own.1 none n brings)
+
+    pub quiet : (ask : Ask) → ask_of m ≡ Call ask → (answer : Answer) (last' : Option (Stored K V)) (made' : List (Stored K V)) (table' : Option (Bor Sheet)) (fresh' : Option (Where Sheet × Pen)) → IsQuiet ask answer last' made' fresh'
+        → MatchOption table' (told_table ask answer r.number ≡ 0) (λ t. IsTable log' (told_table ask answer r.number) t.now) → IsPlaced b (Some name) (pair_named last') → ((q : Stored K V) → IsOneOf made' q → IsPlaced b (Some name) (pair_named (Some q)))
+        → Calling log' (after m (answers.Call answer)) table' last' kept made' taken put fresh'
+    quiet ask asks answer last' made' table' fresh' q holds placed placed' =
+        answered log log' log' l' l' pre ([], append-nil log') m table last kept made taken put fresh r ask asks answer last' made' q.told table' taken put fresh' holds placed placed' r.taken_placed
+        (λ change e. absurd (q.busy (subst IsCounting (call_asks m ask asks).1 (counts_after m.call change (sym q.same ∙ e))))) q.brings
 
     -- the same table is held
     pub still : MatchOption table (r.number ≡ 0) (λ t. IsTable log' r.number t.now)
     still = held_later log log' pre r.number table r.holds_table
 
     -- a place was loaded
-    pub loads : (at : At) (word : ℕ) (table' : Option (Bor Sheet)) (last' : Option (Stored K V)) → ask_of m ≡ Load at → IsLoaded eq hash b name at word log' table table' last last' → Calling log' (after m (Word_read word)) table' last' made taken put
+    pub loads : (at : At) (word : ℕ) (table' : Option (Bor Sheet)) (last' : Option (Stored K V)) → ask_of m ≡ Call (Load at) → IsLoaded eq hash b name at word log' table table' last last' → Calling log' (after m (answers.Call (Word_read word))) table' last' kept made taken put fresh
     loads Root word table' last' asks (loaded, is, table_is, same) =
         let w : word_of (Wide log') Coded (state_of log') Root ≡ word = word_wide eq input build write finish classes respects b matches query lawful k (exchanges_of begun) log' log' Root ∙ is.is in
-        quiet (Load Root) asks (Word_read word) last' made table' (if word == 0 then r.number else word) (record { told = (ap Word_read (sym w), refl, ap (λ (z : Option (Stored K V)). hands_with z made) same); number_is = refl; same = refl; busy = λ z. z })
+        quiet (Load Root) asks (Word_read word) last' made table' fresh (record { told = (ap Word_read (sym w), refl, ap (λ (z : Option (Stored K V)). call_hands z made) same); same = refl; busy = λ z. z; brings = barren (Load Root) asks tt (Word_read word) fresh })
         (subst (λ (z : Option (Bor Sheet)). MatchOption z ((if word == 0 then r.number else word) ≡ 0) (λ t. IsTable log' (if word == 0 then r.number else word) t.now)) (sym table_is) (held_loaded log' name r.number word table loaded still is.names)) (subst (λ (z : Option (Stored K V)). IsPlaced b (Some name) (pair_named z)) (sym same) r.last_placed) r.made_placed
     loads (Next t) word table' last' asks (loaded, is, table_is, same) =
         let w : word_of (Wide log') Coded (state_of log') (Next t) ≡ word = word_wide eq input build write finish classes respects b matches query lawful k (exchanges_of begun) log' log' (Next t) ∙ is.is in
-        quiet (Load (Next t)) asks (Word_read word) last' made table' (if word == 0 then r.number else word) (record { told = (ap Word_read (sym w), refl, ap (λ (z : Option (Stored K V)). hands_with z made) same); number_is = refl; same = refl; busy = λ z. z })
+        quiet (Load (Next t)) asks (Word_read word) last' made table' fresh (record { told = (ap Word_read (sym w), refl, ap (λ (z : Option (Stored K V)). call_hands z made) same); same = refl; busy = λ z. z; brings = barren (Load (Next t)) asks tt (Word_read word) fresh })
         (subst (λ (z : Option (Bor Sheet)). MatchOption z ((if word == 0 then r.number else word) ≡ 0) (λ t. IsTable log' (if word == 0 then r.number else word) t.now)) (sym table_is) (held_loaded log' name r.number word table loaded still is.names)) (subst (λ (z : Option (Stored K V)). IsPlaced b (Some name) (pair_named z)) (sym same) r.last_placed) r.made_placed
     loads (Slot t x) word table' last' asks (pair, is, same, table_is) =
         let w : word_of (Wide log') Coded (state_of log') (Slot t x) ≡ word = word_wide eq input build write finish classes respects b matches query lawful k (exchanges_of begun) log' log' (Slot t x) ∙ is.is in
-        let hands : hands_with last' made ≡ told_of (state_of log') (Slot t x) (hands_with last made) = ap (λ (z : Option (Stored K V)). hands_with z made) (same ∙ ap (λ (z : Option (Stored K V)). or_last z last) (sym is.names)) in
-        quiet (Load (Slot t x)) asks (Word_read word) last' made table' r.number (record { told = (ap Word_read (sym w), refl, hands); number_is = refl; same = refl; busy = λ z. z })
+        let hands : call_hands last' made ≡ told_of (state_of log') (Slot t x) (call_hands last made) = ap (λ (z : Option (Stored K V)). call_hands z made) (same ∙ ap (λ (z : Option (Stored K V)). or_last z last) (sym is.names)) in
+        quiet (Load (Slot t x)) asks (Word_read word) last' made table' fresh (record { told = (ap Word_read (sym w), refl, hands); same = refl; busy = λ z. z; brings = barren (Load (Slot t x)) asks tt (Word_read word) fresh })
         (subst (λ (z : Option (Bor Sheet)). MatchOption z (r.number ≡ 0) (λ t. IsTable log' r.number t.now)) (sym table_is) still)
         (subst (λ (z : Option (Stored K V)). IsPlaced b (Some name) (pair_named z)) (sym same) (placed_last b name pair last is.placed r.last_placed)) r.made_placed
     loads (Aborted t) word table' last' asks h = absurd h
     loads (Done t) word table' last' asks h = absurd h
 
-  module _ (log : List (Event K V S)) (m : Machine) (table : Option (Bor Sheet)) (last : Option (Stored K V)) (made : List (Stored K V)) (taken put : Option (Stored K V)) (r : Calling log m table last made taken put) where
+  module _ (log : List (Event K V S)) (m : Machine) (table : Option (Bor Sheet)) (last kept : Option (Stored K V)) (made : List (Stored K V)) (taken put : Option (Stored K V)) (fresh : Option (Where Sheet × Pen)) (r : Calling log m table last kept made taken put fresh) where
     abbrev same_log : IsPrefix log log
     same_log = ([], append-nil log)
 
     -- the size of the table was told
-    pub sized : (t : ℕ) (lent : Bor Sheet) → table ≡ Some lent → (slots limit : ℕ) → slots ≡ length lent.now.slots → limit ≡ lent.now.limit → ask_of m ≡ SizeOf t → Calling log (after m (Size slots limit)) table last made taken put
+    pub sized : (t : ℕ) (lent : Bor Sheet) → table ≡ Some lent → (slots limit : ℕ) → slots ≡ length lent.now.slots → limit ≡ lent.now.limit → ask_of m ≡ Call (SizeOf t) → Calling log (after m (answers.Call (Size slots limit))) table last kept made taken put fresh
     sized t lent has slots limit slots_is limit_is asks =
-        let came : IsTable log t lent.now = subst (λ (o : Option (Bor Sheet)). MatchOption o ⊥ (λ z. IsTable log t z.now)) has (size_table log m table last made taken put r t asks) in
+        let came : IsTable log t lent.now = subst (λ (o : Option (Bor Sheet)). MatchOption o ⊥ (λ z. IsTable log t z.now)) has (size_table log m table last kept made taken put fresh r t asks) in
         let all = sizes (steps_of log) t came.0 came.1 in
         let many : slots ≡ (Wide log).size t = slots_is ∙ sym (all.0 ∙ ap (λ (z : Sheet). length z.slots) came.2) in
         let places : limit + 1 ≡ (Wide log).places t = ap (λ n. n + 1) limit_is ∙ sym (all.1 ∙ ap (λ (z : Sheet). z.limit + 1) came.2) in
-        quiet log log same_log r.lawful m table last made taken put r (SizeOf t) asks (Size slots limit) last made table r.number
-        (record { told = ((limit, places, ap (λ n. Size n limit) many), (refl, refl)); number_is = refl; same = refl; busy = λ z. z }) r.holds_table r.last_placed r.made_placed
+        quiet log log same_log r.lawful m table last kept made taken put fresh r (SizeOf t) asks (Size slots limit) last made table fresh
+        (record { told = ((limit, places, ap (λ n. Size n limit) many), (refl, refl)); same = refl; busy = λ z. z; brings = barren log log same_log r.lawful m table last kept made taken put fresh r (SizeOf t) asks tt (Size slots limit) fresh }) r.holds_table r.last_placed r.made_placed
 
     -- the pair last told of was compared
-    pub compared : (n : ℕ) (same : Bool) → ((p : Stored K V) → last ≡ Some p → same ≡ (Wide log).same k ((Wide log).key p)) → ask_of m ≡ SameKey n → Calling log (after m (Yes same)) table last made taken put
+    pub compared : (n : ℕ) (same : Bool) → ((p : Stored K V) → last ≡ Some p → same ≡ (Wide log).same k ((Wide log).key p)) → ask_of m ≡ Call (SameKey n) → Calling log (after m (answers.Call (Yes same))) table last kept made taken put fresh
     compared n same is asks =
-        quiet log log same_log r.lawful m table last made taken put r (SameKey n) asks (Yes same) last made table r.number
-        (record { told = (λ p e f. ap Yes (is p e), (refl, refl)); number_is = refl; same = refl; busy = λ z. z }) r.holds_table r.last_placed r.made_placed
+        quiet log log same_log r.lawful m table last kept made taken put fresh r (SameKey n) asks (Yes same) last made table fresh
+        (record { told = (λ p e f. ap Yes (is p e), (refl, refl)); same = refl; busy = λ z. z; brings = barren log log same_log r.lawful m table last kept made taken put fresh r (SameKey n) asks tt (Yes same) fresh }) r.holds_table r.last_placed r.made_placed
 
     -- the change was counted
-    pub counted : (by : _) → ask_of m ≡ AddToShard by → Calling log (after m Ok_done) table last made taken put
+    pub counted : (by : _) → ask_of m ≡ Call (AddToShard by) → Calling log (after m (answers.Call Ok_done)) table last kept made taken put fresh
     counted by asks =
-        let told = subst (λ (a : Ask). IsTold (Wide log) Coded k (state_of log) (kind_of_ask m) (hands_with last made) a Ok_done [] (hands_with last made)) (sym asks) (refl, (refl, refl)) in
-        let on = resting_told eq input build write finish classes respects b matches query lawful k (exchanges_of begun) log r.lawful m (hands_with last made) (rests_of log m table last made taken put r) log r.lawful same_log Ok_done (hands_with last made) told in
-        let changes : change_in (after m Ok_done).state ≡ change_in m.state =
-        machine_changes (Wide log) Coded (hashed_with eq input build write finish classes respects b matches query lawful log r.lawful) k (state_of log) m r.rests.hash (hands_with last made) [] (hands_with last made) Ok_done told
-        ∙ ap (λ (a : Ask). change_after (kind_of_ask m) a Ok_done (change_in m.state)) asks in record {
-          lawful = r.lawful;
-          seen = r.seen;
-          since = on.since;
-          is = on.is;
-          rests = on.rests;
-          number = r.number;
-          at_table = subst (λ (n : ℕ). IsAtTable n (after m Ok_done).state) (ap (λ (a : Ask). told_table a Ok_done r.number) asks) (table_told m Ok_done r.number r.at_table);
-          holds_table = r.holds_table;
-          last_placed = r.last_placed;
-          made_placed = r.made_placed;
-          taken_placed = r.taken_placed;
-          changed = λ change e. r.changed change (sym changes ∙ e);
-        }
+        answered log log log r.lawful r.lawful same_log same_log m table last kept made taken put fresh r (AddToShard by) asks Ok_done last made (refl, (refl, refl)) table taken put fresh r.holds_table r.last_placed r.made_placed r.taken_placed r.changed
+        (barren log log same_log r.lawful m table last kept made taken put fresh r (AddToShard by) asks tt Ok_done fresh)

@@ -1,5 +1,5 @@
 -- A changing call exchanges a slot once at most, and it has changed the map then.
-use Rattle.std.proofs.Common.{◌≡◌, ℕ, ◌==◌, Bool, true, false, cond, MatchBool, is_some, Option, None, Some, List, [], ◌∷◌, ◌++◌, map, append-nil, refl, sym, ap, ◌∙◌, subst}
+use Rattle.std.proofs.Common.{◌≡◌, inl, inr, ℕ, ◌==◌, Bool, true, false, cond, MatchBool, is_some, Option, None, Some, List, [], ◌∷◌, ◌++◌, map, append-nil, refl, sym, ap, ◌∙◌, subst}
 use Rattle.std.proofs.lemmas.List.{map-append}
 use Rattle.papaya_ask.specs.declared.ask.Answer.{Answer}
 use Rattle.papaya_ask.specs.declared.ask.Answer.TheVariants.{Word as Word_read, Exchanged, Found as Found_instead, Yes, Op, Made as Made_number, Ok as Ok_done}
@@ -18,6 +18,14 @@ use Rattle.papaya_ask.specs.declared.search.Search.TheVariants.{Sizing, Looking,
 use Rattle.papaya_call.specs.declared.write.Made.{Made}
 use Rattle.papaya_call.specs.declared.write.Made.TheVariants.{Nothing, Key, Pair}
 use Rattle.papaya_call.specs.declared.machine.Machine.{Machine}
+use Rattle.papaya_chain.specs.declared.ask.Answer.TheVariants as answers
+use Rattle.papaya_chain.specs.declared.ask.Ask.TheVariants as asked
+use Rattle.papaya_chain.specs.declared.machine.Machine.{Machine as Chain}
+use Rattle.papaya_chain.specs.declared.machine.Phase.TheVariants.{Calling}
+use Rattle.papaya_chain.specs.Machine as chains
+use Rattle.papaya_chain_rests.specs.Rests.{left_by}
+use Rattle.papaya_chain_rests.proofs.Names.{call_asks}
+use Rattle.papaya_chain_rests.proofs.Replies.{aside_asks}
 use Rattle.papaya_call.specs.declared.machine.State.{State}
 use Rattle.papaya_call.specs.declared.machine.State.TheVariants.{AtRoot, Making, Opening, Searching, Writing, Offering, Showing, Pairing, Putting, Burying, Counting, Uncounting, Leaving, Growing, Ended}
 use Rattle.papaya_call.specs.Compute.{offered}
@@ -41,6 +49,7 @@ use Rattle.papaya_lookup.specs.History.{Change, Makes, changes_by, changes_of, h
 use Rattle.papaya_lookup.proofs.Histories.{changes-append}
 use Rattle.papaya_change.specs.Changing.{HasChanged}
 use Rattle.papaya_change.specs.Doing.{Answers, exchanged, has_changed, was_made}
+use Rattle.papaya_change.proofs.OwnSteps.{own_went}
 
 -- nothing is changed yet
 abbrev IsUnchanged : State → Type 0
@@ -146,17 +155,31 @@ module _ (m : Machine) where
   step made (Ended reply) Ok_done = refl
   step made (Ended reply) answer = refl
 
--- after an answer
-moved : (m : Machine) (answer : Answer) → Moves (exchanged (ask_of m) (Some answer)) (has_changed m) (has_changed (after m answer))
-moved m answer = step m m.made m.state answer
+-- a call that is set aside has changed nothing
+pub left_unchanged : (s : State) (t : ℕ) → left_by s ≡ Some t → is_some (change_in s) ≡ false
+left_unchanged (Leaving u) t e = refl
+left_unchanged (Growing need) t e = refl
+left_unchanged s t e = absurd cc
+
+-- after an answer to a call itself
+moved : (m : Chain) → m.phase ≡ Calling → (answer : Answer) → Moves (exchanged (ask_of m.call) (Some answer)) (has_changed m) (has_changed (chains.after m (answers.Call answer)))
+moved m calling answer = elim (own_went m calling answer) [
+  | inl h ↦ subst (λ (z : Machine). Moves (exchanged (ask_of m.call) (Some answer)) (has_changed m) (is_some (change_in z.state))) (sym h.0) (step m.call m.call.made m.call.state answer)
+  | inr (inl h) ↦
+      subst (λ (a : Ask). Moves (exchanged a (Some answer)) (has_changed m) (has_changed (chains.after m (answers.Call answer)))) (sym (aside_asks m.call.made m.call.hash m.call.state h.0 h.1))
+      (ap (λ (z : Machine). is_some (change_in z.state)) h.2)
+  | inr (inr h) ↦
+      subst (λ (a : Ask). Moves (exchanged a (Some answer)) (has_changed m) (has_changed (chains.after m (answers.Call answer)))) (sym (aside_asks m.call.made m.call.hash m.call.state h.0 h.2))
+      (ap (λ (z : Machine). is_some (change_in z.state)) h.5 ∙ sym (left_unchanged m.call.state h.0 h.2))
+]
 
 some_then : {X Goal : Type 0} (o : Option X) → is_some o ≡ true → ((x : X) → o ≡ Some x → Goal) → Goal
 some_then None e f = absurd (cc e)
 some_then (Some x) e f = f x refl
 
 -- one that changed the map only counts
-counting : (m : Machine) → has_changed m ≡ true → IsCounting (ask_of m)
-counting m e = some_then (change_in m.state) e (λ change is. counts_after m change is)
+counting : (m : Chain) → has_changed m ≡ true → IsCounting (ask_of m.call)
+counting m e = some_then (change_in m.call.state) e (λ change is. counts_after m.call change is)
 
 module _ {X : Type 0} where
   joined : (xs ys zs l l' : List X) (before made later : Bool) → ys ≡ xs ++ last_if before l → zs ≡ ys ++ last_if made l' → Moves made before later → (before ≡ true → l' ≡ l) → zs ≡ xs ++ last_if later l'
@@ -252,15 +275,15 @@ module _ {K V S H : Type 0} {d : keyed.Ghosts S K H} where
   tried false answer P Q found h w w' does = rw h.0 does
 
   -- what the call did goes on
-  pub does_on : (m : Machine) (answer : Answer) (a w w' : Window K V S H d) → Does (has_changed m) a w → Answers (ask_of m) (Some answer) w w' → Does (has_changed (after m answer)) a w'
-  does_on m answer a w w' h h' =
-      joined a.own.done w.own.done w'.own.done (steps_of w.sight.log) (steps_of w'.sight.log) (has_changed m) (exchanged (ask_of m) (Some answer)) (has_changed (after m answer)) h h'.does (moved m answer)
+  pub does_on : (m : Chain) → m.phase ≡ Calling → (answer : Answer) (a w w' : Window K V S H d) → Does (has_changed m) a w → Answers (ask_of m.call) (Some answer) w w' → Does (has_changed (chains.after m (answers.Call answer))) a w'
+  does_on m calling answer a w w' h h' =
+      joined a.own.done w.own.done w'.own.done (steps_of w.sight.log) (steps_of w'.sight.log) (has_changed m) (exchanged (ask_of m.call) (Some answer)) (has_changed (chains.after m (answers.Call answer))) h h'.does (moved m calling answer)
       (λ e. ap steps_of (h'.still (counting m e)))
 
   -- and is what it was where there is no answer
-  pub does_still : (m : Machine) (a w w' : Window K V S H d) → Does (has_changed m) a w → Answers (ask_of m) None w w' → Does (has_changed m) a w'
+  pub does_still : (m : Chain) (a w w' : Window K V S H d) → Does (has_changed m) a w → Answers (ask_of m.call) None w w' → Does (has_changed m) a w'
   does_still m a w w' h h' =
-      joined a.own.done w.own.done w'.own.done (steps_of w.sight.log) (steps_of w'.sight.log) (has_changed m) false (has_changed m) h (subst (λ (b : Bool). Does b w w') (unanswered (ask_of m)) h'.does) refl
+      joined a.own.done w.own.done w'.own.done (steps_of w.sight.log) (steps_of w'.sight.log) (has_changed m) false (has_changed m) h (subst (λ (b : Bool). Does b w w') (unanswered (ask_of m.call)) h'.does) refl
       (λ e. ap steps_of (h'.still (counting m e)))
 
 -- the exchanges of a log are those of its steps
@@ -295,8 +318,8 @@ module _ {K V S H : Type 0} {d : keyed.Ghosts S K H} (eq : K → K → Bool) (be
   makes_as (Some change) a w h does = ap changes_by does ∙ (changes_split a.own.done (last_in (steps_of w.sight.log)) ∙ ap (λ (cs : List (Change K (Stored K V))). own a ++ cs) (same_last eq begun w.sight.log taken put change (h change refl)))
 
   -- what it did is its change
-  pub makes : (m : Machine) (a w : Window K V S H d) → ((change : Option ℕ × Option ℕ) → change_in m.state ≡ Some change → HasChanged eq begun w.sight.log taken put change) → Does (has_changed m) a w → Makes (has_changed m) (own a) (own w) (past w)
-  makes m a w h does = makes_as (change_in m.state) a w h does
+  pub makes : (m : Chain) (a w : Window K V S H d) → ((change : Option ℕ × Option ℕ) → change_in m.call.state ≡ Some change → HasChanged eq begun w.sight.log taken put change) → Does (has_changed m) a w → Makes (has_changed m) (own a) (own w) (past w)
+  makes m a w h does = makes_as (change_in m.call.state) a w h does
 
 -- what a call with this reply has changed
 replied_in : (made : Made) (hash : ℕ) (s : State) (reply : Reply) → asks made hash s ≡ Done reply → change_in s ≡ change_of_reply reply
@@ -322,5 +345,5 @@ replied_in made hash (Leaving t) reply e = absurd (cc e)
 replied_in made hash (Growing t) reply e = absurd (cc e)
 replied_in made hash (Ended given) reply e = let same : given ≡ reply = cc e in ap change_of_reply same
 
-pub replied : (m : Machine) (reply : Reply) → ask_of m ≡ Done reply → has_changed m ≡ is_some (change_of_reply reply)
-replied m reply e = ap is_some (replied_in m.made m.hash m.state reply e)
+pub replied : (m : Chain) (reply : Reply) → chains.ask_of m ≡ asked.Call (Done reply) → has_changed m ≡ is_some (change_of_reply reply)
+replied m reply e = ap is_some (replied_in m.call.made m.call.hash m.call.state reply (call_asks m (Done reply) e).1)

@@ -5,27 +5,28 @@ use Rattle.std.specs.Cmp.{IsEquivalence}
 use mathlib.Core.List.{IsPrefix}
 use denote.Bor.{Bor}
 use Rattle.logbook.specs.Pages.{Book}
+use Rattle.logbook.specs.declared.tokens.Pen.{Pen}
+use Rattle.boxcar.specs.Table.{Where}
 use Rattle.papaya_words.specs.Word.{pair_of}
 use Rattle.papaya_ask.specs.declared.ask.At.{At}
 use Rattle.papaya_ask.specs.declared.ask.At.TheVariants.{Slot}
-use Rattle.papaya_ask.specs.declared.ask.Ask.{Ask}
 use Rattle.papaya_ask.specs.declared.ask.Ask.TheVariants.{Exchange as Ask_exchange}
 use Rattle.papaya_ask.specs.declared.ask.Answer.TheVariants.{Exchanged, Found as Found_instead}
 use Rattle.papaya_ask.specs.declared.ask.StepKind.{StepKind}
 use Rattle.papaya_ask.specs.declared.ask.StepKind.TheVariants as kinds
-use Rattle.papaya_call.specs.declared.machine.Machine.{Machine}
-use Rattle.papaya_rests.specs.Followed.{IsAtTable, told_table}
+use Rattle.papaya_chain.specs.declared.ask.Answer.TheVariants as answers
+use Rattle.papaya_chain.specs.declared.ask.Ask.TheVariants.{Call}
+use Rattle.papaya_chain.specs.declared.machine.Machine.{Machine}
+use Rattle.papaya_chain.specs.Machine.{after, ask_of, kind_of_ask}
+use Rattle.papaya_chain_rests.proofs.Names.{call_asks}
 use Rattle.papaya_law.specs.Allows.{AllAllowed, Allows}
 use Rattle.papaya_law.specs.Code.{Coding, code}
 use Rattle.papaya_law.specs.Exchange.{Exchange, Setting, Word, Live, Bury, start}
 use Rattle.papaya_law.specs.Invariant.{named}
-use Rattle.papaya_call.specs.Machine.{after, ask_of, kind_of_ask}
-use Rattle.papaya_rests.specs.Rests.{change_after, change_in, change_of_kind}
-use Rattle.papaya_rests.specs.Told.{IsAsked, IsOneOf, IsTold, or_last, told_of, word_of}
-use Rattle.papaya_rests.proofs.Followed.{table_told}
+use Rattle.papaya_rests.specs.Rests.{change_of_kind}
+use Rattle.papaya_rests.specs.Told.{Hands, IsAsked, IsOneOf, IsTold, or_last, told_of, word_of}
 use Rattle.papaya_law.proofs.Codes.{code_pair}
 use Rattle.papaya_law.proofs.Moments.{allowed_rest}
-use Rattle.papaya_rests.proofs.RestsReply.{machine_changes}
 use Rattle.papaya_book.specs.Sheets.{Sheet}
 use Rattle.papaya_book.specs.declared.rule.entry.Begun.{Begun}
 use Rattle.papaya_book.specs.declared.rule.entry.Event.{Event}
@@ -34,16 +35,17 @@ use Rattle.papaya_book.specs.declared.rule.entry.Named.TheVariants as names
 use Rattle.papaya_book.specs.declared.rule.entry.Step.{Step}
 use Rattle.papaya_book.specs.declared.rule.entry.Step.TheVariants as steps
 use Rattle.papaya_book.specs.Calls.{IsSlotTried}
-use Rattle.papaya_change.specs.Changing.{HasChanged, hands_with}
+use Rattle.papaya_change.specs.Changing.{HasChanged}
 use Rattle.papaya_book.specs.Hashes.{hash_of}
 use Rattle.papaya_lookup.specs.History.{change_of, key_of}
 use Rattle.papaya_book.specs.Logs.{Stored, coding_of, comes, exchange_of, exchanges_of, pair_named, setting_of, state_of}
 use Rattle.papaya_book.specs.Plays.{IsMeant, Numbered, hands_of}
 use Rattle.papaya_book.specs.Rule.{IsLawfulLog, word_in}
-use Rattle.papaya_change.proofs.Changing.{Calling, Coded, Wide, held_later, placed_last, quiet, rests_of}
-use Rattle.papaya_lookup.proofs.Driving.{asked_by_made, one_made, resting_later, resting_told, word_wide}
+use Rattle.papaya_change.proofs.Changing.{Calling, Coded, Wide, answered, barren, call_hands, held_later, placed_last, quiet}
+use Rattle.papaya_change.proofs.OwnSteps.{asked_by_call, own_kind_is}
+use Rattle.papaya_lookup.proofs.Driving.{asked_by_made, one_made, word_wide}
 use Rattle.papaya_book.proofs.Logs.{exchanges_of-append, prefix_trans}
-use Rattle.papaya_lookup.proofs.Readings.{IsQuery, hashed_with}
+use Rattle.papaya_lookup.proofs.Readings.{IsQuery}
 use Rattle.papaya_book.proofs.Settings.{is_hashed}
 
 -- nothing comes with a burial
@@ -164,8 +166,8 @@ module _ {K V S H : Type 0} (eq : K → K → Bool) (input : K → List (List �
   abbrev hash' : S → K → ℕ
   hash' = hash_of input build write finish
 
-  abbrev Call : List (Event K V S) → Machine → Option (Bor Sheet) → (last : Option (Stored K V)) → List (Stored K V) → (taken put : Option (Stored K V)) → Type 0
-  Call log m table last made taken put = Calling eq input build write finish classes respects b matches query lawful k name begun log m table last made taken put
+  abbrev Under : List (Event K V S) → Machine → Option (Bor Sheet) → (last kept : Option (Stored K V)) → List (Stored K V) → (taken put : Option (Stored K V)) → Option (Where Sheet × Pen) → Type 0
+  Under log m table last kept made taken put fresh = Calling eq input build write finish classes respects b matches query lawful k name begun log m table last kept made taken put fresh
 
   abbrev G : List (Event K V S) → Setting (Option K) (Stored K V)
   G log = Wide eq input build write finish classes respects b matches query lawful k name begun log
@@ -173,55 +175,41 @@ module _ {K V S H : Type 0} (eq : K → K → Bool) (input : K → List (List �
   abbrev C : Coding (Option K) (Stored K V)
   C = Coded eq input build write finish classes respects b matches query lawful k name begun
 
-  abbrev hashed : (log : List (Event K V S)) → IsLawfulLog eq hash' b log → Rattle.papaya_law.specs.Code.IsHashed (G log) C
-  hashed log l = hashed_with eq input build write finish classes respects b matches query lawful log l
+  abbrev hands : (last : Option (Stored K V)) → List (Stored K V) → Hands (Stored K V)
+  hands last made = call_hands eq input build write finish classes respects b matches query lawful k name begun last made
 
   -- the word there, in the wide setting
   word_there : (log log' : List (Event K V S)) (at : At) → word_of (G log') C (state_of log) at ≡ word_in eq hash' b log at
   word_there log log' at = word_wide eq input build write finish classes respects b matches query lawful k (exchanges_of begun) log log' at
 
   -- An exchange of a slot was tried with what the call handed over: a pair that it made, or nothing.
-  module _ (v log : List (Event K V S)) (m : Machine) (table : Option (Bor Sheet)) (last : Option (Stored K V)) (made : List (Stored K V)) (taken put : Option (Stored K V)) (r : Call v m table last made taken put) (t x old new found : ℕ) (put' pair : Option (Stored K V))
-      (asks : ask_of m ≡ Ask_exchange (Slot t x) old new) (s : IsSlotTried eq hash' b name t x (kind_of_ask m) old new put' (pair_named put') v found log pair) where
+  module _ (v log : List (Event K V S)) (m : Machine) (table : Option (Bor Sheet)) (last kept : Option (Stored K V)) (made : List (Stored K V)) (taken put : Option (Stored K V)) (fresh : Option (Where Sheet × Pen)) (r : Under v m table last kept made taken put fresh) (t x old new found : ℕ) (put' pair : Option (Stored K V))
+      (asks : ask_of m ≡ Call (Ask_exchange (Slot t x) old new)) (s : IsSlotTried eq hash' b name t x (kind_of_ask m) old new put' (pair_named put') v found log pair) where
     abbrev After : Bool → Type 0
     After z = MatchBool z ((e : Step K V) × IsMeant eq hash' (Slot t x) (kind_of_ask m) new put' (pair_named put') s.tried.before e × (log ≡ s.tried.before ++ Stepped e ∷ [])) (log ≡ s.tried.before)
 
     -- it was made
-    pub exchanged : ((q : Stored K V) → put' ≡ Some q → IsOneOf made q) → (found == old) ≡ true → Call log (after m Exchanged) table last made pair put'
+    pub exchanged : ((q : Stored K V) → put' ≡ Some q → IsOneOf made q) → (found == old) ≡ true → Under log (after m (answers.Call Exchanged)) table last kept made pair put' fresh
     exchanged own is =
         let done = subst After is s.tried.after in
         let e = exchange_of done.0 in
         let before = s.tried.before in
         let grown : exchanges_of log ≡ exchanges_of before ++ e ∷ [] = ap exchanges_of done.2 ∙ exchanges_of-append before (Stepped done.0 ∷ []) in
-        let pre : IsPrefix before log = (Stepped done.0 ∷ [], sym done.2) in
+        let more : IsPrefix before log = (Stepped done.0 ∷ [], sym done.2) in
         let found_is : found ≡ old = eqb-true found old is in
         let here : (word_of (G log) C (state_of before) (Slot t x) == old) ≡ true = ap (λ (n : ℕ). n == old) (word_there before log (Slot t x) ∙ s.tried.is) ∙ is in
-        let hands = hands_with last made in
-        let asked : IsAsked C (kind_of_ask m) (Slot t x) new (state_of before) hands e = asked_by_made Numbered C (λ p. refl) (hands_of put') hands (λ q one. own q (one_made put' q one)) (kind_of_ask m) (Slot t x) new (state_of before) e done.1.asked in
-        let told' : IsTold (G log) C k (state_of before) (kind_of_ask m) hands (Ask_exchange (Slot t x) old new) Exchanged (e ∷ []) hands = rw here (refl, (e, asked, refl), refl) in
-        let told = subst (λ (a : Ask). IsTold (G log) C k (state_of before) (kind_of_ask m) hands a Exchanged (e ∷ []) hands) (sym asks) told' in
-        let mid = resting_later eq input build write finish classes respects b matches query lawful k (exchanges_of begun) v r.lawful m hands (rests_of eq input build write finish classes respects b matches query lawful k name begun v m table last made taken put r) before s.tried.lawful s.tried.since in
-        let on = resting_told eq input build write finish classes respects b matches query lawful k (exchanges_of begun) before s.tried.lawful m hands mid log s.tried.now pre Exchanged hands told in
-        let changes_to : change_in (after m Exchanged).state ≡ change_of_kind (kind_of_ask m) old new =
-        machine_changes (G log) C (hashed log s.tried.now) k (state_of before) m r.rests.hash hands (e ∷ []) hands Exchanged told
-        ∙ ap (λ (a : Ask). change_after (kind_of_ask m) a Exchanged (change_in m.state)) asks in
-        let since = prefix_trans v before log s.tried.since pre in record {
-          lawful = s.tried.now;
-          seen = prefix_trans begun v log r.seen since;
-          since = on.since;
-          is = on.is;
-          rests = on.rests;
-          number = r.number;
-          at_table = subst (λ (n : ℕ). IsAtTable n (after m Exchanged).state) (ap (λ (a : Ask). told_table a Exchanged r.number) asks) (table_told m Exchanged r.number r.at_table);
-          holds_table = held_later v log since r.number table r.holds_table;
-          last_placed = r.last_placed;
-          made_placed = r.made_placed;
-          taken_placed = s.placed;
-          changed = λ change f. changes eq input build write finish classes respects b begun before log (prefix_trans begun v before r.seen s.tried.since) s.tried.lawful s.tried.now done.0 grown t x old new (s.tried.is ∙ found_is) put' pair done.1.with_it s.names (kind_of_ask m) done.1.asked change (sym changes_to ∙ f);
-        }
+        let kind = kind_of_ask m in
+        let plainly = asked_by_call kind (own_kind_is m (call_asks m (Ask_exchange (Slot t x) old new) asks).0) (Slot t x) new (state_of before) put' e done.1.asked in
+        let asked : IsAsked C kind (Slot t x) new (state_of before) (hands last made) e = asked_by_made Numbered C (λ p. refl) (hands_of put') (hands last made) (λ q one. own q (one_made put' q one)) kind (Slot t x) new (state_of before) e plainly in
+        let told : IsTold (G log) C k (state_of before) kind (hands last made) (Ask_exchange (Slot t x) old new) Exchanged (e ∷ []) (hands last made) = rw here (refl, (e, asked, refl), refl) in
+        let since = prefix_trans v before log s.tried.since more in
+        answered eq input build write finish classes respects b matches query lawful k name begun v before log s.tried.lawful s.tried.now s.tried.since more m table last kept made taken put fresh r (Ask_exchange (Slot t x) old new) asks Exchanged last made told table pair put' fresh
+        (held_later v log since r.number table r.holds_table) r.last_placed r.made_placed s.placed
+        (λ change f. changes eq input build write finish classes respects b begun before log (prefix_trans begun v before r.seen s.tried.since) s.tried.lawful s.tried.now done.0 grown t x old new (s.tried.is ∙ found_is) put' pair done.1.with_it s.names kind plainly change f)
+        (barren eq input build write finish classes respects b matches query lawful k name begun v log since s.tried.now m table last kept made taken put fresh r (Ask_exchange (Slot t x) old new) asks tt Exchanged fresh)
 
     -- it was lost
-    pub lost : (found == old) ≡ false → Call log (after m (Found_instead found)) table (or_last pair last) made taken put
+    pub lost : (found == old) ≡ false → Under log (after m (answers.Call (Found_instead found))) table (or_last pair last) kept made taken put fresh
     lost is =
         let same = subst After is s.tried.after in
         let before = s.tried.before in
@@ -229,9 +217,14 @@ module _ {K V S H : Type 0} (eq : K → K → Bool) (input : K → List (List �
         let pre : IsPrefix v log = subst (IsPrefix v) (sym same) s.tried.since in
         let here : word_of (G log) C (state_of log) (Slot t x) ≡ found = word_there log log (Slot t x) ∙ word in
         let differs : (word_of (G log) C (state_of log) (Slot t x) == old) ≡ false = ap (λ (n : ℕ). n == old) here ∙ is in
-        let hands = hands_with last made in
-        let hands_is : hands_with (or_last pair last) made ≡ told_of (state_of log) (Slot t x) hands =
-        ap (λ (z : Option (Stored K V)). hands_with (or_last z last) made) (sym s.names ∙ ap (λ (z : List (Event K V S)). named ((state_of z).slot t x)) (sym same)) in
-        let told : IsTold (G log) C k (state_of log) (kind_of_ask m) hands (Ask_exchange (Slot t x) old new) (Found_instead found) [] (hands_with (or_last pair last) made) = rw differs (ap Found_instead (sym here), refl, hands_is) in
-        quiet eq input build write finish classes respects b matches query lawful k name begun v log pre s.tried.now m table last made taken put r (Ask_exchange (Slot t x) old new) asks (Found_instead found) (or_last pair last) made table r.number
-        (record { told = told; number_is = refl; same = refl; busy = λ z. z }) (held_later v log pre r.number table r.holds_table) (placed_last b name pair last s.placed r.last_placed) r.made_placed
+        let hands_is : hands (or_last pair last) made ≡ told_of (state_of log) (Slot t x) (hands last made) =
+        ap (λ (z : Option (Stored K V)). hands (or_last z last) made) (sym s.names ∙ ap (λ (z : List (Event K V S)). named ((state_of z).slot t x)) (sym same)) in
+        let told : IsTold (G log) C k (state_of log) (kind_of_ask m) (hands last made) (Ask_exchange (Slot t x) old new) (Found_instead found) [] (hands (or_last pair last) made) = rw differs (ap Found_instead (sym here), refl, hands_is) in
+        quiet eq input build write finish classes respects b matches query lawful k name begun v log pre s.tried.now m table last kept made taken put fresh r (Ask_exchange (Slot t x) old new) asks (Found_instead found) (or_last pair last) made table fresh
+        (record {
+          told = told;
+          same = refl;
+          busy = λ z. z;
+          brings = barren eq input build write finish classes respects b matches query lawful k name begun v log pre s.tried.now m table last kept made taken put fresh r (Ask_exchange (Slot t x) old new) asks tt (Found_instead found) fresh;
+        })
+        (held_later v log pre r.number table r.holds_table) (placed_last b name pair last s.placed r.last_placed) r.made_placed

@@ -9,13 +9,15 @@ use Rattle.papaya_ask.specs.declared.call.Reply.{Reply}
 use Rattle.papaya_ask.specs.declared.call.Reply.TheVariants.{Absent, Found, Inserted, Replaced, Occupied, Removed, Kept, Aborted, Done as Reply_done, Refused}
 use Rattle.papaya_ask.specs.declared.call.Task.{Task}
 use Rattle.papaya_ask.specs.declared.call.Task.TheVariants.{Insert}
-use Rattle.papaya_call.specs.Machine.{ask_of}
+use Rattle.papaya_chain.specs.declared.ask.Ask.TheVariants.{Call}
+use Rattle.papaya_chain.specs.Machine.{ask_of}
+use Rattle.papaya_chain_rests.proofs.Names.{call_asks}
+use Rattle.papaya_rests.specs.Told.{Hands}
 use Rattle.papaya_rests.specs.Rests.{IsReply, change_in, change_of_reply}
 use Rattle.papaya_rests.proofs.RestsHeld.{machine_replies}
 use Rattle.papaya_book.specs.declared.rule.entry.Begun.{Begun}
 use Rattle.papaya_book.specs.declared.rule.entry.Event.{Event}
 use Rattle.papaya_change.specs.declared.insertion.Insertion.{Insertion}
-use Rattle.papaya_change.specs.Changing.{hands_with}
 use Rattle.papaya_change.specs.Changes.{IsPut}
 use Rattle.papaya_change.specs.Doing.{has_changed}
 use Rattle.papaya_book.specs.Hashes.{hash_of}
@@ -41,13 +43,16 @@ module _ {K V S H : Type 0} (eq : K → K → Bool) (input : K → List (List �
   query = own_query eq input build write finish classes respects b name key
 
   module _ (log : List (Event K V S)) (x : Insertion K V S H) (r : Ins log x) where
+    abbrev hands : Hands (Stored K V)
+    hands = record { last = x.writer.call.last; made = made_list x.made }
+
     -- a change that puts in a number puts in a pair
     some_put : (class : K) (change : Option ℕ × Option ℕ) (n : ℕ) → change.1 ≡ Some n → (put : Option (Stored K V)) → MatchOption put (change.1 ≡ None) (λ q. (change.1 ≡ Some q.index) × (eq class (key_of q) ≡ true)) → (q : Stored K V) × (put ≡ Some q) × (eq class (key_of q) ≡ true)
     some_put class change n puts None is = let none : Some n ≡ None = sym puts ∙ is in absurd (cc none)
     some_put class change n puts (Some q) is = (q, refl, is.1)
 
     -- its change, with the value of the pair that went
-    put_changed : (change : Option ℕ × Option ℕ) (n : ℕ) → change.1 ≡ Some n → change_in x.writer.call.machine.state ≡ Some change → (answer : Option (Bor V)) → MatchOption answer (x.writer.call.taken ≡ None) (λ v. (p : Stored K V) × (x.writer.call.taken ≡ Some p) × (v.now ≡ p.value.value)) → IsPut eq key value (history_of begun) (history_of log) answer
+    put_changed : (change : Option ℕ × Option ℕ) (n : ℕ) → change.1 ≡ Some n → change_in x.writer.call.machine.call.state ≡ Some change → (answer : Option (Bor V)) → MatchOption answer (x.writer.call.taken ≡ None) (λ v. (p : Stored K V) × (x.writer.call.taken ≡ Some p) × (v.now ≡ p.value.value)) → IsPut eq key value (history_of begun) (history_of log) answer
     put_changed change n puts e answer taken =
         let h = r.writing.calling.changed change e in
         let q = some_put h.class change n puts x.writer.call.put h.put_is in
@@ -64,7 +69,7 @@ module _ {K V S H : Type 0} (eq : K → K → Bool) (input : K → List (List �
         }
 
     -- a reply that is no refusal is a change
-    put_reply : (reply : Reply) → IsReply (Wide eq input build write finish classes respects b (eq key) (input key) query (Some key) name begun log) (Coded eq input build write finish classes respects b (eq key) (input key) query (Some key) name begun) (exchanges_of begun) r.writing.calling.since (Some key) (hands_with x.writer.call.last (made_list x.made)) (Insert true) reply
+    put_reply : (reply : Reply) → IsReply (Wide eq input build write finish classes respects b (eq key) (input key) query (Some key) name begun log) (Coded eq input build write finish classes respects b (eq key) (input key) query (Some key) name begun) (exchanges_of begun) r.writing.calling.since (Some key) hands (Insert true) reply
         → ((refused : _) → reply ≡ Refused refused → ⊥) → (change : Option ℕ × Option ℕ) × (n : ℕ) × (change.1 ≡ Some n) × (change_of_reply reply ≡ Some change)
     put_reply Absent fits some = absurd fits
     put_reply (Found n) fits some = absurd fits
@@ -77,30 +82,30 @@ module _ {K V S H : Type 0} (eq : K → K → Bool) (input : K → List (List �
     put_reply Reply_done fits some = absurd fits
     put_reply (Refused refused) fits some = absurd (some refused refl)
 
-    pub put_replied : (reply : Reply) → ask_of x.writer.call.machine ≡ Done reply → ((refused : _) → reply ≡ Refused refused → ⊥) → (answer : Option (Bor V)) → MatchOption answer (x.writer.call.taken ≡ None) (λ v. (p : Stored K V) × (x.writer.call.taken ≡ Some p) × (v.now ≡ p.value.value)) → IsPut eq key value (history_of begun) (history_of log) answer
+    pub put_replied : (reply : Reply) → ask_of x.writer.call.machine ≡ Call (Done reply) → ((refused : _) → reply ≡ Refused refused → ⊥) → (answer : Option (Bor V)) → MatchOption answer (x.writer.call.taken ≡ None) (λ v. (p : Stored K V) × (x.writer.call.taken ≡ Some p) × (v.now ≡ p.value.value)) → IsPut eq key value (history_of begun) (history_of log) answer
     put_replied reply asks some answer taken =
         let g = Wide eq input build write finish classes respects b (eq key) (input key) query (Some key) name begun log in
         let c = Coded eq input build write finish classes respects b (eq key) (input key) query (Some key) name begun in
-        let all = machine_replies g c (exchanges_of begun) r.writing.calling.since (Some key) (hands_with x.writer.call.last (made_list x.made)) x.writer.call.machine r.writing.calling.rests reply asks in
-        let fits = subst (λ (z : Task). IsReply g c (exchanges_of begun) r.writing.calling.since (Some key) (hands_with x.writer.call.last (made_list x.made)) z reply) r.task_is all.0 in
+        let all = machine_replies g c (exchanges_of begun) r.writing.calling.since (Some key) hands x.writer.call.machine.call r.writing.calling.rests.call reply (call_asks x.writer.call.machine (Done reply) asks).1 in
+        let fits = subst (λ (z : Task). IsReply g c (exchanges_of begun) r.writing.calling.since (Some key) hands z reply) r.task_is all.0 in
         let done = put_reply reply fits some in
         put_changed done.0 done.1 done.2 (all.1 ∙ done.3) answer taken
 
     -- and has changed the map
-    pub has_put : (reply : Reply) → ask_of x.writer.call.machine ≡ Done reply → ((refused : _) → reply ≡ Refused refused → ⊥) → has_changed x.writer.call.machine ≡ true
+    pub has_put : (reply : Reply) → ask_of x.writer.call.machine ≡ Call (Done reply) → ((refused : _) → reply ≡ Refused refused → ⊥) → has_changed x.writer.call.machine ≡ true
     has_put reply asks some =
         let g = Wide eq input build write finish classes respects b (eq key) (input key) query (Some key) name begun log in
         let c = Coded eq input build write finish classes respects b (eq key) (input key) query (Some key) name begun in
-        let all = machine_replies g c (exchanges_of begun) r.writing.calling.since (Some key) (hands_with x.writer.call.last (made_list x.made)) x.writer.call.machine r.writing.calling.rests reply asks in
-        let fits = subst (λ (z : Task). IsReply g c (exchanges_of begun) r.writing.calling.since (Some key) (hands_with x.writer.call.last (made_list x.made)) z reply) r.task_is all.0 in
+        let all = machine_replies g c (exchanges_of begun) r.writing.calling.since (Some key) hands x.writer.call.machine.call r.writing.calling.rests.call reply (call_asks x.writer.call.machine (Done reply) asks).1 in
+        let fits = subst (λ (z : Task). IsReply g c (exchanges_of begun) r.writing.calling.since (Some key) hands z reply) r.task_is all.0 in
         ap is_some (all.1 ∙ (put_reply reply fits some).3)
 
     -- it took out this pair
-    pub replaced : (reply : Reply) → ask_of x.writer.call.machine ≡ Done reply → ((refused : _) → reply ≡ Refused refused → ⊥) → (lent : Bor V) (p : Stored K V) → x.writer.call.taken ≡ Some p → lent.now ≡ p.value.value → IsPut eq key value (history_of begun) (history_of log) (Some lent)
+    pub replaced : (reply : Reply) → ask_of x.writer.call.machine ≡ Call (Done reply) → ((refused : _) → reply ≡ Refused refused → ⊥) → (lent : Bor V) (p : Stored K V) → x.writer.call.taken ≡ Some p → lent.now ≡ p.value.value → IsPut eq key value (history_of begun) (history_of log) (Some lent)
     replaced reply asks some lent p is now = put_replied reply asks some (Some lent) (p, is, now)
 
     -- or none
-    pub inserted : (reply : Reply) → ask_of x.writer.call.machine ≡ Done reply → ((refused : _) → reply ≡ Refused refused → ⊥) → x.writer.call.taken ≡ None → IsPut {V = V} eq key value (history_of begun) (history_of log) None
+    pub inserted : (reply : Reply) → ask_of x.writer.call.machine ≡ Call (Done reply) → ((refused : _) → reply ≡ Refused refused → ⊥) → x.writer.call.taken ≡ None → IsPut {V = V} eq key value (history_of begun) (history_of log) None
     inserted reply asks some is = put_replied reply asks some None is
 
 -- what was seen before the call began was seen before its change

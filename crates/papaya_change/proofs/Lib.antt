@@ -1,4 +1,6 @@
 -- changing calls
+pub mod Resting
+pub mod OwnSteps
 pub mod Changing
 pub mod Doing
 pub mod Exchanging
@@ -8,11 +10,22 @@ pub mod OwnKeys
 pub mod Written
 pub mod WritingSteps
 pub mod Refusals
-pub mod NoRoom
+pub mod Helped
+pub mod OwnSays
 pub mod Inserting
 pub mod InsertingReplies
+pub mod InsertingHelped
 -- what closures are shown
 pub mod Showings
 -- removals
 pub mod Removing
 pub mod RemovingReplies
+pub mod RemovingHelped
+-- copies for a call that is set aside
+pub mod HelpingPlaces
+pub mod HelpingLeads
+pub mod HelpingExchanges
+pub mod HelpingRests
+pub mod HelpingAnswers
+pub mod HelpingArrives
+pub mod HelpingGoes

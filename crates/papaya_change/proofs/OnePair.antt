@@ -1,5 +1,5 @@
 -- An insertion makes one pair.
-use Rattle.std.proofs.Common.{◌≡◌, ℕ, Bool, List, refl}
+use Rattle.std.proofs.Common.{◌≡◌, ⊎_elim, ℕ, Bool, List, refl, subst}
 use Rattle.papaya_ask.specs.declared.ask.Answer.{Answer}
 use Rattle.papaya_ask.specs.declared.ask.Answer.TheVariants.{Word as Word_read, Exchanged, Found as Found_instead, Yes, Op, Size, Made as Made_number, Ok as Ok_done, Refused as Was_refused}
 use Rattle.papaya_ask.specs.declared.ask.Ask.TheVariants.{MakePair}
@@ -8,6 +8,10 @@ use Rattle.papaya_ask.specs.declared.search.Search.TheVariants.{Sizing, Looking,
 use Rattle.papaya_call.specs.declared.write.Made.{Made}
 use Rattle.papaya_call.specs.declared.write.Made.TheVariants.{Nothing, Key, Pair}
 use Rattle.papaya_call.specs.declared.machine.Machine.{Machine}
+use Rattle.papaya_chain.specs.declared.ask.Answer.TheVariants as answers
+use Rattle.papaya_chain.specs.declared.machine.Machine.{Machine as Chain}
+use Rattle.papaya_chain.specs.declared.machine.Phase.TheVariants.{Calling}
+use Rattle.papaya_chain.specs.Machine as chains
 use Rattle.papaya_call.specs.declared.machine.State.{State as Stage}
 use Rattle.papaya_call.specs.declared.machine.State.TheVariants.{AtRoot, Making, Opening, Searching, Writing, Offering, Showing, Pairing, Putting, Burying, Counting, Uncounting, Leaving, Growing, Ended}
 use Rattle.papaya_law.specs.Code.{Coding}
@@ -16,6 +20,7 @@ use Rattle.papaya_call.specs.Machine.{after, asks, made_in}
 use Rattle.papaya_rests.specs.Rests.{RestsStage}
 use Rattle.papaya_rests.specs.Told.{Hands}
 use Rattle.papaya_change.specs.Inserting.{IsUnpaired}
+use Rattle.papaya_change.proofs.OwnSteps.{own_settings}
 
 -- what was made stays made
 unpaired_in : (made : Made) (n : ℕ) (s : Stage) → IsUnpaired (made_in made n s) → IsUnpaired made
@@ -48,6 +53,11 @@ unpaired_before m (Size slots limit) u = u
 unpaired_before m (Made_number n) u = unpaired_in m.made n m.state u
 unpaired_before m Ok_done u = u
 unpaired_before m (Was_refused refused) u = u
+
+-- of a machine over a chain, after an answer to the call itself
+pub unpaired_then : (m : Chain) → m.phase ≡ Calling → (answer : Answer) → IsUnpaired (chains.after m (answers.Call answer)).call.made → IsUnpaired m.call.made
+unpaired_then m calling answer u =
+    ⊎_elim (λ own. unpaired_before m.call answer (subst IsUnpaired own u)) (λ same. subst IsUnpaired same u) (own_settings m calling answer).1
 
 module _ {K P : Type 0} (g : Setting K P) (c : Coding K P) (begun since : List (Exchange P)) (k : K) (hands : Hands P) (replace : Bool) (hash : ℕ) where
   -- an insertion that asks for a pair has made none, and has one after it

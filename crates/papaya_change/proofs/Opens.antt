@@ -1,24 +1,24 @@
 -- After it tried to open a table a call rests again, and holds the root's table.
-use Rattle.std.proofs.Common.{◌≡◌, ℕ, ◌==◌, Bool, true, false, Option, None, Some, List, [], ◌∷◌, ◌++◌, refl, sym, ap, ◌∙◌, subst}
+use Rattle.std.proofs.Common.{◌≡◌, ◌⊎◌, inl, inr, ℕ, ◌==◌, Bool, true, false, Option, None, Some, List, [], ◌∷◌, ◌++◌, refl, sym, ap, ◌∙◌, subst}
 use Rattle.std.specs.Cmp.{IsEquivalence}
 use mathlib.Core.List.{IsPrefix}
 use denote.Bor.{Bor}
 use Rattle.boxcar.specs.Table.{Where}
 use Rattle.logbook.specs.Pages.{Book}
+use Rattle.logbook.specs.declared.tokens.Pen.{Pen}
 use Rattle.papaya_ask.specs.declared.ask.At.TheVariants.{Root}
-use Rattle.papaya_ask.specs.declared.ask.Ask.{Ask}
 use Rattle.papaya_ask.specs.declared.ask.Ask.TheVariants.{Exchange as Ask_exchange}
+use Rattle.papaya_ask.specs.declared.ask.Answer.{Answer}
 use Rattle.papaya_ask.specs.declared.ask.Answer.TheVariants.{Exchanged, Found as Found_instead}
 use Rattle.papaya_ask.specs.declared.ask.StepKind.{StepKind}
 use Rattle.papaya_ask.specs.declared.ask.StepKind.TheVariants as kinds
-use Rattle.papaya_call.specs.declared.machine.Machine.{Machine}
-use Rattle.papaya_rests.specs.Followed.{IsAtTable, told_table}
+use Rattle.papaya_chain.specs.declared.ask.Answer.TheVariants as answers
+use Rattle.papaya_chain.specs.declared.ask.Ask.TheVariants.{Call}
+use Rattle.papaya_chain.specs.declared.machine.Machine.{Machine}
+use Rattle.papaya_chain.specs.Machine.{after, ask_of, kind_of_ask}
 use Rattle.papaya_law.specs.Exchange.{Exchange, Open}
-use Rattle.papaya_call.specs.Machine.{after, ask_of, kind_of_ask}
-use Rattle.papaya_rests.specs.Rests.{change_after, change_in, change_of_kind}
+use Rattle.papaya_rests.specs.Rests.{change_of_kind}
 use Rattle.papaya_rests.specs.Told.{Hands, IsAsked, IsTold, word_of}
-use Rattle.papaya_rests.proofs.Followed.{table_told}
-use Rattle.papaya_rests.proofs.RestsReply.{machine_changes}
 use Rattle.papaya_book.specs.Sheets.{Sheet}
 use Rattle.papaya_book.specs.declared.rule.entry.Begun.{Begun}
 use Rattle.papaya_book.specs.declared.rule.entry.Event.{Event}
@@ -26,13 +26,14 @@ use Rattle.papaya_book.specs.declared.rule.entry.Event.TheVariants.{Stepped}
 use Rattle.papaya_book.specs.declared.rule.entry.Named.{Named}
 use Rattle.papaya_book.specs.declared.rule.entry.Named.TheVariants as names
 use Rattle.papaya_book.specs.Calls.{IsTable, IsTried}
-use Rattle.papaya_change.specs.Changing.{hands_with}
+use Rattle.papaya_change.specs.Changing.{IsBringing, IsFresh}
 use Rattle.papaya_book.specs.Hashes.{hash_of}
 use Rattle.papaya_book.specs.Logs.{Stored, exchange_of, exchanges_of, state_of}
-use Rattle.papaya_change.proofs.Changing.{Calling, Coded, Wide, quiet, rests_of}
-use Rattle.papaya_lookup.proofs.Driving.{resting_later, resting_told, word_wide}
+use Rattle.papaya_change.proofs.Changing.{Calling, Coded, Wide, answered, call_hands, quiet}
+use Rattle.papaya_change.proofs.OwnSteps.{asked_by_call, opened_once}
+use Rattle.papaya_lookup.proofs.Driving.{word_wide}
 use Rattle.papaya_book.proofs.Logs.{exchanges_of-append, prefix_trans}
-use Rattle.papaya_lookup.proofs.Readings.{IsQuery, hashed_with}
+use Rattle.papaya_lookup.proofs.Readings.{IsQuery}
 use Rattle.papaya_book.proofs.Opened.{After, opened_lost}
 
 module _ {K V S H : Type 0} (eq : K → K → Bool) (input : K → List (List ℕ)) (build : S → H) (write : H → List ℕ → H) (finish : H → ℕ) (classes : IsEquivalence eq) (respects : (x y : K) → eq x y ≡ true → input x ≡ input y)
@@ -40,11 +41,15 @@ module _ {K V S H : Type 0} (eq : K → K → Bool) (input : K → List (List �
   abbrev hash' : S → K → ℕ
   hash' = hash_of input build write finish
 
-  abbrev Call : List (Event K V S) → Machine → Option (Bor Sheet) → (last : Option (Stored K V)) → List (Stored K V) → (taken put : Option (Stored K V)) → Type 0
-  Call log m table last made taken put = Calling eq input build write finish classes respects b matches query lawful k name begun log m table last made taken put
+  abbrev Under : List (Event K V S) → Machine → Option (Bor Sheet) → (last kept : Option (Stored K V)) → List (Stored K V) → (taken put : Option (Stored K V)) → Option (Where Sheet × Pen) → Type 0
+  Under log m table last kept made taken put fresh = Calling eq input build write finish classes respects b matches query lawful k name begun log m table last kept made taken put fresh
 
-  module _ (v log : List (Event K V S)) (m : Machine) (table : Option (Bor Sheet)) (last : Option (Stored K V)) (made : List (Stored K V)) (taken put : Option (Stored K V)) (r : Call v m table last made taken put) (n found : ℕ) (w : Where Sheet) (state : Option (Named K V)) (asks : ask_of m ≡ Ask_exchange Root 0 n) (kind : kind_of_ask m ≡ Some kinds.Open)
-      (t : IsTried eq hash' b Root (Some kinds.Open) 0 n None (names.Table w) v found log state) (lent : Bor Sheet) where
+  -- the table that was brought is brought no more
+  unbrought : (m : Machine) (n : ℕ) → ask_of m ≡ Call (Ask_exchange Root 0 n) → (answer : Answer) → (answer ≡ Exchanged) ⊎ ((word : ℕ) × (answer ≡ Found_instead word)) → (log : List (Event K V S)) (fresh : Option (Where Sheet × Pen)) (i : ℕ) → IsBringing (ask_of (after m (answers.Call answer))) i → IsFresh b name log i fresh
+  unbrought m n asks answer tried log fresh i brings = absurd (opened_once m n asks answer tried i brings)
+
+  module _ (v log : List (Event K V S)) (m : Machine) (table : Option (Bor Sheet)) (last kept : Option (Stored K V)) (made : List (Stored K V)) (taken put : Option (Stored K V)) (fresh fresh' : Option (Where Sheet × Pen)) (r : Under v m table last kept made taken put fresh) (n found : ℕ) (w : Where Sheet) (state : Option (Named K V))
+      (asks : ask_of m ≡ Call (Ask_exchange Root 0 n)) (kind : kind_of_ask m ≡ Some kinds.Open) (t : IsTried eq hash' b Root (Some kinds.Open) 0 n None (names.Table w) v found log state) (lent : Bor Sheet) where
     abbrev G : Rattle.papaya_law.specs.Exchange.Setting (Option K) (Stored K V)
     G = Wide eq input build write finish classes respects b matches query lawful k name begun log
 
@@ -52,47 +57,32 @@ module _ {K V S H : Type 0} (eq : K → K → Bool) (input : K → List (List �
     C = Coded eq input build write finish classes respects b matches query lawful k name begun
 
     abbrev hands : Hands (Stored K V)
-    hands = hands_with last made
+    hands = call_hands eq input build write finish classes respects b matches query lawful k name begun last made
 
     -- it was opened
-    pub opened : (found == 0) ≡ true → IsTable log n lent.now → Call log (after m Exchanged) (Some lent) last made taken put
+    pub opened : (found == 0) ≡ true → IsTable log n lent.now → Under log (after m (answers.Call Exchanged)) (Some lent) last kept made taken put fresh'
     opened is holds =
         let done = subst (After eq hash' b n w v found log state t) is t.after in
         let e = exchange_of done.0 in
         let before = t.before in
         let grown : exchanges_of log ≡ exchanges_of before ++ e ∷ [] = ap exchanges_of done.2 ∙ exchanges_of-append before (Stepped done.0 ∷ []) in
-        let pre : IsPrefix before log = (Stepped done.0 ∷ [], sym done.2) in
+        let more : IsPrefix before log = (Stepped done.0 ∷ [], sym done.2) in
         let here : (word_of G C (state_of before) Root == 0) ≡ true = ap (λ (i : ℕ). i == 0) (word_wide eq input build write finish classes respects b matches query lawful k (exchanges_of begun) before log Root ∙ t.is) ∙ is in
-        let asked : IsAsked C (kind_of_ask m) Root n (state_of before) hands e = subst (λ (z : Option StepKind). IsAsked C z Root n (state_of before) hands e) (sym kind) done.1.asked in
-        let told' : IsTold G C k (state_of before) (kind_of_ask m) hands (Ask_exchange Root 0 n) Exchanged (e ∷ []) hands = rw here (refl, (e, asked, refl), refl) in
-        let told = subst (λ (a : Ask). IsTold G C k (state_of before) (kind_of_ask m) hands a Exchanged (e ∷ []) hands) (sym asks) told' in
-        let mid = resting_later eq input build write finish classes respects b matches query lawful k (exchanges_of begun) v r.lawful m hands (rests_of eq input build write finish classes respects b matches query lawful k name begun v m table last made taken put r) before t.lawful t.since in
-        let on = resting_told eq input build write finish classes respects b matches query lawful k (exchanges_of begun) before t.lawful m hands mid log t.now pre Exchanged hands told in
-        let changes_to : change_in (after m Exchanged).state ≡ None =
-        machine_changes G C (hashed_with eq input build write finish classes respects b matches query lawful log t.now) k (state_of before) m r.rests.hash hands (e ∷ []) hands Exchanged told
-        ∙ (ap (λ (a : Ask). change_after (kind_of_ask m) a Exchanged (change_in m.state)) asks ∙ ap (λ (z : Option StepKind). change_of_kind z 0 n) kind) in
-        let since = prefix_trans v before log t.since pre in record {
-          lawful = t.now;
-          seen = prefix_trans begun v log r.seen since;
-          since = on.since;
-          is = on.is;
-          rests = on.rests;
-          number = n;
-          at_table = subst (λ (i : ℕ). IsAtTable i (after m Exchanged).state) (ap (λ (a : Ask). told_table a Exchanged r.number) asks) (table_told m Exchanged r.number r.at_table);
-          holds_table = holds;
-          last_placed = r.last_placed;
-          made_placed = r.made_placed;
-          taken_placed = r.taken_placed;
-          changed = λ change f. let none : None ≡ Some change = sym changes_to ∙ f in absurd (cc none);
-        }
+        let asked : IsAsked C (kind_of_ask m) Root n (state_of before) hands e = subst (λ (z : Option StepKind). IsAsked C z Root n (state_of before) hands e) (sym kind) (asked_by_call (Some kinds.Open) tt Root n (state_of before) None e done.1.asked) in
+        let told : IsTold G C k (state_of before) (kind_of_ask m) hands (Ask_exchange Root 0 n) Exchanged (e ∷ []) hands = rw here (refl, (e, asked, refl), refl) in
+        let since = prefix_trans v before log t.since more in
+        answered eq input build write finish classes respects b matches query lawful k name begun v before log t.lawful t.now t.since more m table last kept made taken put fresh r (Ask_exchange Root 0 n) asks Exchanged last made told (Some lent) taken put fresh'
+        holds r.last_placed r.made_placed r.taken_placed
+        (λ change f. let none : None ≡ Some change = sym (ap (λ (z : Option StepKind). change_of_kind z 0 n) kind) ∙ f in absurd (cc none))
+        (unbrought m n asks Exchanged (inl refl) log fresh')
 
     -- it was lost: another one is the root
-    pub beaten : (found == 0) ≡ false → IsTable log found lent.now → Call log (after m (Found_instead found)) (Some lent) last made taken put
+    pub beaten : (found == 0) ≡ false → IsTable log found lent.now → Under log (after m (answers.Call (Found_instead found))) (Some lent) last kept made taken put fresh'
     beaten is holds =
         let same = opened_lost eq hash' b n w v found log state t is in
         let pre : IsPrefix v log = subst (IsPrefix v) (sym same) t.since in
         let here : word_of G C (state_of log) Root ≡ found = word_wide eq input build write finish classes respects b matches query lawful k (exchanges_of begun) log log Root ∙ (ap (λ (z : List (Event K V S)). (state_of z).root) same ∙ t.is) in
         let differs : (word_of G C (state_of log) Root == 0) ≡ false = ap (λ (i : ℕ). i == 0) here ∙ is in
         let told : IsTold G C k (state_of log) (kind_of_ask m) hands (Ask_exchange Root 0 n) (Found_instead found) [] hands = rw differs (ap Found_instead (sym here), refl, refl) in
-        quiet eq input build write finish classes respects b matches query lawful k name begun v log pre t.now m table last made taken put r (Ask_exchange Root 0 n) asks (Found_instead found) last made (Some lent) found
-        (record { told = told; number_is = refl; same = refl; busy = λ z. z }) holds r.last_placed r.made_placed
+        quiet eq input build write finish classes respects b matches query lawful k name begun v log pre t.now m table last kept made taken put fresh r (Ask_exchange Root 0 n) asks (Found_instead found) last made (Some lent) fresh'
+        (record { told = told; same = refl; busy = λ z. z; brings = unbrought m n asks (Found_instead found) (inr (found, refl)) log fresh' }) holds r.last_placed r.made_placed

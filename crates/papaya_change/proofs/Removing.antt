@@ -1,25 +1,35 @@
 -- After each answer a removal rests again, and what its machine stands on was said of the pair shown last.
-use Rattle.std.proofs.Common.{◌≡◌, inl, inr, ⊎_elim, ℕ, ◌==◌, Bool, true, false, MatchBool, MatchOption, Option, None, Some, List, [], ◌∷◌, ◌++◌, length, append-nil, refl, sym, ap, ◌∙◌, subst}
+use Rattle.std.proofs.Common.{◌≡◌, inl, inr, ⊎_elim, ℕ, ◌==◌, Bool, true, false, MatchBool, MatchOption, Option, None, Some, List, [], ◌∷◌, length, append-nil, refl, sym, ap, ◌∙◌, subst}
 use Rattle.std.proofs.lemmas.Bool.{cases_Bool}
 use Rattle.std.specs.Cmp.{IsEquivalence}
 use mathlib.Core.List.{IsPrefix}
 use denote.Bor.{Bor}
 use Rattle.logbook.specs.Pages.{Book}
 use Rattle.papaya_words.specs.declared.probe.Refused.{Refused as Cause}
+use Rattle.papaya_words.specs.declared.probe.Refused.TheVariants.{Capacity}
 use Rattle.papaya_ask.specs.declared.ask.At.{At}
 use Rattle.papaya_ask.specs.declared.ask.At.TheVariants.{Slot}
 use Rattle.papaya_ask.specs.declared.ask.Ask.{Ask}
 use Rattle.papaya_ask.specs.declared.ask.Ask.TheVariants.{Load, Exchange as Ask_exchange, SizeOf, SameKey, ShowPair, AddToShard, Done}
+use Rattle.papaya_ask.specs.declared.ask.StepKind.{StepKind}
 use Rattle.papaya_ask.specs.declared.ask.StepKind.TheVariants as kinds
 use Rattle.papaya_ask.specs.declared.ask.Answer.{Answer}
-use Rattle.papaya_ask.specs.declared.ask.Answer.TheVariants.{Word as Word_read, Exchanged, Found as Found_instead, Size, Yes, Ok as Ok_done}
+use Rattle.papaya_ask.specs.declared.ask.Answer.TheVariants.{Word as Word_read, Exchanged, Found as Found_instead, Size, Yes, Ok as Ok_done, Refused as Was_refused}
 use Rattle.papaya_ask.specs.declared.call.Reply.{Reply}
 use Rattle.papaya_ask.specs.declared.call.Reply.TheVariants.{Refused}
 use Rattle.papaya_ask.specs.declared.call.Task.{Task}
 use Rattle.papaya_ask.specs.declared.call.Task.TheVariants.{RemoveIf}
-use Rattle.papaya_call.specs.declared.machine.Machine.{Machine}
+use Rattle.papaya_chain.specs.declared.ask.Answer.TheVariants as answers
+use Rattle.papaya_chain.specs.declared.ask.Ask.TheVariants.{Call}
+use Rattle.papaya_chain.specs.declared.machine.Machine.{Machine}
+use Rattle.papaya_chain.specs.declared.machine.Phase.TheVariants.{Calling}
+use Rattle.papaya_chain.specs.Machine.{IsStanding, after, ask_of, kind_of_ask}
+use Rattle.papaya_chain_rests.proofs.Names.{call_asks}
+use Rattle.papaya_chain_rests.proofs.Replies.{chain_task}
 use Rattle.papaya_rests.specs.Followed.{MayAsk}
-use Rattle.papaya_call.specs.Machine.{IsFit, IsStanding, after, ask_of, asks, kind_of_ask}
+use Rattle.papaya_call.specs.Machine.{IsComputer, IsFit}
+use Rattle.papaya_call.specs.Machine as calls
+use Rattle.papaya_rests.specs.Told.{Hands}
 use Rattle.papaya_rests.specs.Rests.{WasAtMoment}
 use Rattle.papaya_rests.specs.Told.{or_last}
 use Rattle.papaya_rests.specs.Says.{Agrees, ShowsPairs, StandsOn}
@@ -28,17 +38,14 @@ use Rattle.papaya_rests.proofs.RestsHeld as held
 use Rattle.papaya_rests.proofs.RestsHeld.{IsShowing}
 use Rattle.papaya_rests.proofs.Followed.{asked_of_task}
 use Rattle.papaya_rests.proofs.SaysOver.{unsaid}
-use Rattle.papaya_rests.proofs.SaysSaid.{machine_said}
-use Rattle.papaya_rests.proofs.SaysWords.{machine_shows}
 use Rattle.papaya_book.specs.Sheets.{Sheet}
 use Rattle.papaya_book.specs.declared.rule.entry.Begun.{Begun}
 use Rattle.papaya_book.specs.declared.rule.entry.Event.{Event}
-use Rattle.papaya_lookup.specs.declared.driver.Driver.{Driver}
+use Rattle.papaya_change.specs.declared.driver.Driver.{Driver}
 use Rattle.papaya_change.specs.declared.removal.Removal.{Removal}
 use Rattle.papaya_book.specs.Calls.{IsSlotTried, IsTable}
-use Rattle.papaya_change.specs.Changing.{IsCalling, hands_with}
-use Rattle.papaya_lookup.specs.Driver.{IsLoaded}
-use Rattle.papaya_lookup.specs.Driver.{IsHeldAt}
+use Rattle.papaya_change.specs.Changing.{IsDriven}
+use Rattle.papaya_change.specs.Driver.{IsHeldAt, IsLoaded}
 use Rattle.papaya_book.specs.Hashes.{hash_of}
 use Rattle.papaya_lookup.specs.History.{history_of, key_of}
 use Rattle.papaya_book.specs.declared.rule.entry.Named.TheVariants as names
@@ -47,15 +54,15 @@ use Rattle.papaya_book.specs.Logs.{Stored, exchanges_of, pair_named}
 use Rattle.papaya_change.specs.Removing.{IsRemoving, IsRemovingOn}
 use Rattle.papaya_book.specs.Rule.{IsPlaced}
 use Rattle.papaya_change.specs.Showings.{WasHeld}
-use Rattle.papaya_change.proofs.Changing.{Coded, Wide, counted, compared, load_table, loaded_lawful, loads, quiet, rests_of, size_table, sized, slot_table}
-use Rattle.papaya_rests.proofs.Silent.{IsSilent, not_done, stood_before}
+use Rattle.papaya_change.proofs.Changing.{Coded, Wide, barren, call_hands, call_rests, counted, compared, load_table, loaded_lawful, loads, quiet, size_table, sized, slot_table}
+use Rattle.papaya_change.proofs.OwnSays.{own_said, own_shows, own_stood}
+use Rattle.papaya_change.proofs.OwnSteps.{own_kind, own_order}
+use Rattle.papaya_change.proofs.Refusals.{refused_for, shows_none}
+use Rattle.papaya_rests.proofs.Silent.{IsSilent, not_done}
 use Rattle.papaya_lookup.proofs.Driving.{can_bury}
 use Rattle.papaya_change.proofs.Exchanging.{exchanged, lost}
 use Rattle.papaya_lookup.proofs.Histories.{history_since}
-use Rattle.papaya_law.specs.Allows.{AllAllowed}
-use Rattle.papaya_law.specs.Exchange.{Exchange, run, start}
-use Rattle.papaya_rests.proofs.RestsRemovals.{removal_unrefused}
-use Rattle.papaya_lookup.proofs.Readings.{IsQuery, allowed_with, fed, hashed_with}
+use Rattle.papaya_lookup.proofs.Readings.{IsQuery, fed, hashed_with}
 use Rattle.papaya_change.proofs.Showings.{all_shown, held_then, held_wider}
 
 module _ {K V S H F : Type 0} (eq : K → K → Bool) (input : K → List (List ℕ)) (build : S → H) (write : H → List ℕ → H) (finish : H → ℕ) (classes : IsEquivalence eq) (respects : (x y : K) → eq x y ≡ true → input x ≡ input y)
@@ -83,121 +90,139 @@ module _ {K V S H F : Type 0} (eq : K → K → Bool) (input : K → List (List 
     held_later : (log' : List (Event K V S)) → IsPrefix log log' → (p : Stored K V) → HeldOn log p → HeldOn log' p
     held_later log' pre p h = held_wider eq matches (history_of begun) (history_of begun) (history_of log) (history_of log') ([], append-nil (history_of begun)) (history_since log log' pre) (Some p) h
 
-    -- no table has a next one, so no answer has it refused
-    not_refused : ((reply : Reply) → ask_of m ≡ Done reply → ⊥) → (answer : Answer) (cause : Cause) → ask_of (after m answer) ≡ Done (Refused cause) → ⊥
-    not_refused open_still answer cause e =
-        let s = Wide eq input build write finish classes respects b matches query lawful None name begun log in
-        let c = Coded eq input build write finish classes respects b matches query lawful None name begun in
-        let hashed = hashed_with eq input build write finish classes respects b matches query lawful log r.calling.lawful in
-        let may = subst (AllAllowed s start) (sym r.calling.is) (allowed_with eq input build write finish classes respects b matches query lawful log r.calling.lawful) in
-        let alone : (t : ℕ) → (run (exchanges_of begun ++ r.calling.since) start).next t ≡ 0 = subst (λ (es : List (Exchange (Stored K V))). (t : ℕ) → (run es start).next t ≡ 0) (sym r.calling.is) r.calling.lawful.unlinked in
-        removal_unrefused s c hashed.lawful (exchanges_of begun) r.calling.since may None (hands_with x.call.last []) alone m r.calling.rests r.task_is open_still answer cause e
+    -- the pairs that its call was told of
+    abbrev hands : Hands (Stored K V)
+    hands = call_hands eq input build write finish classes respects b matches query lawful None name begun x.call.last []
 
     module _ (standing : IsStanding m) where
+      -- no answer of its own has it refused: it asks for nothing to be made
+      not_refused : (ask : Ask) → ask_of m ≡ Call ask → ((reply : Reply) → ask ≡ Done reply → ⊥) → (answer : Answer) → ((cause : Cause) → answer ≡ Was_refused cause → ⊥) → (cause : Cause) → ask_of (after m (answers.Call answer)) ≡ Call (Done (Refused cause)) → ⊥
+      not_refused ask asks open_still answer unrefused cause e =
+          refused_for m (call_asks m ask asks).0 answer (λ _. ⊥) (λ none. subst IsComputer r.task_is (shows_none m standing none)) (λ reply done. open_still reply (let f = sym asks ∙ done in cc f)) unrefused cause e
+
       -- it goes on after an answer that shows nothing
-      pub goes_on : (log' : List (Event K V S)) → IsPrefix log log' → (y : Driver K V S H) (answer : Answer) → y.machine ≡ m → IsFit answer → (after m answer).task ≡ m.task → IsSilent (ask_of m)
-          → IsCalling eq hash b name matches fed_to None begun log' (after m answer) y.table y.last [] y.taken y.put → RemovingOn log' (record x { call = y }) f (Some answer)
-      goes_on log' pre y answer machine fit task silent calling =
-          let same : after m answer ≡ after y.machine answer = ap (λ (z : Machine). after z answer) (sym machine) in (
+      pub goes_on : (log' : List (Event K V S)) → IsPrefix log log' → (y : Driver K V S H) (answer : Answer) → y.machine ≡ m → IsFit answer → ((cause : Cause) → answer ≡ Was_refused cause → ⊥) → (ask : Ask) → ask_of m ≡ Call ask → IsSilent ask
+          → IsDriven eq hash b name matches fed_to None begun log' [] (record y { machine = after m (answers.Call answer) }) → RemovingOn log' (record x { call = y }) f (Some answer)
+      goes_on log' pre y answer machine fit unrefused ask asks silent calling =
+          let own = call_asks m ask asks in
+          let silent_call = subst IsSilent (sym own.1) silent in
+          let never : (cause : Cause) → ask_of (after m (answers.Call answer)) ≡ Call (Done (Refused cause)) → ⊥ = not_refused ask asks (λ reply e. not_done m.call answer silent_call reply (own.1 ∙ e)) answer unrefused in
+          let same : after m (answers.Call answer) ≡ after y.machine (answers.Call answer) = ap (λ (z : Machine). after z (answers.Call answer)) (sym machine) in (
             record {
-              calling = subst (λ (z : Machine). IsCalling eq hash b name matches fed_to None begun log' z y.table y.last [] y.taken y.put) same calling;
-              task_is = ap (λ (z : Machine). z.task) (sym same) ∙ (task ∙ r.task_is);
-              words = subst (λ (z : Machine). ShowsPairs z.state) same (machine_shows m answer r.words);
+              calling = subst (λ (z : Machine). IsDriven eq hash b name matches fed_to None begun log' [] (record y { machine = z })) same calling;
+              task_is = ap (λ (z : Machine). z.call.task) (sym same) ∙ ((chain_task m (answers.Call answer) (own_order m own.0 answer)).0 ∙ r.task_is);
+              words = subst (λ (z : Machine). ShowsPairs z.call.state) same (own_shows m own.0 answer r.words);
               shown_placed = r.shown_placed;
               said = r.said;
               has_said = r.has_said;
               held = all_shown (HeldOn log) (HeldOn log') (held_later log' pre) r.said r.held;
-              stood = λ n agrees stands. r.stood n agrees (stood_before m answer silent standing r.words (Agrees n agrees) (subst (λ (z : Machine). StandsOn z (Agrees n agrees)) (sym same) stands));
-              unrefused = λ cause e. not_refused (not_done m answer silent) answer cause (ap ask_of same ∙ e);
+              stood = λ n agrees stands. r.stood n agrees (own_stood m own.0 answer silent_call standing r.words (Agrees n agrees) (subst (λ (z : Machine). StandsOn z.call (Agrees n agrees)) (sym same) stands));
+              refuses = λ cause e. absurd (never cause (ap ask_of same ∙ e));
+              crowded = λ e. absurd (never Capacity (ap ask_of same ∙ e));
             },
             fit,
           )
 
       -- the word at a place may be loaded
-      pub load_held : (at : At) → ask_of m ≡ Load at → IsHeldAt at log x.call.table
+      pub load_held : (at : At) → ask_of m ≡ Call (Load at) → IsHeldAt at log x.call.table
       load_held at asks =
-          load_table eq input build write finish classes respects b matches query lawful None name begun log m x.call.table x.call.last [] x.call.taken x.call.put r.calling at asks
-          (subst (λ (a : Ask). MayAsk m.task (kind_of_ask m) a) asks (asked_of_task m standing))
+          load_table eq input build write finish classes respects b matches query lawful None name begun log m x.call.table x.call.last x.call.kept [] x.call.taken x.call.put x.call.fresh r.calling at asks
+          (subst (λ (a : Ask). MayAsk m.call.task (calls.kind_of_ask m.call) a) (call_asks m (Load at) asks).1 (asked_of_task m.call standing.call))
 
       -- and was loaded
-      pub loaded_as : (log' : List (Event K V S)) → IsPrefix log log' → (at : At) (word : ℕ) (y : Driver K V S H) → y.machine ≡ m → y.taken ≡ x.call.taken → y.put ≡ x.call.put → ask_of m ≡ Load at → IsLoaded eq hash b name at word log' x.call.table y.table x.call.last y.last → RemovingOn log' (record x { call = y }) f (Some (Word_read word))
-      loaded_as log' pre at word y machine taken put asks is =
-          let calling = loads eq input build write finish classes respects b matches query lawful None name begun log log' pre (loaded_lawful eq hash b name log' at word x.call.table y.table x.call.last y.last is) m x.call.table x.call.last [] x.call.taken x.call.put r.calling at word y.table y.last asks is in
-          goes_on log' pre y (Word_read word) machine tt refl (subst IsSilent (sym asks) tt)
-          (subst (λ (o : Option (Stored K V) × Option (Stored K V)). IsCalling eq hash b name matches fed_to None begun log' (after m (Word_read word)) y.table y.last [] o.0 o.1) (λ i. (sym taken i, sym put i)) calling)
+      pub loaded_as : (log' : List (Event K V S)) → IsPrefix log log' → (at : At) (word : ℕ) (y : Driver K V S H) → y ≡ record x.call { table = y.table; last = y.last } → ask_of m ≡ Call (Load at) → IsLoaded eq hash b name at word log' x.call.table y.table x.call.last y.last → RemovingOn log' (record x { call = y }) f (Some (Word_read word))
+      loaded_as log' pre at word y rest asks is =
+          let calling = loads eq input build write finish classes respects b matches query lawful None name begun log log' pre (loaded_lawful eq hash b name log' at word x.call.table y.table x.call.last y.last is) m x.call.table x.call.last x.call.kept [] x.call.taken x.call.put x.call.fresh r.calling at word y.table y.last asks is in
+          subst (λ (z : Driver K V S H). RemovingOn log' (record x { call = z }) f (Some (Word_read word))) (sym rest)
+          (goes_on log' pre (record x.call { table = y.table; last = y.last }) (Word_read word) refl tt (λ cause e. cc e) (Load at) asks tt calling)
 
       -- a table whose size is asked for is held
-      pub size_held : (t : ℕ) → ask_of m ≡ SizeOf t → x.call.table ≡ None → ⊥
-      size_held t asks none = subst (λ (o : Option (Bor Sheet)). MatchOption o ⊥ (λ z. IsTable log t z.now)) none (size_table eq input build write finish classes respects b matches query lawful None name begun log m x.call.table x.call.last [] x.call.taken x.call.put r.calling t asks)
+      pub size_held : (t : ℕ) → ask_of m ≡ Call (SizeOf t) → x.call.table ≡ None → ⊥
+      size_held t asks none = subst (λ (o : Option (Bor Sheet)). MatchOption o ⊥ (λ z. IsTable log t z.now)) none (size_table eq input build write finish classes respects b matches query lawful None name begun log m x.call.table x.call.last x.call.kept [] x.call.taken x.call.put x.call.fresh r.calling t asks)
 
       -- its size was told
-      pub sized_on : (t : ℕ) (lent : Bor Sheet) → x.call.table ≡ Some lent → (slots limit : ℕ) → slots ≡ length lent.now.slots → limit ≡ lent.now.limit → IsSize slots limit → ask_of m ≡ SizeOf t → RemovingOn log x f (Some (Size slots limit))
+      pub sized_on : (t : ℕ) (lent : Bor Sheet) → x.call.table ≡ Some lent → (slots limit : ℕ) → slots ≡ length lent.now.slots → limit ≡ lent.now.limit → IsSize slots limit → ask_of m ≡ Call (SizeOf t) → RemovingOn log x f (Some (Size slots limit))
       sized_on t lent has slots limit slots_is limit_is size asks =
-          goes_on log ([], append-nil log) x.call (Size slots limit) refl size refl (subst IsSilent (sym asks) tt)
-          (sized eq input build write finish classes respects b matches query lawful None name begun log m x.call.table x.call.last [] x.call.taken x.call.put r.calling t lent has slots limit slots_is limit_is asks)
+          goes_on log ([], append-nil log) x.call (Size slots limit) refl size (λ cause e. cc e) (SizeOf t) asks tt
+          (sized eq input build write finish classes respects b matches query lawful None name begun log m x.call.table x.call.last x.call.kept [] x.call.taken x.call.put x.call.fresh r.calling t lent has slots limit slots_is limit_is asks)
 
       -- the pair last told of was compared
-      pub compared_on : (n : ℕ) (same : Bool) → ((p : Stored K V) → x.call.last ≡ Some p → same ≡ matches (key_of p)) → ask_of m ≡ SameKey n → RemovingOn log x f (Some (Yes same))
+      pub compared_on : (n : ℕ) (same : Bool) → ((p : Stored K V) → x.call.last ≡ Some p → same ≡ matches (key_of p)) → ask_of m ≡ Call (SameKey n) → RemovingOn log x f (Some (Yes same))
       compared_on n same is asks =
-          goes_on log ([], append-nil log) x.call (Yes same) refl tt refl (subst IsSilent (sym asks) tt)
-          (compared eq input build write finish classes respects b matches query lawful None name begun log m x.call.table x.call.last [] x.call.taken x.call.put r.calling n same is asks)
+          goes_on log ([], append-nil log) x.call (Yes same) refl tt (λ cause e. cc e) (SameKey n) asks tt
+          (compared eq input build write finish classes respects b matches query lawful None name begun log m x.call.table x.call.last x.call.kept [] x.call.taken x.call.put x.call.fresh r.calling n same is asks)
 
       -- the change was counted
-      pub counted_on : (by : _) → ask_of m ≡ AddToShard by → RemovingOn log x f (Some Ok_done)
+      pub counted_on : (by : _) → ask_of m ≡ Call (AddToShard by) → RemovingOn log x f (Some Ok_done)
       counted_on by asks =
-          goes_on log ([], append-nil log) x.call Ok_done refl tt refl (subst IsSilent (sym asks) tt)
-          (counted eq input build write finish classes respects b matches query lawful None name begun log m x.call.table x.call.last [] x.call.taken x.call.put r.calling by asks)
+          goes_on log ([], append-nil log) x.call Ok_done refl tt (λ cause e. cc e) (AddToShard by) asks tt
+          (counted eq input build write finish classes respects b matches query lawful None name begun log m x.call.table x.call.last x.call.kept [] x.call.taken x.call.put x.call.fresh r.calling by asks)
 
       -- the pair last told of was shown
-      pub shown_on : (n : ℕ) (p : Stored K V) (agreed : Bool) (g : F) → x.call.last ≡ Some p → judges f p agreed g → ask_of m ≡ ShowPair n → RemovingOn log (record x { shown = Some p }) g (Some (Yes agreed))
+      pub shown_on : (n : ℕ) (p : Stored K V) (agreed : Bool) (g : F) → x.call.last ≡ Some p → judges f p agreed g → ask_of m ≡ Call (ShowPair n) → RemovingOn log (record x { shown = Some p }) g (Some (Yes agreed))
       shown_on n p agreed g last judged showing =
+          let own = call_asks m (ShowPair n) showing in
           let s = Wide eq input build write finish classes respects b matches query lawful None name begun log in
           let c = Coded eq input build write finish classes respects b matches query lawful None name begun in
           let hashed = hashed_with eq input build write finish classes respects b matches query lawful log r.calling.lawful in
-          let shows : (i : ℕ) → ask_of m ≡ ShowPair i → IsShowing s c hashed (exchanges_of begun) r.calling.since None (hands_with x.call.last []) i = λ i e. held.machine_shows s c hashed (exchanges_of begun) r.calling.since None (hands_with x.call.last []) m r.calling.rests i e in
-          let is : (i : ℕ) → ask_of m ≡ ShowPair i → p.index ≡ i = λ i e. let one : (shows i e).0 ≡ p = cc ((shows i e).1, last) in ap (λ (z : Stored K V). z.index) (sym one) ∙ (shows i e).2 in
-          let one : (shows n showing).0 ≡ p = cc ((shows n showing).1, last) in
-          let was = subst (λ (z : Stored K V). WasAtMoment s c (exchanges_of begun) r.calling.since None (Some z)) one (shows n showing).4 in (
+          let shows : (i : ℕ) → calls.ask_of m.call ≡ ShowPair i → IsShowing s c hashed (exchanges_of begun) r.calling.since None hands i = λ i e. held.machine_shows s c hashed (exchanges_of begun) r.calling.since None hands m.call r.calling.rests.call i e in
+          let is : (i : ℕ) → calls.ask_of m.call ≡ ShowPair i → p.index ≡ i = λ i e. let one : (shows i e).0 ≡ p = cc ((shows i e).1, last) in ap (λ (z : Stored K V). z.index) (sym one) ∙ (shows i e).2 in
+          let one : (shows n own.1).0 ≡ p = cc ((shows n own.1).1, last) in
+          let was = subst (λ (z : Stored K V). WasAtMoment s c (exchanges_of begun) r.calling.since None (Some z)) one (shows n own.1).4 in
+          let never = not_refused (ShowPair n) showing (λ reply h. cc h) (Yes agreed) (λ cause e. cc e) in (
             record {
-              calling = quiet eq input build write finish classes respects b matches query lawful None name begun log log ([], append-nil log) r.calling.lawful m x.call.table x.call.last [] x.call.taken x.call.put r.calling
-                  (ShowPair n) showing (Yes agreed) x.call.last [] x.call.table r.calling.number (record { told = (inl (agreed, refl), (refl, refl)); number_is = refl; same = refl; busy = λ z. z }) r.calling.holds_table r.calling.last_placed r.calling.made_placed;
-              task_is = r.task_is;
-              words = machine_shows m (Yes agreed) r.words;
+              calling = quiet eq input build write finish classes respects b matches query lawful None name begun log log ([], append-nil log) r.calling.lawful m x.call.table x.call.last x.call.kept [] x.call.taken x.call.put x.call.fresh r.calling
+                  (ShowPair n) showing (Yes agreed) x.call.last [] x.call.table x.call.fresh
+                  (record {
+                    told = (inl (agreed, refl), (refl, refl));
+                    same = refl;
+                    busy = λ z. z;
+                    brings = barren eq input build write finish classes respects b matches query lawful None name begun log log ([], append-nil log) r.calling.lawful m x.call.table x.call.last x.call.kept [] x.call.taken x.call.put x.call.fresh r.calling (ShowPair n) showing tt (Yes agreed) x.call.fresh;
+                  }) r.calling.holds_table r.calling.last_placed r.calling.made_placed;
+              task_is = (chain_task m (answers.Call (Yes agreed)) (own_order m own.0 (Yes agreed))).0 ∙ r.task_is;
+              words = own_shows m own.0 (Yes agreed) r.words;
               shown_placed = subst (λ (o : Option (Stored K V)). IsPlaced b (Some name) (pair_named o)) last r.calling.last_placed;
               said = (p, agreed) ∷ r.said;
               has_said = (f, r.has_said, judged);
               held = (held_then eq input build write finish classes respects b matches query lawful begun log r.calling.lawful r.calling.since r.calling.is (Some p) was, r.held);
               stood = λ i agrees stands. ⊎_elim
-                  (λ h. absurd (unsaid m n i agrees showing h))
+                  (λ h. absurd (unsaid m.call n i agrees own.1 h))
                   (λ h. let e = h.1 in let same : agreed ≡ agrees = cc e in (p, refl, is i h.0, inl (ap (λ (z : Bool). (p, z)) (sym same))))
-                  (machine_said m (Yes agreed) (Agrees i agrees) standing r.words stands);
-              unrefused = not_refused (λ reply h. let e = sym showing ∙ h in cc e) (Yes agreed);
+                  (own_said m own.0 agreed standing r.words (Agrees i agrees) stands);
+              refuses = λ cause e. absurd (never cause e);
+              crowded = λ e. absurd (never Capacity e);
             },
             tt,
           )
 
-      module _ (t i old new : ℕ) (tries : ask_of m ≡ Ask_exchange (Slot t i) old new) where
+      module _ (t i old new : ℕ) (tries : ask_of m ≡ Call (Ask_exchange (Slot t i) old new)) where
         -- the slot is one of the table that is held
         pub bury_held : IsHeldAt (Slot t i) log x.call.table
-        bury_held = slot_table eq input build write finish classes respects b matches query lawful None name begun log m x.call.table x.call.last [] x.call.taken x.call.put r.calling t i (inr (old, new, tries))
+        bury_held = slot_table eq input build write finish classes respects b matches query lawful None name begun log m x.call.table x.call.last x.call.kept [] x.call.taken x.call.put x.call.fresh r.calling t i (inr (old, new, tries))
 
         -- a removal's exchange of a slot buries
-        bury_kind : kind_of_ask m ≡ Some kinds.Bury
-        bury_kind = ⊎_elim (λ h. absurd (h.0)) (λ h. h.1) (subst (λ (a : Ask). MayAsk RemoveIf (kind_of_ask m) a) tries (subst (λ (z : Task). MayAsk z (kind_of_ask m) (ask_of m)) r.task_is (asked_of_task m standing)))
+        its_own : (m.phase ≡ Calling) × (calls.ask_of m.call ≡ Ask_exchange (Slot t i) old new)
+        its_own = call_asks m (Ask_exchange (Slot t i) old new) tries
+
+        bury_kind : calls.kind_of_ask m.call ≡ Some kinds.Bury
+        bury_kind =
+            ⊎_elim (λ h. absurd (h.0)) (λ h. h.1) (subst (λ (a : Ask). MayAsk RemoveIf (calls.kind_of_ask m.call) a) its_own.1 (subst (λ (z : Task). MayAsk z (calls.kind_of_ask m.call) (calls.ask_of m.call)) r.task_is (asked_of_task m.call standing.call)))
 
         pub bury_can : CanExchange eq hash b (Slot t i) (kind_of_ask m) old new None names.Nothing log
-        bury_can = can_bury eq input build write finish classes respects b matches query lawful None (exchanges_of begun) log r.calling.lawful m (hands_with x.call.last []) (rests_of eq input build write finish classes respects b matches query lawful None name begun log m x.call.table x.call.last [] x.call.taken x.call.put r.calling) t i old new tries bury_kind
+        bury_can =
+            subst (λ (z : Option StepKind). CanExchange eq hash b (Slot t i) z old new None names.Nothing log) (sym (own_kind m its_own.0))
+            (can_bury eq input build write finish classes respects b matches query lawful None (exchanges_of begun) log r.calling.lawful m.call hands (call_rests eq input build write finish classes respects b matches query lawful None name begun log m x.call.table x.call.last x.call.kept [] x.call.taken x.call.put x.call.fresh r.calling) t i old new its_own.1 bury_kind)
 
         module _ (log' : List (Event K V S)) (pre : IsPrefix log log') (found : ℕ) (pair : Option (Stored K V)) (s : IsSlotTried eq hash b name t i (kind_of_ask m) old new None names.Nothing log found log' pair) where
           -- it was buried
           buried : (found == old) ≡ true → RemovingOn log' (record x { call = record x.call { taken = pair; put = None } }) f (Some Exchanged)
-          buried is = goes_on log' pre (record x.call { taken = pair; put = None }) Exchanged refl tt refl (subst IsSilent (sym tries) tt)
-              (exchanged eq input build write finish classes respects b matches query lawful None name begun log log' m x.call.table x.call.last [] x.call.taken x.call.put r.calling t i old new found None pair tries s (λ q none. absurd (cc none)) is)
+          buried is = goes_on log' pre (record x.call { taken = pair; put = None }) Exchanged refl tt (λ cause e. cc e) (Ask_exchange (Slot t i) old new) tries tt
+              (exchanged eq input build write finish classes respects b matches query lawful None name begun log log' m x.call.table x.call.last x.call.kept [] x.call.taken x.call.put x.call.fresh r.calling t i old new found None pair tries s (λ q none. absurd (cc none)) is)
 
           -- it was not
           not_buried : (found == old) ≡ false → RemovingOn log' (record x { call = record x.call { last = or_last pair x.call.last } }) f (Some (Found_instead found))
-          not_buried is = goes_on log' pre (record x.call { last = or_last pair x.call.last }) (Found_instead found) refl tt refl (subst IsSilent (sym tries) tt)
-              (lost eq input build write finish classes respects b matches query lawful None name begun log log' m x.call.table x.call.last [] x.call.taken x.call.put r.calling t i old new found None pair tries s is)
+          not_buried is = goes_on log' pre (record x.call { last = or_last pair x.call.last }) (Found_instead found) refl tt (λ cause e. cc e) (Ask_exchange (Slot t i) old new) tries tt
+              (lost eq input build write finish classes respects b matches query lawful None name begun log log' m x.call.table x.call.last x.call.kept [] x.call.taken x.call.put x.call.fresh r.calling t i old new found None pair tries s is)
 
           -- as the call holds it afterwards
           abbrev AfterBury : Bool → Driver K V S H → Answer → Type 0

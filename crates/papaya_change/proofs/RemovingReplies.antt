@@ -10,21 +10,26 @@ use Rattle.papaya_ask.specs.declared.call.Reply.{Reply}
 use Rattle.papaya_ask.specs.declared.call.Reply.TheVariants.{Absent, Found, Inserted, Replaced, Occupied, Removed, Kept, Aborted, Done as Reply_done, Refused}
 use Rattle.papaya_ask.specs.declared.call.Task.{Task}
 use Rattle.papaya_ask.specs.declared.call.Task.TheVariants.{RemoveIf}
-use Rattle.papaya_call.specs.declared.machine.Machine.{Machine}
-use Rattle.papaya_call.specs.Machine.{ask_of, started}
+use Rattle.papaya_chain.specs.declared.ask.Ask.TheVariants.{Call}
+use Rattle.papaya_chain.specs.declared.machine.Machine.{Machine}
+use Rattle.papaya_chain.specs.Machine.{ask_of, started}
+use Rattle.papaya_chain_rests.proofs.Names.{call_asks}
+use Rattle.papaya_words.specs.Mode.{IsChunked}
+use Rattle.papaya_rests.specs.Told.{Hands}
 use Rattle.papaya_rests.specs.Rests.{IsReply, change_in, change_of_reply}
 use Rattle.papaya_rests.specs.Says.{Agrees, Said, StandsOn, said_in, said_of_removal}
 use Rattle.papaya_rests.proofs.RestsHeld.{ended_in, machine_replies}
 use Rattle.papaya_book.specs.declared.rule.entry.Begun.{Begun}
 use Rattle.papaya_book.specs.declared.rule.entry.Event.{Event}
 use Rattle.papaya_change.specs.declared.removal.Removal.{Removal}
-use Rattle.papaya_change.specs.Changing.{HasChanged, hands_with}
+use Rattle.papaya_change.specs.Changing.{HasChanged}
 use Rattle.papaya_lookup.specs.History.{Change, changes_of, history_of, key_of}
 use Rattle.papaya_book.specs.Logs.{Member, Stored, exchanges_of}
 use Rattle.papaya_book.specs.Rule.{IsLawfulLog}
 use Rattle.papaya_change.specs.Removing.{IsRemoving}
 use Rattle.papaya_change.specs.RemovalAnswers.{IsJudged, IsRemovalBy, IsTaken}
 use Rattle.papaya_change.specs.Showings.{AreOf, WasHeld}
+use Rattle.papaya_change.specs.Writing.{IsMemoryOrCapacity}
 use Rattle.papaya_change.proofs.Changing.{begins as begins_calling, Coded, Wide}
 use Rattle.papaya_lookup.proofs.Histories.{changes-append, history_since}
 use Rattle.papaya_book.proofs.Logs.{prefix_trans}
@@ -55,20 +60,23 @@ module _ {K V S H F : Type 0} (eq : K → K → Bool) (input : K → List (List 
   abbrev m : Machine
   m = x.call.machine
 
+  abbrev hands : Hands (Stored K V)
+  hands = record { last = x.call.last; made = [] }
+
   -- what it has replied
-  replies : (reply : Reply) → ask_of m ≡ Done reply → IsReply (Wide eq input build write finish classes respects b matches query lawful None name begun log) (Coded eq input build write finish classes respects b matches query lawful None name begun) (exchanges_of begun) r.calling.since None (hands_with x.call.last []) RemoveIf reply × (change_in m.state ≡ change_of_reply reply)
+  replies : (reply : Reply) → ask_of m ≡ Call (Done reply) → IsReply (Wide eq input build write finish classes respects b matches query lawful None name begun log) (Coded eq input build write finish classes respects b matches query lawful None name begun) (exchanges_of begun) r.calling.since None hands RemoveIf reply × (change_in m.call.state ≡ change_of_reply reply)
   replies reply e =
       let g = Wide eq input build write finish classes respects b matches query lawful None name begun log in
       let c = Coded eq input build write finish classes respects b matches query lawful None name begun in
-      let all = machine_replies g c (exchanges_of begun) r.calling.since None (hands_with x.call.last []) m r.calling.rests reply e in
-      (subst (λ (t : Task). IsReply g c (exchanges_of begun) r.calling.since None (hands_with x.call.last []) t reply) r.task_is all.0, all.1)
+      let all = machine_replies g c (exchanges_of begun) r.calling.since None hands m.call r.calling.rests.call reply (call_asks m (Done reply) e).1 in
+      (subst (λ (t : Task). IsReply g c (exchanges_of begun) r.calling.since None hands t reply) r.task_is all.0, all.1)
 
   -- what its reply stands on
-  stands : (reply : Reply) (said : Said) → ask_of m ≡ Done reply → said_of_removal reply ≡ Some said → StandsOn m said
-  stands reply said e is = inl (ap (λ t. said_in t m.state) r.task_is ∙ (ap (said_in RemoveIf) (ended_in m.made m.hash m.state reply e) ∙ is))
+  stands : (reply : Reply) (said : Said) → ask_of m ≡ Call (Done reply) → said_of_removal reply ≡ Some said → StandsOn m.call said
+  stands reply said e is = inl (ap (λ t. said_in t m.call.state) r.task_is ∙ (ap (said_in RemoveIf) (ended_in m.call.made m.call.hash m.call.state reply (call_asks m (Done reply) e).1) ∙ is))
 
   -- what the closure said of the pair
-  pub was_said : (reply : Reply) (n : ℕ) (agrees : Bool) → ask_of m ≡ Done reply → said_of_removal reply ≡ Some (Agrees n agrees) → (p : Stored K V) × (x.shown ≡ Some p) × (p.index ≡ n) × Member (p, agrees) r.said
+  pub was_said : (reply : Reply) (n : ℕ) (agrees : Bool) → ask_of m ≡ Call (Done reply) → said_of_removal reply ≡ Some (Agrees n agrees) → (p : Stored K V) × (x.shown ≡ Some p) × (p.index ≡ n) × Member (p, agrees) r.said
   was_said reply n agrees e is = r.stood n agrees (stands reply (Agrees n agrees) e is)
 
   -- what it answers, whatever that is
@@ -76,26 +84,26 @@ module _ {K V S H F : Type 0} (eq : K → K → Bool) (input : K → List (List 
   answers answer judged = record { said = r.said; left = f; has_said = r.has_said; held = r.held; answered = judged }
 
   -- there was none
-  pub absent : ask_of m ≡ Done Absent → IsRemovalBy eq matches (history_of begun) (history_of log) judges first (Ok (Ok None))
+  pub absent : ask_of m ≡ Call (Done Absent) → IsRemovalBy eq matches (history_of begun) (history_of log) judges first (Ok (Ok None))
   absent e = answers (Ok (Ok None)) (held_then eq input build write finish classes respects b matches query lawful begun log r.calling.lawful r.calling.since r.calling.is None (replies Absent e).0)
 
-  -- were it refused, that would be its answer
-  pub refused : (cause : Cause) → ask_of m ≡ Done (Refused cause) → IsRemovalBy eq matches (history_of begun) (history_of log) judges first (Err cause)
-  refused cause e = answers (Err cause) (r.unrefused cause e)
+  -- it was refused while it helped to copy
+  pub refused : (cause : Cause) → ask_of m ≡ Call (Done (Refused cause)) → IsRemovalBy eq matches (history_of begun) (history_of log) judges first (Err cause)
+  refused cause e = answers (Err cause) (r.refuses cause e)
 
   -- the pair stays
-  pub kept : (n : ℕ) → ask_of m ≡ Done (Kept n) → (p : Stored K V) → x.shown ≡ Some p → (entry : Bor K × Bor V) → AreOf entry p → IsRemovalBy eq matches (history_of begun) (history_of log) judges first (Ok (Err entry))
+  pub kept : (n : ℕ) → ask_of m ≡ Call (Done (Kept n)) → (p : Stored K V) → x.shown ≡ Some p → (entry : Bor K × Bor V) → AreOf entry p → IsRemovalBy eq matches (history_of begun) (history_of log) judges first (Ok (Err entry))
   kept n e p has entry are =
       let s = was_said (Kept n) n false e refl in
       let one : s.0 ≡ p = cc (s.1, has) in
       answers (Ok (Err entry)) (p, subst (λ (z : Stored K V). Member (z, false) r.said) one s.3, are)
 
   -- a pair that stays was shown
-  pub kept_shown : (n : ℕ) → ask_of m ≡ Done (Kept n) → x.shown ≡ None → ⊥
+  pub kept_shown : (n : ℕ) → ask_of m ≡ Call (Done (Kept n)) → x.shown ≡ None → ⊥
   kept_shown n e is = let s = was_said (Kept n) n false e refl in let none = sym s.1 ∙ is in cc none
 
   -- it replies nothing else
-  replies_no_other : (reply : Reply) → IsNoRemoval reply → IsReply (Wide eq input build write finish classes respects b matches query lawful None name begun log) (Coded eq input build write finish classes respects b matches query lawful None name begun) (exchanges_of begun) r.calling.since None (hands_with x.call.last []) RemoveIf reply → ⊥
+  replies_no_other : (reply : Reply) → IsNoRemoval reply → IsReply (Wide eq input build write finish classes respects b matches query lawful None name begun log) (Coded eq input build write finish classes respects b matches query lawful None name begun) (exchanges_of begun) r.calling.since None hands RemoveIf reply → ⊥
   replies_no_other Absent never is = never
   replies_no_other (Found n) never is = is
   replies_no_other (Inserted n) never is = is
@@ -107,10 +115,10 @@ module _ {K V S H F : Type 0} (eq : K → K → Bool) (input : K → List (List 
   replies_no_other Reply_done never is = is
   replies_no_other (Refused cause) never is = never
 
-  pub no_other : (reply : Reply) → IsNoRemoval reply → ask_of m ≡ Done reply → ⊥
+  pub no_other : (reply : Reply) → IsNoRemoval reply → ask_of m ≡ Call (Done reply) → ⊥
   no_other reply never e = replies_no_other reply never (replies reply e).0
 
-  module _ (n : ℕ) (e : ask_of m ≡ Done (Removed n)) where
+  module _ (n : ℕ) (e : ask_of m ≡ Call (Done (Removed n))) where
     abbrev change : Option ℕ × Option ℕ
     change = (Some n, None)
 
@@ -184,8 +192,8 @@ module _ {K V : Type 0} (eq : K → K → Bool) (matches : K → Bool) (older ol
     answered = judged_since r.said answer r.answered;
   }
 
--- no removal was refused
-pub refused_removed : {K V F : Type 0} (eq : K → K → Bool) (matches : K → Bool) (old new : List (Change K (Stored K V))) (judges : F → Stored K V → Bool → F → Type 0) (first : F) (answer : Result (Result (Option (Bor K × Bor V)) (Bor K × Bor V)) Cause) → IsRemovalBy eq matches old new judges first answer → (cause : Cause) → answer ≡ Err cause → ⊥
+-- why a removal was refused
+pub refused_removed : {K V F : Type 0} (eq : K → K → Bool) (matches : K → Bool) (old new : List (Change K (Stored K V))) (judges : F → Stored K V → Bool → F → Type 0) (first : F) (answer : Result (Result (Option (Bor K × Bor V)) (Bor K × Bor V)) Cause) → IsRemovalBy eq matches old new judges first answer → (cause : Cause) → answer ≡ Err cause → IsMemoryOrCapacity cause
 refused_removed eq matches old new judges first answer r cause is = subst (IsJudged eq matches old new r.said) is r.answered
 
 module _ {K V F : Type 0} (eq : K → K → Bool) (matches : K → Bool) (old new : List (Change K (Stored K V))) (judges : F → Stored K V → Bool → F → Type 0) (first : F) (answer : Result (Result (Option (Bor K × Bor V)) (Bor K × Bor V)) Cause) (entry : Bor K × Bor V) (r : IsRemovalBy eq matches old new judges first answer) where
@@ -198,21 +206,22 @@ module _ {K V F : Type 0} (eq : K → K → Bool) (matches : K → Bool) (old ne
   none_stays always is = let h = subst (IsJudged eq matches old new r.said) is r.answered in let agreed : false ≡ true = said_only judges (λ a. a ≡ true) always first r.said r.left r.has_said h.0 false h.1 in cc agreed
 
 -- a removal that begins
-pub begins : {K V S H F : Type 0} (eq : K → K → Bool) (hash : S → K → ℕ) (b : Begun K V S) (name : Book) (matches : K → Bool) (fed : ℕ) (judges : F → Stored K V → Bool → F → Type 0) (first : F) (log : List (Event K V S)) (x : Removal K V S H) → IsLawfulLog eq hash b log
-    → x.call.machine ≡ started RemoveIf fed b.mode 0 → x.call.table ≡ None → x.call.last ≡ None → x.call.taken ≡ None → x.call.put ≡ None → x.shown ≡ None → IsRemoving eq hash b name matches fed judges first log log x first
-begins eq hash b name matches fed judges first log x l machine table last taken put shown = record {
-  calling = rw (machine, table, last, taken, put) (begins_calling eq hash b name matches fed None refl log l RemoveIf 0);
-  task_is = ap (λ (z : Machine). z.task) machine;
+pub begins : {K V S H F : Type 0} (eq : K → K → Bool) (hash : S → K → ℕ) (b : Begun K V S) (name : Book) (matches : K → Bool) (fed : ℕ) (judges : F → Stored K V → Bool → F → Type 0) (first : F) (log : List (Event K V S)) (x : Removal K V S H) → IsLawfulLog eq hash b log → IsChunked b.mode → (initial : ℕ)
+    → x.call.machine ≡ started RemoveIf fed b.mode initial → (x.call.table ≡ None) × (x.call.fresh ≡ None) → (x.call.last ≡ None) × (x.call.kept ≡ None) × (x.call.taken ≡ None) × (x.call.put ≡ None) → x.shown ≡ None → IsRemoving eq hash b name matches fed judges first log log x first
+begins eq hash b name matches fed judges first log x l chunked initial machine table pairs shown = record {
+  calling = rw (machine, table.0, table.1, pairs.0, pairs.1, pairs.2, pairs.3) (begins_calling eq hash b name matches fed None refl log l chunked RemoveIf initial);
+  task_is = ap (λ (z : Machine). z.call.task) machine;
   words = rw machine tt;
   shown_placed = rw shown tt;
   said = [];
   has_said = refl;
   held = tt;
-  stood = λ n agrees stands. absurd (nothing_said (subst (λ (z : Machine). StandsOn z (Agrees n agrees)) machine stands));
-  unrefused = λ cause e. let f = sym (ap ask_of machine) ∙ e in absurd (cc f);
+  stood = λ n agrees stands. absurd (nothing_said (subst (λ (z : Machine). StandsOn z.call (Agrees n agrees)) machine stands));
+  refuses = λ cause e. let f = sym (ap ask_of machine) ∙ e in absurd (cc f);
+  crowded = λ e. let f = sym (ap ask_of machine) ∙ e in absurd (cc f);
 }
   where
-    nothing_said : {n : ℕ} {agrees : Bool} → StandsOn (started RemoveIf fed b.mode 0) (Agrees n agrees) → ⊥
+    nothing_said : {n : ℕ} {agrees : Bool} → StandsOn (started RemoveIf fed b.mode initial).call (Agrees n agrees) → ⊥
     nothing_said (inl e) = cc e
     nothing_said (inr (inl e)) = cc e
     nothing_said (inr (inr e)) = cc e

@@ -1,5 +1,5 @@
 -- A call that inserts after its loads, its exchanges and its count.
-use Rattle.std.proofs.Common.{◌≡◌, inl, inr, ⊎_elim, ℕ, ◌==◌, Bool, true, false, MatchBool, MatchOption, Option, None, Some, List, [], length, refl, sym, ap, ◌∙◌, subst}
+use Rattle.std.proofs.Common.{◌≡◌, inr, ⊎_elim, ℕ, ◌==◌, Bool, true, false, MatchBool, MatchOption, Option, None, Some, List, [], length, refl, sym, ap, ◌∙◌, subst}
 use Rattle.std.proofs.lemmas.Bool.{cases_Bool}
 use Rattle.std.specs.Cmp.{IsEquivalence}
 use mathlib.Core.List.{IsPrefix}
@@ -14,52 +14,58 @@ use Rattle.papaya_ask.specs.declared.ask.Ask.{Ask}
 use Rattle.papaya_ask.specs.declared.ask.Ask.TheVariants.{Load, Exchange as Ask_exchange, SizeOf, AddToShard}
 use Rattle.papaya_ask.specs.declared.ask.Answer.{Answer}
 use Rattle.papaya_ask.specs.declared.ask.Answer.TheVariants.{Word as Word_read, Exchanged, Found as Found_instead, Size, Ok as Ok_done}
+use Rattle.papaya_ask.specs.declared.ask.StepKind.{StepKind}
 use Rattle.papaya_ask.specs.declared.ask.StepKind.TheVariants as kinds
-use Rattle.papaya_call.specs.declared.machine.Machine.{Machine}
+use Rattle.papaya_chain.specs.declared.ask.Ask.TheVariants.{Call}
+use Rattle.papaya_chain.specs.declared.ask.Ask.{Ask as Chain_ask}
+use Rattle.papaya_chain.specs.declared.machine.Machine.{Machine}
+use Rattle.papaya_chain.specs.declared.machine.Phase.TheVariants.{Calling}
+use Rattle.papaya_chain.specs.Machine.{IsStanding, ask_of, kind_of_ask, started}
+use Rattle.papaya_chain_rests.proofs.Names.{call_asks}
 use Rattle.papaya_rests.specs.Followed.{MayAsk}
 use Rattle.papaya_ask.specs.declared.call.Task.{Task}
-use Rattle.papaya_call.specs.Machine.{IsStanding, ask_of, kind_of_ask, started}
+use Rattle.papaya_call.specs.Machine as calls
 use Rattle.papaya_ask.specs.Search.{IsSize}
 use Rattle.papaya_rests.specs.Told.{IsOneOf, or_last}
-use Rattle.papaya_rests.proofs.Followed.{asked_of_task, opens_once}
+use Rattle.papaya_rests.proofs.Followed.{asked_of_task}
 use Rattle.papaya_book.specs.Sheets.{Sheet}
-use Rattle.papaya_lookup.specs.declared.driver.Driver.{Driver}
+use Rattle.papaya_change.specs.declared.driver.Driver.{Driver}
 use Rattle.papaya_book.specs.declared.rule.entry.Begun.{Begun}
 use Rattle.papaya_book.specs.declared.rule.entry.Event.{Event}
 use Rattle.papaya_book.specs.declared.rule.entry.Named.{Named}
 use Rattle.papaya_book.specs.declared.rule.entry.Named.TheVariants as names
 use Rattle.papaya_change.specs.declared.writing.Writer.{Writer}
 use Rattle.papaya_book.specs.Calls.{IsSlotTried, IsTable, IsTried}
-use Rattle.papaya_change.specs.Changing.{hands_with}
-use Rattle.papaya_lookup.specs.Driver.{IsLoaded}
-use Rattle.papaya_lookup.specs.Driver.{IsHeldAt}
+use Rattle.papaya_words.specs.Mode.{IsChunked}
+use Rattle.papaya_change.specs.Changing.{IsBringing, IsFresh}
+use Rattle.papaya_change.specs.Driver.{IsHeldAt, IsLoaded}
 use Rattle.papaya_book.specs.Hashes.{hash_of}
 use Rattle.papaya_book.specs.Logs.{Stored, exchanges_of, number_of, pair_named}
 use Rattle.papaya_book.specs.Makers.{IsMade}
 use Rattle.papaya_book.specs.Plays.{CanExchange, IsPutting}
 use Rattle.papaya_book.specs.Rule.{IsLawfulLog, IsPlaced}
-use Rattle.papaya_change.specs.Writing.{IsOpening, IsWriting}
-use Rattle.papaya_change.proofs.Changing.{begins as begins_calling, counted, load_table, loaded_lawful, loads, rests_of, size_table, sized, slot_table}
-use Rattle.papaya_lookup.proofs.Driving.{can_bury, can_put}
+use Rattle.papaya_change.specs.Writing.{IsWriting}
+use Rattle.papaya_change.proofs.Changing.{begins as begins_calling, call_hands, call_rests, counted, load_table, loaded_lawful, loads, size_table, sized, slot_table}
+use Rattle.papaya_change.proofs.OwnSteps.{own_kind}
+use Rattle.papaya_lookup.proofs.Driving.{IsResting, can_bury, can_put}
 use Rattle.papaya_change.proofs.Exchanging.{exchanged, lost}
 use Rattle.papaya_change.proofs.Opens.{beaten}
 use Rattle.papaya_change.proofs.Opens.{opened}
 use Rattle.papaya_lookup.proofs.Readings.{IsQuery}
-use Rattle.papaya_change.proofs.Written.{Writing, WritingOn, goes_on, own_query, unopened}
+use Rattle.papaya_change.proofs.Written.{Writing, WritingOn, goes_on, own_query}
 
 -- such a call that begins
-pub begins : {K V S H : Type 0} (eq : K → K → Bool) (hash : S → K → ℕ) (b : Begun K V S) (name : Book) (key : K) (log : List (Event K V S)) (w : Writer K V S H) → IsLawfulLog eq hash b log → (task : Task) (initial : ℕ) → w.call.machine ≡ started task (hash b.hasher key) b.mode initial
-    → w.call.table ≡ None → w.call.last ≡ None → w.call.taken ≡ None → w.call.put ≡ None → w.key ≡ Some key → w.brought ≡ None → IsWriting eq hash b name key [] log log w
-begins eq hash b name key log w l task initial machine table last taken put own brought = record {
-  calling = rw (machine, table, last, taken, put) (begins_calling eq hash b name (eq key) (hash b.hasher key) (Some key) refl log l task initial);
+pub begins : {K V S H : Type 0} (eq : K → K → Bool) (hash : S → K → ℕ) (b : Begun K V S) (name : Book) (key : K) (log : List (Event K V S)) (w : Writer K V S H) → IsLawfulLog eq hash b log → IsChunked b.mode → (task : Task) (initial : ℕ) → w.call.machine ≡ started task (hash b.hasher key) b.mode initial
+    → (w.call.table ≡ None) × (w.call.fresh ≡ None) → (w.call.last ≡ None) × (w.call.kept ≡ None) × (w.call.taken ≡ None) × (w.call.put ≡ None) → w.key ≡ Some key → w.brought ≡ None → IsWriting eq hash b name key [] log log w
+begins eq hash b name key log w l chunked task initial machine table pairs own brought = record {
+  calling = rw (machine, table.0, table.1, pairs.0, pairs.1, pairs.2, pairs.3) (begins_calling eq hash b name (eq key) (hash b.hasher key) (Some key) refl log l chunked task initial);
   keyed = record {
     own_is = λ k e. let f = sym own ∙ e in sym (cc f);
     brought_is = λ p e. let f = sym brought ∙ e in absurd (cc f);
     brought_placed = rw brought tt;
     some = λ e. let f = sym own ∙ e in absurd (cc f);
   };
-  put_placed = rw put tt;
-  opens = λ n e. let f = sym (ap ask_of machine) ∙ e in absurd (cc f);
+  put_placed = rw pairs.3 tt;
 }
 
 module _ {K V S H : Type 0} (eq : K → K → Bool) (input : K → List (List ℕ)) (build : S → H) (write : H → List ℕ → H) (finish : H → ℕ) (classes : IsEquivalence eq) (respects : (x y : K) → eq x y ≡ true → input x ≡ input y)
@@ -78,89 +84,100 @@ module _ {K V S H : Type 0} (eq : K → K → Bool) (input : K → List (List �
     m = w.call.machine
 
     module _ (standing : IsStanding m) where
-      -- what the machine may ask
-      may_ask : (ask : Ask) → ask_of m ≡ ask → MayAsk m.task (kind_of_ask m) ask
-      may_ask ask asks = subst (λ (a : Ask). MayAsk m.task (kind_of_ask m) a) asks (asked_of_task m standing)
+      -- what its call may ask
+      may_ask : (ask : Ask) → ask_of m ≡ Call ask → MayAsk m.call.task (calls.kind_of_ask m.call) ask
+      may_ask ask asks = subst (λ (a : Ask). MayAsk m.call.task (calls.kind_of_ask m.call) a) (call_asks m ask asks).1 (asked_of_task m.call standing.call)
 
       -- the word at a place may be loaded
-      pub load_held : (at : At) → ask_of m ≡ Load at → IsHeldAt at log w.call.table
-      load_held at asks = load_table eq input build write finish classes respects b (eq key) (input key) query (Some key) name begun log m w.call.table w.call.last made w.call.taken w.call.put r.calling at asks (may_ask (Load at) asks)
+      pub load_held : (at : At) → ask_of m ≡ Call (Load at) → IsHeldAt at log w.call.table
+      load_held at asks = load_table eq input build write finish classes respects b (eq key) (input key) query (Some key) name begun log m w.call.table w.call.last w.call.kept made w.call.taken w.call.put w.call.fresh r.calling at asks (may_ask (Load at) asks)
 
       -- a root is opened where there is none
-      module _ (old new : ℕ) (asks : ask_of m ≡ Ask_exchange Root old new) where
+      module _ (old new : ℕ) (asks : ask_of m ≡ Call (Ask_exchange Root old new)) where
         abbrev kind_open : kind_of_ask m ≡ Some kinds.Open
-        kind_open = (may_ask (Ask_exchange Root old new) asks).1
+        kind_open = own_kind m (call_asks m (Ask_exchange Root old new) asks).0 ∙ (may_ask (Ask_exchange Root old new) asks).1
 
-        abbrev asks_zero : ask_of m ≡ Ask_exchange Root 0 new
-        asks_zero = asks ∙ ap (λ (n : ℕ). Ask_exchange Root n new) (may_ask (Ask_exchange Root old new) asks).2
+        abbrev asks_zero : ask_of m ≡ Call (Ask_exchange Root 0 new)
+        asks_zero = asks ∙ ap (λ (n : ℕ). Call (Ask_exchange Root n new)) (may_ask (Ask_exchange Root old new) asks).2
 
         -- the table that is to be opened is at hand
-        pub opening : IsOpening b name log new w.opening
-        opening = r.opens new asks_zero
+        pub opening : IsFresh b name log new w.call.fresh
+        opening = r.calling.brings new (subst (λ (a : Chain_ask). IsBringing a new) (sym asks_zero) (refl, refl))
 
         -- what is at hand is that table, with its seal
-        pub opening_of : (t : Where Sheet) (seal : Pen) → w.opening ≡ Some (t, seal) → (number_of t ≡ new) × IsMade t.value log × IsPlaced b (Some name) (names.Table t) × (seal.book ≡ name) × (seal.nib ≡ nib may_write t.value.seal 0)
+        pub opening_of : (t : Where Sheet) (seal : Pen) → w.call.fresh ≡ Some (t, seal) → (number_of t ≡ new) × IsMade t.value log × IsPlaced b (Some name) (names.Table t) × (seal.book ≡ name) × (seal.nib ≡ nib may_write t.value.seal 0)
         opening_of t seal e =
             let both = sym opening.is ∙ e in
             let two : ◌≡◌ {A = Where Sheet × Pen} (opening.table, opening.seal) (t, seal) = cc both in
             subst (λ (z : Where Sheet × Pen). (number_of z.0 ≡ new) × IsMade z.0.value log × IsPlaced b (Some name) (names.Table z.0) × (z.1.book ≡ name) × (z.1.nib ≡ nib may_write z.0.value.seal 0)) two (opening.number_is, opening.made, opening.placed, opening.seal_book, opening.seal_nib)
 
-        module _ (log' : List (Event K V S)) (found : ℕ) (t : Where Sheet) (state : Option (Named K V)) (lent : Bor Sheet) (opening' : Option (Where Sheet × Pen)) (tried : IsTried eq hash b Root (Some kinds.Open) 0 new None (names.Table t) log found log' state) where
+        module _ (log' : List (Event K V S)) (found : ℕ) (t : Where Sheet) (state : Option (Named K V)) (lent : Bor Sheet) (fresh' : Option (Where Sheet × Pen)) (tried : IsTried eq hash b Root (Some kinds.Open) 0 new None (names.Table t) log found log' state) where
+          abbrev w' : Writer K V S H
+          w' = record w { call = record w.call { table = Some lent; fresh = fresh' } }
+
           -- it was opened
-          pub opened_here : (found == 0) ≡ true → IsTable log' new lent.now → On log' (record w { call = record w.call { table = Some lent }; opening = opening' }) Exchanged
+          pub opened_here : (found == 0) ≡ true → IsTable log' new lent.now → On log' w' Exchanged
           opened_here is holds =
-              goes_on eq input build write finish classes respects b name key made begun log w r made log' (record w { call = record w.call { table = Some lent }; opening = opening' }) Exchanged r.keyed tt
-              (opened eq input build write finish classes respects b (eq key) (input key) query (Some key) name begun log log' m w.call.table w.call.last made w.call.taken w.call.put r.calling new found t state asks_zero kind_open tried lent is holds)
-              r.put_placed (λ n e. absurd (opens_once m Exchanged new n asks_zero (inl refl) e))
+              goes_on eq input build write finish classes respects b name key made begun log w r made log' w' Exchanged r.keyed tt
+              (opened eq input build write finish classes respects b (eq key) (input key) query (Some key) name begun log log' m w.call.table w.call.last w.call.kept made w.call.taken w.call.put w.call.fresh fresh' r.calling new found t state asks_zero kind_open tried lent is holds)
+              r.put_placed
 
           -- another one was
-          pub opened_there : (found == 0) ≡ false → IsTable log' found lent.now → On log' (record w { call = record w.call { table = Some lent }; opening = opening' }) (Found_instead found)
+          pub opened_there : (found == 0) ≡ false → IsTable log' found lent.now → On log' w' (Found_instead found)
           opened_there is holds =
-              goes_on eq input build write finish classes respects b name key made begun log w r made log' (record w { call = record w.call { table = Some lent }; opening = opening' }) (Found_instead found) r.keyed tt
-              (beaten eq input build write finish classes respects b (eq key) (input key) query (Some key) name begun log log' m w.call.table w.call.last made w.call.taken w.call.put r.calling new found t state asks_zero kind_open tried lent is holds)
-              r.put_placed (λ n e. absurd (opens_once m (Found_instead found) new n asks_zero (inr (found, refl)) e))
+              goes_on eq input build write finish classes respects b name key made begun log w r made log' w' (Found_instead found) r.keyed tt
+              (beaten eq input build write finish classes respects b (eq key) (input key) query (Some key) name begun log log' m w.call.table w.call.last w.call.kept made w.call.taken w.call.put w.call.fresh fresh' r.calling new found t state asks_zero kind_open tried lent is holds)
+              r.put_placed
 
     -- a place was loaded
-    pub loaded_on : (log' : List (Event K V S)) → IsPrefix log log' → (at : At) (word : ℕ) (c : Driver K V S H) → c.machine ≡ m → c.taken ≡ w.call.taken → c.put ≡ w.call.put → ask_of m ≡ Load at → IsLoaded eq hash b name at word log' w.call.table c.table w.call.last c.last → On log' (record w { call = c }) (Word_read word)
-    loaded_on log' pre at word c machine taken put asks is =
-        let calling = loads eq input build write finish classes respects b (eq key) (input key) query (Some key) name begun log log' pre (loaded_lawful eq hash b name log' at word w.call.table c.table w.call.last c.last is) m w.call.table w.call.last made w.call.taken w.call.put r.calling at word c.table c.last asks is in
-        let same : record w.call { table = c.table; last = c.last } ≡ c = λ i. record { machine = sym machine i; table = c.table; last = c.last; taken = sym taken i; put = sym put i } in
-        subst (λ (z : Driver K V S H). On log' (record w { call = z }) (Word_read word)) same
-        (goes_on eq input build write finish classes respects b name key made begun log w r made log' (record w { call = record w.call { table = c.table; last = c.last } }) (Word_read word) r.keyed tt calling
-        r.put_placed (unopened eq input build write finish classes respects b name key made begun log w r log' (Word_read word) w.opening (λ n h. let f = sym asks ∙ h in cc f) (λ s l h. let f = sym asks ∙ h in cc f)))
+    pub loaded_on : (log' : List (Event K V S)) → IsPrefix log log' → (at : At) (word : ℕ) (c : Driver K V S H) → c ≡ record w.call { table = c.table; last = c.last } → ask_of m ≡ Call (Load at) → IsLoaded eq hash b name at word log' w.call.table c.table w.call.last c.last → On log' (record w { call = c }) (Word_read word)
+    loaded_on log' pre at word c rest asks is =
+        let calling = loads eq input build write finish classes respects b (eq key) (input key) query (Some key) name begun log log' pre (loaded_lawful eq hash b name log' at word w.call.table c.table w.call.last c.last is) m w.call.table w.call.last w.call.kept made w.call.taken w.call.put w.call.fresh r.calling at word c.table c.last asks is in
+        subst (λ (z : Driver K V S H). On log' (record w { call = z }) (Word_read word)) (sym rest)
+        (goes_on eq input build write finish classes respects b name key made begun log w r made log' (record w { call = record w.call { table = c.table; last = c.last } }) (Word_read word) r.keyed tt calling r.put_placed)
 
     -- a table whose size is asked for is held
-    pub size_held : (t : ℕ) → ask_of m ≡ SizeOf t → w.call.table ≡ None → ⊥
-    size_held t asks none = subst (λ (o : Option (Bor Sheet)). MatchOption o ⊥ (λ z. IsTable log t z.now)) none (size_table eq input build write finish classes respects b (eq key) (input key) query (Some key) name begun log m w.call.table w.call.last made w.call.taken w.call.put r.calling t asks)
+    pub size_held : (t : ℕ) → ask_of m ≡ Call (SizeOf t) → w.call.table ≡ None → ⊥
+    size_held t asks none = subst (λ (o : Option (Bor Sheet)). MatchOption o ⊥ (λ z. IsTable log t z.now)) none (size_table eq input build write finish classes respects b (eq key) (input key) query (Some key) name begun log m w.call.table w.call.last w.call.kept made w.call.taken w.call.put w.call.fresh r.calling t asks)
 
     -- its size was told
-    pub sized_on : (t : ℕ) (lent : Bor Sheet) → w.call.table ≡ Some lent → (slots limit : ℕ) → slots ≡ length lent.now.slots → limit ≡ lent.now.limit → IsSize slots limit → ask_of m ≡ SizeOf t → On log w (Size slots limit)
+    pub sized_on : (t : ℕ) (lent : Bor Sheet) → w.call.table ≡ Some lent → (slots limit : ℕ) → slots ≡ length lent.now.slots → limit ≡ lent.now.limit → IsSize slots limit → ask_of m ≡ Call (SizeOf t) → On log w (Size slots limit)
     sized_on t lent has slots limit slots_is limit_is size asks =
         goes_on eq input build write finish classes respects b name key made begun log w r made log w (Size slots limit) r.keyed size
-        (sized eq input build write finish classes respects b (eq key) (input key) query (Some key) name begun log m w.call.table w.call.last made w.call.taken w.call.put r.calling t lent has slots limit slots_is limit_is asks)
-        r.put_placed (unopened eq input build write finish classes respects b name key made begun log w r log (Size slots limit) w.opening (λ n h. let f = sym asks ∙ h in cc f) (λ s l h. let f = sym asks ∙ h in cc f))
+        (sized eq input build write finish classes respects b (eq key) (input key) query (Some key) name begun log m w.call.table w.call.last w.call.kept made w.call.taken w.call.put w.call.fresh r.calling t lent has slots limit slots_is limit_is asks)
+        r.put_placed
 
     -- the change was counted
-    pub counted_on : (by : _) → ask_of m ≡ AddToShard by → On log w Ok_done
+    pub counted_on : (by : _) → ask_of m ≡ Call (AddToShard by) → On log w Ok_done
     counted_on by asks =
         goes_on eq input build write finish classes respects b name key made begun log w r made log w Ok_done r.keyed tt
-        (counted eq input build write finish classes respects b (eq key) (input key) query (Some key) name begun log m w.call.table w.call.last made w.call.taken w.call.put r.calling by asks)
-        r.put_placed (unopened eq input build write finish classes respects b name key made begun log w r log Ok_done w.opening (λ n h. let f = sym asks ∙ h in cc f) (λ s l h. let f = sym asks ∙ h in cc f))
+        (counted eq input build write finish classes respects b (eq key) (input key) query (Some key) name begun log m w.call.table w.call.last w.call.kept made w.call.taken w.call.put w.call.fresh r.calling by asks)
+        r.put_placed
 
-    module _ (t i old new : ℕ) (asks : ask_of m ≡ Ask_exchange (Slot t i) old new) where
+    module _ (t i old new : ℕ) (asks : ask_of m ≡ Call (Ask_exchange (Slot t i) old new)) where
       -- the slot is one of the table that is held
       pub slot_held : IsHeldAt (Slot t i) log w.call.table
-      slot_held = slot_table eq input build write finish classes respects b (eq key) (input key) query (Some key) name begun log m w.call.table w.call.last made w.call.taken w.call.put r.calling t i (inr (old, new, asks))
+      slot_held = slot_table eq input build write finish classes respects b (eq key) (input key) query (Some key) name begun log m w.call.table w.call.last w.call.kept made w.call.taken w.call.put w.call.fresh r.calling t i (inr (old, new, asks))
+
+      abbrev its_own : (m.phase ≡ Calling) × (calls.ask_of m.call ≡ Ask_exchange (Slot t i) old new)
+      its_own = call_asks m (Ask_exchange (Slot t i) old new) asks
+
+      abbrev resting : IsResting eq input build write finish classes respects b (eq key) (input key) query (Some key) (exchanges_of begun) log m.call (call_hands eq input build write finish classes respects b (eq key) (input key) query (Some key) name begun w.call.last made)
+      resting = call_rests eq input build write finish classes respects b (eq key) (input key) query (Some key) name begun log m w.call.table w.call.last w.call.kept made w.call.taken w.call.put w.call.fresh r.calling
 
       -- a pair that was made may be put in, where one of its number was asked for
       pub put_can : IsPutting (kind_of_ask m) → (q : Stored K V) → IsOneOf made q → pair_of new ≡ q.index → CanExchange eq hash b (Slot t i) (kind_of_ask m) old new (Some q) (names.Pair q) log
       put_can kind q one number =
-          can_put eq input build write finish classes respects b (eq key) (input key) query (Some key) (exchanges_of begun) log r.calling.lawful m (hands_with w.call.last made) (rests_of eq input build write finish classes respects b (eq key) (input key) query (Some key) name begun log m w.call.table w.call.last made w.call.taken w.call.put r.calling) t i old new asks kind q one number
+          let same = own_kind m its_own.0 in
+          subst (λ (z : Option StepKind). CanExchange eq hash b (Slot t i) z old new (Some q) (names.Pair q) log) (sym same)
+          (can_put eq input build write finish classes respects b (eq key) (input key) query (Some key) (exchanges_of begun) log r.calling.lawful m.call (call_hands eq input build write finish classes respects b (eq key) (input key) query (Some key) name begun w.call.last made) resting t i old new its_own.1 (subst IsPutting same kind) q one number)
 
       -- and a pair may be buried
       pub bury_can : kind_of_ask m ≡ Some kinds.Bury → CanExchange eq hash b (Slot t i) (kind_of_ask m) old new None names.Nothing log
       bury_can kind =
-          can_bury eq input build write finish classes respects b (eq key) (input key) query (Some key) (exchanges_of begun) log r.calling.lawful m (hands_with w.call.last made) (rests_of eq input build write finish classes respects b (eq key) (input key) query (Some key) name begun log m w.call.table w.call.last made w.call.taken w.call.put r.calling) t i old new asks kind
+          let same = own_kind m its_own.0 in
+          subst (λ (z : Option StepKind). CanExchange eq hash b (Slot t i) z old new None names.Nothing log) (sym same)
+          (can_bury eq input build write finish classes respects b (eq key) (input key) query (Some key) (exchanges_of begun) log r.calling.lawful m.call (call_hands eq input build write finish classes respects b (eq key) (input key) query (Some key) name begun w.call.last made) resting t i old new its_own.1 (sym same ∙ kind))
 
       -- what is put in is one of the pairs that were made, or none
       put_is_placed : (put : Option (Stored K V)) → ((q : Stored K V) → put ≡ Some q → IsOneOf made q) → IsPlaced b (Some name) (pair_named put)
@@ -173,15 +190,15 @@ module _ {K V S H : Type 0} (eq : K → K → Bool) (input : K → List (List �
         slot_changed : (found == old) ≡ true → On log' (record w { call = record w.call { taken = pair; put = put } }) Exchanged
         slot_changed is =
             goes_on eq input build write finish classes respects b name key made begun log w r made log' (record w { call = record w.call { taken = pair; put = put } }) Exchanged r.keyed tt
-            (exchanged eq input build write finish classes respects b (eq key) (input key) query (Some key) name begun log log' m w.call.table w.call.last made w.call.taken w.call.put r.calling t i old new found put pair asks s own is)
-            (put_is_placed put own) (unopened eq input build write finish classes respects b name key made begun log w r log' Exchanged w.opening (λ n h. let f = sym asks ∙ h in cc f) (λ z l h. let f = sym asks ∙ h in cc f))
+            (exchanged eq input build write finish classes respects b (eq key) (input key) query (Some key) name begun log log' m w.call.table w.call.last w.call.kept made w.call.taken w.call.put w.call.fresh r.calling t i old new found put pair asks s own is)
+            (put_is_placed put own)
 
         -- it was not
         slot_lost : (found == old) ≡ false → On log' (record w { call = record w.call { last = or_last pair w.call.last } }) (Found_instead found)
         slot_lost is =
             goes_on eq input build write finish classes respects b name key made begun log w r made log' (record w { call = record w.call { last = or_last pair w.call.last } }) (Found_instead found) r.keyed tt
-            (lost eq input build write finish classes respects b (eq key) (input key) query (Some key) name begun log log' m w.call.table w.call.last made w.call.taken w.call.put r.calling t i old new found put pair asks s is)
-            r.put_placed (unopened eq input build write finish classes respects b name key made begun log w r log' (Found_instead found) w.opening (λ n h. let f = sym asks ∙ h in cc f) (λ z l h. let f = sym asks ∙ h in cc f))
+            (lost eq input build write finish classes respects b (eq key) (input key) query (Some key) name begun log log' m w.call.table w.call.last w.call.kept made w.call.taken w.call.put w.call.fresh r.calling t i old new found put pair asks s is)
+            r.put_placed
 
         -- as the call holds it afterwards
         abbrev AfterTried : Bool → Driver K V S H → Answer → Type 0

@@ -1,46 +1,41 @@
 -- After each answer a call that inserts rests again, by its key and with the pairs that it has made.
-use Rattle.std.proofs.Common.{◌≡◌, ◌⊎◌, inl, inr, ⊎_elim, ℕ, ◌<◌, ◌^◌, Bool, true, Option, None, Some, List, [], ◌∷◌, append-nil, refl, sym, ap, ◌∙◌, subst, arith}
+use Rattle.std.proofs.Common.{◌≡◌, ◌⊎◌, inl, inr, ⊎_elim, ℕ, ◌<◌, ◌^◌, Bool, true, Option, Some, List, [], ◌∷◌, append-nil, refl, sym, ap, ◌∙◌, subst, arith}
 use Rattle.std.specs.Cmp.{IsEquivalence}
 use mathlib.Core.List.{IsPrefix}
 use Rattle.boxcar.specs.Table.{Where}
 use Rattle.logbook.specs.Pages.{Book, nib, may_write}
 use Rattle.logbook.specs.declared.tokens.Pen.{Pen}
 use Rattle.papaya_words.specs.declared.probe.Refused.{Refused}
-use Rattle.papaya_ask.specs.declared.ask.At.TheVariants.{Root}
-use Rattle.papaya_ask.specs.declared.ask.Ask.TheVariants.{Exchange as Ask_exchange, SameKey, MakeKey, MakePair, MakeTable}
+use Rattle.papaya_ask.specs.declared.ask.Ask.TheVariants.{SameKey, MakeKey, MakePair, MakeTable}
 use Rattle.papaya_ask.specs.declared.ask.Answer.{Answer}
 use Rattle.papaya_ask.specs.declared.ask.Answer.TheVariants.{Word as Word_read, Exchanged, Found as Found_instead, Yes, Op, Size, Made as Made_number, Ok as Ok_done, Refused as Was_refused}
-use Rattle.papaya_call.specs.declared.machine.Machine.{Machine}
-use Rattle.papaya_call.specs.Machine.{IsFit, after, ask_of}
-use Rattle.papaya_rests.proofs.RestsOpened.{machine_opened}
+use Rattle.papaya_call.specs.Machine.{IsFit}
+use Rattle.papaya_chain.specs.declared.ask.Answer.TheVariants as answers
+use Rattle.papaya_chain.specs.declared.ask.Ask.TheVariants.{Call}
+use Rattle.papaya_chain.specs.declared.machine.Machine.{Machine}
+use Rattle.papaya_chain.specs.Machine.{after, ask_of}
+use Rattle.papaya_chain_rests.proofs.Names.{call_asks}
 use Rattle.papaya_book.specs.Sheets.{Sheet}
 use Rattle.papaya_book.specs.declared.rule.entry.Begun.{Begun}
 use Rattle.papaya_book.specs.declared.rule.entry.Event.{Event}
 use Rattle.papaya_book.specs.declared.rule.entry.Named.TheVariants as names
 use Rattle.papaya_book.specs.declared.rule.own.Given.{Given}
 use Rattle.papaya_change.specs.declared.writing.Writer.{Writer}
-use Rattle.papaya_change.specs.Changing.{IsCalling}
+use Rattle.papaya_change.specs.Changing.{IsBringing, IsDriven, IsFresh}
 use Rattle.papaya_book.specs.Hashes.{hash_of}
 use Rattle.papaya_lookup.specs.History.{key_of}
 use Rattle.papaya_book.specs.Logs.{Stored, number_of, pair_named}
 use Rattle.papaya_book.specs.Makers.{IsMade}
 use Rattle.papaya_book.specs.Rule.{IsLawfulLog, IsPlaced}
-use Rattle.papaya_change.specs.Writing.{HasKey, IsOpening, IsWriting, IsWritingOn}
-use Rattle.papaya_change.proofs.Changing.{compared, held_later, quiet}
+use Rattle.papaya_change.specs.Writing.{HasKey, IsWriting, IsWritingOn}
+use Rattle.papaya_change.proofs.Changing.{barren, compared, held_later, quiet}
+use Rattle.papaya_change.proofs.OwnSteps.{own_brings}
 use Rattle.papaya_lookup.proofs.Readings.{IsQuery}
 
 -- what a call rests on doesn't depend on what it was given
 module _ {K V S H : Type 0} (eq : K → K → Bool) (hash : S → K → ℕ) (b : Begun K V S) (name : Book) (key : K) (made : List (Stored K V)) (begun log : List (Event K V S)) (w : Writer K V S H) (given : Rattle.papaya_book.specs.declared.rule.own.Own.Own Given) where
-  pub with_given : (answer : Answer) → IsWritingOn eq hash b name key made begun log w answer → IsWritingOn eq hash b name key made begun log (record w { given = given }) answer
-  with_given answer on = (
-    record {
-      calling = on.0.calling;
-      keyed = on.0.keyed;
-      put_placed = on.0.put_placed;
-      opens = on.0.opens;
-    },
-    on.1,
-  )
+  pub with_given : (answer : Answer) → IsWritingOn eq hash b name key made begun log w answer → IsWritingOn eq hash b name key made begun log (record w { call = record w.call { given = given } }) answer
+  with_given answer on = (record { calling = on.0.calling; keyed = on.0.keyed; put_placed = on.0.put_placed }, on.1)
 
 -- an answer to an ask for something made
 abbrev pub IsPlainAnswer : Answer → Type 0
@@ -95,80 +90,83 @@ module _ {K V S H : Type 0} (eq : K → K → Bool) (input : K → List (List �
       abbrev m : Machine
       m = w.call.machine
 
-      -- nothing is opened after an answer, unless a table was made or was to be opened
-      pub unopened : (log' : List (Event K V S)) (answer : Answer) (opening : Option (Where Sheet × Pen)) → ((n : ℕ) → ask_of m ≡ Ask_exchange Root 0 n → ⊥) → ((slots limit : ℕ) → ask_of m ≡ MakeTable slots limit → ⊥)
-          → (n : ℕ) → ask_of (after m answer) ≡ Ask_exchange Root 0 n → IsOpening b name log' n opening
-      unopened log' answer opening opens makes n e = ⊎_elim (λ h. absurd (makes h.1.0 h.1.1 h.1.2)) (λ h. absurd (opens n h)) (machine_opened m n answer e)
-
-      -- nothing was made for the key
-      pub key_made : (answer : Answer) → ask_of m ≡ MakeKey → IsPlainAnswer answer → WritingOn log w answer
-      key_made answer asks plain = (
-        record {
-          calling = quiet eq input build write finish classes respects b (eq key) (input key) own_query (Some key) name begun log log ([], append-nil log) r.calling.lawful m w.call.table w.call.last made w.call.taken w.call.put r.calling
-              MakeKey asks answer w.call.last made w.call.table r.calling.number (record { told = (make_answer answer plain, (refl, refl)); number_is = refl; same = refl; busy = λ z. z }) r.calling.holds_table r.calling.last_placed r.calling.made_placed;
-          keyed = r.keyed;
-          put_placed = r.put_placed;
-          opens = unopened log answer w.opening (λ n h. let f = sym asks ∙ h in cc f) (λ s l h. let f = sym asks ∙ h in cc f);
-        },
-        plain_fit answer plain,
-      )
+      abbrev IsGoing : List (Event K V S) → List (Stored K V) → Writer K V S H → Type 0
+      IsGoing log' made' w' = IsDriven eq hash b name (eq key) (hash b.hasher key) (Some key) begun log' made' w'.call
 
       -- it goes on with the key that it has
-      pub goes_on : (made' : List (Stored K V)) (log' : List (Event K V S)) (w' : Writer K V S H) (answer : Answer) → HasKey b name key w'.key w'.brought → IsFit answer → IsCalling eq hash b name (eq key) (hash b.hasher key) (Some key) begun log' (after w'.call.machine answer) w'.call.table w'.call.last made' w'.call.taken w'.call.put
-          → IsPlaced b (Some name) (pair_named w'.call.put) → ((n : ℕ) → ask_of (after w'.call.machine answer) ≡ Ask_exchange Root 0 n → IsOpening b name log' n w'.opening) → IsWritingOn eq hash b name key made' begun log' w' answer
-      goes_on made' log' w' answer keyed fit calling placed opens = (
-        record {
-          calling = calling;
-          keyed = keyed;
-          put_placed = placed;
-          opens = opens;
-        },
-        fit,
-      )
+      pub goes_on : (made' : List (Stored K V)) (log' : List (Event K V S)) (w' : Writer K V S H) (answer : Answer) → HasKey b name key w'.key w'.brought → IsFit answer
+          → IsGoing log' made' (record w' { call = record w'.call { machine = after w'.call.machine (answers.Call answer) } }) → IsPlaced b (Some name) (pair_named w'.call.put) → IsWritingOn eq hash b name key made' begun log' w' answer
+      goes_on made' log' w' answer keyed fit calling placed = (record { calling = calling; keyed = keyed; put_placed = placed }, fit)
+
+      -- nothing was made for the key
+      pub key_made : (answer : Answer) → ask_of m ≡ Call MakeKey → IsPlainAnswer answer → WritingOn log w answer
+      key_made answer asks plain =
+          goes_on made log w answer r.keyed (plain_fit answer plain)
+          (quiet eq input build write finish classes respects b (eq key) (input key) own_query (Some key) name begun log log ([], append-nil log) r.calling.lawful m w.call.table w.call.last w.call.kept made w.call.taken w.call.put w.call.fresh r.calling
+          MakeKey asks answer w.call.last made w.call.table w.call.fresh
+          (record {
+            told = (make_answer answer plain, (refl, refl));
+            same = refl;
+            busy = λ z. z;
+            brings = barren eq input build write finish classes respects b (eq key) (input key) own_query (Some key) name begun log log ([], append-nil log) r.calling.lawful m w.call.table w.call.last w.call.kept made w.call.taken w.call.put w.call.fresh r.calling MakeKey asks tt answer w.call.fresh;
+          }) r.calling.holds_table r.calling.last_placed r.calling.made_placed)
+          r.put_placed
 
       -- the pair was not logged
-      pub pair_unmade : (left : Option V) (own : Option K) (brought : Option (Stored K V)) (answer : Answer) → HasKey b name key own brought → ask_of m ≡ MakePair → ((refused : Refused) × (answer ≡ Was_refused refused)) ⊎ (answer ≡ Ok_done) → IsPlainAnswer answer → WritingOn log (record w { value = left; key = own; brought = brought }) answer
+      pub pair_unmade : (left : Option V) (own : Option K) (brought : Option (Stored K V)) (answer : Answer) → HasKey b name key own brought → ask_of m ≡ Call MakePair → ((refused : Refused) × (answer ≡ Was_refused refused)) ⊎ (answer ≡ Ok_done) → IsPlainAnswer answer → WritingOn log (record w { value = left; key = own; brought = brought }) answer
       pair_unmade left own brought answer keyed asks unmade plain =
           goes_on made log (record w { value = left; key = own; brought = brought }) answer keyed (plain_fit answer plain)
-          (quiet eq input build write finish classes respects b (eq key) (input key) own_query (Some key) name begun log log ([], append-nil log) r.calling.lawful m w.call.table w.call.last made w.call.taken w.call.put r.calling
-          MakePair asks answer w.call.last made w.call.table r.calling.number (record { told = inl (unmade, (refl, refl)); number_is = refl; same = refl; busy = λ z. z }) r.calling.holds_table r.calling.last_placed r.calling.made_placed)
-          r.put_placed (unopened log answer w.opening (λ n h. let f = sym asks ∙ h in cc f) (λ s l h. let f = sym asks ∙ h in cc f))
+          (quiet eq input build write finish classes respects b (eq key) (input key) own_query (Some key) name begun log log ([], append-nil log) r.calling.lawful m w.call.table w.call.last w.call.kept made w.call.taken w.call.put w.call.fresh r.calling
+          MakePair asks answer w.call.last made w.call.table w.call.fresh
+          (record {
+            told = inl (unmade, (refl, refl));
+            same = refl;
+            busy = λ z. z;
+            brings = barren eq input build write finish classes respects b (eq key) (input key) own_query (Some key) name begun log log ([], append-nil log) r.calling.lawful m w.call.table w.call.last w.call.kept made w.call.taken w.call.put w.call.fresh r.calling MakePair asks tt answer w.call.fresh;
+          }) r.calling.holds_table r.calling.last_placed r.calling.made_placed)
+          r.put_placed
 
       -- the pair was logged
-      pub pair_made : (q : Stored K V) (left : Option V) (own : Option K) (brought : Option (Stored K V)) → HasKey b name key own brought → ask_of m ≡ MakePair → q.index < 2 ^ 48 → key_of q ≡ key → IsPlaced b (Some name) (names.Pair q) → IsWritingOn eq hash b name key (q ∷ made) begun log (record w { value = left; key = own; brought = brought }) (Made_number q.index)
+      pub pair_made : (q : Stored K V) (left : Option V) (own : Option K) (brought : Option (Stored K V)) → HasKey b name key own brought → ask_of m ≡ Call MakePair → q.index < 2 ^ 48 → key_of q ≡ key → IsPlaced b (Some name) (names.Pair q) → IsWritingOn eq hash b name key (q ∷ made) begun log (record w { value = left; key = own; brought = brought }) (Made_number q.index)
       pair_made q left own brought keyed asks low key_is placed =
           goes_on (q ∷ made) log (record w { value = left; key = own; brought = brought }) (Made_number q.index) keyed low
-          (quiet eq input build write finish classes respects b (eq key) (input key) own_query (Some key) name begun log log ([], append-nil log) r.calling.lawful m w.call.table w.call.last made w.call.taken w.call.put r.calling
-          MakePair asks (Made_number q.index) w.call.last (q ∷ made) w.call.table r.calling.number (record { told = inr (q, ap (λ z. Some z) key_is, refl, refl, refl); number_is = refl; same = refl; busy = λ z. z }) r.calling.holds_table r.calling.last_placed
+          (quiet eq input build write finish classes respects b (eq key) (input key) own_query (Some key) name begun log log ([], append-nil log) r.calling.lawful m w.call.table w.call.last w.call.kept made w.call.taken w.call.put w.call.fresh r.calling
+          MakePair asks (Made_number q.index) w.call.last (q ∷ made) w.call.table w.call.fresh
+          (record {
+            told = inr (q, ap (λ z. Some z) key_is, refl, refl, refl);
+            same = refl;
+            busy = λ z. z;
+            brings = barren eq input build write finish classes respects b (eq key) (input key) own_query (Some key) name begun log log ([], append-nil log) r.calling.lawful m w.call.table w.call.last w.call.kept made w.call.taken w.call.put w.call.fresh r.calling MakePair asks tt (Made_number q.index) w.call.fresh;
+          }) r.calling.holds_table r.calling.last_placed
           (λ p one. ⊎_elim (λ is. subst (λ (z : Stored K V). IsPlaced b (Some name) (names.Pair z)) (sym is) placed) (λ other. r.calling.made_placed p other) one))
-          r.put_placed (unopened log (Made_number q.index) w.opening (λ i h. let f = sym asks ∙ h in cc f) (λ s l h. let f = sym asks ∙ h in cc f))
+          r.put_placed
 
       -- the key was compared
-      pub key_compared : (n : ℕ) (same : Bool) → ((p : Stored K V) → w.call.last ≡ Some p → same ≡ eq key (key_of p)) → ask_of m ≡ SameKey n → WritingOn log w (Yes same)
+      pub key_compared : (n : ℕ) (same : Bool) → ((p : Stored K V) → w.call.last ≡ Some p → same ≡ eq key (key_of p)) → ask_of m ≡ Call (SameKey n) → WritingOn log w (Yes same)
       key_compared n same is asks =
           goes_on made log w (Yes same) r.keyed tt
-          (compared eq input build write finish classes respects b (eq key) (input key) own_query (Some key) name begun log m w.call.table w.call.last made w.call.taken w.call.put r.calling n same is asks)
-          r.put_placed (unopened log (Yes same) w.opening (λ i h. let f = sym asks ∙ h in cc f) (λ s l h. let f = sym asks ∙ h in cc f))
+          (compared eq input build write finish classes respects b (eq key) (input key) own_query (Some key) name begun log m w.call.table w.call.last w.call.kept made w.call.taken w.call.put w.call.fresh r.calling n same is asks)
+          r.put_placed
 
-      -- no table was made
-      pub table_unmade : (log' : List (Event K V S)) → IsPrefix log log' → IsLawfulLog eq hash b log' → (slots limit : ℕ) (refused : Refused) → ask_of m ≡ MakeTable slots limit → WritingOn log' w (Was_refused refused)
-      table_unmade log' pre l' slots limit refused asks =
-          goes_on made log' w (Was_refused refused) r.keyed tt
-          (quiet eq input build write finish classes respects b (eq key) (input key) own_query (Some key) name begun log log' pre l' m w.call.table w.call.last made w.call.taken w.call.put r.calling
-          (MakeTable slots limit) asks (Was_refused refused) w.call.last made w.call.table r.calling.number (record { told = (inl (inl (refused, refl)), (refl, refl)); number_is = refl; same = refl; busy = λ z. z })
-          (held_later log log' pre r.calling.number w.call.table r.calling.holds_table) r.calling.last_placed r.calling.made_placed)
-          r.put_placed (λ n e. ⊎_elim (λ h. absurd (let f = h.0 in cc f)) (λ h. let f = sym asks ∙ h in absurd (cc f)) (machine_opened m n (Was_refused refused) e))
-
-      -- a table was made
-      pub table_made : (log' : List (Event K V S)) → IsPrefix log log' → IsLawfulLog eq hash b log' → (slots limit : ℕ) (t : Where Sheet) (seal : Pen) (i : ℕ) → i ≡ number_of t → ask_of m ≡ MakeTable slots limit → IsMade t.value log' → IsPlaced b (Some name) (names.Table t) → seal.book ≡ name → seal.nib ≡ nib may_write t.value.seal 0
-          → WritingOn log' (record w { opening = Some (t, seal) }) (Made_number i)
-      table_made log' pre l' slots limit t seal i number_is asks is_made placed book is =
-          goes_on made log' (record w { opening = Some (t, seal) }) (Made_number i) r.keyed (let low = placed.1 in omega arith)
-          (quiet eq input build write finish classes respects b (eq key) (input key) own_query (Some key) name begun log log' pre l' m w.call.table w.call.last made w.call.taken w.call.put r.calling
-          (MakeTable slots limit) asks (Made_number i) w.call.last made w.call.table r.calling.number (record { told = (inr (i, omega arith, refl), (refl, refl)); number_is = refl; same = refl; busy = λ z. z })
+      -- what it was told of a table that was to be made
+      table_told : (log' : List (Event K V S)) → IsPrefix log log' → IsLawfulLog eq hash b log' → (slots limit : ℕ) (answer : Answer) (fresh : Option (Where Sheet × Pen)) → ask_of m ≡ Call (MakeTable slots limit) → (((refused : Refused) × (answer ≡ Was_refused refused)) ⊎ (answer ≡ Ok_done)) ⊎ ((n : ℕ) × (0 < n) × (answer ≡ Made_number n))
+          → IsFit answer → ((n : ℕ) → answer ≡ Made_number n → IsFresh b name log' n fresh) → WritingOn log' (record w { call = record w.call { fresh = fresh } }) answer
+      table_told log' pre l' slots limit answer fresh asks told fit is_fresh =
+          let brings : (n : ℕ) → IsBringing (ask_of (after m (answers.Call answer))) n → IsFresh b name log' n fresh =
+          λ n brought. let own = call_asks m (MakeTable slots limit) asks in ⊎_elim (λ h. is_fresh n h.0) (λ h. let f = sym own.1 ∙ h in absurd (cc f)) (own_brings m own.0 answer n brought) in
+          goes_on made log' (record w { call = record w.call { fresh = fresh } }) answer r.keyed fit
+          (quiet eq input build write finish classes respects b (eq key) (input key) own_query (Some key) name begun log log' pre l' m w.call.table w.call.last w.call.kept made w.call.taken w.call.put w.call.fresh r.calling
+          (MakeTable slots limit) asks answer w.call.last made w.call.table fresh (record { told = (told, (refl, refl)); same = refl; busy = λ z. z; brings = brings })
           (held_later log log' pre r.calling.number w.call.table r.calling.holds_table) r.calling.last_placed r.calling.made_placed)
           r.put_placed
-          (λ n e. ⊎_elim
-          (λ h. let f = h.0 in let number : i ≡ n = cc f in record { table = t; seal = seal; is = refl; number_is = sym number_is ∙ number; made = is_made; placed = placed; seal_book = book; seal_nib = is })
-          (λ h. let f = sym asks ∙ h in absurd (cc f))
-          (machine_opened m n (Made_number i) e))
+
+      -- no table was made
+      pub table_unmade : (log' : List (Event K V S)) → IsPrefix log log' → IsLawfulLog eq hash b log' → (slots limit : ℕ) (refused : Refused) → ask_of m ≡ Call (MakeTable slots limit) → WritingOn log' w (Was_refused refused)
+      table_unmade log' pre l' slots limit refused asks = table_told log' pre l' slots limit (Was_refused refused) w.call.fresh asks (inl (inl (refused, refl))) tt (λ n e. absurd (cc e))
+
+      -- a table was made
+      pub table_made : (log' : List (Event K V S)) → IsPrefix log log' → IsLawfulLog eq hash b log' → (slots limit : ℕ) (t : Where Sheet) (seal : Pen) (i : ℕ) → i ≡ number_of t → ask_of m ≡ Call (MakeTable slots limit) → IsMade t.value log' → IsPlaced b (Some name) (names.Table t) → seal.book ≡ name → seal.nib ≡ nib may_write t.value.seal 0
+          → WritingOn log' (record w { call = record w.call { fresh = Some (t, seal) } }) (Made_number i)
+      table_made log' pre l' slots limit t seal i number_is asks is_made placed book is =
+          table_told log' pre l' slots limit (Made_number i) (Some (t, seal)) asks (inr (i, omega arith, refl)) (let low = placed.1 in omega arith)
+          (λ n e. let number : i ≡ n = cc e in record { table = t; seal = seal; is = refl; number_is = sym number_is ∙ number; made = is_made; placed = placed; seal_book = book; seal_nib = is })

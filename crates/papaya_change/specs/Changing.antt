@@ -3,23 +3,57 @@ use Rattle.std.specs.Prelude.{◌≡◌, ℕ, Bool, true, MatchOption, Option, N
 use mathlib.Core.List.{IsPrefix}
 use denote.Bor.{Bor}
 use Rattle.logbook.specs.Pages.{Book}
-use Rattle.papaya_call.specs.declared.machine.Machine.{Machine}
+use Rattle.logbook.specs.Pages.{nib, may_write}
+use Rattle.logbook.specs.declared.tokens.Pen.{Pen}
+use Rattle.boxcar.specs.Table.{Where}
+use Rattle.papaya_ask.specs.declared.ask.Ask.TheVariants as asks
+use Rattle.papaya_ask.specs.declared.ask.At.TheVariants.{Root, Next}
+use Rattle.papaya_ask.specs.declared.copy_ask.CopyAsk.TheVariants as copies
+use Rattle.papaya_chain.specs.declared.ask.Ask.{Ask}
+use Rattle.papaya_chain.specs.declared.ask.Ask.TheVariants.{Call, Copy}
+use Rattle.papaya_chain.specs.declared.machine.Machine.{Machine}
+use Rattle.papaya_chain.specs.declared.machine.Phase.TheVariants.{Calling}
+use Rattle.papaya_chain.specs.Machine.{ask_of}
+use Rattle.papaya_chain_rests.specs.Rests.{Rests}
+use Rattle.papaya_chain_rests.specs.Told.{Hands}
 use Rattle.papaya_rests.specs.Followed.{IsAtTable}
 use Rattle.papaya_law.specs.Exchange.{Exchange}
-use Rattle.papaya_rests.specs.Rests.{Rests, change_in}
-use Rattle.papaya_rests.specs.Told.{Hands, IsOneOf}
+use Rattle.papaya_law.specs.Further.{IsLawfulKey}
+use Rattle.papaya_rests.specs.Rests.{change_in}
+use Rattle.papaya_rests.specs.Told.{IsOneOf}
 use Rattle.papaya_book.specs.Sheets.{Sheet}
 use Rattle.papaya_book.specs.declared.rule.entry.Begun.{Begun}
 use Rattle.papaya_book.specs.declared.rule.entry.Event.{Event}
 use Rattle.papaya_book.specs.Calls.{IsTable}
 use Rattle.papaya_lookup.specs.History.{change_of, key_of}
-use Rattle.papaya_book.specs.Logs.{Stored, exchanges_of, pair_named}
+use Rattle.papaya_book.specs.declared.rule.entry.Named.TheVariants.{Table}
+use Rattle.papaya_book.specs.Logs.{Stored, coding_of, exchanges_of, number_of, pair_named, setting_of}
+use Rattle.papaya_book.specs.Makers.{IsMade}
+use Rattle.papaya_change.specs.declared.driver.Driver.{Driver}
 use Rattle.papaya_lookup.specs.Lookups.{coding_for, setting_for}
 use Rattle.papaya_book.specs.Rule.{IsLawfulLog, IsPlaced}
 
 -- the pairs that a call holds, as its machine is told of them
-abbrev pub hands_with : {P : Type 0} → (last : Option P) (made : List P) → Hands P
-hands_with last made = record { last = last; made = made }
+abbrev pub hands_with : {P : Type 0} → (last kept : Option P) (made : List P) → Hands P
+hands_with last kept made = record { call = record { last = last; made = made }; kept = kept }
+
+-- an exchange is asked for with which this table comes: it is opened, or linked
+abbrev pub IsBringing : Ask → ℕ → Type 0
+IsBringing (Call (asks.Exchange Root old new)) n = (old ≡ 0) × (new ≡ n)
+IsBringing (Copy (copies.Exchange (Next t) old new)) n = (old ≡ 0) × (new ≡ n)
+IsBringing _ n = ⊥
+
+-- the table of this number was made, and its seal is at hand
+pub record IsFresh {K V S : Type 0} (b : Begun K V S) (name : Book) (log : List (Event K V S))
+    (n : ℕ) (fresh : Option (Where Sheet × Pen)) : Type 0 where
+  pub table : Where Sheet
+  pub seal : Pen
+  pub is : fresh ≡ Some (table, seal)
+  pub number_is : number_of table ≡ n
+  pub made : IsMade table.value log
+  pub placed : IsPlaced b (Some name) (Table table)
+  pub seal_book : seal.book ≡ name
+  pub seal_nib : seal.nib ≡ nib may_write table.value.seal 0
 
 -- The log ends with the call's change, which came after all that was there when it began. What it
 -- takes out and puts in has the numbers that the machine tells.
@@ -36,24 +70,55 @@ pub record HasChanged {K V S : Type 0} (eq : K → K → Bool) (begun log : List
   pub put_is : MatchOption put (change.1 ≡ None)
       (λ q. (change.1 ≡ Some q.index) × (eq class (key_of q) ≡ true))
 
--- A call by the key k, or by the further one, rests on the log since it began. It holds the table
--- and the pair of which it was told last, the pairs that it has made, and those that its change
--- took out and put in.
+-- A call by the key k, or by the further one, rests on the log since it began, with the copy that it
+-- is set aside for. It holds the table and the pair of which it was told last, the pair that its copy
+-- carries, the pairs that it has made, and those that its change took out and put in; and a table that
+-- it made, until it has tried to open or link it.
 pub record IsCalling {K V S : Type 0} (eq : K → K → Bool) (hash : S → K → ℕ) (b : Begun K V S)
     (name : Book) (matches : K → Bool) (fed : ℕ) (k : Option K) (begun log : List (Event K V S))
-    (m : Machine) (table : Option (Bor Sheet)) (last : Option (Stored K V))
-    (made : List (Stored K V)) (taken put : Option (Stored K V)) : Type 0 where
+    (m : Machine) (table : Option (Bor Sheet)) (last kept : Option (Stored K V))
+    (made : List (Stored K V)) (taken put : Option (Stored K V))
+    (fresh : Option (Where Sheet × Pen)) : Type 0 where
   pub lawful : IsLawfulLog eq hash b log
   pub seen : IsPrefix begun log
   pub since : List (Exchange (Stored K V))
   pub is : exchanges_of begun ++ since ≡ exchanges_of log
   pub rests : Rests (setting_for eq hash b matches fed log) (coding_for hash b.hasher fed)
-      (exchanges_of begun) since k m (hands_with last made)
+      (exchanges_of begun) since k m (hands_with last kept made)
   pub number : ℕ
-  pub at_table : IsAtTable number m.state
+  pub at_table : m.phase ≡ Calling → IsAtTable number m.call.state
   pub holds_table : MatchOption table (number ≡ 0) (λ r. IsTable log number r.now)
   pub last_placed : IsPlaced b (Some name) (pair_named last)
+  pub kept_placed : IsPlaced b (Some name) (pair_named kept)
   pub made_placed : (q : Stored K V) → IsOneOf made q → IsPlaced b (Some name) (pair_named (Some q))
   pub taken_placed : IsPlaced b (Some name) (pair_named taken)
-  pub changed : (change : Option ℕ × Option ℕ) → change_in m.state ≡ Some change
+  pub changed : (change : Option ℕ × Option ℕ) → change_in m.call.state ≡ Some change
       → HasChanged eq begun log taken put change
+  pub brings : (n : ℕ) → IsBringing (ask_of m) n → IsFresh b name log n fresh
+
+-- the further key that a call may come with is lawful
+abbrev pub IsForm : {K V S : Type 0} → (K → K → Bool) → (S → K → ℕ) → Begun K V S → (K → Bool) → ℕ
+    → Type 0
+IsForm {V = V} {S = S} eq hash b matches fed = IsLawfulKey
+    (setting_of {V = V} {S = S} eq (hash b.hasher) b.mode []) (coding_of {V = V} (hash b.hasher))
+    matches fed
+
+module _ {K V S H : Type 0} (eq : K → K → Bool) (hash : S → K → ℕ) (b : Begun K V S)
+    (name : Book) where
+  -- the same of what is held of a call under way
+  abbrev pub IsDriven : (K → Bool) → ℕ → Option K → List (Event K V S) → List (Event K V S)
+      → List (Stored K V) → Driver K V S H → Type 0
+  IsDriven matches fed k begun log made c = IsCalling eq hash b name matches fed k begun log c.machine
+      c.table c.last c.kept made c.taken c.put c.fresh
+
+  -- some call is under way, and each that is goes on so
+  abbrev pub CanGoOn : List (Event K V S) → Driver K V S H → Type 0
+  CanGoOn log c = (matches : K → Bool) × (fed : ℕ) × IsForm eq hash b matches fed × (k : Option K)
+      × (begun : List (Event K V S)) × (made : List (Stored K V))
+      × IsDriven matches fed k begun log made c
+
+  abbrev pub GoesOn : List (Event K V S) → Driver K V S H → List (Event K V S) → Driver K V S H
+      → Type 0
+  GoesOn log c log' c' = (matches : K → Bool) (fed : ℕ) → IsForm eq hash b matches fed → (k : Option K)
+      (begun : List (Event K V S)) (made : List (Stored K V))
+      → IsDriven matches fed k begun log made c → IsDriven matches fed k begun log' made c'

@@ -5,7 +5,7 @@ use Rattle.papaya_ask.specs.declared.ask.Answer.TheVariants.{Exchanged}
 use Rattle.papaya_ask.specs.declared.ask.Ask.{Ask}
 use Rattle.papaya_ask.specs.declared.ask.Ask.TheVariants.{Exchange}
 use Rattle.papaya_ask.specs.declared.ask.At.TheVariants.{Slot}
-use Rattle.papaya_call.specs.declared.machine.Machine.{Machine}
+use Rattle.papaya_chain.specs.declared.machine.Machine.{Machine}
 use Rattle.papaya_rests.specs.Followed.{IsCounting}
 use Rattle.papaya_rests.specs.Rests.{change_in}
 use Rattle.papaya_book.specs.declared.keyed.Keyed as keyed
@@ -24,7 +24,7 @@ exchanged _ _ = false
 
 -- the call has changed the map
 abbrev pub has_changed : Machine → Bool
-has_changed m = is_some (change_in m.state)
+has_changed m = is_some (change_in m.call.state)
 
 module _ {K V S H : Type 0} {d : keyed.Ghosts S K H} where
   -- What a call does that was asked this and answers so: the one exchange of a slot, if that was

@@ -10,7 +10,9 @@ use Rattle.papaya_ask.specs.declared.call.Reply.TheVariants.{Refused}
 use Rattle.papaya_ask.specs.declared.call.Task.TheVariants.{Insert}
 use Rattle.papaya_call.specs.declared.write.Made.{Made}
 use Rattle.papaya_call.specs.declared.write.Made.TheVariants.{Nothing, Key, Pair}
-use Rattle.papaya_call.specs.Machine.{IsFit, ask_of}
+use Rattle.papaya_call.specs.Machine.{IsFit}
+use Rattle.papaya_chain.specs.declared.ask.Ask.TheVariants.{Call}
+use Rattle.papaya_chain.specs.Machine.{ask_of}
 use Rattle.papaya_book.specs.declared.rule.entry.Begun.{Begun}
 use Rattle.papaya_book.specs.declared.rule.entry.Event.{Event}
 use Rattle.papaya_change.specs.declared.insertion.Insertion.{Insertion}
@@ -20,7 +22,7 @@ use Rattle.papaya_change.specs.Changes.{IsPut}
 use Rattle.papaya_lookup.specs.History.{history_of, key_of}
 use Rattle.papaya_book.specs.Logs.{Stored}
 use Rattle.papaya_book.specs.Plays.{made_list}
-use Rattle.papaya_change.specs.NoRoom.{HasNoRoom}
+use Rattle.papaya_book.specs.Limits.{HasNoRoom}
 use Rattle.papaya_change.specs.Writing.{IsMemoryOrCapacity, IsWriting, answered as answered_writer}
 
 -- no pair is made yet
@@ -36,16 +38,16 @@ module _ {K V S H : Type 0} (eq : K → K → Bool) (hash : S → K → ℕ) (b 
   pub record IsInserting (key : K) (value : V) (begun log : List (Event K V S))
       (x : Insertion K V S H) : Type 0 where
     pub writing : IsWriting eq hash b name key (made_list x.made) begun log x.writer
-    pub task_is : x.writer.call.machine.task ≡ Insert true
+    pub task_is : x.writer.call.machine.call.task ≡ Insert true
     pub left_is : (v : V) → x.writer.value ≡ Some v → v ≡ value
     pub made_is : (q : Stored K V) → x.made ≡ Some q → (key_of q ≡ key) × (q.value.value ≡ value)
     pub put_is : (q : Stored K V) → x.writer.call.put ≡ Some q
         → (key_of q ≡ key) × (q.value.value ≡ value)
-    pub unmade : IsUnpaired x.writer.call.machine.made → x.made ≡ None
-    pub refuses : (cause : Cause) → ask_of x.writer.call.machine ≡ Done (Refused cause)
+    pub unmade : IsUnpaired x.writer.call.machine.call.made → x.made ≡ None
+    pub refuses : (cause : Cause) → ask_of x.writer.call.machine ≡ Call (Done (Refused cause))
         → IsMemoryOrCapacity cause
-    pub crowded : ask_of x.writer.call.machine ≡ Done (Refused Capacity)
-        → HasNoRoom eq hash b key (history_of begun) (history_of log) x.writer.given.done
+    pub crowded : ask_of x.writer.call.machine ≡ Call (Done (Refused Capacity))
+        → HasNoRoom x.writer.call.machine.call.initial x.writer.call.given.done
 
   -- the insertion after its machine was answered
   abbrev pub answered : Insertion K V S H → Answer → Insertion K V S H
@@ -55,7 +57,7 @@ module _ {K V S H : Type 0} (eq : K → K → Bool) (hash : S → K → ℕ) (b 
   abbrev pub IsInsertingOn : K → V → List (Event K V S) → List (Event K V S) → Insertion K V S H
       → Option Answer → Type 0
   IsInsertingOn key value begun log x None = IsInserting key value begun log x
-      × ((reply : Reply) × (ask_of x.writer.call.machine ≡ Done reply))
+      × ((reply : Reply) × (ask_of x.writer.call.machine ≡ Call (Done reply)))
   IsInsertingOn key value begun log x (Some answer) =
       IsInserting key value begun log (answered x answer) × IsFit answer
 

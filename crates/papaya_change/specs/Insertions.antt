@@ -1,14 +1,10 @@
 -- What an insertion on the shared map holds and rests on, by what it sees of the map.
-use Rattle.std.specs.Prelude.{Option, List}
+use Rattle.std.specs.Prelude.{Option}
 use denote.Bor.{Bor}
 use Rattle.papaya_ask.specs.declared.ask.Answer.{Answer}
 use Rattle.papaya_book.specs.declared.keyed.Keyed as keyed
 use Rattle.papaya_book.specs.declared.window.Window.{Window}
-use Rattle.papaya_book.specs.Logs.{Stored}
 use Rattle.papaya_book.specs.Parts.{begun_of}
-use Rattle.papaya_book.specs.declared.rule.own.Given.{Given}
-use Rattle.papaya_lookup.specs.History.{Change, history_of}
-use Rattle.papaya_change.specs.NoRoom as room
 use Rattle.papaya_change.specs.declared.insertion.Insertion.{Insertion}
 use Rattle.papaya_change.specs.Inserting as inserting
 
@@ -21,11 +17,6 @@ module _ {K V S H : Type 0} {d : keyed.Ghosts S K H} where
       → Option Answer → Type 0
   Inserts w x w' x' answer = inserting.Inserts d.keys.eq d.keys.hash (begun_of w.book.now.parts)
       w.book.now.begun.book w.sight.log x w'.sight.log x' answer
-
-  -- there was no room for a pair of this key, by what was seen before and is seen now
-  abbrev pub HasNoRoom : Window K V S H d → K → List (Change K (Stored K V)) → List Given → Type 0
-  HasNoRoom w key old given = room.HasNoRoom d.keys.eq d.keys.hash (begun_of w.book.now.parts) key
-      old (history_of w.sight.log) given
 
   abbrev pub HasPut : Window K V S H d → Insertion K V S H → Option (Bor V) → Type 0
   HasPut w x answer = inserting.HasPut d.keys.eq d.keys.hash (begun_of w.book.now.parts)

@@ -6,6 +6,7 @@ use Rattle.papaya_change.specs.Changes.{IsChangeOf}
 use Rattle.papaya_lookup.specs.History.{Change}
 use Rattle.papaya_book.specs.Logs.{Member, Stored}
 use Rattle.papaya_change.specs.Showings.{AllShown, AreOf, HasSaid, WasHeld, WasSaid}
+use Rattle.papaya_change.specs.Writing.{IsMemoryOrCapacity}
 
 -- a pair went
 abbrev pub went : {E : Type 0} → Result (Result (Option E) E) Refused → Bool
@@ -24,15 +25,15 @@ module _ {K V : Type 0} (eq : K → K → Bool) (matches : K → Bool)
   IsTaken p = IsChangeOf matches old new (Some p) None
 
   -- What a removal answers, by what its closure was shown and answered: the pair that it agreed to
-  -- and that went, or that there was none, or the pair that stays. It is never refused: it makes
-  -- nothing, and no table has a next one to which its search would go on.
+  -- and that went, or that there was none, or the pair that stays. It makes nothing for itself, but
+  -- it may be refused while it helps to copy: there was no memory for a further table, or no room.
   abbrev pub IsJudged : List (Stored K V × Bool)
       → Result (Result (Option (Bor K × Bor V)) (Bor K × Bor V)) Refused → Type 0
   IsJudged said (Ok (Ok None)) = WasHeld eq matches old new None
   IsJudged said (Ok (Ok (Some entry))) = (p : Stored K V) × IsTaken p × WasSaid p true said
       × AreOf entry p
   IsJudged said (Ok (Err entry)) = (p : Stored K V) × Member (p, false) said × AreOf entry p
-  IsJudged said (Err refused) = ⊥
+  IsJudged said (Err refused) = IsMemoryOrCapacity refused
 
   -- A removal whose closure was `first`. Each pair that it was shown was the map's between the two
   -- histories.
@@ -45,8 +46,8 @@ module _ {K V : Type 0} (eq : K → K → Bool) (matches : K → Bool)
     pub answered : IsJudged said answer
 
   -- what a removal answers that asks no closure: the value of the pair that went, or that there was
-  -- none
+  -- none; or it was refused while it helped to copy
   abbrev pub IsRemoved : Result (Option (Bor V)) Refused → Type 0
   IsRemoved (Ok None) = WasHeld eq matches old new None
   IsRemoved (Ok (Some value)) = (p : Stored K V) × IsTaken p × (value.now ≡ p.value.value)
-  IsRemoved (Err refused) = ⊥
+  IsRemoved (Err refused) = IsMemoryOrCapacity refused

@@ -4,22 +4,28 @@ use mathlib.Core.List.{IsPrefix}
 use denote.Bor.{Bor}
 use Rattle.logbook.specs.Pages.{Book}
 use Rattle.papaya_words.specs.declared.probe.Refused.{Refused}
+use Rattle.papaya_words.specs.declared.probe.Refused.TheVariants.{Capacity}
 use Rattle.papaya_ask.specs.declared.ask.Answer.{Answer}
 use Rattle.papaya_ask.specs.declared.ask.Ask.TheVariants.{Done}
 use Rattle.papaya_ask.specs.declared.call.Reply.{Reply}
 use Rattle.papaya_ask.specs.declared.call.Reply.TheVariants as reply
 use Rattle.papaya_ask.specs.declared.call.Task.TheVariants.{RemoveIf}
-use Rattle.papaya_call.specs.Machine.{IsFit, after, ask_of}
+use Rattle.papaya_call.specs.Machine.{IsFit}
+use Rattle.papaya_chain.specs.declared.ask.Answer.TheVariants as answers
+use Rattle.papaya_chain.specs.declared.ask.Ask.TheVariants.{Call}
+use Rattle.papaya_chain.specs.Machine.{after, ask_of}
 use Rattle.papaya_rests.specs.Says.{Agrees, ShowsPairs, StandsOn}
 use Rattle.papaya_book.specs.declared.rule.entry.Begun.{Begun}
 use Rattle.papaya_book.specs.declared.rule.entry.Event.{Event}
 use Rattle.papaya_change.specs.declared.removal.Removal.{Removal}
-use Rattle.papaya_change.specs.Changing.{IsCalling}
+use Rattle.papaya_change.specs.Changing.{IsDriven}
 use Rattle.papaya_lookup.specs.History.{history_of}
 use Rattle.papaya_book.specs.Logs.{Member, Stored, pair_named}
+use Rattle.papaya_book.specs.Limits.{HasNoRoom}
 use Rattle.papaya_book.specs.Rule.{IsPlaced}
 use Rattle.papaya_change.specs.Showings.{AllShown, HasSaid, WasHeld}
 use Rattle.papaya_change.specs.RemovalAnswers.{IsRemovalBy}
+use Rattle.papaya_change.specs.Writing.{IsMemoryOrCapacity}
 
 module _ {K V S H F : Type 0} (eq : K → K → Bool) (hash : S → K → ℕ) (b : Begun K V S) (name : Book)
     (matches : K → Bool) (fed : ℕ) (judges : F → Stored K V → Bool → F → Type 0) where
@@ -27,27 +33,31 @@ module _ {K V S H F : Type 0} (eq : K → K → Bool) (hash : S → K → ℕ) (
   -- answered of the pair that it was shown last.
   pub record IsRemoving (first : F) (begun log : List (Event K V S)) (x : Removal K V S H)
       (f : F) : Type 0 where
-    pub calling : IsCalling eq hash b name matches fed None begun log x.call.machine x.call.table
-        x.call.last [] x.call.taken x.call.put
-    pub task_is : x.call.machine.task ≡ RemoveIf
-    pub words : ShowsPairs x.call.machine.state
+    pub calling : IsDriven eq hash b name matches fed None begun log [] x.call
+    pub task_is : x.call.machine.call.task ≡ RemoveIf
+    pub words : ShowsPairs x.call.machine.call.state
     pub shown_placed : IsPlaced b (Some name) (pair_named x.shown)
     pub said : List (Stored K V × Bool)
     pub has_said : HasSaid judges first said f
     pub held : AllShown (λ p. WasHeld eq matches (history_of begun) (history_of log) (Some p)) said
-    pub stood : (n : ℕ) (agrees : Bool) → StandsOn x.call.machine (Agrees n agrees)
+    pub stood : (n : ℕ) (agrees : Bool) → StandsOn x.call.machine.call (Agrees n agrees)
         → (p : Stored K V) × (x.shown ≡ Some p) × (p.index ≡ n) × Member (p, agrees) said
-    pub unrefused : (refused : Refused) → ask_of x.call.machine ≡ Done (reply.Refused refused) → ⊥
+    pub refuses : (cause : Refused) → ask_of x.call.machine ≡ Call (Done (reply.Refused cause))
+        → IsMemoryOrCapacity cause
+    pub crowded : ask_of x.call.machine ≡ Call (Done (reply.Refused Capacity))
+        → HasNoRoom x.call.machine.call.initial x.call.given.done
 
   -- the removal after its machine was answered
   abbrev pub answered : Removal K V S H → Answer → Removal K V S H
-  answered x answer = record x { call = record x.call { machine = after x.call.machine answer } }
+  answered x answer = record x {
+    call = record x.call { machine = after x.call.machine (answers.Call answer) };
+  }
 
   -- it has replied, or this is an answer to what it asks
   abbrev pub IsRemovingOn : F → List (Event K V S) → List (Event K V S) → Removal K V S H → F
       → Option Answer → Type 0
   IsRemovingOn first begun log x f None = IsRemoving first begun log x f
-      × ((reply : Reply) × (ask_of x.call.machine ≡ Done reply))
+      × ((reply : Reply) × (ask_of x.call.machine ≡ Call (Done reply)))
   IsRemovingOn first begun log x f (Some answer) = IsRemoving first begun log (answered x answer) f
       × IsFit answer
 

@@ -1,41 +1,24 @@
 -- What a call on the shared map that inserts holds and rests on, whatever its task.
 use Rattle.std.specs.Prelude.{◌≡◌, ◌⊎◌, ℕ, Bool, Option, None, Some, List, ◌∷◌}
-use Rattle.boxcar.specs.Table.{Where}
-use Rattle.logbook.specs.Pages.{Book, nib, may_write}
-use Rattle.logbook.specs.declared.tokens.Pen.{Pen}
+use Rattle.logbook.specs.Pages.{Book}
 use Rattle.papaya_words.specs.declared.probe.Refused.{Refused as Cause}
 use Rattle.papaya_words.specs.declared.probe.Refused.TheVariants.{Capacity, Memory}
 use Rattle.papaya_ask.specs.declared.ask.Answer.{Answer}
 use Rattle.papaya_ask.specs.declared.ask.Answer.TheVariants.{Made, Ok as Ok_done, Refused}
-use Rattle.papaya_ask.specs.declared.ask.Ask.TheVariants.{Exchange}
-use Rattle.papaya_ask.specs.declared.ask.At.TheVariants.{Root}
-use Rattle.papaya_call.specs.Machine.{IsFit, after, ask_of}
+use Rattle.papaya_call.specs.Machine.{IsFit}
+use Rattle.papaya_chain.specs.declared.ask.Answer.TheVariants.{Call}
+use Rattle.papaya_chain.specs.Machine.{after}
 use Rattle.papaya_rests.specs.Told.{IsOneOf}
-use Rattle.papaya_book.specs.Sheets.{Sheet}
 use Rattle.papaya_book.specs.declared.rule.entry.Begun.{Begun}
 use Rattle.papaya_book.specs.declared.rule.entry.Event.{Event}
-use Rattle.papaya_book.specs.declared.rule.entry.Named.TheVariants.{Table}
 use Rattle.papaya_book.specs.declared.rule.own.Given.{Given}
 use Rattle.papaya_change.specs.declared.writing.Writer.{Writer}
-use Rattle.papaya_change.specs.Changing.{IsCalling}
+use Rattle.papaya_change.specs.Changing.{IsDriven}
 use Rattle.papaya_lookup.specs.History.{key_of}
-use Rattle.papaya_book.specs.Logs.{Stored, number_of, pair_named}
+use Rattle.papaya_book.specs.Logs.{Stored, pair_named}
 use Rattle.papaya_book.specs.Limits.{IsFull}
-use Rattle.papaya_book.specs.Makers.{IsMade}
 use Rattle.papaya_book.specs.Pairs.{KeyHeld}
 use Rattle.papaya_book.specs.Rule.{IsPlaced}
-
--- the table of this number was made, and its seal is at hand
-pub record IsOpening {K V S : Type 0} (b : Begun K V S) (name : Book) (log : List (Event K V S))
-    (n : ℕ) (opening : Option (Where Sheet × Pen)) : Type 0 where
-  pub table : Where Sheet
-  pub seal : Pen
-  pub is : opening ≡ Some (table, seal)
-  pub number_is : number_of table ≡ n
-  pub made : IsMade table.value log
-  pub placed : IsPlaced b (Some name) (Table table)
-  pub seal_book : seal.book ≡ name
-  pub seal_nib : seal.nib ≡ nib may_write table.value.seal 0
 
 -- A call by this key has it at hand, or a pair that brought it to the log.
 pub record HasKey {K V S : Type 0} (b : Begun K V S) (name : Book) (key : K) (own : Option K)
@@ -61,9 +44,11 @@ IsUnlogged answer = ((answer ≡ Refused Memory) ⊎ (answer ≡ Refused Capacit
 
 -- the call after its machine was answered
 abbrev pub answered : {K V S H : Type 0} → Writer K V S H → Answer → Writer K V S H
-answered w answer = record w { call = record w.call { machine = after w.call.machine answer } }
+answered w answer = record w {
+  call = record w.call { machine = after w.call.machine (Call answer) };
+}
 
--- as a call that inserts is refused by itself: there was no memory, or no number or place left
+-- as a call is refused by itself: there was no memory, or there was no room
 abbrev pub IsMemoryOrCapacity : Cause → Type 0
 IsMemoryOrCapacity cause = (cause ≡ Memory) ⊎ (cause ≡ Capacity)
 
@@ -78,12 +63,10 @@ module _ {K V S H : Type 0} (eq : K → K → Bool) (hash : S → K → ℕ) (b 
   -- a call by this key that has made these pairs
   pub record IsWriting (key : K) (made : List (Stored K V)) (begun log : List (Event K V S))
       (w : Writer K V S H) : Type 0 where
-    pub calling : IsCalling eq hash b name (eq key) (hash b.hasher key) (Some key) begun log
-        w.call.machine w.call.table w.call.last made w.call.taken w.call.put
+    pub calling : IsDriven eq hash b name (eq key) (hash b.hasher key) (Some key) begun log made
+        w.call
     pub keyed : HasKey b name key w.key w.brought
     pub put_placed : IsPlaced b (Some name) (pair_named w.call.put)
-    pub opens : (n : ℕ) → ask_of w.call.machine ≡ Exchange Root 0 n
-        → IsOpening b name log n w.opening
 
   -- this is an answer to what it asks
   abbrev pub IsWritingOn : K → List (Stored K V) → List (Event K V S) → List (Event K V S)

@@ -3,23 +3,29 @@ ghost use Rattle.papaya_lookup.specs.Drivers.{own, past};
 ghost use Rattle.papaya_lookup.specs.History.{Makes};
 ghost use Rattle.papaya_book.specs.Windows.{Does, IsLawful, Sees};
 ghost use Rattle.papaya_change.specs.Doing.{Answers, has_changed, was_made};
-ghost use Rattle.papaya_change.specs.Insertions.{CanInsert, HasNoRoom, HasPut, Inserts};
+ghost use Rattle.papaya_book.specs.Limits.{HasNoRoom};
+ghost use Rattle.papaya_change.specs.Insertions.{CanInsert, HasPut, Inserts};
 ghost use Rattle.std.specs.Prelude.{◌≡◌, is_ok, Some, Err, IfErr, IfOk};
-ghost use Rattle.papaya_call.specs.Machine.{IsStanding, ask_of};
+ghost use Rattle.std.specs.Int.{IsPowerOfTwo};
+ghost use Rattle.papaya_call.specs.Machine.{ask_of as call_ask_of};
+ghost use Rattle.papaya_chain.specs.Machine.{IsStanding, ask_of};
+ghost use Rattle.papaya_chain.specs.declared.ask.Ask.TheVariants.{Call};
+ghost use Rattle.papaya_chain.specs.declared.machine.Phase.TheVariants.{Calling};
 ghost use Rattle.papaya_ask.specs.declared.ask.Ask.TheVariants.{Done, Exchange, MakePair};
 ghost use Rattle.papaya_ask.specs.declared.ask.At.TheVariants.{Slot};
 ghost use Rattle.papaya_ask.specs.declared.call.Reply.TheVariants.{Refused as ReplyRefused};
 ghost use Rattle.papaya_change.specs.Changes.{IsPut};
 ghost use Rattle.papaya_change.specs.Writing.{IsMemoryOrCapacity};
 
-use crate::count::Shard;
+use crate::driver::Driver;
 use crate::writing::Writer;
-use papaya_ask::ask::{Answer, Ask, At};
+use papaya_ask::ask::{Answer, Ask as CallAsk, At};
 use papaya_ask::call::{Reply, Task};
+use papaya_book::count::Shard;
 use papaya_book::rule::entry::Stored;
 use papaya_book::rule::own::{Given, Own};
 use papaya_book::window::Window;
-use papaya_lookup::driver::Driver;
+use papaya_chain::ask::Ask;
 use papaya_lookup::lookup::hash;
 use papaya_words::probe::Refused;
 use std::alloc::Global;
@@ -38,7 +44,7 @@ impl<'a, K: Hash + Eq + Drop, V: Drop, S: BuildHasher> Insertion<'a, K, V, S> {
     fn make_pair<R: Wait>(&mut self, rt: &R, window: &Window<'a, K, V, S>) -> Answer
         requires standing { IsStanding self.old.writer.call.machine }
         requires can { CanInsert window.now self.old }
-        requires asks { ask_of self.old.writer.call.machine ≡ MakePair }
+        requires asks { ask_of self.old.writer.call.machine ≡ Call MakePair }
         ensures machine { self.new.writer.call.machine ≡ self.old.writer.call.machine }
         ensures inserts { Inserts window.now self.old window.now self.new (Some result) }
     {
@@ -62,8 +68,8 @@ impl<'a, K: Hash + Eq + Drop, V: Drop, S: BuildHasher> Insertion<'a, K, V, S> {
     ) -> Answer
         requires standing { IsStanding self.old.writer.call.machine }
         requires can { CanInsert window.old self.old }
-        requires asks { ask_of self.old.writer.call.machine ≡ Exchange (Slot number place) words.0
-            words.1 }
+        requires asks { ask_of self.old.writer.call.machine ≡ Call (Exchange
+            (Slot number place) words.0 words.1) }
         ensures sees { Sees window.old window.new }
         ensures does { Does (was_made result) window.old window.new }
         ensures machine { self.new.writer.call.machine ≡ self.old.writer.call.machine }
@@ -84,32 +90,38 @@ impl<'a, K: Hash + Eq + Drop, V: Drop, S: BuildHasher> Insertion<'a, K, V, S> {
         window: &mut Window<'a, K, V, S>,
     ) -> Option<Answer>
         requires standing { IsStanding self.old.writer.call.machine }
+        requires calling { self.old.writer.call.machine.phase ≡ Calling }
         requires can { CanInsert window.old self.old }
         ensures sees { Sees window.old window.new }
-        ensures answers { Answers (ask_of self.old.writer.call.machine) result window.old
+        ensures answers { Answers (call_ask_of self.old.writer.call.machine.call) result window.old
             window.new }
         ensures machine { self.new.writer.call.machine ≡ self.old.writer.call.machine }
         ensures inserts { Inserts window.old self.old window.new self.new result }
     {
-        match self.writer.call.machine.ask() {
-            Ask::Load(at) => Some(self.writer.load(at, window)),
-            Ask::SizeOf(_) => Some(self.writer.size(window)),
-            Ask::SameKey(_) => Some(self.writer.same(window)),
-            Ask::MakeKey => Some(self.writer.make_key(window)),
-            Ask::MakePair => Some(self.make_pair(rt, window)),
-            Ask::MakeTable { len, limit } => {
+        let Ask::Call(ask) = self.writer.call.machine.ask() else {
+            unreachable!()
+        };
+        match ask {
+            CallAsk::Load(at) => Some(self.writer.load(at, window)),
+            CallAsk::SizeOf(_) => Some(self.writer.size(window)),
+            CallAsk::SameKey(_) => Some(self.writer.same(window)),
+            CallAsk::MakeKey => Some(self.writer.make_key(window)),
+            CallAsk::MakePair => Some(self.make_pair(rt, window)),
+            CallAsk::MakeTable { len, limit } => {
                 Some(self.writer.make_table(rt, alloc, len, limit, window))
             }
-            Ask::Exchange(At::Root, _, _) => Some(self.writer.open(window)),
-            Ask::Exchange(At::Slot(number, place), old, new) => {
+            CallAsk::Exchange(At::Root, _, _) => Some(self.writer.open(window)),
+            CallAsk::Exchange(At::Slot(number, place), old, new) => {
                 Some(self.put(number, place, (old, new), window))
             }
-            Ask::AddToShard(by) => {
+            CallAsk::AddToShard(by) => {
                 shard.add(by);
                 Some(Answer::Ok)
             }
-            Ask::Done(_) => None,
-            Ask::ShowNone | Ask::ShowPair(_) | Ask::Exchange(_, _, _) => unreachable!(),
+            CallAsk::Done(_) => None,
+            CallAsk::ShowNone | CallAsk::ShowPair(_) | CallAsk::Exchange(_, _, _) => {
+                unreachable!()
+            }
         }
     }
 
@@ -117,14 +129,15 @@ impl<'a, K: Hash + Eq + Drop, V: Drop, S: BuildHasher> Insertion<'a, K, V, S> {
     fn replied(&self, window: &Window<'a, K, V, S>) -> Result<Option<&'a V>, Refused>
         requires standing { IsStanding self.now.writer.call.machine }
         requires can { CanInsert window.now self.now }
-        requires done { (reply : _) × (ask_of self.now.writer.call.machine ≡ Done reply) }
+        requires done { (reply : _) × (ask_of self.now.writer.call.machine
+            ≡ Call (Done reply)) }
         ensures put { IfOk result (λ answer. HasPut window.now self.now answer) }
         ensures refused { IfErr result (λ refused. IsMemoryOrCapacity refused) }
-        ensures refusal { IfErr result (λ refused. ask_of self.now.writer.call.machine ≡ Done
-            (ReplyRefused refused)) }
+        ensures refusal { IfErr result (λ refused. ask_of self.now.writer.call.machine ≡ Call (Done
+            (ReplyRefused refused))) }
         ensures changed { is_ok result ≡ has_changed self.now.writer.call.machine }
     {
-        if let Ask::Done(Reply::Refused(refused)) = self.writer.call.machine.ask() {
+        if let Ask::Call(CallAsk::Done(Reply::Refused(refused))) = self.writer.call.machine.ask() {
             return Err(refused);
         }
         let book = window.book;
@@ -135,8 +148,8 @@ impl<'a, K: Hash + Eq + Drop, V: Drop, S: BuildHasher> Insertion<'a, K, V, S> {
     }
 }
 
-/// Inserts a pair: the value that its key had. Where it is refused since a log is full, `given`
-/// tells the number that the log gave.
+/// Inserts a pair: the value that its key had. Where it is refused for want of room, `given` tells
+/// the number that a full log gave, or the sum of the count that makes a further table too long.
 pub fn insert<'a, R: Wait, K: Hash + Eq + Drop, V: Drop, S: BuildHasher>(
     rt: &R,
     alloc: Global,
@@ -147,13 +160,13 @@ pub fn insert<'a, R: Wait, K: Hash + Eq + Drop, V: Drop, S: BuildHasher>(
     key: K,
     value: V,
 ) -> Result<Option<&'a V>, Refused>
+    requires initial { IsPowerOfTwo initial }
     ensures sees { Sees window.old window.new }
     ensures lawful { IsLawful window.new }
     ensures put { IfOk result (λ answer. IsPut K.eq key value (past window.old) (past window.new)
         answer) }
     ensures refused { IfErr result (λ refused. IsMemoryOrCapacity refused) }
-    ensures crowded { result ≡ Err Refused.Capacity → HasNoRoom window.new key (past window.old)
-        given.new.done }
+    ensures crowded { result ≡ Err Refused.Capacity → HasNoRoom initial given.new.done }
     ensures made { Makes (is_ok result) (own window.old) (own window.new) (past window.new) }
 {
     window.learn();
@@ -166,16 +179,17 @@ pub fn insert<'a, R: Wait, K: Hash + Eq + Drop, V: Drop, S: BuildHasher>(
             key: Some(key),
             brought: None,
             value: Some(value),
-            opening: None,
-            given: Own::nothing(),
         },
         made: None,
     };
     for _ in rt.forever() {
         match insertion.answer(rt, alloc, shard, window) {
-            Some(answer) => insertion.writer.call.machine.answer(answer),
+            Some(answer) => {
+                insertion.writer.call.answer(answer);
+                insertion.writer.call.help(rt, alloc, shard.count(), window);
+            }
             None => {
-                *given = insertion.writer.given.again();
+                *given = insertion.writer.call.given.again();
                 return insertion.replied(window);
             }
         }

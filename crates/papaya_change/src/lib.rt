@@ -2,7 +2,8 @@
 //! machines.
 #![tactic(auto)]
 
-pub mod count;
+pub mod driver;
+pub mod helping;
 pub mod insertion;
 pub mod removal;
 pub mod writing;

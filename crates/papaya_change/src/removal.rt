@@ -5,25 +5,34 @@ ghost use Rattle.papaya_book.specs.Windows.{Does, IsLawful, Sees};
 ghost use Rattle.papaya_book.specs.Books.{IsIn};
 ghost use Rattle.papaya_change.specs.Doing.{Answers, has_changed, was_made};
 ghost use Rattle.papaya_change.specs.Removals.{CanRemove, Removes, Replies};
-ghost use Rattle.std.specs.Prelude.{◌≡◌, ℕ, Some};
-ghost use Rattle.papaya_call.specs.Machine.{IsStanding, ask_of};
+ghost use Rattle.std.specs.Prelude.{◌≡◌, ℕ, Some, Err, IfErr};
+ghost use Rattle.std.specs.Int.{IsPowerOfTwo};
+ghost use Rattle.papaya_book.specs.Limits.{HasNoRoom};
+ghost use Rattle.papaya_call.specs.Machine.{ask_of as call_ask_of};
+ghost use Rattle.papaya_chain.specs.Machine.{IsStanding, ask_of};
+ghost use Rattle.papaya_chain.specs.declared.ask.Ask.TheVariants.{Call};
+ghost use Rattle.papaya_chain.specs.declared.machine.Phase.TheVariants.{Calling};
+ghost use Rattle.papaya_ask.specs.declared.call.Reply.TheVariants.{Refused as ReplyRefused};
 ghost use Rattle.papaya_ask.specs.declared.ask.Ask.TheVariants.{Done, Exchange, Load, SameKey, ShowPair, SizeOf};
 ghost use Rattle.papaya_ask.specs.declared.ask.At.TheVariants.{Slot};
 ghost use Rattle.papaya_book.specs.Logs.{pair_named};
 ghost use Rattle.papaya_change.specs.RemovalAnswers.{IsRemovalBy, went};
 ghost use Rattle.papaya_change.specs.Showings.{AreOf, Judges};
 
-use crate::count::Shard;
-use papaya_ask::ask::{Answer, Ask, At};
+use crate::driver::Driver;
+use papaya_ask::ask::{Answer, Ask as CallAsk, At};
 use papaya_ask::call::{Reply, Task};
 use papaya_book::book::Book;
+use papaya_book::count::Shard;
 use papaya_book::keyed::Asked;
 use papaya_book::rule::entry::Stored;
+use papaya_book::rule::own::{Given, Own};
 use papaya_book::window::Window;
+use papaya_chain::ask::Ask;
 use papaya_keys::guard::Equivalent;
-use papaya_lookup::driver::Driver;
 use papaya_lookup::lookup::hash;
 use papaya_words::probe::Refused;
+use std::alloc::Global;
 use std::hash::{BuildHasher, Hash};
 use std::sync::Wait;
 
@@ -58,7 +67,7 @@ impl<'a, K: Hash + Eq, V, S: BuildHasher> Removal<'a, K, V, S> {
     ) -> Answer
         requires can { CanRemove (⟦<S as Asked<K, Q>>⟧.query key.now) (Judges F.FnMut) window.old
             self.old agrees.now }
-        requires asks { ask_of self.old.call.machine ≡ Load at }
+        requires asks { ask_of self.old.call.machine ≡ Call (Load at) }
         requires standing { IsStanding self.old.call.machine }
         ensures sees { Sees window.old window.new }
         ensures own { window.new.own ≡ window.old.own }
@@ -80,7 +89,7 @@ impl<'a, K: Hash + Eq, V, S: BuildHasher> Removal<'a, K, V, S> {
     ) -> Answer
         requires can { CanRemove (⟦<S as Asked<K, Q>>⟧.query key.now) (Judges F.FnMut) window.now
             self.old agrees.now }
-        requires asks { (t : ℕ) × (ask_of self.old.call.machine ≡ SizeOf t) }
+        requires asks { (t : ℕ) × (ask_of self.old.call.machine ≡ Call (SizeOf t)) }
         requires standing { IsStanding self.old.call.machine }
         ensures machine { self.new.call.machine ≡ self.old.call.machine }
         ensures removes { Removes (⟦<S as Asked<K, Q>>⟧.query key.now) (Judges F.FnMut) window.now
@@ -104,7 +113,7 @@ impl<'a, K: Hash + Eq, V, S: BuildHasher> Removal<'a, K, V, S> {
     ) -> Answer
         requires can { CanRemove (⟦<S as Asked<K, Q>>⟧.query key.now) (Judges F.FnMut) window.now
             self.old agrees.now }
-        requires asks { (n : ℕ) × (ask_of self.old.call.machine ≡ SameKey n) }
+        requires asks { (n : ℕ) × (ask_of self.old.call.machine ≡ Call (SameKey n)) }
         requires standing { IsStanding self.old.call.machine }
         ensures machine { self.new.call.machine ≡ self.old.call.machine }
         ensures removes { Removes (⟦<S as Asked<K, Q>>⟧.query key.now) (Judges F.FnMut) window.now
@@ -128,7 +137,7 @@ impl<'a, K: Hash + Eq, V, S: BuildHasher> Removal<'a, K, V, S> {
         requires callable { F.IsAlwaysCallable agrees.old }
         requires can { CanRemove (⟦<S as Asked<K, Q>>⟧.query key.now) (Judges F.FnMut) window.now
             self.old agrees.old }
-        requires asks { (n : ℕ) × (ask_of self.old.call.machine ≡ ShowPair n) }
+        requires asks { (n : ℕ) × (ask_of self.old.call.machine ≡ Call (ShowPair n)) }
         requires standing { IsStanding self.old.call.machine }
         ensures machine { self.new.call.machine ≡ self.old.call.machine }
         ensures callable { F.IsAlwaysCallable agrees.new }
@@ -157,8 +166,8 @@ impl<'a, K: Hash + Eq, V, S: BuildHasher> Removal<'a, K, V, S> {
     ) -> Answer
         requires can { CanRemove (⟦<S as Asked<K, Q>>⟧.query key.now) (Judges F.FnMut) window.old
             self.old agrees.now }
-        requires asks { ask_of self.old.call.machine ≡ Exchange (Slot number place) words.0
-            words.1 }
+        requires asks { ask_of self.old.call.machine ≡ Call (Exchange (Slot number place)
+            words.0 words.1) }
         requires standing { IsStanding self.old.call.machine }
         ensures sees { Sees window.old window.new }
         ensures does { Does (was_made result) window.old window.new }
@@ -188,32 +197,37 @@ impl<'a, K: Hash + Eq, V, S: BuildHasher> Removal<'a, K, V, S> {
         requires can { CanRemove (⟦<S as Asked<K, Q>>⟧.query key.now) (Judges F.FnMut) window.old
             self.old agrees.old }
         requires standing { IsStanding self.old.call.machine }
+        requires calling { self.old.call.machine.phase ≡ Calling }
         ensures sees { Sees window.old window.new }
-        ensures answers { Answers (ask_of self.old.call.machine) result window.old window.new }
+        ensures answers { Answers (call_ask_of self.old.call.machine.call) result window.old
+            window.new }
         ensures machine { self.new.call.machine ≡ self.old.call.machine }
         ensures callable { F.IsAlwaysCallable agrees.new }
         ensures removes { Removes (⟦<S as Asked<K, Q>>⟧.query key.now) (Judges F.FnMut) window.old
             self.old agrees.old window.new self.new agrees.new result }
     {
-        match self.call.machine.ask() {
-            Ask::Load(at) => Some(self.load(at, key, agrees, window)),
-            Ask::SizeOf(_) => Some(self.size(key, agrees, window)),
-            Ask::SameKey(_) => Some(self.same(key, agrees, window)),
-            Ask::ShowPair(_) => Some(self.show(key, agrees, window)),
-            Ask::Exchange(At::Slot(number, place), old, new) => {
+        let Ask::Call(ask) = self.call.machine.ask() else {
+            unreachable!()
+        };
+        match ask {
+            CallAsk::Load(at) => Some(self.load(at, key, agrees, window)),
+            CallAsk::SizeOf(_) => Some(self.size(key, agrees, window)),
+            CallAsk::SameKey(_) => Some(self.same(key, agrees, window)),
+            CallAsk::ShowPair(_) => Some(self.show(key, agrees, window)),
+            CallAsk::Exchange(At::Slot(number, place), old, new) => {
                 Some(self.bury(number, place, (old, new), key, agrees, window))
             }
-            Ask::AddToShard(by) => {
+            CallAsk::AddToShard(by) => {
                 shard.add(by);
                 Some(Answer::Ok)
             }
-            Ask::Done(_) => None,
-            // A removal shows only a pair, makes nothing and opens no table.
-            Ask::ShowNone
-            | Ask::Exchange(_, _, _)
-            | Ask::MakeKey
-            | Ask::MakePair
-            | Ask::MakeTable { .. } => unreachable!(),
+            CallAsk::Done(_) => None,
+            // A removal shows only a pair, makes no key and no pair and opens no table.
+            CallAsk::ShowNone
+            | CallAsk::Exchange(_, _, _)
+            | CallAsk::MakeKey
+            | CallAsk::MakePair
+            | CallAsk::MakeTable { .. } => unreachable!(),
         }
     }
 
@@ -226,7 +240,10 @@ impl<'a, K: Hash + Eq, V, S: BuildHasher> Removal<'a, K, V, S> {
     ) -> Result<Result<Option<(&'a K, &'a V)>, (&'a K, &'a V)>, Refused>
         requires can { CanRemove (⟦<S as Asked<K, Q>>⟧.query key.now) (Judges F.FnMut) window.now
             self.now agrees.now }
-        requires done { (reply : _) × (ask_of self.now.call.machine ≡ Done reply) }
+        requires standing { IsStanding self.now.call.machine }
+        requires done { (reply : _) × (ask_of self.now.call.machine ≡ Call (Done reply)) }
+        ensures refusal { IfErr result (λ refused. ask_of self.now.call.machine ≡ Call (Done
+            (ReplyRefused refused))) }
         ensures changed { went result ≡ has_changed self.now.call.machine }
         ensures replies { Replies (⟦<S as Asked<K, Q>>⟧.query key.now) (Judges F.FnMut) window.now
             self.now agrees.now result }
@@ -235,19 +252,23 @@ impl<'a, K: Hash + Eq, V, S: BuildHasher> Removal<'a, K, V, S> {
         let _ = agrees;
         let book = window.book;
         match (self.call.machine.ask(), &self.shown, &self.call.taken) {
-            (Ask::Done(Reply::Removed(_)), Some(shown), Some(taken)) => {
+            (Ask::Call(CallAsk::Done(Reply::Removed(_))), Some(shown), Some(taken)) => {
                 book.parts.pairs.agrees(shown, taken);
                 Ok(Ok(Some(entry(book, taken))))
             }
-            (Ask::Done(Reply::Kept(_)), Some(shown), _) => Ok(Err(entry(book, shown))),
-            (Ask::Done(Reply::Absent), _, _) => Ok(Ok(None)),
-            (Ask::Done(Reply::Refused(refused)), _, _) => Err(refused),
+            (Ask::Call(CallAsk::Done(Reply::Kept(_))), Some(shown), _) => {
+                Ok(Err(entry(book, shown)))
+            }
+            (Ask::Call(CallAsk::Done(Reply::Absent)), _, _) => Ok(Ok(None)),
+            (Ask::Call(CallAsk::Done(Reply::Refused(refused))), _, _) => Err(refused),
             _ => unreachable!(),
         }
     }
 }
 
-/// Removes a key's pair if the closure agrees.
+/// Removes a key's pair if the closure agrees. Where it is refused for want of room while it helps
+/// to copy, `given` tells the number that a full log gave, or the sum of the count that makes a
+/// further table too long.
 pub fn remove<
     'a,
     R: Wait,
@@ -258,17 +279,22 @@ pub fn remove<
     F: FnMut(&K, &V) -> bool,
 >(
     rt: &R,
+    alloc: Global,
+    initial: usize,
     shard: &Shard<'_>,
     window: &mut Window<'a, K, V, S>,
+    given: &mut Own<Given>,
     key: &Q,
     mut agrees: F,
 ) -> Result<Result<Option<(&'a K, &'a V)>, (&'a K, &'a V)>, Refused>
     requires callable { F.IsAlwaysCallable agrees }
+    requires initial { IsPowerOfTwo initial }
     ensures sees { Sees window.old window.new }
     ensures lawful { IsLawful window.new }
     ensures made { Makes (went result) (own window.old) (own window.new) (past window.new) }
     ensures removed { IsRemovalBy K.eq (Q.matches key.now) (past window.old) (past window.new)
         (Judges F.FnMut) agrees result }
+    ensures crowded { result ≡ Err Refused.Capacity → HasNoRoom initial given.new.done }
 {
     window.learn();
     let book = window.book;
@@ -277,14 +303,20 @@ pub fn remove<
             Task::RemoveIf,
             hash(&book.parts.hasher, key),
             book.parts.mode,
-            0,
+            initial,
         ),
         shown: None,
     };
     for _ in rt.forever() {
         match removal.answer(shard, key, &mut agrees, window) {
-            Some(answer) => removal.call.machine.answer(answer),
-            None => return removal.replied(key, &agrees, window),
+            Some(answer) => {
+                removal.call.answer(answer);
+                removal.call.help(rt, alloc, shard.count(), window);
+            }
+            None => {
+                *given = removal.call.given.again();
+                return removal.replied(key, &agrees, window);
+            }
         }
     }
     unreachable!()

@@ -2,7 +2,8 @@
 ghost use Rattle.papaya_book.specs.Windows.{Does, IsIn, Sees};
 ghost use Rattle.papaya_change.specs.Writers.{CanPut, CanWrite, Pairs, Puts, Writes};
 ghost use Rattle.std.specs.Prelude.{◌≡◌, ◌⊎◌, ℕ, ◌<◌, ◌^◌, IfErr, IfOk, None, Some};
-ghost use Rattle.papaya_call.specs.Machine.{IsStanding, ask_of, kind_of_ask};
+ghost use Rattle.papaya_chain.specs.Machine.{IsStanding, ask_of, kind_of_ask};
+ghost use Rattle.papaya_chain.specs.declared.ask.Ask.TheVariants.{Call};
 ghost use Rattle.papaya_ask.specs.Search.{IsSize};
 ghost use Rattle.papaya_ask.specs.declared.ask.Ask.TheVariants.{Exchange, Load, MakeKey, MakePair, MakeTable, SameKey, SizeOf};
 ghost use Rattle.papaya_ask.specs.declared.ask.At.TheVariants.{Root, Slot};
@@ -14,15 +15,11 @@ ghost use Rattle.papaya_rests.specs.Told.{or_last};
 ghost use Rattle.papaya_change.specs.Writing.{IsKeyBy, IsUnlogged, IsUnsaid};
 ghost use Rattle.papaya_book.specs.declared.rule.entry.Named.TheVariants.{Pair as PairNamed};
 
-use boxcar::Pushed;
-use logbook::Pen;
+use crate::driver::Driver;
 use papaya_ask::ask::{Answer, At};
 use papaya_book::rule::entry::Stored;
-use papaya_book::rule::own::{Given, Own};
 use papaya_book::rule::pair::Pair;
-use papaya_book::table::Table;
 use papaya_book::window::Window;
-use papaya_lookup::driver::Driver;
 use papaya_words::limits::MAX_LOG_LEN;
 use papaya_words::probe::Refused;
 use std::alloc::Global;
@@ -30,17 +27,13 @@ use std::hash::{BuildHasher, Hash};
 use std::sync::Wait;
 
 /// A call that inserts, under way: its key until that goes into the log with a first pair, then
-/// the pair that brought it, and the value of the pair that it makes next until that is logged. A
-/// table that it has made is opened by its next step. Where a log gave it a number past the log's
-/// limit, contracts see that number.
+/// the pair that brought it, and the value of the pair that it makes next until that is logged.
 #[derive(Drop)]
 pub struct Writer<'a, K: Hash + Eq, V, S: BuildHasher> {
     pub call: Driver<'a, K, V, S>,
     pub key: Option<K>,
     pub brought: Option<Stored<K, V>>,
     pub value: Option<V>,
-    pub opening: Option<(Pushed<Table<K, V, S>>, Pen)>,
-    pub given: Own<Given>,
 }
 
 /// A pair of this value, with the key that is at hand, or else by the pair that brought it.
@@ -72,13 +65,13 @@ impl<'a, K: Hash + Eq + Drop, V: Drop, S: BuildHasher> Writer<'a, K, V, S> {
     /// Loads a word.
     pub fn load(&mut self, at: At, window: &mut Window<'a, K, V, S>) -> Answer
         requires can { CanWrite window.old self.old }
-        requires asks { ask_of self.old.call.machine ≡ Load at }
+        requires asks { ask_of self.old.call.machine ≡ Call (Load at) }
         requires standing { IsStanding self.old.call.machine }
         ensures sees { Sees window.old window.new }
         ensures own { window.new.own ≡ window.old.own }
         ensures machine { self.new.call.machine ≡ self.old.call.machine }
         ensures value { self.new.value ≡ self.old.value }
-        ensures unsaid { IsUnsaid self.new.given.done result }
+        ensures unsaid { IsUnsaid self.new.call.given.done result }
         ensures put { self.new.call.put ≡ self.old.call.put }
         ensures writes { Writes window.old self.old window.new self.new result }
     {
@@ -88,9 +81,9 @@ impl<'a, K: Hash + Eq + Drop, V: Drop, S: BuildHasher> Writer<'a, K, V, S> {
     /// The size of the table.
     pub fn size(&self, window: &Window<'a, K, V, S>) -> Answer
         requires can { CanWrite window.now self.now }
-        requires asks { (t : ℕ) × (ask_of self.now.call.machine ≡ SizeOf t) }
+        requires asks { (t : ℕ) × (ask_of self.now.call.machine ≡ Call (SizeOf t)) }
         requires standing { IsStanding self.now.call.machine }
-        ensures unsaid { IsUnsaid self.now.given.done result }
+        ensures unsaid { IsUnsaid self.now.call.given.done result }
         ensures writes { Writes window.now self.now window.now self.now result }
     {
         let Some(table) = self.call.table else {
@@ -103,9 +96,9 @@ impl<'a, K: Hash + Eq + Drop, V: Drop, S: BuildHasher> Writer<'a, K, V, S> {
     /// Has the pair last loaded a key that equals the call's?
     pub fn same(&self, window: &Window<'a, K, V, S>) -> Answer
         requires can { CanWrite window.now self.now }
-        requires asks { (n : ℕ) × (ask_of self.now.call.machine ≡ SameKey n) }
+        requires asks { (n : ℕ) × (ask_of self.now.call.machine ≡ Call (SameKey n)) }
         requires standing { IsStanding self.now.call.machine }
-        ensures unsaid { IsUnsaid self.now.given.done result }
+        ensures unsaid { IsUnsaid self.now.call.given.done result }
         ensures writes { Writes window.now self.now window.now self.now result }
     {
         let Some(last) = &self.call.last else {
@@ -125,9 +118,9 @@ impl<'a, K: Hash + Eq + Drop, V: Drop, S: BuildHasher> Writer<'a, K, V, S> {
     /// now. It has no number yet, and its machine asks for none.
     pub fn make_key(&self, window: &Window<'a, K, V, S>) -> Answer
         requires can { CanWrite window.now self.now }
-        requires asks { ask_of self.now.call.machine ≡ MakeKey }
+        requires asks { ask_of self.now.call.machine ≡ Call MakeKey }
         requires standing { IsStanding self.now.call.machine }
-        ensures unsaid { IsUnsaid self.now.given.done result }
+        ensures unsaid { IsUnsaid self.now.call.given.done result }
         ensures writes { Writes window.now self.now window.now self.now result }
     {
         let _ = window;
@@ -142,7 +135,7 @@ impl<'a, K: Hash + Eq + Drop, V: Drop, S: BuildHasher> Writer<'a, K, V, S> {
         window: &Window<'a, K, V, S>,
     ) -> Result<Stored<K, V>, Answer>
         requires can { CanWrite window.now self.old }
-        requires asks { ask_of self.old.call.machine ≡ MakePair }
+        requires asks { ask_of self.old.call.machine ≡ Call MakePair }
         requires standing { IsStanding self.old.call.machine }
         ensures machine { self.new.call.machine ≡ self.old.call.machine }
         ensures put { self.new.call.put ≡ self.old.call.put }
@@ -153,7 +146,7 @@ impl<'a, K: Hash + Eq + Drop, V: Drop, S: BuildHasher> Writer<'a, K, V, S> {
             × (self.new.value ≡ None)) }
         ensures pairs { IfOk result (λ q. Pairs window.now self.old self.new q) }
         ensures unlogged { IfErr result (λ answer. IsUnlogged answer) }
-        ensures unsaid { IfErr result (λ answer. IsUnsaid self.new.given.done answer) }
+        ensures unsaid { IfErr result (λ answer. IsUnsaid self.new.call.given.done answer) }
         ensures kept { IfErr result (λ answer. answer ≡ Answer.Ok
             → self.new.value ≡ self.old.value) }
         ensures writes { IfErr result (λ answer. Writes window.now self.old window.now self.new
@@ -167,7 +160,7 @@ impl<'a, K: Hash + Eq + Drop, V: Drop, S: BuildHasher> Writer<'a, K, V, S> {
             Ok(pair) => {
                 self.brought = or_this(self.brought.take(), &pair);
                 if pair.index() >= MAX_LOG_LEN {
-                    self.given = window.book.gave_pair(&pair);
+                    self.call.given = window.book.gave_pair(&pair);
                     return Err(Answer::Refused(Refused::Capacity));
                 }
                 Ok(pair)
@@ -189,23 +182,23 @@ impl<'a, K: Hash + Eq + Drop, V: Drop, S: BuildHasher> Writer<'a, K, V, S> {
         window: &mut Window<'a, K, V, S>,
     ) -> Answer
         requires can { CanWrite window.old self.old }
-        requires asks { ask_of self.old.call.machine ≡ MakeTable len limit }
+        requires asks { ask_of self.old.call.machine ≡ Call (MakeTable len limit) }
         requires standing { IsStanding self.old.call.machine }
         requires size { IsSize len limit }
         ensures sees { Sees window.old window.new }
         ensures own { window.new.own ≡ window.old.own }
         ensures machine { self.new.call.machine ≡ self.old.call.machine }
         ensures value { self.new.value ≡ self.old.value }
-        ensures unsaid { IsUnsaid self.new.given.done result }
+        ensures unsaid { IsUnsaid self.new.call.given.done result }
         ensures put { self.new.call.put ≡ self.old.call.put }
         ensures writes { Writes window.old self.old window.new self.new result }
     {
-        let made = window.make_table(rt, alloc, len, limit, &mut self.given);
+        let made = window.make_table(rt, alloc, len, limit, &mut self.call.given);
         window.learn();
         match made {
             Ok((table, seal)) => {
                 let number = table.index() as u64 + 1;
-                self.opening = Some((table, seal));
+                self.call.fresh = Some((table, seal));
                 Answer::Made(number)
             }
             Err(refused) => Answer::Refused(refused),
@@ -216,17 +209,17 @@ impl<'a, K: Hash + Eq + Drop, V: Drop, S: BuildHasher> Writer<'a, K, V, S> {
     pub fn open(&mut self, window: &mut Window<'a, K, V, S>) -> Answer
         requires can { CanWrite window.old self.old }
         requires asks { (old : ℕ) × (new : ℕ)
-            × (ask_of self.old.call.machine ≡ Exchange Root old new) }
+            × (ask_of self.old.call.machine ≡ Call (Exchange Root old new)) }
         requires standing { IsStanding self.old.call.machine }
         ensures sees { Sees window.old window.new }
         ensures own { window.new.own ≡ window.old.own }
         ensures machine { self.new.call.machine ≡ self.old.call.machine }
         ensures value { self.new.value ≡ self.old.value }
-        ensures unsaid { IsUnsaid self.new.given.done result }
+        ensures unsaid { IsUnsaid self.new.call.given.done result }
         ensures put { self.new.call.put ≡ self.old.call.put }
         ensures writes { Writes window.old self.old window.new self.new result }
     {
-        let Some((table, mut seal)) = self.opening.take() else {
+        let Some((table, mut seal)) = self.call.fresh.take() else {
             unreachable!()
         };
         let (found, root) = window.open_root(&table, &mut seal);
@@ -249,15 +242,15 @@ impl<'a, K: Hash + Eq + Drop, V: Drop, S: BuildHasher> Writer<'a, K, V, S> {
     ) -> Answer
         requires can { CanPut window.old self.old pair.now }
         requires number { pair_of words.1 ≡ pair.now.index }
-        requires asks { ask_of self.old.call.machine ≡ Exchange (Slot number place) words.0
-            words.1 }
+        requires asks { ask_of self.old.call.machine ≡ Call (Exchange (Slot number place)
+            words.0 words.1) }
         requires kind { IsPutting (kind_of_ask self.old.call.machine) }
         requires standing { IsStanding self.old.call.machine }
         ensures sees { Sees window.old window.new }
         ensures does { Does (was_made result) window.old window.new }
         ensures machine { self.new.call.machine ≡ self.old.call.machine }
         ensures value { self.new.value ≡ self.old.value }
-        ensures unsaid { IsUnsaid self.new.given.done result }
+        ensures unsaid { IsUnsaid self.new.call.given.done result }
         ensures put { (self.new.call.put ≡ self.old.call.put)
             ⊎ (self.new.call.put ≡ Some pair.now) }
         ensures writes { Puts window.old self.old pair.now window.new self.new result }
@@ -280,15 +273,15 @@ impl<'a, K: Hash + Eq + Drop, V: Drop, S: BuildHasher> Writer<'a, K, V, S> {
         window: &mut Window<'a, K, V, S>,
     ) -> Answer
         requires can { CanWrite window.old self.old }
-        requires asks { ask_of self.old.call.machine ≡ Exchange (Slot number place) words.0
-            words.1 }
+        requires asks { ask_of self.old.call.machine ≡ Call (Exchange (Slot number place)
+            words.0 words.1) }
         requires kind { kind_of_ask self.old.call.machine ≡ Some Bury }
         requires standing { IsStanding self.old.call.machine }
         ensures sees { Sees window.old window.new }
         ensures does { Does (was_made result) window.old window.new }
         ensures machine { self.new.call.machine ≡ self.old.call.machine }
         ensures value { self.new.value ≡ self.old.value }
-        ensures unsaid { IsUnsaid self.new.given.done result }
+        ensures unsaid { IsUnsaid self.new.call.given.done result }
         ensures put { (self.new.call.put ≡ self.old.call.put) ⊎ (self.new.call.put ≡ None) }
         ensures writes { Writes window.old self.old window.new self.new result }
     {

@@ -87,7 +87,7 @@ module _ {K K' P : Type 0} (c : Coding K P) (c' : Coding K' P) (numbers : (p : P
   asked_by_made (Some kinds.Abort) at new s e a = absurd a
 
 -- the word that stands at a place is the same in all settings whose pairs have the same keys
-word_same : {K P : Type 0} (g g' : Setting K P) (c : Coding K P) → ((p : P) → g'.key p ≡ g.key p) → (s : State P) (at : At) → word_of g' c s at ≡ word_of g c s at
+pub word_same : {K P : Type 0} (g g' : Setting K P) (c : Coding K P) → ((p : P) → g'.key p ≡ g.key p) → (s : State P) (at : At) → word_of g' c s at ≡ word_of g c s at
 word_same g g' c same s Root = refl
 word_same g g' c same s (Next t) = refl
 word_same g g' c same s (Aborted t) = refl
@@ -218,7 +218,7 @@ module _ {K V S H : Type 0} (eq : K → K → Bool) (input : K → List (List �
       may_claim g =
           let p = g.asked.0 in let own = g.asked.1 in let is = g.asked.2 in let key = keys p own.made in record {
             step = steps.Claim t x q;
-            meant = record { asked = (q, record { made = inl refl; named = sym number }, refl); with_it = refl };
+            meant = record { asked = inl (q, record { made = inl refl; named = sym number }, refl); with_it = refl };
             allowed = claimed_instead (plain log) c p q key (own.named ∙ number) (state_of log) t x (subst (Allows (plain log) (state_of log)) is g.allowed);
             written = written_instead (plain log) c p q key (own.named ∙ number) (state_of log) t x (Slot t x) new (subst (λ (e : Exchange (Stored K V)). IsWritten (plain log) c (state_of log) (Slot t x) new (after_exchange (state_of log) e)) is g.written);
           }
@@ -227,7 +227,7 @@ module _ {K V S H : Type 0} (eq : K → K → Bool) (input : K → List (List �
       may_replace g =
           let r = g.asked.0 in let p = g.asked.1 in let live = g.asked.2 in let own = g.asked.3 in let is = g.asked.4 in let key = keys p own.made in record {
             step = steps.Replace t x r q;
-            meant = record { asked = (r, q, live, record { made = inl refl; named = sym number }, refl); with_it = refl };
+            meant = record { asked = inl (r, q, live, record { made = inl refl; named = sym number }, refl); with_it = refl };
             allowed = replaced_instead (plain log) c p q key (own.named ∙ number) (state_of log) t x r (subst (Allows (plain log) (state_of log)) is g.allowed);
             written = written_instead (plain log) c p q key (own.named ∙ number) (state_of log) t x (Slot t x) new (subst (λ (e : Exchange (Stored K V)). IsWritten (plain log) c (state_of log) (Slot t x) new (after_exchange (state_of log) e)) is g.written);
           }
@@ -245,7 +245,7 @@ module _ {K V S H : Type 0} (eq : K → K → Bool) (input : K → List (List �
         let g = subst (λ (z : Option StepKind). IsGranted log z hands (Slot t x) new) is granted in
         let p = g.asked.0 in let by = g.asked.2 in subst MayBury (sym is) (record {
           step = steps.Bury t x p;
-          meant = record { asked = (p, g.asked.1, refl); with_it = refl };
+          meant = record { asked = inl (p, g.asked.1, refl); with_it = refl };
           allowed = subst (Allows (plain log) (state_of log)) by g.allowed;
           written = subst (λ (e : Exchange (Stored K V)). IsWritten (plain log) c (state_of log) (Slot t x) new (after_exchange (state_of log) e)) by g.written;
         })

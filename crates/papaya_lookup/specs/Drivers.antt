@@ -1,6 +1,5 @@
--- What a call under way holds and is told, by what it sees of the map.
+-- What a lookup rests on, and what a caller has seen and made, by what it sees of the map.
 use Rattle.std.specs.Prelude.{ℕ, List}
-use Rattle.papaya_ask.specs.declared.ask.At.{At}
 use Rattle.papaya_call.specs.declared.machine.State.{State as Stage}
 use Rattle.papaya_book.specs.declared.rule.entry.Event.{Event}
 use Rattle.papaya_book.specs.declared.keyed.Keyed as keyed
@@ -9,9 +8,7 @@ use Rattle.papaya_book.specs.Keys.{Query}
 use Rattle.papaya_book.specs.Logs.{Stored, exchanges_of}
 use Rattle.papaya_book.specs.Parts.{begun_of}
 use Rattle.papaya_book.specs.Sheets.{Sheet}
-use Rattle.papaya_lookup.specs.declared.driver.Driver.{Driver}
 use Rattle.papaya_lookup.specs.declared.lookup.Turn.{Turn}
-use Rattle.papaya_lookup.specs.Driver as driver
 use Rattle.papaya_lookup.specs.History.{Change, changes_by, history_of}
 use Rattle.papaya_lookup.specs.Lookups as lookups
 
@@ -23,16 +20,6 @@ module _ {K V S H : Type 0} {d : keyed.Ghosts S K H} where
   -- the changes that were made through it
   abbrev pub own : Window K V S H d → List (Change K (Stored K V))
   own w = changes_by w.own.done
-
-  -- the table is held, and where a slot is asked for it has the slot
-  abbrev pub Holds : At → Window K V S H d → Driver K V S H → Type 0
-  Holds at w c = driver.IsHeldAt at w.sight.log c.table
-
-  -- the call loaded this word from this place, and holds the table and the pair that it names
-  abbrev pub Loads : At → ℕ → Window K V S H d → Driver K V S H → Window K V S H d → Driver K V S H
-      → Type 0
-  Loads at word w c w' c' = driver.IsLoaded d.keys.eq d.keys.hash (begun_of w.book.now.parts)
-      w.book.now.begun.book at word w'.sight.log c.table c'.table c.last c'.last
 
   -- what a lookup has left to do after a turn
   abbrev pub left_after : Window K V S H d → Turn V → ℕ

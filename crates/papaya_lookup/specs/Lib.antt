@@ -1,6 +1,5 @@
 pub mod History
 pub mod Answers
 pub mod Lookups
-pub mod Driver
 -- the same by what is seen of the map
 pub mod Drivers

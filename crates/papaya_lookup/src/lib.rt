@@ -2,6 +2,5 @@
 //! holds.
 #![tactic(auto)]
 
-pub mod driver;
 pub mod history;
 pub mod lookup;

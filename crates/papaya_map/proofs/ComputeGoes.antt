@@ -3,36 +3,45 @@ use Rattle.std.proofs.Common.{◌≡◌, ◌⊎◌, inl, inr, ⊎_elim, ℕ, Boo
 use Rattle.std.specs.Cmp.{IsEquivalence}
 use mathlib.Core.List.{IsPrefix}
 use Rattle.logbook.specs.Pages.{Book}
+use Rattle.papaya_words.specs.declared.probe.Refused.{Refused as Cause}
+use Rattle.papaya_words.specs.declared.probe.Refused.TheVariants.{Capacity}
 use Rattle.papaya_call.specs.declared.answers.Operation.{Operation}
 use Rattle.papaya_ask.specs.declared.ask.Ask.{Ask}
 use Rattle.papaya_ask.specs.declared.ask.Ask.TheVariants.{Load, Exchange, SameKey, ShowNone, ShowPair, SizeOf, MakeKey, MakePair, MakeTable, AddToShard, Done}
 use Rattle.papaya_ask.specs.declared.ask.Answer.{Answer}
-use Rattle.papaya_ask.specs.declared.ask.Answer.TheVariants.{Word as Word_read, Exchanged, Found as Found_instead, Yes, Op, Size, Made as Made_number, Ok as Ok_done, Refused as Was_refused}
 use Rattle.papaya_ask.specs.declared.ask.At.TheVariants.{Root, Next, Aborted as Aborted_word, Done as Done_word, Slot}
-use Rattle.papaya_call.specs.declared.machine.Machine.{Machine}
-use Rattle.papaya_call.specs.declared.machine.State.TheVariants.{Growing}
-use Rattle.papaya_call.specs.Machine.{IsStanding, MayInsert, after, ask_of}
+use Rattle.papaya_ask.specs.declared.call.Reply.{Reply}
+use Rattle.papaya_ask.specs.declared.call.Reply.TheVariants.{Refused}
+use Rattle.papaya_call.specs.Machine as calls
+use Rattle.papaya_chain.specs.declared.ask.Answer.TheVariants as answers
+use Rattle.papaya_chain.specs.declared.ask.Ask.TheVariants.{Call}
+use Rattle.papaya_chain.specs.declared.machine.Machine.{Machine}
+use Rattle.papaya_chain.specs.declared.machine.Phase.TheVariants.{Calling}
+use Rattle.papaya_chain.specs.Machine.{IsStanding, after, ask_of}
+use Rattle.papaya_chain_rests.specs.Goes.{IsInOrder}
+use Rattle.papaya_chain_rests.proofs.Names.{call_asks}
+use Rattle.papaya_chain_rests.proofs.Once.{chain_once}
+use Rattle.papaya_chain_rests.proofs.Replies.{chain_shows, chain_task}
 use Rattle.papaya_rests.specs.Says.{Agrees, HasShownNone, Inserts, Makes, Removes, Said, ShowsPairs, StandsOn}
-use Rattle.papaya_rests.proofs.SaysChanges.{machine_aborted}
-use Rattle.papaya_rests.proofs.SaysOnce.{machine_shown}
-use Rattle.papaya_rests.proofs.Silent.{IsSilent, not_done, not_show, stood_before}
-use Rattle.papaya_rests.proofs.SaysWords.{machine_shows}
+use Rattle.papaya_rests.proofs.Silent.{IsSilent, not_done, not_show}
 use Rattle.papaya_map.specs.declared.computing.Computing.{Computing}
 use Rattle.papaya_book.specs.declared.rule.entry.Begun.{Begun}
 use Rattle.papaya_book.specs.declared.rule.entry.Event.{Event}
+use Rattle.papaya_book.specs.declared.rule.own.Given.{Given}
 use Rattle.papaya_change.specs.declared.writing.Writer.{Writer}
 use Rattle.papaya_map.specs.Computing.{Holds, IsComputing, IsComputingOn, IsWriters}
 use Rattle.papaya_book.specs.Hashes.{hash_of}
+use Rattle.papaya_book.specs.Limits.{HasNoRoom}
 use Rattle.papaya_lookup.specs.History.{history_of}
 use Rattle.papaya_book.specs.Logs.{Stored}
-use Rattle.papaya_change.specs.NoRoom.{HasNoPlace}
 use Rattle.papaya_change.specs.Showings.{HasNoNone, WasHeld}
-use Rattle.papaya_change.specs.Writing.{IsMemoryOrCapacity, IsUnsaid, IsWritingOn}
+use Rattle.papaya_change.specs.Writing.{IsMemoryOrCapacity, IsUnsaid, IsWritingOn, answered as answered_writer}
 use Rattle.papaya_lookup.proofs.Histories.{history_since}
-use Rattle.papaya_change.proofs.NoRoom.{no_place, no_place_wider, refused_room}
-use Rattle.papaya_change.proofs.Refusals.{refused_for, unsaid_cause}
+use Rattle.papaya_change.proofs.OwnSays.{own_stood}
+use Rattle.papaya_change.proofs.OwnSteps.{own_order}
+use Rattle.papaya_change.proofs.Refusals.{refused_for, unsaid_cause, unsaid_room}
 use Rattle.papaya_change.proofs.Showings.{all_shown, held_wider}
-use Rattle.papaya_call.specs.declared.need.Need.{Need}
+use Rattle.papaya_map.proofs.ComputeOwn.{own_aborted}
 
 -- what any call asks that inserts is silent
 pub writers_silent : (ask : Ask) → IsWriters ask → IsSilent ask
@@ -51,18 +60,6 @@ writers_silent MakePair h = absurd h
 writers_silent (MakeTable slots limit) h = tt
 writers_silent (AddToShard by) h = absurd h
 writers_silent (Done reply) h = absurd h
-
--- no answer changes the task
-task_after : (m : Machine) (answer : Answer) → (after m answer).task ≡ m.task
-task_after m (Word_read word) = refl
-task_after m Exchanged = refl
-task_after m (Found_instead word) = refl
-task_after m (Yes same) = refl
-task_after m (Op kind) = refl
-task_after m (Size slots limit) = refl
-task_after m (Made_number n) = refl
-task_after m Ok_done = refl
-task_after m (Was_refused refused) = refl
 
 module _ {K V S H T : Type 0} (key : K) (made : List (Stored K V)) (said : List (Option (Stored K V) × Operation V T)) (x : Computing K V S T H) where
   -- what is at hand stays so, whatever else the writer does, while it keeps the value
@@ -96,38 +93,53 @@ module _ {K V S H T F : Type 0} (eq : K → K → Bool) (input : K → List (Lis
     pub held_later : (log' : List (Event K V S)) → IsPrefix log log' → (held : Option (Stored K V)) → HeldOn log held → HeldOn log' held
     held_later log' pre held h = held_wider eq (eq key) (history_of begun) (history_of begun) (history_of log) (history_of log') ([], append-nil (history_of begun)) (history_since log log' pre) held h
 
-    -- whether it was shown that there is none
-    pub none_later : (answer : Answer) → HasNoNone r.said ⊎ HasShownNone m.remembered.fill m.state → HasNoNone r.said ⊎ HasShownNone (after m answer).remembered.fill (after m answer).state
-    none_later answer h = ⊎_elim (λ never. inl never) (λ shown. inr (machine_shown m answer shown).1) h
+    module _ (standing : IsStanding m) (ask : Ask) (asks : ask_of m ≡ Call ask) (is_silent : IsSilent ask) (answer : Answer) where
+      abbrev own : (m.phase ≡ Calling) × (calls.ask_of m.call ≡ ask)
+      own = call_asks m ask asks
 
-    -- where a table is needed further, its key has no place
-    none_left : (log' : List (Event K V S)) → IsPrefix log log' → (need : Need) → m.state ≡ Growing need → HasNoPlace eq hash b key (history_of begun) (history_of log')
-    none_left log' pre need e =
-        no_place_wider eq hash b key (history_of begun) (history_of begun) (history_of log) (history_of log') ([], append-nil (history_of begun)) (history_since log log' pre)
-        (no_place eq input build write finish classes respects b name key r.made begun log x.writer r.writing need e)
+      silent : IsSilent (calls.ask_of m.call)
+      silent = subst IsSilent (sym own.1) is_silent
 
-    -- it goes on after an answer to a silent ask
-    pub goes_on : IsStanding m → IsSilent (ask_of m) → (log' : List (Event K V S)) → IsPrefix log log' → (w : Writer K V S H) (answer : Answer) → w.call.machine ≡ m → w.value ≡ x.writer.value → IsUnsaid w.given.done answer
-        → IsWritingOn eq hash b name key r.made begun log' w answer → ComputingOn log' (record x { writer = w }) f (Some answer)
-    goes_on standing silent log' pre w answer same value unsaid on =
-        let then : after w.call.machine answer ≡ after m answer = ap (λ (z : Machine). after z answer) same in
-        let w' : Writer K V S H = record w { call = record w.call { machine = after w.call.machine answer } } in (
-          record {
-            made = r.made;
-            writing = on.0;
-            task_is = ap (λ (z : Machine). z.task) then ∙ (task_after m answer ∙ r.task_is);
-            words = subst (λ (z : Machine). ShowsPairs z.state) (sym then) (machine_shows m answer r.words);
-            shown_placed = r.shown_placed;
-            chosen_placed = r.chosen_placed;
-            said = r.said;
-            has_said = r.has_said;
-            held = all_shown (HeldOn log) (HeldOn log') (held_later log' pre) r.said r.held;
-            none_once = r.none_once;
-            none_shown = subst (λ (z : Machine). HasNoNone r.said ⊎ HasShownNone z.remembered.fill z.state) (sym then) (none_later answer r.none_shown);
-            stood = λ stands h. holds_still key r.made r.said x w' value stands (r.stood stands (stood_before m answer silent standing r.words stands (subst (λ (z : Machine). StandsOn z stands) then h)));
-            aborts = λ with e. let s = machine_aborted m answer with (not_done m answer silent) (ap ask_of (sym then) ∙ e) in absurd (not_show m answer silent s.0 s.1);
-            refuses = λ cause e. inl (refused_for IsMemoryOrCapacity m answer (not_show m answer silent None) (not_done m answer silent) (inr refl) (unsaid_cause w.given.done answer unsaid) cause (ap ask_of (sym then) ∙ e));
-            crowded = λ e. refused_room (HasNoPlace eq hash b key (history_of begun) (history_of log')) w.given.done m answer (not_done m answer silent) unsaid (none_left log' pre) (ap ask_of (sym then) ∙ e);
-          },
-          on.1,
-        )
+      order : IsInOrder m (answers.Call answer) m.phase
+      order = own_order m own.0 answer
+
+      open_still : (reply : Reply) → ask_of m ≡ Call (Done reply) → ⊥
+      open_still reply e = not_done m.call answer silent reply (call_asks m (Done reply) e).1
+
+      never : ask_of m ≡ Call ShowNone → ⊥
+      never e = not_show m.call answer silent None (call_asks m ShowNone e).1
+
+      -- whether it was shown that there is none
+      none_later : HasNoNone r.said ⊎ HasShownNone m.call.remembered.fill m.call.state → HasNoNone r.said ⊎ HasShownNone (after m (answers.Call answer)).call.remembered.fill (after m (answers.Call answer)).call.state
+      none_later h = ⊎_elim (λ none. inl none) (λ shown. inr (chain_once m (answers.Call answer) order shown).1) h
+
+      -- why it is refused
+      refused_by : (given : List Given) → IsUnsaid given answer → (cause : Cause) → ask_of (after m (answers.Call answer)) ≡ Call (Done (Refused cause)) → IsMemoryOrCapacity cause
+      refused_by given unsaid = refused_for m own.0 answer IsMemoryOrCapacity never open_still (unsaid_cause given answer unsaid)
+
+      full_log : (initial : ℕ) (given : List Given) → IsUnsaid given answer → ask_of (after m (answers.Call answer)) ≡ Call (Done (Refused Capacity)) → HasNoRoom initial given
+      full_log initial given unsaid e = refused_for m own.0 answer (λ cause. cause ≡ Capacity → HasNoRoom initial given) never open_still (unsaid_room initial given answer unsaid) Capacity e refl
+
+      -- it goes on after an answer to a silent ask
+      pub goes_on : (log' : List (Event K V S)) → IsPrefix log log' → (w : Writer K V S H) → w.call.machine ≡ m → w.value ≡ x.writer.value → IsUnsaid w.call.given.done answer → IsWritingOn eq hash b name key r.made begun log' w answer → ComputingOn log' (record x { writer = w }) f (Some answer)
+      goes_on log' pre w same value unsaid on =
+          let then : after w.call.machine (answers.Call answer) ≡ after m (answers.Call answer) = ap (λ (z : Machine). after z (answers.Call answer)) same in (
+            record {
+              made = r.made;
+              writing = on.0;
+              task_is = ap (λ (z : Machine). z.call.task) then ∙ ((chain_task m (answers.Call answer) order).0 ∙ r.task_is);
+              words = subst (λ (z : Machine). ShowsPairs z.call.state) (sym then) (chain_shows m (answers.Call answer) order r.words);
+              shown_placed = r.shown_placed;
+              chosen_placed = r.chosen_placed;
+              said = r.said;
+              has_said = r.has_said;
+              held = all_shown (HeldOn log) (HeldOn log') (held_later log' pre) r.said r.held;
+              none_once = r.none_once;
+              none_shown = subst (λ (z : Machine). HasNoNone r.said ⊎ HasShownNone z.call.remembered.fill z.call.state) (sym then) (none_later r.none_shown);
+              stood = λ stands h. holds_still key r.made r.said x (answered_writer w answer) value stands (r.stood stands (own_stood m own.0 answer silent standing r.words stands (subst (λ (z : Machine). StandsOn z.call stands) then h)));
+              aborts = λ with e. let s = own_aborted m own.0 answer with open_still (ap ask_of (sym then) ∙ e) in absurd (not_show m.call answer silent s.0 s.1);
+              refuses = λ cause e. inl (refused_by w.call.given.done unsaid cause (ap ask_of (sym then) ∙ e));
+              crowded = λ e. full_log (after w.call.machine (answers.Call answer)).call.initial w.call.given.done unsaid (ap ask_of (sym then) ∙ e);
+            },
+            on.1,
+          )

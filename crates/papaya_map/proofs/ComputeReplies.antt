@@ -12,8 +12,12 @@ use Rattle.papaya_ask.specs.declared.call.Reply.{Reply}
 use Rattle.papaya_ask.specs.declared.call.Reply.TheVariants.{Absent, Found, Inserted, Replaced, Occupied, Removed, Kept, Aborted, Done as Reply_done, Refused}
 use Rattle.papaya_ask.specs.declared.call.Task.{Task}
 use Rattle.papaya_ask.specs.declared.call.Task.TheVariants.{Compute}
-use Rattle.papaya_call.specs.declared.machine.Machine.{Machine}
-use Rattle.papaya_call.specs.Machine.{ask_of, started}
+use Rattle.papaya_words.specs.Mode.{IsChunked}
+use Rattle.papaya_chain.specs.declared.ask.Ask.TheVariants.{Call}
+use Rattle.papaya_chain.specs.declared.machine.Machine.{Machine}
+use Rattle.papaya_chain.specs.Machine.{ask_of, started}
+use Rattle.papaya_chain_rests.proofs.Names.{call_asks}
+use Rattle.papaya_rests.specs.Told.{Hands}
 use Rattle.papaya_rests.specs.Rests.{IsReply, change_of_reply}
 use Rattle.papaya_rests.specs.Says.{Makes, Removes, Said, StandsOn, said_in, said_of_compute}
 use Rattle.papaya_rests.proofs.RestsHeld.{ended_in, machine_replies}
@@ -22,7 +26,7 @@ use Rattle.papaya_keys.specs.declared.compute.Compute.TheVariants as computed
 use Rattle.papaya_map.specs.declared.computing.Computing.{Computing}
 use Rattle.papaya_book.specs.declared.rule.entry.Begun.{Begun}
 use Rattle.papaya_book.specs.declared.rule.entry.Event.{Event}
-use Rattle.papaya_change.specs.Changing.{HasChanged, hands_with}
+use Rattle.papaya_change.specs.Changing.{HasChanged}
 use Rattle.papaya_change.specs.Changes.{IsChangeOf}
 use Rattle.papaya_map.specs.Computing.{Holds, IsComputing}
 use Rattle.papaya_map.specs.ComputeAnswers.{IsComputeBy, IsOperated}
@@ -64,6 +68,10 @@ module _ {K V S T H F : Type 0} (eq : K → K → Bool) (input : K → List (Lis
   abbrev m : Machine
   m = x.writer.call.machine
 
+  -- the pairs that its call was told of
+  abbrev hands : Hands (Stored K V)
+  hands = record { last = x.writer.call.last; made = r.made }
+
   abbrev Answers : Result (Computed K V T) Cause → Type 0
   Answers answer = IsComputeBy eq key (history_of begun) (history_of log) operates first answer
 
@@ -74,16 +82,16 @@ module _ {K V S T H F : Type 0} (eq : K → K → Bool) (input : K → List (Lis
   answers answer done = record { said = r.said; left = f; has_said = r.has_said; held = r.held; none_once = r.none_once; operated = done }
 
   -- what its reply stands on is at hand
-  at_hand : (reply : Reply) (said : Said) → ask_of m ≡ Done reply → said_of_compute reply ≡ Some said → Holds key r.made r.said x said
-  at_hand reply said e is = r.stood said (inl (ap (λ t. said_in t m.state) r.task_is ∙ (ap (said_in Compute) (ended_in m.made m.hash m.state reply e) ∙ is)))
+  at_hand : (reply : Reply) (said : Said) → ask_of m ≡ Call (Done reply) → said_of_compute reply ≡ Some said → Holds key r.made r.said x said
+  at_hand reply said e is = r.stood said (inl (ap (λ t. said_in t m.call.state) r.task_is ∙ (ap (said_in Compute) (ended_in m.call.made m.call.hash m.call.state reply (call_asks m (Done reply) e).1) ∙ is)))
 
-  module _ (reply : Reply) (e : ask_of m ≡ Done reply) (old new : Option ℕ) (change : change_of_reply reply ≡ Some (old, new)) where
+  module _ (reply : Reply) (e : ask_of m ≡ Call (Done reply)) (old new : Option ℕ) (change : change_of_reply reply ≡ Some (old, new)) where
     changed : HasChanged eq begun log x.writer.call.taken x.writer.call.put (old, new)
     changed =
         let query = own_query eq input build write finish classes respects b name key in
         let g = Wide eq input build write finish classes respects b (eq key) (input key) query (Some key) name begun log in
         let c = Coded eq input build write finish classes respects b (eq key) (input key) query (Some key) name begun in
-        r.writing.calling.changed (old, new) ((machine_replies g c (exchanges_of begun) r.writing.calling.since (Some key) (hands_with x.writer.call.last r.made) m r.writing.calling.rests reply e).1 ∙ change)
+        r.writing.calling.changed (old, new) ((machine_replies g c (exchanges_of begun) r.writing.calling.since (Some key) hands m.call r.writing.calling.rests.call reply (call_asks m (Done reply) e).1).1 ∙ change)
 
     -- the numbers of what went and of what came
     taken_number : (taken : Stored K V) → x.writer.call.taken ≡ Some taken → (old ≡ Some taken.index) × (changed.class ≡ key_of taken)
@@ -125,7 +133,7 @@ module _ {K V S T H F : Type 0} (eq : K → K → Bool) (input : K → List (Lis
     }
 
   -- it put a pair in
-  module _ (n : ℕ) (e : ask_of m ≡ Done (Inserted n)) where
+  module _ (n : ℕ) (e : ask_of m ≡ Call (Done (Inserted n))) where
     abbrev filled : Holds key r.made r.said x (Makes None n)
     filled = at_hand (Inserted n) (Makes None n) e refl
 
@@ -159,7 +167,7 @@ module _ {K V S T H F : Type 0} (eq : K → K → Bool) (input : K → List (Lis
   shown_key : (p : Stored K V) (done : Operation V T) → Member (Some p, done) r.said → eq key (key_of p) ≡ true
   shown_key p done member = (shown_each (WasHeld eq (eq key) (history_of begun) (history_of log)) r.said r.held (Some p) done member).is.0
 
-  module _ (reply : Reply) (e : ask_of m ≡ Done reply) (n : ℕ) (new : Option ℕ) (change : change_of_reply reply ≡ Some (Some n, new)) (p : Stored K V) (number : p.index ≡ n) (taken : Stored K V) (took : x.writer.call.taken ≡ Some taken) where
+  module _ (reply : Reply) (e : ask_of m ≡ Call (Done reply)) (n : ℕ) (new : Option ℕ) (change : change_of_reply reply ≡ Some (Some n, new)) (p : Stored K V) (number : p.index ≡ n) (taken : Stored K V) (took : x.writer.call.taken ≡ Some taken) where
     -- the pair that went has the number of the one that was shown
     went_number : p.index ≡ taken.index
     went_number = let t = (taken_number reply e (Some n) new change taken took).0 in let same : n ≡ taken.index = cc t in number ∙ same
@@ -169,7 +177,7 @@ module _ {K V S T H F : Type 0} (eq : K → K → Bool) (input : K → List (Lis
     went_class same own = ap (λ (z : K). eq key z) ((taken_number reply e (Some n) new change taken took).1 ∙ ap (λ z. z.key.value) (sym same)) ∙ own
 
   -- it took a pair out
-  module _ (n : ℕ) (e : ask_of m ≡ Done (Removed n)) where
+  module _ (n : ℕ) (e : ask_of m ≡ Call (Done (Removed n))) where
     abbrev doomed : Holds key r.made r.said x (Removes n)
     doomed = at_hand (Removed n) (Removes n) e refl
 
@@ -190,7 +198,7 @@ module _ {K V S T H F : Type 0} (eq : K → K → Bool) (input : K → List (Lis
         answers (Ok (computed.Removed k v)) (taken, change_is (Removed n) e (Some n) None refl (Some taken) None took (none_put (Removed n) e (Some n) None refl refl) class, (doomed.0, (went_number (Removed n) e n None refl doomed.0 doomed.2 taken took, value), doomed.3), are)
 
   -- a pair took the place of another
-  module _ (i n : ℕ) (e : ask_of m ≡ Done (Replaced i n)) where
+  module _ (i n : ℕ) (e : ask_of m ≡ Call (Done (Replaced i n))) where
     abbrev replaced : Holds key r.made r.said x (Makes (Some i) n)
     replaced = at_hand (Replaced i n) (Makes (Some i) n) e refl
 
@@ -231,21 +239,21 @@ module _ {K V S T H F : Type 0} (eq : K → K → Bool) (input : K → List (Lis
         (taken, put, change_is (Replaced i n) e (Some i) (Some n) refl (Some taken) (Some put) took puts class, own, (replaced.0, (went_number (Replaced i n) e i (Some n) refl replaced.0 replaced.3 taken took, value), subst (λ (z : V). Member (Some replaced.0, operation.Insert z) r.said) (ap (λ z. z.value) new_value) replaced.5.said_is), are, new_are)
 
   -- its closure ended it
-  pub aborted : (with : ℕ) → ask_of m ≡ Done (Aborted with) → (t : T) → x.aborted ≡ Some t → Answers (Ok (computed.Aborted t))
+  pub aborted : (with : ℕ) → ask_of m ≡ Call (Done (Aborted with)) → (t : T) → x.aborted ≡ Some t → Answers (Ok (computed.Aborted t))
   aborted with e t is =
       let a = r.aborts with e in
       let one : a.0 ≡ t = cc (a.1, is) in
       answers (Ok (computed.Aborted t)) (subst (λ (z : T). (held : Option (Stored K V)) × WasLast held (operation.Abort z) r.said) one a.2)
 
-  pub aborted_kept : (with : ℕ) → ask_of m ≡ Done (Aborted with) → x.aborted ≡ None → ⊥
+  pub aborted_kept : (with : ℕ) → ask_of m ≡ Call (Done (Aborted with)) → x.aborted ≡ None → ⊥
   aborted_kept with e none = let a = r.aborts with e in let g = sym a.1 ∙ none in cc g
 
   -- it was refused
-  pub refused : (cause : Cause) → ask_of m ≡ Done (Refused cause) → Answers (Err cause)
+  pub refused : (cause : Cause) → ask_of m ≡ Call (Done (Refused cause)) → Answers (Err cause)
   refused cause e = answers (Err cause) (r.refuses cause e)
 
   -- it replies nothing else
-  replies_no_other : (reply : Reply) → IsNoCompute reply → IsReply (Wide eq input build write finish classes respects b (eq key) (input key) (own_query eq input build write finish classes respects b name key) (Some key) name begun log) (Coded eq input build write finish classes respects b (eq key) (input key) (own_query eq input build write finish classes respects b name key) (Some key) name begun) (exchanges_of begun) r.writing.calling.since (Some key) (hands_with x.writer.call.last r.made) Compute reply → ⊥
+  replies_no_other : (reply : Reply) → IsNoCompute reply → IsReply (Wide eq input build write finish classes respects b (eq key) (input key) (own_query eq input build write finish classes respects b name key) (Some key) name begun log) (Coded eq input build write finish classes respects b (eq key) (input key) (own_query eq input build write finish classes respects b name key) (Some key) name begun) (exchanges_of begun) r.writing.calling.since (Some key) hands Compute reply → ⊥
   replies_no_other Absent never is = is
   replies_no_other (Found n) never is = is
   replies_no_other (Inserted n) never is = never
@@ -257,12 +265,12 @@ module _ {K V S T H F : Type 0} (eq : K → K → Bool) (input : K → List (Lis
   replies_no_other Reply_done never is = is
   replies_no_other (Refused cause) never is = never
 
-  pub no_other : (reply : Reply) → IsNoCompute reply → ask_of m ≡ Done reply → ⊥
+  pub no_other : (reply : Reply) → IsNoCompute reply → ask_of m ≡ Call (Done reply) → ⊥
   no_other reply never e =
       let query = own_query eq input build write finish classes respects b name key in
       let g = Wide eq input build write finish classes respects b (eq key) (input key) query (Some key) name begun log in
       let c = Coded eq input build write finish classes respects b (eq key) (input key) query (Some key) name begun in
-      replies_no_other reply never (subst (λ (t : Task). IsReply g c (exchanges_of begun) r.writing.calling.since (Some key) (hands_with x.writer.call.last r.made) t reply) r.task_is (machine_replies g c (exchanges_of begun) r.writing.calling.since (Some key) (hands_with x.writer.call.last r.made) m r.writing.calling.rests reply e).0)
+      replies_no_other reply never (subst (λ (t : Task). IsReply g c (exchanges_of begun) r.writing.calling.since (Some key) hands t reply) r.task_is (machine_replies g c (exchanges_of begun) r.writing.calling.since (Some key) hands m.call r.writing.calling.rests.call reply (call_asks m (Done reply) e).1).0)
 
 -- what was seen before a compute began was seen before its change, and before what its closure was shown
 module _ {K V : Type 0} (eq : K → K → Bool) (key : K) (older old new : List (Change K (Stored K V))) (pre : IsPrefix older old) where
@@ -288,12 +296,12 @@ module _ {K V T : Type 0} (eq : K → K → Bool) (key : K) (older old new : Lis
   }
 
 -- a compute that begins
-pub begins : {K V S T H F : Type 0} (eq : K → K → Bool) (hash : S → K → ℕ) (b : Begun K V S) (name : Book) (operates : F → Option (Stored K V) → Operation V T → F → Type 0) (key : K) (first : F) (log : List (Event K V S)) (x : Computing K V S T H) → IsLawfulLog eq hash b log → (initial : ℕ) → x.writer.call.machine ≡ started Compute (hash b.hasher key) b.mode initial
-    → x.writer.call.table ≡ None → x.writer.call.last ≡ None → x.writer.call.taken ≡ None → x.writer.call.put ≡ None → x.writer.key ≡ Some key → x.writer.brought ≡ None → x.shown ≡ None → x.chosen ≡ None → IsComputing eq hash b name operates key first log log x first
-begins eq hash b name operates key first log x l initial machine table last taken put own brought shown chosen = record {
+pub begins : {K V S T H F : Type 0} (eq : K → K → Bool) (hash : S → K → ℕ) (b : Begun K V S) (name : Book) (operates : F → Option (Stored K V) → Operation V T → F → Type 0) (key : K) (first : F) (log : List (Event K V S)) (x : Computing K V S T H) → IsLawfulLog eq hash b log → IsChunked b.mode → (initial : ℕ) → x.writer.call.machine ≡ started Compute (hash b.hasher key) b.mode initial
+    → (x.writer.call.table ≡ None) × (x.writer.call.fresh ≡ None) → (x.writer.call.last ≡ None) × (x.writer.call.kept ≡ None) × (x.writer.call.taken ≡ None) × (x.writer.call.put ≡ None) → x.writer.key ≡ Some key → x.writer.brought ≡ None → x.shown ≡ None → x.chosen ≡ None → IsComputing eq hash b name operates key first log log x first
+begins eq hash b name operates key first log x l chunked initial machine table pairs own brought shown chosen = record {
   made = [];
-  writing = begins_writing eq hash b name key log x.writer l Compute initial machine table last taken put own brought;
-  task_is = ap (λ (z : Machine). z.task) machine;
+  writing = begins_writing eq hash b name key log x.writer l chunked Compute initial machine table pairs own brought;
+  task_is = ap (λ (z : Machine). z.call.task) machine;
   words = rw machine tt;
   shown_placed = rw shown tt;
   chosen_placed = rw chosen tt;
@@ -302,13 +310,13 @@ begins eq hash b name operates key first log x l initial machine table last take
   held = tt;
   none_once = tt;
   none_shown = inl tt;
-  stood = λ stands h. absurd (nothing_said (subst (λ (z : Machine). StandsOn z stands) machine h));
+  stood = λ stands h. absurd (nothing_said (subst (λ (z : Machine). StandsOn z.call stands) machine h));
   aborts = λ with e. let g = sym (ap ask_of machine) ∙ e in absurd (cc g);
   refuses = λ cause e. let g = sym (ap ask_of machine) ∙ e in absurd (cc g);
   crowded = λ e. let g = sym (ap ask_of machine) ∙ e in absurd (cc g);
 }
   where
-    nothing_said : {stands : Said} → StandsOn (started Compute (hash b.hasher key) b.mode initial) stands → ⊥
+    nothing_said : {stands : Said} → StandsOn (started Compute (hash b.hasher key) b.mode initial).call stands → ⊥
     nothing_said (inl e) = cc e
     nothing_said (inr (inl e)) = cc e
     nothing_said (inr (inr e)) = cc e

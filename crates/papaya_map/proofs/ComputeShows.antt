@@ -2,37 +2,43 @@
 use Rattle.std.proofs.Common.{◌≡◌, ◌⊎◌, inl, inr, ⊎_elim, ℕ, Bool, true, Option, None, Some, List, [], ◌∷◌, append-nil, refl, sym, ap, ◌∙◌, subst}
 use Rattle.std.specs.Cmp.{IsEquivalence}
 use Rattle.logbook.specs.Pages.{Book}
+use Rattle.papaya_words.specs.declared.probe.Refused.{Refused as Cause}
 use Rattle.papaya_words.specs.declared.probe.Refused.TheVariants.{Capacity}
 use Rattle.papaya_call.specs.declared.answers.Operation.{Operation}
 use Rattle.papaya_call.specs.declared.answers.Operation.TheVariants as operation
-use Rattle.papaya_ask.specs.declared.ask.Ask.TheVariants.{Exchange, Load, ShowNone, ShowPair, Done}
-use Rattle.papaya_ask.specs.declared.ask.At.TheVariants.{Next, Root}
+use Rattle.papaya_ask.specs.declared.ask.Ask.TheVariants.{Load, ShowNone, ShowPair, Done}
+use Rattle.papaya_ask.specs.declared.ask.At.TheVariants.{Next}
 use Rattle.papaya_ask.specs.declared.ask.Answer.{Answer}
 use Rattle.papaya_ask.specs.declared.ask.Answer.TheVariants.{Op}
 use Rattle.papaya_ask.specs.declared.ask.OpKind.{OpKind}
 use Rattle.papaya_ask.specs.declared.ask.OpKind.TheVariants as kinds
 use Rattle.papaya_ask.specs.declared.call.Reply.{Reply}
-use Rattle.papaya_call.specs.declared.machine.Machine.{Machine}
-use Rattle.papaya_call.specs.Machine.{IsStanding, after, ask_of}
+use Rattle.papaya_ask.specs.declared.call.Reply.TheVariants.{Refused}
+use Rattle.papaya_call.specs.declared.machine.Machine.{Machine as Call_machine}
+use Rattle.papaya_call.specs.Machine as calls
+use Rattle.papaya_chain.specs.declared.ask.Answer.TheVariants as answers
+use Rattle.papaya_chain.specs.declared.ask.Ask.TheVariants.{Call}
+use Rattle.papaya_chain.specs.declared.machine.Machine.{Machine}
+use Rattle.papaya_chain.specs.declared.machine.Phase.TheVariants.{Calling}
+use Rattle.papaya_chain.specs.Machine.{IsStanding, after, ask_of}
+use Rattle.papaya_chain_rests.specs.Goes.{IsInOrder}
+use Rattle.papaya_chain_rests.proofs.Names.{call_asks}
+use Rattle.papaya_chain_rests.proofs.Once.{chain_offered, chain_once}
+use Rattle.papaya_chain_rests.proofs.Replies.{chain_shows, chain_task}
 use Rattle.papaya_rests.specs.Says.{Agrees, HasShownNone, Inserts, IsSaidBy, Makes, Removes, Said, StandsOn, show}
 use Rattle.papaya_law.specs.Code.{Coding}
 use Rattle.papaya_law.specs.Exchange.{Setting}
 use Rattle.papaya_rests.specs.Rests.{WasAtMoment}
 use Rattle.papaya_rests.specs.Told.{Hands}
 use Rattle.papaya_rests.proofs.RestsHeld as held
-use Rattle.papaya_rests.proofs.RestsHeld.{machine_offered, machine_offers, machine_unpaired}
-use Rattle.papaya_rests.proofs.RestsOpened.{machine_opened}
-use Rattle.papaya_rests.proofs.RestsReplyRefused.{machine_refused}
-use Rattle.papaya_rests.proofs.SaysChanges.{machine_aborted}
-use Rattle.papaya_rests.proofs.SaysOnce.{machine_shown}
+use Rattle.papaya_rests.proofs.RestsHeld.{machine_offers, machine_unpaired}
 use Rattle.papaya_rests.proofs.SaysOver.{machine_chosen}
 use Rattle.papaya_rests.proofs.SaysSaid.{machine_said}
-use Rattle.papaya_rests.proofs.SaysWords.{machine_shows}
 use Rattle.papaya_map.specs.declared.computing.Computing.{Computing}
 use Rattle.papaya_book.specs.declared.rule.entry.Begun.{Begun}
 use Rattle.papaya_book.specs.declared.rule.entry.Event.{Event}
 use Rattle.papaya_change.specs.declared.writing.Writer.{Writer}
-use Rattle.papaya_change.specs.Changing.{IsCalling, hands_with}
+use Rattle.papaya_change.specs.Changing.{IsCalling}
 use Rattle.papaya_map.specs.Computing.{Holds, IsComputing, IsMadeOf, aborted_after, chosen_after, keeping, kind_of, value_after}
 use Rattle.papaya_book.specs.Hashes.{hash_of}
 use Rattle.papaya_lookup.specs.History.{history_of}
@@ -40,7 +46,10 @@ use Rattle.papaya_book.specs.Logs.{Stored, exchanges_of, pair_named}
 use Rattle.papaya_book.specs.Rule.{IsPlaced}
 use Rattle.papaya_change.specs.Showings.{HasNoNone, IsNoneOnce, WasHeld}
 use Rattle.papaya_change.specs.Writing.{IsWriting}
-use Rattle.papaya_change.proofs.Changing.{Coded, Wide, quiet}
+use Rattle.papaya_change.proofs.Changing.{Coded, Wide, barren, quiet}
+use Rattle.papaya_change.proofs.OwnSteps.{own_order}
+use Rattle.papaya_change.proofs.Refusals.{IsOwnEnd, own_refused}
+use Rattle.papaya_map.proofs.ComputeOwn.{own_aborted, own_step}
 use Rattle.papaya_map.specs.Computing.{IsComputingOn}
 use Rattle.papaya_lookup.proofs.Readings.{IsQuery, hashed_with}
 use Rattle.papaya_change.proofs.Showings.{own_held_then}
@@ -72,15 +81,15 @@ op_is : {V T : Type 0} (done : Operation V T) (kind : OpKind) → Op (kind_of do
 op_is done kind e = cc e
 
 -- what is shown has the number that was asked for
-module _ {K V : Type 0} (m : Machine) (held : Option (Stored K V)) (asks : ask_of m ≡ show (number_of held)) where
-  none_asked : ask_of m ≡ ShowNone → held ≡ None
+module _ {K V : Type 0} (m : Call_machine) (held : Option (Stored K V)) (asks : calls.ask_of m ≡ show (number_of held)) where
+  none_asked : calls.ask_of m ≡ ShowNone → held ≡ None
   none_asked e = by_held held (sym e ∙ asks)
     where
       by_held : (o : Option (Stored K V)) → ShowNone ≡ show (number_of o) → o ≡ None
       by_held None f = refl
       by_held (Some p) f = absurd (cc f)
 
-  pair_asked : (n : ℕ) → ask_of m ≡ ShowPair n → (p : Stored K V) × (held ≡ Some p) × (p.index ≡ n)
+  pair_asked : (n : ℕ) → calls.ask_of m ≡ ShowPair n → (p : Stored K V) × (held ≡ Some p) × (p.index ≡ n)
   pair_asked n e = by_held held (sym e ∙ asks)
     where
       by_held : (o : Option (Stored K V)) → ShowPair n ≡ show (number_of o) → (p : Stored K V) × (o ≡ Some p) × (p.index ≡ n)
@@ -114,7 +123,7 @@ module _ {K V S T H : Type 0} (key : K) (made : List (Stored K V)) (said : List 
   still same (Removes n) never h = (h.0, same ∙ h.1, h.2, inr h.3)
 
   -- what the closure said just now is at hand
-  now : (m : Machine) → ask_of m ≡ show (number_of held) → (stands : Said) → IsSaidBy m (Op (kind_of done)) stands → Now stands
+  now : (m : Call_machine) → calls.ask_of m ≡ show (number_of held) → (stands : Said) → IsSaidBy m (Op (kind_of done)) stands → Now stands
   now m asks (Agrees n agrees) h = let e = h.1 in absurd (cc e)
   now m asks (Inserts None) h =
       let none = none_asked m held asks h.0 in let i = inserts done (op_is done kinds.Insert h.1) in
@@ -153,54 +162,68 @@ module _ {K V S T H F : Type 0} (eq : K → K → Bool) (input : K → List (Lis
 
   module _ (made : List (Stored K V)) (log : List (Event K V S)) (w : Writer K V S H) (r : IsWriting eq hash b name key made begun log w) (kind : OpKind) where
     abbrev w' : Machine
-    w' = after w.call.machine (Op kind)
+    w' = after w.call.machine (answers.Call (Op kind))
 
     abbrev Called' : Type 0
-    Called' = IsCalling eq hash b name (eq key) (hash b.hasher key) (Some key) begun log w' w.call.table w.call.last made w.call.taken w.call.put
+    Called' = IsCalling eq hash b name (eq key) (hash b.hasher key) (Some key) begun log w' w.call.table w.call.last w.call.kept made w.call.taken w.call.put w.call.fresh
 
-    not_root : (shown : Option ℕ) → ask_of w.call.machine ≡ show shown → (n : ℕ) → ask_of w.call.machine ≡ Exchange Root 0 n → ⊥
-    not_root None e n h = let f = sym e ∙ h in cc f
-    not_root (Some i) e n h = let f = sym e ∙ h in cc f
-
-    called : (shown : Option ℕ) → ask_of w.call.machine ≡ show shown → Called'
-    called None e = quiet eq input build write finish classes respects b (eq key) (input key) own (Some key) name begun log log ([], append-nil log) r.calling.lawful w.call.machine w.call.table w.call.last made w.call.taken w.call.put r.calling
-        ShowNone e (Op kind) w.call.last made w.call.table r.calling.number (record { told = (inr (inl (kind, refl)), (refl, refl)); number_is = refl; same = refl; busy = λ z. z }) r.calling.holds_table r.calling.last_placed r.calling.made_placed
-    called (Some i) e = quiet eq input build write finish classes respects b (eq key) (input key) own (Some key) name begun log log ([], append-nil log) r.calling.lawful w.call.machine w.call.table w.call.last made w.call.taken w.call.put r.calling
-        (ShowPair i) e (Op kind) w.call.last made w.call.table r.calling.number (record { told = (inr (inl (kind, refl)), (refl, refl)); number_is = refl; same = refl; busy = λ z. z }) r.calling.holds_table r.calling.last_placed r.calling.made_placed
+    called : (shown : Option ℕ) → ask_of w.call.machine ≡ Call (show shown) → Called'
+    called None e = quiet eq input build write finish classes respects b (eq key) (input key) own (Some key) name begun log log ([], append-nil log) r.calling.lawful w.call.machine w.call.table w.call.last w.call.kept made w.call.taken w.call.put w.call.fresh r.calling
+        ShowNone e (Op kind) w.call.last made w.call.table w.call.fresh (record { told = (inr (inl (kind, refl)), (refl, refl)); same = refl; busy = λ z. z; brings = barren eq input build write finish classes respects b (eq key) (input key) own (Some key) name begun log log ([], append-nil log) r.calling.lawful w.call.machine w.call.table w.call.last w.call.kept made w.call.taken w.call.put w.call.fresh r.calling ShowNone e tt (Op kind) w.call.fresh })
+        r.calling.holds_table r.calling.last_placed r.calling.made_placed
+    called (Some i) e = quiet eq input build write finish classes respects b (eq key) (input key) own (Some key) name begun log log ([], append-nil log) r.calling.lawful w.call.machine w.call.table w.call.last w.call.kept made w.call.taken w.call.put w.call.fresh r.calling
+        (ShowPair i) e (Op kind) w.call.last made w.call.table w.call.fresh (record { told = (inr (inl (kind, refl)), (refl, refl)); same = refl; busy = λ z. z; brings = barren eq input build write finish classes respects b (eq key) (input key) own (Some key) name begun log log ([], append-nil log) r.calling.lawful w.call.machine w.call.table w.call.last w.call.kept made w.call.taken w.call.put w.call.fresh r.calling (ShowPair i) e tt (Op kind) w.call.fresh })
+        r.calling.holds_table r.calling.last_placed r.calling.made_placed
 
     -- a writer whose closure was asked rests again, whatever value it keeps
-    asked : (shown : Option ℕ) (value : Option V) → ask_of w.call.machine ≡ show shown → IsWriting eq hash b name key made begun log (record w { call = record w.call { machine = w' }; value = value })
-    asked shown value asks = record {
-      calling = called shown asks;
-      keyed = r.keyed;
-      put_placed = r.put_placed;
-      opens = λ n e. ⊎_elim (λ h. let no = h.0 in absurd (cc no)) (λ h. absurd (not_root shown asks n h)) (machine_opened w.call.machine n (Op kind) e);
-    }
+    asked : (shown : Option ℕ) (value : Option V) → ask_of w.call.machine ≡ Call (show shown) → IsWriting eq hash b name key made begun log (record w { call = record w.call { machine = w' }; value = value })
+    asked shown value asks = record { calling = called shown asks; keyed = r.keyed; put_placed = r.put_placed }
 
-  module _ (log : List (Event K V S)) (x : Computing K V S T H) (f : F) (r : Comp log x f) (standing : IsStanding x.writer.call.machine) (held : Option (Stored K V)) (done : Operation V T) (asks : ask_of x.writer.call.machine ≡ show (number_of held)) where
-    abbrev m : Machine
-    m = x.writer.call.machine
+  module _ (log : List (Event K V S)) (x : Computing K V S T H) (f : F) (r : Comp log x f) (standing : IsStanding x.writer.call.machine) (held : Option (Stored K V)) (done : Operation V T) (asks : ask_of x.writer.call.machine ≡ Call (show (number_of held))) where
+    abbrev chain : Machine
+    chain = x.writer.call.machine
 
-    abbrev m' : Machine
-    m' = after m (Op (kind_of done))
+    -- the machine after it
+    abbrev chain' : Machine
+    chain' = after chain (answers.Call (Op (kind_of done)))
+
+    abbrev m : Call_machine
+    m = x.writer.call.machine.call
+
+    abbrev m' : Call_machine
+    m' = calls.after m (Op (kind_of done))
+
+    abbrev own_asks : (chain.phase ≡ Calling) × (calls.ask_of m ≡ show (number_of held))
+    own_asks = call_asks chain (show (number_of held)) asks
+
+    not_load : (shown : Option ℕ) → calls.ask_of m ≡ show shown → (t : ℕ) → calls.ask_of m ≡ Load (Next t) → ⊥
+    not_load None e t h = let g = sym e ∙ h in cc g
+    not_load (Some n) e t h = let g = sym e ∙ h in cc g
+
+    -- its call goes a step of its own
+    steps : chain'.call ≡ m'
+    steps = own_step chain own_asks.0 (Op (kind_of done)) (not_load (number_of held) own_asks.1)
+
+    order : IsInOrder chain (answers.Call (Op (kind_of done))) chain.phase
+    order = own_order chain own_asks.0 (Op (kind_of done))
 
     abbrev HoldsNow : Said → Type 0
     HoldsNow stands = Holds key r.made ((held, done) ∷ r.said) (shown_to key r.made r.said x held done) stands
 
     unpaired : (stands : Said) → StandsOn m stands → (shown : Option ℕ) → stands ≡ Inserts shown → ⊥
-    unpaired stands before shown e = machine_unpaired m shown (number_of held) asks (subst (λ (s : Said). StandsOn m s) e before)
+    unpaired stands before shown e = machine_unpaired m shown (number_of held) own_asks.1 (subst (λ (s : Said). StandsOn m s) e before)
 
     -- where the choice stays
     stood_same : chosen_after held done x.chosen ≡ x.chosen → (stands : Said) → StandsOn m' stands → HoldsNow stands
     stood_same same stands h =
-        ⊎_elim (λ before. still key r.made r.said x held done same stands (unpaired stands before) (r.stood stands before)) (now key r.made r.said x held done m asks stands)
-        (machine_said m (Op (kind_of done)) stands standing r.words h)
+        ⊎_elim (λ before. still key r.made r.said x held done same stands (unpaired stands before) (r.stood stands before)) (now key r.made r.said x held done m own_asks.1 stands)
+        (machine_said m (Op (kind_of done)) stands standing.call r.words h)
 
     -- where the pair that was shown is to go
     stood_removed : (p : Stored K V) → held ≡ Some p → kind_of done ≡ kinds.Remove → (stands : Said) → StandsOn m' stands → HoldsNow stands
     stood_removed p e removes_it stands h =
-        let shows : ask_of m ≡ ShowPair p.index = asks ∙ ap (λ (o : Option (Stored K V)). show (number_of o)) e in
-        let removed : StandsOn (after m (Op kinds.Remove)) stands = subst (λ (k : OpKind). StandsOn (after m (Op k)) stands) removes_it h in
+        let shows : calls.ask_of m ≡ ShowPair p.index = own_asks.1 ∙ ap (λ (o : Option (Stored K V)). show (number_of o)) e in
+        let removed : StandsOn (calls.after m (Op kinds.Remove)) stands = subst (λ (k : OpKind). StandsOn (calls.after m (Op k)) stands) removes_it h in
         let is : done ≡ operation.Remove = removes done removes_it in
         ⊎_elim
         (λ s. subst HoldsNow (sym s) (p, (λ j. chosen_after (e j) (is j) x.chosen), refl, inl (λ j. (sym e j, sym is j))))
@@ -212,23 +235,23 @@ module _ {K V S T H F : Type 0} (eq : K → K → Bool) (input : K → List (Lis
     stood_by None e removes_it = stood_same (λ j. chosen_after (e j) done x.chosen)
     stood_by (Some p) e removes_it = stood_removed p e removes_it
 
-    stood_now : (stands : Said) → StandsOn m' stands → HoldsNow stands
-    stood_now = ⊎_elim (stood_by held refl) stood_same (chosen_same key r.made r.said x held done)
+    stood_now : (stands : Said) → StandsOn chain'.call stands → HoldsNow stands
+    stood_now stands h = ⊎_elim (stood_by held refl) stood_same (chosen_same key r.made r.said x held done) stands (subst (λ (z : Call_machine). StandsOn z stands) steps h)
 
     -- whether it was shown that there is none, and how often
-    none_by : (o : Option (Stored K V)) → held ≡ o → (HasNoNone ((o, done) ∷ r.said) ⊎ HasShownNone m'.remembered.fill m'.state) × IsNoneOnce ((o, done) ∷ r.said)
+    none_by : (o : Option (Stored K V)) → held ≡ o → (HasNoNone ((o, done) ∷ r.said) ⊎ HasShownNone chain'.call.remembered.fill chain'.call.state) × IsNoneOnce ((o, done) ∷ r.said)
     none_by None e =
-        let shows : ask_of m ≡ ShowNone = asks ∙ ap (λ (o : Option (Stored K V)). show (number_of o)) e in
-        (inr (machine_offered m (kind_of done) shows), ⊎_elim (λ never. never) (λ shown. absurd ((machine_shown m (Op (kind_of done)) shown).0 shows)) r.none_shown)
-    none_by (Some p) e = (⊎_elim (λ never. inl never) (λ shown. inr (machine_shown m (Op (kind_of done)) shown).1) r.none_shown, r.none_once)
+        let shows : ask_of chain ≡ Call ShowNone = asks ∙ ap (λ (o : Option (Stored K V)). Call (show (number_of o))) e in
+        (inr (chain_offered chain (kind_of done) shows), ⊎_elim (λ never. never) (λ shown. absurd ((chain_once chain (answers.Call (Op (kind_of done))) order shown).0 shows)) r.none_shown)
+    none_by (Some p) e = (⊎_elim (λ never. inl never) (λ shown. inr (chain_once chain (answers.Call (Op (kind_of done))) order shown).1) r.none_shown, r.none_once)
 
-    not_done : (shown : Option ℕ) → ask_of m ≡ show shown → (reply : Reply) → ask_of m ≡ Done reply → ⊥
+    not_done : (shown : Option ℕ) → ask_of chain ≡ Call (show shown) → (reply : Reply) → ask_of chain ≡ Call (Done reply) → ⊥
     not_done None e reply h = let g = sym e ∙ h in cc g
     not_done (Some n) e reply h = let g = sym e ∙ h in cc g
 
-    not_load : (shown : Option ℕ) → ask_of m ≡ show shown → (t : ℕ) → ask_of m ≡ Load (Next t) → ⊥
-    not_load None e t h = let g = sym e ∙ h in cc g
-    not_load (Some n) e t h = let g = sym e ∙ h in cc g
+    -- it is refused where the closure would remove nothing
+    refused_by : (cause : Cause) → ask_of chain' ≡ Call (Done (Refused cause)) → IsOwnEnd chain own_asks.0 (Op (kind_of done)) cause
+    refused_by cause e = own_refused chain own_asks.0 (Op (kind_of done)) (not_done (number_of held) asks) cause e
 
     chosen_in : (o : Operation V T) (shown : Option (Stored K V)) → IsPlaced b (Some name) (pair_named shown) → IsPlaced b (Some name) (pair_named (chosen_after shown o x.chosen))
     chosen_in o None p = r.chosen_placed
@@ -242,8 +265,8 @@ module _ {K V S T H F : Type 0} (eq : K → K → Bool) (input : K → List (Lis
       record {
         made = r.made;
         writing = asked r.made log x.writer r.writing (kind_of done) (number_of held) (value_after done x.writer.value) asks;
-        task_is = r.task_is;
-        words = machine_shows m (Op (kind_of done)) r.words;
+        task_is = (chain_task chain (answers.Call (Op (kind_of done))) order).0 ∙ r.task_is;
+        words = chain_shows chain (answers.Call (Op (kind_of done))) order r.words;
         shown_placed = placed;
         chosen_placed = chosen_in done held placed;
         said = (held, done) ∷ r.said;
@@ -252,15 +275,12 @@ module _ {K V S T H F : Type 0} (eq : K → K → Bool) (input : K → List (Lis
         none_once = (none_by held refl).1;
         none_shown = (none_by held refl).0;
         stood = stood_now;
-        aborts = λ with e. let s = machine_aborted m (Op (kind_of done)) with (not_done (number_of held) asks) e in let a = aborts_with done with (op_is done (kinds.Abort with) s.2) in (a.0, a.2 x.aborted, (held, ap (λ (o : Operation V T). (held, o)) a.1));
+        aborts = λ with e. let s = own_aborted chain own_asks.0 (Op (kind_of done)) with (not_done (number_of held) asks) e in let a = aborts_with done with (op_is done (kinds.Abort with) s.2) in (a.0, a.2 x.aborted, (held, ap (λ (o : Operation V T). (held, o)) a.1));
         refuses = λ cause e. ⊎_elim
             (λ h. absurd (cc h))
-            (λ h. ⊎_elim (λ a. absurd (not_load (number_of held) asks a.1.0 a.1.1)) (λ a. inr (a.0, (λ j. (none_asked m held asks a.1 j, removes done (op_is done kinds.Remove a.2) j)))) h)
-            (machine_refused m cause (Op (kind_of done)) (not_done (number_of held) asks) e);
-        crowded = λ e. ⊎_elim
-            (λ h. absurd (cc h))
-            (λ h. ⊎_elim (λ a. absurd (not_load (number_of held) asks a.1.0 a.1.1)) (λ a. let f = a.0 in absurd (cc f)) h)
-            (machine_refused m Capacity (Op (kind_of done)) (not_done (number_of held) asks) e);
+            (λ a. inr (a.0, (λ j. (none_asked m held own_asks.1 (call_asks chain ShowNone a.1).1 j, removes done (op_is done kinds.Remove a.2) j))))
+            (refused_by cause e);
+        crowded = λ e. ⊎_elim (λ h. absurd (cc h)) (λ a. let f = a.0 in absurd (cc f)) (refused_by Capacity e);
       },
       tt,
     )
@@ -273,19 +293,19 @@ module _ {K V S T H F : Type 0} (eq : K → K → Bool) (input : K → List (Lis
     C = Coded eq input build write finish classes respects b (eq key) (input key) own (Some key) name begun
 
     abbrev hands : Hands (Stored K V)
-    hands = hands_with x.writer.call.last r.made
+    hands = record { last = x.writer.call.last; made = r.made }
 
     was_held : (value : Option (Stored K V)) → WasAtMoment G C (exchanges_of begun) r.writing.calling.since (Some key) value → WasHeld eq (eq key) (history_of begun) (history_of log) value
     was_held value was = own_held_then eq input build write finish classes respects b (eq key) (input key) own begun log r.writing.calling.lawful r.writing.calling.since r.writing.calling.is key value was
 
     -- where it shows that its key is absent, it was
-    pub none_held : ask_of x.writer.call.machine ≡ ShowNone → WasHeld eq (eq key) (history_of begun) (history_of log) None
-    none_held e = was_held None (machine_offers G C (exchanges_of begun) r.writing.calling.since (Some key) hands x.writer.call.machine r.writing.calling.rests e)
+    pub none_held : ask_of x.writer.call.machine ≡ Call ShowNone → WasHeld eq (eq key) (history_of begun) (history_of log) None
+    none_held e = was_held None (machine_offers G C (exchanges_of begun) r.writing.calling.since (Some key) hands x.writer.call.machine.call r.writing.calling.rests.call (call_asks x.writer.call.machine ShowNone e).1)
 
     -- where it shows the pair last told of, the key had it
-    pub pair_held : (n : ℕ) → ask_of x.writer.call.machine ≡ ShowPair n → (p : Stored K V) → x.writer.call.last ≡ Some p → WasHeld eq (eq key) (history_of begun) (history_of log) (Some p) × (p.index ≡ n)
+    pub pair_held : (n : ℕ) → ask_of x.writer.call.machine ≡ Call (ShowPair n) → (p : Stored K V) → x.writer.call.last ≡ Some p → WasHeld eq (eq key) (history_of begun) (history_of log) (Some p) × (p.index ≡ n)
     pair_held n e p last =
         let hashed = hashed_with eq input build write finish classes respects b (eq key) (input key) own log r.writing.calling.lawful in
-        let shown = held.machine_shows G C hashed (exchanges_of begun) r.writing.calling.since (Some key) hands x.writer.call.machine r.writing.calling.rests n e in
+        let shown = held.machine_shows G C hashed (exchanges_of begun) r.writing.calling.since (Some key) hands x.writer.call.machine.call r.writing.calling.rests.call n (call_asks x.writer.call.machine (ShowPair n) e).1 in
         let one : shown.0 ≡ p = cc (shown.1, last) in
         (was_held (Some p) (subst (λ (z : Stored K V). WasAtMoment G C (exchanges_of begun) r.writing.calling.since (Some key) (Some z)) one shown.4), ap (λ (z : Stored K V). z.index) (sym one) ∙ shown.2)

@@ -1,4 +1,6 @@
+pub mod ComputeOwn
 pub mod ComputeGoes
+pub mod ComputeHelped
 pub mod ComputeShows
 pub mod ComputePairs
 pub mod ComputePuts

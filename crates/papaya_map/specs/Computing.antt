@@ -18,7 +18,9 @@ use Rattle.papaya_ask.specs.declared.ask.OpKind.TheVariants as kinds
 use Rattle.papaya_ask.specs.declared.call.Reply.{Reply}
 use Rattle.papaya_ask.specs.declared.call.Reply.TheVariants as reply
 use Rattle.papaya_ask.specs.declared.call.Task.TheVariants.{Compute}
-use Rattle.papaya_call.specs.Machine.{IsFit, after, ask_of}
+use Rattle.papaya_call.specs.Machine.{IsFit}
+use Rattle.papaya_chain.specs.declared.ask.Ask.TheVariants.{Call}
+use Rattle.papaya_chain.specs.Machine.{ask_of}
 use Rattle.papaya_rests.specs.Says.{Agrees, HasShownNone, Inserts, Makes, Removes, Said, ShowsPairs, StandsOn}
 use Rattle.papaya_rests.specs.Told.{IsOneOf}
 use Rattle.papaya_keys.specs.declared.compute.Compute.{Compute as Computed}
@@ -27,10 +29,10 @@ use Rattle.papaya_book.specs.declared.rule.entry.Begun.{Begun}
 use Rattle.papaya_book.specs.declared.rule.entry.Event.{Event}
 use Rattle.papaya_lookup.specs.History.{history_of, key_of}
 use Rattle.papaya_book.specs.Logs.{Member, Stored, pair_named}
+use Rattle.papaya_book.specs.Limits.{HasNoRoom}
 use Rattle.papaya_book.specs.Rule.{IsPlaced}
-use Rattle.papaya_change.specs.NoRoom.{HasNoRoom}
 use Rattle.papaya_change.specs.Showings.{AllShown, HasNoNone, HasSaid, IsNoneOnce, WasHeld, WasLast}
-use Rattle.papaya_change.specs.Writing.{IsWriting}
+use Rattle.papaya_change.specs.Writing.{IsWriting, answered as answered_writer}
 use Rattle.papaya_map.specs.ComputeAnswers.{IsRefusedBy, IsComputeBy}
 
 -- what the machine is told of an answer of the closure
@@ -118,38 +120,36 @@ module _ {K V S H T F : Type 0} (eq : K → K → Bool) (hash : S → K → ℕ)
       (x : Computing K V S T H) (f : F) : Type 0 where
     pub made : List (Stored K V)
     pub writing : IsWriting eq hash b name key made begun log x.writer
-    pub task_is : x.writer.call.machine.task ≡ Compute
-    pub words : ShowsPairs x.writer.call.machine.state
+    pub task_is : x.writer.call.machine.call.task ≡ Compute
+    pub words : ShowsPairs x.writer.call.machine.call.state
     pub shown_placed : IsPlaced b (Some name) (pair_named x.shown)
     pub chosen_placed : IsPlaced b (Some name) (pair_named x.chosen)
     pub said : List (Option (Stored K V) × Operation V T)
     pub has_said : HasSaid operates first said f
     pub held : AllShown (WasHeld eq (eq key) (history_of begun) (history_of log)) said
     pub none_once : IsNoneOnce said
-    pub none_shown : HasNoNone said ⊎ HasShownNone x.writer.call.machine.remembered.fill
-        x.writer.call.machine.state
-    pub stood : (stands : Said) → StandsOn x.writer.call.machine stands
+    pub none_shown : HasNoNone said ⊎ HasShownNone x.writer.call.machine.call.remembered.fill
+        x.writer.call.machine.call.state
+    pub stood : (stands : Said) → StandsOn x.writer.call.machine.call stands
         → Holds key made said x stands
-    pub aborts : (with : ℕ) → ask_of x.writer.call.machine ≡ Done (reply.Aborted with)
+    pub aborts : (with : ℕ) → ask_of x.writer.call.machine
+        ≡ Call (Done (reply.Aborted with))
         → (t : T) × (x.aborted ≡ Some t) × ((held : Option (Stored K V))
         × WasLast held (operation.Abort t) said)
-    pub refuses : (refused : Refused) → ask_of x.writer.call.machine ≡ Done (reply.Refused refused)
-        → IsRefusedBy said refused
-    pub crowded : ask_of x.writer.call.machine ≡ Done (reply.Refused Capacity)
-        → HasNoRoom eq hash b key (history_of begun) (history_of log) x.writer.given.done
+    pub refuses : (refused : Refused) → ask_of x.writer.call.machine
+        ≡ Call (Done (reply.Refused refused)) → IsRefusedBy said refused
+    pub crowded : ask_of x.writer.call.machine ≡ Call (Done (reply.Refused Capacity))
+        → HasNoRoom x.writer.call.machine.call.initial x.writer.call.given.done
 
   -- the compute after its machine was answered
   abbrev pub answered : Computing K V S T H → Answer → Computing K V S T H
-  answered x answer = record x {
-    writer = record x.writer
-        { call = record x.writer.call { machine = after x.writer.call.machine answer } };
-  }
+  answered x answer = record x { writer = answered_writer x.writer answer }
 
   -- it has replied, or this is an answer to what it asks
   abbrev pub IsComputingOn : K → F → List (Event K V S) → List (Event K V S) → Computing K V S T H
       → F → Option Answer → Type 0
   IsComputingOn key first begun log x f None = IsComputing key first begun log x f
-      × ((done : Reply) × (ask_of x.writer.call.machine ≡ Done done))
+      × ((done : Reply) × (ask_of x.writer.call.machine ≡ Call (Done done)))
   IsComputingOn key first begun log x f (Some answer) =
       IsComputing key first begun log (answered x answer) f × IsFit answer
 

@@ -3,7 +3,8 @@ pub mod ComputeAnswers
 pub mod Computing
 -- why a map is not made
 pub mod Asked
--- what of a map is fixed when it is made
+-- what of a map is fixed when it is made, and of its initial capacity
 pub mod Fixed
+pub mod Powers
 -- the same by what is seen of the map
 pub mod Computes

@@ -4,7 +4,11 @@ ghost use Rattle.papaya_lookup.specs.History.{Makes};
 ghost use Rattle.papaya_book.specs.Windows.{Does, IsLawful, Sees};
 ghost use Rattle.papaya_map.specs.Computes.{CanCompute, Computes, Replies};
 ghost use Rattle.std.specs.Prelude.{◌≡◌, ◌⊎◌, ℕ, Bool, None, Some, Option, Ok, Err, IfErr};
-ghost use Rattle.papaya_call.specs.Machine.{IsFitAsk, IsStanding, ask_of, kind_of_ask};
+ghost use Rattle.std.specs.Int.{IsPowerOfTwo};
+ghost use Rattle.papaya_call.specs.Machine.{IsFitAsk, ask_of as call_ask_of};
+ghost use Rattle.papaya_chain.specs.Machine.{IsStanding, ask_of, kind_of_ask};
+ghost use Rattle.papaya_chain.specs.declared.ask.Ask.TheVariants.{Call};
+ghost use Rattle.papaya_chain.specs.declared.machine.Phase.TheVariants.{Calling};
 ghost use Rattle.papaya_ask.specs.declared.ask.StepKind.TheVariants.{Claim, Replace};
 ghost use Rattle.papaya_ask.specs.declared.call.Reply.TheVariants.{Inserted, Removed, Replaced, Refused as ReplyRefused};
 ghost use Rattle.papaya_ask.specs.declared.ask.Ask.TheVariants.{Done, Exchange, MakePair, ShowNone, ShowPair};
@@ -12,21 +16,22 @@ ghost use Rattle.papaya_ask.specs.declared.ask.At.TheVariants.{Slot};
 ghost use Rattle.papaya_map.specs.Computing.{IsKept, IsWriters, chosen_after, pair_for};
 ghost use Rattle.papaya_map.specs.ComputeAnswers.{IsComputeBy, changes};
 ghost use Rattle.papaya_change.specs.Doing.{Answers, has_changed, was_made};
-ghost use Rattle.papaya_change.specs.Insertions.{HasNoRoom};
+ghost use Rattle.papaya_book.specs.Limits.{HasNoRoom};
 ghost use Rattle.papaya_change.specs.Showings.{Operates};
 
-use papaya_ask::ask::{Answer, Ask, At, OpKind, StepKind};
+use papaya_ask::ask::{Answer, Ask as CallAsk, At, OpKind, StepKind};
 use papaya_ask::call::{Reply, Task};
 use papaya_book::book::Book;
+use papaya_book::count::Shard;
 use papaya_book::rule::entry::Stored;
 use papaya_book::rule::own::{Given, Own};
 use papaya_book::window::Window;
 use papaya_call::answers::Operation;
-use papaya_change::count::Shard;
+use papaya_chain::ask::Ask;
+use papaya_change::driver::Driver;
 use papaya_change::removal::entry;
 use papaya_change::writing::Writer;
 use papaya_keys::compute::Compute;
-use papaya_lookup::driver::Driver;
 use papaya_lookup::lookup::hash;
 use papaya_words::probe::Refused;
 use std::alloc::Global;
@@ -111,7 +116,7 @@ impl<'a, K: Hash + Eq + Drop, V: Drop, S: BuildHasher, T: Drop> Computing<'a, K,
         requires callable { F.IsAlwaysCallable compute.old }
         requires can { CanCompute (Operates F.FnMut) window.now self.old compute.old }
         requires standing { IsStanding self.old.writer.call.machine }
-        requires asks { ask_of self.old.writer.call.machine ≡ ShowNone }
+        requires asks { ask_of self.old.writer.call.machine ≡ Call ShowNone }
         ensures machine { self.new.writer.call.machine ≡ self.old.writer.call.machine }
         ensures callable { F.IsAlwaysCallable compute.new }
         ensures computes { Computes (Operates F.FnMut) window.now self.old compute.old window.now
@@ -131,7 +136,7 @@ impl<'a, K: Hash + Eq + Drop, V: Drop, S: BuildHasher, T: Drop> Computing<'a, K,
         requires callable { F.IsAlwaysCallable compute.old }
         requires can { CanCompute (Operates F.FnMut) window.now self.old compute.old }
         requires standing { IsStanding self.old.writer.call.machine }
-        requires asks { (n : ℕ) × (ask_of self.old.writer.call.machine ≡ ShowPair n) }
+        requires asks { (n : ℕ) × (ask_of self.old.writer.call.machine ≡ Call (ShowPair n)) }
         ensures machine { self.new.writer.call.machine ≡ self.old.writer.call.machine }
         ensures callable { F.IsAlwaysCallable compute.new }
         ensures computes { Computes (Operates F.FnMut) window.now self.old compute.old window.now
@@ -157,7 +162,7 @@ impl<'a, K: Hash + Eq + Drop, V: Drop, S: BuildHasher, T: Drop> Computing<'a, K,
     ) -> Answer
         requires can { CanCompute (Operates F.FnMut) window.now self.old compute.now }
         requires standing { IsStanding self.old.writer.call.machine }
-        requires asks { ask_of self.old.writer.call.machine ≡ MakePair }
+        requires asks { ask_of self.old.writer.call.machine ≡ Call MakePair }
         ensures machine { self.new.writer.call.machine ≡ self.old.writer.call.machine }
         ensures computes { Computes (Operates F.FnMut) window.now self.old compute.now window.now
             self.new compute.now (Some result) }
@@ -188,8 +193,8 @@ impl<'a, K: Hash + Eq + Drop, V: Drop, S: BuildHasher, T: Drop> Computing<'a, K,
     ) -> Answer
         requires can { CanCompute (Operates F.FnMut) window.old self.old compute.now }
         requires standing { IsStanding self.old.writer.call.machine }
-        requires asks { ask_of self.old.writer.call.machine ≡ Exchange (Slot number place) words.0
-            words.1 }
+        requires asks { ask_of self.old.writer.call.machine ≡ Call (Exchange
+            (Slot number place) words.0 words.1) }
         requires kind { (kind_of_ask self.old.writer.call.machine ≡ Some Claim)
             ⊎ (kind_of_ask self.old.writer.call.machine ≡ Some Replace) }
         ensures sees { Sees window.old window.new }
@@ -217,8 +222,8 @@ impl<'a, K: Hash + Eq + Drop, V: Drop, S: BuildHasher, T: Drop> Computing<'a, K,
     ) -> Answer
         requires can { CanCompute (Operates F.FnMut) window.old self.old compute.now }
         requires standing { IsStanding self.old.writer.call.machine }
-        requires asks { ask_of self.old.writer.call.machine ≡ Exchange (Slot number place) words.0
-            words.1 }
+        requires asks { ask_of self.old.writer.call.machine ≡ Call (Exchange
+            (Slot number place) words.0 words.1) }
         ensures sees { Sees window.old window.new }
         ensures does { Does (was_made result) window.old window.new }
         ensures machine { self.new.writer.call.machine ≡ self.old.writer.call.machine }
@@ -236,13 +241,13 @@ impl<'a, K: Hash + Eq + Drop, V: Drop, S: BuildHasher, T: Drop> Computing<'a, K,
         &mut self,
         rt: &R,
         alloc: Global,
-        ask: Ask,
+        ask: CallAsk,
         compute: &F,
         window: &mut Window<'a, K, V, S>,
     ) -> Answer
         requires can { CanCompute (Operates F.FnMut) window.old self.old compute.now }
         requires standing { IsStanding self.old.writer.call.machine }
-        requires asks { (ask_of self.old.writer.call.machine ≡ ask) × IsWriters ask }
+        requires asks { (ask_of self.old.writer.call.machine ≡ Call ask) × IsWriters ask }
         requires fit { IsFitAsk ask }
         ensures sees { Sees window.old window.new }
         ensures own { window.new.own ≡ window.old.own }
@@ -252,14 +257,14 @@ impl<'a, K: Hash + Eq + Drop, V: Drop, S: BuildHasher, T: Drop> Computing<'a, K,
     {
         let _ = compute;
         match ask {
-            Ask::Load(at) => self.writer.load(at, window),
-            Ask::SizeOf(_) => self.writer.size(window),
-            Ask::SameKey(_) => self.writer.same(window),
-            Ask::MakeKey => self.writer.make_key(window),
-            Ask::MakeTable { len, limit } => {
+            CallAsk::Load(at) => self.writer.load(at, window),
+            CallAsk::SizeOf(_) => self.writer.size(window),
+            CallAsk::SameKey(_) => self.writer.same(window),
+            CallAsk::MakeKey => self.writer.make_key(window),
+            CallAsk::MakeTable { len, limit } => {
                 self.writer.make_table(rt, alloc, len, limit, window)
             }
-            Ask::Exchange(At::Root, _, _) => self.writer.open(window),
+            CallAsk::Exchange(At::Root, _, _) => self.writer.open(window),
             _ => unreachable!(),
         }
     }
@@ -276,27 +281,30 @@ impl<'a, K: Hash + Eq + Drop, V: Drop, S: BuildHasher, T: Drop> Computing<'a, K,
         requires callable { F.IsAlwaysCallable compute.old }
         requires can { CanCompute (Operates F.FnMut) window.old self.old compute.old }
         requires standing { IsStanding self.old.writer.call.machine }
+        requires calling { self.old.writer.call.machine.phase ≡ Calling }
         ensures sees { Sees window.old window.new }
-        ensures answers { Answers (ask_of self.old.writer.call.machine) result window.old
+        ensures answers { Answers (call_ask_of self.old.writer.call.machine.call) result window.old
             window.new }
         ensures machine { self.new.writer.call.machine ≡ self.old.writer.call.machine }
         ensures callable { F.IsAlwaysCallable compute.new }
         ensures computes { Computes (Operates F.FnMut) window.old self.old compute.old window.new
             self.new compute.new result }
     {
-        let ask = self.writer.call.machine.ask();
+        let Ask::Call(ask) = self.writer.call.machine.ask() else {
+            unreachable!()
+        };
         match ask {
-            Ask::ShowNone => Some(self.show_none(compute, window)),
-            Ask::ShowPair(_) => Some(self.show_pair(compute, window)),
-            Ask::MakePair => Some(self.make_pair(rt, compute, window)),
-            Ask::Exchange(At::Slot(number, place), old, new) => {
+            CallAsk::ShowNone => Some(self.show_none(compute, window)),
+            CallAsk::ShowPair(_) => Some(self.show_pair(compute, window)),
+            CallAsk::MakePair => Some(self.make_pair(rt, compute, window)),
+            CallAsk::Exchange(At::Slot(number, place), old, new) => {
                 Some(self.exchange(number, place, (old, new), compute, window))
             }
-            Ask::AddToShard(by) => {
+            CallAsk::AddToShard(by) => {
                 shard.add(by);
                 Some(Answer::Ok)
             }
-            Ask::Done(_) => None,
+            CallAsk::Done(_) => None,
             _ => Some(self.write(rt, alloc, ask, compute, window)),
         }
     }
@@ -309,7 +317,8 @@ impl<'a, K: Hash + Eq + Drop, V: Drop, S: BuildHasher, T: Drop> Computing<'a, K,
     ) -> Compute<'a, K, V, T>
         requires standing { IsStanding self.now.writer.call.machine }
         requires can { CanCompute (Operates F.FnMut) window.now self.now compute.now }
-        requires done { (n : ℕ) × (ask_of self.now.writer.call.machine ≡ Done (Inserted n)) }
+        requires done { (n : ℕ) × (ask_of self.now.writer.call.machine
+            ≡ Call (Done (Inserted n))) }
         ensures changed { changes (Ok result) ≡ has_changed self.now.writer.call.machine }
         ensures replies { Replies (Operates F.FnMut) window.now self.now compute.now (Ok result) }
     {
@@ -333,8 +342,8 @@ impl<'a, K: Hash + Eq + Drop, V: Drop, S: BuildHasher, T: Drop> Computing<'a, K,
     ) -> Compute<'a, K, V, T>
         requires standing { IsStanding self.now.writer.call.machine }
         requires can { CanCompute (Operates F.FnMut) window.now self.now compute.now }
-        requires done { (m : ℕ) × (n : ℕ) × (ask_of self.now.writer.call.machine ≡ Done
-            (Replaced m n)) }
+        requires done { (m : ℕ) × (n : ℕ) × (ask_of self.now.writer.call.machine
+            ≡ Call (Done (Replaced m n))) }
         ensures changed { changes (Ok result) ≡ has_changed self.now.writer.call.machine }
         ensures replies { Replies (Operates F.FnMut) window.now self.now compute.now (Ok result) }
     {
@@ -362,7 +371,8 @@ impl<'a, K: Hash + Eq + Drop, V: Drop, S: BuildHasher, T: Drop> Computing<'a, K,
     ) -> Compute<'a, K, V, T>
         requires standing { IsStanding self.now.writer.call.machine }
         requires can { CanCompute (Operates F.FnMut) window.now self.now compute.now }
-        requires done { (n : ℕ) × (ask_of self.now.writer.call.machine ≡ Done (Removed n)) }
+        requires done { (n : ℕ) × (ask_of self.now.writer.call.machine
+            ≡ Call (Done (Removed n))) }
         ensures changed { changes (Ok result) ≡ has_changed self.now.writer.call.machine }
         ensures replies { Replies (Operates F.FnMut) window.now self.now compute.now (Ok result) }
     {
@@ -386,29 +396,31 @@ impl<'a, K: Hash + Eq + Drop, V: Drop, S: BuildHasher, T: Drop> Computing<'a, K,
     ) -> Result<Compute<'a, K, V, T>, Refused>
         requires standing { IsStanding self.old.writer.call.machine }
         requires can { CanCompute (Operates F.FnMut) window.now self.old compute.now }
-        requires done { (reply : _) × (ask_of self.old.writer.call.machine ≡ Done reply) }
-        ensures refusal { IfErr result (λ refused. ask_of self.old.writer.call.machine ≡ Done
-            (ReplyRefused refused)) }
+        requires done { (reply : _) × (ask_of self.old.writer.call.machine
+            ≡ Call (Done reply)) }
+        ensures refusal { IfErr result (λ refused. ask_of self.old.writer.call.machine ≡ Call (Done
+            (ReplyRefused refused))) }
         ensures changed { changes result ≡ has_changed self.old.writer.call.machine }
         ensures replies { Replies (Operates F.FnMut) window.now self.old compute.now result }
     {
         let _ = compute;
         match self.writer.call.machine.ask() {
-            Ask::Done(Reply::Inserted(_)) => Ok(self.inserted(compute, window)),
-            Ask::Done(Reply::Replaced { .. }) => Ok(self.updated(compute, window)),
-            Ask::Done(Reply::Removed(_)) => Ok(self.removed(compute, window)),
-            Ask::Done(Reply::Aborted(_)) => match self.aborted.take() {
+            Ask::Call(CallAsk::Done(Reply::Inserted(_))) => Ok(self.inserted(compute, window)),
+            Ask::Call(CallAsk::Done(Reply::Replaced { .. })) => Ok(self.updated(compute, window)),
+            Ask::Call(CallAsk::Done(Reply::Removed(_))) => Ok(self.removed(compute, window)),
+            Ask::Call(CallAsk::Done(Reply::Aborted(_))) => match self.aborted.take() {
                 Some(with) => Ok(Compute::Aborted(with)),
                 None => unreachable!(),
             },
-            Ask::Done(Reply::Refused(refused)) => Err(refused),
+            Ask::Call(CallAsk::Done(Reply::Refused(refused))) => Err(refused),
             _ => unreachable!(),
         }
     }
 }
 
 /// Does with a key's pair, or where it has none, what the closure answers that is shown it. Where
-/// it is refused since a log is full, `given` tells the number that the log gave.
+/// it is refused for want of room, `given` tells the number that a full log gave, or the sum of the
+/// count that makes a further table too long.
 pub fn compute<
     'a,
     R: Wait,
@@ -428,11 +440,11 @@ pub fn compute<
     mut f: F,
 ) -> Result<Compute<'a, K, V, T>, Refused>
     requires callable { F.IsAlwaysCallable f }
+    requires initial { IsPowerOfTwo initial }
     ensures sees { Sees window.old window.new }
     ensures lawful { IsLawful window.new }
     ensures made { Makes (changes result) (own window.old) (own window.new) (past window.new) }
-    ensures crowded { result ≡ Err Refused.Capacity → HasNoRoom window.new key (past window.old)
-        given.new.done }
+    ensures crowded { result ≡ Err Refused.Capacity → HasNoRoom initial given.new.done }
     ensures computed { IsComputeBy K.eq key (past window.old) (past window.new) (Operates F.FnMut) f
         result }
 {
@@ -445,8 +457,6 @@ pub fn compute<
             key: Some(key),
             brought: None,
             value: None,
-            opening: None,
-            given: Own::nothing(),
         },
         shown: None,
         fill: None,
@@ -456,9 +466,12 @@ pub fn compute<
     };
     for _ in rt.forever() {
         match computing.answer(rt, alloc, shard, &mut f, window) {
-            Some(answer) => computing.writer.call.machine.answer(answer),
+            Some(answer) => {
+                computing.writer.call.answer(answer);
+                computing.writer.call.help(rt, alloc, shard.count(), window);
+            }
             None => {
-                *given = computing.writer.given.again();
+                *given = computing.writer.call.given.again();
                 return computing.replied(&f, window);
             }
         }

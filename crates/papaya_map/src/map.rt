@@ -1,12 +1,14 @@
 //! The map that threads share, and the passes of its callers.
 ghost use Rattle.std.specs.Prelude.{◌≡◌, ◌⊎◌, true, is_ok, [], Err, IfErr, IfOk};
+ghost use Rattle.std.specs.Int.{IsPowerOfTwo};
 ghost use mathlib.Core.List.{IsPrefix};
 ghost use Rattle.papaya_words.specs.declared.limits.TheConstants.{DEFAULT_CHUNK, DEFAULT_SHARDS};
 ghost use Rattle.papaya_keys.specs.Sizes.{IsAllowed};
 ghost use Rattle.papaya_map.specs.Asked.{IsMapRefusal};
 ghost use Rattle.papaya_map.specs.Fixed.{Fixed, IsFor};
+ghost use Rattle.papaya_map.specs.Powers.{IsPowerOfTwo-prop};
 ghost use Rattle.papaya_book.specs.Parts.{begun_of};
-ghost use Rattle.papaya_change.specs.NoRoom.{HasNoRoom};
+ghost use Rattle.papaya_book.specs.Limits.{HasNoRoom};
 ghost use Rattle.papaya_change.specs.Changes.{IsPut};
 ghost use Rattle.papaya_map.specs.ComputeAnswers.{IsComputeBy, changes};
 ghost use Rattle.papaya_lookup.specs.History.{IsLegalHistory, Makes, Past, changes_by, history_of, key_of};
@@ -18,13 +20,12 @@ use crate::computing::compute;
 use papaya_book::book::Book;
 use papaya_book::book::kept::KeptRoot;
 use papaya_book::book::parts::Parts;
-use papaya_book::keyed::Keyed;
+use papaya_book::count::Count;
 use papaya_book::rule::entry::Step;
 use papaya_book::rule::own::{Given, Own};
 use papaya_book::rule::trade::Sight;
 use papaya_book::window::Window;
 use papaya_call::answers::Operation;
-use papaya_change::count::Count;
 use papaya_change::insertion::insert;
 use papaya_change::removal::remove;
 use papaya_keys::compute::Compute;
@@ -48,6 +49,7 @@ pub struct HashMap<K: Hash + Eq, V, S: BuildHasher = BuildHasherDefault<FoldHash
     count: Count,
     collector: Collector,
     pub(crate) book: Book<K, V, S>,
+    ghost power: { IsPowerOfTwo initial } by { IsPowerOfTwo-prop initial },
 }
 
 impl<K: Hash + Eq, V, S: BuildHasher> Model for HashMap<K, V, S> {
@@ -63,8 +65,8 @@ impl<K: Hash + Eq, V, S: BuildHasher> Model for HashMap<K, V, S> {
 /// What a caller has seen of a map's history, and what it changed itself. Of all this it keeps no
 /// more than a number, by which its calls pick a shard of the map's count. Contracts see that
 /// history, which is legal, the changes that were made by this pass, oldest first, and which book
-/// they are of. Where its last insertion or compute was refused since a log is full, they see the
-/// number that the log gave.
+/// they are of. Where its last change was refused for want of room, they see the number that a full
+/// log gave, or the sum of the map's count that makes a further table too long.
 ///
 /// Each call by a pass stands in the history after all that the pass had seen before, and
 /// afterwards the pass has seen the call's own moment. A call that changes the map makes one change
@@ -277,10 +279,12 @@ impl<'a, K: Hash + Eq, V, S: BuildHasher> HashMapRef<'a, K, V, S> {
     ///
     /// `Ok(None)` where the key is absent, `Ok(Some(pair))` where that very pair was removed, and
     /// `Err(pair)` where the closure answered false for it. The closure may be asked again, where
-    /// another call was first to replace or remove the pair that it was shown. A removal takes no
-    /// memory, and it is never refused: while a map has one table, there is no cause. The pass
-    /// makes one
-    /// change where a pair was removed, and else none.
+    /// another call was first to replace or remove the pair that it was shown.
+    ///
+    /// A removal makes nothing for itself. But where it helps to copy the table to a further one, it
+    /// may be refused as an insertion is: `Refused::Memory` where a growth was refused, and
+    /// `Refused::Capacity` where the log of tables is full or the further table would be too long.
+    /// Refused, the pass makes no change. It makes one where a pair was removed, and else none.
     pub fn remove_if_as<R: Wait, Q: Equivalent<K>, F: FnMut(&K, &V) -> bool>(
         &self,
         rt: &R,
@@ -295,18 +299,31 @@ impl<'a, K: Hash + Eq, V, S: BuildHasher> HashMapRef<'a, K, V, S> {
         ensures made { Makes (went result) pass.old.made pass.new.made pass.new.history }
         ensures removed { IsRemovalBy K.eq (Q.matches key.now) pass.old.history pass.new.history
             (Judges F.FnMut) should_remove result }
+        ensures crowded { result ≡ Err Refused.Capacity → HasNoRoom self.now.initial
+            pass.new.given }
     {
         let map: &'a HashMap<K, V, S> = self.map;
         let shard = map.count.shard(pass.number);
         let mut window = Window::new(&map.book, &self.kept, &pass.sight, &pass.own);
-        let removed = remove(rt, &shard, &mut window, key, should_remove);
+        let mut given = Own::nothing();
+        let removed = remove(
+            rt,
+            map.alloc,
+            map.initial,
+            &shard,
+            &mut window,
+            &mut given,
+            key,
+            should_remove,
+        );
         pass.sight = window.sight;
         pass.own = window.own;
+        pass.given = given;
         removed
     }
 
-    /// Removes a key's pair, and answers its value: `remove` of 0.2.5. It takes no memory, and is
-    /// never refused, as [`HashMapRef::remove_if_as`].
+    /// Removes a key's pair, and answers its value: `remove` of 0.2.5. It is refused as
+    /// [`HashMapRef::remove_if_as`] is.
     pub fn remove_as<R: Wait, Q: Equivalent<K>>(
         &self,
         rt: &R,
@@ -319,6 +336,8 @@ impl<'a, K: Hash + Eq, V, S: BuildHasher> HashMapRef<'a, K, V, S> {
         ensures made { Makes (took result) pass.old.made pass.new.made pass.new.history }
         ensures removed { IsRemoved K.eq (Q.matches key.now) pass.old.history pass.new.history
             result }
+        ensures crowded { result ≡ Err Refused.Capacity → HasNoRoom self.now.initial
+            pass.new.given }
     {
         let removed = self.remove_if_as(
             rt,
@@ -341,10 +360,11 @@ impl<'a, K: Hash + Eq + Drop, V: Drop, S: BuildHasher> HashMapRef<'a, K, V, S> {
     /// Stores a pair, and answers the value that its key had: `insert` of 0.2.5. As there, the new
     /// key takes the old one's place too.
     ///
-    /// `Refused::Memory` where a growth was refused. `Refused::Capacity` where the log of pairs or
-    /// that of tables is full: it gave a number past its limit, which the pass shows then. Or where
-    /// the key has no pair, and each of its places in the table is filled. Refused, the pass makes no
-    /// change, and else this one.
+    /// Where the key finds no place in the table, the call makes a further one, to which the pairs
+    /// are copied. `Refused::Memory` where a growth was refused. `Refused::Capacity` where the log of
+    /// pairs or that of tables is full: it gave a number past its limit, which the pass shows then. Or
+    /// where the further table would be too long, by the sum of the count that the pass shows then.
+    /// Refused, the pass makes no change, and else this one.
     pub fn insert_as<R: Wait>(
         &self,
         rt: &R,
@@ -360,8 +380,7 @@ impl<'a, K: Hash + Eq + Drop, V: Drop, S: BuildHasher> HashMapRef<'a, K, V, S> {
             answer) }
         ensures refused { IfErr result (λ refused. (refused ≡ Refused.Memory)
             ⊎ (refused ≡ Refused.Capacity)) }
-        ensures crowded { result ≡ Err Refused.Capacity → HasNoRoom K.eq
-            ⟦<S as Keyed<K>>⟧.keys.hash self.now.begun key pass.old.history pass.new.history
+        ensures crowded { result ≡ Err Refused.Capacity → HasNoRoom self.now.initial
             pass.new.given }
     {
         let map: &'a HashMap<K, V, S> = self.map;
@@ -408,8 +427,7 @@ impl<'a, K: Hash + Eq + Drop, V: Drop, S: BuildHasher> HashMapRef<'a, K, V, S> {
         ensures book { pass.new.book ≡ pass.old.book }
         ensures seen { IsPrefix pass.old.history pass.new.history }
         ensures made { Makes (changes result) pass.old.made pass.new.made pass.new.history }
-        ensures crowded { result ≡ Err Refused.Capacity → HasNoRoom K.eq
-            ⟦<S as Keyed<K>>⟧.keys.hash self.now.begun key pass.old.history pass.new.history
+        ensures crowded { result ≡ Err Refused.Capacity → HasNoRoom self.now.initial
             pass.new.given }
         ensures computed { IsComputeBy K.eq key pass.old.history pass.new.history (Operates F.FnMut)
             f result }

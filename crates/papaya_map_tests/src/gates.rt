@@ -1,6 +1,6 @@
 // A pair that is replaced while a closure is shown it.
 use crate::expect::is;
-use crate::numbers::{Numbers, counts, finds, inserts, numbers};
+use crate::numbers::{MODES, Numbers, counts, finds, inserts, made};
 use crate::threads::turn_until;
 use papaya_call::answers::Operation;
 use papaya_keys::compute::Compute;
@@ -8,6 +8,7 @@ use papaya_words::probe::Refused;
 use std::process::Abort;
 use std::sync::Wait;
 use std::sync::atomic::{AtomicBool, Ordering};
+use std::test::Fail;
 use std::thread::{Threads, join};
 
 /// Replaces the value of key 1 once it was shown. What is told is what it found before and the old
@@ -118,9 +119,12 @@ fn removes_what_replaced<R: Threads + Wait + Sync + Abort>(rt: &R, map: &Numbers
 /// A pair that is replaced while it is shown is not removed: the closure is shown the one that took
 /// its place.
 #[test]
-fn a_removal_shows_what_replaced_its_pair(rt: HostRuntime) {
-    let map = numbers(&rt, rt.alloc());
-    removes_what_replaced(&rt, &map);
+fn a_removal_shows_what_replaced_its_pair(rt: HostRuntime) -> Result<(), Fail> {
+    for mode in MODES {
+        let map = made(&rt, rt.alloc(), mode, 0, 4)?;
+        removes_what_replaced(&rt, &map);
+    }
+    Ok(())
 }
 
 /// What the closure of a compute was shown, and the values that the compute answered of the old
@@ -228,7 +232,10 @@ fn updates_what_replaced<R: Threads + Wait + Sync + Abort>(rt: &R, map: &Numbers
 /// A value that is replaced while it is shown is not added to: the closure is shown the one that
 /// took its place.
 #[test]
-fn a_compute_shows_what_replaced_its_pair(rt: HostRuntime) {
-    let map = numbers(&rt, rt.alloc());
-    updates_what_replaced(&rt, &map);
+fn a_compute_shows_what_replaced_its_pair(rt: HostRuntime) -> Result<(), Fail> {
+    for mode in MODES {
+        let map = made(&rt, rt.alloc(), mode, 0, 4)?;
+        updates_what_replaced(&rt, &map);
+    }
+    Ok(())
 }

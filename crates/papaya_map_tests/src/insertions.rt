@@ -3,7 +3,7 @@ ghost use Rattle.std.specs.Prelude.{◌≡◌};
 
 use crate::expect::is;
 use crate::hashing::TOGETHER;
-use crate::numbers::{Numbers, NumbersPass, counts, finds, inserts, made, numbers};
+use crate::numbers::{MODES, Numbers, NumbersPass, counts, finds, inserts, made, numbers, removes};
 use papaya_map::map::HashMap;
 use papaya_words::probe::{Refused, ResizeMode};
 use std::process::Abort;
@@ -110,40 +110,62 @@ fn two_passes_meet(rt: HostRuntime) {
     meet_twice(&rt, &map);
 }
 
-/// The keys below 26 have themselves.
+/// The keys below 100, which take one path, have themselves.
 fn fills<R: Wait + Abort>(rt: &R, map: &Numbers, pass: &mut NumbersPass)
     requires { pass.old.book ≡ map.now.book }
     ensures { pass.new.book ≡ pass.old.book }
 {
-    for key in 0..26u64 {
+    for key in 0..100u64 {
         inserts(rt, map, key, key, pass, Ok(None));
     }
 }
 
-/// The first key, the last one and the one behind it.
+/// Each of them is found.
+fn finds_each(rt: &impl Abort, map: &Numbers, pass: &mut NumbersPass)
+    requires { pass.old.book ≡ map.now.book }
+    ensures { pass.new.book ≡ pass.old.book }
+{
+    for key in 0..100u64 {
+        finds(rt, map, key, pass, Some(&key));
+    }
+}
+
+/// Half of them go.
+fn halves<R: Wait + Abort>(rt: &R, map: &Numbers, pass: &mut NumbersPass)
+    requires { pass.old.book ≡ map.now.book }
+    ensures { pass.new.book ≡ pass.old.book }
+{
+    for key in 0..50u64 {
+        removes(rt, map, key, pass, Ok(Some(&key)));
+    }
+}
+
+/// One that went and one that stays.
 fn finds_the_ends(rt: &impl Abort, map: &Numbers, pass: &mut NumbersPass)
     requires { pass.old.book ≡ map.now.book }
     ensures { pass.new.book ≡ pass.old.book }
 {
-    finds(rt, map, 0, pass, Some(&0));
-    finds(rt, map, 25, pass, Some(&7));
-    finds(rt, map, 26, pass, None);
+    finds(rt, map, 49, pass, None);
+    finds(rt, map, 50, pass, Some(&50));
+    finds(rt, map, 100, pass, None);
 }
 
-/// A path is filled, and takes no further key then.
-fn fills_a_path<R: Wait + Abort>(rt: &R, map: &Numbers) {
+/// A map goes on in further tables, whose paths are longer.
+fn goes_on<R: Wait + Abort>(rt: &R, map: &Numbers) {
     let mut pass = map.pass();
     fills(rt, map, &mut pass);
-    inserts(rt, map, 26, 26, &mut pass, Err(Refused::Capacity));
-    inserts(rt, map, 25, 7, &mut pass, Ok(Some(&25)));
+    finds_each(rt, map, &mut pass);
+    counts(rt, map, 100);
+    halves(rt, map, &mut pass);
     finds_the_ends(rt, map, &mut pass);
-    counts(rt, map, 26);
+    counts(rt, map, 50);
 }
 
 #[test]
-fn a_path_of_the_first_table_has_26_places(rt: HostRuntime) -> Result<(), Fail> {
-    let mode = ResizeMode::Incremental(64);
-    let map: Numbers = HashMap::with_parts(&rt, rt.alloc(), mode, 0, 1, TOGETHER)?;
-    fills_a_path(&rt, &map);
+fn keys_of_one_path_go_on_in_further_tables(rt: HostRuntime) -> Result<(), Fail> {
+    for mode in MODES {
+        let map: Numbers = HashMap::with_parts(&rt, rt.alloc(), mode, 0, 1, TOGETHER)?;
+        goes_on(&rt, &map);
+    }
     Ok(())
 }

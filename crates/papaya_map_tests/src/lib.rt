@@ -12,6 +12,8 @@ mod expect;
 #[cfg(test)]
 mod gates;
 #[cfg(test)]
+mod growth;
+#[cfg(test)]
 mod hashing;
 #[cfg(test)]
 mod insertions;

@@ -9,6 +9,13 @@ use std::alloc::Global;
 use std::process::Abort;
 use std::sync::Wait;
 
+/// How the maps of the tests with threads resize.
+pub const MODES: [ResizeMode; 3] = [
+    ResizeMode::Blocking,
+    ResizeMode::Incremental(1),
+    ResizeMode::Incremental(64),
+];
+
 /// The maps of the tests.
 pub type Numbers = HashMap<u64, u64, Times>;
 

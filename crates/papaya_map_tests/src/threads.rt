@@ -1,18 +1,19 @@
 // Threads that share a map, each with a pass of its own.
 use crate::expect::{is, is_at};
-use crate::numbers::{Numbers, made};
-use papaya_words::probe::ResizeMode;
+use crate::numbers::{MODES, Numbers, made};
 use std::alloc::Global;
 use std::process::Abort;
 use std::sync::Wait;
 use std::sync::atomic::{AtomicBool, AtomicU64, Ordering};
+use std::test::Fail;
 use std::thread::{Threads, join, yield_now};
 
 const KEYS: u64 = 16;
 
-const ROUNDS: u64 = 20;
+const ROUNDS: u64 = 256;
 
-const VALUES: u64 = 640;
+/// Four threads store so many.
+const VALUES: u64 = 16_384;
 
 /// The value that a thread stores at a key in a round. No two stores have the same.
 fn value_of(thread: u64, round: u64, key: u64) -> u64 {
@@ -48,15 +49,20 @@ impl Tally {
         self.counts.get(value as usize).copied().unwrap_or(0)
     }
 
+    /// This value was taken out so often.
+    fn add(&mut self, value: u64, times: u64) {
+        if let Some(count) = self.counts.get_mut(value as usize) {
+            *count = count.wrapping_add(times);
+        }
+    }
+
     /// Takes out what was answered for a key.
     fn take(&mut self, key: u64, taken: Option<&u64>) {
         let Some(value) = taken else {
             return;
         };
         self.see(key, Some(value));
-        if let Some(count) = self.counts.get_mut(*value as usize) {
-            *count = count.wrapping_add(1);
-        }
+        self.add(*value, 1);
     }
 
     /// Is what was answered for a key a value that some thread stores there?
@@ -78,11 +84,11 @@ pub fn turn_until(flag: &AtomicBool) -> bool {
     false
 }
 
-/// Waits until both threads are here, if they ever are.
-pub fn meet(here: &AtomicU64) {
+/// Waits until all four threads are here, if they ever are.
+fn meet(here: &AtomicU64) {
     here.fetch_add(1, Ordering::SeqCst);
     for _ in 0..1_000_000u64 {
-        if here.load(Ordering::SeqCst) >= 2 {
+        if here.load(Ordering::SeqCst) >= 4 {
             return;
         }
         yield_now();
@@ -121,12 +127,13 @@ fn churn_both<R: Threads + Wait + Sync>(
     rt: &R,
     alloc: Global,
     map: &Numbers,
+    here: &AtomicU64,
+    first: u64,
 ) -> (Option<Tally>, Option<Tally>) {
-    let here = AtomicU64::new(0);
     join(
         rt,
-        || churn(rt, alloc, map, &here, 0),
-        || churn(rt, alloc, map, &here, 1),
+        || churn(rt, alloc, map, here, first),
+        || churn(rt, alloc, map, here, first.wrapping_add(1)),
     )
 }
 
@@ -143,35 +150,54 @@ fn left_in(alloc: Global, map: &Numbers) -> Option<(Tally, usize)> {
     Some((tally, left))
 }
 
-/// Each value was taken out once, by one of the threads or at last.
-fn took_each_once(rt: &impl Abort, first: &Tally, second: &Tally, last: &Tally) {
-    is(
-        rt,
-        (first.legal, second.legal, last.legal),
-        (true, true, true),
-    );
+/// What two threads have taken out.
+type Taken = (Option<Tally>, Option<Tally>);
+
+/// The tally of all: each value was to be stored where it was found.
+fn add_up(taken: &Taken, all: &mut Tally) -> bool {
+    let (Some(first), Some(second)) = taken else {
+        return false;
+    };
+    all.legal = all.legal && first.legal && second.legal;
     for value in 0..VALUES {
-        let taken = first
-            .count(value)
-            .wrapping_add(second.count(value))
-            .wrapping_add(last.count(value));
-        is_at(rt, value as usize, taken, 1);
+        let count = first.count(value).wrapping_add(second.count(value));
+        all.add(value, count);
+    }
+    true
+}
+
+/// Each value was taken out once, by one of the threads or at last.
+fn took_each_once(rt: &impl Abort, all: &Tally) {
+    is(rt, all.legal, true);
+    for value in 0..VALUES {
+        is_at(rt, value as usize, all.count(value), 1);
     }
 }
 
-/// Two threads change a map of no pairs.
+/// Four threads change a map of no pairs.
 fn churns<R: Threads + Wait + Sync + Abort>(rt: &R, alloc: Global, map: &Numbers) {
-    let (first, second) = churn_both(rt, alloc, map);
-    let first = first.expect(rt, "a tally");
-    let second = second.expect(rt, "a tally");
-    let (last, left) = left_in(alloc, map).expect(rt, "a tally");
+    let here = AtomicU64::new(0);
+    let (low, high) = join(
+        rt,
+        || churn_both(rt, alloc, map, &here, 0),
+        || churn_both(rt, alloc, map, &here, 2),
+    );
+    let (mut all, left) = left_in(alloc, map).expect(rt, "a tally");
     is(rt, map.len(), left);
-    took_each_once(rt, &first, &second, &last);
+    is(
+        rt,
+        (add_up(&low, &mut all), add_up(&high, &mut all)),
+        (true, true),
+    );
+    took_each_once(rt, &all);
 }
 
 /// Each value is taken out once or is left, and none is lost or taken twice.
 #[test]
-fn each_value_is_taken_out_once(rt: HostRuntime) {
-    let map = made(&rt, rt.alloc(), ResizeMode::Blocking, 4096, 4).expect(&rt, "a map");
-    churns(&rt, rt.alloc(), &map);
+fn each_value_is_taken_out_once(rt: HostRuntime) -> Result<(), Fail> {
+    for mode in MODES {
+        let map = made(&rt, rt.alloc(), mode, 0, 4)?;
+        churns(&rt, rt.alloc(), &map);
+    }
+    Ok(())
 }

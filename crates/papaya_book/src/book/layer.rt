@@ -87,6 +87,7 @@ impl<K: Hash + Eq, V, S: BuildHasher> Book<K, V, S> {
         ensures made { IfOk result (λ r. IsMade r.0.value sight.new.log) }
         ensures err { IfErr result (λ e. (e ≡ Refused.Memory)
             ⊎ ((e ≡ Refused.Capacity) × IsFull given.new.done)) }
+        ensures ok { IfOk result (λ r. given.new.done ≡ given.old.done) }
         ensures placed { IfOk result (λ r. IsIn self.now (TableNamed r.0)) }
         ensures pen { IfOk result (λ r. Seals self.now r.1 r.0.value) }
     {

@@ -2,6 +2,7 @@
 ghost use Rattle.papaya_book.specs.Books.{IsIn};
 ghost use Rattle.std.specs.Prelude.{◌≡◌, ◌^◌, ◌<◌, Some, IfOk, IfErr, [], ◌∷◌};
 ghost use Rattle.papaya_book.specs.Pairs.{IsKeyIn};
+ghost use Rattle.papaya_words.specs.Mode.{IsChunked};
 ghost use Rattle.papaya_book.specs.Parts.{begun_of};
 ghost use Rattle.papaya_book.specs.declared.rule.entry.Event.TheVariants.{Begin};
 ghost use Rattle.papaya_book.specs.declared.rule.entry.Named.TheVariants.{Pair as PairNamed};
@@ -37,6 +38,7 @@ impl<K: Hash + Eq + Drop, V: Drop, S: BuildHasher + Drop> Parts<K, V, S> {
 impl<K: Hash + Eq, V, S: BuildHasher> Book<K, V, S> {
     /// The book of a new map.
     pub fn opened<R: Wait>(rt: &R, parts: Parts<K, V, S>) -> Book<K, V, S>
+        requires { IsChunked parts.mode }
         ensures { result.parts ≡ parts }
     {
         let mut parts = parts;

@@ -8,6 +8,7 @@ ghost use Rattle.papaya_book.specs.Books.{Brings, CanBring, IsIn, IsLeft, Seals}
 ghost use Rattle.std.specs.Prelude.{◌≡◌, ◌≢◌, ◌+◌, ◌≤◌, ◌==◌, false, Some, IfOk, IfErr, length};
 ghost use mathlib.Core.List.{IsPrefix};
 ghost use Rattle.logbook.specs.Pages.{nib, may_write};
+ghost use Rattle.papaya_words.specs.Mode.{IsChunked};
 ghost use Rattle.papaya_book.specs.Logs.{Member, key_at, owner, seals_of, steps_of};
 ghost use Rattle.papaya_book.specs.Makers.{IsMade};
 ghost use Rattle.papaya_book.specs.Sheets.{word_named};
@@ -30,6 +31,7 @@ impl<K: Hash + Eq, V, S: BuildHasher> Book<K, V, S> {
     /// A new book. The parts come back where it got another name first, which no thread could give
     /// it.
     pub fn begin(parts: Parts<K, V, S>) -> Result<Book<K, V, S>, Parts<K, V, S>>
+        requires { IsChunked parts.mode }
         ensures ok { IfOk result (λ book. book.parts ≡ parts) }
         ensures err { IfErr result (λ back. back ≡ parts) }
     {

@@ -10,11 +10,13 @@ use crate::rule::trade::Sight;
 use std::hash::{BuildHasher, Hash};
 use std::marker::{Model, PhantomData};
 
-/// A number that one of a book's logs gave to what was put into it.
+/// A number that a map gave to a call: one of its logs to what was put into it, or the sum of its
+/// count.
 #[derive(Clone, Copy)]
 pub enum Given {
     Pair(usize),
     Table(usize),
+    Sum(usize),
 }
 
 /// Steps that a caller made, or what it was given, oldest first.

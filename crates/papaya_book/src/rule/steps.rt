@@ -28,6 +28,15 @@ pub struct Put<'a, K, V> {
     pub made: &'a Stored<K, V>,
 }
 
+/// An exchange for a copy: the word and the kind, and the pair that is carried, if one is. Nothing
+/// comes with it.
+#[derive(Clone, Copy)]
+pub struct Copy<'a, K, V> {
+    pub at: At,
+    pub kind: Option<StepKind>,
+    pub kept: &'a Option<Stored<K, V>>,
+}
+
 /// A load.
 pub struct Look;
 
@@ -46,6 +55,34 @@ impl<K: Hash + Eq, V, S: BuildHasher> Play<Event<K, V, S>, Named<K, V>> for Look
     ghost use Rattle.papaya_book.specs.Plays.{Looks};
 
     ghost then = { Looks K.eq (hash_of K.hash_input S.build_hasher S.Hasher.write
+        S.Hasher.finish) };
+}
+
+/// A table that has come, and is looked for by its number.
+#[derive(Clone, Copy)]
+pub struct Wanted {
+    pub number: u64,
+}
+
+/// A load that finds the table of a number, whatever stands there.
+pub struct Fetch;
+
+impl<K, V, S> Plain<Wanted, Event<K, V, S>, Named<K, V>> for Fetch {
+    ghost use Rattle.std.specs.Prelude.{None};
+    ghost use Rattle.papaya_ask.specs.declared.ask.At.TheVariants.{Next};
+    ghost use Rattle.papaya_book.specs.declared.rule.entry.Named.TheVariants.{Nothing};
+    ghost use Rattle.papaya_book.specs.declared.rule.entry.Event.TheVariants.{Wish};
+
+    ghost ask = { λ x. Wish (Next x.number) None None Nothing };
+
+    ghost state = { λ x. None };
+}
+
+impl<K: Hash + Eq, V, S: BuildHasher> Play<Event<K, V, S>, Named<K, V>> for Fetch {
+    ghost use Rattle.papaya_book.specs.Hashes.{hash_of};
+    ghost use Rattle.papaya_book.specs.Fetches.{Fetches};
+
+    ghost then = { Fetches K.eq (hash_of K.hash_input S.build_hasher S.Hasher.write
         S.Hasher.finish) };
 }
 
@@ -68,6 +105,16 @@ impl<'a, K, V, S> Plain<Put<'a, K, V>, Event<K, V, S>, Named<K, V>> for Try {
     ghost use Rattle.papaya_book.specs.declared.rule.entry.Event.TheVariants.{Wish};
 
     ghost ask = { λ x. Wish x.at x.kind (Some x.made.now) (Pair x.made.now) };
+
+    ghost state = { λ x. None };
+}
+
+impl<'a, K, V, S> Plain<Copy<'a, K, V>, Event<K, V, S>, Named<K, V>> for Try {
+    ghost use Rattle.std.specs.Prelude.{None};
+    ghost use Rattle.papaya_book.specs.declared.rule.entry.Named.TheVariants.{Nothing};
+    ghost use Rattle.papaya_book.specs.declared.rule.entry.Event.TheVariants.{Wish};
+
+    ghost ask = { λ x. Wish x.at x.kind x.kept.now Nothing };
 
     ghost state = { λ x. None };
 }

@@ -1,33 +1,50 @@
-use Rattle.std.proofs.Common.{◌≡◌, [], append-nil, refl, sym, ap, ◌∙◌, subst}
+use Rattle.std.proofs.Common.{◌≡◌, Some, refl, sym, ap, ◌∙◌, subst}
 use Rattle.std.specs.Prelude.{IfErr}
 use Rattle.papaya_ask.specs.declared.ask.Ask.TheVariants.{Done}
 use Rattle.papaya_ask.specs.declared.call.Reply.TheVariants.{Refused}
 use Rattle.papaya_ask.specs.declared.call.Task.TheVariants.{Compute}
-use Rattle.papaya_call.specs.declared.machine.Machine.{Machine}
-use Rattle.papaya_call.specs.Machine.{ask_of, started}
-use Rattle.papaya_lookup.specs.History.{history_of}
+use Rattle.papaya_chain.specs.declared.ask.Answer.TheVariants as answers
+use Rattle.papaya_chain.specs.declared.ask.Ask.TheVariants.{Call}
+use Rattle.papaya_chain.specs.declared.machine.Machine.{Machine}
+use Rattle.papaya_chain.specs.Machine.{after, ask_of, started}
 use Rattle.papaya_book.specs.Hashes.{hash_of}
+use Rattle.papaya_book.specs.Limits.{HasNoRoom}
 use Rattle.papaya_book.specs.Parts.{begun_of}
 use Rattle.papaya_book.specs.Windows.{Does}
+use denote.Bor.{Bor}
+use Rattle.papaya_book.specs.declared.book.Book.{Book as BookOf}
+use Rattle.papaya_change.specs.declared.driver.Driver.{Driver}
+use Rattle.papaya_change.specs.Changing.{IsDriven}
 use Rattle.papaya_change.specs.Doing.{has_changed}
 use Rattle.papaya_change.specs.Showings.{Operates}
+use Rattle.papaya_change.proofs.Changing.{form}
 use Rattle.papaya_change.proofs.Doing.{does_on, does_still, idles, makes}
-use Rattle.papaya_change.proofs.NoRoom.{no_room_wider}
+use Rattle.papaya_change.proofs.Helped.{helped_does, helped_keeps}
+use Rattle.papaya_change.proofs.OwnSteps.{own_settings}
+use Rattle.papaya_change.proofs.Written.{own_query}
+use Rattle.papaya_change.specs.Writing.{answered as answered_writer}
+use Rattle.papaya_map.specs.Computing.{IsComputing}
+use Rattle.papaya_map.proofs.ComputeHelped.{computing_helped}
 use Rattle.papaya_map.proofs.ComputeReplies.{begins, compute_since}
 use Rattle.papaya_lookup.proofs.Histories.{history_since}
 use Rattle.papaya_book.proofs.Windows.{sees_trans}
 use Rattle.papaya_map.proofs.computing.compute.Goals as goal
 
+pub new-requires-clause-chunked : goal.new-requires-clause-chunked
+new-requires-clause-chunked g c = c.learn.new.self.book.now.chunked
+
 pub loop-init : goal.loop-init
 loop-init g c =
-    let w = c.learn.new.self.book.now in let log = c.learn.new.self.sight.log in let pairs = c.new.ensures.pairs in
+    let w = c.learn.new.self.book.now in let log = c.learn.new.self.sight.log in
     let machine = c.new.ensures.machine ∙ ap (λ h. started Compute h w.parts.mode c.args.initial) c.hash-hash.ensures in (
       (
         log,
         c.learn.ensures.sees.log,
-        begins g.K.PartialEq.eq (hash_of g.K.Hash.hash_input g.S.BuildHasher.build_hasher g.S.Hasher.Hasher.write g.S.Hasher.Hasher.finish) (begun_of w.parts) w.begun.book (Operates g.F.FnMut) c.args.key c.args.f log _ c.learn.ensures.lawful c.args.initial machine c.new.ensures.table pairs.0 pairs.1 pairs.2 refl refl refl refl,
+        begins g.K.PartialEq.eq (hash_of g.K.Hash.hash_input g.S.BuildHasher.build_hasher g.S.Hasher.Hasher.write g.S.Hasher.Hasher.finish) (begun_of w.parts) w.begun.book (Operates g.F.FnMut) c.args.key c.args.f log _ c.learn.ensures.lawful w.chunked c.args.initial machine c.new.ensures.table c.new.ensures.pairs refl refl refl refl,
       ),
       c.new.ensures.standing,
+      ap (λ (m : Machine). m.phase) machine,
+      ap (λ (m : Machine). m.call.initial) machine,
       c.learn.ensures.sees,
       c.requires.callable,
       subst (λ (m : Machine). Does (has_changed m) c.args.window.now c.learn.new.self) (sym machine) (idles c.args.window.now c.learn.new.self c.learn.ensures.own),
@@ -36,14 +53,42 @@ loop-init g c =
 pub answer-requires-in-Some-answer-clause-fit : goal.answer-requires-in-Some-answer-clause-fit
 answer-requires-in-Some-answer-clause-fit g c = let u = c.loop.invariant.0 in (c.in-Some-answer.ensures.computes c.args.key c.args.f u.0 u.2).1
 
+pub help-requires-clause-can : goal.help-requires-clause-can
+help-requires-clause-can g c =
+    let u = c.loop.invariant.0 in let key = c.args.key in let w = c.answer.new.window.book.now in let b = begun_of w.parts in
+    let r = (c.in-Some-answer.ensures.computes key c.args.f u.0 u.2).0 in
+    let on = subst (λ (z : Driver _ _ _ _). IsDriven g.K.PartialEq.eq (hash_of g.K.Hash.hash_input g.S.BuildHasher.build_hasher g.S.Hasher.Hasher.write g.S.Hasher.Hasher.finish) b w.begun.book (g.K.PartialEq.eq key) ((hash_of g.K.Hash.hash_input g.S.BuildHasher.build_hasher g.S.Hasher.Hasher.write g.S.Hasher.Hasher.finish) b.hasher key) (Some key) u.0 c.answer.new.window.sight.log r.made z) (sym c.answer-in-Some-answer.ensures.after)
+    (subst (λ (z : Bor (BookOf _ _ _ _)). IsDriven g.K.PartialEq.eq (hash_of g.K.Hash.hash_input g.S.BuildHasher.build_hasher g.S.Hasher.Hasher.write g.S.Hasher.Hasher.finish) (begun_of z.now.parts) z.now.begun.book (g.K.PartialEq.eq key) ((hash_of g.K.Hash.hash_input g.S.BuildHasher.build_hasher g.S.Hasher.Hasher.write g.S.Hasher.Hasher.finish) (begun_of z.now.parts).hasher key) (Some key) u.0 c.answer.new.window.sight.log r.made (answered_writer c.answer.new.self.writer c.in-Some-answer.answer).call) (sym c.answer.ensures.sees.book) r.writing.calling) in
+    let query = own_query g.K.PartialEq.eq g.K.Hash.hash_input g.S.BuildHasher.build_hasher g.S.Hasher.Hasher.write g.S.Hasher.Hasher.finish g.met.K.Eq.laws g.met.K.Hash.respects_eq b w.begun.book key in (
+      g.K.PartialEq.eq key,
+      (hash_of g.K.Hash.hash_input g.S.BuildHasher.build_hasher g.S.Hasher.Hasher.write g.S.Hasher.Hasher.finish) b.hasher key,
+      form g.K.PartialEq.eq g.K.Hash.hash_input g.S.BuildHasher.build_hasher g.S.Hasher.Hasher.write g.S.Hasher.Hasher.finish g.met.K.Eq.laws g.met.K.Hash.respects_eq b (g.K.PartialEq.eq key) (g.K.Hash.hash_input key) query (Some key) w.begun.book u.0,
+      Some key,
+      u.0,
+      r.made,
+      on,
+    )
+
 pub loop-preserved : goal.loop-preserved
 loop-preserved g c =
-    let u = c.loop.invariant.0 in let on = (c.in-Some-answer.ensures.computes c.args.key c.args.f u.0 u.2).0 in (
-      (u.0, u.1, rw (c.answer.ensures.sees.book, c.answer-in-Some-answer.ensures.after) on),
-      c.answer-in-Some-answer.ensures.standing,
-      sees_trans _ _ _ c.loop.invariant.2 c.answer.ensures.sees,
+    let u = c.loop.invariant.0 in let key = c.args.key in let w = c.answer.new.window.book.now in let b = begun_of w.parts in
+    let answer = c.in-Some-answer.answer in let m = c.loop.computing.writer.call.machine in let call = c.answer-in-Some-answer.new.self in let then = c.help.new.self in let log = c.help.new.window.sight.log in
+    let x = record c.answer.new.self { writer = record c.answer.new.self.writer { call = call } } in
+    let on = subst (λ (z : Driver _ _ _ _). IsComputing g.K.PartialEq.eq (hash_of g.K.Hash.hash_input g.S.BuildHasher.build_hasher g.S.Hasher.Hasher.write g.S.Hasher.Hasher.finish) b w.begun.book (Operates g.F.FnMut) key c.args.f u.0 c.answer.new.window.sight.log (record c.answer.new.self { writer = record c.answer.new.self.writer { call = z } }) c.answer.new.compute) (sym c.answer-in-Some-answer.ensures.after)
+    (subst (λ (z : Bor (BookOf _ _ _ _)). IsComputing g.K.PartialEq.eq (hash_of g.K.Hash.hash_input g.S.BuildHasher.build_hasher g.S.Hasher.Hasher.write g.S.Hasher.Hasher.finish) (begun_of z.now.parts) z.now.begun.book (Operates g.F.FnMut) key c.args.f u.0 c.answer.new.window.sight.log (record c.answer.new.self { writer = answered_writer c.answer.new.self.writer answer }) c.answer.new.compute) (sym c.answer.ensures.sees.book) (c.in-Some-answer.ensures.computes key c.args.f u.0 u.2).0) in
+    let query = own_query g.K.PartialEq.eq g.K.Hash.hash_input g.S.BuildHasher.build_hasher g.S.Hasher.Hasher.write g.S.Hasher.Hasher.finish g.met.K.Eq.laws g.met.K.Hash.respects_eq b w.begun.book key in
+    let driven = c.help.ensures.goes_on (g.K.PartialEq.eq key) ((hash_of g.K.Hash.hash_input g.S.BuildHasher.build_hasher g.S.Hasher.Hasher.write g.S.Hasher.Hasher.finish) b.hasher key) (form g.K.PartialEq.eq g.K.Hash.hash_input g.S.BuildHasher.build_hasher g.S.Hasher.Hasher.write g.S.Hasher.Hasher.finish g.met.K.Eq.laws g.met.K.Hash.respects_eq b (g.K.PartialEq.eq key) (g.K.Hash.hash_input key) query (Some key) w.begun.book u.0) (Some key) u.0 on.made on.writing.calling in
+    let went = computing_helped g.K.PartialEq.eq (hash_of g.K.Hash.hash_input g.S.BuildHasher.build_hasher g.S.Hasher.Hasher.write g.S.Hasher.Hasher.finish) b w.begun.book (Operates g.F.FnMut) key c.args.f u.0 c.answer.new.window.sight.log log c.help.ensures.sees.log x c.answer.new.compute on then driven c.help.ensures.rest.1 c.help.ensures.calling (λ e. (c.help.ensures.still e).0) c.help.ensures.helped in
+    let same : call.machine ≡ after m (answers.Call answer) = ap (λ (z : Driver _ _ _ _). z.machine) c.answer-in-Some-answer.ensures.after ∙ ap (λ (z : Machine). after z (answers.Call answer)) c.answer.ensures.machine in
+    let does = does_on m c.loop.invariant.2 answer c.args.window.now c.loop.window c.answer.new.window c.loop.invariant.6 c.in-Some-answer.ensures.answers in
+    let does_call = subst (λ (z : Machine). Does (has_changed z) c.args.window.now c.answer.new.window) (sym same) does in (
+      (u.0, u.1, subst (λ (z : Bor (BookOf _ _ _ _)). IsComputing g.K.PartialEq.eq (hash_of g.K.Hash.hash_input g.S.BuildHasher.build_hasher g.S.Hasher.Hasher.write g.S.Hasher.Hasher.finish) (begun_of z.now.parts) z.now.begun.book (Operates g.F.FnMut) key c.args.f u.0 log (record x { writer = record x.writer { call = then } }) c.answer.new.compute) (sym c.help.ensures.sees.book) went),
+      c.help.ensures.standing,
+      c.help.ensures.calling,
+      (helped_keeps call.machine then.machine then.given.done c.help.ensures.helped).initial ∙ (ap (λ (z : Machine). z.call.initial) same ∙ ((own_settings m c.loop.invariant.2 answer).0 ∙ c.loop.invariant.3)),
+      sees_trans _ _ _ (sees_trans _ _ _ c.loop.invariant.4 c.answer.ensures.sees) c.help.ensures.sees,
       c.answer.ensures.callable,
-      rw (c.answer-in-Some-answer.ensures.after, c.answer.ensures.machine) (does_on c.loop.computing.writer.call.machine c.in-Some-answer.answer c.args.window.now c.loop.window c.answer.new.window c.loop.invariant.4 c.in-Some-answer.ensures.answers),
+      helped_does call.machine then.machine then.given.done c.help.ensures.calling c.help.ensures.helped c.args.window.now c.answer.new.window c.help.new.window (λ e. (c.help.ensures.still e).1) c.help.ensures.own does_call,
     )
 
 pub replied-requires : goal.replied-requires
@@ -62,13 +107,12 @@ returns-in-None-answer-clause-computed g c =
 pub returns-in-None-answer-clause-made : goal.returns-in-None-answer-clause-made
 returns-in-None-answer-clause-made g c =
     let u = c.loop.invariant.0 in let r = (c.in-None-answer.ensures.computes c.args.key c.args.f u.0 u.2).0 in let call = c.answer.new.self.writer.call in
-    let does = does_still c.loop.computing.writer.call.machine c.args.window.now c.loop.window c.answer.new.window c.loop.invariant.4 c.in-None-answer.ensures.answers in
+    let does = does_still c.loop.computing.writer.call.machine c.args.window.now c.loop.window c.answer.new.window c.loop.invariant.6 c.in-None-answer.ensures.answers in
     rw c.replied.ensures.changed (makes g.K.PartialEq.eq u.0 call.taken call.put call.machine c.args.window.now c.answer.new.window r.writing.calling.changed (rw c.answer.ensures.machine does))
 
 pub returns-in-None-answer-clause-crowded : goal.returns-in-None-answer-clause-crowded
 returns-in-None-answer-clause-crowded g c = λ e.
     let u = c.loop.invariant.0 in let r = (c.in-None-answer.ensures.computes c.args.key c.args.f u.0 u.2).0 in
-    let log = c.answer.new.window.sight.log in
-    let refused = subst (λ (z : _). IfErr z (λ cause. ask_of c.answer.new.self.writer.call.machine ≡ Done (Refused cause))) e c.replied.ensures.refusal in
-    rw (c.answer.ensures.sees.book, c.again.ensures)
-    (no_room_wider g.K.PartialEq.eq (hash_of g.K.Hash.hash_input g.S.BuildHasher.build_hasher g.S.Hasher.Hasher.write g.S.Hasher.Hasher.finish) (begun_of c.loop.window.book.now.parts) c.args.key (history_of c.args.window.now.sight.log) (history_of u.0) (history_of log) (history_of log) (history_since c.args.window.now.sight.log u.0 u.1) ([], append-nil (history_of log)) c.answer.new.self.writer.given.done (r.crowded refused))
+    let refused = subst (λ (z : _). IfErr z (λ cause. ask_of c.answer.new.self.writer.call.machine ≡ Call (Done (Refused cause)))) e c.replied.ensures.refusal in
+    let initial : c.answer.new.self.writer.call.machine.call.initial ≡ c.args.initial = ap (λ (z : Machine). z.call.initial) c.answer.ensures.machine ∙ c.loop.invariant.3 in
+    rw c.again.ensures (subst (λ n. HasNoRoom n c.answer.new.self.writer.call.given.done) initial (r.crowded refused))

@@ -1,7 +1,6 @@
-use Rattle.std.proofs.Common.{◌≡◌, ◌<◌, ◌^◌, inl, Option, None, Some, refl, sym, ◌∙◌, subst}
+use Rattle.std.proofs.Common.{◌<◌, ◌^◌, inl, Option, refl, sym, ◌∙◌, subst}
 use Rattle.papaya_words.specs.declared.probe.Refused.TheVariants.{Capacity, Memory}
 use Rattle.papaya_ask.specs.declared.ask.Answer.TheVariants.{Refused}
-use Rattle.papaya_rests.specs.Told.{or_last}
 use Rattle.papaya_book.specs.Hashes.{hash_of}
 use Rattle.papaya_book.specs.Pairs.{Pair as PairSeen}
 use Rattle.papaya_book.specs.Parts.{begun_of}
@@ -20,7 +19,7 @@ returns-then-index-ge-MAX_LOG_LEN-clause-writes g c = λ key made begun r.
     let held_here = subst (λ (z : PairSeen _ _). IsKeyBy x.key x.brought z.key) (sym c.in-Ok.ensures.ok) held in
     let logged = key_logged b w.begun.book key x.key x.brought r.keyed q held_here c.in-Ok.ensures.placed in
     let keyed : HasKey b w.begun.book key c.take-2.new.self c.or_this.result = rw (c.take-2.ensures.after, c.or_this.ensures, c.take-in-Ok.ensures.value) logged in
-    with_given g.K.PartialEq.eq (hash_of g.K.Hash.hash_input g.S.BuildHasher.build_hasher g.S.Hasher.Hasher.write g.S.Hasher.Hasher.finish) b w.begun.book key made begun c.args.window.now.sight.log _ c.gave_pair.result (Refused Capacity)
+    with_given g.K.PartialEq.eq (hash_of g.K.Hash.hash_input g.S.BuildHasher.build_hasher g.S.Hasher.Hasher.write g.S.Hasher.Hasher.finish) b w.begun.book key made begun c.args.window.now.sight.log (record x { value = c.take.new.self; key = c.take-2.new.self; brought = c.or_this.result }) c.gave_pair.result (Refused Capacity)
     (pair_unmade g.K.PartialEq.eq g.K.Hash.hash_input g.S.BuildHasher.build_hasher g.S.Hasher.Hasher.write g.S.Hasher.Hasher.finish g.met.K.Eq.laws g.met.K.Hash.respects_eq b w.begun.book key made begun c.args.window.now.sight.log x r c.take.new.self c.take-2.new.self c.or_this.result (Refused Capacity) keyed c.requires.asks (inl (Capacity, refl)) tt)
 
 pub returns-else-index-ge-MAX_LOG_LEN-clause-pairs : goal.returns-else-index-ge-MAX_LOG_LEN-clause-pairs

@@ -1,10 +1,11 @@
 use Rattle.std.proofs.Common.{◌≡◌, None, Some, sym, ap, ◌∙◌, subst}
-use Rattle.papaya_call.specs.Machine.{kind_of_ask}
+use Rattle.papaya_ask.specs.declared.ask.Ask.TheVariants.{Exchange}
+use Rattle.papaya_ask.specs.declared.ask.At.TheVariants.{Slot}
+use Rattle.papaya_chain.specs.Machine.{kind_of_ask}
 use Rattle.papaya_map.specs.Computing.{pair_for}
 use Rattle.papaya_book.specs.Parts.{begun_of}
 use Rattle.papaya_change.specs.Showings.{Operates}
 use Rattle.papaya_map.proofs.ComputeGoes.{goes_on}
-use Rattle.papaya_rests.proofs.Silent.{IsSilent}
 use Rattle.papaya_map.proofs.ComputePuts.{at_hand}
 use Rattle.papaya_map.proofs.computing.Computing.put.Goals as goal
 
@@ -35,4 +36,4 @@ returns-clause-computes g c = λ key first begun r.
     let one : h.0 ≡ c.in-Some.pair = cc (h.1, some) in
     let own = subst (λ (q : _). Rattle.papaya_rests.specs.Told.IsOneOf r.made q) one h.3 in
     let e = c.put.ensures in
-    goes_on g.K.PartialEq.eq g.K.Hash.hash_input g.S.BuildHasher.build_hasher g.S.Hasher.Hasher.write g.S.Hasher.Hasher.finish g.met.K.Eq.laws g.met.K.Hash.respects_eq (begun_of c.args.window.now.book.now.parts) c.args.window.now.book.now.begun.book (Operates g.F.FnMut) key first begun c.args.window.now.sight.log c.args.self.now c.args.compute.now r c.requires.standing (subst IsSilent (sym c.requires.asks) tt) c.put.new.window.sight.log e.sees.log c.put.new.self c.put.result e.machine e.value e.unsaid (e.writes key r.made begun r.writing own)
+    goes_on g.K.PartialEq.eq g.K.Hash.hash_input g.S.BuildHasher.build_hasher g.S.Hasher.Hasher.write g.S.Hasher.Hasher.finish g.met.K.Eq.laws g.met.K.Hash.respects_eq (begun_of c.args.window.now.book.now.parts) c.args.window.now.book.now.begun.book (Operates g.F.FnMut) key first begun c.args.window.now.sight.log c.args.self.now c.args.compute.now r c.requires.standing (Exchange (Slot c.args.number c.args.place) c.args.words.0 c.args.words.1) c.requires.asks tt c.put.result c.put.new.window.sight.log e.sees.log c.put.new.self e.machine e.value e.unsaid (e.writes key r.made begun r.writing own)

@@ -1,4 +1,5 @@
-use Rattle.std.proofs.Common.{◌≡◌, Ok, Err, Some, rules}
+use Rattle.std.proofs.Common.{◌≡◌, Ok, Err, Some, ap, ◌∙◌, rules}
+use Rattle.papaya_words.specs.declared.probe.Refused.TheVariants.{Capacity}
 use Rattle.papaya_change.proofs.RemovingReplies.{none_stays, refused_removed, value_removed}
 use Rattle.papaya_map.proofs.map.HashMapRef.remove_as.Goals as goal
 
@@ -16,3 +17,9 @@ pub returns-in-Err-clause-removed : goal.returns-in-Err-clause-removed
 returns-in-Err-clause-removed g c =
     let is : c.remove_if_as-removed.result ≡ Err c.in-Err.refused = search rules in
     refused_removed g.K.PartialEq.eq (g.Q.Equivalent.matches c.args.key.now) c.args.pass.now.history c.remove_if_as-removed.new.pass.history _ _ c.remove_if_as-removed.result c.remove_if_as-removed.ensures.removed c.in-Err.refused is
+
+pub returns-in-Err-clause-crowded : goal.returns-in-Err-clause-crowded
+returns-in-Err-clause-crowded g c = λ e.
+    let is : c.remove_if_as-removed.result ≡ Err c.in-Err.refused = search rules in
+    let full : c.in-Err.refused ≡ Capacity = cc e in
+    c.remove_if_as-removed.ensures.crowded (is ∙ ap (λ cause. Err cause) full)

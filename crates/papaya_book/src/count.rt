@@ -1,6 +1,8 @@
 //! The count of a map's pairs, in shards, so that callers seldom meet at one word.
-ghost use Rattle.std.specs.Prelude.{◌≡◌, ◌<◌, ◌≤◌, Err, IfErr, length};
+ghost use Rattle.std.specs.Prelude.{◌≡◌, ◌<◌, ◌≤◌, [], ◌∷◌, Err, IfErr, length};
+ghost use Rattle.papaya_book.specs.declared.rule.own.Given.TheVariants as numbers;
 
+use crate::rule::own::{Given, Own};
 use crossbeam_utils::CachePadded;
 use papaya_words::limits::MAX_SHARDS;
 use papaya_words::probe::Refused;
@@ -49,6 +51,15 @@ impl Count {
         }
         if sum < 0 { 0 } else { sum as usize }
     }
+
+    /// The sum, and what shows that the count gave it.
+    pub fn given_sum(&self) -> (usize, Own<Given>)
+        ensures { result.1.done ≡ numbers.Sum result.0 ∷ [] }
+    {
+        let sum = self.sum();
+        let given = Given::Sum(sum);
+        (sum, Own::only(&given))
+    }
 }
 
 /// So many shards of 0, or none where there is no memory.
@@ -68,6 +79,12 @@ pub struct Shard<'a> {
 }
 
 impl Shard<'_> {
+    /// The count that the shard is of.
+    #[inline(always)]
+    pub fn count(&self) -> &Count {
+        self.count
+    }
+
     /// Adds to the shard. It wraps.
     #[inline(always)]
     pub fn add(&self, by: i64) {

@@ -1,58 +1,79 @@
 //! A changing call under way, whatever its task: what it holds, and its loads.
-ghost use Rattle.std.specs.Prelude.{◌≡◌, ◌==◌, None, MatchBool};
-ghost use Rattle.papaya_call.specs.Machine.{IsStanding, started};
+ghost use Rattle.std.specs.Prelude.{◌≡◌, ◌==◌, [], None, MatchBool};
+ghost use Rattle.std.specs.Int.{IsPowerOfTwo};
+ghost use Rattle.papaya_words.specs.Mode.{IsChunked};
+ghost use Rattle.papaya_call.specs.Machine.{IsFit as IsCallFit};
+ghost use Rattle.papaya_chain.specs.Machine.{IsStanding, after, started};
+ghost use Rattle.papaya_chain.specs.declared.ask.Answer.TheVariants.{Call};
 ghost use Rattle.papaya_rests.specs.Told.{or_last};
 ghost use Rattle.papaya_book.specs.Windows.{Sees};
-ghost use Rattle.papaya_lookup.specs.Drivers.{Holds, Loads};
+ghost use Rattle.papaya_change.specs.Drivers.{Holds, Loads};
 
-use papaya_ask::ask::{Answer, At};
+use boxcar::Pushed;
+use logbook::Pen;
+use papaya_ask::ask::{Answer as CallAnswer, At};
 use papaya_ask::call::Task;
 use papaya_book::rule::entry::Stored;
+use papaya_book::rule::own::{Given, Own};
 use papaya_book::table::Table;
 use papaya_book::window::Window;
-use papaya_call::compute::Remembered;
-use papaya_call::machine::{Machine, State};
-use papaya_call::write::Made;
+use papaya_chain::ask::Answer;
+use papaya_chain::machine::Machine;
 use papaya_words::probe::ResizeMode;
 use std::hash::{BuildHasher, Hash};
 
-/// A changing call under way: its machine, the table and the pair that it loaded last, and the
-/// pairs
-/// that its change took out and put in. A machine names no others but those that the call has made,
-/// so this takes no memory.
+/// A changing call under way: its machine; the table and the pair that it loaded last; the pair that
+/// it carries to another table while it is set aside for a copy; and the pairs that its change took
+/// out and put in. A table that it has made is opened or linked by its next step. Where it was given
+/// a number past a limit, contracts see that number.
 #[derive(Drop)]
 pub struct Driver<'a, K: Hash + Eq, V, S: BuildHasher> {
     pub machine: Machine,
     pub table: Option<&'a Table<K, V, S>>,
     pub last: Option<Stored<K, V>>,
+    pub kept: Option<Stored<K, V>>,
     pub taken: Option<Stored<K, V>>,
     pub put: Option<Stored<K, V>>,
+    pub fresh: Option<(Pushed<Table<K, V, S>>, Pen)>,
+    pub given: Own<Given>,
 }
 
 impl<'a, K: Hash + Eq, V, S: BuildHasher> Driver<'a, K, V, S> {
     /// A call that begins.
     #[inline(always)]
     pub fn new(task: Task, hash: u64, mode: ResizeMode, initial: usize) -> Driver<'a, K, V, S>
+        requires chunked { IsChunked mode }
+        requires initial { IsPowerOfTwo initial }
         ensures machine { result.machine ≡ started task hash mode initial }
         ensures standing { IsStanding result.machine }
-        ensures table { result.table ≡ None }
-        ensures pairs { (result.last ≡ None) × (result.taken ≡ None) × (result.put ≡ None) }
+        ensures table { (result.table ≡ None) × (result.fresh ≡ None) }
+        ensures pairs { (result.last ≡ None) × (result.kept ≡ None) × (result.taken ≡ None)
+            × (result.put ≡ None) }
+        ensures given { result.given.done ≡ [] }
     {
         Driver {
-            machine: Machine {
-                task,
-                hash,
-                mode,
-                initial,
-                made: Made::Nothing,
-                remembered: Remembered::nothing(),
-                state: State::AtRoot,
-            },
+            machine: Machine::new(task, hash, mode, initial),
             table: None,
             last: None,
+            kept: None,
             taken: None,
             put: None,
+            fresh: None,
+            given: Own::nothing(),
         }
+    }
+
+    /// Goes on after an answer to what the call asked for itself.
+    #[inline(always)]
+    pub fn answer(&mut self, answer: CallAnswer)
+        requires standing { IsStanding self.old.machine }
+        requires fit { IsCallFit answer }
+        ensures after { self.new ≡ record self.old {
+          machine = after self.old.machine (Call answer);
+        } }
+        ensures standing { IsStanding self.new.machine }
+    {
+        self.machine.answer(Answer::Call(answer));
     }
 
     /// One atomic load: the word that stands there.
@@ -62,8 +83,7 @@ impl<'a, K: Hash + Eq, V, S: BuildHasher> Driver<'a, K, V, S> {
         ensures sees { Sees window.old window.new }
         ensures own { window.new.own ≡ window.old.own }
         ensures loaded { Loads at result window.old self.old window.new self.new }
-        ensures rest { (self.new.machine ≡ self.old.machine) × (self.new.taken ≡ self.old.taken)
-            × (self.new.put ≡ self.old.put) }
+        ensures rest { self.new ≡ record self.old { table = self.new.table; last = self.new.last } }
     {
         match (at, self.table) {
             (At::Root, _) => {
@@ -97,7 +117,7 @@ impl<'a, K: Hash + Eq, V, S: BuildHasher> Driver<'a, K, V, S> {
 
     /// Keeps the pair that was loaded, if one was.
     #[inline(always)]
-    fn tell(&mut self, pair: Option<Stored<K, V>>)
+    pub fn tell(&mut self, pair: Option<Stored<K, V>>)
         ensures { self.new ≡ record self.old { last = or_last pair self.old.last } }
     {
         if pair.is_some() {
@@ -106,8 +126,7 @@ impl<'a, K: Hash + Eq, V, S: BuildHasher> Driver<'a, K, V, S> {
     }
 
     /// The call tried an exchange with which the pair comes that is to be put in, if one is, and
-    /// found
-    /// this word and this pair.
+    /// found this word and this pair.
     #[inline(always)]
     pub fn tried(
         &mut self,
@@ -115,19 +134,19 @@ impl<'a, K: Hash + Eq, V, S: BuildHasher> Driver<'a, K, V, S> {
         found: u64,
         pair: Option<Stored<K, V>>,
         put: Option<Stored<K, V>>,
-    ) -> Answer
-        ensures { MatchBool (found == old) ((result ≡ Answer.Exchanged)
+    ) -> CallAnswer
+        ensures { MatchBool (found == old) ((result ≡ CallAnswer.Exchanged)
             × (self.new ≡ record self.old { taken = pair; put = put }))
-            ((result ≡ Answer.Found found) × (self.new ≡ record self.old
+            ((result ≡ CallAnswer.Found found) × (self.new ≡ record self.old
             { last = or_last pair self.old.last })) }
     {
         if found == old {
             self.taken = pair;
             self.put = put;
-            Answer::Exchanged
+            CallAnswer::Exchanged
         } else {
             self.tell(pair);
-            Answer::Found(found)
+            CallAnswer::Found(found)
         }
     }
 }

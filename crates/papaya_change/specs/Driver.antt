@@ -1,4 +1,4 @@
--- What a call under way holds, and what a load gives it.
+-- What a changing call under way holds, and what a load gives it.
 use Rattle.std.specs.Prelude.{◌≡◌, ℕ, Bool, MatchOption, Option, List, ◌<◌, length}
 use denote.Bor.{Bor}
 use Rattle.logbook.specs.Pages.{Book}

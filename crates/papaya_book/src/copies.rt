@@ -1,0 +1,183 @@
+//! Steps on words for copies of tables. No change of the map is made by them.
+ghost use Rattle.std.specs.Prelude.{◌≡◌, ◌<◌, ◌≤◌, ◌+◌, ◌⊎◌, Some, IfErr, IfOk, length};
+ghost use Rattle.papaya_ask.specs.Search.{IsSize};
+ghost use Rattle.papaya_ask.specs.declared.ask.At.TheVariants.{Aborted, Done, Root, Slot};
+ghost use Rattle.papaya_book.specs.Books.{Seals};
+ghost use Rattle.papaya_book.specs.Limits.{IsFull};
+ghost use Rattle.papaya_book.specs.Windows.{CanCopy, CanLink, CopiesSlot, CopiesWord, HasCome, IsIn, IsMade, IsTable, IsWord, Links, Sees};
+ghost use Rattle.papaya_book.specs.Logs.{pair_named};
+ghost use Rattle.papaya_book.specs.declared.rule.entry.Named.TheVariants.{Table as TableNamed};
+
+use crate::rule::entry::Stored;
+use crate::rule::own::{Given, Own};
+use crate::table::Table;
+use crate::window::Window;
+use boxcar::Pushed;
+use logbook::Pen;
+use papaya_ask::ask::StepKind;
+use papaya_words::probe::Refused;
+use std::alloc::Global;
+use std::hash::{BuildHasher, Hash};
+use std::sync::Wait;
+
+impl<'a, K: Hash + Eq, V, S: BuildHasher> Window<'a, K, V, S> {
+    /// The table of this number, which has come. It takes one atomic load, whatever the number.
+    #[inline]
+    pub fn table(&mut self, number: u64) -> &'a Table<K, V, S>
+        requires come { HasCome self.old number }
+        ensures sees { Sees self.old self.new }
+        ensures own { self.new.own ≡ self.old.own }
+        ensures table { IsTable self.new number result.now }
+    {
+        self.book.table(number, &mut self.sight)
+    }
+
+    /// One atomic load of the word that says whether a table was given up.
+    pub fn aborted(&mut self, table: &Table<K, V, S>, number: u64) -> u64
+        requires table { IsTable self.old number table.now }
+        ensures sees { Sees self.old self.new }
+        ensures own { self.new.own ≡ self.old.own }
+        ensures word { IsWord self.old self.new (Aborted number) result }
+    {
+        self.book.aborted(table, number, &mut self.sight)
+    }
+
+    /// One atomic load of the count of slots that were copied to a table.
+    pub fn done(&mut self, table: &Table<K, V, S>, number: u64) -> u64
+        requires table { IsTable self.old number table.now }
+        ensures sees { Sees self.old self.new }
+        ensures own { self.new.own ≡ self.old.own }
+        ensures word { IsWord self.old self.new (Done number) result }
+    {
+        self.book.done(table, number, &mut self.sight)
+    }
+
+    /// One atomic exchange of a slot for a copy: the word found there, and the token of the pair
+    /// that it names.
+    pub fn copy_slot(
+        &mut self,
+        table: &Table<K, V, S>,
+        number: u64,
+        place: usize,
+        kind: Option<StepKind>,
+        kept: &Option<Stored<K, V>>,
+        words: (u64, u64),
+    ) -> (u64, Option<Stored<K, V>>)
+        requires table { IsTable self.old number table.now }
+        requires place { place < length table.now.slots }
+        requires can { CanCopy self.old (Slot number place) kind kept.now words }
+        ensures sees { Sees self.old self.new }
+        ensures own { self.new.own ≡ self.old.own }
+        ensures tried { CopiesSlot self.old self.new number place kind kept.now words result.0
+            result.1 }
+    {
+        self.book
+            .copy_slot(table, number, place, kind, kept, words, &mut self.sight)
+    }
+
+    /// One atomic exchange of the root for a copy: the number found there.
+    pub fn copy_root(
+        &mut self,
+        kind: Option<StepKind>,
+        kept: &Option<Stored<K, V>>,
+        words: (u64, u64),
+    ) -> u64
+        requires can { CanCopy self.old Root kind kept.now words }
+        ensures sees { Sees self.old self.new }
+        ensures own { self.new.own ≡ self.old.own }
+        ensures tried { CopiesWord self.old self.new Root kind kept.now words result }
+    {
+        self.book.copy_root(kind, kept, words, &mut self.sight)
+    }
+
+    /// One atomic exchange of the word that says whether a table was given up: the word found
+    /// there.
+    pub fn copy_aborted(
+        &mut self,
+        table: &Table<K, V, S>,
+        number: u64,
+        kind: Option<StepKind>,
+        kept: &Option<Stored<K, V>>,
+        words: (u64, u64),
+    ) -> u64
+        requires table { IsTable self.old number table.now }
+        requires can { CanCopy self.old (Aborted number) kind kept.now words }
+        ensures sees { Sees self.old self.new }
+        ensures own { self.new.own ≡ self.old.own }
+        ensures tried { CopiesWord self.old self.new (Aborted number) kind kept.now words result }
+    {
+        self.book
+            .copy_aborted(table, number, kind, kept, words, &mut self.sight)
+    }
+
+    /// One atomic exchange of the count of slots that were copied to a table: the count found
+    /// there.
+    pub fn copy_done(
+        &mut self,
+        table: &Table<K, V, S>,
+        number: u64,
+        kind: Option<StepKind>,
+        kept: &Option<Stored<K, V>>,
+        words: (u64, u64),
+    ) -> u64
+        requires table { IsTable self.old number table.now }
+        requires can { CanCopy self.old (Done number) kind kept.now words }
+        ensures sees { Sees self.old self.new }
+        ensures own { self.new.own ≡ self.old.own }
+        ensures tried { CopiesWord self.old self.new (Done number) kind kept.now words result }
+    {
+        self.book
+            .copy_done(table, number, kind, kept, words, &mut self.sight)
+    }
+
+    /// A table as [`Window::make_table`] makes it, with a number past that of the table which it is
+    /// to follow. A table whose number is not is left unused, and another one made.
+    pub fn make_table_after<R: Wait>(
+        &mut self,
+        rt: &R,
+        alloc: Global,
+        follows: u64,
+        size: (usize, usize),
+        given: &mut Own<Given>,
+    ) -> Result<(Pushed<Table<K, V, S>>, Pen), Refused>
+        requires size { IsSize size.0 size.1 }
+        ensures sees { Sees self.old self.new }
+        ensures own { self.new.own ≡ self.old.own }
+        ensures err { IfErr result (λ e. (e ≡ Refused.Memory)
+            ⊎ ((e ≡ Refused.Capacity) × IsFull given.new.done)) }
+        ensures ok { IfOk result (λ r. given.new.done ≡ given.old.done) }
+        ensures past { IfOk result (λ r. follows < r.0.index + 1) }
+        ensures made { IfOk result (λ r. IsMade self.new r.0.value) }
+        ensures placed { IfOk result (λ r. IsIn self.old (TableNamed r.0)) }
+        ensures pen { IfOk result (λ r. Seals self.old.book.now r.1 r.0.value) }
+    {
+        for _ in rt.forever() {
+            let (table, seal) = self.make_table(rt, alloc, size.0, size.1, given)?;
+            if table.index() as u64 + 1 > follows {
+                return Ok((table, seal));
+            }
+        }
+        unreachable!()
+    }
+
+    /// One atomic exchange: the table becomes the one after another, if that has none. The number
+    /// found there.
+    pub fn link(
+        &mut self,
+        after: &Table<K, V, S>,
+        number: u64,
+        table: &Pushed<Table<K, V, S>>,
+        seal: &mut Pen,
+    ) -> u64
+        requires after { IsTable self.old number after.now }
+        requires placed { IsIn self.old (TableNamed table.now) }
+        requires made { IsMade self.old table.now.value }
+        requires pen { Seals self.old.book.now seal.old table.now.value }
+        requires can { CanLink self.old number table.now }
+        ensures sees { Sees self.old self.new }
+        ensures own { self.new.own ≡ self.old.own }
+        ensures tried { Links self.old self.new number table.now result }
+    {
+        self.book.link(after, number, table, seal, &mut self.sight)
+    }
+}

@@ -1,0 +1,154 @@
+-- What a call keeps while it is set aside: its task, its pair, what it has changed and said; and why it may end refused.
+use Rattle.std.proofs.Common.{◌≡◌, ◌⊎◌, inl, inr, ⊎_elim, ℕ, Bool, false, is_some, None, Some, List, refl, sym, ap, ◌∙◌, subst}
+use Rattle.papaya_words.specs.declared.probe.Refused.{Refused as Cause}
+use Rattle.papaya_words.specs.declared.probe.Refused.TheVariants.{Capacity, Memory}
+use Rattle.papaya_ask.specs.declared.ask.Answer.TheVariants.{Word as Word_read}
+use Rattle.papaya_ask.specs.declared.ask.Ask.TheVariants.{Done}
+use Rattle.papaya_ask.specs.declared.call.Reply.{Reply}
+use Rattle.papaya_ask.specs.declared.call.Reply.TheVariants.{Refused}
+use Rattle.papaya_ask.specs.declared.call.Task.{Task}
+use Rattle.papaya_ask.specs.declared.call.Task.TheVariants.{Get, Insert, RemoveIf, Compute}
+use Rattle.papaya_ask.specs.declared.search.Search.TheVariants.{Sizing}
+use Rattle.papaya_call.specs.declared.compute.Remembered.{Remembered}
+use Rattle.papaya_call.specs.declared.machine.Machine.{Machine as Call_machine}
+use Rattle.papaya_call.specs.declared.machine.State.TheVariants.{AtRoot, Searching, Growing, Ended}
+use Rattle.papaya_call.specs.declared.need.Need.{Need}
+use Rattle.papaya_call.specs.Machine as calls
+use Rattle.papaya_chain.specs.declared.ask.Ask.TheVariants.{Call}
+use Rattle.papaya_chain.specs.declared.machine.Machine.{Machine}
+use Rattle.papaya_chain.specs.declared.machine.Phase.TheVariants.{Calling}
+use Rattle.papaya_chain.specs.Machine.{ask_of}
+use Rattle.papaya_chain_rests.proofs.Names.{call_asks}
+use Rattle.papaya_chain_rests.proofs.Replies.{anew}
+use Rattle.papaya_rests.specs.Rests.{change_in}
+use Rattle.papaya_rests.specs.Says.{Said, ShowsPairs, StandsOn, said_in, said_to_choose, said_to_fill}
+use Rattle.papaya_rests.proofs.RestsReplyRefused.{machine_reason}
+use Rattle.papaya_book.specs.declared.rule.own.Given.{Given}
+use Rattle.papaya_book.specs.Limits.{HasNoRoom}
+use Rattle.papaya_book.specs.declared.keyed.Keyed as keyed
+use Rattle.papaya_book.specs.declared.window.Window.{Window}
+use Rattle.papaya_book.specs.Windows.{Does}
+use Rattle.papaya_change.specs.declared.driver.Driver.{Driver}
+use Rattle.papaya_change.specs.Doing.{has_changed}
+use Rattle.papaya_change.specs.Helping.{HasBegunAnew, HasGoneOn, HasHelped, WasRefused}
+use Rattle.papaya_change.specs.Writing.{IsMemoryOrCapacity}
+use Rattle.papaya_change.proofs.Doing.{left_unchanged}
+
+-- why a copy ended a call: there was no memory, or no room
+abbrev pub IsCopyEnd : (initial : ℕ) → List Given → Cause → Type 0
+IsCopyEnd initial given cause = (cause ≡ Memory) ⊎ ((cause ≡ Capacity) × HasNoRoom initial given)
+
+-- the call as it is after a copy
+pub record IsKept (m m' : Machine) (given : List Given) : Type 0 where
+  pub task : m'.call.task ≡ m.call.task
+  pub made : m'.call.made ≡ m.call.made
+  pub initial : m'.call.initial ≡ m.call.initial
+  pub changed : has_changed m' ≡ has_changed m
+  pub shows : ShowsPairs m.call.state → ShowsPairs m'.call.state
+  pub stands : (said : Said) → StandsOn m'.call said → StandsOn m.call said
+  pub ends : (cause : Cause) → ask_of m' ≡ Call (Done (Refused cause)) → (m' ≡ m) ⊎ IsCopyEnd m'.call.initial given cause
+
+-- a call stands on what it remembers, where it says nothing new
+pub stands_before : (call call' : Call_machine) → call'.remembered ≡ call.remembered → said_in call'.task call'.state ≡ None → (said : Said) → StandsOn call' said → StandsOn call said
+stands_before call call' same silent said (inl e) = absurd (cc (silent, e))
+stands_before call call' same silent said (inr (inl e)) = inr (inl (ap (λ (h : Remembered). said_to_fill h.fill) (sym same) ∙ e))
+stands_before call call' same silent said (inr (inr e)) = inr (inr (ap (λ (h : Remembered). said_to_choose h.choice) (sym same) ∙ e))
+
+-- what a call says that ended so
+absent_silent : (task : Task) → said_in task (Ended Rattle.papaya_ask.specs.declared.call.Reply.TheVariants.Absent) ≡ None
+absent_silent Get = refl
+absent_silent (Insert replace) = refl
+absent_silent RemoveIf = refl
+absent_silent Compute = refl
+
+refused_silent : (task : Task) (refused : Cause) → said_in task (Ended (Refused refused)) ≡ None
+refused_silent Get refused = refl
+refused_silent (Insert replace) refused = refl
+refused_silent RemoveIf refused = refl
+refused_silent Compute refused = refl
+
+module _ (m m' : Machine) (given : List Given) (t : ℕ) (left : Rattle.papaya_chain_rests.specs.Rests.left_by m.call.state ≡ Some t) (call : Call_machine) (is : m'.call ≡ call) where
+  -- a call that was set aside, where it is this one now
+  kept_by : call.task ≡ m.call.task → call.made ≡ m.call.made → call.initial ≡ m.call.initial → call.remembered ≡ m.call.remembered → change_in call.state ≡ None → ShowsPairs call.state → said_in call.task call.state ≡ None
+      → ((cause : Cause) → calls.ask_of call ≡ Done (Refused cause) → IsCopyEnd m.call.initial given cause) → IsKept m m' given
+  kept_by task made initial remembered none shows silent ends =
+      let same_initial : m'.call.initial ≡ m.call.initial = ap (λ (z : Call_machine). z.initial) is ∙ initial in record {
+        task = ap (λ (z : Call_machine). z.task) is ∙ task;
+        made = ap (λ (z : Call_machine). z.made) is ∙ made;
+        initial = same_initial;
+        changed = ap (λ (z : Call_machine). is_some (change_in z.state)) is ∙ (ap is_some none ∙ sym (left_unchanged m.call.state t left));
+        shows = λ _. subst (λ (z : Call_machine). ShowsPairs z.state) (sym is) shows;
+        stands = λ said stands. stands_before m.call call remembered silent said (subst (λ z. StandsOn z said) is stands);
+        ends = λ cause e. inr (subst (λ n. IsCopyEnd n given cause) (sym same_initial) (ends cause (ap (λ (z : Call_machine). calls.ask_of z) (sym is) ∙ (call_asks m' (Done (Refused cause)) e).1)));
+      }
+
+-- told of the root as one that begins, it is not refused
+anew_unrefused : (call : Call_machine) (root : ℕ) (cause : Cause) → calls.ask_of (calls.after (record call { state = AtRoot }) (Word_read root)) ≡ Done (Refused cause) → ⊥
+anew_unrefused call root cause e =
+    ⊎_elim (λ made. let f = made.0 in cc f)
+    (λ rest. ⊎_elim (λ (full : (cause ≡ Capacity) × ((need : Need) × (AtRoot ≡ Growing need))). let f = full.1.1 in cc f) (λ none. let f = none.1.1 in cc f) rest)
+    (machine_reason (record call { state = AtRoot }) cause (Word_read root) (λ reply f. cc f) e)
+
+module _ (m m' : Machine) (given : List Given) where
+  kept_on : HasGoneOn m m' → IsKept m m' given
+  kept_on h = kept_by m m' given h.from h.left (record m.call { state = Searching (Sizing h.table) }) h.call refl refl refl refl refl tt refl (λ cause e. absurd (cc e))
+
+  kept_anew : HasBegunAnew m m' → IsKept m m' given
+  kept_anew h =
+      let call : Call_machine = calls.after (record m.call { state = AtRoot }) (Word_read h.root) in
+      kept_by m m' given h.from h.left call h.call refl refl refl refl
+      (anew (λ s. change_in s ≡ None) refl refl refl (λ _. refl) m.call.task m.call.remembered.fill h.root)
+      (anew ShowsPairs tt tt tt (λ _. tt) m.call.task m.call.remembered.fill h.root)
+      (anew (λ s. said_in m.call.task s ≡ None) (absent_silent m.call.task) refl refl (λ _. refl) m.call.task m.call.remembered.fill h.root)
+      (λ cause e. absurd (anew_unrefused m.call h.root cause e))
+
+  kept_refused : WasRefused m m' given → IsKept m m' given
+  kept_refused h =
+      kept_by m m' given h.from h.left (record m.call { state = Ended (Refused h.refused) }) h.call refl refl refl refl refl tt (refused_silent m.call.task h.refused)
+      (λ cause e. let same : h.refused ≡ cause = cc e in subst (IsCopyEnd m.call.initial given) same h.cause)
+
+  -- a call keeps all this while it is set aside
+  pub helped_keeps : HasHelped m m' given → IsKept m m' given
+  helped_keeps (inl same) = record {
+    task = ap (λ (z : Machine). z.call.task) same;
+    made = ap (λ (z : Machine). z.call.made) same;
+    initial = ap (λ (z : Machine). z.call.initial) same;
+    changed = ap has_changed same;
+    shows = λ shows. subst (λ (z : Machine). ShowsPairs z.call.state) (sym same) shows;
+    stands = λ said stands. subst (λ (z : Machine). StandsOn z.call said) same stands;
+    ends = λ cause e. inl same;
+  }
+  helped_keeps (inr (inl h)) = kept_on h
+  helped_keeps (inr (inr (inl h))) = kept_anew h
+  helped_keeps (inr (inr (inr h))) = kept_refused h
+
+-- why a call is refused that was led on so
+module _ {K V S H : Type 0} (c c' : Driver K V S H) (calling : c'.machine.phase ≡ Calling) (still : c.machine.phase ≡ Calling → c' ≡ c) (helped : HasHelped c.machine c'.machine c'.given.done) where
+  -- it was refused before, or by its copy
+  ends_so : (P : Driver K V S H → Type 0) (cause : Cause) → (ask_of c.machine ≡ Call (Done (Refused cause)) → P c) → (IsCopyEnd c'.machine.call.initial c'.given.done cause → P c') → ask_of c'.machine ≡ Call (Done (Refused cause)) → P c'
+  ends_so P cause before copied e =
+      ⊎_elim
+      (λ same. subst P (sym (still (ap (λ (z : Machine). z.phase) (sym same) ∙ calling))) (before (ap ask_of (sym same) ∙ e)))
+      copied
+      ((helped_keeps c.machine c'.machine c'.given.done helped).ends cause e)
+
+  pub refuses_kept : ((cause : Cause) → ask_of c.machine ≡ Call (Done (Refused cause)) → IsMemoryOrCapacity cause) → (cause : Cause) → ask_of c'.machine ≡ Call (Done (Refused cause)) → IsMemoryOrCapacity cause
+  refuses_kept before cause e = ends_so (λ _. IsMemoryOrCapacity cause) cause (before cause) (λ h. ⊎_elim (λ memory. inl memory) (λ full. inr full.0) h) e
+
+  pub room_kept : (ask_of c.machine ≡ Call (Done (Refused Capacity)) → HasNoRoom c.machine.call.initial c.given.done) → ask_of c'.machine ≡ Call (Done (Refused Capacity)) → HasNoRoom c'.machine.call.initial c'.given.done
+  room_kept before e = ends_so (λ d. HasNoRoom d.machine.call.initial d.given.done) Capacity before (λ h. ⊎_elim (λ memory. absurd (cc memory)) (λ full. full.1) h) e
+
+-- what a call did goes on while it is set aside
+module _ {K V S H : Type 0} {d : keyed.Ghosts S K H} (m m' : Machine) (given : List Given) (calling : m'.phase ≡ Calling) (helped : HasHelped m m' given) (a w w' : Window K V S H d) where
+  unchanged_does : has_changed m ≡ false → w'.own ≡ w.own → Does (has_changed m) a w → Does (has_changed m') a w'
+  unchanged_does none same does =
+      let before : Does false a w = subst (λ (z : Bool). Does z a w) none does in
+      subst (λ (z : Bool). Does z a w') (sym ((helped_keeps m m' given helped).changed ∙ none)) (ap (λ o. o.done) same ∙ before)
+
+  pub helped_does : (m.phase ≡ Calling → w' ≡ w) → w'.own ≡ w.own → Does (has_changed m) a w → Does (has_changed m') a w'
+  helped_does still same does = elim helped [
+    | inl it ↦ let window = still (ap (λ (z : Machine). z.phase) (sym it) ∙ calling) in subst (λ (z : Machine). Does (has_changed z) a w') (sym it) (subst (λ (z : Window K V S H d). Does (has_changed m) a z) (sym window) does)
+    | inr (inl h) ↦ unchanged_does (left_unchanged m.call.state h.from h.left) same does
+    | inr (inr (inl h)) ↦ unchanged_does (left_unchanged m.call.state h.from h.left) same does
+    | inr (inr (inr h)) ↦ unchanged_does (left_unchanged m.call.state h.from h.left) same does
+  ]

@@ -1,0 +1,167 @@
+-- Where an answer for a copy leaves the call that is set aside: it stays so, or it goes on for itself.
+use Rattle.std.proofs.Common.{◌≡◌, ◌⊎◌, inl, inr, ⊎_elim, ℕ, Bool, true, false, Some, List, ◌++◌, refl, sym, ap, ◌∙◌, subst}
+use Rattle.papaya_words.specs.declared.probe.Refused.{Refused}
+use Rattle.papaya_words.specs.declared.probe.Refused.TheVariants.{Capacity, Memory}
+use Rattle.papaya_ask.specs.declared.ask.Ask.TheVariants.{Done as Ask_done}
+use Rattle.papaya_ask.specs.declared.call.Reply.{Reply}
+use Rattle.papaya_ask.specs.declared.copy_ask.CopyAsk.{CopyAsk}
+use Rattle.papaya_copy.specs.declared.carry.Carry.TheVariants as carries
+use Rattle.papaya_copy.specs.declared.copying.Aim.{Aim}
+use Rattle.papaya_copy.specs.declared.copying.Aim.TheVariants as aims
+use Rattle.papaya_copy.specs.declared.copying.Copied.{Copied}
+use Rattle.papaya_copy.specs.declared.copying.Copied.TheVariants as copied
+use Rattle.papaya_copy.specs.declared.copying.Copying.{Copying}
+use Rattle.papaya_copy.specs.declared.copying.Copying.TheVariants.{Stepping, Lone}
+use Rattle.papaya_copy.specs.declared.link.Link.{Link}
+use Rattle.papaya_copy.specs.declared.link.Link.TheVariants as links
+use Rattle.papaya_copy.specs.declared.link.Linked.{Linked}
+use Rattle.papaya_copy.specs.declared.link.Linked.TheVariants as linked
+use Rattle.papaya_copy.specs.declared.settle.Settle.{Settle}
+use Rattle.papaya_copy.specs.declared.settle.Settle.TheVariants as settles
+use Rattle.papaya_copy.specs.declared.step.Step.TheVariants as steps
+use Rattle.papaya_copy.specs.Link.{IsStandingLink}
+use Rattle.papaya_chain.specs.declared.ask.Ask.TheVariants as asks
+use Rattle.papaya_chain.specs.declared.ask.Answer.{Answer}
+use Rattle.papaya_chain.specs.declared.machine.Machine.{Machine}
+use Rattle.papaya_chain.specs.declared.machine.Phase.{Phase}
+use Rattle.papaya_chain.specs.declared.machine.Phase.TheVariants.{Calling, Linking, Copying as Copying_root}
+use Rattle.papaya_chain.specs.Machine.{IsStanding, IsStandingPhase, after, after_copied, after_in, after_linked, aim_for, ask_of, asks_in, copying_after, follows_in, follows_of, goes_on, kind_in, kind_of_ask, link_after, onward, refuses}
+use Rattle.papaya_law.specs.Allows.{AllAllowed}
+use Rattle.papaya_law.specs.Code.{Coding, IsHashed}
+use Rattle.papaya_law.specs.Exchange.{Exchange, Setting, State, run, start}
+use Rattle.papaya_law.specs.Meaning.{map_left}
+use Rattle.papaya_law.proofs.OneMap.{keeping}
+use Rattle.papaya_rests.specs.Copier.{RestsCopied, RestsCopying, aim_of}
+use Rattle.papaya_chain_rests.specs.Goes.{WasNotMade, WouldBeTooLong, link_in, link_in_settle}
+use Rattle.papaya_chain_rests.specs.Rests.{Rests, RestsPhase, left_by}
+use Rattle.papaya_chain_rests.specs.Told.{Hands, IsTold}
+use Rattle.papaya_chain_rests.proofs.CopyTold.{copying_learns}
+use Rattle.papaya_chain_rests.proofs.Order.{in_order}
+use Rattle.papaya_chain_rests.proofs.Outcomes.{not_chunk}
+use Rattle.papaya_chain_rests.proofs.Refusals.{chain_refused}
+use Rattle.papaya_book.specs.declared.rule.own.Given.{Given}
+use Rattle.papaya_book.specs.Limits.{HasNoRoom}
+use Rattle.papaya_change.specs.Helping.{IsAside, IsGivenBy, IsLed}
+
+-- a table that is in the making stands within the limits
+standing_settle : (goes : Settle) (l : Link) → Rattle.papaya_copy.specs.Settle.IsStandingSettle goes → link_in_settle goes ≡ Some l → IsStandingLink l
+standing_settle (settles.Carrying marked (carries.Linking hash made)) l h e = let is : made ≡ l = cc e in subst IsStandingLink is h
+standing_settle other l h e = absurd cc
+
+standing_link : (phase : Phase) (l : Link) → IsStandingPhase phase → link_in phase ≡ Some l → IsStandingLink l
+standing_link (Linking made) l h e = let is : made ≡ l = cc e in subst IsStandingLink is h
+standing_link (Copying_root (Stepping aim (steps.Linking from made))) l h e = let is : made ≡ l = cc e in subst IsStandingLink is h
+standing_link (Copying_root (Stepping aim (steps.Settling chunk goes))) l h e = standing_settle goes l h.1 e
+standing_link (Copying_root (Lone slot goes)) l h e = standing_settle goes l h e
+standing_link other l h e = absurd cc
+
+-- a machine that asks for a copy does not ask for its call
+not_calling : (m : Machine) (phase : Phase) (ask : CopyAsk) → phase ≡ Calling → asks_in m.call phase ≡ asks.Copy ask → ⊥
+not_calling m Calling ask is e = cc e
+not_calling m (Linking link) ask is e = cc is
+not_calling m (Copying_root copying) ask is e = cc is
+
+pub busy : (m : Machine) (ask : CopyAsk) → ask_of m ≡ asks.Copy ask → m.phase ≡ Calling → ⊥
+busy m ask e is = not_calling m m.phase ask is e
+
+module _ {K P : Type 0} (g : Setting K P) (c : Coding K P) (hashed : IsHashed g c) (begun since : List (Exchange P)) (may : AllAllowed g start (begun ++ since)) (k : K) (m : Machine) (hands : Hands P) (r : Rests g c begun since k m hands) (standing : IsStanding m)
+    (ask : CopyAsk) (asked : ask_of m ≡ asks.Copy ask) (answer : Answer) (es : List (Exchange P)) (hands' : Hands P) (told : IsTold g c k (run (begun ++ since) start) (kind_of_ask m) (follows_of m) hands (ask_of m) answer es hands') (given : List Given) (by : IsGivenBy answer given) where
+  -- the state after all exchanges
+  abbrev now : State P
+  now = run (begun ++ since) start
+
+  -- the table that the call goes on from
+  left_in : (phase : Phase) → RestsPhase g c begun since k m hands phase → asks_in m.call phase ≡ asks.Copy ask → (t : ℕ) × (left_by m.call.state ≡ Some t)
+  left_in Calling at e = absurd cc
+  left_in (Linking link) at e = (Rattle.papaya_copy.specs.Link.follows link, at.left)
+  left_in (Copying_root copying) (inl at) e = (at.table, at.left)
+  left_in (Copying_root copying) (inr at) e = (at.table, at.left)
+
+  pub left_from : (t : ℕ) × (left_by m.call.state ≡ Some t)
+  left_from = left_in m.phase r.phase asked
+
+  not_replied : (reply : Reply) → ask_of m ≡ asks.Call (Ask_done reply) → ⊥
+  not_replied reply e = let f : asks.Copy ask ≡ asks.Call (Ask_done reply) = sym asked ∙ e in cc f
+
+  -- why a table could not be made
+  abbrev IsWhy : Refused → Type 0
+  IsWhy refused = (refused ≡ Memory) ⊎ ((refused ≡ Capacity) × HasNoRoom m.call.initial given)
+
+  why : (refused : Refused) → after m answer ≡ refuses m refused → IsWhy refused
+  why refused e = elim (chain_refused g c k now m answer refused hands es hands' told (in_order g c begun since k m hands now answer es hands' r told) not_replied (ap ask_of e)) [
+    | inl own ↦ absurd (busy m ask asked own.own.phase)
+    | inr table ↦ of_table table.why
+  ]
+    where
+      of_table : WasNotMade m answer refused ⊎ WouldBeTooLong m answer refused → IsWhy refused
+      of_table (inl unmade) = ⊎_elim (λ memory. inl memory) (λ full. inr (full.0, inl full.1)) (subst (λ (a : Answer). IsGivenBy a given) unmade.is by)
+      of_table (inr long) = inr (
+        long.capacity,
+        inr (record {
+          count = long.count;
+          given_is = subst (λ (a : Answer). IsGivenBy a given) long.is by;
+          len = long.slots;
+          allowed = (standing_link m.phase (links.Counting long.behind long.unfit long.slots) standing.phase long.link).1;
+          unfit = long.unfit;
+          long = long.long;
+        }),
+      )
+
+  -- it stays set aside, or goes on
+  abbrev Left : Machine → Type 0
+  Left m' = IsAside m m' ⊎ IsLed m m' given
+
+  stays : (phase : Phase) → (phase ≡ Calling → ⊥) → (helped : Bool) → Left (record m { helped = helped; phase = phase })
+  stays phase aside helped = inl (record { from = left_from.0; left = left_from.1; call = refl; busy = aside })
+
+  enters_on : (n : ℕ) → Left (Rattle.papaya_chain.specs.Machine.enters m n)
+  enters_on n = inr (record { calling = refl; where_to = inl (record { from = left_from.0; left = left_from.1; table = n; call = refl }) })
+
+  begins_on : (root : ℕ) → Left (Rattle.papaya_chain.specs.Machine.begins_anew m root)
+  begins_on root = inr (record { calling = refl; where_to = inr (inl (record { from = left_from.0; left = left_from.1; root = root; call = refl })) })
+
+  refused_on : (refused : Refused) → after m answer ≡ refuses m refused → Left (refuses m refused)
+  refused_on refused e = inr (record { calling = refl; where_to = inr (inr (record { from = left_from.0; left = left_from.1; refused = refused; call = refl; cause = why refused e })) })
+
+  goes_left : (helped : Bool) (aim : Aim) (n : ℕ) → m.helped ≡ helped → Left (goes_on m helped aim n)
+  goes_left false aim n e = stays (Copying_root (Stepping aim steps.AtRoot)) (λ f. cc f) true
+  goes_left true (aims.Settle slot) n e = stays (Copying_root (Lone slot settles.Looking)) (λ f. cc f) m.helped
+  goes_left true (aims.Search table) n e = enters_on n
+  goes_left true aims.Chunk n e = enters_on n
+  goes_left true (aims.All met) n e = enters_on n
+
+  linked_left : (end : Linked) → after m answer ≡ after_linked m end → Left (after_linked m end)
+  linked_left (linked.On link) e = stays (Linking link) (λ f. cc f) m.helped
+  linked_left (linked.Table n) e = goes_left m.helped (aim_for m.call.state n) n refl
+  linked_left (linked.Refused refused) e = refused_on refused e
+
+  copied_left : (end : Copied) → (end ≡ copied.Chunk → ⊥) → after m answer ≡ after_copied m end → Left (after_copied m end)
+  copied_left (copied.On copying) more e = stays (Copying_root copying) (λ f. cc f) m.helped
+  copied_left (copied.Search n) more e = enters_on n
+  copied_left (copied.Root root) more e = begins_on root
+  copied_left copied.Chunk more e = absurd (more refl)
+  copied_left (copied.Refused refused) more e = refused_on refused e
+
+  -- no call copies a chunk for its own sake
+  more_than : (copying : Copying) (end : Copied) → (aim_of copying ≡ aims.Chunk → ⊥) → RestsCopied g c (run es now) hands'.call.last hands'.kept (aim_of copying) end → end ≡ copied.Chunk → ⊥
+  more_than copying end not_only is e = not_only (subst (RestsCopied g c (run es now) hands'.call.last hands'.kept (aim_of copying)) e is)
+
+  aimed : (copying : Copying) → RestsPhase g c begun since k m hands (Copying_root copying) → aim_of copying ≡ aims.Chunk → ⊥
+  aimed copying (inl at) e = not_chunk m.call.state _ (sym at.aim ∙ e)
+  aimed copying (inr at) e = let f : aims.All at.met ≡ aims.Chunk = sym at.aim ∙ e in cc f
+
+  copies : (copying : Copying) → RestsPhase g c begun since k m hands (Copying_root copying) → RestsCopying g c now hands.call.last hands.kept copying
+  copies copying (inl at) = at.rests
+  copies copying (inr at) = at.rests
+
+  left_for : (phase : Phase) → m.phase ≡ phase → RestsPhase g c begun since k m hands phase → IsTold g c k now (kind_in m.call phase) (follows_in phase) hands (asks_in m.call phase) answer es hands' → Left (after_in m answer phase)
+  left_for Calling e at h = absurd (busy m ask asked e)
+  left_for (Linking link) e at h = linked_left (link_after link m.call.initial answer) (ap (after_in m answer) e)
+  left_for (Copying_root copying) e at h =
+      copied_left (copying_after copying m.call.mode m.call.initial answer)
+      (more_than copying (copying_after copying m.call.mode m.call.initial answer) (aimed copying at)
+      (copying_learns g c hashed now (map_left g (begun ++ since)) (keeping g hashed.lawful (begun ++ since) may) m.call.mode r.call.mode r.chunked m.call.initial hands copying (copies copying at) answer es hands' h).1)
+      (ap (after_in m answer) e)
+
+  pub leaves : Left (after m answer)
+  leaves = left_for m.phase refl r.phase told

@@ -1,0 +1,107 @@
+-- What a call over a chain of tables rests on, over longer logs and after each answer, with what it is called by as a further key.
+use Rattle.std.proofs.Common.{◌≡◌, ℕ, Bool, true, Option, List, [], ◌++◌, append_assoc, sym, ap, ◌∙◌, subst}
+use Rattle.std.specs.Cmp.{IsEquivalence}
+use mathlib.Core.List.{IsPrefix}
+use Rattle.papaya_chain.specs.declared.ask.Answer.{Answer}
+use Rattle.papaya_chain.specs.declared.machine.Machine.{Machine}
+use Rattle.papaya_chain.specs.Machine.{after, ask_of, follows_of, kind_of_ask}
+use Rattle.papaya_chain_rests.specs.Rests.{Rests}
+use Rattle.papaya_chain_rests.specs.Told.{Hands, IsTold}
+use Rattle.papaya_chain_rests.proofs.Learns.{all_learns}
+use Rattle.papaya_chain_rests.proofs.Stays.{all_carries, all_stays}
+use Rattle.papaya_law.specs.Allows.{AllAllowed}
+use Rattle.papaya_law.specs.Class.{IsOn}
+use Rattle.papaya_law.specs.Code.{Coding, IsHashed}
+use Rattle.papaya_law.specs.Exchange.{Exchange, Setting, run, start}
+use Rattle.papaya_law.specs.Further.{IsLawfulKey}
+use Rattle.papaya_law.specs.Grows.{Agrees}
+use Rattle.papaya_law.proofs.Alike.{all_alike}
+use Rattle.papaya_law.proofs.Further.{key_agrees, key_alike, key_lawful}
+use Rattle.papaya_law.proofs.Moments.{allowed_first}
+use Rattle.papaya_book.specs.declared.rule.entry.Begun.{Begun}
+use Rattle.papaya_book.specs.declared.rule.entry.Event.{Event}
+use Rattle.papaya_book.specs.Hashes.{hash_of}
+use Rattle.papaya_book.specs.Logs.{Stored, coding_of, entries_of, exchanges_of, setting_of, state_of}
+use Rattle.papaya_book.specs.Rule.{IsLawfulLog}
+use Rattle.papaya_book.proofs.Logs.{exchanges_of-append}
+use Rattle.papaya_book.proofs.Settings.{agrees_later, is_hashed}
+use Rattle.papaya_book.proofs.TableSizes.{some_slot}
+use Rattle.papaya_lookup.specs.Lookups.{coding_for, setting_for}
+
+module _ {K V S H : Type 0} (eq : K → K → Bool) (input : K → List (List ℕ)) (build : S → H) (write : H → List ℕ → H) (finish : H → ℕ) (classes : IsEquivalence eq) (respects : (x y : K) → eq x y ≡ true → input x ≡ input y)
+    (b : Begun K V S) (matches : K → Bool) (by : ℕ) (key : IsLawfulKey (setting_of {V = V} {S = S} eq (hash_of input build write finish b.hasher) b.mode []) (coding_of {V = V} (hash_of input build write finish b.hasher)) matches by) (k : Option K) (begun : List (Exchange (Stored K V))) where
+  abbrev hash : S → K → ℕ
+  hash = hash_of input build write finish
+
+  -- the settings of a log, with what is called by as a further key and without it
+  abbrev pub wide : List (Event K V S) → Setting (Option K) (Stored K V)
+  wide log = setting_for eq hash b matches by log
+
+  abbrev plain : List (Event K V S) → Setting K (Stored K V)
+  plain log = setting_of eq (hash b.hasher) b.mode log
+
+  abbrev pub coded : Coding (Option K) (Stored K V)
+  coded = coding_for hash b.hasher by
+
+  key_in : (log : List (Event K V S)) → IsLawfulKey (plain log) (coding_of (hash b.hasher)) matches by
+  key_in log = record { class = key.class; hash_is = key.hash_is; hash_fits = key.hash_fits }
+
+  pub hashed_in : (log : List (Event K V S)) → IsLawfulLog eq hash b log → IsHashed (wide log) coded
+  hashed_in log l = key_lawful (plain log) matches by (coding_of (hash b.hasher)) (is_hashed eq input build write finish classes respects b log l) (key_in log) (some_slot (entries_of log) l.sized)
+
+  pub allowed_in : (log : List (Event K V S)) → IsLawfulLog eq hash b log → AllAllowed (wide log) start (exchanges_of log)
+  allowed_in log l = all_alike (plain log) (wide log) (key_alike (plain log) matches by) (exchanges_of log) start l.allowed
+
+  -- a call over a chain rests on the exchanges of a log, since it began
+  pub record ChainResting (log : List (Event K V S)) (m : Machine) (hands : Hands (Stored K V)) : Type 0 where
+    pub since : List (Exchange (Stored K V))
+    pub is : begun ++ since ≡ exchanges_of log
+    pub rests : Rests (wide log) coded begun since k m hands
+
+  module _ (log : List (Event K V S)) (l : IsLawfulLog eq hash b log) (m : Machine) (hands : Hands (Stored K V)) (r : ChainResting log m hands) where
+    -- all exchanges were allowed
+    pub resting_may : AllAllowed (wide log) start (begun ++ r.since)
+    resting_may = subst (AllAllowed (wide log) start) (sym r.is) (allowed_in log l)
+
+  module _ (log : List (Event K V S)) (l : IsLawfulLog eq hash b log) (m : Machine) (hands : Hands (Stored K V)) (r : ChainResting log m hands) (log' : List (Event K V S)) (l' : IsLawfulLog eq hash b log') (pre : IsPrefix log log') where
+    -- what has come since
+    abbrev more : List (Exchange (Stored K V))
+    more = exchanges_of pre.0
+
+    longer : begun ++ (r.since ++ more) ≡ exchanges_of log'
+    longer = sym (append_assoc begun r.since more) ∙ (ap (λ (z : List (Exchange (Stored K V))). z ++ more) r.is ∙ (sym (exchanges_of-append log pre.0) ∙ ap exchanges_of pre.1))
+
+    -- the longer log's tables are no matter
+    pub carried : Rests (wide log') coded begun r.since k m hands
+    carried =
+        let On = IsOn (state_of log).first (state_of log).next in
+        let agree : Agrees On (wide log) (wide log') = key_agrees On (plain log) (plain log') (agrees_later eq input build write finish classes respects b log l log' pre) matches by in
+        let agree' : Agrees (IsOn (run (begun ++ r.since) start).first (run (begun ++ r.since) start).next) (wide log) (wide log') =
+        subst (λ (z : List (Exchange (Stored K V))). Agrees (IsOn (run z start).first (run z start).next) (wide log) (wide log')) (sym r.is) agree in
+        all_carries (wide log) (wide log') coded (hashed_in log l) begun r.since (resting_may log l m hands r) agree' k m hands r.rests
+
+    may_longer : AllAllowed (wide log') start (begun ++ (r.since ++ more))
+    may_longer = subst (AllAllowed (wide log') start) (sym longer) (allowed_in log' l')
+
+    -- what was exchanged before was allowed in the longer log's setting
+    pub may_first : AllAllowed (wide log') start (begun ++ r.since)
+    may_first = allowed_first (wide log') (begun ++ r.since) more start (subst (AllAllowed (wide log') start) (sym (append_assoc begun r.since more)) may_longer)
+
+    -- it rests on the longer log too
+    pub resting_later : ChainResting log' m hands
+    resting_later = record {
+      since = r.since ++ more;
+      is = longer;
+      rests = all_stays (wide log') coded (hashed_in log' l') begun r.since more may_longer k m hands carried;
+    }
+
+    -- what was true of the words of the first log was so where the call rests
+    pub told_then : (answer : Answer) (es : List (Exchange (Stored K V))) (hands' : Hands (Stored K V)) → IsTold (wide log') coded k (state_of log) (kind_of_ask m) (follows_of m) hands (ask_of m) answer es hands'
+        → IsTold (wide log') coded k (run (begun ++ r.since) start) (kind_of_ask m) (follows_of m) hands (ask_of m) answer es hands'
+    told_then answer es hands' told = subst (λ (z : List (Exchange (Stored K V))). IsTold (wide log') coded k (run z start) (kind_of_ask m) (follows_of m) hands (ask_of m) answer es hands') (sym r.is) told
+
+    -- it is told of the log's words, with which the log grew
+    pub resting_told : (answer : Answer) (hands' : Hands (Stored K V)) → IsTold (wide log') coded k (state_of log) (kind_of_ask m) (follows_of m) hands (ask_of m) answer more hands' → ChainResting log' (after m answer) hands'
+    resting_told answer hands' told =
+        let all = all_learns (wide log') coded (hashed_in log' l') begun r.since may_first k m hands carried answer more hands' (told_then answer more hands' told) in
+        record { since = r.since ++ more; is = longer; rests = all.1 }

@@ -1,0 +1,19 @@
+use Rattle.std.proofs.Common.{◌≡◌}
+use Rattle.papaya_chain.specs.Machine.{IsStanding}
+use Rattle.papaya_chain.specs.declared.machine.Phase.TheVariants.{Calling}
+use Rattle.papaya_book.specs.Windows.{Sees}
+use Rattle.papaya_change.specs.Drivers.{GoesOn}
+use Rattle.papaya_change.proofs.HelpingArrives.{HasReached}
+use Rattle.papaya_change.proofs.driver.Driver.help.Given as goal
+
+-- the call rests on what is seen by now, and what was answered for the copy has led it here
+abbrev pub invariant-loop : goal.invariant-loop
+invariant-loop g l = record {
+  sees : Sees l.fn.window l.window;
+  own : l.window.own ≡ l.fn.window.own;
+  standing : IsStanding l.self.machine;
+  goes_on : GoesOn l.fn.window l.fn.self l.window l.self;
+  reached : HasReached l.fn.self.machine l.self.machine l.self.given.done;
+  rest : (l.self.taken ≡ l.fn.self.taken) × (l.self.put ≡ l.fn.self.put);
+  still : l.fn.self.machine.phase ≡ Calling → (l.self ≡ l.fn.self) × (l.window ≡ l.fn.window);
+}
