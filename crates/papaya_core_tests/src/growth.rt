@@ -1,11 +1,11 @@
-// The map grows while its callers go on: one after another, in turn step by step, and beside a
-// caller that has stopped in the midst of an insertion.
+// The map grows while its callers go on: in turn, step by step, and beside a caller that has stopped
+// in the midst of an insertion.
 //
 // The first table is one of 8 slots, but for a capacity of 0. Keys from 0 on have a slot each, so
 // that keys 0 to 7 fill it, and key 8 finds no place.
 use crate::expect::is_at;
-use crate::plain::hashing::{APART, Times};
-use crate::plain::{Asked, Closure, Numbers, reply_by_value};
+use crate::plain::hashing::APART;
+use crate::plain::{Asked, Numbers, reply_by_value};
 use papaya_ask::ask::StepKind;
 use papaya_ask::call::Reply;
 use papaya_core::schedule::Core;
@@ -31,9 +31,6 @@ const FULL: u64 = 8;
 
 /// More steps than an insertion into a full table makes, where it meets nobody.
 const STEPS_OF_GROWTH: usize = 110;
-
-/// Keys have a quarter of the slots for their first places.
-const CLOSE: Times = Times(4);
 
 /// The value that a key has here.
 fn value(key: u64) -> u64 {
@@ -86,44 +83,11 @@ fn inserts(
     replies(rt, alloc, core, case, Asked::Get(end), Reply::Absent)
 }
 
-/// Caller 1 removes every other key before this one, and finds the others.
-fn removes_half(
-    rt: &impl Abort,
-    alloc: Global,
-    core: &mut Numbers,
-    case: usize,
-    end: u64,
-) -> Result<(), Fail> {
-    for key in 0..end {
-        if key % 2 == 0 {
-            let removal = Asked::Compute(key, Closure::Removes(0));
-            replies(rt, alloc, core, case, removal, Reply::Removed(value(key)))?;
-        }
-    }
-    for key in 0..end {
-        let wanted = found(key, key % 2 == 1);
-        replies(rt, alloc, core, case, Asked::Get(key), wanted)?;
-    }
-    Ok(())
-}
-
 /// A core with a table of 8 slots, and this many of the first keys.
 fn core_with(rt: &impl Abort, alloc: Global, mode: ResizeMode, keys: u64) -> Result<Numbers, Fail> {
     let mut core = Core::new(alloc, mode, 1, 1, APART)?;
     inserts(rt, alloc, &mut core, 0, (0, keys))?;
     Ok(core)
-}
-
-#[test]
-fn table_grows_under_one_caller(rt: HostRuntime) -> Result<(), Fail> {
-    for (case, mode) in MODES.into_iter().enumerate() {
-        for hashing in [APART, CLOSE] {
-            let mut core = Core::new(rt.alloc(), mode, 0, 1, hashing)?;
-            inserts(&rt, rt.alloc(), &mut core, case, (0, 100))?;
-            removes_half(&rt, rt.alloc(), &mut core, case, 100)?;
-        }
-    }
-    Ok(())
 }
 
 /// Callers 0 and 1 insert one key each into a map with this many keys, and step in turn.

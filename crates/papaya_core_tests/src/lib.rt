@@ -1,9 +1,8 @@
-//! The tests of the crates below the maps: the words of slots and tables, the machines of calls,
-//! guards and queries, and the map on plain words under schedules of its callers' steps.
+//! The tests of the crates below the maps: the words of slots and tables, machines, guards and
+//! queries, and the map on plain words under schedules of its callers' steps. What papaya-run can
+//! show stands in the runs of the repository's shell tests.
 #![tactic(auto)]
 
-#[cfg(test)]
-mod copying;
 #[cfg(test)]
 mod expect;
 #[cfg(test)]

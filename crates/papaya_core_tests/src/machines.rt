@@ -124,16 +124,6 @@ fn lookup_passes_each_kind_of_word(rt: HostRuntime) {
 }
 
 #[test]
-fn lookup_ends_at_an_empty_word(rt: HostRuntime) {
-    let mut lookup = Machine::new(Task::Get, HASH, ResizeMode::Incremental(64), 1);
-    enters_root(&rt, &mut lookup, 1);
-    loads(&rt, &mut lookup, 1, 2, LIVE);
-    compares(&rt, &mut lookup, 3, false);
-    loads(&rt, &mut lookup, 1, 3, EMPTY);
-    replies(&rt, &lookup, Reply::Absent);
-}
-
-#[test]
 fn lookup_follows_a_copied_pair(rt: HostRuntime) {
     let mut lookup = Machine::new(Task::Get, HASH, ResizeMode::Incremental(64), 1);
     enters_root(&rt, &mut lookup, 1);
@@ -144,33 +134,6 @@ fn lookup_follows_a_copied_pair(rt: HostRuntime) {
     loads(&rt, &mut lookup, 2, 2, LIVE);
     compares(&rt, &mut lookup, 3, true);
     replies(&rt, &lookup, Reply::Found(3));
-}
-
-/// A lookup that met a Closed word at each place of table 1.
-fn past_closed_slots(rt: &impl Abort, mode: ResizeMode) -> Machine
-    requires { IsChunked mode }
-    ensures { IsStanding result }
-{
-    let mut lookup = Machine::new(Task::Get, HASH, mode, 1);
-    enters_root(rt, &mut lookup, 1);
-    loads(rt, &mut lookup, 1, 2, CLOSED);
-    loads(rt, &mut lookup, 1, 3, CLOSED);
-    loads(rt, &mut lookup, 1, 5, CLOSED);
-    loads(rt, &mut lookup, 1, 0, CLOSED);
-    loads(rt, &mut lookup, 1, 4, CLOSED);
-    loads(rt, &mut lookup, 1, 1, CLOSED);
-    loads(rt, &mut lookup, 1, 7, CLOSED);
-    loads(rt, &mut lookup, 1, 6, CLOSED);
-    lookup
-}
-
-#[test]
-fn lookup_goes_on_where_no_place_is_left(rt: HostRuntime) {
-    let mut lookup = past_closed_slots(&rt, ResizeMode::Incremental(64));
-    told(&rt, &mut lookup, Ask::Load(At::Next(1)), Answer::Word(0));
-    replies(&rt, &lookup, Reply::Absent);
-    let lookup = past_closed_slots(&rt, ResizeMode::Blocking);
-    replies(&rt, &lookup, Reply::Absent);
 }
 
 /// An insertion that found no root, lost its table's exchange to table 2, and is to claim the key's
@@ -223,39 +186,6 @@ fn insertion_loses_its_place_to_another_key(rt: HostRuntime) {
     replies(&rt, &insertion, Reply::Inserted(12));
 }
 
-#[test]
-fn insertion_loses_its_place_to_its_own_key(rt: HostRuntime) {
-    let mut insertion = insertion(&rt);
-    tries(
-        &rt,
-        &mut insertion,
-        2,
-        EMPTY,
-        StepKind::Claim,
-        Answer::Found(LIVE),
-    );
-    compares(&rt, &mut insertion, 3, true);
-    tries(
-        &rt,
-        &mut insertion,
-        2,
-        LIVE,
-        StepKind::Replace,
-        Answer::Exchanged,
-    );
-    replies(&rt, &insertion, Reply::Replaced { old: 3, new: 12 });
-}
-
-#[test]
-fn insertion_that_keeps_what_it_finds(rt: HostRuntime) {
-    let task = Task::Insert { replace: false };
-    let mut insertion = Machine::new(task, HASH, ResizeMode::Blocking, 1);
-    enters_root(&rt, &mut insertion, 1);
-    loads(&rt, &mut insertion, 1, 2, LIVE);
-    compares(&rt, &mut insertion, 3, true);
-    replies(&rt, &insertion, Reply::Occupied(3));
-}
-
 /// A removal that found the pair 3 of its key at the first place of table 1.
 fn removal(rt: &impl Abort) -> Machine
     ensures { IsStanding result }
@@ -286,31 +216,6 @@ fn buries(rt: &impl Abort, machine: &mut Machine, old: u64, new: u64, answer: An
     told(rt, machine, Ask::Exchange(At::Slot(1, 2), old, new), answer);
 }
 
-#[test]
-fn removal_buries_and_counts_out(rt: HostRuntime) {
-    let mut removal = removal(&rt);
-    shows(&rt, &mut removal, 3, true);
-    buries(&rt, &mut removal, LIVE, BURIED, Answer::Exchanged);
-    is(&rt, removal.kind(), None);
-    told(&rt, &mut removal, Ask::AddToShard(-1), Answer::Ok);
-    replies(&rt, &removal, Reply::Removed(3));
-}
-
-#[test]
-fn removal_keeps_what_its_closure_wants_kept(rt: HostRuntime) {
-    let mut removal = removal(&rt);
-    shows(&rt, &mut removal, 3, false);
-    replies(&rt, &removal, Reply::Kept(3));
-}
-
-#[test]
-fn removal_loses_to_another_removal(rt: HostRuntime) {
-    let mut removal = removal(&rt);
-    shows(&rt, &mut removal, 3, true);
-    buries(&rt, &mut removal, LIVE, BURIED, Answer::Found(BURIED));
-    replies(&rt, &removal, Reply::Absent);
-}
-
 /// A removal whose closure agreed to the pair 3, and that lost it to a replacement by the pair 12.
 fn lost_to_a_replacement(rt: &impl Abort) -> Machine
     ensures { IsStanding result }
@@ -332,22 +237,6 @@ fn removal_shows_the_pair_that_it_lost_to(rt: HostRuntime) {
     let mut removal = lost_to_a_replacement(&rt);
     shows(&rt, &mut removal, 12, false);
     replies(&rt, &removal, Reply::Kept(12));
-}
-
-#[test]
-fn removal_of_an_absent_key(rt: HostRuntime) {
-    let mut removal = Machine::new(Task::RemoveIf, HASH, ResizeMode::Blocking, 1);
-    told(&rt, &mut removal, Ask::Load(At::Root), Answer::Word(0));
-    replies(&rt, &removal, Reply::Absent);
-    let mut removal = Machine::new(Task::RemoveIf, HASH, ResizeMode::Incremental(64), 1);
-    enters_root(&rt, &mut removal, 1);
-    loads(&rt, &mut removal, 1, 2, COPIED);
-    compares(&rt, &mut removal, 4, true);
-    told(&rt, &mut removal, Ask::Load(At::Next(1)), Answer::Word(2));
-    enters(&rt, &mut removal, 2);
-    loads(&rt, &mut removal, 2, 2, BURIED);
-    loads(&rt, &mut removal, 2, 3, EMPTY);
-    replies(&rt, &removal, Reply::Absent);
 }
 
 /// The machine shows its closure that its key is absent.
@@ -399,50 +288,6 @@ fn replaces(rt: &impl Abort, machine: &mut Machine, old: u64, new: u64, answer: 
     told(rt, machine, Ask::Exchange(At::Slot(1, 2), old, new), answer);
 }
 
-/// A compute that found no root.
-fn compute_of_no_table(rt: &impl Abort) -> Machine
-    ensures { IsStanding result }
-{
-    let mut compute = Machine::new(Task::Compute, HASH, ResizeMode::Blocking, 1);
-    told(rt, &mut compute, Ask::Load(At::Root), Answer::Word(0));
-    compute
-}
-
-#[test]
-fn compute_of_an_absent_key_changes_nothing(rt: HostRuntime) {
-    let mut compute = compute_of_no_table(&rt);
-    shows_none(&rt, &mut compute, OpKind::Abort(9));
-    replies(&rt, &compute, Reply::Aborted(9));
-    let mut compute = compute_of_no_table(&rt);
-    shows_none(&rt, &mut compute, OpKind::Remove);
-    replies(&rt, &compute, Reply::Refused(Refused::RemoveNothing));
-}
-
-/// The first table, which has 32 slots.
-fn enters_first(rt: &impl Abort, machine: &mut Machine)
-    requires { IsStanding machine.old }
-    ensures { IsStanding machine.new }
-{
-    let size = Answer::Size { len: 32, limit: 25 };
-    told(rt, machine, Ask::SizeOf(1), size);
-}
-
-#[test]
-fn compute_inserts_over_no_root(rt: HostRuntime) {
-    let mut compute = compute_of_no_table(&rt);
-    shows_none(&rt, &mut compute, OpKind::Insert);
-    makes_12(&rt, &mut compute);
-    let first = Ask::MakeTable { len: 32, limit: 25 };
-    told(&rt, &mut compute, first, Answer::Made(1));
-    let opens = Ask::Exchange(At::Root, 0, 1);
-    told(&rt, &mut compute, opens, Answer::Exchanged);
-    enters_first(&rt, &mut compute);
-    loads(&rt, &mut compute, 1, 2, EMPTY);
-    claims(&rt, &mut compute, 2, LIVE_12, Answer::Exchanged);
-    told(&rt, &mut compute, Ask::AddToShard(1), Answer::Ok);
-    replies(&rt, &compute, Reply::Inserted(12));
-}
-
 /// A compute that found the pair 3 of its key at the first place of table 1.
 fn compute(rt: &impl Abort) -> Machine
     ensures { IsStanding result }
@@ -452,23 +297,6 @@ fn compute(rt: &impl Abort) -> Machine
     loads(rt, &mut compute, 1, 2, LIVE);
     compares(rt, &mut compute, 3, true);
     compute
-}
-
-#[test]
-fn compute_does_as_its_closure_answers(rt: HostRuntime) {
-    let mut aborted = compute(&rt);
-    decides(&rt, &mut aborted, 3, OpKind::Abort(9));
-    replies(&rt, &aborted, Reply::Aborted(9));
-    let mut replaced = compute(&rt);
-    decides(&rt, &mut replaced, 3, OpKind::Insert);
-    makes_12(&rt, &mut replaced);
-    replaces(&rt, &mut replaced, LIVE, LIVE_12, Answer::Exchanged);
-    replies(&rt, &replaced, Reply::Replaced { old: 3, new: 12 });
-    let mut removed = compute(&rt);
-    decides(&rt, &mut removed, 3, OpKind::Remove);
-    buries(&rt, &mut removed, LIVE, BURIED, Answer::Exchanged);
-    told(&rt, &mut removed, Ask::AddToShard(-1), Answer::Ok);
-    replies(&rt, &removed, Reply::Removed(3));
 }
 
 /// The claim is lost to a pair, and that one to another removal: the closure, which had answered
@@ -509,17 +337,6 @@ fn compute_asks_again_of_another_pair(rt: HostRuntime) {
     told(&rt, &mut compute, Ask::MakePair, Answer::Made(13));
     replaces(&rt, &mut compute, LIVE_4, LIVE_13, Answer::Exchanged);
     replies(&rt, &compute, Reply::Replaced { old: 4, new: 13 });
-}
-
-#[test]
-fn compute_loses_its_pair_to_a_removal(rt: HostRuntime) {
-    let mut compute = lost_to(&rt, BURIED);
-    loads(&rt, &mut compute, 1, 3, EMPTY);
-    shows_none(&rt, &mut compute, OpKind::Insert);
-    told(&rt, &mut compute, Ask::MakePair, Answer::Made(13));
-    claims(&rt, &mut compute, 3, LIVE_13, Answer::Exchanged);
-    told(&rt, &mut compute, Ask::AddToShard(1), Answer::Ok);
-    replies(&rt, &compute, Reply::Inserted(13));
 }
 
 /// The pair 3 was copied meanwhile: in the next table the closure is not shown it again.

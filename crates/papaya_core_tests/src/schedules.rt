@@ -1,47 +1,18 @@
 use crate::expect::{is, is_at};
+use crate::plain::hashing::{APART, Times};
 use papaya_ask::ask::StepKind;
 use papaya_ask::call::{Call, Reply};
-use papaya_call::answers::{Answers, Listed, Operation};
+use papaya_call::answers::{Listed, Operation};
 use papaya_core::schedule::Core;
 use papaya_core::trace::{Entry, Event, Trace, Turn};
 use papaya_words::probe::{Refused, ResizeMode};
 use std::alloc::Global;
-use std::hash::{BuildHasherDefault, FoldHasher};
 use std::test::Fail;
 
-type Numbers = Core<u64, u64, BuildHasherDefault<FoldHasher>, Closure>;
+type Numbers = Core<u64, u64, Times, Closure>;
 
-/// What the closures of the calls here answer.
-#[derive(Debug, Drop)]
-enum Closure {
-    /// These in turn, whatever they are shown.
-    InTurn(Listed<u64>),
-    /// 1 more than the value that it is shown, where 0 follows the greatest.
-    AddsOne,
-}
-
-impl Answers<u64, u64> for Closure {
-    ghost op_gives = { λ s shown answer t. Unit {0} };
-
-    ghost yes_gives = { λ s key value answer t. Unit {0} };
-
-    fn op(&mut self, shown: Option<(&u64, &u64)>) -> Operation<u64, u64> {
-        match self {
-            Closure::InTurn(listed) => listed.op(shown),
-            Closure::AddsOne => match shown {
-                Some((_, value)) => Operation::Insert(value.wrapping_add(1)),
-                None => Operation::Abort(0),
-            },
-        }
-    }
-
-    fn yes(&mut self, key: &u64, value: &u64) -> bool {
-        match self {
-            Closure::InTurn(listed) => listed.yes(key, value),
-            Closure::AddsOne => false,
-        }
-    }
-}
+/// The closures of the calls here answer these in turn, whatever they are shown.
+type Closure = Listed<u64>;
 
 /// More steps than any call here needs.
 const WHOLE: usize = 1000;
@@ -53,10 +24,6 @@ const STEPS_OF_INSERT: usize = 9;
 /// A removal of a pair that the map has, which agrees at once, makes so many steps: it loads the
 /// root, learns its size, loads the slot, compares the key, shows the pair, buries it, and counts.
 const STEPS_OF_REMOVAL: usize = 7;
-
-/// A lookup of a pair that the map has makes so many steps: it loads the root, learns its size,
-/// loads the slot, and compares the key.
-const STEPS_OF_LOOKUP: usize = 4;
 
 /// A compute of a pair that the map has, whose closure answers an insertion, makes so many steps:
 /// it loads the root, learns its size, loads the slot, compares the key, shows the pair, makes the
@@ -82,8 +49,7 @@ struct Outcome {
 }
 
 fn numbers(alloc: Global) -> Result<Numbers, Refused> {
-    let hasher = BuildHasherDefault::default();
-    Core::new(alloc, ResizeMode::Incremental(64), 0, 16, hasher)
+    Core::new(alloc, ResizeMode::Incremental(64), 0, 16, APART)
 }
 
 /// The last reply of a caller.
@@ -128,56 +94,7 @@ fn outcome_of(alloc: Global, schedule: Vec<Turn<u64, u64, Closure>>) -> Result<O
     })
 }
 
-/// What two insertions come to, where the first is stopped after so many steps.
-fn replaced_at(steps: usize) -> Outcome {
-    // Caller 0 makes its pair in its seventh step, and claims the slot in its eighth.
-    let (own, other) = if steps < 7 { (1, 0) } else { (0, 1) };
-    let (replies, last) = if steps < 8 {
-        let replaced = Reply::Replaced {
-            old: other,
-            new: own,
-        };
-        ((Some(replaced), Some(Reply::Inserted(other))), own)
-    } else {
-        let replaced = Reply::Replaced {
-            old: own,
-            new: other,
-        };
-        ((Some(Reply::Inserted(own)), Some(replaced)), other)
-    };
-    Outcome {
-        replies,
-        opened: 1,
-        values: if steps < 7 {
-            (Some(200), Some(100))
-        } else {
-            (Some(100), Some(200))
-        },
-        found: Some(Reply::Found(last)),
-    }
-}
-
-#[test]
-fn stopped_insertion_replaces_or_is_replaced(rt: HostRuntime) -> Result<(), Fail> {
-    for steps in 0..STEPS_OF_INSERT + 1 {
-        let schedule = vec![in rt.alloc();
-            Turn::Begin(0, Call::Insert(7, 100)),
-            Turn::Finish(0, steps),
-            Turn::Begin(1, Call::Insert(7, 200)),
-            Turn::Finish(1, WHOLE),
-            Turn::Finish(0, WHOLE),
-        ]?;
-        is_at(
-            &rt,
-            steps,
-            outcome_of(rt.alloc(), schedule)?,
-            replaced_at(steps),
-        );
-    }
-    Ok(())
-}
-
-/// The same where neither replaces.
+/// What two insertions come to that never replace, where the first is stopped after so many steps.
 fn kept_at(steps: usize) -> Outcome {
     // Caller 0 loads the slot in its fifth step, makes its pair in its seventh, and claims the
     // slot in its eighth. Where the slot is taken, it makes no pair.
@@ -231,7 +148,7 @@ fn removal(alloc: Global, first: bool) -> Result<Call<u64, u64, Closure>, Fail> 
         ops: Vec::new(alloc),
         yes: vec![in alloc; first]?,
     };
-    Ok(Call::RemoveIf(7, Closure::InTurn(answers)))
+    Ok(Call::RemoveIf(7, answers))
 }
 
 /// A schedule that first puts 1 in for key 7, then stops one call of caller 0 after some steps, in
@@ -262,68 +179,6 @@ fn stopped_beside(
         Turn::Finish(1, WHOLE),
         Turn::Finish(0, WHOLE),
     ]?)
-}
-
-/// What a removal and a lookup come to, where the removal is stopped after so many steps.
-fn looked_up_at(steps: usize) -> Outcome {
-    // The removal buries the pair in its sixth step.
-    let seen = if steps < 6 {
-        Reply::Found(0)
-    } else {
-        Reply::Absent
-    };
-    Outcome {
-        replies: (Some(Reply::Removed(0)), Some(seen)),
-        opened: 1,
-        values: (Some(1), None),
-        found: Some(Reply::Absent),
-    }
-}
-
-#[test]
-fn stopped_removal_beside_a_lookup(rt: HostRuntime) -> Result<(), Fail> {
-    for steps in 0..STEPS_OF_REMOVAL + 1 {
-        let call = removal(rt.alloc(), true)?;
-        let schedule = stopped(rt.alloc(), call, steps, Call::Get(7))?;
-        is_at(
-            &rt,
-            steps,
-            outcome_of(rt.alloc(), schedule)?,
-            looked_up_at(steps),
-        );
-    }
-    Ok(())
-}
-
-/// The same where the lookup is stopped.
-fn removed_at(steps: usize) -> Outcome {
-    // The lookup loads the slot in its third step.
-    let seen = if steps < 3 {
-        Reply::Absent
-    } else {
-        Reply::Found(0)
-    };
-    Outcome {
-        replies: (Some(seen), Some(Reply::Removed(0))),
-        opened: 1,
-        values: (Some(1), None),
-        found: Some(Reply::Absent),
-    }
-}
-
-#[test]
-fn stopped_lookup_beside_a_removal(rt: HostRuntime) -> Result<(), Fail> {
-    for steps in 0..STEPS_OF_LOOKUP + 1 {
-        let other = removal(rt.alloc(), true)?;
-        let schedule = stopped(rt.alloc(), Call::Get(7), steps, other)?;
-        is_at(
-            &rt,
-            steps,
-            outcome_of(rt.alloc(), schedule)?,
-            removed_at(steps),
-        );
-    }
-    Ok(())
 }
 
 /// What a removal comes to that is stopped so, where its pair is replaced meanwhile.
@@ -394,68 +249,9 @@ fn closure_is_shown_each_pair_that_stands_there(rt: HostRuntime) -> Result<(), F
     Ok(())
 }
 
-/// What an insertion comes to that makes one step without memory after so many.
-fn refused_at(steps: usize) -> Outcome {
-    // A table, the key and the pair are made in these steps, and the last step counts.
-    let reply = match steps {
-        1 | 5 | 6 => Some(Reply::Refused(Refused::Memory)),
-        8 => Some(Reply::Inserted(0)),
-        _ => None,
-    };
-    Outcome {
-        replies: (reply, None),
-        opened: if steps < 2 { 0 } else { 1 },
-        values: (if steps < 7 { None } else { Some(100) }, None),
-        found: Some(if steps < 7 {
-            Reply::Absent
-        } else {
-            Reply::Found(0)
-        }),
-    }
-}
-
-#[test]
-fn step_without_memory_refuses_what_makes(rt: HostRuntime) -> Result<(), Fail> {
-    for steps in 0..STEPS_OF_INSERT {
-        let schedule = vec![in rt.alloc();
-            Turn::Begin(0, Call::Insert(7, 100)),
-            Turn::Finish(0, steps),
-            Turn::Step(0, true),
-        ]?;
-        is_at(
-            &rt,
-            steps,
-            outcome_of(rt.alloc(), schedule)?,
-            refused_at(steps),
-        );
-    }
-    Ok(())
-}
-
-#[test]
-fn two_callers_make_a_first_table(rt: HostRuntime) -> Result<(), Fail> {
-    let schedule = vec![in rt.alloc();
-        Turn::Begin(0, Call::Insert(1, 10)),
-        Turn::Begin(1, Call::Insert(7, 70)),
-        Turn::Step(0, false),
-        Turn::Step(1, false),
-        Turn::Finish(0, WHOLE),
-        Turn::Finish(1, WHOLE),
-    ]?;
-    let expected = Outcome {
-        replies: (Some(Reply::Inserted(0)), Some(Reply::Inserted(1))),
-        opened: 1,
-        values: (Some(10), Some(70)),
-        found: Some(Reply::Found(1)),
-    };
-    is(&rt, outcome_of(rt.alloc(), schedule)?, expected);
-    Ok(())
-}
-
 /// The entries of an insertion into a map with a first table, which is stopped and goes on.
 fn entries_of_insert(alloc: Global, caller: usize) -> Result<(usize, usize), Fail> {
-    let hasher = BuildHasherDefault::default();
-    let mut core: Numbers = Core::new(alloc, ResizeMode::Blocking, 10, 16, hasher)?;
+    let mut core: Numbers = Core::new(alloc, ResizeMode::Blocking, 10, 16, APART)?;
     let begin = vec![in alloc;
         Turn::Begin(caller, Call::Insert(7, 100)),
         Turn::Finish(caller, 3),
@@ -541,43 +337,10 @@ fn told_of(alloc: Global, schedule: Vec<Turn<u64, u64, Closure>>) -> Result<Told
     })
 }
 
-/// What an update comes to that is stopped so, where its pair is replaced meanwhile.
-fn updated_at(steps: usize) -> Told {
-    // The update replaces the pair in its eighth step. Until then the closure is shown 5, if
-    // perhaps after 1, and adds to that.
-    let (own, other, last) = if steps < 8 {
-        let own = Reply::Replaced { old: 5, new: 6 };
-        (own, Reply::Replaced { old: 1, new: 5 }, 6)
-    } else {
-        let own = Reply::Replaced { old: 1, new: 2 };
-        (own, Reply::Replaced { old: 2, new: 5 }, 5)
-    };
-    Told {
-        replies: (Some(own), Some(other)),
-        nones: 0,
-        found: Some(Reply::Found(last)),
-    }
-}
-
-#[test]
-fn stopped_update_beside_a_replacement(rt: HostRuntime) -> Result<(), Fail> {
-    for steps in 0..STEPS_OF_UPDATE + 1 {
-        let call = Call::Compute(7, Closure::AddsOne);
-        let schedule = stopped(rt.alloc(), call, steps, Call::Insert(7, 5))?;
-        is_at(
-            &rt,
-            steps,
-            told_of(rt.alloc(), schedule)?,
-            updated_at(steps),
-        );
-    }
-    Ok(())
-}
-
 /// A compute of key 7, whose closure answers these in turn, and then `Abort(0)`.
 fn compute(alloc: Global, ops: Vec<Operation<u64, u64>>) -> Call<u64, u64, Closure> {
     let yes = Vec::new(alloc);
-    Call::Compute(7, Closure::InTurn(Listed { ops, yes }))
+    Call::Compute(7, Listed { ops, yes })
 }
 
 /// What a compute comes to that is stopped so, where a pair comes and goes meanwhile.

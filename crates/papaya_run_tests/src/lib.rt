@@ -1,15 +1,8 @@
-//! Tests of the program `papaya-run`: what it prints, and what no clause says of its failures.
+//! Tests of the program `papaya-run` on readers and writers that fail, of which no clause says all.
+//! What it prints stands in the runs of the repository's shell tests.
 #![tactic(auto)]
 
 #[cfg(test)]
 mod faults;
 #[cfg(test)]
-mod line_by_line;
-#[cfg(test)]
 mod runs;
-#[cfg(test)]
-mod schedules;
-#[cfg(test)]
-mod seq;
-#[cfg(test)]
-mod shared;

@@ -16,16 +16,6 @@ pub(crate) struct Case<'a> {
 }
 
 impl<'a> Case<'a> {
-    /// A run that does not fail.
-    pub(crate) fn good(script: &'a [u8], output: &'a str) -> Case<'a> {
-        Case {
-            script,
-            output,
-            errors: "",
-            status: 0,
-        }
-    }
-
     /// A run that ends at a bad line.
     pub(crate) fn bad(script: &'a [u8], output: &'a str, errors: &'a str) -> Case<'a> {
         Case {
@@ -58,19 +48,18 @@ pub(crate) fn has_ended<A: Abort>(rt: &A, found: u8, wanted: u8, script: &[u8]) 
     assert_eq!(rt; found, wanted, "in {script:?}");
 }
 
-/// Asserts what a run with these arguments does whose reader fails at its end, or does not.
-fn expect_from<A: Abort + Wait>(
+/// Asserts what a run with these arguments does whose reader fails at its end.
+pub(crate) fn expect_cut<A: Abort + Wait>(
     rt: &A,
     alloc: Global,
     args: &str,
     case: Case<'_>,
-    fails: bool,
 ) -> Result<(), Fail> {
     let args = words(alloc, args)?;
     let mut source = Source {
         text: case.script,
         step: 5,
-        fails,
+        fails: true,
     };
     let mut printed = Vec::new(alloc);
     let mut said = Vec::new(alloc);
@@ -86,26 +75,6 @@ fn expect_from<A: Abort + Wait>(
     has_written(rt, said.as_slice(), case.errors, case.script)?;
     has_ended(rt, status, case.status, case.script);
     Ok(())
-}
-
-/// Asserts what a run with these arguments does.
-pub(crate) fn expect<A: Abort + Wait>(
-    rt: &A,
-    alloc: Global,
-    args: &str,
-    case: Case<'_>,
-) -> Result<(), Fail> {
-    expect_from(rt, alloc, args, case, false)
-}
-
-/// Asserts what a run with these arguments does whose reader fails at its end.
-pub(crate) fn expect_cut<A: Abort + Wait>(
-    rt: &A,
-    alloc: Global,
-    args: &str,
-    case: Case<'_>,
-) -> Result<(), Fail> {
-    expect_from(rt, alloc, args, case, true)
 }
 
 /// Asserts that a run fails whose writer has room for these bytes alone.
@@ -134,26 +103,5 @@ pub(crate) fn expect_full<A: Abort + Wait>(
     has_written(rt, output.text.as_slice(), kept, script)?;
     has_written(rt, said.as_slice(), "papaya-run: output failed\n", script)?;
     has_ended(rt, status, 1, script);
-    Ok(())
-}
-
-/// Asserts that each of these lines is bad behind good ones, whose replies are printed.
-pub(crate) fn expect_bad<A: Abort + Wait>(
-    rt: &A,
-    alloc: Global,
-    args: &str,
-    lines: &[&[u8]],
-) -> Result<(), Fail> {
-    for line in lines {
-        let mut script = Vec::from_slice(alloc, b"i 7 1\n\ng 7\n")?;
-        script.extend_from_slice(line)?;
-        script.extend_from_slice(b"\ng 7\n")?;
-        let case = Case::bad(
-            script.as_slice(),
-            "none\nsome 1\n",
-            "papaya-run: line 4: bad command\n",
-        );
-        expect(rt, alloc, args, case)?;
-    }
     Ok(())
 }

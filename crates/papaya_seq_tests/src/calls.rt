@@ -3,8 +3,7 @@ ghost use Rattle.std.specs.Prelude.{◌≡◌, IfOk, IfErr, MatchBool, is_some};
 ghost use Rattle.papaya_seq.specs.Map.{Inserts, Removes, Unchanged};
 
 use crate::expect::is;
-use crate::hashing::TOGETHER;
-use crate::numbers::{Numbers, Usual, finds, has, inserts, provides, tries};
+use crate::numbers::{Usual, finds, has, inserts, provides, tries};
 use papaya_ask::call::{Call, Reply};
 use papaya_call::answers::Listed;
 use papaya_keys::guard::Equivalent;
@@ -16,13 +15,11 @@ use std::hash::{BuildHasher, Hash};
 use std::process::Abort;
 use std::test::Fail;
 
-#[test]
-fn insert_then_get(rt: HostRuntime) -> Result<(), Fail> {
-    let mut map: Usual = HashMap::new(rt.alloc())?;
-    inserts(&rt, &mut map, 65, 1, Ok(None));
-    finds(&rt, &map, 65, Some(&1));
-    has(&rt, &map, 1);
-    Ok(())
+/// A key is stored and looked up.
+fn stores_one(rt: &impl Abort, map: &mut Usual) {
+    inserts(rt, map, 65, 1, Ok(None));
+    finds(rt, map, 65, Some(&1));
+    has(rt, map, 1);
 }
 
 /// Key 37 is stored three times, and answers what it had.
@@ -35,15 +32,8 @@ fn replaces_twice(rt: &impl Abort, map: &mut Usual) {
     has(rt, map, 1);
 }
 
-#[test]
-fn insert_answers_the_old_value(rt: HostRuntime) -> Result<(), Fail> {
-    let mut map: Usual = HashMap::default(rt.alloc())?;
-    replaces_twice(&rt, &mut map);
-    Ok(())
-}
-
 /// Key 37 keeps its first value, and key 38 gets one.
-fn keeps_the_first(rt: &impl Abort, map: &mut Numbers) {
+fn keeps_the_first(rt: &impl Abort, map: &mut Usual) {
     tries(rt, map, 37, 1, Ok(Ok(&1)));
     let occupied = OccupiedError {
         current: &1,
@@ -54,13 +44,6 @@ fn keeps_the_first(rt: &impl Abort, map: &mut Numbers) {
     provides(rt, map, 37, 4, Ok(&1));
     provides(rt, map, 38, 4, Ok(&4));
     has(rt, map, 2);
-}
-
-#[test]
-fn try_insert_keeps_the_old_value(rt: HostRuntime) -> Result<(), Fail> {
-    let mut map: Numbers = HashMap::with_hasher(rt.alloc(), TOGETHER)?;
-    keeps_the_first(&rt, &mut map);
-    Ok(())
 }
 
 /// Stores a pair, and says whether it took the place of one. What the map is after it follows from
@@ -100,13 +83,6 @@ fn stores_and_removes(rt: &impl Abort, map: &mut Usual) {
     is(rt, removes(map, &5u64), Ok(true));
     is(rt, removes(map, &5u64), Ok(false));
     has(rt, map, 0);
-}
-
-#[test]
-fn callers_know_the_map_after(rt: HostRuntime) -> Result<(), Fail> {
-    let mut map: Usual = HashMap::new(rt.alloc())?;
-    stores_and_removes(&rt, &mut map);
-    Ok(())
 }
 
 /// What a closure answers, in turn.
@@ -163,8 +139,33 @@ fn runs_in_turn(rt: &impl Abort, alloc: Global, map: &mut Usual) -> Result<(), F
     Ok(())
 }
 
+/// What is done with a new map.
+#[derive(Clone, Copy)]
+enum Case {
+    StoresOne,
+    ReplacesTwice,
+    KeepsTheFirst,
+    StoresAndRemoves,
+    RunsInTurn,
+}
+
 #[test]
-fn calls_run_in_turn(rt: HostRuntime) -> Result<(), Fail> {
-    let mut map: Usual = HashMap::new(rt.alloc())?;
-    runs_in_turn(&rt, rt.alloc(), &mut map)
+fn calls_on_new_maps(rt: HostRuntime) -> Result<(), Fail> {
+    for case in [
+        Case::StoresOne,
+        Case::ReplacesTwice,
+        Case::KeepsTheFirst,
+        Case::StoresAndRemoves,
+        Case::RunsInTurn,
+    ] {
+        let mut map: Usual = HashMap::default(rt.alloc())?;
+        match case {
+            Case::StoresOne => stores_one(&rt, &mut map),
+            Case::ReplacesTwice => replaces_twice(&rt, &mut map),
+            Case::KeepsTheFirst => keeps_the_first(&rt, &mut map),
+            Case::StoresAndRemoves => stores_and_removes(&rt, &mut map),
+            Case::RunsInTurn => runs_in_turn(&rt, rt.alloc(), &mut map)?,
+        }
+    }
+    Ok(())
 }

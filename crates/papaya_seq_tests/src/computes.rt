@@ -35,13 +35,6 @@ fn turns_65(rt: &impl Abort, map: &mut Usual) {
     finds(rt, map, 65, None);
 }
 
-#[test]
-fn compute_does_what_its_closure_says(rt: HostRuntime) -> Result<(), Fail> {
-    let mut map: Usual = HashMap::new(rt.alloc())?;
-    turns_65(&rt, &mut map);
-    Ok(())
-}
-
 /// A compute of an absent key removes nothing, and aborts.
 fn changes_nothing(rt: &impl Abort, map: &mut Usual) {
     let removed: Result<Compute<'_, u64, u64, ()>, Refused> = map.compute(1, |_| Operation::Remove);
@@ -51,27 +44,18 @@ fn changes_nothing(rt: &impl Abort, map: &mut Usual) {
     is(rt, map.slots(), 0);
 }
 
-#[test]
-fn nothing_is_removed_from_nothing(rt: HostRuntime) -> Result<(), Fail> {
-    let mut map: Usual = HashMap::new(rt.alloc())?;
-    changes_nothing(&rt, &mut map);
-    Ok(())
-}
-
 /// A compute that inserts for key 1 answers so, by numbers.
 fn computes(rt: &impl Abort, map: &mut Usual, value: u64, wanted: Computed<u64, ()>) {
     let computed = map.compute_numbered(1, |_| Operation::Insert(value));
     is(rt, computed, Ok(wanted));
 }
 
-#[test]
-fn computes_tell_numbers(rt: HostRuntime) -> Result<(), Fail> {
-    let mut map: Usual = HashMap::new(rt.alloc())?;
-    computes(&rt, &mut map, 5, Computed::Inserted(0));
-    computes(&rt, &mut map, 6, Computed::Updated { old: 0, new: 1 });
-    is(&rt, map.pair(0), Some((&1, &5)));
-    is(&rt, map.pair(1), Some((&1, &6)));
-    Ok(())
+/// Numbers of pairs are told.
+fn tells_numbers(rt: &impl Abort, map: &mut Usual) {
+    computes(rt, map, 5, Computed::Inserted(0));
+    computes(rt, map, 6, Computed::Updated { old: 0, new: 1 });
+    is(rt, map.pair(0), Some((&1, &5)));
+    is(rt, map.pair(1), Some((&1, &6)));
 }
 
 /// An insertion leaves nothing, and an abort what it aborts with.
@@ -84,13 +68,6 @@ fn leaves_its_abort(rt: &impl Abort, map: &mut Usual) {
     is(rt, aborted, Ok(Compute::Aborted(())));
     is(rt, left, Some(7));
     finds(rt, map, 1, Some(&5));
-}
-
-#[test]
-fn an_abort_is_left_where_it_is_wanted(rt: HostRuntime) -> Result<(), Fail> {
-    let mut map: Usual = HashMap::new(rt.alloc())?;
-    leaves_its_abort(&rt, &mut map);
-    Ok(())
 }
 
 /// The closures of absent keys are called, and no others.
@@ -106,13 +83,6 @@ fn makes_two_values(rt: &impl Abort, map: &mut Usual) {
     is(rt, map.get_or_insert_with(37, || 3), Ok(&1));
     is(rt, map.get_or_insert_with(38, || 3), Ok(&3));
     has(rt, map, 2);
-}
-
-#[test]
-fn values_are_made_where_none_is(rt: HostRuntime) -> Result<(), Fail> {
-    let mut map: Usual = HashMap::new(rt.alloc())?;
-    makes_two_values(&rt, &mut map);
-    Ok(())
 }
 
 /// Adds 1 to the value of key 1, or puts 0 there.
@@ -141,18 +111,46 @@ fn counts_up(rt: &impl Abort, map: &mut Usual) {
     adds_or_makes(rt, map, 6);
 }
 
-#[test]
-fn updates_compute_the_next_value(rt: HostRuntime) -> Result<(), Fail> {
-    let mut map: Usual = HashMap::new(rt.alloc())?;
-    counts_up(&rt, &mut map);
-    Ok(())
+/// A value that was updated is removed.
+fn removes_updated(rt: &impl Abort, map: &mut Usual) {
+    inserts(rt, map, 100, 101, Ok(None));
+    updates(rt, map, 100, 2, Some(&103));
+    removes(rt, map, 100, Ok(Some(&103)));
+}
+
+/// What is done with a new map.
+#[derive(Clone, Copy)]
+enum Case {
+    Turns65,
+    ChangesNothing,
+    TellsNumbers,
+    LeavesItsAbort,
+    MakesTwoValues,
+    CountsUp,
+    RemovesUpdated,
 }
 
 #[test]
-fn updated_values_are_removed(rt: HostRuntime) -> Result<(), Fail> {
-    let mut map: Usual = HashMap::new(rt.alloc())?;
-    inserts(&rt, &mut map, 100, 101, Ok(None));
-    updates(&rt, &mut map, 100, 2, Some(&103));
-    removes(&rt, &mut map, 100, Ok(Some(&103)));
+fn computes_of_new_maps(rt: HostRuntime) -> Result<(), Fail> {
+    for case in [
+        Case::Turns65,
+        Case::ChangesNothing,
+        Case::TellsNumbers,
+        Case::LeavesItsAbort,
+        Case::MakesTwoValues,
+        Case::CountsUp,
+        Case::RemovesUpdated,
+    ] {
+        let mut map: Usual = HashMap::new(rt.alloc())?;
+        match case {
+            Case::Turns65 => turns_65(&rt, &mut map),
+            Case::ChangesNothing => changes_nothing(&rt, &mut map),
+            Case::TellsNumbers => tells_numbers(&rt, &mut map),
+            Case::LeavesItsAbort => leaves_its_abort(&rt, &mut map),
+            Case::MakesTwoValues => makes_two_values(&rt, &mut map),
+            Case::CountsUp => counts_up(&rt, &mut map),
+            Case::RemovesUpdated => removes_updated(&rt, &mut map),
+        }
+    }
     Ok(())
 }

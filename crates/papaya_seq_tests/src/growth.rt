@@ -1,12 +1,11 @@
 // Tables that grow while keys are stored, looked up, removed and updated.
 use crate::expect::{is, is_at};
 use crate::hashing::{APART, TOGETHER, Times};
-use crate::numbers::{Numbers, Usual, finds, has, inserts, removes, tries};
+use crate::numbers::{Numbers, finds, has, inserts, removes, tries};
 use papaya_keys::occupied::{NotInserted, OccupiedError};
 use papaya_seq::seq::HashMap;
 use papaya_words::probe::{Refused, ResizeMode};
 use std::alloc::Global;
-use std::hash::{BuildHasherDefault, FoldHasher};
 use std::process::Abort;
 use std::test::Fail;
 
@@ -178,65 +177,5 @@ fn calls_go_on_while_pairs_are_moved(rt: HostRuntime) -> Result<(), Fail> {
     insertions_while_moving(&rt, &mut map);
     changes_while_moving(&rt, &mut map);
     has(&rt, &map, 9);
-    Ok(())
-}
-
-/// The keys are 0 to 999, and the value of each is the key itself at first.
-const KEYS: u64 = 1000;
-
-/// Each key is new, and is found at once, as are older ones.
-fn stores_all(rt: &impl Abort, map: &mut Usual) {
-    for key in 0..KEYS {
-        inserts(rt, map, key, key, Ok(None));
-        let case = key as usize;
-        is_at(rt, case, map.get(&0), Some(&0));
-        is_at(rt, case, map.get(&(key / 2)), Some(&(key / 2)));
-        is_at(rt, case, map.get(&key), Some(&key));
-        is_at(rt, case, map.get(&(key + 1)), None);
-    }
-}
-
-/// The odd keys are removed, and one is added to the values of the even ones.
-fn removes_and_adds(rt: &impl Abort, map: &mut Usual) {
-    for key in 0..KEYS {
-        if key % 2 == 1 {
-            removes(rt, map, key, Ok(Some(&key)));
-        } else {
-            let new = map.update(key, |value| value.wrapping_add(1));
-            is_at(rt, key as usize, new, Ok(Some(&(key + 1))));
-        }
-    }
-}
-
-/// Then just the even keys are there, with the values after.
-fn has_the_even(rt: &impl Abort, map: &Usual) {
-    for key in 0..KEYS {
-        let value = key + 1;
-        let wanted = if key % 2 == 1 { None } else { Some(&value) };
-        is_at(rt, key as usize, map.get(&key), wanted);
-    }
-    has(rt, map, 500);
-}
-
-/// A thousand keys in a map of this mode.
-fn grows(rt: &impl Abort, alloc: Global, mode: ResizeMode) -> Result<(), Refused> {
-    let hasher = BuildHasherDefault::<FoldHasher>::new();
-    let mut map: Usual = HashMap::with_parts(alloc, mode, 0, 1, hasher)?;
-    stores_all(rt, &mut map);
-    removes_and_adds(rt, &mut map);
-    has_the_even(rt, &map);
-    Ok(())
-}
-
-#[test]
-fn a_thousand_keys(rt: HostRuntime) -> Result<(), Fail> {
-    for mode in [
-        ResizeMode::Incremental(1),
-        ResizeMode::Incremental(2),
-        ResizeMode::Incremental(64),
-        ResizeMode::Blocking,
-    ] {
-        grows(&rt, rt.alloc(), mode)?;
-    }
     Ok(())
 }

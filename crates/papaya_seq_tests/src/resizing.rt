@@ -32,17 +32,19 @@ fn a_new_map_gets_its_first_table(rt: HostRuntime) -> Result<(), Fail> {
     let mut map: Usual = HashMap::new(rt.alloc())?;
     reserves(&rt, &mut map, 0, 8);
     reserves(&rt, &mut map, 6, 8);
+    reserves(&rt, &mut map, 1000, 2048);
     has(&rt, &map, 0);
     Ok(())
 }
 
-/// Five pairs in sixteen slots, and room for twenty more.
+/// Five pairs in sixteen slots, and room for twenty and then for five thousand more.
 fn makes_room_beside_five(rt: &impl Abort, map: &mut Usual) {
     for key in 0..5u64 {
         inserts(rt, map, key, key, Ok(None));
     }
     is(rt, map.slots(), 16);
     reserves(rt, map, 20, 64);
+    reserves(rt, map, 5000, 8192);
     for key in 0..5u64 {
         finds(rt, map, key, Some(&key));
     }

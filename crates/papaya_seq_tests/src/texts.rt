@@ -40,16 +40,8 @@ fn finds_two(rt: &impl Abort, alloc: Global, map: &mut Texts) -> Result<(), Fail
     Ok(())
 }
 
-#[test]
-fn texts_are_looked_up_by_text(rt: HostRuntime) -> Result<(), Fail> {
-    let mut map: Texts = HashMap::new(rt.alloc())?;
-    finds_two(&rt, rt.alloc(), &mut map)
-}
-
-/// One of two texts is replaced and removed.
+/// Of the two texts one is replaced and removed.
 fn removes_red(rt: &impl Abort, alloc: Global, map: &mut Texts) -> Result<(), Fail> {
-    inserts(rt, alloc, map, "red", 1, Ok(None))?;
-    inserts(rt, alloc, map, "blue", 2, Ok(None))?;
     inserts(rt, alloc, map, "red", 3, Ok(Some(&1)))?;
     is(rt, map.remove(&TextKey("red")), Ok(Some(&3)));
     finds(rt, map, "red", None);
@@ -58,7 +50,8 @@ fn removes_red(rt: &impl Abort, alloc: Global, map: &mut Texts) -> Result<(), Fa
 }
 
 #[test]
-fn texts_are_removed_by_text(rt: HostRuntime) -> Result<(), Fail> {
+fn texts_are_looked_up_and_removed_by_text(rt: HostRuntime) -> Result<(), Fail> {
     let mut map: Texts = HashMap::new(rt.alloc())?;
+    finds_two(&rt, rt.alloc(), &mut map)?;
     removes_red(&rt, rt.alloc(), &mut map)
 }

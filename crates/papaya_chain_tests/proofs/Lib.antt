@@ -1,1 +1,0 @@
--- no lemma: the tests hold alone

@@ -1,0 +1,224 @@
+"""Runs papaya-run, and compares what it prints, what it says on standard error and its exit status:
+the runs of tests/runs.txt, and long ones whose replies a plain dictionary gives.
+
+    python3 tests/runs.py PROGRAM
+"""
+
+import os
+import random
+import subprocess
+import sys
+
+WRAP = 2**64
+
+
+class Runs:
+    def __init__(self, program):
+        self.program, self.passed, self.failed = program, 0, 0
+
+    def run(self, args, lines, printed, said="", status=0, end=b"\n"):
+        """A run on these lines, and the lines that it prints."""
+        lines = [it if isinstance(it, bytes) else it.encode() for it in lines]
+        script = b"\n".join(lines) + end if lines else b""
+        wanted = "".join(f"{it}\n" for it in printed)
+        words = args.split(" ") if args else []
+        found = subprocess.run([self.program, *words], input=script, capture_output=True, timeout=60)
+        got = (found.stdout.decode(), found.stderr.decode(), found.returncode)
+        if got == (wanted, said, status):
+            self.passed += 1
+            return
+        self.failed += 1
+        print(f"runs.py: papaya-run {args} on {script[-200:]}", file=sys.stderr)
+        for name, one, other in zip(["output", "errors", "status"], (wanted, said, status), got):
+            if one != other:
+                print(f"  {name}: wanted {str(one)[-200:]!r}, found {str(other)[-200:]!r}", file=sys.stderr)
+
+
+def bytes_of(text):
+    """A line, in which \\xNN is a byte."""
+    return text.encode("latin-1", "backslashreplace").decode("unicode_escape").encode("latin-1")
+
+
+def stored(runs, path):
+    """The runs of a file, whose head tells its format."""
+    blocks = []
+    for line in open(path, encoding="utf-8").read().split("\n"):
+        mark, text = line[:1], line[2:]
+        if mark in ("", "#"):
+            continue
+        if mark == "$":
+            if not blocks or blocks[-1]["lines"] or blocks[-1]["printed"]:
+                blocks.append({"args": [], "lines": [], "printed": [], "said": "", "status": 0, "end": b"\n"})
+            blocks[-1]["args"].append(bytes_of(text).decode())
+        elif mark == "=":
+            blocks[-1]["status"] = int(text)
+        elif mark == "~":
+            blocks[-1]["said"] += f"{text}\n"
+        elif mark in (">", "!", "-"):
+            blocks[-1]["lines"].append((mark == "!", bytes_of(text)))
+            blocks[-1]["end"] = b"" if mark == "-" else b"\n"
+        else:
+            blocks[-1]["printed"].append(line)
+    for it in blocks:
+        turns = [at for at, (in_turn, _) in enumerate(it["lines"]) if in_turn] or [None]
+        for turn in turns:
+            lines = [text for at, (in_turn, text) in enumerate(it["lines"]) if not in_turn or at == turn]
+            for args in it["args"]:
+                runs.run(args, lines, it["printed"], it["said"], it["status"], it["end"])
+
+
+class Plain:
+    """The map, as a dictionary. Each call answers what the program prints for it."""
+
+    def __init__(self):
+        self.pairs = {}
+
+    def call(self, line):
+        word, key, *value = line.split(" ")
+        old = self.pairs.get(int(key))
+        if word == "g":
+            return "none" if old is None else f"some {old}"
+        if word == "i":
+            self.pairs[int(key)] = int(value[0])
+            return "none" if old is None else f"old {old}"
+        if old is None:
+            return "none"
+        if word == "r":
+            del self.pairs[int(key)]
+            return f"removed {old}"
+        self.pairs[int(key)] = (old + 1) % WRAP
+        return f"new {(old + 1) % WRAP}"
+
+
+def by_lines(runs, args, calls):
+    """The calls on a backend that does each line in turn, with the number of pairs after them."""
+    plain = Plain()
+    printed = [plain.call(it) for it in calls]
+    runs.run(args, [*calls, "len"], [*printed, f"len {len(plain.pairs)}"])
+
+
+def by_callers(runs, args, calls):
+    """The calls on the core, each by another caller, whole."""
+    plain, lines, printed = Plain(), [], []
+    for at, call in enumerate(calls):
+        lines += [f"begin {at % 64} {call}", f"finish {at % 64}"]
+        printed.append(f"{at % 64}: {plain.call(call)}")
+    runs.run(args, lines, printed)
+
+
+def grown(keys):
+    """Keys are stored, each found at once beside older ones; the odd ones are removed, the even ones
+    updated; then all are looked up."""
+    calls = []
+    for key in range(keys):
+        calls += [f"i {key} {key}", "g 0", f"g {key // 2}", f"g {key}", f"g {key + 1}"]
+    calls += [f"r {key}" if key % 2 else f"u {key}" for key in range(keys)]
+    return calls + [f"g {key}" for key in range(keys + 1)]
+
+
+def mixed(seed, calls, keys):
+    """Calls of all kinds on some keys."""
+    drawn = random.Random(seed)
+    lines = []
+    for _ in range(calls):
+        word, key = drawn.choice("igru"), drawn.randrange(keys)
+        lines.append(f"i {key} {drawn.randrange(WRAP)}" if word == "i" else f"{word} {key}")
+    return lines
+
+
+def computed(runs):
+    """Keys have paths of their own by `id`, and share one by `zero`."""
+    for mode in ["inc:1", "inc:2", "inc:3", "inc:64", f"inc:{WRAP - 1}", "block"]:
+        for backend, run in [("seq", by_lines), ("shared", by_lines), ("core", by_callers)]:
+            run(runs, f"{backend} {mode} id", grown(1000))
+            run(runs, f"{backend} {mode} zero", grown(100))
+            for seed in range(4):
+                run(runs, f"{backend} {mode} id", mixed(seed, 1000, 60))
+                run(runs, f"{backend} {mode} zero", mixed(seed, 1000, 30))
+
+
+def full(runs):
+    """A table of 32 slots that is full, of keys that have paths of their own and of keys on one path:
+    the map goes on in longer ones."""
+
+    def run(args, keys, lines, printed):
+        stores = [f"i {key} 1" for key in range(keys)]
+        runs.run(args, [*stores, *lines], [*(["none"] * keys), *printed])
+
+    for mode in ["inc:64", "block"]:
+        lines = ["slots", "i 32 1", "len", "g 32", "slots"]
+        run(f"seq {mode} id", 32, lines, ["slots 32", "none", "len 33", "some 1", "slots 64"])
+        looks = [(26, 32), (27, 64), (31, 64), (32, 64), (64, 64), (67, 256), (100, 256)]
+        for keys, slots in [*looks, (65, 256) if mode == "block" else (65, 128)]:
+            run(f"seq {mode} zero", keys, ["slots", "len"], [f"slots {slots}", f"len {keys}"])
+        run(f"shared {mode} id", 32, ["i 32 1", "len", "g 32"], ["none", "len 33", "some 1"])
+    for mode in ["inc:1", "block"]:
+        stores = [f"i {key} {key}" for key in range(100)]
+        looks = ["g 0", "g 99", "g 100"]
+        runs.run(f"shared {mode} zero", [*stores, *looks], [*(["none"] * 100), "some 0", "some 99", "none"])
+    # A table in which pairs were removed everywhere makes room for a smaller one.
+    lines = [f"{word} {key}{' 1' if word == 'i' else ''}" for key in range(26) for word in "ir"]
+    printed = ["none", "removed 1"] * 26
+    lines += ["slots", "len", "i 26 1", "slots", "len"]
+    runs.run("seq inc:64 zero", lines, [*printed, "slots 32", "len 0", "none", "slots 16", "len 1"])
+
+
+# How many steps a call of key 7 makes. In a new map an insertion loads the root, makes a table, opens
+# it, learns its size, loads the slot, makes the key and the pair, claims the slot, and counts. Where
+# the key is there any call loads the root, learns the size, loads the slot and compares the key. A
+# lookup is over then. An update shows the pair, makes the key and the new pair, and replaces the old
+# one; a removal shows the pair, buries it, and counts.
+STEPS = {"i": 9, "g": 4, "u": 8, "r": 7}
+
+# A call that is stopped, another one, and the step in which the first one looks or changes the map.
+# Then what is printed for each of them and what is found after both, where the first is stopped before
+# that step, and where it is stopped later.
+STOPPED = [
+    ("i 7 100", "i 7 200", 8, ("old 200", "none", "some 100"), ("none", "old 100", "some 200")),
+    ("u 7", "i 7 5", 8, ("new 6", "old 1", "some 6"), ("new 2", "old 2", "some 5")),
+    ("r 7", "g 7", 6, ("removed 1", "some 1", "none"), ("removed 1", "none", "none")),
+    ("g 7", "r 7", 3, ("none", "removed 1", "none"), ("some 1", "removed 1", "none")),
+    ("r 7", "i 7 2", 6, ("removed 2", "old 1", "none"), ("removed 1", "none", "some 2")),
+]
+
+
+def stopped(runs, rest):
+    """Caller 0 is stopped after each number of its steps, caller 1 makes a call whole, and caller 0 goes
+    on. Caller 2 looks the key up then."""
+    for own, other, step, before, after in STOPPED:
+        is_there = not own.startswith("i")
+        last = STEPS[own[0]]
+        for made in range(last + 1):
+            lines = ["begin 3 i 7 1", "finish 3"] if is_there else []
+            lines += [f"begin 0 {own}", *["step 0"] * made, f"begin 1 {other}", "finish 1"]
+            lines += [*(["finish 0"] if made < last else []), "begin 2 g 7", "finish 2"]
+            first, second, found = before if made < step else after
+            said = [f"1: {second}", f"0: {first}"] if made < last else [f"0: {first}", f"1: {second}"]
+            runs.run(f"core {rest}", lines, [*(["3: none"] if is_there else []), *said, f"2: {found}"])
+
+
+def without_memory(runs, rest):
+    """An insertion makes one step without memory after so many: it is refused where that step makes a
+    table, the key or the pair."""
+    for made in range(STEPS["i"]):
+        lines = ["begin 0 i 7 100", *["step 0"] * made, "refuse 0"]
+        is_refused = made in (1, 5, 6)
+        is_over = is_refused or made == STEPS["i"] - 1
+        lines += [*([] if is_over else ["finish 0"]), "begin 2 g 7", "finish 2"]
+        printed = ["0: refused 1 Memory", "2: none"] if is_refused else ["0: none", "2: some 100"]
+        runs.run(f"core {rest}", lines, printed)
+
+
+def main(program):
+    runs = Runs(program)
+    stored(runs, os.path.join(os.path.dirname(os.path.abspath(__file__)), "runs.txt"))
+    computed(runs)
+    full(runs)
+    for rest in ["inc:64 id", "block zero"]:
+        stopped(runs, rest)
+        without_memory(runs, rest)
+    print(f"runs.py: {runs.passed} passed, {runs.failed} failed")
+    return 0 if runs.passed and not runs.failed else 1
+
+
+sys.exit(main(sys.argv[1]))
