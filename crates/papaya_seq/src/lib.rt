@@ -3,6 +3,7 @@
 
 pub use papaya_keys::{compute, guard, occupied};
 
+mod clearing;
 mod computes;
 mod computing;
 mod insertion;

@@ -103,6 +103,35 @@ fn ends(rt: &impl Abort, map: &mut Numbers) {
     looks_so(rt, map, 9, 16, false);
 }
 
+/// A map is emptied, whatever it looks like, and takes pairs again.
+fn empties(rt: &impl Abort, map: &mut Numbers) {
+    is(rt, map.clear(), Ok(()));
+    looks_so(rt, map, 0, 0, false);
+    has_below(rt, map, 0);
+    fills(rt, map, &[(9, 32, false)]);
+}
+
+#[test]
+fn emptied_maps_are_filled_again(rt: HostRuntime) -> Result<(), Fail> {
+    for mode in MODES {
+        let mut map = made(rt.alloc(), mode, 6, APART)?;
+        fills(&rt, &mut map, &[(8, 8, false)]);
+        inserts(&rt, &mut map, 8, 8, Ok(None));
+        empties(&rt, &mut map);
+        empties(&rt, &mut map);
+    }
+    Ok(())
+}
+
+#[test]
+fn a_new_map_is_emptied(rt: HostRuntime) -> Result<(), Fail> {
+    let mut map: Usual = HashMap::new(rt.alloc())?;
+    is(&rt, map.clear(), Ok(()));
+    is(&rt, map.slots(), 0);
+    reserves(&rt, &mut map, 0, 8);
+    Ok(())
+}
+
 /// Calls of which three resize the map.
 fn six_calls(alloc: Global) -> Result<Vec<Call<u64, u64, Listed<u64>>>, Fail> {
     Ok(vec![in alloc;

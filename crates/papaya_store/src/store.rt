@@ -326,6 +326,20 @@ impl<K: Hash + Eq + Drop, V: Drop, S: BuildHasher + Drop> Store<K, V, S> {
 }
 
 impl<K: Hash + Eq + Drop, V: Drop, S: BuildHasher> Store<K, V, S> {
+    /// Lets all tables go, and all that is logged. The count stays as it is.
+    pub fn clear(&mut self, alloc: Global)
+        ensures words { self.new.words ≡ record { root = 0; tables = [] } }
+        ensures keys { self.new.keys ≡ [] }
+        ensures pairs { self.new.pairs ≡ [] }
+        ensures hasher { self.new.hasher ≡ self.old.hasher }
+        ensures count { self.new.count ≡ self.old.count }
+    {
+        self.root = 0;
+        self.tables = Vec::new(alloc);
+        self.keys = Vec::new(alloc);
+        self.pairs = Vec::new(alloc);
+    }
+
     /// Logs the key of a call, once.
     #[inline(always)]
     fn make_key<A>(&mut self, running: &mut Running<K, V, A>) -> Answer
