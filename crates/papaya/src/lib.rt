@@ -11,7 +11,7 @@
 
 pub use papaya_call::answers::Operation;
 pub use papaya_keys::compute::Compute;
-pub use papaya_keys::guard::{Equivalent, TextKey};
+pub use papaya_keys::guard::{Collector, Equivalent, Guard, LocalGuard, OwnedGuard, TextKey};
 pub use papaya_keys::occupied::{NotInserted, OccupiedError};
 pub use papaya_map::map::{HashMap, HashMapRef, Pass};
 pub use papaya_words::probe::{Refused, ResizeMode};

@@ -25,6 +25,8 @@ pub mod Loaded
 pub mod Kept
 pub mod Opened
 pub mod TableSizes
+-- how many slots the tables have that came
+pub mod Lengths
 -- whose exchange a wish is of
 pub mod Wishes
 pub mod Words

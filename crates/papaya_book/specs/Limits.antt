@@ -1,8 +1,13 @@
 -- Numbers that the logs of a book gave past their limits, and sums of its count that make a table
 -- too long.
-use Rattle.std.specs.Prelude.{◌≡◌, ◌⊎◌, ℕ, ◌<◌, ◌≤◌, ◌^◌, Bool, List, [], ◌∷◌}
+use Rattle.std.specs.Prelude.{◌≡◌, ◌⊎◌, ℕ, ◌<◌, ◌≤◌, ◌^◌, Bool, List, [], ◌∷◌, ◌++◌, length}
 use Rattle.papaya_words.specs.Table.{length_after}
 use Rattle.papaya_words.specs.declared.limits.TheConstants.{MAX_LOG_LEN, MAX_TABLES}
+use Rattle.papaya_book.specs.Logs.{Member, comes, steps_of}
+use Rattle.papaya_book.specs.declared.rule.entry.Event.{Event}
+use Rattle.papaya_book.specs.declared.rule.entry.Named.{Named}
+use Rattle.papaya_book.specs.declared.rule.entry.Named.TheVariants as names
+use Rattle.papaya_book.specs.declared.rule.entry.Step.{Step}
 use Rattle.papaya_book.specs.declared.rule.own.Given.{Given}
 use Rattle.papaya_book.specs.declared.rule.own.Given.TheVariants.{Pair, Sum, Table}
 
@@ -16,16 +21,29 @@ IsPastLimit (Sum n) = ⊥
 abbrev pub IsFull : List Given → Type 0
 IsFull given = (number : Given) × (given ≡ number ∷ []) × IsPastLimit number
 
--- A next table would be longer than a table may be: it would follow one of so many slots, by this
--- sum of the count and the map's initial capacity.
-pub record IsTooLong (initial : ℕ) (given : List Given) : Type 0 where
+-- how many slots each table has that came into the book, oldest first
+abbrev pub slots_brought : {K V : Type 0} → Named K V → List ℕ
+slots_brought (names.Table table) = length table.value.slots ∷ []
+slots_brought _ = []
+
+abbrev pub tables_by : {K V : Type 0} → List (Step K V) → List ℕ
+tables_by [] = []
+tables_by (e ∷ es) = slots_brought (comes e) ++ tables_by es
+
+abbrev pub tables_of : {K V S : Type 0} → List (Event K V S) → List ℕ
+tables_of log = tables_by (steps_of log)
+
+-- A next table would be longer than a table may be: it would follow one of these, by this sum of the
+-- count and the map's initial capacity.
+pub record IsTooLong (initial : ℕ) (tables : List ℕ) (given : List Given) : Type 0 where
   pub count : ℕ
   pub given_is : given ≡ Sum count ∷ []
   pub len : ℕ
-  pub allowed : len ≤ 2 ^ 32
+  pub there : Member len tables
+  -- a pair found no place in it
   pub unfit : Bool
   pub long : 2 ^ 32 < length_after len count initial unfit
 
 -- there is no room for what a call would make: a log is full, or a table would be too long
-abbrev pub HasNoRoom : (initial : ℕ) → List Given → Type 0
-HasNoRoom initial given = IsFull given ⊎ IsTooLong initial given
+abbrev pub HasNoRoom : (initial : ℕ) → (tables : List ℕ) → List Given → Type 0
+HasNoRoom initial tables given = IsFull given ⊎ IsTooLong initial tables given

@@ -45,7 +45,7 @@ use Rattle.papaya_book.specs.Logs.{Stored, exchanges_of, is_blocking, pair_named
 use Rattle.papaya_lookup.specs.Lookups.{coding_for}
 use Rattle.papaya_book.specs.Rule.{IsLawfulLog, IsPlaced}
 use Rattle.papaya_lookup.proofs.Driving.{IsResting, word_wide}
-use Rattle.papaya_change.proofs.OwnSteps.{IsBarren, own_at, own_barren, own_changes, own_told}
+use Rattle.papaya_change.proofs.OwnSteps.{IsBarren, own_at, own_barren, own_changes, own_counts, own_told}
 use Rattle.papaya_change.proofs.Resting.{ChainResting, resting_later, resting_told}
 use Rattle.papaya_book.proofs.Loaded.{table_since}
 use Rattle.papaya_book.proofs.Logs.{prefix_trans, table_came}
@@ -113,6 +113,7 @@ module _ {K V S : Type 0} (eq : K → K → Bool) (hash : S → K → ℕ) (b : 
     taken_placed = tt;
     changed = λ change e. absurd (cc e);
     brings = λ n e. absurd e;
+    counts = λ behind len unfit e. absurd (cc e);
   }
 
 module _ {K V S H : Type 0} (eq : K → K → Bool) (input : K → List (List ℕ)) (build : S → H) (write : H → List ℕ → H) (finish : H → ℕ) (classes : IsEquivalence eq) (respects : (x y : K) → eq x y ≡ true → input x ≡ input y)
@@ -241,6 +242,7 @@ module _ {K V S H : Type 0} (eq : K → K → Bool) (input : K → List (List �
         taken_placed = placed'';
         changed = λ change e. changed change (sym changes ∙ e);
         brings = brings;
+        counts = λ behind len unfit e. absurd (own_counts m own.0 answer behind len unfit e);
       }
 
   module _ (log log' : List (Event K V S)) (pre : IsPrefix log log') (l' : IsLawfulLog eq hash b log') (m : Machine) (table : Option (Bor Sheet)) (last kept : Option (Stored K V)) (made : List (Stored K V)) (taken put : Option (Stored K V)) (fresh : Option (Where Sheet × Pen)) (r : Calling log m table last kept made taken put fresh) where

@@ -2,6 +2,7 @@
 use Rattle.std.proofs.Common.{◌≡◌, ◌⊎◌, inl, inr, ⊎_elim, ℕ, Bool, false, is_some, None, Some, List, refl, sym, ap, ◌∙◌, subst}
 use Rattle.papaya_words.specs.declared.probe.Refused.{Refused as Cause}
 use Rattle.papaya_words.specs.declared.probe.Refused.TheVariants.{Capacity, Memory}
+use mathlib.Core.List.{IsPrefix}
 use Rattle.papaya_ask.specs.declared.ask.Answer.TheVariants.{Word as Word_read}
 use Rattle.papaya_ask.specs.declared.ask.Ask.TheVariants.{Done}
 use Rattle.papaya_ask.specs.declared.call.Reply.{Reply}
@@ -28,6 +29,7 @@ use Rattle.papaya_book.specs.Limits.{HasNoRoom}
 use Rattle.papaya_book.specs.declared.keyed.Keyed as keyed
 use Rattle.papaya_book.specs.declared.window.Window.{Window}
 use Rattle.papaya_book.specs.Windows.{Does}
+use Rattle.papaya_book.proofs.Lengths.{room_since}
 use Rattle.papaya_change.specs.declared.driver.Driver.{Driver}
 use Rattle.papaya_change.specs.Doing.{has_changed}
 use Rattle.papaya_change.specs.Helping.{HasBegunAnew, HasGoneOn, HasHelped, WasRefused}
@@ -35,18 +37,18 @@ use Rattle.papaya_change.specs.Writing.{IsMemoryOrCapacity}
 use Rattle.papaya_change.proofs.Doing.{left_unchanged}
 
 -- why a copy ended a call: there was no memory, or no room
-abbrev pub IsCopyEnd : (initial : ℕ) → List Given → Cause → Type 0
-IsCopyEnd initial given cause = (cause ≡ Memory) ⊎ ((cause ≡ Capacity) × HasNoRoom initial given)
+abbrev pub IsCopyEnd : (initial : ℕ) → (tables : List ℕ) → List Given → Cause → Type 0
+IsCopyEnd initial tables given cause = (cause ≡ Memory) ⊎ ((cause ≡ Capacity) × HasNoRoom initial tables given)
 
 -- the call as it is after a copy
-pub record IsKept (m m' : Machine) (given : List Given) : Type 0 where
+pub record IsKept (m m' : Machine) (tables : List ℕ) (given : List Given) : Type 0 where
   pub task : m'.call.task ≡ m.call.task
   pub made : m'.call.made ≡ m.call.made
   pub initial : m'.call.initial ≡ m.call.initial
   pub changed : has_changed m' ≡ has_changed m
   pub shows : ShowsPairs m.call.state → ShowsPairs m'.call.state
   pub stands : (said : Said) → StandsOn m'.call said → StandsOn m.call said
-  pub ends : (cause : Cause) → ask_of m' ≡ Call (Done (Refused cause)) → (m' ≡ m) ⊎ IsCopyEnd m'.call.initial given cause
+  pub ends : (cause : Cause) → ask_of m' ≡ Call (Done (Refused cause)) → (m' ≡ m) ⊎ IsCopyEnd m'.call.initial tables given cause
 
 -- a call stands on what it remembers, where it says nothing new
 pub stands_before : (call call' : Call_machine) → call'.remembered ≡ call.remembered → said_in call'.task call'.state ≡ None → (said : Said) → StandsOn call' said → StandsOn call said
@@ -67,10 +69,10 @@ refused_silent (Insert replace) refused = refl
 refused_silent RemoveIf refused = refl
 refused_silent Compute refused = refl
 
-module _ (m m' : Machine) (given : List Given) (t : ℕ) (left : Rattle.papaya_chain_rests.specs.Rests.left_by m.call.state ≡ Some t) (call : Call_machine) (is : m'.call ≡ call) where
+module _ (m m' : Machine) (tables : List ℕ) (given : List Given) (t : ℕ) (left : Rattle.papaya_chain_rests.specs.Rests.left_by m.call.state ≡ Some t) (call : Call_machine) (is : m'.call ≡ call) where
   -- a call that was set aside, where it is this one now
   kept_by : call.task ≡ m.call.task → call.made ≡ m.call.made → call.initial ≡ m.call.initial → call.remembered ≡ m.call.remembered → change_in call.state ≡ None → ShowsPairs call.state → said_in call.task call.state ≡ None
-      → ((cause : Cause) → calls.ask_of call ≡ Done (Refused cause) → IsCopyEnd m.call.initial given cause) → IsKept m m' given
+      → ((cause : Cause) → calls.ask_of call ≡ Done (Refused cause) → IsCopyEnd m.call.initial tables given cause) → IsKept m m' tables given
   kept_by task made initial remembered none shows silent ends =
       let same_initial : m'.call.initial ≡ m.call.initial = ap (λ (z : Call_machine). z.initial) is ∙ initial in record {
         task = ap (λ (z : Call_machine). z.task) is ∙ task;
@@ -79,7 +81,7 @@ module _ (m m' : Machine) (given : List Given) (t : ℕ) (left : Rattle.papaya_c
         changed = ap (λ (z : Call_machine). is_some (change_in z.state)) is ∙ (ap is_some none ∙ sym (left_unchanged m.call.state t left));
         shows = λ _. subst (λ (z : Call_machine). ShowsPairs z.state) (sym is) shows;
         stands = λ said stands. stands_before m.call call remembered silent said (subst (λ z. StandsOn z said) is stands);
-        ends = λ cause e. inr (subst (λ n. IsCopyEnd n given cause) (sym same_initial) (ends cause (ap (λ (z : Call_machine). calls.ask_of z) (sym is) ∙ (call_asks m' (Done (Refused cause)) e).1)));
+        ends = λ cause e. inr (subst (λ n. IsCopyEnd n tables given cause) (sym same_initial) (ends cause (ap (λ (z : Call_machine). calls.ask_of z) (sym is) ∙ (call_asks m' (Done (Refused cause)) e).1)));
       }
 
 -- told of the root as one that begins, it is not refused
@@ -89,26 +91,26 @@ anew_unrefused call root cause e =
     (λ rest. ⊎_elim (λ (full : (cause ≡ Capacity) × ((need : Need) × (AtRoot ≡ Growing need))). let f = full.1.1 in cc f) (λ none. let f = none.1.1 in cc f) rest)
     (machine_reason (record call { state = AtRoot }) cause (Word_read root) (λ reply f. cc f) e)
 
-module _ (m m' : Machine) (given : List Given) where
-  kept_on : HasGoneOn m m' → IsKept m m' given
-  kept_on h = kept_by m m' given h.from h.left (record m.call { state = Searching (Sizing h.table) }) h.call refl refl refl refl refl tt refl (λ cause e. absurd (cc e))
+module _ (m m' : Machine) (tables : List ℕ) (given : List Given) where
+  kept_on : HasGoneOn m m' → IsKept m m' tables given
+  kept_on h = kept_by m m' tables given h.from h.left (record m.call { state = Searching (Sizing h.table) }) h.call refl refl refl refl refl tt refl (λ cause e. absurd (cc e))
 
-  kept_anew : HasBegunAnew m m' → IsKept m m' given
+  kept_anew : HasBegunAnew m m' → IsKept m m' tables given
   kept_anew h =
       let call : Call_machine = calls.after (record m.call { state = AtRoot }) (Word_read h.root) in
-      kept_by m m' given h.from h.left call h.call refl refl refl refl
+      kept_by m m' tables given h.from h.left call h.call refl refl refl refl
       (anew (λ s. change_in s ≡ None) refl refl refl (λ _. refl) m.call.task m.call.remembered.fill h.root)
       (anew ShowsPairs tt tt tt (λ _. tt) m.call.task m.call.remembered.fill h.root)
       (anew (λ s. said_in m.call.task s ≡ None) (absent_silent m.call.task) refl refl (λ _. refl) m.call.task m.call.remembered.fill h.root)
       (λ cause e. absurd (anew_unrefused m.call h.root cause e))
 
-  kept_refused : WasRefused m m' given → IsKept m m' given
+  kept_refused : WasRefused m m' tables given → IsKept m m' tables given
   kept_refused h =
-      kept_by m m' given h.from h.left (record m.call { state = Ended (Refused h.refused) }) h.call refl refl refl refl refl tt (refused_silent m.call.task h.refused)
-      (λ cause e. let same : h.refused ≡ cause = cc e in subst (IsCopyEnd m.call.initial given) same h.cause)
+      kept_by m m' tables given h.from h.left (record m.call { state = Ended (Refused h.refused) }) h.call refl refl refl refl refl tt (refused_silent m.call.task h.refused)
+      (λ cause e. let same : h.refused ≡ cause = cc e in subst (IsCopyEnd m.call.initial tables given) same h.cause)
 
   -- a call keeps all this while it is set aside
-  pub helped_keeps : HasHelped m m' given → IsKept m m' given
+  pub helped_keeps : HasHelped m m' tables given → IsKept m m' tables given
   helped_keeps (inl same) = record {
     task = ap (λ (z : Machine). z.call.task) same;
     made = ap (λ (z : Machine). z.call.made) same;
@@ -123,27 +125,27 @@ module _ (m m' : Machine) (given : List Given) where
   helped_keeps (inr (inr (inr h))) = kept_refused h
 
 -- why a call is refused that was led on so
-module _ {K V S H : Type 0} (c c' : Driver K V S H) (calling : c'.machine.phase ≡ Calling) (still : c.machine.phase ≡ Calling → c' ≡ c) (helped : HasHelped c.machine c'.machine c'.given.done) where
+module _ {K V S H : Type 0} (c c' : Driver K V S H) (tables : List ℕ) (calling : c'.machine.phase ≡ Calling) (still : c.machine.phase ≡ Calling → c' ≡ c) (helped : HasHelped c.machine c'.machine tables c'.given.done) where
   -- it was refused before, or by its copy
-  ends_so : (P : Driver K V S H → Type 0) (cause : Cause) → (ask_of c.machine ≡ Call (Done (Refused cause)) → P c) → (IsCopyEnd c'.machine.call.initial c'.given.done cause → P c') → ask_of c'.machine ≡ Call (Done (Refused cause)) → P c'
+  ends_so : (P : Driver K V S H → Type 0) (cause : Cause) → (ask_of c.machine ≡ Call (Done (Refused cause)) → P c) → (IsCopyEnd c'.machine.call.initial tables c'.given.done cause → P c') → ask_of c'.machine ≡ Call (Done (Refused cause)) → P c'
   ends_so P cause before copied e =
       ⊎_elim
       (λ same. subst P (sym (still (ap (λ (z : Machine). z.phase) (sym same) ∙ calling))) (before (ap ask_of (sym same) ∙ e)))
       copied
-      ((helped_keeps c.machine c'.machine c'.given.done helped).ends cause e)
+      ((helped_keeps c.machine c'.machine tables c'.given.done helped).ends cause e)
 
   pub refuses_kept : ((cause : Cause) → ask_of c.machine ≡ Call (Done (Refused cause)) → IsMemoryOrCapacity cause) → (cause : Cause) → ask_of c'.machine ≡ Call (Done (Refused cause)) → IsMemoryOrCapacity cause
   refuses_kept before cause e = ends_so (λ _. IsMemoryOrCapacity cause) cause (before cause) (λ h. ⊎_elim (λ memory. inl memory) (λ full. inr full.0) h) e
 
-  pub room_kept : (ask_of c.machine ≡ Call (Done (Refused Capacity)) → HasNoRoom c.machine.call.initial c.given.done) → ask_of c'.machine ≡ Call (Done (Refused Capacity)) → HasNoRoom c'.machine.call.initial c'.given.done
-  room_kept before e = ends_so (λ d. HasNoRoom d.machine.call.initial d.given.done) Capacity before (λ h. ⊎_elim (λ memory. absurd (cc memory)) (λ full. full.1) h) e
+  pub room_kept : (before : List ℕ) → IsPrefix before tables → (ask_of c.machine ≡ Call (Done (Refused Capacity)) → HasNoRoom c.machine.call.initial before c.given.done) → ask_of c'.machine ≡ Call (Done (Refused Capacity)) → HasNoRoom c'.machine.call.initial tables c'.given.done
+  room_kept before pre was e = ends_so (λ d. HasNoRoom d.machine.call.initial tables d.given.done) Capacity (λ h. room_since c.machine.call.initial before tables c.given.done pre (was h)) (λ h. ⊎_elim (λ memory. absurd (cc memory)) (λ full. full.1) h) e
 
 -- what a call did goes on while it is set aside
-module _ {K V S H : Type 0} {d : keyed.Ghosts S K H} (m m' : Machine) (given : List Given) (calling : m'.phase ≡ Calling) (helped : HasHelped m m' given) (a w w' : Window K V S H d) where
+module _ {K V S H : Type 0} {d : keyed.Ghosts S K H} (m m' : Machine) (tables : List ℕ) (given : List Given) (calling : m'.phase ≡ Calling) (helped : HasHelped m m' tables given) (a w w' : Window K V S H d) where
   unchanged_does : has_changed m ≡ false → w'.own ≡ w.own → Does (has_changed m) a w → Does (has_changed m') a w'
   unchanged_does none same does =
       let before : Does false a w = subst (λ (z : Bool). Does z a w) none does in
-      subst (λ (z : Bool). Does z a w') (sym ((helped_keeps m m' given helped).changed ∙ none)) (ap (λ o. o.done) same ∙ before)
+      subst (λ (z : Bool). Does z a w') (sym ((helped_keeps m m' tables given helped).changed ∙ none)) (ap (λ o. o.done) same ∙ before)
 
   pub helped_does : (m.phase ≡ Calling → w' ≡ w) → w'.own ≡ w.own → Does (has_changed m) a w → Does (has_changed m') a w'
   helped_does still same does = elim helped [

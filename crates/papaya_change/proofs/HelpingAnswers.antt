@@ -34,10 +34,11 @@ use Rattle.papaya_book.specs.Plays.{CanExchange}
 use Rattle.papaya_book.specs.declared.rule.entry.Named.{Named}
 use Rattle.papaya_book.specs.declared.rule.entry.Named.TheVariants as names
 use Rattle.papaya_book.specs.Hashes.{hash_of}
-use Rattle.papaya_book.specs.Limits.{IsFull}
-use Rattle.papaya_book.specs.Logs.{Stored, exchanges_of, number_of, pair_named, state_of, steps_of}
+use Rattle.papaya_book.specs.Limits.{IsFull, tables_of}
+use Rattle.papaya_book.specs.Logs.{Member, Stored, exchanges_of, number_of, pair_named, state_of, steps_of}
 use Rattle.papaya_book.specs.Rule.{IsLawfulLog, IsPlaced}
 use Rattle.papaya_book.specs.Sheets.{Sheet}
+use Rattle.papaya_book.proofs.Lengths.{table_slots}
 use Rattle.papaya_book.proofs.TableSizes.{sizes}
 use Rattle.papaya_change.specs.declared.driver.Driver.{Driver}
 use Rattle.papaya_change.specs.Changing.{IsBringing, IsDriven, IsForm, IsFresh, hands_with}
@@ -152,15 +153,19 @@ module _ {K V S H : Type 0} (eq : K → K → Bool) (input : K → List (List �
   abbrev Tells : List (Event K V S) → (before log : List (Event K V S)) → IsPrefix before log → CopyAsk → Answer → (last kept : Option (Stored K V)) → Type 0
   Tells setting before log pre ask answer last kept = IsCopyTold (Gs setting) Cs (state_of before) (kind_of_ask c.machine) (follows_of c.machine) (hands_with c.last c.kept made) ask answer (exchanges_of pre.0) (hands_with last kept made)
 
+  -- where a size was told, a table of so many slots has come
+  abbrev IsSizeTold : List (Event K V S) → Answer → Type 0
+  IsSizeTold log answer = (slots limit : ℕ) → answer ≡ answers.Call (Size slots limit) → Member slots (tables_of log)
+
   module _ (ask : CopyAsk) (asked : ask_of c.machine ≡ asks.Copy ask) (before : List (Event K V S)) (since : IsPrefix v before) (l₀ : IsLawfulLog eq hashes b before) (log : List (Event K V S)) (l : IsLawfulLog eq hashes b log) (pre : IsPrefix before log) (answer : Answer) (c' : Driver K V S H) (by : IsGivenBy answer c'.given.done)
       (told : Tells log before log pre ask answer c'.last c'.kept) where
     -- the call, with what it changed as before
     answered : c'.taken ≡ c.taken → c'.put ≡ c.put → IsPlaced b (Some name) (pair_named c'.last) → IsPlaced b (Some name) (pair_named c'.kept)
-        → In (IsMadeLink (λ n. IsFresh b name log n c'.fresh)) (link_in (after c.machine answer).phase) → Leaves log c' answer
-    answered taken put placed placed' hand = record {
+        → In (IsMadeLink (λ n. IsFresh b name log n c'.fresh)) (link_in (after c.machine answer).phase) → IsSizeTold log answer → Leaves log c' answer
+    answered taken put placed placed' hand size = record {
       rests = subst (λ (o : Option (Stored K V)). IsSetAside eq hashes b name matches fed k begun log (after c.machine answer) c'.last c'.kept made o c'.put c'.fresh) (sym taken)
           (subst (λ (o : Option (Stored K V)). IsSetAside eq hashes b name matches fed k begun log (after c.machine answer) c'.last c'.kept made c.taken o c'.fresh) (sym put)
-          (copied eq input build write finish classes respects b name matches fed form k begun v c.machine c.table c.last c.kept made c.taken c.put c.fresh r standing ask asked before since l₀ log l pre answer c'.last c'.kept c'.fresh c'.given.done by told placed placed' hand));
+          (copied eq input build write finish classes respects b name matches fed form k begun v c.machine c.table c.last c.kept made c.taken c.put c.fresh r standing ask asked before since l₀ log l pre answer c'.last c'.kept c'.fresh c'.given.done by told placed placed' hand size));
       leads = leads eq input build write finish classes respects b name matches fed form k begun v c.machine c.table c.last c.kept made c.taken c.put c.fresh r standing ask asked before since l₀ log l pre answer c'.last c'.kept c'.fresh c'.given.done by told;
     }
 
@@ -174,9 +179,9 @@ module _ {K V S H : Type 0} (eq : K → K → Bool) (input : K → List (List �
   -- an answer with which nothing is exchanged
   module _ (ask : CopyAsk) (asked : ask_of c.machine ≡ asks.Copy ask) (log : List (Event K V S)) (l : IsLawfulLog eq hashes b log) (pre : IsPrefix v log) (answer : Answer) (c' : Driver K V S H) (by : IsGivenBy answer c'.given.done)
       (told : Tells log log log ([], append-nil log) ask answer c'.last c'.kept) where
-    quiet : c'.taken ≡ c.taken → c'.put ≡ c.put → c'.fresh ≡ c.fresh → IsPlaced b (Some name) (pair_named c'.last) → IsPlaced b (Some name) (pair_named c'.kept) → ((n : ℕ) → answer ≡ answers.Call (Made_number n) → ⊥) → Leaves log c' answer
-    quiet taken put fresh placed placed' none =
-        answered ask asked log pre l log l ([], append-nil log) answer c' by told taken put placed placed' (kept_hand ask asked log pre answer none c' fresh)
+    quiet : c'.taken ≡ c.taken → c'.put ≡ c.put → c'.fresh ≡ c.fresh → IsPlaced b (Some name) (pair_named c'.last) → IsPlaced b (Some name) (pair_named c'.kept) → ((n : ℕ) → answer ≡ answers.Call (Made_number n) → ⊥) → IsSizeTold log answer → Leaves log c' answer
+    quiet taken put fresh placed placed' none size =
+        answered ask asked log pre l log l ([], append-nil log) answer c' by told taken put placed placed' (kept_hand ask asked log pre answer none c' fresh) size
 
   -- a word was loaded
   pub loaded : (at : At) → ask_of c.machine ≡ asks.Copy (copies.Load at) → (log : List (Event K V S)) → IsPrefix v log → (word : ℕ) (c' : Driver K V S H) → c' ≡ record c { last = c'.last } → IsLoadedFor eq hashes b name at word log c.last c'.last → Leaves log c' (answers.Call (Word_read word))
@@ -184,22 +189,23 @@ module _ {K V S H : Type 0} (eq : K → K → Bool) (input : K → List (List �
       let here = word_there eq input build write finish classes respects b name matches fed form k begun v c.machine c.table c.last c.kept made c.taken c.put c.fresh r log log at ∙ is.is in
       quiet (copies.Load at) asked log is.lawful pre (answers.Call (Word_read word)) c' tt
       (ap (λ (n : ℕ). answers.Call (Word_read n)) (sym here), refl, (λ i. hands_with (is.last_is i) ((ap (λ (d : Driver K V S H). d.kept) rest) i) made))
-      (ap (λ (d : Driver K V S H). d.taken) rest) (ap (λ (d : Driver K V S H). d.put) rest) (ap (λ (d : Driver K V S H). d.fresh) rest) (is.placed r.last_placed) (subst (λ (o : Option (Stored K V)). IsPlaced b (Some name) (pair_named o)) (sym (ap (λ (d : Driver K V S H). d.kept) rest)) r.kept_placed) (λ n e. cc e)
+      (ap (λ (d : Driver K V S H). d.taken) rest) (ap (λ (d : Driver K V S H). d.put) rest) (ap (λ (d : Driver K V S H). d.fresh) rest) (is.placed r.last_placed) (subst (λ (o : Option (Stored K V)). IsPlaced b (Some name) (pair_named o)) (sym (ap (λ (d : Driver K V S H). d.kept) rest)) r.kept_placed) (λ n e. cc e) (λ slots limit e. absurd (cc e))
 
   -- nothing of the call moved
   still : (c' : Driver K V S H) → c' ≡ c → hands_with c'.last c'.kept made ≡ hands_with c.last c.kept made
   still c' same = ap (λ (d : Driver K V S H). hands_with d.last d.kept made) same
 
-  quiet_still : (ask : CopyAsk) → ask_of c.machine ≡ asks.Copy ask → (log : List (Event K V S)) → IsLawfulLog eq hashes b log → IsPrefix v log → (answer : Answer) → IsGivenBy answer c.given.done → Tells log log log ([], append-nil log) ask answer c.last c.kept → ((n : ℕ) → answer ≡ answers.Call (Made_number n) → ⊥) → (c' : Driver K V S H) → c' ≡ c → Leaves log c' answer
-  quiet_still ask asked log l pre answer by told none c' same = subst (λ (d : Driver K V S H). Leaves log d answer) (sym same) (quiet ask asked log l pre answer c by told refl refl refl r.last_placed r.kept_placed none)
+  quiet_still : (ask : CopyAsk) → ask_of c.machine ≡ asks.Copy ask → (log : List (Event K V S)) → IsLawfulLog eq hashes b log → IsPrefix v log → (answer : Answer) → IsGivenBy answer c.given.done → Tells log log log ([], append-nil log) ask answer c.last c.kept → ((n : ℕ) → answer ≡ answers.Call (Made_number n) → ⊥) → IsSizeTold log answer → (c' : Driver K V S H) → c' ≡ c → Leaves log c' answer
+  quiet_still ask asked log l pre answer by told none size c' same = subst (λ (d : Driver K V S H). Leaves log d answer) (sym same) (quiet ask asked log l pre answer c by told refl refl refl r.last_placed r.kept_placed none size)
 
   -- the size of a table
   pub sized : (t : ℕ) → ask_of c.machine ≡ asks.Copy (copies.SizeOf t) → (log : List (Event K V S)) → IsLawfulLog eq hashes b log → IsPrefix v log → (sheet : Sheet) → IsTable log t sheet → (slots limit : ℕ) → slots ≡ length sheet.slots → limit ≡ sheet.limit → (c' : Driver K V S H) → c' ≡ c → Leaves log c' (answers.Call (Size slots limit))
   sized t asked log l pre sheet came slots limit slots_is limit_is c' same =
       let all = sizes (steps_of log) t came.0 came.1 in
+      let size : IsSizeTold log (answers.Call (Size slots limit)) = λ many least e. let same_slots : slots ≡ many = cc e in subst (λ (n : ℕ). Member n (tables_of log)) (sym slots_is ∙ same_slots) (table_slots log t sheet came) in
       let many : slots ≡ (Gs log).size t = slots_is ∙ sym (all.0 ∙ ap (λ (z : Sheet). length z.slots) came.2) in
       let places : limit + 1 ≡ (Gs log).places t = ap (λ n. n + 1) limit_is ∙ sym (all.1 ∙ ap (λ (z : Sheet). z.limit + 1) came.2) in
-      quiet_still (copies.SizeOf t) asked log l pre (answers.Call (Size slots limit)) tt ((limit, places, ap (λ n. answers.Call (Size n limit)) many), (refl, refl)) (λ n e. cc e) c' same
+      quiet_still (copies.SizeOf t) asked log l pre (answers.Call (Size slots limit)) tt ((limit, places, ap (λ n. answers.Call (Size n limit)) many), (refl, refl)) (λ n e. cc e) size c' same
 
   -- the pair last told of is carried
   pub hashed : (n : ℕ) → ask_of c.machine ≡ asks.Copy (copies.HashOf n) → (word : ℕ) → ((p : Stored K V) → c.last ≡ Some p → word ≡ hashes b.hasher p.value.key.value) → (c' : Driver K V S H) → c' ≡ record c { kept = c'.kept } → c'.kept ≡ c.last → Leaves v c' (answers.Hash word)
@@ -207,18 +213,18 @@ module _ {K V S H : Type 0} (eq : K → K → Bool) (input : K → List (List �
       quiet (copies.HashOf n) asked v r.lawful ([], append-nil v) (answers.Hash word) c' tt
       (λ p e number. ap answers.Hash (is p e), refl, (λ i. hands_with ((ap (λ (d : Driver K V S H). d.last) rest) i) (carries i) made))
       (ap (λ (d : Driver K V S H). d.taken) rest) (ap (λ (d : Driver K V S H). d.put) rest) (ap (λ (d : Driver K V S H). d.fresh) rest)
-      (subst (λ (o : Option (Stored K V)). IsPlaced b (Some name) (pair_named o)) (sym (ap (λ (d : Driver K V S H). d.last) rest)) r.last_placed) (subst (λ (o : Option (Stored K V)). IsPlaced b (Some name) (pair_named o)) (sym carries) r.last_placed) (λ i e. cc e)
+      (subst (λ (o : Option (Stored K V)). IsPlaced b (Some name) (pair_named o)) (sym (ap (λ (d : Driver K V S H). d.last) rest)) r.last_placed) (subst (λ (o : Option (Stored K V)). IsPlaced b (Some name) (pair_named o)) (sym carries) r.last_placed) (λ i e. cc e) (λ slots limit e. absurd (cc e))
 
   -- it was compared
   pub compared : (i n : ℕ) → ask_of c.machine ≡ asks.Copy (copies.SamePair i n) → (same : Bool) → ((p q : Stored K V) → c.kept ≡ Some p → c.last ≡ Some q → same ≡ eq p.value.key.value q.value.key.value) → (c' : Driver K V S H) → c' ≡ c → Leaves v c' (answers.Call (Yes same))
-  compared i n asked same is c' stays = quiet_still (copies.SamePair i n) asked v r.lawful ([], append-nil v) (answers.Call (Yes same)) tt (λ p q e first f second. ap (λ z. answers.Call (Yes z)) (is p q e f), (refl, refl)) (λ j e. cc e) c' stays
+  compared i n asked same is c' stays = quiet_still (copies.SamePair i n) asked v r.lawful ([], append-nil v) (answers.Call (Yes same)) tt (λ p q e first f second. ap (λ z. answers.Call (Yes z)) (is p q e f), (refl, refl)) (λ j e. cc e) (λ slots limit e. absurd (cc e)) c' stays
 
   -- the count was summed
   pub counted : ask_of c.machine ≡ asks.Copy copies.Count → (sum : ℕ) (c' : Driver K V S H) → c' ≡ record c { given = c'.given } → c'.given.done ≡ Sum sum ∷ [] → Leaves v c' (answers.Count sum)
   counted asked sum c' rest given =
       quiet copies.Count asked v r.lawful ([], append-nil v) (answers.Count sum) c' given ((sum, refl), (refl, ap (λ (d : Driver K V S H). hands_with d.last d.kept made) rest))
       (ap (λ (d : Driver K V S H). d.taken) rest) (ap (λ (d : Driver K V S H). d.put) rest) (ap (λ (d : Driver K V S H). d.fresh) rest)
-      (subst (λ (o : Option (Stored K V)). IsPlaced b (Some name) (pair_named o)) (sym (ap (λ (d : Driver K V S H). d.last) rest)) r.last_placed) (subst (λ (o : Option (Stored K V)). IsPlaced b (Some name) (pair_named o)) (sym (ap (λ (d : Driver K V S H). d.kept) rest)) r.kept_placed) (λ i e. cc e)
+      (subst (λ (o : Option (Stored K V)). IsPlaced b (Some name) (pair_named o)) (sym (ap (λ (d : Driver K V S H). d.last) rest)) r.last_placed) (subst (λ (o : Option (Stored K V)). IsPlaced b (Some name) (pair_named o)) (sym (ap (λ (d : Driver K V S H). d.kept) rest)) r.kept_placed) (λ i e. cc e) (λ slots limit e. absurd (cc e))
 
   module _ (slots limit : ℕ) (asked : ask_of c.machine ≡ asks.Copy (copies.MakeTable slots limit)) (log : List (Event K V S)) (l : IsLawfulLog eq hashes b log) (pre : IsPrefix v log) (c' : Driver K V S H) (rest : c' ≡ record c { fresh = c'.fresh; given = c'.given }) where
     abbrev last_same : c'.last ≡ c.last
@@ -238,13 +244,13 @@ module _ {K V S H : Type 0} (eq : K → K → Bool) (input : K → List (List �
     tabled n past fresh =
         answered (copies.MakeTable slots limit) asked log pre l log l ([], append-nil log) (answers.Call (Made_number n)) c' tt (inr (n, past, refl), (refl, ap (λ (d : Driver K V S H). hands_with d.last d.kept made) rest))
         (ap (λ (d : Driver K V S H). d.taken) rest) (ap (λ (d : Driver K V S H). d.put) rest) placed_last placed_kept
-        (new_hand eq input build write finish classes respects b name matches fed form k begun v c.machine c.table c.last c.kept made c.taken c.put c.fresh r standing (copies.MakeTable slots limit) asked log slots limit refl c'.fresh n fresh)
+        (new_hand eq input build write finish classes respects b name matches fed form k begun v c.machine c.table c.last c.kept made c.taken c.put c.fresh r standing (copies.MakeTable slots limit) asked log slots limit refl c'.fresh n fresh) (λ many least e. absurd (cc e))
 
     -- or it was refused
     pub unmade : (refused : Refused) → (refused ≡ Memory) ⊎ ((refused ≡ Capacity) × IsFull c'.given.done) → c'.fresh ≡ c.fresh → Leaves log c' (answers.Call (Was_refused refused))
     unmade refused why same =
         quiet (copies.MakeTable slots limit) asked log l pre (answers.Call (Was_refused refused)) c' why (inl (refused, refl), (refl, ap (λ (d : Driver K V S H). hands_with d.last d.kept made) rest))
-        (ap (λ (d : Driver K V S H). d.taken) rest) (ap (λ (d : Driver K V S H). d.put) rest) same placed_last placed_kept (λ i e. cc e)
+        (ap (λ (d : Driver K V S H). d.taken) rest) (ap (λ (d : Driver K V S H). d.put) rest) same placed_last placed_kept (λ i e. cc e) (λ many least e. absurd (cc e))
 
   module _ (at : At) (old new : ℕ) (asked : ask_of c.machine ≡ asks.Copy (copies.Exchange at old new)) (found : ℕ) (log : List (Event K V S)) (pair : Option (Stored K V)) (t : IsTriedFor eq hashes b name at (kind_of_ask c.machine) old new c.kept v found log pair) (c' : Driver K V S H) where
     placed_marked : IsPlaced b (Some name) (pair_named (marked_or (kind_of_ask c.machine) pair c.last))
@@ -265,7 +271,7 @@ module _ {K V S H : Type 0} (eq : K → K → Bool) (input : K → List (List �
         answered (copies.Exchange at old new) asked t.before t.since t.lawful log t.now g.0 (answers.Call Exchanged) c' tt
         (subst (λ (o : Option (Stored K V)). Tells log t.before log g.0 (copies.Exchange at old new) (answers.Call Exchanged) o c'.kept) (sym marked)
         (subst (λ (o : Option (Stored K V)). Tells log t.before log g.0 (copies.Exchange at old new) (answers.Call Exchanged) (marked_or (kind_of_ask c.machine) pair c.last) o) (sym carried) g.1))
-        taken put (subst (λ (o : Option (Stored K V)). IsPlaced b (Some name) (pair_named o)) (sym marked) placed_marked) (placed_carried carried) hand
+        taken put (subst (λ (o : Option (Stored K V)). IsPlaced b (Some name) (pair_named o)) (sym marked) placed_marked) (placed_carried carried) hand (λ slots limit e. absurd (cc e))
 
     -- or it was lost
     pub beaten : (found == old) ≡ false → c'.taken ≡ c.taken → c'.put ≡ c.put → c'.kept ≡ c.kept → c'.last ≡ or_last pair c.last
@@ -275,7 +281,7 @@ module _ {K V S H : Type 0} (eq : K → K → Bool) (input : K → List (List �
         answered (copies.Exchange at old new) asked t.before t.since t.lawful log t.now g.0 (answers.Call (Found_instead found)) c' tt
         (subst (λ (o : Option (Stored K V)). Tells log t.before log g.0 (copies.Exchange at old new) (answers.Call (Found_instead found)) o c'.kept) (sym told)
         (subst (λ (o : Option (Stored K V)). Tells log t.before log g.0 (copies.Exchange at old new) (answers.Call (Found_instead found)) (or_last pair c.last) o) (sym carried) g.1))
-        taken put (subst (λ (o : Option (Stored K V)). IsPlaced b (Some name) (pair_named o)) (sym told) (placed_or b name pair c.last t.placed r.last_placed)) (placed_carried carried) hand
+        taken put (subst (λ (o : Option (Stored K V)). IsPlaced b (Some name) (pair_named o)) (sym told) (placed_or b name pair c.last t.placed r.last_placed)) (placed_carried carried) hand (λ slots limit e. absurd (cc e))
 
     -- the table at hand is as before
     pub hand_kept : (told : Call_answer) → ((n : ℕ) → told ≡ Made_number n → ⊥) → IsPrefix v log → c'.fresh ≡ c.fresh → In (IsMadeLink (λ n. IsFresh b name log n c'.fresh)) (link_in (after c.machine (answers.Call told)).phase)

@@ -29,16 +29,18 @@ use Rattle.papaya_book.specs.declared.rule.entry.Event.{Event}
 use Rattle.papaya_book.specs.declared.rule.own.Given.{Given}
 use Rattle.papaya_book.specs.Calls.{HasCome, IsTable}
 use Rattle.papaya_book.specs.Hashes.{hash_of}
-use Rattle.papaya_book.specs.Limits.{HasNoRoom}
+use Rattle.papaya_book.specs.Limits.{HasNoRoom, tables_of}
 use Rattle.papaya_book.specs.Logs.{Stored, exchanges_of}
 use Rattle.papaya_book.specs.Rule.{IsLawfulLog}
 use Rattle.papaya_book.specs.Sheets.{Sheet}
+use Rattle.papaya_book.proofs.Lengths.{room_since, tables_since}
 use Rattle.papaya_book.proofs.Loaded.{table_since}
 use Rattle.papaya_book.proofs.Logs.{prefix_trans}
 use Rattle.papaya_change.specs.Changing.{IsCalling, IsForm, hands_with}
 use Rattle.papaya_change.specs.Helping.{HasBegunAnew, HasGoneOn, HasHelped, IsAside, IsEntering, IsLed, IsSetAside, WasRefused}
 use Rattle.papaya_change.proofs.HelpingRests.{fresh_later}
 use Rattle.papaya_change.proofs.HelpingPlaces.{chain_came}
+use Rattle.papaya_change.proofs.Sized.{counting_since}
 use Rattle.papaya_change.proofs.Resting.{ChainResting, coded, hashed_in, resting_later, resting_may, wide}
 
 module _ {K V S H : Type 0} (eq : K → K → Bool) (input : K → List (List ℕ)) (build : S → H) (write : H → List ℕ → H) (finish : H → ℕ) (classes : IsEquivalence eq) (respects : (x y : K) → eq x y ≡ true → input x ≡ input y)
@@ -65,7 +67,7 @@ module _ {K V S H : Type 0} (eq : K → K → Bool) (input : K → List (List �
       chain_came log n (subst (λ (z : List (Exchange (Stored K V))). IsOn (run z start).first (run z start).next n) moved.is on)
 
   -- before this the call was set aside
-  module _ (v : List (Event K V S)) (was : Machine) (table : Option (Bor Sheet)) (last₀ kept₀ taken₀ put₀ : Option (Stored K V)) (fresh₀ : Option (Where Sheet × Pen)) (r : IsCalling eq hash b name matches fed k begun v was table last₀ kept₀ made taken₀ put₀ fresh₀) (given : List Given) (leads : IsAside was m ⊎ IsLed was m given) (pre : IsPrefix v log)
+  module _ (v : List (Event K V S)) (was : Machine) (table : Option (Bor Sheet)) (last₀ kept₀ taken₀ put₀ : Option (Stored K V)) (fresh₀ : Option (Where Sheet × Pen)) (r : IsCalling eq hash b name matches fed k begun v was table last₀ kept₀ made taken₀ put₀ fresh₀) (tables : List ℕ) (given : List Given) (leads : IsAside was m ⊎ IsLed was m tables given) (pre : IsPrefix v log)
       (log' : List (Event K V S)) (pre' : IsPrefix log log') (l' : IsLawfulLog eq hash b log') (table' : Option (Bor Sheet)) (held : (n : ℕ) → IsEntering m n → MatchOption table' ⊥ (λ z. IsTable log' n z.now)) (still : ((n : ℕ) → IsEntering m n → ⊥) → table' ≡ table) where
     -- the table that it holds then
     pub record Lands : Type 0 where
@@ -96,7 +98,7 @@ module _ {K V S H : Type 0} (eq : K → K → Bool) (input : K → List (List �
     waits : IsAside was m → Lands
     waits aside = record { number = r.number; at_table = λ calling. absurd (aside.busy calling); holds = same_held (λ n is. aside.busy is.0) }
 
-    led_to : m.phase ≡ Calling → HasGoneOn was m ⊎ HasBegunAnew was m ⊎ WasRefused was m given → Lands
+    led_to : m.phase ≡ Calling → HasGoneOn was m ⊎ HasBegunAnew was m ⊎ WasRefused was m tables given → Lands
     led_to calling (inl on) = enters calling on.table (ap (λ (d : Call_machine). d.state) on.call)
     led_to calling (inr (inl anew_at)) =
         anew (λ stage. m.call.state ≡ stage → Lands)
@@ -105,7 +107,7 @@ module _ {K V S H : Type 0} (eq : K → K → Bool) (input : K → List (List �
     led_to calling (inr (inr ends)) = needs_none (Ended (Reply_refused ends.refused)) (λ n f. cc f) tt (ap (λ (d : Call_machine). d.state) ends.call)
 
     lands : Lands
-    lands = ⊎_elim waits (λ (led : IsLed was m given). led_to led.calling led.where_to) leads
+    lands = ⊎_elim waits (λ (led : IsLed was m tables given). led_to led.calling led.where_to) leads
 
     -- it is under way again
     pub arrived : IsCalling eq hash b name matches fed k begun log' m table' last kept made taken put fresh
@@ -125,21 +127,22 @@ module _ {K V S H : Type 0} (eq : K → K → Bool) (input : K → List (List �
           taken_placed = moved.taken_placed;
           changed = λ change e. let none : None ≡ Some change = sym moved.unchanged ∙ e in absurd (cc none);
           brings = λ n h. fresh_later b name log log' pre' n fresh (moved.brings n h);
+          counts = counting_since (tables_of log) (tables_of log') (tables_since log log' pre') m moved.counts;
         }
 
 -- where answers for a copy have led a call
-abbrev pub HasReached : Machine → Machine → List Given → Type 0
-HasReached m m' given = (m' ≡ m) ⊎ IsAside m m' ⊎ IsLed m m' given
+abbrev pub HasReached : Machine → Machine → (tables : List ℕ) → List Given → Type 0
+HasReached m m' tables given = (m' ≡ m) ⊎ IsAside m m' ⊎ IsLed m m' tables given
 
-module _ (first m m' : Machine) (given : List Given) (same : m.call ≡ first.call) where
+module _ (first m m' : Machine) (tables : List ℕ) (given : List Given) (same : m.call ≡ first.call) where
   -- one step after others that left the call as it was
   aside_further : IsAside m m' → IsAside first m'
   aside_further a = record { from = a.from; left = ap (λ (d : Call_machine). left_by d.state) (sym same) ∙ a.left; call = a.call ∙ same; busy = a.busy }
 
-  led_further : IsLed m m' given → IsLed first m' given
+  led_further : IsLed m m' tables given → IsLed first m' tables given
   led_further led = record { calling = led.calling; where_to = by_end led.where_to }
     where
-      by_end : HasGoneOn m m' ⊎ HasBegunAnew m m' ⊎ WasRefused m m' given → HasGoneOn first m' ⊎ HasBegunAnew first m' ⊎ WasRefused first m' given
+      by_end : HasGoneOn m m' ⊎ HasBegunAnew m m' ⊎ WasRefused m m' tables given → HasGoneOn first m' ⊎ HasBegunAnew first m' ⊎ WasRefused first m' tables given
       by_end (inl on) = inl (record { from = on.from; left = ap (λ (d : Call_machine). left_by d.state) (sym same) ∙ on.left; table = on.table; call = on.call ∙ ap (λ (d : Call_machine). record d { state = Searching (Sizing on.table) }) same })
       by_end (inr (inl begun)) = inr (inl (record { from = begun.from; left = ap (λ (d : Call_machine). left_by d.state) (sym same) ∙ begun.left; root = begun.root; call = begun.call ∙ ap (λ (d : Call_machine). call_machine.after (record d { state = AtRoot }) (Word_read begun.root)) same }))
       by_end (inr (inr ends)) = inr (inr (record {
@@ -147,21 +150,42 @@ module _ (first m m' : Machine) (given : List Given) (same : m.call ≡ first.ca
         left = ap (λ (d : Call_machine). left_by d.state) (sym same) ∙ ends.left;
         refused = ends.refused;
         call = ends.call ∙ ap (λ (d : Call_machine). record d { state = Ended (Reply_refused ends.refused) }) same;
-        cause = subst (λ (d : Call_machine). (ends.refused ≡ Memory) ⊎ ((ends.refused ≡ Capacity) × HasNoRoom d.initial given)) same ends.cause;
+        cause = subst (λ (d : Call_machine). (ends.refused ≡ Memory) ⊎ ((ends.refused ≡ Capacity) × HasNoRoom d.initial tables given)) same ends.cause;
       }))
 
-  further : IsAside m m' ⊎ IsLed m m' given → HasReached first m' given
+  further : IsAside m m' ⊎ IsLed m m' tables given → HasReached first m' tables given
   further (inl aside) = inr (inl (aside_further aside))
   further (inr led) = inr (inr (led_further led))
 
 -- after each answer
-pub reached_on : (first m m' : Machine) (given given' : List Given) → HasReached first m given → (m.phase ≡ Calling → ⊥) → IsAside m m' ⊎ IsLed m m' given' → HasReached first m' given'
-reached_on first m m' given given' (inl same) busy leads = further first m m' given' (ap (λ (d : Machine). d.call) same) leads
-reached_on first m m' given given' (inr (inl aside)) busy leads = further first m m' given' aside.call leads
-reached_on first m m' given given' (inr (inr led)) busy leads = absurd (busy led.calling)
+pub reached_on : (first m m' : Machine) (tables tables' : List ℕ) (given given' : List Given) → HasReached first m tables given → (m.phase ≡ Calling → ⊥) → IsAside m m' ⊎ IsLed m m' tables' given' → HasReached first m' tables' given'
+reached_on first m m' tables tables' given given' (inl same) busy leads = further first m m' tables' given' (ap (λ (d : Machine). d.call) same) leads
+reached_on first m m' tables tables' given given' (inr (inl aside)) busy leads = further first m m' tables' given' aside.call leads
+reached_on first m m' tables tables' given given' (inr (inr led)) busy leads = absurd (busy led.calling)
+
+-- it is there still when more tables have come
+module _ (m m' : Machine) (tables tables' : List ℕ) (given : List Given) (pre : IsPrefix tables tables') where
+  refused_since : WasRefused m m' tables given → WasRefused m m' tables' given
+  refused_since ends = record {
+    from = ends.from;
+    left = ends.left;
+    refused = ends.refused;
+    call = ends.call;
+    cause = ⊎_elim (λ memory. inl memory) (λ full. inr (full.0, room_since m.call.initial tables tables' given pre full.1)) ends.cause;
+  }
+
+  led_since : HasGoneOn m m' ⊎ HasBegunAnew m m' ⊎ WasRefused m m' tables given → HasGoneOn m m' ⊎ HasBegunAnew m m' ⊎ WasRefused m m' tables' given
+  led_since (inl on) = inl on
+  led_since (inr (inl begun)) = inr (inl begun)
+  led_since (inr (inr ends)) = inr (inr (refused_since ends))
+
+  pub reached_since : HasReached m m' tables given → HasReached m m' tables' given
+  reached_since (inl same) = inl same
+  reached_since (inr (inl aside)) = inr (inl aside)
+  reached_since (inr (inr led)) = inr (inr (record { calling = led.calling; where_to = led_since led.where_to }))
 
 -- and at the end
-pub helped : (first m : Machine) (given : List Given) → HasReached first m given → m.phase ≡ Calling → HasHelped first m given
-helped first m given (inl same) calling = inl same
-helped first m given (inr (inl aside)) calling = absurd (aside.busy calling)
-helped first m given (inr (inr led)) calling = inr led.where_to
+pub helped : (first m : Machine) (tables : List ℕ) (given : List Given) → HasReached first m tables given → m.phase ≡ Calling → HasHelped first m tables given
+helped first m tables given (inl same) calling = inl same
+helped first m tables given (inr (inl aside)) calling = absurd (aside.busy calling)
+helped first m tables given (inr (inr led)) calling = inr led.where_to

@@ -15,11 +15,13 @@ use Rattle.papaya_book.specs.declared.rule.entry.Begun.{Begun}
 use Rattle.papaya_book.specs.declared.rule.entry.Event.{Event}
 use Rattle.papaya_book.specs.Calls.{HasCome, IsTable}
 use Rattle.papaya_book.specs.Hashes.{hash_of}
+use Rattle.papaya_book.specs.Limits.{tables_of}
 use Rattle.papaya_book.specs.Rule.{IsLawfulLog}
+use Rattle.papaya_book.proofs.Lengths.{tables_since}
 use Rattle.papaya_change.specs.declared.driver.Driver.{Driver}
 use Rattle.papaya_change.specs.Changing.{CanGoOn, GoesOn, IsDriven}
 use Rattle.papaya_change.specs.Helping.{Copies, HasCopied, IsEntering}
-use Rattle.papaya_change.proofs.HelpingArrives.{HasReached, arrived, entering_came, reached_on}
+use Rattle.papaya_change.proofs.HelpingArrives.{HasReached, arrived, entering_came, reached_on, reached_since}
 use Rattle.papaya_change.proofs.HelpingLeads.{busy}
 
 module _ {K V S H : Type 0} (eq : K → K → Bool) (input : K → List (List ℕ)) (build : S → H) (write : H → List ℕ → H) (finish : H → ℕ) (classes : IsEquivalence eq) (respects : (x y : K) → eq x y ≡ true → input x ≡ input y)
@@ -59,10 +61,12 @@ module _ {K V S H : Type 0} (eq : K → K → Bool) (input : K → List (List �
     -- then it may have entered a table
     module _ (c₂ : Driver K V S H) (is : c₂ ≡ record c₁ { machine = m; table = c₂.table }) where
       -- it is one answer further
-      pub reached_now : HasReached c₀.machine c.machine c.given.done → (ask : CopyAsk) → ask_of c.machine ≡ Copy ask → HasReached c₀.machine c₂.machine c₂.given.done
-      reached_now reached ask asked =
-          subst (λ (z : Driver K V S H). HasReached c₀.machine z.machine z.given.done) (sym is)
-          (subst (λ (z : Machine). HasReached c₀.machine z c₁.given.done) (sym goes_to) (reached_on c₀.machine c.machine (after c.machine answer) c.given.done c₁.given.done reached (busy c.machine ask asked) copied_now.leads))
+      pub reached_now : HasReached c₀.machine c.machine (tables_of v) c.given.done → (ask : CopyAsk) → ask_of c.machine ≡ Copy ask → (log' : List (Event K V S)) → IsPrefix log log' → HasReached c₀.machine c₂.machine (tables_of log') c₂.given.done
+      reached_now reached ask asked log' pre' =
+          subst (λ (z : Driver K V S H). HasReached c₀.machine z.machine (tables_of log') z.given.done) (sym is)
+          (subst (λ (z : Machine). HasReached c₀.machine z (tables_of log') c₁.given.done) (sym goes_to)
+          (reached_since c₀.machine (after c.machine answer) (tables_of log) (tables_of log') c₁.given.done (tables_since log log' pre')
+          (reached_on c₀.machine c.machine (after c.machine answer) (tables_of v) (tables_of log) c.given.done c₁.given.done reached (busy c.machine ask asked) copied_now.leads)))
 
       -- and holds that table
       pub goes_further : (log' : List (Event K V S)) → IsPrefix v log → IsPrefix log log' → IsLawfulLog eq hash b log' → c₁.table ≡ c.table → ((n : ℕ) → IsEntering m n → MatchOption c₂.table ⊥ (λ z. IsTable log' n z.now)) → (((n : ℕ) → IsEntering m n → ⊥) → c₂.table ≡ c₁.table)
@@ -73,7 +77,7 @@ module _ {K V S H : Type 0} (eq : K → K → Bool) (input : K → List (List �
           subst (λ (z : Driver K V S H). GoesOn eq hash b name v₀ c₀ log' z) (sym (is ∙ ap (λ (z : Machine). record c₁ { machine = z; table = c₂.table }) goes_to))
           (λ matches fed form k begun made r.
           let now = goes matches fed form k begun made r in let moved = copies matches fed form k begun made now in
-          arrived eq input build write finish classes respects b name matches fed form k begun log (after c.machine answer) c₁.last c₁.kept made c₁.taken c₁.put c₁.fresh moved.rests v c.machine c.table c.last c.kept c.taken c.put c.fresh now c₁.given.done moved.leads pre log' pre' l' c₂.table held' still')
+          arrived eq input build write finish classes respects b name matches fed form k begun log (after c.machine answer) c₁.last c₁.kept made c₁.taken c₁.put c₁.fresh moved.rests v c.machine c.table c.last c.kept c.taken c.put c.fresh now (tables_of log) c₁.given.done moved.leads pre log' pre' l' c₂.table held' still')
 
 -- a machine that does not ask for a copy asks for its call
 calls_in : (call : Call_machine) (phase : Phase) → ((ask : CopyAsk) → asks_in call phase ≡ Copy ask → ⊥) → phase ≡ Calling

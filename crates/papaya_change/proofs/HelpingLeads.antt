@@ -5,18 +5,14 @@ use Rattle.papaya_words.specs.declared.probe.Refused.TheVariants.{Capacity, Memo
 use Rattle.papaya_ask.specs.declared.ask.Ask.TheVariants.{Done as Ask_done}
 use Rattle.papaya_ask.specs.declared.call.Reply.{Reply}
 use Rattle.papaya_ask.specs.declared.copy_ask.CopyAsk.{CopyAsk}
-use Rattle.papaya_copy.specs.declared.carry.Carry.TheVariants as carries
 use Rattle.papaya_copy.specs.declared.copying.Aim.{Aim}
 use Rattle.papaya_copy.specs.declared.copying.Aim.TheVariants as aims
 use Rattle.papaya_copy.specs.declared.copying.Copied.{Copied}
 use Rattle.papaya_copy.specs.declared.copying.Copied.TheVariants as copied
 use Rattle.papaya_copy.specs.declared.copying.Copying.{Copying}
 use Rattle.papaya_copy.specs.declared.copying.Copying.TheVariants.{Stepping, Lone}
-use Rattle.papaya_copy.specs.declared.link.Link.{Link}
-use Rattle.papaya_copy.specs.declared.link.Link.TheVariants as links
 use Rattle.papaya_copy.specs.declared.link.Linked.{Linked}
 use Rattle.papaya_copy.specs.declared.link.Linked.TheVariants as linked
-use Rattle.papaya_copy.specs.declared.settle.Settle.{Settle}
 use Rattle.papaya_copy.specs.declared.settle.Settle.TheVariants as settles
 use Rattle.papaya_copy.specs.declared.step.Step.TheVariants as steps
 use Rattle.papaya_copy.specs.Link.{IsStandingLink}
@@ -32,7 +28,7 @@ use Rattle.papaya_law.specs.Exchange.{Exchange, Setting, State, run, start}
 use Rattle.papaya_law.specs.Meaning.{map_left}
 use Rattle.papaya_law.proofs.OneMap.{keeping}
 use Rattle.papaya_rests.specs.Copier.{RestsCopied, RestsCopying, aim_of}
-use Rattle.papaya_chain_rests.specs.Goes.{WasNotMade, WouldBeTooLong, link_in, link_in_settle}
+use Rattle.papaya_chain_rests.specs.Goes.{WasNotMade, WouldBeTooLong}
 use Rattle.papaya_chain_rests.specs.Rests.{Rests, RestsPhase, left_by}
 use Rattle.papaya_chain_rests.specs.Told.{Hands, IsTold}
 use Rattle.papaya_chain_rests.proofs.CopyTold.{copying_learns}
@@ -41,19 +37,8 @@ use Rattle.papaya_chain_rests.proofs.Outcomes.{not_chunk}
 use Rattle.papaya_chain_rests.proofs.Refusals.{chain_refused}
 use Rattle.papaya_book.specs.declared.rule.own.Given.{Given}
 use Rattle.papaya_book.specs.Limits.{HasNoRoom}
+use Rattle.papaya_change.specs.Changing.{IsCountingOf}
 use Rattle.papaya_change.specs.Helping.{IsAside, IsGivenBy, IsLed}
-
--- a table that is in the making stands within the limits
-standing_settle : (goes : Settle) (l : Link) → Rattle.papaya_copy.specs.Settle.IsStandingSettle goes → link_in_settle goes ≡ Some l → IsStandingLink l
-standing_settle (settles.Carrying marked (carries.Linking hash made)) l h e = let is : made ≡ l = cc e in subst IsStandingLink is h
-standing_settle other l h e = absurd cc
-
-standing_link : (phase : Phase) (l : Link) → IsStandingPhase phase → link_in phase ≡ Some l → IsStandingLink l
-standing_link (Linking made) l h e = let is : made ≡ l = cc e in subst IsStandingLink is h
-standing_link (Copying_root (Stepping aim (steps.Linking from made))) l h e = let is : made ≡ l = cc e in subst IsStandingLink is h
-standing_link (Copying_root (Stepping aim (steps.Settling chunk goes))) l h e = standing_settle goes l h.1 e
-standing_link (Copying_root (Lone slot goes)) l h e = standing_settle goes l h e
-standing_link other l h e = absurd cc
 
 -- a machine that asks for a copy does not ask for its call
 not_calling : (m : Machine) (phase : Phase) (ask : CopyAsk) → phase ≡ Calling → asks_in m.call phase ≡ asks.Copy ask → ⊥
@@ -65,7 +50,7 @@ pub busy : (m : Machine) (ask : CopyAsk) → ask_of m ≡ asks.Copy ask → m.ph
 busy m ask e is = not_calling m m.phase ask is e
 
 module _ {K P : Type 0} (g : Setting K P) (c : Coding K P) (hashed : IsHashed g c) (begun since : List (Exchange P)) (may : AllAllowed g start (begun ++ since)) (k : K) (m : Machine) (hands : Hands P) (r : Rests g c begun since k m hands) (standing : IsStanding m)
-    (ask : CopyAsk) (asked : ask_of m ≡ asks.Copy ask) (answer : Answer) (es : List (Exchange P)) (hands' : Hands P) (told : IsTold g c k (run (begun ++ since) start) (kind_of_ask m) (follows_of m) hands (ask_of m) answer es hands') (given : List Given) (by : IsGivenBy answer given) where
+    (ask : CopyAsk) (asked : ask_of m ≡ asks.Copy ask) (answer : Answer) (es : List (Exchange P)) (hands' : Hands P) (told : IsTold g c k (run (begun ++ since) start) (kind_of_ask m) (follows_of m) hands (ask_of m) answer es hands') (tables : List ℕ) (counts : IsCountingOf tables m) (given : List Given) (by : IsGivenBy answer given) where
   -- the state after all exchanges
   abbrev now : State P
   now = run (begun ++ since) start
@@ -85,7 +70,7 @@ module _ {K P : Type 0} (g : Setting K P) (c : Coding K P) (hashed : IsHashed g 
 
   -- why a table could not be made
   abbrev IsWhy : Refused → Type 0
-  IsWhy refused = (refused ≡ Memory) ⊎ ((refused ≡ Capacity) × HasNoRoom m.call.initial given)
+  IsWhy refused = (refused ≡ Memory) ⊎ ((refused ≡ Capacity) × HasNoRoom m.call.initial tables given)
 
   why : (refused : Refused) → after m answer ≡ refuses m refused → IsWhy refused
   why refused e = elim (chain_refused g c k now m answer refused hands es hands' told (in_order g c begun since k m hands now answer es hands' r told) not_replied (ap ask_of e)) [
@@ -101,7 +86,7 @@ module _ {K P : Type 0} (g : Setting K P) (c : Coding K P) (hashed : IsHashed g 
           count = long.count;
           given_is = subst (λ (a : Answer). IsGivenBy a given) long.is by;
           len = long.slots;
-          allowed = (standing_link m.phase (links.Counting long.behind long.unfit long.slots) standing.phase long.link).1;
+          there = counts long.behind long.slots long.unfit long.link;
           unfit = long.unfit;
           long = long.long;
         }),
@@ -109,7 +94,7 @@ module _ {K P : Type 0} (g : Setting K P) (c : Coding K P) (hashed : IsHashed g 
 
   -- it stays set aside, or goes on
   abbrev Left : Machine → Type 0
-  Left m' = IsAside m m' ⊎ IsLed m m' given
+  Left m' = IsAside m m' ⊎ IsLed m m' tables given
 
   stays : (phase : Phase) → (phase ≡ Calling → ⊥) → (helped : Bool) → Left (record m { helped = helped; phase = phase })
   stays phase aside helped = inl (record { from = left_from.0; left = left_from.1; call = refl; busy = aside })

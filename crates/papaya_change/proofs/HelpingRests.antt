@@ -7,7 +7,7 @@ use Rattle.boxcar.specs.Table.{Where}
 use Rattle.logbook.specs.Pages.{Book}
 use Rattle.logbook.specs.declared.tokens.Pen.{Pen}
 use Rattle.papaya_ask.specs.declared.ask.At.TheVariants.{Root, Next}
-use Rattle.papaya_ask.specs.declared.ask.Answer.TheVariants.{Made as Made_number}
+use Rattle.papaya_ask.specs.declared.ask.Answer.TheVariants.{Made as Made_number, Size}
 use Rattle.papaya_ask.specs.declared.ask.Ask.TheVariants.{Exchange as Call_exchange, SizeOf, Done as Ask_done}
 use Rattle.papaya_ask.specs.declared.call.Reply.TheVariants.{Refused as Reply_refused}
 use Rattle.papaya_ask.specs.declared.copy_ask.CopyAsk.{CopyAsk}
@@ -34,15 +34,18 @@ use Rattle.papaya_book.specs.declared.rule.entry.Begun.{Begun}
 use Rattle.papaya_book.specs.declared.rule.entry.Event.{Event}
 use Rattle.papaya_book.specs.declared.rule.own.Given.{Given}
 use Rattle.papaya_book.specs.Hashes.{hash_of}
-use Rattle.papaya_book.specs.Logs.{Stored, exchanges_of, pair_named, state_of}
+use Rattle.papaya_book.specs.Limits.{tables_of}
+use Rattle.papaya_book.specs.Logs.{Member, Stored, exchanges_of, pair_named, state_of}
 use Rattle.papaya_book.specs.Rule.{IsLawfulLog, IsPlaced}
 use Rattle.papaya_book.specs.Sheets.{Sheet}
 use Rattle.papaya_book.proofs.Brings.{made_since}
+use Rattle.papaya_book.proofs.Lengths.{tables_since}
 use Rattle.papaya_book.proofs.Logs.{prefix_trans}
-use Rattle.papaya_change.specs.Changing.{IsBringing, IsCalling, IsForm, IsFresh, hands_with}
+use Rattle.papaya_change.specs.Changing.{IsBringing, IsCalling, IsCountingOf, IsForm, IsFresh, hands_with}
 use Rattle.papaya_change.specs.Helping.{IsAside, IsGivenBy, IsLed, IsSetAside}
 use Rattle.papaya_change.proofs.HelpingLeads.{leaves, left_from}
 use Rattle.papaya_change.proofs.HelpingPlaces.{resting}
+use Rattle.papaya_change.proofs.Sized.{counting_after, counting_since}
 use Rattle.papaya_change.proofs.Resting.{ChainResting, carried, coded, hashed_in, may_first, resting_later, resting_told, told_then, wide}
 
 -- a table is at hand still, over a longer log
@@ -70,9 +73,9 @@ opening call Calling old new e = (refl, cc e)
 opening call (Linking link) old new e = absurd cc
 opening call (Copying_root copying) old new e = absurd cc
 
-module _ (m m' : Machine) (given : List Given) where
+module _ (m m' : Machine) (tables : List ℕ) (given : List Given) where
   -- none that went on asks so
-  led_opens : IsLed m m' given → (old new : ℕ) → call_machine.ask_of m'.call ≡ Call_exchange Root old new → ⊥
+  led_opens : IsLed m m' tables given → (old new : ℕ) → call_machine.ask_of m'.call ≡ Call_exchange Root old new → ⊥
   led_opens led old new e = elim led.where_to [
     | inl on ↦ (let f : SizeOf on.table ≡ Call_exchange Root old new = sym (ap call_machine.ask_of on.call) ∙ e in cc f)
     | inr (inl begun) ↦ anew (λ stage. call_machine.asks m.call.made m.call.hash stage ≡ Call_exchange Root old new → ⊥) (λ f. cc f) (λ f. cc f) (λ f. cc f) (λ _ f. cc f) m.call.task m.call.remembered.fill begun.root (sym (ap call_machine.ask_of begun.call) ∙ e)
@@ -80,10 +83,10 @@ module _ (m m' : Machine) (given : List Given) where
   ]
 
   -- so a table comes only where one is about to be linked
-  brings_after : (Made : ℕ → Type 0) → IsAside m m' ⊎ IsLed m m' given → In (IsMadeLink Made) (link_in m'.phase) → (n : ℕ) → IsBringing (ask_of m') n → Made n
+  brings_after : (Made : ℕ → Type 0) → IsAside m m' ⊎ IsLed m m' tables given → In (IsMadeLink Made) (link_in m'.phase) → (n : ℕ) → IsBringing (ask_of m') n → Made n
   brings_after Made leads made n h =
       bringing (ask_of m') n (Made n) h
-      (λ old new e. let both = opening m'.call m'.phase old new e in absurd (⊎_elim (λ (aside : IsAside m m'). aside.busy both.0) (λ (led : IsLed m m' given). led_opens led old new both.1) leads))
+      (λ old new e. let both = opening m'.call m'.phase old new e in absurd (⊎_elim (λ (aside : IsAside m m'). aside.busy both.0) (λ (led : IsLed m m' tables given). led_opens led old new both.1) leads))
       (λ t old new e same. subst Made same (is_made Made (link_in m'.phase) made t new (machine_links m' t old new e)))
 
 module _ {K V S H : Type 0} (eq : K → K → Bool) (input : K → List (List ℕ)) (build : S → H) (write : H → List ℕ → H) (finish : H → ℕ) (classes : IsEquivalence eq) (respects : (x y : K) → eq x y ≡ true → input x ≡ input y)
@@ -135,26 +138,30 @@ module _ {K V S H : Type 0} (eq : K → K → Bool) (input : K → List (List �
     rested : Rattle.papaya_chain_rests.specs.Rests.Rests (G log) C (exchanges_of begun) mid.since k m (hands_with last kept made)
     rested = carried eq input build write finish classes respects b matches fed form k (exchanges_of begun) before l₀ m (hands_with last kept made) mid log l pre
 
+    -- the length by which it may be about to size a table is that of a table that has come
+    counting : IsCountingOf (tables_of log) m
+    counting = counting_since (tables_of v) (tables_of log) (tables_since v log (prefix_trans v before log since pre)) m r.counts
+
     -- it stays set aside, or goes on
-    pub leads : IsAside m (after m answer) ⊎ IsLed m (after m answer) given
+    pub leads : IsAside m (after m answer) ⊎ IsLed m (after m answer) (tables_of log) given
     leads =
         leaves (G log) C (hashed_in eq input build write finish classes respects b matches fed form k (exchanges_of begun) log l) (exchanges_of begun) mid.since
-        (may_first eq input build write finish classes respects b matches fed form k (exchanges_of begun) before l₀ m (hands_with last kept made) mid log l pre) k m (hands_with last kept made) rested standing ask asked answer (exchanges_of pre.0) (hands_with last' kept' made) told_there given by
+        (may_first eq input build write finish classes respects b matches fed form k (exchanges_of begun) before l₀ m (hands_with last kept made) mid log l pre) k m (hands_with last kept made) rested standing ask asked answer (exchanges_of pre.0) (hands_with last' kept' made) told_there (tables_of log) counting given by
 
     -- it had changed nothing, and has not
     unchanged : change_in (after m answer).call.state ≡ None
     unchanged =
         let left = left_from (G log) C (hashed_in eq input build write finish classes respects b matches fed form k (exchanges_of begun) log l) (exchanges_of begun) mid.since
-        (may_first eq input build write finish classes respects b matches fed form k (exchanges_of begun) before l₀ m (hands_with last kept made) mid log l pre) k m (hands_with last kept made) rested standing ask asked answer (exchanges_of pre.0) (hands_with last' kept' made) told_there given by in
+        (may_first eq input build write finish classes respects b matches fed form k (exchanges_of begun) before l₀ m (hands_with last kept made) mid log l pre) k m (hands_with last kept made) rested standing ask asked answer (exchanges_of pre.0) (hands_with last' kept' made) told_there (tables_of log) counting given by in
         chain_changes (G log) C k (run (exchanges_of begun ++ mid.since) start) m (hands_with last kept made) answer (exchanges_of pre.0) (hands_with last' kept' made)
         (in_order (G log) C (exchanges_of begun) mid.since k m (hands_with last kept made) (run (exchanges_of begun ++ mid.since) start) answer (exchanges_of pre.0) (hands_with last' kept' made) rested told_there) told_there
         (hashed_in eq input build write finish classes respects b matches fed form k (exchanges_of begun) log l) rested.call.hash
         ∙ (ap (λ (a : Ask). change_by (kind_of_ask m) a answer (change_in m.call.state)) asked ∙ aside_unchanged m.call.state left.0 left.1)
 
     -- it rests again
-    pub copied : IsPlaced b (Some name) (pair_named last') → IsPlaced b (Some name) (pair_named kept') → In (IsMadeLink (IsAtHand log fresh')) (link_in (after m answer).phase)
+    pub copied : IsPlaced b (Some name) (pair_named last') → IsPlaced b (Some name) (pair_named kept') → In (IsMadeLink (IsAtHand log fresh')) (link_in (after m answer).phase) → ((slots limit : ℕ) → answer ≡ answers.Call (Size slots limit) → Member slots (tables_of log))
         → IsSetAside eq hash b name matches fed k begun log (after m answer) last' kept' made taken put fresh'
-    copied placed placed' hand =
+    copied placed placed' hand size =
         let on = resting_told eq input build write finish classes respects b matches fed form k (exchanges_of begun) before l₀ m (hands_with last kept made) mid log l pre answer (hands_with last' kept' made) told_so in record {
           lawful = l;
           seen = prefix_trans begun v log r.seen (prefix_trans v before log since pre);
@@ -166,5 +173,6 @@ module _ {K V S H : Type 0} (eq : K → K → Bool) (input : K → List (List �
           made_placed = r.made_placed;
           taken_placed = r.taken_placed;
           unchanged = unchanged;
-          brings = brings_after m (after m answer) given (IsAtHand log fresh') leads hand;
+          brings = brings_after m (after m answer) (tables_of log) given (IsAtHand log fresh') leads hand;
+          counts = counting_after (tables_of log) m answer size counting;
         }

@@ -40,7 +40,7 @@ use Rattle.papaya_book.specs.Logs.{Stored, exchanges_of}
 use Rattle.papaya_book.specs.Plays.{IsPutting, made_list}
 use Rattle.papaya_lookup.specs.Lookups.{coding_for, setting_for}
 use Rattle.papaya_book.specs.Rule.{IsLawfulLog}
-use Rattle.papaya_book.specs.Limits.{HasNoRoom}
+use Rattle.papaya_book.specs.Limits.{HasNoRoom, tables_of}
 use Rattle.papaya_change.specs.Writing.{CanPut, IsMemoryOrCapacity, IsUnsaid, IsWriting, IsWritingOn}
 use Rattle.papaya_lookup.proofs.AskedPairs.{asked_pair}
 use Rattle.papaya_change.proofs.Changing.{Coded, Wide, call_hands}
@@ -83,7 +83,7 @@ module _ {K V S H : Type 0} (eq : K → K → Bool) (input : K → List (List �
             put_is = put;
             unmade = λ u. r.unmade (unpaired_then m calling answer (subst (λ (z : Machine). IsUnpaired z.call.made) same u));
             refuses = λ cause e. refused IsMemoryOrCapacity answer standing calling open_still (unsaid_cause given answer unsaid) cause (ap ask_of (sym same) ∙ e);
-            crowded = λ e. refused (λ cause. cause ≡ Capacity → HasNoRoom (after w.call.machine (answers.Call answer)).call.initial given) answer standing calling open_still (unsaid_room (after w.call.machine (answers.Call answer)).call.initial given answer unsaid) Capacity (ap ask_of (sym same) ∙ e) refl;
+            crowded = λ e. refused (λ cause. cause ≡ Capacity → HasNoRoom (after w.call.machine (answers.Call answer)).call.initial (tables_of log') given) answer standing calling open_still (unsaid_room (after w.call.machine (answers.Call answer)).call.initial (tables_of log') given answer unsaid) Capacity (ap ask_of (sym same) ∙ e) refl;
           },
           on.1,
         )
@@ -132,7 +132,7 @@ module _ {K V S H : Type 0} (eq : K → K → Bool) (input : K → List (List �
             put_is = λ p e. r.put_is p (sym put ∙ e);
             unmade = λ u. absurd (subst IsUnpaired made_so (subst (λ (z : Machine). IsUnpaired z.call.made) same u));
             refuses = λ cause e. refused IsMemoryOrCapacity (Made_number n) standing calling open_still (λ c h. absurd (cc h)) cause (ap ask_of (sym same) ∙ e);
-            crowded = λ e. refused (λ cause. HasNoRoom (after w.call.machine (answers.Call (Made_number n))).call.initial given) (Made_number n) standing calling open_still (λ c h. absurd (cc h)) Capacity (ap ask_of (sym same) ∙ e);
+            crowded = λ e. refused (λ cause. HasNoRoom (after w.call.machine (answers.Call (Made_number n))).call.initial (tables_of log) given) (Made_number n) standing calling open_still (λ c h. absurd (cc h)) Capacity (ap ask_of (sym same) ∙ e);
           },
           going.1,
         )

@@ -23,6 +23,7 @@ pub mod RemovingReplies
 pub mod RemovingHelped
 -- copies for a call that is set aside
 pub mod HelpingPlaces
+pub mod Sized
 pub mod HelpingLeads
 pub mod HelpingExchanges
 pub mod HelpingRests

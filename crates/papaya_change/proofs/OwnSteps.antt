@@ -44,7 +44,7 @@ use Rattle.papaya_rests.specs.Rests.{change_after, change_in}
 use Rattle.papaya_rests.specs.Told as told_calls
 use Rattle.papaya_rests.proofs.Followed.{opens_once, table_told}
 use Rattle.papaya_rests.proofs.RestsOpened.{machine_opened}
-use Rattle.papaya_chain_rests.specs.Goes.{IsInOrder}
+use Rattle.papaya_chain_rests.specs.Goes.{IsInOrder, link_in}
 use Rattle.papaya_chain_rests.specs.Rests.{left_by}
 use Rattle.papaya_chain_rests.specs.Told.{Hands, IsTold}
 use Rattle.papaya_chain_rests.proofs.Names.{call_asks}
@@ -206,6 +206,13 @@ aside_brings call (Copying_root (Stepping aim At_root)) aside n brings = brings
 aside_brings call (Copying_root (Lone slot Looking_to_settle)) aside n brings = brings
 aside_brings call _ aside n brings = absurd aside
 
+-- nor does it count yet for one
+aside_counts : (phase : Phase) → IsSetAside phase → (behind len : ℕ) (unfit : Bool) → link_in phase ≡ Some (links.Counting behind unfit len) → ⊥
+aside_counts (Linking (links.Sizing t before)) aside behind len unfit e = cc e
+aside_counts (Copying_root (Stepping aim At_root)) aside behind len unfit e = cc e
+aside_counts (Copying_root (Lone slot Looking_to_settle)) aside behind len unfit e = cc e
+aside_counts _ aside behind len unfit e = absurd aside
+
 -- a call brings a table that it opens
 brought_root : (ask : Ask) (n : ℕ) → IsBringing (asked.Call ask) n → ask ≡ Exchange Root 0 n
 brought_root (Exchange Root old new) n brings = λ i. Exchange Root (brings.0 i) (brings.1 i)
@@ -242,6 +249,14 @@ module _ (m : Machine) (calling : m.phase ≡ Calling) (answer : Answer) where
     | inr (inr h) ↦
         let asks : ask_of m' ≡ asked.Call (SizeOf h.1) = calling_asks m' h.6 ∙ ap (λ (z : Call_machine). asked.Call (calls.ask_of z)) h.5 in
         absurd (subst (λ (a : Chain_ask). IsBringing a n) asks brings)
+  ]
+
+  -- after the answer it counts for no table
+  pub own_counts : (behind len : ℕ) (unfit : Bool) → link_in m'.phase ≡ Some (links.Counting behind unfit len) → ⊥
+  own_counts behind len unfit e = elim (own_went m calling answer) [
+    | inl h ↦ let f : None ≡ Some (links.Counting behind unfit len) = sym (ap link_in h.1) ∙ e in cc f
+    | inr (inl h) ↦ aside_counts m'.phase h.3 behind len unfit e
+    | inr (inr h) ↦ let f : None ≡ Some (links.Counting behind unfit len) = sym (ap link_in h.6) ∙ e in cc f
   ]
 
   -- none, after another ask

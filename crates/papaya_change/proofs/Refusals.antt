@@ -88,5 +88,5 @@ pub unsaid_cause : (given : List Given) (answer : Answer) → IsUnsaid given ans
 unsaid_cause given answer unsaid cause e = ⊎_elim (λ memory. inl memory) (λ full. inr full.0) (unsaid cause e)
 
 -- and a log is full, where there was room for no more
-pub unsaid_room : (initial : ℕ) (given : List Given) (answer : Answer) → IsUnsaid given answer → (cause : Cause) → answer ≡ Was_refused cause → cause ≡ Capacity → HasNoRoom initial given
-unsaid_room initial given answer unsaid cause e full = ⊎_elim (λ memory. let f = sym memory ∙ full in absurd (cc f)) (λ h. inl h.1) (unsaid cause e)
+pub unsaid_room : (initial : ℕ) (tables : List ℕ) (given : List Given) (answer : Answer) → IsUnsaid given answer → (cause : Cause) → answer ≡ Was_refused cause → cause ≡ Capacity → HasNoRoom initial tables given
+unsaid_room initial tables given answer unsaid cause e full = ⊎_elim (λ memory. let f = sym memory ∙ full in absurd (cc f)) (λ h. inl h.1) (unsaid cause e)

@@ -201,6 +201,10 @@ module _ {K V F : Type 0} (eq : K → K → Bool) (matches : K → Bool) (old ne
   pub value_removed : answer ≡ Ok (Ok (Some entry)) → (p : Stored K V) × IsTaken eq matches old new p × (entry.1.now ≡ p.value.value)
   value_removed is = let h = subst (IsJudged eq matches old new r.said) is r.answered in (h.0, h.1, h.3.1)
 
+  -- and its key
+  pub entry_removed : answer ≡ Ok (Ok (Some entry)) → (p : Stored K V) × IsTaken eq matches old new p × AreOf entry p
+  entry_removed is = let h = subst (IsJudged eq matches old new r.said) is r.answered in (h.0, h.1, h.3)
+
   -- where the closure always agrees, no pair stays
   pub none_stays : ((f : F) (p : Stored K V) (agrees : Bool) (g : F) → judges f p agrees g → agrees ≡ true) → answer ≡ Ok (Err entry) → ⊥
   none_stays always is = let h = subst (IsJudged eq matches old new r.said) is r.answered in let agreed : false ≡ true = said_only judges (λ a. a ≡ true) always first r.said r.left r.has_said h.0 false h.1 in cc agreed

@@ -43,11 +43,21 @@ module _ {K V S H : Type 0} (eq : K → K → Bool) (input : K → List (List �
   pub own_held_then : (key : K) (value : Option (Stored K V)) → Was (Some key) value → WasHeld eq (eq key) (history_of begun) (history_of log) value
   own_held_then key value was = held_as eq (eq key) begun log value (own_history eq input build write finish classes respects b matches query lawful begun begun ([], append-nil begun) log l since is key value was)
 
+-- What holds of each showing and what the closure may answer to it holds of those that were, where the closure is
+-- what it has to be at first and stays so.
+module _ {F X A : Type 0} (says : F → X → A → F → Type 0) (Is : F → Type 0) (P : X → A → Type 0) (each : (f : F) (x : X) (a : A) (g : F) → Is f → says f x a g → P x a × Is g) where
+  stays_so : (f : F) → Is f → (said : List (X × A)) (g : F) → HasSaid says f said g → Is g
+  stays_so f is [] g h = subst Is (sym h) is
+  stays_so f is (last ∷ before) g h = (each h.0 last.0 last.1 g (stays_so f is before h.0 h.1) h.2).1
+
+  pub said_so : (f : F) → Is f → (said : List (X × A)) (g : F) → HasSaid says f said g → (x : X) (a : A) → Member (x, a) said → P x a
+  said_so f is [] g h x a m = absurd m
+  said_so f is (last ∷ before) g h x a (inl same) = subst (λ z. P z.0 z.1) (sym same) (each h.0 last.0 last.1 g (stays_so f is before h.0 h.1) h.2).0
+  said_so f is (last ∷ before) g h x a (inr m) = said_so f is before h.0 h.1 x a m
+
 -- what holds of each answer that the closure may give holds of those that it gave
 pub said_only : {F X A : Type 0} (says : F → X → A → F → Type 0) (P : A → Type 0) → ((f : F) (x : X) (a : A) (g : F) → says f x a g → P a) → (f : F) (said : List (X × A)) (g : F) → HasSaid says f said g → (x : X) (a : A) → Member (x, a) said → P a
-said_only says P each f [] g h x a m = absurd m
-said_only says P each f (last ∷ before) g h x a (inl is) = subst P (ap (λ z. z.1) (sym is)) (each h.0 last.0 last.1 g h.2)
-said_only says P each f (last ∷ before) g h x a (inr m) = said_only says P each f before h.0 h.1 x a m
+said_only says P each f said g h x a m = said_so says (λ z. Unit {0}) (λ y b. P b) (λ f' y b g' is s. (each f' y b g' s, tt)) f tt said g h x a m
 
 -- each of these was shown
 pub shown_each : {X A : Type 0} (P : X → Type 0) (said : List (X × A)) → AllShown P said → (x : X) (a : A) → Member (x, a) said → P x

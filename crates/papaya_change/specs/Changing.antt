@@ -9,11 +9,13 @@ use Rattle.boxcar.specs.Table.{Where}
 use Rattle.papaya_ask.specs.declared.ask.Ask.TheVariants as asks
 use Rattle.papaya_ask.specs.declared.ask.At.TheVariants.{Root, Next}
 use Rattle.papaya_ask.specs.declared.copy_ask.CopyAsk.TheVariants as copies
+use Rattle.papaya_copy.specs.declared.link.Link.TheVariants.{Counting}
 use Rattle.papaya_chain.specs.declared.ask.Ask.{Ask}
 use Rattle.papaya_chain.specs.declared.ask.Ask.TheVariants.{Call, Copy}
 use Rattle.papaya_chain.specs.declared.machine.Machine.{Machine}
 use Rattle.papaya_chain.specs.declared.machine.Phase.TheVariants.{Calling}
 use Rattle.papaya_chain.specs.Machine.{ask_of}
+use Rattle.papaya_chain_rests.specs.Goes.{link_in}
 use Rattle.papaya_chain_rests.specs.Rests.{Rests}
 use Rattle.papaya_chain_rests.specs.Told.{Hands}
 use Rattle.papaya_rests.specs.Followed.{IsAtTable}
@@ -27,7 +29,8 @@ use Rattle.papaya_book.specs.declared.rule.entry.Event.{Event}
 use Rattle.papaya_book.specs.Calls.{IsTable}
 use Rattle.papaya_lookup.specs.History.{change_of, key_of}
 use Rattle.papaya_book.specs.declared.rule.entry.Named.TheVariants.{Table}
-use Rattle.papaya_book.specs.Logs.{Stored, coding_of, exchanges_of, number_of, pair_named, setting_of}
+use Rattle.papaya_book.specs.Logs.{Member, Stored, coding_of, exchanges_of, number_of, pair_named, setting_of}
+use Rattle.papaya_book.specs.Limits.{tables_of}
 use Rattle.papaya_book.specs.Makers.{IsMade}
 use Rattle.papaya_change.specs.declared.driver.Driver.{Driver}
 use Rattle.papaya_lookup.specs.Lookups.{coding_for, setting_for}
@@ -42,6 +45,12 @@ abbrev pub IsBringing : Ask → ℕ → Type 0
 IsBringing (Call (asks.Exchange Root old new)) n = (old ≡ 0) × (new ≡ n)
 IsBringing (Copy (copies.Exchange (Next t) old new)) n = (old ≡ 0) × (new ≡ n)
 IsBringing _ n = ⊥
+
+-- where the count is asked for, by which a next table is sized, the length that was told is that of
+-- one of these tables
+abbrev pub IsCountingOf : (tables : List ℕ) → Machine → Type 0
+IsCountingOf tables m = (behind len : ℕ) (unfit : Bool)
+    → link_in m.phase ≡ Some (Counting behind unfit len) → Member len tables
 
 -- the table of this number was made, and its seal is at hand
 pub record IsFresh {K V S : Type 0} (b : Begun K V S) (name : Book) (log : List (Event K V S))
@@ -95,6 +104,7 @@ pub record IsCalling {K V S : Type 0} (eq : K → K → Bool) (hash : S → K �
   pub changed : (change : Option ℕ × Option ℕ) → change_in m.call.state ≡ Some change
       → HasChanged eq begun log taken put change
   pub brings : (n : ℕ) → IsBringing (ask_of m) n → IsFresh b name log n fresh
+  pub counts : IsCountingOf (tables_of log) m
 
 -- the further key that a call may come with is lawful
 abbrev pub IsForm : {K V S : Type 0} → (K → K → Bool) → (S → K → ℕ) → Begun K V S → (K → Bool) → ℕ

@@ -31,14 +31,14 @@ use Rattle.papaya_book.specs.declared.rule.entry.Event.TheVariants.{Stepped}
 use Rattle.papaya_book.specs.declared.rule.entry.Step.{Step}
 use Rattle.papaya_book.specs.declared.rule.own.Given.{Given}
 use Rattle.papaya_book.specs.declared.rule.own.Given.TheVariants.{Sum}
-use Rattle.papaya_book.specs.Limits.{HasNoRoom, IsFull}
+use Rattle.papaya_book.specs.Limits.{HasNoRoom, IsFull, tables_of}
 use Rattle.papaya_book.specs.Logs.{Stored, exchange_of, exchanges_of, pair_named, state_of}
 use Rattle.papaya_book.specs.Plays.{IsWished}
 use Rattle.papaya_book.specs.Rule.{IsLawfulLog, IsPlaced, word_in}
 use Rattle.papaya_book.specs.Sheets.{Sheet}
 use Rattle.papaya_lookup.specs.Lookups.{coding_for, setting_for}
 use Rattle.papaya_change.specs.declared.driver.Driver.{Driver}
-use Rattle.papaya_change.specs.Changing.{IsBringing, IsDriven, IsForm, IsFresh, hands_with}
+use Rattle.papaya_change.specs.Changing.{IsBringing, IsCountingOf, IsDriven, IsForm, IsFresh, hands_with}
 
 -- it looks for its key in a further table
 pub record HasGoneOn (m m' : Machine) : Type 0 where
@@ -55,16 +55,17 @@ pub record HasBegunAnew (m m' : Machine) : Type 0 where
   pub call : m'.call ≡ calls.after (record m.call { state = AtRoot }) (Word root)
 
 -- it ended, since a table could not be made: there was no memory, or no room for it
-pub record WasRefused (m m' : Machine) (given : List Given) : Type 0 where
+pub record WasRefused (m m' : Machine) (tables : List ℕ) (given : List Given) : Type 0 where
   pub from : ℕ
   pub left : left_by m.call.state ≡ Some from
   pub refused : Refused
   pub call : m'.call ≡ record m.call { state = Ended (Reply_refused refused) }
-  pub cause : (refused ≡ Memory) ⊎ ((refused ≡ Capacity) × HasNoRoom m.call.initial given)
+  pub cause : (refused ≡ Memory) ⊎ ((refused ≡ Capacity) × HasNoRoom m.call.initial tables given)
 
 -- it was not set aside, or it was led so
-abbrev pub HasHelped : Machine → Machine → List Given → Type 0
-HasHelped m m' given = (m' ≡ m) ⊎ HasGoneOn m m' ⊎ HasBegunAnew m m' ⊎ WasRefused m m' given
+abbrev pub HasHelped : Machine → Machine → (tables : List ℕ) → List Given → Type 0
+HasHelped m m' tables given = (m' ≡ m) ⊎ HasGoneOn m m' ⊎ HasBegunAnew m m'
+    ⊎ WasRefused m m' tables given
 
 -- it is still set aside
 pub record IsAside (m m' : Machine) : Type 0 where
@@ -74,9 +75,9 @@ pub record IsAside (m m' : Machine) : Type 0 where
   pub busy : m'.phase ≡ Calling → ⊥
 
 -- it goes on for itself
-pub record IsLed (m m' : Machine) (given : List Given) : Type 0 where
+pub record IsLed (m m' : Machine) (tables : List ℕ) (given : List Given) : Type 0 where
   pub calling : m'.phase ≡ Calling
-  pub where_to : HasGoneOn m m' ⊎ HasBegunAnew m m' ⊎ WasRefused m m' given
+  pub where_to : HasGoneOn m m' ⊎ HasBegunAnew m m' ⊎ WasRefused m m' tables given
 
 -- it is to look for its key in this table
 abbrev pub IsEntering : Machine → ℕ → Type 0
@@ -112,6 +113,7 @@ pub record IsSetAside {K V S : Type 0} (eq : K → K → Bool) (hash : S → K �
   pub taken_placed : IsPlaced b (Some name) (pair_named taken)
   pub unchanged : change_in m.call.state ≡ None
   pub brings : (n : ℕ) → IsBringing (ask_of m) n → IsFresh b name log n fresh
+  pub counts : IsCountingOf (tables_of log) m
 
 module _ {K V S : Type 0} (eq : K → K → Bool) (hash : S → K → ℕ) (b : Begun K V S)
     (name : Book) where
@@ -149,7 +151,7 @@ module _ {K V S H : Type 0} (eq : K → K → Bool) (hash : S → K → ℕ) (b 
     pub rests : IsSetAside eq hash b name matches fed k begun log (after c.machine answer) c'.last
         c'.kept made c'.taken c'.put c'.fresh
     pub leads : IsAside c.machine (after c.machine answer)
-        ⊎ IsLed c.machine (after c.machine answer) c'.given.done
+        ⊎ IsLed c.machine (after c.machine answer) (tables_of log) c'.given.done
 
   -- each call that is under way so goes on so
   abbrev pub Copies : List (Event K V S) → Driver K V S H → List (Event K V S) → Driver K V S H

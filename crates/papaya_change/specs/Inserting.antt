@@ -22,7 +22,7 @@ use Rattle.papaya_change.specs.Changes.{IsPut}
 use Rattle.papaya_lookup.specs.History.{history_of, key_of}
 use Rattle.papaya_book.specs.Logs.{Stored}
 use Rattle.papaya_book.specs.Plays.{made_list}
-use Rattle.papaya_book.specs.Limits.{HasNoRoom}
+use Rattle.papaya_book.specs.Limits.{HasNoRoom, tables_of}
 use Rattle.papaya_change.specs.Writing.{IsMemoryOrCapacity, IsWriting, answered as answered_writer}
 
 -- no pair is made yet
@@ -47,7 +47,7 @@ module _ {K V S H : Type 0} (eq : K → K → Bool) (hash : S → K → ℕ) (b 
     pub refuses : (cause : Cause) → ask_of x.writer.call.machine ≡ Call (Done (Refused cause))
         → IsMemoryOrCapacity cause
     pub crowded : ask_of x.writer.call.machine ≡ Call (Done (Refused Capacity))
-        → HasNoRoom x.writer.call.machine.call.initial x.writer.call.given.done
+        → HasNoRoom x.writer.call.machine.call.initial (tables_of log) x.writer.call.given.done
 
   -- the insertion after its machine was answered
   abbrev pub answered : Insertion K V S H → Answer → Insertion K V S H

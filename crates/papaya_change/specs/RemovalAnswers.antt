@@ -51,3 +51,9 @@ module _ {K V : Type 0} (eq : K → K → Bool) (matches : K → Bool)
   IsRemoved (Ok None) = WasHeld eq matches old new None
   IsRemoved (Ok (Some value)) = (p : Stored K V) × IsTaken p × (value.now ≡ p.value.value)
   IsRemoved (Err refused) = IsMemoryOrCapacity refused
+
+  -- the same with the key of the pair that went
+  abbrev pub IsEntryRemoved : Result (Option (Bor K × Bor V)) Refused → Type 0
+  IsEntryRemoved (Ok None) = WasHeld eq matches old new None
+  IsEntryRemoved (Ok (Some entry)) = (p : Stored K V) × IsTaken p × AreOf entry p
+  IsEntryRemoved (Err refused) = IsMemoryOrCapacity refused

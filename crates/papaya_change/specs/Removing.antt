@@ -21,7 +21,7 @@ use Rattle.papaya_change.specs.declared.removal.Removal.{Removal}
 use Rattle.papaya_change.specs.Changing.{IsDriven}
 use Rattle.papaya_lookup.specs.History.{history_of}
 use Rattle.papaya_book.specs.Logs.{Member, Stored, pair_named}
-use Rattle.papaya_book.specs.Limits.{HasNoRoom}
+use Rattle.papaya_book.specs.Limits.{HasNoRoom, tables_of}
 use Rattle.papaya_book.specs.Rule.{IsPlaced}
 use Rattle.papaya_change.specs.Showings.{AllShown, HasSaid, WasHeld}
 use Rattle.papaya_change.specs.RemovalAnswers.{IsRemovalBy}
@@ -45,7 +45,7 @@ module _ {K V S H F : Type 0} (eq : K → K → Bool) (hash : S → K → ℕ) (
     pub refuses : (cause : Refused) → ask_of x.call.machine ≡ Call (Done (reply.Refused cause))
         → IsMemoryOrCapacity cause
     pub crowded : ask_of x.call.machine ≡ Call (Done (reply.Refused Capacity))
-        → HasNoRoom x.call.machine.call.initial x.call.given.done
+        → HasNoRoom x.call.machine.call.initial (tables_of log) x.call.given.done
 
   -- the removal after its machine was answered
   abbrev pub answered : Removal K V S H → Answer → Removal K V S H

@@ -8,6 +8,7 @@ ghost use Rattle.papaya_chain.specs.Machine.{IsFit, IsStanding, ask_of};
 ghost use Rattle.papaya_chain.specs.declared.ask.Ask.TheVariants.{Copy};
 ghost use Rattle.papaya_chain.specs.declared.machine.Phase.TheVariants.{Calling};
 ghost use Rattle.papaya_copy.specs.Link.{IsFitCopyAsk};
+ghost use Rattle.papaya_book.specs.Limits.{tables_of};
 ghost use Rattle.papaya_book.specs.Windows.{HasCome, IsLawful, IsTable, Sees};
 ghost use Rattle.papaya_change.specs.Drivers.{CanGoOn, Copies, GoesOn, LoadsFor, TriesFor};
 ghost use Rattle.papaya_change.specs.Helping.{HasHelped, IsEntering};
@@ -44,7 +45,8 @@ impl<'a, K: Hash + Eq, V, S: BuildHasher> Driver<'a, K, V, S> {
         ensures own { window.new.own ≡ window.old.own }
         ensures standing { IsStanding self.new.machine }
         ensures calling { self.new.machine.phase ≡ Calling }
-        ensures helped { HasHelped self.old.machine self.new.machine self.new.given.done }
+        ensures helped { HasHelped self.old.machine self.new.machine
+            (tables_of window.new.sight.log) self.new.given.done }
         ensures goes_on { GoesOn window.old self.old window.new self.new }
         ensures rest { (self.new.taken ≡ self.old.taken) × (self.new.put ≡ self.old.put) }
         ensures still { self.old.machine.phase ≡ Calling

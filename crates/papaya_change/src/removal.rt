@@ -7,7 +7,7 @@ ghost use Rattle.papaya_change.specs.Doing.{Answers, has_changed, was_made};
 ghost use Rattle.papaya_change.specs.Removals.{CanRemove, Removes, Replies};
 ghost use Rattle.std.specs.Prelude.{◌≡◌, ℕ, Some, Err, IfErr};
 ghost use Rattle.std.specs.Int.{IsPowerOfTwo};
-ghost use Rattle.papaya_book.specs.Limits.{HasNoRoom};
+ghost use Rattle.papaya_book.specs.Limits.{HasNoRoom, tables_of};
 ghost use Rattle.papaya_call.specs.Machine.{ask_of as call_ask_of};
 ghost use Rattle.papaya_chain.specs.Machine.{IsStanding, ask_of};
 ghost use Rattle.papaya_chain.specs.declared.ask.Ask.TheVariants.{Call};
@@ -294,7 +294,8 @@ pub fn remove<
     ensures made { Makes (went result) (own window.old) (own window.new) (past window.new) }
     ensures removed { IsRemovalBy K.eq (Q.matches key.now) (past window.old) (past window.new)
         (Judges F.FnMut) agrees result }
-    ensures crowded { result ≡ Err Refused.Capacity → HasNoRoom initial given.new.done }
+    ensures crowded { result ≡ Err Refused.Capacity → HasNoRoom initial
+        (tables_of window.new.sight.log) given.new.done }
 {
     window.learn();
     let book = window.book;

@@ -1,5 +1,5 @@
 -- The history of a map: its changes, oldest first. It knows no word and no table.
-use Rattle.std.specs.Prelude.{◌≡◌, Bool, true, cond, Option, None, Some, List, [], ◌∷◌, ◌++◌, map}
+use Rattle.std.specs.Prelude.{◌≡◌, ℕ, Bool, true, cond, Option, None, Some, List, [], ◌∷◌, ◌++◌, map}
 use Rattle.logbook.specs.Pages.{Book}
 use Rattle.papaya_law.specs.Exchange as law
 use Rattle.papaya_law.specs.Exchange.{Exchange}
@@ -71,12 +71,14 @@ abbrev pub changes_by : {K V : Type 0} → List (Step K V) → List (Change K (S
 changes_by es = changes_of key_of (map exchange_of es)
 
 -- What a pass shows: the book of the map that it was made by, the history that it has seen, and of
--- its changes those that were made by this pass, oldest first. And where its last insertion or
--- compute was refused since a log is full, the number that the log gave.
+-- its changes those that were made by this pass, oldest first. And how many slots each table has that
+-- it has seen come, oldest first; and where its last changing call was refused for want of room, the
+-- number that a log gave or the sum that the count gave.
 pub record Past (K V : Type 0) : Type 0 where
   pub book : Book
   pub history : List (Change K (Stored K V))
   pub made : List (Change K (Stored K V))
+  pub tables : List ℕ
   pub given : List Given
 
 -- What a call made: where it changed the map, one change, which is the last of the history that is

@@ -31,7 +31,7 @@ use Rattle.papaya_book.specs.declared.rule.own.Given.{Given}
 use Rattle.papaya_change.specs.declared.writing.Writer.{Writer}
 use Rattle.papaya_map.specs.Computing.{Holds, IsComputing, IsComputingOn, IsWriters}
 use Rattle.papaya_book.specs.Hashes.{hash_of}
-use Rattle.papaya_book.specs.Limits.{HasNoRoom}
+use Rattle.papaya_book.specs.Limits.{HasNoRoom, tables_of}
 use Rattle.papaya_lookup.specs.History.{history_of}
 use Rattle.papaya_book.specs.Logs.{Stored}
 use Rattle.papaya_change.specs.Showings.{HasNoNone, WasHeld}
@@ -117,8 +117,8 @@ module _ {K V S H T F : Type 0} (eq : K → K → Bool) (input : K → List (Lis
       refused_by : (given : List Given) → IsUnsaid given answer → (cause : Cause) → ask_of (after m (answers.Call answer)) ≡ Call (Done (Refused cause)) → IsMemoryOrCapacity cause
       refused_by given unsaid = refused_for m own.0 answer IsMemoryOrCapacity never open_still (unsaid_cause given answer unsaid)
 
-      full_log : (initial : ℕ) (given : List Given) → IsUnsaid given answer → ask_of (after m (answers.Call answer)) ≡ Call (Done (Refused Capacity)) → HasNoRoom initial given
-      full_log initial given unsaid e = refused_for m own.0 answer (λ cause. cause ≡ Capacity → HasNoRoom initial given) never open_still (unsaid_room initial given answer unsaid) Capacity e refl
+      full_log : (initial : ℕ) (tables : List ℕ) (given : List Given) → IsUnsaid given answer → ask_of (after m (answers.Call answer)) ≡ Call (Done (Refused Capacity)) → HasNoRoom initial tables given
+      full_log initial tables given unsaid e = refused_for m own.0 answer (λ cause. cause ≡ Capacity → HasNoRoom initial tables given) never open_still (unsaid_room initial tables given answer unsaid) Capacity e refl
 
       -- it goes on after an answer to a silent ask
       pub goes_on : (log' : List (Event K V S)) → IsPrefix log log' → (w : Writer K V S H) → w.call.machine ≡ m → w.value ≡ x.writer.value → IsUnsaid w.call.given.done answer → IsWritingOn eq hash b name key r.made begun log' w answer → ComputingOn log' (record x { writer = w }) f (Some answer)
@@ -139,7 +139,7 @@ module _ {K V S H T F : Type 0} (eq : K → K → Bool) (input : K → List (Lis
               stood = λ stands h. holds_still key r.made r.said x (answered_writer w answer) value stands (r.stood stands (own_stood m own.0 answer silent standing r.words stands (subst (λ (z : Machine). StandsOn z.call stands) then h)));
               aborts = λ with e. let s = own_aborted m own.0 answer with open_still (ap ask_of (sym then) ∙ e) in absurd (not_show m.call answer silent s.0 s.1);
               refuses = λ cause e. inl (refused_by w.call.given.done unsaid cause (ap ask_of (sym then) ∙ e));
-              crowded = λ e. full_log (after w.call.machine (answers.Call answer)).call.initial w.call.given.done unsaid (ap ask_of (sym then) ∙ e);
+              crowded = λ e. full_log (after w.call.machine (answers.Call answer)).call.initial (tables_of log') w.call.given.done unsaid (ap ask_of (sym then) ∙ e);
             },
             on.1,
           )

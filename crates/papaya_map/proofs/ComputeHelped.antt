@@ -21,8 +21,10 @@ use Rattle.papaya_rests.proofs.SaysOnce.{machine_shown}
 use Rattle.papaya_book.specs.declared.rule.entry.Begun.{Begun}
 use Rattle.papaya_book.specs.declared.rule.entry.Event.{Event}
 use Rattle.papaya_book.specs.declared.rule.own.Given.{Given}
+use Rattle.papaya_book.specs.Limits.{tables_of}
 use Rattle.papaya_book.specs.Logs.{Stored, pair_named}
 use Rattle.papaya_book.specs.Rule.{IsPlaced}
+use Rattle.papaya_book.proofs.Lengths.{tables_since}
 use Rattle.papaya_lookup.specs.History.{history_of}
 use Rattle.papaya_lookup.proofs.Histories.{history_since}
 use Rattle.papaya_change.specs.declared.driver.Driver.{Driver}
@@ -35,7 +37,7 @@ use Rattle.papaya_map.specs.declared.computing.Computing.{Computing}
 use Rattle.papaya_map.specs.Computing.{IsComputing}
 use Rattle.papaya_map.proofs.ComputeGoes.{holds_still}
 
-module _ (m m' : Machine) (given : List Given) (helped : HasHelped m m' given) where
+module _ (m m' : Machine) (tables : List ℕ) (given : List Given) (helped : HasHelped m m' tables given) where
   -- a closure that was shown that there is none has been shown it
   shown_kept : HasShownNone m.call.remembered.fill m.call.state → HasShownNone m'.call.remembered.fill m'.call.state
   shown_kept shown = elim helped [
@@ -66,11 +68,11 @@ module _ {K V S H T F : Type 0} (eq : K → K → Bool) (hash : S → K → ℕ)
   held_later : (held : Option (Stored K V)) → HeldOn log held → HeldOn log' held
   held_later held h = held_wider eq (eq key) (history_of begun) (history_of begun) (history_of log) (history_of log') ([], append-nil (history_of begun)) (history_since log log' pre) held h
 
-  pub computing_helped : IsDriven eq hash b name (eq key) (hash b.hasher key) (Some key) begun log' r.made c → c.put ≡ x.writer.call.put → c.machine.phase ≡ Calling → (x.writer.call.machine.phase ≡ Calling → c ≡ x.writer.call) → HasHelped x.writer.call.machine c.machine c.given.done
+  pub computing_helped : IsDriven eq hash b name (eq key) (hash b.hasher key) (Some key) begun log' r.made c → c.put ≡ x.writer.call.put → c.machine.phase ≡ Calling → (x.writer.call.machine.phase ≡ Calling → c ≡ x.writer.call) → HasHelped x.writer.call.machine c.machine (tables_of log') c.given.done
       → IsComputing eq hash b name operates key first begun log' (record x { writer = record x.writer { call = c } }) f
   computing_helped driven put calling still helped =
       let m = x.writer.call.machine in
-      let k = helped_keeps m c.machine c.given.done helped in
+      let k = helped_keeps m c.machine (tables_of log') c.given.done helped in
       record {
         made = r.made;
         writing = record { calling = driven; keyed = r.writing.keyed; put_placed = subst (λ o. IsPlaced b (Some name) (pair_named o)) (sym put) r.writing.put_placed };
@@ -82,9 +84,9 @@ module _ {K V S H T F : Type 0} (eq : K → K → Bool) (hash : S → K → ℕ)
         has_said = r.has_said;
         held = all_shown (HeldOn log) (HeldOn log') held_later r.said r.held;
         none_once = r.none_once;
-        none_shown = ⊎_elim (λ none. inl none) (λ shown. inr (shown_kept m c.machine c.given.done helped shown)) r.none_shown;
+        none_shown = ⊎_elim (λ none. inl none) (λ shown. inr (shown_kept m c.machine (tables_of log') c.given.done helped shown)) r.none_shown;
         stood = λ stands h. holds_still key r.made r.said x (record x.writer { call = c }) refl stands (r.stood stands (k.stands stands h));
-        aborts = λ with e. r.aborts with (aborted_before m c.machine c.given.done helped with e);
+        aborts = λ with e. r.aborts with (aborted_before m c.machine (tables_of log') c.given.done helped with e);
         refuses = λ cause e. ⊎_elim (λ same. r.refuses cause (ap ask_of (sym same) ∙ e)) (λ h. inl (⊎_elim (λ memory. inl memory) (λ full. inr full.0) h)) (k.ends cause e);
-        crowded = room_kept x.writer.call c calling still helped r.crowded;
+        crowded = room_kept x.writer.call c (tables_of log') calling still helped (tables_of log) (tables_since log log' pre) r.crowded;
       }

@@ -30,7 +30,7 @@ use Rattle.papaya_map.specs.declared.computing.Computing.{Computing}
 use Rattle.papaya_book.specs.declared.rule.entry.Begun.{Begun}
 use Rattle.papaya_book.specs.declared.rule.entry.Event.{Event}
 use Rattle.papaya_book.specs.declared.rule.own.Given.{Given}
-use Rattle.papaya_book.specs.Limits.{HasNoRoom}
+use Rattle.papaya_book.specs.Limits.{HasNoRoom, tables_of}
 use Rattle.papaya_change.specs.declared.writing.Writer.{Writer}
 use Rattle.papaya_map.specs.Computing.{Holds, IsComputing, IsComputingOn, IsMadeOf}
 use Rattle.papaya_lookup.specs.History.{key_of}
@@ -76,8 +76,8 @@ module _ (m : Machine) (answer : Answer) (asks : ask_of m ≡ Call MakePair) whe
   by_itself given unsaid = refused_for m own.0 answer IsMemoryOrCapacity never not_done (unsaid_cause given answer unsaid)
 
   -- for want of room where a log is full
-  pub full_log : (initial : ℕ) (given : List Given) → IsUnsaid given answer → ask_of (after m (answers.Call answer)) ≡ Call (Done (Reply_refused Capacity)) → HasNoRoom initial given
-  full_log initial given unsaid e = refused_for m own.0 answer (λ cause. cause ≡ Capacity → HasNoRoom initial given) never not_done (unsaid_room initial given answer unsaid) Capacity e refl
+  pub full_log : (initial : ℕ) (tables : List ℕ) (given : List Given) → IsUnsaid given answer → ask_of (after m (answers.Call answer)) ≡ Call (Done (Reply_refused Capacity)) → HasNoRoom initial tables given
+  full_log initial tables given unsaid e = refused_for m own.0 answer (λ cause. cause ≡ Capacity → HasNoRoom initial tables given) never not_done (unsaid_room initial tables given answer unsaid) Capacity e refl
 
 module _ {K V S T H F : Type 0} (eq : K → K → Bool) (hash : S → K → ℕ) (b : Begun K V S) (name : Book) (operates : F → Option (Stored K V) → Operation V T → F → Type 0) (key : K) (first : F) (begun log : List (Event K V S)) (x : Computing K V S T H) (f : F) (r : IsComputing eq hash b name operates key first begun log x f)
     (standing : IsStanding x.writer.call.machine) (asks : ask_of x.writer.call.machine ≡ Call MakePair) where
@@ -117,7 +117,7 @@ module _ {K V S T H F : Type 0} (eq : K → K → Bool) (hash : S → K → ℕ)
           stood = λ stands h. stood stands (subst (λ (z : Call_machine). StandsOn z stands) (ap (λ (z : Machine). z.call) then ∙ steps chain answer asks) h);
           aborts = λ with e. absurd (no_abort chain answer asks with (ap ask_of (sym then) ∙ e));
           refuses = λ cause e. inl (by_itself chain answer asks w.call.given.done unsaid cause (ap ask_of (sym then) ∙ e));
-          crowded = λ e. full_log chain answer asks (after w.call.machine (answers.Call answer)).call.initial w.call.given.done unsaid (ap ask_of (sym then) ∙ e);
+          crowded = λ e. full_log chain answer asks (after w.call.machine (answers.Call answer)).call.initial (tables_of log) w.call.given.done unsaid (ap ask_of (sym then) ∙ e);
         },
         on.1,
       )

@@ -29,7 +29,7 @@ use Rattle.papaya_book.specs.declared.rule.entry.Begun.{Begun}
 use Rattle.papaya_book.specs.declared.rule.entry.Event.{Event}
 use Rattle.papaya_lookup.specs.History.{history_of, key_of}
 use Rattle.papaya_book.specs.Logs.{Member, Stored, pair_named}
-use Rattle.papaya_book.specs.Limits.{HasNoRoom}
+use Rattle.papaya_book.specs.Limits.{HasNoRoom, tables_of}
 use Rattle.papaya_book.specs.Rule.{IsPlaced}
 use Rattle.papaya_change.specs.Showings.{AllShown, HasNoNone, HasSaid, IsNoneOnce, WasHeld, WasLast}
 use Rattle.papaya_change.specs.Writing.{IsWriting, answered as answered_writer}
@@ -139,7 +139,7 @@ module _ {K V S H T F : Type 0} (eq : K → K → Bool) (hash : S → K → ℕ)
     pub refuses : (refused : Refused) → ask_of x.writer.call.machine
         ≡ Call (Done (reply.Refused refused)) → IsRefusedBy said refused
     pub crowded : ask_of x.writer.call.machine ≡ Call (Done (reply.Refused Capacity))
-        → HasNoRoom x.writer.call.machine.call.initial x.writer.call.given.done
+        → HasNoRoom x.writer.call.machine.call.initial (tables_of log) x.writer.call.given.done
 
   -- the compute after its machine was answered
   abbrev pub answered : Computing K V S T H → Answer → Computing K V S T H

@@ -6,11 +6,13 @@ use Rattle.papaya_words.specs.declared.probe.ResizeMode.{ResizeMode}
 use Rattle.papaya_book.specs.declared.rule.entry.Begun.{Begun}
 
 -- Which book it has; what that was opened with: the hasher, how the map resizes, and the logs of
--- pairs and of tables; and the initial capacity, in slots, by which its first table is sized.
+-- pairs and of tables; the initial capacity, in slots, by which its first table is sized; and the
+-- number of the collector whose guards its calls take.
 pub record Fixed (K V S : Type 0) : Type 0 where
   pub book : Book
   pub begun : Begun K V S
   pub initial : ℕ
+  pub collector : ℕ
 
 -- it resizes so, and is made for so many pairs
 abbrev pub IsFor : {K V S : Type 0} → ResizeMode → (capacity : ℕ) → Fixed K V S → Type 0

@@ -8,3 +8,5 @@ pub mod Fixed
 pub mod Powers
 -- the same by what is seen of the map
 pub mod Computes
+-- what a call says that takes no pass
+pub mod Plain

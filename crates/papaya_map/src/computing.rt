@@ -16,7 +16,7 @@ ghost use Rattle.papaya_ask.specs.declared.ask.At.TheVariants.{Slot};
 ghost use Rattle.papaya_map.specs.Computing.{IsKept, IsWriters, chosen_after, pair_for};
 ghost use Rattle.papaya_map.specs.ComputeAnswers.{IsComputeBy, changes};
 ghost use Rattle.papaya_change.specs.Doing.{Answers, has_changed, was_made};
-ghost use Rattle.papaya_book.specs.Limits.{HasNoRoom};
+ghost use Rattle.papaya_book.specs.Limits.{HasNoRoom, tables_of};
 ghost use Rattle.papaya_change.specs.Showings.{Operates};
 
 use papaya_ask::ask::{Answer, Ask as CallAsk, At, OpKind, StepKind};
@@ -444,7 +444,8 @@ pub fn compute<
     ensures sees { Sees window.old window.new }
     ensures lawful { IsLawful window.new }
     ensures made { Makes (changes result) (own window.old) (own window.new) (past window.new) }
-    ensures crowded { result ≡ Err Refused.Capacity → HasNoRoom initial given.new.done }
+    ensures crowded { result ≡ Err Refused.Capacity → HasNoRoom initial
+        (tables_of window.new.sight.log) given.new.done }
     ensures computed { IsComputeBy K.eq key (past window.old) (past window.new) (Operates F.FnMut) f
         result }
 {

@@ -8,7 +8,7 @@ ghost use Rattle.papaya_map.specs.Asked.{IsMapRefusal};
 ghost use Rattle.papaya_map.specs.Fixed.{Fixed, IsFor};
 ghost use Rattle.papaya_map.specs.Powers.{IsPowerOfTwo-prop};
 ghost use Rattle.papaya_book.specs.Parts.{begun_of};
-ghost use Rattle.papaya_book.specs.Limits.{HasNoRoom};
+ghost use Rattle.papaya_book.specs.Limits.{HasNoRoom, tables_of};
 ghost use Rattle.papaya_change.specs.Changes.{IsPut};
 ghost use Rattle.papaya_map.specs.ComputeAnswers.{IsComputeBy, changes};
 ghost use Rattle.papaya_lookup.specs.History.{IsLegalHistory, Makes, Past, changes_by, history_of, key_of};
@@ -47,7 +47,7 @@ pub struct HashMap<K: Hash + Eq, V, S: BuildHasher = BuildHasherDefault<FoldHash
     alloc: Global,
     initial: usize,
     count: Count,
-    collector: Collector,
+    pub(crate) collector: Collector,
     pub(crate) book: Book<K, V, S>,
     ghost power: { IsPowerOfTwo initial } by { IsPowerOfTwo-prop initial },
 }
@@ -59,14 +59,16 @@ impl<K: Hash + Eq, V, S: BuildHasher> Model for HashMap<K, V, S> {
       book = m.book.begun.book;
       begun = begun_of m.book.parts;
       initial = m.initial;
+      collector = m.collector;
     } };
 }
 
 /// What a caller has seen of a map's history, and what it changed itself. Of all this it keeps no
 /// more than a number, by which its calls pick a shard of the map's count. Contracts see that
 /// history, which is legal, the changes that were made by this pass, oldest first, and which book
-/// they are of. Where its last change was refused for want of room, they see the number that a full
-/// log gave, or the sum of the map's count that makes a further table too long.
+/// they are of. They see how many slots each table has that it has seen come, oldest first. Where its
+/// last change was refused for want of room, they see the number that a full log gave, or the sum of
+/// the map's count by which the table after one of those would be too long.
 ///
 /// Each call by a pass stands in the history after all that the pass had seen before, and
 /// afterwards the pass has seen the call's own moment. A call that changes the map makes one change
@@ -86,6 +88,7 @@ impl<K: Hash + Eq, V, S: BuildHasher> Model for Pass<K, V, S> {
       book = p.sight.book;
       history = history_of p.sight.log;
       made = changes_by p.own.done;
+      tables = tables_of p.sight.log;
       given = p.given.done;
     } };
 
@@ -96,7 +99,7 @@ impl<K: Hash + Eq, V, S: BuildHasher> Model for Pass<K, V, S> {
 /// it was found when the map was pinned, so that calls need not look for the table again. Contracts
 /// see what they see of the map.
 pub struct HashMapRef<'a, K: Hash + Eq, V, S: BuildHasher> {
-    map: &'a HashMap<K, V, S>,
+    pub(crate) map: &'a HashMap<K, V, S>,
     kept: KeptRoot<'a, K, V, S>,
 }
 
@@ -225,11 +228,23 @@ impl<K: Hash + Eq, V, S: BuildHasher> HashMap<K, V, S> {
         ensures book { result.book ≡ self.now.book }
         ensures new { result.history ≡ [] }
         ensures made { result.made ≡ [] }
+        ensures tables { result.tables ≡ [] }
+        ensures given { result.given ≡ [] }
+    {
+        self.numbered(self.collector.enter().number())
+    }
+
+    /// A new pass of this map, whose calls pick the count's shard by this number.
+    pub(crate) fn numbered(&self, number: u64) -> Pass<K, V, S>
+        ensures book { result.book ≡ self.now.book }
+        ensures new { result.history ≡ [] }
+        ensures made { result.made ≡ [] }
+        ensures tables { result.tables ≡ [] }
         ensures given { result.given ≡ [] }
     {
         let sight = self.book.unseen();
         Pass {
-            number: self.collector.enter().number(),
+            number,
             sight,
             own: Own::nothing(),
             given: Own::nothing(),
@@ -247,9 +262,9 @@ impl<'a, K: Hash + Eq, V, S: BuildHasher> HashMapRef<'a, K, V, S> {
         requires second { b.old.book ≡ self.now.book }
         ensures books { (a.new.book ≡ a.old.book) × (b.new.book ≡ b.old.book) }
         ensures made { (a.new.made ≡ a.old.made) × (b.new.made ≡ b.old.made) }
-        ensures one { a.new.history ≡ b.new.history }
-        ensures first { IsPrefix a.old.history a.new.history }
-        ensures second { IsPrefix b.old.history b.new.history }
+        ensures one { (a.new.history ≡ b.new.history) × (a.new.tables ≡ b.new.tables) }
+        ensures first { IsPrefix a.old.history a.new.history × IsPrefix a.old.tables a.new.tables }
+        ensures second { IsPrefix b.old.history b.new.history × IsPrefix b.old.tables b.new.tables }
     {
         a.sight.learn(&b.sight);
         b.sight = a.sight.again();
@@ -263,6 +278,7 @@ impl<'a, K: Hash + Eq, V, S: BuildHasher> HashMapRef<'a, K, V, S> {
         requires { pass.old.book ≡ self.now.book }
         ensures book { pass.new.book ≡ pass.old.book }
         ensures seen { IsPrefix pass.old.history pass.new.history }
+        ensures tables { IsPrefix pass.old.tables pass.new.tables }
         ensures made { pass.new.made ≡ pass.old.made }
         ensures answered { IsAnsweredBetween K.eq (Q.matches key.now) pass.old.history
             pass.new.history result }
@@ -296,11 +312,12 @@ impl<'a, K: Hash + Eq, V, S: BuildHasher> HashMapRef<'a, K, V, S> {
         requires callable { F.IsAlwaysCallable should_remove }
         ensures book { pass.new.book ≡ pass.old.book }
         ensures seen { IsPrefix pass.old.history pass.new.history }
+        ensures tables { IsPrefix pass.old.tables pass.new.tables }
         ensures made { Makes (went result) pass.old.made pass.new.made pass.new.history }
         ensures removed { IsRemovalBy K.eq (Q.matches key.now) pass.old.history pass.new.history
             (Judges F.FnMut) should_remove result }
         ensures crowded { result ≡ Err Refused.Capacity → HasNoRoom self.now.initial
-            pass.new.given }
+            pass.new.tables pass.new.given }
     {
         let map: &'a HashMap<K, V, S> = self.map;
         let shard = map.count.shard(pass.number);
@@ -333,11 +350,12 @@ impl<'a, K: Hash + Eq, V, S: BuildHasher> HashMapRef<'a, K, V, S> {
         requires { pass.old.book ≡ self.now.book }
         ensures book { pass.new.book ≡ pass.old.book }
         ensures seen { IsPrefix pass.old.history pass.new.history }
+        ensures tables { IsPrefix pass.old.tables pass.new.tables }
         ensures made { Makes (took result) pass.old.made pass.new.made pass.new.history }
         ensures removed { IsRemoved K.eq (Q.matches key.now) pass.old.history pass.new.history
             result }
         ensures crowded { result ≡ Err Refused.Capacity → HasNoRoom self.now.initial
-            pass.new.given }
+            pass.new.tables pass.new.given }
     {
         let removed = self.remove_if_as(
             rt,
@@ -363,7 +381,8 @@ impl<'a, K: Hash + Eq + Drop, V: Drop, S: BuildHasher> HashMapRef<'a, K, V, S> {
     /// Where the key finds no place in the table, the call makes a further one, to which the pairs
     /// are copied. `Refused::Memory` where a growth was refused. `Refused::Capacity` where the log of
     /// pairs or that of tables is full: it gave a number past its limit, which the pass shows then. Or
-    /// where the further table would be too long, by the sum of the count that the pass shows then.
+    /// where the further table would be too long, by the sum of the count that the pass shows then and
+    /// the length of a table that it has seen.
     /// Refused, the pass makes no change, and else this one.
     pub fn insert_as<R: Wait>(
         &self,
@@ -375,13 +394,14 @@ impl<'a, K: Hash + Eq + Drop, V: Drop, S: BuildHasher> HashMapRef<'a, K, V, S> {
         requires { pass.old.book ≡ self.now.book }
         ensures book { pass.new.book ≡ pass.old.book }
         ensures seen { IsPrefix pass.old.history pass.new.history }
+        ensures tables { IsPrefix pass.old.tables pass.new.tables }
         ensures made { Makes (is_ok result) pass.old.made pass.new.made pass.new.history }
         ensures put { IfOk result (λ answer. IsPut K.eq key value pass.old.history pass.new.history
             answer) }
         ensures refused { IfErr result (λ refused. (refused ≡ Refused.Memory)
             ⊎ (refused ≡ Refused.Capacity)) }
         ensures crowded { result ≡ Err Refused.Capacity → HasNoRoom self.now.initial
-            pass.new.given }
+            pass.new.tables pass.new.given }
     {
         let map: &'a HashMap<K, V, S> = self.map;
         let shard = map.count.shard(pass.number);
@@ -426,9 +446,10 @@ impl<'a, K: Hash + Eq + Drop, V: Drop, S: BuildHasher> HashMapRef<'a, K, V, S> {
         requires callable { F.IsAlwaysCallable f }
         ensures book { pass.new.book ≡ pass.old.book }
         ensures seen { IsPrefix pass.old.history pass.new.history }
+        ensures tables { IsPrefix pass.old.tables pass.new.tables }
         ensures made { Makes (changes result) pass.old.made pass.new.made pass.new.history }
         ensures crowded { result ≡ Err Refused.Capacity → HasNoRoom self.now.initial
-            pass.new.given }
+            pass.new.tables pass.new.given }
         ensures computed { IsComputeBy K.eq key pass.old.history pass.new.history (Operates F.FnMut)
             f result }
     {

@@ -20,6 +20,8 @@ mod insertions;
 #[cfg(test)]
 mod numbers;
 #[cfg(test)]
+mod plain;
+#[cfg(test)]
 mod refused;
 #[cfg(test)]
 mod removals;

@@ -7,7 +7,7 @@ use Rattle.papaya_chain.specs.declared.ask.Answer.TheVariants as answers
 use Rattle.papaya_chain.specs.declared.ask.Ask.TheVariants.{Call}
 use Rattle.papaya_chain.specs.declared.machine.Machine.{Machine}
 use Rattle.papaya_chain.specs.Machine.{after, ask_of, started}
-use Rattle.papaya_book.specs.Limits.{HasNoRoom}
+use Rattle.papaya_book.specs.Limits.{HasNoRoom, tables_of}
 use Rattle.papaya_book.specs.Plays.{made_list}
 use Rattle.papaya_change.specs.declared.driver.Driver.{Driver}
 use Rattle.papaya_change.specs.Changing.{IsDriven}
@@ -79,16 +79,16 @@ loop-preserved g c =
     (subst (λ (z : Bor (BookOf _ _ _ _)). IsInserting g.K.PartialEq.eq (hash_of g.K.Hash.hash_input g.S.BuildHasher.build_hasher g.S.Hasher.Hasher.write g.S.Hasher.Hasher.finish) (begun_of z.now.parts) z.now.begun.book key value u.0 c.answer.new.window.sight.log (record c.answer.new.self { writer = record c.answer.new.self.writer { call = record c.answer.new.self.writer.call { machine = after c.answer.new.self.writer.call.machine (answers.Call answer) } } })) (sym c.answer.ensures.sees.book) (c.in-Some-answer.ensures.inserts key value u.0 u.2).0) in
     let query = own_query g.K.PartialEq.eq g.K.Hash.hash_input g.S.BuildHasher.build_hasher g.S.Hasher.Hasher.write g.S.Hasher.Hasher.finish g.met.K.Eq.laws g.met.K.Hash.respects_eq b w.begun.book key in
     let driven = c.help.ensures.goes_on (g.K.PartialEq.eq key) ((hash_of g.K.Hash.hash_input g.S.BuildHasher.build_hasher g.S.Hasher.Hasher.write g.S.Hasher.Hasher.finish) b.hasher key) (form g.K.PartialEq.eq g.K.Hash.hash_input g.S.BuildHasher.build_hasher g.S.Hasher.Hasher.write g.S.Hasher.Hasher.finish g.met.K.Eq.laws g.met.K.Hash.respects_eq b (g.K.PartialEq.eq key) (g.K.Hash.hash_input key) query (Some key) w.begun.book u.0) (Some key) u.0 (made_list x.made) on.writing.calling in
-    let went = inserting_helped g.K.PartialEq.eq (hash_of g.K.Hash.hash_input g.S.BuildHasher.build_hasher g.S.Hasher.Hasher.write g.S.Hasher.Hasher.finish) b w.begun.book key value u.0 c.answer.new.window.sight.log log x on then driven c.help.ensures.rest.1 c.help.ensures.calling (λ e. (c.help.ensures.still e).0) c.help.ensures.helped in
+    let went = inserting_helped g.K.PartialEq.eq (hash_of g.K.Hash.hash_input g.S.BuildHasher.build_hasher g.S.Hasher.Hasher.write g.S.Hasher.Hasher.finish) b w.begun.book key value u.0 c.answer.new.window.sight.log log c.help.ensures.sees.log x on then driven c.help.ensures.rest.1 c.help.ensures.calling (λ e. (c.help.ensures.still e).0) c.help.ensures.helped in
     let same : call.machine ≡ after m (answers.Call answer) = ap (λ (z : Driver _ _ _ _). z.machine) c.answer-in-Some-answer.ensures.after ∙ ap (λ (z : Machine). after z (answers.Call answer)) c.answer.ensures.machine in
     let does = does_on m c.loop.invariant.2 answer c.args.window.now c.loop.window c.answer.new.window c.loop.invariant.5 c.in-Some-answer.ensures.answers in
     let does_call = subst (λ (z : Machine). Does (has_changed z) c.args.window.now c.answer.new.window) (sym same) does in (
       (u.0, u.1, subst (λ (z : Bor (BookOf _ _ _ _)). IsInserting g.K.PartialEq.eq (hash_of g.K.Hash.hash_input g.S.BuildHasher.build_hasher g.S.Hasher.Hasher.write g.S.Hasher.Hasher.finish) (begun_of z.now.parts) z.now.begun.book key value u.0 log (record x { writer = record x.writer { call = then } })) (sym c.help.ensures.sees.book) went),
       c.help.ensures.standing,
       c.help.ensures.calling,
-      (helped_keeps call.machine then.machine then.given.done c.help.ensures.helped).initial ∙ (ap (λ (z : Machine). z.call.initial) same ∙ ((own_settings m c.loop.invariant.2 answer).0 ∙ c.loop.invariant.3)),
+      (helped_keeps call.machine then.machine (tables_of log) then.given.done c.help.ensures.helped).initial ∙ (ap (λ (z : Machine). z.call.initial) same ∙ ((own_settings m c.loop.invariant.2 answer).0 ∙ c.loop.invariant.3)),
       sees_trans _ _ _ (sees_trans _ _ _ c.loop.invariant.4 c.answer.ensures.sees) c.help.ensures.sees,
-      helped_does call.machine then.machine then.given.done c.help.ensures.calling c.help.ensures.helped c.args.window.now c.answer.new.window c.help.new.window (λ e. (c.help.ensures.still e).1) c.help.ensures.own does_call,
+      helped_does call.machine then.machine (tables_of log) then.given.done c.help.ensures.calling c.help.ensures.helped c.args.window.now c.answer.new.window c.help.new.window (λ e. (c.help.ensures.still e).1) c.help.ensures.own does_call,
     )
 
 pub replied-requires-clause-can : goal.replied-requires-clause-can
@@ -116,4 +116,4 @@ returns-in-None-answer-clause-crowded g c = λ e.
     let u = c.loop.invariant.0 in let r = (c.in-None-answer.ensures.inserts c.args.key c.args.value u.0 u.2).0 in
     let refused = subst (λ (z : _). IfErr z (λ cause. ask_of c.answer.new.self.writer.call.machine ≡ Call (Done (Refused cause)))) e c.replied.ensures.refusal in
     let initial : c.answer.new.self.writer.call.machine.call.initial ≡ c.args.initial = ap (λ (z : Machine). z.call.initial) c.answer.ensures.machine ∙ c.loop.invariant.3 in
-    rw c.again.ensures (subst (λ n. HasNoRoom n c.answer.new.self.writer.call.given.done) initial (r.crowded refused))
+    rw c.again.ensures (subst (λ n. HasNoRoom n (tables_of c.answer.new.window.sight.log) c.answer.new.self.writer.call.given.done) initial (r.crowded refused))

@@ -2,6 +2,7 @@ use Rattle.std.proofs.Common.{◌≡◌, sym, ap, ◌∙◌, subst}
 use Rattle.papaya_chain.specs.declared.ask.Ask.TheVariants.{Copy}
 use Rattle.papaya_chain.specs.Machine.{IsStanding, ask_of}
 use Rattle.papaya_book.specs.Hashes.{hash_of}
+use Rattle.papaya_book.specs.Limits.{tables_of}
 use Rattle.papaya_book.specs.Parts.{begun_of}
 use Rattle.papaya_book.specs.Rule.{IsLawfulLog}
 use Rattle.papaya_book.proofs.Windows.{sees_trans}
@@ -14,7 +15,7 @@ use Rattle.papaya_change.proofs.HelpingLeads.{busy}
 use Rattle.papaya_change.proofs.driver.Driver.help.Goals as goal
 
 pub returns-in_default-clause-helped : goal.returns-in_default-clause-helped
-returns-in_default-clause-helped g c = helped c.args.self.now.machine c.loop.self.machine c.loop.self.given.done c.loop.invariant.reached (calls c.loop.self.machine (λ ask asked. c.in_default.not-Copy ask (c.ask.ensures.value ∙ asked)))
+returns-in_default-clause-helped g c = helped c.args.self.now.machine c.loop.self.machine (tables_of c.loop.window.sight.log) c.loop.self.given.done c.loop.invariant.reached (calls c.loop.self.machine (λ ask asked. c.in_default.not-Copy ask (c.ask.ensures.value ∙ asked)))
 
 pub copy-answer-requires-clause-can : goal.copy-answer-requires-clause-can
 copy-answer-requires-clause-can g c =
@@ -46,7 +47,7 @@ loop-preserved g c =
       own = c.arrive.ensures.own ∙ (c.copy-answer.ensures.own ∙ c.loop.invariant.own);
       standing = subst IsStanding (sym (ap (λ (z : Driver _ _ _ _). z.machine) is)) c.answer.ensures.standing;
       goes_on = goes_further g.K.PartialEq.eq g.K.Hash.hash_input g.S.BuildHasher.build_hasher g.S.Hasher.Hasher.write g.S.Hasher.Hasher.finish g.met.K.Eq.laws g.met.K.Hash.respects_eq (begun_of c.args.window.now.book.now.parts) c.args.window.now.book.now.begun.book c.args.window.now.sight.log c.loop.window.sight.log c.args.self.now c.loop.self c.loop.invariant.goes_on c.requires.can c.copy-answer.new.window.sight.log c.copy-answer.new.self c.copy-answer.result copies machine_is c.answer.new.self c.answer.ensures.after c.arrive.new.self is c.arrive.new.window.sight.log c.copy-answer.ensures.sees.log c.arrive.ensures.sees.log lawful (ap (λ (z : Driver _ _ _ _). z.table) rest) c.arrive.ensures.held c.arrive.ensures.still;
-      reached = reached_now g.K.PartialEq.eq g.K.Hash.hash_input g.S.BuildHasher.build_hasher g.S.Hasher.Hasher.write g.S.Hasher.Hasher.finish g.met.K.Eq.laws g.met.K.Hash.respects_eq (begun_of c.args.window.now.book.now.parts) c.args.window.now.book.now.begun.book c.args.window.now.sight.log c.loop.window.sight.log c.args.self.now c.loop.self c.loop.invariant.goes_on c.requires.can c.copy-answer.new.window.sight.log c.copy-answer.new.self c.copy-answer.result copies machine_is c.answer.new.self c.answer.ensures.after c.arrive.new.self is c.loop.invariant.reached c.in-Copy.ask asked;
+      reached = reached_now g.K.PartialEq.eq g.K.Hash.hash_input g.S.BuildHasher.build_hasher g.S.Hasher.Hasher.write g.S.Hasher.Hasher.finish g.met.K.Eq.laws g.met.K.Hash.respects_eq (begun_of c.args.window.now.book.now.parts) c.args.window.now.book.now.begun.book c.args.window.now.sight.log c.loop.window.sight.log c.args.self.now c.loop.self c.loop.invariant.goes_on c.requires.can c.copy-answer.new.window.sight.log c.copy-answer.new.self c.copy-answer.result copies machine_is c.answer.new.self c.answer.ensures.after c.arrive.new.self is c.loop.invariant.reached c.in-Copy.ask asked c.arrive.new.window.sight.log c.arrive.ensures.sees.log;
       rest = (
         ap (λ (z : Driver _ _ _ _). z.taken) is ∙ (ap (λ (z : Driver _ _ _ _). z.taken) rest ∙ c.loop.invariant.rest.0),
         ap (λ (z : Driver _ _ _ _). z.put) is ∙ (ap (λ (z : Driver _ _ _ _). z.put) rest ∙ c.loop.invariant.rest.1),

@@ -1,6 +1,8 @@
 use Rattle.std.proofs.Common.{subst}
 use mathlib.Core.List.{IsPrefix}
 use Rattle.papaya_lookup.specs.History.{Past, history_of}
+use Rattle.papaya_book.specs.Limits.{tables_of}
+use Rattle.papaya_book.proofs.Lengths.{tables_since}
 use Rattle.papaya_lookup.proofs.Histories.{history_legal, history_since}
 use Rattle.papaya_map.proofs.map.HashMapRef.meet.Goals as goal
 
@@ -13,7 +15,7 @@ pub invariant_of-b : goal.invariant_of-b
 invariant_of-b g c = rw c.again.ensures (invariant_of-a g c)
 
 pub returns-clause-first : goal.returns-clause-first
-returns-clause-first g c = subst (λ (z : Past g.row.K.Denot g.row.V.Denot). IsPrefix z.history (history_of c.learn.new.self.log)) c.a.view_is (history_since c.a.inside.sight.log c.learn.new.self.log c.learn.ensures.2)
+returns-clause-first g c = subst (λ (z : Past g.row.K.Denot g.row.V.Denot). IsPrefix z.history (history_of c.learn.new.self.log) × IsPrefix z.tables (tables_of c.learn.new.self.log)) c.a.view_is (history_since c.a.inside.sight.log c.learn.new.self.log c.learn.ensures.2, tables_since c.a.inside.sight.log c.learn.new.self.log c.learn.ensures.2)
 
 pub returns-clause-second : goal.returns-clause-second
-returns-clause-second g c = rw c.again.ensures (subst (λ (z : Past g.row.K.Denot g.row.V.Denot). IsPrefix z.history (history_of c.learn.new.self.log)) c.b.view_is (history_since c.b.inside.sight.log c.learn.new.self.log c.learn.ensures.3))
+returns-clause-second g c = rw c.again.ensures (subst (λ (z : Past g.row.K.Denot g.row.V.Denot). IsPrefix z.history (history_of c.learn.new.self.log) × IsPrefix z.tables (tables_of c.learn.new.self.log)) c.b.view_is (history_since c.b.inside.sight.log c.learn.new.self.log c.learn.ensures.3, tables_since c.b.inside.sight.log c.learn.new.self.log c.learn.ensures.3))

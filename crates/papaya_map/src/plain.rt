@@ -1,0 +1,155 @@
+//! The calls that take no pass. Each is the call of that name by a pass made for it alone, so what
+//! it says is so of a history that no caller is shown.
+ghost use Rattle.std.specs.Prelude.{◌≡◌, [], true, IfOk, IfErr, ◌⊎◌};
+ghost use Rattle.papaya_lookup.specs.Answers.{IsAnsweredBetween};
+ghost use Rattle.papaya_change.specs.Changes.{IsPut};
+ghost use Rattle.papaya_change.specs.RemovalAnswers.{IsEntryRemoved, IsRemovalBy, IsRemoved};
+ghost use Rattle.papaya_change.specs.Showings.{Judges, Operates};
+ghost use Rattle.papaya_map.specs.ComputeAnswers.{IsComputeBy};
+ghost use Rattle.papaya_map.specs.Plain.{IsOfHistory};
+
+use crate::map::{HashMap, HashMapRef, Pass};
+use papaya_call::answers::Operation;
+use papaya_keys::compute::Compute;
+use papaya_keys::guard::Equivalent;
+use papaya_words::probe::Refused;
+use std::hash::{BuildHasher, Hash};
+use std::sync::Wait;
+
+impl<'a, K: Hash + Eq, V, S: BuildHasher> HashMapRef<'a, K, V, S> {
+    /// The map that was pinned: `map` of 0.2.5.
+    pub fn map(&self) -> &'a HashMap<K, V, S>
+        ensures { result.now ≡ self.now }
+    {
+        self.map
+    }
+
+    /// How many pairs were counted. A change is counted a step after it was made.
+    pub fn len(&self) -> usize {
+        self.map.len()
+    }
+
+    /// Were no pairs counted?
+    pub fn is_empty(&self) -> bool {
+        self.map.is_empty()
+    }
+
+    /// The value of a key: `get` of 0.2.5. It waits for nobody, and takes no lock and no memory.
+    #[inline]
+    pub fn get<Q: Equivalent<K>>(&self, key: &Q) -> Option<&'a V>
+        ensures { IsOfHistory K.eq (λ h. IsAnsweredBetween K.eq (Q.matches key.now) [] h result) }
+    {
+        let mut pass = self.map.numbered(0);
+        self.get_as(key, &mut pass)
+    }
+
+    /// Has a key a value? `contains_key` of 0.2.5.
+    #[inline]
+    pub fn contains_key<Q: Equivalent<K>>(&self, key: &Q) -> bool {
+        self.get(key).is_some()
+    }
+
+    /// Removes a key's pair, and answers its value: `remove` of 0.2.5.
+    ///
+    /// Refused as [`HashMapRef::remove_if_as`] is, and then it changes nothing.
+    pub fn remove<R: Wait, Q: Equivalent<K>>(
+        &self,
+        rt: &R,
+        key: &Q,
+    ) -> Result<Option<&'a V>, Refused>
+        ensures { IsOfHistory K.eq (λ h. IsRemoved K.eq (Q.matches key.now) [] h result) }
+    {
+        let mut pass = self.map.pass();
+        self.remove_as(rt, key, &mut pass)
+    }
+
+    /// Removes a key's pair if the closure, which is shown it, answers true: `remove_if` of 0.2.5.
+    ///
+    /// It answers and is refused as [`HashMapRef::remove_if_as`] is.
+    pub fn remove_if<R: Wait, Q: Equivalent<K>, F: FnMut(&K, &V) -> bool>(
+        &self,
+        rt: &R,
+        key: &Q,
+        should_remove: F,
+    ) -> Result<Result<Option<(&'a K, &'a V)>, (&'a K, &'a V)>, Refused>
+        requires { F.IsAlwaysCallable should_remove }
+        ensures { IsOfHistory K.eq (λ h. IsRemovalBy K.eq (Q.matches key.now) [] h
+            (Judges F.FnMut) should_remove result) }
+    {
+        let mut pass = self.map.pass();
+        self.remove_if_as(rt, key, should_remove, &mut pass)
+    }
+
+    /// Removes a key's pair, and answers it: `remove_entry` of 0.2.5.
+    ///
+    /// Refused as [`HashMapRef::remove_if_as`] is, and then it changes nothing.
+    pub fn remove_entry<R: Wait, Q: Equivalent<K>>(
+        &self,
+        rt: &R,
+        key: &Q,
+    ) -> Result<Option<(&'a K, &'a V)>, Refused>
+        ensures { IsOfHistory K.eq (λ h. IsEntryRemoved K.eq (Q.matches key.now) [] h result) }
+    {
+        let mut pass = self.map.pass();
+        self.remove_entry_as(rt, key, &mut pass)
+    }
+
+    /// The same by a pass.
+    pub(crate) fn remove_entry_as<R: Wait, Q: Equivalent<K>>(
+        &self,
+        rt: &R,
+        key: &Q,
+        pass: &mut Pass<K, V, S>,
+    ) -> Result<Option<(&'a K, &'a V)>, Refused>
+        requires { pass.old.book ≡ self.now.book }
+        ensures removed { IsEntryRemoved K.eq (Q.matches key.now) pass.old.history
+            pass.new.history result }
+    {
+        let removed = self.remove_if_as(
+            rt,
+            key,
+            |_, _|
+                ensures { result ≡ true }
+            { true },
+            pass,
+        );
+        match removed {
+            Ok(Ok(Some(entry))) => Ok(Some(entry)),
+            Ok(Ok(None)) => Ok(None),
+            Ok(Err(_)) => unreachable!(),
+            Err(refused) => Err(refused),
+        }
+    }
+}
+
+impl<'a, K: Hash + Eq + Drop, V: Drop, S: BuildHasher> HashMapRef<'a, K, V, S> {
+    /// Stores a pair, and answers the value that its key had: `insert` of 0.2.5. As there, the new
+    /// key takes the old one's place too.
+    ///
+    /// Refused as [`HashMapRef::insert_as`] is, and then it changes nothing.
+    pub fn insert<R: Wait>(&self, rt: &R, key: K, value: V) -> Result<Option<&'a V>, Refused>
+        ensures put { IfOk result (λ answer. IsOfHistory K.eq (λ h. IsPut K.eq key value [] h
+            answer)) }
+        ensures refused { IfErr result (λ refused. (refused ≡ Refused.Memory)
+            ⊎ (refused ≡ Refused.Capacity)) }
+    {
+        let mut pass = self.map.pass();
+        self.insert_as(rt, key, value, &mut pass)
+    }
+
+    /// What the closure makes of the key's pair, or of its absence: `compute` of 0.2.5.
+    ///
+    /// It shows, answers and is refused as [`HashMapRef::compute_as`] does.
+    pub fn compute<R: Wait, T: Drop, F: FnMut(Option<(&'a K, &'a V)>) -> Operation<V, T>>(
+        &self,
+        rt: &R,
+        key: K,
+        f: F,
+    ) -> Result<Compute<'a, K, V, T>, Refused>
+        requires { F.IsAlwaysCallable f }
+        ensures { IsOfHistory K.eq (λ h. IsComputeBy K.eq key [] h (Operates F.FnMut) f result) }
+    {
+        let mut pass = self.map.pass();
+        self.compute_as(rt, key, f, &mut pass)
+    }
+}
