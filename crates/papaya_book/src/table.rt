@@ -8,12 +8,14 @@ use crate::rule::law::Law;
 use logbook::Word;
 use std::hash::{BuildHasher, Hash};
 use std::marker::Model;
+use std::sync::{Mutex, MutexGuard, Wait};
 
 /// An atomic word of the map.
 pub type Cell<K, V, S> = Word<Event<K, V, S>, Named<K, V>, Law<K, V, S>>;
 
 /// A table: its slots, how far a search of it goes, and how far its resize has come. Contracts see
-/// it as the keys of its words.
+/// it as the keys of its words. Who makes its next table holds `making`, so that not each thread
+/// that needs one pays for it.
 #[derive(Drop)]
 pub struct Table<K: Hash + Eq, V, S: BuildHasher> {
     pub limit: usize,
@@ -21,6 +23,7 @@ pub struct Table<K: Hash + Eq, V, S: BuildHasher> {
     pub aborted: Cell<K, V, S>,
     pub done: Cell<K, V, S>,
     pub slots: Vec<Cell<K, V, S>>,
+    pub making: Mutex<()>,
 }
 
 impl<K: Hash + Eq, V, S: BuildHasher> Model for Table<K, V, S> {
@@ -81,6 +84,12 @@ impl<K: Hash + Eq, V, S: BuildHasher> Table<K, V, S> {
         ensures { result.now ≡ word_named self.now.book self.now.next }
     {
         &self.next
+    }
+
+    /// Waits until no other thread makes the next table, and keeps the others waiting until the guard
+    /// goes. No lookup takes it, and no contract rests on it.
+    pub fn lock_next<R: Wait>(&self, rt: &R) -> MutexGuard<'_, ()> {
+        self.making.lock(rt)
     }
 
     /// The word that says whether the table was given up.

@@ -24,6 +24,8 @@ use Rattle.papaya_chain_rests.specs.Goes.{link_in}
 use Rattle.papaya_chain_rests.specs.Told.{IsCopyTold}
 use Rattle.papaya_chain_rests.proofs.LinkMade.{IsMadeLink, is_made, link_tried, machine_linking, machine_links, made_is}
 use Rattle.papaya_chain_rests.proofs.LinkStates.{In}
+use Rattle.papaya_law.specs.Class.{IsOn}
+use Rattle.papaya_law.specs.Exchange.{Exchange, run, start}
 use Rattle.papaya_rests.specs.Told.{or_last}
 use Rattle.papaya_book.specs.declared.rule.entry.Begun.{Begun}
 use Rattle.papaya_book.specs.declared.rule.entry.Event.{Event}
@@ -42,13 +44,16 @@ use Rattle.papaya_book.proofs.Lengths.{table_slots}
 use Rattle.papaya_book.proofs.TableSizes.{sizes}
 use Rattle.papaya_change.specs.declared.driver.Driver.{Driver}
 use Rattle.papaya_change.specs.Changing.{IsBringing, IsDriven, IsForm, IsFresh, hands_with}
+use Rattle.papaya_change.specs.Copier.{marked_or}
 use Rattle.papaya_change.specs.Helping.{HasCopied, IsGivenBy, IsLoadedFor, IsSetAside, IsTriedFor}
 use Rattle.papaya_change.proofs.HelpingRests.{copied, leads, new_hand, same_hand}
-use Rattle.papaya_change.proofs.HelpingPlaces.{HasComeFor, all_there, came_for, chain_came, slot_within}
-use Rattle.papaya_change.proofs.HelpingExchanges.{C, G, can_copy, can_link, grown, lost, marked_or, tried_link, word_there}
+use Rattle.papaya_change.proofs.HelpingFollows.{follows_on}
+use Rattle.papaya_change.proofs.HelpingPlaces.{HasComeFor, all_there, came_for, chain_came, resting, slot_within}
+use Rattle.papaya_change.proofs.Resting.{coded, wide}
+use Rattle.papaya_change.proofs.HelpingExchanges.{C, G, can_copy, can_link, grown, lost, tried_link, word_there}
 
 -- a pair that a call holds is in the logs
-placed_or : {K V S : Type 0} (b : Begun K V S) (name : Book) (pair last : Option (Stored K V)) → IsPlaced b (Some name) (pair_named pair) → IsPlaced b (Some name) (pair_named last) → IsPlaced b (Some name) (pair_named (or_last pair last))
+pub placed_or : {K V S : Type 0} (b : Begun K V S) (name : Book) (pair last : Option (Stored K V)) → IsPlaced b (Some name) (pair_named pair) → IsPlaced b (Some name) (pair_named last) → IsPlaced b (Some name) (pair_named (or_last pair last))
 placed_or b name None last p q = q
 placed_or b name (Some z) last p q = p
 
@@ -67,6 +72,13 @@ module _ {K V S H : Type 0} (eq : K → K → Bool) (input : K → List (List �
 
   pub size_came : (t : ℕ) → ask_of c.machine ≡ asks.Copy (copies.SizeOf t) → HasCome v t
   size_came t asked = chain_came v t (all_there eq input build write finish classes respects b name matches fed form k begun v c.machine c.table c.last c.kept made c.taken c.put c.fresh r (copies.SizeOf t) asked)
+
+  -- so has the one that is to get a next table
+  pub follows_came : (slots limit : ℕ) → ask_of c.machine ≡ asks.Copy (copies.MakeTable slots limit) → HasCome v (follows_of c.machine)
+  follows_came slots limit asked =
+      let rest = resting eq input build write finish classes respects b name matches fed form k begun v c.machine c.table c.last c.kept made c.taken c.put c.fresh r in
+      chain_came v (follows_of c.machine) (subst (λ (z : List (Exchange (Stored K V))). IsOn (run z start).first (run z start).next (follows_of c.machine)) rest.is
+      (follows_on (wide eq input build write finish classes respects b matches fed form k (exchanges_of begun) v) (coded eq input build write finish classes respects b matches fed form k (exchanges_of begun)) slots limit (exchanges_of begun) rest.since k c.machine (hands_with c.last c.kept made) rest.rests asked))
 
   -- and has the slot
   pub load_low : (t x : ℕ) → ask_of c.machine ≡ asks.Copy (copies.Load (Slot t x)) → (log : List (Event K V S)) → IsPrefix v log → (sheet : Sheet) → IsTable log t sheet → x < length sheet.slots

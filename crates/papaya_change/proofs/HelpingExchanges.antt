@@ -46,14 +46,10 @@ use Rattle.papaya_book.proofs.Logs.{prefix_trans}
 use Rattle.papaya_book.proofs.Wishes.{IsOfCopy, copy_wished}
 use Rattle.papaya_lookup.proofs.Driving.{word_same}
 use Rattle.papaya_change.specs.Changing.{IsCalling, IsForm, hands_with}
+use Rattle.papaya_change.specs.Copier.{marked_or}
 use Rattle.papaya_change.specs.Helping.{IsTriedFor, pair_at}
 use Rattle.papaya_change.proofs.HelpingPlaces.{resting}
 use Rattle.papaya_change.proofs.Resting.{ChainResting, coded, hashed_in, resting_later, resting_may, wide}
-
--- the pair last told of, after an exchange of this kind: the one that was marked
-abbrev pub marked_or : {P : Type 0} → Option StepKind → (pair last : Option P) → Option P
-marked_or (Some kinds.Mark) pair last = pair
-marked_or kind pair last = last
 
 -- an exchange of another kind marks none
 pub unmarked : {P : Type 0} (kind : Option StepKind) (pair last : Option P) → (kind ≡ Some kinds.Mark → ⊥) → last ≡ marked_or kind pair last

@@ -23,10 +23,18 @@ pub mod RemovingReplies
 pub mod RemovingHelped
 -- copies for a call that is set aside
 pub mod HelpingPlaces
+pub mod HelpingFollows
 pub mod Sized
 pub mod HelpingLeads
 pub mod HelpingExchanges
+pub mod Copiers
 pub mod HelpingRests
 pub mod HelpingAnswers
+pub mod HelpingCopies
 pub mod HelpingArrives
 pub mod HelpingGoes
+-- calls that resize
+pub mod ResizingStages
+pub mod ResizingRests
+pub mod ResizingAnswers
+pub mod ResizingOpens

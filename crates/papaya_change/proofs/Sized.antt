@@ -26,14 +26,14 @@ counting_since tables tables' pre m counts behind len unfit e = member_since len
 
 module _ (tables : List ℕ) where
   -- the length that was told is that of one of these
-  abbrev IsSizedLink : Link → Type 0
+  abbrev pub IsSizedLink : Link → Type 0
   IsSizedLink (links.Counting behind unfit len) = Member len tables
   IsSizedLink _ = Unit {0}
 
-  abbrev Told : Link → ℕ → Type 0
+  abbrev pub Told : Link → ℕ → Type 0
   Told made slots = Member slots tables
 
-  abbrev New : Link → ℕ → Type 0
+  abbrev pub New : Link → ℕ → Type 0
   New made n = Unit {0}
 
   -- the making of a table
@@ -64,7 +64,7 @@ module _ (tables : List ℕ) where
   link_found (links.Linking behind table) word h = tt
   link_found other word h = h
 
-  stable : IsStable IsSizedLink Told New
+  pub stable : IsStable IsSizedLink Told New
   stable = record {
     fresh = λ behind unfit. tt;
     sizes = link_size;
@@ -76,7 +76,7 @@ module _ (tables : List ℕ) where
   }
 
   -- in other words
-  sized_is : (o : Option Link) → ((behind len : ℕ) (unfit : Bool) → o ≡ Some (links.Counting behind unfit len) → Member len tables) → In IsSizedLink o
+  pub sized_is : (o : Option Link) → ((behind len : ℕ) (unfit : Bool) → o ≡ Some (links.Counting behind unfit len) → Member len tables) → In IsSizedLink o
   sized_is None h = tt
   sized_is (Some (links.Counting behind unfit len)) h = h behind len unfit refl
   sized_is (Some other) h = tt

@@ -1,12 +1,10 @@
 -- What a changing call under way holds and is told, by what it sees of the map.
-use Rattle.std.specs.Prelude.{ℕ, Option}
+use Rattle.std.specs.Prelude.{ℕ}
 use Rattle.papaya_ask.specs.declared.ask.At.{At}
 use Rattle.papaya_book.specs.declared.keyed.Keyed as keyed
 use Rattle.papaya_book.specs.declared.window.Window.{Window}
-use Rattle.papaya_book.specs.Logs.{Stored}
 use Rattle.papaya_book.specs.Parts.{begun_of}
 use Rattle.papaya_chain.specs.declared.ask.Answer.{Answer}
-use Rattle.papaya_chain.specs.Machine.{kind_of_ask}
 use Rattle.papaya_change.specs.declared.driver.Driver.{Driver}
 use Rattle.papaya_change.specs.Changing as changing
 use Rattle.papaya_change.specs.Driver as driver
@@ -31,19 +29,6 @@ module _ {K V S H : Type 0} {d : keyed.Ghosts S K H} where
   abbrev pub GoesOn : Window K V S H d → Driver K V S H → Window K V S H d → Driver K V S H → Type 0
   GoesOn w c w' c' = changing.GoesOn d.keys.eq d.keys.hash (begun_of w.book.now.parts)
       w.book.now.begun.book w.sight.log c w'.sight.log c'
-
-  -- a word was loaded for a copy
-  abbrev pub LoadsFor : At → ℕ → Driver K V S H → Window K V S H d → Driver K V S H → Window K V S H d
-      → Type 0
-  LoadsFor at word c w c' w' = helping.IsLoadedFor d.keys.eq d.keys.hash
-      (begun_of w.book.now.parts) w.book.now.begun.book at word w'.sight.log c.last c'.last
-
-  -- an exchange was tried for a copy
-  abbrev pub TriesFor : At → (words : ℕ × ℕ) → Driver K V S H → Window K V S H d → Window K V S H d
-      → ℕ × Option (Stored K V) → Type 0
-  TriesFor at words c w w' tried = helping.IsTriedFor d.keys.eq d.keys.hash
-      (begun_of w.book.now.parts) w.book.now.begun.book at (kind_of_ask c.machine) words.0 words.1
-      c.kept w.sight.log tried.0 w'.sight.log tried.1
 
   -- a call that was set aside was answered so what it asked for a copy
   abbrev pub Copies : Window K V S H d → Driver K V S H → Window K V S H d → Driver K V S H → Answer

@@ -2,14 +2,18 @@ pub mod Changes
 pub mod Changing
 pub mod Driver
 pub mod Helping
+pub mod Copier
 pub mod Doing
 pub mod Writing
 pub mod Inserting
 pub mod Showings
 pub mod RemovalAnswers
 pub mod Removing
+pub mod Resizing
 -- the same by what is seen of the map
+pub mod Resizes
 pub mod Drivers
+pub mod Copiers
 pub mod Writers
 pub mod Insertions
 pub mod Removals

@@ -2,8 +2,10 @@
 //! machines.
 #![tactic(auto)]
 
+pub mod copier;
 pub mod driver;
 pub mod helping;
 pub mod insertion;
 pub mod removal;
+pub mod resizing;
 pub mod writing;

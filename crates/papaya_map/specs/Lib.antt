@@ -10,3 +10,5 @@ pub mod Powers
 pub mod Computes
 -- what a call says that takes no pass
 pub mod Plain
+-- what is asked for of a map before it is built
+pub mod Wanted

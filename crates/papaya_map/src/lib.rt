@@ -1,12 +1,14 @@
 //! The map that threads share.
 //!
 //! [`map`] has the map and its calls by a pass, [`plain`] those without, and [`guarded`] those that take
-//! a guard. Each runs its machine by a driver: `papaya_lookup` has that of lookups,
-//! `papaya_change` those of insertions and removals, and [`computing`] that of computes. All stand
-//! on `papaya_book`, whose log records every exchange.
+//! a guard; [`builder`] asks for a map's parts one by one. Each call runs its machine by a driver:
+//! `papaya_lookup` has that of lookups, `papaya_change` those of insertions and removals, and
+//! [`computing`] that of computes. All stand on `papaya_book`, whose log records every exchange.
 #![tactic(auto)]
 
+pub mod builder;
 mod computing;
 pub mod guarded;
 pub mod map;
 pub mod plain;
+pub mod resizing;

@@ -10,6 +10,8 @@ ghost use Rattle.papaya_map.specs.Powers.{IsPowerOfTwo-prop};
 ghost use Rattle.papaya_book.specs.Parts.{begun_of};
 ghost use Rattle.papaya_book.specs.Limits.{HasNoRoom, tables_of};
 ghost use Rattle.papaya_change.specs.Changes.{IsPut};
+ghost use Rattle.papaya_change.specs.Resizing.{HasNoRoomAhead};
+ghost use Rattle.papaya_change.specs.Writing.{IsMemoryOrCapacity};
 ghost use Rattle.papaya_map.specs.ComputeAnswers.{IsComputeBy, changes};
 ghost use Rattle.papaya_lookup.specs.History.{IsLegalHistory, Makes, Past, changes_by, history_of, key_of};
 ghost use Rattle.papaya_lookup.specs.Answers.{IsAnsweredBetween};
@@ -26,8 +28,10 @@ use papaya_book::rule::own::{Given, Own};
 use papaya_book::rule::trade::Sight;
 use papaya_book::window::Window;
 use papaya_call::answers::Operation;
+use papaya_chain::resizer::Resize;
 use papaya_change::insertion::insert;
 use papaya_change::removal::remove;
+use papaya_change::resizing::resize;
 use papaya_keys::compute::Compute;
 use papaya_keys::guard::{Collector, Equivalent, Guard};
 use papaya_keys::sizes::{check_chunk, initial_len};
@@ -121,8 +125,8 @@ impl<'a, K: Hash + Eq, V, S: BuildHasher> Drop for HashMapRef<'a, K, V, S> {
 
 impl<K: Hash + Eq + Drop, V: Drop, S: BuildHasher + Drop> HashMap<K, V, S> {
     /// A map of all its parts. `capacity` is for how many pairs its first table is made at once;
-    /// with
-    /// 0 the first change makes one. `shards` is rounded up to a power of two.
+    /// with 0 the first change makes one. `shards` is rounded up to a power of two. Its collector has
+    /// number 0.
     ///
     /// `Refused::ZeroChunk` for chunks of no slots. `Refused::Capacity` for more shards than
     /// [`papaya_words::limits::MAX_SHARDS`], and for a table past
@@ -137,6 +141,25 @@ impl<K: Hash + Eq + Drop, V: Drop, S: BuildHasher + Drop> HashMap<K, V, S> {
     ) -> Result<HashMap<K, V, S>, Refused>
         ensures ok { IfOk result (λ map. IsAllowed mode capacity shards) }
         ensures made { IfOk result (IsFor mode capacity) }
+        ensures collector { IfOk result (λ map. map.collector ≡ 0) }
+        ensures err { IfErr result (λ e. IsMapRefusal mode capacity shards e) }
+    {
+        HashMap::with_collector(rt, alloc, mode, capacity, shards, hasher, Collector::new(0))
+    }
+
+    /// The same with this collector.
+    pub(crate) fn with_collector<R: Wait>(
+        rt: &R,
+        alloc: Global,
+        mode: ResizeMode,
+        capacity: usize,
+        shards: usize,
+        hasher: S,
+        collector: Collector,
+    ) -> Result<HashMap<K, V, S>, Refused>
+        ensures ok { IfOk result (λ map. IsAllowed mode capacity shards) }
+        ensures made { IfOk result (IsFor mode capacity) }
+        ensures collector { IfOk result (λ map. map.collector ≡ collector) }
         ensures err { IfErr result (λ e. IsMapRefusal mode capacity shards e) }
     {
         check_chunk(mode)?;
@@ -153,9 +176,47 @@ impl<K: Hash + Eq + Drop, V: Drop, S: BuildHasher + Drop> HashMap<K, V, S> {
             alloc,
             initial,
             count,
-            collector: Collector::new(0),
+            collector,
             book,
         })
+    }
+
+    /// A map for so many pairs, with this hasher: `with_capacity_and_hasher` of 0.2.5. It resizes as
+    /// [`ResizeMode::default`] says, and counts its pairs over [`DEFAULT_SHARDS`] shards. Refused as
+    /// [`HashMap::with_parts`].
+    pub fn with_capacity_and_hasher<R: Wait>(
+        rt: &R,
+        alloc: Global,
+        capacity: usize,
+        hasher: S,
+    ) -> Result<HashMap<K, V, S>, Refused>
+        ensures ok { IfOk result (λ map. IsAllowed (ResizeMode.Incremental DEFAULT_CHUNK) capacity
+            DEFAULT_SHARDS) }
+        ensures made { IfOk result (IsFor (ResizeMode.Incremental DEFAULT_CHUNK) capacity) }
+        ensures err { IfErr result (λ e. IsMapRefusal (ResizeMode.Incremental DEFAULT_CHUNK)
+            capacity
+            DEFAULT_SHARDS e) }
+    {
+        HashMap::with_parts(
+            rt,
+            alloc,
+            ResizeMode::default(),
+            capacity,
+            DEFAULT_SHARDS,
+            hasher,
+        )
+    }
+
+    /// A map with this hasher: `with_hasher` of 0.2.5. The first change makes its first table.
+    pub fn with_hasher<R: Wait>(
+        rt: &R,
+        alloc: Global,
+        hasher: S,
+    ) -> Result<HashMap<K, V, S>, Refused>
+        ensures made { IfOk result (IsFor (ResizeMode.Incremental DEFAULT_CHUNK) 0) }
+        ensures err { IfErr result (λ e. e ≡ Refused.Memory) }
+    {
+        HashMap::with_capacity_and_hasher(rt, alloc, 0, hasher)
     }
 }
 
@@ -196,6 +257,16 @@ impl<K: Hash + Eq + Drop, V: Drop> HashMap<K, V, BuildHasherDefault<FoldHasher>>
             DEFAULT_SHARDS,
             BuildHasherDefault::new(),
         )
+    }
+    /// The same as [`HashMap::new`]: what the trait `Default` gives in 0.2.5.
+    pub fn default<R: Wait>(
+        rt: &R,
+        alloc: Global,
+    ) -> Result<HashMap<K, V, BuildHasherDefault<FoldHasher>>, Refused>
+        ensures made { IfOk result (IsFor (ResizeMode.Incremental DEFAULT_CHUNK) 0) }
+        ensures err { IfErr result (λ e. e ≡ Refused.Memory) }
+    {
+        HashMap::new(rt, alloc)
     }
 }
 
@@ -289,6 +360,47 @@ impl<'a, K: Hash + Eq, V, S: BuildHasher> HashMapRef<'a, K, V, S> {
         pass.sight = window.sight;
         pass.own = window.own;
         found
+    }
+
+    /// Makes room for so many pairs more than the map counts: `reserve` of 0.2.5. Where it is not
+    /// refused, and no other call changes the map meanwhile, the map's table has slots for them
+    /// afterwards. Calls of others go on as before.
+    ///
+    /// `Refused::Memory` where a growth was refused. `Refused::Capacity` where the log of tables is
+    /// full, or a table would be longer than [`papaya_words::limits::MAX_TABLE_LEN`]: that for so many
+    /// pairs, or one that a copy needs. 0.2.5 panics or aborts there. Refused or not, the pass makes no
+    /// change.
+    pub fn reserve_as<R: Wait>(
+        &self,
+        rt: &R,
+        additional: usize,
+        pass: &mut Pass<K, V, S>,
+    ) -> Result<(), Refused>
+        requires { pass.old.book ≡ self.now.book }
+        ensures book { pass.new.book ≡ pass.old.book }
+        ensures seen { IsPrefix pass.old.history pass.new.history }
+        ensures tables { IsPrefix pass.old.tables pass.new.tables }
+        ensures made { pass.new.made ≡ pass.old.made }
+        ensures refused { IfErr result (λ refused. IsMemoryOrCapacity refused) }
+        ensures crowded { result ≡ Err Refused.Capacity → HasNoRoomAhead self.now.initial
+            additional pass.new.tables pass.new.given }
+    {
+        let map: &'a HashMap<K, V, S> = self.map;
+        let mut window = Window::new(&map.book, &self.kept, &pass.sight, &pass.own);
+        let mut given = Own::nothing();
+        let reserved = resize(
+            rt,
+            map.alloc,
+            map.initial,
+            &map.count,
+            &mut window,
+            &mut given,
+            Resize::Reserve(additional),
+        );
+        pass.sight = window.sight;
+        pass.own = window.own;
+        pass.given = given;
+        reserved
     }
 
     /// Removes a key's pair if the closure, which is shown it, answers true: `remove_if` of 0.2.5.

@@ -30,7 +30,7 @@ use papaya_words::limits::MAX_TABLES;
 use papaya_words::probe::Refused;
 use std::alloc::{AllocError, Global};
 use std::hash::{BuildHasher, Hash};
-use std::sync::Wait;
+use std::sync::{Mutex, Wait};
 
 impl<K: Hash + Eq, V, S: BuildHasher> Book<K, V, S> {
     /// The slots of a new table.
@@ -103,6 +103,7 @@ impl<K: Hash + Eq, V, S: BuildHasher> Book<K, V, S> {
             aborted,
             done,
             slots,
+            making: Mutex::new(()),
         };
         let Ok(token) = self.parts.tables.push_shown(rt, table) else {
             return Err(Refused::Memory);

@@ -1,0 +1,222 @@
+-- What is asked for a copy, when it may be answered, and what the answer tells.
+use Rattle.std.specs.Prelude.{◌≡◌, ◌≢◌, ◌⊎◌, ℕ, ◌+◌, ◌<◌, ◌==◌, Bool, MatchBool, if◌then◌else◌, Option, None, Some, List, [], ◌∷◌, length}
+use Rattle.boxcar.specs.Table.{Where}
+use Rattle.logbook.specs.Pages.{Book}
+use Rattle.papaya_words.specs.declared.probe.Refused.{Refused}
+use Rattle.papaya_words.specs.declared.probe.Refused.TheVariants.{Capacity, Memory}
+use Rattle.papaya_ask.specs.Search.{IsSize}
+use Rattle.papaya_ask.specs.declared.ask.At.{At}
+use Rattle.papaya_ask.specs.declared.ask.At.TheVariants.{Root, Next, Aborted, Done, Slot}
+use Rattle.papaya_ask.specs.declared.ask.Answer.TheVariants.{Exchanged, Found, Made, Refused as Was_refused, Size, Word, Yes}
+use Rattle.papaya_ask.specs.declared.ask.StepKind.{StepKind}
+use Rattle.papaya_ask.specs.declared.ask.StepKind.TheVariants as kinds
+use Rattle.papaya_ask.specs.declared.copy_ask.CopyAsk.{CopyAsk}
+use Rattle.papaya_ask.specs.declared.copy_ask.CopyAsk.TheVariants.{Count, Exchange, HashOf, Load, MakeTable, SamePair, SizeOf}
+use Rattle.papaya_chain.specs.declared.ask.Answer.{Answer}
+use Rattle.papaya_chain.specs.declared.ask.Answer.TheVariants as answers
+use Rattle.papaya_rests.specs.Told.{or_last}
+use Rattle.papaya_book.specs.declared.rule.entry.Begun.{Begun}
+use Rattle.papaya_book.specs.declared.rule.entry.Event.{Event}
+use Rattle.papaya_book.specs.declared.rule.entry.Named.TheVariants as names
+use Rattle.papaya_book.specs.declared.rule.own.Given.TheVariants.{Sum}
+use Rattle.papaya_book.specs.Calls.{HasCome, IsTable}
+use Rattle.papaya_book.specs.Limits.{IsFull}
+use Rattle.papaya_book.specs.Logs.{Stored, number_of, pair_named, steps_of, table_in}
+use Rattle.papaya_book.specs.Plays.{CanExchange}
+use Rattle.papaya_book.specs.Rule.{IsLawfulLog, IsPlaced}
+use Rattle.papaya_book.specs.Sheets.{Sheet}
+use Rattle.papaya_change.specs.declared.copier.Asked.{Asked}
+use Rattle.papaya_change.specs.declared.copier.Copier.{Copier}
+use Rattle.papaya_change.specs.declared.driver.Driver.{Driver}
+use Rattle.papaya_change.specs.Changing.{IsFresh}
+use Rattle.papaya_change.specs.Helping.{IsLoadedFor, IsTriedFor}
+
+-- the pair last told of, after an exchange of this kind: the one that was marked
+abbrev pub marked_or : {P : Type 0} → Option StepKind → (pair last : Option P) → Option P
+marked_or (Some kinds.Mark) pair last = pair
+marked_or kind pair last = last
+
+-- what an exchange is answered that found this word
+abbrev pub tried_answer : (found old : ℕ) → Answer
+tried_answer found old = if found == old then answers.Call Exchanged else answers.Call (Found found)
+
+-- the table of the place has come, and it has the slot
+abbrev pub IsReached : {K V S : Type 0} → List (Event K V S) → At → Type 0
+IsReached log Root = Unit {0}
+IsReached log (Next t) = HasCome log t
+IsReached log (Aborted t) = HasCome log t
+IsReached log (Done t) = HasCome log t
+IsReached log (Slot t x) = (w : Where Sheet) × (table_in (steps_of log) t ≡ Some w)
+    × (x < length w.value.slots)
+
+-- a pair is held, and lies in the logs
+pub record IsHeld {K V S : Type 0} (b : Begun K V S) (name : Book) (held : Option (Stored K V))
+    : Type 0 where
+  pub some : (p : Stored K V) × (held ≡ Some p)
+  pub placed : IsPlaced b (Some name) (pair_named held)
+
+-- a table that was made is tried to be linked, and none else is
+abbrev pub IsHandLeft : {A : Type 0} → At → (fresh fresh' : Option A) → Type 0
+IsHandLeft (Next t) fresh fresh' = Unit {0}
+IsHandLeft at fresh fresh' = fresh' ≡ fresh
+
+module _ {K V S : Type 0} (eq : K → K → Bool) (hash : S → K → ℕ) (b : Begun K V S)
+    (name : Book) where
+  -- what a copier holds keeps it from none of the exchanges that are asked for
+  abbrev pub CanTryFor : At → Option StepKind → (words : ℕ × ℕ) → (kept : Option (Stored K V))
+      → List (Event K V S) → Type 0
+  CanTryFor at kind words kept log = CanExchange eq hash b at kind words.0 words.1 kept names.Nothing
+      log
+
+  -- an exchange was tried, and this word was found
+  pub record HasTried (at : At) (kind : Option StepKind) (words : ℕ × ℕ)
+      (kept : Option (Stored K V)) (seen : List (Event K V S)) (last : Option (Stored K V))
+      (found : ℕ) (log : List (Event K V S)) (last' : Option (Stored K V)) : Type 0 where
+    pub pair : Option (Stored K V)
+    pub tried : IsTriedFor eq hash b name at kind words.0 words.1 kept seen found log pair
+    pub last_is : MatchBool (found == words.0) (last' ≡ marked_or kind pair last)
+        (last' ≡ or_last pair last)
+
+  -- the size of a table
+  pub record IsSizeOf (t : ℕ) (log : List (Event K V S)) (size : ℕ × ℕ) : Type 0 where
+    pub lawful : IsLawfulLog eq hash b log
+    pub sheet : Sheet
+    pub table : IsTable log t sheet
+    pub len : size.0 ≡ length sheet.slots
+    pub limit : size.1 ≡ sheet.limit
+
+-- what a call hands over that is set aside, and the call that has it back
+abbrev pub copier_of : {K V S H : Type 0} → Driver K V S H → Copier K V S H
+copier_of c = record { last = c.last; kept = c.kept; fresh = c.fresh; given = c.given }
+
+abbrev pub with_copier : {K V S H : Type 0} → Driver K V S H → Copier K V S H → Driver K V S H
+with_copier c h = record c { last = h.last; kept = h.kept; fresh = h.fresh; given = h.given }
+
+module _ {K V S H : Type 0} (eq : K → K → Bool) (hash : S → K → ℕ) (b : Begun K V S)
+    (name : Book) where
+  -- the table at hand has this number, and may be linked
+  pub record CanJoin (t new : ℕ) (log : List (Event K V S)) (h : Copier K V S H) : Type 0 where
+    pub come : HasCome log t
+    pub fresh : IsFresh b name log new h.fresh
+    pub can : (w : Where Sheet) → number_of w ≡ new → CanExchange eq hash b (Next t)
+        (Some kinds.Link) 0 (w.index + 1) None (names.Table w) log
+
+  -- it was made after another one, and is at hand
+  pub record HasMade (number follows : ℕ) (log : List (Event K V S)) (h : Copier K V S H)
+      : Type 0 where
+    pub past : follows < number
+    pub fresh : IsFresh b name log number h.fresh
+
+  -- the pair last told of is carried, and this is the hash of its key
+  pub record Carries (h h' : Copier K V S H) (word : ℕ) : Type 0 where
+    pub kept : h'.kept ≡ h.last
+    pub hash_is : (p : Stored K V) → h.last ≡ Some p → word ≡ hash b.hasher p.value.key.value
+
+  -- what is asked may be answered
+  abbrev pub CanExchangeFor : At → Option StepKind → (old new : ℕ) → List (Event K V S)
+      → Copier K V S H → Type 0
+  CanExchangeFor (Next t) kind old new log h = CanJoin t new log h × (kind ≡ Some kinds.Link)
+      × (old ≡ 0)
+  CanExchangeFor at kind old new log h = IsReached log at
+      × CanTryFor eq hash b name at kind (old, new) h.kept log
+
+  abbrev pub CanAnswerTo : CopyAsk → Option StepKind → (follows : ℕ) → List (Event K V S)
+      → Copier K V S H → Type 0
+  CanAnswerTo (Load at) kind follows log h = IsReached log at
+  CanAnswerTo (Exchange at old new) kind follows log h = CanExchangeFor at kind old new log h
+  CanAnswerTo (SizeOf t) kind follows log h = HasCome log t
+  CanAnswerTo (HashOf n) kind follows log h = IsHeld b name h.last
+  CanAnswerTo (SamePair m n) kind follows log h = IsHeld b name h.kept × IsHeld b name h.last
+  CanAnswerTo Count kind follows log h = Unit {0}
+  CanAnswerTo (MakeTable slots limit) kind follows log h = (follows ≢ 0 → HasCome log follows)
+      × IsSize slots limit
+
+  abbrev pub CanAnswer : Asked → List (Event K V S) → Copier K V S H → Type 0
+  CanAnswer asked log h = CanAnswerTo asked.ask asked.kind asked.follows log h
+
+  -- what was answered: the word of a place
+  pub record AnswersLoad (at : At) (log : List (Event K V S)) (h : Copier K V S H)
+      (log' : List (Event K V S)) (h' : Copier K V S H) (answer : Answer) : Type 0 where
+    pub word : ℕ
+    pub is : answer ≡ answers.Call (Word word)
+    pub loaded : IsLoadedFor eq hash b name at word log' h.last h'.last
+    pub rest : h' ≡ record h { last = h'.last }
+
+  -- how an exchange ended
+  pub record AnswersExchange (at : At) (kind : Option StepKind) (old new : ℕ)
+      (log : List (Event K V S)) (h : Copier K V S H) (log' : List (Event K V S))
+      (h' : Copier K V S H) (answer : Answer) : Type 0 where
+    pub found : ℕ
+    pub is : answer ≡ tried_answer found old
+    pub tried : HasTried eq hash b name at kind (old, new) h.kept log h.last found log' h'.last
+    pub hand : IsHandLeft at h.fresh h'.fresh
+    pub rest : h' ≡ record h { last = h'.last; fresh = h'.fresh }
+
+  -- the size of a table
+  pub record AnswersSize (t : ℕ) (h : Copier K V S H) (log' : List (Event K V S))
+      (h' : Copier K V S H) (answer : Answer) : Type 0 where
+    pub size : ℕ × ℕ
+    pub is : answer ≡ answers.Call (Size size.0 size.1)
+    pub size_of : IsSizeOf eq hash b name t log' size
+    pub rest : h' ≡ h
+
+  -- the hash of a key
+  pub record AnswersHash (log : List (Event K V S)) (h : Copier K V S H)
+      (log' : List (Event K V S)) (h' : Copier K V S H) (answer : Answer) : Type 0 where
+    pub word : ℕ
+    pub is : answer ≡ answers.Hash word
+    pub carries : Carries h h' word
+    pub still : log' ≡ log
+    pub rest : h' ≡ record h { kept = h'.kept }
+
+  -- whether two pairs have equal keys
+  pub record AnswersSame (log : List (Event K V S)) (h : Copier K V S H)
+      (log' : List (Event K V S)) (h' : Copier K V S H) (answer : Answer) : Type 0 where
+    pub same : Bool
+    pub is : answer ≡ answers.Call (Yes same)
+    pub same_is : (p q : Stored K V) → h.kept ≡ Some p → h.last ≡ Some q
+        → same ≡ eq p.value.key.value q.value.key.value
+    pub still : log' ≡ log
+    pub rest : h' ≡ h
+
+  -- the sum of the count
+  pub record AnswersCount (log : List (Event K V S)) (h : Copier K V S H)
+      (log' : List (Event K V S)) (h' : Copier K V S H) (answer : Answer) : Type 0 where
+    pub sum : ℕ
+    pub is : answer ≡ answers.Count sum
+    pub given_is : h'.given.done ≡ Sum sum ∷ []
+    pub still : log' ≡ log
+    pub rest : h' ≡ record h { given = h'.given }
+
+  -- a table was made, or was refused
+  abbrev pub MakesTable : (follows : ℕ) → (h : Copier K V S H) → (log' : List (Event K V S))
+      → (h' : Copier K V S H) → Answer → Type 0
+  MakesTable follows h log' h' answer = ((number : ℕ) × (answer ≡ answers.Call (Made number))
+      × HasMade number follows log' h')
+      ⊎ ((refused : Refused) × (answer ≡ answers.Call (Was_refused refused))
+      × ((refused ≡ Memory) ⊎ ((refused ≡ Capacity) × IsFull h'.given.done))
+      × (h'.fresh ≡ h.fresh))
+
+  pub record AnswersTable (follows : ℕ) (h : Copier K V S H) (log' : List (Event K V S))
+      (h' : Copier K V S H) (answer : Answer) : Type 0 where
+    pub lawful : IsLawfulLog eq hash b log'
+    pub makes : MakesTable follows h log' h' answer
+    pub rest : h' ≡ record h { fresh = h'.fresh; given = h'.given }
+
+  -- what was asked was answered so
+  abbrev pub AnswersTo : CopyAsk → Option StepKind → (follows : ℕ) → List (Event K V S)
+      → Copier K V S H → List (Event K V S) → Copier K V S H → Answer → Type 0
+  AnswersTo (Load at) kind follows log h log' h' answer = AnswersLoad at log h log' h' answer
+  AnswersTo (Exchange at old new) kind follows log h log' h' answer =
+      AnswersExchange at kind old new log h log' h' answer
+  AnswersTo (SizeOf t) kind follows log h log' h' answer = AnswersSize t h log' h' answer
+  AnswersTo (HashOf n) kind follows log h log' h' answer = AnswersHash log h log' h' answer
+  AnswersTo (SamePair m n) kind follows log h log' h' answer = AnswersSame log h log' h' answer
+  AnswersTo Count kind follows log h log' h' answer = AnswersCount log h log' h' answer
+  AnswersTo (MakeTable slots limit) kind follows log h log' h' answer =
+      AnswersTable follows h log' h' answer
+
+  abbrev pub Answers : Asked → List (Event K V S) → Copier K V S H → List (Event K V S)
+      → Copier K V S H → Answer → Type 0
+  Answers asked log h log' h' answer = AnswersTo asked.ask asked.kind asked.follows log h log' h'
+      answer

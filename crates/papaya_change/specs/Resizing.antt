@@ -1,0 +1,69 @@
+-- What a call that resizes the shared map holds and rests on, and why it is refused.
+use Rattle.std.specs.Prelude.{◌≡◌, ◌⊎◌, ℕ, ◌+◌, ◌<◌, ◌^◌, Bool, Option, None, Some, List, [], ◌∷◌}
+use Rattle.logbook.specs.Pages.{Book}
+use Rattle.papaya_words.specs.declared.probe.Refused.{Refused as Cause}
+use Rattle.papaya_words.specs.declared.probe.Refused.TheVariants.{Capacity, Memory}
+use Rattle.papaya_ask.specs.declared.call.Reply.TheVariants.{Refused}
+use Rattle.papaya_copy.specs.declared.link.Link.{Link}
+use Rattle.papaya_copy.specs.declared.link.Link.TheVariants as links
+use Rattle.papaya_chain.specs.declared.resizer.Resize.{Resize}
+use Rattle.papaya_chain.specs.declared.resizer.Resize.TheVariants.{Reserve}
+use Rattle.papaya_chain.specs.declared.resizer.Resizer.{Resizer}
+use Rattle.papaya_chain.specs.declared.resizer.State.{State as Stage}
+use Rattle.papaya_chain.specs.declared.resizer.State.TheVariants.{Opening, Linking, Copying}
+use Rattle.papaya_chain.specs.Resizer.{reply_of}
+use Rattle.papaya_chain.specs.Room.{entries_of}
+use Rattle.papaya_chain_rests.specs.Goes.{link_in_copying}
+use Rattle.papaya_chain_rests.specs.Resizers.{RestsResizer}
+use Rattle.papaya_book.specs.declared.rule.entry.Begun.{Begun}
+use Rattle.papaya_book.specs.declared.rule.entry.Event.{Event}
+use Rattle.papaya_book.specs.declared.rule.own.Given.{Given}
+use Rattle.papaya_book.specs.declared.rule.own.Given.TheVariants.{Sum}
+use Rattle.papaya_book.specs.Limits.{HasNoRoom, tables_of}
+use Rattle.papaya_book.specs.Logs.{Member, coding_of, pair_named, setting_of, state_of}
+use Rattle.papaya_book.specs.Rule.{IsLawfulLog, IsPlaced}
+use Rattle.papaya_change.specs.declared.copier.Copier.{Copier}
+use Rattle.papaya_change.specs.Changing.{IsFresh, hands_with}
+
+-- the making of a table that is under way, if one is
+abbrev pub link_of : Stage → Option Link
+link_of (Linking link) = Some link
+link_of (Copying from copying) = link_in_copying copying
+link_of _ = None
+
+-- Room was asked for, for more pairs than a table may have slots for: beside as many as this sum of
+-- the count, or beside none where there is no table.
+pub record IsTooMuch (more : ℕ) (given : List Given) : Type 0 where
+  pub count : ℕ
+  pub counted : (count ≡ 0) ⊎ (given ≡ Sum count ∷ [])
+  pub long : 2 ^ 32 < entries_of (count + more)
+
+-- there is no room ahead for so many pairs more
+abbrev pub HasNoRoomAhead : (initial more : ℕ) → (tables : List ℕ) → List Given → Type 0
+HasNoRoomAhead initial more tables given = HasNoRoom initial tables given ⊎ IsTooMuch more given
+
+abbrev pub HasNoRoomFor : (initial : ℕ) → Resize → (tables : List ℕ) → List Given → Type 0
+HasNoRoomFor initial (Reserve more) tables given = HasNoRoomAhead initial more tables given
+HasNoRoomFor initial _ tables given = HasNoRoom initial tables given
+
+-- why it ends refused
+abbrev pub IsResizeEnd : (initial : ℕ) → Resize → (tables : List ℕ) → List Given → Cause → Type 0
+IsResizeEnd initial resize tables given cause = (cause ≡ Memory)
+    ⊎ ((cause ≡ Capacity) × HasNoRoomFor initial resize tables given)
+
+-- A call that resizes rests on the log, with the pair of which it was told last and the one that it
+-- carries; and it has a table at hand that it made, until it has tried to open or link it.
+pub record IsResizing {K V S H : Type 0} (eq : K → K → Bool) (hash : S → K → ℕ) (b : Begun K V S)
+    (name : Book) (log : List (Event K V S)) (m : Resizer) (h : Copier K V S H) : Type 0 where
+  pub lawful : IsLawfulLog eq hash b log
+  pub rests : RestsResizer (setting_of eq (hash b.hasher) b.mode log) (coding_of (hash b.hasher))
+      (state_of log) m (hands_with h.last h.kept [])
+  pub last_placed : IsPlaced b (Some name) (pair_named h.last)
+  pub kept_placed : IsPlaced b (Some name) (pair_named h.kept)
+  pub opens : (n : ℕ) → m.state ≡ Opening n → IsFresh b name log n h.fresh
+  pub brings : (behind n : ℕ) → link_of m.state ≡ Some (links.Linking behind n)
+      → IsFresh b name log n h.fresh
+  pub counts : (behind len : ℕ) (unfit : Bool) → link_of m.state
+      ≡ Some (links.Counting behind unfit len) → Member len (tables_of log)
+  pub ends : (cause : Cause) → reply_of m ≡ Some (Refused cause)
+      → IsResizeEnd m.initial m.resize (tables_of log) h.given.done cause

@@ -1,0 +1,388 @@
+//! What is asked for a copy, answered by steps on the book. Whoever copies, a call that is set aside
+//! or one that resizes the map, this is the one place where tables are copied.
+ghost use Rattle.std.specs.Prelude.{◌≡◌, ◌≢◌, ◌⊎◌, ◌<◌, ◌+◌, ℕ, [], ◌∷◌, IfErr, IfOk, None, Some};
+ghost use Rattle.papaya_ask.specs.Search.{IsSize};
+ghost use Rattle.papaya_ask.specs.declared.ask.At.TheVariants.{Next};
+ghost use Rattle.papaya_chain.specs.Machine.{IsFit};
+ghost use Rattle.papaya_rests.specs.Told.{or_last};
+ghost use Rattle.papaya_book.specs.Limits.{IsFull};
+ghost use Rattle.papaya_book.specs.Logs.{pair_named};
+ghost use Rattle.papaya_book.specs.Windows.{HasCome, IsIn, IsLawful, Sees};
+ghost use Rattle.papaya_change.specs.Copier.{tried_answer};
+ghost use Rattle.papaya_book.specs.declared.rule.own.Given.TheVariants.{Sum};
+ghost use Rattle.papaya_change.specs.Copiers.{CanAnswer, CanExchange, CanJoin, CanReach, CanTryFor, Answers, Carries, Exchanges, HasMade, HasTried, IsSizeOf, Joins, Loads, TriesFor};
+
+use boxcar::Pushed;
+use logbook::Pen;
+use papaya_ask::ask::{Answer as CallAnswer, At, StepKind};
+use papaya_ask::copy_ask::CopyAsk;
+use papaya_book::count::Count;
+use papaya_book::rule::entry::Stored;
+use papaya_book::rule::own::{Given, Own};
+use papaya_book::table::Table;
+use papaya_book::window::Window;
+use papaya_chain::ask::Answer;
+use papaya_lookup::lookup::hash;
+use papaya_words::probe::Refused;
+use std::alloc::Global;
+use std::hash::{BuildHasher, Hash};
+use std::sync::{MutexGuard, Wait};
+
+/// What a machine asks for a copy.
+#[derive(Clone, Copy)]
+pub struct Asked {
+    pub ask: CopyAsk,
+    /// The kind of the exchange that is asked for, if one is.
+    pub kind: Option<StepKind>,
+    /// The table that one in the making is to follow.
+    pub follows: u64,
+}
+
+/// What one holds who copies: the pair that was loaded last, the pair that is carried to another
+/// table, and a table that was made, until it is tried to be linked. Where a number was given past a
+/// limit, or the sum of the count, contracts see that number.
+#[derive(Drop)]
+pub struct Copier<K: Hash + Eq, V, S: BuildHasher> {
+    pub last: Option<Stored<K, V>>,
+    pub kept: Option<Stored<K, V>>,
+    pub fresh: Option<(Pushed<Table<K, V, S>>, Pen)>,
+    pub given: Own<Given>,
+}
+
+/// What an exchange is answered that found this word.
+pub(crate) fn tried(found: u64, old: u64) -> Answer
+    ensures value { result ≡ tried_answer found old }
+    ensures fit { IsFit result }
+{
+    if found == old {
+        Answer::Call(CallAnswer::Exchanged)
+    } else {
+        Answer::Call(CallAnswer::Found(found))
+    }
+}
+
+impl<K: Hash + Eq, V, S: BuildHasher> Copier<K, V, S> {
+    /// One that holds nothing.
+    pub fn new() -> Copier<K, V, S>
+        ensures { (result.last ≡ None) × (result.kept ≡ None) × (result.fresh ≡ None)
+            × (result.given.done ≡ []) }
+    {
+        Copier {
+            last: None,
+            kept: None,
+            fresh: None,
+            given: Own::nothing(),
+        }
+    }
+
+    /// The answer to what is asked for a copy. `making` keeps the turn to make a next table, from the
+    /// making to the try to link it.
+    pub fn answer<'a, R: Wait>(
+        &mut self,
+        rt: &R,
+        alloc: Global,
+        count: &Count,
+        asked: Asked,
+        making: &mut Option<MutexGuard<'a, ()>>,
+        window: &mut Window<'a, K, V, S>,
+    ) -> Answer
+        requires can { CanAnswer window.old asked self.old }
+        ensures sees { Sees window.old window.new }
+        ensures own { window.new.own ≡ window.old.own }
+        ensures fit { IsFit result }
+        ensures answers { Answers asked window.old self.old window.new self.new result }
+    {
+        match asked.ask {
+            CopyAsk::Load(at) => Answer::Call(CallAnswer::Word(self.load(at, window))),
+            CopyAsk::Exchange(at, old, new) => {
+                let answer = self.exchange(at, asked.kind, (old, new), window);
+                if let At::Next(_) = at {
+                    *making = None;
+                }
+                answer
+            }
+            CopyAsk::SizeOf(number) => {
+                let (len, limit) = size(number, window);
+                Answer::Call(CallAnswer::Size { len, limit })
+            }
+            CopyAsk::HashOf(_) => Answer::Hash(self.carry(window)),
+            CopyAsk::SamePair(_, _) => Answer::Call(CallAnswer::Yes(self.same_pair(window))),
+            CopyAsk::Count => Answer::Count(self.sum(count)),
+            CopyAsk::MakeTable { len, limit } => {
+                let size = (len, limit);
+                match self.make_next(rt, alloc, asked.follows, size, making, window) {
+                    Ok(number) => Answer::Call(CallAnswer::Made(number)),
+                    Err(refused) => Answer::Call(CallAnswer::Refused(refused)),
+                }
+            }
+        }
+    }
+
+    /// Keeps the pair that was loaded, if one was.
+    fn tell(&mut self, pair: Option<Stored<K, V>>)
+        ensures { self.new ≡ record self.old {
+          last = Rattle.papaya_rests.specs.Told.or_last pair
+              self.old.last;
+        } }
+    {
+        if pair.is_some() {
+            self.last = pair;
+        }
+    }
+
+    /// Loads the word of a place, and keeps the pair that it names.
+    fn load<'a>(&mut self, at: At, window: &mut Window<'a, K, V, S>) -> u64
+        requires reach { CanReach window.old at }
+        ensures sees { Sees window.old window.new }
+        ensures own { window.new.own ≡ window.old.own }
+        ensures loaded { Loads at result window.old self.old window.new self.new }
+        ensures rest { self.new ≡ record self.old { last = self.new.last } }
+    {
+        match at {
+            At::Root => window.root().0,
+            At::Next(number) => {
+                let table = window.table(number);
+                window.next(table, number).0
+            }
+            At::Aborted(number) => {
+                let table = window.table(number);
+                window.aborted(table, number)
+            }
+            At::Done(number) => {
+                let table = window.table(number);
+                window.done(table, number)
+            }
+            At::Slot(number, place) => {
+                let table = window.table(number);
+                let (word, pair) = window.slot(table, number, place);
+                self.tell(pair);
+                word
+            }
+        }
+    }
+
+    /// Tries to make the table that was made the one after another: the number that was found.
+    fn link<'a>(&mut self, number: u64, window: &mut Window<'a, K, V, S>) -> u64
+        requires can { (new : ℕ) × CanJoin window.old number new self.old }
+        ensures sees { Sees window.old window.new }
+        ensures own { window.new.own ≡ window.old.own }
+        ensures joins { (new : ℕ) → CanJoin window.old number new self.old → Joins number new
+            window.old self.old window.new result }
+        ensures rest { self.new ≡ record self.old { fresh = self.new.fresh } }
+    {
+        let Some((table, mut seal)) = self.fresh.take() else {
+            unreachable!()
+        };
+        let after = window.table(number);
+        window.link(after, number, &table, &mut seal)
+    }
+
+    /// Tries an exchange.
+    fn exchange<'a>(
+        &mut self,
+        at: At,
+        kind: Option<StepKind>,
+        words: (u64, u64),
+        window: &mut Window<'a, K, V, S>,
+    ) -> Answer
+        requires can { CanExchange window.old at kind words self.old }
+        ensures sees { Sees window.old window.new }
+        ensures own { window.new.own ≡ window.old.own }
+        ensures fit { IsFit result }
+        ensures answers { Exchanges at kind words window.old self.old window.new self.new result }
+    {
+        match at {
+            At::Next(number) => tried(self.link(number, window), words.0),
+            _ => tried(self.exchange_word(at, kind, words, window), words.0),
+        }
+    }
+
+    /// Tries to exchange any other word: the word that was found. The pair last told of is the one
+    /// that stood there where that is marked now, and the one that was found where the exchange
+    /// wasn't made.
+    fn exchange_word<'a>(
+        &mut self,
+        at: At,
+        kind: Option<StepKind>,
+        words: (u64, u64),
+        window: &mut Window<'a, K, V, S>,
+    ) -> u64
+        requires reach { CanReach window.old at }
+        requires other { (t : ℕ) → at ≡ Next t → ⊥ }
+        requires can { CanTryFor window.old at kind words self.old }
+        ensures sees { Sees window.old window.new }
+        ensures own { window.new.own ≡ window.old.own }
+        ensures tried { HasTried at kind words window.old self.old window.new self.new result }
+        ensures rest { self.new ≡ record self.old { last = self.new.last } }
+    {
+        let (found, pair) = self.try_for(at, kind, words, window);
+        if found != words.0 {
+            self.tell(pair);
+        } else if let Some(StepKind::Mark) = kind {
+            self.last = pair;
+        }
+        found
+    }
+
+    /// Tries to exchange a word but that of a next table: the word that was found, and the pair that
+    /// it names.
+    fn try_for<'a>(
+        &self,
+        at: At,
+        kind: Option<StepKind>,
+        words: (u64, u64),
+        window: &mut Window<'a, K, V, S>,
+    ) -> (u64, Option<Stored<K, V>>)
+        requires reach { CanReach window.old at }
+        requires other { (t : ℕ) → at ≡ Next t → ⊥ }
+        requires can { CanTryFor window.old at kind words self.now }
+        ensures sees { Sees window.old window.new }
+        ensures own { window.new.own ≡ window.old.own }
+        ensures tried { TriesFor at kind words window.old self.now window.new result }
+    {
+        match at {
+            At::Root => (window.copy_root(kind, &self.kept, words), None),
+            At::Next(_) => unreachable!(),
+            At::Aborted(number) => {
+                let table = window.table(number);
+                let found = window.copy_aborted(table, number, kind, &self.kept, words);
+                (found, None)
+            }
+            At::Done(number) => {
+                let table = window.table(number);
+                let found = window.copy_done(table, number, kind, &self.kept, words);
+                (found, None)
+            }
+            At::Slot(number, place) => {
+                let table = window.table(number);
+                window.copy_slot(table, number, place, kind, &self.kept, words)
+            }
+        }
+    }
+
+    /// Carries the pair last told of: the hash of its key.
+    fn carry<'a>(&mut self, window: &Window<'a, K, V, S>) -> u64
+        requires some { (p : _) × (self.old.last ≡ Some p) }
+        requires placed { IsIn window.now (pair_named self.old.last) }
+        ensures carries { Carries window.now self.old self.new result }
+        ensures rest { self.new ≡ record self.old { kept = self.new.kept } }
+    {
+        let Some(last) = &self.last else {
+            unreachable!()
+        };
+        let book = window.book;
+        let hash = hash(&book.parts.hasher, book.key(book.pair(last)));
+        let kept = last.again();
+        self.kept = Some(kept);
+        hash
+    }
+
+    /// Have the pair that is carried and the one last told of equal keys?
+    fn same_pair<'a>(&self, window: &Window<'a, K, V, S>) -> bool
+        requires kept { (p : _) × (self.now.kept ≡ Some p) }
+        requires last { (q : _) × (self.now.last ≡ Some q) }
+        requires placed { IsIn window.now (pair_named self.now.kept)
+            × IsIn window.now (pair_named self.now.last) }
+        ensures { (p q : _) → self.now.kept ≡ Some p → self.now.last ≡ Some q
+            → result ≡ K.eq p.value.key.value q.value.key.value }
+    {
+        let (Some(kept), Some(last)) = (&self.kept, &self.last) else {
+            unreachable!()
+        };
+        let book = window.book;
+        *book.key(book.pair(kept)) == *book.key(book.pair(last))
+    }
+
+    /// How many pairs the map counts.
+    fn sum(&mut self, count: &Count) -> usize
+        ensures given { self.new.given.done ≡ Sum result ∷ [] }
+        ensures rest { self.new ≡ record self.old { given = self.new.given } }
+    {
+        let (sum, given) = count.given_sum();
+        self.given = given;
+        sum
+    }
+
+    /// Makes a table that is to follow another, once it is this thread's turn, and keeps it with its
+    /// seal until it is tried to be linked: its number.
+    fn make_next<'a, R: Wait>(
+        &mut self,
+        rt: &R,
+        alloc: Global,
+        follows: u64,
+        size: (usize, usize),
+        making: &mut Option<MutexGuard<'a, ()>>,
+        window: &mut Window<'a, K, V, S>,
+    ) -> Result<u64, Refused>
+        requires come { follows ≢ 0 → HasCome window.old follows }
+        requires size { IsSize size.0 size.1 }
+        ensures sees { Sees window.old window.new }
+        ensures own { window.new.own ≡ window.old.own }
+        ensures lawful { IsLawful window.new }
+        ensures made { IfOk result (λ number. HasMade number follows window.new self.new) }
+        ensures refused { IfErr result (λ refused. ((refused ≡ Refused.Memory)
+            ⊎ ((refused ≡ Refused.Capacity) × IsFull self.new.given.done))
+            × (self.new.fresh ≡ self.old.fresh)) }
+        ensures rest { self.new ≡ record self.old {
+          fresh = self.new.fresh;
+          given = self.new.given;
+        } }
+    {
+        let size = turn(rt, follows, size, making, window);
+        let made = window.make_table_after(rt, alloc, follows, size, &mut self.given);
+        window.learn();
+        let (table, seal) = made?;
+        let number = table.index() as u64 + 1;
+        self.fresh = Some((table, seal));
+        Ok(number)
+    }
+}
+
+/// The size of a table that has come: how many slots it has, and at how many places but for the
+/// first a search of it looks.
+fn size<'a, K: Hash + Eq, V, S: BuildHasher>(
+    number: u64,
+    window: &mut Window<'a, K, V, S>,
+) -> (usize, usize)
+    requires come { HasCome window.old number }
+    ensures sees { Sees window.old window.new }
+    ensures own { window.new.own ≡ window.old.own }
+    ensures size { IsSizeOf number window.old window.new result }
+    ensures fit { IsSize result.0 result.1 }
+{
+    let size = window.table(number).size();
+    window.learn();
+    size
+}
+
+/// Waits for the turn to make the table after this one: how large a table to make. Where another
+/// thread was first that is a small one, since it will not be linked. Nobody waits to make a first
+/// table, which follows none.
+///
+/// A thread has one turn at most, as it gives back the one that it has before it waits. It waits for
+/// nothing else until it has tried to link the table, so two threads never wait for each other.
+fn turn<'a, K: Hash + Eq, V, S: BuildHasher, R: Wait>(
+    rt: &R,
+    follows: u64,
+    size: (usize, usize),
+    making: &mut Option<MutexGuard<'a, ()>>,
+    window: &mut Window<'a, K, V, S>,
+) -> (usize, usize)
+    requires come { follows ≢ 0 → HasCome window.old follows }
+    requires size { IsSize size.0 size.1 }
+    ensures sees { Sees window.old window.new }
+    ensures own { window.new.own ≡ window.old.own }
+    ensures size { IsSize result.0 result.1 }
+{
+    if follows == 0 {
+        return size;
+    }
+    *making = None;
+    let table = window.table(follows);
+    *making = Some(table.lock_next(rt));
+    let (next, _) = window.next(table, follows);
+    if next == 0 {
+        return size;
+    }
+    (8, 15)
+}

@@ -1,0 +1,129 @@
+//! Calls that resize the shared map and change no pair of it: their machine, answered by a copier.
+ghost use Rattle.std.specs.Prelude.{◌≡◌, IfErr, Some, None, Err};
+ghost use Rattle.std.specs.Int.{IsPowerOfTwo};
+ghost use Rattle.papaya_chain.specs.Machine.{IsFit};
+ghost use Rattle.papaya_chain.specs.Resizer.{IsStandingResizer, ask_of, reply_of};
+ghost use Rattle.papaya_ask.specs.declared.call.Reply.TheVariants.{Refused as ReplyRefused};
+ghost use Rattle.papaya_chain.specs.declared.resizer.State.TheVariants.{Opening};
+ghost use Rattle.papaya_book.specs.Limits.{tables_of};
+ghost use Rattle.papaya_book.specs.Windows.{IsLawful, Sees};
+ghost use Rattle.papaya_change.specs.Resizes.{CanResize, GoesOnAfter};
+ghost use Rattle.papaya_change.specs.Resizing.{HasNoRoomFor};
+ghost use Rattle.papaya_change.specs.Writing.{IsMemoryOrCapacity};
+
+use crate::copier::{Asked, Copier, tried};
+use papaya_ask::call::Reply;
+use papaya_ask::copy_ask::CopyAsk;
+use papaya_book::count::Count;
+use papaya_book::rule::own::{Given, Own};
+use papaya_book::window::Window;
+use papaya_chain::ask::Answer;
+use papaya_chain::resizer::{Resize, Resizer, State};
+use papaya_words::probe::Refused;
+use std::alloc::Global;
+use std::hash::{BuildHasher, Hash};
+use std::sync::{MutexGuard, Wait};
+
+/// A call that resizes the map, under way.
+#[derive(Drop)]
+pub struct Resizing<K: Hash + Eq, V, S: BuildHasher> {
+    machine: Resizer,
+    copier: Copier<K, V, S>,
+}
+
+impl<K: Hash + Eq, V, S: BuildHasher> Resizing<K, V, S> {
+    /// The answer to what the machine asks.
+    fn answer<'a, R: Wait>(
+        &mut self,
+        rt: &R,
+        alloc: Global,
+        count: &Count,
+        ask: CopyAsk,
+        making: &mut Option<MutexGuard<'a, ()>>,
+        window: &mut Window<'a, K, V, S>,
+    ) -> Answer
+        requires standing { IsStandingResizer self.old.machine }
+        requires can { CanResize window.old self.old }
+        requires asks { ask_of self.old.machine ≡ Some ask }
+        ensures sees { Sees window.old window.new }
+        ensures own { window.new.own ≡ window.old.own }
+        ensures fit { IsFit result }
+        ensures machine { self.new.machine ≡ self.old.machine }
+        ensures goes_on { GoesOnAfter window.new self.new result }
+    {
+        if let State::Opening(_) = self.machine.state {
+            return self.open(window);
+        }
+        let asked = Asked {
+            ask,
+            kind: self.machine.kind(),
+            follows: self.machine.follows(),
+        };
+        self.copier.answer(rt, alloc, count, asked, making, window)
+    }
+
+    /// Tries to make the table that was made the root.
+    fn open<'a>(&mut self, window: &mut Window<'a, K, V, S>) -> Answer
+        requires standing { IsStandingResizer self.old.machine }
+        requires can { CanResize window.old self.old }
+        requires opens { (n : _) × (self.old.machine.state ≡ Opening n) }
+        ensures sees { Sees window.old window.new }
+        ensures own { window.new.own ≡ window.old.own }
+        ensures fit { IsFit result }
+        ensures machine { self.new.machine ≡ self.old.machine }
+        ensures goes_on { GoesOnAfter window.new self.new result }
+    {
+        let Some((table, mut seal)) = self.copier.fresh.take() else {
+            unreachable!()
+        };
+        let (found, _) = window.open_root(&table, &mut seal);
+        tried(found, 0)
+    }
+
+    /// How one has ended.
+    fn replied(&self) -> Result<(), Refused>
+        ensures refused { IfErr result (λ refused. reply_of self.now.machine
+            ≡ Some (ReplyRefused refused)) }
+    {
+        match self.machine.reply() {
+            Some(Reply::Refused(refused)) => Err(refused),
+            _ => Ok(()),
+        }
+    }
+}
+
+/// Resizes the map, and changes no pair. Where it is refused for want of room, `given` tells the
+/// number that a full log gave, or the sum of the count that makes a table too long.
+pub fn resize<'a, R: Wait, K: Hash + Eq, V, S: BuildHasher>(
+    rt: &R,
+    alloc: Global,
+    initial: usize,
+    count: &Count,
+    window: &mut Window<'a, K, V, S>,
+    given: &mut Own<Given>,
+    resize: Resize,
+) -> Result<(), Refused>
+    requires initial { IsPowerOfTwo initial }
+    ensures sees { Sees window.old window.new }
+    ensures lawful { IsLawful window.new }
+    ensures own { window.new.own ≡ window.old.own }
+    ensures refused { IfErr result (λ refused. IsMemoryOrCapacity refused) }
+    ensures crowded { result ≡ Err Refused.Capacity → HasNoRoomFor initial resize
+        (tables_of window.new.sight.log) given.new.done }
+{
+    window.learn();
+    let mut resizing = Resizing {
+        machine: Resizer::new(resize, window.book.parts.mode, initial),
+        copier: Copier::new(),
+    };
+    let mut making: Option<MutexGuard<'a, ()>> = None;
+    for _ in rt.forever() {
+        let Some(ask) = resizing.machine.ask() else {
+            *given = resizing.copier.given.again();
+            return resizing.replied();
+        };
+        let answer = resizing.answer(rt, alloc, count, ask, &mut making, window);
+        resizing.machine.answer(answer);
+    }
+    unreachable!()
+}

@@ -1,0 +1,12 @@
+-- What is asked for of a map before it is built.
+use Rattle.std.specs.Prelude.{ℕ}
+use Rattle.papaya_words.specs.declared.probe.ResizeMode.{ResizeMode}
+
+-- The hasher, the number of the collector, for how many pairs, how it resizes, and over how many
+-- shards it counts.
+pub record Wanted (S : Type 0) : Type 0 where
+  pub hasher : S
+  pub collector : ℕ
+  pub capacity : ℕ
+  pub mode : ResizeMode
+  pub shards : ℕ

@@ -1,0 +1,195 @@
+//! The builder of a map, which asks for its parts one by one.
+ghost use Rattle.std.specs.Prelude.{◌≡◌, IfErr, IfOk};
+ghost use Rattle.std.specs.Arc.{arc_value};
+ghost use Rattle.papaya_words.specs.declared.limits.TheConstants.{DEFAULT_CHUNK, DEFAULT_SHARDS};
+ghost use Rattle.papaya_keys.specs.Sizes.{IsAllowed};
+ghost use Rattle.papaya_map.specs.Asked.{IsMapRefusal};
+ghost use Rattle.papaya_map.specs.Fixed.{IsFor};
+
+use crate::map::HashMap;
+use papaya_keys::guard::Collector;
+use papaya_words::limits::DEFAULT_SHARDS;
+use papaya_words::probe::{Refused, ResizeMode};
+use std::alloc::Global;
+use std::fmt;
+use std::hash::{BuildHasher, BuildHasherDefault, FoldHasher, Hash};
+use std::marker::{Model, PhantomData};
+use std::sync::{Arc, Wait};
+
+/// What a map is to be made of: `HashMapBuilder` of 0.2.5. Contracts see each part that was asked
+/// for. What cannot be had is refused when the map is built.
+#[derive(Drop)]
+pub struct HashMapBuilder<K, V, S = BuildHasherDefault<FoldHasher>> {
+    hasher: S,
+    collector: Collector,
+    capacity: usize,
+    mode: ResizeMode,
+    shards: usize,
+    pairs: PhantomData<(K, V)>,
+}
+
+impl<K, V, S> Model for HashMapBuilder<K, V, S> {
+    ghost use Rattle.papaya_map.specs.Wanted.{Wanted};
+
+    ghost Value = { Wanted S };
+
+    ghost view = { λ b. record {
+      hasher = b.hasher;
+      collector = b.collector;
+      capacity = b.capacity;
+      mode = b.mode;
+      shards = b.shards;
+    } };
+}
+
+impl<K: Hash + Eq, V> HashMap<K, V, BuildHasherDefault<FoldHasher>> {
+    /// A builder of a map for no pairs, which resizes as [`ResizeMode::default`] says, counts its
+    /// pairs over [`DEFAULT_SHARDS`] shards, and has a collector of number 0: `builder` of 0.2.5.
+    pub fn builder() -> HashMapBuilder<K, V, BuildHasherDefault<FoldHasher>>
+        ensures collector { result.collector ≡ 0 }
+        ensures capacity { result.capacity ≡ 0 }
+        ensures mode { result.mode ≡ ResizeMode.Incremental DEFAULT_CHUNK }
+        ensures shards { result.shards ≡ DEFAULT_SHARDS }
+    {
+        HashMapBuilder {
+            hasher: BuildHasherDefault::new(),
+            collector: Collector::new(0),
+            capacity: 0,
+            mode: ResizeMode::default(),
+            shards: DEFAULT_SHARDS,
+            pairs: PhantomData,
+        }
+    }
+}
+
+impl<K, V, S: Drop> HashMapBuilder<K, V, S> {
+    /// Asks for this hasher: `hasher` of 0.2.5.
+    pub fn hasher<T>(self, hasher: T) -> HashMapBuilder<K, V, T>
+        ensures { result ≡ record {
+          hasher = hasher;
+          collector = self.collector;
+          capacity = self.capacity;
+          mode = self.mode;
+          shards = self.shards;
+        } }
+    {
+        let HashMapBuilder {
+            hasher: _,
+            collector,
+            capacity,
+            mode,
+            shards,
+            pairs,
+        } = self;
+        HashMapBuilder {
+            hasher,
+            collector,
+            capacity,
+            mode,
+            shards,
+            pairs,
+        }
+    }
+}
+
+impl<K, V, S> HashMapBuilder<K, V, S> {
+    /// Asks for this collector: `collector` of 0.2.5. Guards of its number are the map's.
+    pub fn collector(self, collector: Collector) -> HashMapBuilder<K, V, S>
+        ensures { result ≡ record {
+          hasher = self.hasher;
+          collector = collector;
+          capacity = self.capacity;
+          mode = self.mode;
+          shards = self.shards;
+        } }
+    {
+        HashMapBuilder { collector, ..self }
+    }
+
+    /// Asks for a collector that other maps may have too: `shared_collector` of 0.2.5. A guard of
+    /// one such map fits all, and so does one of the caller's collector, since a guard is known by
+    /// its collector's number alone. The map keeps that number, and counts the guards that it gives
+    /// out itself.
+    pub fn shared_collector(self, collector: Arc<Collector>) -> HashMapBuilder<K, V, S>
+        ensures { result ≡ record {
+          hasher = self.hasher;
+          collector = arc_value collector;
+          capacity = self.capacity;
+          mode = self.mode;
+          shards = self.shards;
+        } }
+    {
+        let number = collector.number();
+        self.collector(Collector::new(number))
+    }
+
+    /// Asks for a first table for so many pairs: `capacity` of 0.2.5.
+    pub fn capacity(self, capacity: usize) -> HashMapBuilder<K, V, S>
+        ensures { result ≡ record {
+          hasher = self.hasher;
+          collector = self.collector;
+          capacity = capacity;
+          mode = self.mode;
+          shards = self.shards;
+        } }
+    {
+        HashMapBuilder { capacity, ..self }
+    }
+
+    /// Asks for this way to resize: `resize_mode` of 0.2.5.
+    pub fn resize_mode(self, mode: ResizeMode) -> HashMapBuilder<K, V, S>
+        ensures { result ≡ record {
+          hasher = self.hasher;
+          collector = self.collector;
+          capacity = self.capacity;
+          mode = mode;
+          shards = self.shards;
+        } }
+    {
+        HashMapBuilder { mode, ..self }
+    }
+
+    /// Asks for so many shards of the count, which are rounded up to a power of two. 0.2.5 takes their
+    /// number from the machine's processors.
+    pub fn shards(self, shards: usize) -> HashMapBuilder<K, V, S>
+        ensures { result ≡ record {
+          hasher = self.hasher;
+          collector = self.collector;
+          capacity = self.capacity;
+          mode = self.mode;
+          shards = shards;
+        } }
+    {
+        HashMapBuilder { shards, ..self }
+    }
+}
+
+impl<K: Hash + Eq + Drop, V: Drop, S: BuildHasher + Drop> HashMapBuilder<K, V, S> {
+    /// The map: `build` of 0.2.5. Refused as [`HashMap::with_parts`].
+    pub fn build<R: Wait>(self, rt: &R, alloc: Global) -> Result<HashMap<K, V, S>, Refused>
+        ensures ok { IfOk result (λ map. IsAllowed self.mode self.capacity self.shards) }
+        ensures made { IfOk result (IsFor self.mode self.capacity) }
+        ensures collector { IfOk result (λ map. map.collector ≡ self.collector) }
+        ensures err { IfErr result (λ e. IsMapRefusal self.mode self.capacity self.shards e) }
+    {
+        let HashMapBuilder {
+            hasher,
+            collector,
+            capacity,
+            mode,
+            shards,
+            pairs: _,
+        } = self;
+        HashMap::with_collector(rt, alloc, mode, capacity, shards, hasher, collector)
+    }
+}
+
+impl<K, V, S> fmt::Debug for HashMapBuilder<K, V, S> {
+    fn fmt<W: fmt::Write>(&self, f: &mut fmt::Formatter<W>) -> fmt::Result {
+        f.debug_struct("HashMapBuilder")
+            .field("capacity", &self.capacity)
+            .field("collector", &self.collector.number())
+            .field("resize_mode", &self.mode)
+            .finish()
+    }
+}

@@ -1,0 +1,40 @@
+//! The calls that make room ahead, and change no pair.
+ghost use Rattle.std.specs.Prelude.{◌≡◌, ◌⊎◌, Err, IfErr};
+ghost use Rattle.papaya_change.specs.Writing.{IsMemoryOrCapacity};
+
+use crate::map::{HashMap, HashMapRef};
+use papaya_keys::guard::Guard;
+use papaya_words::probe::Refused;
+use std::hash::{BuildHasher, Hash};
+use std::sync::Wait;
+
+impl<'a, K: Hash + Eq, V, S: BuildHasher> HashMapRef<'a, K, V, S> {
+    /// Makes room for so many pairs more than the map counts: `reserve` of 0.2.5. Refused as
+    /// [`HashMapRef::reserve_as`] is.
+    pub fn reserve<R: Wait>(&self, rt: &R, additional: usize) -> Result<(), Refused>
+        ensures { IfErr result (λ refused. IsMemoryOrCapacity refused) }
+    {
+        let mut pass = self.map.pass();
+        self.reserve_as(rt, additional, &mut pass)
+    }
+}
+
+impl<K: Hash + Eq, V, S: BuildHasher> HashMap<K, V, S> {
+    /// Makes room for so many pairs more than the map counts: `reserve` of 0.2.5. Refused for a wrong
+    /// guard, and as [`HashMapRef::reserve_as`] is.
+    pub fn reserve<R: Wait, G: Guard>(
+        &self,
+        rt: &R,
+        additional: usize,
+        guard: &G,
+    ) -> Result<(), Refused>
+        ensures right { G.collector_number guard.now ≡ self.now.collector
+            → IfErr result (λ refused. IsMemoryOrCapacity refused) }
+        ensures wrong { (G.collector_number guard.now ≡ self.now.collector → ⊥)
+            → result ≡ Err Refused.WrongGuard }
+    {
+        self.verify(guard)?;
+        let mut pass = self.numbered(guard.number());
+        self.pin().reserve_as(rt, additional, &mut pass)
+    }
+}
