@@ -3,13 +3,12 @@
 ghost use Rattle.std.specs.Prelude.{◌≡◌};
 
 use crate::expect::is;
-use crate::numbers::{Numbers, NumbersPass, counts, finds, inserts, made, numbers};
+use crate::numbers::{Numbers, NumbersPass, counts, finds, inserts, numbers};
 use papaya_call::answers::Operation;
 use papaya_keys::compute::Compute;
-use papaya_words::probe::{Refused, ResizeMode};
+use papaya_words::probe::Refused;
 use std::process::Abort;
 use std::sync::Wait;
-use std::test::Fail;
 
 /// Removes an even value, and takes the next for an odd one.
 fn by_parity(shown: Option<(&u64, &u64)>) -> Operation<u64, ()> {
@@ -186,42 +185,4 @@ fn a_closure_is_called_once(rt: HostRuntime) {
     let map = numbers(&rt, rt.alloc());
     shows_each_once(&rt, &map);
     counts(&rt, &map, 0);
-}
-
-/// A compute stores a value where there is none, and is shown none, once.
-fn stores_where_none_is<R: Wait + Abort>(rt: &R, map: &Numbers, pass: &mut NumbersPass)
-    requires { pass.old.book ≡ map.now.book }
-    ensures { pass.new.book ≡ pass.old.book }
-{
-    let mut nones = 0u64;
-    let mut pairs = 0u64;
-    let inserted: Result<Compute<u64, u64, ()>, Refused> = map.pin().compute_as(
-        rt,
-        3,
-        |shown| {
-            match shown {
-                Some(_) => pairs = pairs.wrapping_add(1),
-                None => nones = nones.wrapping_add(1),
-            }
-            Operation::Insert(30)
-        },
-        pass,
-    );
-    is(rt, inserted, Ok(Compute::Inserted(&3, &30)));
-    is(rt, (nones, pairs), (1, 0));
-}
-
-/// The same, and then a lookup by the pass.
-fn stores_and_finds<R: Wait + Abort>(rt: &R, map: &Numbers) {
-    let mut pass = map.pass();
-    stores_where_none_is(rt, map, &mut pass);
-    finds(rt, map, 3, &mut pass, Some(&30));
-    counts(rt, map, 1);
-}
-
-#[test]
-fn a_compute_inserts_where_there_is_none(rt: HostRuntime) -> Result<(), Fail> {
-    let map = made(&rt, rt.alloc(), ResizeMode::Incremental(64), 0, 4)?;
-    stores_and_finds(&rt, &map);
-    Ok(())
 }

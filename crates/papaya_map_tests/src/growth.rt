@@ -111,3 +111,56 @@ fn a_reader_finds_the_first_keys_while_the_map_grows(rt: HostRuntime) -> Result<
     }
     Ok(())
 }
+
+/// Two threads insert the keys of a half each. Was no call refused?
+fn insert_two<R: Threads + Wait + Sync + Abort>(rt: &R, map: &Numbers, ends: [u64; 3]) -> bool {
+    let [from, middle, end] = ends;
+    let (low, high) = join(
+        rt,
+        || insert(rt, map, from, middle),
+        || insert(rt, map, middle, end),
+    );
+    low && high
+}
+
+/// Four threads insert the keys of a quarter each. Was no call refused?
+fn insert_four<R: Threads + Wait + Sync + Abort>(rt: &R, map: &Numbers, ends: [u64; 5]) -> bool {
+    let [from, first, second, third, end] = ends;
+    let (low, high) = join(
+        rt,
+        || insert_two(rt, map, [from, first, second]),
+        || insert_two(rt, map, [second, third, end]),
+    );
+    low && high
+}
+
+/// Has the map each key below 1024, with itself, and no other?
+fn has_all(map: &Numbers) -> bool {
+    let mut pass = map.pass();
+    for key in 0..1024u64 {
+        if map.pin().get_as(&key, &mut pass) != Some(&key) {
+            return false;
+        }
+    }
+    map.len() == 1024
+}
+
+/// Eight threads insert 128 keys each in a map of no pairs, so that all need each next table at once.
+fn inserts_eight<R: Threads + Wait + Sync + Abort>(rt: &R, map: &Numbers) {
+    let inserted = join(
+        rt,
+        || insert_four(rt, map, [0, 128, 256, 384, 512]),
+        || insert_four(rt, map, [512, 640, 768, 896, 1024]),
+    );
+    is(rt, inserted, (true, true));
+    is(rt, has_all(map), true);
+}
+
+#[test]
+fn eight_threads_that_need_a_next_table_lose_no_key(rt: HostRuntime) -> Result<(), Fail> {
+    for mode in MODES {
+        let map = made(&rt, rt.alloc(), mode, 0, 4)?;
+        inserts_eight(&rt, &map);
+    }
+    Ok(())
+}

@@ -5,7 +5,7 @@ use crate::expect::is;
 use crate::hashing::TOGETHER;
 use crate::numbers::{MODES, Numbers, NumbersPass, counts, finds, inserts, made, numbers, removes};
 use papaya_map::map::HashMap;
-use papaya_words::probe::{Refused, ResizeMode};
+use papaya_words::probe::ResizeMode;
 use std::process::Abort;
 use std::sync::Wait;
 use std::test::Fail;
@@ -23,47 +23,6 @@ fn a_map_is_made_with_a_capacity(rt: HostRuntime) -> Result<(), Fail> {
         lacks_five(&rt, &map);
     }
     Ok(())
-}
-
-#[test]
-fn a_map_past_a_limit_is_refused(rt: HostRuntime) {
-    for (mode, capacity, shards, refused) in [
-        (ResizeMode::Incremental(0), 0, 1, Refused::ZeroChunk),
-        (ResizeMode::Blocking, 0, 65_537, Refused::Capacity),
-        (ResizeMode::Blocking, 3_221_225_473, 1, Refused::Capacity),
-        (ResizeMode::Blocking, 1 << 61, 1, Refused::Capacity),
-    ] {
-        let made = made(&rt, rt.alloc(), mode, capacity, shards);
-        is(&rt, made.err(), Some(refused));
-    }
-}
-
-/// Key 1 has no value, and then 10, and then 20.
-fn replaces<R: Wait + Abort>(rt: &R, map: &Numbers, pass: &mut NumbersPass)
-    requires { pass.old.book ≡ map.now.book }
-    ensures { pass.new.book ≡ pass.old.book }
-{
-    finds(rt, map, 1, pass, None);
-    inserts(rt, map, 1, 10, pass, Ok(None));
-    finds(rt, map, 1, pass, Some(&10));
-    inserts(rt, map, 1, 20, pass, Ok(Some(&10)));
-}
-
-/// A second key is stored beside the first.
-fn stores_beside<R: Wait + Abort>(rt: &R, map: &Numbers) {
-    let mut pass = map.pass();
-    replaces(rt, map, &mut pass);
-    inserts(rt, map, 2, 30, &mut pass, Ok(None));
-    finds(rt, map, 1, &mut pass, Some(&20));
-    finds(rt, map, 2, &mut pass, Some(&30));
-}
-
-#[test]
-fn a_pass_sees_its_own_insertions(rt: HostRuntime) {
-    let map = numbers(&rt, rt.alloc());
-    counts(&rt, &map, 0);
-    stores_beside(&rt, &map);
-    counts(&rt, &map, 2);
 }
 
 /// Each of two keys has the value that one of two callers gave it.

@@ -1,10 +1,10 @@
-//! The tests of the map that threads share, and of the book below it.
+//! The tests of the map that threads share.
 #![tactic(auto)]
 
 #[cfg(test)]
 mod additions;
 #[cfg(test)]
-mod books;
+mod builders;
 #[cfg(test)]
 mod computes;
 #[cfg(test)]
@@ -25,6 +25,8 @@ mod plain;
 mod refused;
 #[cfg(test)]
 mod removals;
+#[cfg(test)]
+mod room;
 #[cfg(test)]
 mod texts;
 #[cfg(test)]

@@ -68,10 +68,13 @@ fn insert_again<R: Wait>(
     }
 }
 
+/// So many keys of one path make a table of 32 slots grow.
+const KEYS: u64 = 40;
+
 /// Fills a map: was it as it should be after each key?
 fn fills<R: Wait>(rt: &R, map: &Numbers) -> Result<bool, Refused> {
     let mut pass = map.pass();
-    for key in 0..20u64 {
+    for key in 0..KEYS {
         let kept = insert_again(rt, map, key, &mut pass)?;
         if !kept || !has_below(map, key + 1) {
             return Ok(false);
@@ -80,13 +83,12 @@ fn fills<R: Wait>(rt: &R, map: &Numbers) -> Result<bool, Refused> {
     Ok(true)
 }
 
-/// Empties a map of the keys below 20, the highest first: was it as it should be after each? A
-/// removal
-/// takes no memory.
+/// Empties a map of these keys, the highest first: was it as it should be after each? A removal takes
+/// no memory, also where it moves pairs to a table that is there.
 fn empties<R: Wait>(rt: &R, map: &Numbers) -> Result<bool, Refused> {
     let mut pass = map.pass();
-    for gone in 0..20u64 {
-        let key = 19 - gone;
+    for gone in 0..KEYS {
+        let key = KEYS - 1 - gone;
         let removed = map.pin().remove_as(rt, &key, &mut pass)?;
         if removed != Some(&key.wrapping_mul(10)) || !has_below(map, key) {
             return Ok(false);
@@ -102,14 +104,13 @@ fn fills_and_empties<R: Wait>(rt: &R, map: &Numbers) -> Result<(bool, bool, bool
 
 #[test]
 fn refused_growth_leaves_the_map(rt: HostRuntime) -> Result<(), Fail> {
-    for capacity in [0usize, 20] {
-        let map = made(&rt, rt.alloc(), ResizeMode::Blocking, capacity)?;
-        is_at(
-            &rt,
-            capacity,
-            fills_and_empties(&rt, &map)?,
-            (true, true, true),
-        );
+    for (case, mode, capacity) in [
+        (0usize, ResizeMode::Blocking, 0usize),
+        (1, ResizeMode::Blocking, 20),
+        (2, ResizeMode::Incremental(1), 20),
+    ] {
+        let map = made(&rt, rt.alloc(), mode, capacity)?;
+        is_at(&rt, case, fills_and_empties(&rt, &map)?, (true, true, true));
     }
     Ok(())
 }

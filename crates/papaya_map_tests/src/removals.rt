@@ -3,96 +3,9 @@
 ghost use Rattle.std.specs.Prelude.{◌≡◌};
 
 use crate::expect::is;
-use crate::numbers::{Numbers, NumbersPass, counts, finds, inserts, made, numbers, removes};
-use papaya_words::probe::ResizeMode;
+use crate::numbers::{Numbers, NumbersPass, counts, finds, inserts, numbers};
 use std::process::Abort;
 use std::sync::Wait;
-use std::test::Fail;
-
-/// Key 1 is removed once: before that it is stored, and then it is absent.
-fn removes_once<R: Wait + Abort>(rt: &R, map: &Numbers) {
-    let mut pass = map.pass();
-    removes(rt, map, 1, &mut pass, Ok(None));
-    inserts(rt, map, 1, 10, &mut pass, Ok(None));
-    finds(rt, map, 1, &mut pass, Some(&10));
-    counts(rt, map, 1);
-    removes(rt, map, 1, &mut pass, Ok(Some(&10)));
-    finds(rt, map, 1, &mut pass, None);
-}
-
-#[test]
-fn remove_answers_the_value_once(rt: HostRuntime) {
-    let map = numbers(&rt, rt.alloc());
-    removes_once(&rt, &map);
-    counts(&rt, &map, 0);
-}
-
-/// Of the keys 1 and 2 the first is removed.
-fn removes_one<R: Wait + Abort>(rt: &R, map: &Numbers, pass: &mut NumbersPass)
-    requires { pass.old.book ≡ map.now.book }
-    ensures { pass.new.book ≡ pass.old.book }
-{
-    inserts(rt, map, 1, 10, pass, Ok(None));
-    inserts(rt, map, 2, 20, pass, Ok(None));
-    counts(rt, map, 2);
-    removes(rt, map, 1, pass, Ok(Some(&10)));
-    counts(rt, map, 1);
-    finds(rt, map, 1, pass, None);
-}
-
-/// A later pass finds the second key alone.
-fn finds_the_second(rt: &impl Abort, map: &Numbers, later: &mut NumbersPass)
-    requires { later.old.book ≡ map.now.book }
-    ensures { later.new.book ≡ later.old.book }
-{
-    finds(rt, map, 1, later, None);
-    finds(rt, map, 2, later, Some(&20));
-}
-
-/// The first key is removed, and neither its own pass nor a later one finds it again.
-fn stays_out<R: Wait + Abort>(rt: &R, map: &Numbers) {
-    let mut pass = map.pass();
-    removes_one(rt, map, &mut pass);
-    let mut later = map.pass();
-    finds_the_second(rt, map, &mut later);
-    removes(rt, map, 1, &mut pass, Ok(None));
-    removes(rt, map, 1, &mut later, Ok(None));
-}
-
-/// What is removed stays out, for its own pass and for one that is made afterwards.
-#[test]
-fn a_removed_pair_stays_out(rt: HostRuntime) -> Result<(), Fail> {
-    let map = made(&rt, rt.alloc(), ResizeMode::Incremental(64), 10, 4)?;
-    stays_out(&rt, &map);
-    counts(&rt, &map, 1);
-    Ok(())
-}
-
-/// Key 1 is stored and removed.
-fn stores_and_removes<R: Wait + Abort>(rt: &R, map: &Numbers, value: &u64, pass: &mut NumbersPass)
-    requires { pass.old.book ≡ map.now.book }
-    ensures { pass.new.book ≡ pass.old.book }
-{
-    inserts(rt, map, 1, *value, pass, Ok(None));
-    counts(rt, map, 1);
-    finds(rt, map, 1, pass, Some(value));
-    removes(rt, map, 1, pass, Ok(Some(value)));
-    counts(rt, map, 0);
-}
-
-/// The same twice, by one pass.
-fn stores_after_a_removal<R: Wait + Abort>(rt: &R, map: &Numbers) {
-    let mut pass = map.pass();
-    stores_and_removes(rt, map, &10, &mut pass);
-    stores_and_removes(rt, map, &11, &mut pass);
-}
-
-#[test]
-fn an_insertion_after_a_removal_finds_no_old_value(rt: HostRuntime) -> Result<(), Fail> {
-    let map = made(&rt, rt.alloc(), ResizeMode::Blocking, 0, 1)?;
-    stores_after_a_removal(&rt, &map);
-    Ok(())
-}
 
 /// What a removal answered, with copies of the pair's key and value.
 #[derive(Clone, Copy, PartialEq, Debug)]
