@@ -1,5 +1,5 @@
 -- What a command does to a map for one caller, and what is printed of it.
-use Rattle.std.specs.Prelude.{◌≡◌, ◌==◌, ℕ, List, Option, Some, None, Result, Ok, Err, IsOk, MatchOption, length}
+use Rattle.std.specs.Prelude.{◌≡◌, ◌==◌, ℕ, List, Option, Some, None, Result, Ok, Err, IsOk, MatchOption, [], length}
 use Rattle.papaya_words.specs.declared.probe.Refused.{Refused}
 use Rattle.papaya_core.specs.Content.{content}
 use Rattle.papaya_core.specs.Store.{Stored}
@@ -36,6 +36,8 @@ module _ {S : Type 0} where
   Obeys command.Len s text s' =
       (text ≡ printed.Length (length (content (λ a b. a == b) s.store))) × (s' ≡ s)
   Obeys command.Slots s text s' = (text ≡ printed.Slots (slots_of s.store)) × (s' ≡ s)
+  Obeys command.Clear s text s' = (text ≡ printed.Done)
+      × (content (λ a b. a == b) s'.store ≡ []) × (slots_of s'.store ≡ 0)
 
   -- the line writes a command, and this does what it asks for
   abbrev pub ObeysLine : List ℕ → MapState ℕ ℕ S → Printed → MapState ℕ ℕ S → Type 0

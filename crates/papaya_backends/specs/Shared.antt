@@ -29,6 +29,7 @@ IsMissing (command.Remove k) = ⊥
 IsMissing (command.Update k) = ⊥
 IsMissing command.Len = ⊥
 IsMissing command.Slots = Unit {0}
+IsMissing command.Clear = Unit {0}
 
 -- An update of the key k: its change, the last that was seen, put in a pair of the key whose value,
 -- which is the answer, follows that of the pair that it took out. Or the key was absent at a moment
@@ -55,6 +56,7 @@ Obeys (command.Update k) old text new = (answer : Result (Option ℕ) Refused)
     × (text ≡ of_update answer) × IsFollowed k old new answer
 Obeys command.Len old text new = (count : ℕ) × (text ≡ printed.Length count) × (new ≡ old)
 Obeys command.Slots old text new = ⊥
+Obeys command.Clear old text new = ⊥
 
 -- the line writes a command, and this does what it asks for
 abbrev pub ObeysLine : List ℕ → Seen → Printed → Seen → Type 0

@@ -47,6 +47,10 @@ fn obey<S: BuildHasher + Drop>(map: &mut HashMap<u64, u64, S>, command: Command)
         },
         Command::Len => Printed::Length(map.len()),
         Command::Slots => Printed::Slots(map.slots()),
+        Command::Clear => match map.clear() {
+            Ok(()) => Printed::Done,
+            Err(refused) => Printed::Refused(refused),
+        },
     }
 }
 

@@ -144,7 +144,7 @@ impl<'a, H: Wait, S: BuildHasher + Drop> Caller<'a, H, S> {
             Command::Remove(key) => Some(self.remove(key)),
             Command::Update(key) => Some(self.follow(key)),
             Command::Len => Some(Printed::Length(self.map.len())),
-            Command::Slots => None,
+            Command::Slots | Command::Clear => None,
         }
     }
 }

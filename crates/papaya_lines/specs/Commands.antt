@@ -2,7 +2,7 @@
 use Rattle.std.specs.Prelude.{◌≡◌, ℕ, List, [], ◌∷◌, ◌++◌, Contains, codes}
 use Rattle.papaya_lines.specs.Numbers.{WritesNumber}
 use Rattle.papaya_lines.specs.declared.commands.Command.{Command}
-use Rattle.papaya_lines.specs.declared.commands.Command.TheVariants.{Insert, Get, Remove, Update, Len, Slots}
+use Rattle.papaya_lines.specs.declared.commands.Command.TheVariants.{Insert, Get, Remove, Update, Len, Slots, Clear}
 use Rattle.papaya_lines.specs.declared.commands.Keyed.{Keyed}
 use Rattle.papaya_lines.specs.declared.commands.Keyed.TheVariants as keyed
 
@@ -27,6 +27,7 @@ keyed_word keyed.Update = codes "u"
 abbrev pub WritesBare : List ℕ → Command → Type 0
 WritesBare text Len = text ≡ codes "len"
 WritesBare text Slots = text ≡ codes "slots"
+WritesBare text Clear = text ≡ codes "clear"
 WritesBare text (Insert k v) = ⊥
 WritesBare text (Get k) = ⊥
 WritesBare text (Remove k) = ⊥
@@ -45,6 +46,7 @@ WritesCommand text (Remove k) = WritesKeyed text (codes "r") k
 WritesCommand text (Update k) = WritesKeyed text (codes "u") k
 WritesCommand text Len = text ≡ codes "len"
 WritesCommand text Slots = text ≡ codes "slots"
+WritesCommand text Clear = text ≡ codes "clear"
 
 -- the text is no command
 abbrev pub WritesNone : List ℕ → Type 0

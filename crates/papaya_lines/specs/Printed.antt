@@ -14,5 +14,6 @@ text_of (printed.New value) = codes "new " ++ decimal value
 text_of (printed.Removed value) = codes "removed " ++ decimal value
 text_of (printed.Length count) = codes "len " ++ decimal count
 text_of (printed.Slots count) = codes "slots " ++ decimal count
+text_of printed.Done = codes "ok"
 text_of (printed.Refused refused) = codes "refused " ++ decimal (number_of refused) ++ 32
     ∷ name_of refused

@@ -21,6 +21,8 @@ pub enum Command {
     Len,
     /// How many slots the root table has.
     Slots,
+    /// Removes all pairs.
+    Clear,
 }
 
 /// What stands before the first space, and what after it.
@@ -61,6 +63,7 @@ fn bare_of(word: &[u8]) -> Option<Command>
     match word {
         b"len" => Some(Command::Len),
         b"slots" => Some(Command::Slots),
+        b"clear" => Some(Command::Clear),
         _ => None,
     }
 }

@@ -19,6 +19,8 @@ pub enum Printed {
     Length(usize),
     /// How many slots the root table has.
     Slots(usize),
+    /// All was done that was asked for.
+    Done,
     /// Why the call changed nothing.
     Refused(Refused),
 }
@@ -38,6 +40,7 @@ impl fmt::Display for Printed {
             Printed::Removed(value) => write!(f, "removed {value}"),
             Printed::Length(count) => write!(f, "len {count}"),
             Printed::Slots(count) => write!(f, "slots {count}"),
+            Printed::Done => f.write_str("ok"),
             Printed::Refused(refused) => {
                 let number = refused.number();
                 write!(f, "refused {number} {refused}")
