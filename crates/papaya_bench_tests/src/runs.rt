@@ -1,6 +1,7 @@
 // What is printed, and what no clause says of failures.
 use papaya_measure::growth::time_growth;
 use papaya_measure::run::{run_on, time_workload};
+use papaya_measure::shared_growth::time_shared_growth;
 use papaya_plan::plan::{Plan, Workload};
 use papaya_shell::fakes::{Sink, words};
 use papaya_words::probe::ResizeMode;
@@ -64,6 +65,7 @@ fn bad_arguments(rt: HostRuntime) -> Result<(), Fail> {
         "time ",
         " time",
         "check",
+        "Grow",
     ] {
         let args = words(rt.alloc(), args)?;
         refuses(&rt, rt.alloc(), args.as_slice())?;
@@ -131,6 +133,59 @@ fn lines_of_growth(rt: HostRuntime) -> Result<(), Fail> {
         is_growth(&rt, std::str::from_utf8(printed.as_slice())?, Some(name))?;
     }
     Ok(())
+}
+
+/// The next part of a line, a number.
+fn number<'a, I: Iterator<Item = &'a str>>(parts: &mut I) -> Result<u64, Fail> {
+    Ok(parts.next().ok_or("a number")?.parse::<u64>()?)
+}
+
+/// Asserts that a line of insertions has these parts: a name, 40 keys, the time of all, and of single
+/// ones the greatest and three percentiles, none greater than the next.
+fn is_insertions<A: Abort>(rt: &A, line: &str, name: Option<&str>) -> Result<(), Fail> {
+    let mut parts = line.split(' ');
+    is_part(rt, parts.next(), name);
+    is_part(rt, parts.next(), Some("40"));
+    let _all = number(&mut parts)?;
+    let greatest = number(&mut parts)?;
+    let half = number(&mut parts)?;
+    let most = number(&mut parts)?;
+    let nearly_all = number(&mut parts)?;
+    // Of 40 times the 40th stands at p99 and at p99.9.
+    assert!(rt;
+        half <= most && most == nearly_all && nearly_all == greatest,
+        "in {line}"
+    );
+    is_part(rt, parts.next(), None);
+    Ok(())
+}
+
+/// Asserts that the lines of a growth are those of one thread and of several, and one of gets.
+fn are_shared<A: Abort>(rt: &A, printed: &str, names: [&str; 3]) -> Result<(), Fail> {
+    let mut lines = printed.lines();
+    is_insertions(rt, lines.next().ok_or("a line")?, Some(names[0]))?;
+    is_insertions(rt, lines.next().ok_or("a line")?, Some(names[1]))?;
+    let mut parts = lines.next().ok_or("a line")?.split(' ');
+    is_part(rt, parts.next(), Some(names[2]));
+    let _gets = number(&mut parts)?;
+    let _written = number(&mut parts)?;
+    let _greatest = number(&mut parts)?;
+    is_part(rt, parts.next(), None);
+    is_part(rt, lines.next(), None);
+    Ok(())
+}
+
+#[test]
+fn lines_of_shared_growth(rt: HostRuntime) -> Result<(), Fail> {
+    let mut printed = Vec::new(rt.alloc());
+    let mode = ResizeMode::Blocking;
+    assert!(rt; time_shared_growth(&rt, rt.alloc(), mode, 40, &mut printed).is_ok());
+    let names = [
+        "grow-blocking/shared/40",
+        "grow-blocking/threads/40",
+        "grow-blocking/gets/40",
+    ];
+    are_shared(&rt, std::str::from_utf8(printed.as_slice())?, names)
 }
 
 /// Asserts that a run whose output takes this much of what is printed fails after it.

@@ -38,6 +38,14 @@ fn grow<R: Clock>(rt: &R, alloc: Global, mode: ResizeMode, keys: u32) -> Result<
     })
 }
 
+/// The name of growth in this mode, in what is printed.
+pub(crate) fn name_of(mode: ResizeMode) -> &'static str {
+    match mode {
+        ResizeMode::Incremental(_) => "grow-incremental",
+        ResizeMode::Blocking => "grow-blocking",
+    }
+}
+
 /// Prints a line for a map that grows by so many keys: their number, the time of all insertions,
 /// that of the greatest, and the slots at the end.
 pub fn time_growth<R: Clock, W: Write>(
@@ -48,10 +56,7 @@ pub fn time_growth<R: Clock, W: Write>(
     output: &mut W,
 ) -> Result<(), Failure> {
     let growth = grow(rt, alloc, mode, keys)?;
-    let name = match mode {
-        ResizeMode::Incremental(_) => "grow-incremental",
-        ResizeMode::Blocking => "grow-blocking",
-    };
+    let name = name_of(mode);
     writeln!(
         output,
         "{name}/seq/{keys} {keys} {} {} {}",

@@ -6,3 +6,4 @@ pub mod growth;
 mod one_caller;
 pub mod run;
 mod shared;
+pub mod shared_growth;

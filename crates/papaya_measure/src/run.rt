@@ -5,6 +5,7 @@ ghost use Rattle.papaya_plan.specs.Arguments.{words_of};
 
 use crate::backends::Backend;
 use crate::growth::time_growth;
+use crate::shared_growth::time_shared_growth;
 use papaya_plan::answers::compare;
 use papaya_plan::arguments::Task;
 use papaya_plan::plan::{Plan, Workload};
@@ -27,6 +28,9 @@ const TIMED: [(u32, u32); 2] = [(0x1000, 64), (0x1_0000, 4)];
 
 /// How many keys a map grows by.
 const GROWN: u32 = 0x1_0000;
+
+/// How many keys each map grows by, where growth alone is asked for.
+const GROWN_TO: [u32; 3] = [0x1000, 0x1_0000, 0x10_0000];
 
 /// Prints what each backend's answers to one workload sum to. The sums are equal, or it fails.
 fn check_workload<R: Clock + Threads + Wait + Sync, W: Write>(
@@ -114,6 +118,21 @@ fn time<R: Clock + Threads + Wait + Sync, W: Write>(
     Ok(())
 }
 
+/// Times maps that grow: that for one caller, and the shared one.
+fn grow<R: Clock + Threads + Wait + Sync, W: Write>(
+    rt: &R,
+    alloc: Global,
+    output: &mut W,
+) -> Result<(), Failure> {
+    for keys in GROWN_TO {
+        for mode in [ResizeMode::default(), ResizeMode::Blocking] {
+            time_growth(rt, alloc, mode, keys, output)?;
+            time_shared_growth(rt, alloc, mode, keys, output)?;
+        }
+    }
+    Ok(())
+}
+
 /// Does what the arguments ask for.
 fn run<R: Clock + Threads + Wait + Sync, W: Write>(
     rt: &R,
@@ -128,6 +147,7 @@ fn run<R: Clock + Threads + Wait + Sync, W: Write>(
         None => Err(Failure::Arguments),
         Some(Task::Check) => check(rt, alloc, output),
         Some(Task::Time) => time(rt, alloc, output),
+        Some(Task::Grow) => grow(rt, alloc, output),
     }
 }
 

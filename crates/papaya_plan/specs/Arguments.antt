@@ -7,3 +7,4 @@ use Rattle.papaya_plan.specs.declared.arguments.Task.TheVariants as task
 abbrev pub words_of : Task → List (List ℕ)
 words_of task.Check = []
 words_of task.Time = codes "time" ∷ []
+words_of task.Grow = codes "grow" ∷ []

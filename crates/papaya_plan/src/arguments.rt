@@ -10,6 +10,8 @@ pub enum Task {
     Check,
     /// Time the workloads: the argument `time`.
     Time,
+    /// Time maps that grow from empty: the argument `grow`.
+    Grow,
 }
 
 impl Task {
@@ -22,6 +24,7 @@ impl Task {
             [] => Some(Task::Check),
             [word] => match word.as_str() {
                 "time" => Some(Task::Time),
+                "grow" => Some(Task::Grow),
                 _ => None,
             },
             _ => None,

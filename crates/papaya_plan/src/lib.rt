@@ -4,4 +4,5 @@
 
 pub mod answers;
 pub mod arguments;
+pub mod percentile;
 pub mod plan;

@@ -1,0 +1,305 @@
+//! The shared map while it grows: what its insertions take, by one thread and by several, and gets
+//! beside them.
+use crate::backends::{elapsed, now};
+use crate::growth::name_of;
+use crate::shared::Map;
+use papaya_map::map::HashMap;
+use papaya_plan::percentile::place_of;
+use papaya_plan::plan::{Part, Plan, THREADS, Workload, key_of};
+use papaya_shell::failure::Failure;
+use papaya_words::limits::DEFAULT_SHARDS;
+use papaya_words::probe::{Refused, ResizeMode};
+use std::alloc::Global;
+use std::hash::BuildHasherDefault;
+use std::io::Write;
+use std::rt::Clock;
+use std::sync::Wait;
+use std::sync::atomic::{AtomicBool, AtomicU64, Ordering};
+use std::thread;
+use std::thread::Threads;
+
+/// How many threads read while one writes.
+const READERS: u64 = THREADS - 1;
+
+/// How often a writer looks at most whether the readers have begun.
+const LOOKS: u32 = 100_000;
+
+/// A map that makes its first table at its first insertion.
+fn empty<R: Wait>(rt: &R, alloc: Global, mode: ResizeMode) -> Result<Map, Refused> {
+    HashMap::with_parts(
+        rt,
+        alloc,
+        mode,
+        0,
+        DEFAULT_SHARDS,
+        BuildHasherDefault::new(),
+    )
+}
+
+/// The plan whose parts the threads insert.
+fn plan_of(keys: u32) -> Plan {
+    Plan {
+        workload: Workload::InsertFresh,
+        keys,
+        rounds: 1,
+    }
+}
+
+/// Inserts the keys of a part, and answers the nanoseconds of each insertion. The map is pinned for
+/// each, as a caller who inserts now and then would.
+fn insert_part<R: Clock + Wait>(
+    rt: &R,
+    alloc: Global,
+    map: &Map,
+    part: Part,
+) -> Result<Vec<u128>, Failure> {
+    let room = part.end.saturating_sub(part.start);
+    let mut times = Vec::with_capacity(alloc, room as usize)?;
+    for number in part.start..part.end {
+        let start = now(rt)?;
+        map.pin().insert(rt, key_of(number), number)?;
+        times.push(elapsed(rt, start)?)?;
+    }
+    Ok(times)
+}
+
+/// The times of all threads, one after the other.
+fn joined(alloc: Global, parts: &[Result<Vec<u128>, Failure>]) -> Result<Vec<u128>, Failure> {
+    let mut times = Vec::new(alloc);
+    for part in parts {
+        match part {
+            Ok(part) => {
+                for time in part.iter() {
+                    times.push(*time)?;
+                }
+            }
+            Err(failure) => return Err(*failure),
+        }
+    }
+    Ok(times)
+}
+
+/// Inserts so many keys by several threads, each its part, and answers the nanoseconds of each
+/// insertion.
+fn insert_in_threads<R: Clock + Threads + Wait + Sync>(
+    rt: &R,
+    alloc: Global,
+    map: &Map,
+    plan: Plan,
+) -> Result<Vec<u128>, Failure> {
+    let parts = thread::map_indices(
+        rt,
+        alloc,
+        THREADS as usize,
+        &|thread| { insert_part(rt, alloc, map, Part::of_thread(plan, thread as u32)) },
+    )?;
+    joined(alloc, parts.as_slice())
+}
+
+/// The time that stands at a percentile, or 0 where there is none.
+fn at(sorted: &[u128], keys: u32, thousandths: u16) -> u128 {
+    sorted
+        .get(place_of(keys, thousandths))
+        .copied()
+        .unwrap_or(0)
+}
+
+/// Prints a line: its name, the keys, the nanoseconds of all insertions, of the greatest one, and
+/// those at p50, p99 and p99.9.
+fn print_times<W: Write>(
+    name: &str,
+    backend: &str,
+    keys: u32,
+    nanoseconds: u128,
+    times: Vec<u128>,
+    output: &mut W,
+) -> Result<(), Failure> {
+    let mut times = times;
+    times.sort_unstable();
+    let sorted = times.as_slice();
+    writeln!(
+        output,
+        "{name}/{backend}/{keys} {keys} {nanoseconds} {} {} {} {}",
+        at(sorted, keys, 1000),
+        at(sorted, keys, 500),
+        at(sorted, keys, 990),
+        at(sorted, keys, 999)
+    )
+    .map_err(|_| Failure::Output)?;
+    output.flush().map_err(|_| Failure::Output)
+}
+
+/// The growth of a map by one thread.
+fn by_one<R: Clock + Wait, W: Write>(
+    rt: &R,
+    alloc: Global,
+    mode: ResizeMode,
+    keys: u32,
+    output: &mut W,
+) -> Result<(), Failure> {
+    let map = empty(rt, alloc, mode)?;
+    let start = now(rt)?;
+    let times = insert_part(rt, alloc, &map, Part::whole(plan_of(keys)))?;
+    let nanoseconds = elapsed(rt, start)?;
+    print_times(name_of(mode), "shared", keys, nanoseconds, times, output)
+}
+
+/// The growth of a map by several threads.
+fn by_threads<R: Clock + Threads + Wait + Sync, W: Write>(
+    rt: &R,
+    alloc: Global,
+    mode: ResizeMode,
+    keys: u32,
+    output: &mut W,
+) -> Result<(), Failure> {
+    let map = empty(rt, alloc, mode)?;
+    let start = now(rt)?;
+    let times = insert_in_threads(rt, alloc, &map, plan_of(keys))?;
+    let nanoseconds = elapsed(rt, start)?;
+    print_times(name_of(mode), "threads", keys, nanoseconds, times, output)
+}
+
+/// What a writer and its readers tell each other.
+#[derive(Drop)]
+struct Gate {
+    /// How many readers have begun.
+    ready: AtomicU64,
+    /// The writer has ended.
+    done: AtomicBool,
+}
+
+/// What one thread did beside the others: the writer made no get.
+#[derive(Clone, Copy, Drop)]
+struct Gets {
+    count: u64,
+    /// The nanoseconds of the get, or of the writer's whole work, that took longest.
+    greatest: u128,
+}
+
+/// Inserts all keys once the readers have begun, or have not in so many looks. It waits for none
+/// that could not be started.
+fn write<R: Clock + Wait>(rt: &R, map: &Map, gate: &Gate, keys: u32) -> Result<Gets, Failure> {
+    for _ in 0..LOOKS {
+        if gate.ready.load(Ordering::SeqCst) >= READERS {
+            break;
+        }
+        thread::yield_now();
+    }
+    let start = now(rt)?;
+    for number in 0..u64::from(keys) {
+        map.pin().insert(rt, key_of(number), number)?;
+    }
+    Ok(Gets {
+        count: 0,
+        greatest: elapsed(rt, start)?,
+    })
+}
+
+/// Looks keys up until the writer has ended.
+fn read<R: Clock + Wait>(rt: &R, map: &Map, gate: &Gate, plan: Plan) -> Result<Gets, Failure> {
+    gate.ready.fetch_add(1, Ordering::SeqCst);
+    let mut count: u64 = 0;
+    let mut greatest: u128 = 0;
+    for _ in rt.forever() {
+        if gate.done.load(Ordering::SeqCst) {
+            break;
+        }
+        let key = key_of(plan.number_at(count));
+        let start = now(rt)?;
+        let _found = map.pin().get(&key);
+        greatest = greatest.max(elapsed(rt, start)?);
+        count = count.wrapping_add(1);
+    }
+    Ok(Gets { count, greatest })
+}
+
+/// The part of one thread: the first writes, and the others read.
+fn write_or_read<R: Clock + Wait>(
+    rt: &R,
+    map: &Map,
+    gate: &Gate,
+    plan: Plan,
+    thread: usize,
+) -> Result<Gets, Failure> {
+    if thread > 0 {
+        return read(rt, map, gate, plan);
+    }
+    let written = write(rt, map, gate, plan.keys);
+    gate.done.store(true, Ordering::SeqCst);
+    written
+}
+
+/// How many gets all readers made, and the greatest of them; behind them what the writer took.
+fn sum_of(parts: &[Result<Gets, Failure>]) -> Result<(Gets, u128), Failure> {
+    let mut sum = Gets {
+        count: 0,
+        greatest: 0,
+    };
+    let mut written: u128 = 0;
+    for (thread, part) in parts.iter().enumerate() {
+        let part = (*part)?;
+        if thread == 0 {
+            written = part.greatest;
+        } else {
+            sum.count = sum.count.wrapping_add(part.count);
+            sum.greatest = sum.greatest.max(part.greatest);
+        }
+    }
+    Ok((sum, written))
+}
+
+/// Three threads read while the fourth makes a map grow.
+fn read_beside<R: Clock + Threads + Wait + Sync>(
+    rt: &R,
+    alloc: Global,
+    mode: ResizeMode,
+    keys: u32,
+) -> Result<(Gets, u128), Failure> {
+    let map = empty(rt, alloc, mode)?;
+    let gate = Gate {
+        ready: AtomicU64::new(0),
+        done: AtomicBool::new(false),
+    };
+    let plan = plan_of(keys);
+    let parts = thread::map_indices(
+        rt,
+        alloc,
+        THREADS as usize,
+        &|thread| { write_or_read(rt, &map, &gate, plan, thread) },
+    )?;
+    sum_of(parts.as_slice())
+}
+
+/// Prints a line of gets beside growth: its name, the gets of three threads, the nanoseconds in which
+/// the fourth made the map grow, and those of the greatest get.
+fn beside_gets<R: Clock + Threads + Wait + Sync, W: Write>(
+    rt: &R,
+    alloc: Global,
+    mode: ResizeMode,
+    keys: u32,
+    output: &mut W,
+) -> Result<(), Failure> {
+    let (sum, written) = read_beside(rt, alloc, mode, keys)?;
+    let name = name_of(mode);
+    writeln!(
+        output,
+        "{name}/gets/{keys} {} {written} {}",
+        sum.count, sum.greatest
+    )
+    .map_err(|_| Failure::Output)?;
+    output.flush().map_err(|_| Failure::Output)
+}
+
+/// Prints the lines of a shared map that grows from empty to so many keys: by one thread, by several,
+/// and with gets beside it.
+pub fn time_shared_growth<R: Clock + Threads + Wait + Sync, W: Write>(
+    rt: &R,
+    alloc: Global,
+    mode: ResizeMode,
+    keys: u32,
+    output: &mut W,
+) -> Result<(), Failure> {
+    by_one(rt, alloc, mode, keys, output)?;
+    by_threads(rt, alloc, mode, keys, output)?;
+    beside_gets(rt, alloc, mode, keys, output)
+}
