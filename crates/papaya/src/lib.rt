@@ -4,6 +4,7 @@
 //!
 //! - [`HashMap`] is the map that threads share: [`HashMap::pin`] gives a [`HashMapRef`], which has the
 //!   calls, and [`HashMap::pass`] a [`Pass`], the record of what one thread has seen.
+//! - [`HashMap::builder`] gives a [`HashMapBuilder`], by which a map's parts are asked for one by one.
 //! - [`seq::HashMap`] is the map for one caller: changes take `&mut self`.
 //! - [`schedule`] runs the calls of many callers step by step, in any order that a test gives.
 //! - [`raw`] has the words, tables and machines that all three are made of.
@@ -13,6 +14,7 @@ pub use papaya_call::answers::Operation;
 pub use papaya_keys::compute::Compute;
 pub use papaya_keys::guard::{Collector, Equivalent, Guard, LocalGuard, OwnedGuard, TextKey};
 pub use papaya_keys::occupied::{NotInserted, OccupiedError};
+pub use papaya_map::builder::HashMapBuilder;
 pub use papaya_map::map::{HashMap, HashMapRef, Pass};
 pub use papaya_words::probe::{Refused, ResizeMode};
 
