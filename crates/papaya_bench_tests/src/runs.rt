@@ -135,9 +135,9 @@ fn lines_of_growth(rt: HostRuntime) -> Result<(), Fail> {
     Ok(())
 }
 
-/// The next part of a line, a number.
-fn number<'a, I: Iterator<Item = &'a str>>(parts: &mut I) -> Result<u64, Fail> {
-    Ok(parts.next().ok_or("a number")?.parse::<u64>()?)
+/// This part of a line, a number.
+fn number(part: Option<&str>) -> Result<u64, Fail> {
+    Ok(part.ok_or("a number")?.parse::<u64>()?)
 }
 
 /// Asserts that a line of insertions has these parts: a name, 40 keys, the time of all, and of single
@@ -146,11 +146,11 @@ fn is_insertions<A: Abort>(rt: &A, line: &str, name: Option<&str>) -> Result<(),
     let mut parts = line.split(' ');
     is_part(rt, parts.next(), name);
     is_part(rt, parts.next(), Some("40"));
-    let _all = number(&mut parts)?;
-    let greatest = number(&mut parts)?;
-    let half = number(&mut parts)?;
-    let most = number(&mut parts)?;
-    let nearly_all = number(&mut parts)?;
+    let _all = number(parts.next())?;
+    let greatest = number(parts.next())?;
+    let half = number(parts.next())?;
+    let most = number(parts.next())?;
+    let nearly_all = number(parts.next())?;
     // Of 40 times the 40th stands at p99 and at p99.9.
     assert!(rt;
         half <= most && most == nearly_all && nearly_all == greatest,
@@ -167,9 +167,9 @@ fn are_shared<A: Abort>(rt: &A, printed: &str, names: [&str; 3]) -> Result<(), F
     is_insertions(rt, lines.next().ok_or("a line")?, Some(names[1]))?;
     let mut parts = lines.next().ok_or("a line")?.split(' ');
     is_part(rt, parts.next(), Some(names[2]));
-    let _gets = number(&mut parts)?;
-    let _written = number(&mut parts)?;
-    let _greatest = number(&mut parts)?;
+    let _gets = number(parts.next())?;
+    let _written = number(parts.next())?;
+    let _greatest = number(parts.next())?;
     is_part(rt, parts.next(), None);
     is_part(rt, lines.next(), None);
     Ok(())
