@@ -16,14 +16,27 @@ class Runs:
     def __init__(self, program):
         self.program, self.passed, self.failed = program, 0, 0
 
+    def printed_by(self, args, script):
+        """What a run prints, what it says on standard error, and its status."""
+        words = args.split(" ") if args else []
+        found = subprocess.run([self.program, *words], input=script, capture_output=True, timeout=60)
+        return found.stdout.decode(), found.stderr.decode(), found.returncode
+
+    def run_one_of(self, args, lines, printed):
+        """A run on these lines, which prints one of these lists."""
+        got = self.printed_by(args, "".join(f"{it}\n" for it in lines).encode())
+        if got in [("".join(f"{it}\n" for it in wanted), "", 0) for wanted in printed]:
+            self.passed += 1
+            return
+        self.failed += 1
+        print(f"runs.py: papaya-run {args} on {lines[-200:]} printed {got}", file=sys.stderr)
+
     def run(self, args, lines, printed, said="", status=0, end=b"\n"):
         """A run on these lines, and the lines that it prints."""
         lines = [it if isinstance(it, bytes) else it.encode() for it in lines]
         script = b"\n".join(lines) + end if lines else b""
         wanted = "".join(f"{it}\n" for it in printed)
-        words = args.split(" ") if args else []
-        found = subprocess.run([self.program, *words], input=script, capture_output=True, timeout=60)
-        got = (found.stdout.decode(), found.stderr.decode(), found.returncode)
+        got = self.printed_by(args, script)
         if got == (wanted, said, status):
             self.passed += 1
             return
@@ -209,11 +222,72 @@ def without_memory(runs, rest):
         runs.run(f"core {rest}", lines, printed)
 
 
+# Two calls on a map that has the keys below the first number, each with its own value.
+OVERLAPPING = [
+    *[(0, first, second) for first, second in [("i 0 20", "i 0 30"), ("i 0 20", "i 1 30"), ("u 0", "i 0 30")]],
+    *[(1, first, second) for first in ["i 0 20", "u 0", "r 0"] for second in ["i 0 30", "u 0", "r 0", "g 0"]],
+    # The table has 32 slots, and the first call needs a longer one.
+    *[(32, "i 32 20", second) for second in ["i 0 30", "i 32 30", "i 33 30", "u 0", "u 32", "r 0", "g 0", "g 32"]],
+]
+
+
+def steps_of(runs, args, lines, caller, most=1000):
+    """How many steps this caller makes until its call replies: one more is a bad line."""
+    low, high = 1, most
+    while low < high:
+        middle = (low + high) // 2
+        script = "".join(f"{it}\n" for it in [*lines, *[f"step {caller}"] * (middle + 1)])
+        if runs.printed_by(args, script.encode())[2] == 0:
+            low = middle + 1
+        else:
+            high = middle
+    return low
+
+
+def some_of(steps, most):
+    """At most so many numbers of steps that leave the call under way, evenly."""
+    return sorted({at * (steps - 1) // max(most - 1, 1) for at in range(most)})
+
+
+def outcome(keys, calls, looks):
+    """What is printed for two calls, the first of them whole before the other, and for lookups then."""
+    plain = Plain()
+    for key in range(keys):
+        plain.call(f"i {key} {key}")
+    said = {caller: plain.call(call) for caller, call in calls}
+    return said, [f"2: {plain.call(look)}" for look in looks]
+
+
+def overlapping(runs):
+    """Caller 0 is stopped after some of its steps and caller 1 after some of its own; then caller 0 ends
+    its call, and caller 1. What they answer and what is found comes of one call whole before the other."""
+    for args in ["core inc:1 id", "core inc:3 zero", "core block id"]:
+        for keys, *calls in OVERLAPPING:
+            for first, second in [calls, calls[::-1]]:
+                overlap(runs, args, keys, first, second)
+
+
+def overlap(runs, args, keys, first, second):
+    begun = [line for key in range(keys) for line in (f"begin 0 i {key} {key}", "finish 0")] + [f"begin 0 {first}"]
+    looks = [f"g {key}" for key in range(keys + 2)]
+    found = [line for look in looks for line in (f"begin 2 {look}", "finish 2")]
+    printed = []
+    for calls in ([(0, first), (1, second)], [(1, second), (0, first)]):
+        said, after = outcome(keys, calls, looks)
+        printed.append([*(["0: none"] * keys), f"0: {said[0]}", f"1: {said[1]}", *after])
+    for made in some_of(steps_of(runs, args, begun, 0), 8):
+        stopped = [*begun, *["step 0"] * made, f"begin 1 {second}"]
+        for other in some_of(steps_of(runs, args, stopped, 1), 6):
+            lines = [*stopped, *["step 1"] * other, "finish 0", "finish 1", *found]
+            runs.run_one_of(args, lines, printed)
+
+
 def main(program):
     runs = Runs(program)
     stored(runs, os.path.join(os.path.dirname(os.path.abspath(__file__)), "runs.txt"))
     computed(runs)
     full(runs)
+    overlapping(runs)
     for rest in ["inc:64 id", "block zero"]:
         stopped(runs, rest)
         without_memory(runs, rest)

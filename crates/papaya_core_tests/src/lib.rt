@@ -12,8 +12,6 @@ mod guards;
 #[cfg(test)]
 mod machines;
 #[cfg(test)]
-mod overflow;
-#[cfg(test)]
 mod plain;
 #[cfg(test)]
 mod resizing;

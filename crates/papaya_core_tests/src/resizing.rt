@@ -3,7 +3,7 @@
 // behind stopped callers.
 use crate::expect::is_at;
 use crate::plain::hashing::{APART, TOGETHER};
-use crate::plain::{Asked, Closure, Numbers, reply_by_value};
+use crate::plain::{Asked, Numbers, Removes, reply_by_value};
 use papaya_ask::ask::StepKind;
 use papaya_ask::call::{Call, Reply};
 use papaya_core::schedule::Core;
@@ -59,7 +59,7 @@ fn replies(
     alloc: Global,
     core: &mut Numbers,
     (case, caller): (usize, usize),
-    call: Call<u64, u64, Closure>,
+    call: Call<u64, u64, Removes>,
     wanted: Reply,
 ) -> Result<(), Fail> {
     let trace = core.run(vec![in alloc; Turn::Begin(caller, call), Turn::Finish(caller, WHOLE)]?)?;
@@ -112,7 +112,7 @@ fn copy_all_beside(
     let stopped = core.run(vec![in alloc; begin, Turn::Finish(1, steps)]?)?;
     replies(rt, alloc, &mut core, (steps, 2), Call::CopyAll, Reply::Done)?;
     let removal = core.run(vec![in alloc;
-        Turn::Begin(2, Call::Compute(0, Closure::Removes(0))),
+        Turn::Begin(2, Call::Compute(0, Removes)),
         Turn::Finish(2, WHOLE),
     ]?)?;
     is_at(
