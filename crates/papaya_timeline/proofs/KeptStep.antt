@@ -96,7 +96,7 @@ module _ {K V S A : Type 0} (eq : K → K → Bool) (hash : K → ℕ) (law : Is
   all = subst (AllAllowed g start) (longer_split (tales caller) call.split) learnt.0
 
   -- what the step leaves of the core
-  leaving : others.IsLeaving eq hash law s caller s' mode_is es tales core kept left.made left.hands (IsOneOf (tales caller).hands.call.made)
+  pub leaving : others.IsLeaving eq hash law s caller s' mode_is es tales core kept left.made left.hands (IsOneOf (tales caller).hands.call.made)
   leaving = record {
     allowed = all;
     keys = left.keys;

@@ -95,7 +95,7 @@ copied_ends from (stages.Linking link) refused e = absurd cc
 copied_ends from (stages.Copying from' copying) refused e = absurd cc
 
 -- and it owes nothing
-copied_owes : (from to : Stage) → owes_in (copied from to) ≡ false
+pub copied_owes : (from to : Stage) → owes_in (copied from to) ≡ false
 copied_owes from stages.Done = (root_on (found_by from)).owes
 copied_owes from (stages.Refused other) = refl
 copied_owes from stages.AtRoot = refl

@@ -1,0 +1,2 @@
+-- a call that visits a table
+pub mod Visitors

@@ -1,0 +1,4 @@
+//! A call that visits a table, with no other caller beside it, comes to an end.
+#![tactic(auto)]
+
+pub mod visitors;

@@ -1,0 +1,2 @@
+-- one ask of a call that visits a table
+pub mod Visits
