@@ -40,6 +40,9 @@ pub mod RemovalTurns
 pub mod RemovalWays
 pub mod Removed
 pub mod Removing
+pub mod RetainLaw
+pub mod RetainLists
+pub mod RetainSteps
 pub mod ResizerCauses
 pub mod ResizerRun
 pub mod ResizerSizes
@@ -56,3 +59,6 @@ pub mod TableSearch
 pub mod Turns
 pub mod Unmarked
 pub mod UpdatesDone
+pub mod WalkLaw
+pub mod WalkLists
+pub mod WalkSteps

@@ -9,4 +9,6 @@ pub mod Looks
 pub mod Map
 pub mod Removes
 pub mod Resizes
+pub mod Retains
 pub mod Searches
+pub mod Walks

@@ -26,7 +26,7 @@ use std::hash::{BuildHasher, Hash};
 
 /// Shows a pair to the closure of a removal.
 #[inline]
-fn show<K: Hash + Eq, V, S: BuildHasher, F: FnMut(&K, &V) -> bool>(
+pub(crate) fn show<K: Hash + Eq, V, S: BuildHasher, F: FnMut(&K, &V) -> bool>(
     store: &Store<K, V, S>,
     pair: u64,
     agrees: &mut F,

@@ -20,7 +20,7 @@ pub fn made(
 }
 
 /// The keys from one to another are new, and each is its own value.
-fn stores(rt: &impl Abort, map: &mut Numbers, from: u64, to: u64) {
+pub fn stores(rt: &impl Abort, map: &mut Numbers, from: u64, to: u64) {
     for key in from..to {
         inserts(rt, map, key, key, Ok(None));
     }

@@ -23,3 +23,5 @@ mod removals;
 mod resizing;
 #[cfg(test)]
 mod texts;
+#[cfg(test)]
+mod walks;

@@ -1,0 +1,117 @@
+-- A walk of the map: which pairs are left to it.
+use Rattle.std.specs.Prelude.{◌≡◌, ◌⊎◌, ℕ, zero, suc, ◌+◌, ◌<◌, ◌≤◌, ◌||◌, Bool, false, List, [], ◌∷◌, ◌++◌, Option, Some, None, drop, is_some, length, map}
+use Rattle.papaya_words.specs.Probe.{place}
+use Rattle.papaya_words.specs.Table.{TableWords}
+use Rattle.papaya_words.specs.Word.{kind_of, pair_of as number_of}
+use Rattle.papaya_words.specs.declared.probe.ResizeMode.TheVariants.{Blocking}
+use Rattle.papaya_words.specs.declared.word.Kind.TheVariants.{Empty, Live, Marked}
+use Rattle.papaya_ask.specs.declared.ask.At.TheVariants.{Next, Slot}
+use Rattle.papaya_law.specs.ChainContent.{missing_in}
+use Rattle.papaya_law.specs.Content.{lookup}
+use Rattle.papaya_timeline.specs.Content.{pairs_from, pairs_of_slots}
+use Rattle.papaya_store.specs.Store.{StoreState, Stored, pair_of}
+use Rattle.papaya_store.specs.Tables.{table_of, word_at}
+use Rattle.papaya_seq.specs.Map.{MapState, entry_of, slots_in}
+use Rattle.papaya_seq.specs.declared.stand.Stand.{Stand}
+
+module _ {K V S : Type 0} (store : StoreState K V S) where
+  -- the pairs of a table, if it is there
+  abbrev pub pairs_in_table : Option TableWords → List (Stored K V)
+  pairs_in_table None = []
+  pairs_in_table (Some t) = pairs_of_slots store t.slots
+
+  abbrev pub pairs_at : ℕ → List (Stored K V)
+  pairs_at t = pairs_in_table (table_of store.words.tables t)
+
+  -- the table so many links after this one
+  abbrev pub table_after : ℕ → ℕ → ℕ
+  table_after zero t = t
+  table_after (suc n) t = table_after n (word_at store.words (Next t))
+
+  -- a word of the table says that the pair of this number is being copied
+  pub record HasMark (t n : ℕ) : Type 0 where
+    pub slot : ℕ
+    pub within : slot < slots_in (table_of store.words.tables t)
+    pub marked : kind_of (word_at store.words (Slot t slot)) ≡ Marked
+    pub names : number_of (word_at store.words (Slot t slot)) ≡ n
+
+  -- No place of this hash has such a word before the search ends: there is no further place, or an
+  -- empty one.
+  pub record HasNoMarkAt (hash t n : ℕ) (table : TableWords) : Type 0 where
+    pub stop : ℕ
+    pub none : (j : ℕ) → j < stop
+        → kind_of (word_at store.words (Slot t (place hash (length table.slots) j))) ≡ Marked
+        → number_of (word_at store.words (Slot t (place hash (length table.slots) j))) ≡ n → ⊥
+    pub ends : (table.limit < stop)
+        ⊎ (kind_of (word_at store.words (Slot t (place hash (length table.slots) stop))) ≡ Empty)
+
+  abbrev pub HasNoMarkIn : (hash t n : ℕ) → Option TableWords → Type 0
+  HasNoMarkIn hash t n None = Unit {0}
+  HasNoMarkIn hash t n (Some table) = HasNoMarkAt hash t n table
+
+  abbrev pub HasNoMark : (hash t n : ℕ) → Type 0
+  HasNoMark hash t n = HasNoMarkIn hash t n (table_of store.words.tables t)
+
+module _ {K V S : Type 0} (eq : K → K → Bool) (store : StoreState K V S) where
+  -- one of so many tables, from this one on, has a pair of the key
+  abbrev pub has_in : (many t : ℕ) → K → Bool
+  has_in zero t k = false
+  has_in (suc many) t k = is_some (lookup eq (λ p. p.key) (pairs_at store t) k)
+      || has_in many (word_at store.words (Next t)) k
+
+  -- The pairs of a table from this slot on, and those of the tables behind it, over n tables at
+  -- most, of whose keys the table has none.
+  abbrev pub rest_of : (slot n : ℕ) → Option TableWords → List (Stored K V)
+  rest_of slot n None = []
+  rest_of slot n (Some t) = pairs_of_slots store (drop slot t.slots)
+      ++ missing_in eq (λ p. p.key) (pairs_of_slots store t.slots)
+      (pairs_from eq store n (table_of store.words.tables t.next))
+
+  -- The same where so many tables were passed, from table t on, over n tables: none is left of whose
+  -- key a passed one has a pair.
+  abbrev pub left_from : (passed slot n t : ℕ) → List (Stored K V)
+  left_from zero slot zero t = []
+  left_from zero slot (suc n) t = rest_of slot n (table_of store.words.tables t)
+  left_from (suc passed) slot zero t = []
+  left_from (suc passed) slot (suc n) t = missing_in eq (λ p. p.key) (pairs_at store t)
+      (left_from passed slot n (word_at store.words (Next t)))
+
+  -- what is left to a walk that stands here
+  abbrev pub left_to : Stand → List (Stored K V)
+  left_to at = left_from at.passed at.slot (length store.words.tables) store.words.root
+
+  abbrev pub entries_left : Stand → List (K × V)
+  entries_left at = map entry_of (left_to at)
+
+  -- A step over a slot gives nothing, or the first of what is left.
+  abbrev pub IsStepped : Stand → Option ℕ → Type 0
+  IsStepped at None = left_to at ≡ left_to (record at { slot = at.slot + 1 })
+  IsStepped at (Some n) = (p : Stored K V) × (pair_of store n ≡ Some p)
+      × (left_to at ≡ p ∷ left_to (record at { slot = at.slot + 1 }))
+
+  -- Where a walk stands after it was asked for the next pair of its table: behind that pair, or
+  -- behind the table's slots.
+  abbrev pub IsNextHere : Stand → Option ℕ → Stand → Type 0
+  IsNextHere at None at' = (left_to at ≡ left_to at')
+      × (slots_in (table_of store.words.tables at'.table) ≤ at'.slot)
+  IsNextHere at (Some n) at' = (p : Stored K V) × (pair_of store n ≡ Some p)
+      × (left_to at ≡ p ∷ left_to at')
+
+  -- and of the map
+  abbrev pub IsNext : Stand → Option ℕ → Stand → Type 0
+  IsNext at None at' = (left_to at ≡ []) × (left_to at' ≡ [])
+  IsNext at (Some n) at' = (p : Stored K V) × (pair_of store n ≡ Some p)
+      × (left_to at ≡ p ∷ left_to at')
+
+-- the word at this stand has the pair of this number
+pub record IsWord {K V S : Type 0} (store : StoreState K V S) (at : Stand) (n : ℕ) : Type 0 where
+  pub within : at.slot < slots_in (table_of store.words.tables at.table)
+  pub kind : (kind_of (word_at store.words (Slot at.table at.slot)) ≡ Live)
+      ⊎ (kind_of (word_at store.words (Slot at.table at.slot)) ≡ Marked)
+  pub names : number_of (word_at store.words (Slot at.table at.slot)) ≡ n
+
+-- a walk may stand here
+pub record IsStand {K V S : Type 0} (s : MapState K V S) (at : Stand) : Type 0 where
+  pub on : table_after s.store at.passed s.store.words.root ≡ at.table
+  -- with blocking the root has all
+  pub alone : s.mode ≡ Blocking → at.passed ≡ 0

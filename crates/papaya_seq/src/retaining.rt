@@ -1,0 +1,67 @@
+//! The call that keeps the pairs which its closure agrees to.
+ghost use Rattle.std.specs.Prelude.{◌≡◌, ◌+◌, ◌<◌, IfErr, IsOk, OnOk};
+ghost use Rattle.papaya_seq.specs.Map.{Keeps, Unchanged, next_of, slots_of};
+ghost use Rattle.papaya_seq.specs.Resizes.{IsCopyCause};
+ghost use Rattle.papaya_seq.specs.Retains.{IsRetained, IsRetaining};
+
+use crate::removal::show;
+use crate::seq::HashMap;
+use papaya_ask::ask::{Answer, At};
+use papaya_words::probe::Refused;
+use papaya_words::word::{Kind, Word};
+use std::hash::{BuildHasher, Hash};
+
+impl<K: Hash + Eq + Drop, V: Drop, S: BuildHasher> HashMap<K, V, S> {
+    /// Shows the pair in a slot of the root to the closure, and buries it if the closure does not
+    /// agree.
+    fn retain_at<F: FnMut(&K, &V) -> bool>(&mut self, table: u64, slot: usize, agrees: &mut F)
+        requires callable { F.IsAlwaysCallable agrees.old }
+        requires root { table ≡ self.old.store.words.root }
+        requires last { next_of self.old.store ≡ 0 }
+        requires within { slot < slots_of self.old.store }
+        ensures callable { F.IsAlwaysCallable agrees.new }
+        ensures visited { (s : _) (f : _) → IsRetaining F.FnMut s f slot self.old agrees.old
+            → IsRetaining F.FnMut s f (slot + 1) self.new agrees.new }
+    {
+        // By this read the count is known to have 64 bits.
+        let _count = self.store.count();
+        let at = At::Slot(table, slot);
+        let word = Word(self.store.word(at));
+        if word.kind() != Kind::Live {
+            return;
+        }
+        match show(&self.store, word.pair(), agrees) {
+            Answer::Yes(false) => {}
+            _ => return,
+        }
+        let grave = Word::buried(word.hash_byte(), word.pair());
+        let _ = self.store.exchange(at, word.0, grave.0);
+        self.store.add_to_shard(0, -1);
+    }
+
+    /// Keeps the pairs which the closure, when it is shown each of them once, answers true for, and
+    /// removes the others: `retain` of 0.2.5.
+    ///
+    /// The resize that is under way is ended first. Refused as [`HashMap::copy_all`]; no pair was
+    /// shown or removed then.
+    pub fn retain<F: FnMut(&K, &V) -> bool>(&mut self, mut agrees: F) -> Result<(), Refused>
+        requires { F.IsAlwaysCallable agrees }
+        ensures ok { OnOk result (IsRetained F.FnMut K.eq agrees self.old.store self.new.store) }
+        ensures err { IfErr result (λ e. IsCopyCause self.old e self.new
+            × Unchanged K.eq self.old.store self.new.store) }
+        ensures never { next_of self.old.store ≡ 0 → IsOk result }
+        ensures keeps { Keeps self.old self.new }
+    {
+        if self.resizing() {
+            self.copy_all()?;
+        }
+        let table = self.store.word(At::Root);
+        let slots = self.slots();
+        let mut slot = 0;
+        while slot < slots {
+            self.retain_at(table, slot, &mut agrees);
+            slot += 1;
+        }
+        Ok(())
+    }
+}

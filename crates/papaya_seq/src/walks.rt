@@ -1,0 +1,274 @@
+//! Walks of the map: each pair once, by tables from the root on, and by slots in each.
+ghost use Rattle.std.specs.Prelude.{◌≡◌, ◌<◌, MatchBool, Some, length, map};
+ghost use Rattle.std.specs.Iterator.{YieldsFirstBy, YieldsFirstRef, item_count};
+ghost use Rattle.papaya_ask.specs.Search.{IsSize};
+ghost use Rattle.papaya_store.specs.Store.{pair_of};
+ghost use Rattle.papaya_store.specs.Tables.{table_of};
+ghost use Rattle.papaya_timeline.specs.Content.{content};
+ghost use Rattle.papaya_seq.specs.Map.{deref_pair, entry_of, slots_in};
+ghost use Rattle.papaya_seq.specs.Walks.{HasMark, HasNoMark, IsNext, IsNextHere, IsStand};
+ghost use Rattle.papaya_seq.specs.Walks.{IsStepped, IsWord, has_in};
+
+use crate::seq::HashMap;
+use crate::stand::Stand;
+use papaya_ask::ask::{Answer, At};
+use papaya_store::store::Store;
+use papaya_words::probe::{Probe, ResizeMode};
+use papaya_words::word::{Kind, Word, h1};
+use std::hash::{BuildHasher, Hash};
+use std::marker::Model;
+
+/// Does a word of the table say that the pair is being copied? It would stand at a place of this
+/// hash.
+fn marks<K: Hash + Eq, V, S: BuildHasher>(
+    store: &Store<K, V, S>,
+    table: u64,
+    hash: u64,
+    pair: u64,
+) -> bool
+    requires { (n : _) (t : _) → table_of store.now.words.tables n ≡ Some t
+        → IsSize (length t.slots) t.limit }
+    ensures { MatchBool result (HasMark store.now table pair) (HasNoMark store.now hash table pair) }
+{
+    let Answer::Size { len, limit } = store.size_of(table) else {
+        return false;
+    };
+    let mut probe = Probe::start(h1(hash), len - 1);
+    while probe.len <= limit {
+        let word = Word(store.word(At::Slot(table, probe.i)));
+        match word.kind() {
+            Kind::Empty => return false,
+            Kind::Marked if word.pair() == pair => return true,
+            _ => probe.next(len - 1),
+        }
+    }
+    false
+}
+
+impl<K: Hash + Eq, V, S: BuildHasher> HashMap<K, V, S> {
+    /// How many slots a table has; 0 where there is no such table.
+    #[inline]
+    fn slots_at(&self, table: u64) -> usize
+        ensures { result ≡ slots_in (table_of self.now.store.words.tables table) }
+    {
+        match self.store.size_of(table) {
+            Answer::Size { len, .. } => len,
+            _ => 0,
+        }
+    }
+
+    /// Has one of so many tables, from the root on, the pair of this word, which stands in the table
+    /// after them? Then the pair was being copied when a call was refused.
+    fn is_copy(&self, pair: u64, at: Stand) -> bool
+        requires stands { IsStand self.now at }
+        requires word { IsWord self.now.store at pair }
+        ensures { (p : _) → pair_of self.now.store pair ≡ Some p
+            → result ≡ has_in K.eq self.now.store at.passed self.now.store.words.root p.key }
+    {
+        let hash = match self.store.pair(pair) {
+            Some((key, _)) => self.store.hash(key),
+            None => return false,
+        };
+        let mut table = self.store.word(At::Root);
+        let mut passed = at.passed;
+        while passed > 0 {
+            if marks(&self.store, table, hash, pair) {
+                return true;
+            }
+            table = self.store.word(At::Next(table));
+            passed -= 1;
+        }
+        false
+    }
+
+    /// The pair of the word at this stand, if it has one that is given here.
+    #[inline]
+    fn given(&self, at: Stand) -> Option<u64>
+        requires stands { IsStand self.now at }
+        requires within { at.slot < slots_in (table_of self.now.store.words.tables at.table) }
+        ensures { IsStepped K.eq self.now.store at result }
+    {
+        let word = Word(self.store.word(At::Slot(at.table, at.slot)));
+        match word.kind() {
+            Kind::Live | Kind::Marked if at.passed == 0 || !self.is_copy(word.pair(), at) => {
+                Some(word.pair())
+            }
+            _ => None,
+        }
+    }
+
+    /// The next pair of the table where the walk stands.
+    #[inline]
+    fn next_here(&self, at: &mut Stand) -> Option<u64>
+        requires { IsStand self.now at.old }
+        ensures same { (at.new.table ≡ at.old.table) × (at.new.passed ≡ at.old.passed) }
+        ensures next { IsNextHere K.eq self.now.store at.old result at.new }
+    {
+        let slots = self.slots_at(at.table);
+        while at.slot < slots {
+            let given = self.given(*at);
+            at.slot += 1;
+            if given.is_some() {
+                return given;
+            }
+        }
+        None
+    }
+
+    /// The next pair of the map. With blocking the root has all of them.
+    fn next_pair(&self, at: &mut Stand) -> Option<u64>
+        requires { IsStand self.now at.old }
+        ensures stands { IsStand self.now at.new }
+        ensures next { IsNext K.eq self.now.store at.old result at.new }
+    {
+        loop {
+            let pair = self.next_here(at);
+            if pair.is_some() {
+                return pair;
+            }
+            let next = match self.mode {
+                ResizeMode::Incremental(_) => self.store.word(At::Next(at.table)),
+                ResizeMode::Blocking => 0,
+            };
+            if next == 0 {
+                return None;
+            }
+            *at = Stand {
+                table: next,
+                slot: 0,
+                passed: at.passed + 1,
+            };
+        }
+    }
+
+    /// The pairs of the map, each once. It takes no memory, copies nothing and is never refused.
+    pub fn iter(&self) -> Iter<'_, K, V, S>
+        ensures { result ≡ map entry_of (content K.eq self.now.store) }
+    {
+        Iter {
+            at: Stand {
+                table: self.store.word(At::Root),
+                slot: 0,
+                passed: 0,
+            },
+            map: self,
+        }
+    }
+
+    /// The keys of the map, as [`HashMap::iter`] gives them.
+    pub fn keys(&self) -> Keys<'_, K, V, S>
+        ensures { result ≡ map (λ p. p.key) (content K.eq self.now.store) }
+    {
+        Keys { pairs: self.iter() }
+    }
+
+    /// The values of the map, as [`HashMap::iter`] gives them.
+    pub fn values(&self) -> Values<'_, K, V, S>
+        ensures { result ≡ map (λ p. p.value) (content K.eq self.now.store) }
+    {
+        Values { pairs: self.iter() }
+    }
+}
+
+impl<'a, K: Hash + Eq, V, S: BuildHasher> IntoIterator for &'a HashMap<K, V, S> {
+    type Item = (&'a K, &'a V);
+
+    type IntoIter = Iter<'a, K, V, S>;
+
+    ghost into_iter_gives = { λ m r. r ≡ map entry_of (content K.eq m.now.store) };
+
+    fn into_iter(self) -> Iter<'a, K, V, S> {
+        self.iter()
+    }
+}
+
+/// The keys and values of a map, seen as the list of those that are left.
+#[derive(Drop)]
+pub struct Iter<'a, K: Hash + Eq, V, S: BuildHasher> {
+    map: &'a HashMap<K, V, S>,
+    at: Stand,
+}
+
+impl<'a, K: Hash + Eq, V, S: BuildHasher> Model for Iter<'a, K, V, S> {
+    ghost use Rattle.std.specs.Prelude.{List};
+    ghost use Rattle.papaya_seq.specs.Walks.{IsStand, entries_left};
+
+    ghost Value = { List (K × V) };
+
+    ghost view = { λ it. entries_left K.eq it.map.now.store it.at };
+
+    ghost invariant = { λ it. IsStand it.map.now it.at };
+}
+
+impl<'a, K: Hash + Eq, V, S: BuildHasher> Iterator for Iter<'a, K, V, S> {
+    type Item = (&'a K, &'a V);
+
+    ghost next_gives = { YieldsFirstBy deref_pair (λ rest. rest) };
+
+    ghost remaining = { item_count (λ rest. rest) };
+
+    fn next(&mut self) -> Option<(&'a K, &'a V)> {
+        match self.map.next_pair(&mut self.at) {
+            Some(pair) => self.map.pair(pair),
+            None => None,
+        }
+    }
+}
+
+/// The keys of a map, seen as the list of those that are left.
+#[derive(Drop)]
+pub struct Keys<'a, K: Hash + Eq, V, S: BuildHasher> {
+    pairs: Iter<'a, K, V, S>,
+}
+
+impl<'a, K: Hash + Eq, V, S: BuildHasher> Model for Keys<'a, K, V, S> {
+    ghost use Rattle.std.specs.Prelude.{List, map};
+
+    ghost Value = { List K };
+
+    ghost view = { λ it. map (λ entry. entry.0) it.pairs };
+}
+
+impl<'a, K: Hash + Eq, V, S: BuildHasher> Iterator for Keys<'a, K, V, S> {
+    type Item = &'a K;
+
+    ghost next_gives = { YieldsFirstRef (λ rest. rest) };
+
+    ghost remaining = { item_count (λ rest. rest) };
+
+    fn next(&mut self) -> Option<&'a K> {
+        match self.pairs.next() {
+            Some((key, _)) => Some(key),
+            None => None,
+        }
+    }
+}
+
+/// The values of a map, seen as the list of those that are left.
+#[derive(Drop)]
+pub struct Values<'a, K: Hash + Eq, V, S: BuildHasher> {
+    pairs: Iter<'a, K, V, S>,
+}
+
+impl<'a, K: Hash + Eq, V, S: BuildHasher> Model for Values<'a, K, V, S> {
+    ghost use Rattle.std.specs.Prelude.{List, map};
+
+    ghost Value = { List V };
+
+    ghost view = { λ it. map (λ entry. entry.1) it.pairs };
+}
+
+impl<'a, K: Hash + Eq, V, S: BuildHasher> Iterator for Values<'a, K, V, S> {
+    type Item = &'a V;
+
+    ghost next_gives = { YieldsFirstRef (λ rest. rest) };
+
+    ghost remaining = { item_count (λ rest. rest) };
+
+    fn next(&mut self) -> Option<&'a V> {
+        match self.pairs.next() {
+            Some((_, value)) => Some(value),
+            None => None,
+        }
+    }
+}
