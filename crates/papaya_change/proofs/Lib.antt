@@ -35,6 +35,7 @@ pub mod HelpingArrives
 pub mod HelpingGoes
 -- calls that resize
 pub mod ResizingStages
+pub mod ResizingRooms
 pub mod ResizingRests
 pub mod ResizingAnswers
 pub mod ResizingOpens

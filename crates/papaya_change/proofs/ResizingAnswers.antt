@@ -8,7 +8,8 @@ use Rattle.logbook.specs.declared.tokens.Pen.{Pen}
 use Rattle.papaya_words.specs.declared.probe.Refused.{Refused as Cause}
 use Rattle.papaya_words.specs.declared.probe.Refused.TheVariants.{Capacity, Memory}
 use Rattle.papaya_ask.specs.declared.ask.At.{At}
-use Rattle.papaya_ask.specs.declared.ask.At.TheVariants.{Root, Next, Aborted, Done, Slot}
+use Rattle.papaya_ask.specs.declared.ask.At.TheVariants as places
+use Rattle.papaya_ask.specs.declared.ask.At.TheVariants.{Root, Next, Aborted, Slot}
 use Rattle.papaya_ask.specs.declared.ask.Answer.{Answer as Call_answer}
 use Rattle.papaya_ask.specs.declared.ask.Answer.TheVariants.{Exchanged, Found as Found_instead, Made as Made_number, Refused as Was_refused, Size, Word as Word_read, Yes}
 use Rattle.papaya_ask.specs.declared.ask.StepKind.{StepKind}
@@ -23,7 +24,7 @@ use Rattle.papaya_chain.specs.declared.resizer.Resize.{Resize}
 use Rattle.papaya_chain.specs.declared.resizer.Resize.TheVariants.{Chunk, CopyAll, Reserve}
 use Rattle.papaya_chain.specs.declared.resizer.Resizer.{Resizer}
 use Rattle.papaya_chain.specs.declared.resizer.State.{State as Stage}
-use Rattle.papaya_chain.specs.declared.resizer.State.TheVariants.{Opening, Linking, Copying}
+use Rattle.papaya_chain.specs.declared.resizer.State.TheVariants.{Opening, Linking, Copying, Done}
 use Rattle.papaya_chain.specs.Resizer.{after, ask_of, follows_of, kind_of_ask}
 use Rattle.papaya_chain_rests.specs.Goes.{link_in_copying}
 use Rattle.papaya_chain_rests.specs.Resizers.{HasLink, IsResizeCause, IsStageTold, RestsStage}
@@ -52,6 +53,7 @@ use Rattle.papaya_change.specs.Resizing.{HasNoRoomFor, IsResizeEnd, IsResizing, 
 use Rattle.papaya_change.proofs.HelpingAnswers.{placed_or}
 use Rattle.papaya_change.proofs.HelpingRests.{fresh_later}
 use Rattle.papaya_change.proofs.ResizingRests.{C, G, grown, hash, hashed, kept_map, later, lost, since_run, stage_told, word_there}
+use Rattle.papaya_change.proofs.ResizingRooms.{room_after}
 use Rattle.papaya_change.proofs.ResizingStages.{IsMadeAt, links_made, made_after, made_at, opens_made, stage_at, stage_links, tried_none}
 use Rattle.papaya_change.proofs.Sized as sized
 
@@ -84,6 +86,11 @@ module _ (tables : List ℕ) where
       new_in : (o : Option Link) (n : ℕ) → Of (sized.New tables) o n
       new_in None n = tt
       new_in (Some made) n = tt
+
+-- what is answered has not ended
+not_done : {K P : Type 0} (g : Rattle.papaya_law.specs.Exchange.Setting K P) (c : Rattle.papaya_law.specs.Code.Coding K P) (s : State P) (stage : Stage) (hands : Hands P) (answer : Answer) (es : List (Exchange P)) (hands' : Hands P) → IsStageTold g c s stage hands answer es hands' → stage ≡ Done → ⊥
+not_done g c s Done hands answer es hands' told e = let none = told.1 in cc none
+not_done g c s other hands answer es hands' told e = cc e
 
 -- where a table is made, in other words
 has_link : (stage : Stage) (link : Link) → HasLink stage link → link_of stage ≡ Some link
@@ -158,6 +165,7 @@ module _ {K V S H : Type 0} (eq : K → K → Bool) (input : K → List (List �
           opens = opens_made (IsAtHand log h') (after m answer).state hand;
           brings = links_made (IsAtHand log h') (after m answer).state hand;
           counts = counts_after (tables_of log) m answer size counts;
+          room = room_after m.resize m.mode m.initial answer (tables_of v) (tables_of log) h.given.done h'.given.done (λ len there. member_since len (tables_of v) (tables_of log) (tables_since v log whole) there) m.state (not_done (Gs log) Cs (state_of before) m.state held answer (exchanges_of pre.0) (hands_with h'.last h'.kept []) told) by size r.room;
           ends = λ cause e. why m answer cause (tables_of log) h'.given.done counts by (resizer_why (Gs log) Cs (state_of before) m held answer (exchanges_of pre.0) (hands_with h'.last h'.kept []) told cause e);
         }
 
@@ -196,7 +204,7 @@ module _ {K V S H : Type 0} (eq : K → K → Bool) (input : K → List (List �
       hand (Next i) e left told is = hand_tried i e told is
       hand Root e left told is = hand_kept log pre (answers.Call told) (not_made told is) h' left
       hand (Aborted i) e left told is = hand_kept log pre (answers.Call told) (not_made told is) h' left
-      hand (Done i) e left told is = hand_kept log pre (answers.Call told) (not_made told is) h' left
+      hand (places.Done i) e left told is = hand_kept log pre (answers.Call told) (not_made told is) h' left
       hand (Slot i x) e left told is = hand_kept log pre (answers.Call told) (not_made told is) h' left
 
       placed_marked : (kind : Option StepKind) → IsPlaced b (Some name) (pair_named (marked_or kind pair h.last))

@@ -32,6 +32,7 @@ use Rattle.papaya_book.specs.declared.rule.entry.Named.{Named}
 use Rattle.papaya_book.specs.declared.rule.entry.Named.TheVariants as names
 use Rattle.papaya_book.specs.declared.rule.entry.Step.{Step}
 use Rattle.papaya_book.specs.Calls.{IsTried}
+use Rattle.papaya_book.specs.Limits.{tables_of}
 use Rattle.papaya_book.specs.Logs.{Member, Stored, exchange_of, exchanges_of, is_blocking, number_of, state_of}
 use Rattle.papaya_book.specs.Plays.{IsMeant}
 use Rattle.papaya_book.specs.Rule.{IsLawfulLog}
@@ -43,6 +44,7 @@ use Rattle.papaya_change.specs.Copier.{tried_answer}
 use Rattle.papaya_change.specs.Resizing.{IsResizing, link_of}
 use Rattle.papaya_change.proofs.ResizingAnswers.{again}
 use Rattle.papaya_change.proofs.ResizingRests.{C, G, hash}
+use Rattle.papaya_change.proofs.ResizingRooms.{room_begins}
 use Rattle.papaya_change.proofs.ResizingStages.{IsMadeAt}
 
 mode_is : (mode : ResizeMode) → IsModeOf mode (is_blocking mode)
@@ -77,6 +79,7 @@ module _ {K V S H : Type 0} (eq : K → K → Bool) (input : K → List (List �
     kept_placed = subst (λ (o : Option (Stored K V)). Rattle.papaya_book.specs.Rule.IsPlaced b (Some name) (Rattle.papaya_book.specs.Logs.pair_named o)) (sym none') tt;
     opens = λ n e. absurd (opens_none resize n e);
     brings = λ behind n e. absurd (links_none resize (links.Linking behind n) e);
+    room = room_begins resize (tables_of log) h.given.done;
     counts = λ behind len unfit e. absurd (links_none resize (links.Counting behind unfit len) e);
     ends = λ cause e. absurd (ends_none resize cause e);
   }

@@ -1,5 +1,5 @@
 -- What a call that resizes the shared map holds and rests on, and why it is refused.
-use Rattle.std.specs.Prelude.{◌≡◌, ◌⊎◌, ℕ, ◌+◌, ◌<◌, ◌^◌, Bool, Option, None, Some, List, [], ◌∷◌}
+use Rattle.std.specs.Prelude.{◌≡◌, ◌⊎◌, ℕ, ◌+◌, ◌<◌, ◌≤◌, ◌^◌, Bool, Option, None, Some, List, [], ◌∷◌}
 use Rattle.logbook.specs.Pages.{Book}
 use Rattle.papaya_words.specs.declared.probe.Refused.{Refused as Cause}
 use Rattle.papaya_words.specs.declared.probe.Refused.TheVariants.{Capacity, Memory}
@@ -10,7 +10,8 @@ use Rattle.papaya_chain.specs.declared.resizer.Resize.{Resize}
 use Rattle.papaya_chain.specs.declared.resizer.Resize.TheVariants.{Reserve}
 use Rattle.papaya_chain.specs.declared.resizer.Resizer.{Resizer}
 use Rattle.papaya_chain.specs.declared.resizer.State.{State as Stage}
-use Rattle.papaya_chain.specs.declared.resizer.State.TheVariants.{Opening, Linking, Copying}
+use Rattle.papaya_chain.specs.declared.resizer.Room.{Room}
+use Rattle.papaya_chain.specs.declared.resizer.State.TheVariants.{Opening, Counting, Looking, Linking, Copying, Done}
 use Rattle.papaya_chain.specs.Resizer.{reply_of}
 use Rattle.papaya_chain.specs.Room.{entries_of}
 use Rattle.papaya_chain_rests.specs.Goes.{link_in_copying}
@@ -46,6 +47,32 @@ abbrev pub HasNoRoomFor : (initial : ℕ) → Resize → (tables : List ℕ) →
 HasNoRoomFor initial (Reserve more) tables given = HasNoRoomAhead initial more tables given
 HasNoRoomFor initial _ tables given = HasNoRoom initial tables given
 
+-- There is room ahead for so many pairs more: a table has slots for them beside as many as this sum
+-- of the count.
+pub record HasRoomAhead (more : ℕ) (tables : List ℕ) (given : List Given) : Type 0 where
+  pub count : ℕ
+  pub counted : given ≡ Sum count ∷ []
+  pub len : ℕ
+  pub there : Member len tables
+  pub room : entries_of (count + more) ≤ len
+
+-- what was wanted is done
+abbrev pub HasRoomFor : Resize → (tables : List ℕ) → List Given → Type 0
+HasRoomFor (Reserve more) tables given = HasRoomAhead more tables given
+HasRoomFor _ tables given = Unit {0}
+
+-- where room is wanted, its size is known
+abbrev pub IsWantedBy : Resize → Option Room → Type 0
+IsWantedBy (Reserve more) None = ⊥
+IsWantedBy _ room = Unit {0}
+
+-- it knows the length of the root, and what it wants beside it; and in the end it has that
+abbrev pub IsRoomIn : Resize → (tables : List ℕ) → List Given → Stage → Type 0
+IsRoomIn resize tables given (Counting root len) = Member len tables
+IsRoomIn resize tables given (Looking root room) = IsWantedBy resize room
+IsRoomIn resize tables given Done = HasRoomFor resize tables given
+IsRoomIn resize tables given _ = Unit {0}
+
 -- why it ends refused
 abbrev pub IsResizeEnd : (initial : ℕ) → Resize → (tables : List ℕ) → List Given → Cause → Type 0
 IsResizeEnd initial resize tables given cause = (cause ≡ Memory)
@@ -65,5 +92,6 @@ pub record IsResizing {K V S H : Type 0} (eq : K → K → Bool) (hash : S → K
       → IsFresh b name log n h.fresh
   pub counts : (behind len : ℕ) (unfit : Bool) → link_of m.state
       ≡ Some (links.Counting behind unfit len) → Member len (tables_of log)
+  pub room : IsRoomIn m.resize (tables_of log) h.given.done m.state
   pub ends : (cause : Cause) → reply_of m ≡ Some (Refused cause)
       → IsResizeEnd m.initial m.resize (tables_of log) h.given.done cause

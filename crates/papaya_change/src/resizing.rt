@@ -1,14 +1,14 @@
 //! Calls that resize the shared map and change no pair of it: their machine, answered by a copier.
-ghost use Rattle.std.specs.Prelude.{◌≡◌, IfErr, Some, None, Err};
+ghost use Rattle.std.specs.Prelude.{◌≡◌, IfErr, IfOk, Some, None, Err};
 ghost use Rattle.std.specs.Int.{IsPowerOfTwo};
 ghost use Rattle.papaya_chain.specs.Machine.{IsFit};
 ghost use Rattle.papaya_chain.specs.Resizer.{IsStandingResizer, ask_of, reply_of};
 ghost use Rattle.papaya_ask.specs.declared.call.Reply.TheVariants.{Refused as ReplyRefused};
-ghost use Rattle.papaya_chain.specs.declared.resizer.State.TheVariants.{Opening};
+ghost use Rattle.papaya_chain.specs.declared.resizer.State.TheVariants.{Opening, Done};
 ghost use Rattle.papaya_book.specs.Limits.{tables_of};
 ghost use Rattle.papaya_book.specs.Windows.{IsLawful, Sees};
 ghost use Rattle.papaya_change.specs.Resizes.{CanResize, GoesOnAfter};
-ghost use Rattle.papaya_change.specs.Resizing.{HasNoRoomFor};
+ghost use Rattle.papaya_change.specs.Resizing.{HasNoRoomFor, HasRoomFor};
 ghost use Rattle.papaya_change.specs.Writing.{IsMemoryOrCapacity};
 
 use crate::copier::{Asked, Copier, tried};
@@ -82,6 +82,8 @@ impl<K: Hash + Eq, V, S: BuildHasher> Resizing<K, V, S> {
 
     /// How one has ended.
     fn replied(&self) -> Result<(), Refused>
+        requires { ask_of self.now.machine ≡ None }
+        ensures done { IfOk result (λ _. self.now.machine.state ≡ Done) }
         ensures refused { IfErr result (λ refused. reply_of self.now.machine
             ≡ Some (ReplyRefused refused)) }
     {
@@ -92,8 +94,9 @@ impl<K: Hash + Eq, V, S: BuildHasher> Resizing<K, V, S> {
     }
 }
 
-/// Resizes the map, and changes no pair. Where it is refused for want of room, `given` tells the
-/// number that a full log gave, or the sum of the count that makes a table too long.
+/// Resizes the map, and changes no pair. `given` tells the sum of the count beside which there is
+/// room then. Where it is refused for want of room, it tells the number that a full log gave, or the
+/// sum that makes a table too long.
 pub fn resize<'a, R: Wait, K: Hash + Eq, V, S: BuildHasher>(
     rt: &R,
     alloc: Global,
@@ -107,6 +110,8 @@ pub fn resize<'a, R: Wait, K: Hash + Eq, V, S: BuildHasher>(
     ensures sees { Sees window.old window.new }
     ensures lawful { IsLawful window.new }
     ensures own { window.new.own ≡ window.old.own }
+    ensures done { IfOk result (λ _. HasRoomFor resize (tables_of window.new.sight.log)
+        given.new.done) }
     ensures refused { IfErr result (λ refused. IsMemoryOrCapacity refused) }
     ensures crowded { result ≡ Err Refused.Capacity → HasNoRoomFor initial resize
         (tables_of window.new.sight.log) given.new.done }
