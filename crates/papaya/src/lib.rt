@@ -16,12 +16,14 @@ pub use papaya_keys::guard::{Collector, Equivalent, Guard, LocalGuard, OwnedGuar
 pub use papaya_keys::occupied::{NotInserted, OccupiedError};
 pub use papaya_map::builder::HashMapBuilder;
 pub use papaya_map::map::{HashMap, HashMapRef, Pass};
+pub use papaya_sweep::walk::{Iter, Keys, Values};
 pub use papaya_words::probe::{Refused, ResizeMode};
 
 /// The map for one caller.
 pub mod seq {
     pub use papaya_keys::compute::Computed;
     pub use papaya_seq::seq::HashMap;
+    pub use papaya_seq::walks::{Iter, Keys, Values};
 }
 
 /// Any number of callers under any schedule of their steps.

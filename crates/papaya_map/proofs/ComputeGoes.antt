@@ -71,18 +71,18 @@ module _ {K V S H T : Type 0} (key : K) (made : List (Stored K V)) (said : List 
   holds_still w same (Makes (Some m) n) h = h
   holds_still w same (Removes n) h = h
 
-module _ {K V S H T F : Type 0} (eq : K → K → Bool) (input : K → List (List ℕ)) (build : S → H) (write : H → List ℕ → H) (finish : H → ℕ) (classes : IsEquivalence eq) (respects : (x y : K) → eq x y ≡ true → input x ≡ input y)
-    (b : Begun K V S) (name : Book) (operates : F → Option (Stored K V) → Operation V T → F → Type 0) (key : K) (first : F) (begun : List (Event K V S)) where
+module _ {K V S H : Type 0} (eq : K → K → Bool) (input : K → List (List ℕ)) (build : S → H) (write : H → List ℕ → H) (finish : H → ℕ) (classes : IsEquivalence eq) (respects : (x y : K) → eq x y ≡ true → input x ≡ input y)
+    (b : Begun K V S) (name : Book) (key : K) (begun : List (Event K V S)) where
   abbrev hash : S → K → ℕ
   hash = hash_of input build write finish
 
-  abbrev Computing_at : List (Event K V S) → Computing K V S T H → F → Type 0
-  Computing_at log x f = IsComputing eq hash b name operates key first begun log x f
+  abbrev Computing_at : {T : Type 0} → List (Event K V S) → Computing K V S T H → List (Option (Stored K V) × Operation V T) → Type 0
+  Computing_at log x heard = IsComputing eq hash b name key begun log x heard
 
-  abbrev pub ComputingOn : List (Event K V S) → Computing K V S T H → F → Option Answer → Type 0
-  ComputingOn log x f answer = IsComputingOn eq hash b name operates key first begun log x f answer
+  abbrev pub ComputingOn : {T : Type 0} → List (Event K V S) → Computing K V S T H → List (Option (Stored K V) × Operation V T) → Option Answer → Type 0
+  ComputingOn log x heard answer = IsComputingOn eq hash b name key begun log x heard answer
 
-  module _ (log : List (Event K V S)) (x : Computing K V S T H) (f : F) (r : Computing_at log x f) where
+  module _ {T : Type 0} (log : List (Event K V S)) (x : Computing K V S T H) (heard : List (Option (Stored K V) × Operation V T)) (r : Computing_at log x heard) where
     abbrev pub m : Machine
     m = x.writer.call.machine
 
@@ -110,7 +110,7 @@ module _ {K V S H T F : Type 0} (eq : K → K → Bool) (input : K → List (Lis
       never e = not_show m.call answer silent None (call_asks m ShowNone e).1
 
       -- whether it was shown that there is none
-      none_later : HasNoNone r.said ⊎ HasShownNone m.call.remembered.fill m.call.state → HasNoNone r.said ⊎ HasShownNone (after m (answers.Call answer)).call.remembered.fill (after m (answers.Call answer)).call.state
+      none_later : HasNoNone heard ⊎ HasShownNone m.call.remembered.fill m.call.state → HasNoNone heard ⊎ HasShownNone (after m (answers.Call answer)).call.remembered.fill (after m (answers.Call answer)).call.state
       none_later h = ⊎_elim (λ none. inl none) (λ shown. inr (chain_once m (answers.Call answer) order shown).1) h
 
       -- why it is refused
@@ -121,7 +121,7 @@ module _ {K V S H T F : Type 0} (eq : K → K → Bool) (input : K → List (Lis
       full_log initial tables given unsaid e = refused_for m own.0 answer (λ cause. cause ≡ Capacity → HasNoRoom initial tables given) never open_still (unsaid_room initial tables given answer unsaid) Capacity e refl
 
       -- it goes on after an answer to a silent ask
-      pub goes_on : (log' : List (Event K V S)) → IsPrefix log log' → (w : Writer K V S H) → w.call.machine ≡ m → w.value ≡ x.writer.value → IsUnsaid w.call.given.done answer → IsWritingOn eq hash b name key r.made begun log' w answer → ComputingOn log' (record x { writer = w }) f (Some answer)
+      pub goes_on : (log' : List (Event K V S)) → IsPrefix log log' → (w : Writer K V S H) → w.call.machine ≡ m → w.value ≡ x.writer.value → IsUnsaid w.call.given.done answer → IsWritingOn eq hash b name key r.made begun log' w answer → ComputingOn log' (record x { writer = w }) heard (Some answer)
       goes_on log' pre w same value unsaid on =
           let then : after w.call.machine (answers.Call answer) ≡ after m (answers.Call answer) = ap (λ (z : Machine). after z (answers.Call answer)) same in (
             record {
@@ -130,13 +130,12 @@ module _ {K V S H T F : Type 0} (eq : K → K → Bool) (input : K → List (Lis
               task_is = ap (λ (z : Machine). z.call.task) then ∙ ((chain_task m (answers.Call answer) order).0 ∙ r.task_is);
               words = subst (λ (z : Machine). ShowsPairs z.call.state) (sym then) (chain_shows m (answers.Call answer) order r.words);
               shown_placed = r.shown_placed;
+              fill_placed = r.fill_placed;
               chosen_placed = r.chosen_placed;
-              said = r.said;
-              has_said = r.has_said;
-              held = all_shown (HeldOn log) (HeldOn log') (held_later log' pre) r.said r.held;
+              held = all_shown (HeldOn log) (HeldOn log') (held_later log' pre) heard r.held;
               none_once = r.none_once;
-              none_shown = subst (λ (z : Machine). HasNoNone r.said ⊎ HasShownNone z.call.remembered.fill z.call.state) (sym then) (none_later r.none_shown);
-              stood = λ stands h. holds_still key r.made r.said x (answered_writer w answer) value stands (r.stood stands (own_stood m own.0 answer silent standing r.words stands (subst (λ (z : Machine). StandsOn z.call stands) then h)));
+              none_shown = subst (λ (z : Machine). HasNoNone heard ⊎ HasShownNone z.call.remembered.fill z.call.state) (sym then) (none_later r.none_shown);
+              stood = λ stands h. holds_still key r.made heard x (answered_writer w answer) value stands (r.stood stands (own_stood m own.0 answer silent standing r.words stands (subst (λ (z : Machine). StandsOn z.call stands) then h)));
               aborts = λ with e. let s = own_aborted m own.0 answer with open_still (ap ask_of (sym then) ∙ e) in absurd (not_show m.call answer silent s.0 s.1);
               refuses = λ cause e. inl (refused_by w.call.given.done unsaid cause (ap ask_of (sym then) ∙ e));
               crowded = λ e. full_log (after w.call.machine (answers.Call answer)).call.initial (tables_of log') w.call.given.done unsaid (ap ask_of (sym then) ∙ e);

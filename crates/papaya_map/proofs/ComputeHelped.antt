@@ -61,7 +61,7 @@ module _ (m m' : Machine) (tables : List ℕ) (given : List Given) (helped : Has
         | inr (inr (inr h)) ↦ let f = ap (λ (z : Call_machine). calls.ask_of z) (sym h.call) ∙ own in absurd (cc f)
       ]
 
-module _ {K V S H T F : Type 0} (eq : K → K → Bool) (hash : S → K → ℕ) (b : Begun K V S) (name : Book) (operates : F → Option (Stored K V) → Operation V T → F → Type 0) (key : K) (first : F) (begun log log' : List (Event K V S)) (pre : IsPrefix log log') (x : Computing K V S T H) (f : F) (r : IsComputing eq hash b name operates key first begun log x f) (c : Driver K V S H) where
+module _ {K V S H T : Type 0} (eq : K → K → Bool) (hash : S → K → ℕ) (b : Begun K V S) (name : Book) (key : K) (begun log log' : List (Event K V S)) (pre : IsPrefix log log') (x : Computing K V S T H) (heard : List (Option (Stored K V) × Operation V T)) (r : IsComputing eq hash b name key begun log x heard) (c : Driver K V S H) where
   abbrev HeldOn : List (Event K V S) → Option (Stored K V) → Type 0
   HeldOn log' held = WasHeld eq (eq key) (history_of begun) (history_of log') held
 
@@ -69,7 +69,7 @@ module _ {K V S H T F : Type 0} (eq : K → K → Bool) (hash : S → K → ℕ)
   held_later held h = held_wider eq (eq key) (history_of begun) (history_of begun) (history_of log) (history_of log') ([], append-nil (history_of begun)) (history_since log log' pre) held h
 
   pub computing_helped : IsDriven eq hash b name (eq key) (hash b.hasher key) (Some key) begun log' r.made c → c.put ≡ x.writer.call.put → c.machine.phase ≡ Calling → (x.writer.call.machine.phase ≡ Calling → c ≡ x.writer.call) → HasHelped x.writer.call.machine c.machine (tables_of log') c.given.done
-      → IsComputing eq hash b name operates key first begun log' (record x { writer = record x.writer { call = c } }) f
+      → IsComputing eq hash b name key begun log' (record x { writer = record x.writer { call = c } }) heard
   computing_helped driven put calling still helped =
       let m = x.writer.call.machine in
       let k = helped_keeps m c.machine (tables_of log') c.given.done helped in
@@ -79,13 +79,12 @@ module _ {K V S H T F : Type 0} (eq : K → K → Bool) (hash : S → K → ℕ)
         task_is = k.task ∙ r.task_is;
         words = k.shows r.words;
         shown_placed = r.shown_placed;
+        fill_placed = r.fill_placed;
         chosen_placed = r.chosen_placed;
-        said = r.said;
-        has_said = r.has_said;
-        held = all_shown (HeldOn log) (HeldOn log') held_later r.said r.held;
+        held = all_shown (HeldOn log) (HeldOn log') held_later heard r.held;
         none_once = r.none_once;
         none_shown = ⊎_elim (λ none. inl none) (λ shown. inr (shown_kept m c.machine (tables_of log') c.given.done helped shown)) r.none_shown;
-        stood = λ stands h. holds_still key r.made r.said x (record x.writer { call = c }) refl stands (r.stood stands (k.stands stands h));
+        stood = λ stands h. holds_still key r.made heard x (record x.writer { call = c }) refl stands (r.stood stands (k.stands stands h));
         aborts = λ with e. r.aborts with (aborted_before m c.machine (tables_of log') c.given.done helped with e);
         refuses = λ cause e. ⊎_elim (λ same. r.refuses cause (ap ask_of (sym same) ∙ e)) (λ h. inl (⊎_elim (λ memory. inl memory) (λ full. inr full.0) h)) (k.ends cause e);
         crowded = room_kept x.writer.call c (tables_of log') calling still helped (tables_of log) (tables_since log log' pre) r.crowded;

@@ -79,7 +79,7 @@ module _ (m : Machine) (answer : Answer) (asks : ask_of m ≡ Call MakePair) whe
   pub full_log : (initial : ℕ) (tables : List ℕ) (given : List Given) → IsUnsaid given answer → ask_of (after m (answers.Call answer)) ≡ Call (Done (Reply_refused Capacity)) → HasNoRoom initial tables given
   full_log initial tables given unsaid e = refused_for m own.0 answer (λ cause. cause ≡ Capacity → HasNoRoom initial tables given) never not_done (unsaid_room initial tables given answer unsaid) Capacity e refl
 
-module _ {K V S T H F : Type 0} (eq : K → K → Bool) (hash : S → K → ℕ) (b : Begun K V S) (name : Book) (operates : F → Option (Stored K V) → Operation V T → F → Type 0) (key : K) (first : F) (begun log : List (Event K V S)) (x : Computing K V S T H) (f : F) (r : IsComputing eq hash b name operates key first begun log x f)
+module _ {K V S T H : Type 0} (eq : K → K → Bool) (hash : S → K → ℕ) (b : Begun K V S) (name : Book) (key : K) (begun log : List (Event K V S)) (x : Computing K V S T H) (heard : List (Option (Stored K V) × Operation V T)) (r : IsComputing eq hash b name key begun log x heard)
     (standing : IsStanding x.writer.call.machine) (asks : ask_of x.writer.call.machine ≡ Call MakePair) where
   abbrev chain : Machine
   chain = x.writer.call.machine
@@ -91,15 +91,15 @@ module _ {K V S T H F : Type 0} (eq : K → K → Bool) (hash : S → K → ℕ)
   asks_pair = (call_asks chain MakePair asks).1
 
   abbrev On : Computing K V S T H → Answer → Type 0
-  On y answer = IsComputingOn eq hash b name operates key first begun log y f (Some answer)
+  On y answer = IsComputingOn eq hash b name key begun log y heard (Some answer)
 
   -- the compute with these tokens, after its machine was answered
   abbrev with_pairs : Writer K V S H → (chosen fill made : Option (Stored K V)) → Computing K V S T H
   with_pairs w chosen fill made = record x { writer = w; chosen = chosen; fill = fill; made = made }
 
-  goes_on : (made' : List (Stored K V)) (w : Writer K V S H) (chosen fill made : Option (Stored K V)) (answer : Answer) → w.call.machine ≡ chain → IsUnsaid w.call.given.done answer → IsWritingOn eq hash b name key made' begun log w answer → IsPlaced b (Some name) (pair_named chosen)
-      → ((stands : Said) → StandsOn (calls.after m answer) stands → Holds key made' r.said (with_pairs w chosen fill made) stands) → On (with_pairs w chosen fill made) answer
-  goes_on made' w chosen fill made answer same unsaid on placed stood =
+  goes_on : (made' : List (Stored K V)) (w : Writer K V S H) (chosen fill made : Option (Stored K V)) (answer : Answer) → w.call.machine ≡ chain → IsUnsaid w.call.given.done answer → IsWritingOn eq hash b name key made' begun log w answer → IsPlaced b (Some name) (pair_named chosen) → IsPlaced b (Some name) (pair_named fill)
+      → ((stands : Said) → StandsOn (calls.after m answer) stands → Holds key made' heard (with_pairs w chosen fill made) stands) → On (with_pairs w chosen fill made) answer
+  goes_on made' w chosen fill made answer same unsaid on placed fills stood =
       let then : after w.call.machine (answers.Call answer) ≡ after chain (answers.Call answer) = ap (λ (z : Machine). after z (answers.Call answer)) same in
       let led = order chain answer asks in (
         record {
@@ -108,12 +108,11 @@ module _ {K V S T H F : Type 0} (eq : K → K → Bool) (hash : S → K → ℕ)
           task_is = ap (λ (z : Machine). z.call.task) then ∙ ((chain_task chain (answers.Call answer) led).0 ∙ r.task_is);
           words = subst (λ (z : Machine). ShowsPairs z.call.state) (sym then) (chain_shows chain (answers.Call answer) led r.words);
           shown_placed = r.shown_placed;
+          fill_placed = fills;
           chosen_placed = placed;
-          said = r.said;
-          has_said = r.has_said;
           held = r.held;
           none_once = r.none_once;
-          none_shown = subst (λ (z : Machine). HasNoNone r.said ⊎ HasShownNone z.call.remembered.fill z.call.state) (sym then) (⊎_elim (λ none. inl none) (λ shown. inr (chain_once chain (answers.Call answer) led shown).1) r.none_shown);
+          none_shown = subst (λ (z : Machine). HasNoNone heard ⊎ HasShownNone z.call.remembered.fill z.call.state) (sym then) (⊎_elim (λ none. inl none) (λ shown. inr (chain_once chain (answers.Call answer) led shown).1) r.none_shown);
           stood = λ stands h. stood stands (subst (λ (z : Call_machine). StandsOn z stands) (ap (λ (z : Machine). z.call) then ∙ steps chain answer asks) h);
           aborts = λ with e. absurd (no_abort chain answer asks with (ap ask_of (sym then) ∙ e));
           refuses = λ cause e. inl (by_itself chain answer asks w.call.given.done unsaid cause (ap ask_of (sym then) ∙ e));
@@ -124,58 +123,58 @@ module _ {K V S T H F : Type 0} (eq : K → K → Bool) (hash : S → K → ℕ)
 
   module _ (w : Writer K V S H) (same : w.call.machine ≡ chain) (q : Stored K V) (was : x.writer.value ≡ Some q.value.value) (key_is : key_of q ≡ key) (on : IsWritingOn eq hash b name key (q ∷ r.made) begun log w (Made_number q.index)) where
     -- what the closure answered is the pair's value
-    value_is : (v : V) (held : Option (Stored K V)) → x.writer.value ≡ Some v → Member (held, operation.Insert v) r.said → Member (held, operation.Insert q.value.value) r.said
-    value_is v held e member = let is : v ≡ q.value.value = cc (e, was) in subst (λ (z : V). Member (held, operation.Insert z) r.said) is member
+    value_is : (v : V) (held : Option (Stored K V)) → x.writer.value ≡ Some v → Member (held, operation.Insert v) heard → Member (held, operation.Insert q.value.value) heard
+    value_is v held e member = let is : v ≡ q.value.value = cc (e, was) in subst (λ (z : V). Member (held, operation.Insert z) heard) is member
 
-    made_now : (held : Option (Stored K V)) → Member (held, operation.Insert q.value.value) r.said → IsMadeOf key (q ∷ r.made) r.said held q.index q
+    made_now : (held : Option (Stored K V)) → Member (held, operation.Insert q.value.value) heard → IsMadeOf key (q ∷ r.made) heard held q.index q
     made_now held member = record { number = refl; made_is = inl refl; key_is = key_is; said_is = member }
 
     -- the pair that fills stays at hand
-    fill_still : (chosen made : Option (Stored K V)) (j : ℕ) → Holds key r.made r.said x (Makes None j) → Holds key (q ∷ r.made) r.said (with_pairs w chosen x.fill made) (Makes None j)
-    fill_still chosen made j h = (h.0, h.1, made_still key r.made r.said q None j h.0 h.2)
+    fill_still : (chosen made : Option (Stored K V)) (j : ℕ) → Holds key r.made heard x (Makes None j) → Holds key (q ∷ r.made) heard (with_pairs w chosen x.fill made) (Makes None j)
+    fill_still chosen made j h = (h.0, h.1, made_still key r.made heard q None j h.0 h.2)
 
     -- and so does what was chosen
-    choice_still : (fill : Option (Stored K V)) (stands : Said) → ((j : ℕ) → stands ≡ Makes None j → ⊥) → ((shown : Option ℕ) → stands ≡ Inserts shown → ⊥) → Holds key r.made r.said x stands → Holds key (q ∷ r.made) r.said (with_pairs w x.chosen fill x.made) stands
+    choice_still : (fill : Option (Stored K V)) (stands : Said) → ((j : ℕ) → stands ≡ Makes None j → ⊥) → ((shown : Option ℕ) → stands ≡ Inserts shown → ⊥) → Holds key r.made heard x stands → Holds key (q ∷ r.made) heard (with_pairs w x.chosen fill x.made) stands
     choice_still fill (Agrees n agrees) none never h = h
     choice_still fill (Inserts shown) none never h = absurd (never shown refl)
     choice_still fill (Makes None n) none never h = absurd (none n refl)
-    choice_still fill (Makes (Some m) n) none never h = (h.0, h.1, h.2, h.3, h.4, made_still key r.made r.said q (Some h.0) n h.1 h.5)
+    choice_still fill (Makes (Some m) n) none never h = (h.0, h.1, h.2, h.3, h.4, made_still key r.made heard q (Some h.0) n h.1 h.5)
     choice_still fill (Removes n) none never h = h
 
     -- it was made where none was shown
     pub filled : x.shown ≡ None → On (with_pairs w x.chosen (Some q) x.made) (Made_number q.index)
-    filled none = goes_on (q ∷ r.made) w x.chosen (Some q) x.made (Made_number q.index) same (λ cause e. absurd (cc e)) on r.chosen_placed (⊎_elim by_fill by_choice (machine_paired m q.index r.task_is standing.call r.words asks_pair))
+    filled none = goes_on (q ∷ r.made) w x.chosen (Some q) x.made (Made_number q.index) same (λ cause e. absurd (cc e)) on r.chosen_placed (on.0.calling.made_placed q (inl refl)) (⊎_elim by_fill by_choice (machine_paired m q.index r.task_is standing.call r.words asks_pair))
       where
-        by_fill : IsFilledBy m q.index → (stands : Said) → StandsOn (calls.after m (Made_number q.index)) stands → Holds key (q ∷ r.made) r.said (with_pairs w x.chosen (Some q) x.made) stands
+        by_fill : IsFilledBy m q.index → (stands : Said) → StandsOn (calls.after m (Made_number q.index)) stands → Holds key (q ∷ r.made) heard (with_pairs w x.chosen (Some q) x.made) stands
         by_fill p stands h =
             let s = r.stood (Inserts None) p.0 in
             ⊎_elim
-            (λ e. subst (λ (z : Said). Holds key (q ∷ r.made) r.said (with_pairs w x.chosen (Some q) x.made) z) (sym e) (q, refl, made_now None (value_is s.1.0 None s.1.1 s.1.2)))
+            (λ e. subst (λ (z : Said). Holds key (q ∷ r.made) heard (with_pairs w x.chosen (Some q) x.made) z) (sym e) (q, refl, made_now None (value_is s.1.0 None s.1.1 s.1.2)))
             (λ k. choice_still (Some q) stands k.1 k.2 (r.stood stands k.0))
             (p.1 stands h)
 
-        by_choice : IsReplacedBy m q.index → (stands : Said) → StandsOn (calls.after m (Made_number q.index)) stands → Holds key (q ∷ r.made) r.said (with_pairs w x.chosen (Some q) x.made) stands
+        by_choice : IsReplacedBy m q.index → (stands : Said) → StandsOn (calls.after m (Made_number q.index)) stands → Holds key (q ∷ r.made) heard (with_pairs w x.chosen (Some q) x.made) stands
         by_choice p stands h = let s = r.stood (Inserts (Some p.0)) p.1 in let e = sym none ∙ s.1 in absurd (cc e)
 
     -- it was made for what is to become of this pair
     pub chosen : (p : Stored K V) → x.shown ≡ Some p → On (with_pairs w (Some p) x.fill (Some q)) (Made_number q.index)
-    chosen p has = goes_on (q ∷ r.made) w (Some p) x.fill (Some q) (Made_number q.index) same (λ cause e. absurd (cc e)) on (subst (λ (o : Option (Stored K V)). IsPlaced b (Some name) (pair_named o)) has r.shown_placed) (⊎_elim by_fill by_choice (machine_paired m q.index r.task_is standing.call r.words asks_pair))
+    chosen p has = goes_on (q ∷ r.made) w (Some p) x.fill (Some q) (Made_number q.index) same (λ cause e. absurd (cc e)) on (subst (λ (o : Option (Stored K V)). IsPlaced b (Some name) (pair_named o)) has r.shown_placed) r.fill_placed (⊎_elim by_fill by_choice (machine_paired m q.index r.task_is standing.call r.words asks_pair))
       where
-        by_fill : IsFilledBy m q.index → (stands : Said) → StandsOn (calls.after m (Made_number q.index)) stands → Holds key (q ∷ r.made) r.said (with_pairs w (Some p) x.fill (Some q)) stands
+        by_fill : IsFilledBy m q.index → (stands : Said) → StandsOn (calls.after m (Made_number q.index)) stands → Holds key (q ∷ r.made) heard (with_pairs w (Some p) x.fill (Some q)) stands
         by_fill k stands h = let s = r.stood (Inserts None) k.0 in let e = sym has ∙ s.0 in absurd (cc e)
 
-        by_choice : IsReplacedBy m q.index → (stands : Said) → StandsOn (calls.after m (Made_number q.index)) stands → Holds key (q ∷ r.made) r.said (with_pairs w (Some p) x.fill (Some q)) stands
+        by_choice : IsReplacedBy m q.index → (stands : Said) → StandsOn (calls.after m (Made_number q.index)) stands → Holds key (q ∷ r.made) heard (with_pairs w (Some p) x.fill (Some q)) stands
         by_choice k stands h =
             let s = r.stood (Inserts (Some k.0)) k.1 in
             let one : s.0 ≡ p = cc (s.1, has) in
-            let member = subst (λ (z : Stored K V). Member (Some z, operation.Insert q.value.value) r.said) one (value_is s.3.0 (Some s.0) s.3.1 s.3.2) in
+            let member = subst (λ (z : Stored K V). Member (Some z, operation.Insert q.value.value) heard) one (value_is s.3.0 (Some s.0) s.3.1 s.3.2) in
             ⊎_elim
-            (λ e. subst (λ (z : Said). Holds key (q ∷ r.made) r.said (with_pairs w (Some p) x.fill (Some q)) z) (sym e) (p, q, refl, ap (λ (z : Stored K V). z.index) (sym one) ∙ s.2, refl, made_now (Some p) member))
-            (λ a. subst (λ (z : Said). Holds key (q ∷ r.made) r.said (with_pairs w (Some p) x.fill (Some q)) z) (sym a.1) (fill_still (Some p) (Some q) a.0 (r.stood (Makes None a.0) (subst (λ (z : Said). StandsOn m z) a.1 a.2))))
+            (λ e. subst (λ (z : Said). Holds key (q ∷ r.made) heard (with_pairs w (Some p) x.fill (Some q)) z) (sym e) (p, q, refl, ap (λ (z : Stored K V). z.index) (sym one) ∙ s.2, refl, made_now (Some p) member))
+            (λ a. subst (λ (z : Said). Holds key (q ∷ r.made) heard (with_pairs w (Some p) x.fill (Some q)) z) (sym a.1) (fill_still (Some p) (Some q) a.0 (r.stood (Makes None a.0) (subst (λ (z : Said). StandsOn m z) a.1 a.2))))
             (k.2 stands h)
 
   -- what is at hand stays so, whatever value is left, but for a value that waits
-  still : (w : Writer K V S H) (stands : Said) → ((shown : Option ℕ) → stands ≡ Inserts shown → ⊥) ⊎ (w.value ≡ x.writer.value) → Holds key r.made r.said x stands → Holds key r.made r.said (with_pairs w x.chosen x.fill x.made) stands
+  still : (w : Writer K V S H) (stands : Said) → ((shown : Option ℕ) → stands ≡ Inserts shown → ⊥) ⊎ (w.value ≡ x.writer.value) → Holds key r.made heard x stands → Holds key r.made heard (with_pairs w x.chosen x.fill x.made) stands
   still w (Agrees n agrees) e h = h
   still w (Inserts None) e h = ⊎_elim (λ never. absurd (never None refl)) (λ same. (h.0, (h.1.0, same ∙ h.1.1, h.1.2))) e
   still w (Inserts (Some n)) e h = ⊎_elim (λ never. absurd (never (Some n) refl)) (λ same. (h.0, h.1, h.2, (h.3.0, same ∙ h.3.1, h.3.2))) e
@@ -185,7 +184,7 @@ module _ {K V S T H F : Type 0} (eq : K → K → Bool) (hash : S → K → ℕ)
 
   -- no pair was made
   pub unmade : (w : Writer K V S H) (answer : Answer) → w.call.machine ≡ chain → IsUnlogged answer → IsUnsaid w.call.given.done answer → (answer ≡ Ok_done → w.value ≡ x.writer.value) → IsWritingOn eq hash b name key r.made begun log w answer → On (with_pairs w x.chosen x.fill x.made) answer
-  unmade w answer same unlogged unsaid kept on = goes_on r.made w x.chosen x.fill x.made answer same unsaid on r.chosen_placed stood
+  unmade w answer same unlogged unsaid kept on = goes_on r.made w x.chosen x.fill x.made answer same unsaid on r.chosen_placed r.fill_placed stood
     where
       unsaid_now : (stands : Said) → IsSaidBy m answer stands → ⊥
       unsaid_now (Agrees n agrees) h = not_show chain answer asks (Some n) h.0
@@ -199,5 +198,5 @@ module _ {K V S T H F : Type 0} (eq : K → K → Bool) (hash : S → K → ℕ)
           refused_for : (cause : Cause) → answer ≡ Was_refused cause → (shown : Option ℕ) → stands ≡ Inserts shown → ⊥
           refused_for cause i shown e = machine_refused_pair m cause shown r.task_is standing.call asks_pair (subst (λ (z : Said). StandsOn (calls.after m (Was_refused cause)) z) e (subst (λ (z : Answer). StandsOn (calls.after m z) stands) i h))
 
-      stood : (stands : Said) → StandsOn (calls.after m answer) stands → Holds key r.made r.said (with_pairs w x.chosen x.fill x.made) stands
+      stood : (stands : Said) → StandsOn (calls.after m answer) stands → Holds key r.made heard (with_pairs w x.chosen x.fill x.made) stands
       stood stands h = still w stands (waits stands h) (r.stood stands (⊎_elim (λ k. k) (λ k. absurd (unsaid_now stands k)) (machine_said m answer stands standing.call r.words h)))

@@ -28,7 +28,7 @@ use Rattle.papaya_change.proofs.OwnSteps.{own_kind}
 use Rattle.papaya_change.proofs.Written.{own_query}
 use Rattle.papaya_book.specs.Logs.{Stored}
 
-module _ {K V S T H F : Type 0} (eq : K → K → Bool) (input : K → List (List ℕ)) (build : S → H) (write : H → List ℕ → H) (finish : H → ℕ) (classes : IsEquivalence eq) (respects : (x y : K) → eq x y ≡ true → input x ≡ input y) (b : Begun K V S) (name : Book) (operates : F → Option (Stored K V) → Operation V T → F → Type 0) (key : K) (first : F) (begun log : List (Event K V S)) (x : Computing K V S T H) (f : F) (r : IsComputing eq (hash_of input build write finish) b name operates key first begun log x f)
+module _ {K V S T H : Type 0} (eq : K → K → Bool) (input : K → List (List ℕ)) (build : S → H) (write : H → List ℕ → H) (finish : H → ℕ) (classes : IsEquivalence eq) (respects : (x y : K) → eq x y ≡ true → input x ≡ input y) (b : Begun K V S) (name : Book) (key : K) (begun log : List (Event K V S)) (x : Computing K V S T H) (heard : List (Option (Stored K V) × Operation V T)) (r : IsComputing eq (hash_of input build write finish) b name key begun log x heard)
     (standing : IsStanding x.writer.call.machine) (t i old new : ℕ) (asks : ask_of x.writer.call.machine ≡ Call (Exchange (Slot t i) old new)) where
   abbrev m : Machine
   m = x.writer.call.machine

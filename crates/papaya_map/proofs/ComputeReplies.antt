@@ -28,13 +28,13 @@ use Rattle.papaya_book.specs.declared.rule.entry.Begun.{Begun}
 use Rattle.papaya_book.specs.declared.rule.entry.Event.{Event}
 use Rattle.papaya_change.specs.Changing.{HasChanged}
 use Rattle.papaya_change.specs.Changes.{IsChangeOf}
-use Rattle.papaya_map.specs.Computing.{Holds, IsComputing}
+use Rattle.papaya_map.specs.Computing.{Holds, IsComputing, IsReplied}
 use Rattle.papaya_map.specs.ComputeAnswers.{IsComputeBy, IsOperated}
 use Rattle.papaya_book.specs.Hashes.{hash_of}
 use Rattle.papaya_lookup.specs.History.{Change, changes_of, history_of, key_of}
 use Rattle.papaya_book.specs.Logs.{Member, Stored, exchanges_of, pair_named}
 use Rattle.papaya_book.specs.Rule.{IsLawfulLog, IsPlaced}
-use Rattle.papaya_change.specs.Showings.{AreOf, WasHeld, WasLast}
+use Rattle.papaya_change.specs.Showings.{AreOf, HasSaid, WasHeld, WasLast}
 use Rattle.papaya_change.proofs.Changing.{Coded, Wide}
 use Rattle.papaya_lookup.proofs.Histories.{changes-append, history_since}
 use Rattle.papaya_book.proofs.Logs.{prefix_trans}
@@ -63,8 +63,8 @@ of_some holds none o p is m = subst (λ z. MatchOption z none holds) is m
 abbrev AreOne : {K V : Type 0} → Stored K V → Stored K V → Type 0
 AreOne p q = p.value ≡ q.value
 
-module _ {K V S T H F : Type 0} (eq : K → K → Bool) (input : K → List (List ℕ)) (build : S → H) (write : H → List ℕ → H) (finish : H → ℕ) (classes : IsEquivalence eq) (respects : (x y : K) → eq x y ≡ true → input x ≡ input y)
-    (b : Begun K V S) (name : Book) (operates : F → Option (Stored K V) → Operation V T → F → Type 0) (key : K) (first : F) (begun log : List (Event K V S)) (x : Computing K V S T H) (f : F) (r : IsComputing eq (hash_of input build write finish) b name operates key first begun log x f) where
+module _ {K V S T H : Type 0} (eq : K → K → Bool) (input : K → List (List ℕ)) (build : S → H) (write : H → List ℕ → H) (finish : H → ℕ) (classes : IsEquivalence eq) (respects : (x y : K) → eq x y ≡ true → input x ≡ input y)
+    (b : Begun K V S) (name : Book) (key : K) (begun log : List (Event K V S)) (x : Computing K V S T H) (heard : List (Option (Stored K V) × Operation V T)) (r : IsComputing eq (hash_of input build write finish) b name key begun log x heard) where
   abbrev m : Machine
   m = x.writer.call.machine
 
@@ -73,16 +73,16 @@ module _ {K V S T H F : Type 0} (eq : K → K → Bool) (input : K → List (Lis
   hands = record { last = x.writer.call.last; made = r.made }
 
   abbrev Answers : Result (Computed K V T) Cause → Type 0
-  Answers answer = IsComputeBy eq key (history_of begun) (history_of log) operates first answer
+  Answers answer = IsReplied eq key (history_of begun) (history_of log) heard answer
 
   abbrev Changes : (taken put : Option (Stored K V)) → Type 0
   Changes taken put = IsChangeOf (eq key) (history_of begun) (history_of log) taken put
 
-  answers : (answer : Result (Computed K V T) Cause) → IsOperated eq key (history_of begun) (history_of log) r.said answer → Answers answer
-  answers answer done = record { said = r.said; left = f; has_said = r.has_said; held = r.held; none_once = r.none_once; operated = done }
+  answers : (answer : Result (Computed K V T) Cause) → IsOperated eq key (history_of begun) (history_of log) heard answer → Answers answer
+  answers answer done = record { held = r.held; none_once = r.none_once; operated = done }
 
   -- what its reply stands on is at hand
-  at_hand : (reply : Reply) (said : Said) → ask_of m ≡ Call (Done reply) → said_of_compute reply ≡ Some said → Holds key r.made r.said x said
+  at_hand : (reply : Reply) (said : Said) → ask_of m ≡ Call (Done reply) → said_of_compute reply ≡ Some said → Holds key r.made heard x said
   at_hand reply said e is = r.stood said (inl (ap (λ t. said_in t m.call.state) r.task_is ∙ (ap (said_in Compute) (ended_in m.call.made m.call.hash m.call.state reply (call_asks m (Done reply) e).1) ∙ is)))
 
   module _ (reply : Reply) (e : ask_of m ≡ Call (Done reply)) (old new : Option ℕ) (change : change_of_reply reply ≡ Some (old, new)) where
@@ -134,7 +134,7 @@ module _ {K V S T H F : Type 0} (eq : K → K → Bool) (input : K → List (Lis
 
   -- it put a pair in
   module _ (n : ℕ) (e : ask_of m ≡ Call (Done (Inserted n))) where
-    abbrev filled : Holds key r.made r.said x (Makes None n)
+    abbrev filled : Holds key r.made heard x (Makes None n)
     filled = at_hand (Inserted n) (Makes None n) e refl
 
     pub fill_made : x.fill ≡ None → ⊥
@@ -161,11 +161,11 @@ module _ {K V S T H F : Type 0} (eq : K → K → Bool) (input : K → List (Lis
         let own : key_of put ≡ key = ap (λ z. z.key.value) (sym value) ∙ filled.2.key_is in
         let change = changed (Inserted n) e None (Some n) refl in
         let class : eq key change.class ≡ true = classes.symm key change.class ∙ subst (λ (z : K). eq change.class z ≡ true) own (put_number (Inserted n) e None (Some n) refl put puts).1 in
-        answers (Ok (computed.Inserted k v)) (put, change_is (Inserted n) e None (Some n) refl None (Some put) (none_taken (Inserted n) e None (Some n) refl refl) puts class, own, subst (λ (z : V). Member (None, operation.Insert z) r.said) (ap (λ z. z.value) value) filled.2.said_is, are)
+        answers (Ok (computed.Inserted k v)) (put, change_is (Inserted n) e None (Some n) refl None (Some put) (none_taken (Inserted n) e None (Some n) refl refl) puts class, own, subst (λ (z : V). Member (None, operation.Insert z) heard) (ap (λ z. z.value) value) filled.2.said_is, are)
 
   -- the pair that was shown had the call's key
-  shown_key : (p : Stored K V) (done : Operation V T) → Member (Some p, done) r.said → eq key (key_of p) ≡ true
-  shown_key p done member = (shown_each (WasHeld eq (eq key) (history_of begun) (history_of log)) r.said r.held (Some p) done member).is.0
+  shown_key : (p : Stored K V) (done : Operation V T) → Member (Some p, done) heard → eq key (key_of p) ≡ true
+  shown_key p done member = (shown_each (WasHeld eq (eq key) (history_of begun) (history_of log)) heard r.held (Some p) done member).is.0
 
   module _ (reply : Reply) (e : ask_of m ≡ Call (Done reply)) (n : ℕ) (new : Option ℕ) (change : change_of_reply reply ≡ Some (Some n, new)) (p : Stored K V) (number : p.index ≡ n) (taken : Stored K V) (took : x.writer.call.taken ≡ Some taken) where
     -- the pair that went has the number of the one that was shown
@@ -178,7 +178,7 @@ module _ {K V S T H F : Type 0} (eq : K → K → Bool) (input : K → List (Lis
 
   -- it took a pair out
   module _ (n : ℕ) (e : ask_of m ≡ Call (Done (Removed n))) where
-    abbrev doomed : Holds key r.made r.said x (Removes n)
+    abbrev doomed : Holds key r.made heard x (Removes n)
     doomed = at_hand (Removed n) (Removes n) e refl
 
     pub removed_chosen : x.chosen ≡ None → ⊥
@@ -199,7 +199,7 @@ module _ {K V S T H F : Type 0} (eq : K → K → Bool) (input : K → List (Lis
 
   -- a pair took the place of another
   module _ (i n : ℕ) (e : ask_of m ≡ Call (Done (Replaced i n))) where
-    abbrev replaced : Holds key r.made r.said x (Makes (Some i) n)
+    abbrev replaced : Holds key r.made heard x (Makes (Some i) n)
     replaced = at_hand (Replaced i n) (Makes (Some i) n) e refl
 
     pub updated_chosen : x.chosen ≡ None → ⊥
@@ -236,14 +236,14 @@ module _ {K V S T H F : Type 0} (eq : K → K → Bool) (input : K → List (Lis
         let own : key_of put ≡ key = ap (λ z. z.key.value) (sym new_value) ∙ replaced.5.key_is in
         let class = went_class (Replaced i n) e i (Some n) refl replaced.0 replaced.3 taken took value (shown_key replaced.0 (operation.Insert replaced.1.value.value) replaced.5.said_is) in
         answers (Ok (computed.Updated before after))
-        (taken, put, change_is (Replaced i n) e (Some i) (Some n) refl (Some taken) (Some put) took puts class, own, (replaced.0, (went_number (Replaced i n) e i (Some n) refl replaced.0 replaced.3 taken took, value), subst (λ (z : V). Member (Some replaced.0, operation.Insert z) r.said) (ap (λ z. z.value) new_value) replaced.5.said_is), are, new_are)
+        (taken, put, change_is (Replaced i n) e (Some i) (Some n) refl (Some taken) (Some put) took puts class, own, (replaced.0, (went_number (Replaced i n) e i (Some n) refl replaced.0 replaced.3 taken took, value), subst (λ (z : V). Member (Some replaced.0, operation.Insert z) heard) (ap (λ z. z.value) new_value) replaced.5.said_is), are, new_are)
 
   -- its closure ended it
   pub aborted : (with : ℕ) → ask_of m ≡ Call (Done (Aborted with)) → (t : T) → x.aborted ≡ Some t → Answers (Ok (computed.Aborted t))
   aborted with e t is =
       let a = r.aborts with e in
       let one : a.0 ≡ t = cc (a.1, is) in
-      answers (Ok (computed.Aborted t)) (subst (λ (z : T). (held : Option (Stored K V)) × WasLast held (operation.Abort z) r.said) one a.2)
+      answers (Ok (computed.Aborted t)) (x.shown, subst (λ (z : T). WasLast x.shown (operation.Abort z) heard) one a.2)
 
   pub aborted_kept : (with : ℕ) → ask_of m ≡ Call (Done (Aborted with)) → x.aborted ≡ None → ⊥
   aborted_kept with e none = let a = r.aborts with e in let g = sym a.1 ∙ none in cc g
@@ -274,7 +274,7 @@ module _ {K V S T H F : Type 0} (eq : K → K → Bool) (input : K → List (Lis
 
 -- what was seen before a compute began was seen before its change, and before what its closure was shown
 module _ {K V : Type 0} (eq : K → K → Bool) (key : K) (older old new : List (Change K (Stored K V))) (pre : IsPrefix older old) where
-  change_since : (taken put : Option (Stored K V)) → IsChangeOf (eq key) old new taken put → IsChangeOf (eq key) older new taken put
+  pub change_since : (taken put : Option (Stored K V)) → IsChangeOf (eq key) old new taken put → IsChangeOf (eq key) older new taken put
   change_since taken put t = record { before = t.before; change = t.change; since = prefix_trans older old t.before pre t.since; is = t.is; class_is = t.class_is; taken_is = t.taken_is; put_is = t.put_is }
 
 module _ {K V T : Type 0} (eq : K → K → Bool) (key : K) (older old new : List (Change K (Stored K V))) (pre : IsPrefix older old) where
@@ -285,28 +285,30 @@ module _ {K V T : Type 0} (eq : K → K → Bool) (key : K) (older old new : Lis
   operated_since said (Ok (computed.Aborted t)) h = h
   operated_since said (Err cause) h = h
 
-  pub compute_since : {F : Type 0} (operates : F → Option (Stored K V) → Operation V T → F → Type 0) (first : F) (answer : Result (Computed K V T) Cause) → IsComputeBy eq key old new operates first answer → IsComputeBy eq key older new operates first answer
-  compute_since operates first answer r = record {
-    said = r.said;
-    left = r.left;
-    has_said = r.has_said;
-    held = all_shown (WasHeld eq (eq key) old new) (WasHeld eq (eq key) older new) (λ held h. held_wider eq (eq key) older old new new pre ([], append-nil new) held h) r.said r.held;
+  pub replied_since : (heard : List (Option (Stored K V) × Operation V T)) (answer : Result (Computed K V T) Cause) → IsReplied eq key old new heard answer → IsReplied eq key older new heard answer
+  replied_since heard answer r = record {
+    held = all_shown (WasHeld eq (eq key) old new) (WasHeld eq (eq key) older new) (λ held h. held_wider eq (eq key) older old new new pre ([], append-nil new) held h) heard r.held;
     none_once = r.none_once;
-    operated = operated_since r.said answer r.operated;
+    operated = operated_since heard answer r.operated;
   }
 
+  -- so it answers by a closure that was shown and answered these
+  pub computed_by : {F : Type 0} (operates : F → Option (Stored K V) → Operation V T → F → Type 0) (first left : F) (heard : List (Option (Stored K V) × Operation V T)) → HasSaid operates first heard left → (answer : Result (Computed K V T) Cause) → IsReplied eq key old new heard answer → IsComputeBy eq key older new operates first answer
+  computed_by operates first left heard has answer r =
+      let s = replied_since heard answer r in
+      record { said = heard; left = left; has_said = has; held = s.held; none_once = s.none_once; operated = s.operated }
+
 -- a compute that begins
-pub begins : {K V S T H F : Type 0} (eq : K → K → Bool) (hash : S → K → ℕ) (b : Begun K V S) (name : Book) (operates : F → Option (Stored K V) → Operation V T → F → Type 0) (key : K) (first : F) (log : List (Event K V S)) (x : Computing K V S T H) → IsLawfulLog eq hash b log → IsChunked b.mode → (initial : ℕ) → x.writer.call.machine ≡ started Compute (hash b.hasher key) b.mode initial
-    → (x.writer.call.table ≡ None) × (x.writer.call.fresh ≡ None) → (x.writer.call.last ≡ None) × (x.writer.call.kept ≡ None) × (x.writer.call.taken ≡ None) × (x.writer.call.put ≡ None) → x.writer.key ≡ Some key → x.writer.brought ≡ None → x.shown ≡ None → x.chosen ≡ None → IsComputing eq hash b name operates key first log log x first
-begins eq hash b name operates key first log x l chunked initial machine table pairs own brought shown chosen = record {
+pub begins : {K V S T H : Type 0} (eq : K → K → Bool) (hash : S → K → ℕ) (b : Begun K V S) (name : Book) (key : K) (log : List (Event K V S)) (x : Computing K V S T H) → IsLawfulLog eq hash b log → IsChunked b.mode → (initial : ℕ) → x.writer.call.machine ≡ started Compute (hash b.hasher key) b.mode initial
+    → (x.writer.call.table ≡ None) × (x.writer.call.fresh ≡ None) → (x.writer.call.last ≡ None) × (x.writer.call.kept ≡ None) × (x.writer.call.taken ≡ None) × (x.writer.call.put ≡ None) → x.writer.key ≡ Some key → x.writer.brought ≡ None → x.shown ≡ None → x.fill ≡ None → x.chosen ≡ None → IsComputing eq hash b name key log log x []
+begins eq hash b name key log x l chunked initial machine table pairs own brought shown fill chosen = record {
   made = [];
   writing = begins_writing eq hash b name key log x.writer l chunked Compute initial machine table pairs own brought;
   task_is = ap (λ (z : Machine). z.call.task) machine;
   words = rw machine tt;
   shown_placed = rw shown tt;
+  fill_placed = rw fill tt;
   chosen_placed = rw chosen tt;
-  said = [];
-  has_said = refl;
   held = tt;
   none_once = tt;
   none_shown = inl tt;

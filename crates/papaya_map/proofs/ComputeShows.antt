@@ -25,7 +25,11 @@ use Rattle.papaya_chain_rests.specs.Goes.{IsInOrder}
 use Rattle.papaya_chain_rests.proofs.Names.{call_asks}
 use Rattle.papaya_chain_rests.proofs.Once.{chain_offered, chain_once}
 use Rattle.papaya_chain_rests.proofs.Replies.{chain_shows, chain_task}
-use Rattle.papaya_rests.specs.Says.{Agrees, HasShownNone, Inserts, IsSaidBy, Makes, Removes, Said, StandsOn, show}
+use Rattle.papaya_call.specs.declared.machine.State.{State as Stage}
+use Rattle.papaya_call.specs.declared.machine.State.TheVariants.{Offering, Pairing, Ended}
+use Rattle.papaya_call.specs.declared.write.Made.{Made}
+use Rattle.papaya_call.specs.declared.write.Made.TheVariants.{Nothing, Key, Pair}
+use Rattle.papaya_rests.specs.Says.{Agrees, HasShownNone, Inserts, IsFilled, IsSaidBy, Makes, Removes, Said, StandsOn, said_to_fill, show}
 use Rattle.papaya_law.specs.Code.{Coding}
 use Rattle.papaya_law.specs.Exchange.{Setting}
 use Rattle.papaya_rests.specs.Rests.{WasAtMoment}
@@ -39,26 +43,25 @@ use Rattle.papaya_book.specs.declared.rule.entry.Begun.{Begun}
 use Rattle.papaya_book.specs.declared.rule.entry.Event.{Event}
 use Rattle.papaya_change.specs.declared.writing.Writer.{Writer}
 use Rattle.papaya_change.specs.Changing.{IsCalling}
-use Rattle.papaya_map.specs.Computing.{Holds, IsComputing, IsMadeOf, aborted_after, chosen_after, keeping, kind_of, value_after}
+use Rattle.papaya_map.specs.Computing.{Holds, IsComputing, IsMadeOf, IsSpared, aborted_after, chosen_after, keeping, kind_of, number_of, value_after}
 use Rattle.papaya_book.specs.Hashes.{hash_of}
 use Rattle.papaya_lookup.specs.History.{history_of}
-use Rattle.papaya_book.specs.Logs.{Stored, exchanges_of, pair_named}
+use Rattle.papaya_book.specs.Logs.{Member, Stored, exchanges_of, pair_named}
 use Rattle.papaya_book.specs.Rule.{IsPlaced}
+use Rattle.papaya_book.specs.declared.keyed.Keyed as keyed
+use Rattle.papaya_book.specs.declared.window.Window.{Window}
+use Rattle.papaya_change.specs.Doing.{Answers}
+use Rattle.papaya_change.proofs.Doing.{idle}
 use Rattle.papaya_change.specs.Showings.{HasNoNone, IsNoneOnce, WasHeld}
 use Rattle.papaya_change.specs.Writing.{IsWriting}
 use Rattle.papaya_change.proofs.Changing.{Coded, Wide, barren, quiet}
 use Rattle.papaya_change.proofs.OwnSteps.{own_order}
 use Rattle.papaya_change.proofs.Refusals.{IsOwnEnd, own_refused}
 use Rattle.papaya_map.proofs.ComputeOwn.{own_aborted, own_step}
-use Rattle.papaya_map.specs.Computing.{IsComputingOn}
+use Rattle.papaya_map.specs.Computing.{IsComputingOn, IsToShow}
 use Rattle.papaya_lookup.proofs.Readings.{IsQuery, hashed_with}
 use Rattle.papaya_change.proofs.Showings.{own_held_then}
 use Rattle.papaya_change.proofs.Written.{own_query}
-
--- the number of what is shown
-abbrev pub number_of : {K V : Type 0} → Option (Stored K V) → Option ℕ
-number_of None = None
-number_of (Some p) = Some p.index
 
 -- what the machine is told tells what the closure answered
 module _ {V T : Type 0} where
@@ -79,6 +82,40 @@ module _ {V T : Type 0} where
 
 op_is : {V T : Type 0} (done : Operation V T) (kind : OpKind) → Op (kind_of done) ≡ Op kind → kind_of done ≡ kind
 op_is done kind e = cc e
+
+module _ {K V T : Type 0} where
+  -- what was never shown was never answered
+  pub none_unsaid : (heard : List (Option (Stored K V) × Operation V T)) → HasNoNone heard → (o : Operation V T) → Member (None, o) heard → ⊥
+  none_unsaid [] none o member = member
+  none_unsaid ((None, done) ∷ before) none o member = none
+  none_unsaid ((Some p, done) ∷ before) none o (inl e) = let f : None ≡ Some p = ap (λ z. z.0) e in cc f
+  none_unsaid ((Some p, done) ∷ before) none o (inr member) = none_unsaid before none o member
+
+  -- what was shown once was answered in one way
+  pub inserted_once : (heard : List (Option (Stored K V) × Operation V T)) → IsNoneOnce heard → (v w : V) → Member (None, operation.Insert v) heard → Member (None, operation.Insert w) heard → v ≡ w
+  inserted_once [] once v w one other = absurd one
+  inserted_once ((None, done) ∷ before) once v w (inl e) (inl f) = let g : operation.Insert v ≡ operation.Insert w = ap (λ z. z.1) (e ∙ sym f) in cc g
+  inserted_once ((None, done) ∷ before) once v w (inr member) other = absurd (none_unsaid before once (operation.Insert v) member)
+  inserted_once ((None, done) ∷ before) once v w one (inr member) = absurd (none_unsaid before once (operation.Insert w) member)
+  inserted_once ((Some p, done) ∷ before) once v w (inl e) other = let f : None ≡ Some p = ap (λ z. z.0) e in absurd (cc f)
+  inserted_once ((Some p, done) ∷ before) once v w one (inl e) = let f : None ≡ Some p = ap (λ z. z.0) e in absurd (cc f)
+  inserted_once ((Some p, done) ∷ before) once v w (inr one) (inr other) = inserted_once before once v w one other
+
+-- a call that shows a pair, and has shown that there is none, remembers the pair that would fill
+filled_in : (made : Made) (hash : ℕ) (fill : Option ℕ) (stage : Stage) (n : ℕ) → calls.asks made hash stage ≡ ShowPair n → HasShownNone fill stage → IsFilled fill
+filled_in made hash fill (Offering gap) n e h = absurd h
+filled_in Nothing hash fill (Pairing purpose) n e h = absurd (cc e)
+filled_in Key hash fill (Pairing purpose) n e h = absurd (cc e)
+filled_in (Pair i) hash fill (Pairing purpose) n e h = absurd (cc e)
+filled_in made hash fill (Ended reply) n e h = absurd (cc e)
+filled_in made hash fill stage n e h = h
+
+filled_by : (fill : Option ℕ) → IsFilled fill → (n : ℕ) × (fill ≡ Some n)
+filled_by None h = absurd h
+filled_by (Some n) h = (n, refl)
+
+machine_filled : (m : Call_machine) (n : ℕ) → calls.ask_of m ≡ ShowPair n → HasShownNone m.remembered.fill m.state → (i : ℕ) × StandsOn m (Makes None i)
+machine_filled m n e shown = let fill = filled_by m.remembered.fill (filled_in m.made m.hash m.remembered.fill m.state n e shown) in (fill.0, inr (inl (ap said_to_fill fill.1)))
 
 -- what is shown has the number that was asked for
 module _ {K V : Type 0} (m : Call_machine) (held : Option (Stored K V)) (asks : calls.ask_of m ≡ show (number_of held)) where
@@ -146,19 +183,19 @@ module _ {K V S T H : Type 0} (key : K) (made : List (Stored K V)) (said : List 
       by_done operation.Remove (Some p) = inl refl
       by_done (operation.Abort t) (Some p) = inr refl
 
-module _ {K V S T H F : Type 0} (eq : K → K → Bool) (input : K → List (List ℕ)) (build : S → H) (write : H → List ℕ → H) (finish : H → ℕ) (classes : IsEquivalence eq) (respects : (x y : K) → eq x y ≡ true → input x ≡ input y)
-    (b : Begun K V S) (name : Book) (operates : F → Option (Stored K V) → Operation V T → F → Type 0) (key : K) (first : F) (begun : List (Event K V S)) where
+module _ {K V S H : Type 0} (eq : K → K → Bool) (input : K → List (List ℕ)) (build : S → H) (write : H → List ℕ → H) (finish : H → ℕ) (classes : IsEquivalence eq) (respects : (x y : K) → eq x y ≡ true → input x ≡ input y)
+    (b : Begun K V S) (name : Book) (key : K) (begun : List (Event K V S)) where
   abbrev hash : S → K → ℕ
   hash = hash_of input build write finish
 
   own : IsQuery eq input (eq key) (input key)
   own = own_query eq input build write finish classes respects b name key
 
-  abbrev Comp : List (Event K V S) → Computing K V S T H → F → Type 0
-  Comp log x f = IsComputing eq hash b name operates key first begun log x f
+  abbrev Comp : {T : Type 0} → List (Event K V S) → Computing K V S T H → List (Option (Stored K V) × Operation V T) → Type 0
+  Comp log x heard = IsComputing eq hash b name key begun log x heard
 
-  abbrev On : List (Event K V S) → Computing K V S T H → F → Option Answer → Type 0
-  On log x f answer = IsComputingOn eq hash b name operates key first begun log x f answer
+  abbrev On : {T : Type 0} → List (Event K V S) → Computing K V S T H → List (Option (Stored K V) × Operation V T) → Option Answer → Type 0
+  On log x heard answer = IsComputingOn eq hash b name key begun log x heard answer
 
   module _ (made : List (Stored K V)) (log : List (Event K V S)) (w : Writer K V S H) (r : IsWriting eq hash b name key made begun log w) (kind : OpKind) where
     abbrev w' : Machine
@@ -179,7 +216,7 @@ module _ {K V S T H F : Type 0} (eq : K → K → Bool) (input : K → List (Lis
     asked : (shown : Option ℕ) (value : Option V) → ask_of w.call.machine ≡ Call (show shown) → IsWriting eq hash b name key made begun log (record w { call = record w.call { machine = w' }; value = value })
     asked shown value asks = record { calling = called shown asks; keyed = r.keyed; put_placed = r.put_placed }
 
-  module _ (log : List (Event K V S)) (x : Computing K V S T H) (f : F) (r : Comp log x f) (standing : IsStanding x.writer.call.machine) (held : Option (Stored K V)) (done : Operation V T) (asks : ask_of x.writer.call.machine ≡ Call (show (number_of held))) where
+  module _ {T : Type 0} (log : List (Event K V S)) (x : Computing K V S T H) (heard : List (Option (Stored K V) × Operation V T)) (r : Comp log x heard) (standing : IsStanding x.writer.call.machine) (held : Option (Stored K V)) (done : Operation V T) (asks : ask_of x.writer.call.machine ≡ Call (show (number_of held))) where
     abbrev chain : Machine
     chain = x.writer.call.machine
 
@@ -208,7 +245,7 @@ module _ {K V S T H F : Type 0} (eq : K → K → Bool) (input : K → List (Lis
     order = own_order chain own_asks.0 (Op (kind_of done))
 
     abbrev HoldsNow : Said → Type 0
-    HoldsNow stands = Holds key r.made ((held, done) ∷ r.said) (shown_to key r.made r.said x held done) stands
+    HoldsNow stands = Holds key r.made ((held, done) ∷ heard) (shown_to key r.made heard x held done) stands
 
     unpaired : (stands : Said) → StandsOn m stands → (shown : Option ℕ) → stands ≡ Inserts shown → ⊥
     unpaired stands before shown e = machine_unpaired m shown (number_of held) own_asks.1 (subst (λ (s : Said). StandsOn m s) e before)
@@ -216,7 +253,7 @@ module _ {K V S T H F : Type 0} (eq : K → K → Bool) (input : K → List (Lis
     -- where the choice stays
     stood_same : chosen_after held done x.chosen ≡ x.chosen → (stands : Said) → StandsOn m' stands → HoldsNow stands
     stood_same same stands h =
-        ⊎_elim (λ before. still key r.made r.said x held done same stands (unpaired stands before) (r.stood stands before)) (now key r.made r.said x held done m own_asks.1 stands)
+        ⊎_elim (λ before. still key r.made heard x held done same stands (unpaired stands before) (r.stood stands before)) (now key r.made heard x held done m own_asks.1 stands)
         (machine_said m (Op (kind_of done)) stands standing.call r.words h)
 
     -- where the pair that was shown is to go
@@ -227,7 +264,7 @@ module _ {K V S T H F : Type 0} (eq : K → K → Bool) (input : K → List (Lis
         let is : done ≡ operation.Remove = removes done removes_it in
         ⊎_elim
         (λ s. subst HoldsNow (sym s) (p, (λ j. chosen_after (e j) (is j) x.chosen), refl, inl (λ j. (sym e j, sym is j))))
-        (λ k. subst HoldsNow (sym k.1) (fill_still key r.made r.said x held done k.0 (r.stood (Makes None k.0) (subst (λ (s : Said). StandsOn m s) k.1 k.2))))
+        (λ k. subst HoldsNow (sym k.1) (fill_still key r.made heard x held done k.0 (r.stood (Makes None k.0) (subst (λ (s : Said). StandsOn m s) k.1 k.2))))
         (machine_chosen m p.index stands r.task_is shows removed)
 
     -- what its machine stands on now is at hand
@@ -236,10 +273,10 @@ module _ {K V S T H F : Type 0} (eq : K → K → Bool) (input : K → List (Lis
     stood_by (Some p) e removes_it = stood_removed p e removes_it
 
     stood_now : (stands : Said) → StandsOn chain'.call stands → HoldsNow stands
-    stood_now stands h = ⊎_elim (stood_by held refl) stood_same (chosen_same key r.made r.said x held done) stands (subst (λ (z : Call_machine). StandsOn z stands) steps h)
+    stood_now stands h = ⊎_elim (stood_by held refl) stood_same (chosen_same key r.made heard x held done) stands (subst (λ (z : Call_machine). StandsOn z stands) steps h)
 
     -- whether it was shown that there is none, and how often
-    none_by : (o : Option (Stored K V)) → held ≡ o → (HasNoNone ((o, done) ∷ r.said) ⊎ HasShownNone chain'.call.remembered.fill chain'.call.state) × IsNoneOnce ((o, done) ∷ r.said)
+    none_by : (o : Option (Stored K V)) → held ≡ o → (HasNoNone ((o, done) ∷ heard) ⊎ HasShownNone chain'.call.remembered.fill chain'.call.state) × IsNoneOnce ((o, done) ∷ heard)
     none_by None e =
         let shows : ask_of chain ≡ Call ShowNone = asks ∙ ap (λ (o : Option (Stored K V)). Call (show (number_of o))) e in
         (inr (chain_offered chain (kind_of done) shows), ⊎_elim (λ never. never) (λ shown. absurd ((chain_once chain (answers.Call (Op (kind_of done))) order shown).0 shows)) r.none_shown)
@@ -259,23 +296,34 @@ module _ {K V S T H F : Type 0} (eq : K → K → Bool) (input : K → List (Lis
     chosen_in operation.Remove (Some q) p = p
     chosen_in (operation.Abort t) (Some q) p = r.chosen_placed
 
+    -- where it ends the call, the pair that would fill has the value of what it answered before to None
+    spared_now : (o : Option (Stored K V)) → held ≡ o → IsSpared x.fill heard
+    spared_now None e = λ v member. ⊎_elim (λ none. absurd (none_unsaid heard none (operation.Insert v) member)) (λ shown. absurd ((chain_once chain (answers.Call (Op (kind_of done))) order shown).0 (asks ∙ ap (λ (o : Option (Stored K V)). Call (show (number_of o))) e))) r.none_shown
+    spared_now (Some p) e = λ v member. ⊎_elim (λ none. absurd (none_unsaid heard none (operation.Insert v) member)) (λ shown. spared_in v member (machine_filled m p.index (own_asks.1 ∙ ap (λ (o : Option (Stored K V)). show (number_of o)) e) shown)) r.none_shown
+      where
+        spared_in : (v : V) → Member (None, operation.Insert v) heard → (n : ℕ) × StandsOn m (Makes None n) → (q : Stored K V) × (x.fill ≡ Some q) × (q.value.value ≡ v)
+        spared_in v member n = let h = r.stood (Makes None n.0) n.1 in (h.0, h.1, inserted_once heard r.none_once h.0.value.value v h.2.said_is member)
+
+    spared_by : (t : T) → done ≡ operation.Abort t → IsSpared x.fill ((held, done) ∷ heard)
+    spared_by t is v (inl e) = let f : operation.Insert v ≡ operation.Abort t = ap (λ z. z.1) e ∙ is in absurd (cc f)
+    spared_by t is v (inr member) = spared_now held refl v member
+
     -- it goes on, with what was said now
-    pub shows_on : (g : F) → operates f held done g → WasHeld eq (eq key) (history_of begun) (history_of log) held → IsPlaced b (Some name) (pair_named held) → On log (shown_to key r.made r.said x held done) g (Some (Op (kind_of done)))
-    shows_on g operated was placed = (
+    pub shows_on : WasHeld eq (eq key) (history_of begun) (history_of log) held → IsPlaced b (Some name) (pair_named held) → On log (shown_to key r.made heard x held done) ((held, done) ∷ heard) (Some (Op (kind_of done)))
+    shows_on was placed = (
       record {
         made = r.made;
         writing = asked r.made log x.writer r.writing (kind_of done) (number_of held) (value_after done x.writer.value) asks;
         task_is = (chain_task chain (answers.Call (Op (kind_of done))) order).0 ∙ r.task_is;
         words = chain_shows chain (answers.Call (Op (kind_of done))) order r.words;
         shown_placed = placed;
+        fill_placed = r.fill_placed;
         chosen_placed = chosen_in done held placed;
-        said = (held, done) ∷ r.said;
-        has_said = (f, r.has_said, operated);
         held = (was, r.held);
         none_once = (none_by held refl).1;
         none_shown = (none_by held refl).0;
         stood = stood_now;
-        aborts = λ with e. let s = own_aborted chain own_asks.0 (Op (kind_of done)) with (not_done (number_of held) asks) e in let a = aborts_with done with (op_is done (kinds.Abort with) s.2) in (a.0, a.2 x.aborted, (held, ap (λ (o : Operation V T). (held, o)) a.1));
+        aborts = λ with e. let s = own_aborted chain own_asks.0 (Op (kind_of done)) with (not_done (number_of held) asks) e in let a = aborts_with done with (op_is done (kinds.Abort with) s.2) in (a.0, a.2 x.aborted, ap (λ (o : Operation V T). (held, o)) a.1, spared_by a.0 a.1);
         refuses = λ cause e. ⊎_elim
             (λ h. absurd (cc h))
             (λ a. inr (a.0, (λ j. (none_asked m held own_asks.1 (call_asks chain ShowNone a.1).1 j, removes done (op_is done kinds.Remove a.2) j))))
@@ -285,7 +333,7 @@ module _ {K V S T H F : Type 0} (eq : K → K → Bool) (input : K → List (Lis
       tt,
     )
 
-  module _ (log : List (Event K V S)) (x : Computing K V S T H) (f : F) (r : Comp log x f) where
+  module _ {T : Type 0} (log : List (Event K V S)) (x : Computing K V S T H) (heard : List (Option (Stored K V) × Operation V T)) (r : Comp log x heard) where
     abbrev G : Setting (Option K) (Stored K V)
     G = Wide eq input build write finish classes respects b (eq key) (input key) own (Some key) name begun log
 
@@ -309,3 +357,13 @@ module _ {K V S T H F : Type 0} (eq : K → K → Bool) (input : K → List (Lis
         let shown = held.machine_shows G C hashed (exchanges_of begun) r.writing.calling.since (Some key) hands x.writer.call.machine.call r.writing.calling.rests.call n (call_asks x.writer.call.machine (ShowPair n) e).1 in
         let one : shown.0 ≡ p = cc (shown.1, last) in
         (was_held (Some p) (subst (λ (z : Stored K V). WasAtMoment G C (exchanges_of begun) r.writing.calling.since (Some key) (Some z)) one shown.4), ap (λ (z : Stored K V). z.index) (sym one) ∙ shown.2)
+
+    -- what it is to show was the map's, and lies in the logs
+    pub shown_held : (held : Option (Stored K V)) → IsToShow x held → WasHeld eq (eq key) (history_of begun) (history_of log) held × IsPlaced b (Some name) (pair_named held)
+    shown_held None h = (none_held h.0, tt)
+    shown_held (Some p) h = ((pair_held p.index h.0 p h.1).0, subst (λ (o : Option (Stored K V)). IsPlaced b (Some name) (pair_named o)) h.1 r.writing.calling.last_placed)
+
+-- showing something exchanges no slot
+pub show_idle : {K V S H : Type 0} {d : keyed.Ghosts S K H} (m : Machine) (held : Option (Stored K V)) → ask_of m ≡ Call (show (number_of held)) → (answer : Answer) (w : Window K V S H d) → Answers (calls.ask_of m.call) (Some answer) w w
+show_idle m None e answer w = idle ShowNone _ (sym (call_asks m ShowNone e).1) tt (Some answer) w w refl
+show_idle m (Some p) e answer w = idle (ShowPair p.index) _ (sym (call_asks m (ShowPair p.index) e).1) tt (Some answer) w w refl

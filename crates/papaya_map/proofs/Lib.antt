@@ -5,3 +5,5 @@ pub mod ComputeShows
 pub mod ComputePairs
 pub mod ComputePuts
 pub mod ComputeReplies
+pub mod DoneBy
+pub mod Ruled

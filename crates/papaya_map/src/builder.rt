@@ -1,13 +1,17 @@
 //! The builder of a map, which asks for its parts one by one.
-ghost use Rattle.std.specs.Prelude.{◌≡◌, IfErr, IfOk};
+ghost use Rattle.std.specs.Prelude.{◌≡◌, [], IfErr, IfOk};
 ghost use Rattle.std.specs.Arc.{arc_value};
 ghost use Rattle.papaya_words.specs.declared.limits.TheConstants.{DEFAULT_CHUNK, DEFAULT_SHARDS};
-ghost use Rattle.papaya_keys.specs.Sizes.{IsAllowed};
+ghost use Rattle.papaya_keys.specs.Sizes.{IsAllowed, IsSizeRefusal};
+ghost use Rattle.papaya_timeline.specs.Content.{content};
+ghost use Rattle.papaya_timeline.specs.New.{IsNew};
+ghost use Rattle.papaya_seq.specs.Map.{core_of};
 ghost use Rattle.papaya_map.specs.Asked.{IsMapRefusal};
 ghost use Rattle.papaya_map.specs.Fixed.{IsFor};
 
 use crate::map::HashMap;
 use papaya_keys::guard::Collector;
+use papaya_seq::seq;
 use papaya_words::limits::DEFAULT_SHARDS;
 use papaya_words::probe::{Refused, ResizeMode};
 use std::alloc::Global;
@@ -181,6 +185,25 @@ impl<K: Hash + Eq + Drop, V: Drop, S: BuildHasher + Drop> HashMapBuilder<K, V, S
             pairs: _,
         } = self;
         HashMap::with_collector(rt, alloc, mode, capacity, shards, hasher, collector)
+    }
+
+    /// A map of the same parts for one caller, which has no need of a collector; 0.2.5 has none such.
+    /// Refused as [`seq::HashMap::with_parts`].
+    pub fn build_seq(self, alloc: Global) -> Result<seq::HashMap<K, V, S>, Refused>
+        ensures ok { IfOk result (λ map. IsAllowed self.mode self.capacity self.shards
+            × IsNew {A = Unit {0}} self.mode self.capacity self.shards self.hasher
+            (core_of map)) }
+        ensures empty { IfOk result (λ map. content K.eq map.store ≡ []) }
+        ensures err { IfErr result (IsSizeRefusal self.mode self.capacity self.shards) }
+    {
+        let HashMapBuilder {
+            hasher,
+            capacity,
+            mode,
+            shards,
+            ..
+        } = self;
+        seq::HashMap::with_parts(alloc, mode, capacity, shards, hasher)
     }
 }
 

@@ -2,18 +2,22 @@
 ghost use Rattle.papaya_lookup.specs.Drivers.{own, past};
 ghost use Rattle.papaya_lookup.specs.History.{Makes};
 ghost use Rattle.papaya_book.specs.Windows.{Does, IsLawful, Sees};
-ghost use Rattle.papaya_map.specs.Computes.{CanCompute, Computes, Replies};
-ghost use Rattle.std.specs.Prelude.{◌≡◌, ◌⊎◌, ℕ, Bool, None, Some, Option, Ok, Err, IfErr};
+ghost use Rattle.papaya_book.specs.Books.{IsIn};
+ghost use Rattle.papaya_book.specs.Logs.{pair_named};
+ghost use Rattle.papaya_change.specs.Helping.{HasHelped};
+ghost use Rattle.papaya_map.specs.Computes.{CanCompute, CanTake, Computes, Hears, IsBegun, Replies, Takes, Turns};
+ghost use Rattle.std.specs.Prelude.{◌≡◌, ◌⊎◌, ℕ, Bool, false, None, Some, Option, Ok, Err, IfErr, option_map};
 ghost use Rattle.std.specs.Int.{IsPowerOfTwo};
 ghost use Rattle.papaya_call.specs.Machine.{IsFitAsk, ask_of as call_ask_of};
-ghost use Rattle.papaya_chain.specs.Machine.{IsStanding, ask_of, kind_of_ask};
+ghost use Rattle.papaya_chain.specs.Machine.{IsStanding, after, ask_of, kind_of_ask};
+ghost use Rattle.papaya_chain.specs.declared.ask.Answer.TheVariants.{Call as Told};
 ghost use Rattle.papaya_chain.specs.declared.ask.Ask.TheVariants.{Call};
 ghost use Rattle.papaya_chain.specs.declared.machine.Phase.TheVariants.{Calling};
 ghost use Rattle.papaya_ask.specs.declared.ask.StepKind.TheVariants.{Claim, Replace};
-ghost use Rattle.papaya_ask.specs.declared.call.Reply.TheVariants.{Inserted, Removed, Replaced, Refused as ReplyRefused};
-ghost use Rattle.papaya_ask.specs.declared.ask.Ask.TheVariants.{Done, Exchange, MakePair, ShowNone, ShowPair};
+ghost use Rattle.papaya_ask.specs.declared.call.Reply.TheVariants.{Aborted, Inserted, Removed, Replaced, Refused as ReplyRefused};
+ghost use Rattle.papaya_ask.specs.declared.ask.Ask.TheVariants.{Done, Exchange, MakePair, ShowPair};
 ghost use Rattle.papaya_ask.specs.declared.ask.At.TheVariants.{Slot};
-ghost use Rattle.papaya_map.specs.Computing.{IsKept, IsWriters, chosen_after, pair_for};
+ghost use Rattle.papaya_map.specs.Computing.{IsKept, IsToShow, IsWriters, chosen_after, pair_for, value_in};
 ghost use Rattle.papaya_map.specs.ComputeAnswers.{IsComputeBy, changes};
 ghost use Rattle.papaya_change.specs.Doing.{Answers, has_changed, was_made};
 ghost use Rattle.papaya_book.specs.Limits.{HasNoRoom, tables_of};
@@ -22,7 +26,7 @@ ghost use Rattle.papaya_change.specs.Showings.{Operates};
 use papaya_ask::ask::{Answer, Ask as CallAsk, At, OpKind, StepKind};
 use papaya_ask::call::{Reply, Task};
 use papaya_book::book::Book;
-use papaya_book::count::Shard;
+use papaya_book::count::{Count, Shard};
 use papaya_book::rule::entry::Stored;
 use papaya_book::rule::own::{Given, Own};
 use papaya_book::window::Window;
@@ -52,6 +56,17 @@ pub struct Computing<'a, K: Hash + Eq, V, S: BuildHasher, T> {
     aborted: Option<T>,
 }
 
+/// What a compute does next.
+#[derive(Drop)]
+pub enum Turn<K, V> {
+    /// Its machine asked for something, and is answered so.
+    Answered(Answer),
+    /// Its closure is to be shown this pair, or that there is none.
+    Shows(Option<Stored<K, V>>),
+    /// It has replied.
+    Replied,
+}
+
 /// What a closure is shown where there is no pair: a pair would be borrowed like the book.
 fn no_entry<K: Hash + Eq, V, S: BuildHasher>(_book: &Book<K, V, S>) -> Option<(&K, &V)>
     ensures { result ≡ None }
@@ -61,15 +76,16 @@ fn no_entry<K: Hash + Eq, V, S: BuildHasher>(_book: &Book<K, V, S>) -> Option<(&
 
 /// The pair of which it was answered that it is to go, or the one of before.
 fn chosen_after<K, V, T>(
-    shown: &Stored<K, V>,
+    shown: &Option<Stored<K, V>>,
     operation: &Operation<V, T>,
     before: Option<Stored<K, V>>,
 ) -> Option<Stored<K, V>>
-    ensures { result ≡ chosen_after (Some shown.now) operation.now before }
+    ensures { result ≡ chosen_after shown.now operation.now before }
 {
-    match operation {
-        Operation::Remove => Some(shown.again()),
-        Operation::Insert(_) | Operation::Abort(_) => before,
+    match (shown, operation) {
+        (Some(pair), Operation::Remove) => Some(pair.again()),
+        (None, Operation::Remove) => before,
+        (_, Operation::Insert(_) | Operation::Abort(_)) => before,
     }
 }
 
@@ -107,67 +123,102 @@ impl<'a, K: Hash + Eq + Drop, V: Drop, S: BuildHasher, T: Drop> Computing<'a, K,
         }
     }
 
-    /// Shows the closure that the key is absent.
-    fn show_none<F: FnMut(Option<(&'a K, &'a V)>) -> Operation<V, T>>(
-        &mut self,
-        compute: &mut F,
-        window: &Window<'a, K, V, S>,
-    ) -> Answer
-        requires callable { F.IsAlwaysCallable compute.old }
-        requires can { CanCompute (Operates F.FnMut) window.now self.old compute.old }
-        requires standing { IsStanding self.old.writer.call.machine }
-        requires asks { ask_of self.old.writer.call.machine ≡ Call ShowNone }
-        ensures machine { self.new.writer.call.machine ≡ self.old.writer.call.machine }
-        ensures callable { F.IsAlwaysCallable compute.new }
-        ensures computes { Computes (Operates F.FnMut) window.now self.old compute.old window.now
-            self.new compute.new (Some result) }
+    /// A compute that begins.
+    pub fn new(window: &Window<'a, K, V, S>, initial: usize, key: K) -> Computing<'a, K, V, S, T>
+        requires lawful { IsLawful window.now }
+        requires initial { IsPowerOfTwo initial }
+        ensures standing { IsStanding result.writer.call.machine }
+        ensures calling { result.writer.call.machine.phase ≡ Calling }
+        ensures initial { result.writer.call.machine.call.initial ≡ initial }
+        ensures unchanged { has_changed result.writer.call.machine ≡ false }
+        ensures begins { IsBegun window.now key result }
     {
-        let operation = compute(no_entry(window.book));
-        self.shown = None;
-        self.keep(operation)
+        let book = window.book;
+        let hash = hash(&book.parts.hasher, &key);
+        Computing {
+            writer: Writer {
+                call: Driver::new(Task::Compute, hash, book.parts.mode, initial),
+                key: Some(key),
+                brought: None,
+                value: None,
+            },
+            shown: None,
+            fill: None,
+            chosen: None,
+            made: None,
+            aborted: None,
+        }
     }
 
-    /// Calls the closure with the pair last loaded.
-    fn show_pair<F: FnMut(Option<(&'a K, &'a V)>) -> Operation<V, T>>(
-        &mut self,
-        compute: &mut F,
-        window: &Window<'a, K, V, S>,
-    ) -> Answer
-        requires callable { F.IsAlwaysCallable compute.old }
-        requires can { CanCompute (Operates F.FnMut) window.now self.old compute.old }
-        requires standing { IsStanding self.old.writer.call.machine }
-        requires asks { (n : ℕ) × (ask_of self.old.writer.call.machine ≡ Call (ShowPair n)) }
-        ensures machine { self.new.writer.call.machine ≡ self.old.writer.call.machine }
-        ensures callable { F.IsAlwaysCallable compute.new }
-        ensures computes { Computes (Operates F.FnMut) window.now self.old compute.old window.now
-            self.new compute.new (Some result) }
+    /// The pair that the closure is to be shown: the one last loaded.
+    fn to_show(&self, window: &Window<'a, K, V, S>) -> Stored<K, V>
+        requires can { CanCompute window.now self.now }
+        requires asks { (n : ℕ) × (ask_of self.now.writer.call.machine ≡ Call (ShowPair n)) }
+        ensures asks { ask_of self.now.writer.call.machine ≡ Call (ShowPair result.index) }
+        ensures last { self.now.writer.call.last ≡ Some result }
     {
+        let _ = window;
         let Some(last) = &self.writer.call.last else {
             unreachable!()
         };
-        let shown = last.again();
-        let book = window.book;
-        let operation = compute(Some(entry(book, &shown)));
+        last.again()
+    }
+
+    /// The closure was shown this, and answered so.
+    pub fn hear(
+        &mut self,
+        shown: Option<Stored<K, V>>,
+        operation: Operation<V, T>,
+        window: &Window<'a, K, V, S>,
+    ) -> Answer
+        requires can { CanCompute window.now self.old }
+        requires standing { IsStanding self.old.writer.call.machine }
+        requires shows { IsToShow self.old shown }
+        ensures machine { self.new.writer.call.machine ≡ self.old.writer.call.machine }
+        ensures answers { Answers (call_ask_of self.old.writer.call.machine.call) (Some result)
+            window.now window.now }
+        ensures hears { Hears window.now self.old shown operation self.new result }
+    {
+        let _ = window;
         self.chosen = chosen_after(&shown, &operation, self.chosen.take());
-        self.shown = Some(shown);
+        self.shown = shown;
         self.keep(operation)
     }
 
-    /// Logs a pair of the key and of the value that the closure answered last.
-    fn make_pair<R: Wait, F: FnMut(Option<(&'a K, &'a V)>) -> Operation<V, T>>(
+    /// Tells its machine an answer, and copies where the call is set aside for that.
+    pub fn tell<R: Wait>(
         &mut self,
         rt: &R,
-        compute: &F,
-        window: &Window<'a, K, V, S>,
-    ) -> Answer
-        requires can { CanCompute (Operates F.FnMut) window.now self.old compute.now }
+        alloc: Global,
+        count: &Count,
+        answer: Answer,
+        window: &mut Window<'a, K, V, S>,
+    )
+        requires standing { IsStanding self.old.writer.call.machine }
+        requires can { CanTake window.old self.old answer }
+        ensures sees { Sees window.old window.new }
+        ensures standing { IsStanding self.new.writer.call.machine }
+        ensures calling { self.new.writer.call.machine.phase ≡ Calling }
+        ensures helped { HasHelped (after self.old.writer.call.machine (Told answer))
+            self.new.writer.call.machine (tables_of window.new.sight.log)
+            self.new.writer.call.given.done }
+        ensures own { window.new.own ≡ window.old.own }
+        ensures still { (after self.old.writer.call.machine (Told answer)).phase ≡ Calling
+            → window.new ≡ window.old }
+        ensures takes { Takes window.old self.old answer window.new self.new }
+    {
+        self.writer.call.answer(answer);
+        self.writer.call.help(rt, alloc, count, window);
+    }
+
+    /// Logs a pair of the key and of the value that the closure answered last.
+    fn make_pair<R: Wait>(&mut self, rt: &R, window: &Window<'a, K, V, S>) -> Answer
+        requires can { CanCompute window.now self.old }
         requires standing { IsStanding self.old.writer.call.machine }
         requires asks { ask_of self.old.writer.call.machine ≡ Call MakePair }
         ensures machine { self.new.writer.call.machine ≡ self.old.writer.call.machine }
-        ensures computes { Computes (Operates F.FnMut) window.now self.old compute.now window.now
-            self.new compute.now (Some result) }
+        ensures computes { Computes window.now self.old window.now self.new (Some result) }
     {
-        let _ = compute;
         let pair = match self.writer.log_pair(rt, window) {
             Ok(pair) => pair,
             Err(answer) => return answer,
@@ -183,15 +234,14 @@ impl<'a, K: Hash + Eq + Drop, V: Drop, S: BuildHasher, T: Drop> Computing<'a, K,
     }
 
     /// Tries to put the pair into a slot that was made for it.
-    fn put<F: FnMut(Option<(&'a K, &'a V)>) -> Operation<V, T>>(
+    fn put(
         &mut self,
         number: u64,
         place: usize,
         words: (u64, u64),
-        compute: &F,
         window: &mut Window<'a, K, V, S>,
     ) -> Answer
-        requires can { CanCompute (Operates F.FnMut) window.old self.old compute.now }
+        requires can { CanCompute window.old self.old }
         requires standing { IsStanding self.old.writer.call.machine }
         requires asks { ask_of self.old.writer.call.machine ≡ Call (Exchange
             (Slot number place) words.0 words.1) }
@@ -200,10 +250,8 @@ impl<'a, K: Hash + Eq + Drop, V: Drop, S: BuildHasher, T: Drop> Computing<'a, K,
         ensures sees { Sees window.old window.new }
         ensures does { Does (was_made result) window.old window.new }
         ensures machine { self.new.writer.call.machine ≡ self.old.writer.call.machine }
-        ensures computes { Computes (Operates F.FnMut) window.old self.old compute.now window.new
-            self.new compute.now (Some result) }
+        ensures computes { Computes window.old self.old window.new self.new (Some result) }
     {
-        let _ = compute;
         let kind = self.writer.call.machine.kind();
         let Some(pair) = pair_for(kind, &self.fill, &self.made) else {
             unreachable!()
@@ -212,50 +260,45 @@ impl<'a, K: Hash + Eq + Drop, V: Drop, S: BuildHasher, T: Drop> Computing<'a, K,
     }
 
     /// Tries an exchange of a slot.
-    fn exchange<F: FnMut(Option<(&'a K, &'a V)>) -> Operation<V, T>>(
+    fn exchange(
         &mut self,
         number: u64,
         place: usize,
         words: (u64, u64),
-        compute: &F,
         window: &mut Window<'a, K, V, S>,
     ) -> Answer
-        requires can { CanCompute (Operates F.FnMut) window.old self.old compute.now }
+        requires can { CanCompute window.old self.old }
         requires standing { IsStanding self.old.writer.call.machine }
         requires asks { ask_of self.old.writer.call.machine ≡ Call (Exchange
             (Slot number place) words.0 words.1) }
         ensures sees { Sees window.old window.new }
         ensures does { Does (was_made result) window.old window.new }
         ensures machine { self.new.writer.call.machine ≡ self.old.writer.call.machine }
-        ensures computes { Computes (Operates F.FnMut) window.old self.old compute.now window.new
-            self.new compute.now (Some result) }
+        ensures computes { Computes window.old self.old window.new self.new (Some result) }
     {
         match self.writer.call.machine.kind() {
             Some(StepKind::Bury) => self.writer.bury(number, place, words, window),
-            _ => self.put(number, place, words, compute, window),
+            _ => self.put(number, place, words, window),
         }
     }
 
     /// The answer to an ask that any call makes which inserts.
-    fn write<R: Wait, F: FnMut(Option<(&'a K, &'a V)>) -> Operation<V, T>>(
+    fn write<R: Wait>(
         &mut self,
         rt: &R,
         alloc: Global,
         ask: CallAsk,
-        compute: &F,
         window: &mut Window<'a, K, V, S>,
     ) -> Answer
-        requires can { CanCompute (Operates F.FnMut) window.old self.old compute.now }
+        requires can { CanCompute window.old self.old }
         requires standing { IsStanding self.old.writer.call.machine }
         requires asks { (ask_of self.old.writer.call.machine ≡ Call ask) × IsWriters ask }
         requires fit { IsFitAsk ask }
         ensures sees { Sees window.old window.new }
         ensures own { window.new.own ≡ window.old.own }
         ensures machine { self.new.writer.call.machine ≡ self.old.writer.call.machine }
-        ensures computes { Computes (Operates F.FnMut) window.old self.old compute.now window.new
-            self.new compute.now (Some result) }
+        ensures computes { Computes window.old self.old window.new self.new (Some result) }
     {
-        let _ = compute;
         match ask {
             CallAsk::Load(at) => self.writer.load(at, window),
             CallAsk::SizeOf(_) => self.writer.size(window),
@@ -269,60 +312,49 @@ impl<'a, K: Hash + Eq + Drop, V: Drop, S: BuildHasher, T: Drop> Computing<'a, K,
         }
     }
 
-    /// The answer to what the machine asks. None where it has replied.
-    fn answer<R: Wait, F: FnMut(Option<(&'a K, &'a V)>) -> Operation<V, T>>(
+    /// What it does next: the machine is answered, but for what only the closure can.
+    pub fn turn<R: Wait>(
         &mut self,
         rt: &R,
         alloc: Global,
         shard: &Shard<'_>,
-        compute: &mut F,
         window: &mut Window<'a, K, V, S>,
-    ) -> Option<Answer>
-        requires callable { F.IsAlwaysCallable compute.old }
-        requires can { CanCompute (Operates F.FnMut) window.old self.old compute.old }
+    ) -> Turn<K, V>
+        requires can { CanCompute window.old self.old }
         requires standing { IsStanding self.old.writer.call.machine }
         requires calling { self.old.writer.call.machine.phase ≡ Calling }
         ensures sees { Sees window.old window.new }
-        ensures answers { Answers (call_ask_of self.old.writer.call.machine.call) result window.old
-            window.new }
         ensures machine { self.new.writer.call.machine ≡ self.old.writer.call.machine }
-        ensures callable { F.IsAlwaysCallable compute.new }
-        ensures computes { Computes (Operates F.FnMut) window.old self.old compute.old window.new
-            self.new compute.new result }
+        ensures turns { Turns window.old self.old window.new self.new result }
     {
         let Ask::Call(ask) = self.writer.call.machine.ask() else {
             unreachable!()
         };
         match ask {
-            CallAsk::ShowNone => Some(self.show_none(compute, window)),
-            CallAsk::ShowPair(_) => Some(self.show_pair(compute, window)),
-            CallAsk::MakePair => Some(self.make_pair(rt, compute, window)),
+            CallAsk::ShowNone => Turn::Shows(None),
+            CallAsk::ShowPair(_) => Turn::Shows(Some(self.to_show(window))),
+            CallAsk::MakePair => Turn::Answered(self.make_pair(rt, window)),
             CallAsk::Exchange(At::Slot(number, place), old, new) => {
-                Some(self.exchange(number, place, (old, new), compute, window))
+                Turn::Answered(self.exchange(number, place, (old, new), window))
             }
             CallAsk::AddToShard(by) => {
                 shard.add(by);
-                Some(Answer::Ok)
+                Turn::Answered(Answer::Ok)
             }
-            CallAsk::Done(_) => None,
-            _ => Some(self.write(rt, alloc, ask, compute, window)),
+            CallAsk::Done(_) => Turn::Replied,
+            _ => Turn::Answered(self.write(rt, alloc, ask, window)),
         }
     }
 
     /// What it answers where it put a pair in.
-    fn inserted<F: FnMut(Option<(&'a K, &'a V)>) -> Operation<V, T>>(
-        &self,
-        compute: &F,
-        window: &Window<'a, K, V, S>,
-    ) -> Compute<'a, K, V, T>
+    fn inserted(&self, window: &Window<'a, K, V, S>) -> Compute<'a, K, V, T>
         requires standing { IsStanding self.now.writer.call.machine }
-        requires can { CanCompute (Operates F.FnMut) window.now self.now compute.now }
+        requires can { CanCompute window.now self.now }
         requires done { (n : ℕ) × (ask_of self.now.writer.call.machine
             ≡ Call (Done (Inserted n))) }
         ensures changed { changes (Ok result) ≡ has_changed self.now.writer.call.machine }
-        ensures replies { Replies (Operates F.FnMut) window.now self.now compute.now (Ok result) }
+        ensures replies { Replies window.now self.now (Ok result) }
     {
-        let _ = compute;
         let book = window.book;
         match (&self.fill, &self.writer.call.put) {
             (Some(fill), Some(put)) => {
@@ -335,19 +367,14 @@ impl<'a, K: Hash + Eq + Drop, V: Drop, S: BuildHasher, T: Drop> Computing<'a, K,
     }
 
     /// What it answers where a pair took the place of another.
-    fn updated<F: FnMut(Option<(&'a K, &'a V)>) -> Operation<V, T>>(
-        &self,
-        compute: &F,
-        window: &Window<'a, K, V, S>,
-    ) -> Compute<'a, K, V, T>
+    fn updated(&self, window: &Window<'a, K, V, S>) -> Compute<'a, K, V, T>
         requires standing { IsStanding self.now.writer.call.machine }
-        requires can { CanCompute (Operates F.FnMut) window.now self.now compute.now }
+        requires can { CanCompute window.now self.now }
         requires done { (m : ℕ) × (n : ℕ) × (ask_of self.now.writer.call.machine
             ≡ Call (Done (Replaced m n))) }
         ensures changed { changes (Ok result) ≡ has_changed self.now.writer.call.machine }
-        ensures replies { Replies (Operates F.FnMut) window.now self.now compute.now (Ok result) }
+        ensures replies { Replies window.now self.now (Ok result) }
     {
-        let _ = compute;
         let (Some(chosen), Some(taken)) = (&self.chosen, &self.writer.call.taken) else {
             unreachable!()
         };
@@ -364,19 +391,14 @@ impl<'a, K: Hash + Eq + Drop, V: Drop, S: BuildHasher, T: Drop> Computing<'a, K,
     }
 
     /// What it answers where it took a pair out.
-    fn removed<F: FnMut(Option<(&'a K, &'a V)>) -> Operation<V, T>>(
-        &self,
-        compute: &F,
-        window: &Window<'a, K, V, S>,
-    ) -> Compute<'a, K, V, T>
+    fn removed(&self, window: &Window<'a, K, V, S>) -> Compute<'a, K, V, T>
         requires standing { IsStanding self.now.writer.call.machine }
-        requires can { CanCompute (Operates F.FnMut) window.now self.now compute.now }
+        requires can { CanCompute window.now self.now }
         requires done { (n : ℕ) × (ask_of self.now.writer.call.machine
             ≡ Call (Done (Removed n))) }
         ensures changed { changes (Ok result) ≡ has_changed self.now.writer.call.machine }
-        ensures replies { Replies (Operates F.FnMut) window.now self.now compute.now (Ok result) }
+        ensures replies { Replies window.now self.now (Ok result) }
     {
-        let _ = compute;
         let book = window.book;
         match (&self.chosen, &self.writer.call.taken) {
             (Some(chosen), Some(taken)) => {
@@ -388,26 +410,33 @@ impl<'a, K: Hash + Eq + Drop, V: Drop, S: BuildHasher, T: Drop> Computing<'a, K,
         }
     }
 
+    /// The value that its closure was shown last, and that of the pair that would fill.
+    pub fn left(&self, window: &Window<'a, K, V, S>) -> (Option<&'a V>, Option<&'a V>)
+        requires can { CanCompute window.now self.now }
+        ensures current { option_map (λ v. v.now) result.0 ≡ value_in self.now.shown }
+        ensures spare { option_map (λ v. v.now) result.1 ≡ value_in self.now.fill }
+    {
+        let book = window.book;
+        (value_in(book, &self.shown), value_in(book, &self.fill))
+    }
+
     /// What the compute answers that has replied.
-    fn replied<F: FnMut(Option<(&'a K, &'a V)>) -> Operation<V, T>>(
-        &mut self,
-        compute: &F,
-        window: &Window<'a, K, V, S>,
-    ) -> Result<Compute<'a, K, V, T>, Refused>
+    pub fn replied(&mut self, window: &Window<'a, K, V, S>) -> Result<Compute<'a, K, V, T>, Refused>
         requires standing { IsStanding self.old.writer.call.machine }
-        requires can { CanCompute (Operates F.FnMut) window.now self.old compute.now }
+        requires can { CanCompute window.now self.old }
         requires done { (reply : _) × (ask_of self.old.writer.call.machine
             ≡ Call (Done reply)) }
         ensures refusal { IfErr result (λ refused. ask_of self.old.writer.call.machine ≡ Call (Done
             (ReplyRefused refused))) }
         ensures changed { changes result ≡ has_changed self.old.writer.call.machine }
-        ensures replies { Replies (Operates F.FnMut) window.now self.old compute.now result }
+        ensures aborted { (with : T) → result ≡ Ok (Compute.Aborted with) → (n : ℕ)
+            × (ask_of self.old.writer.call.machine ≡ Call (Done (Aborted n))) }
+        ensures replies { Replies window.now self.old result }
     {
-        let _ = compute;
         match self.writer.call.machine.ask() {
-            Ask::Call(CallAsk::Done(Reply::Inserted(_))) => Ok(self.inserted(compute, window)),
-            Ask::Call(CallAsk::Done(Reply::Replaced { .. })) => Ok(self.updated(compute, window)),
-            Ask::Call(CallAsk::Done(Reply::Removed(_))) => Ok(self.removed(compute, window)),
+            Ask::Call(CallAsk::Done(Reply::Inserted(_))) => Ok(self.inserted(window)),
+            Ask::Call(CallAsk::Done(Reply::Replaced { .. })) => Ok(self.updated(window)),
+            Ask::Call(CallAsk::Done(Reply::Removed(_))) => Ok(self.removed(window)),
             Ask::Call(CallAsk::Done(Reply::Aborted(_))) => match self.aborted.take() {
                 Some(with) => Ok(Compute::Aborted(with)),
                 None => unreachable!(),
@@ -415,6 +444,40 @@ impl<'a, K: Hash + Eq + Drop, V: Drop, S: BuildHasher, T: Drop> Computing<'a, K,
             Ask::Call(CallAsk::Done(Reply::Refused(refused))) => Err(refused),
             _ => unreachable!(),
         }
+    }
+}
+
+/// The value of a pair, if there is one.
+fn value_in<'a, K: Hash + Eq, V, S: BuildHasher>(
+    book: &'a Book<K, V, S>,
+    pair: &Option<Stored<K, V>>,
+) -> Option<&'a V>
+    requires { IsIn book.now (pair_named pair.now) }
+    ensures { option_map (λ v. v.now) result ≡ value_in pair.now }
+{
+    match pair {
+        Some(pair) => Some(entry(book, pair).1),
+        None => None,
+    }
+}
+
+/// What the closure answers that is shown this pair, or that there is none.
+fn operate<
+    'a,
+    K: Hash + Eq,
+    V,
+    S: BuildHasher,
+    T,
+    F: FnMut(Option<(&'a K, &'a V)>) -> Operation<V, T>,
+>(book: &'a Book<K, V, S>, shown: &Option<Stored<K, V>>, f: &mut F) -> Operation<V, T>
+    requires callable { F.IsAlwaysCallable f.old }
+    requires placed { IsIn book.now (pair_named shown.now) }
+    ensures callable { F.IsAlwaysCallable f.new }
+    ensures operates { Operates F.FnMut f.old shown.now result f.new }
+{
+    match shown {
+        None => f(no_entry(book)),
+        Some(pair) => f(Some(entry(book, pair))),
     }
 }
 
@@ -451,29 +514,18 @@ pub fn compute<
 {
     window.learn();
     let book = window.book;
-    let hash = hash(&book.parts.hasher, &key);
-    let mut computing: Computing<'a, K, V, S, T> = Computing {
-        writer: Writer {
-            call: Driver::new(Task::Compute, hash, book.parts.mode, initial),
-            key: Some(key),
-            brought: None,
-            value: None,
-        },
-        shown: None,
-        fill: None,
-        chosen: None,
-        made: None,
-        aborted: None,
-    };
+    let mut computing: Computing<'a, K, V, S, T> = Computing::new(window, initial, key);
     for _ in rt.forever() {
-        match computing.answer(rt, alloc, shard, &mut f, window) {
-            Some(answer) => {
-                computing.writer.call.answer(answer);
-                computing.writer.call.help(rt, alloc, shard.count(), window);
+        match computing.turn(rt, alloc, shard, window) {
+            Turn::Answered(answer) => computing.tell(rt, alloc, shard.count(), answer, window),
+            Turn::Shows(shown) => {
+                let operation = operate(book, &shown, &mut f);
+                let answer = computing.hear(shown, operation, window);
+                computing.tell(rt, alloc, shard.count(), answer, window);
             }
-            None => {
+            Turn::Replied => {
                 *given = computing.writer.call.given.again();
-                return computing.replied(&f, window);
+                return computing.replied(window);
             }
         }
     }

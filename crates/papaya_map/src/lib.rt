@@ -8,7 +8,12 @@
 
 pub mod builder;
 mod computing;
+mod deciding;
 pub mod guarded;
+pub mod inserting;
 pub mod map;
 pub mod plain;
 pub mod resizing;
+mod rules;
+pub mod sweeps;
+pub mod updating;

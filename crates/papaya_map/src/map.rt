@@ -10,15 +10,18 @@ ghost use Rattle.papaya_map.specs.Powers.{IsPowerOfTwo-prop};
 ghost use Rattle.papaya_book.specs.Parts.{begun_of};
 ghost use Rattle.papaya_book.specs.Limits.{HasNoRoom, tables_of};
 ghost use Rattle.papaya_change.specs.Changes.{IsPut};
-ghost use Rattle.papaya_change.specs.Resizing.{HasNoRoomAhead};
+ghost use Rattle.papaya_change.specs.Resizing.{HasNoRoomAhead, HasRoomAhead};
 ghost use Rattle.papaya_change.specs.Writing.{IsMemoryOrCapacity};
 ghost use Rattle.papaya_map.specs.ComputeAnswers.{IsComputeBy, changes};
+ghost use Rattle.papaya_map.specs.Deciding.{IsDecided};
 ghost use Rattle.papaya_lookup.specs.History.{IsLegalHistory, Makes, Past, changes_by, history_of, key_of};
 ghost use Rattle.papaya_lookup.specs.Answers.{IsAnsweredBetween};
 ghost use Rattle.papaya_change.specs.RemovalAnswers.{IsRemovalBy, IsRemoved, took, went};
 ghost use Rattle.papaya_change.specs.Showings.{Judges, Operates};
+ghost use Rattle.papaya_sweep.specs.Meeting.{HasShown};
 
 use crate::computing::compute;
+use crate::deciding::{Outcome, Rule, decide};
 use papaya_book::book::Book;
 use papaya_book::book::kept::KeptRoot;
 use papaya_book::book::parts::Parts;
@@ -36,6 +39,9 @@ use papaya_keys::compute::Compute;
 use papaya_keys::guard::{Collector, Equivalent, Guard};
 use papaya_keys::sizes::{check_chunk, initial_len};
 use papaya_lookup::lookup::look_up;
+use papaya_sweep::retain::retain;
+use papaya_sweep::root::take_root;
+use papaya_sweep::walk::Iter;
 use papaya_words::limits::DEFAULT_SHARDS;
 use papaya_words::probe::{Refused, ResizeMode};
 use std::alloc::Global;
@@ -363,8 +369,9 @@ impl<'a, K: Hash + Eq, V, S: BuildHasher> HashMapRef<'a, K, V, S> {
     }
 
     /// Makes room for so many pairs more than the map counts: `reserve` of 0.2.5. Where it is not
-    /// refused, and no other call changes the map meanwhile, the map's table has slots for them
-    /// afterwards. Calls of others go on as before.
+    /// refused, the pass has seen a table with slots for them beside as many pairs as were counted,
+    /// and where no other call changes the map meanwhile, that is its table. Calls of others go on as
+    /// before.
     ///
     /// `Refused::Memory` where a growth was refused. `Refused::Capacity` where the log of tables is
     /// full, or a table would be longer than [`papaya_words::limits::MAX_TABLE_LEN`]: that for so many
@@ -381,6 +388,8 @@ impl<'a, K: Hash + Eq, V, S: BuildHasher> HashMapRef<'a, K, V, S> {
         ensures seen { IsPrefix pass.old.history pass.new.history }
         ensures tables { IsPrefix pass.old.tables pass.new.tables }
         ensures made { pass.new.made ≡ pass.old.made }
+        ensures room { IfOk result (λ _. HasRoomAhead additional pass.new.tables
+            pass.new.given) }
         ensures refused { IfErr result (λ refused. IsMemoryOrCapacity refused) }
         ensures crowded { result ≡ Err Refused.Capacity → HasNoRoomAhead self.now.initial
             additional pass.new.tables pass.new.given }
@@ -401,6 +410,78 @@ impl<'a, K: Hash + Eq, V, S: BuildHasher> HashMapRef<'a, K, V, S> {
         pass.own = window.own;
         pass.given = given;
         reserved
+    }
+
+    /// Takes out the pairs that the closure, which is shown each, says are not to stay.
+    pub(crate) fn retain_as<R: Wait, F: FnMut(&K, &V) -> bool>(
+        &self,
+        rt: &R,
+        stays: F,
+        pass: &mut Pass<K, V, S>,
+    ) -> Result<(), Refused>
+        requires book { pass.old.book ≡ self.now.book }
+        requires callable { F.IsAlwaysCallable stays }
+        ensures book { pass.new.book ≡ pass.old.book }
+        ensures shown { (left : _) × HasShown K.eq pass.old.history pass.new.history
+            (Judges F.FnMut) stays left }
+        ensures refused { IfErr result (λ refused. IsMemoryOrCapacity refused) }
+    {
+        let map: &'a HashMap<K, V, S> = self.map;
+        let shard = map.count.shard(pass.number);
+        let mut window = Window::new(&map.book, &self.kept, &pass.sight, &pass.own);
+        let mut given = Own::nothing();
+        let retained = retain(
+            rt,
+            map.alloc,
+            map.initial,
+            &shard,
+            &mut window,
+            &mut given,
+            stays,
+        );
+        pass.sight = window.sight;
+        pass.own = window.own;
+        pass.given = given;
+        retained
+    }
+
+    /// The pairs of the map, one by one: `iter` of 0.2.5. Each that is given the map had in a history
+    /// that begins with what the pass had seen.
+    ///
+    /// With `Blocking` it takes the root as it is. Else it copies first what is left to copy, and may
+    /// be refused a table then: `Refused::Memory` where a growth was refused, and `Refused::Capacity`
+    /// where there is no room. A pair that is stored or removed meanwhile may be given or not.
+    pub fn iter_as<R: Wait>(
+        &self,
+        rt: &R,
+        pass: &mut Pass<K, V, S>,
+    ) -> Result<Iter<'a, K, V, S>, Refused>
+        requires { pass.old.book ≡ self.now.book }
+        ensures book { pass.new.book ≡ pass.old.book }
+        ensures seen { IsPrefix pass.old.history pass.new.history }
+        ensures made { pass.new.made ≡ pass.old.made }
+        ensures began { IfOk result (λ pairs. (pairs.began ≡ pass.old.history)
+            × (pairs.history ≡ pass.new.history)) }
+        ensures refused { IfErr result (λ refused. IsMemoryOrCapacity refused) }
+    {
+        let map: &'a HashMap<K, V, S> = self.map;
+        let began = pass.sight.again();
+        let mut window = Window::new(&map.book, &self.kept, &pass.sight, &pass.own);
+        let mut given = Own::nothing();
+        let taken = take_root(
+            rt,
+            map.alloc,
+            map.initial,
+            &map.count,
+            &mut window,
+            &mut given,
+        );
+        pass.sight = window.sight.again();
+        pass.given = given;
+        match taken {
+            Ok(root) => Ok(Iter::over(&map.book, &self.kept, began, window.sight, root)),
+            Err(refused) => Err(refused),
+        }
     }
 
     /// Removes a key's pair if the closure, which is shown it, answers true: `remove_if` of 0.2.5.
@@ -583,5 +664,27 @@ impl<'a, K: Hash + Eq + Drop, V: Drop, S: BuildHasher> HashMapRef<'a, K, V, S> {
         pass.own = window.own;
         pass.given = given;
         computed
+    }
+
+    /// Stores for the key what the rule answers. It is refused as [`HashMapRef::insert_as`] is.
+    pub(crate) fn decide_as<R: Wait, D: Rule<V>>(
+        &self,
+        rt: &R,
+        key: K,
+        rule: &mut D,
+        pass: &mut Pass<K, V, S>,
+    ) -> Result<Outcome<'a, V>, Refused>
+        requires book { pass.old.book ≡ self.now.book }
+        requires callable { D.callable rule.old }
+        ensures decided { IsDecided K.eq key pass.old.history pass.new.history D.decides rule.old
+            rule.new result }
+    {
+        let map: &'a HashMap<K, V, S> = self.map;
+        let shard = map.count.shard(pass.number);
+        let mut window = Window::new(&map.book, &self.kept, &pass.sight, &pass.own);
+        let decided = decide(rt, map.alloc, map.initial, &shard, &mut window, key, rule);
+        pass.sight = window.sight;
+        pass.own = window.own;
+        decided
     }
 }

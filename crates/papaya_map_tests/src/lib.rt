@@ -28,6 +28,10 @@ mod removals;
 #[cfg(test)]
 mod room;
 #[cfg(test)]
+mod storing;
+#[cfg(test)]
+mod sweeps;
+#[cfg(test)]
 mod texts;
 #[cfg(test)]
 mod threads;

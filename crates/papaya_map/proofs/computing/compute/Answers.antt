@@ -1,118 +1,98 @@
-use Rattle.std.proofs.Common.{◌≡◌, Some, refl, sym, ap, ◌∙◌, subst}
-use Rattle.std.specs.Prelude.{IfErr}
+use Rattle.std.proofs.Common.{◌≡◌, [], ◌∷◌, refl, sym, ap, ◌∙◌, subst}
+use Rattle.std.specs.Prelude.{Bool, IfErr}
 use Rattle.papaya_ask.specs.declared.ask.Ask.TheVariants.{Done}
 use Rattle.papaya_ask.specs.declared.call.Reply.TheVariants.{Refused}
-use Rattle.papaya_ask.specs.declared.call.Task.TheVariants.{Compute}
-use Rattle.papaya_chain.specs.declared.ask.Answer.TheVariants as answers
 use Rattle.papaya_chain.specs.declared.ask.Ask.TheVariants.{Call}
 use Rattle.papaya_chain.specs.declared.machine.Machine.{Machine}
-use Rattle.papaya_chain.specs.Machine.{after, ask_of, started}
-use Rattle.papaya_book.specs.Hashes.{hash_of}
+use Rattle.papaya_chain.specs.declared.ask.Answer.TheVariants as answers
+use Rattle.papaya_chain.specs.Machine.{after, ask_of}
 use Rattle.papaya_book.specs.Limits.{HasNoRoom, tables_of}
-use Rattle.papaya_book.specs.Parts.{begun_of}
 use Rattle.papaya_book.specs.Windows.{Does}
-use denote.Bor.{Bor}
-use Rattle.papaya_book.specs.declared.book.Book.{Book as BookOf}
-use Rattle.papaya_change.specs.declared.driver.Driver.{Driver}
-use Rattle.papaya_change.specs.Changing.{IsDriven}
 use Rattle.papaya_change.specs.Doing.{has_changed}
 use Rattle.papaya_change.specs.Showings.{Operates}
-use Rattle.papaya_change.proofs.Changing.{form}
 use Rattle.papaya_change.proofs.Doing.{does_on, does_still, idles, makes}
 use Rattle.papaya_change.proofs.Helped.{helped_does, helped_keeps}
 use Rattle.papaya_change.proofs.OwnSteps.{own_settings}
-use Rattle.papaya_change.proofs.Written.{own_query}
-use Rattle.papaya_change.specs.Writing.{answered as answered_writer}
-use Rattle.papaya_map.specs.Computing.{IsComputing}
-use Rattle.papaya_map.proofs.ComputeHelped.{computing_helped}
-use Rattle.papaya_map.proofs.ComputeReplies.{begins, compute_since}
 use Rattle.papaya_lookup.proofs.Histories.{history_since}
 use Rattle.papaya_book.proofs.Windows.{sees_trans}
+use Rattle.papaya_map.proofs.ComputeReplies.{computed_by}
 use Rattle.papaya_map.proofs.computing.compute.Goals as goal
 
-pub new-requires-clause-chunked : goal.new-requires-clause-chunked
-new-requires-clause-chunked g c = c.learn.new.self.book.now.chunked
-
 pub loop-init : goal.loop-init
-loop-init g c =
-    let w = c.learn.new.self.book.now in let log = c.learn.new.self.sight.log in
-    let machine = c.new.ensures.machine ∙ ap (λ h. started Compute h w.parts.mode c.args.initial) c.hash-hash.ensures in (
-      (
-        log,
-        c.learn.ensures.sees.log,
-        begins g.K.PartialEq.eq (hash_of g.K.Hash.hash_input g.S.BuildHasher.build_hasher g.S.Hasher.Hasher.write g.S.Hasher.Hasher.finish) (begun_of w.parts) w.begun.book (Operates g.F.FnMut) c.args.key c.args.f log _ c.learn.ensures.lawful w.chunked c.args.initial machine c.new.ensures.table c.new.ensures.pairs refl refl refl refl,
-      ),
-      c.new.ensures.standing,
-      ap (λ (m : Machine). m.phase) machine,
-      ap (λ (m : Machine). m.call.initial) machine,
-      c.learn.ensures.sees,
-      c.requires.callable,
-      subst (λ (m : Machine). Does (has_changed m) c.args.window.now c.learn.new.self) (sym machine) (idles c.args.window.now c.learn.new.self c.learn.ensures.own),
+loop-init g c = (
+  ([], (c.learn.new.self.sight.log, c.learn.ensures.sees.log, c.new-computing.ensures.begins), refl),
+  c.new-computing.ensures.standing,
+  c.new-computing.ensures.calling,
+  c.new-computing.ensures.initial,
+  c.learn.ensures.sees,
+  c.requires.callable,
+  subst (λ (changed : Bool). Does changed c.args.window.now c.learn.new.self) (sym c.new-computing.ensures.unchanged) (idles c.args.window.now c.learn.new.self c.learn.ensures.own),
+)
+
+pub tell-requires-clause-can : goal.tell-requires-clause-can
+tell-requires-clause-can g c = let u = c.loop.invariant.0 in (c.args.key, u.1.0, u.0, rw c.turn.ensures.sees.book (c.in-Answered.ensures.turns.0 c.args.key u.1.0 u.0 u.1.2))
+
+pub loop-preserved-in-Answered : goal.loop-preserved-in-Answered
+loop-preserved-in-Answered g c =
+    let u = c.loop.invariant.0 in let on = c.in-Answered.ensures.turns.0 c.args.key u.1.0 u.0 u.1.2 in
+    let m = c.loop.computing.writer.call.machine in let then = c.tell.new.self.writer.call in let answer = c.in-Answered.answer in
+    let same : after c.turn.new.self.writer.call.machine (answers.Call answer) ≡ after m (answers.Call answer) = ap (λ (z : Machine). after z (answers.Call answer)) c.turn.ensures.machine in
+    let does = does_on m c.loop.invariant.2 answer c.args.window.now c.loop.window c.turn.new.window c.loop.invariant.6 c.in-Answered.ensures.turns.1 in
+    let does_call = subst (λ (z : Machine). Does (has_changed z) c.args.window.now c.turn.new.window) (sym same) does in (
+      (u.0, (u.1.0, u.1.1, rw c.tell.ensures.sees.book (c.tell.ensures.takes c.args.key u.1.0 u.0 (rw c.turn.ensures.sees.book on))), u.2),
+      c.tell.ensures.standing,
+      c.tell.ensures.calling,
+      (helped_keeps (after c.turn.new.self.writer.call.machine (answers.Call answer)) then.machine (tables_of c.tell.new.window.sight.log) then.given.done c.tell.ensures.helped).initial ∙ (ap (λ (z : Machine). z.call.initial) same ∙ ((own_settings m c.loop.invariant.2 answer).0 ∙ c.loop.invariant.3)),
+      sees_trans _ _ _ (sees_trans _ _ _ c.loop.invariant.4 c.turn.ensures.sees) c.tell.ensures.sees,
+      c.loop.invariant.5,
+      helped_does (after c.turn.new.self.writer.call.machine (answers.Call answer)) then.machine (tables_of c.tell.new.window.sight.log) then.given.done c.tell.ensures.calling c.tell.ensures.helped c.args.window.now c.turn.new.window c.tell.new.window c.tell.ensures.still c.tell.ensures.own does_call,
     )
 
-pub answer-requires-in-Some-answer-clause-fit : goal.answer-requires-in-Some-answer-clause-fit
-answer-requires-in-Some-answer-clause-fit g c = let u = c.loop.invariant.0 in (c.in-Some-answer.ensures.computes c.args.key c.args.f u.0 u.2).1
-
-pub help-requires-clause-can : goal.help-requires-clause-can
-help-requires-clause-can g c =
-    let u = c.loop.invariant.0 in let key = c.args.key in let w = c.answer.new.window.book.now in let b = begun_of w.parts in
-    let r = (c.in-Some-answer.ensures.computes key c.args.f u.0 u.2).0 in
-    let on = subst (λ (z : Driver _ _ _ _). IsDriven g.K.PartialEq.eq (hash_of g.K.Hash.hash_input g.S.BuildHasher.build_hasher g.S.Hasher.Hasher.write g.S.Hasher.Hasher.finish) b w.begun.book (g.K.PartialEq.eq key) ((hash_of g.K.Hash.hash_input g.S.BuildHasher.build_hasher g.S.Hasher.Hasher.write g.S.Hasher.Hasher.finish) b.hasher key) (Some key) u.0 c.answer.new.window.sight.log r.made z) (sym c.answer-in-Some-answer.ensures.after)
-    (subst (λ (z : Bor (BookOf _ _ _ _)). IsDriven g.K.PartialEq.eq (hash_of g.K.Hash.hash_input g.S.BuildHasher.build_hasher g.S.Hasher.Hasher.write g.S.Hasher.Hasher.finish) (begun_of z.now.parts) z.now.begun.book (g.K.PartialEq.eq key) ((hash_of g.K.Hash.hash_input g.S.BuildHasher.build_hasher g.S.Hasher.Hasher.write g.S.Hasher.Hasher.finish) (begun_of z.now.parts).hasher key) (Some key) u.0 c.answer.new.window.sight.log r.made (answered_writer c.answer.new.self.writer c.in-Some-answer.answer).call) (sym c.answer.ensures.sees.book) r.writing.calling) in
-    let query = own_query g.K.PartialEq.eq g.K.Hash.hash_input g.S.BuildHasher.build_hasher g.S.Hasher.Hasher.write g.S.Hasher.Hasher.finish g.met.K.Eq.laws g.met.K.Hash.respects_eq b w.begun.book key in (
-      g.K.PartialEq.eq key,
-      (hash_of g.K.Hash.hash_input g.S.BuildHasher.build_hasher g.S.Hasher.Hasher.write g.S.Hasher.Hasher.finish) b.hasher key,
-      form g.K.PartialEq.eq g.K.Hash.hash_input g.S.BuildHasher.build_hasher g.S.Hasher.Hasher.write g.S.Hasher.Hasher.finish g.met.K.Eq.laws g.met.K.Hash.respects_eq b (g.K.PartialEq.eq key) (g.K.Hash.hash_input key) query (Some key) w.begun.book u.0,
-      Some key,
-      u.0,
-      r.made,
-      on,
-    )
+pub tell-requires-in-Shows-clause-can : goal.tell-requires-in-Shows-clause-can
+tell-requires-in-Shows-clause-can g c = let u = c.loop.invariant.0 in let same = c.in-Shows.ensures.turns in (c.args.key, u.1.0, (c.in-Shows.shown, c.operate-operation.result) ∷ u.0, c.hear-answer.ensures.hears c.args.key u.1.0 u.0 (rw (same.1, same.2) u.1.2))
 
 pub loop-preserved : goal.loop-preserved
 loop-preserved g c =
-    let u = c.loop.invariant.0 in let key = c.args.key in let w = c.answer.new.window.book.now in let b = begun_of w.parts in
-    let answer = c.in-Some-answer.answer in let m = c.loop.computing.writer.call.machine in let call = c.answer-in-Some-answer.new.self in let then = c.help.new.self in let log = c.help.new.window.sight.log in
-    let x = record c.answer.new.self { writer = record c.answer.new.self.writer { call = call } } in
-    let on = subst (λ (z : Driver _ _ _ _). IsComputing g.K.PartialEq.eq (hash_of g.K.Hash.hash_input g.S.BuildHasher.build_hasher g.S.Hasher.Hasher.write g.S.Hasher.Hasher.finish) b w.begun.book (Operates g.F.FnMut) key c.args.f u.0 c.answer.new.window.sight.log (record c.answer.new.self { writer = record c.answer.new.self.writer { call = z } }) c.answer.new.compute) (sym c.answer-in-Some-answer.ensures.after)
-    (subst (λ (z : Bor (BookOf _ _ _ _)). IsComputing g.K.PartialEq.eq (hash_of g.K.Hash.hash_input g.S.BuildHasher.build_hasher g.S.Hasher.Hasher.write g.S.Hasher.Hasher.finish) (begun_of z.now.parts) z.now.begun.book (Operates g.F.FnMut) key c.args.f u.0 c.answer.new.window.sight.log (record c.answer.new.self { writer = answered_writer c.answer.new.self.writer answer }) c.answer.new.compute) (sym c.answer.ensures.sees.book) (c.in-Some-answer.ensures.computes key c.args.f u.0 u.2).0) in
-    let query = own_query g.K.PartialEq.eq g.K.Hash.hash_input g.S.BuildHasher.build_hasher g.S.Hasher.Hasher.write g.S.Hasher.Hasher.finish g.met.K.Eq.laws g.met.K.Hash.respects_eq b w.begun.book key in
-    let driven = c.help.ensures.goes_on (g.K.PartialEq.eq key) ((hash_of g.K.Hash.hash_input g.S.BuildHasher.build_hasher g.S.Hasher.Hasher.write g.S.Hasher.Hasher.finish) b.hasher key) (form g.K.PartialEq.eq g.K.Hash.hash_input g.S.BuildHasher.build_hasher g.S.Hasher.Hasher.write g.S.Hasher.Hasher.finish g.met.K.Eq.laws g.met.K.Hash.respects_eq b (g.K.PartialEq.eq key) (g.K.Hash.hash_input key) query (Some key) w.begun.book u.0) (Some key) u.0 on.made on.writing.calling in
-    let went = computing_helped g.K.PartialEq.eq (hash_of g.K.Hash.hash_input g.S.BuildHasher.build_hasher g.S.Hasher.Hasher.write g.S.Hasher.Hasher.finish) b w.begun.book (Operates g.F.FnMut) key c.args.f u.0 c.answer.new.window.sight.log log c.help.ensures.sees.log x c.answer.new.compute on then driven c.help.ensures.rest.1 c.help.ensures.calling (λ e. (c.help.ensures.still e).0) c.help.ensures.helped in
-    let same : call.machine ≡ after m (answers.Call answer) = ap (λ (z : Driver _ _ _ _). z.machine) c.answer-in-Some-answer.ensures.after ∙ ap (λ (z : Machine). after z (answers.Call answer)) c.answer.ensures.machine in
-    let does = does_on m c.loop.invariant.2 answer c.args.window.now c.loop.window c.answer.new.window c.loop.invariant.6 c.in-Some-answer.ensures.answers in
-    let does_call = subst (λ (z : Machine). Does (has_changed z) c.args.window.now c.answer.new.window) (sym same) does in (
-      (u.0, u.1, subst (λ (z : Bor (BookOf _ _ _ _)). IsComputing g.K.PartialEq.eq (hash_of g.K.Hash.hash_input g.S.BuildHasher.build_hasher g.S.Hasher.Hasher.write g.S.Hasher.Hasher.finish) (begun_of z.now.parts) z.now.begun.book (Operates g.F.FnMut) key c.args.f u.0 log (record x { writer = record x.writer { call = then } }) c.answer.new.compute) (sym c.help.ensures.sees.book) went),
-      c.help.ensures.standing,
-      c.help.ensures.calling,
-      (helped_keeps call.machine then.machine (tables_of log) then.given.done c.help.ensures.helped).initial ∙ (ap (λ (z : Machine). z.call.initial) same ∙ ((own_settings m c.loop.invariant.2 answer).0 ∙ c.loop.invariant.3)),
-      sees_trans _ _ _ (sees_trans _ _ _ c.loop.invariant.4 c.answer.ensures.sees) c.help.ensures.sees,
-      c.answer.ensures.callable,
-      helped_does call.machine then.machine (tables_of log) then.given.done c.help.ensures.calling c.help.ensures.helped c.args.window.now c.answer.new.window c.help.new.window (λ e. (c.help.ensures.still e).1) c.help.ensures.own does_call,
+    let u = c.loop.invariant.0 in let same = c.in-Shows.ensures.turns in
+    let heard = (c.in-Shows.shown, c.operate-operation.result) ∷ u.0 in
+    let on = c.hear-answer.ensures.hears c.args.key u.1.0 u.0 (rw (same.1, same.2) u.1.2) in
+    let m = c.loop.computing.writer.call.machine in let then = c.tell-in-Shows.new.self.writer.call in let answer = c.hear-answer.result in
+    let is : c.hear-answer.new.self.writer.call.machine ≡ m = c.hear-answer.ensures.machine ∙ c.turn.ensures.machine in
+    let led : after c.hear-answer.new.self.writer.call.machine (answers.Call answer) ≡ after m (answers.Call answer) = ap (λ (z : Machine). after z (answers.Call answer)) is in
+    let does = does_on m c.loop.invariant.2 answer c.args.window.now c.loop.window c.turn.new.window c.loop.invariant.6 (rw (sym same.1, sym same.2) c.hear-answer.ensures.answers) in
+    let does_call = subst (λ (z : Machine). Does (has_changed z) c.args.window.now c.turn.new.window) (sym led) does in (
+      (heard, (u.1.0, u.1.1, rw c.tell-in-Shows.ensures.sees.book (c.tell-in-Shows.ensures.takes c.args.key u.1.0 heard on)), (c.loop.f, u.2, c.operate-operation.ensures.operates)),
+      c.tell-in-Shows.ensures.standing,
+      c.tell-in-Shows.ensures.calling,
+      (helped_keeps (after c.hear-answer.new.self.writer.call.machine (answers.Call answer)) then.machine (tables_of c.tell-in-Shows.new.window.sight.log) then.given.done c.tell-in-Shows.ensures.helped).initial ∙ (ap (λ (z : Machine). z.call.initial) led ∙ ((own_settings m c.loop.invariant.2 answer).0 ∙ c.loop.invariant.3)),
+      sees_trans _ _ _ (sees_trans _ _ _ c.loop.invariant.4 c.turn.ensures.sees) c.tell-in-Shows.ensures.sees,
+      c.operate-operation.ensures.callable,
+      helped_does (after c.hear-answer.new.self.writer.call.machine (answers.Call answer)) then.machine (tables_of c.tell-in-Shows.new.window.sight.log) then.given.done c.tell-in-Shows.ensures.calling c.tell-in-Shows.ensures.helped c.args.window.now c.turn.new.window c.tell-in-Shows.new.window c.tell-in-Shows.ensures.still c.tell-in-Shows.ensures.own does_call,
     )
 
-pub replied-requires : goal.replied-requires
-replied-requires g c =
-    let u = c.loop.invariant.0 in let on = c.in-None-answer.ensures.computes c.args.key c.args.f u.0 u.2 in
-    λ k. ((refl, tt), (rw c.answer.ensures.machine c.loop.invariant.1, (rw c.answer.ensures.sees.book (c.args.key, c.args.f, u.0, on.0), on.1)))
+pub replied-requires-clause-can : goal.replied-requires-clause-can
+replied-requires-clause-can g c = let u = c.loop.invariant.0 in rw c.turn.ensures.sees.book (c.args.key, u.1.0, u.0, (c.in-Replied.ensures.turns.0 c.args.key u.1.0 u.0 u.1.2).0)
 
-pub returns-in-None-answer-clause-lawful : goal.returns-in-None-answer-clause-lawful
-returns-in-None-answer-clause-lawful g c = let u = c.loop.invariant.0 in rw c.answer.ensures.sees.book (c.in-None-answer.ensures.computes c.args.key c.args.f u.0 u.2).0.writing.calling.lawful
+pub replied-requires-clause-done : goal.replied-requires-clause-done
+replied-requires-clause-done g c = let u = c.loop.invariant.0 in (c.in-Replied.ensures.turns.0 c.args.key u.1.0 u.0 u.1.2).1
 
-pub returns-in-None-answer-clause-computed : goal.returns-in-None-answer-clause-computed
-returns-in-None-answer-clause-computed g c =
-    let u = c.loop.invariant.0 in let r = (c.in-None-answer.ensures.computes c.args.key c.args.f u.0 u.2).0 in
-    compute_since g.K.PartialEq.eq c.args.key _ _ _ (history_since c.args.window.now.sight.log u.0 u.1) (Operates g.F.FnMut) c.args.f c.replied.result (c.replied.ensures.replies c.args.key c.args.f u.0 (rw c.answer.ensures.sees.book r))
+pub returns-in-Replied-clause-lawful : goal.returns-in-Replied-clause-lawful
+returns-in-Replied-clause-lawful g c = let u = c.loop.invariant.0 in rw c.turn.ensures.sees.book (c.in-Replied.ensures.turns.0 c.args.key u.1.0 u.0 u.1.2).0.writing.calling.lawful
 
-pub returns-in-None-answer-clause-made : goal.returns-in-None-answer-clause-made
-returns-in-None-answer-clause-made g c =
-    let u = c.loop.invariant.0 in let r = (c.in-None-answer.ensures.computes c.args.key c.args.f u.0 u.2).0 in let call = c.answer.new.self.writer.call in
-    let does = does_still c.loop.computing.writer.call.machine c.args.window.now c.loop.window c.answer.new.window c.loop.invariant.6 c.in-None-answer.ensures.answers in
-    rw c.replied.ensures.changed (makes g.K.PartialEq.eq u.0 call.taken call.put call.machine c.args.window.now c.answer.new.window r.writing.calling.changed (rw c.answer.ensures.machine does))
+pub returns-in-Replied-clause-computed : goal.returns-in-Replied-clause-computed
+returns-in-Replied-clause-computed g c =
+    let u = c.loop.invariant.0 in let r = (c.in-Replied.ensures.turns.0 c.args.key u.1.0 u.0 u.1.2).0 in
+    computed_by g.K.PartialEq.eq c.args.key _ _ _ (history_since c.args.window.now.sight.log u.1.0 u.1.1) (Operates g.F.FnMut) c.args.f c.loop.f u.0 u.2 c.replied.result (c.replied.ensures.replies c.args.key u.1.0 u.0 (rw c.turn.ensures.sees.book r))
 
-pub returns-in-None-answer-clause-crowded : goal.returns-in-None-answer-clause-crowded
-returns-in-None-answer-clause-crowded g c = λ e.
-    let u = c.loop.invariant.0 in let r = (c.in-None-answer.ensures.computes c.args.key c.args.f u.0 u.2).0 in
-    let refused = subst (λ (z : _). IfErr z (λ cause. ask_of c.answer.new.self.writer.call.machine ≡ Call (Done (Refused cause)))) e c.replied.ensures.refusal in
-    let initial : c.answer.new.self.writer.call.machine.call.initial ≡ c.args.initial = ap (λ (z : Machine). z.call.initial) c.answer.ensures.machine ∙ c.loop.invariant.3 in
-    rw c.again.ensures (subst (λ n. HasNoRoom n (tables_of c.answer.new.window.sight.log) c.answer.new.self.writer.call.given.done) initial (r.crowded refused))
+pub returns-in-Replied-clause-made : goal.returns-in-Replied-clause-made
+returns-in-Replied-clause-made g c =
+    let u = c.loop.invariant.0 in let r = (c.in-Replied.ensures.turns.0 c.args.key u.1.0 u.0 u.1.2).0 in let call = c.turn.new.self.writer.call in
+    let does = does_still c.loop.computing.writer.call.machine c.args.window.now c.loop.window c.turn.new.window c.loop.invariant.6 c.in-Replied.ensures.turns.1 in
+    rw c.replied.ensures.changed (makes g.K.PartialEq.eq u.1.0 call.taken call.put call.machine c.args.window.now c.turn.new.window r.writing.calling.changed (rw c.turn.ensures.machine does))
+
+pub returns-in-Replied-clause-crowded : goal.returns-in-Replied-clause-crowded
+returns-in-Replied-clause-crowded g c = λ e.
+    let u = c.loop.invariant.0 in let r = (c.in-Replied.ensures.turns.0 c.args.key u.1.0 u.0 u.1.2).0 in
+    let refused = subst (λ (z : _). IfErr z (λ cause. ask_of c.turn.new.self.writer.call.machine ≡ Call (Done (Refused cause)))) e c.replied.ensures.refusal in
+    let initial : c.turn.new.self.writer.call.machine.call.initial ≡ c.args.initial = ap (λ (z : Machine). z.call.initial) c.turn.ensures.machine ∙ c.loop.invariant.3 in
+    rw c.again.ensures (subst (λ n. HasNoRoom n (tables_of c.turn.new.window.sight.log) c.turn.new.self.writer.call.given.done) initial (r.crowded refused))

@@ -7,13 +7,13 @@ use Rattle.papaya_book.specs.Hashes.{hash_of}
 use Rattle.papaya_book.specs.Parts.{begun_of}
 use Rattle.papaya_book.specs.Windows.{Does, Sees}
 use Rattle.papaya_change.specs.Doing.{has_changed}
-use Rattle.papaya_change.specs.Showings.{Operates}
+use Rattle.papaya_change.specs.Showings.{HasSaid, Operates}
 use Rattle.papaya_map.proofs.computing.compute.Given as goal
 
--- the compute rests on what is seen by now, and asks for itself
+-- the compute rests on what is seen by now and on what its closure said, and asks for itself
 abbrev pub invariant-loop : goal.invariant-loop
 invariant-loop g l =
-    IsUnderWay g.K.PartialEq.eq (hash_of g.K.Hash.hash_input g.S.BuildHasher.build_hasher g.S.Hasher.Hasher.write g.S.Hasher.Hasher.finish) (begun_of l.window.book.now.parts) l.window.book.now.begun.book (Operates g.F.FnMut) l.fn.key l.fn.f l.fn.window.sight.log l.window.sight.log l.computing l.f
+    ((heard : _) × IsUnderWay g.K.PartialEq.eq (hash_of g.K.Hash.hash_input g.S.BuildHasher.build_hasher g.S.Hasher.Hasher.write g.S.Hasher.Hasher.finish) (begun_of l.window.book.now.parts) l.window.book.now.begun.book l.fn.key l.fn.window.sight.log l.window.sight.log l.computing heard × HasSaid (Operates g.F.FnMut) l.fn.f heard l.f)
     × IsStanding l.computing.writer.call.machine
     × (l.computing.writer.call.machine.phase ≡ Calling)
     × (l.computing.writer.call.machine.call.initial ≡ l.fn.initial)

@@ -1,0 +1,260 @@
+//! The calls that store a value where a key has none, pinned and with a guard.
+ghost use Rattle.std.specs.Prelude.{◌≡◌, ◌⊎◌, [], None, Some, Option, Err, IfErr, IfOk, MatchOption};
+ghost use Rattle.papaya_keys.specs.declared.occupied.NotInserted.TheVariants.{Logged, Value};
+ghost use Rattle.papaya_change.specs.Writing.{IsMemoryOrCapacity};
+ghost use Rattle.papaya_map.specs.Plain.{IsOfHistory};
+ghost use Rattle.papaya_map.specs.Storing.{IsThere, IsTried, IsTriedWith};
+
+use crate::deciding::Outcome;
+use crate::map::{HashMap, HashMapRef, Pass};
+use crate::rules::{Giving, Made, Ready};
+use papaya_keys::guard::Guard;
+use papaya_keys::occupied::{NotInserted, OccupiedError};
+use papaya_words::probe::Refused;
+use std::hash::{BuildHasher, Hash};
+use std::sync::Wait;
+
+/// What became of a value that was not inserted: it is still at hand, or it was logged.
+fn not_inserted<V>(supply: Option<Ready<V>>, spare: Option<&V>) -> NotInserted<'_, V>
+    requires { supply ≡ None → MatchOption spare ⊥ (λ r. Unit {0}) }
+    ensures { MatchOption supply (MatchOption spare.entry ⊥ (λ r. result ≡ Logged r))
+        (λ s. result ≡ Value s.value) }
+{
+    match (supply, spare) {
+        (Some(supply), _) => NotInserted::Value(supply.value),
+        (None, Some(logged)) => NotInserted::Logged(logged),
+        (None, None) => unreachable!(),
+    }
+}
+
+impl<'a, K: Hash + Eq + Drop, V: Drop, S: BuildHasher> HashMapRef<'a, K, V, S> {
+    /// [`HashMapRef::try_insert`] by a pass.
+    fn try_insert_as<R: Wait>(
+        &self,
+        rt: &R,
+        key: K,
+        value: V,
+        pass: &mut Pass<K, V, S>,
+    ) -> Result<Result<&'a V, OccupiedError<'a, V>>, Refused>
+        requires { pass.old.book ≡ self.now.book }
+        ensures tried { IfOk result (IsTried K.eq key pass.old.history pass.new.history value) }
+        ensures refused { IfErr result IsMemoryOrCapacity }
+    {
+        let mut rule = Giving {
+            supply: Some(Ready { value }),
+        };
+        match self.decide_as(rt, key, &mut rule, pass) {
+            Ok(Outcome::Put(stored)) => Ok(Ok(stored)),
+            Ok(
+                Outcome::Left {
+                    current: Some(current),
+                    spare,
+                },
+            ) => Ok(Err(OccupiedError {
+                current,
+                not_inserted: not_inserted(rule.supply, spare),
+            })),
+            Ok(Outcome::Left { current: None, .. }) => unreachable!(),
+            Ok(Outcome::Replaced(_)) => unreachable!(),
+            Err(refused) => Err(refused),
+        }
+    }
+
+    /// [`HashMapRef::try_insert_with`] by a pass.
+    fn try_insert_with_as<R: Wait, F: FnOnce() -> V + Drop>(
+        &self,
+        rt: &R,
+        key: K,
+        f: F,
+        pass: &mut Pass<K, V, S>,
+    ) -> Result<Result<&'a V, &'a V>, Refused>
+        requires book { pass.old.book ≡ self.now.book }
+        requires callable { F.IsAlwaysCallable f }
+        ensures tried { IfOk result (IsTriedWith K.eq key pass.old.history pass.new.history
+            (F.post f)) }
+        ensures refused { IfErr result IsMemoryOrCapacity }
+    {
+        let mut rule = Giving {
+            supply: Some(Made { make: f }),
+        };
+        match self.decide_as(rt, key, &mut rule, pass) {
+            Ok(Outcome::Put(stored)) => Ok(Ok(stored)),
+            Ok(
+                Outcome::Left {
+                    current: Some(current),
+                    ..
+                },
+            ) => Ok(Err(current)),
+            Ok(Outcome::Left { current: None, .. }) => unreachable!(),
+            Ok(Outcome::Replaced(_)) => unreachable!(),
+            Err(refused) => Err(refused),
+        }
+    }
+
+    /// Stores a pair where the key has none, and answers its value: `try_insert` of 0.2.5. Where the
+    /// key has a value, that stays, and what was handed in is given back, or it lies in the log.
+    ///
+    /// Refused as [`HashMapRef::insert_as`] is, and then it changes nothing.
+    pub fn try_insert<R: Wait>(
+        &self,
+        rt: &R,
+        key: K,
+        value: V,
+    ) -> Result<Result<&'a V, OccupiedError<'a, V>>, Refused>
+        ensures tried { IfOk result (λ tried. IsOfHistory K.eq (λ h. IsTried K.eq key [] h value
+            tried)) }
+        ensures refused { IfErr result IsMemoryOrCapacity }
+    {
+        let mut pass = self.map.pass();
+        self.try_insert_as(rt, key, value, &mut pass)
+    }
+
+    /// The same with a closure that makes the value where it is to be stored, and with the value
+    /// that is there for an answer: `try_insert_with` of 0.2.5. The closure is called once at most.
+    ///
+    /// Refused as [`HashMapRef::insert_as`] is, and then it changes nothing.
+    pub fn try_insert_with<R: Wait, F: FnOnce() -> V + Drop>(
+        &self,
+        rt: &R,
+        key: K,
+        f: F,
+    ) -> Result<Result<&'a V, &'a V>, Refused>
+        requires { F.IsAlwaysCallable f }
+        ensures tried { IfOk result (λ tried. IsOfHistory K.eq (λ h. IsTriedWith K.eq key [] h
+            (F.post f) tried)) }
+        ensures refused { IfErr result IsMemoryOrCapacity }
+    {
+        let mut pass = self.map.pass();
+        self.try_insert_with_as(rt, key, f, &mut pass)
+    }
+
+    /// The value of a key, which is stored where the key has none: `get_or_insert` of 0.2.5.
+    ///
+    /// Refused as [`HashMapRef::insert_as`] is, and then it changes nothing.
+    pub fn get_or_insert<R: Wait>(&self, rt: &R, key: K, value: V) -> Result<&'a V, Refused>
+        ensures there { IfOk result (λ there. IsOfHistory K.eq (λ h. IsThere K.eq key [] h
+            (λ w. w ≡ value) there)) }
+        ensures refused { IfErr result IsMemoryOrCapacity }
+    {
+        match self.try_insert(rt, key, value) {
+            Ok(Ok(stored)) => Ok(stored),
+            Ok(Err(occupied)) => Ok(occupied.current),
+            Err(refused) => Err(refused),
+        }
+    }
+
+    /// The same with a closure that makes the value where it is to be stored:
+    /// `get_or_insert_with` of 0.2.5. The closure is called once at most.
+    ///
+    /// Refused as [`HashMapRef::insert_as`] is, and then it changes nothing.
+    pub fn get_or_insert_with<R: Wait, F: FnOnce() -> V + Drop>(
+        &self,
+        rt: &R,
+        key: K,
+        f: F,
+    ) -> Result<&'a V, Refused>
+        requires { F.IsAlwaysCallable f }
+        ensures there { IfOk result (λ there. IsOfHistory K.eq (λ h. IsThere K.eq key [] h
+            (F.post f) there)) }
+        ensures refused { IfErr result IsMemoryOrCapacity }
+    {
+        match self.try_insert_with(rt, key, f) {
+            Ok(Ok(stored)) => Ok(stored),
+            Ok(Err(current)) => Ok(current),
+            Err(refused) => Err(refused),
+        }
+    }
+}
+
+impl<K: Hash + Eq + Drop, V: Drop, S: BuildHasher> HashMap<K, V, S> {
+    /// Stores a pair where the key has none, and answers its value: `try_insert` of 0.2.5. It answers
+    /// as [`HashMapRef::try_insert`], and is refused as that is and for a wrong guard.
+    pub fn try_insert<'g, R: Wait, G: Guard>(
+        &'g self,
+        rt: &R,
+        key: K,
+        value: V,
+        guard: &'g G,
+    ) -> Result<Result<&'g V, OccupiedError<'g, V>>, Refused>
+        ensures tried { IfOk result (λ tried. IsOfHistory K.eq (λ h. IsTried K.eq key [] h value
+            tried)) }
+        ensures right { G.collector_number guard.now ≡ self.now.collector
+            → IfErr result IsMemoryOrCapacity }
+        ensures wrong { (G.collector_number guard.now ≡ self.now.collector → ⊥)
+            → result ≡ Err Refused.WrongGuard }
+    {
+        self.verify(guard)?;
+        let mut pass = self.numbered(guard.number());
+        self.pin().try_insert_as(rt, key, value, &mut pass)
+    }
+
+    /// The same with a closure that makes the value where it is to be stored: `try_insert_with` of
+    /// 0.2.5. It answers as [`HashMapRef::try_insert_with`], and is refused as
+    /// [`HashMap::try_insert`].
+    pub fn try_insert_with<'g, R: Wait, F: FnOnce() -> V + Drop, G: Guard>(
+        &'g self,
+        rt: &R,
+        key: K,
+        f: F,
+        guard: &'g G,
+    ) -> Result<Result<&'g V, &'g V>, Refused>
+        requires { F.IsAlwaysCallable f }
+        ensures tried { IfOk result (λ tried. IsOfHistory K.eq (λ h. IsTriedWith K.eq key [] h
+            (F.post f) tried)) }
+        ensures right { G.collector_number guard.now ≡ self.now.collector
+            → IfErr result IsMemoryOrCapacity }
+        ensures wrong { (G.collector_number guard.now ≡ self.now.collector → ⊥)
+            → result ≡ Err Refused.WrongGuard }
+    {
+        self.verify(guard)?;
+        let mut pass = self.numbered(guard.number());
+        self.pin().try_insert_with_as(rt, key, f, &mut pass)
+    }
+
+    /// The value of a key, which is stored where the key has none: `get_or_insert` of 0.2.5.
+    /// Refused as [`HashMap::try_insert`].
+    pub fn get_or_insert<'g, R: Wait, G: Guard>(
+        &'g self,
+        rt: &R,
+        key: K,
+        value: V,
+        guard: &'g G,
+    ) -> Result<&'g V, Refused>
+        ensures there { IfOk result (λ there. IsOfHistory K.eq (λ h. IsThere K.eq key [] h
+            (λ w. w ≡ value) there)) }
+        ensures right { G.collector_number guard.now ≡ self.now.collector
+            → IfErr result IsMemoryOrCapacity }
+        ensures wrong { (G.collector_number guard.now ≡ self.now.collector → ⊥)
+            → result ≡ Err Refused.WrongGuard }
+    {
+        match self.try_insert(rt, key, value, guard) {
+            Ok(Ok(stored)) => Ok(stored),
+            Ok(Err(occupied)) => Ok(occupied.current),
+            Err(refused) => Err(refused),
+        }
+    }
+
+    /// The same with a closure that makes the value where it is to be stored:
+    /// `get_or_insert_with` of 0.2.5. Refused as [`HashMap::try_insert`].
+    pub fn get_or_insert_with<'g, R: Wait, F: FnOnce() -> V + Drop, G: Guard>(
+        &'g self,
+        rt: &R,
+        key: K,
+        f: F,
+        guard: &'g G,
+    ) -> Result<&'g V, Refused>
+        requires { F.IsAlwaysCallable f }
+        ensures there { IfOk result (λ there. IsOfHistory K.eq (λ h. IsThere K.eq key [] h
+            (F.post f) there)) }
+        ensures right { G.collector_number guard.now ≡ self.now.collector
+            → IfErr result IsMemoryOrCapacity }
+        ensures wrong { (G.collector_number guard.now ≡ self.now.collector → ⊥)
+            → result ≡ Err Refused.WrongGuard }
+    {
+        match self.try_insert_with(rt, key, f, guard) {
+            Ok(Ok(stored)) => Ok(stored),
+            Ok(Err(current)) => Ok(current),
+            Err(refused) => Err(refused),
+        }
+    }
+}

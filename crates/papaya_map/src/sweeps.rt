@@ -1,0 +1,149 @@
+//! The calls that visit the whole map: what they say is so of a history that no caller is shown.
+ghost use Rattle.std.specs.Prelude.{◌≡◌, ◌⊎◌, [], Err, IfErr, IfOk};
+ghost use Rattle.papaya_change.specs.Showings.{Judges};
+ghost use Rattle.papaya_change.specs.Writing.{IsMemoryOrCapacity};
+ghost use Rattle.papaya_map.specs.Plain.{IsOfHistory};
+ghost use Rattle.papaya_sweep.specs.Meeting.{HasShown};
+
+use crate::map::{HashMap, HashMapRef};
+use papaya_keys::guard::Guard;
+use papaya_sweep::walk::{Iter, Keys, Values};
+use papaya_words::probe::Refused;
+use std::hash::{BuildHasher, Hash};
+use std::sync::Wait;
+
+impl<'a, K: Hash + Eq, V, S: BuildHasher> HashMapRef<'a, K, V, S> {
+    /// Removes the pairs that the map has: `clear` of 0.2.5. A pair that is stored meanwhile may stay.
+    ///
+    /// Refused as [`HashMapRef::retain`] is.
+    pub fn clear<R: Wait>(&self, rt: &R) -> Result<(), Refused>
+        ensures { IfErr result (λ refused. IsMemoryOrCapacity refused) }
+    {
+        let mut pass = self.map().pass();
+        self.retain_as(rt, |_, _| { false }, &mut pass)
+    }
+
+    /// Removes the pairs for which the closure, which is shown each, answers false: `retain` of 0.2.5.
+    /// The closure is shown a key's pair again where another call replaced it meanwhile, or where all
+    /// is copied.
+    ///
+    /// Where it meets a copier's work it copies what is left to copy, and may be refused a table then:
+    /// `Refused::Memory` where a growth was refused, and `Refused::Capacity` where there is no room.
+    /// What was removed stays so.
+    pub fn retain<R: Wait, F: FnMut(&K, &V) -> bool>(&self, rt: &R, stays: F) -> Result<(), Refused>
+        requires { F.IsAlwaysCallable stays }
+        ensures shown { IsOfHistory K.eq (λ h. (left : _) × HasShown K.eq [] h (Judges F.FnMut)
+            stays left) }
+        ensures refused { IfErr result (λ refused. IsMemoryOrCapacity refused) }
+    {
+        let mut pass = self.map().pass();
+        self.retain_as(rt, stays, &mut pass)
+    }
+
+    /// The pairs of the map, one by one: `iter` of 0.2.5. Refused as [`HashMapRef::iter_as`] is.
+    pub fn iter<R: Wait>(&self, rt: &R) -> Result<Iter<'a, K, V, S>, Refused>
+        ensures began { IfOk result (λ pairs. pairs.began ≡ []) }
+        ensures refused { IfErr result (λ refused. IsMemoryOrCapacity refused) }
+    {
+        let mut pass = self.map().pass();
+        self.iter_as(rt, &mut pass)
+    }
+
+    /// The keys of the map, one by one: `keys` of 0.2.5. Refused as [`HashMapRef::iter_as`] is.
+    pub fn keys<R: Wait>(&self, rt: &R) -> Result<Keys<'a, K, V, S>, Refused>
+        ensures began { IfOk result (λ keys. keys.pairs.began ≡ []) }
+        ensures refused { IfErr result (λ refused. IsMemoryOrCapacity refused) }
+    {
+        Ok(Keys::of(self.iter(rt)?))
+    }
+
+    /// The values of the map, one by one: `values` of 0.2.5. Refused as [`HashMapRef::iter_as`] is.
+    pub fn values<R: Wait>(&self, rt: &R) -> Result<Values<'a, K, V, S>, Refused>
+        ensures began { IfOk result (λ values. values.pairs.began ≡ []) }
+        ensures refused { IfErr result (λ refused. IsMemoryOrCapacity refused) }
+    {
+        Ok(Values::of(self.iter(rt)?))
+    }
+}
+
+impl<K: Hash + Eq, V, S: BuildHasher> HashMap<K, V, S> {
+    /// Removes the pairs that the map has: `clear` of 0.2.5. Refused for a wrong guard, and as
+    /// [`HashMapRef::clear`] is.
+    pub fn clear<R: Wait, G: Guard>(&self, rt: &R, guard: &G) -> Result<(), Refused>
+        ensures right { G.collector_number guard.now ≡ self.now.collector
+            → IfErr result (λ refused. IsMemoryOrCapacity refused) }
+        ensures wrong { (G.collector_number guard.now ≡ self.now.collector → ⊥)
+            → result ≡ Err Refused.WrongGuard }
+    {
+        self.retain(rt, |_, _| { false }, guard)
+    }
+
+    /// Removes the pairs for which the closure, which is shown each, answers false: `retain` of 0.2.5.
+    /// Refused for a wrong guard, and as [`HashMapRef::retain`] is.
+    pub fn retain<R: Wait, F: FnMut(&K, &V) -> bool, G: Guard>(
+        &self,
+        rt: &R,
+        stays: F,
+        guard: &G,
+    ) -> Result<(), Refused>
+        requires { F.IsAlwaysCallable stays }
+        ensures shown { G.collector_number guard.now ≡ self.now.collector
+            → IsOfHistory K.eq (λ h. (left : _) × HasShown K.eq [] h (Judges F.FnMut) stays left) }
+        ensures right { G.collector_number guard.now ≡ self.now.collector
+            → IfErr result (λ refused. IsMemoryOrCapacity refused) }
+        ensures wrong { (G.collector_number guard.now ≡ self.now.collector → ⊥)
+            → result ≡ Err Refused.WrongGuard }
+    {
+        self.verify(guard)?;
+        let mut pass = self.numbered(guard.number());
+        self.pin().retain_as(rt, stays, &mut pass)
+    }
+
+    /// The pairs of the map, one by one: `iter` of 0.2.5. Refused for a wrong guard, and as
+    /// [`HashMapRef::iter_as`] is.
+    pub fn iter<'g, R: Wait, G: Guard>(
+        &'g self,
+        rt: &R,
+        guard: &'g G,
+    ) -> Result<Iter<'g, K, V, S>, Refused>
+        ensures began { IfOk result (λ pairs. pairs.began ≡ []) }
+        ensures right { G.collector_number guard.now ≡ self.now.collector
+            → IfErr result (λ refused. IsMemoryOrCapacity refused) }
+        ensures wrong { (G.collector_number guard.now ≡ self.now.collector → ⊥)
+            → result ≡ Err Refused.WrongGuard }
+    {
+        self.verify(guard)?;
+        let mut pass = self.numbered(guard.number());
+        self.pin().iter_as(rt, &mut pass)
+    }
+
+    /// The keys of the map, one by one: `keys` of 0.2.5. Refused as [`HashMap::iter`] is.
+    pub fn keys<'g, R: Wait, G: Guard>(
+        &'g self,
+        rt: &R,
+        guard: &'g G,
+    ) -> Result<Keys<'g, K, V, S>, Refused>
+        ensures began { IfOk result (λ keys. keys.pairs.began ≡ []) }
+        ensures right { G.collector_number guard.now ≡ self.now.collector
+            → IfErr result (λ refused. IsMemoryOrCapacity refused) }
+        ensures wrong { (G.collector_number guard.now ≡ self.now.collector → ⊥)
+            → result ≡ Err Refused.WrongGuard }
+    {
+        Ok(Keys::of(self.iter(rt, guard)?))
+    }
+
+    /// The values of the map, one by one: `values` of 0.2.5. Refused as [`HashMap::iter`] is.
+    pub fn values<'g, R: Wait, G: Guard>(
+        &'g self,
+        rt: &R,
+        guard: &'g G,
+    ) -> Result<Values<'g, K, V, S>, Refused>
+        ensures began { IfOk result (λ values. values.pairs.began ≡ []) }
+        ensures right { G.collector_number guard.now ≡ self.now.collector
+            → IfErr result (λ refused. IsMemoryOrCapacity refused) }
+        ensures wrong { (G.collector_number guard.now ≡ self.now.collector → ⊥)
+            → result ≡ Err Refused.WrongGuard }
+    {
+        Ok(Values::of(self.iter(rt, guard)?))
+    }
+}

@@ -1,0 +1,201 @@
+//! The calls that replace a key's value by what a closure makes of it, pinned and with a guard.
+ghost use Rattle.std.specs.Prelude.{◌≡◌, [], Err, IfErr, IfOk};
+ghost use Rattle.std.specs.Fn.{FnReturnsAt};
+ghost use Rattle.papaya_change.specs.Writing.{IsMemoryOrCapacity};
+ghost use Rattle.papaya_map.specs.Plain.{IsOfHistory};
+ghost use Rattle.papaya_map.specs.Storing.{IsUpdated, IsUpserted};
+
+use crate::deciding::Outcome;
+use crate::map::{HashMap, HashMapRef, Pass};
+use crate::rules::{Made, Ready, Supply, Updating, Upserting};
+use papaya_keys::guard::Guard;
+use papaya_words::probe::Refused;
+use std::hash::{BuildHasher, Hash};
+use std::sync::Wait;
+
+impl<'a, K: Hash + Eq + Drop, V: Drop, S: BuildHasher> HashMapRef<'a, K, V, S> {
+    /// [`HashMapRef::update`] by a pass.
+    fn update_as<R: Wait, F: Fn(&V) -> V>(
+        &self,
+        rt: &R,
+        key: K,
+        f: F,
+        pass: &mut Pass<K, V, S>,
+    ) -> Result<Option<&'a V>, Refused>
+        requires book { pass.old.book ≡ self.now.book }
+        requires callable { F.IsAlwaysCallable f }
+        ensures updated { IfOk result (IsUpdated K.eq key pass.old.history pass.new.history
+            (FnReturnsAt F.Fn f)) }
+        ensures refused { IfErr result IsMemoryOrCapacity }
+    {
+        let mut rule = Updating { update: f };
+        match self.decide_as(rt, key, &mut rule, pass) {
+            Ok(Outcome::Replaced(value)) => Ok(Some(value)),
+            Ok(Outcome::Left { .. }) => Ok(None),
+            Ok(Outcome::Put(_)) => unreachable!(),
+            Err(refused) => Err(refused),
+        }
+    }
+
+    /// Stores what the closure makes of the key's value in its place, or a value from the supply
+    /// where the key has none.
+    fn upsert_as<R: Wait, F: Fn(&V) -> V, G: Supply<V> + Drop>(
+        &self,
+        rt: &R,
+        key: K,
+        update: F,
+        supply: G,
+        pass: &mut Pass<K, V, S>,
+    ) -> Result<&'a V, Refused>
+        requires book { pass.old.book ≡ self.now.book }
+        requires callable { F.IsAlwaysCallable update }
+        requires gives { G.can_give supply }
+        ensures upserted { IfOk result (IsUpserted K.eq key pass.old.history pass.new.history
+            (FnReturnsAt F.Fn update) (G.gives supply)) }
+        ensures refused { IfErr result IsMemoryOrCapacity }
+    {
+        let mut rule = Upserting {
+            update,
+            supply: Some(supply),
+        };
+        match self.decide_as(rt, key, &mut rule, pass) {
+            Ok(Outcome::Replaced(value)) => Ok(value),
+            Ok(Outcome::Put(value)) => Ok(value),
+            Ok(Outcome::Left { .. }) => unreachable!(),
+            Err(refused) => Err(refused),
+        }
+    }
+
+    /// Puts what the closure makes of the key's value in its place, and answers it: `update` of
+    /// 0.2.5. `Ok(None)` where the key has none. The closure may be called again, where another call
+    /// was first to replace the value that it was shown.
+    ///
+    /// Refused as [`HashMapRef::insert_as`] is, and then it changes nothing.
+    pub fn update<R: Wait, F: Fn(&V) -> V>(
+        &self,
+        rt: &R,
+        key: K,
+        f: F,
+    ) -> Result<Option<&'a V>, Refused>
+        requires { F.IsAlwaysCallable f }
+        ensures updated { IfOk result (λ updated. IsOfHistory K.eq (λ h. IsUpdated K.eq key [] h
+            (FnReturnsAt F.Fn f) updated)) }
+        ensures refused { IfErr result IsMemoryOrCapacity }
+    {
+        let mut pass = self.map.pass();
+        self.update_as(rt, key, f, &mut pass)
+    }
+
+    /// The same, and where the key has no value this one is stored: `update_or_insert` of 0.2.5.
+    ///
+    /// Refused as [`HashMapRef::insert_as`] is, and then it changes nothing.
+    pub fn update_or_insert<R: Wait, F: Fn(&V) -> V>(
+        &self,
+        rt: &R,
+        key: K,
+        update: F,
+        value: V,
+    ) -> Result<&'a V, Refused>
+        requires { F.IsAlwaysCallable update }
+        ensures upserted { IfOk result (λ stored. IsOfHistory K.eq (λ h. IsUpserted K.eq key [] h
+            (FnReturnsAt F.Fn update) (λ w. w ≡ value) stored)) }
+        ensures refused { IfErr result IsMemoryOrCapacity }
+    {
+        let mut pass = self.map.pass();
+        self.upsert_as(rt, key, update, Ready { value }, &mut pass)
+    }
+
+    /// The same with a closure that makes the value where the key has none:
+    /// `update_or_insert_with` of 0.2.5. That closure is called once at most.
+    ///
+    /// Refused as [`HashMapRef::insert_as`] is, and then it changes nothing.
+    pub fn update_or_insert_with<R: Wait, U: Fn(&V) -> V, F: FnOnce() -> V + Drop>(
+        &self,
+        rt: &R,
+        key: K,
+        update: U,
+        f: F,
+    ) -> Result<&'a V, Refused>
+        requires update { U.IsAlwaysCallable update }
+        requires make { F.IsAlwaysCallable f }
+        ensures upserted { IfOk result (λ stored. IsOfHistory K.eq (λ h. IsUpserted K.eq key [] h
+            (FnReturnsAt U.Fn update) (F.post f) stored)) }
+        ensures refused { IfErr result IsMemoryOrCapacity }
+    {
+        let mut pass = self.map.pass();
+        self.upsert_as(rt, key, update, Made { make: f }, &mut pass)
+    }
+}
+
+impl<K: Hash + Eq + Drop, V: Drop, S: BuildHasher> HashMap<K, V, S> {
+    /// Puts what the closure makes of the key's value in its place, and answers it: `update` of
+    /// 0.2.5. It answers as [`HashMapRef::update`], and is refused as that is and for a wrong guard.
+    pub fn update<'g, R: Wait, F: Fn(&V) -> V, G: Guard>(
+        &'g self,
+        rt: &R,
+        key: K,
+        f: F,
+        guard: &'g G,
+    ) -> Result<Option<&'g V>, Refused>
+        requires { F.IsAlwaysCallable f }
+        ensures updated { IfOk result (λ updated. IsOfHistory K.eq (λ h. IsUpdated K.eq key [] h
+            (FnReturnsAt F.Fn f) updated)) }
+        ensures right { G.collector_number guard.now ≡ self.now.collector
+            → IfErr result IsMemoryOrCapacity }
+        ensures wrong { (G.collector_number guard.now ≡ self.now.collector → ⊥)
+            → result ≡ Err Refused.WrongGuard }
+    {
+        self.verify(guard)?;
+        let mut pass = self.numbered(guard.number());
+        self.pin().update_as(rt, key, f, &mut pass)
+    }
+
+    /// The same, and where the key has no value this one is stored: `update_or_insert` of 0.2.5.
+    /// Refused as [`HashMap::update`].
+    pub fn update_or_insert<'g, R: Wait, F: Fn(&V) -> V, G: Guard>(
+        &'g self,
+        rt: &R,
+        key: K,
+        update: F,
+        value: V,
+        guard: &'g G,
+    ) -> Result<&'g V, Refused>
+        requires { F.IsAlwaysCallable update }
+        ensures upserted { IfOk result (λ stored. IsOfHistory K.eq (λ h. IsUpserted K.eq key [] h
+            (FnReturnsAt F.Fn update) (λ w. w ≡ value) stored)) }
+        ensures right { G.collector_number guard.now ≡ self.now.collector
+            → IfErr result IsMemoryOrCapacity }
+        ensures wrong { (G.collector_number guard.now ≡ self.now.collector → ⊥)
+            → result ≡ Err Refused.WrongGuard }
+    {
+        self.verify(guard)?;
+        let mut pass = self.numbered(guard.number());
+        self.pin()
+            .upsert_as(rt, key, update, Ready { value }, &mut pass)
+    }
+
+    /// The same with a closure that makes the value where the key has none:
+    /// `update_or_insert_with` of 0.2.5. Refused as [`HashMap::update`].
+    pub fn update_or_insert_with<'g, R: Wait, U: Fn(&V) -> V, F: FnOnce() -> V + Drop, G: Guard>(
+        &'g self,
+        rt: &R,
+        key: K,
+        update: U,
+        f: F,
+        guard: &'g G,
+    ) -> Result<&'g V, Refused>
+        requires update { U.IsAlwaysCallable update }
+        requires make { F.IsAlwaysCallable f }
+        ensures upserted { IfOk result (λ stored. IsOfHistory K.eq (λ h. IsUpserted K.eq key [] h
+            (FnReturnsAt U.Fn update) (F.post f) stored)) }
+        ensures right { G.collector_number guard.now ≡ self.now.collector
+            → IfErr result IsMemoryOrCapacity }
+        ensures wrong { (G.collector_number guard.now ≡ self.now.collector → ⊥)
+            → result ≡ Err Refused.WrongGuard }
+    {
+        self.verify(guard)?;
+        let mut pass = self.numbered(guard.number());
+        self.pin()
+            .upsert_as(rt, key, update, Made { make: f }, &mut pass)
+    }
+}
