@@ -29,7 +29,7 @@ IsMissing (command.Remove k) = ⊥
 IsMissing (command.Update k) = ⊥
 IsMissing command.Len = ⊥
 IsMissing command.Slots = Unit {0}
-IsMissing command.Clear = Unit {0}
+IsMissing command.Clear = ⊥
 
 -- An update of the key k: its change, the last that was seen, put in a pair of the key whose value,
 -- which is the answer, follows that of the pair that it took out. Or the key was absent at a moment
@@ -40,6 +40,12 @@ IsFollowed k old new (Ok (Some value)) = (p q : Stored ℕ ℕ)
     × IsChangeOf (λ key. k == key) old new (Some p) (Some q) × (key_of q ≡ k)
     × (q.value.value ≡ value) × (value ≡ follower p.value.value)
 IsFollowed k old new (Err refused) = Unit {0}
+
+-- A clear was done, or it was refused. No history that a pass has seen says what it left.
+abbrev pub IsCleared : Printed → Type 0
+IsCleared printed.Done = Unit {0}
+IsCleared (printed.Refused refused) = Unit {0}
+IsCleared _ = ⊥
 
 -- The command was done by a pass that had seen the one history before and has seen the other then,
 -- and this is printed. What was counted is no part of a history.
@@ -56,7 +62,7 @@ Obeys (command.Update k) old text new = (answer : Result (Option ℕ) Refused)
     × (text ≡ of_update answer) × IsFollowed k old new answer
 Obeys command.Len old text new = (count : ℕ) × (text ≡ printed.Length count) × (new ≡ old)
 Obeys command.Slots old text new = ⊥
-Obeys command.Clear old text new = ⊥
+Obeys command.Clear old text new = IsCleared text × (new ≡ old)
 
 -- the line writes a command, and this does what it asks for
 abbrev pub ObeysLine : List ℕ → Seen → Printed → Seen → Type 0

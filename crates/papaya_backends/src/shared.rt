@@ -4,7 +4,7 @@ ghost use Rattle.std.specs.Prelude.{◌≡◌, MatchOption, option_map};
 ghost use mathlib.Core.List.{IsPrefix};
 ghost use Rattle.papaya_lines.specs.Closures.{operation_of};
 ghost use Rattle.papaya_lines.specs.declared.commands.Command.TheVariants as asked;
-ghost use Rattle.papaya_backends.specs.Shared.{IsBad, IsFollowed, IsMissing, Obeys, ObeysLine};
+ghost use Rattle.papaya_backends.specs.Shared.{IsBad, IsCleared, IsFollowed, IsMissing, Obeys, ObeysLine};
 
 use crate::line_by_line::{Obey, run_lines};
 use papaya_call::answers::Answers;
@@ -130,6 +130,16 @@ impl<'a, H: Wait, S: BuildHasher + Drop> Caller<'a, H, S> {
         }
     }
 
+    /// Removes all pairs, and answers what is printed of it.
+    fn clear(&self) -> Printed
+        ensures { IsCleared result }
+    {
+        match self.pinned.clear(self.rt) {
+            Ok(()) => Printed::Done,
+            Err(refused) => Printed::Refused(refused),
+        }
+    }
+
     /// Does what a command asks for, and answers what is printed of it. None where the shared map
     /// has no such command.
     fn obey(&mut self, command: Command) -> Option<Printed>
@@ -144,7 +154,8 @@ impl<'a, H: Wait, S: BuildHasher + Drop> Caller<'a, H, S> {
             Command::Remove(key) => Some(self.remove(key)),
             Command::Update(key) => Some(self.follow(key)),
             Command::Len => Some(Printed::Length(self.map.len())),
-            Command::Slots | Command::Clear => None,
+            Command::Clear => Some(self.clear()),
+            Command::Slots => None,
         }
     }
 }
