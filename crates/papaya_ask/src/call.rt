@@ -21,6 +21,13 @@ pub enum Call<K, V, A> {
     Reserve(usize),
     /// Ends the resize that is under way. In 0.2.5 no public call does only this.
     CopyAll,
+    /// Takes out each pair that it meets: `clear` of 0.2.5.
+    Clear,
+    /// Shows each pair that it meets to the closure, and takes it out where that answers that it
+    /// does not stay: `retain` of 0.2.5.
+    Retain(A),
+    /// Gives each pair that it meets, and changes nothing: `iter` of 0.2.5.
+    Walk,
 }
 
 /// What a machine does: the call without what was handed in, which the backend keeps.

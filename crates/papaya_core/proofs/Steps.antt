@@ -1,5 +1,5 @@
 -- One step of what was under way keeps a core lawful and counted, and is a step of a caller.
-use Rattle.std.proofs.Common.{◌≡◌, inl, inr, Bool, ℕ, true, List, Option, None, Some, refl, sym, ◌∙◌, ap, subst}
+use Rattle.std.proofs.Common.{◌≡◌, inl, inr, Bool, ℕ, false, true, List, Option, None, Some, refl, sym, ◌∙◌, ap, subst}
 use Rattle.std.specs.Cmp.{IsEquivalence}
 use Rattle.papaya_ask.specs.declared.call.Reply.{Reply}
 use Rattle.papaya_call.specs.Answers.{Says}
@@ -17,7 +17,7 @@ use Rattle.papaya_timeline.specs.declared.seat.Work.{Work}
 use Rattle.papaya_timeline.specs.declared.seat.Work.TheVariants as works
 use Rattle.papaya_timeline.specs.declared.trace.Event.{Event}
 use Rattle.papaya_timeline.specs.Advances.{AddsToShard, Advances}
-use Rattle.papaya_timeline.specs.Callers.{call_in, resizer_in, running, with_work, working}
+use Rattle.papaya_timeline.specs.Callers.{call_in, resizer_in, running, visiting, visitor_in, with_work, working}
 use Rattle.papaya_timeline.specs.Core.{CoreState, IsCore}
 use Rattle.papaya_timeline.specs.Counted.{IsCounted}
 use Rattle.papaya_timeline.specs.Kept.{IsKept, IsLawfulCore, coding_of, low, setting_of}
@@ -31,7 +31,10 @@ use Rattle.papaya_timeline.proofs.HeadlineLemmas.{advance-core, lawful_keeps, la
 use Rattle.papaya_timeline.proofs.KeptCore.{keys_lawful, lawful_caused, step_lawful}
 use Rattle.papaya_timeline.proofs.KeptResized.{left, resize_kept, stage_left}
 use Rattle.papaya_timeline.proofs.ResizerLaws.{resizer_refused}
-use Rattle.papaya_core.specs.Goes.{CallGoes, IsStandingWork, ResizerGoes, WorkGoes}
+use Rattle.papaya_timeline.specs.VisitGoes.{Visits}
+use Rattle.papaya_timeline.proofs.LawfulVisits.{lawful_asks, lawful_visit_caused, visit_counted, visit_keeps, visit_lawful, visit_moved}
+use Rattle.papaya_visit_store.specs.declared.visits.Visiting.{Visiting}
+use Rattle.papaya_core.specs.Goes.{CallGoes, IsStandingWork, ResizerGoes, VisitGoes, WorkGoes}
 use Rattle.papaya_words.specs.declared.probe.ResizeMode.{ResizeMode}
 
 -- a resizer that has not ended asks something
@@ -41,9 +44,14 @@ unended_asks (stages.Refused refused) going none = absurd cc
 unended_asks stage going none = absurd cc
 
 -- what a caller has under way stands, and has not ended
-pub work_stands : {K V S A : Type 0} (store : StoreState K V S) (callers : List (Seat K V A)) (mode : ResizeMode) → IsCore store callers mode → (caller : ℕ) (work : Work K V A) → working callers caller ≡ Some work → IsStandingWork work
-work_stands store callers mode core caller (works.Call r) was = core.standing caller r (ap call_in was)
-work_stands store callers mode core caller (works.Resize z) was = core.resizers caller z (ap resizer_in was)
+pub work_stands : {K V S A H : Type 0} (eq : K → K → Bool) (input : K → List (List ℕ)) (build : S → H) (write : H → List ℕ → H) (finish : H → ℕ) (classes : IsEquivalence eq) (respects : (x y : K) → eq x y ≡ true → input x ≡ input y) (says : Says K V A) (s : CoreState K V S A)
+    → IsLawfulCore eq (hash_of input build write finish s.store.hasher) s.store s.callers s.mode → (caller : ℕ) (work : Work K V A) → working s.callers caller ≡ Some work → IsStandingWork work
+work_stands eq input build write finish classes respects says s lawful caller (works.Call r) was = lawful.core.standing caller r (ap call_in was)
+work_stands eq input build write finish classes respects says s lawful caller (works.Resize z) was = lawful.core.resizers caller z (ap resizer_in was)
+work_stands eq input build write finish classes respects says s lawful caller (works.Visit v) was = (
+  (lawful.core.visitors caller v (ap visitor_in was)).0,
+  lawful_asks eq input build write finish classes respects says false s lawful caller v (ap visitor_in was),
+)
 
 module _ {K V S A H : Type 0} (eq : K → K → Bool) (input : K → List (List ℕ)) (build : S → H) (write : H → List ℕ → H) (finish : H → ℕ) (classes : IsEquivalence eq) (respects : (x y : K) → eq x y ≡ true → input x ≡ input y) (says : Says K V A) (refuse : Bool) (s : CoreState K V S A) (caller : ℕ) (s' : CoreState K V S A) (event : Event) (reply : Option Reply) where
   -- keys are hashed so
@@ -114,7 +122,7 @@ module _ {K V S A H : Type 0} (eq : K → K → Bool) (input : K → List (List 
         let core' = resize-core eq hashes refuse s caller s' event reply x lawful.core in
         let moved = lawful_resizes eq input build write finish classes respects refuse s s' caller event reply lawful x in
         record {
-          steps = inr x;
+          steps = inr (inl x);
           lawful = record {
             core = core';
             law = subst (λ y. (es : _) × ((tales : _) × IsKept eq (hashes y) s'.mode s'.store s'.callers es tales)) (sym (left eq (hashes s.store.hasher) law refuse s caller s' event reply x refl es tales lawful.core kept).hasher_is)
@@ -126,7 +134,36 @@ module _ {K V S A H : Type 0} (eq : K → K → Bool) (input : K → List (List 
           shard = λ r by is asks. let f : None ≡ Some r = sym (ap call_in was) ∙ is in absurd cc;
         }
 
+    -- of a call that visits a table
+    visitor_sound : (before : Visiting A) → working s.callers caller ≡ Some (works.Visit before) → VisitGoes eq says hashes refuse s.store caller s'.store event reply rest before → IsSound
+    visitor_sound before was goes =
+        let visits : visiting s.callers caller ≡ Some before = ap visitor_in was in
+        let x : Visits eq says hashes refuse s caller s' event reply = record {
+          before = before;
+          was = visits;
+          ask = goes.ask;
+          asked = goes.asked;
+          answer = goes.answer;
+          later = goes.later;
+          performs = goes.performs;
+          event_is = goes.event_is;
+          reply_is = goes.reply_is;
+          callers = callers ∙ ap (with_work s.callers caller) goes.work_is;
+          mode = mode;
+          initial = initial;
+          cause = λ refused e. lawful_visit_caused eq input build write finish classes respects says refuse s lawful caller before visits goes.ask goes.asked goes.answer s'.store goes.later goes.performs refused (sym goes.reply_is ∙ e);
+        } in
+        record {
+          steps = inr (inr x);
+          lawful = visit_lawful eq input build write finish classes respects says refuse s lawful caller s' event reply x;
+          counted = visit_counted eq input build write finish classes respects says refuse s lawful caller s' event reply x counted;
+          moves = visit_moved eq input build write finish classes respects says refuse s lawful caller s' event reply x;
+          keeps = visit_keeps eq input build write finish classes respects says refuse s lawful caller s' event reply x;
+          shard = λ r by is asks. let f : None ≡ Some r = sym (ap call_in was) ∙ is in absurd cc;
+        }
+
     -- whatever was under way
     pub work_sound : (work : Work K V A) → working s.callers caller ≡ Some work → WorkGoes eq says hashes refuse s.store caller s'.store event reply rest work → IsSound
     work_sound (works.Call before) was goes = call_sound before was goes
     work_sound (works.Resize before) was goes = resizer_sound before was goes
+    work_sound (works.Visit before) was goes = visitor_sound before was goes

@@ -2,12 +2,14 @@
 ghost use Rattle.std.specs.Prelude.{◌≡◌, ◌+◌, ◌<◌, ◌≤◌, ◌∷◌, reverse, OnOk, IfErr, vec_len, vec_capacity};
 ghost use Rattle.papaya_timeline.specs.Advances.{answered_event, call_event, copy_event, event_of, exchange_event, shown_event};
 ghost use Rattle.papaya_timeline.specs.Runs.{with_step};
+ghost use Rattle.papaya_timeline.specs.VisitGoes.{event_of_visit};
 
 use papaya_ask::ask::{Answer as CallAnswer, Ask as CallAsk, StepKind};
 use papaya_ask::call::Reply;
 use papaya_ask::copy_ask::CopyAsk;
 use papaya_chain::ask::{Answer, Ask};
 use papaya_timeline::trace::{Entry, Event};
+use papaya_visit::ask::VisitAsk;
 use papaya_words::probe::Refused;
 use papaya_words::word::Word;
 
@@ -77,6 +79,21 @@ pub(crate) fn event_of(kind: Option<StepKind>, ask: Ask, answer: Answer) -> Even
     match (ask, answer) {
         (Ask::Call(ask), Answer::Call(answer)) => call_event(kind, ask, answer),
         (Ask::Copy(ask), Answer::Call(answer)) => copy_event(kind, ask, answer),
+        _ => Event::Other,
+    }
+}
+
+/// The event of an ask of a call that visits a table that was answered.
+pub(crate) fn event_of_visit(kind: Option<StepKind>, ask: VisitAsk, answer: Answer) -> Event
+    ensures { result ≡ event_of_visit kind ask answer }
+{
+    let Answer::Call(answer) = answer else {
+        return Event::Other;
+    };
+    match (ask, answer) {
+        (VisitAsk::Copy(ask), answer) => copy_event(kind, ask, answer),
+        (VisitAsk::Show(pair), answer) => shown_event(Some(pair), answer),
+        (VisitAsk::Give(pair), CallAnswer::Ok) => Event::Gave(pair),
         _ => Event::Other,
     }
 }

@@ -7,3 +7,4 @@ pub use papaya_timeline::{solo, trace};
 pub mod callers;
 mod entries;
 pub mod schedule;
+mod visits;

@@ -1,7 +1,8 @@
 //! Any number of callers, and any schedule of their steps.
 //!
 //! A call is on one key, or it resizes the map: it makes room ahead, or copies all that is left to
-//! copy, and leaves every pair as it is. The steps of both mix in any order.
+//! copy, and leaves every pair as it is; or it visits a table: it clears the map, retains what its
+//! closure agrees to, or walks the pairs. The steps of all mix in any order.
 //!
 //! The map grows. A call that finds no place for its pair makes the next table, and goes on in it.
 //! Calls that may change the map copy pairs on their way, a chunk of the root each where the core
@@ -24,7 +25,7 @@ ghost use Rattle.papaya_keys.specs.Hashes.{hash_of};
 ghost use Rattle.papaya_timeline.specs.Core.{work_of};
 ghost use Rattle.papaya_timeline.specs.Content.{content};
 ghost use Rattle.papaya_timeline.specs.Counted.{IsCounted};
-ghost use Rattle.papaya_timeline.specs.Begins.{Begins, begun, begun_work};
+ghost use Rattle.papaya_timeline.specs.Begins.{Begins, begun, begun_work, visitor_begun};
 ghost use Rattle.papaya_timeline.specs.Advances.{AddsToShard, event_of, reply_in};
 ghost use Rattle.papaya_timeline.specs.Headline.{HasTimeline};
 ghost use Rattle.papaya_timeline.specs.Moves.{MovesMap};
@@ -35,6 +36,7 @@ ghost use Rattle.papaya_timeline.specs.Runs.{Steps, TurnsRun, StopsEarly, TurnRu
 
 use crate::callers::{Callers, Work};
 use crate::entries::{event_of, push_entry, push_step, reserve_entries};
+use crate::visits::advance_visit;
 use papaya_ask::ask::Ask as CallAsk;
 use papaya_ask::call::{Call, Reply, Task};
 use papaya_call::answers::Answers;
@@ -44,6 +46,8 @@ use papaya_chain::resizer::{Resize, Resizer};
 use papaya_store::pairs::{KeyOf, Running};
 use papaya_store::store::Store;
 use papaya_timeline::trace::{Entry, Event, Trace, Turn};
+use papaya_visit::visitor::{Visit, Visitor};
+use papaya_visit_store::visits::{Numbers, Visiting};
 use papaya_words::probe::{Refused, ResizeMode};
 use std::alloc::Global;
 use std::hash::{BuildHasher, Hash};
@@ -110,8 +114,28 @@ fn call_on<K: Hash + Eq, V: Drop, S: BuildHasher, A>(
     })
 }
 
+/// A call that visits a table as it begins.
+fn visit_on<K, V, A>(
+    alloc: Global,
+    mode: ResizeMode,
+    initial: usize,
+    visit: Visit,
+    answers: Option<A>,
+) -> Work<K, V, A>
+    requires chunked { IsChunked mode }
+    requires initial { IsPowerOfTwo initial }
+    ensures { result ≡ Work.Visit (visitor_begun mode initial visit answers) }
+{
+    Work::Visit(Visiting {
+        visitor: Visitor::new(visit, mode, initial),
+        answers,
+        given: Numbers::new(alloc),
+    })
+}
+
 /// A call as it begins.
 fn begin_call<K: Hash + Eq, V: Drop, S: BuildHasher, A>(
+    alloc: Global,
     store: &Store<K, V, S>,
     mode: ResizeMode,
     initial: usize,
@@ -134,6 +158,11 @@ fn begin_call<K: Hash + Eq, V: Drop, S: BuildHasher, A>(
             return Work::Resize(Resizer::new(Resize::Reserve(more), mode, initial));
         }
         Call::CopyAll => return Work::Resize(Resizer::new(Resize::CopyAll, mode, initial)),
+        Call::Clear => return visit_on(alloc, mode, initial, Visit::Clear, None),
+        Call::Retain(answers) => {
+            return visit_on(alloc, mode, initial, Visit::Retain, Some(answers));
+        }
+        Call::Walk => return visit_on(alloc, mode, initial, Visit::Walk, None),
     };
     call_on(store, mode, initial, task, key, handed)
 }
@@ -222,6 +251,7 @@ fn advance_work<K: Hash + Eq + Drop, V: Drop, S: BuildHasher, A: Answers<K, V> +
     match work {
         Work::Call(running) => advance_call(alloc, store, caller, running, refuse),
         Work::Resize(resizer) => advance_resizer(alloc, store, resizer, refuse),
+        Work::Visit(visiting) => advance_visit(alloc, store, caller, visiting, refuse),
     }
 }
 
@@ -292,7 +322,7 @@ impl<K: Hash + Eq + Drop, V: Drop, S: BuildHasher, A: Answers<K, V> + Drop> Core
         ensures counted { IsCounted K.eq self.new.store self.new.callers }
     {
         self.callers.seat(caller)?;
-        let work = begin_call(&self.store, self.mode, self.initial, call);
+        let work = begin_call(self.alloc, &self.store, self.mode, self.initial, call);
         self.callers.put(caller, work);
         Ok(())
     }

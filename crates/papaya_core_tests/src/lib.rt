@@ -18,4 +18,6 @@ mod resizing;
 #[cfg(test)]
 mod schedules;
 #[cfg(test)]
+mod visiting;
+#[cfg(test)]
 mod words;

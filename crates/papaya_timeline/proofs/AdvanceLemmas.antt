@@ -1,5 +1,5 @@
 -- A step of a core is legal, and moves the map in the class of its call's key alone.
-use Rattle.std.proofs.Common.{◌≡◌, ℕ, Bool, true, false, Option, None, Some, List, [], ◌∷◌, ◌++◌, refl, sym, ◌∙◌, ap, subst}
+use Rattle.std.proofs.Common.{inl, ◌≡◌, ℕ, Bool, true, false, Option, None, Some, List, [], ◌∷◌, ◌++◌, refl, sym, ◌∙◌, ap, subst}
 use Rattle.papaya_words.specs.Word.{pair_of}
 use Rattle.papaya_call.specs.Answers.{Says}
 use Rattle.papaya_ask.specs.declared.ask.At.TheVariants.{Slot}
@@ -27,7 +27,7 @@ use Rattle.papaya_chain_rests.proofs.Replies.{chain_changes}
 use Rattle.papaya_law.specs.Code.{IsHashed}
 use Rattle.papaya_timeline.specs.declared.trace.Turn.{Turn}
 use Rattle.papaya_timeline.specs.declared.trace.Event.{Event}
-use Rattle.papaya_timeline.specs.declared.trace.Event.TheVariants.{Begun, Changed, Moved, Asked, Shown, Other, Replied}
+use Rattle.papaya_timeline.specs.declared.trace.Event.TheVariants.{Begun, Changed, Moved, Asked, Shown, Gave, Other, Replied}
 use Rattle.papaya_timeline.specs.Advances.{Advances, event_of}
 use Rattle.papaya_timeline.specs.Begins.{task_of_call}
 use Rattle.papaya_timeline.specs.Core.{CoreState, IsCore}
@@ -175,12 +175,13 @@ module _ {K V S A : Type 0} (eq : K → K → Bool) (hash : K → ℕ) (law : Is
     moves_core (Changed kind old new) is moved =
         let stands = core.standing c x.before x.was in
         let (at, from, to, asks) = subst (λ e. Tells e (ask_of m) x.answer) (sym is) (event_tells m x.answer) in
-        own_change m.call.task refl old new (chain_changer m stands kind old new x.answer (sym is)) (λ n some. chain_inserts m stands kind old n x.answer (sym is ∙ ap (Changed kind old) some)) (chain_once m at from to asks) moved.went moved.came moved.update moved.went_is moved.came_is moved.may
+        inl (own_change m.call.task refl old new (chain_changer m stands kind old new x.answer (sym is)) (λ n some. chain_inserts m stands kind old n x.answer (sym is ∙ ap (Changed kind old) some)) (chain_once m at from to asks) moved.went moved.came moved.update moved.went_is moved.came_is moved.may)
     moves_core Begun is moved = same_map moved
     moves_core (Moved kind) is moved = same_map moved
     moves_core (Asked n agrees) is moved = same_map moved
     moves_core (Shown shown kind) is moved = same_map moved
     moves_core Other is moved = same_map moved
+    moves_core (Gave n) is moved = absurd moved
     moves_core (Replied reply) is moved = same_map moved
 
     pub advance_moves : MovesMap eq s c s' event
@@ -201,6 +202,7 @@ module _ {K V S A : Type 0} (eq : K → K → Bool) (hash : K → ℕ) (law : Is
     stays (Moved kind) none moves = moves
     stays (Asked n agrees) none moves = moves
     stays (Shown shown kind) none moves = moves
+    stays (Gave n) none moves = moves
     stays Other none moves = moves
     stays (Replied reply) none moves = moves
 

@@ -1,8 +1,8 @@
--- A call as it begins: on one key, or to resize the map.
+-- A call as it begins: on one key, to resize the map, or to visit a table.
 use Rattle.std.proofs.Common.{◌≡◌, ℕ, None, Some, true, false, refl, sym, ◌∙◌, ap}
 use Rattle.papaya_words.specs.declared.probe.ResizeMode.{ResizeMode}
 use Rattle.papaya_ask.specs.declared.call.Call.{Call}
-use Rattle.papaya_ask.specs.declared.call.Call.TheVariants.{Get, Insert, TryInsert, RemoveIf, Compute, Reserve, CopyAll}
+use Rattle.papaya_ask.specs.declared.call.Call.TheVariants.{Get, Insert, TryInsert, RemoveIf, Compute, Reserve, CopyAll, Clear, Retain, Walk}
 use Rattle.papaya_ask.specs.declared.call.Task.{Task}
 use Rattle.papaya_ask.specs.declared.call.Task.TheVariants as tasks
 use Rattle.papaya_chain.specs.declared.resizer.Resize.{Resize}
@@ -12,12 +12,16 @@ use Rattle.papaya_chain.specs.Resizer as resizer
 use Rattle.papaya_store.specs.declared.pairs.Running.{Running}
 use Rattle.papaya_timeline.specs.declared.seat.Work.{Work}
 use Rattle.papaya_timeline.specs.declared.seat.Work.TheVariants as works
-use Rattle.papaya_timeline.specs.Begins.{answers_of_call, begun, begun_work, task_of_call, value_of_call}
-use Rattle.papaya_timeline.specs.Callers.{call_in, resizer_in}
+use Rattle.papaya_timeline.specs.Begins.{answers_of_call, begun, begun_work, task_of_call, value_of_call, visitor_begun}
+use Rattle.papaya_timeline.specs.Callers.{call_in, resizer_in, visitor_in}
+use Rattle.papaya_timeline.specs.Kept.{HasAnswers}
 use Rattle.papaya_timeline.specs.Maps.{key_of}
+use Rattle.papaya_visit.specs.declared.visitor.Visit.{Visit}
+use Rattle.papaya_visit.specs.declared.visitor.Visit.TheVariants as visits
+use Rattle.papaya_visit_store.specs.declared.visits.Visiting.{Visiting}
 use Rattle.papaya_timeline.proofs.CallersLemmas.{same_item}
 
--- the task of a call on a key; one that resizes the map looks for nothing
+-- the task of a call on a key; one on no key looks for nothing
 abbrev pub the_task : {K V A : Type 0} → Call K V A → Task
 the_task (Get k) = tasks.Get
 the_task (Insert k v) = tasks.Insert true
@@ -26,6 +30,9 @@ the_task (RemoveIf k a) = tasks.RemoveIf
 the_task (Compute k a) = tasks.Compute
 the_task (Reserve more) = tasks.Get
 the_task CopyAll = tasks.Get
+the_task Clear = tasks.Get
+the_task (Retain a) = tasks.Get
+the_task Walk = tasks.Get
 
 -- it is the call's own, where the call has one
 pub task_is_own : {K V A : Type 0} (call : Call K V A) (task : Task) → task_of_call call ≡ Some task → task ≡ the_task call
@@ -36,6 +43,9 @@ task_is_own (RemoveIf k a) task e = sym (same_item tasks.RemoveIf task e)
 task_is_own (Compute k a) task e = sym (same_item tasks.Compute task e)
 task_is_own (Reserve more) task e = let f : None ≡ Some task = e in absurd cc
 task_is_own CopyAll task e = let f : None ≡ Some task = e in absurd cc
+task_is_own Clear task e = let f : None ≡ Some task = e in absurd cc
+task_is_own (Retain a) task e = let f : None ≡ Some task = e in absurd cc
+task_is_own Walk task e = let f : None ≡ Some task = e in absurd cc
 
 module _ {K V A : Type 0} (hash : K → ℕ) (mode : ResizeMode) (initial : ℕ) where
   -- a call on a key
@@ -52,6 +62,13 @@ module _ {K V A : Type 0} (hash : K → ℕ) (mode : ResizeMode) (initial : ℕ)
     pub no_key : key_of call ≡ None
     pub is : z ≡ resizer.begun resize mode initial
 
+  -- a call that visits a table
+  pub record IsVisitBegun (call : Call K V A) (v : Visiting A) : Type 0 where
+    pub visit : Visit
+    pub no_key : key_of call ≡ None
+    pub has : HasAnswers visit (answers_of_call call)
+    pub is : v ≡ visitor_begun mode initial visit (answers_of_call call)
+
   -- what was put into a seat is what it is
   same_call : (q r : Running K V A) (w : Work K V A) → w ≡ works.Call q → w ≡ works.Call r → r ≡ q
   same_call q r w is e = sym (same_item q r (ap (λ (w : Work K V A). call_in (Some w)) (sym is ∙ e)))
@@ -65,6 +82,21 @@ module _ {K V A : Type 0} (hash : K → ℕ) (mode : ResizeMode) (initial : ℕ)
   no_resizer : (r : Running K V A) (z : Resizer) (w : Work K V A) → w ≡ works.Call r → w ≡ works.Resize z → ⊥
   no_resizer r z w is e = let f : Some r ≡ None = ap (λ (w : Work K V A). call_in (Some w)) (sym is ∙ e) in absurd cc
 
+  same_visitor : (u v : Visiting A) (w : Work K V A) → w ≡ works.Visit u → w ≡ works.Visit v → v ≡ u
+  same_visitor u v w is e = sym (same_item u v (ap (λ (w : Work K V A). visitor_in (Some w)) (sym is ∙ e)))
+
+  call_not_visit : (v : Visiting A) (r : Running K V A) (w : Work K V A) → w ≡ works.Visit v → w ≡ works.Call r → ⊥
+  call_not_visit v r w is e = let f : None ≡ Some r = ap (λ (w : Work K V A). call_in (Some w)) (sym is ∙ e) in absurd cc
+
+  resizer_not_visit : (v : Visiting A) (z : Resizer) (w : Work K V A) → w ≡ works.Visit v → w ≡ works.Resize z → ⊥
+  resizer_not_visit v z w is e = let f : None ≡ Some z = ap (λ (w : Work K V A). resizer_in (Some w)) (sym is ∙ e) in absurd cc
+
+  visit_not_call : (r : Running K V A) (v : Visiting A) (w : Work K V A) → w ≡ works.Call r → w ≡ works.Visit v → ⊥
+  visit_not_call r v w is e = let f : None ≡ Some v = ap (λ (w : Work K V A). visitor_in (Some w)) (sym is ∙ e) in absurd cc
+
+  visit_not_resizer : (z : Resizer) (v : Visiting A) (w : Work K V A) → w ≡ works.Resize z → w ≡ works.Visit v → ⊥
+  visit_not_resizer z v w is e = let f : None ≡ Some v = ap (λ (w : Work K V A). visitor_in (Some w)) (sym is ∙ e) in absurd cc
+
   pub call_begun : (call : Call K V A) (r : Running K V A) → begun_work hash mode initial call ≡ works.Call r → IsBegun call r
   call_begun (Get k) r e = record { key = k; task = tasks.Get; key_is = refl; task_is = refl; is = same_call (begun hash mode initial tasks.Get k None None) r _ refl e }
   call_begun (Insert k v) r e = record { key = k; task = tasks.Insert true; key_is = refl; task_is = refl; is = same_call (begun hash mode initial (tasks.Insert true) k (Some v) None) r _ refl e }
@@ -73,6 +105,9 @@ module _ {K V A : Type 0} (hash : K → ℕ) (mode : ResizeMode) (initial : ℕ)
   call_begun (Compute k a) r e = record { key = k; task = tasks.Compute; key_is = refl; task_is = refl; is = same_call (begun hash mode initial tasks.Compute k None (Some a)) r _ refl e }
   call_begun (Reserve more) r e = absurd (no_call (resizer.begun (resizes.Reserve more) mode initial) r _ refl e)
   call_begun CopyAll r e = absurd (no_call (resizer.begun resizes.CopyAll mode initial) r _ refl e)
+  call_begun Clear r e = absurd (call_not_visit (visitor_begun mode initial visits.Clear None) r _ refl e)
+  call_begun (Retain a) r e = absurd (call_not_visit (visitor_begun mode initial visits.Retain (Some a)) r _ refl e)
+  call_begun Walk r e = absurd (call_not_visit (visitor_begun mode initial visits.Walk None) r _ refl e)
 
   pub resizer_begun_is : (call : Call K V A) (z : Resizer) → begun_work hash mode initial call ≡ works.Resize z → IsResizeBegun call z
   resizer_begun_is (Get k) z e = absurd (no_resizer (begun hash mode initial tasks.Get k None None) z _ refl e)
@@ -82,3 +117,18 @@ module _ {K V A : Type 0} (hash : K → ℕ) (mode : ResizeMode) (initial : ℕ)
   resizer_begun_is (Compute k a) z e = absurd (no_resizer (begun hash mode initial tasks.Compute k None (Some a)) z _ refl e)
   resizer_begun_is (Reserve more) z e = record { resize = resizes.Reserve more; no_key = refl; is = same_resizer (resizer.begun (resizes.Reserve more) mode initial) z _ refl e }
   resizer_begun_is CopyAll z e = record { resize = resizes.CopyAll; no_key = refl; is = same_resizer (resizer.begun resizes.CopyAll mode initial) z _ refl e }
+  resizer_begun_is Clear z e = absurd (resizer_not_visit (visitor_begun mode initial visits.Clear None) z _ refl e)
+  resizer_begun_is (Retain a) z e = absurd (resizer_not_visit (visitor_begun mode initial visits.Retain (Some a)) z _ refl e)
+  resizer_begun_is Walk z e = absurd (resizer_not_visit (visitor_begun mode initial visits.Walk None) z _ refl e)
+
+  pub visitor_begun_is : (call : Call K V A) (v : Visiting A) → begun_work hash mode initial call ≡ works.Visit v → IsVisitBegun call v
+  visitor_begun_is (Get k) v e = absurd (visit_not_call (begun hash mode initial tasks.Get k None None) v _ refl e)
+  visitor_begun_is (Insert k w) v e = absurd (visit_not_call (begun hash mode initial (tasks.Insert true) k (Some w) None) v _ refl e)
+  visitor_begun_is (TryInsert k w) v e = absurd (visit_not_call (begun hash mode initial (tasks.Insert false) k (Some w) None) v _ refl e)
+  visitor_begun_is (RemoveIf k a) v e = absurd (visit_not_call (begun hash mode initial tasks.RemoveIf k None (Some a)) v _ refl e)
+  visitor_begun_is (Compute k a) v e = absurd (visit_not_call (begun hash mode initial tasks.Compute k None (Some a)) v _ refl e)
+  visitor_begun_is (Reserve more) v e = absurd (visit_not_resizer (resizer.begun (resizes.Reserve more) mode initial) v _ refl e)
+  visitor_begun_is CopyAll v e = absurd (visit_not_resizer (resizer.begun resizes.CopyAll mode initial) v _ refl e)
+  visitor_begun_is Clear v e = record { visit = visits.Clear; no_key = refl; has = tt; is = same_visitor (visitor_begun mode initial visits.Clear None) v _ refl e }
+  visitor_begun_is (Retain a) v e = record { visit = visits.Retain; no_key = refl; has = (a, refl); is = same_visitor (visitor_begun mode initial visits.Retain (Some a)) v _ refl e }
+  visitor_begun_is Walk v e = record { visit = visits.Walk; no_key = refl; has = tt; is = same_visitor (visitor_begun mode initial visits.Walk None) v _ refl e }

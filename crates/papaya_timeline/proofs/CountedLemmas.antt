@@ -8,9 +8,10 @@ use Rattle.papaya_words.specs.declared.word.Kind.{Kind}
 use Rattle.papaya_words.specs.declared.word.Kind.TheVariants as kinds
 use Rattle.papaya_call.specs.Answers.{Says}
 use Rattle.papaya_ask.specs.declared.call.Call.{Call}
-use Rattle.papaya_ask.specs.declared.call.Call.TheVariants.{Get, Insert, TryInsert, RemoveIf, Compute, Reserve, CopyAll}
+use Rattle.papaya_ask.specs.declared.call.Call.TheVariants.{Get, Insert, TryInsert, RemoveIf, Compute, Reserve, CopyAll, Clear, Retain, Walk}
 use Rattle.papaya_words.specs.declared.probe.ResizeMode.{ResizeMode}
-use Rattle.papaya_timeline.specs.Callers.{call_in}
+use Rattle.papaya_words.specs.declared.probe.ResizeMode.TheVariants.{Incremental, Blocking}
+use Rattle.papaya_visit.specs.Visitor.{begun_in}
 use Rattle.papaya_ask.specs.declared.call.Reply.{Reply}
 use Rattle.papaya_law.specs.Allows.{AllAllowed}
 use Rattle.papaya_law.specs.Content.{AreApart, lookup}
@@ -31,7 +32,7 @@ use Rattle.papaya_timeline.specs.Advances.{Advances, goes_on}
 use Rattle.papaya_timeline.specs.Begins.{Begins, begun_work}
 use Rattle.papaya_timeline.specs.Content.{content, pairs_from, pairs_of_kind, pairs_of_slots}
 use Rattle.papaya_timeline.specs.Core.{CoreState, IsCore, work_of}
-use Rattle.papaya_timeline.specs.Counted.{IsCounted, owed_in, owed_of}
+use Rattle.papaya_timeline.specs.Counted.{IsCounted, owed_in, owed_of, owed_visit, owed_work}
 use Rattle.papaya_timeline.specs.Kept.{IsKept, Tale, setting_of, coding_of, low, told_tales}
 use Rattle.papaya_store.specs.Store.{StoreState, Stored}
 use Rattle.papaya_store.specs.Tables.{table_of}
@@ -79,8 +80,13 @@ module _ {K V S : Type 0} (store : StoreState K V S) (none : store.pairs ≡ [])
         ∙ length_fits 0 (omega arith)
         ∙ sym (ap (λ (l : List (Stored K V)). pos (length l)) new_content)
 
--- a call that begins owes nothing
-begun_owes : {K V A : Type 0} (hash : K → ℕ) (mode : ResizeMode) (initial : ℕ) (call : Call K V A) → owed_of (call_in (Some (begun_work hash mode initial call))) ≡ pos 0
+-- a call that visits a table owes nothing as it begins
+visit_owes : (mode : ResizeMode) → owed_visit (begun_in mode) ≡ pos 0
+visit_owes (Incremental chunk) = refl
+visit_owes Blocking = refl
+
+-- nor does any other
+begun_owes : {K V A : Type 0} (hash : K → ℕ) (mode : ResizeMode) (initial : ℕ) (call : Call K V A) → owed_work (Some (begun_work hash mode initial call)) ≡ pos 0
 begun_owes hash mode initial (Get k) = refl
 begun_owes hash mode initial (Insert k v) = refl
 begun_owes hash mode initial (TryInsert k v) = refl
@@ -88,6 +94,9 @@ begun_owes hash mode initial (RemoveIf k a) = refl
 begun_owes hash mode initial (Compute k a) = refl
 begun_owes hash mode initial (Reserve more) = refl
 begun_owes hash mode initial CopyAll = refl
+begun_owes hash mode initial Clear = visit_owes mode
+begun_owes hash mode initial (Retain a) = visit_owes mode
+begun_owes hash mode initial Walk = visit_owes mode
 
 -- a begin leaves the sum and the pairs, and its call owes nothing
 pub counted_begin : {K V S A : Type 0} (eq : K → K → Bool) (hash : K → ℕ) (s : CoreState K V S A) (caller : ℕ) (call : Call K V A) (s' : CoreState K V S A) → Begins hash s caller call s' → work_of s caller ≡ None → IsCounted eq s.store s.callers → IsCounted eq s'.store s'.callers

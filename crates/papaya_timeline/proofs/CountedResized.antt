@@ -13,10 +13,10 @@ use Rattle.papaya_timeline.specs.declared.seat.Work.{Work}
 use Rattle.papaya_timeline.specs.declared.seat.Work.TheVariants.{Resize}
 use Rattle.papaya_timeline.specs.declared.trace.Event.{Event}
 use Rattle.papaya_timeline.specs.Advances.{goes_on}
-use Rattle.papaya_timeline.specs.Callers.{call_in, working}
+use Rattle.papaya_timeline.specs.Callers.{working}
 use Rattle.papaya_timeline.specs.Content.{content}
 use Rattle.papaya_timeline.specs.Core.{CoreState, IsCore}
-use Rattle.papaya_timeline.specs.Counted.{IsCounted, owed_in, owed_of}
+use Rattle.papaya_timeline.specs.Counted.{IsCounted, owed_in, owed_work}
 use Rattle.papaya_timeline.specs.Kept.{IsKept, Tale, low, setting_of}
 use Rattle.papaya_timeline.specs.Resizes.{Resizes}
 use Rattle.papaya_timeline.proofs.CallersLemmas.{resizer-under_way}
@@ -28,8 +28,8 @@ use Rattle.papaya_timeline.proofs.KeptResized as resized
 use Rattle.papaya_law.proofs.FiniteMaps.{one_length}
 
 -- a resizer owes nothing, gone on or not
-owes_nothing : {K V A : Type 0} (reply : Option Reply) (z : Resizer) (w : Work K V A) → w ≡ Resize z → owed_of (call_in (goes_on reply w)) ≡ pos 0
-owes_nothing None z w is = ap (λ (v : Work _ _ _). owed_of (call_in (Some v))) is
+owes_nothing : {K V A : Type 0} (reply : Option Reply) (z : Resizer) (w : Work K V A) → w ≡ Resize z → owed_work (goes_on reply w) ≡ pos 0
+owes_nothing None z w is = ap (λ (v : Work _ _ _). owed_work (Some v)) is
 owes_nothing (Some reply) z w is = refl
 
 module _ {K V S A : Type 0} (eq : K → K → Bool) (hash : K → ℕ) (law : IsLawfulKeys eq hash) {hashes : S → K → ℕ} (refuse : Bool) (s : CoreState K V S A) (caller : ℕ) (s' : CoreState K V S A) (event : Event) (reply : Option Reply) (x : Resizes eq hashes refuse s caller s' event reply) (hasher : hashes s.store.hasher ≡ hash)
@@ -42,7 +42,7 @@ module _ {K V S A : Type 0} (eq : K → K → Bool) (hash : K → ℕ) (law : Is
   owed : owed_in s'.callers ≡ owed_in s.callers
   owed =
       let was = owed-with_work s.callers caller (Resize x.before) (resizer-under_way (working s.callers caller) x.before x.was) (goes_on reply (Resize (after x.before x.answer))) in
-      let none : owed_of (call_in (goes_on reply (resumed x.before x.answer))) ≡ pos 0 = owes_nothing reply (after x.before x.answer) _ refl in
+      let none : owed_work (goes_on reply (resumed x.before x.answer)) ≡ pos 0 = owes_nothing reply (after x.before x.answer) _ refl in
       ap (λ (l : List (Seat K V A)). owed_in l) x.callers ∙ omega (arith, ints, was, none)
 
   -- there are as many pairs

@@ -4,7 +4,7 @@ use Rattle.papaya_call.specs.Answers.{Says}
 use Rattle.papaya_call.specs.declared.answers.Operation.{Operation}
 use Rattle.papaya_timeline.specs.declared.trace.Turn.{Turn}
 use Rattle.papaya_timeline.specs.declared.trace.Event.{Event}
-use Rattle.papaya_timeline.specs.declared.trace.Event.TheVariants.{Begun, Changed, Moved, Asked, Shown, Other, Replied}
+use Rattle.papaya_timeline.specs.declared.trace.Event.TheVariants.{Begun, Changed, Moved, Asked, Shown, Gave, Other, Replied}
 use Rattle.papaya_timeline.specs.Given.{AreGiven, GivesIn, HasLeft, IsEntryOf}
 use Rattle.papaya_timeline.specs.Runs.{History}
 use Rattle.papaya_store.specs.Store.{StoreState, Stored, pair_of}
@@ -22,6 +22,7 @@ module _ {K V S A : Type 0} (says : Says K V A) (s s' : StoreState K V S) (stay 
   gives_more (Changed kind old new) answered a a' same = same
   gives_more (Moved kind) answered a a' same = same
   gives_more Other answered a a' same = same
+  gives_more (Gave n) answered a a' same = same
   gives_more (Replied reply) answered a a' same = same
 
   module _ (schedule : List (Turn K V A)) where

@@ -1,29 +1,33 @@
 -- A history with its maps, and how the calls under way stand to it.
-use Rattle.std.proofs.Common.{◌≡◌, ℕ, Bool, true, None, Some, List, [], ◌∷◌, ◌++◌}
+use Rattle.std.proofs.Common.{◌≡◌, ℕ, ◌==◌, Bool, true, cond, Option, None, Some, List, [], ◌∷◌, ◌++◌}
 use Rattle.papaya_words.specs.declared.probe.ResizeMode.TheVariants.{Blocking}
 use Rattle.papaya_ask.specs.declared.call.Call.{Call}
 use Rattle.papaya_call.specs.Answers.{Says}
-use Rattle.papaya_law.specs.Exchange.{Exchange}
+use Rattle.papaya_law.specs.Exchange.{Exchange, Setting}
 use Rattle.papaya_law.specs.Meaning.{map_of}
 use Rattle.papaya_call.specs.declared.answers.Operation.TheVariants as ops
-use Rattle.papaya_ask.specs.declared.call.Call.TheVariants.{Get, Insert, TryInsert, RemoveIf, Compute, Reserve, CopyAll}
+use Rattle.papaya_ask.specs.declared.call.Call.TheVariants.{Get, Insert, TryInsert, RemoveIf, Compute, Reserve, CopyAll, Clear, Retain, Walk}
 use Rattle.papaya_rests.specs.Rests.{change_in}
 use Rattle.papaya_rests.specs.Says.{HasShownNone, Said, Agrees, Inserts, Makes, Removes, ShowsPairs, StandsOn}
 use Rattle.papaya_rests.specs.Told.{IsOneOf}
 use Rattle.papaya_store.specs.declared.pairs.Running.{Running}
 use Rattle.papaya_timeline.specs.declared.trace.Turn.{Turn}
 use Rattle.papaya_timeline.proofs.Begun.{the_task}
-use Rattle.papaya_timeline.specs.Callers.{resizing, running}
+use Rattle.papaya_timeline.specs.Callers.{resizing, running, visiting}
 use Rattle.papaya_chain.specs.declared.resizer.Resizer.{Resizer}
 use Rattle.papaya_timeline.specs.Core.{CoreState, IsCore}
 use Rattle.papaya_timeline.specs.Given.{AreGiven, HasLeft}
 use Rattle.papaya_timeline.specs.Headline.{AreLogged, AreNew}
-use Rattle.papaya_timeline.specs.Kept.{IsKept, Tale, setting_of}
+use Rattle.papaya_timeline.specs.Kept.{IsKept, Tale, VisitTale, numbers_of, setting_of, visit_tale}
 use Rattle.papaya_timeline.specs.Maps.{Map, at_key, key_of}
 use Rattle.papaya_store.specs.Performs.{own_key}
 use Rattle.papaya_store.specs.Store.{KeepsPairs, StoreState, Stored, pair_of}
 use Rattle.papaya_timeline.specs.Runs.{History}
-use Rattle.papaya_timeline.specs.Timeline.{Answered, open_call, change_of, was_shown_none, AtSomeMoment, WasAnswered, WasAsked, IsUnused, Timeline}
+use Rattle.papaya_timeline.specs.Timeline.{Answered, open_call, change_of, given_by, last_asked, was_shown_none, AreSince, AtBegin, AtSomeMoment, OfEach, OfSome, WasAnswered, WasAsked, WereThere, IsUnused, Timeline}
+use Rattle.papaya_visit.specs.declared.visitor.Visit.{Visit}
+use Rattle.papaya_visit.specs.declared.visitor.Visit.TheVariants as visits
+use Rattle.papaya_visit_rests.specs.Taken.{IsTakenOut}
+use Rattle.papaya_visit_store.specs.declared.visits.Visiting.{Visiting}
 
 -- a pair of the call has the value that it was handed; that of a compute has one that its closure answered
 abbrev pub IsValueOf : {K V A : Type 0} → Call K V A → V → Type 0
@@ -34,6 +38,27 @@ IsValueOf (RemoveIf k a) v = ⊥
 IsValueOf (Compute k a) v = Unit {0}
 IsValueOf (Reserve more) v = ⊥
 IsValueOf CopyAll v = ⊥
+IsValueOf Clear v = ⊥
+IsValueOf (Retain a) v = ⊥
+IsValueOf Walk v = ⊥
+
+-- a call that resizes the map
+abbrev pub IsResize : {K V A : Type 0} → Call K V A → Type 0
+IsResize (Reserve more) = Unit {0}
+IsResize CopyAll = Unit {0}
+IsResize _ = ⊥
+
+-- a call that visits a table so
+abbrev pub IsVisitOf : {K V A : Type 0} → Call K V A → Visit → Type 0
+IsVisitOf Clear visits.Clear = Unit {0}
+IsVisitOf (Retain a) visits.Retain = Unit {0}
+IsVisitOf Walk visits.Walk = Unit {0}
+IsVisitOf _ _ = ⊥
+
+-- what a closure last answered of the pair of this number, its newest answer being the first
+abbrev pub answer_about : {K V : Type 0} → List (Stored K V × Bool) → ℕ → Option Bool
+answer_about [] n = None
+answer_about (one ∷ older) n = cond (one.0.number == n) (Some one.1) (answer_about older n)
 
 -- What a machine stands on was said by its closure in the call. A value that it answered is at hand until a pair is made of it, and then is the pair's.
 abbrev pub WasSaid : {K V S A : Type 0} → StoreState K V S → Running K V A → ℕ → History → Answered V → Said → Type 0
@@ -51,7 +76,41 @@ module _ {K V : Type 0} (eq : K → K → Bool) where
   abbrev pub replay : List (Exchange (Stored K V)) → Map K V
   replay es = replayed (λ k. None) es
 
+  -- the setting in which it is replayed
+  abbrev pub replaying : Setting K (Stored K V)
+  replaying = setting_of eq (λ k. 0) Blocking []
+
+  -- each pair of the map has a key of its class
+  abbrev pub IsKeyed : Map K V → Type 0
+  IsKeyed m = (k : K) (p : Stored K V) → m k ≡ Some p → eq k p.key ≡ true
+
+  -- The maps since a visitor took its table, or until now where it has none, and the exchanges since then, of which they are the maps.
+  pub record IsMaking (caller : ℕ) (tale : VisitTale K V) (h : History) (maps : List (Map K V)) : Type 0 where
+    pub since : List (Map K V)
+    pub fs : List (Exchange (Stored K V))
+    pub is : tale.hands.before ++ fs ≡ tale.since
+    pub are : AreSince caller h maps since
+    pub there : WereThere caller h since
+    pub keyed : OfEach IsKeyed since
+    pub covers : (k : K) (so_far rest : List (Exchange (Stored K V))) → so_far ++ rest ≡ fs → OfSome (λ m. m k ≡ replayed (replay (tale.begun ++ tale.hands.before)) so_far k) since
+
   module _ {S A : Type 0} where
+    -- A call under way that visits a table, which began in the run, and the history of its caller.
+    pub record IsVisitTied (says : Says K V A) (store : StoreState K V S) (schedule : List (Turn K V A)) (v : Visiting A) (call : Call K V A) (caller : ℕ) (tale : VisitTale K V) (h : History) (maps : List (Map K V)) (answers : Answered V) : Type 0 where
+      pub visit : IsVisitOf call v.visitor.visit
+      pub unchanged : v.visitor.visit ≡ visits.Walk → change_of caller h ≡ None
+      pub given : given_by caller h ≡ numbers_of tale.hands.given
+      pub asked : (n : ℕ) → last_asked caller n h ≡ answer_about tale.hands.shown n
+      -- the map as it began
+      pub began : AtBegin (λ m. (k : K) → m k ≡ replay tale.begun k) caller h maps
+      -- what a key had after some of the exchanges since it began, it had at a moment of the call
+      pub moments : (k : K) (so_far rest : List (Exchange (Stored K V))) → so_far ++ rest ≡ tale.since → AtSomeMoment (λ m. at_key m (Some k) ≡ at_key (replayed (replay tale.begun) so_far) (Some k)) caller h maps
+      -- a pair that it had as the call began, and that was taken out since, has not come back
+      pub gone : (k : K) (p : Stored K V) → replay tale.begun k ≡ Some p → IsTakenOut replaying tale.since k → replay (tale.begun ++ tale.since) k ≡ Some p → ⊥
+      pub making : IsMaking caller tale h maps
+      -- what its closure has left
+      pub left : (a : A) → v.answers ≡ Some a → HasLeft says store schedule a caller h answers
+
     -- A call under way, which began in the run, and the history of its caller.
     pub record IsTied (store : StoreState K V S) (r : Running K V A) (call : Call K V A) (caller : ℕ) (tale : Tale K V) (h : History) (maps : List (Map K V)) (answers : Answered V) : Type 0 where
       pub own : K
@@ -83,8 +142,9 @@ module _ {K V : Type 0} (eq : K → K → Bool) where
       pub given : AreGiven says s.store schedule h answers
       -- what the closures of the calls under way have left
       pub left : (caller : ℕ) (r : Running K V A) (call : Call K V A) → running s.callers caller ≡ Some r → open_call schedule caller h ≡ Some call → (a : A) → r.answers ≡ Some a → HasLeft says s.store schedule a caller h answers
-      -- a call that resizes the map has no key, and changes none
-      pub resized : (caller : ℕ) (z : Resizer) (call : Call K V A) → resizing s.callers caller ≡ Some z → open_call schedule caller h ≡ Some call → (key_of call ≡ None) × (change_of caller h ≡ None)
+      -- a call that resizes the map is of that kind, and changes none
+      pub resized : (caller : ℕ) (z : Resizer) (call : Call K V A) → resizing s.callers caller ≡ Some z → open_call schedule caller h ≡ Some call → IsResize call × (change_of caller h ≡ None)
+      pub visited : (caller : ℕ) (v : Visiting A) (call : Call K V A) → visiting s.callers caller ≡ Some v → open_call schedule caller h ≡ Some call → IsVisitTied says s.store schedule v call caller (visit_tale (tales caller)) h (replay es ∷ maps) answers
       -- the pairs of the log where the run began are there, and those that came since, or were made by calls that began since, are new
       pub kept_pairs : KeepsPairs first s.store
       pub fresh : AreNew first schedule h

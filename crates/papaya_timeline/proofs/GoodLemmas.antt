@@ -1,5 +1,5 @@
 -- Begins and steps keep a good history.
-use Rattle.std.proofs.Common.{rules, arith, ◌≡◌, ◌≢◌, ◌⊎◌, inl, inr, ⊎_elim, ℕ, ◌<◌, Bool, true, false, cond, Option, None, Some, List, [], ◌∷◌, ◌++◌, length, slice_get, refl, sym, ◌∙◌, ap, subst, eq-eqb}
+use Rattle.std.proofs.Common.{rules, arith, ◌≡◌, ◌≢◌, ◌⊎◌, inl, inr, ⊎_elim, ℕ, ◌<◌, Bool, true, false, cond, Option, None, Some, List, [], ◌∷◌, ◌++◌, length, slice_get, refl, sym, ◌∙◌, ap, subst, eq-eqb, append_assoc}
 use Rattle.std.proofs.lemmas.Bool.{cases_Bool}
 use Rattle.papaya_words.specs.declared.probe.ResizeMode.{ResizeMode}
 use Rattle.papaya_words.specs.declared.probe.Refused.TheVariants.{RemoveNothing}
@@ -8,12 +8,12 @@ use Rattle.papaya_ask.specs.declared.ask.Answer.TheVariants.{Op, Made as Made_nu
 use Rattle.papaya_ask.specs.declared.ask.OpKind.{OpKind}
 use Rattle.papaya_ask.specs.declared.ask.StepKind.{StepKind}
 use Rattle.papaya_ask.specs.declared.call.Call.{Call}
-use Rattle.papaya_ask.specs.declared.call.Call.TheVariants.{Get, Insert, TryInsert, RemoveIf, Compute, Reserve, CopyAll}
+use Rattle.papaya_ask.specs.declared.call.Call.TheVariants.{Get, Insert, TryInsert, RemoveIf, Compute, Reserve, CopyAll, Clear, Retain, Walk}
 use Rattle.papaya_ask.specs.declared.call.Reply.{Reply}
 use Rattle.papaya_ask.specs.declared.call.Task.{Task}
 use Rattle.papaya_ask.specs.declared.call.Task.TheVariants as tasks
 use Rattle.papaya_call.specs.Answers.{Says}
-use Rattle.papaya_law.specs.Exchange.{Exchange, run, start as first_state}
+use Rattle.papaya_law.specs.Exchange.{Exchange, Replace, run, start as first_state}
 use Rattle.papaya_law.specs.Invariant.{named}
 use Rattle.papaya_call.specs.Machine.{HasClosure}
 use Rattle.papaya_call.specs.Machine as calls
@@ -22,6 +22,10 @@ use Rattle.papaya_chain.specs.declared.ask.Answer.TheVariants as told_to
 use Rattle.papaya_chain.specs.Machine.{ask_of, follows_of, kind_of_ask, after}
 use Rattle.papaya_chain_rests.specs.Goes.{Goes, IsInOrder, change_by as changed_by}
 use Rattle.papaya_chain_rests.specs.Told.{Hands, no_hands}
+use Rattle.papaya_visit.specs.declared.visitor.Visit.{Visit}
+use Rattle.papaya_visit.specs.declared.visitor.Visit.TheVariants as visit_kinds
+use Rattle.papaya_visit_rests.specs.Told as visits
+use Rattle.papaya_visit_store.specs.declared.visits.Visiting.{Visiting}
 use Rattle.papaya_chain_rests.proofs.Goes.{machine_goes}
 use Rattle.papaya_chain_rests.proofs.Once.{chain_offered, chain_once as shows_once}
 use Rattle.papaya_chain_rests.proofs.Replies.{chain_said, chain_shows, chain_task}
@@ -34,33 +38,36 @@ use Rattle.papaya_timeline.specs.declared.seat.Seat.{Seat}
 use Rattle.papaya_timeline.specs.declared.trace.Turn.{Turn}
 use Rattle.papaya_timeline.specs.declared.trace.Turn.TheVariants.{Begin}
 use Rattle.papaya_timeline.specs.declared.trace.Event.{Event}
-use Rattle.papaya_timeline.specs.declared.trace.Event.TheVariants.{Begun, Changed, Moved, Asked, Shown, Other, Replied}
+use Rattle.papaya_timeline.specs.declared.trace.Event.TheVariants.{Begun, Changed, Moved, Asked, Shown, Gave, Other, Replied}
 use Rattle.papaya_timeline.specs.Advances.{Advances, goes_on}
-use Rattle.papaya_timeline.specs.Begins.{Begins, answers_of_call, begun, begun_work, value_of_call}
-use Rattle.papaya_timeline.proofs.Begun.{IsBegun, call_begun, resizer_begun_is, task_is_own, the_task}
+use Rattle.papaya_timeline.specs.Begins.{Begins, answers_of_call, begun, begun_work, value_of_call, visitor_begun}
+use Rattle.papaya_timeline.proofs.Begun.{IsBegun, call_begun, task_is_own, the_task}
+use Rattle.papaya_timeline.specs.declared.seat.Work.{Work}
 use Rattle.papaya_timeline.specs.declared.seat.Work.TheVariants as works
-use Rattle.papaya_timeline.specs.Callers.{as_work, resizing, running, with_call, with_seat, with_work}
+use Rattle.papaya_timeline.specs.Callers.{as_work, resizer_in, resizing, running, visiting, visitor_in, with_call, with_seat, with_work}
 use Rattle.papaya_chain.specs.declared.resizer.Resizer.{Resizer}
 use Rattle.papaya_timeline.specs.Content.{map_of}
 use Rattle.papaya_timeline.specs.Core.{CoreState, IsCore}
 use Rattle.papaya_timeline.specs.Given.{AreGiven, GivesIn, HasLeft, begun_answers}
 use Rattle.papaya_timeline.specs.Headline.{AreLogged, AreNew, ComesNew, HasTimeline}
-use Rattle.papaya_timeline.specs.Kept.{IsKept, Tale, setting_of, coding_of, low, told_tales, begun_tales}
+use Rattle.papaya_timeline.specs.Kept.{IsKept, Tale, setting_of, coding_of, low, told_tales, begun_tales, visit_tale}
 use Rattle.papaya_timeline.specs.Maps.{Map, Does, at_key, key_of}
 use Rattle.papaya_store.specs.Asks.{PerformsAsk}
 use Rattle.papaya_timeline.specs.Runs.{History, with_step}
 use Rattle.papaya_store.specs.Store.{KeepsPairs, StoreState, Stored, pair_of}
 use Rattle.papaya_timeline.specs.Timeline.{Answered, Timeline, IsLegal, MayChange, FitsOpen, FitsShown, IsAgreed, IsUnused, change_of, change_by, none_by, number_in, open_call, open_after, begun_by, begins, is_begin, was_shown_none, AtSomeMoment}
-use Rattle.papaya_timeline.proofs.CallersLemmas.{no-resizer, resizing-elsewhere, resizing-here, resizing-with_seat, running-same, running-other, running-elsewhere, running-here, running-with_seat, same_item, differs}
+use Rattle.papaya_timeline.proofs.CallersLemmas.{no-resizer, no-visitor, resizing-elsewhere, resizing-here, resizing-with_seat, visiting-elsewhere, visiting-here, visiting-with_seat, running-same, running-other, running-elsewhere, running-here, running-with_seat, same_item, differs}
 use Rattle.papaya_timeline.proofs.ChainLemmas.{chain_changed, chain_once, own_asks}
 use Rattle.papaya_timeline.proofs.CoreLemmas.{cases_same, reply_asked}
 use Rattle.papaya_timeline.proofs.EndingLemmas.{removes_nothing, step_ending, unrefused}
 use Rattle.papaya_timeline.proofs.GivenLemmas.{given_more, left_more}
-use Rattle.papaya_timeline.proofs.Good.{IsGood, IsTied, IsValueOf, replay, replayed}
+use Rattle.papaya_timeline.proofs.EntersOnce.{timeline_steady}
+use Rattle.papaya_timeline.proofs.Good.{IsGood, IsKeyed, IsResize, IsTied, IsValueOf, IsVisitOf, IsVisitTied, replay, replayed}
+use Rattle.papaya_timeline.proofs.GoodVisits.{replay_keyed, visit_begins, visit_entry, visit_other}
 use Rattle.papaya_timeline.proofs.KeptLemmas.{IsLawfulKeys, IsStep, kept_step, kept_begin, map_kept, hashed_setting}
 use Rattle.papaya_timeline.proofs.KeptLogs.{pair_below}
 use Rattle.papaya_timeline.proofs.AdvanceLemmas.{advance_legal, changed as advance_changed, moved as advance_moved, order as advance_order}
-use Rattle.papaya_timeline.proofs.LegalLemmas.{IsMoved, MayPut, MayReplace, MayTell, Moves, insertion_does, removal_does}
+use Rattle.papaya_timeline.proofs.LegalLemmas.{IsMoved, MayPut, MayReplace, MayTell, Moves, fits_asked, insertion_does, own_change, removal_does, replaces_own}
 use Rattle.papaya_timeline.proofs.MachineLemmas.{machine_offers, machine_shows, machine_shows_none}
 use Rattle.papaya_timeline.proofs.ReplayLemmas.{map_replayed, held_in_slot}
 use Rattle.papaya_timeline.proofs.SaidLemmas.{change_agreed, said_after}
@@ -95,6 +102,41 @@ computed (RemoveIf k a) is v = absurd cc
 computed (Compute k a) is v = tt
 computed (Reserve more) is v = absurd cc
 computed CopyAll is v = absurd cc
+computed Clear is v = absurd cc
+computed (Retain a) is v = absurd cc
+computed Walk is v = absurd cc
+
+module _ {K V A : Type 0} (hash : K → ℕ) (mode : ResizeMode) (initial : ℕ) where
+  -- a resizer begins for a call that resizes the map
+  resize_begun : (call : Call K V A) (z : Resizer) → begun_work hash mode initial call ≡ works.Resize z → IsResize call
+  resize_begun (Reserve more) z e = tt
+  resize_begun CopyAll z e = tt
+  resize_begun (Get k) z e = let f : None ≡ Some z = ap (λ (w : Work K V A). resizer_in (Some w)) e in absurd cc
+  resize_begun (Insert k v) z e = let f : None ≡ Some z = ap (λ (w : Work K V A). resizer_in (Some w)) e in absurd cc
+  resize_begun (TryInsert k v) z e = let f : None ≡ Some z = ap (λ (w : Work K V A). resizer_in (Some w)) e in absurd cc
+  resize_begun (RemoveIf k a) z e = let f : None ≡ Some z = ap (λ (w : Work K V A). resizer_in (Some w)) e in absurd cc
+  resize_begun (Compute k a) z e = let f : None ≡ Some z = ap (λ (w : Work K V A). resizer_in (Some w)) e in absurd cc
+  resize_begun Clear z e = let f : None ≡ Some z = ap (λ (w : Work K V A). resizer_in (Some w)) e in absurd cc
+  resize_begun (Retain a) z e = let f : None ≡ Some z = ap (λ (w : Work K V A). resizer_in (Some w)) e in absurd cc
+  resize_begun Walk z e = let f : None ≡ Some z = ap (λ (w : Work K V A). resizer_in (Some w)) e in absurd cc
+
+  -- and a visitor for one that visits a table, with the answers of its closure
+  visit_is : (call : Call K V A) (visit : Visit) (answers : Option A) (v : Visiting A) → IsVisitOf call visit → works.Visit (visitor_begun mode initial visit answers) ≡ begun_work hash mode initial call → answers ≡ answers_of_call call → begun_work hash mode initial call ≡ works.Visit v → IsVisitOf call v.visitor.visit × (v.answers ≡ answers_of_call call)
+  visit_is call visit answers v of begins are e =
+      let same : visitor_begun mode initial visit answers ≡ v = same_item (visitor_begun mode initial visit answers) v (ap (λ (w : Work K V A). visitor_in (Some w)) (begins ∙ e)) in
+      (subst (λ (u : Visiting A). IsVisitOf call u.visitor.visit) same of, ap (λ (u : Visiting A). u.answers) (sym same) ∙ are)
+
+  visit_begun : (call : Call K V A) (v : Visiting A) → begun_work hash mode initial call ≡ works.Visit v → IsVisitOf call v.visitor.visit × (v.answers ≡ answers_of_call call)
+  visit_begun Clear v e = visit_is Clear visit_kinds.Clear None v tt refl refl e
+  visit_begun (Retain a) v e = visit_is (Retain a) visit_kinds.Retain (Some a) v tt refl refl e
+  visit_begun Walk v e = visit_is Walk visit_kinds.Walk None v tt refl refl e
+  visit_begun (Get k) v e = let f : None ≡ Some v = ap (λ (w : Work K V A). visitor_in (Some w)) e in absurd cc
+  visit_begun (Insert k w) v e = let f : None ≡ Some v = ap (λ (w : Work K V A). visitor_in (Some w)) e in absurd cc
+  visit_begun (TryInsert k w) v e = let f : None ≡ Some v = ap (λ (w : Work K V A). visitor_in (Some w)) e in absurd cc
+  visit_begun (RemoveIf k a) v e = let f : None ≡ Some v = ap (λ (w : Work K V A). visitor_in (Some w)) e in absurd cc
+  visit_begun (Compute k a) v e = let f : None ≡ Some v = ap (λ (w : Work K V A). visitor_in (Some w)) e in absurd cc
+  visit_begun (Reserve more) v e = let f : None ≡ Some v = ap (λ (w : Work K V A). visitor_in (Some w)) e in absurd cc
+  visit_begun CopyAll v e = let f : None ≡ Some v = ap (λ (w : Work K V A). visitor_in (Some w)) e in absurd cc
 
 module _ {K V S A : Type 0} (eq : K → K → Bool) (hash : K → ℕ) (law : IsLawfulKeys eq hash) where
   -- One step of a call, in a run whose history is good.
@@ -191,7 +233,7 @@ module _ {K V S A : Type 0} (eq : K → K → Bool) (hash : K → ℕ) (law : Is
     may_move None e kind old new is went came went_is came_is may = (tt, tt)
     may_move (Some call) e kind old new is went came went_is came_is may =
         let tied = good.tied c x.before call x.was e in
-        ((sym (own_is call e), tied.change ∙ unchanged kind old new is, does call e went came may), agreed call e kind old new is went came came_is may)
+        (own_change eq call (change_of c h) step.call.key went came (sym (own_is call e), tied.change ∙ unchanged kind old new is, does call e went came may), agreed call e kind old new is went came came_is may)
 
     -- that there is none its closure was not shown before
     not_shown : (call : Call K V A) → open_call schedule c h ≡ Some call → ask_of x.before.machine ≡ asks.Call ShowNone → was_shown_none c h ≡ false
@@ -216,9 +258,10 @@ module _ {K V S A : Type 0} (eq : K → K → Bool) (hash : K → ℕ) (law : Is
     may_tell Begun is = tt
     may_tell (Changed kind old new) is = (λ q made. good.unused c x.before x.was q made (unchanged kind old new is), may_move (open_call schedule c h) refl kind old new is)
     may_tell (Moved kind) is = tt
-    may_tell (Asked n agrees) is = may_show (open_call schedule c h) refl (Some n) (told (Asked n agrees) is).0
+    may_tell (Asked n agrees) is = fits_asked eq (open_call schedule c h) n c h (replay eq good.es ∷ good.maps) (may_show (open_call schedule c h) refl (Some n) (told (Asked n agrees) is).0)
     may_tell (Shown shown kind) is = may_show (open_call schedule c h) refl shown (told (Shown shown kind) is).0
     may_tell Other is = tt
+    may_tell (Gave n) is = told (Gave n) is
     may_tell (Replied rep) is = told (Replied rep) is
 
     legal : IsLegal eq event schedule c h (replay eq good.es) good.maps (replay eq es) good.answers
@@ -404,6 +447,7 @@ module _ {K V S A : Type 0} (eq : K → K → Bool) (hash : K → ℕ) (law : Is
     comes_new call began (Asked n agrees) is = tt
     comes_new call began (Shown shown kind) is = tt
     comes_new call began Other is = tt
+    comes_new call began (Gave n) is = tt
     comes_new call began (Replied rep) is = tt
 
     fresh : AreNew first schedule later_history
@@ -433,15 +477,42 @@ module _ {K V S A : Type 0} (eq : K → K → Bool) (hash : K → ℕ) (law : Is
           | inr differ ↦ (differ, sym (resizing-elsewhere s.callers c d (as_work (goes_on reply r')) differ) ∙ before)
         ]
 
-    resized : (d : ℕ) (z : Resizer) (call : Call K V A) → resizing s'.callers d ≡ Some z → open_call schedule d later_history ≡ Some call → (key_of call ≡ None) × (change_of d later_history ≡ None)
+    resized : (d : ℕ) (z : Resizer) (call : Call K V A) → resizing s'.callers d ≡ Some z → open_call schedule d later_history ≡ Some call → IsResize call × (change_of d later_history ≡ None)
     resized d z call now e =
         let (differ, before) = resizes_other d z now in
         let was = good.resized d z call before (open_other d call differ e) in
         (was.0, change_of-other c d turn event h (λ y. differ (sym y)) ∙ was.1)
 
+    -- and so does a visitor
+    visits_other : (d : ℕ) (v : Visiting A) → visiting s'.callers d ≡ Some v → (d ≢ c) × (visiting s.callers d ≡ Some v)
+    visits_other d v now =
+        let before : visiting (with_call s.callers c (goes_on reply r')) d ≡ Some v = sym (ap (λ (y : List (Seat K V A)). visiting y d) x.callers) ∙ now in
+        elim (cases_same d c) [
+          | inl same ↦ absurd (no-visitor (goes_on reply r') v (visiting-here s.callers c (as_work (goes_on reply r')) v (ap (visiting (with_call s.callers c (goes_on reply r'))) (sym same) ∙ before)))
+          | inr differ ↦ (differ, sym (visiting-elsewhere s.callers c d (as_work (goes_on reply r')) differ) ∙ before)
+        ]
+
+    keyed : IsKeyed eq (replay eq es)
+    keyed = replay_keyed eq (low hash) s'.mode s'.store.words.tables (hashed_setting eq hash law s' core').lawful es step.kept.allowed
+
+    -- a pair that takes the place of another was in no map before
+    put_new : (t y : ℕ) (p q : Stored K V) → step.made ≡ Replace t y p q ∷ [] → IsUnused q.number (replay eq good.es ∷ good.maps)
+    put_new t y p q is =
+        let (at, old, new, asking, own) = replaces_own eq (setting_of eq (low hash) s.mode s.store.words.tables) (coding_of (low hash)) step.call.key (run good.es first_state) (kind_of_ask x.before.machine) (follows_of x.before.machine) (good.tales c).hands (ask_of x.before.machine) x.answer step.made step.hands t y p q (law.classes.refl p.key) is step.told in
+        good.unused c x.before x.was q own (chain_once x.before.machine at old new asking)
+
+    visited : (d : ℕ) (v : Visiting A) (call : Call K V A) → visiting s'.callers d ≡ Some v → open_call schedule d later_history ≡ Some call → IsVisitTied eq says s'.store schedule v call d (visit_tale (tales d)) later_history later_maps later_answers
+    visited d v call now e =
+        let (differ, before) = visits_other d v now in
+        let split = (good.kept.visitors d v before).split in
+        visit_other eq says schedule s.store s'.store v call c d turn event (visit_tale (good.tales d)) ((good.tales d).since ++ step.made) step.made h (replay eq good.es) (replay eq es) good.maps answering.answered good.answers (λ z. differ (sym z)) grows.pairs_stay one refl
+        (ap (λ l. replay eq l) (sym split)) (ap (λ l. replay eq l) (ap (λ l. l ++ step.made) (sym split) ∙ append_assoc (good.tales d).begun (good.tales d).since step.made)) keyed
+        (timeline_steady eq schedule start later_history later_maps later_answers timeline).0 put_new
+        (good.visited d v call before (open_other d call differ e))
+
     -- the call goes on
     goes_on_good : IsGood eq says hash schedule first start s' later_history
-    goes_on_good = record { es = es; tales = tales; maps = replay eq good.es ∷ good.maps; answers = later_answers; core = core'; kept = step.kept; timeline = timeline; logged = logged; given = given; left = left; resized = resized; kept_pairs = λ n p there. grows.pairs_stay n p (good.kept_pairs n p there); fresh = fresh; made_new = made_new; unused = unused; tied = tied }
+    goes_on_good = record { es = es; tales = tales; maps = replay eq good.es ∷ good.maps; answers = later_answers; core = core'; kept = step.kept; timeline = timeline; logged = logged; given = given; left = left; resized = resized; visited = visited; kept_pairs = λ n p there. grows.pairs_stay n p (good.kept_pairs n p there); fresh = fresh; made_new = made_new; unused = unused; tied = tied }
 
     -- or it replies
     replies_good : (rep : Reply) → reply ≡ Some rep → IsGood eq says hash schedule first start s' (entry turn c (Replied rep) ∷ later_history)
@@ -465,6 +536,11 @@ module _ {K V S A : Type 0} (eq : K → K → Bool) (hash : K → ℕ) (law : Is
           let ne : c ≢ d = λ y. (resizes_other d z now).0 (sym y) in
           let was = resized d z call now (sym (open_call-other schedule c d turn (Replied rep) later_history ne) ∙ e) in
           (was.0, change_of-other c d turn (Replied rep) later_history ne ∙ was.1);
+      visited = λ d v call now e.
+          let ne : c ≢ d = λ y. (visits_other d v now).0 (sym y) in
+          visit_entry eq says schedule s'.store s'.store v call c d turn (Replied rep) (visit_tale (tales d)) later_history (replay eq es) (replay eq good.es ∷ good.maps) None later_answers ne (λ n p there. there)
+          (ap (λ l. replay eq l) (sym (step.kept.visitors d v now).split)) keyed
+          (visited d v call now (sym (open_call-other schedule c d turn (Replied rep) later_history ne) ∙ e));
       kept_pairs = λ n p there. grows.pairs_stay n p (good.kept_pairs n p there);
       fresh = (λ call began. tt, fresh);
       made_new = λ d r call now e q made. elim (cases_same d c) [
@@ -518,14 +594,15 @@ module _ {K V S A : Type 0} (eq : K → K → Bool) (hash : K → ℕ) (law : Is
         let before : resizing begun_callers d ≡ Some z = sym (ap (λ (y : List (Seat K V A)). resizing y d) x.callers) ∙ now in
         elim (cases_same d c) [
           | inl same ↦
-              let is = resizer_begun_is hash s.mode s.initial call z (same_item (begun_work hash s.mode s.initial call) (works.Resize z) (resizing-here (with_seat s.callers c) c (Some (begun_work hash s.mode s.initial call)) z (ap (resizing begun_callers) (sym same) ∙ before))) in
+              let is = resize_begun hash s.mode s.initial call z (same_item (begun_work hash s.mode s.initial call) (works.Resize z) (resizing-here (with_seat s.callers c) c (Some (begun_work hash s.mode s.initial call)) z (ap (resizing begun_callers) (sym same) ∙ before))) in
               let is_call : call ≡ other = same_item call other (sym (open_call-own schedule c turn Begun h ∙ ap begun_by at) ∙ sym (ap (λ y. open_call schedule y (entry turn c Begun ∷ h)) same) ∙ e) in
-              (ap (λ (y : Call K V A). key_of y) (sym is_call) ∙ is.no_key, subst (λ y. change_of y (entry turn c Begun ∷ h) ≡ None) (sym same) (change_of-own c turn Begun h))
+              (subst IsResize is_call is, subst (λ y. change_of y (entry turn c Begun ∷ h) ≡ None) (sym same) (change_of-own c turn Begun h))
           | inr differ ↦
               let ne : c ≢ d = λ y. differ (sym y) in
               let was = good.resized d z other (sym (resizing-with_seat s.callers c d) ∙ sym (resizing-elsewhere (with_seat s.callers c) c d (Some (begun_work hash s.mode s.initial call)) differ) ∙ before) (sym (open_call-other schedule c d turn Begun h ne) ∙ e) in
               (was.0, change_of-other c d turn Begun h ne ∙ was.1)
         ];
+    visited = visited;
     kept_pairs = subst (λ (y : StoreState K V S). KeepsPairs first y) (sym x.store) good.kept_pairs;
     fresh = (λ call began. tt, good.fresh);
     made_new = λ d r other now e q made. elim (cases_same d c) [
@@ -553,10 +630,43 @@ module _ {K V S A : Type 0} (eq : K → K → Bool) (hash : K → ℕ) (law : Is
           call_begun hash s.mode s.initial call r (same_item (begun_work hash s.mode s.initial call) (works.Call r) (running-here (with_seat s.callers c) c (Some (begun_work hash s.mode s.initial call)) r (sym (ap (λ (y : List (Seat K V A)). running y c) x.callers) ∙ ap (running s'.callers) (sym same) ∙ now)))
 
       tale_other : (d : ℕ) → d ≢ c → tales d ≡ good.tales d
-      tale_other d differ = ap (λ b. cond b (record { begun = good.es; since = []; hands = no_hands }) (good.tales d)) (differs d c differ)
+      tale_other d differ = ap (λ b. cond b (record { begun = good.es; since = []; hands = no_hands; visit = visits.no_hands }) (good.tales d)) (differs d c differ)
 
-      tale_same : tales c ≡ record { begun = good.es; since = []; hands = no_hands }
-      tale_same = ap (λ b. cond b (record { begun = good.es; since = []; hands = no_hands }) (good.tales c)) (eq-eqb c c refl)
+      tale_same : tales c ≡ record { begun = good.es; since = []; hands = no_hands; visit = visits.no_hands }
+      tale_same = ap (λ b. cond b (record { begun = good.es; since = []; hands = no_hands; visit = visits.no_hands }) (good.tales c)) (eq-eqb c c refl)
+
+      -- a visitor that is another's stands as it stood, and one that begins stands at its begin
+      keyed : IsKeyed eq (replay eq good.es)
+      keyed = replay_keyed eq (low hash) s.mode s.store.words.tables (hashed_setting eq hash law s good.core).lawful good.es good.kept.allowed
+
+      stays : KeepsPairs s.store s'.store
+      stays n p there = ap (λ (y : StoreState K V S). pair_of y n) x.store ∙ there
+
+      visits_other : (d : ℕ) (v : Visiting A) → d ≢ c → visiting s'.callers d ≡ Some v → visiting s.callers d ≡ Some v
+      visits_other d v differ now =
+          sym (visiting-with_seat s.callers c d) ∙ sym (visiting-elsewhere (with_seat s.callers c) c d (Some (begun_work hash s.mode s.initial call)) differ) ∙ sym (ap (λ (y : List (Seat K V A)). visiting y d) x.callers) ∙ now
+
+      visits_same : (d : ℕ) (v : Visiting A) → d ≡ c → visiting s'.callers d ≡ Some v → begun_work hash s.mode s.initial call ≡ works.Visit v
+      visits_same d v same now =
+          same_item (begun_work hash s.mode s.initial call) (works.Visit v) (visiting-here (with_seat s.callers c) c (Some (begun_work hash s.mode s.initial call)) v (sym (ap (λ (y : List (Seat K V A)). visiting y c) x.callers) ∙ ap (visiting s'.callers) (sym same) ∙ now))
+
+      visited : (d : ℕ) (v : Visiting A) (other : Call K V A) → visiting s'.callers d ≡ Some v → open_call schedule d (entry turn c Begun ∷ h) ≡ Some other → IsVisitTied eq says s'.store schedule v other d (visit_tale (tales d)) (entry turn c Begun ∷ h) (replay eq good.es ∷ replay eq good.es ∷ good.maps) (None ∷ good.answers)
+      visited d v other now e = elim (cases_same d c) [
+        | inl same ↦
+            let begins = visit_begun hash s.mode s.initial call v (visits_same d v same now) in
+            let is_call : call ≡ other = same_item call other (sym (open_call-own schedule c turn Begun h ∙ ap begun_by at) ∙ sym (ap (λ y. open_call schedule y (entry turn c Begun ∷ h)) same) ∙ e) in
+            subst (λ y. IsVisitTied eq says s'.store schedule v other y (visit_tale (tales y)) (entry turn c Begun ∷ h) (replay eq good.es ∷ replay eq good.es ∷ good.maps) (None ∷ good.answers)) (sym same)
+            (subst (λ y. IsVisitTied eq says s'.store schedule v y c (visit_tale (tales c)) (entry turn c Begun ∷ h) (replay eq good.es ∷ replay eq good.es ∷ good.maps) (None ∷ good.answers)) is_call
+            (subst (λ (y : Tale K V). IsVisitTied eq says s'.store schedule v call c (visit_tale y) (entry turn c Begun ∷ h) (replay eq good.es ∷ replay eq good.es ∷ good.maps) (None ∷ good.answers)) (sym tale_same)
+            (visit_begins eq says schedule s'.store v call c turn good.es h (replay eq good.es ∷ good.maps) None good.answers begins.0 keyed (λ a had. ap (λ o. begun_answers (begun_by o)) at ∙ sym begins.1 ∙ had))))
+        | inr differ ↦
+            let ne : c ≢ d = λ z. differ (sym z) in
+            let before = visits_other d v differ now in
+            subst (λ (y : Tale K V). IsVisitTied eq says s'.store schedule v other d (visit_tale y) (entry turn c Begun ∷ h) (replay eq good.es ∷ replay eq good.es ∷ good.maps) (None ∷ good.answers)) (sym (tale_other d differ))
+            (visit_entry eq says schedule s.store s'.store v other c d turn Begun (visit_tale (good.tales d)) h (replay eq good.es) good.maps None good.answers ne stays
+            (ap (λ l. replay eq l) (sym (good.kept.visitors d v before).split)) keyed
+            (good.visited d v other before (sym (open_call-other schedule c d turn Begun h ne) ∙ e)))
+      ]
 
       unused : (d : ℕ) (r : Running K V A) → running s'.callers d ≡ Some r → (q : Stored K V) → IsOneOf (tales d).hands.call.made q → change_in r.machine.call.state ≡ None → IsUnused q.number (replay eq good.es ∷ replay eq good.es ∷ good.maps)
       unused d r now q made none = elim (cases_same d c) [
@@ -586,7 +696,7 @@ module _ {K V S A : Type 0} (eq : K → K → Bool) (hash : K → ℕ) (law : Is
           nothing_before [] rest none = refl
           nothing_before (y ∷ so_far) rest none = cc
 
-          tied_begun : (r : Running K V A) (is : IsBegun hash s.mode s.initial call r) → IsTied eq s'.store (begun hash s.mode s.initial is.task is.key (value_of_call call) (answers_of_call call)) call c (record { begun = good.es; since = []; hands = no_hands }) (entry turn c Begun ∷ h) (replay eq good.es ∷ replay eq good.es ∷ good.maps) (None ∷ good.answers)
+          tied_begun : (r : Running K V A) (is : IsBegun hash s.mode s.initial call r) → IsTied eq s'.store (begun hash s.mode s.initial is.task is.key (value_of_call call) (answers_of_call call)) call c (record { begun = good.es; since = []; hands = no_hands; visit = visits.no_hands }) (entry turn c Begun ∷ h) (replay eq good.es ∷ replay eq good.es ∷ good.maps) (None ∷ good.answers)
           tied_begun r is = record {
             own = is.key;
             key = refl;
@@ -609,6 +719,9 @@ module _ {K V S A : Type 0} (eq : K → K → Bool) (hash : K → ℕ) (law : Is
               begun_value (Compute k a) v had = tt
               begun_value (Reserve more) v had = let f : None ≡ Some v = had in absurd cc
               begun_value CopyAll v had = let f : None ≡ Some v = had in absurd cc
+              begun_value Clear v had = let f : None ≡ Some v = had in absurd cc
+              begun_value (Retain a) v had = let f : None ≡ Some v = had in absurd cc
+              begun_value Walk v had = let f : None ≡ Some v = had in absurd cc
 
   -- a run begins with no entry and the core's map
   pub good_start : (says : Says K V A) (schedule : List (Turn K V A)) (s : CoreState K V S A) (es : List (Exchange (Stored K V))) (tales : ℕ → Tale K V) → IsCore s.store s.callers s.mode → IsKept eq hash s.mode s.store s.callers es tales → IsGood eq says hash schedule s.store (map_of eq s) s []
@@ -624,6 +737,7 @@ module _ {K V S A : Type 0} (eq : K → K → Bool) (hash : K → ℕ) (law : Is
     given = tt;
     left = λ d r call now e a had. let f : None ≡ Some call = e in absurd cc;
     resized = λ d z call now e. let f : None ≡ Some call = e in absurd cc;
+    visited = λ d v call now e. let f : None ≡ Some call = e in absurd cc;
     kept_pairs = λ n p there. there;
     fresh = tt;
     made_new = λ d r call now e q made. let f : None ≡ Some call = e in absurd cc;

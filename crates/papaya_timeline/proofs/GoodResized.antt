@@ -1,9 +1,10 @@
 -- A step of a call that resizes the map keeps a good history.
-use Rattle.std.proofs.Common.{◌≡◌, ◌≢◌, ◌⊎◌, ◌==◌, inl, inr, ⊎_elim, ℕ, Bool, true, false, cond, Option, None, Some, List, [], ◌∷◌, ◌++◌, slice_get, refl, sym, ◌∙◌, ap, subst, append-nil}
+use Rattle.std.proofs.Common.{◌≡◌, ◌≢◌, ◌⊎◌, ◌==◌, inl, inr, ⊎_elim, ℕ, Bool, true, false, cond, Option, None, Some, List, [], ◌∷◌, ◌++◌, slice_get, refl, sym, ◌∙◌, ap, subst, append-nil, append_assoc}
 use Rattle.papaya_words.specs.declared.probe.Refused.{Refused as Refusal}
 use Rattle.papaya_words.specs.declared.probe.Refused.TheVariants.{RemoveNothing, Capacity}
 use Rattle.papaya_ask.specs.declared.ask.StepKind.{StepKind}
 use Rattle.papaya_ask.specs.declared.call.Call.{Call}
+use Rattle.papaya_ask.specs.declared.call.Call.TheVariants.{Get, Insert, TryInsert, RemoveIf, Compute, Reserve, CopyAll, Clear, Retain, Walk}
 use Rattle.papaya_ask.specs.declared.call.Reply.{Reply}
 use Rattle.papaya_ask.specs.declared.call.Reply.TheVariants.{Done, Refused}
 use Rattle.papaya_ask.specs.declared.copy_ask.CopyAsk.{CopyAsk}
@@ -18,9 +19,9 @@ use Rattle.papaya_chain.specs.Resizer.{after, follows_in, kind_in, reply_in}
 use Rattle.papaya_chain_rests.specs.Resizers.{IsResizeCause, IsStageTold}
 use Rattle.papaya_chain_rests.specs.Told.{Hands, IsCopyTold}
 use Rattle.papaya_law.specs.Code.{Coding}
-use Rattle.papaya_law.specs.Exchange.{Exchange, Open, Setting, State, run, start as first_state}
+use Rattle.papaya_law.specs.Exchange.{Exchange, Open, Replace, Setting, State, run, start as first_state}
 use Rattle.papaya_law.specs.Invariant.{named}
-use Rattle.papaya_rests.specs.Rests.{change_in}
+use Rattle.papaya_rests.specs.Rests.{Change, change_in}
 use Rattle.papaya_rests.specs.Told.{IsOneOf}
 use Rattle.papaya_store.specs.declared.pairs.Running.{Running}
 use Rattle.papaya_store.specs.Store.{KeepsPairs, StoreState, Stored, pair_of}
@@ -29,25 +30,27 @@ use Rattle.papaya_timeline.specs.declared.seat.Work.{Work}
 use Rattle.papaya_timeline.specs.declared.seat.Work.TheVariants as works
 use Rattle.papaya_timeline.specs.declared.trace.Turn.{Turn}
 use Rattle.papaya_timeline.specs.declared.trace.Event.{Event}
-use Rattle.papaya_timeline.specs.declared.trace.Event.TheVariants.{Begun, Changed, Moved, Asked, Shown, Other, Replied}
+use Rattle.papaya_timeline.specs.declared.trace.Event.TheVariants.{Begun, Changed, Moved, Asked, Shown, Gave, Other, Replied}
 use Rattle.papaya_timeline.specs.Advances.{goes_on}
-use Rattle.papaya_timeline.specs.Callers.{resizer_in, resizing, running, with_work}
+use Rattle.papaya_timeline.specs.Callers.{resizer_in, resizing, running, visiting, with_work}
 use Rattle.papaya_timeline.specs.Core.{CoreState, IsCore}
 use Rattle.papaya_timeline.specs.Given.{asks_closure}
 use Rattle.papaya_timeline.specs.Headline.{AreLogged, ComesNew}
-use Rattle.papaya_timeline.specs.Kept.{IsKept, Tale, setting_of, coding_of, low}
-use Rattle.papaya_timeline.specs.Maps.{Map, Same, key_of}
+use Rattle.papaya_timeline.specs.Kept.{IsKept, Tale, setting_of, coding_of, low, visit_tale}
+use Rattle.papaya_timeline.specs.Maps.{Map, Same}
 use Rattle.papaya_timeline.specs.Content.{map_of}
 use Rattle.papaya_timeline.specs.Moves.{MovesMap}
 use Rattle.papaya_timeline.specs.Resizes.{Resizes}
 use Rattle.papaya_timeline.specs.Runs.{History, with_step}
-use Rattle.papaya_timeline.specs.Timeline.{Fits, FitsOpen, IsAnsweredIn, IsLegal, IsUnused, begun_by, change_by, change_of, open_after, open_call}
-use Rattle.papaya_timeline.proofs.CallersLemmas.{differs, resizing-elsewhere, resizing-here, running-elsewhere, running-here}
+use Rattle.papaya_timeline.specs.Timeline.{Fits, FitsDone, FitsOpen, IsAnsweredIn, IsUnchanged, IsLegal, IsUnused, Timeline, begun_by, change_by, change_of, open_after, open_call}
+use Rattle.papaya_timeline.proofs.CallersLemmas.{differs, resizing-elsewhere, resizing-here, running-elsewhere, running-here, visiting-elsewhere, visiting-here}
 use Rattle.papaya_timeline.proofs.CopyAnswers.{left_logged}
 use Rattle.papaya_timeline.proofs.CoreLemmas.{cases_same}
 use Rattle.papaya_timeline.proofs.EndingLemmas.{copy_unrefused}
 use Rattle.papaya_timeline.proofs.GivenLemmas.{given_more, left_more}
-use Rattle.papaya_timeline.proofs.Good.{IsGood, IsTied, replay}
+use Rattle.papaya_timeline.proofs.EntersOnce.{timeline_steady}
+use Rattle.papaya_timeline.proofs.Good.{IsGood, IsKeyed, IsResize, IsTied, IsVisitTied, replay}
+use Rattle.papaya_timeline.proofs.GoodVisits.{replay_keyed, visit_entry, visit_other}
 use Rattle.papaya_timeline.proofs.KeptLemmas.{IsLawfulKeys, hashed_setting, map_kept}
 use Rattle.papaya_timeline.proofs.KeptResized as resized
 use Rattle.papaya_timeline.proofs.LegalLemmas.{copy_same}
@@ -55,6 +58,7 @@ use Rattle.papaya_timeline.proofs.ReplayLemmas.{held_in_slot, map_replayed, repl
 use Rattle.papaya_timeline.proofs.StepEvents.{IsCopied, copy_told, stage_moves}
 use Rattle.papaya_timeline.proofs.StoreLemmas.{matched}
 use Rattle.papaya_timeline.proofs.TiedLemmas.{tied_entry, tied_other}
+use Rattle.papaya_visit_store.specs.declared.visits.Visiting.{Visiting}
 use Rattle.papaya_timeline.proofs.TimelineLemmas.{change_of-other, change_of-own, entry, logged_more, open_call-other, open_call-own}
 
 -- an event that changes no pair of the map and shows nothing
@@ -64,13 +68,14 @@ IsQuiet Other = Unit {0}
 IsQuiet _ = ⊥
 
 -- what holds of such events
-quiet_cases : (P : Event → Type 0) → P Other → ((kind : StepKind) → P (Moved kind)) → (e : Event) → IsQuiet e → P e
+pub quiet_cases : (P : Event → Type 0) → P Other → ((kind : StepKind) → P (Moved kind)) → (e : Event) → IsQuiet e → P e
 quiet_cases P other moved (Moved kind) q = moved kind
 quiet_cases P other moved Other q = other
 quiet_cases P other moved Begun q = absurd q
 quiet_cases P other moved (Changed kind old new) q = absurd q
 quiet_cases P other moved (Asked n agrees) q = absurd q
 quiet_cases P other moved (Shown shown kind) q = absurd q
+quiet_cases P other moved (Gave n) q = absurd q
 quiet_cases P other moved (Replied reply) q = absurd q
 
 -- a resizer is done, or refused
@@ -79,24 +84,50 @@ resizer_replies stages.Done reply e = inl (let f : Some Done ≡ Some reply = e 
 resizer_replies (stages.Refused refused) reply e = inr (refused, let f : Some (Refused refused) ≡ Some reply = e in cc)
 resizer_replies stage reply e = let f : None ≡ Some reply = e in absurd cc
 
+-- a call that resizes the map is done, or refused, without a change
+pub resize_done : {K V A : Type 0} (eq : K → K → Bool) (call : Call K V A) (c : ℕ) (h : History) (maps : List (Map K V)) → IsResize call → change_of c h ≡ None → FitsDone eq call c h maps
+resize_done eq (Reserve more) c h maps is none = (refl, none)
+resize_done eq CopyAll c h maps is none = (refl, none)
+resize_done eq (Get k) c h maps is none = absurd is
+resize_done eq (Insert k v) c h maps is none = absurd is
+resize_done eq (TryInsert k v) c h maps is none = absurd is
+resize_done eq (RemoveIf k a) c h maps is none = absurd is
+resize_done eq (Compute k a) c h maps is none = absurd is
+resize_done eq Clear c h maps is none = absurd is
+resize_done eq (Retain a) c h maps is none = absurd is
+resize_done eq Walk c h maps is none = absurd is
+
+-- what made no change left all as it was
+pub left_all : {K V A : Type 0} (eq : K → K → Bool) (call : Call K V A) (made : Change) → made ≡ None → IsUnchanged eq call made
+left_all eq (Reserve more) made none = none
+left_all eq CopyAll made none = none
+left_all eq (Get k) made none = none
+left_all eq (Insert k v) made none = none
+left_all eq (TryInsert k v) made none = none
+left_all eq (RemoveIf k a) made none = none
+left_all eq (Compute k a) made none = none
+left_all eq Clear made none = tt
+left_all eq (Retain a) made none = tt
+left_all eq Walk made none = none
+
 module _ {K V : Type 0} (eq : K → K → Bool) (g : Setting K (Stored K V)) (c : Coding K (Stored K V)) (s : State (Stored K V)) (hands : Hands (Stored K V)) (a : Answer) (made : List (Exchange (Stored K V))) (hands' : Hands (Stored K V)) where
   -- one exchange at most was made, and the map is as it was
   abbrev pub IsOne : Type 0
   IsOne = ((made ≡ []) ⊎ ((e : Exchange (Stored K V)) × (made ≡ e ∷ []))) × ((es : List (Exchange (Stored K V))) → Same (replay eq es) (replay eq (es ++ made)))
 
-  copied_one : (kind : _) (follows : ℕ) (ask : CopyAsk) → IsCopyTold g c s kind follows hands ask a made hands' → IsOne
+  pub copied_one : (kind : _) (follows : ℕ) (ask : CopyAsk) → IsCopyTold g c s kind follows hands ask a made hands' → IsOne
   copied_one kind follows ask told = (
     ⊎_elim (λ none. inl none) (λ (x : IsCopied g c s kind hands.kept ask made). inr (x.by, x.made)) (copy_told g c s kind follows hands ask a made hands' told),
     copy_same eq g c s kind follows hands ask a made hands' told,
   )
 
-  none_one : made ≡ [] → IsOne
+  pub none_one : made ≡ [] → IsOne
   none_one none = (inl none, λ es j. ap (λ fs. replay eq (es ++ fs) j) none ∙ ap (λ fs. replay eq fs j) (append-nil es))
 
   open_one : (table : ℕ) → made ≡ Open table ∷ [] → IsOne
   open_one table is = (inr (Open table, is), λ es j. ap (λ fs. replay eq (es ++ fs) j) is ∙ ap (λ m. m j) (replay-append eq es (Open table ∷ [])))
 
-  stage_one : (stage : Stage) → IsStageTold g c s stage hands a made hands' → IsOne
+  pub stage_one : (stage : Stage) → IsStageTold g c s stage hands a made hands' → IsOne
   stage_one (stages.Opening table) told = matched IsOne (s.root == 0) ((a ≡ answers.Call Exchanged) × (made ≡ Open table ∷ []) × (hands' ≡ hands)) ((a ≡ answers.Call (Found_instead s.root)) × ((made ≡ []) × (hands' ≡ hands))) told (λ _ opened. open_one table opened.1) (λ _ lost. none_one lost.1.0)
   stage_one stage (ask, asked, told) = copied_one (kind_in stage) (follows_in stage) ask told
 
@@ -207,14 +238,45 @@ module _ {K V S A : Type 0} (eq : K → K → Bool) (hash : K → ℕ) (law : Is
         tied_other eq s.store s'.store r call c d turn event good.tales made hands h good.es (replay eq good.es ∷ good.maps) None good.answers keys_stay pairs_stay one.0 (λ z. differ (sym z)) (good.kept.calls d r before).split (good.tied d r call before (open_other d call differ e))
 
     -- the resizer's call has no key, and changed nothing
-    own_resized : (call : Call K V A) → open_call schedule c h ≡ Some call → (key_of call ≡ None) × (change_of c later_history ≡ None)
+    own_resized : (call : Call K V A) → open_call schedule c h ≡ Some call → IsResize call × (change_of c later_history ≡ None)
     own_resized call e = let was = good.resized c x.before call x.was e in (was.0, unchanged ∙ was.1)
 
-    still_resized : (d : ℕ) (z : Resizer) (call : Call K V A) → resizing s'.callers d ≡ Some z → open_call schedule d later_history ≡ Some call → (key_of call ≡ None) × (change_of d later_history ≡ None)
+    still_resized : (d : ℕ) (z : Resizer) (call : Call K V A) → resizing s'.callers d ≡ Some z → open_call schedule d later_history ≡ Some call → IsResize call × (change_of d later_history ≡ None)
     still_resized d z call now e = elim (resizes_was d z now) [
-      | inl (same, goes) ↦ subst (λ y. (key_of call ≡ None) × (change_of y later_history ≡ None)) (sym same) (own_resized call (sym opened ∙ ap (λ y. open_call schedule y later_history) (sym same) ∙ e))
+      | inl (same, goes) ↦ subst (λ y. IsResize call × (change_of y later_history ≡ None)) (sym same) (own_resized call (sym opened ∙ ap (λ y. open_call schedule y later_history) (sym same) ∙ e))
       | inr (differ, before) ↦ (let was = good.resized d z call before (open_other d call differ e) in (was.0, change_of-other c d turn event h (λ y. differ (sym y)) ∙ was.1))
     ]
+
+    -- a visitor is another caller's
+    visits_other : (d : ℕ) (v : Visiting A) → visiting s'.callers d ≡ Some v → (d ≢ c) × (visiting s.callers d ≡ Some v)
+    visits_other d v now =
+        let work : Option (Work K V A) = goes_on reply (works.Resize (after x.before x.answer)) in
+        let before : visiting (with_work s.callers c work) d ≡ Some v = sym (ap (λ (y : List (Seat K V A)). visiting y d) x.callers) ∙ now in
+        elim (cases_same d c) [
+          | inl same ↦ absurd (resized.goes_on-visitor reply (after x.before x.answer) v _ refl (visiting-here s.callers c work v (ap (visiting (with_work s.callers c work)) (sym same) ∙ before)))
+          | inr differ ↦ (differ, sym (visiting-elsewhere s.callers c d work differ) ∙ before)
+        ]
+
+    keyed : IsKeyed eq (replay eq es)
+    keyed = replay_keyed eq (low hash) s'.mode s'.store.words.tables (hashed_setting eq hash law s' core').lawful es kept.allowed
+
+    -- no pair takes the place of another
+    no_replace : (t y : ℕ) (p q : Stored K V) → made ≡ Replace t y p q ∷ [] → ⊥
+    no_replace t y p q is =
+        let f : None ≡ Some q = sym (one.1 [] p.key) ∙ ap (λ l. replay eq l p.key) is ∙ ap (λ b. cond b (Some q) None) (law.classes.refl p.key) in
+        absurd cc
+
+    timeline : Timeline eq schedule start later_history later_maps (None ∷ good.answers)
+    timeline = (legal, quiet_cases (λ e. IsAnsweredIn {V = V} e None) refl (λ kind. refl) event quiet, good.timeline)
+
+    visited : (d : ℕ) (v : Visiting A) (call : Call K V A) → visiting s'.callers d ≡ Some v → open_call schedule d later_history ≡ Some call → IsVisitTied eq says s'.store schedule v call d (visit_tale (tales d)) later_history later_maps (None ∷ good.answers)
+    visited d v call now e =
+        let (differ, before) = visits_other d v now in
+        let split = (good.kept.visitors d v before).split in
+        visit_other eq says schedule s.store s'.store v call c d turn event (visit_tale (good.tales d)) ((good.tales d).since ++ made) made h (replay eq good.es) (replay eq es) good.maps None good.answers (λ z. differ (sym z)) pairs_stay one.0 refl
+        (ap (λ l. replay eq l) (sym split)) (ap (λ l. replay eq l) (ap (λ l. l ++ made) (sym split) ∙ append_assoc (good.tales d).begun (good.tales d).since made)) keyed
+        (timeline_steady eq schedule start later_history later_maps (None ∷ good.answers) timeline).0 (λ t y p q is. absurd (no_replace t y p q is))
+        (good.visited d v call before (open_other d call differ e))
 
     -- the resizer goes on
     abbrev goes_on_good : IsGood eq says hash schedule first start s' later_history
@@ -225,7 +287,7 @@ module _ {K V S A : Type 0} (eq : K → K → Bool) (hash : K → ℕ) (law : Is
       answers = None ∷ good.answers;
       core = core';
       kept = kept;
-      timeline = (legal, quiet_cases (λ e. IsAnsweredIn {V = V} e None) refl (λ kind. refl) event quiet, good.timeline);
+      timeline = timeline;
       logged = (in_log, logged);
       given = (
         λ call e asks. let f : false ≡ true = sym (quiet_cases (λ e. asks_closure e ≡ false) refl (λ kind. refl) event quiet) ∙ asks in absurd cc,
@@ -235,6 +297,7 @@ module _ {K V S A : Type 0} (eq : K → K → Bool) (hash : K → ℕ) (law : Is
           let (differ, before) = runs_other d r now in
           inr (inr (λ z. differ (sym z), left_more says s.store s'.store pairs_stay schedule a d h good.answers (good.left d r call before (open_other d call differ e) a had)));
       resized = still_resized;
+      visited = visited;
       kept_pairs = λ n p there. pairs_stay n p (good.kept_pairs n p there);
       fresh = (λ call began. quiet_cases (ComesNew first) tt (λ kind. tt) event quiet, good.fresh);
       made_new = λ d r call now e q of_it.
@@ -258,8 +321,8 @@ module _ {K V S A : Type 0} (eq : K → K → Bool) (hash : K → ℕ) (law : Is
     fits (Some call) e rep some =
         let own = own_resized call (sym opened ∙ e) in
         elim (resizer_replies (after x.before x.answer).state rep (sym x.reply_is ∙ some)) [
-          | inl done ↦ subst (λ y. Fits eq call y c later_history later_maps) (sym done) own
-          | inr (refused, is) ↦ subst (λ y. Fits eq call y c later_history later_maps) (sym is) (own.1, λ nothing. absurd (refused_otherwise refused (some ∙ ap (λ y. Some y) is) nothing))
+          | inl done ↦ subst (λ y. Fits eq call y c later_history later_maps) (sym done) (resize_done eq call c later_history later_maps own.0 own.1)
+          | inr (refused, is) ↦ subst (λ y. Fits eq call y c later_history later_maps) (sym is) (left_all eq call (change_of c later_history) own.1, λ nothing. absurd (refused_otherwise refused (some ∙ ap (λ y. Some y) is) nothing))
         ]
 
     -- or it replies
@@ -285,6 +348,11 @@ module _ {K V S A : Type 0} (eq : K → K → Bool) (hash : K → ℕ) (law : Is
                 let was = still_resized d z call now (sym (open_call-other schedule c d turn (Replied rep) later_history apart) ∙ e) in
                 (was.0, change_of-other c d turn (Replied rep) later_history apart ∙ was.1))
           ];
+          visited = λ d v call now e.
+              let apart : c ≢ d = λ y. (visits_other d v now).0 (sym y) in
+              visit_entry eq says schedule s'.store s'.store v call c d turn (Replied rep) (visit_tale (tales d)) later_history (replay eq es) (replay eq good.es ∷ good.maps) None (None ∷ good.answers) apart (λ n p there. there)
+              (ap (λ l. replay eq l) (sym (kept.visitors d v now).split)) keyed
+              (visited d v call now (sym (open_call-other schedule c d turn (Replied rep) later_history apart) ∙ e));
           kept_pairs = on.kept_pairs;
           fresh = (λ call began. tt, on.fresh);
           made_new = λ d r call now e q of_it. on.made_new d r call now (sym (open_call-other schedule c d turn (Replied rep) later_history (ne d r now)) ∙ e) q of_it;

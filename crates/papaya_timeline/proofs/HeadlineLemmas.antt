@@ -32,14 +32,16 @@ use Rattle.papaya_chain.specs.declared.resizer.Resizer.{Resizer}
 use Rattle.papaya_chain.specs.Resizer.{IsStandingResizer, after as after_resize, reply_of}
 use Rattle.papaya_timeline.proofs.CopyAnswers.{left_logged}
 use Rattle.papaya_timeline.proofs.GoodResized.{good_resize, resize_moves}
-use Rattle.papaya_timeline.proofs.KeptResized.{goes_on-call, goes_on-resizer, left as resize_left}
+use Rattle.papaya_timeline.proofs.GoodVisited.{good_visit}
+use Rattle.papaya_timeline.proofs.KeptVisited.{visited-core, step_after as visit_after}
+use Rattle.papaya_timeline.proofs.KeptResized.{goes_on-call, goes_on-resizer, goes_on-visitor, left as resize_left}
 use Rattle.papaya_timeline.proofs.ResizerStands.{resizer_fits, resizer_stands}
 use Rattle.papaya_timeline.specs.Runs.{History, StepRuns, BeginRuns, StepsRun, TurnRuns, TurnsRun, IsCutShort, StopsEarly}
 use Rattle.papaya_store.specs.Store.{KeepsPairs, StoreState, Stored}
 use Rattle.papaya_keys.specs.Hashes.{hash_of}
-use Rattle.papaya_timeline.proofs.CallersLemmas.{call-put, no-resizer, same_item}
+use Rattle.papaya_timeline.proofs.CallersLemmas.{call-put, no-resizer, no-visitor, same_item}
 use Rattle.papaya_timeline.proofs.ChainLemmas.{own_asks}
-use Rattle.papaya_timeline.proofs.CoreLemmas.{begun-core, copied-core, performed-core, still_going, with_seat-core, with_work-core}
+use Rattle.papaya_timeline.proofs.CoreLemmas.{begun-core, begun-visitor, copied-core, performed-core, still_going, with_seat-core, with_work-core}
 use Rattle.papaya_timeline.proofs.Good.{IsGood}
 use Rattle.papaya_timeline.proofs.GoodLemmas.{good_start, good_begin, good_step, good_end}
 use Rattle.papaya_timeline.proofs.AdvanceLemmas.{advance_moves}
@@ -61,7 +63,7 @@ module _ {K V S A : Type 0} where
       let r : Running K V A = record x.later { machine = after m x.answer } in
       subst (λ y. IsCore s'.store s'.callers y) (sym x.mode)
       (subst (λ (y : List (Seat K V A)). IsCore s'.store y s.mode) (sym x.callers)
-      (with_work-core s'.store s.callers s.mode caller (as_work (goes_on reply r)) kept (λ q e. still reply r stands (λ none. still_going (after m x.answer) (sym x.reply_is ∙ none)) q (call-put (goes_on reply r) q e)) (λ z e. absurd (no-resizer (goes_on reply r) z e))))
+      (with_work-core s'.store s.callers s.mode caller (as_work (goes_on reply r)) kept (λ q e. still reply r stands (λ none. still_going (after m x.answer) (sym x.reply_is ∙ none)) q (call-put (goes_on reply r) q e)) (λ z e. absurd (no-resizer (goes_on reply r) z e)) (λ v e. absurd (no-visitor (goes_on reply r) v e))))
     where
       still : (reply : Option Reply) (r : Running K V A) → IsStanding r.machine → (reply ≡ None → IsGoing r.machine) → (q : Running K V A) → goes_on reply r ≡ Some q → IsStanding q.machine × IsGoing q.machine
       still None r stands goes q e = subst (λ (y : Running K V A). IsStanding y.machine × IsGoing y.machine) (same_item r q e) (stands, goes refl)
@@ -78,7 +80,8 @@ module _ {K V S A : Type 0} where
       (subst (λ (y : List (Seat K V A)). IsCore s'.store y s.mode) (sym x.callers)
       (with_work-core s'.store s.callers s.mode caller (goes_on reply (works.Resize (after_resize x.before x.answer))) kept
       (λ r e. absurd (goes_on-call reply (after_resize x.before x.answer) r _ refl e))
-      (λ z e. subst (λ y. IsStandingResizer y × (reply_of y ≡ None)) (goes_on-resizer reply (after_resize x.before x.answer) z _ refl e) (stands, sym x.reply_is ∙ going reply z (resumed x.before x.answer) e))))
+      (λ z e. subst (λ y. IsStandingResizer y × (reply_of y ≡ None)) (goes_on-resizer reply (after_resize x.before x.answer) z _ refl e) (stands, sym x.reply_is ∙ going reply z (resumed x.before x.answer) e))
+      (λ v e. absurd (goes_on-visitor reply (after_resize x.before x.answer) v _ refl e))))
     where
       resumed : Resizer → Answer → Work K V A
       resumed z a = works.Resize (after_resize z a)
@@ -95,7 +98,8 @@ module _ {K V S A : Type 0} where
       subst (λ y. IsCore s'.store s'.callers y) (sym x.mode)
       (subst (λ (y : List (Seat K V A)). IsCore s'.store y s.mode) (sym x.callers)
       (subst (λ (y : StoreState K V S). IsCore y (with_work (with_seat s.callers caller) caller (Some w)) s.mode) (sym x.store)
-      (with_work-core s.store (with_seat s.callers caller) s.mode caller (Some w) (with_seat-core s.store s.callers s.mode caller core) (λ r e. begins.0 r (same_item w (works.Call r) e)) (λ z e. begins.1 z (same_item w (works.Resize z) e)))))
+      (with_work-core s.store (with_seat s.callers caller) s.mode caller (Some w) (with_seat-core s.store s.callers s.mode caller core) (λ r e. begins.0 r (same_item w (works.Call r) e)) (λ z e. begins.1 z (same_item w (works.Resize z) e))
+      (λ v e. begun-visitor hash s.mode s.initial call core.chunked x.power v (same_item w (works.Visit v) e)))))
 
 module _ {K V S A : Type 0} (eq : K → K → Bool) (says : Says K V A) (hash : S → K → ℕ) (hasher : S) (law : IsLawfulKeys eq (hash hasher)) (schedule : List (Turn K V A)) (first : StoreState K V S) (start : Map K V) where
   -- a good history of a core with this hasher
@@ -119,10 +123,15 @@ module _ {K V S A : Type 0} (eq : K → K → Bool) (says : Says K V A) (hash : 
           let call = good.kept.calls caller x.before x.was in
           let tale = good.tales caller in
           machine_offers (setting_of eq (low (hash hasher)) s.mode s.store.words.tables) (coding_of (low (hash hasher))) tale.begun tale.since call.key x.before.machine.call tale.hands.call call.rests.call (own_asks x.before.machine ShowNone asking).1
-  step_runs turn caller refuse s s' before after (inl (event, reply, inr x, is)) (same, good) = (
+  step_runs turn caller refuse s s' before after (inl (event, reply, inr (inl x), is)) (same, good) = (
     (resize_left eq (hash hasher) law refuse s caller s' event reply x (ap hash same) good.es good.tales good.core good.kept).hasher_is ∙ same,
     subst (λ y. IsGood eq says (hash hasher) schedule first start s' y) (sym is)
         (good_resize eq (hash hasher) law refuse schedule first start s s' before turn caller event reply x (ap hash same) (resize-core eq hash refuse s caller s' event reply x good.core) good),
+  )
+  step_runs turn caller refuse s s' before after (inl (event, reply, inr (inr x), is)) (same, good) = (
+    (visit_after eq (hash hasher) law says hash refuse s caller s' event reply x (ap hash same) good.es good.tales good.core good.kept).hasher_is ∙ same,
+    subst (λ y. IsGood eq says (hash hasher) schedule first start s' y) (sym is)
+        (good_visit eq (hash hasher) law refuse schedule first start s s' before turn caller event reply x (ap hash same) (visited-core eq (hash hasher) law says hash refuse s caller s' event reply x good.core) good),
   )
   step_runs turn caller refuse s s' before after (inr (idle, passed)) good = passes s s' before after passed.0 passed.1 good
 

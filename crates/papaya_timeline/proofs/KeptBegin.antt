@@ -26,19 +26,22 @@ use Rattle.papaya_copy.specs.declared.link.Link.TheVariants.{Linking}
 use Rattle.papaya_timeline.specs.declared.seat.Work.{Work}
 use Rattle.papaya_timeline.specs.declared.seat.Work.TheVariants as works
 use Rattle.papaya_timeline.specs.Begins.{begun_work}
-use Rattle.papaya_timeline.specs.Callers.{resizing, running, with_seat, with_work}
+use Rattle.papaya_timeline.specs.Callers.{resizing, running, visiting, with_seat, with_work}
 use Rattle.papaya_timeline.specs.Maps.{key_of}
-use Rattle.papaya_timeline.proofs.Begun.{IsBegun, IsResizeBegun, call_begun, resizer_begun_is}
+use Rattle.papaya_timeline.proofs.Begun.{IsBegun, IsResizeBegun, IsVisitBegun, call_begun, resizer_begun_is, visitor_begun_is}
 use Rattle.papaya_timeline.proofs.ResizerLaws.{resizer_begins}
 use Rattle.papaya_timeline.specs.Core.{CoreState}
-use Rattle.papaya_timeline.specs.Kept.{IsKept, IsCall, IsResizing, Tale, is_blocking, setting_of, coding_of, low, begun_tales}
+use Rattle.papaya_timeline.specs.Kept.{HasAnswers, IsKept, IsCall, IsResizing, IsVisiting, Tale, is_blocking, setting_of, coding_of, low, begun_tales, visit_tale}
 use Rattle.papaya_store.specs.New.{HasCapacity}
 use Rattle.papaya_store.specs.Store.{StoreState, Stored}
 use Rattle.papaya_store.specs.Tables.{Tables, table_of, word_at, word_in}
-use Rattle.papaya_timeline.proofs.CallersLemmas.{differs, resizing-elsewhere, resizing-here, resizing-with_seat, running-elsewhere, running-here, running-with_seat, same_item}
+use Rattle.papaya_timeline.proofs.CallersLemmas.{differs, resizing-elsewhere, resizing-here, resizing-with_seat, running-elsewhere, running-here, running-with_seat, same_item, visiting-elsewhere, visiting-here, visiting-with_seat}
 use Rattle.papaya_timeline.proofs.CoreLemmas.{cases_same}
 use Rattle.papaya_timeline.proofs.KeptClosures.{begun_answers}
 use Rattle.papaya_timeline.proofs.KeptTables.{word-made}
+use Rattle.papaya_timeline.proofs.VisitBegins.{visit_begins}
+use Rattle.papaya_visit_rests.specs.Told as visits
+use Rattle.papaya_visit_store.specs.declared.visits.Visiting.{Visiting}
 
 -- a core's machines resize as its setting does
 mode_of : (mode : ResizeMode) → IsModeOf mode (is_blocking mode)
@@ -61,7 +64,7 @@ module _ {K V S A : Type 0} (eq : K → K → Bool) (hash : K → ℕ) where
 
     -- what is told of it: nothing was exchanged since
     abbrev new_tale : Tale K V
-    new_tale = record { begun = es; since = []; hands = no_hands }
+    new_tale = record { begun = es; since = []; hands = no_hands; visit = visits.no_hands }
 
     -- the callers then
     abbrev callers' : List (Seat K V A)
@@ -111,6 +114,10 @@ module _ {K V S A : Type 0} (eq : K → K → Bool) (hash : K → ℕ) where
         unlinked CopyAll link e = absurd e
         unlinked (Reserve more) link e = absurd e
 
+    -- and so does one that visits a table
+    new_visitor : (v : Visiting A) → IsVisitBegun hash s.mode s.initial call v → IsVisiting eq hash s.mode s.store v es (visit_tale new_tale)
+    new_visitor v x = visit_begins eq hash s chunked es x.visit s.initial v (ap (λ (y : Visiting A). y.visitor) x.is) (subst (λ (y : Visiting A). HasAnswers x.visit y.answers) (sym x.is) x.has) (ap (λ (y : Visiting A). y.given) x.is)
+
     -- its tale is the new one
     new_is : (d : ℕ) → d ≡ caller → new_tale ≡ tales' d
     new_is d same = sym (ap (λ b. cond b new_tale (tales d)) (eq-eqb d caller same))
@@ -125,6 +132,9 @@ module _ {K V S A : Type 0} (eq : K → K → Bool) (hash : K → ℕ) where
 
     other_resizes : (d : ℕ) (z : Resizer) → d ≢ caller → resizing callers' d ≡ Some z → resizing s.callers d ≡ Some z
     other_resizes d z differ resizes = sym (resizing-with_seat s.callers caller d) ∙ sym (resizing-elsewhere (with_seat s.callers caller) caller d (Some work) differ) ∙ resizes
+
+    other_visits : (d : ℕ) (v : Visiting A) → d ≢ caller → visiting callers' d ≡ Some v → visiting s.callers d ≡ Some v
+    other_visits d v differ visits = sym (visiting-with_seat s.callers caller d) ∙ sym (visiting-elsewhere (with_seat s.callers caller) caller d (Some work) differ) ∙ visits
 
     -- each call rests on what is told of it
     calls : (d : ℕ) (q : Running K V A) → running callers' d ≡ Some q → IsCall eq hash s.mode s.store q es (tales' d)
@@ -143,6 +153,14 @@ module _ {K V S A : Type 0} (eq : K → K → Bool) (hash : K → ℕ) where
       | inr differ ↦ subst (IsResizing eq hash s.mode s.store z es) (other_is d differ) (kept.resizers d z (other_resizes d z differ resizes))
     ]
 
+    visitors : (d : ℕ) (v : Visiting A) → visiting callers' d ≡ Some v → IsVisiting eq hash s.mode s.store v es (visit_tale (tales' d))
+    visitors d v visits = elim (cases_same d caller) [
+      | inl same ↦
+          let f : Some work ≡ Some (works.Visit v) = visiting-here (with_seat s.callers caller) caller (Some work) v (ap (visiting callers') (sym same) ∙ visits) in
+          subst (λ (y : Tale K V). IsVisiting eq hash s.mode s.store v es (visit_tale y)) (new_is d same) (new_visitor v (visitor_begun_is hash s.mode s.initial call v (same_item work (works.Visit v) f)))
+      | inr differ ↦ subst (λ (y : Tale K V). IsVisiting eq hash s.mode s.store v es (visit_tale y)) (other_is d differ) (kept.visitors d v (other_visits d v differ visits))
+    ]
+
     -- no two calls have made one pair
     apart : (d e : ℕ) (q q' : Running K V A) → running callers' d ≡ Some q → running callers' e ≡ Some q' → d ≢ e → (p p' : Stored K V) → IsOneOf (tales' d).hands.call.made p → IsOneOf (tales' e).hands.call.made p' → p.number ≢ p'.number
     apart d e q q' runs_d runs_e differ p p' made_d made_e = elim (cases_same d caller) [
@@ -155,7 +173,7 @@ module _ {K V S A : Type 0} (eq : K → K → Bool) (hash : K → ℕ) where
 
     -- the core after the begin
     pub begin_kept : IsKept eq hash s.mode s.store callers' es tales'
-    begin_kept = record { allowed = kept.allowed; coded = kept.coded; made = kept.made; logged = kept.logged; few = kept.few; tables_few = kept.tables_few; calls = calls; resizers = resizers; apart = apart }
+    begin_kept = record { allowed = kept.allowed; coded = kept.coded; made = kept.made; logged = kept.logged; few = kept.few; tables_few = kept.tables_few; calls = calls; resizers = resizers; visitors = visitors; apart = apart }
 
 module _ {K V S : Type 0} (A : Type 0) (eq : K → K → Bool) (hash : K → ℕ) where
   module _ (mode : ResizeMode) (store : StoreState K V S) (pairs : store.pairs ≡ []) (tales : ℕ → Tale K V) where
@@ -177,6 +195,7 @@ module _ {K V S : Type 0} (A : Type 0) (eq : K → K → Bool) (hash : K → ℕ
       tables_few = omega arith;
       calls = λ d q l. absurd cc;
       resizers = λ d z l. absurd cc;
+      visitors = λ d v l. absurd cc;
       apart = λ d e q q' l. absurd cc;
     }
       where
@@ -201,6 +220,7 @@ module _ {K V S : Type 0} (A : Type 0) (eq : K → K → Bool) (hash : K → ℕ
       tables_few = omega arith;
       calls = λ d q l. absurd cc;
       resizers = λ d z l. absurd cc;
+      visitors = λ d v l. absurd cc;
       apart = λ d e q q' l. absurd cc;
     }
       where

@@ -5,7 +5,7 @@ use Rattle.papaya_ask.specs.declared.ask.Ask.{Ask as Call_ask}
 use Rattle.papaya_ask.specs.declared.ask.Ask.TheVariants.{Load, Exchange, SameKey, ShowNone, ShowPair, SizeOf, MakeKey, MakePair, MakeTable, AddToShard, Done as Ask_done}
 use Rattle.papaya_ask.specs.declared.ask.Answer.{Answer as Call_answer}
 use Rattle.papaya_ask.specs.declared.call.Call.{Call}
-use Rattle.papaya_ask.specs.declared.call.Call.TheVariants.{Get, Insert, TryInsert, RemoveIf, Compute, Reserve, CopyAll}
+use Rattle.papaya_ask.specs.declared.call.Call.TheVariants.{Get, Insert, TryInsert, RemoveIf, Compute, Reserve, CopyAll, Clear, Retain, Walk}
 use Rattle.papaya_ask.specs.declared.call.Task.{Task}
 use Rattle.papaya_ask.specs.declared.call.Task.TheVariants as tasks
 use Rattle.papaya_timeline.proofs.CallersLemmas.{same_item}
@@ -35,6 +35,9 @@ module _ {K V A : Type 0} where
   begun_answers (Compute k a) task is asks = (a, refl)
   begun_answers (Reserve more) task is asks = let f : None ≡ Some task = is in absurd cc
   begun_answers CopyAll task is asks = let f : None ≡ Some task = is in absurd cc
+  begun_answers Clear task is asks = let f : None ≡ Some task = is in absurd cc
+  begun_answers (Retain a) task is asks = let f : None ≡ Some task = is in absurd cc
+  begun_answers Walk task is asks = let f : None ≡ Some task = is in absurd cc
 
   -- a call that stays keeps them
   same_call : (r r' : Running K V A) → HasAnswers r.answers → r' ≡ r → HasAnswers r'.answers

@@ -15,6 +15,7 @@ use Rattle.papaya_chain.specs.declared.ask.Answer.{Answer}
 use Rattle.papaya_chain.specs.Machine.{after, ask_of, kind_of_ask}
 use Rattle.papaya_chain_rests.specs.Goes.{IsCause}
 use Rattle.papaya_chain_rests.specs.Told.{no_hands}
+use Rattle.papaya_visit_rests.specs.Told as visits
 use Rattle.papaya_timeline.specs.declared.seat.Seat.{Seat}
 use Rattle.papaya_store.specs.declared.pairs.Running.{Running}
 use Rattle.papaya_timeline.specs.declared.trace.Event.{Event}
@@ -104,7 +105,7 @@ module _ {K V S A H : Type 0} (eq : K → K → Bool) (input : K → List (List 
   -- a new one
   pub new_lawful : (mode : ResizeMode) (capacity initial : ℕ) (store : StoreState K V S) (callers : List (Seat K V A)) → IsCore store callers mode → HasCapacity capacity initial store.words → store.pairs ≡ [] → callers ≡ [] → IsLawfulCore eq (hash_of input build write finish store.hasher) store callers mode
   new_lawful mode capacity initial store callers core words pairs none =
-      let tales : ℕ → Tale K V = λ d. record { begun = []; since = []; hands = no_hands } in
+      let tales : ℕ → Tale K V = λ d. record { begun = []; since = []; hands = no_hands; visit = visits.no_hands } in
       let kept = kept_new eq (hash_of input build write finish store.hasher) (keys_lawful eq input build write finish classes respects store.hasher) mode capacity initial store callers words pairs none tales in
       record { core = core; law = (kept.0, (tales, kept.1)) }
 

@@ -5,15 +5,15 @@ use Rattle.papaya_ask.specs.declared.ask.At.{At}
 use Rattle.papaya_law.specs.Allows.{AllAllowed}
 use Rattle.papaya_law.specs.Class.{IsOn}
 use Rattle.papaya_law.specs.Code.{Coding, IsHashed}
-use Rattle.papaya_law.specs.Exchange.{Setting, Exchange, run, start}
+use Rattle.papaya_law.specs.Exchange.{Setting, State as Words, Exchange, run, start}
 use Rattle.papaya_law.specs.Grows.{Agrees, Comes}
-use Rattle.papaya_law.specs.Invariant.{named}
+use Rattle.papaya_law.specs.Invariant.{IsKeeping, named}
 use Rattle.papaya_law.specs.Meaning.{map_left}
 use Rattle.papaya_law.proofs.Grows.{all_carries, map_of_carries}
 use Rattle.papaya_law.proofs.Logs.{on_comes}
 use Rattle.papaya_law.proofs.Moments.{allowed_first, allowed_rest, run-append}
 use Rattle.papaya_law.proofs.OneMap.{keeping, start_keeps}
-use Rattle.papaya_rests.specs.Rests.{change_in}
+use Rattle.papaya_rests.specs.Rests.{IsModeOf, change_in}
 use Rattle.papaya_rests.specs.Told.{IsOneOf, word_of}
 use Rattle.papaya_chain.specs.declared.resizer.Resizer.{Resizer}
 use Rattle.papaya_chain_rests.specs.Rests.{Rests}
@@ -28,15 +28,19 @@ use Rattle.papaya_store.specs.Tables.{word_at}
 use Rattle.papaya_timeline.specs.declared.seat.Seat.{Seat}
 use Rattle.papaya_timeline.specs.declared.seat.Work.{Work}
 use Rattle.papaya_timeline.specs.declared.seat.Work.TheVariants as works
-use Rattle.papaya_timeline.specs.Callers.{resizing, running, with_work}
+use Rattle.papaya_timeline.specs.Callers.{resizing, running, visiting, with_work}
 use Rattle.papaya_timeline.specs.Core.{CoreState, IsCore}
-use Rattle.papaya_timeline.specs.Kept.{IsKept, IsCall, IsLogged, IsMade, IsResizing, Tale, setting_of, coding_of, low, told_tales}
-use Rattle.papaya_timeline.proofs.CallersLemmas.{differs, resizing-elsewhere, resizing-here, running-elsewhere, running-here}
+use Rattle.papaya_timeline.specs.Kept.{IsKept, IsCall, IsLogged, IsMade, IsResizing, IsVisiting, Tale, VisitTale, setting_of, coding_of, low, told_more, told_tales, visit_tale}
+use Rattle.papaya_timeline.proofs.CallersLemmas.{differs, resizing-elsewhere, resizing-here, running-elsewhere, running-here, visiting-elsewhere, visiting-here}
 use Rattle.papaya_timeline.proofs.CoreLemmas.{cases_same}
 use Rattle.papaya_timeline.proofs.KeptAnswer.{Stands}
 use Rattle.papaya_timeline.proofs.KeptSettings.{IsLawfulKeys, tables_hashed, grown_agrees}
 use Rattle.papaya_timeline.proofs.KeptTables.{HasMoreTables}
 use Rattle.papaya_timeline.proofs.ResizerLaws.{resizer_carries, resizer_stays}
+use Rattle.papaya_visit_rests.specs.Visits.{RestsVisitor}
+use Rattle.papaya_visit_rests.proofs.Stays.{state_stays}
+use Rattle.papaya_visit_rests.proofs.Tables.{gives_carries, state_carries}
+use Rattle.papaya_visit_store.specs.declared.visits.Visiting.{Visiting}
 
 module _ {K V S A : Type 0} (eq : K → K → Bool) (hash : K → ℕ) (law : IsLawfulKeys eq hash) (s : CoreState K V S A) (caller : ℕ) (s' : CoreState K V S A)
     (mode_is : s'.mode ≡ s.mode) (es : List (Exchange (Stored K V))) (tales : ℕ → Tale K V) (core : IsCore s.store s.callers s.mode) (kept : IsKept eq hash s.mode s.store s.callers es tales)
@@ -116,7 +120,7 @@ module _ {K V S A : Type 0} (eq : K → K → Bool) (hash : K → ℕ) (law : Is
     ]
 
     -- so it rests on what is told of it after the step
-    other_call : (d : ℕ) (r : Running K V A) → running s.callers d ≡ Some r → d ≢ caller → (hands : Hands (Stored K V)) → (tales d).hands ≡ hands → IsCall eq hash s'.mode s'.store r es' (record { begun = (tales d).begun; since = (tales d).since ++ made; hands = hands })
+    other_call : (d : ℕ) (r : Running K V A) → running s.callers d ≡ Some r → d ≢ caller → (hands : Hands (Stored K V)) → (tales d).hands ≡ hands → IsCall eq hash s'.mode s'.store r es' (record { begun = (tales d).begun; since = (tales d).since ++ made; hands = hands; visit = (tales d).visit })
     other_call d r runs differ hands e =
         let o = kept.calls d r runs in
         let tale : Tale K V = tales d in
@@ -137,7 +141,7 @@ module _ {K V S A : Type 0} (eq : K → K → Bool) (hash : K → ℕ) (law : Is
         }
 
     -- and so does another resizer
-    other_resizer : (d : ℕ) (z : Resizer) → resizing s.callers d ≡ Some z → (hands : Hands (Stored K V)) → (tales d).hands ≡ hands → IsResizing eq hash s'.mode s'.store z es' (record { begun = (tales d).begun; since = (tales d).since ++ made; hands = hands })
+    other_resizer : (d : ℕ) (z : Resizer) → resizing s.callers d ≡ Some z → (hands : Hands (Stored K V)) → (tales d).hands ≡ hands → IsResizing eq hash s'.mode s'.store z es' (record { begun = (tales d).begun; since = (tales d).since ++ made; hands = hands; visit = (tales d).visit })
     other_resizer d z resizes hands e =
         let o = kept.resizers d z resizes in
         let stays : RestsResizer g c (run es' start) z (tales d).hands =
@@ -151,6 +155,60 @@ module _ {K V S A : Type 0} (eq : K → K → Bool) (hash : K → ℕ) (law : Is
           links = λ behind t linking. still_there t (o.links behind t linking);
         }
 
+    -- and so does another visitor, whose tale goes on
+    module _ (v : Visiting A) (tale : VisitTale K V) (visits : IsVisiting eq hash s.mode s.store v es tale) where
+      abbrev first : Words (Stored K V)
+      first = run tale.begun start
+
+      abbrev m : K → Option (Stored K V)
+      m = map_left g tale.begun
+
+      all_allowed : AllAllowed g start (tale.begun ++ (tale.since ++ made))
+      all_allowed = subst (AllAllowed g start) (ap (λ l. l ++ made) (sym visits.split) ∙ append_assoc tale.begun tale.since made) left.allowed
+
+      keeps_first : IsKeeping g first m
+      keeps_first = keeping g hashed.lawful tale.begun (allowed_first g tale.begun (tale.since ++ made) start all_allowed)
+
+      may_then : AllAllowed g first (tale.since ++ made)
+      may_then = allowed_rest g tale.begun (tale.since ++ made) start all_allowed
+
+      longer : tale.begun ++ (tale.since ++ made) ≡ es'
+      longer = sym (append_assoc tale.begun tale.since made) ∙ ap (λ l. l ++ made) visits.split
+
+      same_then : run (tale.since ++ made) first ≡ run es' start
+      same_then = sym (run-append tale.begun (tale.since ++ made) start) ∙ ap (λ l. run l start) longer
+
+      agrees_then : Agrees (IsOn (run (tale.since ++ made) first).first (run (tale.since ++ made) first).next) g g'
+      agrees_then = subst (λ (w : Words (Stored K V)). Agrees (IsOn w.first w.next) g g') (sym same_then) agrees
+
+      map_then : m ≡ map_left g' tale.begun
+      map_then = sym (map_of_carries g g' (IsOn (run (tale.since ++ made) first).first (run (tale.since ++ made) first).next) agrees_then tale.begun (λ k. None))
+
+      rests_then : RestsVisitor g c first m (tale.since ++ made) v.visitor tale.hands
+      rests_then = record {
+        mode = visits.rests.mode;
+        chunked = visits.rests.chunked;
+        gives = visits.rests.gives;
+        state = state_stays g c first m tale.since made hashed keeps_first may_then v.visitor.visit tale.hands v.visitor.state visits.rests.state;
+      }
+
+      pub other_visitor : IsVisiting eq hash s'.mode s'.store v es' (told_more tale made tale.hands)
+      other_visitor = record {
+        split = longer;
+        rests = subst (λ f. RestsVisitor g' c first f (tale.since ++ made) v.visitor tale.hands) map_then (record {
+          mode = subst (IsModeOf v.visitor.mode) (sym agrees_then.blocking) rests_then.mode;
+          chunked = rests_then.chunked;
+          gives = gives_carries g g' c hashed first m keeps_first (tale.since ++ made) may_then agrees_then v.visitor.visit tale.hands rests_then.gives;
+          state = state_carries g g' c hashed first m keeps_first (tale.since ++ made) may_then agrees_then v.visitor.visit tale.hands v.visitor.state rests_then.state;
+        });
+        answers = visits.answers;
+        given = visits.given;
+        last = λ p e. left.logged p.number p (visits.last p e);
+        carried = λ p e. left.logged p.number p (visits.carried p e);
+        shown = λ p e. left.logged p.number p (visits.shown p e);
+        links = λ behind t e. still_there t (visits.links behind t e);
+      }
+
     -- the stepping caller was told of what its answer says
     pub own_hands : (d : ℕ) → d ≡ caller → hands ≡ (tales' d).hands
     own_hands d same = sym (ap (λ b. cond b hands (tales d).hands) (eq-eqb d caller same))
@@ -162,6 +220,7 @@ module _ {K V S A : Type 0} (eq : K → K → Bool) (hash : K → ℕ) (law : Is
     module _ (work : Option (Work K V A)) (callers : s'.callers ≡ with_work s.callers caller work)
         (own_call : (r : Running K V A) → work ≡ Some (works.Call r) → IsCall eq hash s'.mode s'.store r es' (tales' caller))
         (own_resizer : (z : Resizer) → work ≡ Some (works.Resize z) → IsResizing eq hash s'.mode s'.store z es' (tales' caller))
+        (own_visitor : (v : Visiting A) → work ≡ Some (works.Visit v) → IsVisiting eq hash s'.mode s'.store v es' (visit_tale (tales' caller)))
         (own_apart : (r : Running K V A) → work ≡ Some (works.Call r) → (d : ℕ) (q : Running K V A) → running s.callers d ≡ Some q → d ≢ caller → (p p' : Stored K V) → IsOneOf hands.call.made p → IsOneOf (tales d).hands.call.made p' → p.number ≢ p'.number) where
       -- the call of another caller is the one of before
       other_runs : (d : ℕ) (r : Running K V A) → d ≢ caller → running s'.callers d ≡ Some r → running s.callers d ≡ Some r
@@ -170,12 +229,18 @@ module _ {K V S A : Type 0} (eq : K → K → Bool) (hash : K → ℕ) (law : Is
       other_resizes : (d : ℕ) (z : Resizer) → d ≢ caller → resizing s'.callers d ≡ Some z → resizing s.callers d ≡ Some z
       other_resizes d z differ runs = sym (resizing-elsewhere s.callers caller d work differ) ∙ sym (ap (λ (y : List (Seat K V A)). resizing y d) callers) ∙ runs
 
+      other_visits : (d : ℕ) (v : Visiting A) → d ≢ caller → visiting s'.callers d ≡ Some v → visiting s.callers d ≡ Some v
+      other_visits d v differ runs = sym (visiting-elsewhere s.callers caller d work differ) ∙ sym (ap (λ (y : List (Seat K V A)). visiting y d) callers) ∙ runs
+
       -- the stepping caller goes on with its work
       own_runs : (d : ℕ) (r : Running K V A) → d ≡ caller → running s'.callers d ≡ Some r → work ≡ Some (works.Call r)
       own_runs d r same runs = running-here s.callers caller work r (sym (ap (λ (y : List (Seat K V A)). running y caller) callers) ∙ ap (running s'.callers) (sym same) ∙ runs)
 
       own_resizes : (d : ℕ) (z : Resizer) → d ≡ caller → resizing s'.callers d ≡ Some z → work ≡ Some (works.Resize z)
       own_resizes d z same runs = resizing-here s.callers caller work z (sym (ap (λ (y : List (Seat K V A)). resizing y caller) callers) ∙ ap (resizing s'.callers) (sym same) ∙ runs)
+
+      own_visits : (d : ℕ) (v : Visiting A) → d ≡ caller → visiting s'.callers d ≡ Some v → work ≡ Some (works.Visit v)
+      own_visits d v same runs = visiting-here s.callers caller work v (sym (ap (λ (y : List (Seat K V A)). visiting y caller) callers) ∙ ap (visiting s'.callers) (sym same) ∙ runs)
 
       -- each call rests on what is told of it
       calls : (d : ℕ) (r : Running K V A) → running s'.callers d ≡ Some r → IsCall eq hash s'.mode s'.store r es' (tales' d)
@@ -188,6 +253,12 @@ module _ {K V S A : Type 0} (eq : K → K → Bool) (hash : K → ℕ) (law : Is
       resizers d z resizes = elim (cases_same d caller) [
         | inl same ↦ subst (λ y. IsResizing eq hash s'.mode s'.store z es' (tales' y)) (sym same) (own_resizer z (own_resizes d z same resizes))
         | inr differ ↦ other_resizer d z (other_resizes d z differ resizes) (tales' d).hands (other_hands d differ)
+      ]
+
+      visitors : (d : ℕ) (v : Visiting A) → visiting s'.callers d ≡ Some v → IsVisiting eq hash s'.mode s'.store v es' (visit_tale (tales' d))
+      visitors d v visits = elim (cases_same d caller) [
+        | inl same ↦ subst (λ y. IsVisiting eq hash s'.mode s'.store v es' (visit_tale (tales' y))) (sym same) (own_visitor v (own_visits d v same visits))
+        | inr differ ↦ other_visitor v (visit_tale (tales d)) (kept.visitors d v (other_visits d v differ visits))
       ]
 
       -- no two calls have made one pair
@@ -218,5 +289,6 @@ module _ {K V S A : Type 0} (eq : K → K → Bool) (hash : K → ℕ) (law : Is
         tables_few = left.tables_few kept.tables_few;
         calls = calls;
         resizers = resizers;
+        visitors = visitors;
         apart = apart;
       }

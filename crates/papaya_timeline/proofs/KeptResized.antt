@@ -38,10 +38,11 @@ use Rattle.papaya_timeline.specs.declared.seat.Work.{Work}
 use Rattle.papaya_timeline.specs.declared.seat.Work.TheVariants as works
 use Rattle.papaya_timeline.specs.declared.trace.Event.{Event}
 use Rattle.papaya_timeline.specs.Advances.{goes_on}
-use Rattle.papaya_timeline.specs.Callers.{call_in, resizer_in}
+use Rattle.papaya_timeline.specs.Callers.{call_in, resizer_in, visitor_in}
 use Rattle.papaya_timeline.specs.Core.{CoreState, IsCore}
 use Rattle.papaya_timeline.specs.Kept.{IsKept, IsMade, IsResizing, Tale, setting_of, coding_of, low, told_tales}
 use Rattle.papaya_timeline.specs.Resizes.{Resizes}
+use Rattle.papaya_visit_store.specs.declared.visits.Visiting.{Visiting}
 use Rattle.papaya_timeline.proofs.CallersLemmas.{same_item}
 use Rattle.papaya_timeline.proofs.CopyAnswers.{IsAsker, IsLeft, Suits, copied_left, exchanged_left, left_logged, quiet_left}
 use Rattle.papaya_timeline.proofs.FollowedTables.{copying_follows}
@@ -79,6 +80,10 @@ left_weaker g c store es hands T T' a store' f left = record {
 pub goes_on-resizer : {K V A : Type 0} (reply : Option Reply) (y z : Resizer) (w : Work K V A) → w ≡ works.Resize y → goes_on reply w ≡ Some (works.Resize z) → y ≡ z
 goes_on-resizer None y z w is e = same_item y z (ap (λ (v : Work _ _ _). resizer_in (Some v)) (sym is) ∙ ap resizer_in e)
 goes_on-resizer (Some reply) y z w is e = let f : None ≡ Some z = ap resizer_in e in cc
+
+pub goes_on-visitor : {K V A : Type 0} (reply : Option Reply) (y : Resizer) (v : Visiting A) (w : Work K V A) → w ≡ works.Resize y → goes_on reply w ≡ Some (works.Visit v) → ⊥
+goes_on-visitor None y v w is e = let f : None ≡ Some v = ap (λ (u : Work _ _ _). visitor_in (Some u)) (sym is) ∙ ap visitor_in e in absurd cc
+goes_on-visitor (Some reply) y v w is e = let f : None ≡ Some v = ap visitor_in e in absurd cc
 
 pub goes_on-call : {K V A : Type 0} (reply : Option Reply) (y : Resizer) (r : Running K V A) (w : Work K V A) → w ≡ works.Resize y → goes_on reply w ≡ Some (works.Call r) → ⊥
 goes_on-call None y r w is e = let f : None ≡ Some r = ap (λ (v : Work _ _ _). call_in (Some v)) (sym is) ∙ ap call_in e in absurd cc
@@ -284,6 +289,7 @@ module _ {K V S A : Type 0} (eq : K → K → Bool) (hash : K → ℕ) (law : Is
   resize_kept = others.leaves_kept eq hash law s caller s' x.mode es tales core kept left.made left.hands' leaving (goes_on reply (works.Resize (after x.before x.answer))) x.callers
       (λ r e. absurd (goes_on-call reply (after x.before x.answer) r _ refl e))
       (λ z e. subst (λ y. IsResizing eq hash s'.mode s'.store y es' (tales' caller)) (goes_on-resizer reply (after x.before x.answer) z _ refl e) own_resizing)
+      (λ v e. absurd (goes_on-visitor reply (after x.before x.answer) v _ refl e))
       (λ r e. absurd (goes_on-call reply (after x.before x.answer) r _ refl e))
 
   -- the map is the same in the grown setting

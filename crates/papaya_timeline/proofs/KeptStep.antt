@@ -29,7 +29,7 @@ use Rattle.papaya_timeline.specs.Core.{CoreState, IsCore}
 use Rattle.papaya_timeline.specs.Kept.{IsKept, IsCall, IsLogged, IsMade, Tale, setting_of, coding_of, low, told_tales}
 use Rattle.papaya_store.specs.Asks.{PerformsAsk}
 use Rattle.papaya_store.specs.Store.{Stored, pair_of}
-use Rattle.papaya_timeline.proofs.CallersLemmas.{call-put, no-resizer}
+use Rattle.papaya_timeline.proofs.CallersLemmas.{call-put, no-resizer, no-visitor}
 use Rattle.papaya_timeline.proofs.KeptOthers as others
 use Rattle.papaya_timeline.proofs.KeptAnswer.{IsAnswered, Stands}
 use Rattle.papaya_timeline.proofs.KeptClosures.{answers_asked}
@@ -176,7 +176,7 @@ module _ {K V S A : Type 0} (eq : K → K → Bool) (hash : K → ℕ) (law : Is
       ]
 
   -- so it rests on what is told of it after the step
-  pub own_call : (hands : Hands (Stored K V)) → left.hands ≡ hands → IsCall eq hash s'.mode s'.store (record later { machine = after before.machine a }) es' (record { begun = (tales caller).begun; since = (tales caller).since ++ left.made; hands = hands })
+  pub own_call : (hands : Hands (Stored K V)) → left.hands ≡ hands → IsCall eq hash s'.mode s'.store (record later { machine = after before.machine a }) es' (record { begun = (tales caller).begun; since = (tales caller).since ++ left.made; hands = hands; visit = (tales caller).visit })
   own_call hands e = record {
     key = call.key;
     own = left.own_is;
@@ -217,4 +217,5 @@ module _ {K V S A : Type 0} (eq : K → K → Bool) (hash : K → ℕ) (law : Is
     step_kept = others.leaves_kept eq hash law s caller s' mode_is es tales core kept left.made left.hands leaving (as_work goes) callers
         (λ r e. subst (λ y. IsCall eq hash s'.mode s'.store y es' (tales' caller)) (goes_is r (call-put goes r e)) (own_call (tales' caller).hands (own_hands caller refl)))
         (λ z e. absurd (no-resizer goes z e))
+        (λ v e. absurd (no-visitor goes v e))
         (λ r e d q runs differ. own_apart d q runs differ)

@@ -11,7 +11,7 @@ use Rattle.papaya_ask.specs.declared.ask.Answer.{Answer as Call_answer}
 use Rattle.papaya_ask.specs.declared.ask.StepKind.{StepKind}
 use Rattle.papaya_ask.specs.declared.ask.StepKind.TheVariants as kinds
 use Rattle.papaya_ask.specs.declared.call.Call.{Call}
-use Rattle.papaya_ask.specs.declared.call.Call.TheVariants.{Get, Insert, TryInsert, RemoveIf, Compute, Reserve, CopyAll}
+use Rattle.papaya_ask.specs.declared.call.Call.TheVariants.{Get, Insert, TryInsert, RemoveIf, Compute, Reserve, CopyAll, Clear, Retain, Walk}
 use Rattle.papaya_ask.specs.declared.call.Reply.{Reply}
 use Rattle.papaya_ask.specs.declared.call.Reply.TheVariants.{Inserted, Replaced, Removed}
 use Rattle.papaya_ask.specs.declared.call.Task.{Task}
@@ -32,7 +32,7 @@ use Rattle.papaya_chain.specs.Machine.{ask_of, follows_of, kind_of_ask}
 use Rattle.papaya_chain_rests.specs.Rests.{Rests as Chain_rests}
 use Rattle.papaya_chain_rests.specs.Told.{Hands as Chain_hands, IsCopyTold, IsTold as Chain_told}
 use Rattle.papaya_rests.specs.Copier.{IsCopyAsked}
-use Rattle.papaya_rests.specs.Rests.{Rests, change_of_reply}
+use Rattle.papaya_rests.specs.Rests.{Change, Rests, change_of_reply}
 use Rattle.papaya_rests.specs.Told.{Hands, IsAsked, IsOneOf, IsTold, word_of}
 use Rattle.papaya_law.specs.Code.{IsHashed}
 use Rattle.papaya_law.proofs.Codes.{code_pair}
@@ -48,13 +48,14 @@ use Rattle.papaya_timeline.specs.Kept.{setting_of, coding_of, low}
 use Rattle.papaya_timeline.specs.Maps.{Map, Does, IsUpdate, Same, key_of}
 use Rattle.papaya_store.specs.Store.{Stored}
 use Rattle.papaya_timeline.specs.Runs.{History}
-use Rattle.papaya_timeline.specs.Timeline.{Answered, open_call, change_of, number_in, IsFresh, IsUnused, MayChange, IsAgreed, FitsShown, IsLegal}
+use Rattle.papaya_timeline.specs.Timeline.{Answered, open_call, change_of, number_in, IsFresh, IsUnused, MayChange, IsAgreed, FitsAsked, FitsShown, HasNumber, IsLegal}
 use Rattle.papaya_timeline.proofs.EventLemmas.{told_cases, IsQuiet, IsExchanged, IsShowing, IsShown}
 use Rattle.papaya_timeline.proofs.ChainLemmas.{own_asks}
 use Rattle.papaya_timeline.proofs.Good.{IsValueOf, replay, replayed}
 use Rattle.papaya_timeline.proofs.MachineLemmas.{machine_replaces, machine_takes}
 use Rattle.papaya_timeline.proofs.ReplayLemmas.{replay-append, replay-alike, next_legal}
 use Rattle.papaya_timeline.proofs.StepEvents.{IsCopied, copy_kind, copy_moves, copy_told}
+use Rattle.papaya_timeline.proofs.TimelineLemmas.{at_weaker}
 
 -- only a call that replaces puts a pair in place of another
 abbrev pub MayReplace : {K V : Type 0} → Option (Stored K V) → Task → Type 0
@@ -81,6 +82,9 @@ module _ {K V A : Type 0} where
   insertion_does (Compute j a) k (Some p) q key own value may = (Replaced p.number q.number, (refl, (q, (q.value, record { number = refl; key = own ∙ sym (same_item _ _ key); value = refl }), refl)), refl)
   insertion_does (Reserve more) k went q key own value may = absurd value
   insertion_does CopyAll k went q key own value may = absurd value
+  insertion_does Clear k went q key own value may = absurd value
+  insertion_does (Retain a) k went q key own value may = absurd value
+  insertion_does Walk k went q key own value may = absurd value
 
   -- a call that has a closure takes out a pair
   pub removal_does : (call : Call K V A) (p : Stored K V) → HasClosure (the_task call) → (reply : Reply) × Does call (Some p) reply None × (change_of_reply reply ≡ Some (number_in (Some p), None))
@@ -91,6 +95,9 @@ module _ {K V A : Type 0} where
   removal_does (Compute j a) p removes = (Removed p.number, (refl, refl), refl)
   removal_does (Reserve more) p removes = absurd removes
   removal_does CopyAll p removes = absurd removes
+  removal_does Clear p removes = absurd removes
+  removal_does (Retain a) p removes = absurd removes
+  removal_does Walk p removes = absurd removes
 
 module _ {K V : Type 0} where
   -- a map with another pair for the class of a key
@@ -126,6 +133,7 @@ module _ {K V : Type 0} where
   Moves eq k task made m m' (events.Asked n agrees) = Same m m'
   Moves eq k task made m m' (events.Shown shown kind) = Same m m'
   Moves eq k task made m m' events.Other = Same m m'
+  Moves eq k task made m m' (events.Gave n) = ⊥
   Moves eq k task made m m' (events.Replied reply) = Same m m'
 
 module _ {K V : Type 0} (eq : K → K → Bool) (hash : K → ℕ) (mode mode' : ResizeMode) (tables tables' : List TableWords) where
@@ -298,6 +306,61 @@ module _ {K V : Type 0} (eq : K → K → Bool) (hash : K → ℕ) (mode mode' :
             let same = copy_same eq (setting_of eq (low hash) mode tables) (coding_of (low hash)) (run (begun ++ since) start) (kind_of_ask m) (follows_of m) hands ask answer made hands' h (begun ++ since) in
             copy_moves (λ e. Moves eq k m.call.task hands.call.made (replay eq (begun ++ since)) (replay eq ((begun ++ since) ++ made)) e) same (λ kind. same) (kind_of_ask m) (copy_kind m ask e) ask answer
 
+-- a pair that takes the place of another is one that the call made
+asked_own : {K P : Type 0} (c : Coding K P) (kind : Option StepKind) (at : At) (new : ℕ) (s : State P) (hands : Hands P) (e : Exchange P) → IsAsked c kind at new s hands e → (t x : ℕ) (p q : P) → e ≡ Replace t x p q → IsOneOf hands.made q
+asked_own c (Some kinds.Open) Root new s hands e asked t x p q is = absurd cc
+asked_own c (Some kinds.Claim) (Slot u y) new s hands e (r, own, asked) t x p q is = absurd cc
+asked_own c (Some kinds.Replace) (Slot u y) new s hands e (o, r, live, own, asked) t x p q is = let same : r ≡ q = cc in subst (IsOneOf hands.made) same own.made
+asked_own c (Some kinds.Bury) (Slot u y) new s hands e (r, live, asked) t x p q is = absurd cc
+asked_own c kind at new s hands e asked t x p q is = absurd asked
+
+-- a step puts a pair in the place of another where its call asks for it
+pub replaces_own : {K V : Type 0} (eq : K → K → Bool) (g : Setting K (Stored K V)) (c : Coding K (Stored K V)) (k : K) (s : State (Stored K V)) (kind : Option StepKind) (follows : ℕ) (hands : Chain_hands (Stored K V)) (ask : Ask) (answer : Answer) (made : List (Exchange (Stored K V))) (hands' : Chain_hands (Stored K V)) (t x : ℕ) (p q : Stored K V) → eq p.key p.key ≡ true → made ≡ Replace t x p q ∷ []
+    → Chain_told g c k s kind follows hands ask answer made hands' → (at : At) × (old : ℕ) × (new : ℕ) × (ask ≡ asks.Call (Ask_exchange at old new)) × IsOneOf hands.call.made q
+replaces_own {K = K} {V = V} eq g c k s kind follows hands (asks.Call ask) answer made hands' t x p q itself is told =
+    ⊎_elim
+    (λ quiet. nothing quiet.0)
+    (λ y. ⊎_elim
+    (λ (by : IsExchanged g c s kind hands.call ask told.told made).
+    let same : by.by ≡ Replace t x p q = (let f : by.by ∷ [] ≡ Replace t x p q ∷ [] = sym by.made ∙ is in cc) in
+    (by.at, by.old, by.new, ap asks.Call by.ask_is, asked_own c kind by.at by.new s hands.call by.by by.asked t x p q same))
+    (λ z. ⊎_elim (λ (shown : IsShowing kind ask told.told made). nothing shown.4) (λ (shown : IsShown kind ask told.told made). nothing shown.4) z) y)
+    (told_cases g c k s kind hands.call ask told.told made told.call told.tells)
+  where
+    nothing : made ≡ [] → (at : At) × (old : ℕ) × (new : ℕ) × (asks.Call ask ≡ asks.Call (Ask_exchange at old new)) × IsOneOf hands.call.made q
+    nothing none = let f : [] ≡ Replace t x p q ∷ [] = sym none ∙ is in absurd cc
+replaces_own {K = K} {V = V} eq g c k s kind follows hands (asks.Copy ask) answer made hands' t x p q itself is told =
+    let f : None ≡ Some q = sym (copy_same eq g c s kind follows hands ask answer made hands' told [] p.key) ∙ ap (λ l. replay eq l p.key) is ∙ ap (λ b. cond b (Some q) None) itself in
+    absurd cc
+
+module _ {K V A : Type 0} (eq : K → K → Bool) where
+  -- what a call on one key does with its class, it may
+  pub own_change : (call : Call K V A) (made : Change) (k : K) (went came : Option (Stored K V)) → (key_of call ≡ Some k) × (made ≡ None) × ((reply : Reply) × Does call went reply came × (change_of_reply reply ≡ Some (number_in went, number_in came))) → MayChange eq (Some call) made k went came
+  own_change (Get j) made k went came x = x
+  own_change (Insert j v) made k went came x = x
+  own_change (TryInsert j v) made k went came x = x
+  own_change (RemoveIf j a) made k went came x = x
+  own_change (Compute j a) made k went came x = x
+  own_change (Reserve more) made k went came x = x
+  own_change CopyAll made k went came x = x
+  own_change Clear made k went came x = let f : None ≡ Some k = x.0 in absurd cc
+  own_change (Retain a) made k went came x = let f : None ≡ Some k = x.0 in absurd cc
+  own_change Walk made k went came x = x
+
+  -- what the class of its key had is shown
+  pub fits_asked : (o : Option (Call K V A)) (n caller : ℕ) (h : History) (maps : List (Map K V)) → FitsShown eq o (Some n) caller h maps → FitsAsked eq o n caller h maps
+  fits_asked None n caller h maps x = x
+  fits_asked (Some (Get j)) n caller h maps x = x
+  fits_asked (Some (Insert j v)) n caller h maps x = x
+  fits_asked (Some (TryInsert j v)) n caller h maps x = x
+  fits_asked (Some (RemoveIf j a)) n caller h maps x = x
+  fits_asked (Some (Compute j a)) n caller h maps x = x
+  fits_asked (Some (Reserve more)) n caller h maps x = x
+  fits_asked (Some CopyAll) n caller h maps x = x
+  fits_asked (Some Clear) n caller h maps x = x
+  fits_asked (Some (Retain a)) n caller h maps x = at_weaker (λ m. None ≡ Some n) (HasNumber n) caller h maps (λ m e. absurd cc) x.0
+  fits_asked (Some Walk) n caller h maps x = x
+
 module _ {K V A : Type 0} (eq : K → K → Bool) (k : K) (task : Task) (made : List (Stored K V)) (m : Map K V) (schedule : List (Turn K V A)) (caller : ℕ) (h : History) (maps : List (Map K V)) (said : Answered V) where
   -- a call that made a pair may put it in, and one that has a closure may take one out; its closure has agreed
   abbrev pub MayMove : Option ℕ → Option ℕ → Type 0
@@ -310,9 +373,10 @@ module _ {K V A : Type 0} (eq : K → K → Bool) (k : K) (task : Task) (made : 
   MayTell (events.Changed kind old new) = ((q : Stored K V) → IsOneOf made q → IsUnused q.number (m ∷ maps)) × MayMove old new
   MayTell events.Begun = Unit {0}
   MayTell (events.Moved kind) = Unit {0}
-  MayTell (events.Asked n agrees) = FitsShown eq (open_call schedule caller h) (Some n) caller h (m ∷ maps)
+  MayTell (events.Asked n agrees) = FitsAsked eq (open_call schedule caller h) n caller h (m ∷ maps)
   MayTell (events.Shown shown kind) = FitsShown eq (open_call schedule caller h) shown caller h (m ∷ maps)
   MayTell events.Other = Unit {0}
+  MayTell (events.Gave n) = ⊥
   MayTell (events.Replied reply) = ⊥
 
   -- with that it is legal
@@ -337,4 +401,5 @@ module _ {K V A : Type 0} (eq : K → K → Bool) (k : K) (task : Task) (made : 
   moved_legal m' (events.Asked n agrees) moved may = (moved, may)
   moved_legal m' (events.Shown shown kind) moved may = (moved, may)
   moved_legal m' events.Other moved may = moved
+  moved_legal m' (events.Gave n) moved may = absurd may
   moved_legal m' (events.Replied reply) moved may = absurd may

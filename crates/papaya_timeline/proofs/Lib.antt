@@ -21,6 +21,11 @@ pub mod GivenLemmas
 pub mod Good
 pub mod GoodLemmas
 pub mod GoodResized
+pub mod GoodVisits
+pub mod GoodVisited
+pub mod GoodVisitEnds
+pub mod GoodVisitFits
+pub mod StepVisits
 pub mod HeadlineLemmas
 pub mod KeptAnswer
 pub mod KeptBegin
@@ -65,3 +70,28 @@ pub mod TiedLemmas
 pub mod TimelineLemmas
 -- an example: a made-up value is refused by what closures gave
 pub mod InventedValue
+-- what an answer leaves of the words and the logs
+pub mod VisitAnswers
+pub mod VisitBegins
+pub mod KeptVisited
+pub mod CountedVisited
+pub mod SoloVisits
+pub mod LawfulVisits
+-- which tables are linked
+pub mod VisitLinks
+-- what a step leaves to all calls
+pub mod VisitKept
+-- what others' steps leave to it
+pub mod VisitOthers
+-- the laws
+pub mod VisitLaw
+-- what a step does to the map
+pub mod VisitMoves
+-- where it stands
+pub mod VisitStands
+-- how it ends where nobody else changes the words
+pub mod VisitAlone
+-- a pair enters the map once
+pub mod EntersOnce
+-- what is so at the end
+pub mod VisitOver

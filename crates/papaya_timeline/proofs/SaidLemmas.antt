@@ -8,7 +8,7 @@ use Rattle.papaya_ask.specs.declared.ask.Answer.TheVariants.{Op, Made as Made_nu
 use Rattle.papaya_ask.specs.declared.ask.OpKind.{OpKind}
 use Rattle.papaya_ask.specs.declared.ask.OpKind.TheVariants as kinds
 use Rattle.papaya_ask.specs.declared.call.Call.{Call}
-use Rattle.papaya_ask.specs.declared.call.Call.TheVariants.{Get, Insert, TryInsert, RemoveIf, Compute, Reserve, CopyAll}
+use Rattle.papaya_ask.specs.declared.call.Call.TheVariants.{Get, Insert, TryInsert, RemoveIf, Compute, Reserve, CopyAll, Clear, Retain, Walk}
 use Rattle.papaya_call.specs.declared.machine.Machine.{Machine as Call_machine}
 use Rattle.papaya_call.specs.Machine as calls
 use Rattle.papaya_chain.specs.declared.ask.Ask.TheVariants as asks
@@ -144,3 +144,7 @@ module _ {K V S A : Type 0} where
   change_agreed (Compute j x) s r c h answers before None None logged said = absurd said
   change_agreed (Reserve more) s r c h answers before old came logged said = tt
   change_agreed CopyAll s r c h answers before old came logged said = tt
+  change_agreed Clear s r c h answers before old came logged said = tt
+  change_agreed (Retain a) s r c h answers before None came logged said = absurd said
+  change_agreed (Retain a) s r c h answers before (Some n) came logged said = absurd said
+  change_agreed Walk s r c h answers before old came logged said = tt

@@ -7,7 +7,7 @@ use Rattle.papaya_call.specs.declared.write.Made.TheVariants.{Nothing}
 use Rattle.papaya_ask.specs.declared.ask.At.TheVariants.{Root}
 use Rattle.papaya_ask.specs.declared.ask.Ask.TheVariants.{ShowPair}
 use Rattle.papaya_ask.specs.declared.call.Call.{Call}
-use Rattle.papaya_ask.specs.declared.call.Call.TheVariants.{Get, Insert, TryInsert, RemoveIf, Compute, Reserve, CopyAll}
+use Rattle.papaya_ask.specs.declared.call.Call.TheVariants.{Get, Insert, TryInsert, RemoveIf, Compute, Reserve, CopyAll, Clear, Retain, Walk}
 use Rattle.papaya_ask.specs.declared.call.Task.{Task}
 use Rattle.papaya_law.specs.Allows.{AllAllowed}
 use Rattle.papaya_law.specs.Code.{Coding, IsHashed}
@@ -37,7 +37,13 @@ use Rattle.papaya_timeline.specs.declared.seat.Work.TheVariants as works
 use Rattle.papaya_timeline.specs.Resized.{IsLoneWork}
 use Rattle.papaya_alone.specs.Resizers.{IsResizerRead}
 use Rattle.papaya_alone.proofs.ResizerLaw.{begun_read}
-use Rattle.papaya_timeline.proofs.Begun.{call_begun, resizer_begun_is, task_is_own, the_task}
+use Rattle.papaya_timeline.proofs.Begun.{call_begun, resizer_begun_is, task_is_own, the_task, visitor_begun_is}
+use Rattle.papaya_words.specs.declared.probe.ResizeMode.{ResizeMode}
+use Rattle.papaya_words.specs.declared.probe.ResizeMode.TheVariants.{Incremental, Blocking}
+use Rattle.papaya_visit.specs.declared.visitor.Visit.{Visit}
+use Rattle.papaya_visit.specs.Visitor.{begun}
+use Rattle.papaya_visit_alone.specs.Visitors.{IsVisitorRead}
+use Rattle.papaya_visit_store.specs.declared.visits.Visiting.{Visiting}
 use Rattle.papaya_timeline.specs.Core.{CoreState, IsCore}
 use Rattle.papaya_timeline.specs.Ends.{HasValue, IsLone, IsMaker, IsNearer, budget_of, lone_measure}
 use Rattle.papaya_timeline.specs.Kept.{IsCall, IsKept, IsLawfulCore, Tale, coding_of, low, setting_of, told_tales}
@@ -61,6 +67,9 @@ module _ {K V A : Type 0} where
   begins_with (Compute k a) task e = subst (λ t. HasValue {V = V} t Nothing None) (sym e) tt
   begins_with (Reserve more) task e = subst (λ t. HasValue {V = V} t Nothing None) (sym e) tt
   begins_with CopyAll task e = subst (λ t. HasValue {V = V} t Nothing None) (sym e) tt
+  begins_with Clear task e = subst (λ t. HasValue {V = V} t Nothing None) (sym e) tt
+  begins_with (Retain a) task e = subst (λ t. HasValue {V = V} t Nothing None) (sym e) tt
+  begins_with Walk task e = subst (λ t. HasValue {V = V} t Nothing None) (sym e) tt
 
   begun_value : (call : Call K V A) (task : Task) → task_of_call call ≡ Some task → HasValue task Nothing (value_of_call call)
   begun_value call task is = begins_with call task (task_is_own call task is)
@@ -79,6 +88,10 @@ module _ {K V S A : Type 0} (eq : K → K → Bool) (hash : S → K → ℕ) (s 
       in_order' : IsLawfulCore eq (hash s'.store.hasher) s'.store s'.callers s'.mode
       in_order' = record { core = f.core; law = subst (λ y. (es : _) × ((tales : _) × IsKept eq (hash y) s'.mode s'.store s'.callers es tales)) (sym f.hasher_is) (f.es, (f.tales, f.kept)) }
 
+      visit_read : (mode : ResizeMode) (visit : Visit) → IsVisitorRead (word_at s'.store.words) (begun visit mode s.initial)
+      visit_read (Incremental chunk) visit = tt
+      visit_read Blocking visit = tt
+
       by_work : (work : Work K V A) → begun_work (hash s.store.hasher) s.mode s.initial call ≡ work → IsLoneWork eq hash s' work
       by_work (works.Call r) e =
           let is = call_begun (hash s.store.hasher) s.mode s.initial call r e in
@@ -94,6 +107,13 @@ module _ {K V S A : Type 0} (eq : K → K → Bool) (hash : S → K → ℕ) (s 
             callers = alone (works.Resize z) e;
             lawful = in_order';
             read = subst (IsResizerRead (word_at s'.store.words)) (sym is.is) (begun_read s.mode (word_at s'.store.words) is.resize);
+          }
+      by_work (works.Visit v) e =
+          let is = visitor_begun_is (hash s.store.hasher) s.mode s.initial call v e in
+          record {
+            callers = alone (works.Visit v) e;
+            lawful = in_order';
+            read = subst (λ (y : Visiting A). IsVisitorRead (word_at s'.store.words) y.visitor) (sym is.is) (visit_read s.mode is.visit);
           }
 
   module _ (says : Says K V A) (refuse : Bool) (s' : CoreState K V S A) (event : Event) (x : Advances eq says hash refuse s 0 s' event None) (core : IsCore s.store s.callers s.mode) (es : List (Exchange (Stored K V))) (tales : ℕ → Tale K V) (kept : IsKept eq (hash s.store.hasher) s.mode s.store s.callers es tales)

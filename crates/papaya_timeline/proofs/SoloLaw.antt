@@ -17,7 +17,8 @@ use Rattle.papaya_timeline.specs.Timeline.{Timeline}
 use Rattle.papaya_timeline.proofs.HeadlineLemmas.{lawful_timeline}
 use Rattle.papaya_timeline.proofs.KeptCore.{keys_lawful}
 use Rattle.papaya_timeline.proofs.SoloRun.{IsOver, over_core, over_counted, runs_over}
-use Rattle.papaya_timeline.proofs.SoloTimeline.{lookup_alike, timeline_answered}
+use Rattle.papaya_timeline.proofs.SoloTimeline.{lookup_alike}
+use Rattle.papaya_timeline.proofs.SoloVisits.{timeline_answered}
 
 module _ {K V S A H : Type 0} (eq : K → K → Bool) (input : K → List (List ℕ)) (build : S → H) (write : H → List ℕ → H) (finish : H → ℕ) (classes : IsEquivalence eq) (respects : (x y : K) → eq x y ≡ true → input x ≡ input y)
     (s s' : CoreState K V S A) (call : Call K V A) (reply : Reply)
@@ -33,7 +34,7 @@ module _ {K V S A H : Type 0} (eq : K → K → Bool) (input : K → List (List 
   -- it did what the finite map does
   pub alone_answered : IsAnswered eq call (map_of eq s) reply (map_of eq s')
   alone_answered =
-      timeline_answered eq call alone.steps (map_of eq s) (lookup_alike eq classes (λ (p : Stored K V). p.key) (content eq s.store)) over.events over.of_steps reply timeline.last (map_of eq s') timeline.maps timeline.said
+      timeline_answered eq alone.steps (map_of eq s) (lookup_alike eq classes (λ (p : Stored K V). p.key) (content eq s.store)) over.events over.of_steps reply timeline.last (map_of eq s') call timeline.maps timeline.said
       (subst (λ (h : History). Timeline eq (Begin 0 call ∷ Finish 0 alone.steps ∷ []) (map_of eq s) h (timeline.last ∷ timeline.maps) timeline.said) over.history timeline.timeline)
       (λ j. sym (timeline.is_last j))
 

@@ -17,11 +17,11 @@ use Rattle.papaya_timeline.specs.declared.seat.Seat.{Seat}
 use Rattle.papaya_store.specs.declared.pairs.Pair.{Pair}
 use Rattle.papaya_timeline.specs.declared.trace.Entry.{Entry}
 use Rattle.papaya_timeline.specs.declared.trace.Event.{Event}
-use Rattle.papaya_timeline.specs.declared.trace.Event.TheVariants.{Begun, Changed, Moved, Asked, Shown, Other, Replied}
+use Rattle.papaya_timeline.specs.declared.trace.Event.TheVariants.{Begun, Changed, Moved, Asked, Shown, Gave, Other, Replied}
 use Rattle.papaya_timeline.specs.declared.trace.Turn.TheVariants.{Begin, Finish}
 use Rattle.papaya_timeline.specs.Advances.{Advances, event_of}
 use Rattle.papaya_timeline.specs.Begins.{Begins, begun_work}
-use Rattle.papaya_timeline.specs.Callers.{resizing, running, with_call, with_seat, with_work, working}
+use Rattle.papaya_timeline.specs.Callers.{resizing, running, visiting, with_call, with_seat, with_work, working}
 use Rattle.papaya_timeline.specs.declared.seat.Work.{Work}
 use Rattle.papaya_timeline.specs.declared.seat.Work.TheVariants as works
 use Rattle.papaya_timeline.specs.Resizes.{Resizes}
@@ -51,6 +51,15 @@ use Rattle.papaya_timeline.proofs.KeptLemmas.{IsLawfulKeys, IsStep, kept_begin, 
 use Rattle.papaya_timeline.proofs.KeptLogs.{pair_below}
 use Rattle.papaya_timeline.proofs.MachineLemmas.{machine_replies}
 use Rattle.papaya_timeline.proofs.SoloTimeline.{AreOfSteps, IsOfStep, open_history}
+use Rattle.papaya_words.specs.declared.probe.Refused.{Refused as Refusal}
+use Rattle.papaya_chain_rests.specs.Told as chain_told
+use Rattle.papaya_timeline.specs.VisitGoes.{Visits, reply_or, unheard}
+use Rattle.papaya_timeline.proofs.CountedVisited.{counted_visit}
+use Rattle.papaya_timeline.proofs.KeptVisited.{step_after as visit_after, visited-core}
+use Rattle.papaya_timeline.proofs.SoloVisits.{visit_of_step}
+use Rattle.papaya_visit.specs.declared.visitor.State.{State as Visit_state}
+use Rattle.papaya_visit.specs.declared.visitor.State.TheVariants as visit_states
+use Rattle.papaya_visit.specs.Visitor.{after as after_visit, kind_of_ask as kind_of_visit, reply_in as visit_reply_in}
 
 -- an event that begins no call and ends none is of a step
 of_step : (event : Event) → begins event ≡ false → open_after {A = ℕ} event None (Some 0) ≡ Some 0 → IsOfStep event
@@ -59,6 +68,7 @@ of_step (Changed kind old new) no_begin stays = tt
 of_step (Moved kind) no_begin stays = tt
 of_step (Asked n agrees) no_begin stays = tt
 of_step (Shown n kind) no_begin stays = tt
+of_step (Gave n) no_begin stays = tt
 of_step Other no_begin stays = tt
 of_step (Replied reply) no_begin stays = cc
 
@@ -172,6 +182,25 @@ module _ {K V S A : Type 0} (eq : K → K → Bool) (hash : S → K → ℕ) (s 
         new = λ q made. f.new q (subst (λ l. IsOneOf l q) left.same_made made);
       }
 
+  -- and after one of a visitor, which makes no pair
+  follows_visit : (now s' : CoreState K V S A) (event : Event) (reply : Option Reply) → Follows now → Visits eq says hash false now 0 s' event reply → Follows s'
+  follows_visit now s' event reply f x =
+      let then = visit_after eq (hash s.store.hasher) law says hash false now 0 s' event reply x (ap hash f.hasher_is) f.es f.tales f.core f.kept in
+      let core' = visited-core eq (hash s.store.hasher) law says hash false now 0 s' event reply x f.core in
+      record {
+        es = then.es_then;
+        tales = then.tales_then;
+        core = core';
+        kept = then.kept_after;
+        counted = λ was. counted_visit eq (hash s.store.hasher) law says hash false now 0 s' event reply x (ap hash f.hasher_is) f.es f.tales f.core f.kept (f.counted was);
+        hasher_is = then.hasher_is ∙ f.hasher_is;
+        mode_is = x.mode ∙ f.mode_is;
+        initial_is = x.initial ∙ f.initial_is;
+        keeps = λ n p e. then.keeps n p (f.keeps n p e);
+        longer = let more = f.longer in let same = ap (λ (l : List (Pair V)). length l) then.pairs_are in omega (arith, more, same);
+        new = λ q made. f.new q (subst (λ (l : chain_told.Hands (Stored K V)). IsOneOf l.call.made q) then.own_made made);
+      }
+
   -- the pair that a call replies that it made was not logged at the begin
   owned : (g : Setting K (Stored K V)) (first since : List (Exchange (Stored K V))) (k : K) (hands : Hands (Stored K V)) (n : ℕ) → ((q : Stored K V) → IsOneOf hands.made q → length s.store.pairs ≤ q.number) → IsOwnPair g (coding_of (low (hash s.store.hasher))) first since k hands n → pair_of s.store n ≡ None
   owned g first since k hands n new (q, made, number) = past_log s.store n (let most = new q made in let same : q.number ≡ n = number in omega arith)
@@ -207,10 +236,12 @@ module _ {K V S A : Type 0} (eq : K → K → Bool) (hash : S → K → ℕ) (s 
   abbrev pub IsUnmoved : CoreState K V S A → Work K V A → Type 0
   IsUnmoved s' (works.Call r) = change_in r.machine.call.state ≡ None → Same (map_of eq s) (map_of eq s')
   IsUnmoved s' (works.Resize z) = Same (map_of eq s) (map_of eq s')
+  IsUnmoved s' (works.Visit v) = Unit {0}
 
   unmoved_where : (s' : CoreState K V S A) (work : Work K V A) → Same (map_of eq s) (map_of eq s') → IsUnmoved s' work
   unmoved_where s' (works.Call r) same = λ none. same
   unmoved_where s' (works.Resize z) same = same
+  unmoved_where s' (works.Visit v) same = tt
 
   -- the call is open, and no other caller has a seat
   pub record IsSole (s' : CoreState K V S A) (h : History) : Type 0 where
@@ -319,14 +350,46 @@ module _ {K V S A : Type 0} (eq : K → K → Bool) (hash : S → K → ℕ) (s 
     },
   )
 
+  -- a step of the open call that visits a table
+  sole_visits : (now s' : CoreState K V S A) (h h' : History) (event : Event) (reply : Option Reply) → IsSole now h → Visits eq says hash false now 0 s' event reply → h' ≡ with_step 1 0 event reply h → Goes s' h'
+  sole_visits now s' h h' event None sole x told = inl (record {
+    follows = follows_visit now s' event None sole.follows x;
+    work = works.Visit (record x.later { visitor = after_visit x.before.visitor x.answer });
+    callers = x.callers ∙ ap (λ (l : List (Seat K V A)). with_work l 0 (Some (works.Visit (record x.later { visitor = after_visit x.before.visitor x.answer })))) sole.callers;
+    events = event ∷ sole.events;
+    of_steps = (subst IsOfStep (sym x.event_is) (visit_of_step (kind_of_visit x.before.visitor) x.ask x.answer), sole.of_steps);
+    history = told ∙ ap (with_event 1 0 event) sole.history;
+    unmoved = tt;
+  })
+  sole_visits now s' h h' event (Some reply) sole x told = inr (
+    reply,
+    record {
+      follows = follows_visit now s' event (Some reply) sole.follows x;
+      callers = x.callers ∙ ap (λ (l : List (Seat K V A)). with_work l 0 None) sole.callers;
+      events = event ∷ sole.events;
+      of_steps = (subst IsOfStep (sym x.event_is) (visit_of_step (kind_of_visit x.before.visitor) x.ask x.answer), sole.of_steps);
+      history = told ∙ ap (λ l. with_event 1 0 (Replied reply) (with_event 1 0 event l)) sole.history;
+      unlogged = visit_unlogged (unheard x.ask x.answer) (after_visit x.before.visitor x.answer).state reply (sym x.reply_is);
+    },
+  )
+    where
+      visit_unlogged : (o : Option Refusal) (state : Visit_state) (reply : Reply) → reply_or o (visit_reply_in state) ≡ Some reply → IsNewIn s.store reply
+      visit_unlogged None visit_states.Done reply e = subst (IsNewIn s.store) (same_item Done reply e) tt
+      visit_unlogged None (visit_states.Refused refused) reply e = subst (IsNewIn s.store) (same_item (Refused refused) reply e) tt
+      visit_unlogged None state reply e = let f : None ≡ Some reply = e in absurd cc
+      visit_unlogged (Some refused) state reply e = subst (IsNewIn s.store) (same_item (Refused refused) reply e) tt
+
   -- a step, or one that is passed over
   step_runs : (now s' : CoreState K V S A) (h h' : History) → Goes now h → StepRuns eq says hash 1 0 false now h s' h' → Goes s' h'
   step_runs now s' h h' (inl sole) (inl (event, reply, inl x, told)) = sole_steps now s' h h' event reply sole x told
-  step_runs now s' h h' (inl sole) (inl (event, reply, inr x, told)) = sole_resizes now s' h h' event reply sole x told
+  step_runs now s' h h' (inl sole) (inl (event, reply, inr (inl x), told)) = sole_resizes now s' h h' event reply sole x told
+  step_runs now s' h h' (inl sole) (inl (event, reply, inr (inr x), told)) = sole_visits now s' h h' event reply sole x told
   step_runs now s' h h' (inr (r, over)) (inl (event, reply, inl x, told)) =
       let f : None ≡ Some x.before = sym (ap (λ (l : List (Seat K V A)). running l 0) over.callers) ∙ x.was in absurd cc
-  step_runs now s' h h' (inr (r, over)) (inl (event, reply, inr x, told)) =
+  step_runs now s' h h' (inr (r, over)) (inl (event, reply, inr (inl x), told)) =
       let f : None ≡ Some x.before = sym (ap (λ (l : List (Seat K V A)). resizing l 0) over.callers) ∙ x.was in absurd cc
+  step_runs now s' h h' (inr (r, over)) (inl (event, reply, inr (inr x), told)) =
+      let f : None ≡ Some x.before = sym (ap (λ (l : List (Seat K V A)). visiting l 0) over.callers) ∙ x.was in absurd cc
   step_runs now s' h h' goes (inr (idle, (same, as_before))) = subst (λ y. Goes y h') (sym same) (subst (Goes now) (sym as_before) goes)
 
   -- so many steps
@@ -375,7 +438,7 @@ module _ {K V S A : Type 0} (eq : K → K → Bool) (hash : S → K → ℕ) (s 
   pub without_seat : (s' : CoreState K V S A) {says : Says K V A} → Follows eq hash s law says s' → IsLawfulCore {A = A} eq (hash s'.store.hasher) s'.store [] s'.mode
   without_seat s' f =
       record {
-        core = record { chunked = f.core.chunked; sizes = f.core.sizes; standing = λ caller r e. let n : None ≡ Some r = e in absurd cc; going = λ caller r e. let n : None ≡ Some r = e in absurd cc; resizers = λ caller z e. let n : None ≡ Some z = e in absurd cc };
+        core = record { chunked = f.core.chunked; sizes = f.core.sizes; standing = λ caller r e. let n : None ≡ Some r = e in absurd cc; going = λ caller r e. let n : None ≡ Some r = e in absurd cc; resizers = λ caller z e. let n : None ≡ Some z = e in absurd cc; visitors = λ caller v e. let n : None ≡ Some v = e in absurd cc };
         law = subst (λ y. (es : _) × ((tales : _) × IsKept {A = A} eq (hash y) s'.mode s'.store [] es tales)) (sym f.hasher_is) (
           f.es,
           (
@@ -389,6 +452,7 @@ module _ {K V S A : Type 0} (eq : K → K → Bool) (hash : S → K → ℕ) (s 
               tables_few = f.kept.tables_few;
               calls = λ caller r e. let n : None ≡ Some r = e in absurd cc;
               resizers = λ caller z e. let n : None ≡ Some z = e in absurd cc;
+              visitors = λ caller v e. let n : None ≡ Some v = e in absurd cc;
               apart = λ c d r q e. let n : None ≡ Some r = e in absurd cc;
             },
           ),

@@ -7,18 +7,18 @@ use Rattle.papaya_words.specs.declared.probe.Refused.TheVariants.{RemoveNothing}
 use Rattle.papaya_ask.specs.declared.ask.OpKind.{OpKind}
 use Rattle.papaya_ask.specs.declared.ask.OpKind.TheVariants as kinds
 use Rattle.papaya_ask.specs.declared.call.Call.{Call}
-use Rattle.papaya_ask.specs.declared.call.Call.TheVariants.{Get, Insert, TryInsert, RemoveIf, Compute, Reserve, CopyAll}
+use Rattle.papaya_ask.specs.declared.call.Call.TheVariants.{Get, Insert, TryInsert, RemoveIf, Compute, Reserve, CopyAll, Clear, Retain, Walk}
 use Rattle.papaya_ask.specs.declared.call.Reply.{Reply}
 use Rattle.papaya_ask.specs.declared.call.Reply.TheVariants.{Absent, Found, Inserted, Replaced, Occupied, Removed, Kept, Aborted, Done, Refused}
 use Rattle.papaya_timeline.specs.declared.trace.Turn.{Turn}
 use Rattle.papaya_timeline.specs.declared.trace.Turn.TheVariants.{Begin, Finish}
 use Rattle.papaya_timeline.specs.declared.trace.Event.{Event}
-use Rattle.papaya_timeline.specs.declared.trace.Event.TheVariants.{Begun, Changed, Moved, Asked, Shown, Other, Replied}
+use Rattle.papaya_timeline.specs.declared.trace.Event.TheVariants.{Begun, Changed, Moved, Asked, Shown, Gave, Other, Replied}
 use Rattle.papaya_timeline.specs.Maps.{Map, Does, IsUpdate, IsUpdateBy, Same, at_key, key_of}
 use Rattle.papaya_timeline.specs.Runs.{History, with_event}
-use Rattle.papaya_timeline.specs.Solo.{CallDoes, IsAnswered}
+use Rattle.papaya_timeline.specs.Solo.{CallDoes, IsAnswered, IsDoneBy, IsLeftBy}
 use Rattle.papaya_store.specs.Store.{Stored}
-use Rattle.papaya_timeline.specs.Timeline.{Answered, AtSomeMoment, Fits, FitsOpen, IsChange, IsLegal, MayChange, Timeline, WasLastShown, change_of, number_in, open_call}
+use Rattle.papaya_timeline.specs.Timeline.{Answered, AtSomeMoment, Fits, FitsDone, FitsOpen, IsChange, IsLegal, IsUnchanged, MayChange, Timeline, WasLastShown, change_of, number_in, open_call}
 
 -- equal keys have one pair in a list
 pub lookup_alike : {K P : Type 0} (eq : K → K → Bool) (classes : IsEquivalence eq) (key : P → K) (ps : List P) (j k : K) → eq j k ≡ true → lookup eq key ps j ≡ lookup eq key ps k
@@ -33,6 +33,7 @@ IsOfStep (Changed kind old new) = Unit {0}
 IsOfStep (Moved kind) = Unit {0}
 IsOfStep (Asked n agrees) = Unit {0}
 IsOfStep (Shown n kind) = Unit {0}
+IsOfStep (Gave n) = Unit {0}
 IsOfStep Other = Unit {0}
 IsOfStep (Replied reply) = ⊥
 
@@ -110,11 +111,87 @@ does_keyed (RemoveIf k a) here reply next does = (k, refl)
 does_keyed (Compute k a) here reply next does = (k, refl)
 does_keyed (Reserve more) here reply next does = absurd does
 does_keyed CopyAll here reply next does = absurd does
+does_keyed Clear here reply next does = absurd does
+does_keyed (Retain a) here reply next does = absurd does
+does_keyed Walk here reply next does = absurd does
 
-module _ {K V A : Type 0} (eq : K → K → Bool) (call : Call K V A) (steps : ℕ) (start : Map K V) where
+-- a call that changes the map once at most: each but a clear and a retain
+abbrev pub IsSingle : {K V A : Type 0} → Call K V A → Type 0
+IsSingle Clear = ⊥
+IsSingle (Retain a) = ⊥
+IsSingle call = Unit {0}
+
+-- what is said of such a call
+module _ {K V A : Type 0} (eq : K → K → Bool) where
+  single_changes : (call : Call K V A) → IsSingle call → (made : Change) (k : K) (old new : Option (Stored K V)) → MayChange eq (Some call) made k old new → (key_of call ≡ Some k) × (made ≡ None) × ((reply : Reply) × Does call old reply new × (change_of_reply reply ≡ Some (number_in old, number_in new)))
+  single_changes (Get j) one made k old new may = may
+  single_changes (Insert j v) one made k old new may = may
+  single_changes (TryInsert j v) one made k old new may = may
+  single_changes (RemoveIf j a) one made k old new may = may
+  single_changes (Compute j a) one made k old new may = may
+  single_changes (Reserve more) one made k old new may = may
+  single_changes CopyAll one made k old new may = may
+  single_changes Clear one made k old new may = absurd one
+  single_changes (Retain a) one made k old new may = absurd one
+  single_changes Walk one made k old new may = may
+
+  single_unchanged : (call : Call K V A) → IsSingle call → (made : Change) → IsUnchanged eq call made → made ≡ None
+  single_unchanged (Get j) one made none = none
+  single_unchanged (Insert j v) one made none = none
+  single_unchanged (TryInsert j v) one made none = none
+  single_unchanged (RemoveIf j a) one made none = none
+  single_unchanged (Compute j a) one made none = none
+  single_unchanged (Reserve more) one made none = none
+  single_unchanged CopyAll one made none = none
+  single_unchanged Clear one made none = absurd one
+  single_unchanged (Retain a) one made none = absurd one
+  single_unchanged Walk one made none = none
+
+  single_done : (call : Call K V A) → IsSingle call → (c : ℕ) (h : History) (maps : List (Map K V)) → FitsDone eq call c h maps → (key_of call ≡ None) × (change_of c h ≡ None)
+  single_done (Get j) one c h maps done = done
+  single_done (Insert j v) one c h maps done = done
+  single_done (TryInsert j v) one c h maps done = done
+  single_done (RemoveIf j a) one c h maps done = done
+  single_done (Compute j a) one c h maps done = done
+  single_done (Reserve more) one c h maps done = done
+  single_done CopyAll one c h maps done = done
+  single_done Clear one c h maps done = absurd one
+  single_done (Retain a) one c h maps done = absurd one
+  single_done Walk one c h maps done = (refl, done.0)
+
+single_left : {K V A : Type 0} (call : Call K V A) → IsSingle call → (m m' : Map K V) → Same m m' → IsLeftBy call m m' × IsDoneBy call m m'
+single_left (Get j) one m m' same = (same, same)
+single_left (Insert j v) one m m' same = (same, same)
+single_left (TryInsert j v) one m m' same = (same, same)
+single_left (RemoveIf j a) one m m' same = (same, same)
+single_left (Compute j a) one m m' same = (same, same)
+single_left (Reserve more) one m m' same = (same, same)
+single_left CopyAll one m m' same = (same, same)
+single_left Clear one m m' same = absurd one
+single_left (Retain a) one m m' same = absurd one
+single_left Walk one m m' same = (same, same)
+
+module _ {K V A : Type 0} (call : Call K V A) (steps : ℕ) where
+  -- the call begins, and its caller makes its steps
+  abbrev pub alone_schedule : List (Turn K V A)
+  alone_schedule = Begin 0 call ∷ Finish 0 steps ∷ []
+
+  -- the call is open after each of its steps
+  pub opened : (events : List Event) → AreOfSteps events → open_call alone_schedule 0 (open_history events) ≡ Some call
+  opened [] are = refl
+  opened (Begun ∷ events) are = absurd are.0
+  opened (Changed kind old new ∷ events) are = opened events are.1
+  opened (Moved kind ∷ events) are = opened events are.1
+  opened (Asked n agrees ∷ events) are = opened events are.1
+  opened (Shown n kind ∷ events) are = opened events are.1
+  opened (Gave n ∷ events) are = opened events are.1
+  opened (Other ∷ events) are = opened events are.1
+  opened (Replied reply ∷ events) are = absurd are.0
+
+module _ {K V A : Type 0} (eq : K → K → Bool) (call : Call K V A) (one : IsSingle call) (steps : ℕ) (start : Map K V) where
   -- the call begins, and its caller makes its steps
   abbrev schedule : List (Turn K V A)
-  schedule = Begin 0 call ∷ Finish 0 steps ∷ []
+  schedule = alone_schedule call steps
 
   -- the call changed the map once, and since then nothing did
   record HasChanged (made : Change) (m : Map K V) : Type 0 where
@@ -146,7 +223,7 @@ module _ {K V A : Type 0} (eq : K → K → Bool) (call : Call K V A) (steps : �
   -- a change is the only one
   changes_once : (caller : ℕ) (h : History) (made : Change) (m' m : Map K V) (maps : List (Map K V)) (said : Answered V) (old new : Option ℕ) → open_call schedule caller h ≡ Some call → change_of caller h ≡ made → IsChange eq schedule caller h m maps m' said old new → Stands made m maps → Stands (Some (old, new)) m' (m ∷ maps)
   changes_once caller h made m' m maps said old new opened is x stands =
-      let (key, none, (reply, does, changes)) : MayChange eq (Some call) (change_of caller h) x.key x.went x.came = subst (λ o. MayChange eq o (change_of caller h) x.key x.went x.came) opened x.may in
+      let (key, none, (reply, does, changes)) = single_changes eq call one (change_of caller h) x.key x.went x.came (subst (λ o. MayChange eq o (change_of caller h) x.key x.went x.came) opened x.may) in
       elim stands [
         | inl (unmade, all) ↦ inr (record {
           went = x.went;
@@ -159,17 +236,6 @@ module _ {K V A : Type 0} (eq : K → K → Bool) (call : Call K V A) (steps : �
         })
         | inr once ↦ absurd (some_change (number_in once.went, number_in once.came) made (sym is ∙ none) once.made_is)
       ]
-
-  -- the call is open after each of its steps
-  opened : (events : List Event) → AreOfSteps events → open_call schedule 0 (open_history events) ≡ Some call
-  opened [] are = refl
-  opened (Begun ∷ events) are = absurd are.0
-  opened (Changed kind old new ∷ events) are = opened events are.1
-  opened (Moved kind ∷ events) are = opened events are.1
-  opened (Asked n agrees ∷ events) are = opened events are.1
-  opened (Shown n kind ∷ events) are = opened events are.1
-  opened (Other ∷ events) are = opened events are.1
-  opened (Replied reply ∷ events) are = absurd are.0
 
   -- how it stands after each of them
   stands : (events : List Event) → AreOfSteps events → (m : Map K V) (maps : List (Map K V)) (said : Answered V) → Timeline eq schedule start (open_history events) (m ∷ maps) said → Stands (change_of 0 (open_history events)) m maps
@@ -184,10 +250,11 @@ module _ {K V A : Type 0} (eq : K → K → Bool) (call : Call K V A) (steps : �
     where
       after : (event : Event) → IsOfStep event → (said : Answered V) → IsLegal eq event schedule 0 (open_history events) m0 maps m said → Stands (change_of 0 (open_history events)) m0 maps → Stands (change_of 0 (open_history (event ∷ events))) m (m0 ∷ maps)
       after Begun of_step said legal so_far = absurd of_step
-      after (Changed kind old new) of_step said legal so_far = changes_once 0 (open_history events) (change_of 0 (open_history events)) m m0 maps said old new (opened events are.1) refl legal so_far
+      after (Changed kind old new) of_step said legal so_far = changes_once 0 (open_history events) (change_of 0 (open_history events)) m m0 maps said old new (opened call steps events are.1) refl legal so_far
       after (Moved kind) of_step said legal so_far = stays (change_of 0 (open_history events)) m m0 maps legal so_far
       after (Asked n agrees) of_step said legal so_far = stays (change_of 0 (open_history events)) m m0 maps legal.0 so_far
       after (Shown n kind) of_step said legal so_far = stays (change_of 0 (open_history events)) m m0 maps legal.0 so_far
+      after (Gave n) of_step said legal so_far = stays (change_of 0 (open_history events)) m m0 maps legal.0 so_far
       after Other of_step said legal so_far = stays (change_of 0 (open_history events)) m m0 maps legal so_far
       after (Replied reply) of_step said legal so_far = absurd of_step
 
@@ -251,11 +318,15 @@ module _ {K V A : Type 0} (eq : K → K → Bool) (call : Call K V A) (steps : �
 
     -- a reply that fits is the finite map's
     fits_answered : (reply : Reply) → Fits eq call reply 0 h (m ∷ maps) → IsAnswered eq call start reply m'
-    fits_answered (Refused refused) fits = (unchanged fits.0, λ e. does_as_shown (Refused RemoveNothing) None kinds.Remove fits.0 (fits.1 e))
+    fits_answered (Refused refused) fits =
+        let none = single_unchanged eq call one (change_of 0 h) fits.0 in
+        ((single_left call one start m' (unchanged none)).0, λ e. does_as_shown (Refused RemoveNothing) None kinds.Remove none (fits.1 e))
     fits_answered (Aborted t) fits =
         let (none, (shown, last)) = fits in
         kept (Aborted t) none (does_as_shown (Aborted t) shown (kinds.Abort t) none last)
-    fits_answered Done fits = (fits.0, unchanged fits.1)
+    fits_answered Done fits =
+        let (no_key, none) = single_done eq call one 0 h (m ∷ maps) fits in
+        (no_key, (single_left call one start m' (unchanged none)).1)
     fits_answered Absent fits = answered Absent fits.0 fits.1
     fits_answered (Found n) fits = answered (Found n) fits.0 fits.1
     fits_answered (Inserted n) fits = changed (Inserted n) (None, Some n) refl fits
@@ -265,9 +336,9 @@ module _ {K V A : Type 0} (eq : K → K → Bool) (call : Call K V A) (steps : �
     fits_answered (Kept n) fits = answered (Kept n) fits.0.0 fits.0.1
 
   -- the timeline of the whole call says so
-  pub timeline_answered : ((j k : K) → eq j k ≡ true → start j ≡ start k) → (events : List Event) → AreOfSteps events → (reply : Reply) (last m' : Map K V) (maps : List (Map K V)) (said : Answered V) → Timeline eq schedule start (with_event 1 0 (Replied reply) (open_history events)) (last ∷ maps) said → Same last m' → IsAnswered eq call start reply m'
-  timeline_answered alike events are reply last m' [] said x same = elim x [ ]
-  timeline_answered alike events are reply last m' (m ∷ maps) [] x same = elim x [ ]
-  timeline_answered alike events are reply last m' (m ∷ maps) (o ∷ said) x same =
+  pub single_answered : ((j k : K) → eq j k ≡ true → start j ≡ start k) → (events : List Event) → AreOfSteps events → (reply : Reply) (last m' : Map K V) (maps : List (Map K V)) (said : Answered V) → Timeline eq schedule start (with_event 1 0 (Replied reply) (open_history events)) (last ∷ maps) said → Same last m' → IsAnswered eq call start reply m'
+  single_answered alike events are reply last m' [] said x same = elim x [ ]
+  single_answered alike events are reply last m' (m ∷ maps) [] x same = elim x [ ]
+  single_answered alike events are reply last m' (m ∷ maps) (o ∷ said) x same =
       fits_answered alike (open_history events) m m' maps (stands events are m maps said x.2) (λ j. same j ∙ x.0.0 j) reply
-      (subst (λ o. FitsOpen eq o reply 0 (open_history events) (m ∷ maps)) (opened events are) x.0.1)
+      (subst (λ o. FitsOpen eq o reply 0 (open_history events) (m ∷ maps)) (opened call steps events are) x.0.1)

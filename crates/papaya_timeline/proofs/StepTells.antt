@@ -38,6 +38,7 @@ Tells (events.Shown shown kind) ask answer = (ask ≡ asks.Call (show shown)) ×
 Tells (events.Moved kind) ask answer = Unit {0}
 Tells events.Other ask answer = Unit {0}
 Tells events.Begun ask answer = ⊥
+Tells (events.Gave n) ask answer = ⊥
 Tells (events.Replied reply) ask answer = ⊥
 
 -- what is told of an ask of the call
@@ -48,6 +49,7 @@ of_call (events.Shown shown kind) ask told (is, said) = (ap asks.Call is, ap ans
 of_call (events.Moved kind) ask told h = tt
 of_call events.Other ask told h = tt
 of_call events.Begun ask told h = absurd h
+of_call (events.Gave n) ask told h = absurd h
 of_call (events.Replied reply) ask told h = absurd h
 
 tells : (kind : Option StepKind) (ask : Ask) (answer : Answer) → ((asked : CopyAsk) → ask ≡ asks.Copy asked → IsCopyKind kind) → Tells (event_of kind ask answer) ask answer

@@ -37,6 +37,7 @@ Tells (events.Shown shown kind) ask answer = (ask ≡ show shown) × (answer ≡
 Tells (events.Moved kind) ask answer = Unit {0}
 Tells events.Other ask answer = Unit {0}
 Tells events.Begun ask answer = ⊥
+Tells (events.Gave n) ask answer = ⊥
 Tells (events.Replied reply) ask answer = ⊥
 
 pub event_tells : (kind : Option StepKind) (ask : Ask) (answer : Answer) → Tells (call_event kind ask answer) ask answer
@@ -126,6 +127,7 @@ unanswered V (events.Moved kind) none = refl
 unanswered V (events.Asked n agrees) none = refl
 unanswered V (events.Shown shown kind) none = absurd (none shown kind refl)
 unanswered V events.Other none = refl
+unanswered V (events.Gave n) none = refl
 unanswered V (events.Replied reply) none = refl
 
 -- an event at which a closure is asked tells that it was shown something, and what it answered
@@ -136,6 +138,7 @@ asked (events.Moved kind) ask answer told asks = absurd cc
 asked (events.Asked n agrees) ask answer told asks = (ap is_showing told.0, inl (agrees, told.1))
 asked (events.Shown shown kind) ask answer told asks = (ap is_showing told.0 ∙ is_show shown, inr (kind, told.1))
 asked events.Other ask answer told asks = absurd cc
+asked (events.Gave n) ask answer told asks = absurd told
 asked (events.Replied reply) ask answer told asks = absurd told
 
 -- what a closure answered in a step, if it was shown something, and what is at hand and left of its answers after it
@@ -155,6 +158,7 @@ module _ {K V S A : Type 0} (says : Says K V A) (store : StoreState K V S) where
   unasked (events.Asked n agrees) answered a none = absurd (none refl)
   unasked (events.Shown shown kind) answered a none = absurd (none refl)
   unasked events.Other answered a none = refl
+  unasked (events.Gave n) answered a none = refl
   unasked (events.Replied reply) answered a none = refl
 
 module _ {K V S A : Type 0} (eq : K → K → Bool) (says : Says K V A) (refuse : Bool) where

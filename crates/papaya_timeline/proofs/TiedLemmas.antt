@@ -4,7 +4,7 @@ use Rattle.papaya_ask.specs.declared.ask.Ask.{Ask as Call_ask}
 use Rattle.papaya_ask.specs.declared.ask.Ask.TheVariants.{Load, Exchange as Ask_exchange, SameKey, ShowNone, ShowPair, SizeOf, MakeKey, MakePair, MakeTable, AddToShard, Done as Ask_done}
 use Rattle.papaya_ask.specs.declared.ask.Answer.{Answer as Call_answer}
 use Rattle.papaya_ask.specs.declared.call.Call.{Call}
-use Rattle.papaya_ask.specs.declared.call.Call.TheVariants.{Get, Insert, TryInsert, RemoveIf, Compute, Reserve, CopyAll}
+use Rattle.papaya_ask.specs.declared.call.Call.TheVariants.{Get, Insert, TryInsert, RemoveIf, Compute, Reserve, CopyAll, Clear, Retain, Walk}
 use Rattle.papaya_ask.specs.declared.call.Reply.{Reply}
 use Rattle.papaya_ask.specs.declared.call.Reply.TheVariants.{Absent, Found, Inserted, Replaced, Occupied, Removed, Kept, Aborted, Done, Refused}
 use Rattle.papaya_ask.specs.declared.call.Task.{Task}
@@ -381,3 +381,6 @@ module _ {K V A : Type 0} (eq : K → K → Bool) where
         )
         by_reply (Reserve more) reply own is change said ending moments = let f : Some k ≡ None = own in absurd cc
         by_reply CopyAll reply own is change said ending moments = let f : Some k ≡ None = own in absurd cc
+        by_reply Clear reply own is change said ending moments = let f : Some k ≡ None = own in absurd cc
+        by_reply (Retain a) reply own is change said ending moments = let f : Some k ≡ None = own in absurd cc
+        by_reply Walk reply own is change said ending moments = let f : Some k ≡ None = own in absurd cc

@@ -1,9 +1,9 @@
 -- The begin of a call.
-use Rattle.std.specs.Prelude.{◌≡◌, ℕ, ◌<◌, ◌^◌, true, false, Option, Some, None}
+use Rattle.std.specs.Prelude.{◌≡◌, ℕ, ◌<◌, ◌^◌, true, false, [], Option, Some, None}
 use Rattle.std.specs.Int.{IsPowerOfTwo}
 use Rattle.papaya_words.specs.declared.probe.ResizeMode.{ResizeMode}
 use Rattle.papaya_ask.specs.declared.call.Call.{Call}
-use Rattle.papaya_ask.specs.declared.call.Call.TheVariants.{Get, Insert, TryInsert, RemoveIf, Compute, Reserve, CopyAll}
+use Rattle.papaya_ask.specs.declared.call.Call.TheVariants.{Get, Insert, TryInsert, RemoveIf, Compute, Reserve, CopyAll, Clear, Retain, Walk}
 use Rattle.papaya_ask.specs.declared.call.Task.{Task}
 use Rattle.papaya_ask.specs.declared.call.Task.TheVariants as tasks
 use Rattle.papaya_chain.specs.declared.resizer.Resize.{Resize}
@@ -17,6 +17,10 @@ use Rattle.papaya_timeline.specs.declared.seat.Work.TheVariants as works
 use Rattle.papaya_timeline.specs.Callers.{with_seat, with_work}
 use Rattle.papaya_timeline.specs.Core.{CoreState}
 use Rattle.papaya_timeline.specs.Maps.{key_of}
+use Rattle.papaya_visit.specs.declared.visitor.Visit.{Visit}
+use Rattle.papaya_visit.specs.declared.visitor.Visit.TheVariants as visits
+use Rattle.papaya_visit.specs.Visitor as visitor
+use Rattle.papaya_visit_store.specs.declared.visits.Visiting.{Visiting}
 
 -- the value that a call was handed, its closure's answers, and its task
 abbrev pub value_of_call : {K V A : Type 0} → Call K V A → Option V
@@ -27,6 +31,7 @@ value_of_call _ = None
 abbrev pub answers_of_call : {K V A : Type 0} → Call K V A → Option A
 answers_of_call (RemoveIf k a) = Some a
 answers_of_call (Compute k a) = Some a
+answers_of_call (Retain a) = Some a
 answers_of_call _ = None
 
 abbrev pub task_of_call : {K V A : Type 0} → Call K V A → Option Task
@@ -36,6 +41,14 @@ task_of_call (TryInsert k v) = Some (tasks.Insert false)
 task_of_call (RemoveIf k a) = Some tasks.RemoveIf
 task_of_call (Compute k a) = Some tasks.Compute
 task_of_call _ = None
+
+-- a call that visits a table as it begins: it gave nothing yet
+abbrev pub visitor_begun : {A : Type 0} → ResizeMode → (initial : ℕ) → Visit → Option A → Visiting A
+visitor_begun mode initial visit answers = record {
+  visitor = visitor.begun visit mode initial;
+  answers = answers;
+  given = [];
+}
 
 module _ {K V A : Type 0} (hash : K → ℕ) (mode : ResizeMode) (initial : ℕ) where
   -- a call on this key as it begins
@@ -61,6 +74,9 @@ module _ {K V A : Type 0} (hash : K → ℕ) (mode : ResizeMode) (initial : ℕ)
   begun_work (Compute k a) = works.Call (begun tasks.Compute k None (Some a))
   begun_work (Reserve more) = resizer_begun (resizes.Reserve more)
   begun_work CopyAll = resizer_begun resizes.CopyAll
+  begun_work Clear = works.Visit (visitor_begun mode initial visits.Clear None)
+  begun_work (Retain a) = works.Visit (visitor_begun mode initial visits.Retain (Some a))
+  begun_work Walk = works.Visit (visitor_begun mode initial visits.Walk None)
 
 -- a begin changes no word, no log and no other caller's call
 pub record Begins {K V S A : Type 0} (hash : K → ℕ) (s : CoreState K V S A) (caller : ℕ)

@@ -1,13 +1,22 @@
 -- The count of pairs, and what is yet to be added to it.
-use Rattle.std.specs.Prelude.{◌≡◌, ℤ, pos, ◌+ℤ◌, Bool, List, [], ◌∷◌, length, Option, Some, None}
+use Rattle.std.specs.Prelude.{◌≡◌, ℤ, pos, negsuc, ◌+ℤ◌, Bool, List, [], ◌∷◌, length, Option, Some, None}
 use Rattle.std.specs.Int.{w64, int_wrap}
 use Rattle.papaya_chain.specs.Machine.{ask_of}
 use Rattle.papaya_chain_rests.specs.Goes as calls
 use Rattle.papaya_store.specs.declared.pairs.Running.{Running}
 use Rattle.papaya_timeline.specs.declared.seat.Seat.{Seat}
-use Rattle.papaya_timeline.specs.Callers.{call_in}
+use Rattle.papaya_timeline.specs.declared.seat.Work.{Work}
+use Rattle.papaya_timeline.specs.declared.seat.Work.TheVariants as works
 use Rattle.papaya_timeline.specs.Content.{content}
 use Rattle.papaya_store.specs.Store.{StoreState}
+use Rattle.papaya_visit.specs.declared.visitor.State.{State}
+use Rattle.papaya_visit.specs.declared.visitor.State.TheVariants.{Uncounting}
+
+-- what a call that visits a table has yet to add to the count: it takes 1 for a pair that it has
+-- buried
+abbrev pub owed_visit : State → ℤ
+owed_visit (Uncounting spot) = negsuc 0
+owed_visit state = pos 0
 
 module _ {K V A : Type 0} where
   -- what a call on one key has yet to add to the count, for a change that it made; 0 where there is
@@ -16,10 +25,17 @@ module _ {K V A : Type 0} where
   owed_of None = pos 0
   owed_of (Some r) = calls.owed_in (ask_of r.machine)
 
+  -- what a caller's call has yet to add, if it has one; one that resizes the map adds nothing
+  abbrev pub owed_work : Option (Work K V A) → ℤ
+  owed_work None = pos 0
+  owed_work (Some (works.Call r)) = owed_of (Some r)
+  owed_work (Some (works.Resize resizer)) = pos 0
+  owed_work (Some (works.Visit v)) = owed_visit v.visitor.state
+
   -- what all calls under way have yet to add
   abbrev pub owed_in : List (Seat K V A) → ℤ
   owed_in [] = pos 0
-  owed_in (seat ∷ seats) = owed_of (call_in seat.work) +ℤ owed_in seats
+  owed_in (seat ∷ seats) = owed_work seat.work +ℤ owed_in seats
 
 -- The sum of the shards, with what is yet to be added, is the number of pairs in the map. A sum is
 -- one of 64 bits.

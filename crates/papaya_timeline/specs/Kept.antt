@@ -1,5 +1,5 @@
 -- How the words and the logs of a core stand to the law of exchanges.
-use Rattle.std.specs.Prelude.{◌≡◌, ◌≢◌, ℕ, ◌+◌, ◌%◌, ◌^◌, ◌<◌, ◌≤◌, ◌==◌, Bool, true, false, if◌then◌else◌, Option, None, Some, List, [], ◌++◌, length}
+use Rattle.std.specs.Prelude.{◌≡◌, ◌≢◌, ℕ, ◌+◌, ◌%◌, ◌^◌, ◌<◌, ◌≤◌, ◌==◌, ◌⊎◌, Bool, true, false, if◌then◌else◌, Option, None, Some, List, [], ◌∷◌, ◌++◌, length}
 use Rattle.papaya_words.specs.Table.{TableWords}
 use Rattle.papaya_words.specs.declared.limits.TheConstants.{MAX_LOG_LEN, MAX_TABLES}
 use Rattle.papaya_words.specs.declared.probe.ResizeMode.{ResizeMode}
@@ -8,6 +8,7 @@ use Rattle.papaya_ask.specs.declared.ask.At.{At}
 use Rattle.papaya_ask.specs.declared.ask.At.TheVariants.{Root}
 use Rattle.papaya_ask.specs.declared.ask.Ask.TheVariants.{Exchange as Asks_exchange}
 use Rattle.papaya_call.specs.Machine.{HasClosure}
+use Rattle.papaya_copy.specs.declared.link.Link.{Link}
 use Rattle.papaya_copy.specs.declared.link.Link.TheVariants.{Linking}
 use Rattle.papaya_chain.specs.declared.ask.Ask.TheVariants.{Call}
 use Rattle.papaya_chain.specs.Machine.{ask_of}
@@ -20,11 +21,12 @@ use Rattle.papaya_law.specs.Exchange.{Setting, Exchange, run, start}
 use Rattle.papaya_law.specs.Grows.{Comes, planned}
 use Rattle.papaya_law.specs.Hashing.{hashed}
 use Rattle.papaya_law.specs.Invariant.{named}
+use Rattle.papaya_law.specs.Meaning.{map_left}
 use Rattle.papaya_rests.specs.Rests.{change_in}
 use Rattle.papaya_rests.specs.Told.{IsOneOf, word_of}
 use Rattle.papaya_store.specs.declared.pairs.Running.{Running}
 use Rattle.papaya_timeline.specs.declared.seat.Seat.{Seat}
-use Rattle.papaya_timeline.specs.Callers.{resizing, running}
+use Rattle.papaya_timeline.specs.Callers.{resizing, running, visiting}
 use Rattle.papaya_chain.specs.declared.resizer.Resizer.{Resizer}
 use Rattle.papaya_chain.specs.declared.resizer.State.TheVariants.{Opening}
 use Rattle.papaya_chain_rests.specs.Resizers.{HasLink, RestsResizer}
@@ -32,6 +34,13 @@ use Rattle.papaya_timeline.specs.Core.{IsCore}
 use Rattle.papaya_store.specs.Performs.{own_key}
 use Rattle.papaya_store.specs.Store.{StoreState, Stored, pair_of}
 use Rattle.papaya_store.specs.Tables.{table_of, word_at}
+use Rattle.papaya_visit.specs.declared.visitor.State.{State}
+use Rattle.papaya_visit.specs.declared.visitor.State.TheVariants.{Copying}
+use Rattle.papaya_visit.specs.declared.visitor.Visit.{Visit}
+use Rattle.papaya_visit.specs.declared.visitor.Visit.TheVariants.{Retain}
+use Rattle.papaya_visit_rests.specs.Told as visits
+use Rattle.papaya_visit_rests.specs.Visits.{RestsVisitor}
+use Rattle.papaya_visit_store.specs.declared.visits.Visiting.{Visiting}
 
 -- does the core resize with blocking?
 abbrev pub is_blocking : ResizeMode → Bool
@@ -63,11 +72,52 @@ abbrev pub low : {K : Type 0} → (K → ℕ) → K → ℕ
 low hash k = hash k % 2 ^ 64
 
 -- What is told of a call: the exchanges when it began, those since then, and the pairs that its
--- machine was told of, and the one that it carries to another table.
+-- machine was told of, and the one that it carries to another table; and, where it visits a table,
+-- what its visitor was told of, gave and showed.
 pub record Tale (K V : Type 0) : Type 0 where
   pub begun : List (Exchange (Stored K V))
   pub since : List (Exchange (Stored K V))
   pub hands : Hands (Stored K V)
+  pub visit : visits.Hands (Stored K V)
+
+-- What is told of a call that visits a table: the exchanges when it began, those since then, and the
+-- pairs that its machine was told of, gave and showed.
+pub record VisitTale (K V : Type 0) : Type 0 where
+  pub begun : List (Exchange (Stored K V))
+  pub since : List (Exchange (Stored K V))
+  pub hands : visits.Hands (Stored K V)
+
+abbrev pub visit_tale : {K V : Type 0} → Tale K V → VisitTale K V
+visit_tale tale = record { begun = tale.begun; since = tale.since; hands = tale.visit }
+
+-- the same after a step, which made these exchanges
+abbrev pub told_more : {K V : Type 0} → VisitTale K V → List (Exchange (Stored K V))
+    → visits.Hands (Stored K V) → VisitTale K V
+told_more tale made hands = record {
+  begun = tale.begun;
+  since = tale.since ++ made;
+  hands = hands;
+}
+
+-- the numbers of these pairs, of which the newest is the first, in the order in which they came
+abbrev pub numbers_of : {K V : Type 0} → List (Stored K V) → List ℕ
+numbers_of [] = []
+numbers_of (p ∷ older) = numbers_of older ++ p.number ∷ []
+
+-- the making of a table that is under way for the copy of all
+abbrev pub IsVisitLink : State → Link → Type 0
+IsVisitLink (Copying stage) link = HasLink stage link
+IsVisitLink state link = ⊥
+
+-- its closure was shown this pair
+abbrev pub WasShown : {P : Type 0} → List (P × Bool) → P → Type 0
+WasShown [] p = ⊥
+WasShown (one ∷ older) p = (one.0 ≡ p) ⊎ WasShown older p
+
+-- a retain has its closure's answers
+abbrev pub HasAnswers : {A : Type 0} → Visit → Option A → Type 0
+HasAnswers {A = A} Retain left = (a : A) × (left ≡ Some a)
+HasAnswers _ left = Unit {0}
 
 module _ {K V S : Type 0} (store : StoreState K V S) where
   -- the log has this pair under its number
@@ -93,6 +143,23 @@ module _ {K V S : Type 0} (eq : K → K → Bool) (hash : K → ℕ) (mode : Res
 
 module _ {K V S A : Type 0} (eq : K → K → Bool) (hash : K → ℕ) (mode : ResizeMode)
     (store : StoreState K V S) where
+  -- a call that visits a table rests on what is told of it, after the exchanges es
+  pub record IsVisiting (v : Visiting A) (es : List (Exchange (Stored K V)))
+      (tale : VisitTale K V) : Type 0 where
+    pub split : tale.begun ++ tale.since ≡ es
+    pub rests : RestsVisitor (setting_of eq (low hash) mode store.words.tables)
+        (coding_of (low hash)) (run tale.begun start)
+        (map_left (setting_of eq (low hash) mode store.words.tables) tale.begun) tale.since
+        v.visitor tale.hands
+    pub answers : HasAnswers v.visitor.visit v.answers
+    -- its list names the pairs that it gave
+    pub given : v.given ≡ numbers_of tale.hands.given
+    pub last : (p : Stored K V) → tale.hands.copy.call.last ≡ Some p → IsLogged store p
+    pub carried : (p : Stored K V) → tale.hands.copy.kept ≡ Some p → IsLogged store p
+    pub shown : (p : Stored K V) → WasShown tale.hands.shown p → IsLogged store p
+    -- the table that it is about to link was made
+    pub links : (behind t : ℕ) → IsVisitLink v.visitor.state (Linking behind t) → IsMade store t
+
   -- a call under way rests on what is told of it, after the exchanges es
   pub record IsCall (r : Running K V A) (es : List (Exchange (Stored K V)))
       (tale : Tale K V) : Type 0 where
@@ -134,6 +201,8 @@ module _ {K V S A : Type 0} (eq : K → K → Bool) (hash : K → ℕ) (mode : R
         → IsCall r es (tales caller)
     pub resizers : (caller : ℕ) (resizer : Resizer) → resizing callers caller ≡ Some resizer
         → IsResizing eq hash mode store resizer es (tales caller)
+    pub visitors : (caller : ℕ) (v : Visiting A) → visiting callers caller ≡ Some v
+        → IsVisiting v es (visit_tale (tales caller))
     -- two calls make two pairs
     pub apart : (c d : ℕ) (r q : Running K V A) → running callers c ≡ Some r
         → running callers d ≡ Some q → c ≢ d → (p p' : Stored K V) → IsOneOf (tales c).hands.call.made p
@@ -155,10 +224,19 @@ told_tales tales caller made hands d = record {
   begun = (tales d).begun;
   since = (tales d).since ++ made;
   hands = if d == caller then hands else (tales d).hands;
+  visit = (tales d).visit;
 }
+
+-- the same after a step of a caller that visits a table
+abbrev pub visited_tales : {K V : Type 0} → (ℕ → Tale K V) → ℕ → List (Exchange (Stored K V))
+    → visits.Hands (Stored K V) → ℕ → Tale K V
+visited_tales tales caller made hands d =
+    record (told_tales tales caller made (tales caller).hands d) {
+      visit = if d == caller then hands else (tales d).visit;
+    }
 
 -- the tales after a call of a caller began
 abbrev pub begun_tales : {K V : Type 0} → (ℕ → Tale K V) → ℕ → List (Exchange (Stored K V)) → ℕ
     → Tale K V
 begun_tales tales caller es d = if d == caller
-    then record { begun = es; since = []; hands = no_hands } else tales d
+    then record { begun = es; since = []; hands = no_hands; visit = visits.no_hands } else tales d

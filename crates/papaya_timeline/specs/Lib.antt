@@ -16,3 +16,9 @@ pub mod Resizes
 pub mod Runs
 pub mod Solo
 pub mod Timeline
+-- how a call that visits a table stands to the law of exchanges
+pub mod Visits
+-- what one step makes of it
+pub mod VisitGoes
+-- a pair that has left the map does not come back
+pub mod Once

@@ -1,7 +1,7 @@
 -- Stored pairs, finite maps, and what each call on one key replies and changes.
 use Rattle.std.specs.Prelude.{◌≡◌, ℕ, Bool, true, false, Option, None, Some}
 use Rattle.papaya_ask.specs.declared.call.Call.{Call}
-use Rattle.papaya_ask.specs.declared.call.Call.TheVariants.{Get, Insert, TryInsert, RemoveIf, Compute, Reserve, CopyAll}
+use Rattle.papaya_ask.specs.declared.call.Call.TheVariants.{Get, Insert, TryInsert, RemoveIf, Compute, Reserve, CopyAll, Clear, Retain, Walk}
 use Rattle.papaya_ask.specs.declared.call.Reply.{Reply}
 use Rattle.papaya_ask.specs.declared.call.Reply.TheVariants.{Absent, Found, Inserted, Replaced, Occupied, Removed, Kept, Aborted, Refused}
 use Rattle.papaya_words.specs.declared.probe.Refused.TheVariants.{RemoveNothing}
@@ -11,7 +11,7 @@ use Rattle.papaya_store.specs.Store.{Stored}
 abbrev pub Map : (K V : Type 0) → Type 0
 Map K V = K → Option (Stored K V)
 
--- the key of a call, where it has one: a call that resizes the map has none
+-- the key of a call, where it has one: a call that resizes the map or visits a table has none
 abbrev pub key_of : {K V A : Type 0} → Call K V A → Option K
 key_of (Get k) = Some k
 key_of (Insert k v) = Some k
@@ -20,6 +20,9 @@ key_of (RemoveIf k a) = Some k
 key_of (Compute k a) = Some k
 key_of (Reserve more) = None
 key_of CopyAll = None
+key_of Clear = None
+key_of (Retain a) = None
+key_of Walk = None
 
 -- what the class of this key has, where there is a key
 abbrev pub at_key : {K V : Type 0} → Map K V → Option K → Option (Stored K V)

@@ -1,5 +1,5 @@
 -- What one step does to the map.
-use Rattle.std.specs.Prelude.{◌≡◌, ℕ, Bool, Option, Some, [], ◌∷◌}
+use Rattle.std.specs.Prelude.{◌≡◌, ◌⊎◌, ℕ, Bool, Option, None, Some, [], ◌∷◌}
 use Rattle.papaya_ask.specs.declared.call.Call.{Call}
 use Rattle.papaya_ask.specs.declared.call.Reply.{Reply}
 use Rattle.papaya_call.specs.Machine.{IsChanger}
@@ -9,11 +9,14 @@ use Rattle.papaya_timeline.specs.declared.trace.Event.{Event}
 use Rattle.papaya_timeline.specs.declared.trace.Event.TheVariants.{Changed}
 use Rattle.papaya_timeline.specs.Begins.{task_of_call}
 use Rattle.papaya_timeline.specs.Content.{map_of}
+use Rattle.papaya_timeline.specs.Callers.{visiting}
 use Rattle.papaya_timeline.specs.Core.{CoreState, call_of}
-use Rattle.papaya_timeline.specs.Maps.{Does, IsUpdateBy, Same, key_of}
+use Rattle.papaya_timeline.specs.Maps.{Does, IsUpdate, IsUpdateBy, Same, key_of}
 use Rattle.papaya_store.specs.Performs.{own_key}
 use Rattle.papaya_store.specs.Store.{Stored}
 use Rattle.papaya_timeline.specs.Timeline.{IsFresh, number_in}
+use Rattle.papaya_visit.specs.declared.visitor.Visit.TheVariants.{Walk}
+use Rattle.papaya_visit_store.specs.declared.visits.Visiting.{Visiting}
 
 module _ {K V S A : Type 0} (eq : K → K → Bool) (s : CoreState K V S A) (caller : ℕ)
     (s' : CoreState K V S A) where
@@ -39,8 +42,18 @@ module _ {K V S A : Type 0} (eq : K → K → Bool) (s : CoreState K V S A) (cal
     pub does : Does call went reply came
     pub tells : change_of_reply reply ≡ Some (old, new)
 
-  -- a step whose event is a change of the map changes the class of its own call's key, and every
-  -- other step leaves the map
+  -- A clear or a retain takes the pair of this number out of the map, and no other class changes.
+  pub record IsTakenByVisit (old new : Option ℕ) : Type 0 where
+    pub visitor : Visiting A
+    pub is_visiting : visiting s.callers caller ≡ Some visitor
+    pub no_walk : visitor.visitor.visit ≡ Walk → ⊥
+    pub pair : Stored K V
+    pub update : IsUpdate eq pair.key (Some pair) None (map_of eq s) (map_of eq s')
+    pub went_is : old ≡ Some pair.number
+    pub came_is : new ≡ None
+
+  -- a step whose event is a change of the map changes the class of its own call's key, or takes out
+  -- a pair that its call visits, and every other step leaves the map
   abbrev pub MovesMap : Event → Type 0
-  MovesMap (Changed kind old new) = IsOwnChange old new
+  MovesMap (Changed kind old new) = IsOwnChange old new ⊎ IsTakenByVisit old new
   MovesMap _ = Same (map_of eq s) (map_of eq s')

@@ -13,6 +13,7 @@ use Rattle.papaya_timeline.specs.Core.{CoreState, work_of}
 use Rattle.papaya_timeline.specs.Begins.{Begins}
 use Rattle.papaya_timeline.specs.Advances.{Advances}
 use Rattle.papaya_timeline.specs.Resizes.{Resizes}
+use Rattle.papaya_timeline.specs.VisitGoes.{Visits}
 
 -- a history is a trace, its newest entry first
 abbrev pub History : Type 0
@@ -34,10 +35,12 @@ module _ {K V S A : Type 0} (eq : K → K → Bool) (says : Says K V A) (hash : 
   abbrev pub PassesOver : CoreState K V S A → History → CoreState K V S A → History → Type 0
   PassesOver s before s' after = (s' ≡ s) × (after ≡ before)
 
-  -- one step of a caller: of its call on one key, or of its call that resizes the map
+  -- one step of a caller: of its call on one key, of its call that resizes the map, or of its call
+  -- that visits a table
   abbrev pub Steps : Bool → CoreState K V S A → ℕ → CoreState K V S A → Event → Option Reply → Type 0
   Steps refuse s caller s' event reply = Advances eq says hash refuse s caller s' event reply
       ⊎ Resizes eq hash refuse s caller s' event reply
+      ⊎ Visits eq says hash refuse s caller s' event reply
 
   -- a caller that is in no call begins one, and one that is in a call is passed over
   abbrev pub BeginRuns : (turn caller : ℕ) → Call K V A → CoreState K V S A → History

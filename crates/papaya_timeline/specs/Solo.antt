@@ -1,7 +1,8 @@
 -- The whole of one call, made by a caller with no other beside it.
-use Rattle.std.specs.Prelude.{◌≡◌, ℕ, Bool, [], ◌∷◌, Option, None}
+use Rattle.std.specs.Prelude.{◌≡◌, ◌⊎◌, ℕ, Bool, [], ◌∷◌, Option, None}
 use Rattle.papaya_call.specs.Answers.{Says}
 use Rattle.papaya_ask.specs.declared.call.Call.{Call}
+use Rattle.papaya_ask.specs.declared.call.Call.TheVariants.{Clear, Retain}
 use Rattle.papaya_ask.specs.declared.call.Reply.{Reply}
 use Rattle.papaya_ask.specs.declared.call.Reply.TheVariants.{Absent, Found, Inserted, Replaced, Occupied, Removed, Kept, Aborted, Done, Refused}
 use Rattle.papaya_words.specs.declared.probe.Refused.TheVariants.{RemoveNothing}
@@ -22,14 +23,30 @@ pub record CallDoes {K V A : Type 0} (eq : K → K → Bool) (call : Call K V A)
   pub update : IsUpdateBy eq (key_of call) went came m m'
   pub does : Does call went reply came
 
--- a call that is refused leaves the map, and every other does what the finite map does; a removal
--- of nothing is refused where nothing is
+-- of each class the one map has what the other has, or nothing
+abbrev pub IsWithin : {K V : Type 0} → Map K V → Map K V → Type 0
+IsWithin {K = K} m m' = (j : K) → (m' j ≡ m j) ⊎ (m' j ≡ None)
+
+-- what a refused call leaves: a clear or a retain may have taken pairs out
+abbrev pub IsLeftBy : {K V A : Type 0} → Call K V A → Map K V → Map K V → Type 0
+IsLeftBy Clear m m' = IsWithin m m'
+IsLeftBy (Retain a) m m' = IsWithin m m'
+IsLeftBy _ m m' = Same m m'
+
+-- what a call on no key leaves when it is done: a clear nothing, and a retain some pairs
+abbrev pub IsDoneBy : {K V A : Type 0} → Call K V A → Map K V → Map K V → Type 0
+IsDoneBy {K = K} Clear m m' = (j : K) → m' j ≡ None
+IsDoneBy (Retain a) m m' = IsWithin m m'
+IsDoneBy _ m m' = Same m m'
+
+-- a call that is refused leaves the map, or some of its pairs, and every other does what the finite
+-- map does; a removal of nothing is refused where nothing is
 abbrev pub IsAnswered : {K V A : Type 0} → (K → K → Bool) → Call K V A → Map K V → Reply → Map K V
     → Type 0
-IsAnswered eq call m (Refused refused) m' = Same m m'
+IsAnswered eq call m (Refused refused) m' = IsLeftBy call m m'
     × (refused ≡ RemoveNothing → Does call (at_key m (key_of call)) (Refused RemoveNothing)
     (at_key m (key_of call)))
-IsAnswered eq call m Done m' = (key_of call ≡ None) × Same m m'
+IsAnswered eq call m Done m' = (key_of call ≡ None) × IsDoneBy call m m'
 IsAnswered eq call m (Aborted t) m' = CallDoes eq call m (Aborted t) m'
 IsAnswered eq call m Absent m' = CallDoes eq call m Absent m'
 IsAnswered eq call m (Found n) m' = CallDoes eq call m (Found n) m'

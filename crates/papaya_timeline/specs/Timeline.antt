@@ -1,6 +1,6 @@
 -- What a trace says of the map: its moments, its changes and its replies. No definition here knows
 -- a slot, a hash, a mark or a probe.
-use Rattle.std.specs.Prelude.{◌≡◌, ◌≢◌, ℕ, ◌==◌, Bool, true, false, if◌then◌else◌, List, [], ◌∷◌, Option, Some, None, slice_get, ◌⊎◌}
+use Rattle.std.specs.Prelude.{◌≡◌, ◌≢◌, ℕ, ◌==◌, Bool, true, false, if◌then◌else◌, List, [], ◌∷◌, ◌++◌, Option, Some, None, IsSome, slice_get, ◌⊎◌}
 use Rattle.papaya_words.specs.declared.probe.Refused.{Refused}
 use Rattle.papaya_words.specs.declared.probe.Refused.TheVariants.{RemoveNothing}
 use Rattle.papaya_call.specs.Answers.{op_kind}
@@ -10,14 +10,14 @@ use Rattle.papaya_call.specs.declared.answers.Operation.TheVariants as ops
 use Rattle.papaya_ask.specs.declared.ask.OpKind.{OpKind}
 use Rattle.papaya_ask.specs.declared.ask.OpKind.TheVariants as kinds
 use Rattle.papaya_ask.specs.declared.call.Call.{Call}
-use Rattle.papaya_ask.specs.declared.call.Call.TheVariants.{Get, Insert, TryInsert, RemoveIf, Compute, Reserve, CopyAll}
+use Rattle.papaya_ask.specs.declared.call.Call.TheVariants.{Get, Insert, TryInsert, RemoveIf, Compute, Reserve, CopyAll, Clear, Retain, Walk}
 use Rattle.papaya_ask.specs.declared.call.Reply.{Reply}
 use Rattle.papaya_ask.specs.declared.call.Reply.TheVariants.{Absent, Found, Inserted, Replaced, Occupied, Removed, Kept, Aborted, Done, Refused as Was_refused}
 use Rattle.papaya_timeline.specs.declared.trace.Turn.{Turn}
 use Rattle.papaya_timeline.specs.declared.trace.Turn.TheVariants.{Begin, Step, Finish}
 use Rattle.papaya_timeline.specs.declared.trace.Entry.{Entry}
 use Rattle.papaya_timeline.specs.declared.trace.Event.{Event}
-use Rattle.papaya_timeline.specs.declared.trace.Event.TheVariants.{Begun, Changed, Asked, Shown, Replied}
+use Rattle.papaya_timeline.specs.declared.trace.Event.TheVariants.{Begun, Changed, Asked, Shown, Gave, Replied}
 use Rattle.papaya_timeline.specs.Runs.{History}
 use Rattle.papaya_store.specs.Store.{Stored}
 use Rattle.papaya_timeline.specs.Maps.{Map, Does, Same, IsUpdate, at_key, key_of}
@@ -74,6 +74,37 @@ AtSomeMoment P caller [] maps = ⊥
 AtSomeMoment P caller (e ∷ before) [] = ⊥
 AtSomeMoment P caller (e ∷ before) (m ∷ maps) = P m
     ⊎ ((is_begin caller e ≡ false) × AtSomeMoment P caller before maps)
+
+-- P held of the map as the caller's call began
+abbrev pub AtBegin : {K V : Type 0} → (Map K V → Type 0) → ℕ → History → List (Map K V) → Type 0
+AtBegin P caller [] maps = ⊥
+AtBegin P caller (e ∷ before) [] = ⊥
+AtBegin P caller (e ∷ before) (m ∷ maps) = ((is_begin caller e ≡ true) × P m)
+    ⊎ ((is_begin caller e ≡ false) × AtBegin P caller before maps)
+
+-- the numbers of the pairs that a caller's open call gave, in order
+abbrev pub given_then : Event → List ℕ → List ℕ
+given_then Begun before = []
+given_then (Gave n) before = before ++ n ∷ []
+given_then (Replied reply) before = []
+given_then _ before = before
+
+abbrev pub given_by : ℕ → History → List ℕ
+given_by caller [] = []
+given_by caller (e ∷ before) = if e.caller == caller
+    then given_then e.event (given_by caller before) else given_by caller before
+
+-- what the closure of a caller's open call last answered of the pair of this number, if it did
+abbrev pub asked_then : ℕ → Event → Option Bool → Option Bool
+asked_then n Begun before = None
+asked_then n (Asked shown agrees) before = if shown == n then Some agrees else before
+asked_then n (Replied reply) before = None
+asked_then n _ before = before
+
+abbrev pub last_asked : ℕ → ℕ → History → Option Bool
+last_asked caller n [] = None
+last_asked caller n (e ∷ before) = if e.caller == caller
+    then asked_then n e.event (last_asked caller n before) else last_asked caller n before
 
 -- in the caller's call the closure was shown the pair of this number and answered so
 abbrev pub WasAsked : ℕ → ℕ → Bool → History → Type 0
@@ -145,6 +176,10 @@ abbrev pub IsShownOnce : Option ℕ → Bool → Type 0
 IsShownOnce None already = already ≡ false
 IsShownOnce (Some n) already = Unit {0}
 
+-- the map has the pair of this number
+abbrev pub HasNumber : {K V : Type 0} → ℕ → Map K V → Type 0
+HasNumber {K = K} {V = V} n m = (k : K) × (p : Stored K V) × (m k ≡ Some p) × (p.number ≡ n)
+
 -- no map had a pair of this number
 abbrev pub IsUnused : {K V : Type 0} → ℕ → List (Map K V) → Type 0
 IsUnused n [] = Unit {0}
@@ -155,6 +190,36 @@ IsUnused {K = K} {V = V} n (m ∷ maps) = ((j : K) (p : Stored K V) → m j ≡ 
 abbrev pub number_in : {K V : Type 0} → Option (Stored K V) → Option ℕ
 number_in None = None
 number_in (Some p) = Some p.number
+
+-- P holds of one of these maps
+abbrev pub OfSome : {K V : Type 0} → (Map K V → Type 0) → List (Map K V) → Type 0
+OfSome P [] = ⊥
+OfSome P (m ∷ maps) = P m ⊎ OfSome P maps
+
+-- P holds of each of them
+abbrev pub OfEach : {K V : Type 0} → (Map K V → Type 0) → List (Map K V) → Type 0
+OfEach P [] = Unit {0}
+OfEach P (m ∷ maps) = P m × OfEach P maps
+
+-- the newest of them has this pair
+abbrev pub HasNow : {K V : Type 0} → List (Map K V) → K → Stored K V → Type 0
+HasNow [] k p = ⊥
+HasNow (m ∷ maps) k p = m k ≡ Some p
+
+-- one of them had the pair of this number for the key
+abbrev pub HadNumber : {K V : Type 0} → K → List (Map K V) → ℕ → Type 0
+HadNumber k maps n = OfSome (λ m. number_in (m k) ≡ Some n) maps
+
+-- none of these numbers is that of a pair which the key had
+abbrev pub IsGivenNever : {K V : Type 0} → K → List (Map K V) → List ℕ → Type 0
+IsGivenNever k maps [] = Unit {0}
+IsGivenNever k maps (n ∷ more) = (HadNumber k maps n → ⊥) × IsGivenNever k maps more
+
+-- just one of them is
+abbrev pub IsGivenOnce : {K V : Type 0} → K → List (Map K V) → List ℕ → Type 0
+IsGivenOnce k maps [] = ⊥
+IsGivenOnce k maps (n ∷ more) = (HadNumber k maps n × IsGivenNever k maps more)
+    ⊎ ((HadNumber k maps n → ⊥) × IsGivenOnce k maps more)
 
 -- a pair that comes has a number that no map had before
 abbrev pub IsFresh : {K V : Type 0} → Option (Stored K V) → List (Map K V) → Type 0
@@ -168,7 +233,8 @@ operation_for (Some q) = ops.Insert q.value
 
 -- A removal takes out a pair only after its closure was shown it and agreed. A compute stores or
 -- takes out a pair only after its closure was shown just what goes, and answered so; the value is
--- the one that it answered.
+-- the one that it answered. A retain takes out a pair only if its closure's last answer to it was
+-- that it does not stay.
 abbrev pub IsAgreed : {K V A : Type 0} → Option (Call K V A) → ℕ → (old : Option ℕ)
     → (came : Option (Stored K V)) → History → Answered V → Type 0
 IsAgreed None caller old came before said = Unit {0}
@@ -181,13 +247,58 @@ IsAgreed (Some (Compute k a)) caller old came before said =
     WasAnswered caller old (operation_for came) before said
 IsAgreed (Some (Reserve more)) caller old came before said = Unit {0}
 IsAgreed (Some CopyAll) caller old came before said = Unit {0}
+IsAgreed (Some Clear) caller old came before said = Unit {0}
+IsAgreed (Some (Retain a)) caller None came before said = ⊥
+IsAgreed (Some (Retain a)) caller (Some n) came before said =
+    last_asked caller n before ≡ Some false
+IsAgreed (Some Walk) caller old came before said = Unit {0}
+
+module _ {K V : Type 0} where
+  -- These are the maps since a moment of the caller's call, the newest first, and until that moment
+  -- the call gave no pair. Where a walk has ended one such moment is its making.
+  abbrev pub AreSince : ℕ → History → List (Map K V) → (since : List (Map K V)) → Type 0
+  AreSince caller [] maps since = ⊥
+  AreSince caller (e ∷ before) [] since = ⊥
+  AreSince caller (e ∷ before) (m ∷ maps) since =
+      ((given_by caller (e ∷ before) ≡ []) × (since ≡ m ∷ []))
+      ⊎ ((is_begin caller e ≡ false) × ((earlier : List (Map K V)) × (since ≡ m ∷ earlier)
+      × AreSince caller before maps earlier))
+
+  -- each pair that the caller gave since then was in one of these maps before it was given
+  abbrev pub WereThere : ℕ → History → (since : List (Map K V)) → Type 0
+  WereThere caller before [] = Unit {0}
+  WereThere caller [] (m ∷ since) = Unit {0}
+  WereThere caller (e ∷ before) (m ∷ since) =
+      ((n : ℕ) → e.caller ≡ caller → e.event ≡ Gave n → OfSome (HasNumber n) since)
+      × WereThere caller before since
+
+  -- The end of a walk. There is a moment of the call, until which it gave nothing, such that each
+  -- pair that it gave was in the map at a moment from then to its giving, and each key that had a
+  -- pair all the time since then was given just once.
+  abbrev pub HasWalked : ℕ → History → List (Map K V) → Type 0
+  HasWalked caller before maps = (since : List (Map K V)) × AreSince caller before maps since
+      × WereThere caller before since
+      × ((k : K) → OfEach (λ m. IsSome (m k)) since → IsGivenOnce k since (given_by caller before))
+
+  -- the end of a clear: no pair that the map had as the call began is in it
+  abbrev pub HasCleared : ℕ → History → List (Map K V) → Type 0
+  HasCleared caller before maps = AtBegin
+      (λ first. (k : K) (p : Stored K V) → first k ≡ Some p → HasNow maps k p → ⊥) caller before maps
+
+  -- the end of a retain: of each such pair that is in it the last answer was that it stays
+  abbrev pub HasRetained : ℕ → History → List (Map K V) → Type 0
+  HasRetained caller before maps = AtBegin (λ first. (k : K) (p : Stored K V) → first k ≡ Some p
+      → HasNow maps k p → last_asked caller p.number before ≡ Some true) caller before maps
 
 module _ {K V A : Type 0} (eq : K → K → Bool) where
-  -- An open call changes the class of its own key once, as such a call does. Of a call that began
+  -- An open call changes the class of its own key once, as such a call does. A clear and a retain
+  -- take out one pair at a time, and the other calls on no key change nothing. Of a call that began
   -- before the run nothing is said but that it changes one class.
   abbrev pub MayChange : Option (Call K V A) → Change → K → Option (Stored K V)
       → Option (Stored K V) → Type 0
   MayChange None made k old new = Unit {0}
+  MayChange (Some Clear) made k old new = IsSome old × (new ≡ None)
+  MayChange (Some (Retain a)) made k old new = IsSome old × (new ≡ None)
   MayChange (Some call) made k old new = (key_of call ≡ Some k) × (made ≡ None)
       × ((reply : Reply) × Does call old reply new
       × (change_of_reply reply ≡ Some (number_in old, number_in new)))
@@ -207,12 +318,25 @@ module _ {K V A : Type 0} (eq : K → K → Bool) where
       × AtSomeMoment (λ m. (number_in (at_key m (key_of call)) ≡ shown)
       × Does call (at_key m (key_of call)) reply (at_key m (key_of call))) caller before maps
 
-  -- a call is refused without a change; where that is for a removal of nothing, its closure was
-  -- shown that there is none
+  -- a call that is refused made no change; a clear or a retain may have taken out pairs
+  abbrev pub IsUnchanged : Call K V A → Change → Type 0
+  IsUnchanged Clear made = Unit {0}
+  IsUnchanged (Retain a) made = Unit {0}
+  IsUnchanged call made = made ≡ None
+
+  -- where a call is refused for a removal of nothing, its closure was shown that there is none
   abbrev pub FitsRefused : Call K V A → Refused → ℕ → History → List (Map K V) → Type 0
-  FitsRefused call refused caller before maps = (change_of caller before ≡ None)
+  FitsRefused call refused caller before maps = IsUnchanged call (change_of caller before)
       × (refused ≡ RemoveNothing → WasLastShown call (Was_refused RemoveNothing) None kinds.Remove
       caller before maps)
+
+  -- a call on no key is done: a walk, or one that resizes the map, without a change
+  abbrev pub FitsDone : Call K V A → ℕ → History → List (Map K V) → Type 0
+  FitsDone Clear caller before maps = HasCleared caller before maps
+  FitsDone (Retain a) caller before maps = HasRetained caller before maps
+  FitsDone Walk caller before maps = (change_of caller before ≡ None)
+      × HasWalked caller before maps
+  FitsDone call caller before maps = (key_of call ≡ None) × (change_of caller before ≡ None)
 
   -- a reply fits the call, its changes and the maps since it began
   abbrev pub Fits : Call K V A → Reply → ℕ → History → List (Map K V) → Type 0
@@ -228,8 +352,7 @@ module _ {K V A : Type 0} (eq : K → K → Bool) where
   Fits call (Aborted t) caller before maps = (change_of caller before ≡ None)
       × ((shown : Option ℕ) × WasLastShown call (Aborted t) shown (kinds.Abort t) caller before
       maps)
-  -- a call that resizes the map made no change
-  Fits call Done caller before maps = (key_of call ≡ None) × (change_of caller before ≡ None)
+  Fits call Done caller before maps = FitsDone call caller before maps
   Fits call (Was_refused refused) caller before maps = FitsRefused call refused caller before maps
 
   abbrev pub FitsOpen : Option (Call K V A) → Reply → ℕ → History → List (Map K V) → Type 0
@@ -243,6 +366,18 @@ module _ {K V A : Type 0} (eq : K → K → Bool) where
   FitsShown (Some call) shown caller before maps =
       AtSomeMoment (λ m. number_in (at_key m (key_of call)) ≡ shown) caller before maps
       × IsShownOnce shown (was_shown_none caller before)
+
+  -- a retain shows pairs that some class had at a moment since it began; for other calls that is the
+  -- class of their key
+  abbrev pub FitsAsked : Option (Call K V A) → ℕ → ℕ → History → List (Map K V) → Type 0
+  FitsAsked (Some (Retain a)) n caller before maps = AtSomeMoment (HasNumber n) caller before maps
+  FitsAsked call n caller before maps = FitsShown call (Some n) caller before maps
+
+  -- a walk alone gives pairs, and such as the map had at some moment since it began
+  abbrev pub FitsGiven : Option (Call K V A) → ℕ → ℕ → History → List (Map K V) → Type 0
+  FitsGiven None n caller before maps = Unit {0}
+  FitsGiven (Some Walk) n caller before maps = AtSomeMoment (HasNumber n) caller before maps
+  FitsGiven (Some call) n caller before maps = ⊥
 
   -- A change of one class: the pair that goes and the pair that comes have the numbers told, and
   -- the one that comes is new.
@@ -264,9 +399,11 @@ module _ {K V A : Type 0} (eq : K → K → Bool) where
   IsLegal (Changed kind old new) schedule caller before m maps m' said =
       IsChange schedule caller before m maps m' said old new
   IsLegal (Asked n agrees) schedule caller before m maps m' said = Same m m'
-      × FitsShown (open_call schedule caller before) (Some n) caller before (m ∷ maps)
+      × FitsAsked (open_call schedule caller before) n caller before (m ∷ maps)
   IsLegal (Shown n kind) schedule caller before m maps m' said = Same m m'
       × FitsShown (open_call schedule caller before) n caller before (m ∷ maps)
+  IsLegal (Gave n) schedule caller before m maps m' said = Same m m'
+      × FitsGiven (open_call schedule caller before) n caller before (m ∷ maps)
   IsLegal (Replied reply) schedule caller before m maps m' said = Same m m'
       × FitsOpen (open_call schedule caller before) reply caller before (m ∷ maps)
   IsLegal _ schedule caller before m maps m' said = Same m m'

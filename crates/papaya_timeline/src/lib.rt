@@ -2,6 +2,8 @@
 //! timeline of maps. The crate has no code that acts on a map.
 #![tactic(auto)]
 
+pub mod once;
 pub mod seat;
 pub mod solo;
 pub mod trace;
+pub mod visits;

@@ -22,11 +22,14 @@ pub enum Event {
     Changed(StepKind, Option<u64>, Option<u64>),
     /// An exchange left the map as it was.
     Moved(StepKind),
-    /// The closure of a removal was shown a pair, and answered this.
+    /// The closure of a removal was shown a pair, and answered this: whether it is removed. Of a
+    /// retain, whether it stays.
     Asked(u64, bool),
     /// The closure of a call that may insert, remove or abort was shown a pair, or that there is
     /// none, and answered this.
     Shown(Option<u64>, OpKind),
+    /// A walk gave this pair.
+    Gave(u64),
     /// A step changed no word, and showed nothing.
     Other,
     /// The call replied.

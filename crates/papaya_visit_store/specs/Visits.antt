@@ -27,12 +27,12 @@ Shows {K = K} {V = V} {A = A} says n s v answer v' =
 pub record IsGiven {A : Type 0} (n : ℕ) (v v' : Visiting A) : Type 0 where
   pub visitor : v'.visitor ≡ v.visitor
   pub answers : v'.answers ≡ v.answers
-  pub given : v'.given.items ≡ v.given.items ++ n ∷ []
+  pub given : v'.given ≡ v.given ++ n ∷ []
 
 abbrev pub Gives : {A : Type 0} → ℕ → Visiting A → Call_answer → Visiting A → Type 0
 Gives n v answer v' = ((answer ≡ Ok) × IsGiven n v v')
     ⊎ ((answer ≡ Refused Memory) × (v'.visitor ≡ v.visitor) × (v'.answers ≡ v.answers)
-    × (v'.given.items ≡ v.given.items))
+    × (v'.given ≡ v.given))
 
 -- Just one ask is answered: of the copy of all as a copier's is, a showing by the closure's
 -- answers.

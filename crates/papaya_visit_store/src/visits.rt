@@ -1,5 +1,5 @@
 //! What a machine that visits a table asks.
-ghost use Rattle.std.specs.Prelude.{◌≡◌, ℤ, ◌⊎◌, ◌++◌, ◌∷◌, [], None};
+ghost use Rattle.std.specs.Prelude.{◌≡◌, ℤ, ◌⊎◌, ◌++◌, ◌∷◌, [], None, IfErr, OnOk};
 ghost use Rattle.papaya_words.specs.Counter.{added};
 ghost use Rattle.papaya_keys.specs.Hashes.{hash_of};
 ghost use Rattle.papaya_visit_store.specs.Visits.{Gives, PerformsVisit, Shows};
@@ -13,6 +13,7 @@ use papaya_visit::visitor::Visitor;
 use papaya_words::probe::Refused;
 use std::alloc::Global;
 use std::hash::{BuildHasher, Hash};
+use std::marker::Model;
 
 /// A call that visits a table, under way.
 #[derive(Drop)]
@@ -21,7 +22,50 @@ pub struct Visiting<A> {
     /// The answers that its closure has yet to give.
     pub answers: Option<A>,
     /// The numbers of the pairs that it gave, in order.
-    pub given: Vec<u64>,
+    pub given: Numbers,
+}
+
+/// Numbers of pairs, in the order in which they came. Contracts see them as a list.
+#[derive(Drop)]
+pub struct Numbers {
+    listed: Vec<u64>,
+}
+
+impl Model for Numbers {
+    ghost use Rattle.std.specs.Prelude.{List, ℕ};
+
+    ghost Value = { List ℕ };
+
+    ghost view = { λ n. n.listed.items };
+}
+
+impl Numbers {
+    /// None yet.
+    pub fn new(alloc: Global) -> Numbers
+        ensures { result ≡ [] }
+    {
+        Numbers {
+            listed: Vec::new(alloc),
+        }
+    }
+
+    /// One more, where there is memory for it.
+    fn push(&mut self, n: u64) -> Result<(), Refused>
+        ensures ok { OnOk result (self.new ≡ self.old ++ n ∷ []) }
+        ensures err { IfErr result (λ e. (e ≡ Refused.Memory) × (self.new ≡ self.old)) }
+    {
+        match self.listed.push(n) {
+            Ok(()) => Ok(()),
+            Err(_) => Err(Refused::Memory),
+        }
+    }
+
+    /// The numbers.
+    pub fn into_vec(self) -> Vec<u64>
+        ensures { result.items ≡ self }
+    {
+        self.listed
+    }
 }
 
 impl<A> Visiting<A> {
@@ -51,7 +95,7 @@ impl<A> Visiting<A> {
     {
         match self.given.push(n) {
             Ok(()) => CallAnswer::Ok,
-            Err(_) => CallAnswer::Refused(Refused::Memory),
+            Err(refused) => CallAnswer::Refused(refused),
         }
     }
 }

@@ -17,7 +17,7 @@ says g = record { op = g.A.Answers.op_gives; yes = g.A.Answers.yes_gives }
 
 -- what was under way stands
 pub advance_work-event-requires-clause-standing : goal.advance_work-event-requires-clause-standing
-advance_work-event-requires-clause-standing g c = work_stands c.self.inside.store c.self.inside.callers c.self.inside.mode c.self.invariant.0.core c.args.caller c.take-work.result c.take-work.ensures.call
+advance_work-event-requires-clause-standing g c = work_stands g.K.PartialEq.eq g.K.Hash.hash_input g.S.BuildHasher.build_hasher g.S.Hasher.Hasher.write g.S.Hasher.Hasher.finish g.met.K.Eq.laws g.met.K.Hash.respects_eq (says g) (record { store = c.self.inside.store; callers = c.self.inside.callers; mode = c.self.inside.mode; initial = c.self.inside.initial }) c.self.invariant.0 c.args.caller c.take-work.result c.take-work.ensures.call
 
 -- the step is sound, whatever goes on
 abbrev Sound : (g : Over) (c : After-advance_work-event g) (callers : List (Seat g.row.K.Denot g.row.V.Denot g.row.A.Denot)) → Type 0

@@ -1,0 +1,70 @@
+use Rattle.std.proofs.Common.{◌≡◌, [], None, Some, refl, sym, ap, ◌∙◌}
+use Rattle.papaya_visit.specs.Visitor.{after, reply_of}
+use Rattle.papaya_timeline.specs.declared.seat.Work.TheVariants as works
+use Rattle.papaya_timeline.specs.VisitGoes.{event_of_visit, reply_or}
+use Rattle.papaya_keys.specs.Hashes.{hash_of}
+use Rattle.papaya_timeline.specs.Core.{IsCore}
+use Rattle.papaya_timeline.proofs.VisitStands.{visit_core}
+use Rattle.papaya_core.proofs.visits.advance_visit.Goals as goal
+
+-- there was no memory for a pair of its list
+pub returns-in-Some-unheard : goal.returns-in-Some-unheard
+returns-in-Some-unheard g c = record {
+  ask = c.in-Some.ask;
+  asked = sym c.ask.ensures ∙ c.in-Some.is;
+  answer = c.perform_visit-answer.result;
+  later = c.perform_visit-answer.new.visiting;
+  performs = c.perform_visit-answer.ensures.performs;
+  event_is = c.event_of_visit-event.ensures ∙ ap (λ k. event_of_visit k c.in-Some.ask c.perform_visit-answer.result) c.kind-kind.ensures;
+  reply_is = ap (λ o. reply_or o (reply_of (after c.args.visiting.visitor c.perform_visit-answer.result))) (sym c.in-Some-unheard.is ∙ c.unheard.ensures);
+  work_is = refl;
+  shard = c.perform_visit-answer.ensures.shard;
+}
+
+-- the machine has replied
+pub returns-in-Some-reply : goal.returns-in-Some-reply
+returns-in-Some-reply g c =
+    let a = c.perform_visit-answer.result in
+    let is_after : c.answer.new.self ≡ after c.args.visiting.visitor a = c.answer.ensures.after ∙ ap (λ m. after m a) c.perform_visit-answer.ensures.visitor in
+    record {
+      ask = c.in-Some.ask;
+      asked = sym c.ask.ensures ∙ c.in-Some.is;
+      answer = a;
+      later = c.perform_visit-answer.new.visiting;
+      performs = c.perform_visit-answer.ensures.performs;
+      event_is = c.event_of_visit-event.ensures ∙ ap (λ k. event_of_visit k c.in-Some.ask a) c.kind-kind.ensures;
+      reply_is = sym c.in-Some-reply.is ∙ c.reply.ensures ∙ ap reply_of is_after ∙ ap (λ o. reply_or o (reply_of (after c.args.visiting.visitor a))) (sym c.in_default.is ∙ c.unheard.ensures);
+      work_is = refl;
+      shard = c.perform_visit-answer.ensures.shard;
+    }
+
+-- or goes on
+pub returns-in-None-reply : goal.returns-in-None-reply
+returns-in-None-reply g c =
+    let a = c.perform_visit-answer.result in
+    let is_after : c.answer.new.self ≡ after c.args.visiting.visitor a = c.answer.ensures.after ∙ ap (λ m. after m a) c.perform_visit-answer.ensures.visitor in
+    record {
+      ask = c.in-Some.ask;
+      asked = sym c.ask.ensures ∙ c.in-Some.is;
+      answer = a;
+      later = c.perform_visit-answer.new.visiting;
+      performs = c.perform_visit-answer.ensures.performs;
+      event_is = c.event_of_visit-event.ensures ∙ ap (λ k. event_of_visit k c.in-Some.ask a) c.kind-kind.ensures;
+      reply_is = sym c.in-None-reply.is ∙ c.reply.ensures ∙ ap reply_of is_after ∙ ap (λ o. reply_or o (reply_of (after c.args.visiting.visitor a))) (sym c.in_default.is ∙ c.unheard.ensures);
+      work_is = ap (λ m. Some (works.Visit (record c.perform_visit-answer.new.visiting { visitor = m }))) is_after;
+      shard = c.perform_visit-answer.ensures.shard;
+    }
+
+-- what its ask is answered by fits it: a core with these tables and no callers is in order
+pub answer-requires-clause-fit : goal.answer-requires-clause-fit
+answer-requires-clause-fit g c =
+    let core : IsCore {A = g.row.A.Denot} c.args.store.now [] c.args.visiting.visitor.mode = record {
+      chunked = c.requires.standing.chunked;
+      sizes = c.requires.sizes;
+      standing = λ caller r e. let none : None ≡ Some r = e in absurd cc;
+      going = λ caller r e. let none : None ≡ Some r = e in absurd cc;
+      resizers = λ caller z e. let none : None ≡ Some z = e in absurd cc;
+      visitors = λ caller v e. let none : None ≡ Some v = e in absurd cc;
+    } in
+    (visit_core g.K.PartialEq.eq (record { op = g.A.Answers.op_gives; yes = g.A.Answers.yes_gives }) (hash_of g.K.Hash.hash_input g.S.BuildHasher.build_hasher g.S.Hasher.Hasher.write g.S.Hasher.Hasher.finish) c.args.refuse c.args.store.now [] c.args.visiting.visitor.mode core
+    c.args.visiting c.requires.standing c.perform_visit-answer.result c.perform_visit-answer.new.store c.perform_visit-answer.new.visiting c.in-Some.ask (sym c.ask.ensures ∙ c.in-Some.is) c.perform_visit-answer.ensures.performs).1

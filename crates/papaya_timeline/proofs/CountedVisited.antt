@@ -1,0 +1,182 @@
+-- The count stays right after a step of a call that visits a table.
+use Rattle.std.proofs.Common.{◌≡◌, inl, inr, ℕ, pos, ◌+ℤ◌, Bool, List, Option, Some, None, refl, sym, ◌∙◌, ap, subst, arith}
+use Rattle.std.proofs.lemmas.Int.{ints}
+use Rattle.std.specs.Int.{w64, int_wrap}
+use Rattle.papaya_words.specs.Word.{pair_of}
+use Rattle.papaya_ask.specs.declared.call.Reply.{Reply}
+use Rattle.papaya_ask.specs.declared.copy_ask.CopyAsk.{CopyAsk}
+use Rattle.papaya_call.specs.Answers.{Says}
+use Rattle.papaya_chain.specs.declared.ask.Answer.{Answer}
+use Rattle.papaya_chain.specs.Resizer as resizers
+use Rattle.papaya_law.specs.Code.{Coding}
+use Rattle.papaya_law.specs.Exchange.{Setting, State as Words, Exchange, run, start}
+use Rattle.papaya_store.specs.Store.{StoreState, Stored}
+use Rattle.papaya_timeline.specs.declared.seat.Seat.{Seat}
+use Rattle.papaya_timeline.specs.declared.seat.Work.TheVariants as works
+use Rattle.papaya_timeline.specs.declared.trace.Event.{Event}
+use Rattle.papaya_timeline.specs.declared.trace.Event.TheVariants.{Begun, Changed, Moved, Asked, Shown, Gave, Other, Replied}
+use Rattle.papaya_timeline.specs.Advances.{goes_on}
+use Rattle.papaya_timeline.specs.Callers.{working}
+use Rattle.papaya_timeline.specs.Content.{map_in}
+use Rattle.papaya_timeline.specs.Core.{CoreState, IsCore}
+use Rattle.papaya_timeline.specs.Counted.{IsCounted, owed_in, owed_visit, owed_work}
+use Rattle.papaya_timeline.specs.Kept.{IsKept, Tale, coding_of, low, setting_of, visit_tale}
+use Rattle.papaya_timeline.specs.Moves.{MovesMap}
+use Rattle.papaya_timeline.specs.VisitGoes.{Visits, event_of_visit, reply_or, unheard}
+use Rattle.papaya_timeline.specs.Visits.{IsCountedBeside, MovesByVisit}
+use Rattle.papaya_timeline.proofs.CallersLemmas.{same_item, visitor-under_way}
+use Rattle.papaya_timeline.proofs.CountedSeats.{owed-with_work}
+use Rattle.papaya_timeline.proofs.KeptSettings.{IsLawfulKeys}
+use Rattle.papaya_timeline.proofs.KeptVisited as visited
+use Rattle.papaya_timeline.proofs.VisitLaw.{counted, tells}
+use Rattle.papaya_timeline.proofs.VisitStands.{visit_core}
+use Rattle.papaya_visit.specs.declared.ask.VisitAsk.{VisitAsk}
+use Rattle.papaya_visit.specs.declared.ask.VisitAsk.TheVariants.{Copy, Give}
+use Rattle.papaya_visit.specs.declared.visitor.State.{State}
+use Rattle.papaya_visit.specs.declared.visitor.State.TheVariants.{Copying, AtRoot, Sizing, Looking, Giving, Showing, Burying, Uncounting, Done, Refused}
+use Rattle.papaya_visit.specs.Visitor.{asks_in, copy_asks, kind_of_ask, reply_in, reply_of}
+use Rattle.papaya_visit_rests.specs.Told as told_by
+use Rattle.papaya_visit_rests.specs.Told.{IsVisitTold}
+use Rattle.papaya_visit_store.specs.declared.visits.Visiting.{Visiting}
+
+-- a visitor that has ended owes nothing
+ended_owes : (state : State) (reply : Reply) → reply_in state ≡ Some reply → owed_visit state ≡ pos 0
+ended_owes Done reply e = refl
+ended_owes (Refused refused) reply e = refl
+ended_owes (Copying stage) reply e = let f : None ≡ Some reply = e in absurd cc
+ended_owes AtRoot reply e = let f : None ≡ Some reply = e in absurd cc
+ended_owes (Sizing table) reply e = let f : None ≡ Some reply = e in absurd cc
+ended_owes (Looking spot) reply e = let f : None ≡ Some reply = e in absurd cc
+ended_owes (Giving spot word) reply e = let f : None ≡ Some reply = e in absurd cc
+ended_owes (Showing spot word) reply e = let f : None ≡ Some reply = e in absurd cc
+ended_owes (Burying spot word) reply e = let f : None ≡ Some reply = e in absurd cc
+ended_owes (Uncounting spot) reply e = let f : None ≡ Some reply = e in absurd cc
+
+-- what goes on owes what its visitor owes
+goes_owes : (K V : Type 0) {A : Type 0} (reply : Option Reply) (v : Visiting A) → reply ≡ reply_of v.visitor → owed_work {K = K} {V = V} (goes_on reply (works.Visit v)) ≡ owed_visit v.visitor.state
+goes_owes K V None v is = refl
+goes_owes K V (Some reply) v is = sym (ended_owes v.visitor.state reply (sym is))
+
+-- only a list that could not grow is not heard of
+copy_heard : (o : Option CopyAsk) (ask : VisitAsk) (a : Answer) → copy_asks o ≡ Some ask → unheard ask a ≡ None
+copy_heard None ask a e = let f : None ≡ Some ask = e in absurd cc
+copy_heard (Some is) ask a e = ap (λ y. unheard y a) (sym (same_item (Copy is) ask e))
+
+module _ {K V : Type 0} (g : Setting K (Stored K V)) (c : Coding K (Stored K V)) (w : Words (Stored K V)) (since : List (Exchange (Stored K V))) (hands : told_by.Hands (Stored K V)) (a : Answer) (made : List (Exchange (Stored K V))) (hands' : told_by.Hands (Stored K V)) (ask : VisitAsk) where
+  pub was_heard : (state : State) → IsVisitTold g c w since state hands a made hands' → asks_in state ≡ Some ask → unheard ask a ≡ None
+  was_heard (Copying stage) h e = copy_heard (resizers.asks_in stage) ask a e
+  was_heard AtRoot h e = ap (λ y. unheard y a) (sym (same_item _ ask e))
+  was_heard (Sizing table) h e = ap (λ y. unheard y a) (sym (same_item _ ask e))
+  was_heard (Looking spot) h e = ap (λ y. unheard y a) (sym (same_item _ ask e))
+  was_heard (Giving spot word) h e = ap (λ y. unheard y a) (sym (same_item (Give (pair_of word)) ask e)) ∙ ap (unheard (Give (pair_of word))) h.is
+  was_heard (Showing spot word) h e = ap (λ y. unheard y a) (sym (same_item _ ask e))
+  was_heard (Burying spot word) h e = ap (λ y. unheard y a) (sym (same_item _ ask e))
+  was_heard (Uncounting spot) h e = ap (λ y. unheard y a) (sym (same_item _ ask e))
+  was_heard Done h e = let f : None ≡ Some ask = e in absurd cc
+  was_heard (Refused refused) h e = let f : None ≡ Some ask = e in absurd cc
+
+module _ {K V S A : Type 0} (eq : K → K → Bool) (hash : K → ℕ) (law : IsLawfulKeys eq hash) (says : Says K V A) (hashes : S → K → ℕ) (refuse : Bool) (s : CoreState K V S A) (caller : ℕ) (s' : CoreState K V S A) (event : Event) (reply : Option Reply) (x : Visits eq says hashes refuse s caller s' event reply) (hasher : hashes s.store.hasher ≡ hash)
+    (es : List (Exchange (Stored K V))) (tales : ℕ → Tale K V) (core : IsCore s.store s.callers s.mode) (kept : IsKept eq hash s.mode s.store s.callers es tales) where
+  abbrev bare : CoreState K V S A
+  bare = visited.bare eq hash law says hashes refuse s caller s' event reply x
+
+  abbrev own : Visiting A
+  own = visited.own eq hash law says hashes refuse s caller s' event reply x
+
+  abbrev pub Heard : Type 0
+  Heard = visited.Heard eq hash law says hashes refuse s caller s' event reply x hasher es tales core kept
+
+  abbrev pub Unheard : Type 0
+  Unheard = visited.Unheard eq hash law says hashes refuse s caller s' event reply x hasher es tales core kept
+
+  -- what was under way
+  was_working : working s.callers caller ≡ Some (works.Visit x.before)
+  was_working = visitor-under_way (working s.callers caller) x.before x.was
+
+  -- the core with the call taken out stays in order
+  bare_core' : IsCore s'.store bare.callers bare.mode
+  bare_core' =
+      let bare_core = visited.bare_core eq hash law says hashes refuse s caller s' event reply x hasher es tales core kept in
+      (visit_core eq says hashes refuse s.store bare.callers s.mode bare_core x.before (core.visitors caller x.before x.was).0 x.answer s'.store x.later x.ask x.asked x.performs).0
+
+  -- what the others owe, and what it owes
+  owed_before : owed_in bare.callers +ℤ owed_visit x.before.visitor.state ≡ owed_in s.callers
+  owed_before =
+      let was = owed-with_work s.callers caller (works.Visit x.before) was_working None in
+      omega (arith, ints, was)
+
+  owed_after : owed_in s'.callers ≡ owed_in bare.callers +ℤ owed_work {K = K} {V = V} (goes_on reply (works.Visit own))
+  owed_after =
+      let was = owed-with_work s.callers caller (works.Visit x.before) was_working (goes_on reply (works.Visit own)) in
+      let before = owed_before in
+      ap (λ (l : List (Seat K V A)). owed_in l) x.callers ∙ omega (arith, ints, was, before)
+
+  pub heard_reply : Heard → reply ≡ reply_of own.visitor
+  heard_reply h =
+      x.reply_is ∙ ap (λ o. reply_or o (reply_of own.visitor))
+      (was_heard (setting_of eq (low hash) s.mode s.store.words.tables) (coding_of (low hash)) (run es start) (tales caller).since (tales caller).visit x.answer h.made h.hands x.ask x.before.visitor.state h.told x.asked)
+
+  counted_heard : Heard → IsCounted eq s.store s.callers → IsCounted eq s'.store s'.callers
+  counted_heard h was =
+      let goes = goes_owes K V reply own (heard_reply h) in
+      let bare_core = visited.bare_core eq hash law says hashes refuse s caller s' event reply x hasher es tales core kept in
+      let bare_kept = visited.bare_kept eq hash law says hashes refuse s caller s' event reply x hasher es tales core kept in
+      let visiting = visited.before_visiting eq hash law says hashes refuse s caller s' event reply x hasher es tales core kept in
+      let beside : IsCountedBeside eq s.store bare.callers x.before.visitor.state = ap (λ z. int_wrap w64 (s.store.count.sum +ℤ z)) owed_before ∙ was in
+      ap (λ z. int_wrap w64 (s'.store.count.sum +ℤ z)) (owed_after ∙ ap (λ z. owed_in bare.callers +ℤ z) goes)
+      ∙ counted eq hash bare law bare_core tales x.before (visit_tale (tales caller)) caller x.answer s'.store x.later bare_core' es bare_kept visiting h beside
+
+  -- one that was told nothing owed nothing
+  counted_unheard : Unheard → IsCounted eq s.store s.callers → IsCounted eq s'.store s'.callers
+  counted_unheard u was =
+      let over = visited.unheard_reply eq hash law says hashes refuse s caller s' event reply x hasher es tales core kept u in
+      let gone : owed_work {K = K} {V = V} (goes_on reply (works.Visit own)) ≡ pos 0 = ap (λ o. owed_work {K = K} {V = V} (goes_on o (works.Visit own))) over in
+      let giving : owed_visit x.before.visitor.state ≡ pos 0 = ap owed_visit u.giving.2 in
+      let after_it = owed_after in
+      let before = owed_before in
+      let same : owed_in s'.callers ≡ owed_in s.callers = omega (arith, ints, gone, giving, after_it, before) in
+      subst (λ (y : StoreState K V S). IsCounted eq y s'.callers) (sym u.same)
+      (ap (λ z. int_wrap w64 (s.store.count.sum +ℤ z)) same ∙ was)
+
+  pub counted_visit : IsCounted eq s.store s.callers → IsCounted eq s'.store s'.callers
+  counted_visit was = elim (visited.heard_so eq hash law says hashes refuse s caller s' event reply x hasher es tales core kept) [ inl u ↦ counted_unheard u was | inr h ↦ counted_heard h was ]
+
+  -- what a step did to the map, by its event
+  pub heard_moves : Heard → MovesByVisit eq s.store s'.store x.before.visitor.visit (tales caller).visit.shown event
+  heard_moves h =
+      let bare_core = visited.bare_core eq hash law says hashes refuse s caller s' event reply x hasher es tales core kept in
+      let bare_kept = visited.bare_kept eq hash law says hashes refuse s caller s' event reply x hasher es tales core kept in
+      let visiting = visited.before_visiting eq hash law says hashes refuse s caller s' event reply x hasher es tales core kept in
+      subst (MovesByVisit eq s.store s'.store x.before.visitor.visit (tales caller).visit.shown) (sym x.event_is)
+      (tells eq hash bare law bare_core tales x.before (visit_tale (tales caller)) caller x.answer s'.store x.later bare_core' es bare_kept visiting h x.ask x.asked)
+
+  -- where it was told nothing, nothing happened
+  pub unheard_event : Unheard → event ≡ Other
+  unheard_event u =
+      let gave = Give (pair_of u.giving.1) in
+      x.event_is ∙ ap (λ y. event_of_visit (kind_of_ask x.before.visitor) y x.answer) (sym (same_item gave x.ask (ap asks_in (sym u.giving.2) ∙ x.asked)))
+      ∙ ap (event_of_visit (kind_of_ask x.before.visitor) gave) u.refused
+
+  by_event : (e : Event) → MovesByVisit eq s.store s'.store x.before.visitor.visit (tales caller).visit.shown e → MovesMap eq s caller s' e
+  by_event (Changed kind old new) (p, update, no_walk, agreed, went, came) = inr (record {
+    visitor = x.before;
+    is_visiting = x.was;
+    no_walk = no_walk;
+    pair = p;
+    update = update;
+    went_is = went;
+    came_is = came;
+  })
+  by_event Begun same = same
+  by_event (Moved kind) same = same
+  by_event (Asked n stays) same = same
+  by_event (Shown shown kind) same = same
+  by_event (Gave n) same = same
+  by_event Other same = same
+  by_event (Replied reply) same = same
+
+  pub visit_moves : MovesMap eq s caller s' event
+  visit_moves = elim (visited.heard_so eq hash law says hashes refuse s caller s' event reply x hasher es tales core kept) [
+    | inl u ↦ subst (MovesMap eq s caller s') (sym (unheard_event u)) (λ j. ap (λ (y : StoreState K V S). map_in eq y j) u.same)
+    | inr h ↦ by_event event (heard_moves h)
+  ]

@@ -1,0 +1,183 @@
+-- A visit whose words nobody else changes comes nearer its end with each step.
+use Rattle.std.proofs.Common.{◌≡◌, ℕ, ◌%◌, ◌^◌, ◌==◌, ◌<◌, Bool, true, Option, None, Some, List, ◌++◌, length, refl, sym, ap, ◌∙◌, subst, eqb-true}
+use mathlib.Core.Path.{fun_ext}
+use Rattle.papaya_ask.specs.declared.ask.At.{At}
+use Rattle.papaya_ask.specs.declared.ask.At.TheVariants as words_at
+use Rattle.papaya_ask.specs.declared.ask.StepKind.TheVariants as kinds
+use Rattle.papaya_ask.specs.declared.copy_ask.CopyAsk.TheVariants as copies
+use Rattle.papaya_call.specs.Answers.{Says}
+use Rattle.papaya_chain.specs.declared.ask.Answer.{Answer}
+use Rattle.papaya_chain.specs.declared.resizer.State.TheVariants as stages
+use Rattle.papaya_chain.specs.Resizer as resizers
+use Rattle.papaya_law.specs.Allows.{AllAllowed, Allows}
+use Rattle.papaya_law.specs.Code.{Coding, IsHashed}
+use Rattle.papaya_law.specs.Exchange.{Live, Setting, State as Words, Exchange, Bury, after as state_after, run, start}
+use Rattle.papaya_law.specs.Invariant.{IsKeeping}
+use Rattle.papaya_law.specs.Meaning.{map_left}
+use Rattle.papaya_law.proofs.Moments.{allowed_first, allowed_rest, run-append}
+use Rattle.papaya_law.proofs.OneMap.{keeping}
+use Rattle.papaya_rests.specs.Copier.{AreThere, IsCopyAsked}
+use Rattle.papaya_rests.specs.Told.{IsWritten, word_of}
+use Rattle.papaya_alone.specs.Prompt.{IsBounded}
+use Rattle.papaya_alone.proofs.Measures.{measure_less}
+use Rattle.papaya_store.specs.Store.{StoreState, Stored}
+use Rattle.papaya_store.specs.Tables.{word_at}
+use Rattle.papaya_timeline.specs.Core.{CoreState, IsCore}
+use Rattle.papaya_timeline.specs.Ends.{budget_of}
+use Rattle.papaya_timeline.specs.Kept.{IsKept, IsVisiting, Tale, VisitTale, coding_of, low, setting_of, told_tales}
+use Rattle.papaya_timeline.proofs.BudgetLaw.{call_fewer}
+use Rattle.papaya_timeline.proofs.BudgetSpends.{IsSpentAt, budget_bounded, copied_spends, copy_spent, kept_bounded, write_spends}
+use Rattle.papaya_timeline.proofs.BudgetTables.{changes_at}
+use Rattle.papaya_timeline.proofs.CopyAnswers.{Suits, placed}
+use Rattle.papaya_timeline.proofs.KeptSettings.{IsLawfulKeys, tables_hashed}
+use Rattle.papaya_timeline.proofs.KeptTables.{IsPlaced}
+use Rattle.papaya_visit.specs.declared.ask.VisitAsk.{VisitAsk}
+use Rattle.papaya_visit.specs.declared.ask.VisitAsk.TheVariants.{Copy, Show, Give, AddToShard}
+use Rattle.papaya_visit.specs.declared.visitor.Spot.{Spot}
+use Rattle.papaya_visit.specs.declared.visitor.State.{State}
+use Rattle.papaya_visit.specs.declared.visitor.State.TheVariants.{Copying, AtRoot, Sizing, Looking, Giving, Showing, Burying, Uncounting, Done, Refused}
+use Rattle.papaya_visit.specs.Visitor.{IsStandingVisitor, after, ask_of, asks_in}
+use Rattle.papaya_visit_rests.specs.Told.{IsVisitTold}
+use Rattle.papaya_visit_rests.specs.Visits.{IsVisitAsked, RestsState}
+use Rattle.papaya_visit_rests.proofs.Asks.{state_may, state_named}
+use Rattle.papaya_visit_alone.specs.Visitors.{IsVisitorRead, SpendsVisit, left_of_visit, visitor_measure}
+use Rattle.papaya_visit_alone.proofs.Lefts.{visit_small}
+use Rattle.papaya_visit_alone.proofs.VisitLaw.{state_nearer}
+use Rattle.papaya_visit_store.specs.declared.visits.Visiting.{Visiting}
+use Rattle.papaya_visit_store.specs.Visits.{PerformsVisit}
+use Rattle.papaya_timeline.specs.Visits.{IsHeard}
+
+module _ {K V S A : Type 0} (eq : K → K → Bool) (hash : K → ℕ) (law : IsLawfulKeys eq hash) (says : Says K V A) (hashes : S → K → ℕ) (refuse : Bool) (s : CoreState K V S A) (core : IsCore s.store s.callers s.mode) (hasher : hashes s.store.hasher ≡ hash) (caller : ℕ)
+    (tale : VisitTale K V) (tales : ℕ → Tale K V) (kept : IsKept eq hash s.mode s.store s.callers (tale.begun ++ tale.since) tales) (v : Visiting A) (visiting : IsVisiting eq hash s.mode s.store v (tale.begun ++ tale.since) tale)
+    (ask : VisitAsk) (asks : ask_of v.visitor ≡ Some ask) (a : Answer) (store' : StoreState K V S) (v' : Visiting A) (performs : PerformsVisit eq says hashes refuse ask s.store v a store' v') (heard : IsHeard eq hash s caller (tale.begun ++ tale.since) tales v tale a store' v') where
+  -- the exchanges, the setting, the coding and the words
+  abbrev es : List (Exchange (Stored K V))
+  es = tale.begun ++ tale.since
+
+  abbrev g : Setting K (Stored K V)
+  g = setting_of eq (low hash) s.mode s.store.words.tables
+
+  abbrev c : Coding K (Stored K V)
+  c = coding_of (low hash)
+
+  abbrev first : Words (Stored K V)
+  first = run tale.begun start
+
+  abbrev now : Words (Stored K V)
+  now = run es start
+
+  abbrev m : K → Option (Stored K V)
+  m = map_left g tale.begun
+
+  hashed : IsHashed g c
+  hashed = tables_hashed eq hash law s.mode s.store.words.tables core.sizes
+
+  keeps_first : IsKeeping g first m
+  keeps_first = keeping g hashed.lawful tale.begun (allowed_first g tale.begun tale.since start kept.allowed)
+
+  may_since : AllAllowed g first tale.since
+  may_since = allowed_rest g tale.begun tale.since start kept.allowed
+
+  same : run tale.since first ≡ now
+  same = sym (run-append tale.begun tale.since start)
+
+  suits : Suits eq hashes g c s.store
+  suits = record { sizes = λ t. refl; places = λ t. refl; numbers = λ p. refl; hashes_of = λ p. ap (λ (f : K → ℕ). f p.key % 2 ^ 64) (sym hasher); sames = λ p q. refl }
+
+  -- an exchange that is made spends one
+  abbrev IsSpent : At → ℕ → Type 0
+  IsSpent at new = IsSpentAt eq hash law s.mode s.store s.callers core es tales kept store' hashes refuse at new
+
+  -- which exchange is made
+  abbrev Asked : State → At → (new : ℕ) → Exchange (Stored K V) → Type 0
+  Asked state at new e = IsVisitAsked g c first m tale.since v.visitor.visit state at new tale.hands e
+
+  there_placed : (state : State) → RestsState g c first m tale.since v.visitor.visit tale.hands state → (at : At) (old new : ℕ) → asks_in state ≡ Some (Copy (copies.Exchange at old new)) → IsPlaced s.store.words.tables at
+  there_placed state r at old new e =
+      placed g c s.store es tale.hands.copy kept.coded kept.made eq hashes visiting.last visiting.carried suits None 0 at
+      (subst (λ w. AreThere g c w tale.hands.copy.call.last tale.hands.copy.kept (copies.Exchange at old new)) same (state_named g c hashed first m keeps_first tale.since may_since v.visitor.visit tale.hands state r (Copy (copies.Exchange at old new)) e))
+
+  bury_spends : (spot : Spot) (at : At) (new : ℕ) (e : Exchange (Stored K V)) → at ≡ words_at.Slot spot.table spot.slot → (p : Stored K V) → now.slot spot.table spot.slot ≡ Live p → e ≡ Bury spot.table spot.slot p → Allows g now e → IsWritten g c now at new (state_after now e) → IsPlaced s.store.words.tables at → IsSpent at new
+  bury_spends spot at new e is p live buries may written here = write_spends s.store.words at new here (less spot at new e is p live buries may written)
+    where
+      less : (spot : Spot) (at : At) (new : ℕ) (e : Exchange (Stored K V)) → at ≡ words_at.Slot spot.table spot.slot → (p : Stored K V) → now.slot spot.table spot.slot ≡ Live p → e ≡ Bury spot.table spot.slot p → Allows g now e → IsWritten g c now at new (state_after now e) → changes_at (length s.store.words.tables) at new < changes_at (length s.store.words.tables) at (word_at s.store.words at)
+      less spot at new e is p live buries may written =
+          subst (λ y. changes_at (length s.store.words.tables) at new < changes_at (length s.store.words.tables) at y) (kept.coded at)
+          (subst (λ y. IsWritten g c now y new (state_after now e) → changes_at (length s.store.words.tables) y new < changes_at (length s.store.words.tables) y (word_of g c now y)) (sym is)
+          (λ w. call_fewer g c now (length s.store.words.tables) (Some kinds.Bury) (words_at.Slot spot.table spot.slot) new tale.hands.copy.call e (p, live, buries) may (sym w.here) (λ root. absurd (cc root))) written)
+
+  spent_in : (state : State) → RestsState g c first m tale.since v.visitor.visit tale.hands state → (at : At) (old new : ℕ) → asks_in state ≡ Some (Copy (copies.Exchange at old new)) → (word_at s.store.words at == old) ≡ true → IsSpent at new
+  spent_in state r at old new e hit =
+      let stands : word_of g c (run tale.since first) at ≡ old = ap (λ w. word_of g c w at) same ∙ kept.coded at ∙ eqb-true (word_at s.store.words at) old hit in
+      let x = state_may g c hashed first m keeps_first tale.since may_since v.visitor.visit tale.hands state r at old new e stands in
+      by_state state r e x.0 x.1 (subst (λ w. Allows g w x.0) same x.2) (subst (λ w. IsWritten g c w at new (state_after w x.0)) same x.3) (there_placed state r at old new e)
+    where
+      by_state : (state : State) → RestsState g c first m tale.since v.visitor.visit tale.hands state → asks_in state ≡ Some (Copy (copies.Exchange at old new)) → (e : Exchange (Stored K V)) → Asked state at new e → Allows g now e → IsWritten g c now at new (state_after now e) → IsPlaced s.store.words.tables at → IsSpent at new
+      by_state (Copying (stages.Copying from copying)) r asks e asked may written here =
+          copy_spent eq hash law s.mode s.store s.callers core es tales kept at new (resizers.kind_in (stages.Copying from copying)) tale.hands.copy.kept e (subst (λ w. IsCopyAsked c (resizers.kind_in (stages.Copying from copying)) at new w tale.hands.copy.kept e) same asked) may written here
+      by_state (Copying stages.AtRoot) r asks e asked may written here = absurd cc
+      by_state (Copying (stages.Looking root room)) r asks e asked may written here = absurd cc
+      by_state (Copying (stages.Making room)) r asks e asked may written here = absurd r.1
+      by_state (Copying (stages.Opening table)) r asks e asked may written here = absurd r.1
+      by_state (Copying (stages.Sizing root)) r asks e asked may written here = absurd r.1
+      by_state (Copying (stages.Counting root len)) r asks e asked may written here = absurd r.1
+      by_state (Copying (stages.Linking link)) r asks e asked may written here = absurd r.1
+      by_state (Copying stages.Done) r asks e asked may written here = absurd r.1
+      by_state (Copying (stages.Refused refused)) r asks e asked may written here = absurd r.1
+      by_state (Burying spot word) r asks e (takes, (p, live, number, is)) may written here =
+          let at_slot : words_at.Slot spot.table spot.slot ≡ at = cc asks in
+          bury_spends spot at new e (sym at_slot) p (subst (λ (w : Words (Stored K V)). w.slot spot.table spot.slot ≡ Live p) same live) is may written here
+      by_state AtRoot r asks e asked may written here = absurd asked
+      by_state (Sizing table) r asks e asked may written here = absurd asked
+      by_state (Looking spot) r asks e asked may written here = absurd asked
+      by_state (Giving spot word) r asks e asked may written here = absurd asked
+      by_state (Showing spot word) r asks e asked may written here = absurd asked
+      by_state (Uncounting spot) r asks e asked may written here = absurd asked
+      by_state Done r asks e asked may written here = absurd asked
+      by_state (Refused refused) r asks e asked may written here = absurd asked
+
+  -- what the step spends of the budget
+  spends_so : (ask : VisitAsk) → ask_of v.visitor ≡ Some ask → PerformsVisit eq says hashes refuse ask s.store v a store' v' → SpendsVisit ask a (budget_of s.store) (budget_of store')
+  spends_so (Copy ask) asks (performs, stays) =
+      copied_spends eq hash law s.mode s.store s.callers core es tales kept store' hashes refuse ask
+      (λ at old new is hit. spent_in v.visitor.state visiting.rests.state at old new (asks ∙ ap (λ y. Some (Copy y)) is) hit) a performs
+  spends_so (Show n) asks (shows, stays) = ap (λ (y : StoreState K V S). budget_of y) stays
+  spends_so (Give n) asks (gives, stays) = ap (λ (y : StoreState K V S). budget_of y) stays
+  spends_so (AddToShard by) asks (is, counted, stays) = ap (λ (y : StoreState K V S). budget_of y) counted.1
+
+  -- the words before the step and after it
+  words_are : word_of g c (run tale.since first) ≡ word_at s.store.words
+  words_are = fun_ext (λ at. ap (λ w. word_of g c w at) same ∙ kept.coded at)
+
+  same_then : run (tale.since ++ heard.made) first ≡ run (es ++ heard.made) start
+  same_then = run-append tale.since heard.made first ∙ ap (run heard.made) same ∙ sym (run-append es heard.made start)
+
+  words_then : word_of g c (run (tale.since ++ heard.made) first) ≡ word_at store'.words
+  words_then = fun_ext (λ at. ap (λ w. word_of g c w at) same_then ∙ heard.coded at)
+
+  bounded : IsBounded g (run tale.since first)
+  bounded = subst (IsBounded g) (sym same) (kept_bounded eq hash law s.mode s.store s.callers core es tales kept)
+
+  told : IsVisitTold g c (run tale.since first) tale.since v.visitor.state tale.hands a heard.made heard.hands
+  told = subst (λ w. IsVisitTold g c w tale.since v.visitor.state tale.hands a heard.made heard.hands) (sym same) heard.told
+
+  module _ (read : IsVisitorRead (word_at s.store.words) v.visitor) where
+    read_now : IsVisitorRead (word_of g c (run tale.since first)) v.visitor
+    read_now = subst (λ words. IsVisitorRead words v.visitor) (sym words_are) read
+
+    -- what it has read stands there still
+    pub stays_read : IsVisitorRead (word_at store'.words) (after v.visitor a)
+    stays_read = subst (λ words. IsVisitorRead words (after v.visitor a)) words_then
+        (state_nearer g c hashed first m keeps_first tale.since may_since bounded v.visitor visiting.rests.mode visiting.rests.chunked tale.hands a heard.made heard.hands v.visitor.state visiting.rests.state read_now told).read
+
+    -- and it is nearer its end
+    pub falls : IsCore store' s.callers s.mode → IsStandingVisitor (after v.visitor a) → visitor_measure (budget_of store') (word_at store'.words) (after v.visitor a) < visitor_measure (budget_of s.store) (word_at s.store.words) v.visitor
+    falls core' stands =
+        let out = state_nearer g c hashed first m keeps_first tale.since may_since bounded v.visitor visiting.rests.mode visiting.rests.chunked tale.hands a heard.made heard.hands v.visitor.state visiting.rests.state read_now told in
+        let read_then = out.read in
+        let few = budget_bounded eq hash law s.mode store' s.callers core' (es ++ heard.made) (told_tales tales caller heard.made (tales caller).hands) heard.kept in
+        subst (λ words. visitor_measure (budget_of store') words (after v.visitor a) < visitor_measure (budget_of s.store) (word_at s.store.words) v.visitor) words_then
+        (subst (λ words. visitor_measure (budget_of store') (word_of g c (run (tale.since ++ heard.made) first)) (after v.visitor a) < visitor_measure (budget_of s.store) words v.visitor) words_are
+        (measure_less (budget_of s.store) (budget_of store') (left_of_visit (word_of g c (run tale.since first)) v.visitor.state) (left_of_visit (word_of g c (run (tale.since ++ heard.made) first)) (after v.visitor a).state) few
+        (visit_small (word_of g c (run (tale.since ++ heard.made) first)) v.visitor.mode (after v.visitor a).state stands.state read_then)
+        (out.less ask asks (budget_of s.store) (budget_of store') (spends_so ask asks performs))))

@@ -1,0 +1,211 @@
+-- A step of a call that visits a table keeps a core's words to the law of exchanges.
+use Rattle.std.proofs.Common.{◌≡◌, ◌⊎◌, inl, inr, ⊎_elim, ℕ, ◌≤◌, ◌==◌, Bool, true, false, Option, None, Some, List, [], ◌∷◌, ◌++◌, cond, length, refl, sym, ap, ◌∙◌, subst, append_assoc}
+use Rattle.papaya_words.specs.declared.limits.TheConstants.{MAX_LOG_LEN, MAX_TABLES}
+use Rattle.papaya_ask.specs.declared.ask.At.{At}
+use Rattle.papaya_call.specs.Answers.{Says}
+use Rattle.papaya_chain.specs.declared.ask.Answer.{Answer}
+use Rattle.papaya_chain.specs.declared.resizer.State.{State as Stage}
+use Rattle.papaya_chain.specs.declared.resizer.State.TheVariants as stages
+use Rattle.papaya_chain_rests.specs.Told as copies
+use Rattle.papaya_law.specs.Allows.{AllAllowed}
+use Rattle.papaya_law.specs.Class.{IsOn}
+use Rattle.papaya_law.specs.Code.{Coding, IsHashed}
+use Rattle.papaya_law.specs.Exchange.{Setting, State as Words, Exchange, run, start}
+use Rattle.papaya_law.specs.Grows.{Agrees}
+use Rattle.papaya_law.specs.Invariant.{IsKeeping}
+use Rattle.papaya_law.specs.Meaning.{map_left}
+use Rattle.papaya_law.proofs.Grows.{map_of_carries}
+use Rattle.papaya_law.proofs.Moments.{allowed_append, allowed_first, allowed_rest, run-append}
+use Rattle.papaya_law.proofs.OneMap.{keeping}
+use Rattle.papaya_rests.specs.Told.{word_of}
+use Rattle.papaya_store.specs.Performs.{key_at}
+use Rattle.papaya_store.specs.Store.{KeepsPairs, StoreState, Stored, pair_of}
+use Rattle.papaya_store.specs.Tables.{word_at}
+use Rattle.papaya_store.specs.declared.pairs.Pair.{Pair}
+use Rattle.papaya_timeline.specs.declared.seat.Seat.{Seat}
+use Rattle.papaya_timeline.specs.Callers.{with_work, working}
+use Rattle.papaya_timeline.specs.Core.{CoreState, IsCore, work_of}
+use Rattle.papaya_timeline.specs.Kept.{IsKept, IsLogged, IsMade, IsVisiting, Tale, VisitTale, WasShown, coding_of, low, setting_of, told_more}
+use Rattle.papaya_timeline.proofs.CopyAnswers.{left_logged}
+use Rattle.papaya_timeline.proofs.KeptAnswer.{Stands}
+use Rattle.papaya_timeline.proofs.KeptOthers as others
+use Rattle.papaya_timeline.proofs.KeptSettings.{IsLawfulKeys, tables_hashed}
+use Rattle.papaya_timeline.proofs.KeptTables.{HasMoreTables}
+use Rattle.papaya_visit.specs.declared.ask.VisitAsk.{VisitAsk}
+use Rattle.papaya_visit.specs.declared.visitor.State.TheVariants.{Copying}
+use Rattle.papaya_visit.specs.Visitor.{after, ask_of}
+use Rattle.papaya_visit_rests.specs.Told.{IsVisitTold}
+use Rattle.papaya_visit_rests.specs.Visits.{IsOfAll, RestsState, RestsVisitor}
+use Rattle.papaya_visit_rests.proofs.Learns.{state_gives, state_learns}
+use Rattle.papaya_visit_rests.proofs.Tables.{gives_carries, state_carries}
+use Rattle.papaya_visit_store.specs.declared.visits.Visiting.{Visiting}
+use Rattle.papaya_visit_store.specs.Visits.{PerformsVisit}
+use Rattle.papaya_timeline.specs.Visits.{IsHeard, IsUnheard}
+use Rattle.papaya_timeline.proofs.VisitAnswers as left_by
+use Rattle.papaya_timeline.proofs.VisitLinks.{links_made}
+
+-- a caller that has no work has none put into its seat
+module _ {K V A : Type 0} (seat : Seat K V A) (seats : List (Seat K V A)) (caller : ℕ) where
+  seat_still : (mine : Bool) → cond mine seat.work (working seats caller) ≡ None → (working seats caller ≡ None → with_work seats caller None ≡ seats) → cond mine (record seat { work = None } ∷ seats) (seat ∷ with_work seats caller None) ≡ seat ∷ seats
+  seat_still true idle rest = ap (λ w. record seat { work = w } ∷ seats) (sym idle)
+  seat_still false idle rest = ap (λ l. seat ∷ l) (rest idle)
+
+no_work : {K V A : Type 0} (seats : List (Seat K V A)) (caller : ℕ) → working seats caller ≡ None → with_work seats caller None ≡ seats
+no_work [] caller idle = refl
+no_work (seat ∷ seats) caller idle = seat_still seat seats caller (seat.caller == caller) idle (λ none. no_work seats caller none)
+
+module _ {K V S A : Type 0} (eq : K → K → Bool) (hash : K → ℕ) (law : IsLawfulKeys eq hash) (says : Says K V A) (hashes : S → K → ℕ) (refuse : Bool) (s : CoreState K V S A) (core : IsCore s.store s.callers s.mode) (hasher : hashes s.store.hasher ≡ hash) (caller : ℕ) (idle : work_of s caller ≡ None)
+    (tale : VisitTale K V) (tales : ℕ → Tale K V) (kept : IsKept eq hash s.mode s.store s.callers (tale.begun ++ tale.since) tales) (v : Visiting A) (visiting : IsVisiting eq hash s.mode s.store v (tale.begun ++ tale.since) tale)
+    (ask : VisitAsk) (asks : ask_of v.visitor ≡ Some ask) (a : Answer) (store' : StoreState K V S) (v' : Visiting A) (performs : PerformsVisit eq says hashes refuse ask s.store v a store' v') where
+  -- the exchanges, the setting, the coding and the words
+  abbrev es : List (Exchange (Stored K V))
+  es = tale.begun ++ tale.since
+
+  abbrev g : Setting K (Stored K V)
+  g = setting_of eq (low hash) s.mode s.store.words.tables
+
+  abbrev g' : Setting K (Stored K V)
+  g' = setting_of eq (low hash) s.mode store'.words.tables
+
+  abbrev c : Coding K (Stored K V)
+  c = coding_of (low hash)
+
+  abbrev first : Words (Stored K V)
+  first = run tale.begun start
+
+  abbrev m : K → Option (Stored K V)
+  m = map_left g tale.begun
+
+  hashed : IsHashed g c
+  hashed = tables_hashed eq hash law s.mode s.store.words.tables core.sizes
+
+  keeps_first : IsKeeping g first m
+  keeps_first = keeping g hashed.lawful tale.begun (allowed_first g tale.begun tale.since start kept.allowed)
+
+  may_since : AllAllowed g first tale.since
+  may_since = allowed_rest g tale.begun tale.since start kept.allowed
+
+  same : run tale.since first ≡ run es start
+  same = sym (run-append tale.begun tale.since start)
+
+  -- the core after the step
+  abbrev s' : CoreState K V S A
+  s' = record s { store = store' }
+
+  abbrev HasLeft : Type 0
+  HasLeft = left_by.IsVisitLeft eq hash law says hashes refuse s core hasher tale.begun tale.since kept.allowed kept.coded kept.made v tale.hands visiting.rests visiting.answers visiting.last visiting.carried visiting.given visiting.links v.visitor.state a store' v'
+
+  -- what the answer leaves
+  left_so : IsUnheard s.store v a store' ⊎ HasLeft
+  left_so = left_by.visit_left eq hash law says hashes refuse s core hasher tale.begun tale.since kept.allowed kept.coded kept.made v tale.hands visiting.rests visiting.answers visiting.last visiting.carried visiting.given visiting.links v.visitor.state refl visiting.rests.state ask asks a store' v' performs
+
+  module _ (l : HasLeft) where
+    abbrev made : List (Exchange (Stored K V))
+    made = l.left.made
+
+    -- what holds of the store but for the count holds of it
+    of_store : (P : StoreState K V S → Type 0) → P (record l.words { count = store'.count }) → P store'
+    of_store P h = subst P (sym l.store_is) h
+
+    told_first : IsVisitTold g c (run tale.since first) tale.since v.visitor.state tale.hands a made l.hands'
+    told_first = subst (λ w. IsVisitTold g c w tale.since v.visitor.state tale.hands a made l.hands') (sym same) l.left.told.0
+
+    learnt : AllAllowed g first (tale.since ++ made) × RestsState g c first m (tale.since ++ made) v.visitor.visit l.hands' (after v.visitor a).state
+    learnt = state_learns g c hashed first m keeps_first tale.since may_since v.visitor.visit v.visitor.mode visiting.rests.mode visiting.rests.chunked v.visitor.initial tale.hands a made l.hands' visiting.rests.gives v.visitor.state visiting.rests.state told_first
+
+    -- so it rests on what it was told
+    rests_then : RestsVisitor g c first m (tale.since ++ made) (after v.visitor a) l.hands'
+    rests_then = record {
+      mode = visiting.rests.mode;
+      chunked = visiting.rests.chunked;
+      gives = state_gives g c hashed first m keeps_first tale.since may_since v.visitor.visit v.visitor.mode visiting.rests.mode visiting.rests.chunked v.visitor.initial tale.hands a made l.hands' visiting.rests.gives v.visitor.state visiting.rests.state told_first;
+      state = learnt.1;
+    }
+
+    logged : KeepsPairs s.store store'
+    logged n p h = of_store (λ y. pair_of y n ≡ Some p) (left_logged g c s.store es tale.hands.copy l.left n p h)
+
+    -- what the step leaves of the core: it makes no pair
+    leaving : others.IsLeaving eq hash law s caller s' refl es tales core kept made (tales caller).hands (λ p. ⊥)
+    leaving = record {
+      allowed = allowed_append g es made start kept.allowed (subst (λ w. AllAllowed g w made) same (allowed_rest g tale.since made first learnt.0));
+      keys = λ at k h. of_store (λ y. key_at y.keys at ≡ Some k) (ap (λ list. key_at list at) l.left.keys_are ∙ h);
+      logged = logged;
+      few = λ h. of_store (λ y. length y.pairs ≤ MAX_LOG_LEN) (subst (λ (list : List (Pair V)). length list ≤ MAX_LOG_LEN) (sym l.left.pairs_are) h);
+      tables_few = λ h. of_store (λ y. length y.words.tables ≤ MAX_TABLES) (l.left.tables_few h);
+      grown = of_store (λ y. HasMoreTables s.store.words.tables y.words.tables) l.left.grown;
+      coded = of_store (λ y. (at : At) → word_of g c (run (es ++ made) start) at ≡ word_at y.words at) l.left.coded;
+      there = l.left.there;
+      slots = λ t x p h. inl (l.left.slots t x p h);
+      mine_logged = λ p f. absurd f;
+      mine_apart = λ d r runs differ p p' f. absurd f;
+    }
+
+    -- a table that was made is still there
+    still_there : (t : ℕ) → IsMade s.store t → IsMade store' t
+    still_there = others.still_there eq hash law s caller s' refl es tales core kept made (tales caller).hands leaving
+
+    -- the calls of all callers rest on what is told of them
+    kept_then : IsKept eq hash s.mode store' s.callers (es ++ made) (others.tales' eq hash law s caller s' refl es tales core kept made (tales caller).hands)
+    kept_then = others.leaves_kept eq hash law s caller s' refl es tales core kept made (tales caller).hands leaving None (sym (no_work s.callers caller idle)) (λ r e. absurd cc) (λ z e. absurd cc) (λ v e. absurd cc) (λ r e. absurd cc)
+
+    -- the setting has grown, and says of the tables that have come what it said
+    same_then : run (tale.since ++ made) first ≡ run (es ++ made) start
+    same_then = run-append tale.since made first ∙ ap (run made) same ∙ sym (run-append es made start)
+
+    agrees : Agrees (IsOn (run (tale.since ++ made) first).first (run (tale.since ++ made) first).next) g g'
+    agrees = subst (λ (w : Words (Stored K V)). Agrees (IsOn w.first w.next) g g') (sym same_then) (others.agrees eq hash law s caller s' refl es tales core kept made (tales caller).hands leaving)
+
+    map_same : m ≡ map_left g' tale.begun
+    map_same = sym (map_of_carries g g' (IsOn (run (tale.since ++ made) first).first (run (tale.since ++ made) first).next) agrees tale.begun (λ k. None))
+
+    map_then : (k : K) → map_left g' (es ++ made) k ≡ map_left g (es ++ made) k
+    map_then k = ap (λ f. f k) (map_of_carries g g' (IsOn (run (tale.since ++ made) first).first (run (tale.since ++ made) first).next) agrees (es ++ made) (λ y. None))
+
+    rests_grown : RestsVisitor g' c first (map_left g' tale.begun) (tale.since ++ made) (after v.visitor a) l.hands'
+    rests_grown = subst (λ f. RestsVisitor g' c first f (tale.since ++ made) (after v.visitor a) l.hands') map_same (record {
+      mode = rests_then.mode;
+      chunked = rests_then.chunked;
+      gives = gives_carries g g' c hashed first m keeps_first (tale.since ++ made) learnt.0 agrees v.visitor.visit l.hands' rests_then.gives;
+      state = state_carries g g' c hashed first m keeps_first (tale.since ++ made) learnt.0 agrees v.visitor.visit l.hands' (after v.visitor a).state rests_then.state;
+    })
+
+    -- a pair that it was told of is logged
+    last_logged : (p : Stored K V) → (tale.hands.copy.call.last ≡ Some p) ⊎ Stands (run es start) p → IsLogged store' p
+    last_logged p (inl old) = logged p.number p (visiting.last p old)
+    last_logged p (inr (t, x, names)) = logged p.number p (kept.logged t x p names)
+
+    carried_logged : (p : Stored K V) → (tale.hands.copy.kept ≡ Some p) ⊎ (tale.hands.copy.call.last ≡ Some p) → IsLogged store' p
+    carried_logged p (inl old) = logged p.number p (visiting.carried p old)
+    carried_logged p (inr told) = logged p.number p (visiting.last p told)
+
+    shown_logged : (p : Stored K V) → WasShown tale.hands.shown p ⊎ (tale.hands.copy.call.last ≡ Some p) → IsLogged store' p
+    shown_logged p (inl old) = logged p.number p (visiting.shown p old)
+    shown_logged p (inr told) = logged p.number p (visiting.last p told)
+
+    own : IsVisiting eq hash s.mode store' (record v' { visitor = after v.visitor a }) (es ++ made) (told_more tale made l.hands')
+    own = record {
+      split = sym (append_assoc tale.begun tale.since made);
+      rests = rests_grown;
+      answers = l.answers;
+      given = l.given;
+      last = λ p e. last_logged p (l.left.last p (ap (λ (y : copies.Hands (Stored K V)). y.call.last) (sym l.left.told.1) ∙ e));
+      carried = λ p e. carried_logged p (l.left.carried p (ap (λ (y : copies.Hands (Stored K V)). y.kept) (sym l.left.told.1) ∙ e));
+      shown = λ p h. shown_logged p (l.shown p h);
+      links = links_made (IsMade store') v.visitor.visit v.visitor.mode v.visitor.initial a (λ n e. of_store (λ y. IsMade y n) (l.left.opens n e)) v.visitor.state opens (λ behind t e. still_there t (visiting.links behind t e));
+    }
+      where
+        opens : (stage : Stage) → v.visitor.state ≡ Copying stage → (t : ℕ) → stage ≡ stages.Opening t → IsMade store' t
+        opens stage is t e =
+            let r = subst (RestsState g c first m tale.since v.visitor.visit tale.hands) is visiting.rests.state in
+            absurd (subst (IsOfAll g c first m tale.since) e r.1)
+
+    others_stay : (u : Visiting A) (other : VisitTale K V) → IsVisiting eq hash s.mode s.store u es other → IsVisiting eq hash s.mode store' u (es ++ made) (told_more other made other.hands)
+    others_stay u other visits = others.other_visitor eq hash law s caller s' refl es tales core kept made (tales caller).hands leaving u other visits
+
+    heard : IsHeard eq hash s caller es tales v tale a store' v'
+    heard = record { made = made; hands = l.hands'; told = l.left.told.0; kept = kept_then; visiting = own; others = others_stay; keeps = logged; hasher = of_store (λ y. y.hasher ≡ s.store.hasher) l.left.hasher_is; pairs = of_store (λ y. y.pairs ≡ s.store.pairs) l.left.pairs_are; allowed = leaving.allowed; map_same = map_then; coded = leaving.coded; sum = l.sum }
+
+  -- it was told nothing, or rests on what it was told, as all others do
+  pub visit_heard : IsUnheard s.store v a store' ⊎ IsHeard eq hash s caller es tales v tale a store' v'
+  visit_heard = ⊎_elim (λ (u : IsUnheard s.store v a store'). inl u) (λ (l : HasLeft). inr (heard l)) left_so

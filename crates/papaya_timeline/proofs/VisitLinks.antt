@@ -1,0 +1,110 @@
+-- A table that a visit is about to link was made: it makes tables for the copy of all alone.
+use Rattle.std.proofs.Common.{◌≡◌, ℕ, ◌+◌, ◌==◌, nat_lt, Bool, true, false, refl}
+use Rattle.std.proofs.lemmas.Bool.{cond_both}
+use Rattle.papaya_words.specs.declared.probe.ResizeMode.{ResizeMode}
+use Rattle.papaya_words.specs.declared.word.Kind.{Kind}
+use Rattle.papaya_words.specs.declared.word.Kind.TheVariants as kinds
+use Rattle.papaya_words.specs.Word.{kind_of}
+use Rattle.papaya_ask.specs.declared.ask.Answer.{Answer as Call_answer}
+use Rattle.papaya_ask.specs.declared.ask.Answer.TheVariants.{Word, Exchanged, Found, Yes, Size, Made as Made_number, Ok}
+use Rattle.papaya_copy.specs.declared.link.Link.{Link}
+use Rattle.papaya_copy.specs.declared.link.Link.TheVariants as links
+use Rattle.papaya_chain.specs.declared.ask.Answer.{Answer}
+use Rattle.papaya_chain.specs.declared.ask.Answer.TheVariants as answers
+use Rattle.papaya_chain.specs.declared.resizer.Resize.TheVariants.{CopyAll}
+use Rattle.papaya_chain.specs.declared.resizer.State.{State as Stage}
+use Rattle.papaya_chain.specs.declared.resizer.State.TheVariants as stages
+use Rattle.papaya_chain.specs.Resizer as resizers
+use Rattle.papaya_chain_rests.specs.Resizers.{HasLink}
+use Rattle.papaya_timeline.proofs.ResizerTables.{stage_is, stage_links, stage_made}
+use Rattle.papaya_timeline.specs.Kept.{IsVisitLink}
+use Rattle.papaya_visit.specs.declared.visitor.Spot.{Spot}
+use Rattle.papaya_visit.specs.declared.visitor.State.{State}
+use Rattle.papaya_visit.specs.declared.visitor.State.TheVariants.{Copying, AtRoot, Sizing, Looking, Giving, Showing, Burying, Uncounting, Done, Refused}
+use Rattle.papaya_visit.specs.declared.visitor.Visit.{Visit}
+use Rattle.papaya_visit.specs.declared.visitor.Visit.TheVariants.{Clear, Retain, Walk}
+use Rattle.papaya_visit.specs.Visitor.{after_in, at_root, copied, found_by, looks, meets, next, shown, told, visited}
+
+-- no table is about to be linked
+abbrev LinksNone : State → Type 0
+LinksNone state = (link : Link) → IsVisitLink state link → ⊥
+
+looks_none : (spot : Spot) → LinksNone (looks spot)
+looks_none spot = cond_both (nat_lt spot.slot spot.len) (Looking spot) Done LinksNone (λ _ link h. h) (λ _ link h. h)
+
+next_none : (spot : Spot) → LinksNone (next spot)
+next_none spot = looks_none (record spot { slot = spot.slot + 1 })
+
+root_none : (root : ℕ) → LinksNone (at_root root)
+root_none root = cond_both (root == 0) Done (Sizing root) LinksNone (λ _ link h. h) (λ _ link h. h)
+
+shown_none : (spot : Spot) (word : ℕ) (stays : Bool) → LinksNone (shown spot word stays)
+shown_none spot word true = next_none spot
+shown_none spot word false = λ link h. h
+
+meets_none : (visit : Visit) (spot : Spot) (word : ℕ) (kind : Kind) → LinksNone (meets visit spot word kind)
+meets_none Clear spot word kinds.Live = λ link h. h
+meets_none Retain spot word kinds.Live = λ link h. h
+meets_none Walk spot word kinds.Live = λ link h. h
+meets_none Walk spot word kinds.Marked = λ link h. h
+meets_none Walk spot word kinds.Copied = λ link h. h
+meets_none Clear spot word kinds.Marked = λ link h. h
+meets_none Clear spot word kinds.Copied = λ link h. h
+meets_none Retain spot word kinds.Marked = λ link h. h
+meets_none Retain spot word kinds.Copied = λ link h. h
+meets_none visit spot word kind = next_none spot
+
+-- whatever is told while nothing is copied
+told_none : (visit : Visit) (state : State) (answer : Call_answer) → LinksNone state → LinksNone (told visit state answer)
+told_none visit AtRoot (Word root) none = root_none root
+told_none visit (Sizing table) (Size slots limit) none = looks_none (record { table = table; len = slots; slot = 0 })
+told_none visit (Looking spot) (Word word) none = meets_none visit spot word (kind_of word)
+told_none visit (Giving spot word) Ok none = next_none spot
+told_none visit (Showing spot word) (Yes stays) none = shown_none spot word stays
+told_none visit (Burying spot word) Exchanged none = λ link h. h
+told_none visit (Burying spot word) (Found other) none = meets_none visit spot other (kind_of other)
+told_none visit (Uncounting spot) Ok none = next_none spot
+told_none visit state answer none = none
+
+visited_none : (visit : Visit) (state : State) (answer : Answer) → LinksNone state → LinksNone (visited visit state answer)
+visited_none visit state (answers.Call answer) none = told_none visit state answer none
+visited_none visit state (answers.Hash hash) none = none
+visited_none visit state (answers.Count count) none = none
+
+-- the copy of all leads to a link of its own
+copied_link : (from to : Stage) (link : Link) → IsVisitLink (copied from to) link → HasLink to link
+copied_link from stages.Done link h = absurd (root_none (found_by from) link h)
+copied_link from (stages.Refused refused) link h = h
+copied_link from stages.AtRoot link h = h
+copied_link from (stages.Making room) link h = h
+copied_link from (stages.Opening table) link h = h
+copied_link from (stages.Sizing root) link h = h
+copied_link from (stages.Counting root len) link h = h
+copied_link from (stages.Looking root room) link h = h
+copied_link from (stages.Linking other) link h = h
+copied_link from (stages.Copying root copying) link h = h
+
+module _ (Made : ℕ → Type 0) (visit : Visit) (mode : ResizeMode) (initial : ℕ) (answer : Answer) (new : (n : ℕ) → answer ≡ answers.Call (Made_number n) → Made n) where
+  -- the table that it is about to link was made
+  abbrev pub LinksMade : State → Type 0
+  LinksMade state = (behind t : ℕ) → IsVisitLink state (links.Linking behind t) → Made t
+
+  no_links : (state : State) → LinksNone state → LinksMade state
+  no_links state none behind t h = absurd (none (links.Linking behind t) h)
+
+  copied_made : (stage : Stage) → ((t : ℕ) → stage ≡ stages.Opening t → Made t) → LinksMade (Copying stage) → LinksMade (after_in visit mode initial answer (Copying stage))
+  copied_made stage opens links_are behind t h =
+      let to : Stage = resizers.after_in CopyAll mode initial answer stage in
+      stage_links Made to (stage_made Made CopyAll mode initial answer stage new (stage_is Made stage opens links_are)) behind t (copied_link stage to (links.Linking behind t) h)
+
+  pub links_made : (state : State) → ((stage : Stage) → state ≡ Copying stage → (t : ℕ) → stage ≡ stages.Opening t → Made t) → LinksMade state → LinksMade (after_in visit mode initial answer state)
+  links_made (Copying stage) opens links_are = copied_made stage (opens stage refl) links_are
+  links_made AtRoot opens links_are = no_links (visited visit AtRoot answer) (visited_none visit AtRoot answer (λ link h. h))
+  links_made (Sizing table) opens links_are = no_links (visited visit (Sizing table) answer) (visited_none visit (Sizing table) answer (λ link h. h))
+  links_made (Looking spot) opens links_are = no_links (visited visit (Looking spot) answer) (visited_none visit (Looking spot) answer (λ link h. h))
+  links_made (Giving spot word) opens links_are = no_links (visited visit (Giving spot word) answer) (visited_none visit (Giving spot word) answer (λ link h. h))
+  links_made (Showing spot word) opens links_are = no_links (visited visit (Showing spot word) answer) (visited_none visit (Showing spot word) answer (λ link h. h))
+  links_made (Burying spot word) opens links_are = no_links (visited visit (Burying spot word) answer) (visited_none visit (Burying spot word) answer (λ link h. h))
+  links_made (Uncounting spot) opens links_are = no_links (visited visit (Uncounting spot) answer) (visited_none visit (Uncounting spot) answer (λ link h. h))
+  links_made Done opens links_are = no_links (visited visit Done answer) (visited_none visit Done answer (λ link h. h))
+  links_made (Refused refused) opens links_are = no_links (visited visit (Refused refused) answer) (visited_none visit (Refused refused) answer (λ link h. h))

@@ -1,0 +1,34 @@
+use Rattle.papaya_keys.specs.Hashes.{hash_of}
+use Rattle.papaya_timeline.proofs.KeptCore.{keys_lawful}
+use Rattle.papaya_timeline.proofs.VisitLaw.{asks_so, beside, heard, over_so}
+use Rattle.papaya_timeline.proofs.VisitBegins.{visit_begins}
+use Rattle.papaya_timeline.proofs.VisitStands.{visit_core}
+use Rattle.papaya_timeline.proofs.visits.visits_keep.Goals as goal
+
+pub returns-clause-begins : goal.returns-clause-begins
+returns-clause-begins g c = λ s core es visit initial v is answers none.
+    visit_begins g.K.PartialEq.eq (hash_of g.K.Hash.hash_input g.S.BuildHasher.build_hasher g.S.Hasher.Hasher.write g.S.Hasher.Hasher.finish s.store.hasher) s core.chunked es visit initial v is answers none
+
+pub returns-clause-steps : goal.returns-clause-steps
+returns-clause-steps g c = λ refuse s core caller idle es tales kept v tale visiting ask asks a store' v' performs.
+    heard g.K.PartialEq.eq (hash_of g.K.Hash.hash_input g.S.BuildHasher.build_hasher g.S.Hasher.Hasher.write g.S.Hasher.Hasher.finish) (record { op = g.A.Answers.op_gives; yes = g.A.Answers.yes_gives }) refuse s
+    (keys_lawful g.K.PartialEq.eq g.K.Hash.hash_input g.S.BuildHasher.build_hasher g.S.Hasher.Hasher.write g.S.Hasher.Hasher.finish g.met.K.Eq.laws g.met.K.Hash.respects_eq s.store.hasher)
+    core tales v tale caller idle es kept visiting ask asks a store' v' performs
+
+pub returns-clause-beside : goal.returns-clause-beside
+returns-clause-beside g c = λ refuse s core es tales kept v tale visiting caller s' event reply steps.
+    beside g.K.PartialEq.eq (hash_of g.K.Hash.hash_input g.S.BuildHasher.build_hasher g.S.Hasher.Hasher.write g.S.Hasher.Hasher.finish) (record { op = g.A.Answers.op_gives; yes = g.A.Answers.yes_gives }) refuse s
+    (keys_lawful g.K.PartialEq.eq g.K.Hash.hash_input g.S.BuildHasher.build_hasher g.S.Hasher.Hasher.write g.S.Hasher.Hasher.finish g.met.K.Eq.laws g.met.K.Hash.respects_eq s.store.hasher)
+    core tales v tale es kept visiting caller s' event reply steps
+
+pub returns-clause-stands : goal.returns-clause-stands
+returns-clause-stands g c = λ refuse s core v stands ask asks a store' v' performs.
+    visit_core g.K.PartialEq.eq (record { op = g.A.Answers.op_gives; yes = g.A.Answers.yes_gives }) (hash_of g.K.Hash.hash_input g.S.BuildHasher.build_hasher g.S.Hasher.Hasher.write g.S.Hasher.Hasher.finish) refuse s.store s.callers s.mode core v stands a store' v' ask asks performs
+
+pub returns-clause-asks : goal.returns-clause-asks
+returns-clause-asks g c = λ s es v tale visiting going.
+    asks_so g.K.PartialEq.eq (hash_of g.K.Hash.hash_input g.S.BuildHasher.build_hasher g.S.Hasher.Hasher.write g.S.Hasher.Hasher.finish s.store.hasher) s.mode s.store v es tale visiting going
+
+pub returns-clause-over : goal.returns-clause-over
+returns-clause-over g c = λ s es v tale visiting over.
+    over_so g.K.PartialEq.eq (hash_of g.K.Hash.hash_input g.S.BuildHasher.build_hasher g.S.Hasher.Hasher.write g.S.Hasher.Hasher.finish s.store.hasher) s.mode s.store v es tale visiting over

@@ -1,0 +1,19 @@
+//! A pair enters the map once. The function does nothing: its contract is the law.
+ghost use Rattle.std.specs.Prelude.{◌≡◌, List, Some, ◌∷◌, ◌++◌};
+ghost use Rattle.papaya_store.specs.Store.{Stored};
+ghost use Rattle.papaya_timeline.specs.declared.trace.Turn.{Turn};
+ghost use Rattle.papaya_timeline.specs.Maps.{Map};
+ghost use Rattle.papaya_timeline.specs.Runs.{History};
+ghost use Rattle.papaya_timeline.specs.Timeline.{Answered, IsUnused, Timeline};
+ghost use Rattle.papaya_timeline.specs.Once.{HaveNot, IsSteady};
+
+/// Along a timeline each map has of a key the pair that the map before it has, or one that no map
+/// before it had. So a pair that was in the map and has left it does not come back.
+pub fn pairs_enter_once<K: Eq, V, A>()
+    ensures steady { (schedule : List (Turn K V A)) (start : Map K V) (h : History)
+        (maps : List (Map K V)) (said : Answered V)
+        → Timeline K.eq schedule start h maps said → IsSteady maps }
+    ensures lost { (j : K) (p : Stored K V) (newer : List (Map K V)) (lost : Map K V)
+        (older : List (Map K V)) → IsSteady (newer ++ lost ∷ older)
+        → (lost j ≡ Some p → ⊥) → (IsUnused p.number older → ⊥) → HaveNot j p newer }
+{}
