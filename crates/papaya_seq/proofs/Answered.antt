@@ -12,6 +12,7 @@ use Rattle.papaya_timeline.specs.Content.{content, map_in}
 use Rattle.papaya_timeline.specs.Maps.{Does, IsMadeOf, IsUpdate, IsUpdateBy, Same, key_of, at_key}
 use Rattle.papaya_timeline.specs.Solo.{CallDoes, IsAnswered, IsNewIn}
 use Rattle.papaya_store.specs.Store.{StoreState, Stored, pair_of}
+use Rattle.papaya_seq.proofs.LeftBy.{left_same, same_left}
 use Rattle.papaya_seq.specs.Map.{Inserts, IsMakeRefusal, IsOccupied, IsTried, IsTryRefusal, IsWriteCause, IsWriteCauseAt, Keeps, MapState, insertion, value_of}
 use Rattle.papaya_seq.proofs.Lawful.{logged_content, lookup_some}
 
@@ -177,8 +178,8 @@ module _ {K V A B : Type 0} (eq : K → K → Bool) (call : Call K V A) (other :
 
   -- so it is answered alike
   answered_alike : (m m' : K → Option (Stored K V)) (reply : _) → IsAnswered eq call m reply m' → IsAnswered eq other m reply m'
-  answered_alike m m' (replies.Refused refused) d = (d.0, λ nothing. subst (λ j. Does other (at_key m j) (replies.Refused RemoveNothing) (at_key m j)) (key ∙ sym other_key) (alike (at_key m (key_of call)) (at_key m (key_of call)) (replies.Refused RemoveNothing) (d.1 nothing)))
-  answered_alike m m' replies.Done d = (let f : None ≡ Some k = sym d.0 ∙ key in absurd cc, d.1)
+  answered_alike m m' (replies.Refused refused) d = (same_left other k other_key m m' (left_same call k key m m' d.0), λ nothing. subst (λ j. Does other (at_key m j) (replies.Refused RemoveNothing) (at_key m j)) (key ∙ sym other_key) (alike (at_key m (key_of call)) (at_key m (key_of call)) (replies.Refused RemoveNothing) (d.1 nothing)))
+  answered_alike m m' replies.Done d = let f : None ≡ Some k = sym d.0 ∙ key in absurd cc
   answered_alike m m' (replies.Inserted n) d = does_alike m m' (replies.Inserted n) d
   answered_alike m m' (replies.Occupied n) d = does_alike m m' (replies.Occupied n) d
   answered_alike m m' replies.Absent d = does_alike m m' replies.Absent d

@@ -13,10 +13,10 @@ use Rattle.papaya_ask.specs.declared.call.Reply.{Reply}
 use Rattle.papaya_ask.specs.declared.call.Reply.TheVariants.{Absent, Found, Inserted, Replaced, Occupied, Removed, Kept, Aborted, Done, Refused}
 use Rattle.papaya_timeline.specs.Content.{content, map_in}
 use Rattle.papaya_timeline.specs.Maps.{IsUpdate, Map, Same, key_of}
-use Rattle.papaya_timeline.specs.Solo.{IsAnswered, IsNewIn}
+use Rattle.papaya_timeline.specs.Solo.{IsAnswered, IsDoneBy, IsLeftBy, IsNewIn}
 use Rattle.papaya_store.specs.Store.{StoreState, Stored}
 use Rattle.papaya_timeline.proofs.SoloTimeline.{lookup_alike}
-use Rattle.papaya_seq.specs.Calls.{AreCalled, IsCalled, IsDone, IsJudged, IsSaid, MayRefuse}
+use Rattle.papaya_seq.specs.Calls.{AreCalled, IsCalled, IsDone, IsJudged, IsSaid, KeepsBy, MayRefuse}
 use Rattle.papaya_seq.specs.Map.{HasNone, Holds, IsMakeRefusal, Keeps, MapState, Unchanged, next_of}
 use Rattle.papaya_seq.specs.Removes.{IsRemoval, IsRemovalBy}
 use Rattle.papaya_seq.specs.Resizes.{IsCopyCause, IsReserveCause}
@@ -123,7 +123,7 @@ module _ {K V S : Type 0} (eq : K → K → Bool) (classes : IsEquivalence eq) (
 -- a call on a key has another reply than one that resizes the map
 pub keyed_undone : {K V A : Type 0} (eq : K → K → Bool) (call : Call K V A) (k : K) → key_of call ≡ Some k → (reply : Reply) (m m' : Map K V) → IsAnswered eq call m reply m' → reply ≡ Done → ⊥
 keyed_undone eq call k keyed reply m m' answered is =
-    let done : (key_of call ≡ None) × Same m m' = subst (λ r. IsAnswered eq call m r m') is answered in
+    let done : IsAnswered eq call m Done m' = subst (λ r. IsAnswered eq call m r m') is answered in
     let f : None ≡ Some k = sym done.0 ∙ keyed in
     absurd cc
 
@@ -152,19 +152,19 @@ module _ {K V S A : Type 0} (eq : K → K → Bool) (says : Says K V A) (reply :
   called_more s (c ∷ calls) [] e = absurd e
   called_more s (c ∷ calls) (r ∷ replies) (middle, first, rest) = (middle, first, called_more middle calls replies rest)
 
-module _ {K V S A : Type 0} (eq : K → K → Bool) (says : Says K V A) (call : Call K V A) (no_key : key_of call ≡ None) (s s' : MapState K V S) (unchanged : Unchanged eq s.store s'.store) (keeps : Keeps s s') (said : (reply : Reply) → IsSaid eq says call s reply s'.store) (makes : (refused : words.Refused) → MayRefuse eq s call refused s' → IsMakeRefusal refused) where
-  -- what resizes the map is a call
-  pub resized_called : (done : Result (Unit {0}) words.Refused) (reply : Reply) → MatchResult done (λ _. reply ≡ Done) (λ e. reply ≡ Refused e) → OnOk done (IsDone eq call s.store s'.store) → IfErr done (λ e. MayRefuse eq s call e s') → IsCalled eq says s call reply s'
-  resized_called (Ok u) reply is ok err = subst (λ r. IsCalled eq says s call r s') (sym is) (record {
-    answered = (no_key, unchanged);
+module _ {K V S A : Type 0} (eq : K → K → Bool) (says : Says K V A) (call : Call K V A) (no_key : key_of call ≡ None) (s s' : MapState K V S) (keeps : KeepsBy call s s') (said : (reply : Reply) → IsSaid eq says call s reply s'.store) (makes : (refused : words.Refused) → MayRefuse eq s call refused s' → IsMakeRefusal refused) where
+  -- what is done on no key is a call
+  pub resized_called : (done : Result (Unit {0}) words.Refused) (reply : Reply) → MatchResult done (λ _. reply ≡ Done) (λ e. reply ≡ Refused e) → OnOk done (IsDone eq says call s.store s'.store) → IfErr done (λ e. MayRefuse eq s call e s') → OnOk done (IsDoneBy call (map_in eq s.store) (map_in eq s'.store)) → IfErr done (λ e. IsLeftBy call (map_in eq s.store) (map_in eq s'.store)) → IsCalled eq says s call reply s'
+  resized_called (Ok u) reply is ok err does left = subst (λ r. IsCalled eq says s call r s') (sym is) (record {
+    answered = (no_key, does);
     fresh = tt;
     said = said Done;
     cause = λ refused e. let f : Done ≡ Refused refused = e in absurd cc;
     done = λ e. ok;
     keeps = keeps;
   })
-  resized_called (Err refused) reply is ok err = subst (λ r. IsCalled eq says s call r s') (sym is) (record {
-    answered = (unchanged, λ nothing. absurd (removes_something refused (makes refused err) nothing));
+  resized_called (Err refused) reply is ok err does left = subst (λ r. IsCalled eq says s call r s') (sym is) (record {
+    answered = (left, λ nothing. absurd (removes_something refused (makes refused err) nothing));
     fresh = tt;
     said = said (Refused refused);
     cause = λ other e. let same : refused ≡ other = let f : Refused refused ≡ Refused other = e in cc f in subst (λ r. MayRefuse eq s call r s') same err;

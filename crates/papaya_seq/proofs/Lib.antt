@@ -62,3 +62,5 @@ pub mod UpdatesDone
 pub mod WalkLaw
 pub mod WalkLists
 pub mod WalkSteps
+mod Sifted
+mod LeftBy

@@ -27,7 +27,9 @@ use Rattle.papaya_store.specs.Tables.{table_of, word_at}
 use Rattle.papaya_timeline.specs.Content.{content, map_in}
 use Rattle.papaya_timeline.specs.Kept as kept
 use Rattle.papaya_timeline.specs.Resized.{IsResized}
-use Rattle.papaya_timeline.specs.Solo.{IsAnswered}
+use Rattle.papaya_timeline.specs.Maps.{Same}
+use Rattle.papaya_timeline.specs.Solo.{IsAnswered, IsDoneBy, IsLeftBy}
+use Rattle.papaya_seq.proofs.LeftBy.{resized_same}
 use Rattle.papaya_timeline.proofs.KeptCore.{keys_lawful}
 use Rattle.papaya_timeline.proofs.ResizerStands.{resizer_fits}
 use Rattle.papaya_timeline.proofs.StoreLemmas.{performed_copy, unnumbered}
@@ -198,11 +200,15 @@ module _ {K V S H : Type 0} (eq : K → K → Bool) (input : K → List (List �
       pub resized_past : IsPastLimit eq resize s.store → ask_of z ≡ None → (reply_of z ≡ Some (Reply_refused Capacity)) × (store ≡ s.store)
       resized_past late none = let early = now.causes.early late in (early_ends z.state none early.1, early.0)
 
+      -- a call that resizes the map leaves it
+      same_by : (IsLeftBy now.call.call (map_in eq s.store) (map_in eq store) → Same (map_in eq s.store) (map_in eq store)) × (IsDoneBy now.call.call (map_in eq s.store) (map_in eq store) → Same (map_in eq s.store) (map_in eq store))
+      same_by = resized_same (λ k. 0) s.mode s.initial now.call.call (begun resize s.mode s.initial) (now.call.begins (λ k. 0) s.mode s.initial) (map_in eq s.store) (map_in eq store)
+
       -- no pair of the map changes
       pub resized_unchanged : ask_of z ≡ None → Unchanged eq s.store store
       resized_unchanged none = ⊎_elim
-          (λ (told : reply_of z ≡ Some Reply_done). (resized_answered Reply_done told).1)
-          (λ (told : (refused : Refused) × (reply_of z ≡ Some (Reply_refused refused))). (resized_answered (Reply_refused told.0) told.1).0)
+          (λ (told : reply_of z ≡ Some Reply_done). same_by.1 (resized_answered Reply_done told).1)
+          (λ (told : (refused : Refused) × (reply_of z ≡ Some (Reply_refused refused))). same_by.0 (resized_answered (Reply_refused told.0) told.1).0)
           (ends_so z none)
 
       -- it has replied

@@ -228,7 +228,7 @@ module _ {K V S H : Type 0} (eq : K → K → Bool) (input : K → List (List �
       resize_more = record {
         steps = suc came.steps;
         history = with_step 1 0 event reply came.history;
-        runs = (now, came.history, subst (λ o. StepsRun eq whatever hash 1 0 came.steps (start eq hash s call.call) (with_event 0 0 Begun []) (seated_work store o s.mode s.initial) came.history) under_way came.runs, inl (event, reply, inr made_step, refl));
+        runs = (now, came.history, subst (λ o. StepsRun eq whatever hash 1 0 came.steps (start eq hash s call.call) (with_event 0 0 Begun []) (seated_work store o s.mode s.initial) came.history) under_way came.runs, inl (event, reply, inr (inl made_step), refl));
         replied = λ x e. last_entry event reply came.history x e;
         lone = λ none. let near = nearer none in subst (IsLoneResizer eq hash (seated_work store' (Some (works.Resize next)) s.mode s.initial)) (nearer_is near) near.lone;
         done = λ e. subst (λ y. IsResized y store') came.resize_is (resizer_done eq input build write finish classes respects false now (seated_work store' None s.mode s.initial) event z lone (stepped_to (Some Reply_done) e));

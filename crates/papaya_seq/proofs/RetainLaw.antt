@@ -214,7 +214,7 @@ module _ {K V S : Type 0} (eq : K → K → Bool) (hash : K → ℕ) (s : MapSta
   }
 
   kept' : (tales' : ℕ → Tale K V) × IsKept {A = Unit {0}} eq hash s.mode store' [] (es ++ made) tales'
-  kept' = (_, leaves_kept eq hash keys (core_of s) 0 core' refl es tales lawful.lawful.core kept made no_hands leaving None refl (λ r e. absurd cc) (λ z e. absurd cc) (λ r e. absurd cc))
+  kept' = (_, leaves_kept eq hash keys (core_of s) 0 core' refl es tales lawful.lawful.core kept made no_hands leaving None refl (λ r e. absurd cc) (λ z e. absurd cc) (λ v e. absurd cc) (λ r e. absurd cc))
 
   -- the root table after it
   written_is : written (Slot root i) table grave ≡ record table { slots = slice_set table.slots i grave }
@@ -250,7 +250,7 @@ module _ {K V S : Type 0} (eq : K → K → Bool) (hash : K → ℕ) (s : MapSta
 
   lawful_core : IsLawfulCore {A = Unit {0}} eq hash store' [] s.mode
   lawful_core = record {
-    core = record { chunked = lawful.lawful.core.chunked; sizes = sizes'; standing = λ d q e. absurd cc; going = λ d q e. absurd cc; resizers = λ d z e. absurd cc };
+    core = record { chunked = lawful.lawful.core.chunked; sizes = sizes'; standing = λ d q e. absurd cc; going = λ d q e. absurd cc; resizers = λ d z e. absurd cc; visitors = λ d v e. absurd cc };
     law = (es ++ made, kept');
   }
 

@@ -156,7 +156,7 @@ module _ {K V S : Type 0} (eq : K → K → Bool) (hash : S → K → ℕ) (s : 
   seek_fit = fits_all.fit
 
   pub core' : IsCore {A = Unit {0}} store' [] s.mode
-  core' = record { chunked = seeking.core.chunked; sizes = numbered store'.words.tables fits_all.sized; standing = λ d q e. absurd cc; going = λ d q e. absurd cc; resizers = λ d z e. absurd cc }
+  core' = record { chunked = seeking.core.chunked; sizes = numbered store'.words.tables fits_all.sized; standing = λ d q e. absurd cc; going = λ d q e. absurd cc; resizers = λ d z e. absurd cc; visitors = λ d v e. absurd cc }
 
   pub standing' : IsStanding (after m answer)
   standing' = chain_stands m seeking.standing answer seek_fit

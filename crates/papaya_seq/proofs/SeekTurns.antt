@@ -271,7 +271,7 @@ module _ {K V S : Type 0} (eq : K → K → Bool) (hash : S → K → ℕ) (s : 
   assoc = append_assoc tale.begun tale.since left.made
 
   abbrev pub tale' : Tale K V
-  tale' = record { begun = tale.begun; since = since'; hands = left.hands }
+  tale' = record { begun = tale.begun; since = since'; hands = left.hands; visit = tale.visit }
 
   -- they were allowed, and the machine rests on them
   pub learnt : AllAllowed gq start es' × Rests gq cq tale.begun since' None (after m answer) left.hands
@@ -307,6 +307,7 @@ module _ {K V S : Type 0} (eq : K → K → Bool) (hash : S → K → ℕ) (s : 
     tables_few = left.tables_few seeking.kept.tables_few;
     calls = λ d q e. absurd cc;
     resizers = λ d z e. absurd cc;
+    visitors = λ d v e. absurd cc;
     apart = λ d e q q' x. absurd cc;
   }
 

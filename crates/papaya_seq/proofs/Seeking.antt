@@ -29,6 +29,7 @@ use Rattle.papaya_rests.specs.Told.{IsOneOf, word_of}
 use Rattle.papaya_store.specs.Store.{StoreState, Stored}
 use Rattle.papaya_store.specs.Tables.{table_of, word_at}
 use Rattle.papaya_timeline.specs.Core.{IsCore}
+use Rattle.papaya_visit_rests.specs.Told as visits
 use Rattle.papaya_timeline.specs.Kept.{IsKept, IsLogged, IsMade, Tale, coding_of, is_blocking, low, setting_of, slots_in}
 use Rattle.papaya_timeline.proofs.KeptSettings.{IsLawfulKeys, tables_hashed}
 use Rattle.papaya_seq.specs.Map.{IsLawfulMap, MapState, Unchanged}
@@ -107,14 +108,14 @@ module _ {K V S : Type 0} (eq : K → K → Bool) (hash : S → K → ℕ) (s : 
     pub seek_begin : IsLawfulMap eq (hash s.store.hasher) s.store s.mode s.initial → IsSeeking s.store (started RemoveIf h s.mode s.initial)
     seek_begin lawful =
         let (es, (tales, kept)) = lawful.lawful.law in
-        let tale : Tale K V = record { begun = es; since = []; hands = no_hands } in
+        let tale : Tale K V = record { begun = es; since = []; hands = no_hands; visit = visits.no_hands } in
         let same_es : es ≡ es ++ [] = sym (append-nil es) in
         let core = lawful.lawful.core in
         record {
           tale = tale;
           core = core;
           kept = subst (λ l. IsKept {A = Unit {0}} eq (hash s.store.hasher) s.mode s.store [] l (λ d. tale)) same_es
-              (record { allowed = kept.allowed; coded = kept.coded; made = kept.made; logged = kept.logged; few = kept.few; tables_few = kept.tables_few; calls = λ d r e. absurd cc; resizers = λ d z e. absurd cc; apart = λ d e r q x. absurd cc });
+              (record { allowed = kept.allowed; coded = kept.coded; made = kept.made; logged = kept.logged; few = kept.few; tables_few = kept.tables_few; calls = λ d r e. absurd cc; resizers = λ d z e. absurd cc; visitors = λ d v e. absurd cc; apart = λ d e r q x. absurd cc });
           rests = record {
             chunked = core.chunked;
             call = record { hash = refl; mode = mode_of s.mode; made = record { keys = λ q l. absurd l; made_is = tt; fill_is = tt; choice_is = tt }; stage = tt };

@@ -1,15 +1,16 @@
 -- Calls that are handed in as values, one after the other.
-use Rattle.std.specs.Prelude.{◌≡◌, ◌⊎◌, ℕ, Bool, true, false, Option, Some, List, [], ◌∷◌, option_map}
+use Rattle.std.specs.Prelude.{◌≡◌, ◌⊎◌, ℕ, cond, Bool, true, false, Option, Some, List, [], ◌∷◌, option_map}
 use Rattle.papaya_words.specs.declared.probe.Refused as words
 use Rattle.papaya_words.specs.declared.probe.Refused.TheVariants as refusals
 use Rattle.papaya_call.specs.Answers.{Says}
 use Rattle.papaya_call.specs.declared.answers.Operation.{Operation}
 use Rattle.papaya_call.specs.declared.answers.Operation.TheVariants as ops
 use Rattle.papaya_ask.specs.declared.call.Call.{Call}
-use Rattle.papaya_ask.specs.declared.call.Call.TheVariants.{Get, Insert, TryInsert, RemoveIf, Compute, Reserve, CopyAll}
+use Rattle.papaya_ask.specs.declared.call.Call.TheVariants.{Get, Insert, TryInsert, RemoveIf, Compute, Reserve, CopyAll, Clear, Retain, Walk}
 use Rattle.papaya_ask.specs.declared.call.Reply.{Reply}
 use Rattle.papaya_ask.specs.declared.call.Reply.TheVariants.{Inserted, Replaced, Removed, Kept, Aborted, Done, Refused}
-use Rattle.papaya_timeline.specs.Content.{map_in}
+use Rattle.papaya_law.specs.Content.{lookup}
+use Rattle.papaya_timeline.specs.Content.{content, map_in}
 use Rattle.papaya_timeline.specs.Solo.{IsAnswered, IsNewIn}
 use Rattle.papaya_store.specs.Store.{StoreState, Stored, pair_of}
 use Rattle.papaya_seq.specs.Map.{IsResizing, IsTryCause, IsWriteCauseAt, Keeps, MapState, entry_of, next_of}
@@ -58,7 +59,8 @@ IsSaid eq says _ s reply s' = Unit {0}
 
 -- A lookup is never refused, an insertion for a cause, a removal only while pairs are being moved,
 -- and a compute for a cause, or where its closure would remove what isn't there. Room is refused for
--- a cause, and the end of a resize for one while pairs are being moved.
+-- a cause, and the end of a resize for one while pairs are being moved, which a retain ends first. A
+-- clear and a walk are never refused.
 abbrev pub MayRefuse : {K V S A : Type 0} → (K → K → Bool) → MapState K V S → Call K V A
     → words.Refused → MapState K V S → Type 0
 MayRefuse eq s (Get k) refused s' = ⊥
@@ -69,14 +71,42 @@ MayRefuse eq s (Compute k a) refused s' = IsWriteCauseAt s (map_in eq s.store k)
     ⊎ (refused ≡ refusals.RemoveNothing)
 MayRefuse eq s (Reserve more) refused s' = IsReserveCause eq s more refused s'
 MayRefuse eq s CopyAll refused s' = IsCopyCause s refused s'
+MayRefuse eq s Clear refused s' = ⊥
+MayRefuse eq s (Retain a) refused s' = IsCopyCause s refused s'
+MayRefuse eq s Walk refused s' = ⊥
 
--- What is so when a call is done: there is room, or no pairs are being moved. A call on a key has
+-- each pair of the first list is shown once, in order, and the second has those that stay
+abbrev pub Sifts : {K V A : Type 0} → Says K V A → A → (shown left : List (Stored K V)) → A → Type 0
+Sifts says a [] left a' = (left ≡ []) × (a' ≡ a)
+Sifts {K = K} {V = V} {A = A} says a (p ∷ ps) left a' = (stays : Bool) × (later : A)
+    × (rest : List (Stored K V)) × says.yes a p.key p.value stays later
+    × Sifts says later ps rest a' × (left ≡ cond stays (p ∷ rest) rest)
+
+-- the pairs of s were shown, and s' has those that stay
+pub record IsSifted {K V S A : Type 0} (eq : K → K → Bool) (says : Says K V A) (a : A)
+    (s s' : StoreState K V S) : Type 0 where
+  pub shown : List (Stored K V)
+  pub later : A
+  pub sifts : Sifts says a shown (content eq s') later
+  pub pairs : (k : K) → lookup eq (λ p. p.key) shown k ≡ map_in eq s k
+
+-- What is so when a call is done: there is room, no pairs are being moved, the map is empty, it has
+-- the pairs that stay by its closure's answers, or it is the one of before. A call on a key has
 -- another reply.
-abbrev pub IsDone : {K V S A : Type 0} → (K → K → Bool) → Call K V A → StoreState K V S
+abbrev pub IsDone : {K V S A : Type 0} → (K → K → Bool) → Says K V A → Call K V A → StoreState K V S
     → StoreState K V S → Type 0
-IsDone eq (Reserve more) s s' = HasRoomFor eq s more s'
-IsDone eq CopyAll s s' = next_of s' ≡ 0
-IsDone eq _ s s' = ⊥
+IsDone eq says (Reserve more) s s' = HasRoomFor eq s more s'
+IsDone eq says CopyAll s s' = next_of s' ≡ 0
+IsDone eq says Clear s s' = content eq s' ≡ []
+IsDone eq says (Retain a) s s' = IsSifted eq says a s s'
+IsDone eq says Walk s s' = s' ≡ s
+IsDone eq says _ s s' = ⊥
+
+-- a clear keeps the settings, and leaves no pair in the log; every other call keeps the log's pairs
+abbrev pub KeepsBy : {K V S A : Type 0} → Call K V A → MapState K V S → MapState K V S → Type 0
+KeepsBy Clear s s' = (s'.store.hasher ≡ s.store.hasher) × (s'.mode ≡ s.mode)
+    × (s'.initial ≡ s.initial)
+KeepsBy call s s' = Keeps s s'
 
 module _ {K V S A : Type 0} (eq : K → K → Bool) (says : Says K V A) where
   -- a call does what the finite map does, or is refused where it may be
@@ -87,8 +117,8 @@ module _ {K V S A : Type 0} (eq : K → K → Bool) (says : Says K V A) where
     pub said : IsSaid eq says call s reply s'.store
     pub cause : (refused : words.Refused) → reply ≡ Refused refused
         → MayRefuse eq s call refused s'
-    pub done : reply ≡ Done → IsDone eq call s.store s'.store
-    pub keeps : Keeps s s'
+    pub done : reply ≡ Done → IsDone eq says call s.store s'.store
+    pub keeps : KeepsBy call s s'
 
   -- one reply a call
   abbrev pub AreCalled : MapState K V S → List (Call K V A) → List Reply → MapState K V S → Type 0

@@ -9,6 +9,7 @@ mod computing;
 mod insertion;
 pub mod laws;
 mod lookup;
+mod printing;
 mod removal;
 mod resizing;
 mod retaining;

@@ -524,6 +524,12 @@ impl<K: Hash + Eq + Drop, V: Drop, S: BuildHasher> HashMap<K, V, S> {
             }
             Call::Reserve(more) => resized(self.reserve(more)),
             Call::CopyAll => resized(self.copy_all()),
+            Call::Clear => resized(self.clear()),
+            Call::Retain(mut answers) => {
+                resized(self.retain(|key, value| answers.yes(key, value)))
+            }
+            // What a walk gives has no place in a reply.
+            Call::Walk => Reply::Done,
         }
     }
 

@@ -200,6 +200,18 @@ impl<'a, K: Hash + Eq, V, S: BuildHasher> Model for Iter<'a, K, V, S> {
     ghost invariant = { λ it. IsStand it.map.now it.at };
 }
 
+impl<'a, K: Hash + Eq, V, S: BuildHasher> Iter<'a, K, V, S> {
+    /// The same walk, from where this one stands.
+    pub(crate) fn again(&self) -> Iter<'a, K, V, S>
+        ensures { result ≡ self.now }
+    {
+        Iter {
+            map: self.map,
+            at: self.at,
+        }
+    }
+}
+
 impl<'a, K: Hash + Eq, V, S: BuildHasher> Iterator for Iter<'a, K, V, S> {
     type Item = (&'a K, &'a V);
 
@@ -218,7 +230,7 @@ impl<'a, K: Hash + Eq, V, S: BuildHasher> Iterator for Iter<'a, K, V, S> {
 /// The keys of a map, seen as the list of those that are left.
 #[derive(Drop)]
 pub struct Keys<'a, K: Hash + Eq, V, S: BuildHasher> {
-    pairs: Iter<'a, K, V, S>,
+    pub(crate) pairs: Iter<'a, K, V, S>,
 }
 
 impl<'a, K: Hash + Eq, V, S: BuildHasher> Model for Keys<'a, K, V, S> {
@@ -247,7 +259,7 @@ impl<'a, K: Hash + Eq, V, S: BuildHasher> Iterator for Keys<'a, K, V, S> {
 /// The values of a map, seen as the list of those that are left.
 #[derive(Drop)]
 pub struct Values<'a, K: Hash + Eq, V, S: BuildHasher> {
-    pairs: Iter<'a, K, V, S>,
+    pub(crate) pairs: Iter<'a, K, V, S>,
 }
 
 impl<'a, K: Hash + Eq, V, S: BuildHasher> Model for Values<'a, K, V, S> {

@@ -83,3 +83,38 @@ fn retain_ends_a_resize(rt: HostRuntime) -> Result<(), Fail> {
     is(&rt, keys.as_slice(), &[0, 2, 4, 6, 8]);
     Ok(())
 }
+
+/// This text is one of the two.
+fn is_either(rt: &impl Abort, text: &str, one: &str, other: &str) {
+    is(rt, text == one || text == other, true);
+}
+
+#[test]
+fn a_map_prints_its_pairs_and_its_walks_what_is_left(rt: HostRuntime) -> Result<(), Fail> {
+    let alloc = rt.alloc();
+    let mut map: Usual = HashMap::new(alloc)?;
+    is(&rt, format!(in alloc; "{map:?}")?.as_str(), "{}");
+    inserts(&rt, &mut map, 42, 0, Ok(None));
+    inserts(&rt, &mut map, 16, 8, Ok(None));
+    let text = format!(in alloc; "{map:?}")?;
+    is_either(&rt, text.as_str(), "{42: 0, 16: 8}", "{16: 8, 42: 0}");
+    let pairs = format!(in alloc; "{:?}", map.iter())?;
+    is_either(
+        &rt,
+        pairs.as_str(),
+        "[(42, 0), (16, 8)]",
+        "[(16, 8), (42, 0)]",
+    );
+    let keys = format!(in alloc; "{:?}", map.keys())?;
+    is_either(
+        &rt,
+        keys.as_str(),
+        "Keys([(42, 0), (16, 8)])",
+        "Keys([(16, 8), (42, 0)])",
+    );
+    let mut values = map.values();
+    let _ = values.next();
+    let left = format!(in alloc; "{values:?}")?;
+    is_either(&rt, left.as_str(), "Values([(42, 0)])", "Values([(16, 8)])");
+    Ok(())
+}

@@ -1,17 +1,19 @@
-use Rattle.std.proofs.Common.{rules, ◌≡◌, ℕ, Bool, true, false, Option, None, Some, option_map, refl, sym, ◌∙◌, subst}
-use Rattle.papaya_law.specs.Content.{AreApart}
+use Rattle.std.proofs.Common.{rules, ◌≡◌, inl, ℕ, Bool, true, false, List, OnOk, Option, None, Some, option_map, refl, sym, ap, ◌∙◌, subst}
+use Rattle.papaya_law.specs.Content.{AreApart, lookup}
 use Rattle.papaya_timeline.specs.Content.{content, map_in}
 use Rattle.papaya_store.specs.Store.{StoreState, Stored}
 use Rattle.papaya_keys.specs.Hashes.{hash_of}
-use Rattle.papaya_ask.specs.declared.call.Call.TheVariants.{CopyAll, Reserve}
+use Rattle.papaya_ask.specs.declared.call.Call.TheVariants.{Clear, CopyAll, Reserve, Retain, Walk}
 use Rattle.papaya_ask.specs.declared.call.Reply.TheVariants.{Absent, Done, Found, Refused}
 use Rattle.papaya_timeline.proofs.CountedCore.{lawful_apart}
-use Rattle.papaya_seq.specs.Calls.{IsCalled}
+use Rattle.papaya_call.specs.Answers.{Says}
+use Rattle.papaya_seq.specs.Calls.{IsCalled, IsSifted}
 use Rattle.papaya_seq.specs.Map.{HasNone, Holds, IsLawfulMap, core_of, insertion}
 use Rattle.papaya_seq.specs.Looks.{IsFound}
 use Rattle.papaya_seq.proofs.Answered.{insert_answered, try_answered}
 use Rattle.papaya_seq.proofs.CallsDone.{copy_makes, get_absent, get_found, keyed_undone, remove_called, removes_something, reserve_makes, resized_called}
 use Rattle.papaya_seq.proofs.ComputeCalled.{compute_called}
+use Rattle.papaya_seq.proofs.Sifted.{err_never, err_only, err_then, ok_then, on_err, on_ok, sifted_left, sifts}
 use Rattle.papaya_seq.proofs.seq.HashMap.call.Goals as goal
 use Rattle.papaya_seq.proofs.seq.HashMap.call.Given.{Over}
 
@@ -99,9 +101,42 @@ returns-in-Compute g c =
 pub returns-in-Reserve : goal.returns-in-Reserve
 returns-in-Reserve g c =
     subst (λ call. IsCalled g.K.PartialEq.eq (record { op = g.A.Answers.op_gives; yes = g.A.Answers.yes_gives }) c.args.self.now call c.resized.result c.reserve.new.self) (sym c.in-Reserve.is)
-    (resized_called g.K.PartialEq.eq (record { op = g.A.Answers.op_gives; yes = g.A.Answers.yes_gives }) (Reserve c.in-Reserve.more) refl c.args.self.now c.reserve.new.self c.reserve.ensures.map c.reserve.ensures.keeps (λ reply. tt) (λ refused. reserve_makes g.K.PartialEq.eq c.args.self.now c.in-Reserve.more refused c.reserve.new.self) c.reserve.result c.resized.result c.resized.ensures c.reserve.ensures.ok c.reserve.ensures.err)
+    (resized_called g.K.PartialEq.eq (record { op = g.A.Answers.op_gives; yes = g.A.Answers.yes_gives }) (Reserve c.in-Reserve.more) refl c.args.self.now c.reserve.new.self c.reserve.ensures.keeps (λ reply. tt) (λ refused. reserve_makes g.K.PartialEq.eq c.args.self.now c.in-Reserve.more refused c.reserve.new.self) c.reserve.result c.resized.result c.resized.ensures c.reserve.ensures.ok c.reserve.ensures.err (on_ok c.reserve.result c.reserve.ensures.map) (on_err c.reserve.result c.reserve.ensures.map))
+
+pub returns-in-CopyAll : goal.returns-in-CopyAll
+returns-in-CopyAll g c =
+    subst (λ call. IsCalled g.K.PartialEq.eq (record { op = g.A.Answers.op_gives; yes = g.A.Answers.yes_gives }) c.args.self.now call c.resized-in-CopyAll.result c.copy_all.new.self) (sym c.in-CopyAll.is)
+    (resized_called g.K.PartialEq.eq (record { op = g.A.Answers.op_gives; yes = g.A.Answers.yes_gives }) CopyAll refl c.args.self.now c.copy_all.new.self c.copy_all.ensures.keeps (λ reply. tt) (λ refused. copy_makes c.args.self.now refused c.copy_all.new.self) c.copy_all.result c.resized-in-CopyAll.result c.resized-in-CopyAll.ensures c.copy_all.ensures.ok c.copy_all.ensures.err (on_ok c.copy_all.result c.copy_all.ensures.map) (on_err c.copy_all.result c.copy_all.ensures.map))
+
+pub returns-in-Clear : goal.returns-in-Clear
+returns-in-Clear g c =
+    let none : (j : g.row.K.Denot) → map_in g.K.PartialEq.eq c.clear.new.self.store j ≡ None = λ j. ap (λ (l : List (Stored g.row.K.Denot g.row.V.Denot)). lookup g.K.PartialEq.eq (λ p. p.key) l j) c.clear.ensures.empty in
+    subst (λ call. IsCalled g.K.PartialEq.eq (record { op = g.A.Answers.op_gives; yes = g.A.Answers.yes_gives }) c.args.self.now call c.resized-in-Clear.result c.clear.new.self) (sym c.in-Clear.is)
+    (resized_called g.K.PartialEq.eq (record { op = g.A.Answers.op_gives; yes = g.A.Answers.yes_gives }) Clear refl c.args.self.now c.clear.new.self (c.clear.ensures.hasher, c.clear.ensures.settings.0, c.clear.ensures.settings.1) (λ reply. tt) (λ refused may. absurd may) c.clear.result c.resized-in-Clear.result c.resized-in-Clear.ensures
+    (on_ok c.clear.result c.clear.ensures.empty) (err_never _ c.clear.result c.clear.ensures.ok) (on_ok c.clear.result none) (err_never _ c.clear.result c.clear.ensures.ok))
+
+pub returns-in-Retain : goal.returns-in-Retain
+returns-in-Retain g c =
+    let says : Says g.row.K.Denot g.row.V.Denot g.row.A.Denot = record { op = g.A.Answers.op_gives; yes = g.A.Answers.yes_gives } in
+    let sifted : OnOk c.retain.result (IsSifted g.K.PartialEq.eq says c.in-Retain.answers c.args.self.now.store c.retain.new.self.store) =
+    ok_then c.retain.result c.retain.ensures.ok (λ x. record {
+      shown = x.shown;
+      later = x.end.0.now;
+      sifts = sifts _ says (λ f. f.0.now) (λ f f' key value agrees called. let met = called.met in search rules) _ x.shown (content g.K.PartialEq.eq c.retain.new.self.store) x.end x.retains;
+      pairs = x.pairs;
+    }) in
+    subst (λ call. IsCalled g.K.PartialEq.eq says c.args.self.now call c.resized-in-Retain.result c.retain.new.self) (sym c.in-Retain.is)
+    (resized_called g.K.PartialEq.eq says (Retain c.in-Retain.answers) refl c.args.self.now c.retain.new.self c.retain.ensures.keeps (λ reply. tt) (λ refused. copy_makes c.args.self.now refused c.retain.new.self) c.retain.result c.resized-in-Retain.result c.resized-in-Retain.ensures
+    sifted (err_only c.retain.result c.retain.ensures.err (λ e cause. cause.0))
+    (ok_then c.retain.result c.retain.ensures.ok (λ x. sifted_left g.K.PartialEq.eq g.met.K.Eq.laws says c.in-Retain.answers c.args.self.now.store c.retain.new.self.store (record { shown = x.shown; later = x.end.0.now; sifts = sifts _ says (λ f. f.0.now) (λ f f' key value agrees called. let met = called.met in search rules) _ x.shown (content g.K.PartialEq.eq c.retain.new.self.store) x.end x.retains; pairs = x.pairs }) x.once))
+    (err_then c.retain.result c.retain.ensures.err (λ e cause. λ j. inl (cause.1 j))))
 
 pub returns : goal.returns
-returns g c =
-    subst (λ call. IsCalled g.K.PartialEq.eq (record { op = g.A.Answers.op_gives; yes = g.A.Answers.yes_gives }) c.args.self.now call c.resized-in-CopyAll.result c.copy_all.new.self) (sym c.in-CopyAll.is)
-    (resized_called g.K.PartialEq.eq (record { op = g.A.Answers.op_gives; yes = g.A.Answers.yes_gives }) CopyAll refl c.args.self.now c.copy_all.new.self c.copy_all.ensures.map c.copy_all.ensures.keeps (λ reply. tt) (λ refused. copy_makes c.args.self.now refused c.copy_all.new.self) c.copy_all.result c.resized-in-CopyAll.result c.resized-in-CopyAll.ensures c.copy_all.ensures.ok c.copy_all.ensures.err)
+returns g c = subst (λ call. IsCalled g.K.PartialEq.eq (record { op = g.A.Answers.op_gives; yes = g.A.Answers.yes_gives }) c.args.self.now call Done c.args.self.now) (sym c.in-Walk.is) (record {
+  answered = (refl, λ j. refl);
+  fresh = tt;
+  said = tt;
+  cause = λ refused e. let f : Done ≡ Refused refused = e in absurd cc;
+  done = λ e. refl;
+  keeps = record { hasher = refl; mode = refl; initial = refl; pairs = λ n p e. e };
+})
