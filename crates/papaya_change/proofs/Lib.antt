@@ -15,6 +15,9 @@ pub mod OwnSays
 pub mod Inserting
 pub mod InsertingReplies
 pub mod InsertingHelped
+-- insertions at once
+pub mod Seeking
+pub mod Logged
 -- what closures are shown
 pub mod Showings
 -- removals

@@ -17,7 +17,6 @@ use Rattle.papaya_book.specs.declared.rule.entry.Begun.{Begun}
 use Rattle.papaya_book.specs.declared.rule.entry.Event.{Event}
 use Rattle.papaya_change.specs.declared.insertion.Insertion.{Insertion}
 use denote.Bor.{Bor}
-use mathlib.Core.List.{IsPrefix}
 use Rattle.papaya_change.specs.Changes.{IsPut}
 use Rattle.papaya_lookup.specs.History.{history_of, key_of}
 use Rattle.papaya_book.specs.Logs.{Stored}
@@ -71,14 +70,21 @@ module _ {K V S H : Type 0} (eq : K → K → Bool) (hash : S → K → ℕ) (b 
   Inserts log x log' x' answer = (key : K) (value : V) (begun : List (Event K V S))
       → IsInserting key value begun log x → IsInsertingOn key value begun log' x' answer
 
+  -- what each insertion has put in that was under way at the first log
+  abbrev pub HasPutSince : List (Event K V S) → Insertion K V S H → List (Event K V S)
+      → Option (Bor V) → Type 0
+  HasPutSince old x log answer = (key : K) (value : V) (begun : List (Event K V S))
+      → IsInserting key value begun old x → IsPut eq key value (history_of begun) (history_of log)
+      answer
+
   -- what each insertion that is under way has put in
   abbrev pub HasPut : List (Event K V S) → Insertion K V S H → Option (Bor V) → Type 0
   HasPut log x answer = (key : K) (value : V) (begun : List (Event K V S))
       → IsInserting key value begun log x → IsPut eq key value (history_of begun) (history_of log)
       answer
 
-  -- an insertion that began after all that was seen of this log
-  abbrev pub IsUnderWay : K → V → List (Event K V S) → List (Event K V S) → Insertion K V S H
-      → Type 0
-  IsUnderWay key value old log x = (begun : List (Event K V S)) × IsPrefix old begun
-      × IsInserting key value begun log x
+  -- each insertion that was under way so is under way so
+  abbrev pub GoesOn : List (Event K V S) → Insertion K V S H → List (Event K V S)
+      → Insertion K V S H → Type 0
+  GoesOn log x log' x' = (key : K) (value : V) (begun : List (Event K V S))
+      → IsInserting key value begun log x → IsInserting key value begun log' x'

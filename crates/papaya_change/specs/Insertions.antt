@@ -21,3 +21,8 @@ module _ {K V S H : Type 0} {d : keyed.Ghosts S K H} where
   abbrev pub HasPut : Window K V S H d → Insertion K V S H → Option (Bor V) → Type 0
   HasPut w x answer = inserting.HasPut d.keys.eq d.keys.hash (begun_of w.book.now.parts)
       w.book.now.begun.book w.sight.log x answer
+
+  abbrev pub HasPutSince : Window K V S H d → Insertion K V S H → Window K V S H d
+      → Option (Bor V) → Type 0
+  HasPutSince w x w' answer = inserting.HasPutSince d.keys.eq d.keys.hash
+      (begun_of w.book.now.parts) w.book.now.begun.book w.sight.log x w'.sight.log answer

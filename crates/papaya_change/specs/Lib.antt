@@ -6,6 +6,7 @@ pub mod Copier
 pub mod Doing
 pub mod Writing
 pub mod Inserting
+pub mod Seeking
 pub mod Showings
 pub mod RemovalAnswers
 pub mod Removing
@@ -16,4 +17,5 @@ pub mod Drivers
 pub mod Copiers
 pub mod Writers
 pub mod Insertions
+pub mod Seeks
 pub mod Removals

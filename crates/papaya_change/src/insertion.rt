@@ -1,11 +1,12 @@
 //! Insertions: their machine, answered by steps on the book.
 ghost use Rattle.papaya_lookup.specs.Drivers.{own, past};
-ghost use Rattle.papaya_lookup.specs.History.{Makes};
-ghost use Rattle.papaya_book.specs.Windows.{Does, IsLawful, Sees};
+ghost use Rattle.papaya_lookup.specs.History.{Makes, key_of};
+ghost use Rattle.papaya_book.specs.Windows.{Does, IsIn, IsLawful, Sees};
+ghost use Rattle.papaya_book.specs.declared.rule.entry.Named.TheVariants.{Pair as PairNamed};
 ghost use Rattle.papaya_change.specs.Doing.{Answers, has_changed, was_made};
 ghost use Rattle.papaya_book.specs.Limits.{HasNoRoom, tables_of};
-ghost use Rattle.papaya_change.specs.Insertions.{CanInsert, HasPut, Inserts};
-ghost use Rattle.std.specs.Prelude.{◌≡◌, is_ok, Some, Err, IfErr, IfOk};
+ghost use Rattle.papaya_change.specs.Insertions.{CanInsert, HasPut, HasPutSince, Inserts};
+ghost use Rattle.std.specs.Prelude.{◌≡◌, ◌<◌, ◌^◌, false, is_ok, None, Some, Err, IfErr, IfOk};
 ghost use Rattle.std.specs.Int.{IsPowerOfTwo};
 ghost use Rattle.papaya_call.specs.Machine.{ask_of as call_ask_of};
 ghost use Rattle.papaya_chain.specs.Machine.{IsStanding, ask_of};
@@ -22,9 +23,11 @@ use crate::writing::Writer;
 use papaya_ask::ask::{Answer, Ask as CallAsk, At};
 use papaya_ask::call::{Reply, Task};
 use papaya_book::count::Shard;
+use papaya_book::keyed::Hashed;
 use papaya_book::rule::entry::Stored;
 use papaya_book::rule::own::{Given, Own};
 use papaya_book::window::Window;
+use papaya_call::write::Made;
 use papaya_chain::ask::Ask;
 use papaya_lookup::lookup::hash;
 use papaya_words::probe::Refused;
@@ -148,9 +151,49 @@ impl<'a, K: Hash + Eq + Drop, V: Drop, S: BuildHasher> Insertion<'a, K, V, S> {
     }
 }
 
-/// Inserts a pair: the value that its key had. Where it is refused for want of room, `given` tells
-/// the number that a full log gave, or the sum of the count that makes a further table too long.
-pub fn insert<'a, R: Wait, K: Hash + Eq + Drop, V: Drop, S: BuildHasher>(
+/// Runs an insertion under way to its end, which has not changed the map yet: the value that its key
+/// had.
+fn drive<'a, R: Wait, K: Hash + Eq + Drop, V: Drop, S: BuildHasher>(
+    rt: &R,
+    alloc: Global,
+    shard: &Shard<'_>,
+    window: &mut Window<'a, K, V, S>,
+    given: &mut Own<Given>,
+    begun: Insertion<'a, K, V, S>,
+) -> Result<Option<&'a V>, Refused>
+    requires standing { IsStanding begun.writer.call.machine }
+    requires calling { begun.writer.call.machine.phase ≡ Calling }
+    requires can { CanInsert window.old begun }
+    requires unchanged { has_changed begun.writer.call.machine ≡ false }
+    ensures sees { Sees window.old window.new }
+    ensures lawful { IsLawful window.new }
+    ensures put { IfOk result (λ answer. HasPutSince window.old begun.entry window.new
+        answer) }
+    ensures refused { IfErr result (λ refused. IsMemoryOrCapacity refused) }
+    ensures crowded { result ≡ Err Refused.Capacity → HasNoRoom
+        begun.entry.writer.call.machine.call.initial (tables_of window.new.sight.log) given.new.done }
+    ensures made { Makes (is_ok result) (own window.old) (own window.new) (past window.new) }
+{
+    let mut insertion = begun;
+    for _ in rt.forever() {
+        match insertion.answer(rt, alloc, shard, window) {
+            Some(answer) => {
+                insertion.writer.call.answer(answer);
+                insertion.writer.call.help(rt, alloc, shard.count(), window);
+            }
+            None => {
+                *given = insertion.writer.call.given.again();
+                return insertion.replied(window);
+            }
+        }
+    }
+    unreachable!()
+}
+
+/// Inserts a pair by its machine: the value that its key had. Where it is refused for want of room,
+/// `given` tells the number that a full log gave, or the sum of the count that makes a further table
+/// too long.
+pub(crate) fn insert_stepwise<'a, R: Wait, K: Hash + Eq + Drop, V: Drop, S: BuildHasher>(
     rt: &R,
     alloc: Global,
     initial: usize,
@@ -174,7 +217,7 @@ pub fn insert<'a, R: Wait, K: Hash + Eq + Drop, V: Drop, S: BuildHasher>(
     let book = window.book;
     let hash = hash(&book.parts.hasher, &key);
     let task = Task::Insert { replace: true };
-    let mut insertion = Insertion {
+    let insertion = Insertion {
         writer: Writer {
             call: Driver::new(task, hash, book.parts.mode, initial),
             key: Some(key),
@@ -183,17 +226,49 @@ pub fn insert<'a, R: Wait, K: Hash + Eq + Drop, V: Drop, S: BuildHasher>(
         },
         made: None,
     };
-    for _ in rt.forever() {
-        match insertion.answer(rt, alloc, shard, window) {
-            Some(answer) => {
-                insertion.writer.call.answer(answer);
-                insertion.writer.call.help(rt, alloc, shard.count(), window);
-            }
-            None => {
-                *given = insertion.writer.call.given.again();
-                return insertion.replied(window);
-            }
-        }
-    }
-    unreachable!()
+    drive(rt, alloc, shard, window, given, insertion)
+}
+
+/// Inserts a pair that lies in the log, with its key, by its machine: the value that its key had.
+pub(crate) fn insert_logged<'a, R: Wait, K: Hash + Eq + Drop, V: Drop, S: BuildHasher>(
+    rt: &R,
+    alloc: Global,
+    initial: usize,
+    shard: &Shard<'_>,
+    window: &mut Window<'a, K, V, S>,
+    given: &mut Own<Given>,
+    hash: u64,
+    pair: Stored<K, V>,
+) -> Result<Option<&'a V>, Refused>
+    requires initial { IsPowerOfTwo initial }
+    requires hashed { hash ≡ ⟦<S as Hashed<K>>⟧.hash window.old.book.now.parts.hasher (key_of pair) }
+    requires placed { IsIn window.old (PairNamed pair) }
+    requires brings { pair.value.key.at ≡ None }
+    requires number { pair.index < 2 ^ 48 }
+    ensures sees { Sees window.old window.new }
+    ensures lawful { IsLawful window.new }
+    ensures put { IfOk result (λ answer. IsPut K.eq (key_of pair) pair.value.value
+        (past window.old) (past window.new) answer) }
+    ensures refused { IfErr result (λ refused. IsMemoryOrCapacity refused) }
+    ensures crowded { result ≡ Err Refused.Capacity → HasNoRoom initial
+        (tables_of window.new.sight.log) given.new.done }
+    ensures made { Makes (is_ok result) (own window.old) (own window.new) (past window.new) }
+{
+    window.learn();
+    let book = window.book;
+    let task = Task::Insert { replace: true };
+    let mut call = Driver::new(task, hash, book.parts.mode, initial);
+    let mut machine = call.machine;
+    machine.call.made = Made::Pair(pair.index() as u64);
+    call.machine = machine;
+    let insertion = Insertion {
+        writer: Writer {
+            call,
+            key: None,
+            brought: Some(pair.again()),
+            value: None,
+        },
+        made: Some(pair),
+    };
+    drive(rt, alloc, shard, window, given, insertion)
 }

@@ -2,6 +2,7 @@
 //! machines.
 #![tactic(auto)]
 
+pub mod at_once;
 pub mod copier;
 pub mod driver;
 pub mod helping;

@@ -92,7 +92,7 @@ onward_yes at word true = onward_match (kind_of word) at word
 onward_yes at word false = λ none. onward_on at
 
 -- Where a key is compared, it is that of the pair of the word that was loaded.
-record IsCompared (kind : Kind) (seen : Seen) (at : Place) (word : ℕ) : Type 0 where
+pub record IsCompared (kind : Kind) (seen : Seen) (at : Place) (word : ℕ) : Type 0 where
   pub some : kind ≡ kinds.Empty → ⊥
   pub shut : kind ≡ kinds.Closed → ⊥
   pub is : seen ≡ On (Comparing at word)
@@ -104,7 +104,7 @@ compared_byte : (at : Place) (hash word : ℕ) (a : Place) (w : ℕ) → compare
 compared_byte at hash word a w =
     chosen (λ s. s ≡ On (Comparing a w) → s ≡ On (Comparing at word)) (byte_of word == top_byte hash) (On (Comparing at word)) (go_on at) (λ e h. refl) (λ e h. absurd (on_not at a w h))
 
-compared_look : (kind : Kind) (at : Place) (hash word : ℕ) (a : Place) (w : ℕ) → look_at kind at hash word ≡ On (Comparing a w) → IsCompared kind (look_at kind at hash word) at word
+pub compared_look : (kind : Kind) (at : Place) (hash word : ℕ) (a : Place) (w : ℕ) → look_at kind at hash word ≡ On (Comparing a w) → IsCompared kind (look_at kind at hash word) at word
 compared_look kinds.Empty at hash word a w h = absurd (cc h)
 compared_look kinds.Live at hash word a w h = record { some = λ e. cc e; shut = λ e. cc e; is = compared_byte at hash word a w h }
 compared_look kinds.Marked at hash word a w h = record { some = λ e. cc e; shut = λ e. cc e; is = compared_byte at hash word a w h }

@@ -3,17 +3,17 @@ use Rattle.papaya_chain.specs.declared.machine.Phase.TheVariants.{Calling}
 use Rattle.papaya_chain.specs.Machine.{IsStanding}
 use Rattle.papaya_book.specs.Hashes.{hash_of}
 use Rattle.papaya_change.specs.Doing.{has_changed}
-use Rattle.papaya_change.specs.Inserting.{IsUnderWay}
+use Rattle.papaya_change.specs.Inserting.{GoesOn}
 use Rattle.papaya_book.specs.Parts.{begun_of}
 use Rattle.papaya_book.specs.Windows.{Does, Sees}
-use Rattle.papaya_change.proofs.insertion.insert.Given as goal
+use Rattle.papaya_change.proofs.insertion.drive.Given as goal
 
 -- the insertion rests on what is seen by now, and asks for itself
 abbrev pub invariant-loop : goal.invariant-loop
 invariant-loop g l =
-    IsUnderWay g.K.PartialEq.eq (hash_of g.K.Hash.hash_input g.S.BuildHasher.build_hasher g.S.Hasher.Hasher.write g.S.Hasher.Hasher.finish) (begun_of l.window.book.now.parts) l.window.book.now.begun.book l.fn.key l.fn.value l.fn.window.sight.log l.window.sight.log l.insertion
+    GoesOn g.K.PartialEq.eq (hash_of g.K.Hash.hash_input g.S.BuildHasher.build_hasher g.S.Hasher.Hasher.write g.S.Hasher.Hasher.finish) (begun_of l.window.book.now.parts) l.window.book.now.begun.book l.fn.window.sight.log l.fn.begun l.window.sight.log l.insertion
     × IsStanding l.insertion.writer.call.machine
     × (l.insertion.writer.call.machine.phase ≡ Calling)
-    × (l.insertion.writer.call.machine.call.initial ≡ l.fn.initial)
+    × (l.insertion.writer.call.machine.call.initial ≡ l.fn.begun.writer.call.machine.call.initial)
     × Sees l.fn.window l.window
     × Does (has_changed l.insertion.writer.call.machine) l.fn.window l.window

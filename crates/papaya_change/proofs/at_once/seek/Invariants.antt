@@ -1,0 +1,20 @@
+use Rattle.std.specs.Prelude.{◌≡◌}
+use Rattle.papaya_ask.specs.Search.{IsWithin}
+use Rattle.papaya_ask.specs.declared.search.Search.TheVariants.{Looking}
+use Rattle.papaya_call.specs.declared.machine.State.TheVariants.{Searching}
+use Rattle.papaya_book.specs.Windows.{Sees}
+use Rattle.papaya_change.specs.Seeking.{left_at}
+use Rattle.papaya_change.specs.Seeks.{Leads}
+use Rattle.papaya_change.proofs.at_once.seek.Given as goal
+
+-- the turns so far led on from the first place to this one
+abbrev pub invariant-loop-next : goal.invariant-loop-next
+invariant-loop-next g l =
+    Leads l.fn.window l.window l.key l.table (Searching (Looking l.fn.at)) (Searching (Looking l.place))
+    × IsWithin l.place
+    × Sees l.fn.window l.window
+    × (l.window.own ≡ l.fn.window.own)
+
+-- the places that are left to the search
+abbrev pub decreases-loop-next : goal.decreases-loop-next
+decreases-loop-next g l = left_at l.place

@@ -1,0 +1,43 @@
+use Rattle.std.proofs.Common.{◌≡◌, Result, Ok, Err, IfOk, Some, refl, ap, ◌∙◌}
+use Rattle.papaya_call.specs.declared.machine.State.TheVariants.{AtRoot}
+use Rattle.papaya_call.specs.declared.write.Made.TheVariants.{Pair}
+use Rattle.papaya_chain.specs.declared.machine.Machine.{Machine}
+use Rattle.papaya_book.specs.declared.rule.entry.Named.TheVariants as names
+use Rattle.papaya_book.specs.Hashes.{hash_of}
+use Rattle.papaya_book.specs.Parts.{begun_of}
+use Rattle.papaya_book.specs.Rule.{IsPlaced}
+use Rattle.papaya_lookup.specs.History.{key_of}
+use Rattle.papaya_change.specs.Seeking.{insertion_at}
+use Rattle.papaya_change.proofs.InsertingReplies.{put_since}
+use Rattle.papaya_change.proofs.Logged.{begins_logged}
+use Rattle.papaya_change.proofs.insertion.insert_logged.Goals as goal
+
+if_ok : {A E : Type 0} (P Q : A → Type 0) (r : Result A E) → IfOk r P → ((a : A) → P a → Q a) → IfOk r Q
+if_ok P Q (Ok a) p f = f a p
+if_ok P Q (Err e) p f = tt
+
+pub drive-requires-clause-can : goal.drive-requires-clause-can
+drive-requires-clause-can g c =
+    let hash = hash_of g.K.Hash.hash_input g.S.BuildHasher.build_hasher g.S.Hasher.Hasher.write g.S.Hasher.Hasher.finish in
+    let w = c.learn.new.self.book.now in let log = c.learn.new.self.sight.log in let q = c.args.pair in
+    let placed : IsPlaced (begun_of w.parts) (Some w.begun.book) (names.Pair q) = rw c.learn.ensures.sees.book c.requires.placed in
+    let hashed : c.args.hash ≡ hash w.parts.hasher (key_of q) = rw c.learn.ensures.sees.book c.requires.hashed in
+    let made : Machine = insertion_at c.args.hash w.parts.mode c.args.initial (Pair q.index) AtRoot in
+    let machine : record c.new-call.result.machine { call = record c.new-call.result.machine.call { made = Pair c.index.result } } ≡ made = λ i. record (c.new-call.ensures.machine i) { call = record (c.new-call.ensures.machine i).call { made = Pair (c.index.ensures i) } } in (
+      key_of q,
+      q.value.value,
+      log,
+      begins_logged g.K.PartialEq.eq hash (begun_of w.parts) w.begun.book q placed c.requires.brings log _ c.learn.ensures.lawful w.chunked c.args.initial (machine ∙ ap (λ h. insertion_at h w.parts.mode c.args.initial (Pair q.index) AtRoot) hashed) c.new-call.ensures.table c.new-call.ensures.pairs refl refl (ap (λ z. Some z) c.again.ensures) refl,
+    )
+
+pub returns-clause-put : goal.returns-clause-put
+returns-clause-put g c =
+    let hash = hash_of g.K.Hash.hash_input g.S.BuildHasher.build_hasher g.S.Hasher.Hasher.write g.S.Hasher.Hasher.finish in
+    let w = c.learn.new.self.book.now in let log = c.learn.new.self.sight.log in let q = c.args.pair in
+    let placed : IsPlaced (begun_of w.parts) (Some w.begun.book) (names.Pair q) = rw c.learn.ensures.sees.book c.requires.placed in
+    let hashed : c.args.hash ≡ hash w.parts.hasher (key_of q) = rw c.learn.ensures.sees.book c.requires.hashed in
+    let made : Machine = insertion_at c.args.hash w.parts.mode c.args.initial (Pair q.index) AtRoot in
+    let machine : record c.new-call.result.machine { call = record c.new-call.result.machine.call { made = Pair c.index.result } } ≡ made = λ i. record (c.new-call.ensures.machine i) { call = record (c.new-call.ensures.machine i).call { made = Pair (c.index.ensures i) } } in
+    if_ok _ _ c.drive.result c.drive.ensures.put (λ a h.
+    put_since g.K.PartialEq.eq (key_of q) q.value.value c.args.window.now.sight.log log c.drive.new.window.sight.log a c.learn.ensures.sees.log
+    (h (key_of q) q.value.value log (begins_logged g.K.PartialEq.eq hash (begun_of w.parts) w.begun.book q placed c.requires.brings log _ c.learn.ensures.lawful w.chunked c.args.initial (machine ∙ ap (λ h'. insertion_at h' w.parts.mode c.args.initial (Pair q.index) AtRoot) hashed) c.new-call.ensures.table c.new-call.ensures.pairs refl refl (ap (λ z. Some z) c.again.ensures) refl)))
