@@ -1,9 +1,3 @@
-pub mod ComputeOwn
-pub mod ComputeGoes
-pub mod ComputeHelped
-pub mod ComputeShows
-pub mod ComputePairs
-pub mod ComputePuts
-pub mod ComputeReplies
-pub mod DoneBy
 pub mod Ruled
+-- where no pair stays, none is left
+pub mod Cleared

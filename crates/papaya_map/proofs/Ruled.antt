@@ -11,20 +11,20 @@ use Rattle.papaya_change.specs.Changes.{IsChangeOf}
 use Rattle.papaya_change.specs.Showings.{HasNoNone, HasSaid, IsNoneOnce, IsSamePair, WasHeld, WasLast}
 use Rattle.papaya_change.specs.Writing.{IsMemoryOrCapacity}
 use Rattle.papaya_change.proofs.Showings.{said_so, shown_each}
-use Rattle.papaya_map.specs.Computing.{value_in}
-use Rattle.papaya_map.specs.Deciding.{IsDecided, IsDecidedOf, Wishes}
-use Rattle.papaya_map.specs.declared.deciding.Outcome.{Outcome}
-use Rattle.papaya_map.specs.declared.deciding.Outcome.TheVariants.{Put, Replaced, Left}
-use Rattle.papaya_map.specs.declared.rules.Giving.{Giving}
-use Rattle.papaya_map.specs.declared.rules.Updating.{Updating}
-use Rattle.papaya_map.specs.declared.rules.Upserting.{Upserting}
-use Rattle.papaya_map.specs.Rules.{Gives, IsGiven, Updates, Upserts}
-use Rattle.papaya_map.specs.declared.rules.Ready.{Ready}
+use Rattle.papaya_compute.specs.Computing.{value_in}
+use Rattle.papaya_compute.specs.Deciding.{IsDecided, IsDecidedOf, Wishes}
+use Rattle.papaya_compute.specs.declared.deciding.Outcome.{Outcome}
+use Rattle.papaya_compute.specs.declared.deciding.Outcome.TheVariants.{Put, Replaced, Left}
+use Rattle.papaya_compute.specs.declared.rules.Giving.{Giving}
+use Rattle.papaya_compute.specs.declared.rules.Updating.{Updating}
+use Rattle.papaya_compute.specs.declared.rules.Upserting.{Upserting}
+use Rattle.papaya_compute.specs.Rules.{Gives, IsGiven, Updates, Upserts}
+use Rattle.papaya_compute.specs.declared.rules.Ready.{Ready}
 use Rattle.papaya_keys.specs.declared.occupied.NotInserted.{NotInserted}
 use Rattle.papaya_keys.specs.declared.occupied.NotInserted.TheVariants.{Value, Logged}
 use Rattle.std.specs.Prelude.{IfOk}
 use Rattle.papaya_map.specs.Storing.{IsBack, IsCurrent, IsInPlace, IsStored}
-use Rattle.papaya_map.proofs.ComputeShows.{none_unsaid}
+use Rattle.papaya_compute.proofs.ComputeShows.{none_unsaid}
 
 -- what a rule answered
 abbrev pub Wish : Type 0 → Type 0

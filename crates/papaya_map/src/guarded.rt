@@ -6,7 +6,7 @@ ghost use Rattle.papaya_lookup.specs.Answers.{IsAnsweredBetween};
 ghost use Rattle.papaya_change.specs.Changes.{IsPut};
 ghost use Rattle.papaya_change.specs.RemovalAnswers.{IsEntryRemoved, IsRemovalBy, IsRemoved};
 ghost use Rattle.papaya_change.specs.Showings.{Judges, Operates};
-ghost use Rattle.papaya_map.specs.ComputeAnswers.{IsComputeBy};
+ghost use Rattle.papaya_compute.specs.ComputeAnswers.{IsComputeBy};
 ghost use Rattle.papaya_map.specs.Plain.{IsDone, IsOfHistory};
 
 use crate::map::HashMap;

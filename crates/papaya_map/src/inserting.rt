@@ -5,9 +5,9 @@ ghost use Rattle.papaya_change.specs.Writing.{IsMemoryOrCapacity};
 ghost use Rattle.papaya_map.specs.Plain.{IsOfHistory};
 ghost use Rattle.papaya_map.specs.Storing.{IsThere, IsTried, IsTriedWith};
 
-use crate::deciding::Outcome;
 use crate::map::{HashMap, HashMapRef, Pass};
-use crate::rules::{Giving, Made, Ready};
+use papaya_compute::deciding::Outcome;
+use papaya_compute::rules::{Giving, Made, Ready};
 use papaya_keys::guard::Guard;
 use papaya_keys::occupied::{NotInserted, OccupiedError};
 use papaya_words::probe::Refused;

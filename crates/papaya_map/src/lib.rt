@@ -2,18 +2,17 @@
 //!
 //! [`map`] has the map and its calls by a pass, [`plain`] those without, and [`guarded`] those that take
 //! a guard; [`builder`] asks for a map's parts one by one. Each call runs its machine by a driver:
-//! `papaya_lookup` has that of lookups, `papaya_change` those of insertions and removals, and
-//! [`computing`] that of computes. All stand on `papaya_book`, whose log records every exchange.
+//! `papaya_lookup` has that of lookups, `papaya_change` those of insertions and removals, `papaya_compute`
+//! that of computes. All stand on `papaya_book`, whose log records every exchange.
 #![tactic(auto)]
 
 pub mod builder;
 mod computing;
-mod deciding;
 pub mod guarded;
 pub mod inserting;
 pub mod map;
 pub mod plain;
+mod printing;
 pub mod resizing;
-mod rules;
 pub mod sweeps;
 pub mod updating;

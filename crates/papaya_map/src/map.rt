@@ -12,16 +12,15 @@ ghost use Rattle.papaya_book.specs.Limits.{HasNoRoom, tables_of};
 ghost use Rattle.papaya_change.specs.Changes.{IsPut};
 ghost use Rattle.papaya_change.specs.Resizing.{HasNoRoomAhead, HasRoomAhead};
 ghost use Rattle.papaya_change.specs.Writing.{IsMemoryOrCapacity};
-ghost use Rattle.papaya_map.specs.ComputeAnswers.{IsComputeBy, changes};
-ghost use Rattle.papaya_map.specs.Deciding.{IsDecided};
+ghost use Rattle.papaya_compute.specs.ComputeAnswers.{IsComputeBy, changes};
+ghost use Rattle.papaya_compute.specs.Deciding.{IsDecided};
 ghost use Rattle.papaya_lookup.specs.History.{IsLegalHistory, Makes, Past, changes_by, history_of, key_of};
 ghost use Rattle.papaya_lookup.specs.Answers.{IsAnsweredBetween};
 ghost use Rattle.papaya_change.specs.RemovalAnswers.{IsRemovalBy, IsRemoved, took, went};
 ghost use Rattle.papaya_change.specs.Showings.{Judges, Operates};
-ghost use Rattle.papaya_sweep.specs.Meeting.{HasShown};
+ghost use Rattle.papaya_sweep.specs.Leaving.{HasKept};
 
 use crate::computing::compute;
-use crate::deciding::{Outcome, Rule, decide};
 use papaya_book::book::Book;
 use papaya_book::book::kept::KeptRoot;
 use papaya_book::book::parts::Parts;
@@ -32,9 +31,10 @@ use papaya_book::rule::trade::Sight;
 use papaya_book::window::Window;
 use papaya_call::answers::Operation;
 use papaya_chain::resizer::Resize;
-use papaya_change::insertion::insert;
+use papaya_change::at_once::insert;
 use papaya_change::removal::remove;
 use papaya_change::resizing::resize;
+use papaya_compute::deciding::{Outcome, Rule, decide};
 use papaya_keys::compute::Compute;
 use papaya_keys::guard::{Collector, Equivalent, Guard};
 use papaya_keys::sizes::{check_chunk, initial_len};
@@ -412,8 +412,20 @@ impl<'a, K: Hash + Eq, V, S: BuildHasher> HashMapRef<'a, K, V, S> {
         reserved
     }
 
-    /// Takes out the pairs that the closure, which is shown each, says are not to stay.
-    pub(crate) fn retain_as<R: Wait, F: FnMut(&K, &V) -> bool>(
+    /// Removes the pairs for which the closure, which is shown each, answers false: `retain` of 0.2.5.
+    /// Each pair that it is shown the map had in a history that begins with what the pass had seen.
+    /// The closure is shown a key's pair again where another call replaced it meanwhile, or where all
+    /// is copied.
+    ///
+    /// Where it is not refused, each pair that the map had after what the pass had seen was removed
+    /// since, by this call or another, or the closure's last answer to it was true. A pair that is
+    /// stored meanwhile may be shown or not.
+    ///
+    /// Where it meets a copier's work it copies what is left to copy, and may be refused a table then:
+    /// `Refused::Memory` where a growth was refused, and `Refused::Capacity` where there is no room.
+    /// What was removed stays so. Refused or not, the pass makes one change for each pair that this
+    /// call removed, right after the closure answered false to it.
+    pub fn retain_as<R: Wait, F: FnMut(&K, &V) -> bool>(
         &self,
         rt: &R,
         stays: F,
@@ -422,8 +434,9 @@ impl<'a, K: Hash + Eq, V, S: BuildHasher> HashMapRef<'a, K, V, S> {
         requires book { pass.old.book ≡ self.now.book }
         requires callable { F.IsAlwaysCallable stays }
         ensures book { pass.new.book ≡ pass.old.book }
-        ensures shown { (left : _) × HasShown K.eq pass.old.history pass.new.history
-            (Judges F.FnMut) stays left }
+        ensures seen { IsPrefix pass.old.history pass.new.history }
+        ensures kept { HasKept K.eq pass.old.history pass.new.history pass.old.made pass.new.made
+            (Judges F.FnMut) stays result }
         ensures refused { IfErr result (λ refused. IsMemoryOrCapacity refused) }
     {
         let map: &'a HashMap<K, V, S> = self.map;

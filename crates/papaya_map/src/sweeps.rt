@@ -1,11 +1,12 @@
 //! The calls that visit the whole map: what they say is so of a history that no caller is shown.
-ghost use Rattle.std.specs.Prelude.{◌≡◌, ◌⊎◌, [], Err, IfErr, IfOk};
+ghost use Rattle.std.specs.Prelude.{◌≡◌, ◌⊎◌, false, [], Err, IfErr, IfOk};
 ghost use Rattle.papaya_change.specs.Showings.{Judges};
 ghost use Rattle.papaya_change.specs.Writing.{IsMemoryOrCapacity};
 ghost use Rattle.papaya_map.specs.Plain.{IsOfHistory};
-ghost use Rattle.papaya_sweep.specs.Meeting.{HasShown};
+ghost use mathlib.Core.List.{IsPrefix};
+ghost use Rattle.papaya_sweep.specs.Leaving.{HasKept, IsCleared};
 
-use crate::map::{HashMap, HashMapRef};
+use crate::map::{HashMap, HashMapRef, Pass};
 use papaya_keys::guard::Guard;
 use papaya_sweep::walk::{Iter, Keys, Values};
 use papaya_words::probe::Refused;
@@ -13,6 +14,25 @@ use std::hash::{BuildHasher, Hash};
 use std::sync::Wait;
 
 impl<'a, K: Hash + Eq, V, S: BuildHasher> HashMapRef<'a, K, V, S> {
+    /// Removes the pairs that the map has: `clear` of 0.2.5. Where it is not refused, each pair that
+    /// the map had after what the pass had seen was removed since, by this call or another. A pair that
+    /// is stored meanwhile may stay. Refused as [`HashMapRef::retain_as`] is.
+    pub fn clear_as<R: Wait>(&self, rt: &R, pass: &mut Pass<K, V, S>) -> Result<(), Refused>
+        requires { pass.old.book ≡ self.now.book }
+        ensures book { pass.new.book ≡ pass.old.book }
+        ensures seen { IsPrefix pass.old.history pass.new.history }
+        ensures cleared { IfOk result (λ _. IsCleared K.eq pass.old.history pass.new.history) }
+        ensures refused { IfErr result (λ refused. IsMemoryOrCapacity refused) }
+    {
+        self.retain_as(
+            rt,
+            |_, _|
+                ensures { result ≡ false }
+            { false },
+            pass,
+        )
+    }
+
     /// Removes the pairs that the map has: `clear` of 0.2.5. A pair that is stored meanwhile may stay.
     ///
     /// Refused as [`HashMapRef::retain`] is.
@@ -20,7 +40,7 @@ impl<'a, K: Hash + Eq, V, S: BuildHasher> HashMapRef<'a, K, V, S> {
         ensures { IfErr result (λ refused. IsMemoryOrCapacity refused) }
     {
         let mut pass = self.map().pass();
-        self.retain_as(rt, |_, _| { false }, &mut pass)
+        self.clear_as(rt, &mut pass)
     }
 
     /// Removes the pairs for which the closure, which is shown each, answers false: `retain` of 0.2.5.
@@ -32,8 +52,8 @@ impl<'a, K: Hash + Eq, V, S: BuildHasher> HashMapRef<'a, K, V, S> {
     /// What was removed stays so.
     pub fn retain<R: Wait, F: FnMut(&K, &V) -> bool>(&self, rt: &R, stays: F) -> Result<(), Refused>
         requires { F.IsAlwaysCallable stays }
-        ensures shown { IsOfHistory K.eq (λ h. (left : _) × HasShown K.eq [] h (Judges F.FnMut)
-            stays left) }
+        ensures kept { IsOfHistory K.eq (λ h. (made : _) × HasKept K.eq [] h [] made (Judges F.FnMut)
+            stays result) }
         ensures refused { IfErr result (λ refused. IsMemoryOrCapacity refused) }
     {
         let mut pass = self.map().pass();
@@ -87,8 +107,9 @@ impl<K: Hash + Eq, V, S: BuildHasher> HashMap<K, V, S> {
         guard: &G,
     ) -> Result<(), Refused>
         requires { F.IsAlwaysCallable stays }
-        ensures shown { G.collector_number guard.now ≡ self.now.collector
-            → IsOfHistory K.eq (λ h. (left : _) × HasShown K.eq [] h (Judges F.FnMut) stays left) }
+        ensures kept { G.collector_number guard.now ≡ self.now.collector
+            → IsOfHistory K.eq (λ h. (made : _) × HasKept K.eq [] h [] made (Judges F.FnMut) stays
+            result) }
         ensures right { G.collector_number guard.now ≡ self.now.collector
             → IfErr result (λ refused. IsMemoryOrCapacity refused) }
         ensures wrong { (G.collector_number guard.now ≡ self.now.collector → ⊥)

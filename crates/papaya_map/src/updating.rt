@@ -5,9 +5,9 @@ ghost use Rattle.papaya_change.specs.Writing.{IsMemoryOrCapacity};
 ghost use Rattle.papaya_map.specs.Plain.{IsOfHistory};
 ghost use Rattle.papaya_map.specs.Storing.{IsUpdated, IsUpserted};
 
-use crate::deciding::Outcome;
 use crate::map::{HashMap, HashMapRef, Pass};
-use crate::rules::{Made, Ready, Supply, Updating, Upserting};
+use papaya_compute::deciding::Outcome;
+use papaya_compute::rules::{Made, Ready, Supply, Updating, Upserting};
 use papaya_keys::guard::Guard;
 use papaya_words::probe::Refused;
 use std::hash::{BuildHasher, Hash};

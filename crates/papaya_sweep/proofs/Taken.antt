@@ -1,9 +1,10 @@
 -- What stands in the slots of a table that was taken: pairs of the map, which may be buried.
-use Rattle.std.proofs.Common.{◌≡◌, ◌⊎◌, inl, inr, ⊎_elim, ℕ, ◌<◌, ◌==◌, Bool, true, false, MatchBool, Option, None, Some, List, [], ◌∷◌, ◌++◌, append_assoc, append-nil, refl, sym, ap, ◌∙◌, subst}
+use Rattle.std.proofs.Common.{◌≡◌, ◌⊎◌, inl, inr, ⊎_elim, ℕ, suc, ◌<◌, ◌≤◌, ◌==◌, Bool, true, false, MatchBool, Option, None, Some, List, [], ◌∷◌, ◌++◌, length, append_assoc, append-nil, eqb-true, refl, sym, ap, ◌∙◌, subst, arith}
+use Rattle.std.proofs.lemmas.Bool.{cases_Bool, cases_lt}
 use Rattle.std.specs.Cmp.{IsEquivalence}
 use mathlib.Core.List.{IsPrefix}
 use Rattle.logbook.specs.Pages.{Book}
-use Rattle.papaya_words.specs.Word.{buried_word, byte_of, kind_of}
+use Rattle.papaya_words.specs.Word.{buried_word, byte_of, kind_of, pair_of}
 use Rattle.papaya_words.specs.declared.word.Kind.{Kind}
 use Rattle.papaya_words.specs.declared.word.Kind.TheVariants as kinds
 use Rattle.papaya_ask.specs.declared.ask.At.{At}
@@ -12,34 +13,43 @@ use Rattle.papaya_ask.specs.declared.ask.StepKind.TheVariants as steps_of_kind
 use Rattle.papaya_call.specs.Remove.{grave_word}
 use Rattle.papaya_law.specs.Allows.{AllAllowed}
 use Rattle.papaya_law.specs.Code.{Coding, IsHashed, IsOfKind, code}
-use Rattle.papaya_law.specs.Exchange.{Word, Live, Marked, Copied, Buried, Exchange, Setting, State, run, slot_put}
+use Rattle.papaya_law.specs.Exchange.{Word, Live, Marked, Copied, Buried, Exchange, Setting, State, run, slot_put, start}
 use Rattle.papaya_law.specs.Invariant.{IsKeeping, named}
 use Rattle.papaya_law.specs.Meaning.{IsAtMoment, IsLawful, map_left}
-use Rattle.papaya_law.specs.View.{IsReached}
-use Rattle.papaya_law.proofs.Codes.{code_pair}
+use Rattle.papaya_law.specs.View.{IsReached, look}
+use Rattle.papaya_law.proofs.Codes.{code_kind, code_pair}
 use Rattle.papaya_law.proofs.CodeViews.{word_of_kind}
+use Rattle.papaya_law.proofs.Content.{held_word}
 use Rattle.papaya_law.proofs.CopierFacts.{last_root}
 use Rattle.papaya_law.proofs.Later.{later_run}
 use Rattle.papaya_law.proofs.Moments.{map_of-append}
-use Rattle.papaya_law.proofs.OneMap.{keeping_sound}
+use Rattle.papaya_law.proofs.OneMap.{keeping_sound, legal_changes as all_legal, means, root_reached}
 use Rattle.papaya_law.proofs.Slots.{put_elsewhere, put_there}
+use Rattle.papaya_law.proofs.Walks.{root_holds}
 use Rattle.papaya_rests.specs.Told.{IsWritten, word_of}
+use Rattle.papaya_visit_rests.specs.Told.{IsLastAnswer}
 use Rattle.papaya_visit_rests.proofs.Slots.{met_had, reached_now}
 use Rattle.papaya_book.specs.declared.rule.entry.Begun.{Begun}
 use Rattle.papaya_book.specs.declared.rule.entry.Event.{Event}
 use Rattle.papaya_book.specs.declared.rule.entry.Event.TheVariants.{Stepped}
 use Rattle.papaya_book.specs.declared.rule.entry.Named.TheVariants as names
+use Rattle.papaya_book.specs.declared.rule.entry.Step.{Step}
 use Rattle.papaya_book.specs.declared.rule.entry.Step.TheVariants as steps
-use Rattle.papaya_book.specs.Calls.{IsSlot, IsSlotTried}
-use Rattle.papaya_book.specs.Logs.{Stored, exchanges_of, pair_named, state_of}
-use Rattle.papaya_book.specs.Plays.{CanExchange, MayStep}
+use Rattle.papaya_book.specs.Calls.{IsSlot, IsSlotTried, IsTable}
+use Rattle.papaya_book.specs.Logs.{Stored, exchanges_of, pair_named, state_of, steps_of}
+use Rattle.papaya_book.specs.Plays.{CanExchange, IsMeant, MayStep}
 use Rattle.papaya_book.specs.Rule.{IsLawfulLog, word_in}
+use Rattle.papaya_book.specs.Sheets.{Sheet}
 use Rattle.papaya_book.proofs.Logs.{exchanges_of-append, prefix_trans}
-use Rattle.papaya_lookup.specs.History.{changes_of, history_of, key_of}
-use Rattle.papaya_lookup.proofs.Histories.{changes_begin, history_since, replay_left}
-use Rattle.papaya_change.proofs.ResizingRests.{C, G, hash, hashed, kept_map, since_may, since_run}
+use Rattle.papaya_book.proofs.TableSizes.{sizes}
+use Rattle.papaya_lookup.specs.History.{Change, change_of, changes_of, history_of, key_of, replay}
+use Rattle.papaya_lookup.proofs.Histories.{changes-append, changes_begin, history_legal, history_since, legal_changes, replay_left}
+use Rattle.papaya_change.proofs.ResizingRests.{C, G, first_may, hash, hashed, kept_map, since_may, since_run}
+use Rattle.papaya_sweep.specs.Leaving.{IsRetained, WasTakenOut}
 use Rattle.papaya_sweep.specs.Meeting.{HadPair, IsMet, has_pair}
-use Rattle.papaya_sweep.specs.Taking.{IsTaken}
+use Rattle.papaya_sweep.specs.Taking.{Holds, IsBuried, IsSweptTo, IsTaken}
+use Rattle.papaya_sweep.proofs.Leaving.{out_later, retained_earlier, retained_none}
+use Rattle.papaya_sweep.proofs.Pairs.{HasIt, IsPairOut, change_out, held_seen, it_kind, it_named, its_slot, pair_then}
 
 -- a table that was taken once was taken for good
 pub taken_later : {K V S : Type 0} (b : Begun K V S) (old log log' : List (Event K V S)) (t : ℕ) → IsTaken b old log t → IsPrefix log log' → IsTaken b old log' t
@@ -48,6 +58,10 @@ taken_later b old log log' t r pre = record { at = r.at; since = r.since; until 
 -- and it was after anything earlier too
 pub taken_earlier : {K V S : Type 0} (b : Begun K V S) (older old log : List (Event K V S)) (t : ℕ) → IsPrefix older old → IsTaken b old log t → IsTaken b older log t
 taken_earlier b older old log t pre r = record { at = r.at; since = prefix_trans older old r.at pre r.since; until = r.until; root = r.root; some = r.some; last = r.last }
+
+-- what was visited was so for good
+pub swept_later : {K V S : Type 0} (at log log' : List (Event K V S)) → IsPrefix log log' → (t upto : ℕ) (said : List (Stored K V × Bool)) → IsSweptTo at log t upto said → IsSweptTo at log' t upto said
+swept_later at log log' pre t upto said swept x lt p had = ⊎_elim (λ out. inl (out_later p (history_of at) (history_of log) (history_of log') (history_since log log' pre) out)) (λ kept. inr kept) (swept x lt p had)
 
 -- and so was a pair that the map had
 pub had_later : {K V S : Type 0} (eq : K → K → Bool) (old log log' : List (Event K V S)) (p : Stored K V) → HadPair eq (history_of old) (history_of log) p → IsPrefix log log' → HadPair eq (history_of old) (history_of log') p
@@ -153,6 +167,114 @@ module _ {K V S H : Type 0} (eq : K → K → Bool) (input : K → List (List �
           is = ap (λ (z : K → Option (Stored K V)). z (key_of p)) (replay_left Gs es) ∙ (ap (λ (z : K → Option (Stored K V)). z (key_of p)) (map_of-append Gs (exchanges_of r.at) moment.so_far (λ k. None)) ∙ moment.value_is);
         }
 
+    -- the exchanges until it was taken, and those since
+    begun : exchanges_of r.at ++ since ≡ exchanges_of log
+    begun = sym (exchanges_of-append r.at r.until.0) ∙ ap exchanges_of r.until.1
+
+    -- an exchange since then that takes a pair out is a change that does
+    out_since : (p : Stored K V) → IsPairOut since p → WasTakenOut (history_of r.at) (history_of log) p
+    out_since p o =
+        let es = exchanges_of r.at ++ o.so_far in
+        let change = change_out key_of p o.by o.out in
+        let whole : (es ++ o.by ∷ []) ++ o.rest ≡ exchanges_of log = append_assoc es (o.by ∷ []) o.rest ∙ (append_assoc (exchanges_of r.at) o.so_far (o.by ∷ o.rest) ∙ (ap (λ (z : List (Exchange (Stored K V))). exchanges_of r.at ++ z) o.is ∙ begun)) in
+        let same : changes_of key_of (es ++ o.by ∷ []) ≡ changes_of key_of es ++ change.0 ∷ [] = changes-append key_of es (o.by ∷ []) ∙ ap (λ (cs : List (Change K (Stored K V))). changes_of key_of es ++ cs) (append-nil (change_of key_of o.by) ∙ change.1) in record {
+          before = changes_of key_of es;
+          change = change.0;
+          since = changes_begin key_of (exchanges_of r.at) o.so_far es refl;
+          until = subst (λ (cs : List (Change K (Stored K V))). IsPrefix cs (history_of log)) same (changes_begin key_of (es ++ o.by ∷ []) o.rest (exchanges_of log) whole);
+          is = change.2;
+        }
+
+    -- a pair that the map had in a slot then
+    module _ (x : ℕ) (p : Stored K V) (had : Holds (taken_words.slot t x) p) where
+      abbrev IsOut : Type 0
+      IsOut = WasTakenOut (history_of r.at) (history_of log) p
+
+      -- it is there still, or was taken out
+      it_then : HasIt ((state_of log).slot t x) p ⊎ IsOut
+      it_then = ⊎_elim (λ has. inl (subst (λ (s : State (Stored K V)). HasIt (s.slot t x) p) ran has)) (λ out. inr (out_since p out)) (pair_then Gs law t x p since taken_words may had)
+
+      -- no pair is there any more
+      pub past_out : (word : ℕ) → word_in eq hashing b log (Slot t x) ≡ word → has_pair (kind_of word) ≡ false → IsOut
+      past_out word stands none =
+          ⊎_elim
+          (λ has. absurd (let some : has_pair (kind_of word) ≡ true = ap (λ (n : ℕ). has_pair (kind_of n)) (sym stands) ∙ (ap has_pair (code_kind Gs Cs ((state_of log).slot t x)) ∙ it_kind ((state_of log).slot t x) p has) in cc (some, none)))
+          (λ out. out)
+          it_then
+
+      -- a buried one is
+      pub buried_out : (q : Stored K V) → (state_of log).slot t x ≡ Buried q → IsOut
+      buried_out q is = ⊎_elim (λ has. absurd (⊎_elim (λ e. cc (e, is)) (⊎_elim (λ e. cc (e, is)) (λ e. cc (e, is))) has)) (λ out. out) it_then
+
+      -- this pair is there
+      pub named_out : (q : Stored K V) → named ((state_of log).slot t x) ≡ Some q → (q ≡ p) ⊎ IsOut
+      named_out q names = ⊎_elim (λ has. inl (let mine = it_named ((state_of log).slot t x) p has in cc (names, mine))) (λ out. inr out) it_then
+
+      -- a pair that is in another slot is not this one
+      pub other_out : (y : ℕ) → (x ≡ y → ⊥) → (q : Stored K V) → HasIt ((state_of log).slot t y) q → (q ≡ p → ⊥) ⊎ IsOut
+      other_out y apart q there =
+          ⊎_elim
+          (λ has. ⊎_elim
+          (λ (same : eq (key_of q) (key_of p) ≡ true). absurd (apart (its_slot Gs law (state_of log) (map_left Gs (exchanges_of log)) (kept_map eq input build write finish classes respects b log log l ([], append-nil log)) t x y p q has there same)))
+          (λ (other : eq (key_of q) (key_of p) ≡ false). inl (λ is. let no : false ≡ true = sym other ∙ (ap (λ (z : Stored K V). eq (key_of z) (key_of p)) is ∙ classes.refl (key_of p)) in cc no))
+          (cases_Bool (eq (key_of q) (key_of p))))
+          (λ out. inr out)
+          it_then
+
+    -- each pair that the map had then stood in a slot
+    stood_in : (sheet : Sheet) → IsTable log t sheet → (k : K) (p : Stored K V) → replay eq (history_of r.at) k ≡ Some p → (x : ℕ) × (x < length sheet.slots) × Holds (taken_words.slot t x) p
+    stood_in sheet table k p has =
+        let root = taken_words.root in
+        let had : taken_map k ≡ Some p = ap (λ (z : K → Option (Stored K V)). z k) (sym (replay_left Gs (exchanges_of r.at))) ∙ has in
+        let place = root_holds Gs law taken_words taken_map keeps (λ inc. ap taken_words.next r.root ∙ r.last inc) k p had in
+        let x = Gs.place k root place.0 in
+        let held = held_word Gs k (taken_words.slot root x) (look Gs taken_words k root place.0) refl place.2 in
+        let q = held.0 in
+        let seen = held_seen Gs law k (taken_words.slot root x) q held.1 held.2 in
+        let mine : taken_map k ≡ Some q = (means Gs law taken_words taken_map keeps k).found root place.0 q (root_reached Gs taken_words taken_map keeps k (subst (λ (n : ℕ). 0 < n) (sym r.root) r.some)) (λ blocks. refl) place.1 seen in
+        let is : q ≡ p = cc (had, mine) in
+        let size : Gs.size t ≡ length sheet.slots = (sizes (steps_of log) t table.0 table.1).0 ∙ ap (λ (s : Sheet). length s.slots) table.2 in
+        let within : x < Gs.size t = subst (λ (u : ℕ). x < Gs.size u) r.root (law.within k root place.0 place.1) in
+        let there : Holds (taken_words.slot t x) q = subst (λ (u : ℕ). Holds (taken_words.slot u x) q) r.root held.1 in
+        (x, subst (λ (n : ℕ). x < n) size within, subst (λ (z : Stored K V). Holds (taken_words.slot t x) z) is there)
+
+    -- once all its slots were visited
+    pub swept_all : (sheet : Sheet) → IsTable log t sheet → (said : List (Stored K V × Bool)) → IsSweptTo r.at log t (length sheet.slots) said → IsRetained eq (history_of old) (history_of log) said
+    swept_all sheet table said swept =
+        let first = first_may eq input build write finish classes respects b r.at log l r.until in
+        let legal = legal_changes Gs law start (λ k. None) (exchanges_of r.at) first (all_legal Gs law (exchanges_of r.at) first) in
+        retained_earlier eq classes (history_of old) (history_of r.at) (history_of log) (history_since old r.at r.since) legal said (history_since r.at log r.until)
+        (λ k p has. let at = stood_in sheet table k p has in swept at.0 at.1 p at.2)
+
+    module _ (upto : ℕ) (said : List (Stored K V × Bool)) (swept : IsSweptTo r.at log t upto said) where
+      -- the slot to which the visit has come is visited
+      swept_next : (said' : List (Stored K V × Bool)) → IsSweptTo r.at log t upto said' → ((p : Stored K V) → Holds (taken_words.slot t upto) p → WasTakenOut (history_of r.at) (history_of log) p ⊎ IsLastAnswer said' p true) → IsSweptTo r.at log t (suc upto) said'
+      swept_next said' before here x lt p had =
+          ⊎_elim
+          (λ (lower : x < upto). before x lower p had)
+          (λ (le : upto ≤ x). let is : x ≡ upto = omega (arith, lt, le) in here p (subst (λ (y : ℕ). Holds (taken_words.slot t y) p) is had))
+          (cases_lt x upto)
+
+      -- no pair is in it
+      pub swept_past : (word : ℕ) → word_in eq hashing b log (Slot t upto) ≡ word → has_pair (kind_of word) ≡ false → IsSweptTo r.at log t (suc upto) said
+      swept_past word stands none = swept_next said swept (λ p had. inl (past_out upto p had word stands none))
+
+      -- a pair of it is shown
+      pub swept_shown : (q : Stored K V) → HasIt ((state_of log).slot t upto) q → (stays : Bool) → IsSweptTo r.at log t upto ((q, stays) ∷ said)
+      swept_shown q there stays x lt p had =
+          ⊎_elim
+          (λ out. inl out)
+          (λ kept. ⊎_elim (λ apart. inr (inr (apart, kept))) (λ out. inl out) (other_out x p had upto (λ is. omega (arith, lt, is)) q there))
+          (swept x lt p had)
+
+      -- and stays
+      pub swept_kept : (q : Stored K V) → HasIt ((state_of log).slot t upto) q → IsSweptTo r.at log t (suc upto) ((q, true) ∷ said)
+      swept_kept q there = swept_next ((q, true) ∷ said) (swept_shown q there true) (λ p had. ⊎_elim (λ is. inr (inl (is, refl))) (λ out. inl out) (named_out upto p had q (it_named ((state_of log).slot t upto) q there)))
+
+      -- its pair was buried
+      pub swept_buried : (q : Stored K V) → (state_of log).slot t upto ≡ Buried q → IsSweptTo r.at log t (suc upto) said
+      swept_buried q is = swept_next said swept (λ p had. inl (buried_out upto p had q is))
+
     module _ (x word : ℕ) (stands : word_in eq hashing b log (Slot t x) ≡ word) where
       -- what stands there
       abbrev there : Word (Stored K V)
@@ -210,3 +332,45 @@ module _ {K V S H : Type 0} (eq : K → K → Bool) (input : K → List (List �
           by : (z : Bool) → MatchBool z ((e : _) × Rattle.papaya_book.specs.Plays.IsMeant eq hashing (Slot t x) (Some steps_of_kind.Bury) new None names.Nothing s.tried.before e × (log ≡ s.tried.before ++ Stepped e ∷ [])) (log ≡ s.tried.before) → IsPrefix s.tried.before log
           by true d = (Stepped d.0 ∷ [], sym d.2)
           by false d = ([], append-nil s.tried.before ∙ sym d)
+
+  -- a word has the number of the pair that it names
+  number_in : (log : List (Event K V S)) → Lawful log → (t x word : ℕ) → word_in eq hashing b log (Slot t x) ≡ word → (p : Stored K V) → named ((state_of log).slot t x) ≡ Some p → pair_of word ≡ p.index
+  number_in log l t x word stands p names = ap pair_of (sym stands) ∙ (code_pair (G eq input build write finish classes respects b log) Cs (hashed eq input build write finish classes respects b log l).coding ((state_of log).slot t x) p names).0
+
+  module _ (name : Book) (v0 v log : List (Event K V S)) (t x word new found : ℕ) (pair0 pair : Option (Stored K V)) (stood : IsSlot eq hashing b name t x word v0 pair0) (s : IsSlotTried eq hashing b name t x (Some steps_of_kind.Bury) word new None names.Nothing v found log pair) (is : (found == word) ≡ true) (shown gone : Stored K V) (one : pair0 ≡ Some shown) (other : pair ≡ Some gone) where
+    -- the pair that went has the number of the one that stood there
+    pub same_index : gone.index ≡ shown.index
+    same_index =
+        let u = s.tried in
+        sym (number_in u.before u.lawful t x word (u.is ∙ eqb-true found word is) gone (s.names ∙ other)) ∙ number_in v0 stood.lawful t x word stood.is shown (stood.names ∙ one)
+
+    abbrev Made : Type 0
+    Made = (e : Step K V) × IsMeant eq hashing (Slot t x) (Some steps_of_kind.Bury) new None names.Nothing s.tried.before e × (log ≡ s.tried.before ++ Stepped e ∷ [])
+
+    by_step : Made → shown.value ≡ gone.value → IsBuried log t x shown
+    by_step (e, meant, ends) value =
+        ⊎_elim
+        (λ asked.
+        let same : asked.0 ≡ gone = let names = sym (ap named asked.1) ∙ (s.names ∙ other) in cc names in record {
+          before = s.tried.before;
+          step = e;
+          is = ends;
+          pair = asked.0;
+          buries = asked.2;
+          same = (ap (λ (z : Stored K V). z.index) same ∙ same_index, ap (λ (z : Stored K V). z.value) same ∙ sym value);
+        })
+        (λ copied. absurd copied)
+        meant.asked
+
+    -- so it was that one
+    pub buried_by : shown.value ≡ gone.value → IsBuried log t x shown
+    buried_by value = by_step (subst (λ (z : Bool). MatchBool z Made (log ≡ s.tried.before)) is s.tried.after) value
+
+  -- where there is no root, the map has no pair, and each that it had was taken out
+  pub retained_rootless : (old log : List (Event K V S)) → IsPrefix old log → Lawful log → (state_of log).root ≡ 0 → (said : List (Stored K V × Bool)) → IsRetained eq (history_of old) (history_of log) said
+  retained_rootless old log pre l zero said = retained_none eq classes (history_of old) (history_of log) (history_since old log pre) (history_legal eq input build write finish classes respects b log l) none said
+    where
+      none : (k : K) → replay eq (history_of log) k ≡ None
+      none k =
+          let g = G eq input build write finish classes respects b log in
+          ap (λ (z : K → Option (Stored K V)). z k) (replay_left g (exchanges_of log)) ∙ (means g (hashed eq input build write finish classes respects b log l).lawful (state_of log) (map_left g (exchanges_of log)) (kept_map eq input build write finish classes respects b log log l ([], append-nil log)) k).no_root zero

@@ -1,4 +1,4 @@
--- The pairs that are met in the slots of a table, and what a closure is shown of them.
+-- The pairs that are met in the slots of a table.
 use Rattle.std.specs.Prelude.{◌≡◌, ℕ, Bool, true, false, Option, Some, List}
 use mathlib.Core.List.{IsPrefix}
 use Rattle.logbook.specs.Pages.{Book}
@@ -10,7 +10,6 @@ use Rattle.papaya_book.specs.declared.rule.entry.Event.{Event}
 use Rattle.papaya_book.specs.Logs.{Stored, pair_named}
 use Rattle.papaya_book.specs.Rule.{IsPlaced}
 use Rattle.papaya_lookup.specs.History.{Change, history_of, key_of, replay}
-use Rattle.papaya_change.specs.Showings.{AllShown, HasSaid}
 
 -- a word of this kind names a pair that the map has, or had until it was copied
 abbrev pub has_pair : Kind → Bool
@@ -34,11 +33,3 @@ pub record IsMet {K V S : Type 0} (eq : K → K → Bool) (b : Begun K V S) (nam
   pub placed : IsPlaced b (Some name) (pair_named pair)
   pub had : has_pair (kind_of word) ≡ true
       → (p : Stored K V) × (pair ≡ Some p) × HadPair eq (history_of old) (history_of log) p
-
--- A closure that was `first` is `left` now. Each pair that it was shown the map had between the two
--- histories.
-pub record HasShown {K V F : Type 0} (eq : K → K → Bool) (old new : List (Change K (Stored K V)))
-    (judges : F → Stored K V → Bool → F → Type 0) (first left : F) : Type 0 where
-  pub said : List (Stored K V × Bool)
-  pub has_said : HasSaid judges first said left
-  pub had : AllShown (HadPair eq old new) said

@@ -3,25 +3,47 @@ use Rattle.std.specs.Prelude.{ℕ, Bool, Option, List}
 use Rattle.papaya_book.specs.declared.keyed.Keyed as keyed
 use Rattle.papaya_book.specs.declared.rule.entry.Event.{Event}
 use Rattle.papaya_book.specs.declared.window.Window.{Window}
-use Rattle.papaya_book.specs.Logs.{Stored}
+use Rattle.papaya_book.specs.Logs.{Stored, state_of}
 use Rattle.papaya_book.specs.Parts.{begun_of}
-use Rattle.papaya_lookup.specs.History.{history_of}
+use Rattle.papaya_lookup.specs.Drivers.{own, past}
+use Rattle.papaya_lookup.specs.History.{Change, history_of}
+use Rattle.papaya_sweep.specs.Leaving as leaving
 use Rattle.papaya_sweep.specs.Meeting as meeting
 use Rattle.papaya_sweep.specs.Taking as taking
 
-module _ {K V S H : Type 0} {d : keyed.Ghosts S K H} (began : List (Event K V S)) where
-  abbrev pub IsTaken : Window K V S H d → ℕ → Type 0
-  IsTaken w t = taking.IsTaken (begun_of w.book.now.parts) began w.sight.log t
+module _ {K V S H : Type 0} {d : keyed.Ghosts S K H} where
+  -- the number of the root
+  abbrev pub root_of : Window K V S H d → ℕ
+  root_of w = (state_of w.sight.log).root
 
-  abbrev pub IsMet : Window K V S H d → ℕ → Option (Stored K V) → Type 0
-  IsMet w word pair = meeting.IsMet d.keys.eq (begun_of w.book.now.parts) w.book.now.begun.book
-      began w.sight.log word pair
+  -- the last exchange that is seen buried this very pair in this slot
+  abbrev pub IsBuried : Window K V S H d → (t x : ℕ) → Stored K V → Type 0
+  IsBuried w = taking.IsBuried w.sight.log
 
-  module _ {F : Type 0} (judges : F → Stored K V → Bool → F → Type 0) where
-    abbrev pub HasShown : Window K V S H d → F → F → Type 0
-    HasShown w first left = meeting.HasShown d.keys.eq (history_of began) (history_of w.sight.log)
-        judges first left
+  module _ (began : List (Event K V S)) where
+    abbrev pub IsTaken : Window K V S H d → ℕ → Type 0
+    IsTaken w t = taking.IsTaken (begun_of w.book.now.parts) began w.sight.log t
 
-    -- what the closure was shown so far is so still, with what it was shown since
-    abbrev pub ShowsOn : Window K V S H d → F → Window K V S H d → F → Type 0
-    ShowsOn w f w' f' = (first : F) → HasShown w first f → HasShown w' first f'
+    abbrev pub IsTakenAt : Window K V S H d → ℕ → List (Event K V S) → Type 0
+    IsTakenAt w t = taking.IsTakenAt (begun_of w.book.now.parts) began w.sight.log t
+
+    abbrev pub IsMet : Window K V S H d → ℕ → Option (Stored K V) → Type 0
+    IsMet w word pair = meeting.IsMet d.keys.eq (begun_of w.book.now.parts) w.book.now.begun.book
+        began w.sight.log word pair
+
+    module _ {F : Type 0} (judges : F → Stored K V → Bool → F → Type 0) where
+      abbrev pub HasShown : List (Change K (Stored K V)) → Window K V S H d → (first left : F)
+          → List (Stored K V × Bool) → Type 0
+      HasShown made w first left said = leaving.HasShown d.keys.eq (history_of began) (past w) made
+          (own w) judges first left said
+
+      -- What the closure was shown so far, and what was made of its answers, goes on. Where the
+      -- slots of the table were visited so far, they are so to the end, if it has come to its end.
+      abbrev pub Visits : Window K V S H d → F → Window K V S H d → F → (t from upto : ℕ)
+          → (ended : Type 0) → Type 0
+      Visits w f w' f' t from upto ended = (first : F) (made : List (Change K (Stored K V)))
+          (said : List (Stored K V × Bool)) → HasShown made w first f said
+          → (said' : List (Stored K V × Bool)) × HasShown made w' first f' said'
+          × (ended → (at : List (Event K V S)) → IsTakenAt w t at
+          → taking.IsSweptTo at w.sight.log t from said
+          → taking.IsSweptTo at w'.sight.log t upto said')

@@ -1,13 +1,15 @@
 //! Clear and retain: the pairs of a table are shown to a closure, and those buried that are not to
 //! stay.
-ghost use Rattle.std.specs.Prelude.{◌≡◌, ◌<◌, true, IfErr, Some, length};
+ghost use Rattle.std.specs.Prelude.{◌≡◌, ◌<◌, suc, true, false, IfErr, Some, length};
 ghost use Rattle.std.specs.Int.{IsPowerOfTwo};
 ghost use Rattle.papaya_words.specs.Word.{kind_of};
 ghost use Rattle.papaya_book.specs.Windows.{IsLawful, IsTable, Sees};
+ghost use Rattle.papaya_lookup.specs.Drivers.{own, past};
 ghost use Rattle.papaya_change.specs.Showings.{Judges};
 ghost use Rattle.papaya_change.specs.Writing.{IsMemoryOrCapacity};
+ghost use Rattle.papaya_sweep.specs.Leaving.{HasKept};
 ghost use Rattle.papaya_sweep.specs.Meeting.{has_pair};
-ghost use Rattle.papaya_sweep.specs.Sweeps.{HasShown, IsMet, IsTaken, ShowsOn};
+ghost use Rattle.papaya_sweep.specs.Sweeps.{IsMet, IsTaken, Visits};
 
 use crate::root::take_root;
 use crate::slot::{bury, load};
@@ -38,8 +40,7 @@ fn show<'a, K: Hash + Eq, V, S: BuildHasher, F: FnMut(&K, &V) -> bool>(
     requires met { IsMet began.now.log window.now word pair.now }
     requires some { has_pair (kind_of word) ≡ true }
     ensures callable { F.IsAlwaysCallable stays.new }
-    ensures shows { ShowsOn began.now.log (Judges F.FnMut) window.now stays.old window.now
-        stays.new }
+    ensures shown { (p : _) × (pair.now ≡ Some p) × Judges F.FnMut stays.old p result stays.new }
 {
     let _ = began;
     let _ = word;
@@ -65,8 +66,8 @@ fn visit_slot<'a, R: Wait, K: Hash + Eq, V, S: BuildHasher, F: FnMut(&K, &V) -> 
     requires place { place < length table.now.slots }
     ensures sees { Sees window.old window.new }
     ensures callable { F.IsAlwaysCallable stays.new }
-    ensures shows { ShowsOn began.now.log (Judges F.FnMut) window.old stays.old window.new
-        stays.new }
+    ensures visits { Visits began.now.log (Judges F.FnMut) window.old stays.old window.new
+        stays.new number place (suc place) (result ≡ false) }
 {
     let (mut word, mut pair) = load(table, number, place, began, window);
     for _ in rt.forever() {
@@ -78,7 +79,7 @@ fn visit_slot<'a, R: Wait, K: Hash + Eq, V, S: BuildHasher, F: FnMut(&K, &V) -> 
         if show(word, &pair, stays, began, window) {
             return false;
         }
-        let (found, other) = bury(table, number, place, word, began, window);
+        let (found, other) = bury(table, number, place, word, &pair, began, window);
         if found == word {
             shard.add(-1);
             return false;
@@ -105,8 +106,8 @@ fn visit_table<'a, R: Wait, K: Hash + Eq, V, S: BuildHasher, F: FnMut(&K, &V) ->
     requires taken { IsTaken began.now.log window.old number }
     ensures sees { Sees window.old window.new }
     ensures callable { F.IsAlwaysCallable stays.new }
-    ensures shows { ShowsOn began.now.log (Judges F.FnMut) window.old stays.old window.new
-        stays.new }
+    ensures visits { Visits began.now.log (Judges F.FnMut) window.old stays.old window.new
+        stays.new number 0 (length table.now.slots) (result ≡ false) }
 {
     for place in 0..table.len() {
         if visit_slot(rt, shard, table, number, place, stays, began, window) {
@@ -132,8 +133,8 @@ pub fn retain<'a, R: Wait, K: Hash + Eq, V, S: BuildHasher, F: FnMut(&K, &V) -> 
     requires initial { IsPowerOfTwo initial }
     ensures sees { Sees window.old window.new }
     ensures lawful { IsLawful window.new }
-    ensures shown { (left : _) × HasShown window.old.sight.log (Judges F.FnMut) window.new stays
-        left }
+    ensures kept { HasKept K.eq (past window.old) (past window.new) (own window.old)
+        (own window.new) (Judges F.FnMut) stays result }
     ensures refused { IfErr result (λ refused. IsMemoryOrCapacity refused) }
 {
     let began = window.sight.again();

@@ -3,7 +3,7 @@ ghost use Rattle.std.specs.Prelude.{◌≡◌, IfErr, IfOk, MatchOption};
 ghost use Rattle.std.specs.Int.{IsPowerOfTwo};
 ghost use Rattle.papaya_book.specs.Windows.{IsLawful, IsTable, Sees};
 ghost use Rattle.papaya_change.specs.Writing.{IsMemoryOrCapacity};
-ghost use Rattle.papaya_sweep.specs.Sweeps.{IsTaken};
+ghost use Rattle.papaya_sweep.specs.Sweeps.{IsTaken, root_of};
 
 use papaya_book::count::Count;
 use papaya_book::rule::own::{Given, Own};
@@ -34,6 +34,8 @@ pub fn take_root<'a, R: Wait, K: Hash + Eq, V, S: BuildHasher>(
         root.1.now)) }
     ensures taken { IfOk result (λ found. MatchOption found Unit (λ root. IsTaken
         window.old.sight.log window.new root.0)) }
+    ensures rootless { IfOk result (λ found. MatchOption found (root_of window.new ≡ 0)
+        (λ root. Unit)) }
     ensures refused { IfErr result (λ refused. IsMemoryOrCapacity refused) }
 {
     for _ in rt.forever() {

@@ -1,9 +1,9 @@
 //! One slot of a table that is visited.
-ghost use Rattle.std.specs.Prelude.{◌≡◌, ◌<◌, length};
+ghost use Rattle.std.specs.Prelude.{◌≡◌, ◌<◌, ◌==◌, true, false, Some, length};
 ghost use Rattle.papaya_words.specs.Word.{kind_of};
 ghost use Rattle.papaya_words.specs.declared.word.Kind.TheVariants.{Live};
-ghost use Rattle.papaya_book.specs.Windows.{IsLawful, IsTable, Sees};
-ghost use Rattle.papaya_sweep.specs.Sweeps.{IsMet, IsTaken};
+ghost use Rattle.papaya_book.specs.Windows.{Does, IsLawful, IsSlot, IsTable, Sees};
+ghost use Rattle.papaya_sweep.specs.Sweeps.{IsBuried, IsMet, IsTaken};
 
 use papaya_ask::ask::StepKind;
 use papaya_book::rule::entry::Stored;
@@ -27,6 +27,7 @@ pub fn load<'a, K: Hash + Eq, V, S: BuildHasher>(
     ensures sees { Sees window.old window.new }
     ensures lawful { IsLawful window.new }
     ensures own { window.new.own ≡ window.old.own }
+    ensures slot { IsSlot window.old window.new number place result.0 result.1 }
     ensures met { IsMet began.now.log window.new result.0 result.1 }
 {
     let _ = began;
@@ -40,17 +41,33 @@ pub fn bury<'a, K: Hash + Eq, V, S: BuildHasher>(
     number: u64,
     place: usize,
     word: u64,
+    pair: &Option<Stored<K, V>>,
     began: &Sight<K, V, S>,
     window: &mut Window<'a, K, V, S>,
 ) -> (u64, Option<Stored<K, V>>)
     requires table { IsTable window.old number table.now }
     requires taken { IsTaken began.now.log window.old number }
     requires place { place < length table.now.slots }
+    requires stood { IsSlot window.old window.old number place word pair.now }
     requires live { kind_of word ≡ Live }
     ensures sees { Sees window.old window.new }
+    ensures lawful { IsLawful window.new }
+    ensures does { Does (result.0 == word) window.old window.new }
+    ensures buried { (result.0 == word) ≡ true → (shown : _) × (pair.now ≡ Some shown)
+        × IsBuried window.new number place shown }
+    ensures found { (result.0 == word) ≡ false → IsSlot window.old window.new number place result.0
+        result.1 }
     ensures met { IsMet began.now.log window.new result.0 result.1 }
 {
     let _ = began;
     let buried = Word::buried(Word(word).hash_byte(), Word(word).pair());
-    window.exchange_slot(table, number, place, Some(StepKind::Bury), (word, buried.0))
+    let words = (word, buried.0);
+    let (found, other) = window.exchange_slot(table, number, place, Some(StepKind::Bury), words);
+    if found == word {
+        let (Some(shown), Some(gone)) = (pair, &other) else {
+            unreachable!()
+        };
+        window.book.parts.pairs.agrees(shown, gone);
+    }
+    (found, other)
 }

@@ -71,6 +71,20 @@ impl<'a, K: Hash + Eq, V, S: BuildHasher> Iter<'a, K, V, S> {
             place: 0,
         }
     }
+
+    /// The same walk, from where this one stands.
+    pub(crate) fn again(&self) -> Iter<'a, K, V, S>
+        ensures { result ≡ self.now }
+    {
+        Iter {
+            book: self.book,
+            kept: self.kept.again(),
+            began: self.began.again(),
+            sight: self.sight.again(),
+            root: self.root,
+            place: self.place,
+        }
+    }
 }
 
 /// Does a word of this kind name a pair that the map has, or had until it was copied?
@@ -131,7 +145,7 @@ impl<'a, K: Hash + Eq, V, S: BuildHasher> Iterator for Iter<'a, K, V, S> {
 /// The keys of a map: `Keys` of 0.2.5.
 #[derive(Drop)]
 pub struct Keys<'a, K: Hash + Eq, V, S: BuildHasher> {
-    pairs: Iter<'a, K, V, S>,
+    pub(crate) pairs: Iter<'a, K, V, S>,
 }
 
 impl<'a, K: Hash + Eq, V, S: BuildHasher> Keys<'a, K, V, S> {
@@ -161,7 +175,7 @@ impl<'a, K: Hash + Eq, V, S: BuildHasher> Iterator for Keys<'a, K, V, S> {
 /// The values of a map: `Values` of 0.2.5.
 #[derive(Drop)]
 pub struct Values<'a, K: Hash + Eq, V, S: BuildHasher> {
-    pairs: Iter<'a, K, V, S>,
+    pub(crate) pairs: Iter<'a, K, V, S>,
 }
 
 impl<'a, K: Hash + Eq, V, S: BuildHasher> Values<'a, K, V, S> {

@@ -15,7 +15,7 @@ use Rattle.papaya_change.proofs.Helped.{helped_does, helped_keeps}
 use Rattle.papaya_change.proofs.OwnSteps.{own_settings}
 use Rattle.papaya_lookup.proofs.Histories.{history_since}
 use Rattle.papaya_book.proofs.Windows.{sees_trans}
-use Rattle.papaya_map.proofs.ComputeReplies.{computed_by}
+use Rattle.papaya_compute.proofs.ComputeReplies.{computed_by}
 use Rattle.papaya_map.proofs.computing.compute.Goals as goal
 
 pub loop-init : goal.loop-init
@@ -49,17 +49,17 @@ loop-preserved-in-Answered g c =
     )
 
 pub tell-requires-in-Shows-clause-can : goal.tell-requires-in-Shows-clause-can
-tell-requires-in-Shows-clause-can g c = let u = c.loop.invariant.0 in let same = c.in-Shows.ensures.turns in (c.args.key, u.1.0, (c.in-Shows.shown, c.operate-operation.result) ∷ u.0, c.hear-answer.ensures.hears c.args.key u.1.0 u.0 (rw (same.1, same.2) u.1.2))
+tell-requires-in-Shows-clause-can g c = let u = c.loop.invariant.0 in let same = c.in-Shows.ensures.turns in (c.args.key, u.1.0, (c.in-Shows.shown, c.operate-operation.result) ∷ u.0, (c.hear-answer.ensures.hears c.turn.new.window).1 c.args.key u.1.0 u.0 (rw (same.1, same.2) u.1.2))
 
 pub loop-preserved : goal.loop-preserved
 loop-preserved g c =
     let u = c.loop.invariant.0 in let same = c.in-Shows.ensures.turns in
     let heard = (c.in-Shows.shown, c.operate-operation.result) ∷ u.0 in
-    let on = c.hear-answer.ensures.hears c.args.key u.1.0 u.0 (rw (same.1, same.2) u.1.2) in
+    let on = (c.hear-answer.ensures.hears c.turn.new.window).1 c.args.key u.1.0 u.0 (rw (same.1, same.2) u.1.2) in
     let m = c.loop.computing.writer.call.machine in let then = c.tell-in-Shows.new.self.writer.call in let answer = c.hear-answer.result in
     let is : c.hear-answer.new.self.writer.call.machine ≡ m = c.hear-answer.ensures.machine ∙ c.turn.ensures.machine in
     let led : after c.hear-answer.new.self.writer.call.machine (answers.Call answer) ≡ after m (answers.Call answer) = ap (λ (z : Machine). after z (answers.Call answer)) is in
-    let does = does_on m c.loop.invariant.2 answer c.args.window.now c.loop.window c.turn.new.window c.loop.invariant.6 (rw (sym same.1, sym same.2) c.hear-answer.ensures.answers) in
+    let does = does_on m c.loop.invariant.2 answer c.args.window.now c.loop.window c.turn.new.window c.loop.invariant.6 (rw (sym same.1, sym same.2) (c.hear-answer.ensures.hears c.turn.new.window).0) in
     let does_call = subst (λ (z : Machine). Does (has_changed z) c.args.window.now c.turn.new.window) (sym led) does in (
       (heard, (u.1.0, u.1.1, rw c.tell-in-Shows.ensures.sees.book (c.tell-in-Shows.ensures.takes c.args.key u.1.0 heard on)), (c.loop.f, u.2, c.operate-operation.ensures.operates)),
       c.tell-in-Shows.ensures.standing,

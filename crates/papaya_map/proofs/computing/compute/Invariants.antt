@@ -2,7 +2,7 @@ use Rattle.std.specs.Prelude.{◌≡◌}
 use denote.Param.Always.{always_mut}
 use Rattle.papaya_chain.specs.declared.machine.Phase.TheVariants.{Calling}
 use Rattle.papaya_chain.specs.Machine.{IsStanding}
-use Rattle.papaya_map.specs.Computing.{IsUnderWay}
+use Rattle.papaya_compute.specs.Computing.{IsUnderWay}
 use Rattle.papaya_book.specs.Hashes.{hash_of}
 use Rattle.papaya_book.specs.Parts.{begun_of}
 use Rattle.papaya_book.specs.Windows.{Does, Sees}

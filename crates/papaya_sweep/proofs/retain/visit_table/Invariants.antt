@@ -1,12 +1,12 @@
 use Rattle.papaya_book.specs.Windows.{Sees}
 use Rattle.papaya_change.specs.Showings.{Judges}
-use Rattle.papaya_sweep.specs.Sweeps.{ShowsOn}
+use Rattle.papaya_sweep.specs.Sweeps.{Visits}
 use Rattle.papaya_sweep.proofs.retain.visit_table.Given as goal
 
--- what the closure was shown so far
+-- the slots that were visited so far
 abbrev pub invariant-loop-place : goal.invariant-loop-place
 invariant-loop-place g l = record {
   sees : Sees l.fn.window l.window;
   callable : goal.F-IsAlwaysCallable g l.stays;
-  shows : ShowsOn l.began.log (Judges g.F.FnMut) l.fn.window l.fn.stays l.window l.stays;
+  visits : Visits l.began.log (Judges g.F.FnMut) l.fn.window l.fn.stays l.window l.stays l.number 0 l.place (Unit {0});
 }

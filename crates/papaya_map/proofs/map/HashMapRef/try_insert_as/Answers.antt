@@ -1,5 +1,5 @@
 use Rattle.std.proofs.Common.{◌≡◌, Some, Ok, refl, sym, ap, ◌∙◌, subst}
-use Rattle.papaya_map.specs.declared.rules.Ready.{Ready}
+use Rattle.papaya_compute.specs.declared.rules.Ready.{Ready}
 use Rattle.papaya_map.specs.Storing.{IsCurrent}
 use Rattle.papaya_map.proofs.Ruled.{back_is, give_back, give_current, give_put, give_replaced, spare_there}
 use Rattle.papaya_map.proofs.map.HashMapRef.try_insert_as.Goals as goal

@@ -1,5 +1,5 @@
 use Rattle.std.proofs.Common.{◌≡◌, Some, Ok, refl, sym, ap, ◌∙◌, subst}
-use Rattle.papaya_map.specs.declared.rules.Made.{Made}
+use Rattle.papaya_compute.specs.declared.rules.Made.{Made}
 use Rattle.papaya_map.specs.Storing.{IsCurrent}
 use Rattle.papaya_map.proofs.Ruled.{give_current, give_put, give_replaced}
 use Rattle.papaya_map.proofs.map.HashMapRef.try_insert_with_as.Goals as goal

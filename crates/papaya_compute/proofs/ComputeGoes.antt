@@ -1,0 +1,144 @@
+-- A compute goes on after an answer that neither shows its closure anything nor makes a pair.
+use Rattle.std.proofs.Common.{◌≡◌, ◌⊎◌, inl, inr, ⊎_elim, ℕ, Bool, true, Option, None, Some, List, [], append-nil, refl, sym, ap, ◌∙◌, subst}
+use Rattle.std.specs.Cmp.{IsEquivalence}
+use mathlib.Core.List.{IsPrefix}
+use Rattle.logbook.specs.Pages.{Book}
+use Rattle.papaya_words.specs.declared.probe.Refused.{Refused as Cause}
+use Rattle.papaya_words.specs.declared.probe.Refused.TheVariants.{Capacity}
+use Rattle.papaya_call.specs.declared.answers.Operation.{Operation}
+use Rattle.papaya_ask.specs.declared.ask.Ask.{Ask}
+use Rattle.papaya_ask.specs.declared.ask.Ask.TheVariants.{Load, Exchange, SameKey, ShowNone, ShowPair, SizeOf, MakeKey, MakePair, MakeTable, AddToShard, Done}
+use Rattle.papaya_ask.specs.declared.ask.Answer.{Answer}
+use Rattle.papaya_ask.specs.declared.ask.At.TheVariants.{Root, Next, Aborted as Aborted_word, Done as Done_word, Slot}
+use Rattle.papaya_ask.specs.declared.call.Reply.{Reply}
+use Rattle.papaya_ask.specs.declared.call.Reply.TheVariants.{Refused}
+use Rattle.papaya_call.specs.Machine as calls
+use Rattle.papaya_chain.specs.declared.ask.Answer.TheVariants as answers
+use Rattle.papaya_chain.specs.declared.ask.Ask.TheVariants.{Call}
+use Rattle.papaya_chain.specs.declared.machine.Machine.{Machine}
+use Rattle.papaya_chain.specs.declared.machine.Phase.TheVariants.{Calling}
+use Rattle.papaya_chain.specs.Machine.{IsStanding, after, ask_of}
+use Rattle.papaya_chain_rests.specs.Goes.{IsInOrder}
+use Rattle.papaya_chain_rests.proofs.Names.{call_asks}
+use Rattle.papaya_chain_rests.proofs.Once.{chain_once}
+use Rattle.papaya_chain_rests.proofs.Replies.{chain_shows, chain_task}
+use Rattle.papaya_rests.specs.Says.{Agrees, HasShownNone, Inserts, Makes, Removes, Said, ShowsPairs, StandsOn}
+use Rattle.papaya_rests.proofs.Silent.{IsSilent, not_done, not_show}
+use Rattle.papaya_compute.specs.declared.computing.Computing.{Computing}
+use Rattle.papaya_book.specs.declared.rule.entry.Begun.{Begun}
+use Rattle.papaya_book.specs.declared.rule.entry.Event.{Event}
+use Rattle.papaya_book.specs.declared.rule.own.Given.{Given}
+use Rattle.papaya_change.specs.declared.writing.Writer.{Writer}
+use Rattle.papaya_compute.specs.Computing.{Holds, IsComputing, IsComputingOn, IsWriters}
+use Rattle.papaya_book.specs.Hashes.{hash_of}
+use Rattle.papaya_book.specs.Limits.{HasNoRoom, tables_of}
+use Rattle.papaya_lookup.specs.History.{history_of}
+use Rattle.papaya_book.specs.Logs.{Stored}
+use Rattle.papaya_change.specs.Showings.{HasNoNone, WasHeld}
+use Rattle.papaya_change.specs.Writing.{IsMemoryOrCapacity, IsUnsaid, IsWritingOn, answered as answered_writer}
+use Rattle.papaya_lookup.proofs.Histories.{history_since}
+use Rattle.papaya_change.proofs.OwnSays.{own_stood}
+use Rattle.papaya_change.proofs.OwnSteps.{own_order}
+use Rattle.papaya_change.proofs.Refusals.{refused_for, unsaid_cause, unsaid_room}
+use Rattle.papaya_change.proofs.Showings.{all_shown, held_wider}
+use Rattle.papaya_compute.proofs.ComputeOwn.{own_aborted}
+
+-- what any call asks that inserts is silent
+pub writers_silent : (ask : Ask) → IsWriters ask → IsSilent ask
+writers_silent (Load at) h = tt
+writers_silent (Exchange Root old new) h = tt
+writers_silent (Exchange (Next t) old new) h = absurd h
+writers_silent (Exchange (Aborted_word t) old new) h = absurd h
+writers_silent (Exchange (Done_word t) old new) h = absurd h
+writers_silent (Exchange (Slot t x) old new) h = absurd h
+writers_silent (SameKey n) h = tt
+writers_silent ShowNone h = absurd h
+writers_silent (ShowPair n) h = absurd h
+writers_silent (SizeOf t) h = tt
+writers_silent MakeKey h = tt
+writers_silent MakePair h = absurd h
+writers_silent (MakeTable slots limit) h = tt
+writers_silent (AddToShard by) h = absurd h
+writers_silent (Done reply) h = absurd h
+
+module _ {K V S H T : Type 0} (key : K) (made : List (Stored K V)) (said : List (Option (Stored K V) × Operation V T)) (x : Computing K V S T H) where
+  -- what is at hand stays so, whatever else the writer does, while it keeps the value
+  pub holds_still : (w : Writer K V S H) → w.value ≡ x.writer.value → (stands : Said) → Holds key made said x stands → Holds key made said (record x { writer = w }) stands
+  holds_still w same (Agrees n agrees) h = h
+  holds_still w same (Inserts None) h = (h.0, (h.1.0, same ∙ h.1.1, h.1.2))
+  holds_still w same (Inserts (Some n)) h = (h.0, h.1, h.2, (h.3.0, same ∙ h.3.1, h.3.2))
+  holds_still w same (Makes None n) h = h
+  holds_still w same (Makes (Some m) n) h = h
+  holds_still w same (Removes n) h = h
+
+module _ {K V S H : Type 0} (eq : K → K → Bool) (input : K → List (List ℕ)) (build : S → H) (write : H → List ℕ → H) (finish : H → ℕ) (classes : IsEquivalence eq) (respects : (x y : K) → eq x y ≡ true → input x ≡ input y)
+    (b : Begun K V S) (name : Book) (key : K) (begun : List (Event K V S)) where
+  abbrev hash : S → K → ℕ
+  hash = hash_of input build write finish
+
+  abbrev Computing_at : {T : Type 0} → List (Event K V S) → Computing K V S T H → List (Option (Stored K V) × Operation V T) → Type 0
+  Computing_at log x heard = IsComputing eq hash b name key begun log x heard
+
+  abbrev pub ComputingOn : {T : Type 0} → List (Event K V S) → Computing K V S T H → List (Option (Stored K V) × Operation V T) → Option Answer → Type 0
+  ComputingOn log x heard answer = IsComputingOn eq hash b name key begun log x heard answer
+
+  module _ {T : Type 0} (log : List (Event K V S)) (x : Computing K V S T H) (heard : List (Option (Stored K V) × Operation V T)) (r : Computing_at log x heard) where
+    abbrev pub m : Machine
+    m = x.writer.call.machine
+
+    -- what the closure was shown was held, over a longer log
+    abbrev pub HeldOn : List (Event K V S) → Option (Stored K V) → Type 0
+    HeldOn log' held = WasHeld eq (eq key) (history_of begun) (history_of log') held
+
+    pub held_later : (log' : List (Event K V S)) → IsPrefix log log' → (held : Option (Stored K V)) → HeldOn log held → HeldOn log' held
+    held_later log' pre held h = held_wider eq (eq key) (history_of begun) (history_of begun) (history_of log) (history_of log') ([], append-nil (history_of begun)) (history_since log log' pre) held h
+
+    module _ (standing : IsStanding m) (ask : Ask) (asks : ask_of m ≡ Call ask) (is_silent : IsSilent ask) (answer : Answer) where
+      abbrev own : (m.phase ≡ Calling) × (calls.ask_of m.call ≡ ask)
+      own = call_asks m ask asks
+
+      silent : IsSilent (calls.ask_of m.call)
+      silent = subst IsSilent (sym own.1) is_silent
+
+      order : IsInOrder m (answers.Call answer) m.phase
+      order = own_order m own.0 answer
+
+      open_still : (reply : Reply) → ask_of m ≡ Call (Done reply) → ⊥
+      open_still reply e = not_done m.call answer silent reply (call_asks m (Done reply) e).1
+
+      never : ask_of m ≡ Call ShowNone → ⊥
+      never e = not_show m.call answer silent None (call_asks m ShowNone e).1
+
+      -- whether it was shown that there is none
+      none_later : HasNoNone heard ⊎ HasShownNone m.call.remembered.fill m.call.state → HasNoNone heard ⊎ HasShownNone (after m (answers.Call answer)).call.remembered.fill (after m (answers.Call answer)).call.state
+      none_later h = ⊎_elim (λ none. inl none) (λ shown. inr (chain_once m (answers.Call answer) order shown).1) h
+
+      -- why it is refused
+      refused_by : (given : List Given) → IsUnsaid given answer → (cause : Cause) → ask_of (after m (answers.Call answer)) ≡ Call (Done (Refused cause)) → IsMemoryOrCapacity cause
+      refused_by given unsaid = refused_for m own.0 answer IsMemoryOrCapacity never open_still (unsaid_cause given answer unsaid)
+
+      full_log : (initial : ℕ) (tables : List ℕ) (given : List Given) → IsUnsaid given answer → ask_of (after m (answers.Call answer)) ≡ Call (Done (Refused Capacity)) → HasNoRoom initial tables given
+      full_log initial tables given unsaid e = refused_for m own.0 answer (λ cause. cause ≡ Capacity → HasNoRoom initial tables given) never open_still (unsaid_room initial tables given answer unsaid) Capacity e refl
+
+      -- it goes on after an answer to a silent ask
+      pub goes_on : (log' : List (Event K V S)) → IsPrefix log log' → (w : Writer K V S H) → w.call.machine ≡ m → w.value ≡ x.writer.value → IsUnsaid w.call.given.done answer → IsWritingOn eq hash b name key r.made begun log' w answer → ComputingOn log' (record x { writer = w }) heard (Some answer)
+      goes_on log' pre w same value unsaid on =
+          let then : after w.call.machine (answers.Call answer) ≡ after m (answers.Call answer) = ap (λ (z : Machine). after z (answers.Call answer)) same in (
+            record {
+              made = r.made;
+              writing = on.0;
+              task_is = ap (λ (z : Machine). z.call.task) then ∙ ((chain_task m (answers.Call answer) order).0 ∙ r.task_is);
+              words = subst (λ (z : Machine). ShowsPairs z.call.state) (sym then) (chain_shows m (answers.Call answer) order r.words);
+              shown_placed = r.shown_placed;
+              fill_placed = r.fill_placed;
+              chosen_placed = r.chosen_placed;
+              held = all_shown (HeldOn log) (HeldOn log') (held_later log' pre) heard r.held;
+              none_once = r.none_once;
+              none_shown = subst (λ (z : Machine). HasNoNone heard ⊎ HasShownNone z.call.remembered.fill z.call.state) (sym then) (none_later r.none_shown);
+              stood = λ stands h. holds_still key r.made heard x (answered_writer w answer) value stands (r.stood stands (own_stood m own.0 answer silent standing r.words stands (subst (λ (z : Machine). StandsOn z.call stands) then h)));
+              aborts = λ with e. let s = own_aborted m own.0 answer with open_still (ap ask_of (sym then) ∙ e) in absurd (not_show m.call answer silent s.0 s.1);
+              refuses = λ cause e. inl (refused_by w.call.given.done unsaid cause (ap ask_of (sym then) ∙ e));
+              crowded = λ e. full_log (after w.call.machine (answers.Call answer)).call.initial (tables_of log') w.call.given.done unsaid (ap ask_of (sym then) ∙ e);
+            },
+            on.1,
+          )

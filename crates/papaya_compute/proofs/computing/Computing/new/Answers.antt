@@ -1,0 +1,27 @@
+use Rattle.std.proofs.Common.{refl, ap, ◌∙◌}
+use Rattle.papaya_ask.specs.declared.call.Task.TheVariants.{Compute}
+use Rattle.papaya_chain.specs.declared.machine.Machine.{Machine}
+use Rattle.papaya_chain.specs.Machine.{started}
+use Rattle.papaya_book.specs.Hashes.{hash_of}
+use Rattle.papaya_book.specs.Parts.{begun_of}
+use Rattle.papaya_change.specs.Doing.{has_changed}
+use Rattle.papaya_compute.proofs.ComputeReplies.{begins}
+use Rattle.papaya_compute.proofs.computing.Computing.new.Goals as goal
+
+pub new-requires-clause-chunked : goal.new-requires-clause-chunked
+new-requires-clause-chunked g c = c.args.window.now.book.now.chunked
+
+pub returns-clause-calling : goal.returns-clause-calling
+returns-clause-calling g c = ap (λ (m : Machine). m.phase) c.new.ensures.machine
+
+pub returns-clause-initial : goal.returns-clause-initial
+returns-clause-initial g c = ap (λ (m : Machine). m.call.initial) c.new.ensures.machine
+
+pub returns-clause-unchanged : goal.returns-clause-unchanged
+returns-clause-unchanged g c = ap has_changed c.new.ensures.machine
+
+pub returns-clause-begins : goal.returns-clause-begins
+returns-clause-begins g c =
+    let w = c.args.window.now.book.now in let log = c.args.window.now.sight.log in
+    let machine = c.new.ensures.machine ∙ ap (λ h. started Compute h w.parts.mode c.args.initial) c.hash-hash.ensures in
+    begins g.K.PartialEq.eq (hash_of g.K.Hash.hash_input g.S.BuildHasher.build_hasher g.S.Hasher.Hasher.write g.S.Hasher.Hasher.finish) (begun_of w.parts) w.begun.book c.args.key log _ c.requires.lawful w.chunked c.args.initial machine c.new.ensures.table c.new.ensures.pairs refl refl refl refl refl

@@ -1,0 +1,34 @@
+use Rattle.std.proofs.Common.{[], append-nil, refl}
+use Rattle.papaya_book.specs.Parts.{begun_of}
+use Rattle.papaya_compute.proofs.ComputeGoes.{goes_on, writers_silent}
+use Rattle.papaya_compute.proofs.computing.Computing.write.Goals as goal
+
+pub returns-in-Load-clause-computes : goal.returns-in-Load-clause-computes
+returns-in-Load-clause-computes g c = λ key begun heard r.
+    let e = c.load.ensures in
+    goes_on g.K.PartialEq.eq g.K.Hash.hash_input g.S.BuildHasher.build_hasher g.S.Hasher.Hasher.write g.S.Hasher.Hasher.finish g.met.K.Eq.laws g.met.K.Hash.respects_eq (begun_of c.args.window.now.book.now.parts) c.args.window.now.book.now.begun.book key begun c.args.window.now.sight.log c.args.self.now heard r c.requires.standing c.args.ask c.requires.asks.0 (writers_silent c.args.ask c.requires.asks.1) c.load.result c.load.new.window.sight.log e.sees.log c.load.new.self e.machine e.value e.unsaid (e.writes key r.made begun r.writing)
+
+pub returns-in-SizeOf-clause-computes : goal.returns-in-SizeOf-clause-computes
+returns-in-SizeOf-clause-computes g c = λ key begun heard r.
+    let e = c.size.ensures in
+    goes_on g.K.PartialEq.eq g.K.Hash.hash_input g.S.BuildHasher.build_hasher g.S.Hasher.Hasher.write g.S.Hasher.Hasher.finish g.met.K.Eq.laws g.met.K.Hash.respects_eq (begun_of c.args.window.now.book.now.parts) c.args.window.now.book.now.begun.book key begun c.args.window.now.sight.log c.args.self.now heard r c.requires.standing c.args.ask c.requires.asks.0 (writers_silent c.args.ask c.requires.asks.1) c.size.result c.args.window.now.sight.log ([], append-nil c.args.window.now.sight.log) c.args.self.now.writer refl refl e.unsaid (e.writes key r.made begun r.writing)
+
+pub returns-in-SameKey-clause-computes : goal.returns-in-SameKey-clause-computes
+returns-in-SameKey-clause-computes g c = λ key begun heard r.
+    let e = c.same.ensures in
+    goes_on g.K.PartialEq.eq g.K.Hash.hash_input g.S.BuildHasher.build_hasher g.S.Hasher.Hasher.write g.S.Hasher.Hasher.finish g.met.K.Eq.laws g.met.K.Hash.respects_eq (begun_of c.args.window.now.book.now.parts) c.args.window.now.book.now.begun.book key begun c.args.window.now.sight.log c.args.self.now heard r c.requires.standing c.args.ask c.requires.asks.0 (writers_silent c.args.ask c.requires.asks.1) c.same.result c.args.window.now.sight.log ([], append-nil c.args.window.now.sight.log) c.args.self.now.writer refl refl e.unsaid (e.writes key r.made begun r.writing)
+
+pub returns-in-MakeKey-clause-computes : goal.returns-in-MakeKey-clause-computes
+returns-in-MakeKey-clause-computes g c = λ key begun heard r.
+    let e = c.make_key.ensures in
+    goes_on g.K.PartialEq.eq g.K.Hash.hash_input g.S.BuildHasher.build_hasher g.S.Hasher.Hasher.write g.S.Hasher.Hasher.finish g.met.K.Eq.laws g.met.K.Hash.respects_eq (begun_of c.args.window.now.book.now.parts) c.args.window.now.book.now.begun.book key begun c.args.window.now.sight.log c.args.self.now heard r c.requires.standing c.args.ask c.requires.asks.0 (writers_silent c.args.ask c.requires.asks.1) c.make_key.result c.args.window.now.sight.log ([], append-nil c.args.window.now.sight.log) c.args.self.now.writer refl refl e.unsaid (e.writes key r.made begun r.writing)
+
+pub returns-in-MakeTable-clause-computes : goal.returns-in-MakeTable-clause-computes
+returns-in-MakeTable-clause-computes g c = λ key begun heard r.
+    let e = c.make_table.ensures in
+    goes_on g.K.PartialEq.eq g.K.Hash.hash_input g.S.BuildHasher.build_hasher g.S.Hasher.Hasher.write g.S.Hasher.Hasher.finish g.met.K.Eq.laws g.met.K.Hash.respects_eq (begun_of c.args.window.now.book.now.parts) c.args.window.now.book.now.begun.book key begun c.args.window.now.sight.log c.args.self.now heard r c.requires.standing c.args.ask c.requires.asks.0 (writers_silent c.args.ask c.requires.asks.1) c.make_table.result c.make_table.new.window.sight.log e.sees.log c.make_table.new.self e.machine e.value e.unsaid (e.writes key r.made begun r.writing)
+
+pub returns-in-Exchange-Root-default-default-clause-computes : goal.returns-in-Exchange-Root-default-default-clause-computes
+returns-in-Exchange-Root-default-default-clause-computes g c = λ key begun heard r.
+    let e = c.open.ensures in
+    goes_on g.K.PartialEq.eq g.K.Hash.hash_input g.S.BuildHasher.build_hasher g.S.Hasher.Hasher.write g.S.Hasher.Hasher.finish g.met.K.Eq.laws g.met.K.Hash.respects_eq (begun_of c.args.window.now.book.now.parts) c.args.window.now.book.now.begun.book key begun c.args.window.now.sight.log c.args.self.now heard r c.requires.standing c.args.ask c.requires.asks.0 (writers_silent c.args.ask c.requires.asks.1) c.open.result c.open.new.window.sight.log e.sees.log c.open.new.self e.machine e.value e.unsaid (e.writes key r.made begun r.writing)

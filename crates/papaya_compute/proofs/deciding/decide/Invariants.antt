@@ -1,0 +1,19 @@
+use Rattle.std.specs.Prelude.{◌≡◌}
+use Rattle.papaya_chain.specs.declared.machine.Phase.TheVariants.{Calling}
+use Rattle.papaya_chain.specs.Machine.{IsStanding}
+use Rattle.papaya_compute.specs.Computing.{IsUnderWay}
+use Rattle.papaya_compute.specs.Deciding.{Wishes}
+use Rattle.papaya_book.specs.Hashes.{hash_of}
+use Rattle.papaya_book.specs.Parts.{begun_of}
+use Rattle.papaya_book.specs.Windows.{Sees}
+use Rattle.papaya_change.specs.Showings.{HasSaid}
+use Rattle.papaya_compute.proofs.deciding.decide.Given as goal
+
+-- the call rests on what is seen by now and on what its rule said, and asks for itself
+abbrev pub invariant-loop : goal.invariant-loop
+invariant-loop g l =
+    ((heard : _) × IsUnderWay g.K.PartialEq.eq (hash_of g.K.Hash.hash_input g.S.BuildHasher.build_hasher g.S.Hasher.Hasher.write g.S.Hasher.Hasher.finish) (begun_of l.window.book.now.parts) l.window.book.now.begun.book l.fn.key l.fn.window.sight.log l.window.sight.log l.computing heard × HasSaid (Wishes g.D.Rule.decides) l.fn.rule heard l.rule)
+    × IsStanding l.computing.writer.call.machine
+    × (l.computing.writer.call.machine.phase ≡ Calling)
+    × Sees l.fn.window l.window
+    × g.D.Rule.callable l.rule

@@ -1,0 +1,90 @@
+-- What a compute on the shared map holds and rests on, by what it sees of the map.
+use Rattle.std.specs.Prelude.{◌≡◌, List, Option, None, Some, Result, []}
+use Rattle.papaya_words.specs.declared.probe.Refused.{Refused}
+use Rattle.papaya_call.specs.declared.answers.Operation.{Operation}
+use Rattle.papaya_ask.specs.declared.ask.Answer.{Answer}
+use Rattle.papaya_keys.specs.declared.compute.Compute.{Compute as Computed}
+use Rattle.papaya_book.specs.declared.keyed.Keyed as keyed
+use Rattle.papaya_book.specs.declared.rule.entry.Event.{Event}
+use Rattle.papaya_book.specs.declared.window.Window.{Window}
+use Rattle.papaya_book.specs.Keys.{Keys}
+use Rattle.papaya_book.specs.Logs.{Stored}
+use Rattle.papaya_book.specs.Parts.{begun_of}
+use Rattle.papaya_compute.specs.declared.computing.Computing.{Computing}
+use Rattle.papaya_compute.specs.declared.computing.Turn.{Turn}
+use Rattle.papaya_compute.specs.declared.computing.Turn.TheVariants.{Answered, Shows, Replied}
+use Rattle.papaya_compute.specs.Computing.{IsToShow}
+use Rattle.papaya_compute.specs.Computing as computing
+use Rattle.papaya_call.specs.Machine.{ask_of as call_ask_of}
+use Rattle.papaya_lookup.specs.History.{history_of}
+use Rattle.papaya_compute.specs.declared.deciding.Outcome.{Outcome}
+use Rattle.papaya_compute.specs.Deciding.{HasNoRemoval, IsDoneBy}
+use Rattle.papaya_change.specs.Doing.{Answers}
+
+module _ {K V S T H : Type 0} {d : keyed.Ghosts S K H} where
+  abbrev pub CanCompute : Window K V S H d → Computing K V S T H → Type 0
+  CanCompute w x = computing.CanCompute d.keys.eq d.keys.hash (begun_of w.book.now.parts)
+      w.book.now.begun.book w.sight.log x
+
+  abbrev pub Computes : Window K V S H d → Computing K V S T H → Window K V S H d
+      → Computing K V S T H → Option Answer → Type 0
+  Computes w x w' x' answer = computing.Computes d.keys.eq d.keys.hash
+      (begun_of w.book.now.parts) w.book.now.begun.book w.sight.log x w'.sight.log x' answer
+
+  abbrev pub CanTake : Window K V S H d → Computing K V S T H → Answer → Type 0
+  CanTake w x answer = computing.CanTake d.keys.eq d.keys.hash (begun_of w.book.now.parts)
+      w.book.now.begun.book w.sight.log x answer
+
+  abbrev pub Takes : Window K V S H d → Computing K V S T H → Answer → Window K V S H d
+      → Computing K V S T H → Type 0
+  Takes w x answer w' x' = computing.Takes d.keys.eq d.keys.hash (begun_of w.book.now.parts)
+      w.book.now.begun.book w.sight.log x answer w'.sight.log x'
+
+  abbrev pub Replies : Window K V S H d → Computing K V S T H → Result (Computed K V T) Refused
+      → Type 0
+  Replies w x answer = computing.Replies d.keys.eq d.keys.hash (begun_of w.book.now.parts)
+      w.book.now.begun.book w.sight.log x answer
+
+  -- one that begins
+  abbrev pub IsBegun : Window K V S H d → K → Computing K V S T H → Type 0
+  IsBegun w key x = computing.IsComputing d.keys.eq d.keys.hash (begun_of w.book.now.parts)
+      w.book.now.begun.book key w.sight.log w.sight.log x []
+
+  -- what it does next
+  abbrev pub Turns : Window K V S H d → Computing K V S T H → Window K V S H d
+      → Computing K V S T H → Turn K V → Type 0
+  Turns w x w' x' (Answered answer) = Computes w x w' x' (Some answer)
+      × Answers (call_ask_of x.writer.call.machine.call) (Some answer) w w'
+  Turns w x w' x' (Shows shown) = IsToShow x shown × (w' ≡ w) × (x' ≡ x)
+  Turns w x w' x' Replied = Computes w x w' x' None
+      × Answers (call_ask_of x.writer.call.machine.call) None w w'
+
+module _ {K V S T H : Type 0} where
+  -- some compute is under way, whatever is seen of the map
+  abbrev pub IsAnyCompute : Keys K S → Computing K V S T H → Type 0
+  IsAnyCompute keys x = (w : Window K V S H (record { keys = keys })) × CanCompute w x
+
+  -- Whatever is seen of the map, the closure was shown this and has answered so, with no step.
+  abbrev pub Hears : Keys K S → Computing K V S T H → Option (Stored K V) → Operation V T
+      → Computing K V S T H → Answer → Type 0
+  Hears keys x shown done x' answer = (w : Window K V S H (record { keys = keys }))
+      → Answers (call_ask_of x.writer.call.machine.call) (Some answer) w w
+      × computing.Hears keys.eq keys.hash (begun_of w.book.now.parts) w.book.now.begun.book
+      w.sight.log x shown done x' answer
+
+module _ {K V S H : Type 0} {d : keyed.Ghosts S K H} where
+  -- a compute is under way whose rule removed nothing
+  abbrev pub CanDecide : Window K V S H d → Computing K V S (Unit {0}) H → Type 0
+  CanDecide w x = (key : K) × (begun : List (Event K V S))
+      × (heard : List (Option (Stored K V) × Operation V (Unit {0})))
+      × computing.IsComputing d.keys.eq d.keys.hash (begun_of w.book.now.parts)
+      w.book.now.begun.book key begun w.sight.log x heard × HasNoRemoval heard
+
+  -- and what each such has done that has replied
+  abbrev pub Decides : Window K V S H d → Computing K V S (Unit {0}) H → Result (Outcome V) Refused
+      → Type 0
+  Decides w x answer = (key : K) (begun : List (Event K V S))
+      (heard : List (Option (Stored K V) × Operation V (Unit {0})))
+      → computing.IsComputing d.keys.eq d.keys.hash (begun_of w.book.now.parts)
+      w.book.now.begun.book key begun w.sight.log x heard → HasNoRemoval heard
+      → IsDoneBy d.keys.eq key (history_of begun) (history_of w.sight.log) heard answer

@@ -1,0 +1,64 @@
+-- What a call does that stores a value where its rule says so: a compute whose closure is a rule.
+use Rattle.std.specs.Prelude.{◌≡◌, Bool, Option, None, Some, Result, Ok, Err, List, option_map}
+use denote.Bor.{Bor}
+use Rattle.papaya_words.specs.declared.probe.Refused.{Refused}
+use Rattle.papaya_call.specs.declared.answers.Operation.{Operation}
+use Rattle.papaya_call.specs.declared.answers.Operation.TheVariants as operation
+use Rattle.papaya_book.specs.Logs.{Member, Stored}
+use Rattle.papaya_lookup.specs.History.{Change, key_of}
+use Rattle.papaya_change.specs.Changes.{IsChangeOf}
+use Rattle.papaya_change.specs.Showings.{AllShown, HasSaid, IsNoneOnce, WasHeld, WasLast}
+use Rattle.papaya_change.specs.Writing.{IsMemoryOrCapacity}
+use Rattle.papaya_compute.specs.ComputeAnswers.{WasOperated}
+use Rattle.papaya_compute.specs.Computing.{value_in}
+use Rattle.papaya_compute.specs.declared.deciding.Outcome.{Outcome}
+use Rattle.papaya_compute.specs.declared.deciding.Outcome.TheVariants.{Put, Replaced, Left}
+
+module _ {K V : Type 0} where
+  -- The rule is shown this, and answers what is stored then, or that all is left as it is.
+  abbrev pub Wishes : {F : Type 0} → (F → Option V → Option V → F → Type 0) → F
+      → Option (Stored K V) → Operation V (Unit {0}) → F → Type 0
+  Wishes decides f held (operation.Insert v) g = decides f (value_in held) (Some v) g
+  Wishes decides f held operation.Remove g = ⊥
+  Wishes decides f held (operation.Abort t) g = decides f (value_in held) None g
+
+  -- no answer was that a pair is to go
+  abbrev pub HasNoRemoval : List (Option (Stored K V) × Operation V (Unit {0})) → Type 0
+  HasNoRemoval heard = (held : Option (Stored K V)) → Member (held, operation.Remove) heard → ⊥
+
+  -- what was answered where none was shown was logged, and is at hand
+  abbrev pub IsSpare : Option (Bor V) → List (Option (Stored K V) × Operation V (Unit {0})) → Type 0
+  IsSpare spare heard = (v : V) → Member (None, operation.Insert v) heard
+      → (r : Bor V) × (spare ≡ Some r) × (r.now ≡ v)
+
+module _ {K V : Type 0} (eq : K → K → Bool) (key : K)
+    (old new : List (Change K (Stored K V))) where
+  -- what such a call answers, by what its rule was shown and answered
+  abbrev pub IsDecidedOf : List (Option (Stored K V) × Operation V (Unit {0}))
+      → Result (Outcome V) Refused → Type 0
+  IsDecidedOf heard (Ok (Put v)) = (q : Stored K V) × IsChangeOf (eq key) old new None (Some q)
+      × (key_of q ≡ key) × Member (None, operation.Insert q.value.value) heard
+      × (v.now ≡ q.value.value)
+  IsDecidedOf heard (Ok (Replaced v)) = (p : Stored K V) × (q : Stored K V)
+      × IsChangeOf (eq key) old new (Some p) (Some q) × (key_of q ≡ key)
+      × WasOperated eq key old new p (operation.Insert q.value.value) heard
+      × (v.now ≡ q.value.value)
+  IsDecidedOf heard (Ok (Left current spare)) = (held : Option (Stored K V))
+      × WasLast held (operation.Abort tt) heard
+      × (option_map (λ v. v.now) current ≡ value_in held) × IsSpare spare heard
+  IsDecidedOf heard (Err refused) = IsMemoryOrCapacity refused
+
+  -- What it answers whose rule was shown and answered these, the last of them first. What it was
+  -- shown was the map's between the two histories, and at most once that there is none.
+  pub record IsDoneBy (heard : List (Option (Stored K V) × Operation V (Unit {0})))
+      (answer : Result (Outcome V) Refused) : Type 0 where
+    pub held : AllShown (WasHeld eq (eq key) old new) heard
+    pub none_once : IsNoneOnce heard
+    pub decided : IsDecidedOf heard answer
+
+  -- One whose rule was `first`, and is `left` now.
+  pub record IsDecided {F : Type 0} (decides : F → Option V → Option V → F → Type 0)
+      (first left : F) (answer : Result (Outcome V) Refused) : Type 0 where
+    pub heard : List (Option (Stored K V) × Operation V (Unit {0}))
+    pub has_said : HasSaid (Wishes decides) first heard left
+    pub done : IsDoneBy heard answer

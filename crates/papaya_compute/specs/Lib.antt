@@ -1,0 +1,9 @@
+-- what a compute answers, and what it rests on
+pub mod ComputeAnswers
+pub mod Computing
+-- what a call does that stores where its rule says so
+pub mod Deciding
+-- the same by what is seen of the map
+pub mod Computes
+-- what the rules answer
+pub mod Rules

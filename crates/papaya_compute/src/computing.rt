@@ -1,0 +1,442 @@
+//! Computes: their machine, answered by steps on the book and by a closure.
+ghost use Rattle.papaya_book.specs.Windows.{Does, IsLawful, Sees};
+ghost use Rattle.papaya_book.specs.Books.{IsIn};
+ghost use Rattle.papaya_book.specs.Logs.{pair_named};
+ghost use Rattle.papaya_change.specs.Helping.{HasHelped};
+ghost use Rattle.papaya_compute.specs.Computes.{CanCompute, CanTake, Computes, Hears, IsAnyCompute, IsBegun, Replies, Takes, Turns};
+ghost use Rattle.std.specs.Prelude.{◌≡◌, ◌⊎◌, ℕ, false, None, Some, Option, Ok, Err, IfErr, option_map};
+ghost use Rattle.std.specs.Int.{IsPowerOfTwo};
+ghost use Rattle.papaya_call.specs.Machine.{IsFitAsk};
+ghost use Rattle.papaya_chain.specs.Machine.{IsStanding, after, ask_of, kind_of_ask};
+ghost use Rattle.papaya_chain.specs.declared.ask.Answer.TheVariants.{Call as Told};
+ghost use Rattle.papaya_chain.specs.declared.ask.Ask.TheVariants.{Call};
+ghost use Rattle.papaya_chain.specs.declared.machine.Phase.TheVariants.{Calling};
+ghost use Rattle.papaya_ask.specs.declared.ask.StepKind.TheVariants.{Claim, Replace};
+ghost use Rattle.papaya_ask.specs.declared.call.Reply.TheVariants.{Aborted, Inserted, Removed, Replaced, Refused as ReplyRefused};
+ghost use Rattle.papaya_ask.specs.declared.ask.Ask.TheVariants.{Done, Exchange, MakePair, ShowPair};
+ghost use Rattle.papaya_ask.specs.declared.ask.At.TheVariants.{Slot};
+ghost use Rattle.papaya_compute.specs.Computing.{IsKept, IsToShow, IsWriters, chosen_after, pair_for, value_in};
+ghost use Rattle.papaya_compute.specs.ComputeAnswers.{changes};
+ghost use Rattle.papaya_change.specs.Doing.{has_changed, was_made};
+ghost use Rattle.papaya_book.specs.Limits.{tables_of};
+
+use papaya_ask::ask::{Answer, Ask as CallAsk, At, OpKind, StepKind};
+use papaya_ask::call::{Reply, Task};
+use papaya_book::book::Book;
+use papaya_book::count::{Count, Shard};
+use papaya_book::keyed::Keyed;
+use papaya_book::rule::entry::Stored;
+use papaya_book::window::Window;
+use papaya_call::answers::Operation;
+use papaya_chain::ask::Ask;
+use papaya_change::driver::Driver;
+use papaya_change::removal::entry;
+use papaya_change::writing::Writer;
+use papaya_keys::compute::Compute;
+use papaya_lookup::lookup::hash;
+use papaya_words::probe::Refused;
+use std::alloc::Global;
+use std::hash::{BuildHasher, Hash};
+use std::sync::Wait;
+
+/// A compute under way: the pair that its closure was shown last, if it was one; the pair that it
+/// would put in where there is none; the pair of which it was answered what is to become, and the
+/// one
+/// that is to take its place; and what its closure ended it with.
+#[derive(Drop)]
+pub struct Computing<'a, K: Hash + Eq, V, S: BuildHasher, T> {
+    pub writer: Writer<'a, K, V, S>,
+    pub shown: Option<Stored<K, V>>,
+    pub fill: Option<Stored<K, V>>,
+    pub chosen: Option<Stored<K, V>>,
+    pub made: Option<Stored<K, V>>,
+    pub aborted: Option<T>,
+}
+
+/// What a compute does next.
+#[derive(Drop)]
+pub enum Turn<K, V> {
+    /// Its machine asked for something, and is answered so.
+    Answered(Answer),
+    /// Its closure is to be shown this pair, or that there is none.
+    Shows(Option<Stored<K, V>>),
+    /// It has replied.
+    Replied,
+}
+
+/// The pair of which it was answered that it is to go, or the one of before.
+fn chosen_after<K, V, T>(
+    shown: &Option<Stored<K, V>>,
+    operation: &Operation<V, T>,
+    before: Option<Stored<K, V>>,
+) -> Option<Stored<K, V>>
+    ensures { result ≡ chosen_after shown.now operation.now before }
+{
+    match (shown, operation) {
+        (Some(pair), Operation::Remove) => Some(pair.again()),
+        (None, Operation::Remove) => before,
+        (_, Operation::Insert(_) | Operation::Abort(_)) => before,
+    }
+}
+
+/// The pair that an exchange of this kind puts in: a claim the one that fills.
+fn pair_for<K, V>(
+    kind: Option<StepKind>,
+    fill: &Option<Stored<K, V>>,
+    made: &Option<Stored<K, V>>,
+) -> Option<Stored<K, V>>
+    ensures { result ≡ pair_for kind fill.now made.now }
+{
+    match (kind, fill, made) {
+        (Some(StepKind::Claim), Some(pair), _) => Some(pair.again()),
+        (Some(StepKind::Claim), None, _) => None,
+        (_, _, Some(pair)) => Some(pair.again()),
+        (_, _, None) => None,
+    }
+}
+
+impl<'a, K: Hash + Eq + Drop, V: Drop, S: BuildHasher, T: Drop> Computing<'a, K, V, S, T> {
+    /// Keeps what the closure answered, and tells the machine of it.
+    fn keep(&mut self, operation: Operation<V, T>) -> Answer
+        ensures { IsKept operation result self.old self.new }
+    {
+        match operation {
+            Operation::Insert(value) => {
+                self.writer.value = Some(value);
+                Answer::Op(OpKind::Insert)
+            }
+            Operation::Remove => Answer::Op(OpKind::Remove),
+            Operation::Abort(with) => {
+                self.aborted = Some(with);
+                Answer::Op(OpKind::Abort(0))
+            }
+        }
+    }
+
+    /// A compute that begins.
+    pub fn new(window: &Window<'a, K, V, S>, initial: usize, key: K) -> Computing<'a, K, V, S, T>
+        requires lawful { IsLawful window.now }
+        requires initial { IsPowerOfTwo initial }
+        ensures standing { IsStanding result.writer.call.machine }
+        ensures calling { result.writer.call.machine.phase ≡ Calling }
+        ensures initial { result.writer.call.machine.call.initial ≡ initial }
+        ensures unchanged { has_changed result.writer.call.machine ≡ false }
+        ensures begins { IsBegun window.now key result }
+    {
+        let book = window.book;
+        let hash = hash(&book.parts.hasher, &key);
+        Computing {
+            writer: Writer {
+                call: Driver::new(Task::Compute, hash, book.parts.mode, initial),
+                key: Some(key),
+                brought: None,
+                value: None,
+            },
+            shown: None,
+            fill: None,
+            chosen: None,
+            made: None,
+            aborted: None,
+        }
+    }
+
+    /// The pair that the closure is to be shown: the one last loaded.
+    fn to_show(&self) -> Stored<K, V>
+        requires can { IsAnyCompute ⟦<S as Keyed<K>>⟧.keys self.now }
+        requires asks { (n : ℕ) × (ask_of self.now.writer.call.machine ≡ Call (ShowPair n)) }
+        ensures asks { ask_of self.now.writer.call.machine ≡ Call (ShowPair result.index) }
+        ensures last { self.now.writer.call.last ≡ Some result }
+    {
+        let Some(last) = &self.writer.call.last else {
+            unreachable!()
+        };
+        last.again()
+    }
+
+    /// The closure was shown this, and answered so.
+    pub fn hear(&mut self, shown: Option<Stored<K, V>>, operation: Operation<V, T>) -> Answer
+        requires standing { IsStanding self.old.writer.call.machine }
+        requires shows { IsToShow self.old shown }
+        ensures machine { self.new.writer.call.machine ≡ self.old.writer.call.machine }
+        ensures hears { Hears ⟦<S as Keyed<K>>⟧.keys self.old shown operation self.new result }
+    {
+        self.chosen = chosen_after(&shown, &operation, self.chosen.take());
+        self.shown = shown;
+        self.keep(operation)
+    }
+
+    /// Tells its machine an answer, and copies where the call is set aside for that.
+    pub fn tell<R: Wait>(
+        &mut self,
+        rt: &R,
+        alloc: Global,
+        count: &Count,
+        answer: Answer,
+        window: &mut Window<'a, K, V, S>,
+    )
+        requires standing { IsStanding self.old.writer.call.machine }
+        requires can { CanTake window.old self.old answer }
+        ensures sees { Sees window.old window.new }
+        ensures standing { IsStanding self.new.writer.call.machine }
+        ensures calling { self.new.writer.call.machine.phase ≡ Calling }
+        ensures helped { HasHelped (after self.old.writer.call.machine (Told answer))
+            self.new.writer.call.machine (tables_of window.new.sight.log)
+            self.new.writer.call.given.done }
+        ensures own { window.new.own ≡ window.old.own }
+        ensures still { (after self.old.writer.call.machine (Told answer)).phase ≡ Calling
+            → window.new ≡ window.old }
+        ensures takes { Takes window.old self.old answer window.new self.new }
+    {
+        self.writer.call.answer(answer);
+        self.writer.call.help(rt, alloc, count, window);
+    }
+
+    /// Logs a pair of the key and of the value that the closure answered last.
+    fn make_pair<R: Wait>(&mut self, rt: &R, window: &Window<'a, K, V, S>) -> Answer
+        requires can { CanCompute window.now self.old }
+        requires standing { IsStanding self.old.writer.call.machine }
+        requires asks { ask_of self.old.writer.call.machine ≡ Call MakePair }
+        ensures machine { self.new.writer.call.machine ≡ self.old.writer.call.machine }
+        ensures computes { Computes window.now self.old window.now self.new (Some result) }
+    {
+        let pair = match self.writer.log_pair(rt, window) {
+            Ok(pair) => pair,
+            Err(answer) => return answer,
+        };
+        let number = pair.index() as u64;
+        let Some(shown) = &self.shown else {
+            self.fill = Some(pair);
+            return Answer::Made(number);
+        };
+        self.chosen = Some(shown.again());
+        self.made = Some(pair);
+        Answer::Made(number)
+    }
+
+    /// Tries to put the pair into a slot that was made for it.
+    fn put(
+        &mut self,
+        number: u64,
+        place: usize,
+        words: (u64, u64),
+        window: &mut Window<'a, K, V, S>,
+    ) -> Answer
+        requires can { CanCompute window.old self.old }
+        requires standing { IsStanding self.old.writer.call.machine }
+        requires asks { ask_of self.old.writer.call.machine ≡ Call (Exchange
+            (Slot number place) words.0 words.1) }
+        requires kind { (kind_of_ask self.old.writer.call.machine ≡ Some Claim)
+            ⊎ (kind_of_ask self.old.writer.call.machine ≡ Some Replace) }
+        ensures sees { Sees window.old window.new }
+        ensures does { Does (was_made result) window.old window.new }
+        ensures machine { self.new.writer.call.machine ≡ self.old.writer.call.machine }
+        ensures computes { Computes window.old self.old window.new self.new (Some result) }
+    {
+        let kind = self.writer.call.machine.kind();
+        let Some(pair) = pair_for(kind, &self.fill, &self.made) else {
+            unreachable!()
+        };
+        self.writer.put(number, place, words, &pair, window)
+    }
+
+    /// Tries an exchange of a slot.
+    fn exchange(
+        &mut self,
+        number: u64,
+        place: usize,
+        words: (u64, u64),
+        window: &mut Window<'a, K, V, S>,
+    ) -> Answer
+        requires can { CanCompute window.old self.old }
+        requires standing { IsStanding self.old.writer.call.machine }
+        requires asks { ask_of self.old.writer.call.machine ≡ Call (Exchange
+            (Slot number place) words.0 words.1) }
+        ensures sees { Sees window.old window.new }
+        ensures does { Does (was_made result) window.old window.new }
+        ensures machine { self.new.writer.call.machine ≡ self.old.writer.call.machine }
+        ensures computes { Computes window.old self.old window.new self.new (Some result) }
+    {
+        match self.writer.call.machine.kind() {
+            Some(StepKind::Bury) => self.writer.bury(number, place, words, window),
+            _ => self.put(number, place, words, window),
+        }
+    }
+
+    /// The answer to an ask that any call makes which inserts.
+    fn write<R: Wait>(
+        &mut self,
+        rt: &R,
+        alloc: Global,
+        ask: CallAsk,
+        window: &mut Window<'a, K, V, S>,
+    ) -> Answer
+        requires can { CanCompute window.old self.old }
+        requires standing { IsStanding self.old.writer.call.machine }
+        requires asks { (ask_of self.old.writer.call.machine ≡ Call ask) × IsWriters ask }
+        requires fit { IsFitAsk ask }
+        ensures sees { Sees window.old window.new }
+        ensures own { window.new.own ≡ window.old.own }
+        ensures machine { self.new.writer.call.machine ≡ self.old.writer.call.machine }
+        ensures computes { Computes window.old self.old window.new self.new (Some result) }
+    {
+        match ask {
+            CallAsk::Load(at) => self.writer.load(at, window),
+            CallAsk::SizeOf(_) => self.writer.size(window),
+            CallAsk::SameKey(_) => self.writer.same(window),
+            CallAsk::MakeKey => self.writer.make_key(window),
+            CallAsk::MakeTable { len, limit } => {
+                self.writer.make_table(rt, alloc, len, limit, window)
+            }
+            CallAsk::Exchange(At::Root, _, _) => self.writer.open(window),
+            _ => unreachable!(),
+        }
+    }
+
+    /// What it does next: the machine is answered, but for what only the closure can.
+    pub fn turn<R: Wait>(
+        &mut self,
+        rt: &R,
+        alloc: Global,
+        shard: &Shard<'_>,
+        window: &mut Window<'a, K, V, S>,
+    ) -> Turn<K, V>
+        requires can { CanCompute window.old self.old }
+        requires standing { IsStanding self.old.writer.call.machine }
+        requires calling { self.old.writer.call.machine.phase ≡ Calling }
+        ensures sees { Sees window.old window.new }
+        ensures machine { self.new.writer.call.machine ≡ self.old.writer.call.machine }
+        ensures turns { Turns window.old self.old window.new self.new result }
+    {
+        let Ask::Call(ask) = self.writer.call.machine.ask() else {
+            unreachable!()
+        };
+        match ask {
+            CallAsk::ShowNone => Turn::Shows(None),
+            CallAsk::ShowPair(_) => Turn::Shows(Some(self.to_show())),
+            CallAsk::MakePair => Turn::Answered(self.make_pair(rt, window)),
+            CallAsk::Exchange(At::Slot(number, place), old, new) => {
+                Turn::Answered(self.exchange(number, place, (old, new), window))
+            }
+            CallAsk::AddToShard(by) => {
+                shard.add(by);
+                Turn::Answered(Answer::Ok)
+            }
+            CallAsk::Done(_) => Turn::Replied,
+            _ => Turn::Answered(self.write(rt, alloc, ask, window)),
+        }
+    }
+
+    /// What it answers where it put a pair in.
+    fn inserted(&self, window: &Window<'a, K, V, S>) -> Compute<'a, K, V, T>
+        requires standing { IsStanding self.now.writer.call.machine }
+        requires can { CanCompute window.now self.now }
+        requires done { (n : ℕ) × (ask_of self.now.writer.call.machine
+            ≡ Call (Done (Inserted n))) }
+        ensures changed { changes (Ok result) ≡ has_changed self.now.writer.call.machine }
+        ensures replies { Replies window.now self.now (Ok result) }
+    {
+        let book = window.book;
+        match (&self.fill, &self.writer.call.put) {
+            (Some(fill), Some(put)) => {
+                book.parts.pairs.agrees(fill, put);
+                let (key, value) = entry(book, put);
+                Compute::Inserted(key, value)
+            }
+            _ => unreachable!(),
+        }
+    }
+
+    /// What it answers where a pair took the place of another.
+    fn updated(&self, window: &Window<'a, K, V, S>) -> Compute<'a, K, V, T>
+        requires standing { IsStanding self.now.writer.call.machine }
+        requires can { CanCompute window.now self.now }
+        requires done { (m : ℕ) × (n : ℕ) × (ask_of self.now.writer.call.machine
+            ≡ Call (Done (Replaced m n))) }
+        ensures changed { changes (Ok result) ≡ has_changed self.now.writer.call.machine }
+        ensures replies { Replies window.now self.now (Ok result) }
+    {
+        let (Some(chosen), Some(taken)) = (&self.chosen, &self.writer.call.taken) else {
+            unreachable!()
+        };
+        let (Some(made), Some(put)) = (&self.made, &self.writer.call.put) else {
+            unreachable!()
+        };
+        let book = window.book;
+        book.parts.pairs.agrees(chosen, taken);
+        book.parts.pairs.agrees(made, put);
+        Compute::Updated {
+            old: entry(book, taken),
+            new: entry(book, put),
+        }
+    }
+
+    /// What it answers where it took a pair out.
+    fn removed(&self, window: &Window<'a, K, V, S>) -> Compute<'a, K, V, T>
+        requires standing { IsStanding self.now.writer.call.machine }
+        requires can { CanCompute window.now self.now }
+        requires done { (n : ℕ) × (ask_of self.now.writer.call.machine
+            ≡ Call (Done (Removed n))) }
+        ensures changed { changes (Ok result) ≡ has_changed self.now.writer.call.machine }
+        ensures replies { Replies window.now self.now (Ok result) }
+    {
+        let book = window.book;
+        match (&self.chosen, &self.writer.call.taken) {
+            (Some(chosen), Some(taken)) => {
+                book.parts.pairs.agrees(chosen, taken);
+                let (key, value) = entry(book, taken);
+                Compute::Removed(key, value)
+            }
+            _ => unreachable!(),
+        }
+    }
+
+    /// The value that its closure was shown last, and that of the pair that would fill.
+    pub(crate) fn left(&self, window: &Window<'a, K, V, S>) -> (Option<&'a V>, Option<&'a V>)
+        requires can { CanCompute window.now self.now }
+        ensures current { option_map (λ v. v.now) result.0 ≡ value_in self.now.shown }
+        ensures spare { option_map (λ v. v.now) result.1 ≡ value_in self.now.fill }
+    {
+        let book = window.book;
+        (value_in(book, &self.shown), value_in(book, &self.fill))
+    }
+
+    /// What the compute answers that has replied.
+    pub fn replied(&mut self, window: &Window<'a, K, V, S>) -> Result<Compute<'a, K, V, T>, Refused>
+        requires standing { IsStanding self.old.writer.call.machine }
+        requires can { CanCompute window.now self.old }
+        requires done { (reply : _) × (ask_of self.old.writer.call.machine
+            ≡ Call (Done reply)) }
+        ensures refusal { IfErr result (λ refused. ask_of self.old.writer.call.machine ≡ Call (Done
+            (ReplyRefused refused))) }
+        ensures changed { changes result ≡ has_changed self.old.writer.call.machine }
+        ensures aborted { (with : T) → result ≡ Ok (Compute.Aborted with) → (n : ℕ)
+            × (ask_of self.old.writer.call.machine ≡ Call (Done (Aborted n))) }
+        ensures replies { Replies window.now self.old result }
+    {
+        match self.writer.call.machine.ask() {
+            Ask::Call(CallAsk::Done(Reply::Inserted(_))) => Ok(self.inserted(window)),
+            Ask::Call(CallAsk::Done(Reply::Replaced { .. })) => Ok(self.updated(window)),
+            Ask::Call(CallAsk::Done(Reply::Removed(_))) => Ok(self.removed(window)),
+            Ask::Call(CallAsk::Done(Reply::Aborted(_))) => match self.aborted.take() {
+                Some(with) => Ok(Compute::Aborted(with)),
+                None => unreachable!(),
+            },
+            Ask::Call(CallAsk::Done(Reply::Refused(refused))) => Err(refused),
+            _ => unreachable!(),
+        }
+    }
+}
+
+/// The value of a pair, if there is one.
+fn value_in<'a, K: Hash + Eq, V, S: BuildHasher>(
+    book: &'a Book<K, V, S>,
+    pair: &Option<Stored<K, V>>,
+) -> Option<&'a V>
+    requires { IsIn book.now (pair_named pair.now) }
+    ensures { option_map (λ v. v.now) result ≡ value_in pair.now }
+{
+    match pair {
+        Some(pair) => Some(entry(book, pair).1),
+        None => None,
+    }
+}

@@ -1,0 +1,143 @@
+//! Calls that store a value where their rule says so. Each is a compute whose rule is a type in the
+//! place of a closure, and no pair is removed by it.
+ghost use Rattle.std.specs.Prelude.{◌≡◌, None, Some, Option};
+ghost use Rattle.std.specs.Int.{IsPowerOfTwo};
+ghost use Rattle.papaya_ask.specs.declared.ask.Ask.TheVariants.{Done};
+ghost use Rattle.papaya_chain.specs.declared.ask.Ask.TheVariants.{Call};
+ghost use Rattle.papaya_chain.specs.Machine.{IsStanding, ask_of};
+ghost use Rattle.papaya_book.specs.Books.{IsIn};
+ghost use Rattle.papaya_book.specs.Logs.{pair_named};
+ghost use Rattle.papaya_book.specs.Windows.{IsLawful, Sees};
+ghost use Rattle.papaya_lookup.specs.Drivers.{past};
+ghost use Rattle.papaya_compute.specs.Computes.{CanDecide, Decides};
+ghost use Rattle.papaya_compute.specs.Deciding.{IsDecided, Wishes};
+
+use crate::computing::{Computing, Turn};
+use papaya_book::book::Book;
+use papaya_book::count::Shard;
+use papaya_book::rule::entry::Stored;
+use papaya_book::window::Window;
+use papaya_call::answers::Operation;
+use papaya_keys::compute::Compute;
+use papaya_words::probe::Refused;
+use std::alloc::Global;
+use std::hash::{BuildHasher, Hash};
+use std::sync::Wait;
+
+/// The rule of such a call: which value is stored, by the one that the key has. It may be asked
+/// again, where another call was first to change the key's pair.
+///
+/// A rule tells contracts what each asking may answer, and what the rule is then.
+pub trait Rule<V> {
+    ghost callable: { Self → Type 0 };
+
+    ghost decides: { Self → Option V → Option V → Self → Type 0 };
+
+    /// What is stored where the key has no pair. None: nothing. It is asked this once at most.
+    fn absent(&mut self) -> Option<V>
+        requires { callable self.old }
+        ensures callable { callable self.new }
+        ensures decides { decides self.old None result self.new };
+
+    /// What is stored in the place of this value. None: it stays.
+    fn present(&mut self, value: &V) -> Option<V>
+        requires { callable self.old }
+        ensures callable { callable self.new }
+        ensures decides { decides self.old (Some value.now) result self.new };
+}
+
+/// What such a call did.
+#[derive(Drop)]
+pub enum Outcome<'a, V> {
+    /// The key had no pair, and has this value now.
+    Put(&'a V),
+    /// This value took another's place.
+    Replaced(&'a V),
+    /// All is as it was. The key's value, if it has one; and a value that was logged where it had
+    /// none, and then lost the race.
+    Left {
+        current: Option<&'a V>,
+        spare: Option<&'a V>,
+    },
+}
+
+/// What the rule answers that is shown this pair, or that there is none.
+fn wish<K: Hash + Eq, V, S: BuildHasher, D: Rule<V>>(
+    book: &Book<K, V, S>,
+    shown: &Option<Stored<K, V>>,
+    rule: &mut D,
+) -> Operation<V, ()>
+    requires callable { D.callable rule.old }
+    requires placed { IsIn book.now (pair_named shown.now) }
+    ensures callable { D.callable rule.new }
+    ensures wishes { Wishes D.decides rule.old shown.now result rule.new }
+{
+    let wanted = match shown {
+        None => rule.absent(),
+        Some(pair) => rule.present(book.pair(pair).value()),
+    };
+    match wanted {
+        Some(value) => Operation::Insert(value),
+        None => Operation::Abort(()),
+    }
+}
+
+/// What the call did that has replied.
+fn decided<'a, K: Hash + Eq + Drop, V: Drop, S: BuildHasher>(
+    computing: &mut Computing<'a, K, V, S, ()>,
+    window: &Window<'a, K, V, S>,
+) -> Result<Outcome<'a, V>, Refused>
+    requires can { CanDecide window.now computing.old }
+    requires standing { IsStanding computing.old.writer.call.machine }
+    requires done { (reply : _) × (ask_of computing.old.writer.call.machine
+        ≡ Call (Done reply)) }
+    ensures decides { Decides window.now computing.old result }
+{
+    let (current, spare) = computing.left(window);
+    match computing.replied(window) {
+        Ok(Compute::Inserted(_, value)) => Ok(Outcome::Put(value)),
+        Ok(
+            Compute::Updated {
+                new: (_, value),
+                ..
+            },
+        ) => Ok(Outcome::Replaced(value)),
+        Ok(Compute::Removed(_, _)) => unreachable!(),
+        Ok(Compute::Aborted(())) => Ok(Outcome::Left { current, spare }),
+        Err(refused) => Err(refused),
+    }
+}
+
+/// Stores for a key what the rule answers.
+pub fn decide<'a, R: Wait, K: Hash + Eq + Drop, V: Drop, S: BuildHasher, D: Rule<V>>(
+    rt: &R,
+    alloc: Global,
+    initial: usize,
+    shard: &Shard<'_>,
+    window: &mut Window<'a, K, V, S>,
+    key: K,
+    rule: &mut D,
+) -> Result<Outcome<'a, V>, Refused>
+    requires callable { D.callable rule.old }
+    requires initial { IsPowerOfTwo initial }
+    ensures sees { Sees window.old window.new }
+    ensures lawful { IsLawful window.new }
+    ensures decided { IsDecided K.eq key (past window.old) (past window.new) D.decides rule.old
+        rule.new result }
+{
+    window.learn();
+    let book = window.book;
+    let mut computing: Computing<'a, K, V, S, ()> = Computing::new(window, initial, key);
+    for _ in rt.forever() {
+        match computing.turn(rt, alloc, shard, window) {
+            Turn::Answered(answer) => computing.tell(rt, alloc, shard.count(), answer, window),
+            Turn::Shows(shown) => {
+                let operation = wish(book, &shown, rule);
+                let answer = computing.hear(shown, operation);
+                computing.tell(rt, alloc, shard.count(), answer, window);
+            }
+            Turn::Replied => return decided(&mut computing, window),
+        }
+    }
+    unreachable!()
+}

@@ -1,0 +1,23 @@
+//! What `Debug` prints of a map: `{key: value, ..}`, as of that of 0.2.5.
+use crate::map::{HashMap, HashMapRef};
+use papaya_book::rule::own::Own;
+use papaya_book::window::Window;
+use papaya_sweep::printing::print;
+use std::fmt;
+use std::hash::{BuildHasher, Hash};
+
+impl<K: Hash + Eq + fmt::Debug, V: fmt::Debug, S: BuildHasher> fmt::Debug for HashMap<K, V, S> {
+    /// It waits for nobody, takes no lock and no memory, and copies nothing.
+    fn fmt<W: fmt::Write>(&self, f: &mut fmt::Formatter<W>) -> fmt::Result {
+        let kept = self.book.keep_root();
+        let mut window = Window::new(&self.book, &kept, &self.book.unseen(), &Own::nothing());
+        print(&mut window, f)
+    }
+}
+
+impl<'a, K: Hash + Eq + fmt::Debug, V: fmt::Debug, S: BuildHasher> fmt::Debug
+    for HashMapRef<'a, K, V, S> {
+    fn fmt<W: fmt::Write>(&self, f: &mut fmt::Formatter<W>) -> fmt::Result {
+        fmt::Debug::fmt(self.map(), f)
+    }
+}

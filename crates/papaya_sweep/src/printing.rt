@@ -1,0 +1,80 @@
+//! What `Debug` prints of a map and of its walks, as of those of 0.2.5.
+ghost use Rattle.papaya_book.specs.Windows.{IsTable, Sees};
+
+use crate::walk::{Iter, Keys, Values};
+use papaya_book::table::Table;
+use papaya_book::window::Window;
+use papaya_change::removal::entry;
+use papaya_words::probe::ResizeMode;
+use papaya_words::word::{Kind, Word};
+use std::fmt;
+use std::hash::{BuildHasher, Hash};
+
+/// Prints the pairs that stand in a table and in no later one.
+fn print_table<'a, 'f, K: Hash + Eq + fmt::Debug, V: fmt::Debug, S: BuildHasher, W: fmt::Write>(
+    window: &mut Window<'a, K, V, S>,
+    table: &Table<K, V, S>,
+    number: u64,
+    out: &mut fmt::DebugMap<'f, W>,
+)
+    requires { IsTable window.old number table.now }
+    ensures { Sees window.old window.new }
+{
+    for place in 0..table.len() {
+        let (word, pair) = window.slot(table, number, place);
+        match (Word(word).kind(), &pair) {
+            (Kind::Live | Kind::Marked, Some(stored)) => {
+                let (key, value) = entry(window.book, stored);
+                out.entry(key, value);
+            }
+            _ => {}
+        }
+    }
+}
+
+/// Prints the pairs of a map, table by table from the root on. It loads words and nothing else: it
+/// waits for nobody and copies nothing. A pair that a refused copier left half copied is printed twice.
+pub fn print<'a, 'f, K: Hash + Eq + fmt::Debug, V: fmt::Debug, S: BuildHasher, W: fmt::Write>(
+    window: &mut Window<'a, K, V, S>,
+    f: &'f mut fmt::Formatter<W>,
+) -> fmt::Result {
+    let mut out = f.debug_map();
+    let (mut number, mut held) = window.root();
+    for _ in 0..u64::MAX {
+        let Some(table) = held else {
+            return out.finish();
+        };
+        print_table(window, table, number, &mut out);
+        (number, held) = match window.book.parts.mode {
+            ResizeMode::Incremental(_) => window.next(table, number),
+            ResizeMode::Blocking => (0, None),
+        };
+    }
+    out.finish()
+}
+
+impl<'a, K: Hash + Eq + fmt::Debug, V: fmt::Debug, S: BuildHasher> fmt::Debug
+    for Iter<'a, K, V, S> {
+    /// The pairs that are left.
+    fn fmt<W: fmt::Write>(&self, f: &mut fmt::Formatter<W>) -> fmt::Result {
+        let mut out = f.debug_list();
+        for pair in self.again() {
+            out.entry(&pair);
+        }
+        out.finish()
+    }
+}
+
+impl<'a, K: Hash + Eq + fmt::Debug, V: fmt::Debug, S: BuildHasher> fmt::Debug
+    for Keys<'a, K, V, S> {
+    fn fmt<W: fmt::Write>(&self, f: &mut fmt::Formatter<W>) -> fmt::Result {
+        f.debug_tuple("Keys").field(&self.pairs).finish()
+    }
+}
+
+impl<'a, K: Hash + Eq + fmt::Debug, V: fmt::Debug, S: BuildHasher> fmt::Debug
+    for Values<'a, K, V, S> {
+    fn fmt<W: fmt::Write>(&self, f: &mut fmt::Formatter<W>) -> fmt::Result {
+        f.debug_tuple("Values").field(&self.pairs).finish()
+    }
+}
