@@ -87,6 +87,11 @@ class Plain:
         self.pairs = {}
 
     def call(self, line):
+        if line == "walk":
+            return "walk" + "".join(f" {key}={value}" for key, value in sorted(self.pairs.items()))
+        if line == "clear":
+            self.pairs = {}
+            return "ok"
         word, key, *value = line.split(" ")
         old = self.pairs.get(int(key))
         if word == "g":
@@ -137,6 +142,29 @@ def mixed(seed, calls, keys):
         word, key = drawn.choice("igru"), drawn.randrange(keys)
         lines.append(f"i {key} {drawn.randrange(WRAP)}" if word == "i" else f"{word} {key}")
     return lines
+
+
+def walked(runs):
+    """All pairs, after each of the calls that make the map grow and empty it again, and among calls of
+    all kinds."""
+    for mode in ["inc:1", "inc:3", "inc:64", "block"]:
+        for args in [f"{backend} {mode} {hasher}" for backend in ["seq", "shared"] for hasher in ["id", "zero"]]:
+            keys = random.Random(mode).sample(range(1000), 100)
+            stores = [line for key in keys for line in (f"i {key} {key + 1}", "walk")]
+            removals = [line for key in keys for line in (f"r {key}", "walk")]
+            by_lines(runs, args, [*stores, *removals])
+            by_lines(runs, args, [*stores, "clear", "walk", *stores])
+            for seed in range(2):
+                by_lines(runs, args, with_walks(seed, mixed(seed, 1000, 60)))
+        for hasher in ["id", "zero"]:
+            by_callers(runs, f"core {mode} {hasher}", with_walks(0, mixed(0, 1000, 60)))
+
+
+def with_walks(seed, calls):
+    """These calls, with walks and a few clears among them."""
+    drawn = random.Random(seed)
+    others = drawn.choices(["", "walk", "clear"], [90, 9, 1], k=len(calls))
+    return [it for pair in zip(calls, others) for it in pair if it]
 
 
 def computed(runs):
@@ -286,6 +314,7 @@ def main(program):
     runs = Runs(program)
     stored(runs, os.path.join(os.path.dirname(os.path.abspath(__file__)), "runs.txt"))
     computed(runs)
+    walked(runs)
     full(runs)
     overlapping(runs)
     for rest in ["inc:64 id", "block zero"]:

@@ -1,2 +1,3 @@
 pub mod SeqLemmas
 pub mod SharedLemmas
+pub mod WalkLemmas

@@ -8,7 +8,7 @@ use Rattle.papaya_call.specs.declared.answers.Operation.{Operation}
 use Rattle.papaya_call.specs.declared.answers.Operation.TheVariants.{Insert, Remove, Abort}
 use Rattle.papaya_keys.specs.declared.compute.Compute.{Compute}
 use Rattle.papaya_keys.specs.declared.compute.Compute.TheVariants.{Inserted, Updated, Removed, Aborted}
-use Rattle.papaya_map.specs.ComputeAnswers.{IsComputeBy, IsOperated}
+use Rattle.papaya_compute.specs.ComputeAnswers.{IsComputeBy, IsOperated}
 use Rattle.papaya_lookup.specs.History.{key_of}
 use Rattle.papaya_book.specs.Logs.{Member, Stored}
 use Rattle.papaya_change.specs.Showings.{AllShown, AreShown, HasSaid, Operates, WasHeld, WasLast}

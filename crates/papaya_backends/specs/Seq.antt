@@ -1,5 +1,5 @@
 -- What a command does to a map for one caller, and what is printed of it.
-use Rattle.std.specs.Prelude.{◌≡◌, ◌==◌, ℕ, List, Option, Some, None, Result, Ok, Err, IsOk, MatchOption, [], length}
+use Rattle.std.specs.Prelude.{◌≡◌, ◌==◌, ℕ, List, Option, Result, IsOk, MatchOption, [], length, map}
 use Rattle.papaya_words.specs.declared.probe.Refused.{Refused}
 use Rattle.papaya_core.specs.Content.{content}
 use Rattle.papaya_core.specs.Store.{Stored}
@@ -7,7 +7,8 @@ use Rattle.papaya_backends.specs.Replied.{of_insertion, of_lookup, of_removal, o
 use Rattle.papaya_seq.specs.Computes.{IsUpdated}
 use Rattle.papaya_lines.specs.Closures.{follower}
 use Rattle.papaya_lines.specs.Commands.{WritesCommand}
-use Rattle.papaya_seq.specs.Map.{HasNone, Holds, IsInserted, IsRemoved, MapState, next_of, slots_of}
+use Rattle.papaya_lines.specs.Walk.{IsByKey}
+use Rattle.papaya_seq.specs.Map.{HasNone, Holds, IsInserted, IsRemoved, MapState, entry_of, next_of, slots_of}
 use Rattle.papaya_lines.specs.declared.commands.Command.{Command}
 use Rattle.papaya_lines.specs.declared.commands.Command.TheVariants as command
 use Rattle.papaya_lines.specs.declared.printed.Printed.{Printed}
@@ -19,6 +20,10 @@ module _ {S : Type 0} where
   HasAt s k found = MatchOption found (HasNone (λ a b. a == b) (λ key. k == key) s.store)
       (λ value. (p : Stored ℕ ℕ) × Holds (λ a b. a == b) (λ key. k == key) s.store p
       × (p.value ≡ value))
+
+  -- the keys of the map, each with its value
+  abbrev pub pairs_of : MapState ℕ ℕ S → List (ℕ × ℕ)
+  pairs_of s = map entry_of (content (λ a b. a == b) s.store)
 
   -- The command makes of the one map the other, and this is printed. A removal is refused only while
   -- pairs are being moved to a further table.
@@ -38,6 +43,8 @@ module _ {S : Type 0} where
   Obeys command.Slots s text s' = (text ≡ printed.Slots (slots_of s.store)) × (s' ≡ s)
   Obeys command.Clear s text s' = (text ≡ printed.Done)
       × (content (λ a b. a == b) s'.store ≡ []) × (slots_of s'.store ≡ 0)
+  Obeys command.Walk s text s' = (pairs : List (ℕ × ℕ)) × (text ≡ printed.Walk pairs)
+      × IsByKey (pairs_of s) pairs × (s' ≡ s)
 
   -- the line writes a command, and this does what it asks for
   abbrev pub ObeysLine : List ℕ → MapState ℕ ℕ S → Printed → MapState ℕ ℕ S → Type 0

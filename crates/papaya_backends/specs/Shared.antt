@@ -1,6 +1,9 @@
 -- What a command does to a shared map by a pass, and what is printed of it.
 use Rattle.std.specs.Prelude.{◌≡◌, ◌==◌, ℕ, List, Option, None, Some, Result, Ok, Err, IfOk, option_map, ◌⊎◌}
 use Rattle.std.specs.Borrow.{Bor}
+use Rattle.std.specs.List.{All}
+use Rattle.std.specs.List.Sorted.{IsNonDecreasingBy}
+use mathlib.Core.List.{IsPrefix}
 use Rattle.papaya_words.specs.declared.probe.Refused.{Refused}
 use Rattle.papaya_seq.specs.Answered.{old_answered}
 use Rattle.papaya_change.specs.Changes.{IsChangeOf, IsPut}
@@ -9,6 +12,8 @@ use Rattle.papaya_book.specs.Logs.{Stored}
 use Rattle.papaya_lookup.specs.Answers.{IsAnsweredBetween}
 use Rattle.papaya_change.specs.RemovalAnswers.{IsRemoved}
 use Rattle.papaya_change.specs.Showings.{WasHeld}
+use Rattle.papaya_change.specs.Writing.{IsMemoryOrCapacity}
+use Rattle.papaya_sweep.specs.Meeting.{HadPair}
 use Rattle.papaya_lines.specs.Closures.{follower}
 use Rattle.papaya_lines.specs.Commands.{WritesCommand, WritesNone}
 use Rattle.papaya_backends.specs.Replied.{of_insertion, of_lookup, of_removal, of_update}
@@ -30,6 +35,7 @@ IsMissing (command.Update k) = ⊥
 IsMissing command.Len = ⊥
 IsMissing command.Slots = Unit {0}
 IsMissing command.Clear = ⊥
+IsMissing command.Walk = ⊥
 
 -- An update of the key k: its change, the last that was seen, put in a pair of the key whose value,
 -- which is the answer, follows that of the pair that it took out. Or the key was absent at a moment
@@ -47,6 +53,26 @@ IsCleared printed.Done = Unit {0}
 IsCleared (printed.Refused refused) = Unit {0}
 IsCleared _ = ⊥
 
+-- the map had this key with this value in a history between the two
+abbrev pub Had : Seen → Seen → ℕ × ℕ → Type 0
+Had old new pair = (p : Stored ℕ ℕ) × ((key_of p, p.value.value) ≡ pair)
+    × HadPair (λ a b. a == b) old new p
+
+-- The map had each of these pairs since the old history. The walk may have seen a later one than
+-- the pass that it was begun by.
+pub record WereHad (old new : Seen) (pairs : List (ℕ × ℕ)) : Type 0 where
+  pub last : Seen
+  pub since : IsPrefix new last
+  pub had : All (Had old last) pairs
+
+-- Pairs that the map had are printed by rising key, or the walk was refused. No history that a pass
+-- has seen says that none was left out.
+abbrev pub IsWalked : Seen → Printed → Seen → Type 0
+IsWalked old (printed.Walk pairs) new = IsNonDecreasingBy (λ pair. pair.0) pairs
+    × WereHad old new pairs
+IsWalked old (printed.Refused refused) new = IsMemoryOrCapacity refused
+IsWalked old _ new = ⊥
+
 -- The command was done by a pass that had seen the one history before and has seen the other then,
 -- and this is printed. What was counted is no part of a history.
 abbrev pub Obeys : Command → Seen → Printed → Seen → Type 0
@@ -63,6 +89,7 @@ Obeys (command.Update k) old text new = (answer : Result (Option ℕ) Refused)
 Obeys command.Len old text new = (count : ℕ) × (text ≡ printed.Length count) × (new ≡ old)
 Obeys command.Slots old text new = ⊥
 Obeys command.Clear old text new = IsCleared text × (new ≡ old)
+Obeys command.Walk old text new = IsWalked old text new
 
 -- the line writes a command, and this does what it asks for
 abbrev pub ObeysLine : List ℕ → Seen → Printed → Seen → Type 0

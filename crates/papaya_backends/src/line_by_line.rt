@@ -1,6 +1,9 @@
 //! The lines of an input one by one: each is read, done and answered in turn.
-ghost use Rattle.std.specs.Prelude.{◌≡◌, ℕ, List, IfErr, IfOk};
+ghost use Rattle.std.specs.Prelude.{◌≡◌, ◌⊎◌, ℕ, List, IfErr, IfOk};
+ghost use Rattle.papaya_lines.specs.Commands.{WritesCommand};
+ghost use Rattle.papaya_lines.specs.declared.commands.Command.TheVariants as asked;
 ghost use Rattle.papaya_lines.specs.declared.printed.Printed.{Printed};
+ghost use Rattle.papaya_shell.specs.Failure.{without_memory};
 
 use papaya_lines::lines::next_line;
 use papaya_lines::printed::Printed;
@@ -19,16 +22,16 @@ pub trait Obey {
     ghost is_bad: { List ℕ → Type 0 };
 
     /// Does what the line of this number asks for, and answers what is printed of it. A bad line
-    /// does nothing.
-    fn obey_line(&mut self, number: u64, line: &[u8]) -> Result<Printed, Failure>
+    /// does nothing. A walk fails where there is no memory for its pairs.
+    fn obey_line(&mut self, alloc: Global, number: u64, line: &[u8]) -> Result<Printed, Failure>
         ensures done { IfOk result (λ printed. does self.old line.now printed self.new) }
-        ensures bad { IfErr result (λ failure. is_bad line.now × (failure ≡ Failure.Line number)
-            × (self.new ≡ self.old)) };
+        ensures failed { IfErr result (λ failure. (is_bad line.now × (failure ≡ Failure.Line number)
+            × (self.new ≡ self.old)) ⊎ (WritesCommand line.now asked.Walk
+            × (failure ≡ without_memory))) };
 }
 
 /// Has the lines done, and prints their replies. A reply is written out before the reader may have
-/// to
-/// wait, so that whoever types a line sees its reply.
+/// to wait, so that whoever types a line sees its reply.
 fn obey_lines<B: Obey, R: Read, W: Write>(
     alloc: Global,
     backend: &mut B,
@@ -44,7 +47,7 @@ fn obey_lines<B: Obey, R: Read, W: Write>(
             return Ok(());
         }
         if !line.is_empty() {
-            let printed = backend.obey_line(number, &line)?;
+            let printed = backend.obey_line(alloc, number, &line)?;
             writeln!(output, "{printed}").map_err(|_| Failure::Output)?;
         }
     }

@@ -8,7 +8,6 @@ use papaya_shell::failure::Failure;
 use papaya_words::probe::{Refused, ResizeMode};
 use std::alloc::Global;
 use std::hash::BuildHasher;
-use std::io;
 use std::io::{BufReader, BufWriter, Read, Write};
 
 /// Reads the whole input.
@@ -24,10 +23,10 @@ fn print<S: BuildHasher + Drop, W: Write>(
     lines: &[Line],
     trace: &Trace,
     output: &mut W,
-) -> io::Result<Option<u64>> {
-    let mut output = BufWriter::new(alloc, output)?;
-    let passed_over = print_trace(core, lines, trace, &mut output)?;
-    output.flush()?;
+) -> Result<Option<u64>, Failure> {
+    let mut output = BufWriter::new(alloc, output).map_err(|_| Failure::Refused(Refused::Memory))?;
+    let passed_over = print_trace(alloc, core, lines, trace, &mut output)?;
+    output.flush().map_err(|_| Failure::Output)?;
     Ok(passed_over)
 }
 
@@ -46,9 +45,7 @@ pub(crate) fn run_core<S: BuildHasher + Drop, R: Read, W: Write>(
         bad_line,
     } = script_of(alloc, input)?;
     let trace = core.run(turns)?;
-    let passed_over = print(alloc, &core, lines.as_slice(), &trace, output).map_err(
-        |_| Failure::Output,
-    )?;
+    let passed_over = print(alloc, &core, lines.as_slice(), &trace, output)?;
     match passed_over.or(bad_line) {
         Some(number) => Err(Failure::Line(number)),
         None => Ok(()),

@@ -1,12 +1,15 @@
 //! The lines on a map for one caller: each is read, done and printed before the next is read.
-ghost use Rattle.std.specs.Prelude.{◌≡◌};
+ghost use Rattle.std.specs.Prelude.{◌≡◌, IfErr, IfOk};
 ghost use Rattle.papaya_lines.specs.Closures.{follower};
 ghost use Rattle.papaya_lines.specs.Commands.{WritesNone};
-ghost use Rattle.papaya_backends.specs.Seq.{Obeys, ObeysLine};
+ghost use Rattle.papaya_lines.specs.Walk.{IsByKey};
+ghost use Rattle.papaya_shell.specs.Failure.{without_memory};
+ghost use Rattle.papaya_backends.specs.Seq.{Obeys, ObeysLine, pairs_of};
 
 use crate::line_by_line::{Obey, run_lines};
 use papaya_lines::commands::{Command, command_of};
 use papaya_lines::printed::Printed;
+use papaya_lines::walk::Walk;
 use papaya_seq::seq::HashMap;
 use papaya_shell::failure::Failure;
 use papaya_words::probe::ResizeMode;
@@ -21,36 +24,56 @@ fn follower(value: &u64) -> u64
     value.wrapping_add(1)
 }
 
-/// Does what a command asks for, and answers what is printed of it.
-fn obey<S: BuildHasher + Drop>(map: &mut HashMap<u64, u64, S>, command: Command) -> Printed
-    ensures { Obeys command map.old result map.new }
+/// The pairs of the map.
+fn walk<S: BuildHasher + Drop>(alloc: Global, map: &HashMap<u64, u64, S>) -> Result<Walk, Failure>
+    ensures walked { IfOk result (IsByKey (pairs_of map.now)) }
+    ensures failed { IfErr result (λ failure. failure ≡ without_memory) }
+{
+    let mut pairs = Vec::new(alloc);
+    for (key, value) in map {
+        pairs.push((*key, *value))?;
+    }
+    Ok(Walk::new(pairs))
+}
+
+/// Does what a command asks for, and answers what is printed of it. A walk fails where there is no
+/// memory for its pairs.
+fn obey<S: BuildHasher + Drop>(
+    alloc: Global,
+    map: &mut HashMap<u64, u64, S>,
+    command: Command,
+) -> Result<Printed, Failure>
+    ensures done { IfOk result (λ printed. Obeys command map.old printed map.new) }
+    ensures failed { IfErr result (λ failure. (command ≡ Command.Walk)
+        × (failure ≡ without_memory)) }
 {
     match command {
         Command::Insert(key, value) => match map.insert(key, value) {
-            Ok(Some(old)) => Printed::Old(*old),
-            Ok(None) => Printed::Absent,
-            Err(refused) => Printed::Refused(refused),
+            Ok(Some(old)) => Ok(Printed::Old(*old)),
+            Ok(None) => Ok(Printed::Absent),
+            Err(refused) => Ok(Printed::Refused(refused)),
         },
         Command::Get(key) => match map.get(&key) {
-            Some(value) => Printed::Found(*value),
-            None => Printed::Absent,
+            Some(value) => Ok(Printed::Found(*value)),
+            None => Ok(Printed::Absent),
         },
         Command::Remove(key) => match map.remove(&key) {
-            Ok(Some(value)) => Printed::Removed(*value),
-            Ok(None) => Printed::Absent,
-            Err(refused) => Printed::Refused(refused),
+            Ok(Some(value)) => Ok(Printed::Removed(*value)),
+            Ok(None) => Ok(Printed::Absent),
+            Err(refused) => Ok(Printed::Refused(refused)),
         },
         Command::Update(key) => match map.update(key, follower) {
-            Ok(Some(value)) => Printed::New(*value),
-            Ok(None) => Printed::Absent,
-            Err(refused) => Printed::Refused(refused),
+            Ok(Some(value)) => Ok(Printed::New(*value)),
+            Ok(None) => Ok(Printed::Absent),
+            Err(refused) => Ok(Printed::Refused(refused)),
         },
-        Command::Len => Printed::Length(map.len()),
-        Command::Slots => Printed::Slots(map.slots()),
+        Command::Len => Ok(Printed::Length(map.len())),
+        Command::Slots => Ok(Printed::Slots(map.slots())),
         Command::Clear => match map.clear() {
-            Ok(()) => Printed::Done,
-            Err(refused) => Printed::Refused(refused),
+            Ok(()) => Ok(Printed::Done),
+            Err(refused) => Ok(Printed::Refused(refused)),
         },
+        Command::Walk => Ok(Printed::Walk(walk(alloc, map)?)),
     }
 }
 
@@ -59,9 +82,9 @@ impl<S: BuildHasher + Drop> Obey for HashMap<u64, u64, S> {
 
     ghost is_bad = { WritesNone };
 
-    fn obey_line(&mut self, number: u64, line: &[u8]) -> Result<Printed, Failure> {
+    fn obey_line(&mut self, alloc: Global, number: u64, line: &[u8]) -> Result<Printed, Failure> {
         match command_of(line) {
-            Some(command) => Ok(obey(self, command)),
+            Some(command) => obey(alloc, self, command),
             None => Err(Failure::Line(number)),
         }
     }

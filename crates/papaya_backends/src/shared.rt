@@ -1,10 +1,11 @@
 //! The lines on the map that threads share, by one pass: each is read, done and printed before the
 //! next is read.
-ghost use Rattle.std.specs.Prelude.{◌≡◌, MatchOption, option_map};
+ghost use Rattle.std.specs.Prelude.{◌≡◌, ◌⊎◌, IfErr, IfOk, option_map};
 ghost use mathlib.Core.List.{IsPrefix};
 ghost use Rattle.papaya_lines.specs.Closures.{operation_of};
 ghost use Rattle.papaya_lines.specs.declared.commands.Command.TheVariants as asked;
-ghost use Rattle.papaya_backends.specs.Shared.{IsBad, IsCleared, IsFollowed, IsMissing, Obeys, ObeysLine};
+ghost use Rattle.papaya_shell.specs.Failure.{without_memory};
+ghost use Rattle.papaya_backends.specs.Shared.{IsBad, IsCleared, IsFollowed, IsMissing, IsWalked, Obeys, ObeysLine, WereHad};
 
 use crate::line_by_line::{Obey, run_lines};
 use papaya_call::answers::Answers;
@@ -12,8 +13,10 @@ use papaya_keys::compute::Compute;
 use papaya_lines::closures::Answering;
 use papaya_lines::commands::{Command, command_of};
 use papaya_lines::printed::Printed;
+use papaya_lines::walk::Walk;
 use papaya_map::map::{HashMap, HashMapRef, Pass};
 use papaya_shell::failure::Failure;
+use papaya_sweep::walk::Iter;
 use papaya_words::probe::{Refused, ResizeMode};
 use std::alloc::Global;
 use std::hash::BuildHasher;
@@ -22,6 +25,22 @@ use std::sync::Wait;
 
 /// Over how many shards the pairs are counted.
 const SHARDS: usize = 16;
+
+/// The pairs that a walk gives.
+fn listed<S: BuildHasher + Drop>(
+    alloc: Global,
+    pairs: Iter<'_, u64, u64, S>,
+) -> Result<Vec<(u64, u64)>, Failure>
+    ensures had { IfOk result (λ listed. WereHad pairs.entry.began pairs.entry.history
+        listed.items) }
+    ensures failed { IfErr result (λ failure. failure ≡ without_memory) }
+{
+    let mut listed = Vec::new(alloc);
+    for (key, value) in pairs {
+        listed.push((*key, *value))?;
+    }
+    Ok(listed)
+}
 
 /// One caller of the shared map, and its pass, which that map has made.
 #[derive(Drop)]
@@ -140,22 +159,41 @@ impl<'a, H: Wait, S: BuildHasher + Drop> Caller<'a, H, S> {
         }
     }
 
-    /// Does what a command asks for, and answers what is printed of it. None where the shared map
-    /// has no such command.
-    fn obey(&mut self, command: Command) -> Option<Printed>
+    /// Walks over the map, and answers what is printed of it. It fails where there is no memory for
+    /// the pairs.
+    fn walk(&mut self, alloc: Global) -> Result<Printed, Failure>
         ensures map { self.new.pinned ≡ self.old.pinned }
         ensures seen { IsPrefix self.old.pass.history self.new.pass.history }
-        ensures obeys { MatchOption result (IsMissing command × (self.new ≡ self.old))
-            (λ printed. Obeys command self.old.pass.history printed self.new.pass.history) }
+        ensures obeys { IfOk result (λ printed. IsWalked self.old.pass.history printed
+            self.new.pass.history) }
+        ensures failed { IfErr result (λ failure. failure ≡ without_memory) }
+    {
+        match self.pinned.iter_as(self.rt, &mut self.pass) {
+            Ok(pairs) => Ok(Printed::Walk(Walk::new(listed(alloc, pairs)?))),
+            Err(refused) => Ok(Printed::Refused(refused)),
+        }
+    }
+
+    /// Does what the command of the line of this number asks for, and answers what is printed of
+    /// it. It fails where the shared map has no such command, and where a walk does.
+    fn obey(&mut self, alloc: Global, number: u64, command: Command) -> Result<Printed, Failure>
+        ensures map { self.new.pinned ≡ self.old.pinned }
+        ensures seen { IsPrefix self.old.pass.history self.new.pass.history }
+        ensures obeys { IfOk result (λ printed. Obeys command self.old.pass.history printed
+            self.new.pass.history) }
+        ensures failed { IfErr result (λ failure. (IsMissing command
+            × (failure ≡ Failure.Line number) × (self.new ≡ self.old))
+            ⊎ ((command ≡ asked.Walk) × (failure ≡ without_memory))) }
     {
         match command {
-            Command::Insert(key, value) => Some(self.insert(key, value)),
-            Command::Get(key) => Some(self.look_up(key)),
-            Command::Remove(key) => Some(self.remove(key)),
-            Command::Update(key) => Some(self.follow(key)),
-            Command::Len => Some(Printed::Length(self.map.len())),
-            Command::Clear => Some(self.clear()),
-            Command::Slots => None,
+            Command::Insert(key, value) => Ok(self.insert(key, value)),
+            Command::Get(key) => Ok(self.look_up(key)),
+            Command::Remove(key) => Ok(self.remove(key)),
+            Command::Update(key) => Ok(self.follow(key)),
+            Command::Len => Ok(Printed::Length(self.map.len())),
+            Command::Clear => Ok(self.clear()),
+            Command::Walk => self.walk(alloc),
+            Command::Slots => Err(Failure::Line(number)),
         }
     }
 }
@@ -167,12 +205,9 @@ impl<H: Wait, S: BuildHasher + Drop> Obey for Caller<'_, H, S> {
 
     ghost is_bad = { IsBad };
 
-    fn obey_line(&mut self, number: u64, line: &[u8]) -> Result<Printed, Failure> {
-        let Some(command) = command_of(line) else {
-            return Err(Failure::Line(number));
-        };
-        match self.obey(command) {
-            Some(printed) => Ok(printed),
+    fn obey_line(&mut self, alloc: Global, number: u64, line: &[u8]) -> Result<Printed, Failure> {
+        match command_of(line) {
+            Some(command) => self.obey(alloc, number, command),
             None => Err(Failure::Line(number)),
         }
     }

@@ -4,7 +4,7 @@ use Rattle.std.specs.Prelude.{◌⊎◌, Option, None, Some, MatchOption}
 use Rattle.papaya_lines.specs.Commands.{Parts, WritesBare, WritesCommand, keyed_word}
 use Rattle.papaya_lines.specs.Numbers.{WritesNumber}
 use Rattle.papaya_lines.specs.declared.commands.Command.{Command}
-use Rattle.papaya_lines.specs.declared.commands.Command.TheVariants.{Insert, Get, Remove, Update, Len, Slots, Clear}
+use Rattle.papaya_lines.specs.declared.commands.Command.TheVariants.{Insert, Get, Remove, Update, Len, Slots, Clear, Walk}
 use Rattle.papaya_lines.specs.declared.commands.Keyed.{Keyed}
 use Rattle.papaya_lines.specs.declared.commands.Keyed.TheVariants as keyed
 use Rattle.papaya_lines.proofs.PartLemmas.{above_no_space, cut_once, first, has_cut, number_no_space}
@@ -31,6 +31,9 @@ slots_no_space = above_no_space (codes "slots") (omega arith, (omega arith, (ome
 clear_no_space : ¬ (Contains (codes "clear") 32)
 clear_no_space = above_no_space (codes "clear") (omega arith, (omega arith, (omega arith, (omega arith, (omega arith, tt)))))
 
+walk_no_space : ¬ (Contains (codes "walk") 32)
+walk_no_space = above_no_space (codes "walk") (omega arith, (omega arith, (omega arith, (omega arith, tt))))
+
 -- what the two parts are of a command's text
 abbrev CommandParts : List ℕ → List ℕ → Command → Type 0
 CommandParts name rest (Insert k v) = (codes "i" ≡ name) × (key value : List ℕ) × WritesNumber key k × WritesNumber value v × (rest ≡ key ++ 32 ∷ value)
@@ -40,6 +43,7 @@ CommandParts name rest (Update k) = (codes "u" ≡ name) × WritesNumber rest k
 CommandParts name rest Len = ⊥
 CommandParts name rest Slots = ⊥
 CommandParts name rest Clear = ⊥
+CommandParts name rest Walk = ⊥
 
 -- a word without a space has no two parts
 no_parts : (text word name rest : List ℕ) → ¬ (Contains word 32) → Parts text name rest → text ≡ word → ⊥
@@ -62,6 +66,7 @@ command_parts text name rest (Update k) parts w = keyed_parts text (codes "u") n
 command_parts text name rest Len parts w = no_parts text (codes "len") name rest len_no_space parts w
 command_parts text name rest Slots parts w = no_parts text (codes "slots") name rest slots_no_space parts w
 command_parts text name rest Clear parts w = no_parts text (codes "clear") name rest clear_no_space parts w
+command_parts text name rest Walk parts w = no_parts text (codes "walk") name rest walk_no_space parts w
 
 -- a text without a space that is no command's word is no command
 no_bare : (text : List ℕ) → ¬ (Contains text 32) → ((command : Command) → ¬ (WritesBare text command)) → (command : Command) → ¬ (WritesCommand text command)
@@ -72,6 +77,7 @@ no_bare text none other (Update k) (key, w, e) = none (has_cut text (codes "u") 
 no_bare text none other Len w = other Len w
 no_bare text none other Slots w = other Slots w
 no_bare text none other Clear w = other Clear w
+no_bare text none other Walk w = other Walk w
 
 -- a command's word is the command
 bare_command : (text : List ℕ) (command : Command) → WritesBare text command → WritesCommand text command
@@ -82,6 +88,7 @@ bare_command text (Update k) w = absurd w
 bare_command text Len w = w
 bare_command text Slots w = w
 bare_command text Clear w = w
+bare_command text Walk w = w
 
 -- what a text without a space says as a word, it says as a command
 pub bare_is : (text : List ℕ) (r : Option Command) → ¬ (Contains text 32) → MatchOption r ((command : Command) → ¬ (WritesBare text command)) (WritesBare text) → MatchOption r ((command : Command) → ¬ (WritesCommand text command)) (WritesCommand text)
@@ -97,6 +104,7 @@ no_name text name rest parts none (Update k) w = none keyed.Update (sym (command
 no_name text name rest parts none Len w = command_parts text name rest Len parts w
 no_name text name rest parts none Slots w = command_parts text name rest Slots parts w
 no_name text name rest parts none Clear w = command_parts text name rest Clear parts w
+no_name text name rest parts none Walk w = command_parts text name rest Walk parts w
 
 -- what an insertion has behind its name
 inserts : (text name rest : List ℕ) → Parts text name rest → name ≡ codes "i" → (command : Command) → WritesCommand text command → ((k v : ℕ) (key value : List ℕ) → WritesNumber key k → WritesNumber value v → rest ≡ key ++ 32 ∷ value → ⊥) → ⊥
@@ -109,6 +117,7 @@ inserts text name rest parts named (Update k) w then = let h : 117 ≡ 105 = ap 
 inserts text name rest parts named Len w then = command_parts text name rest Len parts w
 inserts text name rest parts named Slots w then = command_parts text name rest Slots parts w
 inserts text name rest parts named Clear w then = command_parts text name rest Clear parts w
+inserts text name rest parts named Walk w then = command_parts text name rest Walk parts w
 
 -- an insertion with no space behind its key
 pub no_value : (text name rest : List ℕ) → Parts text name rest → name ≡ codes "i" → ¬ (Contains rest 32) → (command : Command) → ¬ (WritesCommand text command)

@@ -2,7 +2,7 @@
 use Rattle.std.proofs.Common.{◌≡◌, ◌≢◌, ℕ, List, ◌∷◌, ◌++◌, true, false, sym, ◌∙◌, ap, subst, arith, Contains, codes, inl, inr}
 use Rattle.std.specs.Prelude.{◌⊎◌, Option, None, MatchOption}
 use Rattle.papaya_ask.specs.declared.call.Call.{Call}
-use Rattle.papaya_ask.specs.declared.call.Call.TheVariants.{Get, Insert, RemoveIf, Compute}
+use Rattle.papaya_ask.specs.declared.call.Call.TheVariants.{Get, Insert, RemoveIf, Compute, Clear, Walk}
 use Rattle.papaya_timeline.specs.declared.trace.Turn.{Turn}
 use Rattle.papaya_timeline.specs.declared.trace.Turn.TheVariants.{Begin, Step, Finish}
 use Rattle.papaya_lines.specs.Commands.{Parts, WritesCommand}
@@ -33,6 +33,8 @@ no_command text none (Get k) w = none (command.Get k) w
 no_command text none (Insert k v) w = none (command.Insert k v) w
 no_command text none (RemoveIf k agrees) w = none (command.Remove k) w
 no_command text none (Compute k answers) w = none (command.Update k) w
+no_command text none Clear w = none command.Clear w
+no_command text none Walk w = none command.Walk w
 no_command text none _ w = w
 
 -- the word that a turn's line begins with

@@ -2,7 +2,7 @@
 use Rattle.std.specs.Prelude.{◌≡◌, ℕ, List, [], ◌∷◌, ◌++◌, Contains, codes}
 use Rattle.papaya_lines.specs.Numbers.{WritesNumber}
 use Rattle.papaya_lines.specs.declared.commands.Command.{Command}
-use Rattle.papaya_lines.specs.declared.commands.Command.TheVariants.{Insert, Get, Remove, Update, Len, Slots, Clear}
+use Rattle.papaya_lines.specs.declared.commands.Command.TheVariants.{Insert, Get, Remove, Update, Len, Slots, Clear, Walk}
 use Rattle.papaya_lines.specs.declared.commands.Keyed.{Keyed}
 use Rattle.papaya_lines.specs.declared.commands.Keyed.TheVariants as keyed
 
@@ -28,6 +28,7 @@ abbrev pub WritesBare : List ℕ → Command → Type 0
 WritesBare text Len = text ≡ codes "len"
 WritesBare text Slots = text ≡ codes "slots"
 WritesBare text Clear = text ≡ codes "clear"
+WritesBare text Walk = text ≡ codes "walk"
 WritesBare text (Insert k v) = ⊥
 WritesBare text (Get k) = ⊥
 WritesBare text (Remove k) = ⊥
@@ -47,6 +48,7 @@ WritesCommand text (Update k) = WritesKeyed text (codes "u") k
 WritesCommand text Len = text ≡ codes "len"
 WritesCommand text Slots = text ≡ codes "slots"
 WritesCommand text Clear = text ≡ codes "clear"
+WritesCommand text Walk = text ≡ codes "walk"
 
 -- the text is no command
 abbrev pub WritesNone : List ℕ → Type 0

@@ -7,3 +7,4 @@ pub mod Printed
 pub mod Replies
 pub mod Script
 pub mod Turns
+pub mod Walk

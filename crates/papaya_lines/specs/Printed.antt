@@ -2,6 +2,7 @@
 use Rattle.std.specs.Prelude.{List, ℕ, ◌∷◌, ◌++◌, codes}
 use Rattle.std.specs.Fmt.{decimal}
 use Rattle.papaya_words.specs.Refusals.{number_of, name_of}
+use Rattle.papaya_lines.specs.Walk.{pairs_text}
 use Rattle.papaya_lines.specs.declared.printed.Printed.{Printed}
 use Rattle.papaya_lines.specs.declared.printed.Printed.TheVariants as printed
 
@@ -14,6 +15,7 @@ text_of (printed.New value) = codes "new " ++ decimal value
 text_of (printed.Removed value) = codes "removed " ++ decimal value
 text_of (printed.Length count) = codes "len " ++ decimal count
 text_of (printed.Slots count) = codes "slots " ++ decimal count
+text_of (printed.Walk pairs) = codes "walk" ++ pairs_text pairs
 text_of printed.Done = codes "ok"
 text_of (printed.Refused refused) = codes "refused " ++ decimal (number_of refused) ++ 32
     ∷ name_of refused

@@ -1,5 +1,5 @@
 -- What is printed of a core's replies.
-use Rattle.std.specs.Prelude.{ℕ, Bool, true, false, Option, None, Some, option_map}
+use Rattle.std.specs.Prelude.{ℕ, Bool, true, false, Option, Some, option_map}
 use Rattle.papaya_ask.specs.declared.call.Reply.{Reply}
 use Rattle.papaya_ask.specs.declared.call.Reply.TheVariants.{Absent, Found, Inserted, Replaced, Occupied, Removed, Kept, Aborted, Done, Refused}
 use Rattle.papaya_store.specs.Store.{StoreState, pair_of}
@@ -26,4 +26,4 @@ printed_of s is_update (Occupied n) = option_map (λ v. printed.Found v) (value_
 printed_of s is_update (Replaced old new) = replaced_by s is_update old new
 printed_of s is_update (Removed n) = option_map (λ v. printed.Removed v) (value_in s n)
 printed_of s is_update (Refused refused) = Some (printed.Refused refused)
-printed_of s is_update Done = None
+printed_of s is_update Done = Some printed.Done

@@ -4,7 +4,7 @@ use Rattle.papaya_timeline.specs.declared.trace.Turn.{Turn}
 use Rattle.papaya_timeline.specs.declared.trace.Turn.TheVariants.{Begin, Step, Finish}
 use Rattle.papaya_lines.specs.declared.closures.Answering.{Answering}
 use Rattle.papaya_ask.specs.declared.call.Call.{Call}
-use Rattle.papaya_ask.specs.declared.call.Call.TheVariants.{Compute}
+use Rattle.papaya_ask.specs.declared.call.Call.TheVariants.{Compute, Walk}
 use Rattle.papaya_lines.specs.declared.script.Line.{Line}
 use Rattle.papaya_lines.specs.declared.script.Part.{Part}
 use Rattle.papaya_lines.specs.declared.script.Part.TheVariants as part
@@ -14,6 +14,7 @@ use Rattle.papaya_lines.specs.Turns.{WritesTurn}
 -- what the begin of a call is
 abbrev pub part_of : Call ℕ ℕ Answering → Part
 part_of (Compute k answers) = part.Update
+part_of Walk = part.Walk
 part_of _ = part.Call
 
 -- the line of this number that asks for the turn

@@ -1,7 +1,7 @@
 -- What the lines of a script say.
 use Rattle.std.specs.Prelude.{◌≡◌, ℕ, ◌<◌, true, false, List, [], ◌∷◌, codes}
 use Rattle.papaya_ask.specs.declared.call.Call.{Call}
-use Rattle.papaya_ask.specs.declared.call.Call.TheVariants.{Get, Insert, RemoveIf, Compute}
+use Rattle.papaya_ask.specs.declared.call.Call.TheVariants.{Get, Insert, RemoveIf, Compute, Clear, Walk}
 use Rattle.papaya_timeline.specs.declared.trace.Turn.{Turn}
 use Rattle.papaya_timeline.specs.declared.trace.Turn.TheVariants.{Begin, Step, Finish}
 use Rattle.papaya_lines.specs.Commands.{WritesCommand, spaced}
@@ -21,6 +21,8 @@ WritesCall text (Get k) = WritesCommand text (command.Get k)
 WritesCall text (Insert k v) = WritesCommand text (command.Insert k v)
 WritesCall text (RemoveIf k agrees) = WritesCommand text (command.Remove k)
 WritesCall text (Compute k answers) = WritesCommand text (command.Update k)
+WritesCall text Clear = WritesCommand text command.Clear
+WritesCall text Walk = WritesCommand text command.Walk
 WritesCall text _ = ⊥
 
 -- the word of a verb

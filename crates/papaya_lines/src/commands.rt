@@ -23,6 +23,8 @@ pub enum Command {
     Slots,
     /// Removes all pairs.
     Clear,
+    /// All pairs.
+    Walk,
 }
 
 /// What stands before the first space, and what after it.
@@ -64,6 +66,7 @@ fn bare_of(word: &[u8]) -> Option<Command>
         b"len" => Some(Command::Len),
         b"slots" => Some(Command::Slots),
         b"clear" => Some(Command::Clear),
+        b"walk" => Some(Command::Walk),
         _ => None,
     }
 }

@@ -12,3 +12,4 @@ pub mod printed;
 pub mod replies;
 pub mod script;
 pub mod turns;
+pub mod walk;

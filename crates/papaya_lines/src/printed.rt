@@ -1,9 +1,10 @@
 //! The text of a reply.
+use crate::walk::Walk;
 use papaya_words::probe::Refused;
 use std::fmt;
 
 /// What is printed of a reply.
-#[derive(Clone, Copy, Debug, PartialEq, Eq)]
+#[derive(Drop)]
 pub enum Printed {
     /// There is no such pair, or there was none.
     Absent,
@@ -19,6 +20,8 @@ pub enum Printed {
     Length(usize),
     /// How many slots the root table has.
     Slots(usize),
+    /// The pairs of a walk.
+    Walk(Walk),
     /// All was done that was asked for.
     Done,
     /// Why the call changed nothing.
@@ -32,7 +35,7 @@ impl fmt::Display for Printed {
     ghost output = { λ printed. Some (text_of printed) };
 
     fn fmt<W: fmt::Write>(&self, f: &mut fmt::Formatter<W>) -> fmt::Result {
-        match *self {
+        match self {
             Printed::Absent => f.write_str("none"),
             Printed::Found(value) => write!(f, "some {value}"),
             Printed::Old(value) => write!(f, "old {value}"),
@@ -40,6 +43,7 @@ impl fmt::Display for Printed {
             Printed::Removed(value) => write!(f, "removed {value}"),
             Printed::Length(count) => write!(f, "len {count}"),
             Printed::Slots(count) => write!(f, "slots {count}"),
+            Printed::Walk(pairs) => write!(f, "walk{pairs}"),
             Printed::Done => f.write_str("ok"),
             Printed::Refused(refused) => {
                 let number = refused.number();

@@ -6,11 +6,13 @@ use crate::closures::Answering;
 use crate::printed::Printed;
 use crate::script::{Line, Part};
 use crate::turns::CALLERS;
+use crate::walk::Walk;
 use papaya_ask::call::Reply;
 use papaya_core::schedule::Core;
 use papaya_core::trace::{Entry, Event, Trace};
+use papaya_shell::failure::Failure;
+use std::alloc::Global;
 use std::hash::BuildHasher;
-use std::io;
 use std::io::Write;
 
 /// The value of a pair that was stored.
@@ -39,71 +41,100 @@ fn printed_of<S: BuildHasher + Drop>(
         Reply::Replaced { old, .. } => Some(Printed::Old(value_of(core, old)?)),
         Reply::Removed(pair) => Some(Printed::Removed(value_of(core, pair)?)),
         Reply::Refused(refused) => Some(Printed::Refused(refused)),
-        // No line begins a call that replies so.
-        Reply::Done => None,
+        Reply::Done => Some(Printed::Done),
     }
 }
 
-/// Of each caller whether its last call was an update.
+/// Of each caller what its last call is, as far as what is printed hangs on it.
 #[derive(Drop)]
-struct Updates([bool; CALLERS as usize]);
+struct Calls([Part; CALLERS as usize]);
 
-impl Updates {
-    /// Notes what a line begins, and answers whether its caller's call is an update.
-    fn note(&mut self, line: Line) -> bool {
-        let Some(is_update) = self.0.get_mut(line.caller) else {
-            return false;
+impl Calls {
+    /// Notes what a line begins, and answers what its caller's call is.
+    fn note(&mut self, line: Line) -> Part {
+        let Some(begun) = self.0.get_mut(line.caller) else {
+            return line.part;
         };
         match line.part {
-            Part::Update => *is_update = true,
-            Part::Call => *is_update = false,
+            Part::Update | Part::Walk | Part::Call => *begun = line.part,
             Part::Step | Part::Finish => {}
         }
-        *is_update
+        *begun
     }
 }
 
-/// Prints what a line prints, whose entries these are: its reply, or that its call is running
-/// still.
-fn print_line<S: BuildHasher + Drop, W: Write>(
+/// The pairs that a caller's last call gave up to this turn, of which these entries tell.
+fn given<S: BuildHasher + Drop>(
+    alloc: Global,
     core: &Core<u64, u64, S, Answering>,
-    line: Line,
-    is_update: bool,
+    caller: usize,
+    turn: usize,
     entries: &[Entry],
-    output: &mut W,
-) -> io::Result<()> {
-    let caller = line.caller;
-    for entry in entries {
-        if let Event::Replied(reply) = entry.event {
-            return match printed_of(core, is_update, reply) {
-                Some(printed) => writeln!(output, "{caller}: {printed}"),
-                None => Ok(()),
-            };
+) -> Result<Vec<(u64, u64)>, Failure> {
+    let mut pairs = Vec::new(alloc);
+    for entry in entries.iter().rev() {
+        if entry.turn > turn || entry.caller != caller {
+            continue;
+        }
+        match entry.event {
+            Event::Begun => break,
+            Event::Gave(pair) => {
+                if let Some((key, value)) = core.pair(pair) {
+                    pairs.push((*key, *value))?;
+                }
+            }
+            _ => {}
         }
     }
-    if line.part == Part::Finish {
-        return writeln!(output, "{caller}: running");
+    Ok(pairs)
+}
+
+/// The reply among these entries.
+fn reply_of(entries: &[Entry]) -> Option<Reply> {
+    for entry in entries {
+        if let Event::Replied(reply) = entry.event {
+            return Some(reply);
+        }
     }
-    Ok(())
+    None
 }
 
 /// Prints what the lines print, and answers the number of the first line whose turn was passed
 /// over, if there is one. Such a turn has no entry in the trace; no line behind it prints.
 pub fn print_trace<S: BuildHasher + Drop, W: Write>(
+    alloc: Global,
     core: &Core<u64, u64, S, Answering>,
     lines: &[Line],
     trace: &Trace,
     output: &mut W,
-) -> io::Result<Option<u64>> {
-    let mut left = trace.entries.as_slice();
-    let mut updates = Updates([false; CALLERS as usize]);
+) -> Result<Option<u64>, Failure> {
+    let entries = trace.entries.as_slice();
+    let mut left = entries;
+    let mut calls = Calls([Part::Call; CALLERS as usize]);
     for (turn, line) in lines.iter().enumerate() {
         let count = left.iter().take_while(|entry| entry.turn == turn).count();
         if count == 0 {
             return Ok(Some(line.number));
         }
-        let (entries, rest) = left.split_at(count);
-        print_line(core, *line, updates.note(*line), entries, output)?;
+        let (own, rest) = left.split_at(count);
+        let call = calls.note(*line);
+        let caller = line.caller;
+        match reply_of(own) {
+            Some(reply) => {
+                let printed = if call == Part::Walk && reply == Reply::Done {
+                    Some(Printed::Walk(Walk::new(given(alloc, core, caller, turn, entries)?)))
+                } else {
+                    printed_of(core, call == Part::Update, reply)
+                };
+                if let Some(printed) = printed {
+                    writeln!(output, "{caller}: {printed}").map_err(|_| Failure::Output)?;
+                }
+            }
+            None if line.part == Part::Finish => {
+                writeln!(output, "{caller}: running").map_err(|_| Failure::Output)?;
+            }
+            None => {}
+        }
         left = rest;
     }
     Ok(None)

@@ -16,6 +16,8 @@ use std::io::BufRead;
 pub enum Part {
     /// It begins an update, of whose reply the new value is printed.
     Update,
+    /// It begins a walk, of whose reply the pairs are printed that it gave.
+    Walk,
     /// It begins another call.
     Call,
     Step,
@@ -38,6 +40,7 @@ fn line_of(number: u64, turn: &Turn<u64, u64, Answering>) -> Line
 {
     let (caller, part) = match turn {
         Turn::Begin(caller, Call::Compute(..)) => (*caller, Part::Update),
+        Turn::Begin(caller, Call::Walk) => (*caller, Part::Walk),
         Turn::Begin(caller, _) => (*caller, Part::Call),
         Turn::Step(caller, _) => (*caller, Part::Step),
         Turn::Finish(caller, _) => (*caller, Part::Finish),

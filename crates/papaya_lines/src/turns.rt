@@ -41,7 +41,9 @@ fn call_of(text: &[u8]) -> Option<Call<u64, u64, Answering>>
         Command::Insert(key, value) => Some(Call::Insert(key, value)),
         Command::Remove(key) => Some(Call::RemoveIf(key, Answering)),
         Command::Update(key) => Some(Call::Compute(key, Answering)),
-        Command::Len | Command::Slots | Command::Clear => None,
+        Command::Clear => Some(Call::Clear),
+        Command::Walk => Some(Call::Walk),
+        Command::Len | Command::Slots => None,
     }
 }
 
