@@ -136,46 +136,6 @@ fn a_walker_meets_the_first_keys_while_the_map_grows(rt: HostRuntime) -> Result<
     Ok(())
 }
 
-/// This text is one of the two.
-fn is_either(rt: &impl Abort, text: &str, one: &str, other: &str) {
-    is(rt, text == one || text == other, true);
-}
-
-#[test]
-fn a_map_prints_its_pairs_and_its_walks_what_is_left(rt: HostRuntime) -> Result<(), Fail> {
-    let alloc = rt.alloc();
-    for mode in MODES {
-        let map = made(&rt, alloc, mode, 0, 4)?;
-        is(&rt, format!(in alloc; "{map:?}")?.as_str(), "{}");
-        let pinned = map.pin();
-        is(&rt, pinned.insert(&rt, 42, 0), Ok(None));
-        is(&rt, pinned.insert(&rt, 16, 8), Ok(None));
-        let text = format!(in alloc; "{map:?}")?;
-        is_either(&rt, text.as_str(), "{42: 0, 16: 8}", "{16: 8, 42: 0}");
-        let text = format!(in alloc; "{pinned:?}")?;
-        is_either(&rt, text.as_str(), "{42: 0, 16: 8}", "{16: 8, 42: 0}");
-        let pairs = format!(in alloc; "{:?}", pinned.iter(&rt)?)?;
-        is_either(
-            &rt,
-            pairs.as_str(),
-            "[(42, 0), (16, 8)]",
-            "[(16, 8), (42, 0)]",
-        );
-        let keys = format!(in alloc; "{:?}", pinned.keys(&rt)?)?;
-        is_either(
-            &rt,
-            keys.as_str(),
-            "Keys([(42, 0), (16, 8)])",
-            "Keys([(16, 8), (42, 0)])",
-        );
-        let mut values = pinned.values(&rt)?;
-        let _ = values.next();
-        let left = format!(in alloc; "{values:?}")?;
-        is_either(&rt, left.as_str(), "Values([(42, 0)])", "Values([(16, 8)])");
-    }
-    Ok(())
-}
-
 /// How often the text has this byte.
 fn count(text: &str, byte: u8) -> u64 {
     let mut found = 0u64;
