@@ -14,8 +14,12 @@ use std::thread::Threads;
 
 /// Two rounds at 64 keys. The values are the keys' numbers, which sum to 2016; what is not there
 /// counts 1; and the second round of replacements finds each value 1 greater.
-const CHECKED: &str =
-    "get-hit: seq 4032 shared 4032 threads 4032\nget-miss: seq 128 shared 128 threads 128\ninsert-fresh: seq 128 shared 128 threads 128\ninsert-replace: seq 4096 shared 4096 threads 4096\nremove-insert: seq 4160 shared 4160 threads 4160\n";
+const CHECKED: &str = "\
+get-hit: seq 4032 shared 4032 threads 4032\n\
+get-miss: seq 128 shared 128 threads 128\n\
+insert-fresh: seq 128 shared 128 threads 128\n\
+insert-replace: seq 4096 shared 4096 threads 4096\n\
+remove-insert: seq 4160 shared 4160 threads 4160\n";
 
 /// Asserts that this was written, in a run with these arguments.
 fn has_written<A: Abort>(rt: &A, found: &[u8], wanted: &str, args: &[String]) -> Result<(), Fail> {

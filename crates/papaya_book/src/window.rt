@@ -35,7 +35,8 @@ impl<'a, K: Hash + Eq, V, S: BuildHasher> Window<'a, K, V, S> {
     ghost use Rattle.papaya_ask.specs.Search.{IsSize};
     ghost use Rattle.papaya_book.specs.Books.{IsLeft, Seals, root_then};
     ghost use Rattle.papaya_book.specs.Limits.{IsFull};
-    ghost use Rattle.papaya_book.specs.Windows.{CanPutSlot, CanTrySlot, Does, IsIn, IsLawful, IsMade, IsNext, IsRoot, IsSlot, IsSlotWord, IsTable, Opens, PutsSlot, Sees, TriesSlot};
+    ghost use Rattle.papaya_book.specs.Windows.{CanPutSlot, CanTrySlot, Does, IsIn, IsLawful, IsMade, IsNext, IsRoot};
+    ghost use Rattle.papaya_book.specs.Windows.{IsSlot, IsSlotWord, IsTable, Opens, PutsSlot, Sees, TriesSlot};
     ghost use Rattle.papaya_book.specs.declared.rule.entry.Named.TheVariants.{Pair as PairNamed, Table as TableNamed};
 
     /// What one who has seen so much, and made these exchanges, sees of the book.

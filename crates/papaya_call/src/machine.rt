@@ -4,7 +4,9 @@ ghost use Rattle.papaya_ask.specs.Search.{IsSize, IsSeen, IsWithin};
 ghost use Rattle.papaya_ask.specs.declared.call.Task.{Task};
 ghost use Rattle.papaya_call.specs.Compute.{IsGap};
 ghost use Rattle.papaya_words.specs.Mode.{IsChunked};
-ghost use Rattle.papaya_call.specs.Machine.{IsFit, IsFitAsk, IsStanding, IsStandingState, IsLookup, MayInsert, IsComputer, started, ask_of, kind_of_ask, after, absent, at_root, goes, found, passes, left, beaten, written, at_word, at_exchanged, at_found, at_yes, at_op, state_op, at_size, state_made, at_ok, at_refused};
+ghost use Rattle.papaya_call.specs.Machine.{IsFit, IsFitAsk, IsStanding, IsStandingState, IsLookup, MayInsert, IsComputer, started, ask_of};
+ghost use Rattle.papaya_call.specs.Machine.{kind_of_ask, after, absent, at_root, goes, found, passes, left, beaten, written, at_word};
+ghost use Rattle.papaya_call.specs.Machine.{at_exchanged, at_found, at_yes, at_op, state_op, at_size, state_made, at_ok, at_refused};
 
 use crate::compute::{Gap, Purpose, Put, Remembered};
 use crate::need::Need;

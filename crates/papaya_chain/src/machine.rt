@@ -5,7 +5,9 @@ ghost use Rattle.papaya_words.specs.Mode.{IsChunked};
 ghost use Rattle.papaya_call.specs.Machine.{IsFit as IsCallFit};
 ghost use Rattle.papaya_copy.specs.Copying.{IsStandingCopied, IsStandingCopying};
 ghost use Rattle.papaya_copy.specs.Link.{IsStandingLink, IsStandingLinked};
-ghost use Rattle.papaya_chain.specs.Machine.{IsFit, IsFitAsk, IsStanding, after, after_copied, after_linked, ask_of, begins_anew, called, copying_after, enters, follows_of, grows, kind_of_ask, link_after, onward, refuses, started, stepped};
+ghost use Rattle.papaya_chain.specs.Machine.{IsFit, IsFitAsk, IsStanding, after, after_copied, after_linked, ask_of};
+ghost use Rattle.papaya_chain.specs.Machine.{begins_anew, called, copying_after, enters, follows_of, grows, kind_of_ask};
+ghost use Rattle.papaya_chain.specs.Machine.{link_after, onward, refuses, started, stepped};
 
 use crate::ask::{Answer, Ask};
 use papaya_ask::ask::{Answer as CallAnswer, StepKind};

@@ -10,7 +10,8 @@ ghost use Rattle.papaya_book.specs.Logs.{pair_named};
 ghost use Rattle.papaya_book.specs.Windows.{HasCome, IsIn, IsLawful, Sees};
 ghost use Rattle.papaya_change.specs.Copier.{tried_answer};
 ghost use Rattle.papaya_book.specs.declared.rule.own.Given.TheVariants.{Sum};
-ghost use Rattle.papaya_change.specs.Copiers.{CanAnswer, CanExchange, CanJoin, CanReach, CanTryFor, Answers, Carries, Exchanges, HasMade, HasTried, IsSizeOf, Joins, Loads, TriesFor};
+ghost use Rattle.papaya_change.specs.Copiers.{CanAnswer, CanExchange, CanJoin, CanReach, CanTryFor, Answers, Carries};
+ghost use Rattle.papaya_change.specs.Copiers.{Exchanges, HasMade, HasTried, IsSizeOf, Joins, Loads, TriesFor};
 
 use boxcar::Pushed;
 use logbook::Pen;

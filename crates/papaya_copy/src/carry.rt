@@ -1,7 +1,9 @@
 //! A copier puts the pair of a marked word into a table.
 ghost use Rattle.std.specs.Prelude.{◌≡◌};
 ghost use Rattle.std.specs.Int.{IsPowerOfTwo};
-ghost use Rattle.papaya_copy.specs.Carry.{IsStandingCarry, IsStandingCarried, at_count, at_exchanged, at_found, at_hash, at_made, at_refused, at_size, at_word, at_yes, carried_on, carry_ask, carry_follows, carry_kind, goes_on, look, passed};
+ghost use Rattle.papaya_copy.specs.Carry.{IsStandingCarry, IsStandingCarried, at_count, at_exchanged, at_found, at_hash};
+ghost use Rattle.papaya_copy.specs.Carry.{at_made, at_refused, at_size, at_word, at_yes, carried_on};
+ghost use Rattle.papaya_copy.specs.Carry.{carry_ask, carry_follows, carry_kind, goes_on, look, passed};
 ghost use Rattle.papaya_copy.specs.Link.{IsFitCopyAsk, IsStandingLinked};
 ghost use Rattle.papaya_ask.specs.Search.{IsSize, IsWithin};
 

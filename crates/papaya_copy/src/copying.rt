@@ -1,7 +1,9 @@
 //! The copy of the root, for what a call wants of it.
 ghost use Rattle.std.specs.Prelude.{◌≡◌};
 ghost use Rattle.std.specs.Int.{IsPowerOfTwo};
-ghost use Rattle.papaya_copy.specs.Copying.{IsStandingCopying, IsStandingCopied, at_count, at_exchanged, at_found, at_hash, at_made, at_refused, at_root, at_size, at_word, at_yes, copying_ask, copying_follows, copying_kind, last, leads, lone, over};
+ghost use Rattle.papaya_copy.specs.Copying.{IsStandingCopying, IsStandingCopied, at_count, at_exchanged, at_found, at_hash, at_made};
+ghost use Rattle.papaya_copy.specs.Copying.{at_refused, at_root, at_size, at_word, at_yes, copying_ask, copying_follows};
+ghost use Rattle.papaya_copy.specs.Copying.{copying_kind, last, leads, lone, over};
 ghost use Rattle.papaya_copy.specs.Link.{IsFitCopyAsk};
 ghost use Rattle.papaya_words.specs.Mode.{IsChunked};
 ghost use Rattle.papaya_ask.specs.Search.{IsSize};

@@ -2,7 +2,8 @@
 ghost use Rattle.std.specs.Prelude.{◌≡◌};
 ghost use Rattle.std.specs.Int.{IsPowerOfTwo};
 ghost use Rattle.papaya_ask.specs.Search.{IsSize};
-ghost use Rattle.papaya_copy.specs.Link.{IsFitCopyAsk, IsStandingLink, IsStandingLinked, at_count, at_exchanged, at_found, at_made, at_refused, at_size, link_ask, link_kind, follows};
+ghost use Rattle.papaya_copy.specs.Link.{IsFitCopyAsk, IsStandingLink, IsStandingLinked, at_count, at_exchanged, at_found};
+ghost use Rattle.papaya_copy.specs.Link.{at_made, at_refused, at_size, link_ask, link_kind, follows};
 
 use papaya_ask::ask::{At, StepKind};
 use papaya_ask::copy_ask::CopyAsk;

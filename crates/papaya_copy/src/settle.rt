@@ -4,7 +4,9 @@ ghost use Rattle.std.specs.Int.{IsPowerOfTwo};
 ghost use Rattle.papaya_copy.specs.Carry.{IsStandingCarried};
 ghost use Rattle.papaya_copy.specs.Link.{IsFitCopyAsk};
 ghost use Rattle.papaya_ask.specs.Search.{IsSize};
-ghost use Rattle.papaya_copy.specs.Settle.{IsStandingSettle, IsStandingSettled, at_count, at_exchanged, at_found, at_hash, at_made, at_refused, at_size, at_word, at_yes, look, marked_as, settle_ask, settle_follows, settle_kind, settled_by};
+ghost use Rattle.papaya_copy.specs.Settle.{IsStandingSettle, IsStandingSettled, at_count, at_exchanged, at_found, at_hash};
+ghost use Rattle.papaya_copy.specs.Settle.{at_made, at_refused, at_size, at_word, at_yes, look};
+ghost use Rattle.papaya_copy.specs.Settle.{marked_as, settle_ask, settle_follows, settle_kind, settled_by};
 
 use crate::carry::{Carried, Carry};
 use papaya_ask::ask::{At, StepKind};

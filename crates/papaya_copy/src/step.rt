@@ -5,7 +5,9 @@ ghost use Rattle.papaya_copy.specs.Link.{IsFitCopyAsk, IsStandingLink, IsStandin
 ghost use Rattle.papaya_words.specs.Mode.{IsChunked};
 ghost use Rattle.papaya_ask.specs.Search.{IsSize};
 ghost use Rattle.papaya_copy.specs.Settle.{IsStandingSettled};
-ghost use Rattle.papaya_copy.specs.Step.{IsStandingChunk, IsStandingStep, IsStandingStepped, advanced, aimed, at_count, at_exchanged, at_found, at_hash, at_made, at_refused, at_size, at_word, at_yes, chunk_of, counted, judged, linked_to, settled_to, slot_of, step_ask, step_follows, step_kind};
+ghost use Rattle.papaya_copy.specs.Step.{IsStandingChunk, IsStandingStep, IsStandingStepped, advanced, aimed, at_count, at_exchanged, at_found};
+ghost use Rattle.papaya_copy.specs.Step.{at_hash, at_made, at_refused, at_size, at_word, at_yes, chunk_of, counted};
+ghost use Rattle.papaya_copy.specs.Step.{judged, linked_to, settled_to, slot_of, step_ask, step_follows, step_kind};
 
 use crate::link::{Link, Linked};
 use crate::settle::{Settle, Settled, Slot};

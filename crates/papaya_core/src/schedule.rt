@@ -8,7 +8,8 @@
 //! Calls that may change the map copy pairs on their way, a chunk of the root each where the core
 //! is `Incremental`; where it is `Blocking` they copy all of the root. A caller that stops in the
 //! midst of a copy stops no other caller.
-ghost use Rattle.std.specs.Prelude.{◌≡◌, ℕ, ◌<◌, ◌^◌, length, IfOk, IfErr, OnOk, IsSome, Some, None, is_some, MatchOption, reverse, ◌+◌, ◌*◌, ◌≤◌, []};
+ghost use Rattle.std.specs.Prelude.{◌≡◌, ℕ, ◌<◌, ◌^◌, length, IfOk, IfErr, OnOk, IsSome};
+ghost use Rattle.std.specs.Prelude.{Some, None, is_some, MatchOption, reverse, ◌+◌, ◌*◌, ◌≤◌, []};
 ghost use Rattle.std.specs.Int.{IsPowerOfTwo};
 ghost use Rattle.papaya_law.specs.Content.{AreApart};
 ghost use Rattle.papaya_words.specs.Mode.{IsChunked};

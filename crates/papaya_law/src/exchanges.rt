@@ -19,7 +19,8 @@ ghost use Rattle.papaya_law.specs.View.{Foreign, Free, Gone, Grave, Here, HasWor
 ghost use Rattle.papaya_law.specs.Code.{IsHashed};
 ghost use Rattle.papaya_words.specs.Word.{IsSlotStep, byte_of, kind_of, pair_of, top_byte};
 ghost use Rattle.papaya_words.specs.declared.word.Kind.TheVariants as kinds;
-ghost use Rattle.std.specs.Prelude.{◌≡◌, ◌⊎◌, ◌↔◌, ℕ, zero, suc, ◌*◌, ◌<◌, ◌≤◌, ◌^◌, ◌==◌, ◌++◌, Bool, true, false, List, [], ◌∷◌, length, Option, None, Some};
+ghost use Rattle.std.specs.Prelude.{◌≡◌, ◌⊎◌, ◌↔◌, ℕ, zero, suc, ◌*◌, ◌<◌, ◌≤◌, ◌^◌, ◌==◌};
+ghost use Rattle.std.specs.Prelude.{◌++◌, Bool, true, false, List, [], ◌∷◌, length, Option, None, Some};
 
 /// The law: after each list of allowed exchanges the tables mean one map, which its claims,
 /// replacements and burials alone change, each taking out just the pair that was there.

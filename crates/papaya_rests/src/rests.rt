@@ -17,7 +17,8 @@ ghost use Rattle.papaya_law.specs.Grows.{Agrees};
 ghost use Rattle.papaya_call.specs.Machine.{IsStanding, IsWriter, ask_of, kind_of_ask, after, started};
 ghost use Rattle.papaya_rests.specs.Owed.{owed_by, grows_by};
 ghost use Rattle.papaya_rests.specs.Rests.{Rests, IsModeOf, IsReply, WasAtMoment, change_in, change_of_reply, change_after};
-ghost use Rattle.papaya_rests.specs.Says.{Agrees as Said_agrees, HasShownNone, Inserts, IsPaired, IsSaidBy, IsSaidChange, IsSaidExchange, KeepsFill, Removes, Said, ShowsPairs, StandsOn, said_in, said_in_reply, show};
+ghost use Rattle.papaya_rests.specs.Says.{Agrees as Said_agrees, HasShownNone, Inserts, IsPaired, IsSaidBy, IsSaidChange, IsSaidExchange, KeepsFill};
+ghost use Rattle.papaya_rests.specs.Says.{Removes, Said, ShowsPairs, StandsOn, said_in, said_in_reply, show};
 ghost use Rattle.papaya_rests.specs.Told.{IsOneOf, IsAsked, IsTold, IsWritten, Hands, no_hands, word_of};
 ghost use Rattle.papaya_law.specs.Code.{IsHashed};
 

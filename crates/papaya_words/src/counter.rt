@@ -1,5 +1,6 @@
 //! The count of a map, in shards, so that callers seldom meet at one word.
-ghost use Rattle.std.specs.Prelude.{◌≡◌, ℕ, ◌-◌, ◌<◌, ◌≤◌, length, slice_set, slice_index_or, pos, ◌+ℤ◌, bit_and, Err, FitsSigned, IfErr, IfOk};
+ghost use Rattle.std.specs.Prelude.{◌≡◌, ℕ, ◌-◌, ◌<◌, ◌≤◌, length, slice_set, slice_index_or};
+ghost use Rattle.std.specs.Prelude.{pos, ◌+ℤ◌, bit_and, Err, FitsSigned, IfErr, IfOk};
 ghost use Rattle.std.specs.Int.{w64, int_wrap, IsPowerOfTwo, IsNextPowerOfTwo};
 ghost use Rattle.papaya_words.specs.Counter.{added_at, count_of, shard_of};
 
