@@ -4,12 +4,12 @@
 // The first table is one of 8 slots, but for a capacity of 0. Keys from 0 on have a slot each, so
 // that keys 0 to 7 fill it, and key 8 finds no place.
 use crate::expect::is_at;
-use crate::plain::hashing::APART;
 use crate::plain::{Asked, Numbers, reply_by_value};
 use papaya_ask::ask::StepKind;
 use papaya_ask::call::Reply;
 use papaya_core::schedule::Core;
 use papaya_core::trace::{Event, Turn};
+use papaya_hashers::times::APART;
 use papaya_words::probe::{Refused, ResizeMode};
 use std::alloc::Global;
 use std::process::Abort;

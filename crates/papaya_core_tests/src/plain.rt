@@ -1,13 +1,11 @@
 // A core of numbers, its calls on one key, and what they reply by the values of the pairs.
 ghost use Rattle.std.specs.Prelude.{◌≡◌};
 
-pub(crate) mod hashing;
-
-use hashing::Times;
 use papaya_ask::call::{Call, Reply};
 use papaya_call::answers::{Answers, Operation};
 use papaya_core::schedule::Core;
 use papaya_core::trace::{Event, Trace};
+use papaya_hashers::times::Times;
 
 pub(crate) type Numbers = Core<u64, u64, Times, Removes>;
 

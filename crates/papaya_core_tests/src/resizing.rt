@@ -2,12 +2,12 @@
 // beside an insertion that copies the whole root, and a table that is given up since the count lags
 // behind stopped callers.
 use crate::expect::is_at;
-use crate::plain::hashing::{APART, TOGETHER};
 use crate::plain::{Asked, Numbers, Removes, reply_by_value};
 use papaya_ask::ask::StepKind;
 use papaya_ask::call::{Call, Reply};
 use papaya_core::schedule::Core;
 use papaya_core::trace::{Event, Trace, Turn};
+use papaya_hashers::times::{APART, TOGETHER};
 use papaya_words::probe::{Refused, ResizeMode};
 use std::alloc::Global;
 use std::process::Abort;

@@ -1,10 +1,10 @@
 use crate::expect::{is, is_at};
-use crate::plain::hashing::{APART, Times};
 use papaya_ask::ask::StepKind;
 use papaya_ask::call::{Call, Reply};
 use papaya_call::answers::{Listed, Operation};
 use papaya_core::schedule::Core;
 use papaya_core::trace::{Entry, Event, Trace, Turn};
+use papaya_hashers::times::{APART, Times};
 use papaya_words::probe::{Refused, ResizeMode};
 use std::alloc::Global;
 use std::test::Fail;

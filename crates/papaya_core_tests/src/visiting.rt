@@ -1,12 +1,12 @@
 // Calls that visit a table, beside a caller that stopped in an insertion into a full table, and one
 // that inserts and removes while a walk is under way.
 use crate::expect::is_at;
-use crate::plain::hashing::APART;
 use crate::plain::{Asked, Numbers, Removes, reply_by_value};
 use papaya_ask::ask::StepKind;
 use papaya_ask::call::{Call, Reply};
 use papaya_core::schedule::Core;
 use papaya_core::trace::{Event, Trace, Turn};
+use papaya_hashers::times::APART;
 use papaya_words::probe::ResizeMode;
 use std::alloc::Global;
 use std::process::Abort;

@@ -1,7 +1,7 @@
 // What builders and constructors make, and what they refuse.
 use crate::expect::is;
-use crate::hashing::{APART, Times};
 use crate::numbers::Numbers;
+use papaya_hashers::times::{APART, Times};
 use papaya_keys::guard::Collector;
 use papaya_map::builder::HashMapBuilder;
 use papaya_map::map::HashMap;

@@ -2,8 +2,8 @@
 ghost use Rattle.std.specs.Prelude.{◌≡◌};
 
 use crate::expect::is;
-use crate::hashing::TOGETHER;
 use crate::numbers::{MODES, Numbers, NumbersPass, counts, finds, inserts, made, numbers, removes};
+use papaya_hashers::times::TOGETHER;
 use papaya_map::map::HashMap;
 use papaya_words::probe::ResizeMode;
 use std::process::Abort;

@@ -14,8 +14,6 @@ mod gates;
 #[cfg(test)]
 mod growth;
 #[cfg(test)]
-mod hashing;
-#[cfg(test)]
 mod insertions;
 #[cfg(test)]
 mod numbers;

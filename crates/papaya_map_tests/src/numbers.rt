@@ -2,7 +2,7 @@
 ghost use Rattle.std.specs.Prelude.{◌≡◌};
 
 use crate::expect::is;
-use crate::hashing::{APART, Times};
+use papaya_hashers::times::{APART, Times};
 use papaya_map::map::{HashMap, Pass};
 use papaya_words::probe::{Refused, ResizeMode};
 use std::alloc::Global;

@@ -2,9 +2,9 @@
 ghost use Rattle.std.specs.Prelude.{◌≡◌};
 
 use crate::expect::is;
-use crate::hashing::Times;
 use crate::numbers::{Numbers, numbers};
 use papaya_call::answers::Operation;
+use papaya_hashers::times::Times;
 use papaya_keys::compute::Compute;
 use papaya_keys::guard::{Collector, Guard};
 use papaya_map::map::HashMapRef;

@@ -3,8 +3,8 @@
 ghost use Rattle.std.specs.Prelude.{◌≡◌};
 
 use crate::expect::{is, is_at};
-use crate::hashing::TOGETHER;
 use crate::numbers::{Numbers, NumbersPass};
+use papaya_hashers::times::TOGETHER;
 use papaya_map::map::HashMap;
 use papaya_words::probe::{Refused, ResizeMode};
 use std::alloc::Global;

@@ -1,7 +1,7 @@
 // The calls that visit the whole map.
 use crate::expect::is;
-use crate::hashing::TOGETHER;
 use crate::numbers::{MODES, Numbers, made};
+use papaya_hashers::times::TOGETHER;
 use papaya_map::map::HashMap;
 use papaya_words::probe::Refused;
 use std::process::Abort;

@@ -1,7 +1,7 @@
 // Tables that grow while keys are stored, looked up, removed and updated.
 use crate::expect::{is, is_at};
-use crate::hashing::{APART, TOGETHER, Times};
 use crate::numbers::{Numbers, finds, has, inserts, removes, tries};
+use papaya_hashers::times::{APART, TOGETHER, Times};
 use papaya_keys::occupied::{NotInserted, OccupiedError};
 use papaya_seq::seq::HashMap;
 use papaya_words::probe::{Refused, ResizeMode};

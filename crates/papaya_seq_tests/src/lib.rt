@@ -10,8 +10,6 @@ mod expect;
 #[cfg(test)]
 mod growth;
 #[cfg(test)]
-mod hashing;
-#[cfg(test)]
 mod new;
 #[cfg(test)]
 mod numbers;

@@ -1,7 +1,7 @@
 // How maps are made, and what they are refused for.
 use crate::expect::is;
-use crate::hashing::TOGETHER;
 use crate::numbers::{Numbers, Usual};
+use papaya_hashers::times::TOGETHER;
 use papaya_seq::seq::HashMap;
 use papaya_words::probe::{Refused, ResizeMode};
 use std::alloc::Global;

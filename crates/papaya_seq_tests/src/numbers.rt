@@ -1,6 +1,6 @@
 // Maps of numbers, and their calls with what they are to answer.
 use crate::expect::is;
-use crate::hashing::Times;
+use papaya_hashers::times::Times;
 use papaya_keys::occupied::OccupiedError;
 use papaya_seq::seq::HashMap;
 use papaya_words::probe::Refused;

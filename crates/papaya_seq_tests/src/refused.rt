@@ -1,8 +1,8 @@
 // A growth that is refused leaves the map as it was. Where the tests run with a failing allocation,
 // as by `rt try --test --fail-alloc N`, a call here meets it.
-use crate::hashing::TOGETHER;
 use crate::numbers::{Numbers, removes};
 use papaya_call::answers::Operation;
+use papaya_hashers::times::TOGETHER;
 use papaya_seq::seq::HashMap;
 use papaya_words::probe::Refused;
 use std::alloc::Global;

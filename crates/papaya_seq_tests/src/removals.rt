@@ -1,7 +1,7 @@
 // Removals: what they answer, what they show their closure, and what is there after them.
 use crate::expect::is;
-use crate::hashing::TOGETHER;
 use crate::numbers::{Numbers, Usual, finds, has, inserts, removes};
+use papaya_hashers::times::TOGETHER;
 use papaya_seq::seq::HashMap;
 use papaya_words::probe::Refused;
 use std::process::Abort;

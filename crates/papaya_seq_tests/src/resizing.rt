@@ -2,10 +2,10 @@
 // as by `rt try --test --fail-alloc N`, a call here meets it.
 use crate::expect::{is, is_at};
 use crate::growth::{fills, has_below, looks_so, made};
-use crate::hashing::APART;
 use crate::numbers::{Numbers, Usual, finds, has, inserts};
 use papaya_ask::call::{Call, Reply};
 use papaya_call::answers::Listed;
+use papaya_hashers::times::APART;
 use papaya_seq::seq::HashMap;
 use papaya_words::probe::{Refused, ResizeMode};
 use std::alloc::Global;

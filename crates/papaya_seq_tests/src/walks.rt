@@ -1,8 +1,8 @@
 // Walks of the map, and the call that keeps some of its pairs.
 use crate::expect::{is, is_at};
 use crate::growth::{looks_so, made, stores};
-use crate::hashing::{APART, TOGETHER};
 use crate::numbers::{Numbers, Usual, has, inserts};
+use papaya_hashers::times::{APART, TOGETHER};
 use papaya_seq::seq::HashMap;
 use papaya_words::probe::ResizeMode;
 use std::alloc::{AllocError, Global};

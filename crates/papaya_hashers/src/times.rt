@@ -1,4 +1,4 @@
-// Hashers that show which keys share a path.
+//! Hashers that show which keys share a path.
 ghost use Rattle.std.specs.Prelude.{◌≡◌, ◌*◌, slice_index};
 
 use std::hash::{BuildHasher, Hasher};

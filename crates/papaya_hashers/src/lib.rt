@@ -1,0 +1,4 @@
+//! Hashers for the tests of the maps.
+#![tactic(auto)]
+
+pub mod times;
