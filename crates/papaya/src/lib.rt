@@ -30,6 +30,7 @@ pub mod seq {
 pub mod schedule {
     pub use papaya_ask::call::{Call, Reply};
     pub use papaya_call::answers::{Answers, Listed};
+    pub use papaya_core::outcome::Outcome;
     pub use papaya_core::schedule::Core;
     pub use papaya_core::trace::{Entry, Event, Trace, Turn};
 }

@@ -10,15 +10,14 @@ use Rattle.papaya_chain.specs.Machine.{ask_of}
 use Rattle.papaya_chain.specs.Resizer as resizer
 use Rattle.papaya_law.specs.Exchange.{run, start}
 use Rattle.papaya_store.specs.declared.pairs.Running.{Running}
-use Rattle.papaya_store.specs.Store.{KeepsPairs, StoreState}
+use Rattle.papaya_store.specs.Store.{KeepsPairs}
 use Rattle.papaya_keys.specs.Hashes.{hash_of}
-use Rattle.papaya_timeline.specs.declared.seat.Seat.{Seat}
 use Rattle.papaya_timeline.specs.declared.seat.Work.{Work}
 use Rattle.papaya_timeline.specs.declared.seat.Work.TheVariants as works
 use Rattle.papaya_timeline.specs.declared.trace.Event.{Event}
 use Rattle.papaya_timeline.specs.Advances.{AddsToShard, Advances}
 use Rattle.papaya_timeline.specs.Callers.{call_in, resizer_in, running, visiting, visitor_in, with_work, working}
-use Rattle.papaya_timeline.specs.Core.{CoreState, IsCore}
+use Rattle.papaya_timeline.specs.Core.{CoreState}
 use Rattle.papaya_timeline.specs.Counted.{IsCounted}
 use Rattle.papaya_timeline.specs.Kept.{IsKept, IsLawfulCore, coding_of, low, setting_of}
 use Rattle.papaya_timeline.specs.Moves.{MovesMap}
@@ -33,9 +32,10 @@ use Rattle.papaya_timeline.proofs.KeptResized.{left, resize_kept, stage_left}
 use Rattle.papaya_timeline.proofs.ResizerLaws.{resizer_refused}
 use Rattle.papaya_timeline.specs.VisitGoes.{Visits}
 use Rattle.papaya_timeline.proofs.LawfulVisits.{lawful_asks, lawful_visit_caused, visit_counted, visit_keeps, visit_lawful, visit_moved}
+use Rattle.papaya_visit.specs.declared.ask.VisitAsk.TheVariants as visit_asks
+use Rattle.papaya_visit.specs.Visitor as visitor
 use Rattle.papaya_visit_store.specs.declared.visits.Visiting.{Visiting}
 use Rattle.papaya_core.specs.Goes.{CallGoes, IsStandingWork, ResizerGoes, VisitGoes, WorkGoes}
-use Rattle.papaya_words.specs.declared.probe.ResizeMode.{ResizeMode}
 
 -- a resizer that has not ended asks something
 pub unended_asks : (stage : Stage) → resizer.reply_in stage ≡ None → resizer.asks_in stage ≡ None → ⊥
@@ -95,7 +95,10 @@ module _ {K V S A H : Type 0} (eq : K → K → Bool) (input : K → List (List 
           counted = counted_step eq (hashes s.store.hasher) law refuse s caller s' event reply x refl es tales lawful.core core' kept counted;
           moves = lawful_moves eq input build write finish classes respects says refuse s s' caller event reply lawful x;
           keeps = lawful_keeps eq input build write finish classes respects says refuse s s' caller event reply lawful x;
-          shard = λ r by is asks. goes.shard by (ap (λ (o : Running K V A). ask_of o.machine) (same_item before r (sym runs ∙ is)) ∙ asks);
+          shard = record {
+            call = λ r by is asks. goes.shard by (ap (λ (o : Running K V A). ask_of o.machine) (same_item before r (sym runs ∙ is)) ∙ asks);
+            visit = λ v by is asks. let f : None ≡ Some v = sym (ap visitor_in was) ∙ is in absurd cc;
+          };
         }
 
     -- of a call that resizes the map
@@ -131,7 +134,10 @@ module _ {K V S A H : Type 0} (eq : K → K → Bool) (input : K → List (List 
           counted = counted_resize eq (hashes s.store.hasher) law refuse s caller s' event reply x refl es tales lawful.core core' kept counted;
           moves = moved.0;
           keeps = moved.1;
-          shard = λ r by is asks. let f : None ≡ Some r = sym (ap call_in was) ∙ is in absurd cc;
+          shard = record {
+            call = λ r by is asks. let f : None ≡ Some r = sym (ap call_in was) ∙ is in absurd cc;
+            visit = λ v by is asks. let f : None ≡ Some v = sym (ap visitor_in was) ∙ is in absurd cc;
+          };
         }
 
     -- of a call that visits a table
@@ -159,7 +165,10 @@ module _ {K V S A H : Type 0} (eq : K → K → Bool) (input : K → List (List 
           counted = visit_counted eq input build write finish classes respects says refuse s lawful caller s' event reply x counted;
           moves = visit_moved eq input build write finish classes respects says refuse s lawful caller s' event reply x;
           keeps = visit_keeps eq input build write finish classes respects says refuse s lawful caller s' event reply x;
-          shard = λ r by is asks. let f : None ≡ Some r = sym (ap call_in was) ∙ is in absurd cc;
+          shard = record {
+            call = λ r by is asks. let f : None ≡ Some r = sym (ap call_in was) ∙ is in absurd cc;
+            visit = λ v by is asks. goes.shard by (same_item goes.ask (visit_asks.AddToShard by) (sym goes.asked ∙ ap (λ (o : Visiting A). visitor.ask_of o.visitor) (same_item before v (sym visits ∙ is)) ∙ asks));
+          };
         }
 
     -- whatever was under way

@@ -62,17 +62,17 @@ fn take_work<K, V, A>(seats: &mut Vec<Seat<K, V, A>>, place: usize) -> Option<Wo
     seats[place].work.take()
 }
 
-/// Puts work into a seat.
+/// Puts work into a seat, or leaves it without any.
 fn put_work<K: Drop, V: Drop, A: Drop>(
     seats: &mut Vec<Seat<K, V, A>>,
     place: usize,
-    work: Work<K, V, A>,
+    work: Option<Work<K, V, A>>,
 )
     requires { place < length seats.old.items }
     ensures { (seat : Seat K V A) → slice_get seats.old.items place ≡ Some seat
-        → seats.new.items ≡ slice_set seats.old.items place (record seat { work = Some work }) }
+        → seats.new.items ≡ slice_set seats.old.items place (record seat { work = work }) }
 {
-    seats[place].work = Some(work);
+    seats[place].work = work;
 }
 
 impl<K, V, A> Callers<K, V, A> {
@@ -124,10 +124,10 @@ impl<K: Drop, V: Drop, A: Drop> Callers<K, V, A> {
         Ok(())
     }
 
-    /// Gives a caller that has a seat this call.
-    pub fn put(&mut self, caller: usize, work: Work<K, V, A>)
+    /// Gives a caller that has a seat this call, or none.
+    pub fn put(&mut self, caller: usize, work: Option<Work<K, V, A>>)
         requires { IsSeated self.old caller }
-        ensures { self.new ≡ with_work self.old caller (Some work) }
+        ensures { self.new ≡ with_work self.old caller work }
     {
         let place = place_of(&self.seats, caller);
         put_work(&mut self.seats, place, work);

@@ -6,5 +6,6 @@ pub use papaya_timeline::{solo, trace};
 
 pub mod callers;
 mod entries;
+pub mod outcome;
 pub mod schedule;
 mod visits;

@@ -16,11 +16,12 @@ ghost use Rattle.papaya_words.specs.Mode.{IsChunked};
 ghost use Rattle.papaya_chain.specs.Machine.{IsStanding};
 ghost use Rattle.papaya_words.specs.Table.{TableWords};
 ghost use Rattle.papaya_ask.specs.Search.{IsSize};
-ghost use Rattle.papaya_chain.specs.Resizer.{IsStandingResizer, reply_of};
+ghost use Rattle.papaya_chain.specs.Resizer.{IsStandingResizer, reply_of as reply_of_resizer};
 ghost use Rattle.papaya_store.specs.Tables.{table_of};
-ghost use Rattle.papaya_timeline.specs.Callers.{working};
+ghost use Rattle.papaya_timeline.specs.Callers.{visiting, visitor_in, working};
 ghost use Rattle.papaya_timeline.specs.Maps.{key_of};
 ghost use Rattle.papaya_core.specs.Goes.{CallGoes, IsStandingWork, ResizerGoes, WorkGoes};
+ghost use Rattle.papaya_core.specs.Outcomes.{AnswersWalk, as_reply};
 ghost use Rattle.papaya_store.specs.Store.{KeepsPairs, pair_of};
 ghost use Rattle.papaya_keys.specs.Hashes.{hash_of};
 ghost use Rattle.papaya_timeline.specs.Core.{work_of};
@@ -37,6 +38,7 @@ ghost use Rattle.papaya_timeline.specs.Runs.{Steps, TurnsRun, StopsEarly, TurnRu
 
 use crate::callers::{Callers, Work};
 use crate::entries::{event_of, push_entry, push_step, reserve_entries};
+use crate::outcome::{Outcome, reply_of};
 use crate::visits::advance_visit;
 use papaya_ask::ask::Ask as CallAsk;
 use papaya_ask::call::{Call, Reply, Task};
@@ -178,21 +180,22 @@ fn reply_in(ask: Ask) -> Option<Reply>
     }
 }
 
-/// One ask of a call on one key: what happened, the reply where there is one, and the call if it
-/// goes on.
+/// One ask of a call on one key: what happened, what the call came to where it ended, and the call
+/// if it goes on.
 fn advance_call<K: Hash + Eq + Drop, V: Drop, S: BuildHasher, A: Answers<K, V> + Drop>(
     alloc: Global,
     store: &mut Store<K, V, S>,
     caller: usize,
     mut running: Running<K, V, A>,
     refuse: bool,
-) -> (Event, Option<Reply>, Option<Work<K, V, A>>)
+) -> (Event, Option<Outcome>, Option<Work<K, V, A>>)
     requires sizes { (n : ℕ) (t : TableWords) → table_of store.old.words.tables n ≡ Some t
         → IsSize (length t.slots) t.limit }
     requires standing { IsStanding running.machine }
-    ensures { CallGoes K.eq (record { op = A.op_gives; yes = A.yes_gives })
+    ensures goes { CallGoes K.eq (record { op = A.op_gives; yes = A.yes_gives })
         (hash_of K.hash_input S.build_hasher S.Hasher.write S.Hasher.finish) refuse store.old caller
-        store.new result.0 result.1 result.2 running }
+        store.new result.0 (as_reply result.1) result.2 running }
+    ensures walked { AnswersWalk {A = A} None result.1 }
 {
     let kind = running.machine.kind();
     let ask = running.machine.ask();
@@ -200,25 +203,27 @@ fn advance_call<K: Hash + Eq + Drop, V: Drop, S: BuildHasher, A: Answers<K, V> +
     running.machine.answer(answer);
     let event = event_of(kind, ask, answer);
     match reply_in(running.machine.ask()) {
-        Some(reply) => (event, Some(reply), None),
+        Some(reply) => (event, Some(Outcome::Replied(reply)), None),
         None => (event, None, Some(Work::Call(running))),
     }
 }
 
-/// One ask of a call that resizes the map: what happened, the reply where there is one, and the call
-/// if it goes on.
+/// One ask of a call that resizes the map: what happened, what the call came to where it ended, and
+/// the call if it goes on.
 fn advance_resizer<K: Hash + Eq + Drop, V: Drop, S: BuildHasher, A>(
     alloc: Global,
     store: &mut Store<K, V, S>,
     mut resizer: Resizer,
     refuse: bool,
-) -> (Event, Option<Reply>, Option<Work<K, V, A>>)
+) -> (Event, Option<Outcome>, Option<Work<K, V, A>>)
     requires sizes { (n : ℕ) (t : TableWords) → table_of store.old.words.tables n ≡ Some t
         → IsSize (length t.slots) t.limit }
     requires standing { IsStandingResizer resizer }
-    requires going { reply_of resizer ≡ None }
-    ensures { ResizerGoes K.eq (hash_of K.hash_input S.build_hasher S.Hasher.write S.Hasher.finish)
-        refuse store.old store.new result.0 result.1 result.2 resizer }
+    requires going { reply_of_resizer resizer ≡ None }
+    ensures goes { ResizerGoes K.eq
+        (hash_of K.hash_input S.build_hasher S.Hasher.write S.Hasher.finish) refuse store.old
+        store.new result.0 (as_reply result.1) result.2 resizer }
+    ensures walked { AnswersWalk {A = A} None result.1 }
 {
     let kind = resizer.kind();
     let ask = match resizer.ask() {
@@ -229,25 +234,27 @@ fn advance_resizer<K: Hash + Eq + Drop, V: Drop, S: BuildHasher, A>(
     resizer.answer(answer);
     let event = event_of(kind, Ask::Copy(ask), answer);
     match resizer.reply() {
-        Some(reply) => (event, Some(reply), None),
+        Some(reply) => (event, Some(Outcome::Replied(reply)), None),
         None => (event, None, Some(Work::Resize(resizer))),
     }
 }
 
-/// One ask of a call: what happened, the reply where there is one, and the call if it goes on.
+/// One ask of a call: what happened, what the call came to where it ended, and the call if it goes
+/// on.
 fn advance_work<K: Hash + Eq + Drop, V: Drop, S: BuildHasher, A: Answers<K, V> + Drop>(
     alloc: Global,
     store: &mut Store<K, V, S>,
     caller: usize,
     work: Work<K, V, A>,
     refuse: bool,
-) -> (Event, Option<Reply>, Option<Work<K, V, A>>)
+) -> (Event, Option<Outcome>, Option<Work<K, V, A>>)
     requires sizes { (n : ℕ) (t : TableWords) → table_of store.old.words.tables n ≡ Some t
         → IsSize (length t.slots) t.limit }
     requires standing { IsStandingWork work }
-    ensures { WorkGoes K.eq (record { op = A.op_gives; yes = A.yes_gives })
+    ensures goes { WorkGoes K.eq (record { op = A.op_gives; yes = A.yes_gives })
         (hash_of K.hash_input S.build_hasher S.Hasher.write S.Hasher.finish) refuse store.old caller
-        store.new result.0 result.1 result.2 work }
+        store.new result.0 (as_reply result.1) result.2 work }
+    ensures walked { AnswersWalk (visitor_in (Some work)) result.1 }
 {
     match work {
         Work::Call(running) => advance_call(alloc, store, caller, running, refuse),
@@ -324,46 +331,52 @@ impl<K: Hash + Eq + Drop, V: Drop, S: BuildHasher, A: Answers<K, V> + Drop> Core
     {
         self.callers.seat(caller)?;
         let work = begin_call(self.alloc, &self.store, self.mode, self.initial, call);
-        self.callers.put(caller, work);
+        self.callers.put(caller, Some(work));
         Ok(())
     }
 
-    /// One step of a caller: what happened, and the reply where there is one.
-    fn advance(&mut self, caller: usize, refuse: bool) -> (Event, Option<Reply>)
+    /// One step of a caller: what happened, and what its call came to where it ended.
+    fn advance(&mut self, caller: usize, refuse: bool) -> (Event, Option<Outcome>)
         requires { IsSome (work_of self.old caller) }
         ensures steps { Steps K.eq (record { op = A.op_gives; yes = A.yes_gives })
             (hash_of K.hash_input S.build_hasher S.Hasher.write S.Hasher.finish) refuse self.old
-            caller self.new result.0 result.1 }
+            caller self.new result.0 (as_reply result.1) }
+        ensures walked { AnswersWalk (visiting self.old.callers caller) result.1 }
         ensures moves { MovesMap K.eq self.old caller self.new result.0 }
         ensures keeps { KeepsPairs self.old.store self.new.store }
         ensures shard { AddsToShard self.old caller self.new }
         ensures counted { IsCounted K.eq self.new.store self.new.callers }
     {
         let work = self.callers.take(caller);
-        let (event, reply, rest) = advance_work(self.alloc, &mut self.store, caller, work, refuse);
-        match rest {
-            Some(work) => self.callers.put(caller, work),
-            None => {}
-        }
-        (event, reply)
+        let (event, outcome, rest) = advance_work(
+            self.alloc,
+            &mut self.store,
+            caller,
+            work,
+            refuse,
+        );
+        self.callers.put(caller, rest);
+        (event, outcome)
     }
 
-    /// One step of a caller that is in a call. The reply is there where the call ended with it.
+    /// One step of a caller that is in a call, and what the call came to, where it ended by it. A
+    /// walk that is done answers the numbers of the pairs that it gave.
     ///
     /// With `refuse_memory` a step that would make a key, a pair or a table answers
     /// `Refused::Memory`, and any other step is an ordinary one.
-    pub fn step(&mut self, caller: usize, refuse_memory: bool) -> Option<Reply>
+    pub fn step(&mut self, caller: usize, refuse_memory: bool) -> Option<Outcome>
         requires { IsSome (work_of self.old caller) }
         ensures steps { (event : _) × Steps K.eq (record { op = A.op_gives; yes = A.yes_gives })
             (hash_of K.hash_input S.build_hasher S.Hasher.write S.Hasher.finish) refuse_memory
-            self.old caller self.new event result
+            self.old caller self.new event (as_reply result)
             × MovesMap K.eq self.old caller self.new event }
+        ensures walked { AnswersWalk (visiting self.old.callers caller) result }
         ensures keeps { KeepsPairs self.old.store self.new.store }
         ensures shard { AddsToShard self.old caller self.new }
         ensures counted { IsCounted K.eq self.new.store self.new.callers }
     {
-        let (_, reply) = self.advance(caller, refuse_memory);
-        reply
+        let (_, outcome) = self.advance(caller, refuse_memory);
+        outcome
     }
 
     /// Makes the turns of a schedule, one after the other. A `Begin` of a caller that is in a
@@ -475,8 +488,8 @@ impl<K: Hash + Eq + Drop, V: Drop, S: BuildHasher, A: Answers<K, V> + Drop> Core
     {
         // The room is there before the step, so no step goes unrecorded.
         reserve_entries(entries, 2)?;
-        let (event, reply) = self.advance(caller, refuse_memory);
-        push_step(entries, turn, caller, event, reply);
+        let (event, outcome) = self.advance(caller, refuse_memory);
+        push_step(entries, turn, caller, event, reply_of(&outcome));
         Ok(())
     }
 

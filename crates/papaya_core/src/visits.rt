@@ -6,10 +6,12 @@ ghost use Rattle.papaya_keys.specs.Hashes.{hash_of};
 ghost use Rattle.papaya_store.specs.Tables.{table_of};
 ghost use Rattle.papaya_visit.specs.Visitor.{IsStandingVisitor, ask_of};
 ghost use Rattle.papaya_core.specs.Goes.{VisitGoes};
+ghost use Rattle.papaya_core.specs.Outcomes.{AnswersWalk, ListsGiven, as_reply, reply_told};
 ghost use Rattle.papaya_timeline.specs.VisitGoes.{unheard};
 
 use crate::callers::Work;
 use crate::entries::event_of_visit;
+use crate::outcome::Outcome;
 use papaya_ask::ask::Answer as CallAnswer;
 use papaya_ask::call::Reply;
 use papaya_call::answers::Answers;
@@ -17,6 +19,7 @@ use papaya_chain::ask::Answer;
 use papaya_store::store::Store;
 use papaya_timeline::trace::Event;
 use papaya_visit::ask::VisitAsk;
+use papaya_visit::visitor::Visit;
 use papaya_visit_store::visits::{Visiting, perform_visit};
 use papaya_words::probe::Refused;
 use std::alloc::Global;
@@ -32,22 +35,34 @@ fn unheard(ask: VisitAsk, answer: Answer) -> Option<Refused>
     }
 }
 
-/// One ask of a call that visits a table: what happened, the reply where there is one, and the call
-/// if it goes on.
+/// What a call that visits a table comes to where it replies so: a walk that is done has a list.
+fn outcome_of<A: Drop>(visiting: Visiting<A>, reply: Reply) -> Outcome
+    ensures told { reply_told result ≡ reply }
+    ensures listed { ListsGiven visiting.visitor.visit visiting.given result }
+{
+    match (visiting.visitor.visit, reply) {
+        (Visit::Walk, Reply::Done) => Outcome::Walked(visiting.given.into_vec()),
+        _ => Outcome::Replied(reply),
+    }
+}
+
+/// One ask of a call that visits a table: what happened, what the call came to where it ended, and
+/// the call if it goes on.
 pub(crate) fn advance_visit<K: Hash + Eq + Drop, V: Drop, S: BuildHasher, A: Answers<K, V> + Drop>(
     alloc: Global,
     store: &mut Store<K, V, S>,
     caller: usize,
     mut visiting: Visiting<A>,
     refuse: bool,
-) -> (Event, Option<Reply>, Option<Work<K, V, A>>)
+) -> (Event, Option<Outcome>, Option<Work<K, V, A>>)
     requires sizes { (n : ℕ) (t : TableWords) → table_of store.old.words.tables n ≡ Some t
         → IsSize (length t.slots) t.limit }
     requires standing { IsStandingVisitor visiting.visitor }
     requires asks { IsSome (ask_of visiting.visitor) }
-    ensures { VisitGoes K.eq (record { op = A.op_gives; yes = A.yes_gives })
+    ensures goes { VisitGoes K.eq (record { op = A.op_gives; yes = A.yes_gives })
         (hash_of K.hash_input S.build_hasher S.Hasher.write S.Hasher.finish) refuse store.old caller
-        store.new result.0 result.1 result.2 visiting }
+        store.new result.0 (as_reply result.1) result.2 visiting }
+    ensures walked { AnswersWalk (Some visiting) result.1 }
 {
     let kind = visiting.visitor.kind();
     let ask = match visiting.visitor.ask() {
@@ -57,11 +72,11 @@ pub(crate) fn advance_visit<K: Hash + Eq + Drop, V: Drop, S: BuildHasher, A: Ans
     let answer = perform_visit(store, alloc, caller, &mut visiting, ask, refuse);
     let event = event_of_visit(kind, ask, answer);
     if let Some(refused) = unheard(ask, answer) {
-        return (event, Some(Reply::Refused(refused)), None);
+        return (event, Some(Outcome::Replied(Reply::Refused(refused))), None);
     }
     visiting.visitor.answer(answer);
     match visiting.visitor.reply() {
-        Some(reply) => (event, Some(reply), None),
+        Some(reply) => (event, Some(outcome_of(visiting, reply)), None),
         None => (event, None, Some(Work::Visit(visiting))),
     }
 }

@@ -2,6 +2,7 @@ use crate::expect::{is, is_at};
 use papaya_ask::ask::StepKind;
 use papaya_ask::call::{Call, Reply};
 use papaya_call::answers::{Listed, Operation};
+use papaya_core::outcome;
 use papaya_core::schedule::Core;
 use papaya_core::trace::{Entry, Event, Trace, Turn};
 use papaya_hashers::times::{APART, Times};
@@ -271,23 +272,24 @@ fn finish_ends_with_the_reply_or_its_steps(rt: HostRuntime) -> Result<(), Fail> 
 }
 
 /// Begins an insertion and makes its steps.
-fn step_insert(alloc: Global, caller: usize) -> Result<Option<Reply>, Fail> {
+fn step_insert(alloc: Global, caller: usize) -> Result<Option<outcome::Outcome>, Fail> {
     let mut core: Numbers = numbers(alloc)?;
     if !core.running(caller) {
         core.begin(caller, Call::Insert(7, 100))?;
     }
-    let mut reply = None;
+    let mut ended = None;
     for _ in 0..STEPS_OF_INSERT {
         if core.running(caller) {
-            reply = core.step(caller, false);
+            ended = core.step(caller, false);
         }
     }
-    Ok(reply)
+    Ok(ended)
 }
 
 #[test]
 fn calls_are_stepped_by_hand(rt: HostRuntime) -> Result<(), Fail> {
-    is(&rt, step_insert(rt.alloc(), 3)?, Some(Reply::Inserted(0)));
+    let replied = outcome::Outcome::Replied(Reply::Inserted(0));
+    is(&rt, step_insert(rt.alloc(), 3)?, Some(replied));
     Ok(())
 }
 

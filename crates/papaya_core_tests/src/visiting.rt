@@ -1,9 +1,10 @@
 // Calls that visit a table, beside a caller that stopped in an insertion into a full table, and one
 // that inserts and removes while a walk is under way.
-use crate::expect::is_at;
+use crate::expect::{is, is_at};
 use crate::plain::{Asked, Numbers, Removes, reply_by_value};
 use papaya_ask::ask::StepKind;
 use papaya_ask::call::{Call, Reply};
+use papaya_core::outcome::Outcome;
 use papaya_core::schedule::Core;
 use papaya_core::trace::{Event, Trace, Turn};
 use papaya_hashers::times::APART;
@@ -183,6 +184,48 @@ fn all_asked_once(rt: &impl Abort, alloc: Global, mode: ResizeMode) -> Result<()
 fn retain_asks_once(rt: HostRuntime) -> Result<(), Fail> {
     for mode in MODES {
         all_asked_once(&rt, rt.alloc(), mode)?;
+    }
+    Ok(())
+}
+
+/// Steps a walk of caller 2 to its end.
+fn walked(core: &mut Numbers) -> Result<Option<Outcome>, Fail> {
+    if !core.running(2) {
+        core.begin(2, Call::Walk)?;
+    }
+    for _ in 0..WHOLE {
+        if core.running(2) {
+            if let Some(outcome) = core.step(2, false) {
+                return Ok(Some(outcome));
+            }
+        }
+    }
+    Ok(None)
+}
+
+/// A full core without key 0 is walked: what the walk came to, its list by rising number.
+fn walked_without_first(alloc: Global, mode: ResizeMode) -> Result<Option<Outcome>, Fail> {
+    let mut core = full(alloc, mode)?;
+    let begin = Turn::Begin(1, Call::Compute(0, Removes));
+    let _ = core.run(vec![in alloc; begin, Turn::Finish(1, WHOLE)]?)?;
+    match walked(&mut core)? {
+        Some(Outcome::Walked(mut list)) => {
+            list.sort()?;
+            Ok(Some(Outcome::Walked(list)))
+        }
+        other => Ok(other),
+    }
+}
+
+#[test]
+fn walk_that_is_stepped_answers_its_list(rt: HostRuntime) -> Result<(), Fail> {
+    for mode in MODES {
+        let numbers = vec![in rt.alloc(); 1, 2, 3, 4, 5, 6, 7]?;
+        is(
+            &rt,
+            walked_without_first(rt.alloc(), mode)?,
+            Some(Outcome::Walked(numbers)),
+        );
     }
     Ok(())
 }

@@ -62,6 +62,7 @@ pub mod SoloLaw
 pub mod SoloResizes
 pub mod SoloRun
 pub mod SoloTimeline
+pub mod SoloVisitors
 pub mod StepEvents
 pub mod StepTells
 pub mod StoreLemmas

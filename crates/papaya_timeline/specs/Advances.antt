@@ -24,8 +24,11 @@ use Rattle.papaya_store.specs.declared.pairs.Running.{Running}
 use Rattle.papaya_store.specs.Asks.{PerformsAsk}
 use Rattle.papaya_timeline.specs.declared.trace.Event.{Event}
 use Rattle.papaya_timeline.specs.declared.trace.Event.TheVariants.{Changed, Moved, Asked, Shown, Other}
-use Rattle.papaya_timeline.specs.Callers.{with_call}
+use Rattle.papaya_timeline.specs.Callers.{visiting, with_call}
 use Rattle.papaya_timeline.specs.Core.{CoreState, call_of}
+use Rattle.papaya_visit.specs.declared.ask.VisitAsk.TheVariants as visit_asks
+use Rattle.papaya_visit.specs.Visitor as visitor
+use Rattle.papaya_visit_store.specs.declared.visits.Visiting.{Visiting}
 
 -- the event of an exchange of this kind that was made: a change of the map names the pair that went
 -- and the one that came
@@ -91,11 +94,16 @@ abbrev pub goes_on : {A : Type 0} → Option Reply → A → Option A
 goes_on None r = Some r
 goes_on (Some reply) r = None
 
--- what a step adds to the count goes to the shard that the caller's number picks
-abbrev pub AddsToShard : {K V S A : Type 0} → CoreState K V S A → ℕ → CoreState K V S A → Type 0
-AddsToShard {K = K} {V = V} {A = A} s caller s' = (r : Running K V A) (by : ℤ)
-    → call_of s caller ≡ Some r → ask_of r.machine ≡ asks.Call (AddToShard by)
-    → s'.store.count ≡ added s.store.count caller by
+-- What a step adds to the count goes to the shard that the caller's number picks: of a call on one
+-- key, and of a clear or a retain, which takes 1 for each pair that it has buried.
+pub record AddsToShard {K V S A : Type 0} (s : CoreState K V S A) (caller : ℕ)
+    (s' : CoreState K V S A) : Type 0 where
+  pub call : (r : Running K V A) (by : ℤ) → call_of s caller ≡ Some r
+      → ask_of r.machine ≡ asks.Call (AddToShard by)
+      → s'.store.count ≡ added s.store.count caller by
+  pub visit : (v : Visiting A) (by : ℤ) → visiting s.callers caller ≡ Some v
+      → visitor.ask_of v.visitor ≡ Some (visit_asks.AddToShard by)
+      → s'.store.count ≡ added s.store.count caller by
 
 -- Just one ask of the caller's machine is answered, a load or an exchange by the word that stands
 -- there. A reply is the one in the machine's Done. No other caller's call changes. A call is refused

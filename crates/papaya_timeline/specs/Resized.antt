@@ -1,5 +1,5 @@
--- The end of a call that resizes the map and is made alone: what holds of the core while nobody else
--- has a call under way, and what is so when it has ended.
+-- The end of a call that resizes the map or visits a table and is made alone: what holds of the core
+-- while nobody else has a call under way, and what is so when it has ended.
 use Rattle.std.specs.Prelude.{◌≡◌, ℕ, ◌+◌, ◌<◌, ◌≤◌, Bool, [], ◌∷◌, Some}
 use Rattle.papaya_words.specs.Counter.{count_of}
 use Rattle.papaya_chain.specs.declared.resizer.Resize.{Resize}

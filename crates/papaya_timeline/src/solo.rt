@@ -7,7 +7,9 @@ ghost use Rattle.papaya_timeline.specs.Core.{CoreState};
 ghost use Rattle.papaya_timeline.specs.Counted.{IsCounted};
 ghost use Rattle.papaya_timeline.specs.Ends.{IsLone, IsNearer};
 ghost use Rattle.papaya_timeline.specs.Resized.{IsLoneResizer, IsLoneWork, IsNearerResized, IsResized};
+ghost use Rattle.papaya_timeline.specs.Resized.{IsLoneVisitor, IsNearerVisited};
 ghost use Rattle.papaya_timeline.specs.Resizes.{Resizes};
+ghost use Rattle.papaya_timeline.specs.VisitGoes.{Visits};
 ghost use Rattle.papaya_ask.specs.declared.call.Reply.TheVariants.{Done as Reply_done};
 ghost use Rattle.papaya_timeline.specs.Kept.{IsLawfulCore};
 ghost use Rattle.papaya_timeline.specs.Solo.{IsAnswered, IsNewIn, RunsAlone, whatever};
@@ -18,6 +20,7 @@ use crate::trace::Event;
 use papaya_ask::call::{Call, Reply};
 use papaya_chain::resizer::Resizer;
 use papaya_store::pairs::Running;
+use papaya_visit_store::visits::Visiting;
 use std::hash::{BuildHasher, Hash};
 
 /// A call that is made alone does what the finite map does, and leaves the words and the count in
@@ -75,4 +78,10 @@ pub fn one_call_ends<K: Hash + Eq, V, S: BuildHasher, A>()
         (hash_of K.hash_input S.build_hasher S.Hasher.write S.Hasher.finish) s resizer
         → Resizes K.eq (hash_of K.hash_input S.build_hasher S.Hasher.write S.Hasher.finish)
         refuse s 0 s' event (Some Reply_done) → IsResized resizer.resize s'.store }
+    ensures visitor_nearer { (refuse : Bool) (s s' : CoreState K V S A) (v : Visiting A)
+        (event : Event) → IsLoneVisitor K.eq
+        (hash_of K.hash_input S.build_hasher S.Hasher.write S.Hasher.finish) s v
+        → Visits K.eq whatever (hash_of K.hash_input S.build_hasher S.Hasher.write S.Hasher.finish)
+        refuse s 0 s' event None → IsNearerVisited K.eq
+        (hash_of K.hash_input S.build_hasher S.Hasher.write S.Hasher.finish) s v s' }
 {}

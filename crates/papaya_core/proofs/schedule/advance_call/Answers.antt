@@ -23,8 +23,8 @@ answer-requires-clause-fit g c =
     (unnumbered c.args.store.now.words.tables c.requires.sizes) (subst IsFitAsk c.ask-ask.ensures.value c.ask-ask.ensures.size)
     (subst (λ y. PerformsAsk g.K.PartialEq.eq (says g) (hashes g) c.args.refuse y c.args.store.now c.args.running c.perform_ask-answer.result c.perform_ask-answer.new.self c.perform_ask-answer.new.running) c.ask-ask.ensures.value c.perform_ask-answer.ensures.performs)).fit
 
-pub returns-in-Some : goal.returns-in-Some
-returns-in-Some g c =
+pub returns-in-Some-clause-goes : goal.returns-in-Some-clause-goes
+returns-in-Some-clause-goes g c =
     let before = c.args.running in
     let a = c.perform_ask-answer.result in
     let is_after : c.answer.new.self ≡ after before.machine a = c.answer.ensures.after ∙ ap (λ m. after m a) c.perform_ask-answer.ensures.machine in
@@ -39,8 +39,8 @@ returns-in-Some g c =
       shard = λ by asks. c.perform_ask-answer.ensures.shard by (c.ask-ask.ensures.value ∙ asks);
     }
 
-pub returns-in-None : goal.returns-in-None
-returns-in-None g c =
+pub returns-in-None-clause-goes : goal.returns-in-None-clause-goes
+returns-in-None-clause-goes g c =
     let before = c.args.running in
     let a = c.perform_ask-answer.result in
     let is_after : c.answer.new.self ≡ after before.machine a = c.answer.ensures.after ∙ ap (λ m. after m a) c.perform_ask-answer.ensures.machine in

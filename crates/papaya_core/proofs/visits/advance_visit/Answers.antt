@@ -1,15 +1,17 @@
-use Rattle.std.proofs.Common.{◌≡◌, [], None, Some, refl, sym, ap, ◌∙◌}
-use Rattle.papaya_visit.specs.Visitor.{after, reply_of}
+use Rattle.std.proofs.Common.{◌≡◌, [], ◌++◌, None, Some, refl, sym, ap, subst, ◌∙◌}
+use Rattle.papaya_visit.specs.Visitor.{after, ask_of, reply_of}
 use Rattle.papaya_timeline.specs.declared.seat.Work.TheVariants as works
 use Rattle.papaya_timeline.specs.VisitGoes.{event_of_visit, reply_or}
 use Rattle.papaya_keys.specs.Hashes.{hash_of}
 use Rattle.papaya_timeline.specs.Core.{IsCore}
 use Rattle.papaya_timeline.proofs.VisitStands.{visit_core}
+use Rattle.papaya_core.specs.Outcomes.{ListsGiven, all_given, given_by}
+use Rattle.papaya_core.proofs.Walks.{given_is}
 use Rattle.papaya_core.proofs.visits.advance_visit.Goals as goal
 
 -- there was no memory for a pair of its list
-pub returns-in-Some-unheard : goal.returns-in-Some-unheard
-returns-in-Some-unheard g c = record {
+pub returns-in-Some-unheard-clause-goes : goal.returns-in-Some-unheard-clause-goes
+returns-in-Some-unheard-clause-goes g c = record {
   ask = c.in-Some.ask;
   asked = sym c.ask.ensures ∙ c.in-Some.is;
   answer = c.perform_visit-answer.result;
@@ -22,8 +24,8 @@ returns-in-Some-unheard g c = record {
 }
 
 -- the machine has replied
-pub returns-in-Some-reply : goal.returns-in-Some-reply
-returns-in-Some-reply g c =
+pub returns-in-Some-reply-clause-goes : goal.returns-in-Some-reply-clause-goes
+returns-in-Some-reply-clause-goes g c =
     let a = c.perform_visit-answer.result in
     let is_after : c.answer.new.self ≡ after c.args.visiting.visitor a = c.answer.ensures.after ∙ ap (λ m. after m a) c.perform_visit-answer.ensures.visitor in
     record {
@@ -33,14 +35,27 @@ returns-in-Some-reply g c =
       later = c.perform_visit-answer.new.visiting;
       performs = c.perform_visit-answer.ensures.performs;
       event_is = c.event_of_visit-event.ensures ∙ ap (λ k. event_of_visit k c.in-Some.ask a) c.kind-kind.ensures;
-      reply_is = sym c.in-Some-reply.is ∙ c.reply.ensures ∙ ap reply_of is_after ∙ ap (λ o. reply_or o (reply_of (after c.args.visiting.visitor a))) (sym c.in_default.is ∙ c.unheard.ensures);
+      reply_is = ap (λ y. Some y) c.outcome_of.ensures.told ∙ sym c.in-Some-reply.is ∙ c.reply.ensures ∙ ap reply_of is_after ∙ ap (λ o. reply_or o (reply_of (after c.args.visiting.visitor a))) (sym c.in_default.is ∙ c.unheard.ensures);
       work_is = refl;
       shard = c.perform_visit-answer.ensures.shard;
     }
 
+-- and lists what it gave
+pub returns-in-Some-reply-clause-walked : goal.returns-in-Some-reply-clause-walked
+returns-in-Some-reply-clause-walked g c =
+    let a = c.perform_visit-answer.result in
+    let later = c.perform_visit-answer.new.visiting in
+    let is_after : c.answer.new.self ≡ after c.args.visiting.visitor a = c.answer.ensures.after ∙ ap (λ m. after m a) c.perform_visit-answer.ensures.visitor in
+    let asked : ask_of c.args.visiting.visitor ≡ Some c.in-Some.ask = sym c.ask.ensures ∙ c.in-Some.is in
+    let given : later.given ≡ all_given c.args.visiting =
+    given_is g.K.PartialEq.eq (record { op = g.A.Answers.op_gives; yes = g.A.Answers.yes_gives }) (hash_of g.K.Hash.hash_input g.S.BuildHasher.build_hasher g.S.Hasher.Hasher.write g.S.Hasher.Hasher.finish) c.args.refuse c.args.store.now c.args.visiting a c.perform_visit-answer.new.store later c.in-Some.ask c.perform_visit-answer.ensures.performs (sym (sym c.in_default.is ∙ c.unheard.ensures))
+    ∙ ap (λ o. c.args.visiting.given ++ given_by o) (sym asked) in
+    subst (λ l. ListsGiven c.args.visiting.visitor.visit l c.outcome_of.result) given
+    (subst (λ visit. ListsGiven visit later.given c.outcome_of.result) (ap (λ m. m.visit) is_after) c.outcome_of.ensures.listed)
+
 -- or goes on
-pub returns-in-None-reply : goal.returns-in-None-reply
-returns-in-None-reply g c =
+pub returns-in-None-reply-clause-goes : goal.returns-in-None-reply-clause-goes
+returns-in-None-reply-clause-goes g c =
     let a = c.perform_visit-answer.result in
     let is_after : c.answer.new.self ≡ after c.args.visiting.visitor a = c.answer.ensures.after ∙ ap (λ m. after m a) c.perform_visit-answer.ensures.visitor in
     record {

@@ -1,14 +1,13 @@
-use Rattle.std.proofs.Common.{◌≡◌, List, Option, Some, None, refl, ap, subst, ◌∙◌}
+use Rattle.std.proofs.Common.{◌≡◌, List, None, refl, sym, ap, subst, ◌∙◌}
 use Rattle.papaya_call.specs.Answers.{Says}
-use Rattle.papaya_keys.specs.Hashes.{hash_of}
 use Rattle.papaya_timeline.specs.declared.seat.Seat.{Seat}
-use Rattle.papaya_timeline.specs.declared.seat.Work.{Work}
-use Rattle.papaya_timeline.specs.Callers.{with_work}
+use Rattle.papaya_timeline.specs.Callers.{visiting, visitor_in, with_work}
+use Rattle.papaya_timeline.specs.Core.{CoreState}
 use Rattle.papaya_timeline.proofs.CallersLemmas.{with_work-twice}
-use Rattle.papaya_core.specs.Goes.{WorkGoes}
+use Rattle.papaya_core.specs.Outcomes.{AnswersWalk, as_reply}
 use Rattle.papaya_core.proofs.Steps.{IsSound, work_sound, work_stands}
 use Rattle.papaya_core.proofs.schedule.Core.advance.Goals as goal
-use Rattle.papaya_core.proofs.schedule.Core.advance.Goals.{After-advance_work-event, After-put}
+use Rattle.papaya_core.proofs.schedule.Core.advance.Goals.{After-put}
 use Rattle.papaya_core.proofs.schedule.Core.advance.Given.{Over}
 
 -- what the closures' answers give
@@ -19,49 +18,39 @@ says g = record { op = g.A.Answers.op_gives; yes = g.A.Answers.yes_gives }
 pub advance_work-event-requires-clause-standing : goal.advance_work-event-requires-clause-standing
 advance_work-event-requires-clause-standing g c = work_stands g.K.PartialEq.eq g.K.Hash.hash_input g.S.BuildHasher.build_hasher g.S.Hasher.Hasher.write g.S.Hasher.Hasher.finish g.met.K.Eq.laws g.met.K.Hash.respects_eq (says g) (record { store = c.self.inside.store; callers = c.self.inside.callers; mode = c.self.inside.mode; initial = c.self.inside.initial }) c.self.invariant.0 c.args.caller c.take-work.result c.take-work.ensures.call
 
--- the step is sound, whatever goes on
-abbrev Sound : (g : Over) (c : After-advance_work-event g) (callers : List (Seat g.row.K.Denot g.row.V.Denot g.row.A.Denot)) → Type 0
-Sound g c callers = IsSound g.K.PartialEq.eq g.K.Hash.hash_input g.S.BuildHasher.build_hasher g.S.Hasher.Hasher.write g.S.Hasher.Hasher.finish g.met.K.Eq.laws g.met.K.Hash.respects_eq (says g) c.args.refuse c.args.self.now c.args.caller (record { store = c.advance_work-event.new.store; callers = callers; mode = c.self.inside.mode; initial = c.self.inside.initial }) c.advance_work-event.result.0 c.advance_work-event.result.1
+-- the callers after it: one has what goes on under way
+callers_are : (g : Over) (c : After-put g) → c.put.new.self ≡ with_work c.self.inside.callers c.args.caller c.advance_work-event.result.2
+callers_are g c =
+    c.put.ensures ∙ ap (λ (y : List (Seat _ _ _)). with_work y c.args.caller c.advance_work-event.result.2) c.take-work.ensures.taken
+    ∙ with_work-twice c.self.inside.callers c.args.caller None c.advance_work-event.result.2
 
-sound : (g : Over) (c : After-advance_work-event g) (rest : Option (Work g.row.K.Denot g.row.V.Denot g.row.A.Denot)) (callers : List (Seat g.row.K.Denot g.row.V.Denot g.row.A.Denot)) → c.advance_work-event.result.2 ≡ rest → callers ≡ with_work c.self.inside.callers c.args.caller rest → Sound g c callers
-sound g c rest callers is are =
-    subst (λ s. IsSound g.K.PartialEq.eq g.K.Hash.hash_input g.S.BuildHasher.build_hasher g.S.Hasher.Hasher.write g.S.Hasher.Hasher.finish g.met.K.Eq.laws g.met.K.Hash.respects_eq (says g) c.args.refuse s c.args.caller (record { store = c.advance_work-event.new.store; callers = callers; mode = c.self.inside.mode; initial = c.self.inside.initial }) c.advance_work-event.result.0 c.advance_work-event.result.1) c.self.view_is
-    (work_sound g.K.PartialEq.eq g.K.Hash.hash_input g.S.BuildHasher.build_hasher g.S.Hasher.Hasher.write g.S.Hasher.Hasher.finish g.met.K.Eq.laws g.met.K.Hash.respects_eq (says g) c.args.refuse (record { store = c.self.inside.store; callers = c.self.inside.callers; mode = c.self.inside.mode; initial = c.self.inside.initial }) c.args.caller (record { store = c.advance_work-event.new.store; callers = callers; mode = c.self.inside.mode; initial = c.self.inside.initial }) c.advance_work-event.result.0 c.advance_work-event.result.1
-    c.self.invariant.0 c.self.invariant.1 rest are refl refl c.take-work.result c.take-work.ensures.call
-    (subst (λ o. WorkGoes g.K.PartialEq.eq (says g) (hash_of g.K.Hash.hash_input g.S.BuildHasher.build_hasher g.S.Hasher.Hasher.write g.S.Hasher.Hasher.finish) c.args.refuse c.self.inside.store c.args.caller c.advance_work-event.new.store c.advance_work-event.result.0 c.advance_work-event.result.1 o c.take-work.result) is c.advance_work-event.ensures))
+-- the step is sound
+sound : (g : Over) (c : After-put g) → IsSound g.K.PartialEq.eq g.K.Hash.hash_input g.S.BuildHasher.build_hasher g.S.Hasher.Hasher.write g.S.Hasher.Hasher.finish g.met.K.Eq.laws g.met.K.Hash.respects_eq (says g) c.args.refuse c.args.self.now c.args.caller (record { store = c.advance_work-event.new.store; callers = c.put.new.self; mode = c.self.inside.mode; initial = c.self.inside.initial }) c.advance_work-event.result.0 (as_reply c.advance_work-event.result.1)
+sound g c =
+    subst (λ s. IsSound g.K.PartialEq.eq g.K.Hash.hash_input g.S.BuildHasher.build_hasher g.S.Hasher.Hasher.write g.S.Hasher.Hasher.finish g.met.K.Eq.laws g.met.K.Hash.respects_eq (says g) c.args.refuse s c.args.caller (record { store = c.advance_work-event.new.store; callers = c.put.new.self; mode = c.self.inside.mode; initial = c.self.inside.initial }) c.advance_work-event.result.0 (as_reply c.advance_work-event.result.1)) c.self.view_is
+    (work_sound g.K.PartialEq.eq g.K.Hash.hash_input g.S.BuildHasher.build_hasher g.S.Hasher.Hasher.write g.S.Hasher.Hasher.finish g.met.K.Eq.laws g.met.K.Hash.respects_eq (says g) c.args.refuse (record { store = c.self.inside.store; callers = c.self.inside.callers; mode = c.self.inside.mode; initial = c.self.inside.initial }) c.args.caller (record { store = c.advance_work-event.new.store; callers = c.put.new.self; mode = c.self.inside.mode; initial = c.self.inside.initial }) c.advance_work-event.result.0 (as_reply c.advance_work-event.result.1)
+    c.self.invariant.0 c.self.invariant.1 c.advance_work-event.result.2 (callers_are g c) refl refl c.take-work.result c.take-work.ensures.call c.advance_work-event.ensures.goes)
 
 pub invariant_of-self : goal.invariant_of-self
-invariant_of-self g c = let x = (sound g (goal.at.invariant_of-self g c).After-advance_work-event (Some c.in-Some.work) c.put.new.self c.in-Some.is (c.put.ensures ∙ ap (λ (y : List (Seat _ _ _)). with_work y c.args.caller (Some c.in-Some.work)) c.take-work.ensures.taken ∙ with_work-twice c.self.inside.callers c.args.caller None (Some c.in-Some.work))) in (x.lawful, x.counted, c.self.invariant.2)
+invariant_of-self g c = let x = sound g (goal.at.invariant_of-self g c).After-put in (x.lawful, x.counted, c.self.invariant.2)
 
-pub invariant_of-self-in-None : goal.invariant_of-self-in-None
-invariant_of-self-in-None g c = let x = (sound g (goal.at.invariant_of-self-in-None g c).After-advance_work-event None c.take-work.new.self c.in-None.is c.take-work.ensures.taken) in (x.lawful, x.counted, c.self.invariant.2)
+pub returns-clause-steps : goal.returns-clause-steps
+returns-clause-steps g c = (sound g (goal.at.returns-clause-steps g c).After-put).steps
 
-pub returns-in-Some-clause-steps : goal.returns-in-Some-clause-steps
-returns-in-Some-clause-steps g c = (sound g (goal.at.returns-in-Some-clause-steps g c).After-advance_work-event (Some c.in-Some.work) c.put.new.self c.in-Some.is (c.put.ensures ∙ ap (λ (y : List (Seat _ _ _)). with_work y c.args.caller (Some c.in-Some.work)) c.take-work.ensures.taken ∙ with_work-twice c.self.inside.callers c.args.caller None (Some c.in-Some.work))).steps
+-- what is answered of a walk is answered of what was under way
+pub returns-clause-walked : goal.returns-clause-walked
+returns-clause-walked g c =
+    subst (λ (s : CoreState _ _ _ _). AnswersWalk (visiting s.callers c.args.caller) c.advance_work-event.result.1) c.self.view_is
+    (subst (λ o. AnswersWalk (visitor_in o) c.advance_work-event.result.1) (sym c.take-work.ensures.call) c.advance_work-event.ensures.walked)
 
-pub returns-in-None-clause-steps : goal.returns-in-None-clause-steps
-returns-in-None-clause-steps g c = (sound g (goal.at.returns-in-None-clause-steps g c).After-advance_work-event None c.take-work.new.self c.in-None.is c.take-work.ensures.taken).steps
+pub returns-clause-moves : goal.returns-clause-moves
+returns-clause-moves g c = (sound g (goal.at.returns-clause-moves g c).After-put).moves
 
-pub returns-in-Some-clause-moves : goal.returns-in-Some-clause-moves
-returns-in-Some-clause-moves g c = (sound g (goal.at.returns-in-Some-clause-moves g c).After-advance_work-event (Some c.in-Some.work) c.put.new.self c.in-Some.is (c.put.ensures ∙ ap (λ (y : List (Seat _ _ _)). with_work y c.args.caller (Some c.in-Some.work)) c.take-work.ensures.taken ∙ with_work-twice c.self.inside.callers c.args.caller None (Some c.in-Some.work))).moves
+pub returns-clause-keeps : goal.returns-clause-keeps
+returns-clause-keeps g c = (sound g (goal.at.returns-clause-keeps g c).After-put).keeps
 
-pub returns-in-None-clause-moves : goal.returns-in-None-clause-moves
-returns-in-None-clause-moves g c = (sound g (goal.at.returns-in-None-clause-moves g c).After-advance_work-event None c.take-work.new.self c.in-None.is c.take-work.ensures.taken).moves
+pub returns-clause-shard : goal.returns-clause-shard
+returns-clause-shard g c = (sound g (goal.at.returns-clause-shard g c).After-put).shard
 
-pub returns-in-Some-clause-keeps : goal.returns-in-Some-clause-keeps
-returns-in-Some-clause-keeps g c = (sound g (goal.at.returns-in-Some-clause-keeps g c).After-advance_work-event (Some c.in-Some.work) c.put.new.self c.in-Some.is (c.put.ensures ∙ ap (λ (y : List (Seat _ _ _)). with_work y c.args.caller (Some c.in-Some.work)) c.take-work.ensures.taken ∙ with_work-twice c.self.inside.callers c.args.caller None (Some c.in-Some.work))).keeps
-
-pub returns-in-None-clause-keeps : goal.returns-in-None-clause-keeps
-returns-in-None-clause-keeps g c = (sound g (goal.at.returns-in-None-clause-keeps g c).After-advance_work-event None c.take-work.new.self c.in-None.is c.take-work.ensures.taken).keeps
-
-pub returns-in-Some-clause-shard : goal.returns-in-Some-clause-shard
-returns-in-Some-clause-shard g c = (sound g (goal.at.returns-in-Some-clause-shard g c).After-advance_work-event (Some c.in-Some.work) c.put.new.self c.in-Some.is (c.put.ensures ∙ ap (λ (y : List (Seat _ _ _)). with_work y c.args.caller (Some c.in-Some.work)) c.take-work.ensures.taken ∙ with_work-twice c.self.inside.callers c.args.caller None (Some c.in-Some.work))).shard
-
-pub returns-in-None-clause-shard : goal.returns-in-None-clause-shard
-returns-in-None-clause-shard g c = (sound g (goal.at.returns-in-None-clause-shard g c).After-advance_work-event None c.take-work.new.self c.in-None.is c.take-work.ensures.taken).shard
-
-pub returns-in-Some-clause-counted : goal.returns-in-Some-clause-counted
-returns-in-Some-clause-counted g c = (sound g (goal.at.returns-in-Some-clause-counted g c).After-advance_work-event (Some c.in-Some.work) c.put.new.self c.in-Some.is (c.put.ensures ∙ ap (λ (y : List (Seat _ _ _)). with_work y c.args.caller (Some c.in-Some.work)) c.take-work.ensures.taken ∙ with_work-twice c.self.inside.callers c.args.caller None (Some c.in-Some.work))).counted
-
-pub returns-in-None-clause-counted : goal.returns-in-None-clause-counted
-returns-in-None-clause-counted g c = (sound g (goal.at.returns-in-None-clause-counted g c).After-advance_work-event None c.take-work.new.self c.in-None.is c.take-work.ensures.taken).counted
+pub returns-clause-counted : goal.returns-clause-counted
+returns-clause-counted g c = (sound g (goal.at.returns-clause-counted g c).After-put).counted
