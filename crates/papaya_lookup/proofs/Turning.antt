@@ -38,7 +38,7 @@ use Rattle.papaya_book.specs.Rule.{IsLawfulLog, IsPlaced}
 use Rattle.papaya_book.specs.Sheets.{Sheet}
 use Rattle.papaya_book.proofs.Loaded.{told_pair}
 use Rattle.papaya_book.proofs.Logs.{table_came}
-use Rattle.papaya_lookup.specs.Answers.{IsAnsweredBetween}
+use Rattle.papaya_lookup.specs.Answers.{IsPairAnsweredBetween}
 use Rattle.papaya_lookup.specs.History.{history_of, key_of}
 use Rattle.papaya_lookup.specs.Lookups.{HoldsPair, IsReading, IsReadingAt, IsTurned, led_to, left_of, lookup_at, turn_of}
 use Rattle.papaya_lookup.specs.declared.lookup.Turn.{Turn}
@@ -112,9 +112,9 @@ compared_look kinds.Copied at hash word a w h = record { some = λ e. cc e; shut
 compared_look kinds.Buried at hash word a w h = absurd (on_not at a w h)
 compared_look kinds.Closed at hash word a w h = absurd (on_not at a w h)
 
-module _ (V : Type 0) where
+module _ (E : Type 0) where
   -- the turn leads the machine where the search goes
-  led_on : (mode : ResizeMode) (n : ℕ) (seen : Seen) → IsOnward seen → goes_as Get mode nothing seen ≡ led_to {V = V} mode n (turn_of seen)
+  led_on : (mode : ResizeMode) (n : ℕ) (seen : Seen) → IsOnward seen → goes_as Get mode nothing seen ≡ led_to {E = E} mode n (turn_of seen)
   led_on mode n (On (Looking at)) o = refl
   led_on mode n (On (Sizing t)) o = absurd o
   led_on mode n (On (Comparing at word)) o = absurd o
@@ -122,7 +122,7 @@ module _ (V : Type 0) where
   led_on mode n (Here at word) o = absurd o
   led_on mode n (Over t) o = refl
 
-  within_on : (seen : Seen) → IsSeen seen → (at : Place) → turn_of {V = V} seen ≡ turns.Next at → IsWithin at
+  within_on : (seen : Seen) → IsSeen seen → (at : Place) → turn_of {E = E} seen ≡ turns.Next at → IsWithin at
   within_on (On (Looking p)) w at e = let is : p ≡ at = cc e in subst IsWithin is w
   within_on (On (Sizing t)) w at e = absurd (cc e)
   within_on (On (Comparing p word)) w at e = absurd (cc e)
@@ -130,13 +130,13 @@ module _ (V : Type 0) where
   within_on (Here p word) w at e = absurd (cc e)
   within_on (Over t) w at e = absurd (cc e)
 
-  unfound_on : (seen : Seen) (value : Bor V) → turn_of {V = V} seen ≡ turns.Found value → ⊥
-  unfound_on (On (Looking p)) value e = cc e
-  unfound_on (On (Sizing t)) value e = cc e
-  unfound_on (On (Comparing p word)) value e = cc e
-  unfound_on (Empty p) value e = cc e
-  unfound_on (Here p word) value e = cc e
-  unfound_on (Over t) value e = cc e
+  unfound_on : (seen : Seen) (entry : E) → turn_of seen ≡ turns.Found entry → ⊥
+  unfound_on (On (Looking p)) entry e = cc e
+  unfound_on (On (Sizing t)) entry e = cc e
+  unfound_on (On (Comparing p word)) entry e = cc e
+  unfound_on (Empty p) entry e = cc e
+  unfound_on (Here p word) entry e = cc e
+  unfound_on (Over t) entry e = cc e
 
 -- a lookup that was told this number of a table comes to that table, and has replied where it is 0
 abbrev pub numbered : ℕ → Stage
@@ -174,7 +174,7 @@ module _ {K V S H : Type 0} (eq : K → K → Bool) (input : K → List (List �
   Reads log stage lent pair = Reading eq input build write finish classes respects b matches query lawful begun log (lookup_at h b.mode stage) (Some lent) pair
 
   -- a turn led the machine on, and less is left
-  abbrev pub Goes : List (Event K V S) → Place → Sheet → Turn V → Type 0
+  abbrev pub Goes : List (Event K V S) → Place → Sheet → Turn (Bor K × Bor V) → Type 0
   Goes log at table turn = IsTurned eq hash b matches (fed eq input build write finish classes respects b matches query lawful) begun h log table turn × (left_of (led_to b.mode 0 turn) < left_of (Searching (Looking at)))
 
   -- a search that goes on
@@ -186,11 +186,11 @@ module _ {K V S H : Type 0} (eq : K → K → Bool) (input : K → List (List �
       lent_is = is;
       pair = pair;
       number = 0;
-      reading = subst (λ (s : Stage). Reads log s lent pair) (led_on V b.mode 0 seen onward) r;
-      within = within_on V seen within;
-      found = λ value e. absurd (unfound_on V seen value e);
+      reading = subst (λ (s : Stage). Reads log s lent pair) (led_on (Bor K × Bor V) b.mode 0 seen onward) r;
+      within = within_on (Bor K × Bor V) seen within;
+      found = λ entry e. absurd (unfound_on (Bor K × Bor V) seen entry e);
     },
-    subst (λ (s : Stage). left_of s < left_of (Searching (Looking at))) (led_on V b.mode 0 seen onward) fewer,
+    subst (λ (s : Stage). left_of s < left_of (Searching (Looking at))) (led_on (Bor K × Bor V) b.mode 0 seen onward) fewer,
   )
 
   module _ (log : List (Event K V S)) (at : Place) (within : IsWithin at) (table : Sheet) (r : IsReadingAt eq hash b matches (fed eq input build write finish classes respects b matches query lawful) begun h log (Searching (Looking at)) table) where
@@ -238,15 +238,17 @@ module _ {K V S H : Type 0} (eq : K → K → Bool) (input : K → List (List �
             pub other_pair : IsSeen (at_yes (Comparing at word) same) → ((a' : Place) (w' : ℕ) → at_yes (Comparing at word) same ≡ Here a' w' → ⊥) → Goes log' at table (turn_of (at_yes (Comparing at word) same))
             other_pair seen none = goes_on log' at table r.0 r.1 (Some p) (at_yes (Comparing at word) same) seen (onward_yes at word same none) compared.0 compared.1
 
-            pub pair_found : (a' : Place) (w' : ℕ) → at_yes (Comparing at word) same ≡ Here a' w' → (value : Bor V) → value.now ≡ p.value.value → IsTurned eq hash b matches (fed eq input build write finish classes respects b matches query lawful) begun h log' table (turns.Found value)
-            pair_found a' w' here value value_is = record {
+            pub pair_found : (a' : Place) (w' : ℕ) → at_yes (Comparing at word) same ≡ Here a' w' → (entry : Bor K × Bor V) → entry.0.now ≡ key_of p → entry.1.now ≡ p.value.value → IsTurned eq hash b matches (fed eq input build write finish classes respects b matches query lawful) begun h log' table (turns.Found entry)
+            pair_found a' w' here entry key_is value_is = record {
               lent = r.0;
               lent_is = r.1;
               pair = Some p;
               number = pair_of w';
               reading = subst (λ (s : Seen). Reads log' (goes_as Get b.mode nothing s) r.0 (Some p)) here compared.0;
               within = λ z e'. absurd (cc e');
-              found = λ v e'. let one : value ≡ v = cc e' in (p, refl, subst (λ (z : Bor V). z.now ≡ p.value.value) one value_is);
+              found = λ other e'.
+                  let one : entry ≡ other = cc e' in
+                  (p, refl, subst (λ (z : Bor K × Bor V). z.0.now ≡ key_of p) one key_is, subst (λ (z : Bor K × Bor V). z.1.now ≡ p.value.value) one value_is);
             }
 
 module _ {K V S H : Type 0} (eq : K → K → Bool) (input : K → List (List ℕ)) (build : S → H) (write : H → List ℕ → H) (finish : H → ℕ) (classes : IsEquivalence eq) (respects : (x y : K) → eq x y ≡ true → input x ≡ input y)
@@ -260,7 +262,7 @@ module _ {K V S H : Type 0} (eq : K → K → Bool) (input : K → List (List �
   abbrev Reads_with : List (Event K V S) → Stage → Option (Bor Sheet) → Option (Stored K V) → Type 0
   Reads_with log stage held pair = Reading eq input build write finish classes respects b matches query lawful (exchanges_of began) log (lookup_at h b.mode stage) held pair
 
-  abbrev pub Turned : List (Event K V S) → Sheet → Turn V → Type 0
+  abbrev pub Turned : List (Event K V S) → Sheet → Turn (Bor K × Bor V) → Type 0
   Turned log table turn = IsTurned eq hash_in b matches (fed eq input build write finish classes respects b matches query lawful) (exchanges_of began) h log table turn
 
   -- the number of the root was loaded
@@ -284,39 +286,39 @@ module _ {K V S H : Type 0} (eq : K → K → Bool) (input : K → List (List �
 
   -- a search that passed the table: the number of the next one was loaded
   pub next_held : (log log' : List (Event K V S)) → IsPrefix log log' → (table : Sheet) (t : ℕ) (chunk : ℕ) → book.parts.mode ≡ Incremental chunk → Turned log table (turns.Over t) → (word : ℕ) (held : Option (Bor Sheet)) → IsNext eq hash_in b book.begun.book t word log' held
-      → (pair : Option (Stored K V)) × Reads_with log' (numbered word) held pair × (left_of (numbered word) < left_of (led_to {V = V} b.mode 0 (turns.Over t)))
+      → (pair : Option (Stored K V)) × Reads_with log' (numbered word) held pair × (left_of (numbered word) < left_of (led_to {E = Bor K × Bor V} b.mode 0 (turns.Over t)))
   next_held log log' after table t chunk mode turned word held told =
       let leads : passes Get b.mode None t ≡ Leaving t = ap (λ (z : ResizeMode). passes Get z None t) mode in
       let r : Reads_with log (Leaving t) (Some turned.lent) turned.pair = subst (λ (s : Stage). Reads_with log s (Some turned.lent) turned.pair) leads turned.reading in
       let all = next_read eq input build write finish classes respects b matches query lawful (exchanges_of began) log log' after told.lawful (lookup_at h b.mode (Leaving t)) (Some turned.lent) turned.pair r (standing h b.mode (Leaving t) tt) book.begun.book t word held refl told in
       (turned.pair, all.reading, subst (λ (s : Stage). left_of (numbered word) < left_of s) (sym leads) all.fewer)
 
-  -- what the lookup answers: the value that was found
-  pub answers_found : (log : List (Event K V S)) (table : Sheet) (value : Bor V) → Turned log table (turns.Found value) → IsAnsweredBetween {V = V} eq matches (history_of old) (history_of log) (Some value)
-  answers_found log table value turned =
-      let f = turned.found value refl in
-      found_answer eq input build write finish classes respects b matches query lawful old began pre log (lookup_at h b.mode (Ended (replies.Found turned.number))) (Some turned.lent) turned.pair turned.reading (standing h b.mode (Ended (replies.Found turned.number)) tt) turned.number refl f.0 f.1 value f.2
+  -- what the lookup answers: the pair that was found
+  pub answers_found : (log : List (Event K V S)) (table : Sheet) (entry : Bor K × Bor V) → Turned log table (turns.Found entry) → IsPairAnsweredBetween {V = V} eq matches (history_of old) (history_of log) (Some entry)
+  answers_found log table entry turned =
+      let f = turned.found entry refl in
+      found_answer eq input build write finish classes respects b matches query lawful old began pre log (lookup_at h b.mode (Ended (replies.Found turned.number))) (Some turned.lent) turned.pair turned.reading (standing h b.mode (Ended (replies.Found turned.number)) tt) turned.number refl f.0 f.1 entry f.2 f.3
 
-  absent : (log : List (Event K V S)) (held : Option (Bor Sheet)) (pair : Option (Stored K V)) → Reads_with log (Ended replies.Absent) held pair → IsAnsweredBetween {V = V} eq matches (history_of old) (history_of log) None
+  absent : (log : List (Event K V S)) (held : Option (Bor Sheet)) (pair : Option (Stored K V)) → Reads_with log (Ended replies.Absent) held pair → IsPairAnsweredBetween {V = V} eq matches (history_of old) (history_of log) None
   absent log held pair r = absent_answer eq input build write finish classes respects b matches query lawful old began pre log (lookup_at h b.mode (Ended replies.Absent)) held pair r (standing h b.mode (Ended replies.Absent) tt) replies.Absent refl (λ n e. cc e)
 
   -- none, where a search ended so
-  pub answers_absent : (log : List (Event K V S)) (table : Sheet) → Turned log table turns.Absent → IsAnsweredBetween {V = V} eq matches (history_of old) (history_of log) None
+  pub answers_absent : (log : List (Event K V S)) (table : Sheet) → Turned log table turns.Absent → IsPairAnsweredBetween {V = V} eq matches (history_of old) (history_of log) None
   answers_absent log table turned = absent log (Some turned.lent) turned.pair turned.reading
 
   -- or passed the table where no further one is searched
-  pub answers_passed : (log : List (Event K V S)) (table : Sheet) (t : ℕ) → book.parts.mode ≡ Blocking → Turned log table (turns.Over t) → IsAnsweredBetween {V = V} eq matches (history_of old) (history_of log) None
+  pub answers_passed : (log : List (Event K V S)) (table : Sheet) (t : ℕ) → book.parts.mode ≡ Blocking → Turned log table (turns.Over t) → IsPairAnsweredBetween {V = V} eq matches (history_of old) (history_of log) None
   answers_passed log table t mode turned = absent log (Some turned.lent) turned.pair (subst (λ (s : Stage). Reads_with log s (Some turned.lent) turned.pair) (ap (λ (z : ResizeMode). passes Get z None t) mode) turned.reading)
 
   -- or where there is no table
-  pub answers_none : (log : List (Event K V S)) (number : ℕ) (held : Option (Bor Sheet)) (pair : Option (Stored K V)) → Reads_with log (numbered number) held pair → MatchOption held (number ≡ 0) (λ z. IsTable log number z.now × (z.now.book ≡ book.begun.book)) → held ≡ None → IsAnsweredBetween {V = V} eq matches (history_of old) (history_of log) None
+  pub answers_none : (log : List (Event K V S)) (number : ℕ) (held : Option (Bor Sheet)) (pair : Option (Stored K V)) → Reads_with log (numbered number) held pair → MatchOption held (number ≡ 0) (λ z. IsTable log number z.now × (z.now.book ≡ book.begun.book)) → held ≡ None → IsPairAnsweredBetween {V = V} eq matches (history_of old) (history_of log) None
   answers_none log number held pair reading named none =
       let zero = subst (λ (o : Option (Bor Sheet)). MatchOption o (number ≡ 0) (λ z. IsTable log number z.now × (z.now.book ≡ book.begun.book))) none named in
       absent log held pair (subst (λ (s : Stage). Reads_with log s held pair) (numbered_none number zero) reading)
 
 -- a search that neither goes on, nor found a pair, nor passed the table
-pub absent_else : {V : Type 0} (turn : Turn V) → ((at : Place) → turn ≡ turns.Next at → ⊥) → ((value : Bor V) → turn ≡ turns.Found value → ⊥) → ((t : ℕ) → turn ≡ turns.Over t → ⊥) → turn ≡ turns.Absent
+pub absent_else : {E : Type 0} (turn : Turn E) → ((at : Place) → turn ≡ turns.Next at → ⊥) → ((entry : E) → turn ≡ turns.Found entry → ⊥) → ((t : ℕ) → turn ≡ turns.Over t → ⊥) → turn ≡ turns.Absent
 absent_else (turns.Next at) on found over = absurd (on at refl)
-absent_else (turns.Found value) on found over = absurd (found value refl)
+absent_else (turns.Found entry) on found over = absurd (found entry refl)
 absent_else turns.Absent on found over = refl
 absent_else (turns.Over t) on found over = absurd (over t refl)

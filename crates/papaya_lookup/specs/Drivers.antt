@@ -1,5 +1,6 @@
 -- What a lookup rests on, and what a caller has seen and made, by what it sees of the map.
 use Rattle.std.specs.Prelude.{ℕ, List}
+use denote.Bor.{Bor}
 use Rattle.papaya_call.specs.declared.machine.State.{State as Stage}
 use Rattle.papaya_book.specs.declared.rule.entry.Event.{Event}
 use Rattle.papaya_book.specs.declared.keyed.Keyed as keyed
@@ -22,7 +23,7 @@ module _ {K V S H : Type 0} {d : keyed.Ghosts S K H} where
   own w = changes_by w.own.done
 
   -- what a lookup has left to do after a turn
-  abbrev pub left_after : Window K V S H d → Turn V → ℕ
+  abbrev pub left_after : Window K V S H d → Turn (Bor K × Bor V) → ℕ
   left_after w turn = lookups.left_of (lookups.led_to w.book.now.parts.mode 0 turn)
 
   module _ (query : Query K S) (began : List (Event K V S)) where
@@ -33,7 +34,7 @@ module _ {K V S H : Type 0} {d : keyed.Ghosts S K H} where
         (exchanges_of began) hash w.sight.log stage table
 
     -- a turn led it on, as is seen by now
-    abbrev pub IsTurned : Window K V S H d → ℕ → Sheet → Turn V → Type 0
+    abbrev pub IsTurned : Window K V S H d → ℕ → Sheet → Turn (Bor K × Bor V) → Type 0
     IsTurned w hash table turn = lookups.IsTurned d.keys.eq d.keys.hash (begun_of w.book.now.parts)
         query.matches (query.hash w.book.now.parts.hasher) (exchanges_of began) hash w.sight.log
         table turn

@@ -24,6 +24,7 @@ use Rattle.papaya_book.specs.declared.rule.entry.Event.{Event}
 use Rattle.papaya_book.specs.Calls.{IsTable}
 use Rattle.papaya_book.specs.Logs.{Stored, coding_of, exchanges_of, pair_named, setting_of}
 use Rattle.papaya_book.specs.Rule.{IsLawfulLog, IsPlaced}
+use Rattle.papaya_lookup.specs.History.{key_of}
 use Rattle.papaya_lookup.specs.declared.lookup.Turn.{Turn}
 use Rattle.papaya_lookup.specs.declared.lookup.Turn.TheVariants as turns
 
@@ -101,22 +102,24 @@ IsReadingAt {K} {V} eq hash b matches fed begun h log stage table = (lent : Bor 
     × IsReading eq hash b matches fed begun log (lookup_at h b.mode stage) (Some lent) pair
 
 -- where a search goes on that has found no pair
-abbrev pub turn_of : {V : Type 0} → Seen → Turn V
+abbrev pub turn_of : {E : Type 0} → Seen → Turn E
 turn_of (On (Looking at)) = turns.Next at
 turn_of (Over t) = turns.Over t
 turn_of _ = turns.Absent
 
 -- where a turn leads the lookup's machine, with the number of the pair that was found
-abbrev pub led_to : {V : Type 0} → ResizeMode → ℕ → Turn V → Stage
+abbrev pub led_to : {E : Type 0} → ResizeMode → ℕ → Turn E → Stage
 led_to mode number (turns.Next at) = Searching (Looking at)
-led_to mode number (turns.Found value) = Ended (Found number)
+led_to mode number (turns.Found entry) = Ended (Found number)
 led_to mode number turns.Absent = Ended Absent
 led_to mode number (turns.Over t) = passes Get mode None t
 
--- A turn of a search led the lookup's machine on. Where a pair was found, this is its value.
+-- A turn of a search led the lookup's machine on. Where a pair was found, these are its key and its
+-- value.
 pub record IsTurned {K V S : Type 0} (eq : K → K → Bool) (hash : S → K → ℕ) (b : Begun K V S)
     (matches : K → Bool) (fed : ℕ) (begun : List (Exchange (Stored K V))) (h : ℕ)
-    (log : List (Event K V S)) (table : Sheet) (turn : Turn V) : Type 0 where
+    (log : List (Event K V S)) (table : Sheet)
+    (turn : Turn (Bor K × Bor V)) : Type 0 where
   pub lent : Bor Sheet
   pub lent_is : lent.now ≡ table
   pub pair : Option (Stored K V)
@@ -124,5 +127,6 @@ pub record IsTurned {K V S : Type 0} (eq : K → K → Bool) (hash : S → K →
   pub reading : IsReading eq hash b matches fed begun log
       (lookup_at h b.mode (led_to b.mode number turn)) (Some lent) pair
   pub within : (at : Place) → turn ≡ turns.Next at → IsWithin at
-  pub found : (value : Bor V) → turn ≡ turns.Found value
-      → (p : Stored K V) × (pair ≡ Some p) × (value.now ≡ p.value.value)
+  pub found : (entry : Bor K × Bor V) → turn ≡ turns.Found entry
+      → (p : Stored K V) × (pair ≡ Some p) × (entry.0.now ≡ key_of p)
+      × (entry.1.now ≡ p.value.value)

@@ -6,7 +6,7 @@ ghost use Rattle.papaya_ask.specs.Search.{IsWithin};
 ghost use Rattle.papaya_call.specs.declared.machine.State.TheVariants.{Searching};
 ghost use Rattle.papaya_ask.specs.declared.search.Search.TheVariants.{Looking};
 ghost use Rattle.papaya_book.specs.Windows.{IsLawful, Sees};
-ghost use Rattle.papaya_lookup.specs.Answers.{IsAnsweredBetween};
+ghost use Rattle.papaya_lookup.specs.Answers.{IsAnsweredBetween, IsPairAnsweredBetween};
 ghost use Rattle.papaya_lookup.specs.Drivers.{IsReadingAt, IsTurned, left_after, past};
 ghost use Rattle.papaya_lookup.specs.Lookups.{left_of, turn_of};
 ghost use Rattle.papaya_lookup.specs.declared.lookup.Turn.TheVariants.{Next};
@@ -23,11 +23,11 @@ use std::hash::{BuildHasher, Hash, Hasher};
 
 /// Where a turn of a search leads.
 #[derive(Drop)]
-enum Turn<'a, V> {
+enum Turn<E> {
     /// This place is looked at next.
     Next(Place),
-    /// A pair with a matching key has this value.
-    Found(&'a V),
+    /// This was found of a pair with a matching key.
+    Found(E),
     /// No pair has a matching key.
     Absent,
     /// The key is not in this table, but may be in the next.
@@ -36,7 +36,7 @@ enum Turn<'a, V> {
 
 /// Where a search goes on that has found no pair.
 #[inline(always)]
-fn without<'a, V>(seen: Seen) -> Turn<'a, V>
+fn without<E>(seen: Seen) -> Turn<E>
     ensures { result ≡ turn_of seen }
 {
     match seen {
@@ -56,7 +56,7 @@ fn look_at<'a, K: Hash + Eq, V, S: BuildHasher, Q: Equivalent<K>>(
     began: &Sight<K, V, S>,
     table: &Table<K, V, S>,
     at: Place,
-) -> Turn<'a, V>
+) -> Turn<(&'a K, &'a V)>
     requires within { IsWithin at }
     requires reading { IsReadingAt (⟦<S as Asked<K, Q>>⟧.query key.now) began.now.log window.old
         hash (Searching (Looking at)) table.now }
@@ -74,10 +74,11 @@ fn look_at<'a, K: Hash + Eq, V, S: BuildHasher, Q: Equivalent<K>>(
             let book = window.book;
             let stored = named_pair(word, trade);
             let pair = book.pair(&stored);
-            let same = key.equivalent(book.key(pair));
+            let stored_key = book.key(pair);
+            let same = key.equivalent(stored_key);
             let compared = Search::Comparing(at, word).at_yes(same);
             match compared {
-                Seen::Here(..) => Turn::Found(pair.value()),
+                Seen::Here(..) => Turn::Found((stored_key, pair.value())),
                 _ => without(compared),
             }
         }
@@ -94,7 +95,7 @@ fn search<'a, K: Hash + Eq, V, S: BuildHasher, Q: Equivalent<K>>(
     began: &Sight<K, V, S>,
     table: &Table<K, V, S>,
     at: Place,
-) -> Turn<'a, V>
+) -> Turn<(&'a K, &'a V)>
     requires within { IsWithin at }
     requires reading { IsReadingAt (⟦<S as Asked<K, Q>>⟧.query key.now) began.now.log window.old
         hash (Searching (Looking at)) table.now }
@@ -112,20 +113,20 @@ fn search<'a, K: Hash + Eq, V, S: BuildHasher, Q: Equivalent<K>>(
     turned
 }
 
-/// Looks up what `key` matches. It goes by atomic loads alone: it waits for nobody and takes no
-/// memory.
+/// Looks up the pair whose key `key` matches. It goes by atomic loads alone: it waits for nobody and
+/// takes no memory.
 ///
-/// The answer is that of one of the histories that the map had between the last one that was seen
-/// before and the one that is seen then.
-#[inline]
-pub fn look_up<'a, K: Hash + Eq, V, S: BuildHasher, Q: Equivalent<K>>(
+/// The answer is the pair of one of the histories that the map had between the last one that was seen
+/// before and the one that is seen then: its key as it is stored, and its value.
+#[inline(always)]
+pub fn look_up_pair<'a, K: Hash + Eq, V, S: BuildHasher, Q: Equivalent<K>>(
     window: &mut Window<'a, K, V, S>,
     key: &Q,
-) -> Option<&'a V>
+) -> Option<(&'a K, &'a V)>
     ensures sees { Sees window.old window.new }
     ensures own { window.new.own ≡ window.old.own }
     ensures lawful { IsLawful window.new }
-    ensures answered { IsAnsweredBetween K.eq (Q.matches key.now) (past window.old)
+    ensures answered { IsPairAnsweredBetween K.eq (Q.matches key.now) (past window.old)
         (past window.new) result }
 {
     window.learn();
@@ -136,7 +137,7 @@ pub fn look_up<'a, K: Hash + Eq, V, S: BuildHasher, Q: Equivalent<K>>(
         let (len, limit) = table.size();
         let first = Place::first(hash, number, len, limit);
         match search(window, key, hash, &began, table, first) {
-            Turn::Found(value) => return Some(value),
+            Turn::Found(entry) => return Some(entry),
             Turn::Over(passed) => match window.book.parts.mode {
                 ResizeMode::Incremental(_) => {
                     let (next, table) = window.next(table, passed);
@@ -149,6 +150,24 @@ pub fn look_up<'a, K: Hash + Eq, V, S: BuildHasher, Q: Equivalent<K>>(
         }
     }
     None
+}
+
+/// Looks up what `key` matches, as [`look_up_pair`] does, and answers its value alone.
+#[inline(always)]
+pub fn look_up<'a, K: Hash + Eq, V, S: BuildHasher, Q: Equivalent<K>>(
+    window: &mut Window<'a, K, V, S>,
+    key: &Q,
+) -> Option<&'a V>
+    ensures sees { Sees window.old window.new }
+    ensures own { window.new.own ≡ window.old.own }
+    ensures lawful { IsLawful window.new }
+    ensures answered { IsAnsweredBetween K.eq (Q.matches key.now) (past window.old)
+        (past window.new) result }
+{
+    match look_up_pair(window, key) {
+        Some((_, value)) => Some(value),
+        None => None,
+    }
 }
 
 /// The hash of what a key is looked up by.

@@ -2,7 +2,7 @@
 //! map's collector, and is then the call of that name of [`HashMapRef`](crate::map::HashMapRef).
 //! With another guard it is refused, and changes nothing.
 ghost use Rattle.std.specs.Prelude.{◌≡◌, ◌⊎◌, [], Ok, Err, IfErr, IfOk};
-ghost use Rattle.papaya_lookup.specs.Answers.{IsAnsweredBetween};
+ghost use Rattle.papaya_lookup.specs.Answers.{IsAnsweredBetween, IsPairAnsweredBetween};
 ghost use Rattle.papaya_change.specs.Changes.{IsPut};
 ghost use Rattle.papaya_change.specs.RemovalAnswers.{IsEntryRemoved, IsRemovalBy, IsRemoved};
 ghost use Rattle.papaya_change.specs.Showings.{Judges, Operates};
@@ -63,6 +63,24 @@ impl<K: Hash + Eq, V, S: BuildHasher> HashMap<K, V, S> {
     {
         self.verify(guard)?;
         Ok(self.pin().get(key))
+    }
+
+    /// The stored key and the value of a key: `get_key_value` of 0.2.5. As [`HashMap::get`], it waits
+    /// for nobody, and takes no lock and no memory. `Refused::WrongGuard` alone.
+    #[inline]
+    pub fn get_key_value<'g, Q: Equivalent<K>, G: Guard>(
+        &'g self,
+        key: &Q,
+        guard: &'g G,
+    ) -> Result<Option<(&'g K, &'g V)>, Refused>
+        ensures right { G.collector_number guard.now ≡ self.now.collector
+            → IsDone result (λ answer. IsOfHistory K.eq
+            (λ h. IsPairAnsweredBetween K.eq (Q.matches key.now) [] h answer)) }
+        ensures wrong { (G.collector_number guard.now ≡ self.now.collector → ⊥)
+            → result ≡ Err Refused.WrongGuard }
+    {
+        self.verify(guard)?;
+        Ok(self.pin().get_key_value(key))
     }
 
     /// Has a key a value? `contains_key` of 0.2.5. `Refused::WrongGuard` alone.

@@ -15,7 +15,7 @@ ghost use Rattle.papaya_change.specs.Writing.{IsMemoryOrCapacity};
 ghost use Rattle.papaya_compute.specs.ComputeAnswers.{IsComputeBy, changes};
 ghost use Rattle.papaya_compute.specs.Deciding.{IsDecided};
 ghost use Rattle.papaya_lookup.specs.History.{IsLegalHistory, Makes, Past, changes_by, history_of, key_of};
-ghost use Rattle.papaya_lookup.specs.Answers.{IsAnsweredBetween};
+ghost use Rattle.papaya_lookup.specs.Answers.{IsAnsweredBetween, IsPairAnsweredBetween};
 ghost use Rattle.papaya_change.specs.RemovalAnswers.{IsRemovalBy, IsRemoved, took, went};
 ghost use Rattle.papaya_change.specs.Showings.{Judges, Operates};
 ghost use Rattle.papaya_sweep.specs.Leaving.{HasKept};
@@ -38,7 +38,7 @@ use papaya_compute::deciding::{Outcome, Rule, decide};
 use papaya_keys::compute::Compute;
 use papaya_keys::guard::{Collector, Equivalent, Guard};
 use papaya_keys::sizes::{check_chunk, initial_len};
-use papaya_lookup::lookup::look_up;
+use papaya_lookup::lookup::{look_up, look_up_pair};
 use papaya_sweep::retain::retain;
 use papaya_sweep::root::take_root;
 use papaya_sweep::walk::Iter;
@@ -363,6 +363,30 @@ impl<'a, K: Hash + Eq, V, S: BuildHasher> HashMapRef<'a, K, V, S> {
         let map: &'a HashMap<K, V, S> = self.map;
         let mut window = Window::new(&map.book, &self.kept, &pass.sight, &pass.own);
         let found = look_up(&mut window, key);
+        pass.sight = window.sight;
+        pass.own = window.own;
+        found
+    }
+
+    /// The stored key and the value of a key: `get_key_value` of 0.2.5. As [`HashMapRef::get_as`], it
+    /// waits for nobody, and takes no lock and no memory.
+    #[inline]
+    pub fn get_key_value_as<Q: Equivalent<K>>(
+        &self,
+        key: &Q,
+        pass: &mut Pass<K, V, S>,
+    ) -> Option<(&'a K, &'a V)>
+        requires { pass.old.book ≡ self.now.book }
+        ensures book { pass.new.book ≡ pass.old.book }
+        ensures seen { IsPrefix pass.old.history pass.new.history }
+        ensures tables { IsPrefix pass.old.tables pass.new.tables }
+        ensures made { pass.new.made ≡ pass.old.made }
+        ensures answered { IsPairAnsweredBetween K.eq (Q.matches key.now) pass.old.history
+            pass.new.history result }
+    {
+        let map: &'a HashMap<K, V, S> = self.map;
+        let mut window = Window::new(&map.book, &self.kept, &pass.sight, &pass.own);
+        let found = look_up_pair(&mut window, key);
         pass.sight = window.sight;
         pass.own = window.own;
         found

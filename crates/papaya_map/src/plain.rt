@@ -1,7 +1,7 @@
 //! The calls that take no pass. Each is the call of that name by a pass made for it alone, so what
 //! it says is so of a history that no caller is shown.
 ghost use Rattle.std.specs.Prelude.{◌≡◌, [], true, IfOk, IfErr, ◌⊎◌};
-ghost use Rattle.papaya_lookup.specs.Answers.{IsAnsweredBetween};
+ghost use Rattle.papaya_lookup.specs.Answers.{IsAnsweredBetween, IsPairAnsweredBetween};
 ghost use Rattle.papaya_change.specs.Changes.{IsPut};
 ghost use Rattle.papaya_change.specs.RemovalAnswers.{IsEntryRemoved, IsRemovalBy, IsRemoved};
 ghost use Rattle.papaya_change.specs.Showings.{Judges, Operates};
@@ -41,6 +41,17 @@ impl<'a, K: Hash + Eq, V, S: BuildHasher> HashMapRef<'a, K, V, S> {
     {
         let mut pass = self.map.numbered(0);
         self.get_as(key, &mut pass)
+    }
+
+    /// The stored key and the value of a key: `get_key_value` of 0.2.5. As [`HashMapRef::get`], it
+    /// waits for nobody, and takes no lock and no memory.
+    #[inline]
+    pub fn get_key_value<Q: Equivalent<K>>(&self, key: &Q) -> Option<(&'a K, &'a V)>
+        ensures { IsOfHistory K.eq (λ h. IsPairAnsweredBetween K.eq (Q.matches key.now) [] h
+            result) }
+    {
+        let mut pass = self.map.numbered(0);
+        self.get_key_value_as(key, &mut pass)
     }
 
     /// Has a key a value? `contains_key` of 0.2.5.

@@ -4,7 +4,7 @@ use Rattle.papaya_book.specs.Logs.{exchanges_of}
 use Rattle.papaya_book.specs.Windows.{Sees}
 use Rattle.papaya_lookup.specs.Lookups.{left_of}
 use Rattle.papaya_lookup.proofs.Turning.{IsHeld, numbered}
-use Rattle.papaya_lookup.proofs.lookup.look_up.Given as goal
+use Rattle.papaya_lookup.proofs.lookup.look_up_pair.Given as goal
 
 -- the lookup was told the number of the table that is held, or that there is none
 abbrev pub invariant-loop-held : goal.invariant-loop-held
