@@ -146,6 +146,30 @@ module _ {K V S H F : Type 0} (eq : K → K → Bool) (input : K → List (List 
           goes_on log ([], append-nil log) x.call (Size slots limit) refl size (λ cause e. cc e) (SizeOf t) asks tt
           (sized eq input build write finish classes respects b matches query lawful None name begun log m x.call.table x.call.last x.call.kept [] x.call.taken x.call.put x.call.fresh r.calling t lent has slots limit slots_is limit_is asks)
 
+      -- a pair that was told of last
+      abbrev Told : Type 0
+      Told = (p : Stored K V) × (x.call.last ≡ Some p) × IsPlaced b (Some name) (names.Pair p)
+
+      told_of : (p : Stored K V) → x.call.last ≡ Some p → Told
+      told_of p last = (p, last, subst (λ (o : Option (Stored K V)). IsPlaced b (Some name) (pair_named o)) last r.calling.last_placed)
+
+      -- a pair whose key is compared was told of
+      pub compared_last : (n : ℕ) → ask_of m ≡ Call (SameKey n) → Told
+      compared_last n asks =
+          let s = Wide eq input build write finish classes respects b matches query lawful None name begun log in
+          let c = Coded eq input build write finish classes respects b matches query lawful None name begun in
+          let told = held.machine_told s c (exchanges_of begun) r.calling.since None hands m.call r.calling.rests.call n (call_asks m (SameKey n) asks).1 in
+          told_of told.0 told.1
+
+      -- so was a pair that is shown
+      pub shown_last : (n : ℕ) → ask_of m ≡ Call (ShowPair n) → Told
+      shown_last n asks =
+          let s = Wide eq input build write finish classes respects b matches query lawful None name begun log in
+          let c = Coded eq input build write finish classes respects b matches query lawful None name begun in
+          let hashed = hashed_with eq input build write finish classes respects b matches query lawful log r.calling.lawful in
+          let shows = held.machine_shows s c hashed (exchanges_of begun) r.calling.since None hands m.call r.calling.rests.call n (call_asks m (ShowPair n) asks).1 in
+          told_of shows.0 shows.1
+
       -- the pair last told of was compared
       pub compared_on : (n : ℕ) (same : Bool) → ((p : Stored K V) → x.call.last ≡ Some p → same ≡ matches (key_of p)) → ask_of m ≡ Call (SameKey n) → RemovingOn log x f (Some (Yes same))
       compared_on n same is asks =

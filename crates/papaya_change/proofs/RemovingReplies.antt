@@ -1,5 +1,5 @@
 -- What a removal that has replied answers: what its closure said of the pair, and the change that it made.
-use Rattle.std.proofs.Common.{◌≡◌, inl, inr, ℕ, Bool, true, false, MatchOption, Option, None, Some, Result, Ok, Err, List, [], ◌∷◌, ◌++◌, append-nil, refl, sym, ap, ◌∙◌, subst}
+use Rattle.std.proofs.Common.{◌≡◌, inl, inr, ℕ, Bool, true, false, MatchOption, Option, None, Some, Result, Ok, Err, List, [], ◌∷◌, ◌++◌, append-nil, is_some, refl, sym, ap, ◌∙◌, subst}
 use Rattle.std.specs.Cmp.{IsEquivalence}
 use mathlib.Core.List.{IsPrefix}
 use denote.Bor.{Bor}
@@ -24,10 +24,11 @@ use Rattle.papaya_book.specs.declared.rule.entry.Event.{Event}
 use Rattle.papaya_change.specs.declared.removal.Removal.{Removal}
 use Rattle.papaya_change.specs.Changing.{HasChanged}
 use Rattle.papaya_lookup.specs.History.{Change, changes_of, history_of, key_of}
-use Rattle.papaya_book.specs.Logs.{Member, Stored, exchanges_of}
-use Rattle.papaya_book.specs.Rule.{IsLawfulLog}
-use Rattle.papaya_change.specs.Removing.{IsRemoving}
-use Rattle.papaya_change.specs.RemovalAnswers.{IsJudged, IsRemovalBy, IsTaken}
+use Rattle.papaya_book.specs.Logs.{Member, Stored, exchanges_of, pair_named}
+use Rattle.papaya_book.specs.declared.rule.entry.Named.TheVariants.{Pair}
+use Rattle.papaya_book.specs.Rule.{IsLawfulLog, IsPlaced}
+use Rattle.papaya_change.specs.Removing.{CanTell, IsRemoving, Tells}
+use Rattle.papaya_change.specs.RemovalAnswers.{IsJudged, IsRemovalBy, IsTaken, went as pair_went}
 use Rattle.papaya_change.specs.Showings.{AreOf, WasHeld}
 use Rattle.papaya_change.specs.Writing.{IsMemoryOrCapacity}
 use Rattle.papaya_change.proofs.Changing.{begins as begins_calling, Coded, Wide}
@@ -76,7 +77,7 @@ module _ {K V S H F : Type 0} (eq : K → K → Bool) (input : K → List (List 
   stands reply said e is = inl (ap (λ t. said_in t m.call.state) r.task_is ∙ (ap (said_in RemoveIf) (ended_in m.call.made m.call.hash m.call.state reply (call_asks m (Done reply) e).1) ∙ is))
 
   -- what the closure said of the pair
-  pub was_said : (reply : Reply) (n : ℕ) (agrees : Bool) → ask_of m ≡ Call (Done reply) → said_of_removal reply ≡ Some (Agrees n agrees) → (p : Stored K V) × (x.shown ≡ Some p) × (p.index ≡ n) × Member (p, agrees) r.said
+  was_said : (reply : Reply) (n : ℕ) (agrees : Bool) → ask_of m ≡ Call (Done reply) → said_of_removal reply ≡ Some (Agrees n agrees) → (p : Stored K V) × (x.shown ≡ Some p) × (p.index ≡ n) × Member (p, agrees) r.said
   was_said reply n agrees e is = r.stood n agrees (stands reply (Agrees n agrees) e is)
 
   -- what it answers, whatever that is
@@ -84,23 +85,23 @@ module _ {K V S H F : Type 0} (eq : K → K → Bool) (input : K → List (List 
   answers answer judged = record { said = r.said; left = f; has_said = r.has_said; held = r.held; answered = judged }
 
   -- there was none
-  pub absent : ask_of m ≡ Call (Done Absent) → IsRemovalBy eq matches (history_of begun) (history_of log) judges first (Ok (Ok None))
+  absent : ask_of m ≡ Call (Done Absent) → IsRemovalBy eq matches (history_of begun) (history_of log) judges first (Ok (Ok None))
   absent e = answers (Ok (Ok None)) (held_then eq input build write finish classes respects b matches query lawful begun log r.calling.lawful r.calling.since r.calling.is None (replies Absent e).0)
 
   -- it was refused while it helped to copy
-  pub refused : (cause : Cause) → ask_of m ≡ Call (Done (Refused cause)) → IsRemovalBy eq matches (history_of begun) (history_of log) judges first (Err cause)
+  refused : (cause : Cause) → ask_of m ≡ Call (Done (Refused cause)) → IsRemovalBy eq matches (history_of begun) (history_of log) judges first (Err cause)
   refused cause e = answers (Err cause) (r.refuses cause e)
 
   -- the pair stays
-  pub kept : (n : ℕ) → ask_of m ≡ Call (Done (Kept n)) → (p : Stored K V) → x.shown ≡ Some p → (entry : Bor K × Bor V) → AreOf entry p → IsRemovalBy eq matches (history_of begun) (history_of log) judges first (Ok (Err entry))
+  kept : (n : ℕ) → ask_of m ≡ Call (Done (Kept n)) → (p : Stored K V) → x.shown ≡ Some p → (entry : Bor K × Bor V) → AreOf entry p → IsRemovalBy eq matches (history_of begun) (history_of log) judges first (Ok (Err entry))
   kept n e p has entry are =
       let s = was_said (Kept n) n false e refl in
       let one : s.0 ≡ p = cc (s.1, has) in
       answers (Ok (Err entry)) (p, subst (λ (z : Stored K V). Member (z, false) r.said) one s.3, are)
 
   -- a pair that stays was shown
-  pub kept_shown : (n : ℕ) → ask_of m ≡ Call (Done (Kept n)) → x.shown ≡ None → ⊥
-  kept_shown n e is = let s = was_said (Kept n) n false e refl in let none = sym s.1 ∙ is in cc none
+  can_tell_kept : (n : ℕ) → ask_of m ≡ Call (Done (Kept n)) → CanTell b name x (Kept n)
+  can_tell_kept n e = let s = was_said (Kept n) n false e refl in (s.0, s.1, subst (λ (o : Option (Stored K V)). IsPlaced b (Some name) (pair_named o)) s.1 r.shown_placed)
 
   -- it replies nothing else
   replies_no_other : (reply : Reply) → IsNoRemoval reply → IsReply (Wide eq input build write finish classes respects b matches query lawful None name begun log) (Coded eq input build write finish classes respects b matches query lawful None name begun) (exchanges_of begun) r.calling.since None hands RemoveIf reply → ⊥
@@ -115,8 +116,12 @@ module _ {K V S H F : Type 0} (eq : K → K → Bool) (input : K → List (List 
   replies_no_other Reply_done never is = is
   replies_no_other (Refused cause) never is = never
 
-  pub no_other : (reply : Reply) → IsNoRemoval reply → ask_of m ≡ Call (Done reply) → ⊥
+  no_other : (reply : Reply) → IsNoRemoval reply → ask_of m ≡ Call (Done reply) → ⊥
   no_other reply never e = replies_no_other reply never (replies reply e).0
+
+  -- a pair that it holds is in the logs
+  placed : (p : Stored K V) (o : Option (Stored K V)) → o ≡ Some p → IsPlaced b (Some name) (pair_named o) → IsPlaced b (Some name) (Pair p)
+  placed p o is = subst (λ (z : Option (Stored K V)). IsPlaced b (Some name) (pair_named z)) is
 
   module _ (n : ℕ) (e : ask_of m ≡ Call (Done (Removed n))) where
     abbrev change : Option ℕ × Option ℕ
@@ -126,7 +131,7 @@ module _ {K V S H F : Type 0} (eq : K → K → Bool) (input : K → List (List 
     changed = r.calling.changed change (replies (Removed n) e).1
 
     -- the pair that went has the number of the one that was shown
-    pub same_number : (shown taken : Stored K V) → x.shown ≡ Some shown → x.call.taken ≡ Some taken → shown.index ≡ taken.index
+    same_number : (shown taken : Stored K V) → x.shown ≡ Some shown → x.call.taken ≡ Some taken → shown.index ≡ taken.index
     same_number shown taken has took =
         let s = was_said (Removed n) n true e refl in
         let one : s.0 ≡ shown = cc (s.1, has) in
@@ -138,18 +143,19 @@ module _ {K V S H F : Type 0} (eq : K → K → Bool) (input : K → List (List 
     none_put None h = refl
     none_put (Some q) h = let none = h.0 in absurd (cc none)
 
-    some_taken : (o : Option (Stored K V)) → MatchOption o (change.0 ≡ None) (λ p. (change.0 ≡ Some p.index) × (changed.class ≡ key_of p)) → o ≡ None → ⊥
-    some_taken o h is = let none = subst (λ z. MatchOption z (change.0 ≡ None) (λ p. (change.0 ≡ Some p.index) × (changed.class ≡ key_of p))) is h in cc none
+    some_taken : (o : Option (Stored K V)) → MatchOption o (change.0 ≡ None) (λ p. (change.0 ≡ Some p.index) × (changed.class ≡ key_of p)) → (p : Stored K V) × (o ≡ Some p)
+    some_taken None h = absurd (cc h)
+    some_taken (Some p) h = (p, refl)
 
     -- a pair was shown, and one went
-    pub was_shown : x.shown ≡ None → ⊥
-    was_shown is = let s = was_said (Removed n) n true e refl in let none = sym s.1 ∙ is in cc none
-
-    pub was_taken : x.call.taken ≡ None → ⊥
-    was_taken is = some_taken x.call.taken changed.taken_is is
+    can_tell_removed : CanTell b name x (Removed n)
+    can_tell_removed =
+        let s = was_said (Removed n) n true e refl in
+        let t = some_taken x.call.taken changed.taken_is in
+        (s.0, t.0, s.1, t.1, same_number s.0 t.0 s.1 t.1, placed s.0 x.shown s.1 r.shown_placed, placed t.0 x.call.taken t.1 r.calling.taken_placed)
 
     -- it went
-    pub went : (shown taken : Stored K V) → x.shown ≡ Some shown → x.call.taken ≡ Some taken → shown.value ≡ taken.value → (entry : Bor K × Bor V) → AreOf entry taken → IsRemovalBy eq matches (history_of begun) (history_of log) judges first (Ok (Ok (Some entry)))
+    went : (shown taken : Stored K V) → x.shown ≡ Some shown → x.call.taken ≡ Some taken → shown.value ≡ taken.value → (entry : Bor K × Bor V) → AreOf entry taken → IsRemovalBy eq matches (history_of begun) (history_of log) judges first (Ok (Ok (Some entry)))
     went shown taken has took value entry are =
         let s = was_said (Removed n) n true e refl in
         let one : s.0 ≡ shown = cc (s.1, has) in
@@ -168,6 +174,71 @@ module _ {K V S H F : Type 0} (eq : K → K → Bool) (input : K → List (List 
           put_is = none_put x.call.put changed.put_is;
         } in
         answers (Ok (Ok (Some entry))) (taken, taken_as, (shown, (same_number shown taken has took, value), there), are)
+
+  -- it has at hand what it tells of
+  pub can_tell : (reply : Reply) → ask_of m ≡ Call (Done reply) → CanTell b name x reply
+  can_tell Absent e = tt
+  can_tell (Found n) e = no_other (Found n) tt e
+  can_tell (Inserted n) e = no_other (Inserted n) tt e
+  can_tell (Replaced old n) e = no_other (Replaced old n) tt e
+  can_tell (Occupied n) e = no_other (Occupied n) tt e
+  can_tell (Removed n) e = can_tell_removed n e
+  can_tell (Kept n) e = can_tell_kept n e
+  can_tell (Aborted t) e = no_other (Aborted t) tt e
+  can_tell Reply_done e = no_other Reply_done tt e
+  can_tell (Refused cause) e = tt
+
+  -- what it answers, by what it tells
+  pub answered : (reply : Reply) → ask_of m ≡ Call (Done reply) → (answer : Result (Result (Option (Bor K × Bor V)) (Bor K × Bor V)) Cause) → Tells x reply answer → IsRemovalBy eq matches (history_of begun) (history_of log) judges first answer
+  answered Absent e answer is = subst (IsRemovalBy eq matches (history_of begun) (history_of log) judges first) (sym is) (absent e)
+  answered (Found n) e answer t = absurd t
+  answered (Inserted n) e answer t = absurd t
+  answered (Replaced old n) e answer t = absurd t
+  answered (Occupied n) e answer t = absurd t
+  answered (Removed n) e answer t = subst (IsRemovalBy eq matches (history_of begun) (history_of log) judges first) (sym t.7) (went n e t.0 t.1 t.3 t.4 t.5 t.2 t.6)
+  answered (Kept n) e answer t = subst (IsRemovalBy eq matches (history_of begun) (history_of log) judges first) (sym t.4) (kept n e t.0 t.2 t.1 t.3)
+  answered (Aborted n) e answer t = absurd t
+  answered Reply_done e answer t = absurd t
+  answered (Refused cause) e answer is = subst (IsRemovalBy eq matches (history_of begun) (history_of log) judges first) (sym is) (refused cause e)
+
+-- whether a pair went, by what a removal with this reply tells
+pub told_went : {K V S H : Type 0} (x : Removal K V S H) (reply : Reply) (answer : Result (Result (Option (Bor K × Bor V)) (Bor K × Bor V)) Cause) → Tells x reply answer → pair_went answer ≡ is_some (change_of_reply reply)
+told_went x Absent answer is = ap pair_went is
+told_went x (Found n) answer t = absurd t
+told_went x (Inserted n) answer t = absurd t
+told_went x (Replaced old n) answer t = absurd t
+told_went x (Occupied n) answer t = absurd t
+told_went x (Removed n) answer t = ap pair_went t.7
+told_went x (Kept n) answer t = ap pair_went t.4
+told_went x (Aborted n) answer t = absurd t
+told_went x Reply_done answer t = absurd t
+told_went x (Refused cause) answer is = ap pair_went is
+
+-- and where it was refused, so was its machine
+pub told_refused : {K V S H : Type 0} (x : Removal K V S H) (reply : Reply) (answer : Result (Result (Option (Bor K × Bor V)) (Bor K × Bor V)) Cause) → Tells x reply answer → (cause : Cause) → answer ≡ Err cause → reply ≡ Refused cause
+told_refused x Absent answer is cause e = let f = sym is ∙ e in absurd (cc f)
+told_refused x (Found n) answer t cause e = absurd t
+told_refused x (Inserted n) answer t cause e = absurd t
+told_refused x (Replaced old n) answer t cause e = absurd t
+told_refused x (Occupied n) answer t cause e = absurd t
+told_refused x (Removed n) answer t cause e = let f = sym t.7 ∙ e in absurd (cc f)
+told_refused x (Kept n) answer t cause e = let f = sym t.4 ∙ e in absurd (cc f)
+told_refused x (Aborted n) answer t cause e = absurd t
+told_refused x Reply_done answer t cause e = absurd t
+told_refused x (Refused other) answer is cause e = let f = sym is ∙ e in let same : other ≡ cause = cc f in ap Refused same
+
+-- no removal tells of another reply
+pub tells_no_other : {K V S H : Type 0} (b : Begun K V S) (name : Book) (x : Removal K V S H) (reply : Reply) → IsNoRemoval reply → CanTell b name x reply → ⊥
+tells_no_other b name x Absent never t = never
+tells_no_other b name x (Found n) never t = t
+tells_no_other b name x (Inserted n) never t = t
+tells_no_other b name x (Replaced old n) never t = t
+tells_no_other b name x (Occupied n) never t = t
+tells_no_other b name x (Removed n) never t = never
+tells_no_other b name x (Kept n) never t = never
+tells_no_other b name x (Aborted n) never t = t
+tells_no_other b name x Reply_done never t = t
+tells_no_other b name x (Refused cause) never t = never
 
 -- what was seen before a removal began was seen before its change, and before what its closure was shown
 module _ {K V : Type 0} (eq : K → K → Bool) (matches : K → Bool) (older old new : List (Change K (Stored K V))) (pre : IsPrefix older old) where

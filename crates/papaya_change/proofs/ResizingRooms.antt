@@ -1,5 +1,5 @@
 -- A call that resizes knows the length of the root, and where it ends there is the room that it wanted.
-use Rattle.std.proofs.Common.{◌≡◌, ℕ, ◌+◌, ◌<◌, ◌≤◌, ◌^◌, ◌==◌, nat_le, max, Bool, true, false, cond, arith, leb-true, Option, None, Some, List, [], ◌∷◌, refl, sym, ap, ◌∙◌, subst}
+use Rattle.std.proofs.Common.{◌≡◌, ℕ, ◌+◌, ◌≤◌, ◌^◌, ◌==◌, nat_le, max, Bool, true, false, cond, arith, leb-true, Option, None, Some, List, [], ◌∷◌, refl, ap, subst}
 use Rattle.std.proofs.lemmas.Bool.{cond_both}
 use Rattle.papaya_words.specs.declared.probe.ResizeMode.{ResizeMode}
 use Rattle.papaya_ask.specs.declared.ask.Answer.{Answer as Call_answer}
@@ -23,7 +23,7 @@ use Rattle.papaya_book.specs.declared.rule.own.Given.{Given}
 use Rattle.papaya_book.specs.declared.rule.own.Given.TheVariants.{Sum}
 use Rattle.papaya_book.specs.Logs.{Member}
 use Rattle.papaya_change.specs.Helping.{IsGivenBy}
-use Rattle.papaya_change.specs.Resizing.{HasRoomAhead, HasRoomFor, IsRoomIn, IsWantedBy}
+use Rattle.papaya_change.specs.Resizing.{IsRoomIn, IsWantedBy}
 
 module _ (tables : List ℕ) (given : List Given) where
   abbrev In : Resize → Stage → Type 0

@@ -14,6 +14,7 @@ pub mod Resizing
 -- the same by what is seen of the map
 pub mod Resizes
 pub mod Drivers
+pub mod Steps
 pub mod Copiers
 pub mod Writers
 pub mod Insertions

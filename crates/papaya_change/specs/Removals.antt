@@ -1,9 +1,8 @@
 -- What a removal on the shared map holds and rests on, by what is asked for and what it sees of the
 -- map.
-use Rattle.std.specs.Prelude.{Bool, Option, Result}
-use denote.Bor.{Bor}
-use Rattle.papaya_words.specs.declared.probe.Refused.{Refused}
+use Rattle.std.specs.Prelude.{Bool, Option}
 use Rattle.papaya_ask.specs.declared.ask.Answer.{Answer}
+use Rattle.papaya_ask.specs.declared.call.Reply.{Reply}
 use Rattle.papaya_book.specs.declared.keyed.Keyed as keyed
 use Rattle.papaya_book.specs.declared.window.Window.{Window}
 use Rattle.papaya_book.specs.Keys.{Query}
@@ -25,8 +24,7 @@ module _ {K V S H F : Type 0} {d : keyed.Ghosts S K H} (query : Query K S)
       w.book.now.begun.book query.matches (query.hash w.book.now.parts.hasher) judges w.sight.log x
       f w'.sight.log x' f' answer
 
-  abbrev pub Replies : Window K V S H d → Removal K V S H → F
-      → Result (Result (Option (Bor K × Bor V)) (Bor K × Bor V)) Refused → Type 0
-  Replies w x f answer = removing.Replies d.keys.eq d.keys.hash (begun_of w.book.now.parts)
-      w.book.now.begun.book query.matches (query.hash w.book.now.parts.hasher) judges w.sight.log x
-      f answer
+module _ {K V S H : Type 0} {d : keyed.Ghosts S K H} where
+  -- a removal that replies this has at hand what it tells of
+  abbrev pub CanTell : Window K V S H d → Removal K V S H → Reply → Type 0
+  CanTell w = removing.CanTell (begun_of w.book.now.parts) w.book.now.begun.book

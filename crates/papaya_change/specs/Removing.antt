@@ -1,11 +1,12 @@
 -- What a removal on the shared map holds and rests on, and what it answers.
-use Rattle.std.specs.Prelude.{◌≡◌, ℕ, Bool, Option, None, Some, Result, List, []}
+use Rattle.std.specs.Prelude.{◌≡◌, ℕ, Bool, Option, None, Some, Result, Ok, Err, List, []}
 use mathlib.Core.List.{IsPrefix}
 use denote.Bor.{Bor}
 use Rattle.logbook.specs.Pages.{Book}
 use Rattle.papaya_words.specs.declared.probe.Refused.{Refused}
 use Rattle.papaya_words.specs.declared.probe.Refused.TheVariants.{Capacity}
 use Rattle.papaya_ask.specs.declared.ask.Answer.{Answer}
+use Rattle.papaya_ask.specs.declared.ask.Answer.TheVariants.{Yes}
 use Rattle.papaya_ask.specs.declared.ask.Ask.TheVariants.{Done}
 use Rattle.papaya_ask.specs.declared.call.Reply.{Reply}
 use Rattle.papaya_ask.specs.declared.call.Reply.TheVariants as reply
@@ -17,14 +18,14 @@ use Rattle.papaya_chain.specs.Machine.{after, ask_of}
 use Rattle.papaya_rests.specs.Says.{Agrees, ShowsPairs, StandsOn}
 use Rattle.papaya_book.specs.declared.rule.entry.Begun.{Begun}
 use Rattle.papaya_book.specs.declared.rule.entry.Event.{Event}
+use Rattle.papaya_book.specs.declared.rule.entry.Named.TheVariants.{Pair}
 use Rattle.papaya_change.specs.declared.removal.Removal.{Removal}
 use Rattle.papaya_change.specs.Changing.{IsDriven}
 use Rattle.papaya_lookup.specs.History.{history_of}
 use Rattle.papaya_book.specs.Logs.{Member, Stored, pair_named}
 use Rattle.papaya_book.specs.Limits.{HasNoRoom, tables_of}
 use Rattle.papaya_book.specs.Rule.{IsPlaced}
-use Rattle.papaya_change.specs.Showings.{AllShown, HasSaid, WasHeld}
-use Rattle.papaya_change.specs.RemovalAnswers.{IsRemovalBy}
+use Rattle.papaya_change.specs.Showings.{AllShown, AreOf, HasSaid, WasHeld}
 use Rattle.papaya_change.specs.Writing.{IsMemoryOrCapacity}
 
 module _ {K V S H F : Type 0} (eq : K → K → Bool) (hash : S → K → ℕ) (b : Begun K V S) (name : Book)
@@ -70,13 +71,40 @@ module _ {K V S H F : Type 0} (eq : K → K → Bool) (hash : S → K → ℕ) (
   Removes log x f log' x' f' answer = (first : F) (begun : List (Event K V S))
       → IsRemoving first begun log x f → IsRemovingOn first begun log' x' f' answer
 
-  -- what each removal that is under way answers
-  abbrev pub Replies : List (Event K V S) → Removal K V S H → F
-      → Result (Result (Option (Bor K × Bor V)) (Bor K × Bor V)) Refused → Type 0
-  Replies log x f answer = (first : F) (begun : List (Event K V S)) → IsRemoving first begun log x f
-      → IsRemovalBy eq matches (history_of begun) (history_of log) judges first answer
-
   -- a removal that began after all that was seen of this log
   abbrev pub IsUnderWay : F → List (Event K V S) → List (Event K V S) → Removal K V S H → F → Type 0
   IsUnderWay first old log x f = (begun : List (Event K V S)) × IsPrefix old begun
       × IsRemoving first begun log x f
+
+-- The closure f was shown the pair last loaded, which the removal keeps; it answered so, and is g
+-- then.
+abbrev pub Shows : {K V S H F : Type 0} → (F → Stored K V → Bool → F → Type 0) → Removal K V S H → F
+    → Removal K V S H → F → Answer → Type 0
+Shows {K = K} {V = V} judges x f x' g answer = (p : Stored K V) × (agreed : Bool)
+    × (x.call.last ≡ Some p) × judges f p agreed g × (x' ≡ record x { shown = Some p })
+    × (answer ≡ Yes agreed)
+
+module _ {K V S H : Type 0} where
+  -- A removal that replies this has at hand what it tells of: the pair that its closure was shown,
+  -- and the one that went, which has the same number.
+  abbrev pub CanTell : Begun K V S → Book → Removal K V S H → Reply → Type 0
+  CanTell b name x reply.Absent = Unit {0}
+  CanTell b name x (reply.Refused cause) = Unit {0}
+  CanTell b name x (reply.Kept n) = (shown : Stored K V) × (x.shown ≡ Some shown)
+      × IsPlaced b (Some name) (Pair shown)
+  CanTell b name x (reply.Removed n) = (shown : Stored K V) × (taken : Stored K V)
+      × (x.shown ≡ Some shown) × (x.call.taken ≡ Some taken) × (shown.index ≡ taken.index)
+      × IsPlaced b (Some name) (Pair shown) × IsPlaced b (Some name) (Pair taken)
+  CanTell b name x _ = ⊥
+
+  -- and tells this
+  abbrev pub Tells : Removal K V S H → Reply
+      → Result (Result (Option (Bor K × Bor V)) (Bor K × Bor V)) Refused → Type 0
+  Tells x reply.Absent answer = answer ≡ Ok (Ok None)
+  Tells x (reply.Refused cause) answer = answer ≡ Err cause
+  Tells x (reply.Kept n) answer = (shown : Stored K V) × (entry : Bor K × Bor V)
+      × (x.shown ≡ Some shown) × AreOf entry shown × (answer ≡ Ok (Err entry))
+  Tells x (reply.Removed n) answer = (shown : Stored K V) × (taken : Stored K V)
+      × (entry : Bor K × Bor V) × (x.shown ≡ Some shown) × (x.call.taken ≡ Some taken)
+      × (shown.value ≡ taken.value) × AreOf entry taken × (answer ≡ Ok (Ok (Some entry)))
+  Tells x _ answer = ⊥

@@ -2,6 +2,7 @@
 use Rattle.papaya_ask.specs.declared.ask.Answer.{Answer}
 use Rattle.papaya_book.specs.declared.keyed.Keyed as keyed
 use Rattle.papaya_book.specs.declared.window.Window.{Window}
+use Rattle.papaya_book.specs.Keys.{Keys}
 use Rattle.papaya_book.specs.Logs.{Stored}
 use Rattle.papaya_book.specs.Parts.{begun_of}
 use Rattle.papaya_change.specs.declared.writing.Writer.{Writer}
@@ -29,3 +30,8 @@ module _ {K V S H : Type 0} {d : keyed.Ghosts S K H} where
       → Writer K V S H → Answer → Type 0
   Puts w c q w' c' answer = writing.Puts d.keys.eq d.keys.hash (begun_of w.book.now.parts)
       w.book.now.begun.book w.sight.log c q w'.sight.log c' answer
+
+module _ {K V S H : Type 0} where
+  -- Whatever is seen of the map, each such call goes on so, with no step.
+  abbrev pub MakesKey : Keys K S → Writer K V S H → Answer → Type 0
+  MakesKey keys c answer = (w : Window K V S H (record { keys = keys })) → Writes w c w c answer

@@ -15,6 +15,7 @@ ghost use Rattle.papaya_change.specs.Seeks.{HasWritten, IsInsertingAt, Leads, Se
 ghost use Rattle.papaya_change.specs.Writing.{IsMemoryOrCapacity};
 
 use crate::insertion::{insert_logged, insert_stepwise};
+use crate::means::Means;
 use papaya_ask::search::{Place, Search, Seen};
 use papaya_book::book::gains::named_pair;
 use papaya_book::count::Shard;
@@ -96,19 +97,26 @@ fn seek<K: Hash + Eq, V, S: BuildHasher>(
     }
 }
 
-/// Where a pair of the key may be put in, as the search of the root sees it: the root, and the place.
+/// Where a pair of the key may be put in: a table, and what is to be written there.
+#[derive(Drop)]
+struct Spot<'a, K: Hash + Eq, V, S: BuildHasher> {
+    table: &'a Table<K, V, S>,
+    write: Write,
+}
+
+/// Where a pair of the key may be put in, as the search of the root sees it.
 #[inline(always)]
 fn find_place<'a, K: Hash + Eq, V, S: BuildHasher>(
     window: &mut Window<'a, K, V, S>,
     key: &K,
     hash: u64,
-) -> Option<(&'a Table<K, V, S>, Write)>
+) -> Option<Spot<'a, K, V, S>>
     requires lawful { IsLawful window.old }
     requires hashed { hash ≡ ⟦<S as Hashed<K>>⟧.hash window.old.book.now.parts.hasher key.now }
     ensures sees { Sees window.old window.new }
     ensures own { window.new.own ≡ window.old.own }
-    ensures found { (at : _) → result ≡ Some at → IsInsertingAt window.new key.now
-        window.old.sight.log (Writing at.1) at.0.now }
+    ensures found { (spot : _) → result ≡ Some spot → IsInsertingAt window.new key.now
+        window.old.sight.log (Writing spot.write) spot.table.now }
 {
     let (number, root) = window.root();
     let Some(table) = root else {
@@ -119,54 +127,51 @@ fn find_place<'a, K: Hash + Eq, V, S: BuildHasher>(
     let Some(write) = seek(window, key, hash, table, first) else {
         return None;
     };
-    Some((table, write))
+    Some(Spot { table, write })
 }
 
 /// Logs a pair and puts it in where a search has found its place: the value that its key had. Where
 /// another word stands there by now, its machine begins.
 #[inline(always)]
 fn write_at<'a, R: Wait, K: Hash + Eq + Drop, V: Drop, S: BuildHasher>(
-    rt: &R,
-    alloc: Global,
-    initial: usize,
-    shard: &Shard<'_>,
+    means: &Means<'_, '_, R>,
     window: &mut Window<'a, K, V, S>,
     given: &mut Own<Given>,
     key: K,
     value: V,
     hash: u64,
-    table: &Table<K, V, S>,
-    write: Write,
+    spot: Spot<'_, K, V, S>,
 ) -> Result<Option<&'a V>, Refused>
-    requires initial { IsPowerOfTwo initial }
+    requires initial { IsPowerOfTwo means.now.initial }
     requires hashed { hash ≡ ⟦<S as Hashed<K>>⟧.hash window.old.book.now.parts.hasher key }
-    requires stands { StandsAt window.old key (Writing write) table.now }
+    requires stands { StandsAt window.old key (Writing spot.write) spot.table.now }
     ensures sees { Sees window.old window.new }
     ensures lawful { IsLawful window.new }
-    ensures put { IfOk result (λ answer. HasWritten window.old window.new key value table.now write
-        answer) }
+    ensures put { IfOk result (λ answer. HasWritten window.old window.new key value
+        spot.entry.table.now spot.entry.write answer) }
     ensures refused { IfErr result (λ refused. IsMemoryOrCapacity refused) }
-    ensures crowded { result ≡ Err Refused.Capacity → HasNoRoom initial
+    ensures crowded { result ≡ Err Refused.Capacity → HasNoRoom means.now.initial
         (tables_of window.new.sight.log) given.new.done }
     ensures made { Makes (is_ok result) (own window.old) (own window.new) (past window.new) }
 {
     let book = window.book;
-    let Ok(pair) = book.log_pair(rt, Pair::new(key, value)) else {
+    let Ok(pair) = book.log_pair(means.rt, Pair::new(key, value)) else {
         return Err(Refused::Memory);
     };
     if pair.index() >= MAX_LOG_LEN {
         *given = book.gave_pair(&pair);
         return Err(Refused::Capacity);
     }
+    let Spot { table, write } = spot;
     let words = (write.old, Word::live(h2(hash), pair.index() as u64).0);
     let Write { place, old } = write;
     let kind = Some(write.kind());
     let (found, before) = window.put_slot(table, place.table, place.probe.i, kind, &pair, words);
     if found != old {
-        return insert_logged(rt, alloc, initial, shard, window, given, hash, pair);
+        return insert_logged(means, window, given, hash, pair);
     }
     if old == 0 {
-        shard.add(1);
+        means.shard.add(1);
     }
     match before {
         Some(taken) => Ok(Some(book.pair(&taken).value())),
@@ -198,10 +203,14 @@ pub fn insert<'a, R: Wait, K: Hash + Eq + Drop, V: Drop, S: BuildHasher>(
 {
     window.learn();
     let hash = hash(&window.book.parts.hasher, &key);
+    let means = Means {
+        rt,
+        alloc,
+        initial,
+        shard,
+    };
     match find_place(window, &key, hash) {
-        Some((table, write)) => write_at(
-            rt, alloc, initial, shard, window, given, key, value, hash, table, write,
-        ),
-        None => insert_stepwise(rt, alloc, initial, shard, window, given, key, value),
+        Some(spot) => write_at(&means, window, given, key, value, hash, spot),
+        None => insert_stepwise(&means, window, given, key, value),
     }
 }

@@ -1,13 +1,16 @@
 //! A changing call under way, whatever its task: what it holds, and its loads.
-ghost use Rattle.std.specs.Prelude.{◌≡◌, ◌==◌, [], None, MatchBool};
+ghost use Rattle.std.specs.Prelude.{◌≡◌, [], None};
 ghost use Rattle.std.specs.Int.{IsPowerOfTwo};
 ghost use Rattle.papaya_words.specs.Mode.{IsChunked};
 ghost use Rattle.papaya_call.specs.Machine.{IsFit as IsCallFit};
-ghost use Rattle.papaya_chain.specs.Machine.{IsStanding, after, started};
+ghost use Rattle.papaya_ask.specs.declared.ask.At.TheVariants.{Slot};
+ghost use Rattle.papaya_chain.specs.Machine.{IsStanding, after, kind_of_ask, started};
 ghost use Rattle.papaya_chain.specs.declared.ask.Answer.TheVariants.{Call};
 ghost use Rattle.papaya_rests.specs.Told.{or_last};
-ghost use Rattle.papaya_book.specs.Windows.{Sees};
+ghost use Rattle.papaya_book.specs.Windows.{CanTrySlot, Does, Sees};
+ghost use Rattle.papaya_change.specs.Doing.{was_made};
 ghost use Rattle.papaya_change.specs.Drivers.{Holds, Loads};
+ghost use Rattle.papaya_change.specs.Steps.{Buries, HasTried, IsSizeOf};
 
 use boxcar::Pushed;
 use logbook::Pen;
@@ -105,6 +108,41 @@ impl<'a, K: Hash + Eq, V, S: BuildHasher> Driver<'a, K, V, S> {
         }
     }
 
+    /// The size of the table that is held.
+    pub fn size(&self) -> CallAnswer
+        requires held { self.now.table ≡ None → ⊥ }
+        ensures size { IsSizeOf self.now.table result }
+    {
+        let Some(table) = self.table else {
+            unreachable!()
+        };
+        let (len, limit) = table.size();
+        CallAnswer::Size { len, limit }
+    }
+
+    /// Tries to bury the pair that a slot holds.
+    pub fn bury(
+        &mut self,
+        number: u64,
+        place: usize,
+        words: (u64, u64),
+        window: &mut Window<'a, K, V, S>,
+    ) -> CallAnswer
+        requires held { Holds (Slot number place) window.old self.old }
+        requires can { CanTrySlot window.old number place (kind_of_ask self.old.machine) words }
+        ensures sees { Sees window.old window.new }
+        ensures does { Does (was_made result) window.old window.new }
+        ensures machine { self.new.machine ≡ self.old.machine }
+        ensures buries { Buries number place words window.old self.old window.new self.new result }
+    {
+        let Some(table) = self.table else {
+            unreachable!()
+        };
+        let kind = self.machine.kind();
+        let (found, pair) = window.exchange_slot(table, number, place, kind, words);
+        self.tried(words.0, found, pair, None)
+    }
+
     /// Keeps the table that was loaded, if one was.
     #[inline(always)]
     fn enter(&mut self, table: Option<&'a Table<K, V, S>>)
@@ -135,10 +173,7 @@ impl<'a, K: Hash + Eq, V, S: BuildHasher> Driver<'a, K, V, S> {
         pair: Option<Stored<K, V>>,
         put: Option<Stored<K, V>>,
     ) -> CallAnswer
-        ensures { MatchBool (found == old) ((result ≡ CallAnswer.Exchanged)
-            × (self.new ≡ record self.old { taken = pair; put = put }))
-            ((result ≡ CallAnswer.Found found) × (self.new ≡ record self.old
-            { last = or_last pair self.old.last })) }
+        ensures { HasTried found old pair put self.old self.new result }
     {
         if found == old {
             self.taken = pair;

@@ -19,6 +19,7 @@ ghost use Rattle.papaya_change.specs.Changes.{IsPut};
 ghost use Rattle.papaya_change.specs.Writing.{IsMemoryOrCapacity};
 
 use crate::driver::Driver;
+use crate::means::Means;
 use crate::writing::Writer;
 use papaya_ask::ask::{Answer, Ask as CallAsk, At};
 use papaya_ask::call::{Reply, Task};
@@ -108,7 +109,7 @@ impl<'a, K: Hash + Eq + Drop, V: Drop, S: BuildHasher> Insertion<'a, K, V, S> {
             CallAsk::Load(at) => Some(self.writer.load(at, window)),
             CallAsk::SizeOf(_) => Some(self.writer.size(window)),
             CallAsk::SameKey(_) => Some(self.writer.same(window)),
-            CallAsk::MakeKey => Some(self.writer.make_key(window)),
+            CallAsk::MakeKey => Some(self.writer.make_key()),
             CallAsk::MakePair => Some(self.make_pair(rt, window)),
             CallAsk::MakeTable { len, limit } => {
                 Some(self.writer.make_table(rt, alloc, len, limit, window))
@@ -154,9 +155,7 @@ impl<'a, K: Hash + Eq + Drop, V: Drop, S: BuildHasher> Insertion<'a, K, V, S> {
 /// Runs an insertion under way to its end, which has not changed the map yet: the value that its key
 /// had.
 fn drive<'a, R: Wait, K: Hash + Eq + Drop, V: Drop, S: BuildHasher>(
-    rt: &R,
-    alloc: Global,
-    shard: &Shard<'_>,
+    means: &Means<'_, '_, R>,
     window: &mut Window<'a, K, V, S>,
     given: &mut Own<Given>,
     begun: Insertion<'a, K, V, S>,
@@ -175,11 +174,14 @@ fn drive<'a, R: Wait, K: Hash + Eq + Drop, V: Drop, S: BuildHasher>(
     ensures made { Makes (is_ok result) (own window.old) (own window.new) (past window.new) }
 {
     let mut insertion = begun;
-    for _ in rt.forever() {
-        match insertion.answer(rt, alloc, shard, window) {
+    for _ in means.rt.forever() {
+        match insertion.answer(means.rt, means.alloc, means.shard, window) {
             Some(answer) => {
                 insertion.writer.call.answer(answer);
-                insertion.writer.call.help(rt, alloc, shard.count(), window);
+                insertion
+                    .writer
+                    .call
+                    .help(means.rt, means.alloc, means.shard.count(), window);
             }
             None => {
                 *given = insertion.writer.call.given.again();
@@ -194,22 +196,19 @@ fn drive<'a, R: Wait, K: Hash + Eq + Drop, V: Drop, S: BuildHasher>(
 /// `given` tells the number that a full log gave, or the sum of the count that makes a further table
 /// too long.
 pub(crate) fn insert_stepwise<'a, R: Wait, K: Hash + Eq + Drop, V: Drop, S: BuildHasher>(
-    rt: &R,
-    alloc: Global,
-    initial: usize,
-    shard: &Shard<'_>,
+    means: &Means<'_, '_, R>,
     window: &mut Window<'a, K, V, S>,
     given: &mut Own<Given>,
     key: K,
     value: V,
 ) -> Result<Option<&'a V>, Refused>
-    requires initial { IsPowerOfTwo initial }
+    requires initial { IsPowerOfTwo means.now.initial }
     ensures sees { Sees window.old window.new }
     ensures lawful { IsLawful window.new }
     ensures put { IfOk result (λ answer. IsPut K.eq key value (past window.old) (past window.new)
         answer) }
     ensures refused { IfErr result (λ refused. IsMemoryOrCapacity refused) }
-    ensures crowded { result ≡ Err Refused.Capacity → HasNoRoom initial
+    ensures crowded { result ≡ Err Refused.Capacity → HasNoRoom means.now.initial
         (tables_of window.new.sight.log) given.new.done }
     ensures made { Makes (is_ok result) (own window.old) (own window.new) (past window.new) }
 {
@@ -219,28 +218,25 @@ pub(crate) fn insert_stepwise<'a, R: Wait, K: Hash + Eq + Drop, V: Drop, S: Buil
     let task = Task::Insert { replace: true };
     let insertion = Insertion {
         writer: Writer {
-            call: Driver::new(task, hash, book.parts.mode, initial),
+            call: Driver::new(task, hash, book.parts.mode, means.initial),
             key: Some(key),
             brought: None,
             value: Some(value),
         },
         made: None,
     };
-    drive(rt, alloc, shard, window, given, insertion)
+    drive(means, window, given, insertion)
 }
 
 /// Inserts a pair that lies in the log, with its key, by its machine: the value that its key had.
 pub(crate) fn insert_logged<'a, R: Wait, K: Hash + Eq + Drop, V: Drop, S: BuildHasher>(
-    rt: &R,
-    alloc: Global,
-    initial: usize,
-    shard: &Shard<'_>,
+    means: &Means<'_, '_, R>,
     window: &mut Window<'a, K, V, S>,
     given: &mut Own<Given>,
     hash: u64,
     pair: Stored<K, V>,
 ) -> Result<Option<&'a V>, Refused>
-    requires initial { IsPowerOfTwo initial }
+    requires initial { IsPowerOfTwo means.now.initial }
     requires hashed { hash ≡ ⟦<S as Hashed<K>>⟧.hash window.old.book.now.parts.hasher (key_of pair) }
     requires placed { IsIn window.old (PairNamed pair) }
     requires brings { pair.value.key.at ≡ None }
@@ -250,14 +246,14 @@ pub(crate) fn insert_logged<'a, R: Wait, K: Hash + Eq + Drop, V: Drop, S: BuildH
     ensures put { IfOk result (λ answer. IsPut K.eq (key_of pair) pair.value.value
         (past window.old) (past window.new) answer) }
     ensures refused { IfErr result (λ refused. IsMemoryOrCapacity refused) }
-    ensures crowded { result ≡ Err Refused.Capacity → HasNoRoom initial
+    ensures crowded { result ≡ Err Refused.Capacity → HasNoRoom means.now.initial
         (tables_of window.new.sight.log) given.new.done }
     ensures made { Makes (is_ok result) (own window.old) (own window.new) (past window.new) }
 {
     window.learn();
     let book = window.book;
     let task = Task::Insert { replace: true };
-    let mut call = Driver::new(task, hash, book.parts.mode, initial);
+    let mut call = Driver::new(task, hash, book.parts.mode, means.initial);
     let mut machine = call.machine;
     machine.call.made = Made::Pair(pair.index() as u64);
     call.machine = machine;
@@ -270,5 +266,5 @@ pub(crate) fn insert_logged<'a, R: Wait, K: Hash + Eq + Drop, V: Drop, S: BuildH
         },
         made: Some(pair),
     };
-    drive(rt, alloc, shard, window, given, insertion)
+    drive(means, window, given, insertion)
 }

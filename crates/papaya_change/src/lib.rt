@@ -7,6 +7,7 @@ pub mod copier;
 pub mod driver;
 pub mod helping;
 pub mod insertion;
+pub mod means;
 pub mod removal;
 pub mod resizing;
 pub mod writing;

@@ -1,20 +1,20 @@
 //! Removals: their machine, answered by steps on the book and by a closure.
 ghost use Rattle.papaya_lookup.specs.Drivers.{own, past};
-ghost use Rattle.papaya_lookup.specs.History.{Makes};
-ghost use Rattle.papaya_book.specs.Windows.{Does, IsLawful, Sees};
+ghost use Rattle.papaya_lookup.specs.History.{Makes, key_of};
+ghost use Rattle.papaya_book.specs.Windows.{IsLawful, Sees};
 ghost use Rattle.papaya_book.specs.Books.{IsIn};
-ghost use Rattle.papaya_change.specs.Doing.{Answers, has_changed, was_made};
-ghost use Rattle.papaya_change.specs.Removals.{CanRemove, Removes, Replies};
-ghost use Rattle.std.specs.Prelude.{◌≡◌, ℕ, Some, Err, IfErr};
+ghost use Rattle.papaya_change.specs.Doing.{Answers};
+ghost use Rattle.papaya_change.specs.Removals.{CanRemove, CanTell, Removes};
+ghost use Rattle.papaya_change.specs.Removing.{Shows, Tells};
+ghost use Rattle.papaya_change.specs.Steps.{HasLast};
+ghost use Rattle.std.specs.Prelude.{◌≡◌, Some, Err};
 ghost use Rattle.std.specs.Int.{IsPowerOfTwo};
 ghost use Rattle.papaya_book.specs.Limits.{HasNoRoom, tables_of};
 ghost use Rattle.papaya_call.specs.Machine.{ask_of as call_ask_of};
 ghost use Rattle.papaya_chain.specs.Machine.{IsStanding, ask_of};
 ghost use Rattle.papaya_chain.specs.declared.ask.Ask.TheVariants.{Call};
 ghost use Rattle.papaya_chain.specs.declared.machine.Phase.TheVariants.{Calling};
-ghost use Rattle.papaya_ask.specs.declared.call.Reply.TheVariants.{Refused as ReplyRefused};
-ghost use Rattle.papaya_ask.specs.declared.ask.Ask.TheVariants.{Done, Exchange, Load, SameKey, ShowPair, SizeOf};
-ghost use Rattle.papaya_ask.specs.declared.ask.At.TheVariants.{Slot};
+ghost use Rattle.papaya_ask.specs.declared.ask.Ask.TheVariants.{Done};
 ghost use Rattle.papaya_book.specs.Logs.{pair_named};
 ghost use Rattle.papaya_change.specs.RemovalAnswers.{IsRemovalBy, went};
 ghost use Rattle.papaya_change.specs.Showings.{AreOf, Judges};
@@ -57,69 +57,12 @@ pub fn entry<'a, K: Hash + Eq, V, S: BuildHasher>(
 }
 
 impl<'a, K: Hash + Eq, V, S: BuildHasher> Removal<'a, K, V, S> {
-    /// Loads a word.
-    fn load<Q: Equivalent<K>, F: FnMut(&K, &V) -> bool>(
-        &mut self,
-        at: At,
-        key: &Q,
-        agrees: &F,
-        window: &mut Window<'a, K, V, S>,
-    ) -> Answer
-        requires can { CanRemove (⟦<S as Asked<K, Q>>⟧.query key.now) (Judges F.FnMut) window.old
-            self.old agrees.now }
-        requires asks { ask_of self.old.call.machine ≡ Call (Load at) }
-        requires standing { IsStanding self.old.call.machine }
-        ensures sees { Sees window.old window.new }
-        ensures own { window.new.own ≡ window.old.own }
-        ensures machine { self.new.call.machine ≡ self.old.call.machine }
-        ensures removes { Removes (⟦<S as Asked<K, Q>>⟧.query key.now) (Judges F.FnMut) window.old
-            self.old agrees.now window.new self.new agrees.now (Some result) }
-    {
-        let _ = key;
-        let _ = agrees;
-        Answer::Word(self.call.load(at, window))
-    }
-
-    /// The size of the table.
-    fn size<Q: Equivalent<K>, F: FnMut(&K, &V) -> bool>(
-        &mut self,
-        key: &Q,
-        agrees: &F,
-        window: &Window<'a, K, V, S>,
-    ) -> Answer
-        requires can { CanRemove (⟦<S as Asked<K, Q>>⟧.query key.now) (Judges F.FnMut) window.now
-            self.old agrees.now }
-        requires asks { (t : ℕ) × (ask_of self.old.call.machine ≡ Call (SizeOf t)) }
-        requires standing { IsStanding self.old.call.machine }
-        ensures machine { self.new.call.machine ≡ self.old.call.machine }
-        ensures removes { Removes (⟦<S as Asked<K, Q>>⟧.query key.now) (Judges F.FnMut) window.now
-            self.old agrees.now window.now self.new agrees.now (Some result) }
-    {
-        let _ = key;
-        let _ = agrees;
-        let Some(table) = self.call.table else {
-            unreachable!()
-        };
-        let (len, limit) = table.size();
-        Answer::Size { len, limit }
-    }
-
     /// Does the key match that of the pair last loaded?
-    fn same<Q: Equivalent<K>, F: FnMut(&K, &V) -> bool>(
-        &mut self,
-        key: &Q,
-        agrees: &F,
-        window: &Window<'a, K, V, S>,
-    ) -> Answer
-        requires can { CanRemove (⟦<S as Asked<K, Q>>⟧.query key.now) (Judges F.FnMut) window.now
-            self.old agrees.now }
-        requires asks { (n : ℕ) × (ask_of self.old.call.machine ≡ Call (SameKey n)) }
-        requires standing { IsStanding self.old.call.machine }
-        ensures machine { self.new.call.machine ≡ self.old.call.machine }
-        ensures removes { Removes (⟦<S as Asked<K, Q>>⟧.query key.now) (Judges F.FnMut) window.now
-            self.old agrees.now window.now self.new agrees.now (Some result) }
+    fn same<Q: Equivalent<K>>(&self, key: &Q, window: &Window<'a, K, V, S>) -> Answer
+        requires last { HasLast window.now self.now.call }
+        ensures same { (p : _) → self.now.call.last ≡ Some p
+            → result ≡ Answer.Yes (Q.matches key.now (key_of p)) }
     {
-        let _ = agrees;
         let Some(last) = &self.call.last else {
             unreachable!()
         };
@@ -127,24 +70,17 @@ impl<'a, K: Hash + Eq, V, S: BuildHasher> Removal<'a, K, V, S> {
         Answer::Yes(key.equivalent(book.key(book.pair(last))))
     }
 
-    /// Calls the closure with the pair last loaded.
-    fn show<Q: Equivalent<K>, F: FnMut(&K, &V) -> bool>(
+    /// Calls the closure with the pair last loaded, and keeps that.
+    fn show<F: FnMut(&K, &V) -> bool>(
         &mut self,
-        key: &Q,
         agrees: &mut F,
         window: &Window<'a, K, V, S>,
     ) -> Answer
         requires callable { F.IsAlwaysCallable agrees.old }
-        requires can { CanRemove (⟦<S as Asked<K, Q>>⟧.query key.now) (Judges F.FnMut) window.now
-            self.old agrees.old }
-        requires asks { (n : ℕ) × (ask_of self.old.call.machine ≡ Call (ShowPair n)) }
-        requires standing { IsStanding self.old.call.machine }
-        ensures machine { self.new.call.machine ≡ self.old.call.machine }
+        requires last { HasLast window.now self.old.call }
         ensures callable { F.IsAlwaysCallable agrees.new }
-        ensures removes { Removes (⟦<S as Asked<K, Q>>⟧.query key.now) (Judges F.FnMut) window.now
-            self.old agrees.old window.now self.new agrees.new (Some result) }
+        ensures shows { Shows (Judges F.FnMut) self.old agrees.old self.new agrees.new result }
     {
-        let _ = key;
         let Some(last) = &self.call.last else {
             unreachable!()
         };
@@ -152,37 +88,6 @@ impl<'a, K: Hash + Eq, V, S: BuildHasher> Removal<'a, K, V, S> {
         let agreed = agrees(stored, value);
         self.shown = Some(last.again());
         Answer::Yes(agreed)
-    }
-
-    /// Tries to bury the pair that a slot holds.
-    fn bury<Q: Equivalent<K>, F: FnMut(&K, &V) -> bool>(
-        &mut self,
-        number: u64,
-        place: usize,
-        words: (u64, u64),
-        key: &Q,
-        agrees: &F,
-        window: &mut Window<'a, K, V, S>,
-    ) -> Answer
-        requires can { CanRemove (⟦<S as Asked<K, Q>>⟧.query key.now) (Judges F.FnMut) window.old
-            self.old agrees.now }
-        requires asks { ask_of self.old.call.machine ≡ Call (Exchange (Slot number place)
-            words.0 words.1) }
-        requires standing { IsStanding self.old.call.machine }
-        ensures sees { Sees window.old window.new }
-        ensures does { Does (was_made result) window.old window.new }
-        ensures machine { self.new.call.machine ≡ self.old.call.machine }
-        ensures removes { Removes (⟦<S as Asked<K, Q>>⟧.query key.now) (Judges F.FnMut) window.old
-            self.old agrees.now window.new self.new agrees.now (Some result) }
-    {
-        let _ = key;
-        let _ = agrees;
-        let Some(table) = self.call.table else {
-            unreachable!()
-        };
-        let kind = self.call.machine.kind();
-        let (found, pair) = window.exchange_slot(table, number, place, kind, words);
-        self.call.tried(words.0, found, pair, None)
     }
 
     /// The answer to what the machine asks. None where it has replied.
@@ -210,12 +115,12 @@ impl<'a, K: Hash + Eq, V, S: BuildHasher> Removal<'a, K, V, S> {
             unreachable!()
         };
         match ask {
-            CallAsk::Load(at) => Some(self.load(at, key, agrees, window)),
-            CallAsk::SizeOf(_) => Some(self.size(key, agrees, window)),
-            CallAsk::SameKey(_) => Some(self.same(key, agrees, window)),
-            CallAsk::ShowPair(_) => Some(self.show(key, agrees, window)),
+            CallAsk::Load(at) => Some(Answer::Word(self.call.load(at, window))),
+            CallAsk::SizeOf(_) => Some(self.call.size()),
+            CallAsk::SameKey(_) => Some(self.same(key, window)),
+            CallAsk::ShowPair(_) => Some(self.show(agrees, window)),
             CallAsk::Exchange(At::Slot(number, place), old, new) => {
-                Some(self.bury(number, place, (old, new), key, agrees, window))
+                Some(self.call.bury(number, place, (old, new), window))
             }
             CallAsk::AddToShard(by) => {
                 shard.add(by);
@@ -232,24 +137,17 @@ impl<'a, K: Hash + Eq, V, S: BuildHasher> Removal<'a, K, V, S> {
     }
 
     /// What the removal answers that has replied.
-    fn replied<Q: Equivalent<K>, F: FnMut(&K, &V) -> bool>(
+    fn replied(
         &self,
-        key: &Q,
-        agrees: &F,
         window: &Window<'a, K, V, S>,
     ) -> Result<Result<Option<(&'a K, &'a V)>, (&'a K, &'a V)>, Refused>
-        requires can { CanRemove (⟦<S as Asked<K, Q>>⟧.query key.now) (Judges F.FnMut) window.now
-            self.now agrees.now }
         requires standing { IsStanding self.now.call.machine }
         requires done { (reply : _) × (ask_of self.now.call.machine ≡ Call (Done reply)) }
-        ensures refusal { IfErr result (λ refused. ask_of self.now.call.machine ≡ Call (Done
-            (ReplyRefused refused))) }
-        ensures changed { went result ≡ has_changed self.now.call.machine }
-        ensures replies { Replies (⟦<S as Asked<K, Q>>⟧.query key.now) (Judges F.FnMut) window.now
-            self.now agrees.now result }
+        requires can { (reply : _) → ask_of self.now.call.machine ≡ Call (Done reply)
+            → CanTell window.now self.now reply }
+        ensures tells { (reply : _) × (ask_of self.now.call.machine ≡ Call (Done reply))
+            × Tells self.now reply result }
     {
-        let _ = key;
-        let _ = agrees;
         let book = window.book;
         match (self.call.machine.ask(), &self.shown, &self.call.taken) {
             (Ask::Call(CallAsk::Done(Reply::Removed(_))), Some(shown), Some(taken)) => {
@@ -316,7 +214,7 @@ pub fn remove<
             }
             None => {
                 *given = removal.call.given.again();
-                return removal.replied(key, &agrees, window);
+                return removal.replied(window);
             }
         }
     }

@@ -1,6 +1,6 @@
 //! What calls that insert have in common: their machine's asks, answered by steps on the book.
 ghost use Rattle.papaya_book.specs.Windows.{Does, IsIn, Sees};
-ghost use Rattle.papaya_change.specs.Writers.{CanPut, CanWrite, Pairs, Puts, Writes};
+ghost use Rattle.papaya_change.specs.Writers.{CanPut, CanWrite, MakesKey, Pairs, Puts, Writes};
 ghost use Rattle.std.specs.Prelude.{◌≡◌, ◌⊎◌, ℕ, ◌<◌, ◌^◌, IfErr, IfOk, None, Some};
 ghost use Rattle.papaya_chain.specs.Machine.{IsStanding, ask_of, kind_of_ask};
 ghost use Rattle.papaya_chain.specs.declared.ask.Ask.TheVariants.{Call};
@@ -17,6 +17,7 @@ ghost use Rattle.papaya_book.specs.declared.rule.entry.Named.TheVariants.{Pair a
 
 use crate::driver::Driver;
 use papaya_ask::ask::{Answer, At};
+use papaya_book::keyed::Keyed;
 use papaya_book::rule::entry::Stored;
 use papaya_book::rule::pair::Pair;
 use papaya_book::window::Window;
@@ -86,11 +87,7 @@ impl<'a, K: Hash + Eq + Drop, V: Drop, S: BuildHasher> Writer<'a, K, V, S> {
         ensures unsaid { IsUnsaid self.now.call.given.done result }
         ensures writes { Writes window.now self.now window.now self.now result }
     {
-        let Some(table) = self.call.table else {
-            unreachable!()
-        };
-        let (len, limit) = table.size();
-        Answer::Size { len, limit }
+        self.call.size()
     }
 
     /// Has the pair last loaded a key that equals the call's?
@@ -116,14 +113,12 @@ impl<'a, K: Hash + Eq + Drop, V: Drop, S: BuildHasher> Writer<'a, K, V, S> {
 
     /// The key goes into the log of pairs, with the first pair, so that nothing is made for it
     /// now. It has no number yet, and its machine asks for none.
-    pub fn make_key(&self, window: &Window<'a, K, V, S>) -> Answer
-        requires can { CanWrite window.now self.now }
+    pub fn make_key(&self) -> Answer
         requires asks { ask_of self.now.call.machine ≡ Call MakeKey }
         requires standing { IsStanding self.now.call.machine }
         ensures unsaid { IsUnsaid self.now.call.given.done result }
-        ensures writes { Writes window.now self.now window.now self.now result }
+        ensures makes { MakesKey ⟦<S as Keyed<K>>⟧.keys self.now result }
     {
-        let _ = window;
         Answer::Made(0)
     }
 
@@ -285,11 +280,6 @@ impl<'a, K: Hash + Eq + Drop, V: Drop, S: BuildHasher> Writer<'a, K, V, S> {
         ensures put { (self.new.call.put ≡ self.old.call.put) ⊎ (self.new.call.put ≡ None) }
         ensures writes { Writes window.old self.old window.new self.new result }
     {
-        let Some(table) = self.call.table else {
-            unreachable!()
-        };
-        let kind = self.call.machine.kind();
-        let (found, before) = window.exchange_slot(table, number, place, kind, words);
-        self.call.tried(words.0, found, before, None)
+        self.call.bury(number, place, words, window)
     }
 }

@@ -283,7 +283,7 @@ impl<'a, K: Hash + Eq + Drop, V: Drop, S: BuildHasher, T: Drop> Computing<'a, K,
             CallAsk::Load(at) => self.writer.load(at, window),
             CallAsk::SizeOf(_) => self.writer.size(window),
             CallAsk::SameKey(_) => self.writer.same(window),
-            CallAsk::MakeKey => self.writer.make_key(window),
+            CallAsk::MakeKey => self.writer.make_key(),
             CallAsk::MakeTable { len, limit } => {
                 self.writer.make_table(rt, alloc, len, limit, window)
             }

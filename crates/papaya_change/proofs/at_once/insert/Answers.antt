@@ -10,7 +10,7 @@ if_ok P Q (Err e) p f = tt
 pub returns-in-Some-clause-put : goal.returns-in-Some-clause-put
 returns-in-Some-clause-put g c =
     let log = c.learn.new.self.sight.log in
-    if_ok _ _ c.write_at.result c.write_at.ensures.put (λ a h. put_since g.K.PartialEq.eq c.args.key c.args.value c.args.window.now.sight.log log c.write_at.new.window.sight.log a c.learn.ensures.sees.log (h log (c.find_place.ensures.found (c.in-Some.table, c.in-Some.write) c.in-Some.is)))
+    if_ok _ _ c.write_at.result c.write_at.ensures.put (λ a h. put_since g.K.PartialEq.eq c.args.key c.args.value c.args.window.now.sight.log log c.write_at.new.window.sight.log a c.learn.ensures.sees.log (h log (c.find_place.ensures.found c.in-Some.spot c.in-Some.is)))
 
 pub returns-in-None-clause-put : goal.returns-in-None-clause-put
 returns-in-None-clause-put g c =

@@ -22,23 +22,23 @@ if_ok P Q (Err e) p f = tt
 
 pub put_slot-found-requires-clause-place : goal.put_slot-found-requires-clause-place
 put_slot-found-requires-clause-place g c =
-    let w = c.args.window.now.book.now in let b = begun_of w.parts in let log = c.args.window.now.sight.log in let key = c.args.key in let write = c.args.write in let q = c.in-Ok.pair in
+    let w = c.args.window.now.book.now in let b = begun_of w.parts in let log = c.args.window.now.sight.log in let key = c.args.key in let write = c.args.spot.write in let q = c.in-Ok.pair in
     let key_is : key_of q ≡ key = ap (λ z. z.key.value) c.in-Ok.ensures.ok ∙ ap (λ z. z.value) c.new.ensures.key in
-    (slot_there g.K.PartialEq.eq g.K.Hash.hash_input g.S.BuildHasher.build_hasher g.S.Hasher.Hasher.write g.S.Hasher.Hasher.finish g.met.K.Eq.laws g.met.K.Hash.respects_eq b w.begun.book key c.requires.stands.0 log write c.args.table.now c.requires.stands.1 q key_is c.in-Ok.ensures.placed).1
+    (slot_there g.K.PartialEq.eq g.K.Hash.hash_input g.S.BuildHasher.build_hasher g.S.Hasher.Hasher.write g.S.Hasher.Hasher.finish g.met.K.Eq.laws g.met.K.Hash.respects_eq b w.begun.book key c.requires.stands.0 log write c.args.spot.table.now c.requires.stands.1 q key_is c.in-Ok.ensures.placed).1
 
 pub put_slot-found-requires-clause-can : goal.put_slot-found-requires-clause-can
 put_slot-found-requires-clause-can g c =
-    let w = c.args.window.now.book.now in let b = begun_of w.parts in let log = c.args.window.now.sight.log in let key = c.args.key in let write = c.args.write in let q = c.in-Ok.pair in
+    let w = c.args.window.now.book.now in let b = begun_of w.parts in let log = c.args.window.now.sight.log in let key = c.args.key in let write = c.args.spot.write in let q = c.in-Ok.pair in
     let key_is : key_of q ≡ key = ap (λ z. z.key.value) c.in-Ok.ensures.ok ∙ ap (λ z. z.value) c.new.ensures.key in
     let hash = hash_of g.K.Hash.hash_input g.S.BuildHasher.build_hasher g.S.Hasher.Hasher.write g.S.Hasher.Hasher.finish in
     let byte : c.h2.result ≡ top_byte (hash b.hasher key) = c.h2.ensures.value ∙ ap top_byte c.requires.hashed in
     let word : c.live.result.0 ≡ new_word (hash b.hasher key) q.index = c.live.ensures ∙ (λ i. live_word (byte i) (c.index-2.ensures i)) in
     let low = subst (λ n. n < 128) byte c.h2.ensures.byte in
-    rw (c.kind.ensures, word) (put_can g.K.PartialEq.eq g.K.Hash.hash_input g.S.BuildHasher.build_hasher g.S.Hasher.Hasher.write g.S.Hasher.Hasher.finish g.met.K.Eq.laws g.met.K.Hash.respects_eq b w.begun.book key c.requires.stands.0 log write c.args.table.now c.requires.stands.1 q key_is c.in-Ok.ensures.placed (word_pair (hash b.hasher key) q.index low))
+    rw (c.kind.ensures, word) (put_can g.K.PartialEq.eq g.K.Hash.hash_input g.S.BuildHasher.build_hasher g.S.Hasher.Hasher.write g.S.Hasher.Hasher.finish g.met.K.Eq.laws g.met.K.Hash.respects_eq b w.begun.book key c.requires.stands.0 log write c.args.spot.table.now c.requires.stands.1 q key_is c.in-Ok.ensures.placed (word_pair (hash b.hasher key) q.index low))
 
 pub returns-then-found-old-clause-put : goal.returns-then-found-old-clause-put
 returns-then-found-old-clause-put g c =
-    let w = c.args.window.now.book.now in let b = begun_of w.parts in let log = c.args.window.now.sight.log in let key = c.args.key in let write = c.args.write in let q = c.in-Ok.pair in
+    let w = c.args.window.now.book.now in let b = begun_of w.parts in let log = c.args.window.now.sight.log in let key = c.args.key in let write = c.args.spot.write in let q = c.in-Ok.pair in
     let key_is : key_of q ≡ key = ap (λ z. z.key.value) c.in-Ok.ensures.ok ∙ ap (λ z. z.value) c.new.ensures.key in
     let value_is : q.value.value ≡ c.args.value = ap (λ z. z.value) c.in-Ok.ensures.ok ∙ c.new.ensures.value in
     let put = c.put_slot-found in let mid = put.new.self.sight.log in
@@ -48,7 +48,7 @@ returns-then-found-old-clause-put g c =
 
 pub returns-in-Some-clause-put : goal.returns-in-Some-clause-put
 returns-in-Some-clause-put g c = λ begun r.
-    let w = c.args.window.now.book.now in let b = begun_of w.parts in let log = c.args.window.now.sight.log in let key = c.args.key in let write = c.args.write in let q = c.in-Ok.pair in
+    let w = c.args.window.now.book.now in let b = begun_of w.parts in let log = c.args.window.now.sight.log in let key = c.args.key in let write = c.args.spot.write in let q = c.in-Ok.pair in
     let key_is : key_of q ≡ key = ap (λ z. z.key.value) c.in-Ok.ensures.ok ∙ ap (λ z. z.value) c.new.ensures.key in
     let hash = hash_of g.K.Hash.hash_input g.S.BuildHasher.build_hasher g.S.Hasher.Hasher.write g.S.Hasher.Hasher.finish in
     let byte : c.h2.result ≡ top_byte (hash b.hasher key) = c.h2.ensures.value ∙ ap top_byte c.requires.hashed in
@@ -57,11 +57,11 @@ returns-in-Some-clause-put g c = λ begun r.
     let put = c.put_slot-found in
     let tried = subst (λ (z : StepKind × ℕ). IsSlotTried g.K.PartialEq.eq hash b w.begun.book write.place.table write.place.probe.i (Some z.0) write.old z.1 (Some q) (names.Pair q) log put.result.0 put.new.self.sight.log put.result.1) (λ i. (c.kind.ensures i, word i)) put.ensures.tried in
     let is : (put.result.0 == write.old) ≡ true = search rules in
-    put_done g.K.PartialEq.eq g.K.Hash.hash_input g.S.BuildHasher.build_hasher g.S.Hasher.Hasher.write g.S.Hasher.Hasher.finish g.met.K.Eq.laws g.met.K.Hash.respects_eq b w.begun.book key begun log write c.args.table.now r q key_is c.in-Ok.ensures.placed c.args.value value_is put.new.self.sight.log put.result.0 put.result.1 tried is (Some c.value.result) (c.in-Some.taken, c.in-Some.is, c.value.ensures ∙ ap (λ z. z.value) c.pair-in-Some.ensures)
+    put_done g.K.PartialEq.eq g.K.Hash.hash_input g.S.BuildHasher.build_hasher g.S.Hasher.Hasher.write g.S.Hasher.Hasher.finish g.met.K.Eq.laws g.met.K.Hash.respects_eq b w.begun.book key begun log write c.args.spot.table.now r q key_is c.in-Ok.ensures.placed c.args.value value_is put.new.self.sight.log put.result.0 put.result.1 tried is (Some c.value.result) (c.in-Some.taken, c.in-Some.is, c.value.ensures ∙ ap (λ z. z.value) c.pair-in-Some.ensures)
 
 pub returns-clause-put : goal.returns-clause-put
 returns-clause-put g c = λ begun r.
-    let w = c.args.window.now.book.now in let b = begun_of w.parts in let log = c.args.window.now.sight.log in let key = c.args.key in let write = c.args.write in let q = c.in-Ok.pair in
+    let w = c.args.window.now.book.now in let b = begun_of w.parts in let log = c.args.window.now.sight.log in let key = c.args.key in let write = c.args.spot.write in let q = c.in-Ok.pair in
     let key_is : key_of q ≡ key = ap (λ z. z.key.value) c.in-Ok.ensures.ok ∙ ap (λ z. z.value) c.new.ensures.key in
     let hash = hash_of g.K.Hash.hash_input g.S.BuildHasher.build_hasher g.S.Hasher.Hasher.write g.S.Hasher.Hasher.finish in
     let byte : c.h2.result ≡ top_byte (hash b.hasher key) = c.h2.ensures.value ∙ ap top_byte c.requires.hashed in
@@ -70,11 +70,11 @@ returns-clause-put g c = λ begun r.
     let put = c.put_slot-found in
     let tried = subst (λ (z : StepKind × ℕ). IsSlotTried g.K.PartialEq.eq hash b w.begun.book write.place.table write.place.probe.i (Some z.0) write.old z.1 (Some q) (names.Pair q) log put.result.0 put.new.self.sight.log put.result.1) (λ i. (c.kind.ensures i, word i)) put.ensures.tried in
     let is : (put.result.0 == write.old) ≡ true = search rules in
-    put_done g.K.PartialEq.eq g.K.Hash.hash_input g.S.BuildHasher.build_hasher g.S.Hasher.Hasher.write g.S.Hasher.Hasher.finish g.met.K.Eq.laws g.met.K.Hash.respects_eq b w.begun.book key begun log write c.args.table.now r q key_is c.in-Ok.ensures.placed c.args.value value_is put.new.self.sight.log put.result.0 put.result.1 tried is None c.in-None.is
+    put_done g.K.PartialEq.eq g.K.Hash.hash_input g.S.BuildHasher.build_hasher g.S.Hasher.Hasher.write g.S.Hasher.Hasher.finish g.met.K.Eq.laws g.met.K.Hash.respects_eq b w.begun.book key begun log write c.args.spot.table.now r q key_is c.in-Ok.ensures.placed c.args.value value_is put.new.self.sight.log put.result.0 put.result.1 tried is None c.in-None.is
 
 pub returns-in-Some-clause-made : goal.returns-in-Some-clause-made
 returns-in-Some-clause-made g c =
-    let w = c.args.window.now.book.now in let b = begun_of w.parts in let log = c.args.window.now.sight.log in let key = c.args.key in let write = c.args.write in let q = c.in-Ok.pair in
+    let w = c.args.window.now.book.now in let b = begun_of w.parts in let log = c.args.window.now.sight.log in let key = c.args.key in let write = c.args.spot.write in let q = c.in-Ok.pair in
     let key_is : key_of q ≡ key = ap (λ z. z.key.value) c.in-Ok.ensures.ok ∙ ap (λ z. z.value) c.new.ensures.key in
     let hash = hash_of g.K.Hash.hash_input g.S.BuildHasher.build_hasher g.S.Hasher.Hasher.write g.S.Hasher.Hasher.finish in
     let byte : c.h2.result ≡ top_byte (hash b.hasher key) = c.h2.ensures.value ∙ ap top_byte c.requires.hashed in
@@ -84,14 +84,14 @@ returns-in-Some-clause-made g c =
     let tried = subst (λ (z : StepKind × ℕ). IsSlotTried g.K.PartialEq.eq hash b w.begun.book write.place.table write.place.probe.i (Some z.0) write.old z.1 (Some q) (names.Pair q) log put.result.0 put.new.self.sight.log put.result.1) (λ i. (c.kind.ensures i, word i)) put.ensures.tried in
     let is : (put.result.0 == write.old) ≡ true = search rules in
     let begun = c.requires.stands.0 in let r = c.requires.stands.1 in
-    let changed = has_changed_now g.K.PartialEq.eq g.K.Hash.hash_input g.S.BuildHasher.build_hasher g.S.Hasher.Hasher.write g.S.Hasher.Hasher.finish g.met.K.Eq.laws g.met.K.Hash.respects_eq b w.begun.book key begun log write c.args.table.now r q key_is c.in-Ok.ensures.placed c.args.value value_is put.new.self.sight.log put.result.0 put.result.1 tried is in
+    let changed = has_changed_now g.K.PartialEq.eq g.K.Hash.hash_input g.S.BuildHasher.build_hasher g.S.Hasher.Hasher.write g.S.Hasher.Hasher.finish g.met.K.Eq.laws g.met.K.Hash.respects_eq b w.begun.book key begun log write c.args.spot.table.now r q key_is c.in-Ok.ensures.placed c.args.value value_is put.new.self.sight.log put.result.0 put.result.1 tried is in
     let does = subst (λ (z : Bool). Does z c.args.window.now put.new.self) (is ∙ sym changed) put.ensures.does in
     subst (λ (z : Bool). Makes z (own c.args.window.now) (own put.new.self) (past put.new.self)) changed
-    (makes g.K.PartialEq.eq begun put.result.1 (Some q) (ending g.K.PartialEq.eq g.K.Hash.hash_input g.S.BuildHasher.build_hasher g.S.Hasher.Hasher.write g.S.Hasher.Hasher.finish g.met.K.Eq.laws g.met.K.Hash.respects_eq b w.begun.book key begun log write c.args.table.now r q key_is c.in-Ok.ensures.placed c.args.value value_is put.new.self.sight.log put.result.0 put.result.1 tried is) c.args.window.now put.new.self (put_changed g.K.PartialEq.eq g.K.Hash.hash_input g.S.BuildHasher.build_hasher g.S.Hasher.Hasher.write g.S.Hasher.Hasher.finish g.met.K.Eq.laws g.met.K.Hash.respects_eq b w.begun.book key begun log write c.args.table.now r q key_is c.in-Ok.ensures.placed c.args.value value_is put.new.self.sight.log put.result.0 put.result.1 tried is) does)
+    (makes g.K.PartialEq.eq begun put.result.1 (Some q) (ending g.K.PartialEq.eq g.K.Hash.hash_input g.S.BuildHasher.build_hasher g.S.Hasher.Hasher.write g.S.Hasher.Hasher.finish g.met.K.Eq.laws g.met.K.Hash.respects_eq b w.begun.book key begun log write c.args.spot.table.now r q key_is c.in-Ok.ensures.placed c.args.value value_is put.new.self.sight.log put.result.0 put.result.1 tried is) c.args.window.now put.new.self (put_changed g.K.PartialEq.eq g.K.Hash.hash_input g.S.BuildHasher.build_hasher g.S.Hasher.Hasher.write g.S.Hasher.Hasher.finish g.met.K.Eq.laws g.met.K.Hash.respects_eq b w.begun.book key begun log write c.args.spot.table.now r q key_is c.in-Ok.ensures.placed c.args.value value_is put.new.self.sight.log put.result.0 put.result.1 tried is) does)
 
 pub returns-clause-made : goal.returns-clause-made
 returns-clause-made g c =
-    let w = c.args.window.now.book.now in let b = begun_of w.parts in let log = c.args.window.now.sight.log in let key = c.args.key in let write = c.args.write in let q = c.in-Ok.pair in
+    let w = c.args.window.now.book.now in let b = begun_of w.parts in let log = c.args.window.now.sight.log in let key = c.args.key in let write = c.args.spot.write in let q = c.in-Ok.pair in
     let key_is : key_of q ≡ key = ap (λ z. z.key.value) c.in-Ok.ensures.ok ∙ ap (λ z. z.value) c.new.ensures.key in
     let hash = hash_of g.K.Hash.hash_input g.S.BuildHasher.build_hasher g.S.Hasher.Hasher.write g.S.Hasher.Hasher.finish in
     let byte : c.h2.result ≡ top_byte (hash b.hasher key) = c.h2.ensures.value ∙ ap top_byte c.requires.hashed in
@@ -101,7 +101,7 @@ returns-clause-made g c =
     let tried = subst (λ (z : StepKind × ℕ). IsSlotTried g.K.PartialEq.eq hash b w.begun.book write.place.table write.place.probe.i (Some z.0) write.old z.1 (Some q) (names.Pair q) log put.result.0 put.new.self.sight.log put.result.1) (λ i. (c.kind.ensures i, word i)) put.ensures.tried in
     let is : (put.result.0 == write.old) ≡ true = search rules in
     let begun = c.requires.stands.0 in let r = c.requires.stands.1 in
-    let changed = has_changed_now g.K.PartialEq.eq g.K.Hash.hash_input g.S.BuildHasher.build_hasher g.S.Hasher.Hasher.write g.S.Hasher.Hasher.finish g.met.K.Eq.laws g.met.K.Hash.respects_eq b w.begun.book key begun log write c.args.table.now r q key_is c.in-Ok.ensures.placed c.args.value value_is put.new.self.sight.log put.result.0 put.result.1 tried is in
+    let changed = has_changed_now g.K.PartialEq.eq g.K.Hash.hash_input g.S.BuildHasher.build_hasher g.S.Hasher.Hasher.write g.S.Hasher.Hasher.finish g.met.K.Eq.laws g.met.K.Hash.respects_eq b w.begun.book key begun log write c.args.spot.table.now r q key_is c.in-Ok.ensures.placed c.args.value value_is put.new.self.sight.log put.result.0 put.result.1 tried is in
     let does = subst (λ (z : Bool). Does z c.args.window.now put.new.self) (is ∙ sym changed) put.ensures.does in
     subst (λ (z : Bool). Makes z (own c.args.window.now) (own put.new.self) (past put.new.self)) changed
-    (makes g.K.PartialEq.eq begun put.result.1 (Some q) (ending g.K.PartialEq.eq g.K.Hash.hash_input g.S.BuildHasher.build_hasher g.S.Hasher.Hasher.write g.S.Hasher.Hasher.finish g.met.K.Eq.laws g.met.K.Hash.respects_eq b w.begun.book key begun log write c.args.table.now r q key_is c.in-Ok.ensures.placed c.args.value value_is put.new.self.sight.log put.result.0 put.result.1 tried is) c.args.window.now put.new.self (put_changed g.K.PartialEq.eq g.K.Hash.hash_input g.S.BuildHasher.build_hasher g.S.Hasher.Hasher.write g.S.Hasher.Hasher.finish g.met.K.Eq.laws g.met.K.Hash.respects_eq b w.begun.book key begun log write c.args.table.now r q key_is c.in-Ok.ensures.placed c.args.value value_is put.new.self.sight.log put.result.0 put.result.1 tried is) does)
+    (makes g.K.PartialEq.eq begun put.result.1 (Some q) (ending g.K.PartialEq.eq g.K.Hash.hash_input g.S.BuildHasher.build_hasher g.S.Hasher.Hasher.write g.S.Hasher.Hasher.finish g.met.K.Eq.laws g.met.K.Hash.respects_eq b w.begun.book key begun log write c.args.spot.table.now r q key_is c.in-Ok.ensures.placed c.args.value value_is put.new.self.sight.log put.result.0 put.result.1 tried is) c.args.window.now put.new.self (put_changed g.K.PartialEq.eq g.K.Hash.hash_input g.S.BuildHasher.build_hasher g.S.Hasher.Hasher.write g.S.Hasher.Hasher.finish g.met.K.Eq.laws g.met.K.Hash.respects_eq b w.begun.book key begun log write c.args.spot.table.now r q key_is c.in-Ok.ensures.placed c.args.value value_is put.new.self.sight.log put.result.0 put.result.1 tried is) does)

@@ -1,12 +1,11 @@
 use Rattle.std.proofs.Common.{◌≡◌, None, [], refl, sym, ap, ◌∙◌, subst}
 use Rattle.papaya_ask.specs.declared.call.Task.TheVariants.{RemoveIf}
-use Rattle.std.specs.Prelude.{IfErr}
 use Rattle.papaya_ask.specs.declared.ask.Ask.TheVariants.{Done}
-use Rattle.papaya_ask.specs.declared.call.Reply.TheVariants.{Refused}
+use Rattle.papaya_words.specs.declared.probe.Refused.TheVariants.{Capacity}
 use Rattle.papaya_chain.specs.declared.ask.Answer.TheVariants as answers
 use Rattle.papaya_chain.specs.declared.ask.Ask.TheVariants.{Call}
 use Rattle.papaya_chain.specs.declared.machine.Machine.{Machine}
-use Rattle.papaya_chain.specs.Machine.{after, ask_of, started}
+use Rattle.papaya_chain.specs.Machine.{after, started}
 use Rattle.papaya_book.specs.Limits.{HasNoRoom, tables_of}
 use Rattle.papaya_change.specs.declared.driver.Driver.{Driver}
 use Rattle.papaya_change.specs.Changing.{IsDriven}
@@ -23,10 +22,10 @@ use Rattle.papaya_book.specs.Parts.{begun_of}
 use Rattle.papaya_book.specs.Windows.{Does}
 use Rattle.papaya_change.specs.Doing.{has_changed}
 use Rattle.papaya_change.specs.Showings.{Judges}
-use Rattle.papaya_change.proofs.Doing.{does_on, does_still, idles, makes}
+use Rattle.papaya_change.proofs.Doing.{does_on, does_still, idles, makes, replied}
 use Rattle.papaya_lookup.proofs.Histories.{history_since}
 use Rattle.papaya_book.proofs.Windows.{sees_trans}
-use Rattle.papaya_change.proofs.RemovingReplies.{begins, removal_since}
+use Rattle.papaya_change.proofs.RemovingReplies.{answered, begins, can_tell, removal_since, told_refused, told_went}
 use Rattle.papaya_change.proofs.removal.remove.Goals as goal
 
 pub new-requires-clause-chunked : goal.new-requires-clause-chunked
@@ -87,7 +86,10 @@ loop-preserved g c =
     )
 
 pub replied-requires-clause-can : goal.replied-requires-clause-can
-replied-requires-clause-can g c = let u = c.loop.invariant.0 in rw c.answer.ensures.sees.book (c.args.agrees, u.0, (c.in-None-answer.ensures.removes c.args.agrees u.0 u.2).0)
+replied-requires-clause-can g c = let u = c.loop.invariant.0 in
+    let w = c.loop.window.book.now in
+    let lawful : IsQuery g.K.PartialEq.eq g.K.Hash.hash_input (g.Q.Equivalent.matches c.args.key.now) (g.Q.Hash.hash_input c.args.key.now) = record { feeds = g.met.Q.Equivalent.hashes_as_key c.args.key.now; class = λ k l. g.met.Q.Equivalent.matches_equal_keys c.args.key.now k l } in
+    rw c.answer.ensures.sees.book (can_tell g.K.PartialEq.eq g.K.Hash.hash_input g.S.BuildHasher.build_hasher g.S.Hasher.Hasher.write g.S.Hasher.Hasher.finish g.met.K.Eq.laws g.met.K.Hash.respects_eq (begun_of w.parts) w.begun.book (g.Q.Equivalent.matches c.args.key.now) (g.Q.Hash.hash_input c.args.key.now) lawful (Judges g.F.FnMut) c.args.agrees u.0 c.answer.new.window.sight.log c.answer.new.self c.answer.new.agrees (c.in-None-answer.ensures.removes c.args.agrees u.0 u.2).0)
 
 pub replied-requires-clause-done : goal.replied-requires-clause-done
 replied-requires-clause-done g c = let u = c.loop.invariant.0 in (c.in-None-answer.ensures.removes c.args.agrees u.0 u.2).1
@@ -98,17 +100,23 @@ returns-in-None-answer-clause-lawful g c = let u = c.loop.invariant.0 in rw c.an
 pub returns-in-None-answer-clause-removed : goal.returns-in-None-answer-clause-removed
 returns-in-None-answer-clause-removed g c =
     let u = c.loop.invariant.0 in let r = (c.in-None-answer.ensures.removes c.args.agrees u.0 u.2).0 in
-    removal_since g.K.PartialEq.eq (g.Q.Equivalent.matches c.args.key.now) _ _ _ (history_since c.args.window.now.sight.log u.0 u.1) (Judges g.F.FnMut) c.args.agrees c.replied.result (c.replied.ensures.replies c.args.agrees u.0 (rw c.answer.ensures.sees.book r))
+    let w = c.loop.window.book.now in let t = c.replied.ensures.tells in
+    let lawful : IsQuery g.K.PartialEq.eq g.K.Hash.hash_input (g.Q.Equivalent.matches c.args.key.now) (g.Q.Hash.hash_input c.args.key.now) = record { feeds = g.met.Q.Equivalent.hashes_as_key c.args.key.now; class = λ k l. g.met.Q.Equivalent.matches_equal_keys c.args.key.now k l } in
+    removal_since g.K.PartialEq.eq (g.Q.Equivalent.matches c.args.key.now) _ _ _ (history_since c.args.window.now.sight.log u.0 u.1) (Judges g.F.FnMut) c.args.agrees c.replied.result
+    (answered g.K.PartialEq.eq g.K.Hash.hash_input g.S.BuildHasher.build_hasher g.S.Hasher.Hasher.write g.S.Hasher.Hasher.finish g.met.K.Eq.laws g.met.K.Hash.respects_eq (begun_of w.parts) w.begun.book (g.Q.Equivalent.matches c.args.key.now) (g.Q.Hash.hash_input c.args.key.now) lawful (Judges g.F.FnMut) c.args.agrees u.0 c.answer.new.window.sight.log c.answer.new.self c.answer.new.agrees r t.0 t.1 c.replied.result t.2)
 
 pub returns-in-None-answer-clause-made : goal.returns-in-None-answer-clause-made
 returns-in-None-answer-clause-made g c =
     let u = c.loop.invariant.0 in let r = (c.in-None-answer.ensures.removes c.args.agrees u.0 u.2).0 in let call = c.answer.new.self.call in
     let does = does_still c.loop.removal.call.machine c.args.window.now c.loop.window c.answer.new.window c.loop.invariant.6 c.in-None-answer.ensures.answers in
-    rw c.replied.ensures.changed (makes g.K.PartialEq.eq u.0 call.taken call.put call.machine c.args.window.now c.answer.new.window r.calling.changed (rw c.answer.ensures.machine does))
+    let t = c.replied.ensures.tells in
+    let changed = told_went c.answer.new.self t.0 c.replied.result t.2 ∙ sym (replied call.machine t.0 t.1) in
+    rw changed (makes g.K.PartialEq.eq u.0 call.taken call.put call.machine c.args.window.now c.answer.new.window r.calling.changed (rw c.answer.ensures.machine does))
 
 pub returns-in-None-answer-clause-crowded : goal.returns-in-None-answer-clause-crowded
 returns-in-None-answer-clause-crowded g c = λ e.
     let u = c.loop.invariant.0 in let r = (c.in-None-answer.ensures.removes c.args.agrees u.0 u.2).0 in
-    let refused = subst (λ (z : _). IfErr z (λ cause. ask_of c.answer.new.self.call.machine ≡ Call (Done (Refused cause)))) e c.replied.ensures.refusal in
+    let t = c.replied.ensures.tells in
+    let refused = t.1 ∙ ap (λ z. Call (Done z)) (told_refused c.answer.new.self t.0 c.replied.result t.2 Capacity e) in
     let initial : c.answer.new.self.call.machine.call.initial ≡ c.args.initial = ap (λ (z : Machine). z.call.initial) c.answer.ensures.machine ∙ c.loop.invariant.3 in
     rw c.again.ensures (subst (λ n. HasNoRoom n (tables_of c.answer.new.window.sight.log) c.answer.new.self.call.given.done) initial (r.crowded refused))

@@ -22,7 +22,7 @@ pub returns-in-SameKey-clause-inserts : goal.returns-in-SameKey-clause-inserts
 returns-in-SameKey-clause-inserts g c = λ key value begun r. let some : (n : ℕ) × (ask_of c.args.self.now.writer.call.machine ≡ Call (SameKey n)) = search rules in let asks = some.1 in goes_on g.K.PartialEq.eq g.K.Hash.hash_input g.S.BuildHasher.build_hasher g.S.Hasher.Hasher.write g.S.Hasher.Hasher.finish g.met.K.Eq.laws g.met.K.Hash.respects_eq (begun_of c.args.window.now.book.now.parts) c.args.window.now.book.now.begun.book key value begun c.args.window.now.sight.log c.args.self.now r c.args.window.now.sight.log c.args.self.now.writer c.same.result refl refl refl c.requires.standing c.requires.calling (λ reply h. let f = sym asks ∙ h in cc f) c.same.ensures.unsaid (c.same.ensures.writes key (made_list c.args.self.now.made) begun r.writing)
 
 pub returns-in-MakeKey-clause-inserts : goal.returns-in-MakeKey-clause-inserts
-returns-in-MakeKey-clause-inserts g c = λ key value begun r. let asks : ask_of c.args.self.now.writer.call.machine ≡ Call MakeKey = search rules in goes_on g.K.PartialEq.eq g.K.Hash.hash_input g.S.BuildHasher.build_hasher g.S.Hasher.Hasher.write g.S.Hasher.Hasher.finish g.met.K.Eq.laws g.met.K.Hash.respects_eq (begun_of c.args.window.now.book.now.parts) c.args.window.now.book.now.begun.book key value begun c.args.window.now.sight.log c.args.self.now r c.args.window.now.sight.log c.args.self.now.writer c.make_key.result refl refl refl c.requires.standing c.requires.calling (λ reply h. let f = sym asks ∙ h in cc f) c.make_key.ensures.unsaid (c.make_key.ensures.writes key (made_list c.args.self.now.made) begun r.writing)
+returns-in-MakeKey-clause-inserts g c = λ key value begun r. let asks : ask_of c.args.self.now.writer.call.machine ≡ Call MakeKey = search rules in goes_on g.K.PartialEq.eq g.K.Hash.hash_input g.S.BuildHasher.build_hasher g.S.Hasher.Hasher.write g.S.Hasher.Hasher.finish g.met.K.Eq.laws g.met.K.Hash.respects_eq (begun_of c.args.window.now.book.now.parts) c.args.window.now.book.now.begun.book key value begun c.args.window.now.sight.log c.args.self.now r c.args.window.now.sight.log c.args.self.now.writer c.make_key.result refl refl refl c.requires.standing c.requires.calling (λ reply h. let f = sym asks ∙ h in cc f) c.make_key.ensures.unsaid (c.make_key.ensures.makes c.args.window.now key (made_list c.args.self.now.made) begun r.writing)
 
 pub returns-in-MakeTable-clause-inserts : goal.returns-in-MakeTable-clause-inserts
 returns-in-MakeTable-clause-inserts g c = λ key value begun r. let asks : ask_of c.args.self.now.writer.call.machine ≡ Call (MakeTable c.in-MakeTable.len c.in-MakeTable.limit) = search rules in let on = c.make_table.ensures in goes_on g.K.PartialEq.eq g.K.Hash.hash_input g.S.BuildHasher.build_hasher g.S.Hasher.Hasher.write g.S.Hasher.Hasher.finish g.met.K.Eq.laws g.met.K.Hash.respects_eq (begun_of c.args.window.now.book.now.parts) c.args.window.now.book.now.begun.book key value begun c.args.window.now.sight.log c.args.self.now r c.make_table.new.window.sight.log c.make_table.new.self c.make_table.result on.machine on.value on.put c.requires.standing c.requires.calling (λ reply h. let f = sym asks ∙ h in cc f) on.unsaid (on.writes key (made_list c.args.self.now.made) begun r.writing)

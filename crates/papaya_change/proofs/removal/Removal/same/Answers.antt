@@ -1,15 +1,12 @@
-use Rattle.std.proofs.Common.{◌≡◌, ap, ◌∙◌}
-use Rattle.papaya_book.specs.Parts.{begun_of}
-use Rattle.papaya_change.specs.Showings.{Judges}
+use Rattle.std.proofs.Common.{◌≡◌, sym, ap, ◌∙◌}
+use Rattle.papaya_ask.specs.declared.ask.Answer.TheVariants.{Yes}
 use Rattle.papaya_lookup.specs.History.{key_of}
-use Rattle.papaya_lookup.proofs.Readings.{IsQuery}
-use Rattle.papaya_change.proofs.Removing.{compared_on}
 use Rattle.papaya_change.proofs.removal.Removal.same.Goals as goal
 
-pub returns-clause-removes : goal.returns-clause-removes
-returns-clause-removes g c = λ first begun r.
-    let lawful : IsQuery g.K.PartialEq.eq g.K.Hash.hash_input (g.Q.Equivalent.matches c.args.key.now) (g.Q.Hash.hash_input c.args.key.now) = record { feeds = g.met.Q.Equivalent.hashes_as_key c.args.key.now; class = λ k l. g.met.Q.Equivalent.matches_equal_keys c.args.key.now k l } in
-    let found = c.key.ensures ∙ ap (λ z. z.key.value) c.pair.ensures in
-    compared_on g.K.PartialEq.eq g.K.Hash.hash_input g.S.BuildHasher.build_hasher g.S.Hasher.Hasher.write g.S.Hasher.Hasher.finish g.met.K.Eq.laws g.met.K.Hash.respects_eq (begun_of c.args.window.now.book.now.parts) c.args.window.now.book.now.begun.book (g.Q.Equivalent.matches c.args.key.now) (g.Q.Hash.hash_input c.args.key.now) lawful (Judges g.F.FnMut) first begun c.args.window.now.sight.log c.args.self.now c.args.agrees.now r c.requires.standing c.requires.asks.0 c.equivalent.result
-    (λ p e. let is : c.in-Some.last ≡ p = cc (c.in-Some.is, e) in c.equivalent.ensures ∙ ap (g.Q.Equivalent.matches c.args.key.now) (found ∙ ap key_of is))
-    c.requires.asks.1
+pub returns : goal.returns
+returns g c = record {
+  same = λ p e.
+      let is : c.in-Some.last ≡ p = let one = sym c.in-Some.is ∙ e in cc one in
+      let found = c.key.ensures ∙ (ap (λ z. z.key.value) c.pair.ensures ∙ ap key_of is) in
+      ap Yes (c.equivalent.ensures ∙ ap (g.Q.Equivalent.matches c.args.key.now) found);
+}

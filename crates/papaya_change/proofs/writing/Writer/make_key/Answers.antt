@@ -7,5 +7,5 @@ use Rattle.papaya_change.proofs.writing.Writer.make_key.Goals as goal
 pub returns : goal.returns
 returns g c = record {
   unsaid = λ cause e. absurd (cc e);
-  writes = λ key made begun r. key_made g.K.PartialEq.eq g.K.Hash.hash_input g.S.BuildHasher.build_hasher g.S.Hasher.Hasher.write g.S.Hasher.Hasher.finish g.met.K.Eq.laws g.met.K.Hash.respects_eq (begun_of c.args.window.now.book.now.parts) c.args.window.now.book.now.begun.book key made begun c.args.window.now.sight.log c.args.self.now r (Made 0) c.requires.asks (omega arith);
+  makes = λ w key made begun r. key_made g.K.PartialEq.eq g.K.Hash.hash_input g.S.BuildHasher.build_hasher g.S.Hasher.Hasher.write g.S.Hasher.Hasher.finish g.met.K.Eq.laws g.met.K.Hash.respects_eq (begun_of w.book.now.parts) w.book.now.begun.book key made begun w.sight.log c.args.self.now r (Made 0) c.requires.asks (omega arith);
 }

@@ -21,7 +21,7 @@ returns-in-SameKey-clause-computes g c = λ key begun heard r.
 pub returns-in-MakeKey-clause-computes : goal.returns-in-MakeKey-clause-computes
 returns-in-MakeKey-clause-computes g c = λ key begun heard r.
     let e = c.make_key.ensures in
-    goes_on g.K.PartialEq.eq g.K.Hash.hash_input g.S.BuildHasher.build_hasher g.S.Hasher.Hasher.write g.S.Hasher.Hasher.finish g.met.K.Eq.laws g.met.K.Hash.respects_eq (begun_of c.args.window.now.book.now.parts) c.args.window.now.book.now.begun.book key begun c.args.window.now.sight.log c.args.self.now heard r c.requires.standing c.args.ask c.requires.asks.0 (writers_silent c.args.ask c.requires.asks.1) c.make_key.result c.args.window.now.sight.log ([], append-nil c.args.window.now.sight.log) c.args.self.now.writer refl refl e.unsaid (e.writes key r.made begun r.writing)
+    goes_on g.K.PartialEq.eq g.K.Hash.hash_input g.S.BuildHasher.build_hasher g.S.Hasher.Hasher.write g.S.Hasher.Hasher.finish g.met.K.Eq.laws g.met.K.Hash.respects_eq (begun_of c.args.window.now.book.now.parts) c.args.window.now.book.now.begun.book key begun c.args.window.now.sight.log c.args.self.now heard r c.requires.standing c.args.ask c.requires.asks.0 (writers_silent c.args.ask c.requires.asks.1) c.make_key.result c.args.window.now.sight.log ([], append-nil c.args.window.now.sight.log) c.args.self.now.writer refl refl e.unsaid (e.makes c.args.window.now key r.made begun r.writing)
 
 pub returns-in-MakeTable-clause-computes : goal.returns-in-MakeTable-clause-computes
 returns-in-MakeTable-clause-computes g c = λ key begun heard r.
