@@ -13,13 +13,21 @@ use std::test::Fail;
 use std::thread::Threads;
 
 /// Two rounds at 64 keys. The values are the keys' numbers, which sum to 2016; what is not there
-/// counts 1; and the second round of replacements finds each value 1 greater.
+/// counts 1; and the second round of replacements finds each value 1 greater, that of mixed steps the
+/// seven values at multiples of ten.
 const CHECKED: &str = "\
-get-hit: seq 4032 shared 4032 threads 4032\n\
-get-miss: seq 128 shared 128 threads 128\n\
-insert-fresh: seq 128 shared 128 threads 128\n\
-insert-replace: seq 4096 shared 4096 threads 4096\n\
-remove-insert: seq 4160 shared 4160 threads 4160\n";
+get-hit: seq 4032 shared 4032 threads 4032 \
+    std 4032 rwlock 4032 rwlock-threads 4032 mutex 4032 mutex-threads 4032\n\
+get-miss: seq 128 shared 128 threads 128 \
+    std 128 rwlock 128 rwlock-threads 128 mutex 128 mutex-threads 128\n\
+insert-fresh: seq 128 shared 128 threads 128 \
+    std 128 rwlock 128 rwlock-threads 128 mutex 128 mutex-threads 128\n\
+insert-replace: seq 4096 shared 4096 threads 4096 \
+    std 4096 rwlock 4096 rwlock-threads 4096 mutex 4096 mutex-threads 4096\n\
+remove-insert: seq 4160 shared 4160 threads 4160 \
+    std 4160 rwlock 4160 rwlock-threads 4160 mutex 4160 mutex-threads 4160\n\
+mixed: seq 4039 shared 4039 threads 4039 \
+    std 4039 rwlock 4039 rwlock-threads 4039 mutex 4039 mutex-threads 4039\n";
 
 /// Asserts that this was written, in a run with these arguments.
 fn has_written<A: Abort>(rt: &A, found: &[u8], wanted: &str, args: &[String]) -> Result<(), Fail> {
@@ -104,7 +112,17 @@ fn a_line_of_time(rt: HostRuntime) -> Result<(), Fail> {
     };
     let mut printed = Vec::new(rt.alloc());
     assert!(rt; time_workload(&rt, rt.alloc(), plan, &mut printed).is_ok());
-    let mut names = ["get-hit/seq/8", "get-hit/shared/8", "get-hit/threads/8"].iter();
+    let mut names = [
+        "get-hit/seq/8",
+        "get-hit/shared/8",
+        "get-hit/threads/8",
+        "get-hit/std/8",
+        "get-hit/rwlock/8",
+        "get-hit/rwlock-threads/8",
+        "get-hit/mutex/8",
+        "get-hit/mutex-threads/8",
+    ]
+    .iter();
     for line in std::str::from_utf8(printed.as_slice())?.lines() {
         is_line(&rt, line, names.next().copied())?;
     }

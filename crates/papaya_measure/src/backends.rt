@@ -1,10 +1,13 @@
 //! The maps that the workloads are run on.
 use crate::{one_caller, shared};
 use papaya_plan::plan::{Part, Plan};
+use papaya_rivals::locks::Lock;
+use papaya_rivals::map::{Map, maps};
+use papaya_rivals::{alone, locked};
 use papaya_shell::failure::Failure;
 use std::alloc::Global;
 use std::rt::Clock;
-use std::sync::Wait;
+use std::sync::{Mutex, RwLock, Wait};
 use std::thread::Threads;
 use std::time::Instant;
 
@@ -17,6 +20,16 @@ pub enum Backend {
     Shared,
     /// The shared map, by several threads.
     Threads,
+    /// The kit's hash map.
+    Std,
+    /// That behind a lock of readers and a writer, by one thread.
+    RwLock,
+    /// The same, by several threads.
+    RwLockThreads,
+    /// That behind a mutex, by one thread.
+    Mutex,
+    /// The same, by several threads.
+    MutexThreads,
 }
 
 /// What a run of a plan gave: how long its rounds took, and the sum of their answers.
@@ -28,7 +41,16 @@ pub struct Measure {
 
 impl Backend {
     /// All backends, in the order in which they are run.
-    pub const ALL: [Backend; 3] = [Backend::Seq, Backend::Shared, Backend::Threads];
+    pub const ALL: [Backend; 8] = [
+        Backend::Seq,
+        Backend::Shared,
+        Backend::Threads,
+        Backend::Std,
+        Backend::RwLock,
+        Backend::RwLockThreads,
+        Backend::Mutex,
+        Backend::MutexThreads,
+    ];
 
     /// The name in what is printed.
     pub fn name(self) -> &'static str {
@@ -36,6 +58,11 @@ impl Backend {
             Backend::Seq => "seq",
             Backend::Shared => "shared",
             Backend::Threads => "threads",
+            Backend::Std => "std",
+            Backend::RwLock => "rwlock",
+            Backend::RwLockThreads => "rwlock-threads",
+            Backend::Mutex => "mutex",
+            Backend::MutexThreads => "mutex-threads",
         }
     }
 
@@ -65,8 +92,42 @@ impl Backend {
                 let sum = shared::run_in_threads(rt, alloc, maps.as_slice(), plan);
                 ended(rt, start, sum)
             }
+            Backend::Std => {
+                let mut maps = maps::<Map>(alloc, plan)?;
+                let start = now(rt)?;
+                let sum = alone::run(maps.as_mut_slice(), plan);
+                ended(rt, start, sum)
+            }
+            Backend::RwLock => by_one_thread::<R, RwLock<Map>>(rt, alloc, plan),
+            Backend::RwLockThreads => by_several::<R, RwLock<Map>>(rt, alloc, plan),
+            Backend::Mutex => by_one_thread::<R, Mutex<Map>>(rt, alloc, plan),
+            Backend::MutexThreads => by_several::<R, Mutex<Map>>(rt, alloc, plan),
         }
     }
+}
+
+/// The measure of the kit's map behind a lock, by one thread.
+fn by_one_thread<R: Clock + Wait, L: Lock + From<Map> + Drop>(
+    rt: &R,
+    alloc: Global,
+    plan: Plan,
+) -> Result<Measure, Failure> {
+    let maps = maps::<L>(alloc, plan)?;
+    let start = now(rt)?;
+    let sum = locked::run(rt, maps.as_slice(), plan, Part::whole(plan));
+    ended(rt, start, sum)
+}
+
+/// The measure of the kit's map behind a lock, by several threads.
+fn by_several<R: Clock + Threads + Wait + Sync, L: Lock + From<Map> + Sync + Drop>(
+    rt: &R,
+    alloc: Global,
+    plan: Plan,
+) -> Result<Measure, Failure> {
+    let maps = maps::<L>(alloc, plan)?;
+    let start = now(rt)?;
+    let sum = locked::run_in_threads(rt, alloc, maps.as_slice(), plan);
+    ended(rt, start, sum)
 }
 
 /// The moment.

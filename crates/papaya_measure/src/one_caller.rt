@@ -1,6 +1,7 @@
 //! The workloads on the map for one caller.
+use papaya_plan::action::Action;
 use papaya_plan::answers::weight;
-use papaya_plan::plan::{Part, Plan, Workload, key_of};
+use papaya_plan::plan::{Part, Plan, key_of};
 use papaya_seq::seq::HashMap;
 use papaya_shell::failure::Failure;
 use papaya_words::probe::{Refused, ResizeMode};
@@ -35,22 +36,14 @@ pub fn maps(alloc: Global, plan: Plan) -> Result<Vec<Map>, Failure> {
     Ok(maps)
 }
 
-/// One step, at the key of this number: what it answers.
+/// One step: what it answers.
 #[inline(always)]
-fn step(map: &mut Map, plan: Plan, number: u64, round: u32) -> Result<u64, Refused> {
-    let key = key_of(number);
-    match plan.workload {
-        Workload::GetHit => Ok(weight(map.get(&key))),
-        Workload::GetMiss => {
-            let absent = key_of(number.wrapping_add(u64::from(plan.keys)));
-            Ok(weight(map.get(&absent)))
-        }
-        Workload::InsertFresh => Ok(weight(map.insert(key, number)?)),
-        Workload::InsertReplace => {
-            let value = number.wrapping_add(u64::from(round)).wrapping_add(1);
-            Ok(weight(map.insert(key, value)?))
-        }
-        Workload::RemoveInsert => {
+fn step(map: &mut Map, action: Action) -> Result<u64, Refused> {
+    match action {
+        Action::Get(number) => Ok(weight(map.get(&key_of(number)))),
+        Action::Insert(number, value) => Ok(weight(map.insert(key_of(number), value)?)),
+        Action::Renew(number) => {
+            let key = key_of(number);
             let removed = weight(map.remove(&key)?);
             Ok(removed.wrapping_add(weight(map.insert(key, number)?)))
         }
@@ -63,8 +56,8 @@ fn rounds(map: &mut Map, plan: Plan, part: Part) -> Result<u64, Refused> {
     let (_, rounds) = plan.maps();
     for round in 0..rounds {
         for turn in part.start..part.end {
-            let number = plan.number_at(turn);
-            sum = sum.wrapping_add(step(map, plan, number, round)?);
+            let action = plan.action_at(plan.number_at(turn), round);
+            sum = sum.wrapping_add(step(map, action)?);
         }
     }
     Ok(sum)

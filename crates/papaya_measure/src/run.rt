@@ -45,18 +45,18 @@ fn check_workload<R: Clock + Threads + Wait + Sync, W: Write>(
         keys,
         rounds,
     };
-    let first = Backend::Seq.measure(rt, alloc, plan)?.checksum;
-    let name = workload.name();
-    write!(output, "{name}: seq {first}").map_err(|_| Failure::Output)?;
-    let mut others = Vec::new(alloc);
-    for backend in [Backend::Shared, Backend::Threads] {
+    write!(output, "{}:", workload.name()).map_err(|_| Failure::Output)?;
+    let mut sums = Vec::new(alloc);
+    for backend in Backend::ALL {
         let sum = backend.measure(rt, alloc, plan)?.checksum;
-        let name = backend.name();
-        write!(output, " {name} {sum}").map_err(|_| Failure::Output)?;
-        others.push(sum)?;
+        write!(output, " {} {sum}", backend.name()).map_err(|_| Failure::Output)?;
+        sums.push(sum)?;
     }
     writeln!(output).map_err(|_| Failure::Output)?;
-    compare(first, others.as_slice())
+    match sums.as_slice() {
+        [first, others @ ..] => compare(*first, others),
+        [] => Ok(()),
+    }
 }
 
 /// Compares the backends' answers to each workload.

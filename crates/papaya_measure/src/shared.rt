@@ -2,8 +2,9 @@
 ghost use Rattle.std.specs.Prelude.{◌≡◌};
 
 use papaya_map::map::{HashMap, HashMapRef, Pass};
+use papaya_plan::action::Action;
 use papaya_plan::answers::weight;
-use papaya_plan::plan::{Part, Plan, THREADS, Workload, key_of};
+use papaya_plan::plan::{Part, Plan, THREADS, key_of};
 use papaya_shell::failure::Failure;
 use papaya_words::limits::DEFAULT_SHARDS;
 use papaya_words::probe::{Refused, ResizeMode};
@@ -52,32 +53,24 @@ pub fn maps<R: Wait>(rt: &R, alloc: Global, plan: Plan) -> Result<Vec<Map>, Fail
     Ok(maps)
 }
 
-/// One step, at the key of this number: what it answers.
+/// One step: what it answers.
 #[inline(always)]
 fn step<R: Wait>(
     rt: &R,
     map: &HashMapRef<'_, u64, u64, Hasher>,
     pass: &mut Pass<u64, u64, Hasher>,
-    plan: Plan,
-    number: u64,
-    round: u32,
+    action: Action,
 ) -> Result<u64, Refused>
     requires { pass.old.book ≡ map.now.book }
     ensures { pass.new.book ≡ pass.old.book }
 {
-    let key = key_of(number);
-    match plan.workload {
-        Workload::GetHit => Ok(weight(map.get_as(&key, pass))),
-        Workload::GetMiss => {
-            let absent = key_of(number.wrapping_add(u64::from(plan.keys)));
-            Ok(weight(map.get_as(&absent, pass)))
+    match action {
+        Action::Get(number) => Ok(weight(map.get_as(&key_of(number), pass))),
+        Action::Insert(number, value) => {
+            Ok(weight(map.insert_as(rt, key_of(number), value, pass)?))
         }
-        Workload::InsertFresh => Ok(weight(map.insert_as(rt, key, number, pass)?)),
-        Workload::InsertReplace => {
-            let value = number.wrapping_add(u64::from(round)).wrapping_add(1);
-            Ok(weight(map.insert_as(rt, key, value, pass)?))
-        }
-        Workload::RemoveInsert => {
+        Action::Renew(number) => {
+            let key = key_of(number);
             let removed = weight(map.remove_as(rt, &key, pass)?);
             Ok(removed.wrapping_add(weight(map.insert_as(rt, key, number, pass)?)))
         }
@@ -92,8 +85,8 @@ fn rounds<R: Wait>(rt: &R, map: &Map, plan: Plan, part: Part) -> Result<u64, Ref
     let (_, rounds) = plan.maps();
     for round in 0..rounds {
         for turn in part.start..part.end {
-            let number = plan.number_at(turn);
-            sum = sum.wrapping_add(step(rt, &pinned, &mut pass, plan, number, round)?);
+            let action = plan.action_at(plan.number_at(turn), round);
+            sum = sum.wrapping_add(step(rt, &pinned, &mut pass, action)?);
         }
     }
     Ok(sum)

@@ -10,3 +10,4 @@ uses_up workload.GetMiss = false
 uses_up workload.InsertFresh = true
 uses_up workload.InsertReplace = false
 uses_up workload.RemoveInsert = true
+uses_up workload.Mixed = false

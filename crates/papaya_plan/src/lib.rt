@@ -1,7 +1,8 @@
-//! What the maps are timed at: workloads and the plans of their rounds, the sums by which answers
-//! are compared, and the program's arguments.
+//! What the maps are timed at: workloads, the plans of their rounds and what each step does, the sums
+//! by which answers are compared, and the program's arguments.
 #![tactic(auto)]
 
+pub mod action;
 pub mod answers;
 pub mod arguments;
 pub mod percentile;

@@ -7,7 +7,7 @@ ghost use Rattle.papaya_plan.specs.Plan.{uses_up};
 /// How many threads work at once, where there are several.
 pub const THREADS: u64 = 4;
 
-/// What one step does to a map.
+/// What the steps of a round do to a map.
 #[derive(Clone, Copy, Debug, PartialEq, Eq)]
 pub enum Workload {
     /// Looks up a key that the map has.
@@ -20,16 +20,19 @@ pub enum Workload {
     InsertReplace,
     /// Removes a key that it has, and inserts it again.
     RemoveInsert,
+    /// Inserts one in ten of the keys that it has, and looks the others up.
+    Mixed,
 }
 
 impl Workload {
     /// All workloads, in the order in which they are run.
-    pub const ALL: [Workload; 5] = [
+    pub const ALL: [Workload; 6] = [
         Workload::GetHit,
         Workload::GetMiss,
         Workload::InsertFresh,
         Workload::InsertReplace,
         Workload::RemoveInsert,
+        Workload::Mixed,
     ];
 
     /// The name in what is printed.
@@ -40,6 +43,7 @@ impl Workload {
             Workload::InsertFresh => "insert-fresh",
             Workload::InsertReplace => "insert-replace",
             Workload::RemoveInsert => "remove-insert",
+            Workload::Mixed => "mixed",
         }
     }
 }
@@ -62,9 +66,9 @@ impl Plan {
         ensures all { result.0 * result.1 ≡ self.rounds }
     {
         match self.workload {
-            Workload::GetHit | Workload::GetMiss | Workload::InsertReplace => (1, self.rounds),
             // A removed pair keeps its slot.
             Workload::InsertFresh | Workload::RemoveInsert => (self.rounds, 1),
+            _ => (1, self.rounds),
         }
     }
 

@@ -1,0 +1,60 @@
+//! What one step does.
+ghost use Rattle.std.specs.Prelude.{◌≡◌, ◌≢◌, ◌+◌, ◌%◌, ◌^◌};
+ghost use Rattle.papaya_plan.specs.declared.plan.Workload.TheVariants as workload;
+ghost use Rattle.papaya_plan.specs.declared.action.Action.TheVariants.{Get, Insert, Renew};
+
+use crate::plan::{Plan, Workload};
+
+/// Of a mixed round, one number in so many is inserted.
+const MIXED: u64 = 10;
+
+/// What one step does, at the key of a number.
+#[derive(Clone, Copy, Debug, PartialEq, Eq)]
+pub enum Action {
+    /// Looks the key up.
+    Get(u64),
+    /// Inserts the key with this value.
+    Insert(u64, u64),
+    /// Removes the key, and inserts it again with its number.
+    Renew(u64),
+}
+
+impl Plan {
+    /// What the step at the key of this number does in this round.
+    #[inline(always)]
+    pub fn action_at(self, number: u64, round: u32) -> Action
+        ensures hit { self.workload ≡ workload.GetHit → result ≡ Get number }
+        ensures miss { self.workload ≡ workload.GetMiss
+            → result ≡ Get ((number + self.keys) % 2 ^ 64) }
+        ensures fresh { self.workload ≡ workload.InsertFresh → result ≡ Insert number number }
+        ensures replace { self.workload ≡ workload.InsertReplace
+            → result ≡ Insert number ((number + (round + 1)) % 2 ^ 64) }
+        ensures renew { self.workload ≡ workload.RemoveInsert → result ≡ Renew number }
+        ensures read { self.workload ≡ workload.Mixed → number % 10 ≢ 0 → result ≡ Get number }
+        ensures write { self.workload ≡ workload.Mixed → number % 10 ≡ 0
+            → result ≡ Insert number ((number + (round + 1)) % 2 ^ 64) }
+    {
+        match self.workload {
+            Workload::GetHit => Action::Get(number),
+            Workload::GetMiss => Action::Get(number.wrapping_add(u64::from(self.keys))),
+            Workload::InsertFresh => Action::Insert(number, number),
+            Workload::InsertReplace => Action::Insert(number, value_after(number, round)),
+            Workload::RemoveInsert => Action::Renew(number),
+            Workload::Mixed => {
+                if number % MIXED == 0 {
+                    Action::Insert(number, value_after(number, round))
+                } else {
+                    Action::Get(number)
+                }
+            }
+        }
+    }
+}
+
+/// The value of a key that has been inserted anew in each round up to this one.
+#[inline(always)]
+fn value_after(number: u64, round: u32) -> u64
+    ensures { result ≡ (number + (round + 1)) % 2 ^ 64 }
+{
+    number.wrapping_add(u64::from(round) + 1)
+}
