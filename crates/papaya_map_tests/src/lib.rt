@@ -20,6 +20,8 @@ mod numbers;
 #[cfg(test)]
 mod plain;
 #[cfg(test)]
+mod printing;
+#[cfg(test)]
 mod refused;
 #[cfg(test)]
 mod removals;
