@@ -28,6 +28,8 @@ mod removals;
 #[cfg(test)]
 mod room;
 #[cfg(test)]
+mod stored_keys;
+#[cfg(test)]
 mod storing;
 #[cfg(test)]
 mod sweeps;
