@@ -1,0 +1,86 @@
+"""Tries the edits of crates/*/must-fail-together: wrong bodies that the check must refuse, several in one
+copy of their crate.
+
+    python3 tests/edits.py [CRATE..]
+
+An edit has the lines of those in must-fail/, and two before them: `fn:`, the function that it spoils, as a
+check names it below its crate, and `copy:`, the number of the copy in which it is made. No function of a
+copy may call another one that is spoiled there. A copy's check looks at these functions and at what they
+call, and at nothing else. Each of them has to be refused at a goal of its own, and all others be proved.
+"""
+
+import os
+import re
+import sys
+
+from prover import LOST, TOP, Bad, Change, check, copy_of, try_all, verdicts_of
+
+TOGETHER = "must-fail-together"
+
+
+def place_of(edit, folder):
+    """The file and the lines of the copy in which the function stands that has the edit's first change."""
+    file, _, new = edit.pairs[0]
+    text = open(f"{folder}/{file}", encoding="utf-8").read()
+    at = text[: text.index(new)].count("\n")
+    heads = [it for it, line in enumerate(text.split("\n")) if re.match(r" *(pub(\(.*?\))? )?fn ", line)]
+    return file, max(it for it in heads if it <= at) + 1, min([it for it in heads if it > at], default=text.count("\n") + 1)
+
+
+def is_told(edit, place, line):
+    """Does this line tell of a goal of the edit's function?"""
+    at = re.match(r"(?:note: )?(?:\./)?(\S+?):(\d+):\d+: ", line)
+    if not at or LOST.search(line):
+        return False
+    file, first, last = place
+    answers = f"proofs/{edit.words['fn'].replace('::', '/')}/"
+    return at[1].startswith(answers) or at[1] == file and first <= int(at[2]) <= last
+
+
+def try_copy(room, crate, edits):
+    """Makes these edits in one copy of the crate, checks their functions, and says how each was refused."""
+    functions = [it.words["fn"] for it in edits]
+    if len({*functions}) < len(edits):
+        raise Bad(f"{crate}: one function has two edits in one copy: {' '.join(it.name for it in edits)}")
+    copy_of(crate, f"{room}/{crate}")
+    for edit in edits:
+        edit.apply(f"{room}/{crate}")
+    places = [place_of(it, f"{room}/{crate}") for it in edits]
+    said = check(room, crate, [], functions)
+    verdicts = verdicts_of(said)
+    wrong = {f"{crate}::{it}" for it in functions}
+    others = [it for it, verdict in verdicts.items() if verdict != "proved" and it not in wrong]
+    if others or not verdicts:
+        raise Bad(f"{crate}: these are not proved beside the edits: {' '.join(others) or 'all'}\n{said[-4000:]}")
+    told = []
+    for edit, place in zip(edits, places):
+        lines = [it for it in said.split("\n") if is_told(edit, place, it)]
+        verdict = verdicts.get(f"{crate}::{edit.words['fn']}")
+        if verdict not in ("not proved", "no proof") or not lines:
+            raise Bad(f"{crate}/{edit.name}: NOT REFUSED at a goal of its own ({verdict})\n{said[-4000:]}")
+        told.append(f"{crate}/{edit.name}: refused, as it must be: {lines[0][:160]}")
+    return told
+
+
+def copies_of(crate):
+    """The edits of a crate, by their copies."""
+    folder, copies = f"{TOP}/crates/{crate}/{TOGETHER}", {}
+    for name in sorted(os.listdir(folder)):
+        edit = Change(f"{folder}/{name}")
+        if not {"fn", "copy"} <= edit.words.keys():
+            raise Bad(f"{crate}/{edit.name}: it has no `fn:` and `copy:`")
+        copies.setdefault(edit.words["copy"], []).append(edit)
+    return [(crate, edits) for edits in copies.values()]
+
+
+def main(names):
+    every = sorted(it for it in os.listdir(f"{TOP}/crates") if os.path.isdir(f"{TOP}/crates/{it}/{TOGETHER}"))
+    try:
+        tries = [it for crate in names or every for it in copies_of(crate)]
+    except Bad as why:
+        print(f"edits: {why}", file=sys.stderr)
+        return 1
+    return 0 if try_all("edits", tries, try_copy) else 1
+
+
+sys.exit(main(sys.argv[1:]))

@@ -1,0 +1,67 @@
+"""Tries the wrong machines of tests/twins: each changes a machine and the definition that its contract
+equals alike. So the machine's function is still proved, and it is a law of papaya_rests,
+papaya_chain_rests or papaya_visit_rests that has to refuse it.
+
+    python3 tests/twins.py [TWIN..]
+
+A twin has the lines of an edit in must-fail/, with files below crates/, and two before them: `law:`, the law
+that refuses it, and `fn:`, the machine's function. A twin of papaya_call goes with one of papaya_copy: the
+laws of calls say nothing of copiers and those of copiers nothing of calls.
+"""
+
+import os
+import re
+import sys
+from itertools import zip_longest
+
+from prover import BELOW, LOST, TOP, Bad, Change, check, copy_of, try_all, verdicts_of
+
+
+def is_refused(said, law):
+    """Is the law refused, and for more than a name?"""
+    errors = [it for it in said.split("\n") if re.match(r"(\./)?proofs/\S+: error: ", it) and not LOST.search(it)]
+    return verdicts_of(said).get(law) == "not proved" and bool(errors)
+
+
+def try_copy(room, *twins):
+    """Makes these twins in one copy, and checks their machines and their laws."""
+    laws = [it.words["law"] for it in twins]
+    top = laws[0].split("::")[0]
+    changed = {file.split("/")[0] for it in twins for file, _, _ in it.pairs}
+    read = [it for it in BELOW[top] if changed & {it, *BELOW[it]}]
+    for crate in [top, *read]:
+        copy_of(crate, f"{room}/{crate}")
+    for twin in twins:
+        twin.apply(room)
+    machines = [it.words["fn"] for it in twins]
+    said = check(room, top, read, [*(it.partition("::")[2] for it in laws), *machines])
+    for twin, law, machine in zip(twins, laws, machines):
+        if verdicts_of(said).get(machine) != "proved":
+            raise Bad(f"{twin.name}: BAD TWIN: its machine is not proved\n{said[-4000:]}")
+        if not is_refused(said, law):
+            raise Bad(f"{twin.name}: NOT REFUSED by the law {law}\n{said[-4000:]}")
+    return [f"{it.name}: refused by the law {it.words['law']}" for it in twins]
+
+
+def copies_of(twins):
+    """The twins, by their copies."""
+    calls = [it for it in twins if all(file.startswith("papaya_call/") for file, _, _ in it.pairs)]
+    copiers = [it for it in twins if all(file.startswith("papaya_copy/") for file, _, _ in it.pairs)]
+    pairs = [[it for it in pair if it] for pair in zip_longest(calls, copiers)]
+    return pairs + [[it] for it in twins if it not in calls and it not in copiers]
+
+
+def main(names):
+    folder = f"{TOP}/tests/twins"
+    try:
+        twins = [Change(f"{folder}/{it}") for it in sorted(os.listdir(folder)) if not names or it.removesuffix(".edit") in names]
+        for it in twins:
+            if not {"law", "fn"} <= it.words.keys():
+                raise Bad(f"{it.name}: it has no `law:` and `fn:`")
+    except Bad as why:
+        print(f"twins: {why}", file=sys.stderr)
+        return 1
+    return 0 if try_all("twins", copies_of(twins), try_copy) else 1
+
+
+sys.exit(main(sys.argv[1:]))
