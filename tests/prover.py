@@ -67,7 +67,8 @@ def built(crate):
     rlib = f"{TOP}/crates/{crate}/out/rlib/{crate}.rlib"
     if not os.path.isfile(f"{rlib}/format"):
         raise Bad(f"{crate} is not built here: run `rt ci` first")
-    made = os.path.getmtime(f"{rlib}/format")
+    # (rt may have linked it from what it keeps: then only this time is that of the link)
+    made = os.stat(f"{rlib}/format").st_ctime
     for part in ("src", "specs"):
         for at, _, names in os.walk(f"{TOP}/crates/{crate}/{part}"):
             if any(os.path.getmtime(f"{at}/{name}") > made for name in names):

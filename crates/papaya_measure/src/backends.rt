@@ -12,7 +12,7 @@ use std::thread::Threads;
 use std::time::Instant;
 
 /// What a workload is run on.
-#[derive(Clone, Copy, Debug, PartialEq, Eq)]
+#[derive(Clone, Copy)]
 pub enum Backend {
     /// The map for one caller.
     Seq,
@@ -33,7 +33,7 @@ pub enum Backend {
 }
 
 /// What a run of a plan gave: how long its rounds took, and the sum of their answers.
-#[derive(Clone, Copy, Debug, PartialEq, Eq)]
+#[derive(Clone, Copy)]
 pub struct Measure {
     pub nanoseconds: u128,
     pub checksum: u64,
