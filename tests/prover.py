@@ -105,8 +105,15 @@ def verdicts_of(said):
     return dict(re.findall(r"^fn (\S+): (proved|not proved|no proof|could not tell)", said, re.M))
 
 
+def lanes():
+    """How many checks may run at once: one a processor, and each may take 3 GB."""
+    said = open("/proc/meminfo", encoding="utf-8").read()
+    free = int(re.search(r"MemAvailable: +(\d+) kB", said)[1])
+    return max(min(len(os.sched_getaffinity(0)), free // 3_000_000), 1)
+
+
 def try_all(what, tries, call):
-    """Makes each of these tries, as many at once as there are processors, and returns whether all went well."""
+    """Makes each of these tries, some at once, and returns whether all went well."""
 
     def one(given):
         with tempfile.TemporaryDirectory(prefix=f"{what}-") as room:
@@ -116,7 +123,7 @@ def try_all(what, tries, call):
                 print(f"{what}: {why}", file=sys.stderr, flush=True)
                 return None
 
-    with ThreadPoolExecutor(len(os.sched_getaffinity(0))) as pool:
+    with ThreadPoolExecutor(lanes()) as pool:
         results = list(pool.map(one, tries))
     lost = results.count(None)
     refused = sum(len(it) for it in results if it is not None)
