@@ -13,7 +13,7 @@ import os
 import re
 import sys
 
-from prover import LOST, TOP, Bad, Change, check, copy_of, try_all, verdicts_of
+from prover import LOST, TOP, Bad, Change, check, copy_of, digest, try_all, verdicts_of
 
 TOGETHER = "must-fail-together"
 
@@ -22,9 +22,14 @@ def place_of(edit, folder):
     """The file and the lines of the copy in which the function stands that has the edit's first change."""
     file, _, new = edit.pairs[0]
     text = open(f"{folder}/{file}", encoding="utf-8").read()
-    at = text[: text.index(new)].count("\n")
-    heads = [it for it, line in enumerate(text.split("\n")) if re.match(r" *(pub(\(.*?\))? )?fn ", line)]
-    return file, max(it for it in heads if it <= at) + 1, min([it for it in heads if it > at], default=text.count("\n") + 1)
+    at, lines = text[: text.index(new)].count("\n"), text.split("\n")
+    heads = [it for it, line in enumerate(lines) if re.match(r" *(pub(\(.*?\))? )?fn ", line)]
+    first = max(it for it in heads if it <= at)
+    last = min([it for it in heads if it > at], default=len(lines))
+    # (a function's own place is that of its first attribute)
+    while re.match(r" *(#\[|///)", lines[first - 1]):
+        first -= 1
+    return file, first + 1, last
 
 
 def is_told(edit, place, line):
@@ -35,6 +40,18 @@ def is_told(edit, place, line):
     file, first, last = place
     answers = f"proofs/{edit.words['fn'].replace('::', '/')}/"
     return at[1].startswith(answers) or at[1] == file and first <= int(at[2]) <= last
+
+
+def told_of(crate, edit, place, said):
+    """What the check tells of a goal of the edit's function: where it is, or else which one search did not prove."""
+    searched = f"fn {crate}::{edit.words['fn']}: no proof: "
+    lines = said.split("\n")
+    return [it for it in lines if is_told(edit, place, it)] + [it for it in lines if it.startswith(searched) and "did not prove" in it]
+
+
+def is_of(function, name):
+    """Is this function, as a check names it, the spoiled one, or is it made for a closure in it?"""
+    return name == function or name.replace("::fn::", "::").startswith(f"{function}::")
 
 
 def try_copy(room, crate, edits):
@@ -48,16 +65,15 @@ def try_copy(room, crate, edits):
     places = [place_of(it, f"{room}/{crate}") for it in edits]
     said = check(room, crate, [], functions)
     verdicts = verdicts_of(said)
-    wrong = {f"{crate}::{it}" for it in functions}
-    others = [it for it, verdict in verdicts.items() if verdict != "proved" and it not in wrong]
+    refused = [it for it, verdict in verdicts.items() if verdict != "proved"]
+    others = [it for it in refused if not any(is_of(f"{crate}::{function}", it) for function in functions)]
     if others or not verdicts:
-        raise Bad(f"{crate}: these are not proved beside the edits: {' '.join(others) or 'all'}\n{said[-4000:]}")
+        raise Bad(f"{crate}: these are not proved beside the edits: {' '.join(others) or 'all'}\n{digest(said)}")
     told = []
     for edit, place in zip(edits, places):
-        lines = [it for it in said.split("\n") if is_told(edit, place, it)]
-        verdict = verdicts.get(f"{crate}::{edit.words['fn']}")
+        verdict, lines = verdicts.get(f"{crate}::{edit.words['fn']}"), told_of(crate, edit, place, said)
         if verdict not in ("not proved", "no proof") or not lines:
-            raise Bad(f"{crate}/{edit.name}: NOT REFUSED at a goal of its own ({verdict})\n{said[-4000:]}")
+            raise Bad(f"{crate}/{edit.name}: NOT REFUSED at a goal of its own ({verdict})\n{digest(said)}")
         told.append(f"{crate}/{edit.name}: refused, as it must be: {lines[0][:160]}")
     return told
 

@@ -105,6 +105,12 @@ def verdicts_of(said):
     return dict(re.findall(r"^fn (\S+): (proved|not proved|no proof|could not tell)", said, re.M))
 
 
+def digest(said):
+    """What a check says of the functions that it refuses, and the places that it names."""
+    lines = [it for it in said.split("\n") if re.match(r"fn \S+: (?!proved)|(note: )?\S+:\d+:\d+: ", it)]
+    return "\n".join(f"    {it[:200]}" for it in lines or said.split("\n")[-5:])
+
+
 def lanes():
     """How many checks may run at once: one a processor, and each may take 3 GB."""
     said = open("/proc/meminfo", encoding="utf-8").read()

@@ -14,7 +14,7 @@ import re
 import sys
 from itertools import zip_longest
 
-from prover import BELOW, LOST, TOP, Bad, Change, check, copy_of, try_all, verdicts_of
+from prover import BELOW, LOST, TOP, Bad, Change, check, copy_of, digest, try_all, verdicts_of
 
 
 def is_refused(said, law):
@@ -37,9 +37,9 @@ def try_copy(room, *twins):
     said = check(room, top, read, [*(it.partition("::")[2] for it in laws), *machines])
     for twin, law, machine in zip(twins, laws, machines):
         if verdicts_of(said).get(machine) != "proved":
-            raise Bad(f"{twin.name}: BAD TWIN: its machine is not proved\n{said[-4000:]}")
+            raise Bad(f"{twin.name}: BAD TWIN: its machine is not proved\n{digest(said)}")
         if not is_refused(said, law):
-            raise Bad(f"{twin.name}: NOT REFUSED by the law {law}\n{said[-4000:]}")
+            raise Bad(f"{twin.name}: NOT REFUSED by the law {law}\n{digest(said)}")
     return [f"{it.name}: refused by the law {it.words['law']}" for it in twins]
 
 
