@@ -29,35 +29,59 @@ fn stores<R: Wait + Abort>(rt: &R, map: &Pinned<'_>) {
     is(rt, (map.len(), map.is_empty()), (1, false));
 }
 
-/// Adds 1 to the value of 1, and stops at 2, which is absent and cannot be removed.
-fn computes<R: Wait + Abort>(rt: &R, map: &Pinned<'_>) {
-    let added = map.compute(rt, 1, |shown| match shown {
-        Some((_, value)) if *value < 100 => Operation::Insert(*value + 1),
-        _ => Operation::Abort(7),
-    });
-    let wanted = Compute::Updated {
-        old: (&1, &11),
-        new: (&1, &12),
-    };
-    is(rt, added, Ok(wanted));
-    let stopped = map.compute(rt, 2, |_| Operation::<u64, u64>::Abort(7));
-    is(rt, stopped, Ok(Compute::Aborted(7)));
-    let removed = map.compute(rt, 2, |_| Operation::<u64, u64>::Remove);
-    is(rt, removed, Err(Refused::RemoveNothing));
-}
-
-/// Keeps 1 while it is asked to, and then removes it.
+/// 1 is removed, and comes and goes once more.
 fn removes<R: Wait + Abort>(rt: &R, map: &Pinned<'_>) {
-    is(
-        rt,
-        map.remove_if(rt, &1, |_, value| *value > 50),
-        Ok(Err((&1, &12))),
-    );
-    is(rt, map.remove_entry(rt, &1), Ok(Some((&1, &12))));
+    is(rt, map.remove_entry(rt, &1), Ok(Some((&1, &11))));
     is(rt, map.remove_entry(rt, &1), Ok(None));
     is(rt, map.insert(rt, 1, 13), Ok(None));
     is(rt, map.remove(rt, &1), Ok(Some(&13)));
     is(rt, map.is_empty(), true);
+}
+
+/// Removes an even value, and stores the next of an odd one.
+fn by_parity(shown: Option<(&u64, &u64)>) -> Operation<u64, ()> {
+    match shown {
+        Some((_, value)) if *value % 2 == 0 => Operation::Remove,
+        Some((_, value)) => Operation::Insert(value.wrapping_add(1)),
+        None => Operation::Abort(()),
+    }
+}
+
+/// A compute of 1 by parity answers so.
+fn turns<R: Wait + Abort>(rt: &R, map: &Pinned<'_>, wanted: Compute<'_, u64, u64, ()>) {
+    is(rt, map.compute(rt, 1, |shown| by_parity(shown)), Ok(wanted));
+}
+
+/// 1 is absent, odd and even; then there is nothing to remove.
+fn computes<R: Wait + Abort>(rt: &R, map: &Pinned<'_>) {
+    turns(rt, map, Compute::Aborted(()));
+    is(rt, map.insert(rt, 1, 1), Ok(None));
+    let updated = Compute::Updated {
+        old: (&1, &1),
+        new: (&1, &2),
+    };
+    turns(rt, map, updated);
+    turns(rt, map, Compute::Removed(&1, &2));
+    is(rt, map.get(&1), None);
+    let removed = map.compute(rt, 1, |_| Operation::<u64, ()>::Remove);
+    is(rt, removed, Err(Refused::RemoveNothing));
+}
+
+/// 0 is absent; 1 is kept, goes, and is absent.
+fn asks<R: Wait + Abort>(rt: &R, map: &Pinned<'_>) {
+    is(rt, map.insert(rt, 1, 0), Ok(None));
+    is(rt, map.remove_if(rt, &0, |_, _| true), Ok(Ok(None)));
+    is(
+        rt,
+        map.remove_if(rt, &1, |_, _| false),
+        Ok(Err((&1, &0))),
+    );
+    is(
+        rt,
+        map.remove_if(rt, &1, |_, value| *value == 0),
+        Ok(Ok(Some((&1, &0)))),
+    );
+    is(rt, map.remove_if(rt, &1, |_, _| true), Ok(Ok(None)));
 }
 
 #[test]
@@ -65,7 +89,8 @@ fn a_pinned_map_takes_calls_without_a_pass(rt: HostRuntime) {
     let map = numbers(&rt, rt.alloc());
     let pinned = map.pin();
     stores(&rt, &pinned);
-    computes(&rt, &pinned);
     removes(&rt, &pinned);
+    computes(&rt, &pinned);
+    asks(&rt, &pinned);
     is(&rt, pinned.map().len(), 0);
 }
