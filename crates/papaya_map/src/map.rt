@@ -288,6 +288,14 @@ impl<K: Hash + Eq, V, S: BuildHasher> HashMap<K, V, S> {
         }
     }
 
+    /// The same as [`HashMap::pin`]: `pin_owned` of 0.2.5, whose reference may go to another thread. Here
+    /// each may, as it holds no guard.
+    pub fn pin_owned(&self) -> HashMapRef<'_, K, V, S>
+        ensures { result ≡ self.now }
+    {
+        self.pin()
+    }
+
     /// How many pairs were counted. A change is counted a step after it was made.
     pub fn len(&self) -> usize {
         self.count.sum()
