@@ -109,8 +109,9 @@ fn a_map_is_made_with_a_hasher(rt: HostRuntime) -> Result<(), Fail> {
 
 /// A map for so many pairs is not made, and this is why.
 fn has_no_room_for<R: Wait + Abort>(rt: &R, alloc: Global, capacity: usize) {
-    let made: Result<Numbers, Refused> =
-        HashMap::with_capacity_and_hasher(rt, alloc, capacity, APART);
+    let made: Result<Numbers, Refused> = HashMap::with_capacity_and_hasher(
+        rt, alloc, capacity, APART,
+    );
     is(rt, made.err(), Some(Refused::Capacity));
 }
 

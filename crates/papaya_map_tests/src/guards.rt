@@ -32,21 +32,13 @@ fn refuses_insertions<R: Wait + Abort, G: Guard>(rt: &R, map: &Numbers, guard: &
     is(rt, map.try_insert(rt, 2, 20, guard), Err(WRONG));
     is(rt, map.try_insert_with(rt, 2, || 20, guard), Err(WRONG));
     is(rt, map.get_or_insert(rt, 1, 20, guard), Err(WRONG));
-    is(
-        rt,
-        map.get_or_insert_with(rt, 2, || 20, guard),
-        Err(WRONG),
-    );
+    is(rt, map.get_or_insert_with(rt, 2, || 20, guard), Err(WRONG));
 }
 
 /// It replaces nothing.
 fn refuses_updates<R: Wait + Abort, G: Guard>(rt: &R, map: &Numbers, guard: &G) {
     is(rt, map.update(rt, 1, next, guard), Err(WRONG));
-    is(
-        rt,
-        map.update_or_insert(rt, 2, next, 20, guard),
-        Err(WRONG),
-    );
+    is(rt, map.update_or_insert(rt, 2, next, 20, guard), Err(WRONG));
     let stored = map.update_or_insert_with(rt, 2, next, || 20, guard);
     is(rt, stored, Err(WRONG));
     let computed = map.compute(rt, 1, |_| Operation::<u64, u64>::Insert(20), guard);
@@ -113,27 +105,15 @@ fn stores<R: Wait + Abort, G: Guard>(rt: &R, map: &Numbers, guard: &G) {
         not_inserted: NotInserted::Value(11),
     };
     is(rt, map.try_insert(rt, 1, 11, guard), Ok(Err(occupied)));
-    is(
-        rt,
-        map.try_insert_with(rt, 2, || 20, guard),
-        Ok(Ok(&20)),
-    );
+    is(rt, map.try_insert_with(rt, 2, || 20, guard), Ok(Ok(&20)));
     is(rt, map.get_or_insert(rt, 2, 21, guard), Ok(&20));
-    is(
-        rt,
-        map.get_or_insert_with(rt, 3, || 30, guard),
-        Ok(&30),
-    );
+    is(rt, map.get_or_insert_with(rt, 3, || 30, guard), Ok(&30));
 }
 
 /// 31 replaces 30 at 3, and 41 is there at 4 until it is removed.
 fn updates<R: Wait + Abort, G: Guard>(rt: &R, map: &Numbers, guard: &G) {
     is(rt, map.update(rt, 3, next, guard), Ok(Some(&31)));
-    is(
-        rt,
-        map.update_or_insert(rt, 4, next, 40, guard),
-        Ok(&40),
-    );
+    is(rt, map.update_or_insert(rt, 4, next, 40, guard), Ok(&40));
     let stored = map.update_or_insert_with(rt, 4, next, || 0, guard);
     is(rt, stored, Ok(&41));
     let removed = map.compute(rt, 4, |_| Operation::<u64, u64>::Remove, guard);
@@ -152,11 +132,7 @@ fn walks<R: Wait + Abort, G: Guard>(rt: &R, map: &Numbers, guard: &G) -> Result<
 /// All go again.
 fn removes<R: Wait + Abort, G: Guard>(rt: &R, map: &Numbers, guard: &G) {
     is(rt, map.remove(rt, &1, guard), Ok(Some(&10)));
-    is(
-        rt,
-        map.remove_entry(rt, &2, guard),
-        Ok(Some((&2, &20))),
-    );
+    is(rt, map.remove_entry(rt, &2, guard), Ok(Some((&2, &20))));
     let removed = map.remove_if(rt, &3, |_, value| *value > 31, guard);
     is(rt, removed, Ok(Err((&3, &31))));
     is(rt, map.retain(rt, |_, value| *value > 30, guard), Ok(()));

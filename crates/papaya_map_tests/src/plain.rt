@@ -71,11 +71,7 @@ fn computes<R: Wait + Abort>(rt: &R, map: &Pinned<'_>) {
 fn asks<R: Wait + Abort>(rt: &R, map: &Pinned<'_>) {
     is(rt, map.insert(rt, 1, 0), Ok(None));
     is(rt, map.remove_if(rt, &0, |_, _| true), Ok(Ok(None)));
-    is(
-        rt,
-        map.remove_if(rt, &1, |_, _| false),
-        Ok(Err((&1, &0))),
-    );
+    is(rt, map.remove_if(rt, &1, |_, _| false), Ok(Err((&1, &0))));
     is(
         rt,
         map.remove_if(rt, &1, |_, value| *value == 0),
