@@ -106,11 +106,13 @@ fn search<'a, K: Hash + Eq, V, S: BuildHasher, Q: Equivalent<K>>(
     ensures over { (at : _) → result ≡ Next at → ⊥ }
     ensures fewer { left_after window.old result ≤ left_of (Searching (Looking at)) }
 {
-    let mut turned = Turn::Next(at);
-    while let Turn::Next(at) = turned {
-        turned = look_at(window, key, hash, began, table, at);
+    let mut place = at;
+    loop {
+        match look_at(window, key, hash, began, table, place) {
+            Turn::Next(next) => place = next,
+            turned => return turned,
+        }
     }
-    turned
 }
 
 /// Looks up the pair whose key `key` matches. It goes by atomic loads alone: it waits for nobody and

@@ -5,16 +5,17 @@ use Rattle.papaya_book.specs.Hashes.{hash_of}
 use Rattle.papaya_book.specs.Logs.{exchanges_of}
 use Rattle.papaya_book.specs.Parts.{begun_of}
 use Rattle.papaya_book.specs.Windows.{Sees}
-use Rattle.papaya_lookup.specs.Lookups.{IsTurned, led_to, left_of}
+use Rattle.papaya_lookup.specs.Lookups.{IsTurned, left_of}
+use Rattle.papaya_lookup.specs.declared.lookup.Turn.TheVariants.{Next}
 use Rattle.papaya_lookup.proofs.lookup.search.Given as goal
 
--- the last turn led the lookup's machine on
-abbrev pub invariant-loop-turned : goal.invariant-loop-turned
-invariant-loop-turned g l =
-    IsTurned g.K.PartialEq.eq (hash_of g.K.Hash.hash_input g.S.BuildHasher.build_hasher g.S.Hasher.Hasher.write g.S.Hasher.Hasher.finish) (begun_of l.window.book.now.parts) (g.Q.Equivalent.matches l.key) (hash_of g.Q.Hash.hash_input g.S.BuildHasher.build_hasher g.S.Hasher.Hasher.write g.S.Hasher.Hasher.finish l.window.book.now.parts.hasher l.key) (exchanges_of l.began.log) l.hash l.window.sight.log l.table l.turned
-    × (left_of (led_to l.fn.window.book.now.parts.mode 0 l.turned) ≤ left_of (Searching (Looking l.fn.at)))
+-- the turns so far led the lookup's machine on to this place
+abbrev pub invariant-loop-next : goal.invariant-loop-next
+invariant-loop-next g l =
+    IsTurned g.K.PartialEq.eq (hash_of g.K.Hash.hash_input g.S.BuildHasher.build_hasher g.S.Hasher.Hasher.write g.S.Hasher.Hasher.finish) (begun_of l.window.book.now.parts) (g.Q.Equivalent.matches l.key) (hash_of g.Q.Hash.hash_input g.S.BuildHasher.build_hasher g.S.Hasher.Hasher.write g.S.Hasher.Hasher.finish l.window.book.now.parts.hasher l.key) (exchanges_of l.began.log) l.hash l.window.sight.log l.table (Next l.place)
+    × (left_of (Searching (Looking l.place)) ≤ left_of (Searching (Looking l.fn.at)))
     × Sees l.fn.window l.window
     × (l.window.own ≡ l.fn.window.own)
 
-abbrev pub decreases-loop-turned : goal.decreases-loop-turned
-decreases-loop-turned g l = left_of (led_to l.fn.window.book.now.parts.mode 0 l.turned)
+abbrev pub decreases-loop-next : goal.decreases-loop-next
+decreases-loop-next g l = left_of (Searching (Looking l.place))
