@@ -1,5 +1,5 @@
 -- Highest bits.
-use Rattle.std.proofs.Common.{◌≡◌, ℕ, suc, ◌+◌, ◌-◌, ◌*◌, ◌^◌, ◌<◌, ◌≤◌, ap, arith, pow_mono, pow-suc, lt_of_not-le}
+use Rattle.std.proofs.Common.{◌≡◌, ℕ, suc, ◌*◌, ◌^◌, ◌<◌, ◌≤◌, arith, pow_mono, pow-suc, lt_of_not-le}
 
 pub small : (bits : ℕ) → bits ≤ 41 → 2 ^ bits ≤ 2199023255552
 small bits h = pow_mono h

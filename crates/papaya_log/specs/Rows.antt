@@ -1,5 +1,5 @@
 -- How a log is laid out: a number's row and slot, and how long a row is.
-use Rattle.std.specs.Prelude.{◌≡◌, ℕ, zero, suc, ◌+◌, ◌*◌, ◌/◌, ◌%◌, ◌^◌, ◌<◌, ◌≤◌, min, List, [], ◌∷◌, length, slice_index_or}
+use Rattle.std.specs.Prelude.{◌≡◌, ℕ, zero, suc, ◌+◌, ◌/◌, ◌%◌, ◌^◌, ◌<◌, ◌≤◌, min, List, [], ◌∷◌, length, slice_index_or}
 use Rattle.boxcar.specs.Slot.{Named}
 use Rattle.boxcar.specs.Table.{id_at}
 

@@ -1,10 +1,13 @@
 //! What shows which value lies at a number.
+//!
+//! The book of a map keeps what a token shows, but not a token's bytes: a token is told, and whoever
+//! finds the number in a word has the token again.
 ghost use Rattle.std.specs.Prelude.{◌≡◌};
+ghost use Rattle.boxcar.specs.Table.{Where, where_coded};
 
-use crate::row::{Itself, Row};
+use crate::row::Row;
 use boxcar::slot::Written;
-use boxcar::tag::{Names, Tag};
-use std::marker::Model;
+use std::marker::{Model, PhantomData};
 
 /// What shows that a log has a value at a number.
 #[derive(Drop)]
@@ -33,38 +36,16 @@ impl<T> Model for Pushed<T> {
     ghost invariant = { λ p. IsAt p.number p.row.value.items p.item.of };
 }
 
-/// The same, without its number: it has no bytes.
-#[derive(Drop)]
+/// What a token shows, with no bytes.
 pub struct Known<T> {
-    number: Tag,
-    row: Written<Row<T>>,
-    item: Written<T>,
+    pub marker: PhantomData<T>,
+    pub ghost at: { Where T } by { where_coded T.code },
 }
 
 impl<T> Model for Known<T> {
-    ghost use Rattle.boxcar.specs.Table.{Where, first, where_coded};
-    ghost use Rattle.papaya_log.specs.Rows.{IsAt, row_of};
+    ghost use Rattle.papaya_log.specs.Tokens.{stands};
 
-    ghost Value = { Where T };
-
-    ghost coded = { where_coded T.code };
-
-    ghost view = { λ k. record {
-      index = first k.number.numbers;
-      value = k.item.value;
-      bucket = row_of (first k.number.numbers);
-      row = k.row.of;
-      item = k.item.of;
-    } };
-
-    ghost invariant = { λ k. IsAt (first k.number.numbers) k.row.value.items k.item.of };
-}
-
-/// A tag of the same numbers.
-struct Same;
-
-impl Names<Tag> for Same {
-    ghost numbers = { λ tag. tag.numbers };
+    ghost also_owns = { λ known. stands T.row known.at };
 }
 
 impl<T> Pushed<T> {
@@ -86,43 +67,46 @@ impl<T> Pushed<T> {
             item: self.item.again(),
         }
     }
+}
 
-    /// What it shows.
-    #[inline(always)]
-    pub fn known(&self) -> Known<T>
-        ensures { result ≡ self.now }
-    {
-        Known {
-            number: Tag::of::<usize, Itself>(&self.number),
-            row: self.row.again(),
-            item: self.item.again(),
-        }
+/// What the token shows.
+pub fn tell<T>(token: &Pushed<T>) -> Known<T>
+    ensures { result.at ≡ token.now }
+{
+    let _ = token;
+    Known {
+        marker: PhantomData,
     }
 }
 
-impl<T> Known<T> {
-    /// The same.
-    pub fn again(&self) -> Known<T>
-        ensures { result ≡ self.now }
-    {
-        Known {
-            number: Tag::of::<Tag, Same>(&self.number),
-            row: self.row.again(),
-            item: self.item.again(),
-        }
-    }
+// It lies in memory as a token of a log does.
+#[derive(Drop)]
+struct Bytes<T> {
+    number: usize,
+    row: Marker<T>,
+    item: Marker<T>,
+}
 
-    /// The token, by its number.
-    #[inline(always)]
-    pub fn at(self, number: usize) -> Pushed<T>
-        requires { number ≡ self.index }
-        ensures { result ≡ self }
-    {
-        let Known {
-            number: _,
-            row,
-            item,
-        } = self;
-        Pushed { number, row, item }
-    }
+#[derive(Drop)]
+struct Marker<T> {
+    marker: PhantomData<T>,
+}
+
+/// The token again, by its number.
+#[inline(always)]
+pub fn token<T>(known: Known<T>, number: usize) -> Pushed<T>
+    requires { number ≡ known.at.index }
+    ensures { result ≡ known.at }
+{
+    let Known { marker: _ } = known;
+    let held = Bytes::<T> {
+        number,
+        row: Marker {
+            marker: PhantomData,
+        },
+        item: Marker {
+            marker: PhantomData,
+        },
+    };
+    unsafe { std::ptr::read(&raw const held as *const Pushed<T>) }
 }

@@ -1,4 +1,4 @@
-use Rattle.std.proofs.Common.{rules, arith, ◌≡◌, ◌≤◌, ◌<◌, ◌^◌, ◌-◌, ◌+◌, ◌*◌, suc, min, subst, sym, ap, ◌∙◌, ℕ}
+use Rattle.std.proofs.Common.{rules, arith, ◌≡◌, ◌≤◌, ◌<◌, ◌^◌, ◌-◌, ◌+◌, suc, min, subst, sym, ap, ◌∙◌, ℕ}
 use Rattle.papaya_log.proofs.Powers.{top_is_below, top_is_from}
 use Rattle.papaya_log.specs.Rows.{row_len}
 use Rattle.papaya_log.proofs.log.place_of.Goals as goal
