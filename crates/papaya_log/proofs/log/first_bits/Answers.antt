@@ -1,0 +1,12 @@
+use Rattle.std.proofs.Common.{rules, arith, ◌≤◌, ◌<◌, ◌^◌, ◌-◌}
+use Rattle.papaya_log.proofs.Powers.{top_is_below, top_is_from}
+use Rattle.papaya_log.proofs.log.first_bits.Goals as goal
+
+pub returns : goal.returns
+returns c =
+    let low = c.ilog2.ensures.power_le in let high = c.ilog2.ensures.next_power_gt in
+    let last = c.min-last.result - 1 in
+    let from : 31 ≤ last = search rules in let below : last < 2 ^ 41 = search rules in
+    let a = top_is_from last c.ilog2.result low high 4 (omega arith) in
+    let b = top_is_below last c.ilog2.result low high 41 below in
+    (omega arith, omega arith)

@@ -1,0 +1,226 @@
+//! The log: its rows, and the next number to give out.
+ghost use Rattle.std.specs.Prelude.{[], ◌≡◌, ◌≤◌, ◌<◌, ◌^◌, ◌+◌, ◌*◌, IfOk, IfErr};
+ghost use Rattle.boxcar.specs.Table.{Shows, id_at};
+ghost use Rattle.papaya_log.specs.Rows.{AreRows, row_len, row_of, slot_of};
+
+use crate::row::{Itself, Row, RowSlot, new_row};
+use crate::token::Pushed;
+use boxcar::slot::{OnceSlot, Written};
+use boxcar::tag::Tag;
+use crossbeam_utils::CachePadded;
+use std::alloc::{AllocError, Global};
+use std::marker::Model;
+use std::sync::atomic::{AtomicUsize, Ordering};
+use std::sync::{Mutex, Wait};
+
+/// How far apart the numbers of two rows are: no row is longer.
+const ROW_SPAN: usize = 0x400_0000_0000;
+
+/// How many rows a log has at most.
+const ROWS: usize = 38;
+
+/// The least length of a first row.
+const LEAST_FIRST: usize = 32;
+
+/// No row is longer than a 1 with so many zeros.
+const LAST_BITS: u32 = 41;
+
+/// Values by number, which threads push and read with no lock. Row `r` has the numbers from
+/// `r * 2^42` on. The first row is as long as the capacity that was asked for, and each further one
+/// as long as all before it.
+#[derive(Drop)]
+pub struct Log<T> {
+    rows: Vec<RowSlot<T>>,
+    first_bits: u32,
+    making: Mutex<()>,
+    alloc: Global,
+    next: CachePadded<AtomicUsize>,
+}
+
+impl<T> Model for Log<T> {
+    ghost use Rattle.std.specs.Prelude.{[]};
+    ghost use Rattle.boxcar.specs.Table.{Shelves, shelves_coded};
+    ghost use Rattle.papaya_log.specs.Rows.{AreRows};
+
+    ghost Value = { Shelves };
+
+    ghost coded = { shelves_coded };
+
+    ghost view = { λ log. record { tag = []; buckets = log.rows.items } };
+
+    ghost invariant = { λ log. AreRows log.first_bits log.rows.items };
+}
+
+/// How many bits a place in the first row has, for this capacity.
+fn first_bits(capacity: usize) -> u32
+    ensures { (5 ≤ result) × (result ≤ 41) }
+{
+    let last = capacity.max(LEAST_FIRST).min(ROW_SPAN / 2) - 1;
+    last.ilog2() + 1
+}
+
+fn power(bits: u32) -> usize
+    requires { bits ≤ 41 }
+    ensures { (result ≡ 2 ^ bits) × (result ≤ 2 ^ 41) }
+{
+    1 << bits
+}
+
+/// The length of a row.
+fn length_of(first_bits: u32, row: usize) -> usize
+    requires { (first_bits ≤ 41) × (row < 38) }
+    ensures { result ≡ row_len first_bits row }
+{
+    if row == 0 {
+        return power(first_bits);
+    }
+    power((first_bits + row as u32 - 1).min(LAST_BITS))
+}
+
+/// Where the value of the push with this index goes: a row, and a slot of it.
+fn place_of(first_bits: u32, index: usize) -> (usize, usize)
+    requires bits { (5 ≤ first_bits) × (first_bits ≤ 41) }
+    requires index { index < 2 ^ 42 }
+    ensures row { result.0 < 38 }
+    ensures slot { result.1 < row_len first_bits result.0 }
+    ensures fits { result.1 < 2 ^ 42 }
+{
+    if index < power(first_bits) {
+        return (0, index);
+    }
+    let top = index.ilog2();
+    ((top - first_bits) as usize + 1, index - power(top))
+}
+
+/// The number of a slot of a row.
+fn number_of(row: usize, slot: usize) -> usize
+    requires { (row < 38) × (slot < 2 ^ 42) }
+    ensures { (row_of result ≡ row) × (slot_of result ≡ slot) }
+{
+    row * ROW_SPAN + slot
+}
+
+/// The slots for rows, none of which is made yet.
+fn empty_rows<T: Drop>(alloc: Global, first_bits: u32) -> Result<Vec<RowSlot<T>>, AllocError>
+    requires { (5 ≤ first_bits) × (first_bits ≤ 41) }
+    ensures { IfOk result (λ rows. AreRows first_bits rows.items) }
+{
+    let mut rows = Vec::with_capacity(alloc, ROWS)?;
+    for row in 0..ROWS {
+        let len = length_of(first_bits, row);
+        rows.push(OnceSlot::new(&Tag::of::<usize, Itself>(&len)))?;
+    }
+    Ok(rows)
+}
+
+impl<T: Drop> Log<T> {
+    /// A log that holds nothing. Its first row will have as many slots as `capacity`, rounded up to
+    /// a power of two; at least 32.
+    pub fn new(alloc: Global, capacity: usize) -> Result<Log<T>, AllocError>
+        ensures { IfOk result (λ log. log.tag ≡ []) }
+    {
+        let first_bits = first_bits(capacity);
+        Ok(Log {
+            rows: empty_rows(alloc, first_bits)?,
+            first_bits,
+            making: Mutex::new(()),
+            alloc,
+            next: CachePadded::new(AtomicUsize::new(0)),
+        })
+    }
+
+    /// Makes a row, if it is not there. Where several threads need it, one makes it.
+    #[cold]
+    fn make_row<R: Wait>(&self, rt: &R, row: usize) -> Result<Written<Row<T>>, AllocError>
+        requires { row < 38 }
+        ensures { IfOk result (λ written. written.of ≡ id_at self.now.buckets row) }
+    {
+        let turn = self.making.lock(rt);
+        if let Some(written) = self.rows[row].witness() {
+            return Ok(written);
+        }
+        let slots = new_row(self.alloc, length_of(self.first_bits, row))?;
+        let made = self.rows[row].set_written(slots).map_err(|_| AllocError);
+        drop(turn);
+        made
+    }
+
+    /// What shows that a row is there. It is made where it is not.
+    #[inline(always)]
+    fn row<R: Wait>(&self, rt: &R, row: usize) -> Result<Written<Row<T>>, AllocError>
+        requires { row < 38 }
+        ensures { IfOk result (λ written. written.of ≡ id_at self.now.buckets row) }
+    {
+        match self.rows[row].witness() {
+            Some(written) => Ok(written),
+            None => self.make_row(rt, row),
+        }
+    }
+
+    /// The value, put into the slot of the push with this index. It comes back where there is no
+    /// such slot, or no memory.
+    #[inline(always)]
+    fn put<R: Wait>(&self, rt: &R, index: usize, value: T) -> Result<Pushed<T>, T>
+        ensures ok { IfOk result (λ p. Shows self.now p × (p.value ≡ value)) }
+        ensures err { IfErr result (λ back. back ≡ value) }
+    {
+        if index >= ROW_SPAN {
+            return Err(value);
+        }
+        let (row, slot) = place_of(self.first_bits, index);
+        let Ok(written) = self.row(rt, row) else {
+            return Err(value);
+        };
+        let item = self.rows[row].value(&written)[slot].set_written(value)?;
+        Ok(Pushed {
+            number: number_of(row, slot),
+            row: written,
+            item,
+        })
+    }
+
+    /// The value, pushed: what shows its number. It comes back where there is no memory, or no
+    /// number is left; its number then goes to the next push, unless another push came between.
+    #[inline]
+    pub fn push_shown<R: Wait>(&self, rt: &R, value: T) -> Result<Pushed<T>, T>
+        ensures ok { IfOk result (λ p. Shows self.now p × (p.value ≡ value)) }
+        ensures err { IfErr result (λ back. back ≡ value) }
+    {
+        let index = self.next.fetch_add(1, Ordering::SeqCst);
+        let pushed = self.put(rt, index, value);
+        if pushed.is_err() {
+            self.give_back(index);
+        }
+        pushed
+    }
+
+    /// Gives an index back that no value was put at, if no later one was given out.
+    #[cold]
+    fn give_back(&self, index: usize) {
+        let next = index.wrapping_add(1);
+        let _ = self
+            .next
+            .compare_exchange(next, index, Ordering::SeqCst, Ordering::SeqCst);
+    }
+}
+
+impl<T> Log<T> {
+    /// The value that was pushed.
+    #[inline(always)]
+    pub fn value<'a>(&'a self, pushed: &Pushed<T>) -> &'a T
+        requires { Shows self.now pushed.now }
+        ensures { result.now ≡ pushed.now.value }
+    {
+        let (row, slot) = (pushed.number / ROW_SPAN, pushed.number % ROW_SPAN);
+        self.rows[row].value(&pushed.row)[slot].value(&pushed.item)
+    }
+
+    /// A number has one value.
+    pub fn agrees(&self, a: &Pushed<T>, b: &Pushed<T>)
+        requires { Shows self.now a.now × Shows self.now b.now × (a.now.index ≡ b.now.index) }
+        ensures { a.now.value ≡ b.now.value }
+    {
+        a.row.agrees(&b.row);
+        a.item.agrees(&b.item);
+    }
+}

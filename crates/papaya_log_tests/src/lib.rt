@@ -1,0 +1,9 @@
+//! The tests of the log of pairs.
+#![tactic(auto)]
+
+#[cfg(test)]
+mod expect;
+#[cfg(test)]
+mod pushes;
+#[cfg(test)]
+mod threads;

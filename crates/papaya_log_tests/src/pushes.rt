@@ -1,0 +1,70 @@
+// Numbers of pushes, and values at them. Where the tests run with a failing allocation, as by
+// `rt try --test --fail-alloc N`, a push here meets it.
+ghost use Rattle.std.specs.Prelude.{◌≡◌, IfSome};
+ghost use Rattle.boxcar.specs.Table.{Shows};
+
+use crate::expect::is;
+use papaya_log::log::Log;
+use papaya_log::token::{Pushed, tell, token};
+use std::sync::Wait;
+use std::test::Fail;
+
+/// The numbers of two rows are so far apart.
+const ROW_SPAN: usize = 0x400_0000_0000;
+
+/// A value that is pushed, also where memory was refused for it at first.
+fn push<R: Wait>(rt: &R, log: &Log<u64>, value: u64) -> Option<Pushed<u64>>
+    ensures { IfSome result (λ p. Shows log.now p × (p.value ≡ value)) }
+{
+    match log.push_shown(rt, value) {
+        Ok(pushed) => Some(pushed),
+        Err(back) => log.push_shown(rt, back).ok(),
+    }
+}
+
+/// Pushes a value so many times: the numbers are those from `first` on, and what is read there is
+/// the value.
+fn pushes_from<R: Wait>(rt: &R, log: &Log<u64>, value: u64, first: usize, times: usize) -> bool {
+    for place in 0..times {
+        let Some(pushed) = push(rt, log, value) else {
+            return false;
+        };
+        if pushed.index() != first.wrapping_add(place) || *log.value(&pushed) != value {
+            return false;
+        }
+    }
+    true
+}
+
+#[test]
+fn rows_are_as_long_as_all_before_them(rt: HostRuntime) -> Result<(), Fail> {
+    let log = Log::new(rt.alloc(), 0)?;
+    is(&rt, pushes_from(&rt, &log, 1, 0, 32), true);
+    is(&rt, pushes_from(&rt, &log, 2, ROW_SPAN, 32), true);
+    is(&rt, pushes_from(&rt, &log, 3, 2 * ROW_SPAN, 64), true);
+    is(&rt, pushes_from(&rt, &log, 4, 3 * ROW_SPAN, 128), true);
+    is(&rt, pushes_from(&rt, &log, 5, 4 * ROW_SPAN, 1), true);
+    Ok(())
+}
+
+#[test]
+fn the_first_row_has_the_capacity(rt: HostRuntime) -> Result<(), Fail> {
+    let log = Log::new(rt.alloc(), 100)?;
+    is(&rt, pushes_from(&rt, &log, 1, 0, 128), true);
+    is(&rt, pushes_from(&rt, &log, 2, ROW_SPAN, 128), true);
+    is(&rt, pushes_from(&rt, &log, 3, 2 * ROW_SPAN, 1), true);
+    Ok(())
+}
+
+#[test]
+fn a_value_stays_while_others_come(rt: HostRuntime) -> Result<(), Fail> {
+    let log = Log::new(rt.alloc(), 0)?;
+    let first = push(&rt, &log, 7).expect(&rt, "memory");
+    is(&rt, pushes_from(&rt, &log, 1, 1, 31), true);
+    let second = push(&rt, &log, 8).expect(&rt, "memory");
+    is(&rt, pushes_from(&rt, &log, 2, ROW_SPAN + 1, 31), true);
+    is(&rt, (*log.value(&first), *log.value(&second)), (7, 8));
+    let again = token(tell(&first), first.index());
+    is(&rt, *log.value(&again), 7);
+    Ok(())
+}
