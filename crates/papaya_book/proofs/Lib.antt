@@ -1,5 +1,4 @@
 -- tokens of boxcar logs
-pub mod Retyped
 pub mod Made
 -- offers that hand tokens to the book
 pub mod Trades

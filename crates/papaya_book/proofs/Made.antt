@@ -1,6 +1,6 @@
 -- A token of a vector is made of what it shows and its bytes. Assumes `Logic`.
 use Rattle.std.proofs.Common.{◌≡◌, ℕ, ◌+◌, ◌^◌, ◌<◌, List, [], ◌∷◌, refl, ap, subst, w64, arith}
-use Rattle.boxcar.proofs.Spans.{one_bucket, one_slot, span_small}
+use Rattle.boxcar.proofs.Spans.{one_bucket, one_slot}
 use seplogic.Ra.Ura.{Ura}
 use mir.Val.{Val, vint, vstruct, of_list, vcons, vnil}
 use base.Logic.{ent, sep}
@@ -47,13 +47,6 @@ module _ {M : Type 1} {𝓤 : Ura M} (𝓛 : Logic 𝓤) (R : RattleType) where
       fpack ! (Valss S.fields) (within S (x.0.index, (x.0.bucket, (x.0.slot, (x.0.row, (x.0.item, tt))))) vs) (vint w64 i ∷ [], (vint w64 b ∷ [], (vint w64 s ∷ [], (token ∷ [], (token ∷ [], tt))))) $
       nothing ! $ move ! (1 ∷ 0 ∷ []) $ fjoin ! $
       fpack ! (Fields R w) (λ (y : Fields R w). fsep ((fields_row R).own_val y.0 vs) ftrue) x $ done !
-
--- the number of what a token shows is low enough for a place in a log
-pub low_index : (R : RattleType) (w : Where R.Denot) → Fields R w → w.index + 32 < 2 ^ 63
-low_index R w x =
-    let place = x.1.1.0 in let small = span_small x.0.bucket place.0 in let low = place.1 in let is = place.2 in
-    let here : x.0.index + 32 < 2 ^ 63 = omega arith in
-    subst (λ (n : ℕ). n + 32 < 2 ^ 63) (ap (λ (u : Where R.Denot). u.index) x.1.0) here
 
 -- two places of one index are one
 pub at_one : (i b s c t : ℕ) → IsAt i b s → IsAt i c t → (b ≡ c) × (s ≡ t)

@@ -25,11 +25,12 @@ use crate::keyed::Keyed;
 use crate::rule::entry::Stored;
 use crate::rule::law::Found;
 use crate::rule::steps::{Look, Put, Sought, Try, Wish};
-use crate::rule::token::{tell, token};
+use crate::rule::token::token;
 use crate::rule::trade;
 use crate::rule::trade::{Sight, Trade};
 use crate::table::{Cell, Table};
 use papaya_ask::ask::At;
+use papaya_log::token::tell;
 use std::hash::{BuildHasher, Hash};
 
 /// What all callers of a map share: what its book was opened with, the root and the word that only

@@ -171,7 +171,7 @@ impl<K: Hash + Eq + Drop, V: Drop, S: BuildHasher + Drop> HashMap<K, V, S> {
         check_chunk(mode)?;
         let initial = initial_len(capacity)?;
         let count = Count::new(alloc, shards)?;
-        let Ok(parts) = Parts::new(alloc, mode, hasher) else {
+        let Ok(parts) = Parts::new(alloc, mode, capacity, hasher) else {
             return Err(Refused::Memory);
         };
         let book = Book::opened(rt, parts);

@@ -5,9 +5,9 @@ ghost use Rattle.papaya_book.specs.Calls.{IsPairOf, NamesPair};
 ghost use Rattle.papaya_book.specs.declared.rule.entry.Named.TheVariants.{Pair as PairNamed};
 
 use crate::rule::entry::Stored;
-use crate::rule::token::token;
 use crate::rule::trade;
 use crate::rule::trade::Trade;
+use papaya_log::token::token;
 use papaya_words::word::{Kind, Word};
 use std::hash::{BuildHasher, Hash};
 

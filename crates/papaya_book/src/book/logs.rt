@@ -14,17 +14,24 @@ use crate::rule::entry::Stored;
 use crate::rule::own::{Given, Own};
 use crate::rule::pair::{KeyAt, Pair, first_of};
 use crate::rule::trade::Sight;
+use papaya_log::log::Log;
 use papaya_words::probe::ResizeMode;
 use std::alloc::{AllocError, Global};
 use std::hash::{BuildHasher, Hash};
 use std::sync::Wait;
 
 impl<K: Hash + Eq + Drop, V: Drop, S: BuildHasher + Drop> Parts<K, V, S> {
-    /// The hasher, and two logs that hold nothing.
-    pub fn new(alloc: Global, mode: ResizeMode, hasher: S) -> Result<Parts<K, V, S>, AllocError>
+    /// The hasher, and two logs that hold nothing. The log of pairs will begin with room for
+    /// `capacity`.
+    pub fn new(
+        alloc: Global,
+        mode: ResizeMode,
+        capacity: usize,
+        hasher: S,
+    ) -> Result<Parts<K, V, S>, AllocError>
         ensures { IfOk result (λ p. (p.hasher ≡ hasher) × (p.mode ≡ mode)) }
     {
-        let pairs = boxcar::Vec::new(alloc)?;
+        let pairs = Log::new(alloc, capacity)?;
         let tables = boxcar::Vec::new(alloc)?;
         Ok(Parts {
             hasher,

@@ -3,6 +3,7 @@ use crate::rule::entry::Event;
 use crate::rule::pair::Pair;
 use crate::table::Table;
 use logbook::Opening;
+use papaya_log::log::Log;
 use papaya_words::probe::ResizeMode;
 use std::hash::{BuildHasher, Hash};
 
@@ -12,7 +13,7 @@ use std::hash::{BuildHasher, Hash};
 pub struct Parts<K: Hash + Eq, V, S: BuildHasher> {
     pub hasher: S,
     pub mode: ResizeMode,
-    pub pairs: boxcar::Vec<Pair<K, V>>,
+    pub pairs: Log<Pair<K, V>>,
     pub tables: boxcar::Vec<Table<K, V, S>>,
 }
 

@@ -8,12 +8,15 @@ ghost use Rattle.papaya_book.specs.Sheets.{Sheet as SheetOf, sheet_coded};
 use crate::rule::pair::Pair;
 use boxcar::Pushed;
 use papaya_ask::ask::{At, StepKind};
+use papaya_log::log::Log;
+use papaya_log::token::Pushed as LoggedPair;
 use papaya_words::probe::ResizeMode;
 use std::collections::LinkedList;
 use std::marker::Model;
 
-/// A pair as the log names it: its number, the places where the pair log keeps it, and the pair.
-pub type Stored<K, V> = Pushed<Pair<K, V>>;
+/// A pair as the log names it: its number, the row and the slot where the log of pairs keeps it, and
+/// the pair.
+pub type Stored<K, V> = LoggedPair<Pair<K, V>>;
 
 /// What the log says of a table: its words' keys, and how far a search of it goes. A table's words
 /// keep to this very log, so the log can't name the table's own type.
@@ -87,7 +90,7 @@ pub enum Named<K, V> {
 pub struct Begun<K, V, S> {
     pub hasher: S,
     pub mode: ResizeMode,
-    pub pairs: boxcar::Vec<Pair<K, V>>,
+    pub pairs: Log<Pair<K, V>>,
     pub tables: boxcar::Vec<Sheet>,
 }
 

@@ -15,6 +15,7 @@ impl<K: Hash + Eq, V, S: BuildHasher> Rule<Event<K, V, S>, Named<K, V>> for Law<
     ghost use Rattle.std.specs.Prelude.{[]};
     ghost use Rattle.papaya_book.specs.Hashes.{hash_of};
     ghost use Rattle.papaya_book.specs.Rule.{IsKept};
+    ghost use Rattle.papaya_log.specs.Tokens.{stands as pair_stands};
     ghost use Rattle.papaya_book.specs.Tokens.{stands};
     ghost use Rattle.papaya_book.specs.Trade.{kept, Moved};
     ghost use Rattle.papaya_book.specs.contracts.rule.pair.Pair.{the_row as PairOf};
@@ -29,7 +30,7 @@ impl<K: Hash + Eq, V, S: BuildHasher> Rule<Event<K, V, S>, Named<K, V>> for Law<
 
     ghost shows = { λ log. log };
 
-    ghost keeps = { λ names log. kept (stands (PairOf K.row V.row)) (stands SheetRow) log };
+    ghost keeps = { λ names log. kept (pair_stands (PairOf K.row V.row)) (stands SheetRow) log };
 
     ghost moves = { λ ask before after answer. Moved ask before after answer };
 }
@@ -40,11 +41,12 @@ pub struct Found<K, V> {
 }
 
 impl<K, V, S> Gain<Event<K, V, S>, Named<K, V>> for Found<K, V> {
+    ghost use Rattle.papaya_log.specs.Tokens.{stands as pair_stands};
     ghost use Rattle.papaya_book.specs.Tokens.{stands};
     ghost use Rattle.papaya_book.specs.Trade.{shown};
     ghost use Rattle.papaya_book.specs.contracts.rule.pair.Pair.{the_row as PairOf};
     ghost use Rattle.papaya_book.specs.contracts.rule.entry.Sheet.{the_row as SheetRow};
 
-    ghost after = { λ names about answer. shown (stands (PairOf K.row V.row)) (stands SheetRow)
+    ghost after = { λ names about answer. shown (pair_stands (PairOf K.row V.row)) (stands SheetRow)
         answer };
 }

@@ -3,11 +3,10 @@
 //! A pair's key lies beside its value, so that a lookup that has found the pair has its key at
 //! hand. A call may make several pairs by one key: the first brings the key, and each other names
 //! that one.
-ghost use Rattle.std.specs.Prelude.{◌≡◌, ◌+◌, ◌^◌, ◌<◌, None, Some};
+ghost use Rattle.std.specs.Prelude.{◌≡◌, None, Some};
 ghost use Rattle.papaya_book.specs.Pairs.{Pair as PairSeen, pair_coded};
 
-use crate::rule::token::{Known, token};
-use boxcar::Pushed;
+use papaya_log::token::{Known, Pushed, token};
 use std::marker::{Model, PhantomData};
 
 /// What contracts see of a pair. The log of pairs can't name the type of its own tokens.
@@ -114,7 +113,7 @@ impl<K: Drop, V: Drop> Pair<K, V> {
 
 /// What the token of a pair shows, as a pair's row can name it.
 fn tell_shown<K, V>(token: &Pushed<Pair<K, V>>) -> Known<Shown<K, V>>
-    ensures { (result.at ≡ token.now) × (token.now.index + 32 < 2 ^ 63) }
+    ensures { result.at ≡ token.now }
 {
     let _ = token;
     Known {
@@ -124,7 +123,7 @@ fn tell_shown<K, V>(token: &Pushed<Pair<K, V>>) -> Known<Shown<K, V>>
 
 /// The same, the other way round.
 fn tell_pair<K, V>(token: &Pushed<Shown<K, V>>) -> Known<Pair<K, V>>
-    ensures { (result.at ≡ token.now) × (token.now.index + 32 < 2 ^ 63) }
+    ensures { result.at ≡ token.now }
 {
     let _ = token;
     Known {

@@ -14,6 +14,7 @@ use crate::rule::pair::Pair;
 use crate::rule::token::Known;
 use crate::table::Table;
 use logbook::{Gained, Offer, Plain, Seen, Start};
+use papaya_log::token::Known as KnownPair;
 use std::hash::{BuildHasher, Hash};
 use std::marker::PhantomData;
 
@@ -43,7 +44,7 @@ pub fn bare<K: Hash + Eq, V, S: BuildHasher, X, M: Plain<X, Event<K, V, S>, Name
 pub fn with_pair<K: Hash + Eq, V, S: BuildHasher, X, M: Plain<X, Event<K, V, S>, Named<K, V>>>(
     seen: &Sight<K, V, S>,
     about: &X,
-    known: Known<Pair<K, V>>,
+    known: KnownPair<Pair<K, V>>,
 ) -> Trade<K, V, S>
     requires { brought (M.ask about.now) ≡ PairNamed known.at }
     ensures { (result.names ≡ seen.now.names) × (result.ask ≡ M.ask about.now) × (result.about ≡ [])
@@ -51,7 +52,7 @@ pub fn with_pair<K: Hash + Eq, V, S: BuildHasher, X, M: Plain<X, Event<K, V, S>,
 {
     let _ = seen;
     let _ = about;
-    let Known { marker: _ } = known;
+    let KnownPair { marker: _ } = known;
     Offer {
         marker: PhantomData,
     }
@@ -78,12 +79,12 @@ pub fn with_table<K: Hash + Eq, V, S: BuildHasher, X, M: Plain<X, Event<K, V, S>
 /// What shows the pair that the step's word named.
 pub fn pair_known<K, V, S>(
     gained: Gained<Event<K, V, S>, Named<K, V>, Found<K, V>>,
-) -> Known<Pair<K, V>>
+) -> KnownPair<Pair<K, V>>
     requires { (p : _) × (gained.answer ≡ PairNamed p) }
     ensures { gained.answer ≡ PairNamed result.at }
 {
     let Gained { marker: _ } = gained;
-    Known {
+    KnownPair {
         marker: PhantomData,
     }
 }

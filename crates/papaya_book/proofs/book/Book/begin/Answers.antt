@@ -5,6 +5,8 @@ use Rattle.papaya_book.specs.contracts.rule.entry.Sheet.{the_row as SheetRow}
 use Rattle.papaya_book.specs.Hashes.{hash_of}
 use Rattle.papaya_book.specs.Parts.{begun_of}
 use Rattle.papaya_book.specs.Tokens.{stands}
+use Rattle.papaya_log.specs.Tokens.{stands as pair_stands}
+use Rattle.papaya_log.proofs.Made.{stands_keyless as pair_stands_keyless}
 use Rattle.papaya_book.proofs.Makers.{calls_moves}
 use Rattle.papaya_book.proofs.Opening.{opens_kept, stands_keyless}
 use Rattle.papaya_book.proofs.Trades.{kept_keyless}
@@ -14,7 +16,7 @@ pub open_row-begun-requires : goal.open_row-begun-requires
 open_row-begun-requires g c =
     let hash = hash_of g.K.Hash.hash_input g.S.BuildHasher.build_hasher g.S.Hasher.Hasher.write g.S.Hasher.Hasher.finish in (
       opens_kept g.K.PartialEq.eq hash (begun_of c.args.parts),
-      (λ xs. kept_keyless (stands (PairOf g.row.K g.row.V)) (stands SheetRow) (stands_keyless (PairOf g.row.K g.row.V)) (stands_keyless SheetRow) xs),
+      (λ xs. kept_keyless (pair_stands (PairOf g.row.K g.row.V)) (stands SheetRow) (pair_stands_keyless (PairOf g.row.K g.row.V)) (stands_keyless SheetRow) xs),
       c.begin.ensures.1,
     )
 

@@ -31,7 +31,7 @@ use Rattle.papaya_book.specs.contracts.rule.token.rebuild.Key.{name as #self}
 use Rattle.papaya_book.proofs.rule.token.rebuild.Statement.{statement}
 use Rattle.papaya_book.proofs.rule.token.rebuild.Code as code
 use Rattle.papaya_book.proofs.Made.{bytes, placed_made, at_one}
-use Rattle.papaya_book.proofs.Retyped.{retyped}
+use Rattle.papaya_log.proofs.Retyped.{retyped}
 use Rattle.papaya_book.specs.contracts.rule.token.Bytes.{the_row as mine}
 use Rattle.boxcar.specs.Table.{IsAt}
 use mir.Syntax.{seq, assign as assign_to, place, rv_opd, copy, return}

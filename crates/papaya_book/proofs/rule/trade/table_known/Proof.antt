@@ -22,6 +22,7 @@ use Rattle.logbook.proofs.Fields.{token, Token, token_made, token_told, ends}
 use Rattle.logbook.specs.contracts.tokens.Gained as Gained
 use denote.Exit.{no}
 use Rattle.papaya_book.specs.Tokens.{stands}
+use Rattle.papaya_log.specs.Tokens.{stands as pair_stands}
 use Rattle.papaya_book.specs.Trade.{shown}
 use Rattle.papaya_book.specs.contracts.rule.pair.Pair as Pair
 use Rattle.papaya_book.specs.contracts.rule.entry.Sheet.{the_row as SheetRow}
@@ -48,7 +49,7 @@ table_known_spec 𝓤 𝓛 𝓜 𝓡 wired K V S I _ _ _ _ gh dh ge de gp dp gb 
     qed 𝓛 ((raw (denote.Triple.Entry.alive 𝓛 En.signature κs qs) ⊛ ‵ (owns (types_at En.signature.params κs) a y.0.4)) ∷ raw (fact 𝓤 _) ∷ raw (fact 𝓤 _) ∷ raw (fact 𝓤 _) ∷ raw (fact 𝓤 _) ∷ given _ (‵ ftrue) ∷ []) ∵ move ! (5 ∷ []) $ learn ! (λ asked. drop ! $ split ! $ keep ! (1 ∷ 0 ∷ []) $
     fsplit ! $ fsplit ! $ keep ! (1 ∷ 3 ∷ []) $
     enter ! 𝓣.C 𝓣.Λ fn (token ∷ []) Post $ alloc_all ! (λ l. pass_all ! refl ((tt, (tt, tt)), tt) $
-    use1 𝓛 (‵ (stands SheetRow asked.0)) (subst (λ (n : Named' K.Denot V.Denot). base.Logic.ent 𝓤 (sem 𝓛 (shown (stands R) (stands SheetRow) a.0.answer)) (sem 𝓛 (shown (stands R) (stands SheetRow) n))) asked.1 (id⊢ 𝓤 _)) $
+    use1 𝓛 (‵ (stands SheetRow asked.0)) (subst (λ (n : Named' K.Denot V.Denot). base.Logic.ent 𝓤 (sem 𝓛 (shown (pair_stands R) (stands SheetRow) a.0.answer)) (sem 𝓛 (shown (pair_stands R) (stands SheetRow) n))) asked.1 (id⊢ 𝓤 _)) $
     use0 𝓛 (‵ ((Token R).own_val (record {}, tt) (token ∷ []))) (token_made R 𝓛) $ fjoin ! $
     sets ! (agg ! (no_more !)) refl (tt, tt) $ sets ! (agg ! (and_then ! (get ! refl) (no_more !))) refl (tt, (tt, tt)) $
     nothing ! $ nothing ! $ fjoin ! $
