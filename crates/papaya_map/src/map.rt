@@ -358,7 +358,7 @@ impl<'a, K: Hash + Eq, V, S: BuildHasher> HashMapRef<'a, K, V, S> {
     /// The value of a key: `get` of 0.2.5. It loads words and nothing else: it waits for nobody,
     /// and
     /// takes no lock and no memory.
-    #[inline]
+    #[inline(always)]
     pub fn get_as<Q: Equivalent<K>>(&self, key: &Q, pass: &mut Pass<K, V, S>) -> Option<&'a V>
         requires { pass.old.book ≡ self.now.book }
         ensures book { pass.new.book ≡ pass.old.book }
