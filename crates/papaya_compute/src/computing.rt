@@ -41,8 +41,7 @@ use std::sync::Wait;
 
 /// A compute under way: the pair that its closure was shown last, if it was one; the pair that it
 /// would put in where there is none; the pair of which it was answered what is to become, and the
-/// one
-/// that is to take its place; and what its closure ended it with.
+/// one that is to take its place; and what its closure ended it with.
 #[derive(Drop)]
 pub struct Computing<'a, K: Hash + Eq, V, S: BuildHasher, T> {
     pub writer: Writer<'a, K, V, S>,

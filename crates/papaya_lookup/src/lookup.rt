@@ -1,6 +1,5 @@
 //! Lookups, by atomic loads alone. The machine of a lookup stands in the proof: it is answered by
-//! what
-//! is loaded.
+//! what is loaded.
 ghost use Rattle.std.specs.Prelude.{◌≡◌, ◌<◌, ◌≤◌};
 ghost use Rattle.papaya_ask.specs.Search.{IsWithin};
 ghost use Rattle.papaya_call.specs.declared.machine.State.TheVariants.{Searching};

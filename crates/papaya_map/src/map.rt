@@ -228,8 +228,7 @@ impl<K: Hash + Eq + Drop, V: Drop, S: BuildHasher + Drop> HashMap<K, V, S> {
 
 impl<K: Hash + Eq + Drop, V: Drop> HashMap<K, V, BuildHasherDefault<FoldHasher>> {
     /// A map that makes its first table at its first change: `new` of 0.2.5, but for the hasher,
-    /// which
-    /// is the same in each run.
+    /// which is the same in each run.
     pub fn new<R: Wait>(
         rt: &R,
         alloc: Global,
@@ -307,8 +306,7 @@ impl<K: Hash + Eq, V, S: BuildHasher> HashMap<K, V, S> {
     }
 
     /// A new pass of this map. It has seen no change yet: each history of a map begins as that of
-    /// the
-    /// empty one.
+    /// the empty one.
     pub fn pass(&self) -> Pass<K, V, S>
         ensures book { result.book ≡ self.now.book }
         ensures new { result.history ≡ [] }
@@ -340,8 +338,7 @@ impl<K: Hash + Eq, V, S: BuildHasher> HashMap<K, V, S> {
 impl<'a, K: Hash + Eq, V, S: BuildHasher> HashMapRef<'a, K, V, S> {
     /// Tells each of two passes of this map what the other has seen. Afterwards both have seen one
     /// history, which begins with what each had seen. Nothing is done when the program runs, and
-    /// the
-    /// call is never refused.
+    /// the call is never refused.
     pub fn meet(&self, a: &mut Pass<K, V, S>, b: &mut Pass<K, V, S>)
         requires first { a.old.book ≡ self.now.book }
         requires second { b.old.book ≡ self.now.book }
@@ -356,8 +353,7 @@ impl<'a, K: Hash + Eq, V, S: BuildHasher> HashMapRef<'a, K, V, S> {
     }
 
     /// The value of a key: `get` of 0.2.5. It loads words and nothing else: it waits for nobody,
-    /// and
-    /// takes no lock and no memory.
+    /// and takes no lock and no memory.
     #[inline(always)]
     pub fn get_as<Q: Equivalent<K>>(&self, key: &Q, pass: &mut Pass<K, V, S>) -> Option<&'a V>
         requires { pass.old.book ≡ self.now.book }
@@ -667,8 +663,7 @@ impl<'a, K: Hash + Eq + Drop, V: Drop, S: BuildHasher> HashMapRef<'a, K, V, S> {
     ///
     /// The closure may be asked again, where another call was first to replace or remove the pair
     /// that it was shown: what it answered of one pair is done to that pair alone. That there is
-    /// none
-    /// it is shown once at most, since its insertion is remembered.
+    /// none it is shown once at most, since its insertion is remembered.
     ///
     /// Refused as [`HashMapRef::insert_as`], and with `Refused::RemoveNothing` where the closure
     /// would remove and there is no pair. The pass makes one change where the answer is one, and
