@@ -1,9 +1,9 @@
 //! How often each page was read: threads count on one map, by the calls that take no pass.
 //!
 //! Take these where no proof goes on from one call to the next, as a program without proofs would: a
-//! pinned map has them, and a thread keeps nothing of its own. What each says is so of some history of
-//! the map, which the caller is not shown. To prove that what was stored is found, or what a retain left,
-//! take a pass, as [`crate::sessions`] and [`crate::counters`] do.
+//! pinned map has them, and a thread keeps nothing of its own. What each says is so of some legal history,
+//! which the caller is not shown. To prove that what was stored is found, or what a retain left, take a
+//! pass, as [`crate::sessions`] and [`crate::counters`] do.
 ghost use Rattle.std.specs.Prelude.{◌≡◌, IfErr, IfOk};
 ghost use Rattle.papaya_change.specs.Writing.{IsMemoryOrCapacity};
 ghost use Rattle.papaya_uses.specs.Hits.{HasCounted, IsCountOf};
