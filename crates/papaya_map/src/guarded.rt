@@ -1,7 +1,8 @@
 //! The calls of a map that is not pinned, which take a guard. Each looks whether the guard is of the
 //! map's collector, and is then the call of that name of [`HashMapRef`](crate::map::HashMapRef).
 //! With another guard it is refused, and changes nothing.
-ghost use Rattle.std.specs.Prelude.{◌≡◌, ◌⊎◌, [], Ok, Err, is_some, IfErr, IfOk};
+ghost use Rattle.std.specs.Prelude.{◌≡◌, ◌⊎◌, [], Ok, Err, Option, is_some, IfErr, IfOk};
+ghost use Rattle.std.specs.Borrow.{Bor};
 ghost use Rattle.papaya_lookup.specs.Answers.{IsAnsweredBetween, IsPairAnsweredBetween};
 ghost use Rattle.papaya_change.specs.Changes.{IsPut};
 ghost use Rattle.papaya_change.specs.RemovalAnswers.{IsEntryRemoved, IsRemovalBy, IsRemoved};
@@ -91,8 +92,8 @@ impl<K: Hash + Eq, V, S: BuildHasher> HashMap<K, V, S> {
         guard: &G,
     ) -> Result<bool, Refused>
         ensures right { G.collector_number guard.now ≡ self.now.collector
-            → IsDone result (λ has. (found : _) × (has ≡ is_some found) × IsOfHistory K.eq
-            (λ h. IsAnsweredBetween K.eq (Q.matches key.now) [] h found)) }
+            → IsDone result (λ has. (found : Option (Bor V)) × (has ≡ is_some found)
+            × IsOfHistory K.eq (λ h. IsAnsweredBetween K.eq (Q.matches key.now) [] h found)) }
         ensures wrong { (G.collector_number guard.now ≡ self.now.collector → ⊥)
             → result ≡ Err Refused.WrongGuard }
     {

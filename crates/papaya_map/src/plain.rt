@@ -1,6 +1,7 @@
 //! The calls that take no pass. Each is the call of that name by a pass made for it alone, so what
 //! it says is so of a history that no caller is shown.
-ghost use Rattle.std.specs.Prelude.{◌≡◌, [], true, is_some, IfOk, IfErr, ◌⊎◌};
+ghost use Rattle.std.specs.Prelude.{◌≡◌, [], true, is_some, Option, IfOk, IfErr, ◌⊎◌};
+ghost use Rattle.std.specs.Borrow.{Bor};
 ghost use Rattle.papaya_lookup.specs.Answers.{IsAnsweredBetween, IsPairAnsweredBetween};
 ghost use Rattle.papaya_change.specs.Changes.{IsPut};
 ghost use Rattle.papaya_change.specs.RemovalAnswers.{IsEntryRemoved, IsRemovalBy, IsRemoved};
@@ -57,7 +58,7 @@ impl<'a, K: Hash + Eq, V, S: BuildHasher> HashMapRef<'a, K, V, S> {
     /// Has a key a value? `contains_key` of 0.2.5. It waits for nobody, as [`HashMapRef::get`].
     #[inline]
     pub fn contains_key<Q: Equivalent<K>>(&self, key: &Q) -> bool
-        ensures { (found : _) × (result ≡ is_some found) × IsOfHistory K.eq
+        ensures { (found : Option (Bor V)) × (result ≡ is_some found) × IsOfHistory K.eq
             (λ h. IsAnsweredBetween K.eq (Q.matches key.now) [] h found) }
     {
         self.get(key).is_some()
