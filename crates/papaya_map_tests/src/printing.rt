@@ -78,28 +78,6 @@ fn a_map_of_one_pair_prints_it(rt: HostRuntime) -> Result<(), Fail> {
     Ok(())
 }
 
-/// The map prints one of these.
-fn prints_either(
-    rt: &impl Abort,
-    alloc: Global,
-    map: &Numbers,
-    one: &str,
-    other: &str,
-) -> Result<(), Fail> {
-    let text = format!(in alloc; "{map:?}")?;
-    is(rt, text.as_str() == one || text.as_str() == other, true);
-    Ok(())
-}
-
-#[test]
-fn a_map_of_two_pairs_prints_both(rt: HostRuntime) -> Result<(), Fail> {
-    let alloc = rt.alloc();
-    let map = numbers(&rt, alloc);
-    is(&rt, map.pin().insert(&rt, 42, 0), Ok(None));
-    is(&rt, map.pin().insert(&rt, 16, 8), Ok(None));
-    prints_either(&rt, alloc, &map, "{42: 0, 16: 8}", "{16: 8, 42: 0}")
-}
-
 #[test]
 fn walks_print_what_is_left(rt: HostRuntime) -> Result<(), Fail> {
     let alloc = rt.alloc();

@@ -1,6 +1,8 @@
 // The calls that visit the whole map.
 use crate::expect::is;
 use crate::numbers::{MODES, Numbers, made};
+use papaya_hashers::times::TOGETHER;
+use papaya_map::map::HashMap;
 use papaya_words::probe::Refused;
 use std::process::Abort;
 use std::sync::Wait;
@@ -48,6 +50,15 @@ fn sweeps<R: Wait + Abort>(rt: &R, map: &Numbers) {
 fn a_map_is_swept_in_each_mode(rt: HostRuntime) -> Result<(), Fail> {
     for mode in MODES {
         let map = made(&rt, rt.alloc(), mode, 0, 4)?;
+        sweeps(&rt, &map);
+    }
+    Ok(())
+}
+
+#[test]
+fn keys_with_one_path_are_swept_in_each_mode(rt: HostRuntime) -> Result<(), Fail> {
+    for mode in MODES {
+        let map = HashMap::with_parts(&rt, rt.alloc(), mode, 0, 4, TOGETHER)?;
         sweeps(&rt, &map);
     }
     Ok(())

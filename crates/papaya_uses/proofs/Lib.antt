@@ -1,5 +1,4 @@
 mod CounterLemmas
-mod HitLemmas
 mod Said
 mod SessionLemmas
 mod WordLemmas

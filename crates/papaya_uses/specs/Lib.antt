@@ -1,4 +1,3 @@
 pub mod Counters
-pub mod Hits
 pub mod Sessions
 pub mod Words

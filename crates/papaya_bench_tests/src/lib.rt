@@ -1,0 +1,5 @@
+//! Tests of the program `papaya-bench`.
+#![tactic(auto)]
+
+#[cfg(test)]
+mod runs;
