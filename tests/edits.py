@@ -6,8 +6,7 @@ copy of their crate.
 An edit has the lines of those in must-fail/, and two before them: `fn:`, the function that it spoils, as a
 check names it below its crate, and `copy:`, the number of the copy in which it is made. No function of a
 copy may call another one that is spoiled there. A copy's check looks at these functions and at what they
-call, and at nothing else. Each of them has to be refused, and all others be proved; where a refusal came of a
-lost name alone, it is said to show nothing.
+call, and at nothing else. Each of them has to be refused at a goal of its own, and all others be proved.
 """
 
 import os
@@ -73,10 +72,9 @@ def try_copy(room, crate, edits):
     told = []
     for edit, place in zip(edits, places):
         verdict, lines = verdicts.get(f"{crate}::{edit.words['fn']}"), told_of(crate, edit, place, said)
-        if verdict not in ("not proved", "no proof"):
-            raise Bad(f"{crate}/{edit.name}: NOT REFUSED ({verdict})\n{digest(said)}")
-        why = lines[0][:160] if lines else "only where a proof lost a name, which shows nothing of the contract"
-        told.append(f"{crate}/{edit.name}: refused, as it must be: {why}")
+        if verdict not in ("not proved", "no proof") or not lines:
+            raise Bad(f"{crate}/{edit.name}: NOT REFUSED at a goal of its own ({verdict})\n{digest(said)}")
+        told.append(f"{crate}/{edit.name}: refused, as it must be: {lines[0][:160]}")
     return told
 
 
