@@ -31,12 +31,6 @@ const CLOSED: u64 = 5;
 const EMPTY: u64 = 0;
 /// What an insertion puts where its pair has the number 12.
 const LIVE_12: u64 = 12_329;
-/// The pairs 4 and 13.
-const LIVE_4: u64 = 4137;
-
-const LIVE_13: u64 = 13_353;
-/// What a removal of the pair 12 leaves.
-const BURIED_12: u64 = 12_332;
 
 /// The machine asks this, and is answered.
 fn told(rt: &impl Abort, machine: &mut Machine, ask: Ask, answer: Answer)
@@ -136,76 +130,6 @@ fn lookup_follows_a_copied_pair(rt: HostRuntime) {
     replies(&rt, &lookup, Reply::Found(3));
 }
 
-/// An insertion that found no root, lost its table's exchange to table 2, and is to claim the key's
-/// first place there.
-fn insertion(rt: &impl Abort) -> Machine
-    ensures { IsStanding result }
-{
-    let task = Task::Insert { replace: true };
-    let mut insertion = Machine::new(task, HASH, ResizeMode::Blocking, 1);
-    let first = Ask::MakeTable { len: 32, limit: 25 };
-    told(rt, &mut insertion, Ask::Load(At::Root), Answer::Word(0));
-    told(rt, &mut insertion, first, Answer::Made(1));
-    is(rt, insertion.kind(), Some(StepKind::Open));
-    told(
-        rt,
-        &mut insertion,
-        Ask::Exchange(At::Root, 0, 1),
-        Answer::Found(2),
-    );
-    enters(rt, &mut insertion, 2);
-    loads(rt, &mut insertion, 2, 2, EMPTY);
-    told(rt, &mut insertion, Ask::MakeKey, Answer::Made(11));
-    is(rt, insertion.kind(), None);
-    told(rt, &mut insertion, Ask::MakePair, Answer::Made(12));
-    insertion
-}
-
-#[test]
-fn insertion_loses_its_place_to_another_key(rt: HostRuntime) {
-    let mut insertion = insertion(&rt);
-    tries(
-        &rt,
-        &mut insertion,
-        2,
-        EMPTY,
-        StepKind::Claim,
-        Answer::Found(LIVE),
-    );
-    compares(&rt, &mut insertion, 3, false);
-    loads(&rt, &mut insertion, 2, 3, EMPTY);
-    tries(
-        &rt,
-        &mut insertion,
-        3,
-        EMPTY,
-        StepKind::Claim,
-        Answer::Exchanged,
-    );
-    told(&rt, &mut insertion, Ask::AddToShard(1), Answer::Ok);
-    replies(&rt, &insertion, Reply::Inserted(12));
-}
-
-/// A removal that found the pair 3 of its key at the first place of table 1.
-fn removal(rt: &impl Abort) -> Machine
-    ensures { IsStanding result }
-{
-    let mut removal = Machine::new(Task::RemoveIf, HASH, ResizeMode::Blocking, 1);
-    enters_root(rt, &mut removal, 1);
-    loads(rt, &mut removal, 1, 2, LIVE);
-    compares(rt, &mut removal, 3, true);
-    removal
-}
-
-/// The machine shows a pair to its closure.
-fn shows(rt: &impl Abort, machine: &mut Machine, pair: u64, agrees: bool)
-    requires { IsStanding machine.old }
-    ensures { IsStanding machine.new }
-{
-    is(rt, machine.kind(), None);
-    told(rt, machine, Ask::ShowPair(pair), Answer::Yes(agrees));
-}
-
 /// The machine tries to bury the pair at the first place of table 1.
 fn buries(rt: &impl Abort, machine: &mut Machine, old: u64, new: u64, answer: Answer)
     requires standing { IsStanding machine.old }
@@ -214,29 +138,6 @@ fn buries(rt: &impl Abort, machine: &mut Machine, old: u64, new: u64, answer: An
 {
     is(rt, machine.kind(), Some(StepKind::Bury));
     told(rt, machine, Ask::Exchange(At::Slot(1, 2), old, new), answer);
-}
-
-/// A removal whose closure agreed to the pair 3, and that lost it to a replacement by the pair 12.
-fn lost_to_a_replacement(rt: &impl Abort) -> Machine
-    ensures { IsStanding result }
-{
-    let mut removal = removal(rt);
-    shows(rt, &mut removal, 3, true);
-    buries(rt, &mut removal, LIVE, BURIED, Answer::Found(LIVE_12));
-    compares(rt, &mut removal, 12, true);
-    removal
-}
-
-#[test]
-fn removal_shows_the_pair_that_it_lost_to(rt: HostRuntime) {
-    let mut removal = lost_to_a_replacement(&rt);
-    shows(&rt, &mut removal, 12, true);
-    buries(&rt, &mut removal, LIVE_12, BURIED_12, Answer::Exchanged);
-    told(&rt, &mut removal, Ask::AddToShard(-1), Answer::Ok);
-    replies(&rt, &removal, Reply::Removed(12));
-    let mut removal = lost_to_a_replacement(&rt);
-    shows(&rt, &mut removal, 12, false);
-    replies(&rt, &removal, Reply::Kept(12));
 }
 
 /// The machine shows its closure that its key is absent.
@@ -288,17 +189,6 @@ fn replaces(rt: &impl Abort, machine: &mut Machine, old: u64, new: u64, answer: 
     told(rt, machine, Ask::Exchange(At::Slot(1, 2), old, new), answer);
 }
 
-/// A compute that found the pair 3 of its key at the first place of table 1.
-fn compute(rt: &impl Abort) -> Machine
-    ensures { IsStanding result }
-{
-    let mut compute = Machine::new(Task::Compute, HASH, ResizeMode::Blocking, 1);
-    enters_root(rt, &mut compute, 1);
-    loads(rt, &mut compute, 1, 2, LIVE);
-    compares(rt, &mut compute, 3, true);
-    compute
-}
-
 /// The claim is lost to a pair, and that one to another removal: the closure, which had answered
 /// what to insert, is not shown again that its key is absent.
 #[test]
@@ -316,27 +206,6 @@ fn compute_remembers_what_it_inserts(rt: HostRuntime) {
     claims(&rt, &mut compute, 3, LIVE_12, Answer::Exchanged);
     told(&rt, &mut compute, Ask::AddToShard(1), Answer::Ok);
     replies(&rt, &compute, Reply::Inserted(12));
-}
-
-/// A compute whose pair 12 was to take the place of the pair 3, and lost it.
-fn lost_to(rt: &impl Abort, word: u64) -> Machine
-    ensures { IsStanding result }
-{
-    let mut compute = compute(rt);
-    decides(rt, &mut compute, 3, OpKind::Insert);
-    makes_12(rt, &mut compute);
-    replaces(rt, &mut compute, LIVE, LIVE_12, Answer::Found(word));
-    compute
-}
-
-#[test]
-fn compute_asks_again_of_another_pair(rt: HostRuntime) {
-    let mut compute = lost_to(&rt, LIVE_4);
-    compares(&rt, &mut compute, 4, true);
-    decides(&rt, &mut compute, 4, OpKind::Insert);
-    told(&rt, &mut compute, Ask::MakePair, Answer::Made(13));
-    replaces(&rt, &mut compute, LIVE_4, LIVE_13, Answer::Exchanged);
-    replies(&rt, &compute, Reply::Replaced { old: 4, new: 13 });
 }
 
 /// The pair 3 was copied meanwhile: in the next table the closure is not shown it again.

@@ -1,6 +1,6 @@
-// Calls that resize: a copy of all beside an insertion that has stopped, room made ahead, a lookup
-// beside an insertion that copies the whole root, and a table that is given up since the count lags
-// behind stopped callers.
+// Calls that resize: a copy of all, or a walk, beside an insertion that has stopped, room made ahead, a
+// lookup beside an insertion that copies the whole root, and a table that is given up since the count
+// lags behind stopped callers.
 use crate::expect::is_at;
 use crate::plain::{Asked, Numbers, Removes, reply_by_value};
 use papaya_ask::ask::StepKind;
@@ -99,18 +99,35 @@ fn core_with(alloc: Global, mode: ResizeMode, capacity: usize, keys: u64) -> Res
     Ok(core)
 }
 
-/// Caller 1 stops after so many steps of an insertion into a full table. Caller 2 ends the resize
+/// A call that changes no pair, and without blocking ends the resize that is under way.
+#[derive(Clone, Copy)]
+enum First {
+    CopyAll,
+    Walk,
+}
+
+impl First {
+    fn call(self) -> Call<u64, u64, Removes> {
+        match self {
+            First::CopyAll => Call::CopyAll,
+            First::Walk => Call::Walk,
+        }
+    }
+}
+
+/// Caller 1 stops after so many steps of an insertion into a full table. Caller 2 makes this call whole
 /// and removes key 0, and then caller 1 goes on.
-fn copy_all_beside(
+fn removal_beside(
     rt: &impl Abort,
     alloc: Global,
     mode: ResizeMode,
+    first: First,
     steps: usize,
 ) -> Result<(), Fail> {
     let mut core = core_with(alloc, mode, 6, 8)?;
     let begin = Turn::Begin(1, Call::Insert(8, value(8)));
     let stopped = core.run(vec![in alloc; begin, Turn::Finish(1, steps)]?)?;
-    replies(rt, alloc, &mut core, (steps, 2), Call::CopyAll, Reply::Done)?;
+    replies(rt, alloc, &mut core, (steps, 2), first.call(), Reply::Done)?;
     let removal = core.run(vec![in alloc;
         Turn::Begin(2, Call::Compute(0, Removes)),
         Turn::Finish(2, WHOLE),
@@ -128,10 +145,11 @@ fn copy_all_beside(
 }
 
 #[test]
-fn resize_is_ended_beside_a_stopped_caller(rt: HostRuntime) -> Result<(), Fail> {
+fn a_copy_or_a_walk_and_a_removal_beside_a_stopped_insertion(rt: HostRuntime) -> Result<(), Fail> {
     for mode in MODES {
         for steps in 0..STEPS_OF_GROWTH + 1 {
-            copy_all_beside(&rt, rt.alloc(), mode, steps)?;
+            removal_beside(&rt, rt.alloc(), mode, First::CopyAll, steps)?;
+            removal_beside(&rt, rt.alloc(), mode, First::Walk, steps)?;
         }
     }
     Ok(())

@@ -118,15 +118,19 @@ fn given(core: &Numbers, traces: [&Trace; 2], wanted: u64) -> usize {
     times
 }
 
+/// The key that is removed beside a walk.
+const GONE: u64 = 3;
+
 /// Caller 2 stops after so many steps of a walk. Caller 1 inserts a key, for which a next table is
-/// made, and removes key 0. Then the walk goes on.
+/// made, and removes another. Then the walk goes on: it gives each key once that was there all the time,
+/// and these two at most once.
 fn walk_beside(rt: &impl Abort, alloc: Global, mode: ResizeMode, steps: usize) -> Result<(), Fail> {
     let mut core = full(alloc, mode)?;
     let first = core.run(vec![in alloc; Turn::Begin(2, Call::Walk), Turn::Finish(2, steps)]?)?;
     let _ = core.run(vec![in alloc;
         Turn::Begin(1, Call::Insert(KEYS, KEYS)),
         Turn::Finish(1, WHOLE),
-        Turn::Begin(1, Call::Compute(0, Removes)),
+        Turn::Begin(1, Call::Compute(GONE, Removes)),
         Turn::Finish(1, WHOLE),
     ]?)?;
     let last = core.run(vec![in alloc; Turn::Finish(2, WHOLE)]?)?;
@@ -136,11 +140,11 @@ fn walk_beside(rt: &impl Abort, alloc: Global, mode: ResizeMode, steps: usize) -
         reply_of(&first, 2).or(reply_of(&last, 2)),
         Some(Reply::Done),
     );
-    for key in 1..KEYS {
-        is_at(rt, steps, given(&core, [&first, &last], key), 1);
+    for key in 0..KEYS + 1 {
+        let times = given(&core, [&first, &last], key);
+        let right = times == 1 || (times == 0 && (key == GONE || key == KEYS));
+        is_at(rt, steps, right, true);
     }
-    is_at(rt, steps, given(&core, [&first, &last], 0) < 2, true);
-    is_at(rt, steps, given(&core, [&first, &last], KEYS) < 2, true);
     Ok(())
 }
 

@@ -1,4 +1,5 @@
 mod CounterLemmas
+mod HitLemmas
 mod Said
 mod SessionLemmas
 mod WordLemmas

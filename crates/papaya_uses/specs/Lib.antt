@@ -1,3 +1,4 @@
 pub mod Counters
+pub mod Hits
 pub mod Sessions
 pub mod Words

@@ -9,7 +9,7 @@ use std::alloc::Global;
 use std::hash::Hash;
 
 /// The count after one more.
-fn one_more(count: &u64) -> u64
+pub(crate) fn one_more(count: &u64) -> u64
     ensures { result ≡ min (count.now + 1) (2 ^ 64 - 1) }
 {
     count.saturating_add(1)

@@ -1,0 +1,34 @@
+-- What the calls on a table of reads do, each of some history of the map.
+use Rattle.std.specs.Prelude.{◌≡◌, ◌==◌, ◌+◌, ◌-◌, ◌^◌, ℕ, min, Option, None, Some, List, [], option_map}
+use Rattle.std.specs.Borrow.{Bor}
+use Rattle.papaya_book.specs.Logs.{Stored}
+use Rattle.papaya_change.specs.Changes.{IsChangeOf}
+use Rattle.papaya_lookup.specs.Answers.{IsAnsweredBetween}
+use Rattle.papaya_lookup.specs.History.{Change, key_of}
+use Rattle.papaya_map.specs.Plain.{IsOfHistory}
+
+-- the history of a map from pages to counts
+abbrev pub Seen : Type 0
+Seen = List (Change ℕ (Stored ℕ ℕ))
+
+-- the count after one more, as far as 64 bits go; the first is 1
+abbrev pub one_on : Option ℕ → ℕ
+one_on None = 1
+one_on (Some count) = min (count + 1) (2 ^ 64 - 1)
+
+-- The last change of the history put in this count of the page: one more than just the count that it
+-- took out, if there was one.
+abbrev pub IsCounted : (page count : ℕ) → Seen → Type 0
+IsCounted page count history = (taken : Option (Stored ℕ ℕ)) × (q : Stored ℕ ℕ)
+    × IsChangeOf (λ key. page == key) [] history taken (Some q) × (key_of q ≡ page)
+    × (q.value.value ≡ count) × (count ≡ one_on (option_map (λ p. p.value.value) taken))
+
+-- so it was in a history
+abbrev pub HasCounted : (page count : ℕ) → Type 0
+HasCounted page count = IsOfHistory (λ a b. a == b) (IsCounted page count)
+
+-- in a history the page had this count, or none
+abbrev pub IsCountOf : ℕ → Option ℕ → Type 0
+IsCountOf page count = (found : Option (Bor ℕ)) × (option_map (λ v. v.now) found ≡ count)
+    × IsOfHistory (λ a b. a == b)
+    (λ history. IsAnsweredBetween (λ a b. a == b) (λ key. page == key) [] history found)

@@ -1,0 +1,53 @@
+//! How often each page was read: threads count on one map, by the calls that take no pass.
+//!
+//! Take these where no proof goes on from one call to the next, as a program without proofs would: a
+//! pinned map has them, and a thread keeps nothing of its own. What each says is so of some legal history,
+//! which the caller is not shown. To prove that what was stored is found, or what a retain left, take a
+//! pass, as [`crate::sessions`] and [`crate::counters`] do.
+ghost use Rattle.std.specs.Prelude.{◌≡◌, IfErr, IfOk};
+ghost use Rattle.papaya_change.specs.Writing.{IsMemoryOrCapacity};
+ghost use Rattle.papaya_uses.specs.Hits.{HasCounted, IsCountOf};
+
+use crate::words::one_more;
+use papaya::{HashMap, Refused};
+use std::hash::{BuildHasherDefault, FoldHasher};
+use std::sync::Wait;
+
+/// How often each page was read, by their numbers.
+pub type Hits = HashMap<u64, u64, BuildHasherDefault<FoldHasher>>;
+
+/// Counts a read of a page, and answers how often it was read by then. No read is lost where threads
+/// count at once: the count goes up from just the one that it replaces.
+pub fn hit<R: Wait>(rt: &R, hits: &Hits, page: u64) -> Result<u64, Refused>
+    ensures counted { IfOk result (HasCounted page) }
+    ensures refused { IfErr result IsMemoryOrCapacity }
+{
+    let count = hits.pin().update_or_insert(rt, page, one_more, 1)?;
+    Ok(*count)
+}
+
+/// How often a page was read, if it was. It waits for nobody.
+pub fn reads(hits: &Hits, page: u64) -> Option<u64>
+    ensures { IsCountOf page result }
+{
+    hits.pin().get(&page).copied()
+}
+
+/// Forgets the pages that were read less often than this. Refused, it may have forgotten some of them.
+pub fn forget_below<R: Wait>(rt: &R, hits: &Hits, least: u64) -> Result<(), Refused>
+    ensures { IfErr result IsMemoryOrCapacity }
+{
+    hits.pin().retain(rt, |_, count| *count >= least)
+}
+
+/// The reads of all pages, up to the greatest number of 64 bits. Those that are counted meanwhile may be
+/// in it or not.
+pub fn total<R: Wait>(rt: &R, hits: &Hits) -> Result<u64, Refused>
+    ensures { IfErr result IsMemoryOrCapacity }
+{
+    let mut total = 0u64;
+    for count in hits.pin().values(rt)? {
+        total = total.saturating_add(*count);
+    }
+    Ok(total)
+}
