@@ -1,7 +1,6 @@
 -- A removal that is made at once: its machine, which nothing runs, stands where the lookup's search met the pair.
 use Rattle.std.proofs.Common.{◌≡◌, inl, inr, ℕ, zero, suc, ◌<◌, ◌==◌, Bool, true, false, MatchBool, MatchOption, Option, None, Some, Result, Ok, Err, List, [], ◌∷◌, ◌++◌, append-nil, length, refl, sym, ap, ◌∙◌, subst, arith}
 use Rattle.std.specs.Cmp.{IsEquivalence}
-use Rattle.std.specs.Int.{IsPowerOfTwo}
 use mathlib.Core.List.{IsPrefix}
 use denote.Bor.{Bor}
 use Rattle.logbook.specs.Pages.{Book}
@@ -46,21 +45,25 @@ use Rattle.papaya_lookup.proofs.Readings.{IsQuery, fed}
 use Rattle.papaya_change.specs.declared.driver.Driver.{Driver}
 use Rattle.papaya_change.specs.declared.removal.Removal.{Removal}
 use Rattle.papaya_change.specs.Changing.{HasChanged, IsCalling}
-use Rattle.papaya_change.specs.RemovalAnswers.{IsJudged, IsRemovalBy}
+use Rattle.papaya_change.specs.RemovalAnswers.{HasShown, IsJudged, IsRemovalBy}
 use Rattle.papaya_change.specs.Removing.{IsRemoving, answered as told}
 use Rattle.papaya_change.specs.Showings.{AllShown, AreOf, HasSaid, WasHeld, WasSaid}
 use Rattle.papaya_change.proofs.Changing.{mode_is}
 use Rattle.papaya_change.proofs.Removing.{Removing, bury_can, bury_held, bury_on, counted_on, shown_on}
 use Rattle.papaya_change.proofs.RemovingReplies.{answered, can_tell, removal_since}
-use Rattle.papaya_change.proofs.Showings.{shown_each}
+use Rattle.papaya_change.proofs.Showings.{all_shown, held_wider, shown_each}
 
 -- the machine of a removal that stands here
-abbrev pub removal_at : (hash : ℕ) → ResizeMode → (initial : ℕ) → State → Machine
-removal_at hash mode initial state = record {
-  call = record (started RemoveIf hash mode initial) { state = state };
+abbrev pub removal_at : (hash : ℕ) → ResizeMode → State → Machine
+removal_at hash mode state = record {
+  call = record (started RemoveIf hash mode 1) { state = state };
   helped = false;
   phase = Calling;
 }
+
+-- it was given nothing
+abbrev nothing_given : Own Given
+nothing_given = record { marker = record {}; done = [] }
 
 -- a live word is no empty one
 live_some : (word : ℕ) → kind_of word ≡ Live → 0 < word
@@ -75,7 +78,7 @@ module _ {K V S H F : Type 0} (eq : K → K → Bool) (input : K → List (List 
   abbrev by : ℕ
   by = fed eq input build write finish classes respects b matches query lawful
 
-  module _ (seen : IsPrefix begun log) (chunked : IsChunked b.mode) (initial : ℕ) (initial_is : IsPowerOfTwo initial) (given : Own Given) (lent : Bor Sheet) (met : Met K V) (hit : HasHit eq hash b name matches by (exchanges_of begun) log lent.now met) (live : kind_of met.word ≡ Live) where
+  module _ (seen : IsPrefix begun log) (chunked : IsChunked b.mode) (lent : Bor Sheet) (met : Met K V) (hit : HasHit eq hash b name matches by (exchanges_of begun) log lent.now met) (live : kind_of met.word ≡ Live) where
     abbrev p : Stored K V
     p = met.stored
 
@@ -83,7 +86,7 @@ module _ {K V S H F : Type 0} (eq : K → K → Bool) (input : K → List (List 
     place = record { place = met.place; word = met.word }
 
     abbrev Under : State → Type 0
-    Under state = IsCalling eq hash b name matches by None begun log (removal_at by b.mode initial state) (Some lent) (Some p) None [] None None None
+    Under state = IsCalling eq hash b name matches by None begun log (removal_at by b.mode state) (Some lent) (Some p) None [] None None None
 
     -- it is to show the pair
     calling : Under (Showing place)
@@ -117,12 +120,12 @@ module _ {K V S H F : Type 0} (eq : K → K → Bool) (input : K → List (List 
     -- the removal with this machine, which its closure was shown this, and which took out this
     abbrev pub removal_with : Machine → (shown taken : Option (Stored K V)) → Removal K V S H
     removal_with m shown taken = record {
-      call = record { machine = m; table = Some lent; last = Some p; kept = None; taken = taken; put = None; fresh = None; given = given };
+      call = record { machine = m; table = Some lent; last = Some p; kept = None; taken = taken; put = None; fresh = None; given = nothing_given };
       shown = shown;
     }
 
     abbrev showing : Removal K V S H
-    showing = removal_with (removal_at by b.mode initial (Showing place)) None None
+    showing = removal_with (removal_at by b.mode (Showing place)) None None
 
     abbrev Goes : List (Event K V S) → Removal K V S H → F → Type 0
     Goes log' x f = Removing eq input build write finish classes respects b name matches query lawful judges first begun log' x f
@@ -146,18 +149,18 @@ module _ {K V S H F : Type 0} (eq : K → K → Bool) (input : K → List (List 
       crowded = λ e. absurd (cc e);
     }
 
-    standing : (state : State) → IsStandingState RemoveIf state → IsStanding (removal_at by b.mode initial state)
+    standing : (state : State) → IsStandingState RemoveIf state → IsStanding (removal_at by b.mode state)
     standing state stands = record {
       call = record { made = tt; remembered = record { fill = tt; choice = tt }; state = stands };
       chunked = chunked;
-      initial = initial_is;
+      initial = (0, refl);
       phase = tt;
     }
 
     -- the closure answered so of the pair
     module _ (agreed : Bool) (g : F) (judged : judges first p agreed g) where
       abbrev asked : Removal K V S H
-      asked = removal_with (after (removal_at by b.mode initial (Showing place)) (answers.Call (Yes agreed))) (Some p) None
+      asked = removal_with (after (removal_at by b.mode (Showing place)) (answers.Call (Yes agreed))) (Some p) None
 
       said : Goes log asked g
       said = (shown_on eq input build write finish classes respects b name matches query lawful judges first begun log showing first shows (standing (Showing place) (tt, hit.within)) (pair_of met.word) p agreed g refl judged refl).0
@@ -231,39 +234,48 @@ module _ {K V S H F : Type 0} (eq : K → K → Bool) (input : K → List (List 
             answered eq input build write finish classes respects b name matches query lawful judges first begun log' ended g counted (Removed (pair_of met.word)) refl (Ok (Ok (Some entry)))
             (p, taken, entry, refl, took, value, (are.0 ∙ ap (λ z. z.key.value) value, are.1 ∙ ap (λ z. z.value) value), refl)
 
--- A closure was shown a pair before a removal began.
-module _ {K V F : Type 0} (eq : K → K → Bool) (matches : K → Bool) (judges : F → Stored K V → Bool → F → Type 0) (first : F) (p : Stored K V) (agreed : Bool) (g : F) (judged : judges first p agreed g) where
+-- A closure was shown pairs before a removal began.
+module _ {K V F : Type 0} (eq : K → K → Bool) (matches : K → Bool) (judges : F → Stored K V → Bool → F → Type 0) (first g : F) where
   abbrev Shows : Type 0
   Shows = List (Stored K V × Bool)
 
-  abbrev before : Shows → Shows
-  before shown = shown ++ (p, agreed) ∷ []
+  module _ (before : Shows) (has_said : HasSaid judges first before g) where
+    said_first : (shown : Shows) (left : F) → HasSaid judges g shown left → HasSaid judges first (shown ++ before) left
+    said_first [] left h = subst (HasSaid judges first before) (sym h) has_said
+    said_first (last ∷ rest) left h = (h.0, said_first rest h.0 h.1, h.2)
 
-  said_first : (shown : Shows) (left : F) → HasSaid judges g shown left → HasSaid judges first (before shown) left
-  said_first [] left h = (first, refl, subst (judges first p agreed) (sym h) judged)
-  said_first (last ∷ rest) left h = (h.0, said_first rest h.0 h.1, h.2)
+    shown_all : (P : Stored K V → Type 0) → AllShown P before → (shown : Shows) → AllShown P shown → AllShown P (shown ++ before)
+    shown_all P own [] all = own
+    shown_all P own (last ∷ rest) all = (all.0, shown_all P own rest all.1)
 
-  shown_all : (P : Stored K V → Type 0) → P p → (shown : Shows) → AllShown P shown → AllShown P (before shown)
-  shown_all P own [] all = (own, tt)
-  shown_all P own (last ∷ rest) all = (all.0, shown_all P own rest all.1)
+    member_on : (x : Stored K V × Bool) (shown : Shows) → Member x shown → Member x (shown ++ before)
+    member_on x [] m = absurd m
+    member_on x (last ∷ rest) (inl is) = inl is
+    member_on x (last ∷ rest) (inr m) = inr (member_on x rest m)
 
-  member_on : (x : Stored K V × Bool) (shown : Shows) → Member x shown → Member x (before shown)
-  member_on x [] m = absurd m
-  member_on x (last ∷ rest) (inl is) = inl is
-  member_on x (last ∷ rest) (inr m) = inr (member_on x rest m)
+    judged_on : (old new : List (Change K (Stored K V))) (shown : Shows) (answer : Result (Result (Option (Bor K × Bor V)) (Bor K × Bor V)) Refused) → IsJudged eq matches old new shown answer → IsJudged eq matches old new (shown ++ before) answer
+    judged_on old new shown (Ok (Ok None)) h = h
+    judged_on old new shown (Ok (Ok (Some entry))) h = (h.0, h.1, (h.2.0, h.2.1, member_on (h.2.0, true) shown h.2.2), h.3)
+    judged_on old new shown (Ok (Err entry)) h = (h.0, member_on (h.0, false) shown h.1, h.2)
+    judged_on old new shown (Err cause) h = h
 
-  judged_on : (old new : List (Change K (Stored K V))) (shown : Shows) (answer : Result (Result (Option (Bor K × Bor V)) (Bor K × Bor V)) Refused) → IsJudged eq matches old new shown answer → IsJudged eq matches old new (before shown) answer
-  judged_on old new shown (Ok (Ok None)) h = h
-  judged_on old new shown (Ok (Ok (Some entry))) h = (h.0, h.1, (h.2.0, h.2.1, member_on (h.2.0, true) shown h.2.2), h.3)
-  judged_on old new shown (Ok (Err entry)) h = (h.0, member_on (h.0, false) shown h.1, h.2)
-  judged_on old new shown (Err cause) h = h
-
-  pub removal_shown : (older old new : List (Change K (Stored K V))) → IsPrefix older old → WasHeld eq matches older new (Some p) → (answer : Result (Result (Option (Bor K × Bor V)) (Bor K × Bor V)) Refused) → IsRemovalBy eq matches old new judges g answer → IsRemovalBy eq matches older new judges first answer
-  removal_shown older old new pre held answer r =
-      let w = removal_since eq matches older old new pre judges g answer r in record {
-        said = before w.said;
+  pub removal_shown : (older old new : List (Change K (Stored K V))) → IsPrefix older old → IsPrefix old new → HasShown eq matches older old judges first g → (answer : Result (Result (Option (Bor K × Bor V)) (Bor K × Bor V)) Refused) → IsRemovalBy eq matches old new judges g answer → IsRemovalBy eq matches older new judges first answer
+  removal_shown older old new pre more s answer r =
+      let w = removal_since eq matches older old new pre judges g answer r in
+      let wider : (p : Stored K V) → WasHeld eq matches older old (Some p) → WasHeld eq matches older new (Some p) = λ p h. held_wider eq matches older older old new ([], append-nil older) more (Some p) h in record {
+        said = w.said ++ s.said;
         left = w.left;
-        has_said = said_first w.said w.left w.has_said;
-        held = shown_all (λ q. WasHeld eq matches older new (Some q)) held w.said w.held;
-        answered = judged_on older new w.said answer w.answered;
+        has_said = said_first s.said s.has_said w.said w.left w.has_said;
+        held = shown_all s.said s.has_said (λ q. WasHeld eq matches older new (Some q)) (all_shown (λ q. WasHeld eq matches older old (Some q)) (λ q. WasHeld eq matches older new (Some q)) wider s.said s.held) w.said w.held;
+        answered = judged_on s.said s.has_said older new w.said answer w.answered;
       }
+
+-- what a removal that was tried at once told, while more was seen since then and before
+module _ {K V F : Type 0} (eq : K → K → Bool) (matches : K → Bool) (older old new : List (Change K (Stored K V))) (judges : F → Stored K V → Bool → F → Type 0) (first left : F) where
+  -- it has shown one pair
+  pub one_shown : (p : Stored K V) (agreed : Bool) → judges first p agreed left → WasHeld eq matches old new (Some p) → IsPrefix older old → HasShown eq matches older new judges first left
+  one_shown p agreed judged held pre = record {
+    said = (p, agreed) ∷ [];
+    has_said = (first, refl, judged);
+    held = (held_wider eq matches older old new new pre ([], append-nil new) (Some p) held, tt);
+  }

@@ -1,27 +1,15 @@
 -- What a removal on the shared map holds and rests on, by what is asked for and what it sees of the
 -- map.
-use Rattle.std.specs.Prelude.{Bool, Option, Result, List}
-use denote.Bor.{Bor}
+use Rattle.std.specs.Prelude.{Bool, Option}
 use Rattle.papaya_ask.specs.declared.ask.Answer.{Answer}
 use Rattle.papaya_ask.specs.declared.call.Reply.{Reply}
-use Rattle.papaya_words.specs.declared.probe.Refused.{Refused}
 use Rattle.papaya_book.specs.declared.keyed.Keyed as keyed
-use Rattle.papaya_book.specs.declared.rule.entry.Event.{Event}
 use Rattle.papaya_book.specs.declared.window.Window.{Window}
 use Rattle.papaya_book.specs.Keys.{Query}
 use Rattle.papaya_book.specs.Logs.{Stored}
 use Rattle.papaya_book.specs.Parts.{begun_of}
-use Rattle.papaya_lookup.specs.Drivers.{HasHit, past}
-use Rattle.papaya_lookup.specs.History.{history_of}
-use Rattle.papaya_lookup.specs.declared.lookup.Hit.{Hit}
 use Rattle.papaya_change.specs.declared.removal.Removal.{Removal}
-use Rattle.papaya_change.specs.RemovalAnswers.{IsRemovalBy}
 use Rattle.papaya_change.specs.Removing as removing
-
-module _ {K V S H : Type 0} {d : keyed.Ghosts S K H} (query : Query K S) where
-  -- some search has met this pair, as is seen by now
-  abbrev pub WasHit : Window K V S H d → Hit K V S H → Type 0
-  WasHit w hit = (began : List (Event K V S)) × HasHit query began w hit
 
 module _ {K V S H F : Type 0} {d : keyed.Ghosts S K H} (query : Query K S)
     (judges : F → Stored K V → Bool → F → Type 0) where
@@ -29,12 +17,6 @@ module _ {K V S H F : Type 0} {d : keyed.Ghosts S K H} (query : Query K S)
   CanRemove w x f = removing.CanRemove d.keys.eq d.keys.hash (begun_of w.book.now.parts)
       w.book.now.begun.book query.matches (query.hash w.book.now.parts.hasher) judges w.sight.log x
       f
-
-  -- what each removal answers that began as such a search did, and whose closure was `first`
-  abbrev pub RemovesHit : (first : F) → (w w' : Window K V S H d) → Hit K V S H
-      → Result (Result (Option (Bor K × Bor V)) (Bor K × Bor V)) Refused → Type 0
-  RemovesHit first w w' hit answer = (began : List (Event K V S)) → HasHit query began w hit
-      → IsRemovalBy d.keys.eq query.matches (history_of began) (past w') judges first answer
 
   abbrev pub Removes : Window K V S H d → Removal K V S H → F → Window K V S H d → Removal K V S H
       → F → Option Answer → Type 0

@@ -22,7 +22,7 @@ ghost use Rattle.papaya_change.specs.Showings.{AreOf, Judges};
 
 use crate::driver::Driver;
 use crate::means::Means;
-use crate::removal_at_once::remove_hit;
+use crate::removal_at_once::remove_at_once;
 use papaya_ask::ask::{Answer, Ask as CallAsk, At};
 use papaya_ask::call::{Reply, Task};
 use papaya_book::book::Book;
@@ -33,9 +33,8 @@ use papaya_book::rule::own::{Given, Own};
 use papaya_book::window::Window;
 use papaya_chain::ask::Ask;
 use papaya_keys::guard::Equivalent;
-use papaya_lookup::lookup::{find, hash};
+use papaya_lookup::lookup::hash;
 use papaya_words::probe::Refused;
-use papaya_words::word::{Kind, Word};
 use std::alloc::Global;
 use std::hash::{BuildHasher, Hash};
 use std::sync::Wait;
@@ -242,7 +241,7 @@ pub fn remove<
     window: &mut Window<'a, K, V, S>,
     given: &mut Own<Given>,
     key: &Q,
-    agrees: F,
+    mut agrees: F,
 ) -> Result<Result<Option<(&'a K, &'a V)>, (&'a K, &'a V)>, Refused>
     requires callable { F.IsAlwaysCallable agrees }
     requires initial { IsPowerOfTwo initial }
@@ -260,11 +259,8 @@ pub fn remove<
         initial,
         shard,
     };
-    match find(window, key) {
-        Some(hit) if Word(hit.met.word).kind() == Kind::Live => {
-            remove_hit(&means, window, given, key, agrees, hit)
-        }
-        Some(_) => remove_stepwise(&means, window, given, key, agrees),
-        None => Ok(Ok(None)),
+    match remove_at_once(shard, window, key, &mut agrees) {
+        Some(answer) => Ok(answer),
+        None => remove_stepwise(&means, window, given, key, agrees),
     }
 }
