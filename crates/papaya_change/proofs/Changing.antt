@@ -53,7 +53,7 @@ use Rattle.papaya_lookup.proofs.Readings.{IsQuery, allowed_with, coding, fed, ha
 use Rattle.papaya_book.proofs.TableSizes.{sizes}
 
 -- the map resizes as its setting says
-mode_is : (mode : ResizeMode) → IsModeOf mode (is_blocking mode)
+pub mode_is : (mode : ResizeMode) → IsModeOf mode (is_blocking mode)
 mode_is (Incremental chunk) = refl
 mode_is Blocking = refl
 

@@ -24,6 +24,8 @@ pub mod Showings
 pub mod Removing
 pub mod RemovingReplies
 pub mod RemovingHelped
+-- removals at once
+pub mod RemovingHits
 -- copies for a call that is set aside
 pub mod HelpingPlaces
 pub mod HelpingFollows

@@ -13,6 +13,11 @@ abbrev pub went : {E : Type 0} → Result (Result (Option E) E) Refused → Bool
 went (Ok (Ok (Some entry))) = true
 went _ = false
 
+-- by an answer at once, if there was one
+abbrev pub went_at_once : {E : Type 0} → Option (Result (Option E) E) → Bool
+went_at_once None = false
+went_at_once (Some answer) = went (Ok answer)
+
 -- and of a removal that asks no closure, its value
 abbrev pub took : {A : Type 0} → Result (Option A) Refused → Bool
 took (Ok (Some value)) = true
@@ -44,6 +49,20 @@ module _ {K V : Type 0} (eq : K → K → Bool) (matches : K → Bool)
     pub has_said : HasSaid judges first said left
     pub held : AllShown (λ p. WasHeld eq matches old new (Some p)) said
     pub answered : IsJudged said answer
+
+  -- A removal whose closure was `first` has shown it these, and it is `left` then. Each pair that it
+  -- was shown was the map's between the two histories.
+  pub record HasShown {F : Type 0} (judges : F → Stored K V → Bool → F → Type 0)
+      (first left : F) : Type 0 where
+    pub said : List (Stored K V × Bool)
+    pub has_said : HasSaid judges first said left
+    pub held : AllShown (λ p. WasHeld eq matches old new (Some p)) said
+
+  -- what a removal answers that is tried at once; or it has shown what it met, and begins anew
+  abbrev pub IsTriedRemoval : {F : Type 0} → (F → Stored K V → Bool → F → Type 0)
+      → (first left : F) → Option (Result (Option (Bor K × Bor V)) (Bor K × Bor V)) → Type 0
+  IsTriedRemoval judges first left None = HasShown judges first left
+  IsTriedRemoval judges first left (Some answer) = IsRemovalBy judges first (Ok answer)
 
   -- what a removal answers that asks no closure: the value of the pair that went, or that there was
   -- none; or it was refused while it helped to copy

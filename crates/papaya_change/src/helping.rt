@@ -30,7 +30,37 @@ impl<'a, K: Hash + Eq, V, S: BuildHasher> Driver<'a, K, V, S> {
     /// Copies for a call that is set aside, until it goes on for itself: in a further table, at the
     /// root, or at its end, where a table could not be made. One that is not set aside stays as it
     /// is.
+    #[inline(always)]
     pub fn help<R: Wait>(
+        &mut self,
+        rt: &R,
+        alloc: Global,
+        count: &Count,
+        window: &mut Window<'a, K, V, S>,
+    )
+        requires standing { IsStanding self.old.machine }
+        requires can { CanGoOn window.old self.old }
+        ensures sees { Sees window.old window.new }
+        ensures own { window.new.own ≡ window.old.own }
+        ensures standing { IsStanding self.new.machine }
+        ensures calling { self.new.machine.phase ≡ Calling }
+        ensures helped { HasHelped self.old.machine self.new.machine
+            (tables_of window.new.sight.log) self.new.given.done }
+        ensures goes_on { GoesOn window.old self.old window.new self.new }
+        ensures rest { (self.new.taken ≡ self.old.taken) × (self.new.put ≡ self.old.put) }
+        ensures still { self.old.machine.phase ≡ Calling
+            → (self.new ≡ self.old) × (window.new ≡ window.old) }
+    {
+        if let Phase::Calling = self.machine.phase {
+            return;
+        }
+        self.help_set_aside(rt, alloc, count, window);
+    }
+
+    /// Copies until the call goes on for itself. It is a function of its own, so that a call that is
+    /// not set aside pays nothing for it.
+    #[inline(never)]
+    fn help_set_aside<R: Wait>(
         &mut self,
         rt: &R,
         alloc: Global,

@@ -9,5 +9,6 @@ pub mod helping;
 pub mod insertion;
 pub mod means;
 pub mod removal;
+pub mod removal_at_once;
 pub mod resizing;
 pub mod writing;

@@ -1,4 +1,5 @@
-//! Removals: their machine, answered by steps on the book and by a closure.
+//! Removals: by a lookup's search where it finds their pair live, and else their machine, answered by
+//! steps on the book and by a closure.
 ghost use Rattle.papaya_lookup.specs.Drivers.{own, past};
 ghost use Rattle.papaya_lookup.specs.History.{Makes, key_of};
 ghost use Rattle.papaya_book.specs.Windows.{IsLawful, Sees};
@@ -20,6 +21,8 @@ ghost use Rattle.papaya_change.specs.RemovalAnswers.{IsRemovalBy, went};
 ghost use Rattle.papaya_change.specs.Showings.{AreOf, Judges};
 
 use crate::driver::Driver;
+use crate::means::Means;
+use crate::removal_at_once::remove_at_once;
 use papaya_ask::ask::{Answer, Ask as CallAsk, At};
 use papaya_ask::call::{Reply, Task};
 use papaya_book::book::Book;
@@ -164,9 +167,64 @@ impl<'a, K: Hash + Eq, V, S: BuildHasher> Removal<'a, K, V, S> {
     }
 }
 
-/// Removes a key's pair if the closure agrees. Where it is refused for want of room while it helps
-/// to copy, `given` tells the number that a full log gave, or the sum of the count that makes a
-/// further table too long.
+/// Removes a key's pair if the closure agrees, as the removal's machine asks.
+#[inline(never)]
+pub fn remove_stepwise<
+    'a,
+    R: Wait,
+    K: Hash + Eq,
+    V,
+    S: BuildHasher,
+    Q: Equivalent<K>,
+    F: FnMut(&K, &V) -> bool,
+>(
+    means: &Means<'_, '_, R>,
+    window: &mut Window<'a, K, V, S>,
+    given: &mut Own<Given>,
+    key: &Q,
+    mut agrees: F,
+) -> Result<Result<Option<(&'a K, &'a V)>, (&'a K, &'a V)>, Refused>
+    requires callable { F.IsAlwaysCallable agrees }
+    requires initial { IsPowerOfTwo means.now.initial }
+    ensures sees { Sees window.old window.new }
+    ensures lawful { IsLawful window.new }
+    ensures made { Makes (went result) (own window.old) (own window.new) (past window.new) }
+    ensures removed { IsRemovalBy K.eq (Q.matches key.now) (past window.old) (past window.new)
+        (Judges F.FnMut) agrees result }
+    ensures crowded { result ≡ Err Refused.Capacity → HasNoRoom means.now.initial
+        (tables_of window.new.sight.log) given.new.done }
+{
+    window.learn();
+    let book = window.book;
+    let mut removal = Removal {
+        call: Driver::new(
+            Task::RemoveIf,
+            hash(&book.parts.hasher, key),
+            book.parts.mode,
+            means.initial,
+        ),
+        shown: None,
+    };
+    for _ in means.rt.forever() {
+        match removal.answer(means.shard, key, &mut agrees, window) {
+            Some(answer) => {
+                removal.call.answer(answer);
+                let count = means.shard.count();
+                removal.call.help(means.rt, means.alloc, count, window);
+            }
+            None => {
+                *given = removal.call.given.again();
+                return removal.replied(window);
+            }
+        }
+    }
+    unreachable!()
+}
+
+/// Removes a key's pair if the closure agrees. The pair is found by a lookup's search, and buried at
+/// once where it is found live; where it is not, or another call was there first, the removal's machine
+/// begins. Where that is refused for want of room while it helps to copy, `given` tells the number that
+/// a full log gave, or the sum of the count that makes a further table too long.
 pub fn remove<
     'a,
     R: Wait,
@@ -195,28 +253,14 @@ pub fn remove<
     ensures crowded { result ≡ Err Refused.Capacity → HasNoRoom initial
         (tables_of window.new.sight.log) given.new.done }
 {
-    window.learn();
-    let book = window.book;
-    let mut removal = Removal {
-        call: Driver::new(
-            Task::RemoveIf,
-            hash(&book.parts.hasher, key),
-            book.parts.mode,
-            initial,
-        ),
-        shown: None,
+    let means = Means {
+        rt,
+        alloc,
+        initial,
+        shard,
     };
-    for _ in rt.forever() {
-        match removal.answer(shard, key, &mut agrees, window) {
-            Some(answer) => {
-                removal.call.answer(answer);
-                removal.call.help(rt, alloc, shard.count(), window);
-            }
-            None => {
-                *given = removal.call.given.again();
-                return removal.replied(window);
-            }
-        }
+    match remove_at_once(shard, window, key, &mut agrees) {
+        Some(answer) => Ok(answer),
+        None => remove_stepwise(&means, window, given, key, agrees),
     }
-    unreachable!()
 }

@@ -23,7 +23,8 @@ use Rattle.papaya_book.specs.declared.rule.entry.Event.{Event}
 use Rattle.papaya_book.specs.Hashes.{hash_of}
 use Rattle.papaya_lookup.specs.History.{Change, history_of, key_of}
 use Rattle.papaya_book.specs.Logs.{Stored, exchanges_of}
-use Rattle.papaya_lookup.specs.Answers.{IsAnsweredBetween, IsPairAnsweredBetween}
+use Rattle.papaya_lookup.specs.declared.lookup.Hit.{Hit}
+use Rattle.papaya_lookup.specs.Answers.{IsAnsweredBetween, IsFoundBetween, IsHitAnsweredBetween, IsPairAnsweredBetween}
 use Rattle.papaya_lookup.proofs.Answering.{Reading, stands_get}
 use Rattle.papaya_lookup.proofs.Moments.{IsHistory, matched_history}
 use Rattle.papaya_lookup.proofs.Readings.{IsQuery, coding, setting}
@@ -73,8 +74,8 @@ module _ {K V S H : Type 0} (eq : K → K → Bool) (input : K → List (List �
   history_then value was = matched_history eq input build write finish classes respects b matches query lawful old began pre log r.lawful r.since r.is value was
 
   -- a pair was found, and is the one that is held
-  pub found_answer : (n : ℕ) → ask_of m ≡ Done (Found n) → (q : Stored K V) → pair ≡ Some q → (entry : Bor K × Bor V) → entry.0.now ≡ key_of q → entry.1.now ≡ q.value.value → IsPairAnsweredBetween {V = V} eq matches (history_of old) (history_of log) (Some entry)
-  found_answer n e q has entry key_is value_is =
+  pub found_answer : (n : ℕ) → ask_of m ≡ Done (Found n) → (q : Stored K V) → pair ≡ Some q → (hit : Hit K V S H) → hit.key.now ≡ key_of q → hit.value.now ≡ q.value.value → IsHitAnsweredBetween eq matches (history_of old) (history_of log) (Some hit)
+  found_answer n e q has hit key_is value_is =
       let last = r.found n (done_state m.made m.hash m.state (stands_get m r.task_is stands) (Found n) e) in
       let p = last.0 in
       let h = history_then (Some p) last.2 in
@@ -83,18 +84,27 @@ module _ {K V S H : Type 0} (eq : K → K → Bool) (input : K → List (List �
       record { seen = h.seen; since = h.since; until = h.until; is = (p, match', h.had p.value.key.value match', (key_is ∙ ap (λ (z : Stored K V). key_of z) one, value_is ∙ ap (λ (z : Stored K V). z.value.value) one)) }
 
   -- none was found
-  pub absent_answer : (reply : Reply) → ask_of m ≡ Done reply → ((n : ℕ) → reply ≡ Found n → ⊥) → IsPairAnsweredBetween {V = V} eq matches (history_of old) (history_of log) None
+  pub absent_answer : (reply : Reply) → ask_of m ≡ Done reply → ((n : ℕ) → reply ≡ Found n → ⊥) → IsHitAnsweredBetween {S = S} {H = H} eq matches (history_of old) (history_of log) None
   absent_answer reply e none =
       let g = setting eq input build write finish classes respects b matches query lawful log in let c = coding eq input build write finish classes respects b matches query lawful in
       let ended = done_state m.made m.hash m.state (stands_get m r.task_is stands) reply e in
       let stage : RestsStage g c (exchanges_of began) r.since None r.hands Get (Ended reply) = subst (λ z. RestsStage g c (exchanges_of began) r.since None r.hands Get z) ended (subst (λ t. RestsStage g c (exchanges_of began) r.since None r.hands t m.state) r.task_is r.rests.stage) in
       let h = history_then None (get_reply g c (exchanges_of began) r.since None r.hands reply stage none) in record { seen = h.seen; since = h.since; until = h.until; is = h.had }
 
--- the value of the pair that was found
-module _ {K V : Type 0} (eq : K → K → Bool) (matches : K → Bool) (old new : List (Change K (Stored K V))) where
-  of_pair : (answer : Option (Bor K × Bor V)) → IsPairAnsweredBetween eq matches old new answer → IsAnsweredBetween eq matches old new (option_map (λ pair. pair.1) answer)
-  of_pair None a = record { seen = a.seen; since = a.since; until = a.until; is = a.is }
-  of_pair (Some pair) a = record { seen = a.seen; since = a.since; until = a.until; is = (a.is.0, a.is.1, a.is.2, a.is.3.1) }
+-- what an answer tells of the pair that was found, another tells that says less of it
+found_as : {K V A B : Type 0} (is : A → Stored K V → Type 0) (is' : B → Stored K V → Type 0) (f : A → B) → ((a : A) (p : Stored K V) → is a p → is' (f a) p) → (eq : K → K → Bool) (matches : K → Bool) (old new : List (Change K (Stored K V))) (answer : Option A) (less : Option B) → option_map f answer ≡ less
+    → IsFoundBetween is eq matches old new answer → IsFoundBetween is' eq matches old new less
+found_as is is' f less_of eq matches old new answer less same a = subst (IsFoundBetween is' eq matches old new) same (mapped answer a)
+  where
+    mapped : (o : Option _) → IsFoundBetween is eq matches old new o → IsFoundBetween is' eq matches old new (option_map f o)
+    mapped None a = record { seen = a.seen; since = a.since; until = a.until; is = a.is }
+    mapped (Some x) a = record { seen = a.seen; since = a.since; until = a.until; is = (a.is.0, a.is.1, a.is.2, less_of x a.is.0 a.is.3) }
 
+module _ {K V : Type 0} (eq : K → K → Bool) (matches : K → Bool) (old new : List (Change K (Stored K V))) where
+  -- the value of the pair that was found
   pub value_answer : (answer : Option (Bor K × Bor V)) (value : Option (Bor V)) → option_map (λ pair. pair.1) answer ≡ value → IsPairAnsweredBetween eq matches old new answer → IsAnsweredBetween eq matches old new value
-  value_answer answer value is a = subst (IsAnsweredBetween eq matches old new) is (of_pair answer a)
+  value_answer = found_as (λ pair p. (pair.0.now ≡ key_of p) × (pair.1.now ≡ p.value.value)) (λ value p. value.now ≡ p.value.value) (λ pair. pair.1) (λ pair p is. is.1) eq matches old new
+
+  -- and its key too
+  pub pair_answer : {S H : Type 0} (answer : Option (Hit K V S H)) (pair : Option (Bor K × Bor V)) → option_map (λ hit. (hit.key, hit.value)) answer ≡ pair → IsHitAnsweredBetween eq matches old new answer → IsPairAnsweredBetween eq matches old new pair
+  pair_answer = found_as (λ hit p. (hit.key.now ≡ key_of p) × (hit.value.now ≡ p.value.value)) (λ pair p. (pair.0.now ≡ key_of p) × (pair.1.now ≡ p.value.value)) (λ hit. (hit.key, hit.value)) (λ hit p is. is) eq matches old new

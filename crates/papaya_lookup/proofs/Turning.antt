@@ -1,5 +1,5 @@
 -- A search of a table and the lookup around it: where each turn leads the machine that nothing runs.
-use Rattle.std.proofs.Common.{◌≡◌, ℕ, ◌<◌, ◌==◌, nat_lt, if◌then◌else◌, Bool, true, false, MatchOption, Option, None, Some, List, length, refl, sym, ap, subst, arith}
+use Rattle.std.proofs.Common.{◌≡◌, ℕ, ◌<◌, ◌==◌, nat_lt, if◌then◌else◌, Bool, true, false, MatchOption, Option, None, Some, List, length, refl, sym, ap, ◌∙◌, subst, arith}
 use Rattle.std.proofs.lemmas.Bool.{ne_eqb}
 use Rattle.std.specs.Cmp.{IsEquivalence}
 use mathlib.Core.List.{IsPrefix}
@@ -38,9 +38,11 @@ use Rattle.papaya_book.specs.Rule.{IsLawfulLog, IsPlaced}
 use Rattle.papaya_book.specs.Sheets.{Sheet}
 use Rattle.papaya_book.proofs.Loaded.{told_pair}
 use Rattle.papaya_book.proofs.Logs.{table_came}
-use Rattle.papaya_lookup.specs.Answers.{IsPairAnsweredBetween}
+use Rattle.papaya_lookup.specs.Answers.{IsHitAnsweredBetween}
 use Rattle.papaya_lookup.specs.History.{history_of, key_of}
-use Rattle.papaya_lookup.specs.Lookups.{HoldsPair, IsReading, IsReadingAt, IsTurned, led_to, left_of, lookup_at, turn_of}
+use Rattle.papaya_rests.specs.Rests.{HasMet}
+use Rattle.papaya_lookup.specs.Lookups.{HasHit, HoldsPair, IsReading, IsReadingAt, IsTurned, coding_for, led_to, left_of, lookup_at, setting_for, turn_of}
+use Rattle.papaya_lookup.specs.declared.lookup.Met.{Met}
 use Rattle.papaya_lookup.specs.declared.lookup.Turn.{Turn}
 use Rattle.papaya_lookup.specs.declared.lookup.Turn.TheVariants as turns
 use Rattle.papaya_lookup.proofs.Answering.{Reading, begins, next_read, root_read, slot_read}
@@ -112,9 +114,17 @@ compared_look kinds.Copied at hash word a w h = record { some = λ e. cc e; shut
 compared_look kinds.Buried at hash word a w h = absurd (on_not at a w h)
 compared_look kinds.Closed at hash word a w h = absurd (on_not at a w h)
 
-module _ (E : Type 0) where
+here_not : (at a : Place) (w : ℕ) → go_on at ≡ Here a w → ⊥
+here_not at a w = chosen (λ s. s ≡ Here a w → ⊥) (nat_lt at.probe.len at.limit) (On (Looking (next_place at))) (Over at.table) (λ e h. cc h) (λ e h. cc h)
+
+-- a pair is found where its key matches
+here_same : (at a : Place) (word w : ℕ) (same : Bool) → at_yes (Comparing at word) same ≡ Here a w → same ≡ true
+here_same at a word w true here = refl
+here_same at a word w false here = absurd (here_not at a w here)
+
+module _ (M E : Type 0) where
   -- the turn leads the machine where the search goes
-  led_on : (mode : ResizeMode) (n : ℕ) (seen : Seen) → IsOnward seen → goes_as Get mode nothing seen ≡ led_to {E = E} mode n (turn_of seen)
+  led_on : (mode : ResizeMode) (n : ℕ) (seen : Seen) → IsOnward seen → goes_as Get mode nothing seen ≡ led_to {M = M} {E = E} mode n (turn_of seen)
   led_on mode n (On (Looking at)) o = refl
   led_on mode n (On (Sizing t)) o = absurd o
   led_on mode n (On (Comparing at word)) o = absurd o
@@ -122,7 +132,7 @@ module _ (E : Type 0) where
   led_on mode n (Here at word) o = absurd o
   led_on mode n (Over t) o = refl
 
-  within_on : (seen : Seen) → IsSeen seen → (at : Place) → turn_of {E = E} seen ≡ turns.Next at → IsWithin at
+  within_on : (seen : Seen) → IsSeen seen → (at : Place) → turn_of {M = M} {E = E} seen ≡ turns.Next at → IsWithin at
   within_on (On (Looking p)) w at e = let is : p ≡ at = cc e in subst IsWithin is w
   within_on (On (Sizing t)) w at e = absurd (cc e)
   within_on (On (Comparing p word)) w at e = absurd (cc e)
@@ -130,13 +140,13 @@ module _ (E : Type 0) where
   within_on (Here p word) w at e = absurd (cc e)
   within_on (Over t) w at e = absurd (cc e)
 
-  unfound_on : (seen : Seen) (entry : E) → turn_of seen ≡ turns.Found entry → ⊥
-  unfound_on (On (Looking p)) entry e = cc e
-  unfound_on (On (Sizing t)) entry e = cc e
-  unfound_on (On (Comparing p word)) entry e = cc e
-  unfound_on (Empty p) entry e = cc e
-  unfound_on (Here p word) entry e = cc e
-  unfound_on (Over t) entry e = cc e
+  unfound_on : (seen : Seen) (met : M) (entry : E) → turn_of seen ≡ turns.Found met entry → ⊥
+  unfound_on (On (Looking p)) met entry e = cc e
+  unfound_on (On (Sizing t)) met entry e = cc e
+  unfound_on (On (Comparing p word)) met entry e = cc e
+  unfound_on (Empty p) met entry e = cc e
+  unfound_on (Here p word) met entry e = cc e
+  unfound_on (Over t) met entry e = cc e
 
 -- a lookup that was told this number of a table comes to that table, and has replied where it is 0
 abbrev pub numbered : ℕ → Stage
@@ -166,16 +176,19 @@ standing : (h : ℕ) (mode : ResizeMode) (stage : Stage) → IsStandingState Get
 standing h mode stage s = record { made = tt; remembered = record { fill = tt; choice = tt }; state = s }
 
 module _ {K V S H : Type 0} (eq : K → K → Bool) (input : K → List (List ℕ)) (build : S → H) (write : H → List ℕ → H) (finish : H → ℕ) (classes : IsEquivalence eq) (respects : (x y : K) → eq x y ≡ true → input x ≡ input y)
-    (b : Begun K V S) (matches : K → Bool) (query : List (List ℕ)) (lawful : IsQuery eq input matches query) (begun : List (Exchange (Stored K V))) (h : ℕ) where
+    (b : Begun K V S) (matches : K → Bool) (query : List (List ℕ)) (lawful : IsQuery eq input matches query) (begun : List (Exchange (Stored K V))) (h : ℕ) (name : Name) where
   abbrev hash : S → K → ℕ
   hash = hash_of input build write finish
+
+  abbrev fed_to : ℕ
+  fed_to = fed eq input build write finish classes respects b matches query lawful
 
   abbrev Reads : List (Event K V S) → Stage → Bor Sheet → Option (Stored K V) → Type 0
   Reads log stage lent pair = Reading eq input build write finish classes respects b matches query lawful begun log (lookup_at h b.mode stage) (Some lent) pair
 
   -- a turn led the machine on, and less is left
-  abbrev pub Goes : List (Event K V S) → Place → Sheet → Turn (Bor K × Bor V) → Type 0
-  Goes log at table turn = IsTurned eq hash b matches (fed eq input build write finish classes respects b matches query lawful) begun h log table turn × (left_of (led_to b.mode 0 turn) < left_of (Searching (Looking at)))
+  abbrev pub Goes : List (Event K V S) → Place → Sheet → Turn (Met K V) (Bor K × Bor V) → Type 0
+  Goes log at table turn = IsTurned eq hash b name matches fed_to begun h log table turn × (left_of (led_to b.mode 0 turn) < left_of (Searching (Looking at)))
 
   -- a search that goes on
   goes_on : (log : List (Event K V S)) (at : Place) (table : Sheet) (lent : Bor Sheet) → lent.now ≡ table → (pair : Option (Stored K V)) (seen : Seen) → IsSeen seen → IsOnward seen → Reads log (goes_as Get b.mode nothing seen) lent pair
@@ -186,14 +199,14 @@ module _ {K V S H : Type 0} (eq : K → K → Bool) (input : K → List (List �
       lent_is = is;
       pair = pair;
       number = 0;
-      reading = subst (λ (s : Stage). Reads log s lent pair) (led_on (Bor K × Bor V) b.mode 0 seen onward) r;
-      within = within_on (Bor K × Bor V) seen within;
-      found = λ entry e. absurd (unfound_on (Bor K × Bor V) seen entry e);
+      reading = subst (λ (s : Stage). Reads log s lent pair) (led_on (Met K V) (Bor K × Bor V) b.mode 0 seen onward) r;
+      within = within_on (Met K V) (Bor K × Bor V) seen within;
+      found = λ met entry e. absurd (unfound_on (Met K V) (Bor K × Bor V) seen met entry e);
     },
-    subst (λ (s : Stage). left_of s < left_of (Searching (Looking at))) (led_on (Bor K × Bor V) b.mode 0 seen onward) fewer,
+    subst (λ (s : Stage). left_of s < left_of (Searching (Looking at))) (led_on (Met K V) (Bor K × Bor V) b.mode 0 seen onward) fewer,
   )
 
-  module _ (log : List (Event K V S)) (at : Place) (within : IsWithin at) (table : Sheet) (r : IsReadingAt eq hash b matches (fed eq input build write finish classes respects b matches query lawful) begun h log (Searching (Looking at)) table) where
+  module _ (log : List (Event K V S)) (at : Place) (within : IsWithin at) (table : Sheet) (r : IsReadingAt eq hash b matches fed_to begun h log (Searching (Looking at)) table) where
     -- the table has the place
     pub place_there : IsTable log at.table table × (at.probe.i < length table.slots)
     place_there =
@@ -201,7 +214,7 @@ module _ {K V S H : Type 0} (eq : K → K → Bool) (input : K → List (List �
         (slot_held eq input build write finish classes respects b matches query lawful begun log (lookup_at h b.mode (Searching (Looking at))) (Some r.0) r.2 r.3 (standing h b.mode (Searching (Looking at)) within) at.table at.probe.i r.0 refl refl)
 
     -- its word was loaded
-    module _ (log' : List (Event K V S)) (pre : IsPrefix log log') (name : Name) (word : ℕ) (state : Option (Named K V)) (told : IsSlotWord eq hash b name at.table at.probe.i word log' state) where
+    module _ (log' : List (Event K V S)) (pre : IsPrefix log log') (word : ℕ) (state : Option (Named K V)) (told : IsSlotWord eq hash b name at.table at.probe.i word log' state) where
       -- no key is compared
       pub passed : IsSeen (look at h word) → ((a : Place) (w : ℕ) → look at h word ≡ On (Comparing a w) → ⊥) → Goes log' at table (turn_of (look at h word))
       passed seen none =
@@ -222,23 +235,37 @@ module _ {K V S H : Type 0} (eq : K → K → Bool) (input : K → List (List �
           pub pair_placed : IsPlaced b (Some name) (names.Pair p)
           pair_placed = subst (λ (o : Option (Stored K V)). IsPlaced b (Some name) (pair_named o)) stands told.placed
 
+          -- its key is to be compared
+          comparing : Reads log' (Searching (Comparing at word)) r.0 (Some p) × (left_of (Searching (Comparing at word)) < left_of (Searching (Looking at)))
+          comparing =
+              let looked = slot_read eq input build write finish classes respects b matches query lawful begun log log' pre told.read.lawful (lookup_at h b.mode (Searching (Looking at))) (Some r.0) r.2 r.3 (standing h b.mode (Searching (Looking at)) within)
+              at.table at.probe.i word (Some p) (Some p) refl told.read.is stands (λ last held. (refl, pair_placed)) in
+              let seen = (compared_look (kind_of word) at h word a w e).is in
+              (subst (λ (s : Seen). Reads log' (goes_as Get b.mode nothing s) r.0 (Some p)) seen looked.reading, subst (λ (s : Seen). left_of (goes_as Get b.mode nothing s) < left_of (Searching (Looking at))) seen looked.fewer)
+
+          -- the word that was loaded named it
+          word_met : HasMet (setting_for eq hash b matches fed_to log') (coding_for hash b.hasher fed_to) begun comparing.0.since None at word p
+          word_met =
+              let stage = comparing.0.rests.stage in
+              let one : stage.0 ≡ p = let same = sym stage.1 ∙ sym comparing.0.holds_pair.0 in cc same in
+              subst (HasMet (setting_for eq hash b matches fed_to log') (coding_for hash b.hasher fed_to) begun comparing.0.since None at word) one stage.2
+
           -- its key was compared
           module _ (same : Bool) (same_is : same ≡ matches (key_of p)) where
             compared : Reads log' (goes_as Get b.mode nothing (at_yes (Comparing at word) same)) r.0 (Some p) × (left_of (goes_as Get b.mode nothing (at_yes (Comparing at word) same)) < left_of (Searching (Looking at)))
             compared =
-                let looked = slot_read eq input build write finish classes respects b matches query lawful begun log log' pre told.read.lawful (lookup_at h b.mode (Searching (Looking at))) (Some r.0) r.2 r.3 (standing h b.mode (Searching (Looking at)) within)
-                at.table at.probe.i word (Some p) (Some p) refl told.read.is stands (λ last held. (refl, pair_placed)) in
-                let seen = (compared_look (kind_of word) at h word a w e).is in
-                let there : Reads log' (Searching (Comparing at word)) r.0 (Some p) = subst (λ (s : Seen). Reads log' (goes_as Get b.mode nothing s) r.0 (Some p)) seen looked.reading in
-                let all = same_read eq input build write finish classes respects b matches query lawful begun log' (lookup_at h b.mode (Searching (Comparing at word))) (Some r.0) (Some p) there (standing h b.mode (Searching (Comparing at word)) within) (pair_of word) p same refl same_is refl in
-                let before : left_of (Searching (Comparing at word)) < left_of (Searching (Looking at)) = subst (λ (s : Seen). left_of (goes_as Get b.mode nothing s) < left_of (Searching (Looking at))) seen looked.fewer in
+                let all = same_read eq input build write finish classes respects b matches query lawful begun log' (lookup_at h b.mode (Searching (Comparing at word))) (Some r.0) (Some p) comparing.0 (standing h b.mode (Searching (Comparing at word)) within) (pair_of word) p same refl same_is refl in
+                let before : left_of (Searching (Comparing at word)) < left_of (Searching (Looking at)) = comparing.1 in
                 let less : left_of (goes_as Get b.mode nothing (at_yes (Comparing at word) same)) < left_of (Searching (Comparing at word)) = all.fewer in
                 (all.reading, omega (arith, before, less))
 
             pub other_pair : IsSeen (at_yes (Comparing at word) same) → ((a' : Place) (w' : ℕ) → at_yes (Comparing at word) same ≡ Here a' w' → ⊥) → Goes log' at table (turn_of (at_yes (Comparing at word) same))
             other_pair seen none = goes_on log' at table r.0 r.1 (Some p) (at_yes (Comparing at word) same) seen (onward_yes at word same none) compared.0 compared.1
 
-            pub pair_found : (a' : Place) (w' : ℕ) → at_yes (Comparing at word) same ≡ Here a' w' → (entry : Bor K × Bor V) → entry.0.now ≡ key_of p → entry.1.now ≡ p.value.value → IsTurned eq hash b matches (fed eq input build write finish classes respects b matches query lawful) begun h log' table (turns.Found entry)
+            abbrev met : Met K V
+            met = record { place = at; word = word; stored = p }
+
+            pub pair_found : (a' : Place) (w' : ℕ) → at_yes (Comparing at word) same ≡ Here a' w' → (entry : Bor K × Bor V) → entry.0.now ≡ key_of p → entry.1.now ≡ p.value.value → IsTurned eq hash b name matches fed_to begun h log' table (turns.Found met entry)
             pair_found a' w' here entry key_is value_is = record {
               lent = r.0;
               lent_is = r.1;
@@ -246,9 +273,24 @@ module _ {K V S H : Type 0} (eq : K → K → Bool) (input : K → List (List �
               number = pair_of w';
               reading = subst (λ (s : Seen). Reads log' (goes_as Get b.mode nothing s) r.0 (Some p)) here compared.0;
               within = λ z e'. absurd (cc e');
-              found = λ other e'.
-                  let one : entry ≡ other = cc e' in
-                  (p, refl, subst (λ (z : Bor K × Bor V). z.0.now ≡ key_of p) one key_is, subst (λ (z : Bor K × Bor V). z.1.now ≡ p.value.value) one value_is);
+              found = λ met' entry' e'.
+                  let one : met ≡ met' = cc e' in
+                  let two : entry ≡ entry' = cc e' in
+                  subst (λ (z : Met K V × (Bor K × Bor V)). (Some p ≡ Some z.0.stored) × (z.1.0.now ≡ key_of z.0.stored) × (z.1.1.now ≡ z.0.stored.value.value) × HasHit eq hash b name matches fed_to begun log' table z.0) (λ i. (one i, two i)) (
+                    refl,
+                    key_is,
+                    value_is,
+                    record {
+                      lawful = comparing.0.lawful;
+                      since = comparing.0.since;
+                      is = comparing.0.is;
+                      met = word_met;
+                      same = sym same_is ∙ here_same at a' word w' same here;
+                      within = within;
+                      holds = subst (IsTable log' at.table) r.1 comparing.0.holds_table;
+                      placed = pair_placed;
+                    },
+                  );
             }
 
 module _ {K V S H : Type 0} (eq : K → K → Bool) (input : K → List (List ℕ)) (build : S → H) (write : H → List ℕ → H) (finish : H → ℕ) (classes : IsEquivalence eq) (respects : (x y : K) → eq x y ≡ true → input x ≡ input y)
@@ -262,8 +304,8 @@ module _ {K V S H : Type 0} (eq : K → K → Bool) (input : K → List (List �
   abbrev Reads_with : List (Event K V S) → Stage → Option (Bor Sheet) → Option (Stored K V) → Type 0
   Reads_with log stage held pair = Reading eq input build write finish classes respects b matches query lawful (exchanges_of began) log (lookup_at h b.mode stage) held pair
 
-  abbrev pub Turned : List (Event K V S) → Sheet → Turn (Bor K × Bor V) → Type 0
-  Turned log table turn = IsTurned eq hash_in b matches (fed eq input build write finish classes respects b matches query lawful) (exchanges_of began) h log table turn
+  abbrev pub Turned : List (Event K V S) → Sheet → Turn (Met K V) (Bor K × Bor V) → Type 0
+  Turned log table turn = IsTurned eq hash_in b book.begun.book matches (fed eq input build write finish classes respects b matches query lawful) (exchanges_of began) h log table turn
 
   -- the number of the root was loaded
   pub root_held : IsLawfulLog eq hash_in b began → h ≡ fed eq input build write finish classes respects b matches query lawful → (log : List (Event K V S)) → IsPrefix began log → (word : ℕ) (held : Option (Bor Sheet)) → IsRoot eq hash_in b book.begun.book word log held → Reads_with log (numbered word) held None
@@ -286,7 +328,7 @@ module _ {K V S H : Type 0} (eq : K → K → Bool) (input : K → List (List �
 
   -- a search that passed the table: the number of the next one was loaded
   pub next_held : (log log' : List (Event K V S)) → IsPrefix log log' → (table : Sheet) (t : ℕ) (chunk : ℕ) → book.parts.mode ≡ Incremental chunk → Turned log table (turns.Over t) → (word : ℕ) (held : Option (Bor Sheet)) → IsNext eq hash_in b book.begun.book t word log' held
-      → (pair : Option (Stored K V)) × Reads_with log' (numbered word) held pair × (left_of (numbered word) < left_of (led_to {E = Bor K × Bor V} b.mode 0 (turns.Over t)))
+      → (pair : Option (Stored K V)) × Reads_with log' (numbered word) held pair × (left_of (numbered word) < left_of (led_to {M = Met K V} {E = Bor K × Bor V} b.mode 0 (turns.Over t)))
   next_held log log' after table t chunk mode turned word held told =
       let leads : passes Get b.mode None t ≡ Leaving t = ap (λ (z : ResizeMode). passes Get z None t) mode in
       let r : Reads_with log (Leaving t) (Some turned.lent) turned.pair = subst (λ (s : Stage). Reads_with log s (Some turned.lent) turned.pair) leads turned.reading in
@@ -294,31 +336,31 @@ module _ {K V S H : Type 0} (eq : K → K → Bool) (input : K → List (List �
       (turned.pair, all.reading, subst (λ (s : Stage). left_of (numbered word) < left_of s) (sym leads) all.fewer)
 
   -- what the lookup answers: the pair that was found
-  pub answers_found : (log : List (Event K V S)) (table : Sheet) (entry : Bor K × Bor V) → Turned log table (turns.Found entry) → IsPairAnsweredBetween {V = V} eq matches (history_of old) (history_of log) (Some entry)
-  answers_found log table entry turned =
-      let f = turned.found entry refl in
-      found_answer eq input build write finish classes respects b matches query lawful old began pre log (lookup_at h b.mode (Ended (replies.Found turned.number))) (Some turned.lent) turned.pair turned.reading (standing h b.mode (Ended (replies.Found turned.number)) tt) turned.number refl f.0 f.1 entry f.2 f.3
+  pub answers_found : (log : List (Event K V S)) (table : Sheet) (met : Met K V) (entry : Bor K × Bor V) → Turned log table (turns.Found met entry) → (lent : Bor Sheet) → IsHitAnsweredBetween {S = S} {H = H} eq matches (history_of old) (history_of log) (Some (record { table = lent; met = met; key = entry.0; value = entry.1 }))
+  answers_found log table met entry turned lent =
+      let f = turned.found met entry refl in
+      found_answer eq input build write finish classes respects b matches query lawful old began pre log (lookup_at h b.mode (Ended (replies.Found turned.number))) (Some turned.lent) turned.pair turned.reading (standing h b.mode (Ended (replies.Found turned.number)) tt) turned.number refl met.stored f.0 (record { table = lent; met = met; key = entry.0; value = entry.1 }) f.1 f.2
 
-  absent : (log : List (Event K V S)) (held : Option (Bor Sheet)) (pair : Option (Stored K V)) → Reads_with log (Ended replies.Absent) held pair → IsPairAnsweredBetween {V = V} eq matches (history_of old) (history_of log) None
+  absent : (log : List (Event K V S)) (held : Option (Bor Sheet)) (pair : Option (Stored K V)) → Reads_with log (Ended replies.Absent) held pair → IsHitAnsweredBetween {S = S} {H = H} eq matches (history_of old) (history_of log) None
   absent log held pair r = absent_answer eq input build write finish classes respects b matches query lawful old began pre log (lookup_at h b.mode (Ended replies.Absent)) held pair r (standing h b.mode (Ended replies.Absent) tt) replies.Absent refl (λ n e. cc e)
 
   -- none, where a search ended so
-  pub answers_absent : (log : List (Event K V S)) (table : Sheet) → Turned log table turns.Absent → IsPairAnsweredBetween {V = V} eq matches (history_of old) (history_of log) None
+  pub answers_absent : (log : List (Event K V S)) (table : Sheet) → Turned log table turns.Absent → IsHitAnsweredBetween {S = S} {H = H} eq matches (history_of old) (history_of log) None
   answers_absent log table turned = absent log (Some turned.lent) turned.pair turned.reading
 
   -- or passed the table where no further one is searched
-  pub answers_passed : (log : List (Event K V S)) (table : Sheet) (t : ℕ) → book.parts.mode ≡ Blocking → Turned log table (turns.Over t) → IsPairAnsweredBetween {V = V} eq matches (history_of old) (history_of log) None
+  pub answers_passed : (log : List (Event K V S)) (table : Sheet) (t : ℕ) → book.parts.mode ≡ Blocking → Turned log table (turns.Over t) → IsHitAnsweredBetween {S = S} {H = H} eq matches (history_of old) (history_of log) None
   answers_passed log table t mode turned = absent log (Some turned.lent) turned.pair (subst (λ (s : Stage). Reads_with log s (Some turned.lent) turned.pair) (ap (λ (z : ResizeMode). passes Get z None t) mode) turned.reading)
 
   -- or where there is no table
-  pub answers_none : (log : List (Event K V S)) (number : ℕ) (held : Option (Bor Sheet)) (pair : Option (Stored K V)) → Reads_with log (numbered number) held pair → MatchOption held (number ≡ 0) (λ z. IsTable log number z.now × (z.now.book ≡ book.begun.book)) → held ≡ None → IsPairAnsweredBetween {V = V} eq matches (history_of old) (history_of log) None
+  pub answers_none : (log : List (Event K V S)) (number : ℕ) (held : Option (Bor Sheet)) (pair : Option (Stored K V)) → Reads_with log (numbered number) held pair → MatchOption held (number ≡ 0) (λ z. IsTable log number z.now × (z.now.book ≡ book.begun.book)) → held ≡ None → IsHitAnsweredBetween {S = S} {H = H} eq matches (history_of old) (history_of log) None
   answers_none log number held pair reading named none =
       let zero = subst (λ (o : Option (Bor Sheet)). MatchOption o (number ≡ 0) (λ z. IsTable log number z.now × (z.now.book ≡ book.begun.book))) none named in
       absent log held pair (subst (λ (s : Stage). Reads_with log s held pair) (numbered_none number zero) reading)
 
 -- a search that neither goes on, nor found a pair, nor passed the table
-pub absent_else : {E : Type 0} (turn : Turn E) → ((at : Place) → turn ≡ turns.Next at → ⊥) → ((entry : E) → turn ≡ turns.Found entry → ⊥) → ((t : ℕ) → turn ≡ turns.Over t → ⊥) → turn ≡ turns.Absent
+pub absent_else : {M E : Type 0} (turn : Turn M E) → ((at : Place) → turn ≡ turns.Next at → ⊥) → ((met : M) (entry : E) → turn ≡ turns.Found met entry → ⊥) → ((t : ℕ) → turn ≡ turns.Over t → ⊥) → turn ≡ turns.Absent
 absent_else (turns.Next at) on found over = absurd (on at refl)
-absent_else (turns.Found entry) on found over = absurd (found entry refl)
+absent_else (turns.Found met entry) on found over = absurd (found met entry refl)
 absent_else turns.Absent on found over = refl
 absent_else (turns.Over t) on found over = absurd (over t refl)

@@ -4,6 +4,7 @@ use mathlib.Core.List.{IsPrefix}
 use denote.Bor.{Bor}
 use Rattle.papaya_lookup.specs.History.{Change, key_of, replay}
 use Rattle.papaya_book.specs.Logs.{Stored}
+use Rattle.papaya_lookup.specs.declared.lookup.Hit.{Hit}
 
 -- The answer is that of a history between the two: it is of the pair that a matching key has there,
 -- or none where no matching key has one.
@@ -28,3 +29,9 @@ abbrev pub IsPairAnsweredBetween : {K V : Type 0} → (K → K → Bool) → (K 
     → (old new : List (Change K (Stored K V))) → Option (Bor K × Bor V) → Type 0
 IsPairAnsweredBetween = IsFoundBetween
     (λ pair p. (pair.0.now ≡ key_of p) × (pair.1.now ≡ p.value.value))
+
+-- the same of one that tells where it found the pair
+abbrev pub IsHitAnsweredBetween : {K V S H : Type 0} → (K → K → Bool) → (K → Bool)
+    → (old new : List (Change K (Stored K V))) → Option (Hit K V S H) → Type 0
+IsHitAnsweredBetween = IsFoundBetween
+    (λ hit p. (hit.key.now ≡ key_of p) × (hit.value.now ≡ p.value.value))

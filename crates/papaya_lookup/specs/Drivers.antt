@@ -1,5 +1,6 @@
 -- What a lookup rests on, and what a caller has seen and made, by what it sees of the map.
-use Rattle.std.specs.Prelude.{ℕ, List}
+use Rattle.std.specs.Prelude.{◌≡◌, ℕ, List}
+use mathlib.Core.List.{IsPrefix}
 use denote.Bor.{Bor}
 use Rattle.papaya_call.specs.declared.machine.State.{State as Stage}
 use Rattle.papaya_book.specs.declared.rule.entry.Event.{Event}
@@ -9,8 +10,10 @@ use Rattle.papaya_book.specs.Keys.{Query}
 use Rattle.papaya_book.specs.Logs.{Stored, exchanges_of}
 use Rattle.papaya_book.specs.Parts.{begun_of}
 use Rattle.papaya_book.specs.Sheets.{Sheet}
+use Rattle.papaya_lookup.specs.declared.lookup.Hit.{Hit}
+use Rattle.papaya_lookup.specs.declared.lookup.Met.{Met}
 use Rattle.papaya_lookup.specs.declared.lookup.Turn.{Turn}
-use Rattle.papaya_lookup.specs.History.{Change, changes_by, history_of}
+use Rattle.papaya_lookup.specs.History.{Change, changes_by, history_of, key_of}
 use Rattle.papaya_lookup.specs.Lookups as lookups
 
 module _ {K V S H : Type 0} {d : keyed.Ghosts S K H} where
@@ -23,7 +26,7 @@ module _ {K V S H : Type 0} {d : keyed.Ghosts S K H} where
   own w = changes_by w.own.done
 
   -- what a lookup has left to do after a turn
-  abbrev pub left_after : Window K V S H d → Turn (Bor K × Bor V) → ℕ
+  abbrev pub left_after : Window K V S H d → Turn (Met K V) (Bor K × Bor V) → ℕ
   left_after w turn = lookups.left_of (lookups.led_to w.book.now.parts.mode 0 turn)
 
   module _ (query : Query K S) (began : List (Event K V S)) where
@@ -34,7 +37,19 @@ module _ {K V S H : Type 0} {d : keyed.Ghosts S K H} where
         (exchanges_of began) hash w.sight.log stage table
 
     -- a turn led it on, as is seen by now
-    abbrev pub IsTurned : Window K V S H d → ℕ → Sheet → Turn (Bor K × Bor V) → Type 0
+    abbrev pub IsTurned : Window K V S H d → ℕ → Sheet → Turn (Met K V) (Bor K × Bor V) → Type 0
     IsTurned w hash table turn = lookups.IsTurned d.keys.eq d.keys.hash (begun_of w.book.now.parts)
-        query.matches (query.hash w.book.now.parts.hasher) (exchanges_of began) hash w.sight.log
-        table turn
+        w.book.now.begun.book query.matches (query.hash w.book.now.parts.hasher)
+        (exchanges_of began) hash w.sight.log table turn
+
+    -- a search that began at this log met this pair, as is seen by now
+    abbrev pub HasHit : Window K V S H d → Hit K V S H → Type 0
+    HasHit w hit = IsPrefix began w.sight.log × (hit.key.now ≡ key_of hit.met.stored)
+        × (hit.value.now ≡ hit.met.stored.value.value) × lookups.HasHit d.keys.eq d.keys.hash
+        (begun_of w.book.now.parts) w.book.now.begun.book query.matches
+        (query.hash w.book.now.parts.hasher) (exchanges_of began) w.sight.log hit.table.now hit.met
+
+  -- one that began after all that was seen by then has met it
+  abbrev pub Hits : Query K S → (w w' : Window K V S H d) → Hit K V S H → Type 0
+  Hits query w w' hit = (began : List (Event K V S)) × IsPrefix w.sight.log began
+      × HasHit query began w' hit

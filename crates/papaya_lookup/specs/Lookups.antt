@@ -1,6 +1,7 @@
 -- What a lookup on the shared map holds and rests on, and what it answers.
-use Rattle.std.specs.Prelude.{◌≡◌, ℕ, ◌+◌, ◌*◌, ◌-◌, ◌^◌, Bool, Option, None, Some, List, ◌++◌}
+use Rattle.std.specs.Prelude.{◌≡◌, ℕ, ◌+◌, ◌*◌, ◌-◌, ◌^◌, Bool, true, Option, None, Some, List, ◌++◌}
 use denote.Bor.{Bor}
+use Rattle.logbook.specs.Pages.{Book}
 use Rattle.papaya_ask.specs.declared.call.Reply.TheVariants.{Absent, Found}
 use Rattle.papaya_ask.specs.declared.call.Task.TheVariants.{Get}
 use Rattle.papaya_call.specs.declared.machine.Machine.{Machine}
@@ -16,15 +17,17 @@ use Rattle.papaya_law.specs.Exchange.{Exchange, Setting}
 use Rattle.papaya_law.specs.Code.{Coding}
 use Rattle.papaya_law.specs.Further.{coding_with, with_key}
 use Rattle.papaya_call.specs.Machine.{passes, started}
-use Rattle.papaya_rests.specs.Rests.{Rests, WasAtMoment}
+use Rattle.papaya_rests.specs.Rests.{HasMet, Rests, WasAtMoment}
 use Rattle.papaya_rests.specs.Told.{Hands}
 use Rattle.papaya_book.specs.Sheets.{Sheet}
 use Rattle.papaya_book.specs.declared.rule.entry.Begun.{Begun}
 use Rattle.papaya_book.specs.declared.rule.entry.Event.{Event}
+use Rattle.papaya_book.specs.declared.rule.entry.Named.TheVariants.{Pair}
 use Rattle.papaya_book.specs.Calls.{IsTable}
 use Rattle.papaya_book.specs.Logs.{Stored, coding_of, exchanges_of, pair_named, setting_of}
 use Rattle.papaya_book.specs.Rule.{IsLawfulLog, IsPlaced}
 use Rattle.papaya_lookup.specs.History.{key_of}
+use Rattle.papaya_lookup.specs.declared.lookup.Met.{Met}
 use Rattle.papaya_lookup.specs.declared.lookup.Turn.{Turn}
 use Rattle.papaya_lookup.specs.declared.lookup.Turn.TheVariants as turns
 
@@ -102,24 +105,39 @@ IsReadingAt {K} {V} eq hash b matches fed begun h log stage table = (lent : Bor 
     × IsReading eq hash b matches fed begun log (lookup_at h b.mode stage) (Some lent) pair
 
 -- where a search goes on that has found no pair
-abbrev pub turn_of : {E : Type 0} → Seen → Turn E
+abbrev pub turn_of : {M E : Type 0} → Seen → Turn M E
 turn_of (On (Looking at)) = turns.Next at
 turn_of (Over t) = turns.Over t
 turn_of _ = turns.Absent
 
 -- where a turn leads the lookup's machine, with the number of the pair that was found
-abbrev pub led_to : {E : Type 0} → ResizeMode → ℕ → Turn E → Stage
+abbrev pub led_to : {M E : Type 0} → ResizeMode → ℕ → Turn M E → Stage
 led_to mode number (turns.Next at) = Searching (Looking at)
-led_to mode number (turns.Found entry) = Ended (Found number)
+led_to mode number (turns.Found met entry) = Ended (Found number)
 led_to mode number turns.Absent = Ended Absent
 led_to mode number (turns.Over t) = passes Get mode None t
 
--- A turn of a search led the lookup's machine on. Where a pair was found, these are its key and its
--- value.
+-- A search has met a pair with a matching key: the word that it loaded at this place of this table
+-- named the pair, which lies in the logs.
+pub record HasHit {K V S : Type 0} (eq : K → K → Bool) (hash : S → K → ℕ) (b : Begun K V S)
+    (name : Book) (matches : K → Bool) (fed : ℕ) (begun : List (Exchange (Stored K V)))
+    (log : List (Event K V S)) (table : Sheet) (hit : Met K V) : Type 0 where
+  pub lawful : IsLawfulLog eq hash b log
+  pub since : List (Exchange (Stored K V))
+  pub is : begun ++ since ≡ exchanges_of log
+  pub met : HasMet (setting_for eq hash b matches fed log) (coding_for hash b.hasher fed) begun since
+      None hit.place hit.word hit.stored
+  pub same : matches (key_of hit.stored) ≡ true
+  pub within : IsWithin hit.place
+  pub holds : IsTable log hit.place.table table
+  pub placed : IsPlaced b (Some name) (Pair hit.stored)
+
+-- A turn of a search led the lookup's machine on. Where a pair was found, the search has met it, and
+-- these are its key and its value.
 pub record IsTurned {K V S : Type 0} (eq : K → K → Bool) (hash : S → K → ℕ) (b : Begun K V S)
-    (matches : K → Bool) (fed : ℕ) (begun : List (Exchange (Stored K V))) (h : ℕ)
+    (name : Book) (matches : K → Bool) (fed : ℕ) (begun : List (Exchange (Stored K V))) (h : ℕ)
     (log : List (Event K V S)) (table : Sheet)
-    (turn : Turn (Bor K × Bor V)) : Type 0 where
+    (turn : Turn (Met K V) (Bor K × Bor V)) : Type 0 where
   pub lent : Bor Sheet
   pub lent_is : lent.now ≡ table
   pub pair : Option (Stored K V)
@@ -127,6 +145,7 @@ pub record IsTurned {K V S : Type 0} (eq : K → K → Bool) (hash : S → K →
   pub reading : IsReading eq hash b matches fed begun log
       (lookup_at h b.mode (led_to b.mode number turn)) (Some lent) pair
   pub within : (at : Place) → turn ≡ turns.Next at → IsWithin at
-  pub found : (entry : Bor K × Bor V) → turn ≡ turns.Found entry
-      → (p : Stored K V) × (pair ≡ Some p) × (entry.0.now ≡ key_of p)
-      × (entry.1.now ≡ p.value.value)
+  pub found : (met : Met K V) (entry : Bor K × Bor V) → turn ≡ turns.Found met entry
+      → (pair ≡ Some met.stored) × (entry.0.now ≡ key_of met.stored)
+      × (entry.1.now ≡ met.stored.value.value)
+      × HasHit eq hash b name matches fed begun log table met

@@ -1,18 +1,20 @@
 //! Lookups, by atomic loads alone. The machine of a lookup stands in the proof: it is answered by
 //! what is loaded.
-ghost use Rattle.std.specs.Prelude.{◌≡◌, ◌<◌, ◌≤◌};
+ghost use Rattle.std.specs.Prelude.{◌≡◌, ◌<◌, ◌≤◌, Some};
 ghost use Rattle.papaya_ask.specs.Search.{IsWithin};
 ghost use Rattle.papaya_call.specs.declared.machine.State.TheVariants.{Searching};
 ghost use Rattle.papaya_ask.specs.declared.search.Search.TheVariants.{Looking};
 ghost use Rattle.papaya_book.specs.Windows.{IsLawful, Sees};
-ghost use Rattle.papaya_lookup.specs.Answers.{IsAnsweredBetween, IsPairAnsweredBetween};
-ghost use Rattle.papaya_lookup.specs.Drivers.{IsReadingAt, IsTurned, left_after, past};
+ghost use Rattle.papaya_lookup.specs.Answers.{IsAnsweredBetween, IsHitAnsweredBetween};
+ghost use Rattle.papaya_lookup.specs.Answers.{IsPairAnsweredBetween};
+ghost use Rattle.papaya_lookup.specs.Drivers.{Hits, IsReadingAt, IsTurned, left_after, past};
 ghost use Rattle.papaya_lookup.specs.Lookups.{left_of, turn_of};
 ghost use Rattle.papaya_lookup.specs.declared.lookup.Turn.TheVariants.{Next};
 
 use papaya_ask::search::{Place, Search, Seen};
 use papaya_book::book::gains::named_pair;
 use papaya_book::keyed::{Asked, Hashed};
+use papaya_book::rule::entry::Stored;
 use papaya_book::rule::trade::Sight;
 use papaya_book::table::Table;
 use papaya_book::window::Window;
@@ -20,13 +22,31 @@ use papaya_keys::guard::Equivalent;
 use papaya_words::probe::ResizeMode;
 use std::hash::{BuildHasher, Hash, Hasher};
 
+/// What a search has met: a place and the word that stood there, and the pair that it names.
+#[derive(Drop)]
+pub struct Met<K, V> {
+    pub place: Place,
+    pub word: u64,
+    pub stored: Stored<K, V>,
+}
+
+/// A pair that was found: its key and its value, and where the search met it. A caller that wants the
+/// pair alone pays nothing for the rest.
+#[derive(Drop)]
+pub struct Hit<'a, K: Hash + Eq, V, S: BuildHasher> {
+    pub table: &'a Table<K, V, S>,
+    pub met: Met<K, V>,
+    pub key: &'a K,
+    pub value: &'a V,
+}
+
 /// Where a turn of a search leads.
 #[derive(Drop)]
-enum Turn<E> {
+enum Turn<M, E> {
     /// This place is looked at next.
     Next(Place),
-    /// This was found of a pair with a matching key.
-    Found(E),
+    /// This pair has a matching key: where it was met, and its key and its value.
+    Found(M, E),
     /// No pair has a matching key.
     Absent,
     /// The key is not in this table, but may be in the next.
@@ -35,7 +55,7 @@ enum Turn<E> {
 
 /// Where a search goes on that has found no pair.
 #[inline(always)]
-fn without<E>(seen: Seen) -> Turn<E>
+fn without<M, E>(seen: Seen) -> Turn<M, E>
     ensures { result ≡ turn_of seen }
 {
     match seen {
@@ -55,7 +75,7 @@ fn look_at<'a, K: Hash + Eq, V, S: BuildHasher, Q: Equivalent<K>>(
     began: &Sight<K, V, S>,
     table: &Table<K, V, S>,
     at: Place,
-) -> Turn<(&'a K, &'a V)>
+) -> Turn<Met<K, V>, (&'a K, &'a V)>
     requires within { IsWithin at }
     requires reading { IsReadingAt (⟦<S as Asked<K, Q>>⟧.query key.now) began.now.log window.old
         hash (Searching (Looking at)) table.now }
@@ -77,7 +97,15 @@ fn look_at<'a, K: Hash + Eq, V, S: BuildHasher, Q: Equivalent<K>>(
             let same = key.equivalent(stored_key);
             let compared = Search::Comparing(at, word).at_yes(same);
             match compared {
-                Seen::Here(..) => Turn::Found((stored_key, pair.value())),
+                Seen::Here(..) => {
+                    let entry = (stored_key, pair.value());
+                    let met = Met {
+                        place: at,
+                        word,
+                        stored,
+                    };
+                    Turn::Found(met, entry)
+                }
                 _ => without(compared),
             }
         }
@@ -94,7 +122,7 @@ fn search<'a, K: Hash + Eq, V, S: BuildHasher, Q: Equivalent<K>>(
     began: &Sight<K, V, S>,
     table: &Table<K, V, S>,
     at: Place,
-) -> Turn<(&'a K, &'a V)>
+) -> Turn<Met<K, V>, (&'a K, &'a V)>
     requires within { IsWithin at }
     requires reading { IsReadingAt (⟦<S as Asked<K, Q>>⟧.query key.now) began.now.log window.old
         hash (Searching (Looking at)) table.now }
@@ -114,21 +142,24 @@ fn search<'a, K: Hash + Eq, V, S: BuildHasher, Q: Equivalent<K>>(
     }
 }
 
-/// Looks up the pair whose key `key` matches. It goes by atomic loads alone: it waits for nobody and
-/// takes no memory.
+/// Looks up the pair whose key `key` matches, and tells where it stood. It goes by atomic loads alone:
+/// it waits for nobody and takes no memory.
 ///
 /// The answer is the pair of one of the histories that the map had between the last one that was seen
-/// before and the one that is seen then: its key as it is stored, and its value.
+/// before and the one that is seen then: its key as it is stored, and its value. A removal goes on
+/// from there.
 #[inline(always)]
-pub fn look_up_pair<'a, K: Hash + Eq, V, S: BuildHasher, Q: Equivalent<K>>(
+pub fn find<'a, K: Hash + Eq, V, S: BuildHasher, Q: Equivalent<K>>(
     window: &mut Window<'a, K, V, S>,
     key: &Q,
-) -> Option<(&'a K, &'a V)>
+) -> Option<Hit<'a, K, V, S>>
     ensures sees { Sees window.old window.new }
     ensures own { window.new.own ≡ window.old.own }
     ensures lawful { IsLawful window.new }
-    ensures answered { IsPairAnsweredBetween K.eq (Q.matches key.now) (past window.old)
+    ensures answered { IsHitAnsweredBetween K.eq (Q.matches key.now) (past window.old)
         (past window.new) result }
+    ensures hits { (hit : _) → result ≡ Some hit → Hits (⟦<S as Asked<K, Q>>⟧.query key.now)
+        window.old window.new hit }
 {
     window.learn();
     let began = window.sight.again();
@@ -138,7 +169,14 @@ pub fn look_up_pair<'a, K: Hash + Eq, V, S: BuildHasher, Q: Equivalent<K>>(
         let (len, limit) = table.size();
         let first = Place::first(hash, number, len, limit);
         match search(window, key, hash, &began, table, first) {
-            Turn::Found(entry) => return Some(entry),
+            Turn::Found(met, entry) => {
+                return Some(Hit {
+                    table,
+                    met,
+                    key: entry.0,
+                    value: entry.1,
+                });
+            }
             Turn::Over(passed) => match window.book.parts.mode {
                 ResizeMode::Incremental(_) => {
                     let (next, table) = window.next(table, passed);
@@ -153,7 +191,25 @@ pub fn look_up_pair<'a, K: Hash + Eq, V, S: BuildHasher, Q: Equivalent<K>>(
     None
 }
 
-/// Looks up what `key` matches, as [`look_up_pair`] does, and answers its value alone.
+/// Looks up what `key` matches, as [`find`] does, and answers its key and its value alone.
+#[inline(always)]
+pub fn look_up_pair<'a, K: Hash + Eq, V, S: BuildHasher, Q: Equivalent<K>>(
+    window: &mut Window<'a, K, V, S>,
+    key: &Q,
+) -> Option<(&'a K, &'a V)>
+    ensures sees { Sees window.old window.new }
+    ensures own { window.new.own ≡ window.old.own }
+    ensures lawful { IsLawful window.new }
+    ensures answered { IsPairAnsweredBetween K.eq (Q.matches key.now) (past window.old)
+        (past window.new) result }
+{
+    match find(window, key) {
+        Some(hit) => Some((hit.key, hit.value)),
+        None => None,
+    }
+}
+
+/// Looks up what `key` matches, as [`find`] does, and answers its value alone.
 #[inline(always)]
 pub fn look_up<'a, K: Hash + Eq, V, S: BuildHasher, Q: Equivalent<K>>(
     window: &mut Window<'a, K, V, S>,

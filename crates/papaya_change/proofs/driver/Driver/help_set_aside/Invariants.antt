@@ -5,7 +5,7 @@ use Rattle.papaya_book.specs.Limits.{tables_of}
 use Rattle.papaya_book.specs.Windows.{Sees}
 use Rattle.papaya_change.specs.Drivers.{GoesOn}
 use Rattle.papaya_change.proofs.HelpingArrives.{HasReached}
-use Rattle.papaya_change.proofs.driver.Driver.help.Given as goal
+use Rattle.papaya_change.proofs.driver.Driver.help_set_aside.Given as goal
 
 -- the call rests on what is seen by now, and what was answered for the copy has led it here
 abbrev pub invariant-loop : goal.invariant-loop

@@ -12,7 +12,7 @@ use Rattle.papaya_change.specs.Helping.{Copies}
 use Rattle.papaya_change.proofs.HelpingArrives.{helped}
 use Rattle.papaya_change.proofs.HelpingGoes.{calls, come_now, goes_further, goes_now, lawful_now, reached_now}
 use Rattle.papaya_change.proofs.HelpingLeads.{busy}
-use Rattle.papaya_change.proofs.driver.Driver.help.Goals as goal
+use Rattle.papaya_change.proofs.driver.Driver.help_set_aside.Goals as goal
 
 pub returns-in_default-clause-helped : goal.returns-in_default-clause-helped
 returns-in_default-clause-helped g c = helped c.args.self.now.machine c.loop.self.machine (tables_of c.loop.window.sight.log) c.loop.self.given.done c.loop.invariant.reached (calls c.loop.self.machine (λ ask asked. c.in_default.not-Copy ask (c.ask.ensures.value ∙ asked)))
