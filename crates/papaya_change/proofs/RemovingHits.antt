@@ -1,5 +1,5 @@
 -- A removal that is made at once: its machine, which nothing runs, stands where the lookup's search met the pair.
-use Rattle.std.proofs.Common.{◌≡◌, inl, inr, ℕ, zero, suc, ◌<◌, ◌==◌, Bool, true, false, MatchBool, MatchOption, Option, None, Some, Result, Ok, Err, List, [], ◌∷◌, ◌++◌, append-nil, length, refl, sym, ap, ◌∙◌, subst, arith}
+use Rattle.std.proofs.Common.{◌≡◌, inl, inr, ℕ, zero, suc, ◌<◌, ◌==◌, Bool, true, false, MatchBool, Option, None, Some, Result, Ok, Err, List, [], ◌∷◌, ◌++◌, append-nil, length, refl, sym, ap, ◌∙◌, subst, arith}
 use Rattle.std.specs.Cmp.{IsEquivalence}
 use mathlib.Core.List.{IsPrefix}
 use denote.Bor.{Bor}
@@ -9,14 +9,13 @@ use Rattle.papaya_words.specs.Word.{kind_of, pair_of}
 use Rattle.papaya_words.specs.declared.probe.Refused.{Refused}
 use Rattle.papaya_words.specs.declared.probe.ResizeMode.{ResizeMode}
 use Rattle.papaya_words.specs.declared.word.Kind.TheVariants.{Live}
-use Rattle.papaya_ask.specs.declared.ask.Ask.TheVariants.{Done}
 use Rattle.papaya_ask.specs.declared.ask.Answer.TheVariants.{Exchanged, Found as Found_instead, Ok as Ok_done, Yes}
 use Rattle.papaya_ask.specs.declared.ask.At.TheVariants.{Slot}
 use Rattle.papaya_ask.specs.declared.ask.StepKind.TheVariants as steps
 use Rattle.papaya_ask.specs.declared.call.Reply.TheVariants.{Kept, Removed}
 use Rattle.papaya_ask.specs.declared.call.Task.TheVariants.{RemoveIf}
 use Rattle.papaya_call.specs.declared.machine.State.{State}
-use Rattle.papaya_call.specs.declared.machine.State.TheVariants.{Burying, Ended, Showing, Uncounting}
+use Rattle.papaya_call.specs.declared.machine.State.TheVariants.{Burying, Showing, Uncounting}
 use Rattle.papaya_call.specs.declared.remove.Removal.{Removal as Shown}
 use Rattle.papaya_call.specs.Machine.{IsStandingState, started}
 use Rattle.papaya_call.specs.Remove.{grave_word}
@@ -34,23 +33,20 @@ use Rattle.papaya_book.specs.declared.rule.own.Given.{Given}
 use Rattle.papaya_book.specs.declared.rule.own.Own.{Own}
 use Rattle.papaya_book.specs.Calls.{IsSlotTried, IsTable}
 use Rattle.papaya_book.specs.Hashes.{hash_of}
-use Rattle.papaya_book.specs.Logs.{Member, Stored, exchanges_of, pair_named}
+use Rattle.papaya_book.specs.Logs.{Member, Stored, exchanges_of}
 use Rattle.papaya_book.specs.Plays.{CanExchange}
-use Rattle.papaya_book.specs.Rule.{IsLawfulLog, IsPlaced}
 use Rattle.papaya_book.specs.Sheets.{Sheet}
-use Rattle.papaya_lookup.specs.History.{Change, history_of, key_of}
+use Rattle.papaya_lookup.specs.History.{Change, history_of}
 use Rattle.papaya_lookup.specs.Lookups.{HasHit}
 use Rattle.papaya_lookup.specs.declared.lookup.Met.{Met}
 use Rattle.papaya_lookup.proofs.Readings.{IsQuery, fed}
-use Rattle.papaya_change.specs.declared.driver.Driver.{Driver}
 use Rattle.papaya_change.specs.declared.removal.Removal.{Removal}
 use Rattle.papaya_change.specs.Changing.{HasChanged, IsCalling}
 use Rattle.papaya_change.specs.RemovalAnswers.{HasShown, IsJudged, IsRemovalBy}
-use Rattle.papaya_change.specs.Removing.{IsRemoving, answered as told}
-use Rattle.papaya_change.specs.Showings.{AllShown, AreOf, HasSaid, WasHeld, WasSaid}
+use Rattle.papaya_change.specs.Showings.{AllShown, AreOf, HasSaid, WasHeld}
 use Rattle.papaya_change.proofs.Changing.{mode_is}
 use Rattle.papaya_change.proofs.Removing.{Removing, bury_can, bury_held, bury_on, counted_on, shown_on}
-use Rattle.papaya_change.proofs.RemovingReplies.{answered, can_tell, removal_since}
+use Rattle.papaya_change.proofs.RemovingReplies.{answered, removal_since}
 use Rattle.papaya_change.proofs.Showings.{all_shown, held_wider, shown_each}
 
 -- the machine of a removal that stands here
@@ -215,20 +211,11 @@ module _ {K V S H F : Type 0} (eq : K → K → Bool) (input : K → List (List 
         counted : Goes log' ended g
         counted = (counted_on eq input build write finish classes respects b name matches query lawful judges first begun log' buried g went (standing (Uncounting (pair_of met.word)) tt) _ refl).0
 
-        pub hit_lawful : IsLawfulLog eq hash b log'
-        hit_lawful = counted.calling.lawful
-
+        -- which is the call's change
         pub hit_changed : (change : Option ℕ × Option ℕ) → change_in ended.call.machine.call.state ≡ Some change → HasChanged eq begun log' pair None change
         hit_changed = counted.calling.changed
 
-        -- the pair that went has the number of the one that was met
-        pub hit_taken : (taken : Stored K V) × (pair ≡ Some taken) × (p.index ≡ taken.index) × IsPlaced b (Some name) (names.Pair taken)
-        hit_taken =
-            let c = can_tell eq input build write finish classes respects b name matches query lawful judges first begun log' ended g counted (Removed (pair_of met.word)) refl in
-            let one : p ≡ c.0 = let same = c.2 in cc same in
-            (c.1, c.3, ap (λ (z : Stored K V). z.index) one ∙ c.4, c.6)
-
-        -- and it is the one that was met
+        -- the pair that went is the one that was met
         pub hit_went : (taken : Stored K V) → pair ≡ Some taken → p.value ≡ taken.value → (entry : Bor K × Bor V) → AreOf entry p → IsRemovalBy eq matches (history_of begun) (history_of log') judges first (Ok (Ok (Some entry)))
         hit_went taken took value entry are =
             answered eq input build write finish classes respects b name matches query lawful judges first begun log' ended g counted (Removed (pair_of met.word)) refl (Ok (Ok (Some entry)))

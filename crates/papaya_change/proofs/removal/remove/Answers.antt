@@ -1,4 +1,4 @@
-use Rattle.std.proofs.Common.{◌≡◌, None, subst}
+use Rattle.std.proofs.Common.{subst}
 use Rattle.papaya_lookup.specs.Drivers.{past}
 use Rattle.papaya_lookup.proofs.Histories.{history_since}
 use Rattle.papaya_change.specs.RemovalAnswers.{IsTriedRemoval}
