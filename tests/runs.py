@@ -254,8 +254,11 @@ def without_memory(runs, rest):
 OVERLAPPING = [
     *[(0, first, second) for first, second in [("i 0 20", "i 0 30"), ("i 0 20", "i 1 30"), ("u 0", "i 0 30")]],
     *[(1, first, second) for first in ["i 0 20", "u 0", "r 0"] for second in ["i 0 30", "u 0", "r 0", "g 0"]],
+    # A walk or a clear, beside which one key is changed.
+    *[(3, first, second) for first in ["walk", "clear"] for second in ["i 1 30", "i 3 30", "u 1", "r 1"]],
     # The table has 32 slots, and the first call needs a longer one.
     *[(32, "i 32 20", second) for second in ["i 0 30", "i 32 30", "i 33 30", "u 0", "u 32", "r 0", "g 0", "g 32"]],
+    *[(32, "i 32 20", second) for second in ["walk", "clear"]],
 ]
 
 
@@ -278,7 +281,7 @@ def some_of(steps, most):
 
 
 def outcome(keys, calls, looks):
-    """What is printed for two calls, the first of them whole before the other, and for lookups then."""
+    """What is printed for these calls, each whole before the next, and for lookups then."""
     plain = Plain()
     for key in range(keys):
         plain.call(f"i {key} {key}")
@@ -286,9 +289,19 @@ def outcome(keys, calls, looks):
     return said, [f"2: {plain.call(look)}" for look in looks]
 
 
+def orders_of(first, second):
+    """The orders of two calls that may come out. A clear takes out one pair after another, so what the
+    other call puts in after its pair has gone may go too, or not: a clear, that call, and a clear again."""
+    calls = [(0, first), (1, second)]
+    clears = [it for it in calls if it[1] == "clear"]
+    between = [[clear, it, clear] for clear in clears for it in calls if it != clear]
+    return [calls, calls[::-1], *between]
+
+
 def overlapping(runs):
     """Caller 0 is stopped after some of its steps and caller 1 after some of its own; then caller 0 ends
-    its call, and caller 1. What they answer and what is found comes of one call whole before the other."""
+    its call, and caller 1. What they answer, what is found and what a walk gives then comes of one call
+    whole before the other, or of a clear on both sides of the other."""
     for args in ["core inc:1 id", "core inc:3 zero", "core block id"]:
         for keys, *calls in OVERLAPPING:
             for first, second in [calls, calls[::-1]]:
@@ -297,10 +310,10 @@ def overlapping(runs):
 
 def overlap(runs, args, keys, first, second):
     begun = [line for key in range(keys) for line in (f"begin 0 i {key} {key}", "finish 0")] + [f"begin 0 {first}"]
-    looks = [f"g {key}" for key in range(keys + 2)]
+    looks = [*[f"g {key}" for key in range(keys + 2)], "walk"]
     found = [line for look in looks for line in (f"begin 2 {look}", "finish 2")]
     printed = []
-    for calls in ([(0, first), (1, second)], [(1, second), (0, first)]):
+    for calls in orders_of(first, second):
         said, after = outcome(keys, calls, looks)
         printed.append([*(["0: none"] * keys), f"0: {said[0]}", f"1: {said[1]}", *after])
     for made in some_of(steps_of(runs, args, begun, 0), 8):
