@@ -14,9 +14,9 @@ mod gates;
 #[cfg(test)]
 mod growth;
 #[cfg(test)]
-mod insertions;
-#[cfg(test)]
 mod numbers;
+#[cfg(test)]
+mod passes;
 #[cfg(test)]
 mod plain;
 #[cfg(test)]
