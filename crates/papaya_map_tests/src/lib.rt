@@ -14,6 +14,8 @@ mod gates;
 #[cfg(test)]
 mod growth;
 #[cfg(test)]
+mod guards;
+#[cfg(test)]
 mod numbers;
 #[cfg(test)]
 mod passes;
