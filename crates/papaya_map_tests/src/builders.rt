@@ -107,6 +107,38 @@ fn a_map_is_made_with_a_hasher(rt: HostRuntime) -> Result<(), Fail> {
     Ok(())
 }
 
+/// A map for so many pairs is not made, and this is why.
+fn has_no_room_for<R: Wait + Abort>(rt: &R, alloc: Global, capacity: usize) {
+    let made: Result<Numbers, Refused> = HashMap::with_capacity_and_hasher(
+        rt, alloc, capacity, APART,
+    );
+    is(rt, made.err(), Some(Refused::Capacity));
+}
+
+#[test]
+fn a_map_for_too_many_pairs_is_not_made(rt: HostRuntime) {
+    has_no_room_for(&rt, rt.alloc(), 0x1_0000_0000);
+    has_no_room_for(&rt, rt.alloc(), 3_221_225_473);
+}
+
+/// The slots of a map for one caller that is built for so many pairs, or why it is not.
+fn slots_for(alloc: Global, builder: Builder) -> Result<usize, Refused> {
+    let map = builder.build_seq(alloc)?;
+    Ok(map.slots())
+}
+
+#[test]
+fn a_map_for_one_caller_is_built(rt: HostRuntime) {
+    let alloc = rt.alloc();
+    is(&rt, slots_for(alloc, builder()), Ok(0));
+    is(&rt, slots_for(alloc, builder().capacity(10)), Ok(16));
+    is(
+        &rt,
+        slots_for(alloc, builder().resize_mode(ResizeMode::Incremental(0))),
+        Err(Refused::ZeroChunk),
+    );
+}
+
 /// A builder shows its capacity, its collector's number and its mode.
 fn shows(rt: &impl Abort, alloc: Global) -> Result<(), Fail> {
     let text = format!(in alloc; "{:?}", builder().capacity(6).collector(Collector::new(2)))?;

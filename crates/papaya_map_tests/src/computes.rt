@@ -1,82 +1,13 @@
-// Computes by one caller: what they answer, what they show their closure, and what is there after
-// them.
+// Computes by one caller that change nothing, and what each shows its closure.
 ghost use Rattle.std.specs.Prelude.{◌≡◌};
 
 use crate::expect::is;
-use crate::numbers::{Numbers, NumbersPass, counts, finds, inserts, numbers};
+use crate::numbers::{Numbers, NumbersPass, counts, finds, numbers};
 use papaya_call::answers::Operation;
 use papaya_keys::compute::Compute;
 use papaya_words::probe::Refused;
 use std::process::Abort;
 use std::sync::Wait;
-
-/// Removes an even value, and takes the next for an odd one.
-fn by_parity(shown: Option<(&u64, &u64)>) -> Operation<u64, ()> {
-    match shown {
-        Some((_, value)) => {
-            if *value % 2 == 0 {
-                Operation::Remove
-            } else {
-                Operation::Insert(value.wrapping_add(1))
-            }
-        }
-        None => Operation::Abort(()),
-    }
-}
-
-/// A compute of 65 by parity answers so.
-fn turns<R: Wait + Abort>(
-    rt: &R,
-    map: &Numbers,
-    pass: &mut NumbersPass,
-    wanted: Compute<'_, u64, u64, ()>,
-)
-    requires { pass.old.book ≡ map.now.book }
-    ensures { pass.new.book ≡ pass.old.book }
-{
-    let found = map.pin().compute_as(rt, 65, |shown| by_parity(shown), pass);
-    is(rt, found, Ok(wanted));
-}
-
-/// Where there is no pair the closure aborts, and an odd value is updated.
-fn updates_odd<R: Wait + Abort>(rt: &R, map: &Numbers, pass: &mut NumbersPass)
-    requires { pass.old.book ≡ map.now.book }
-    ensures { pass.new.book ≡ pass.old.book }
-{
-    turns(rt, map, pass, Compute::Aborted(()));
-    counts(rt, map, 0);
-    inserts(rt, map, 65, 1, pass, Ok(None));
-    let updated = Compute::Updated {
-        old: (&65, &1),
-        new: (&65, &2),
-    };
-    turns(rt, map, pass, updated);
-    counts(rt, map, 1);
-    finds(rt, map, 65, pass, Some(&2));
-}
-
-/// An even value is removed.
-fn removes_even<R: Wait + Abort>(rt: &R, map: &Numbers, pass: &mut NumbersPass)
-    requires { pass.old.book ≡ map.now.book }
-    ensures { pass.new.book ≡ pass.old.book }
-{
-    turns(rt, map, pass, Compute::Removed(&65, &2));
-    finds(rt, map, 65, pass, None);
-    counts(rt, map, 0);
-}
-
-/// Both, by one pass.
-fn turns_by_parity<R: Wait + Abort>(rt: &R, map: &Numbers) {
-    let mut pass = map.pass();
-    updates_odd(rt, map, &mut pass);
-    removes_even(rt, map, &mut pass);
-}
-
-#[test]
-fn a_compute_does_what_its_closure_answers(rt: HostRuntime) {
-    let map = numbers(&rt, rt.alloc());
-    turns_by_parity(&rt, &map);
-}
 
 /// A removal by a compute is refused where there is no pair.
 fn removes_nothing<R: Wait + Abort>(rt: &R, map: &Numbers, pass: &mut NumbersPass)

@@ -14,9 +14,11 @@ mod gates;
 #[cfg(test)]
 mod growth;
 #[cfg(test)]
-mod insertions;
+mod guards;
 #[cfg(test)]
 mod numbers;
+#[cfg(test)]
+mod passes;
 #[cfg(test)]
 mod plain;
 #[cfg(test)]

@@ -61,20 +61,6 @@ pub fn inserts<R: Wait + Abort>(
     is(rt, map.pin().insert_as(rt, key, value, pass), wanted);
 }
 
-/// A removal answers so.
-pub fn removes<R: Wait + Abort>(
-    rt: &R,
-    map: &Numbers,
-    key: u64,
-    pass: &mut NumbersPass,
-    wanted: Result<Option<&u64>, Refused>,
-)
-    requires { pass.old.book ≡ map.now.book }
-    ensures { pass.new.book ≡ pass.old.book }
-{
-    is(rt, map.pin().remove_as(rt, &key, pass), wanted);
-}
-
 /// So many pairs were counted.
 pub fn counts(rt: &impl Abort, map: &Numbers, pairs: usize) {
     is(rt, map.len(), pairs);

@@ -1,12 +1,11 @@
-// The calls that take no pass: of a pinned map, and of the map with a guard.
+// The calls of a pinned map that take no pass.
 ghost use Rattle.std.specs.Prelude.{◌≡◌};
 
 use crate::expect::is;
-use crate::numbers::{Numbers, numbers};
+use crate::numbers::numbers;
 use papaya_call::answers::Operation;
 use papaya_hashers::times::Times;
 use papaya_keys::compute::Compute;
-use papaya_keys::guard::{Collector, Guard};
 use papaya_map::map::HashMapRef;
 use papaya_words::probe::Refused;
 use std::process::Abort;
@@ -15,10 +14,11 @@ use std::sync::Wait;
 /// A pinned map of numbers.
 type Pinned<'a> = HashMapRef<'a, u64, u64, Times>;
 
-/// Stores 10 at 1, puts 11 in its place, and looks for both.
+/// Stores 9 at 1, puts 10 and then 11 in its place, and looks for 1 and for 2.
 fn stores<R: Wait + Abort>(rt: &R, map: &Pinned<'_>) {
     is(rt, map.get(&1), None);
-    is(rt, map.insert(rt, 1, 10), Ok(None));
+    is(rt, map.insert(rt, 1, 9), Ok(None));
+    is(rt, map.insert(rt, 1, 10), Ok(Some(&9)));
     is(rt, map.insert(rt, 1, 11), Ok(Some(&10)));
     is(rt, map.get(&1), Some(&11));
     is(
@@ -29,33 +29,55 @@ fn stores<R: Wait + Abort>(rt: &R, map: &Pinned<'_>) {
     is(rt, (map.len(), map.is_empty()), (1, false));
 }
 
-/// Adds 1 to the value of 1, and stops at 2, which is absent.
-fn computes<R: Wait + Abort>(rt: &R, map: &Pinned<'_>) {
-    let added = map.compute(rt, 1, |shown| match shown {
-        Some((_, value)) if *value < 100 => Operation::Insert(*value + 1),
-        _ => Operation::Abort(7),
-    });
-    let wanted = Compute::Updated {
-        old: (&1, &11),
-        new: (&1, &12),
-    };
-    is(rt, added, Ok(wanted));
-    let stopped = map.compute(rt, 2, |_| Operation::<u64, u64>::Abort(7));
-    is(rt, stopped, Ok(Compute::Aborted(7)));
-}
-
-/// Keeps 1 while it is asked to, and then removes it.
+/// 1 is removed, and comes and goes once more.
 fn removes<R: Wait + Abort>(rt: &R, map: &Pinned<'_>) {
-    is(
-        rt,
-        map.remove_if(rt, &1, |_, value| *value > 50),
-        Ok(Err((&1, &12))),
-    );
-    is(rt, map.remove_entry(rt, &1), Ok(Some((&1, &12))));
+    is(rt, map.remove_entry(rt, &1), Ok(Some((&1, &11))));
     is(rt, map.remove_entry(rt, &1), Ok(None));
     is(rt, map.insert(rt, 1, 13), Ok(None));
     is(rt, map.remove(rt, &1), Ok(Some(&13)));
     is(rt, map.is_empty(), true);
+}
+
+/// Removes an even value, and stores the next of an odd one.
+fn by_parity(shown: Option<(&u64, &u64)>) -> Operation<u64, ()> {
+    match shown {
+        Some((_, value)) if *value % 2 == 0 => Operation::Remove,
+        Some((_, value)) => Operation::Insert(value.wrapping_add(1)),
+        None => Operation::Abort(()),
+    }
+}
+
+/// A compute of 1 by parity answers so.
+fn turns<R: Wait + Abort>(rt: &R, map: &Pinned<'_>, wanted: Compute<'_, u64, u64, ()>) {
+    is(rt, map.compute(rt, 1, |shown| by_parity(shown)), Ok(wanted));
+}
+
+/// 1 is absent, odd and even; then there is nothing to remove.
+fn computes<R: Wait + Abort>(rt: &R, map: &Pinned<'_>) {
+    turns(rt, map, Compute::Aborted(()));
+    is(rt, map.insert(rt, 1, 1), Ok(None));
+    let updated = Compute::Updated {
+        old: (&1, &1),
+        new: (&1, &2),
+    };
+    turns(rt, map, updated);
+    turns(rt, map, Compute::Removed(&1, &2));
+    is(rt, map.get(&1), None);
+    let removed = map.compute(rt, 1, |_| Operation::<u64, ()>::Remove);
+    is(rt, removed, Err(Refused::RemoveNothing));
+}
+
+/// 0 is absent; 1 is kept, goes, and is absent.
+fn asks<R: Wait + Abort>(rt: &R, map: &Pinned<'_>) {
+    is(rt, map.insert(rt, 1, 0), Ok(None));
+    is(rt, map.remove_if(rt, &0, |_, _| true), Ok(Ok(None)));
+    is(rt, map.remove_if(rt, &1, |_, _| false), Ok(Err((&1, &0))));
+    is(
+        rt,
+        map.remove_if(rt, &1, |_, value| *value == 0),
+        Ok(Ok(Some((&1, &0)))),
+    );
+    is(rt, map.remove_if(rt, &1, |_, _| true), Ok(Ok(None)));
 }
 
 #[test]
@@ -63,64 +85,8 @@ fn a_pinned_map_takes_calls_without_a_pass(rt: HostRuntime) {
     let map = numbers(&rt, rt.alloc());
     let pinned = map.pin();
     stores(&rt, &pinned);
-    computes(&rt, &pinned);
     removes(&rt, &pinned);
+    computes(&rt, &pinned);
+    asks(&rt, &pinned);
     is(&rt, pinned.map().len(), 0);
-}
-
-/// The same calls with a guard of the map.
-fn takes<R: Wait + Abort, G: Guard>(rt: &R, map: &Numbers, guard: &G) {
-    is(rt, map.verify(guard), Ok(()));
-    is(rt, map.insert(rt, 1, 10, guard), Ok(None));
-    is(rt, map.get(&1, guard), Ok(Some(&10)));
-    is(rt, map.contains_key(&2, guard), Ok(false));
-    is(rt, map.remove_entry(rt, &1, guard), Ok(Some((&1, &10))));
-    is(rt, map.remove(rt, &1, guard), Ok(None));
-}
-
-/// With another guard no call is made.
-fn refuses<R: Wait + Abort, G: Guard>(rt: &R, map: &Numbers, guard: &G) {
-    is(rt, map.verify(guard), Err(Refused::WrongGuard));
-    is(rt, map.insert(rt, 1, 10, guard), Err(Refused::WrongGuard));
-    is(rt, map.get(&1, guard), Err(Refused::WrongGuard));
-    is(rt, map.contains_key(&1, guard), Err(Refused::WrongGuard));
-    is(rt, map.remove(rt, &1, guard), Err(Refused::WrongGuard));
-    is(
-        rt,
-        map.remove_entry(rt, &1, guard),
-        Err(Refused::WrongGuard),
-    );
-}
-
-/// With another guard no closure is asked.
-fn asks_nothing<R: Wait + Abort, G: Guard>(rt: &R, map: &Numbers, guard: &G) {
-    let removed = map.remove_if(rt, &1, |_, _| true, guard);
-    is(rt, removed, Err(Refused::WrongGuard));
-    let computed = map.compute(rt, 1, |_| Operation::<u64, u64>::Insert(5), guard);
-    is(rt, computed, Err(Refused::WrongGuard));
-}
-
-/// Both kinds of guard of the map are taken.
-fn takes_both<R: Wait + Abort>(rt: &R, map: &Numbers) {
-    let guard = map.guard();
-    takes(rt, map, &guard);
-    let owned = map.owned_guard();
-    takes(rt, map, &owned);
-}
-
-/// Neither kind of another collector is.
-fn refuses_both<R: Wait + Abort>(rt: &R, map: &Numbers, other: &Collector) {
-    let guard = other.enter();
-    refuses(rt, map, &guard);
-    let owned = other.enter_owned();
-    asks_nothing(rt, map, &owned);
-}
-
-#[test]
-fn a_guard_is_of_the_map(rt: HostRuntime) {
-    let map = numbers(&rt, rt.alloc());
-    takes_both(&rt, &map);
-    let other = Collector::new(7);
-    refuses_both(&rt, &map, &other);
-    is(&rt, map.len(), 0);
 }

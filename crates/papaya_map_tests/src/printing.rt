@@ -1,4 +1,4 @@
-// What a map with one pair and its walks print. Which pair comes first of several is left open.
+// What a map with one pair and its walks print, and a map with two. Which pair comes first is left open.
 use crate::expect::is;
 use crate::numbers::{Numbers, numbers};
 use std::alloc::Global;
@@ -76,6 +76,28 @@ fn a_map_of_one_pair_prints_it(rt: HostRuntime) -> Result<(), Fail> {
     prints(&rt, alloc, &map, "{42: 7}")?;
     prints_pinned(&rt, alloc, &map, "{42: 7}")?;
     Ok(())
+}
+
+/// The map prints one of these.
+fn prints_either(
+    rt: &impl Abort,
+    alloc: Global,
+    map: &Numbers,
+    one: &str,
+    other: &str,
+) -> Result<(), Fail> {
+    let text = format!(in alloc; "{map:?}")?;
+    is(rt, text.as_str() == one || text.as_str() == other, true);
+    Ok(())
+}
+
+#[test]
+fn a_map_of_two_pairs_prints_both(rt: HostRuntime) -> Result<(), Fail> {
+    let alloc = rt.alloc();
+    let map = numbers(&rt, alloc);
+    is(&rt, map.pin().insert(&rt, 42, 0), Ok(None));
+    is(&rt, map.pin().insert(&rt, 16, 8), Ok(None));
+    prints_either(&rt, alloc, &map, "{42: 0, 16: 8}", "{16: 8, 42: 0}")
 }
 
 #[test]

@@ -4,6 +4,7 @@ use crate::numbers::{MODES, Numbers, made};
 use papaya_keys::occupied::{NotInserted, OccupiedError};
 use std::process::Abort;
 use std::sync::Wait;
+use std::sync::atomic::{AtomicBool, Ordering};
 use std::test::Fail;
 use std::thread::{Threads, join};
 
@@ -22,6 +23,19 @@ fn tries<R: Wait + Abort>(rt: &R, map: &Numbers) {
     is(rt, pinned.get_or_insert(rt, 37, 4), Ok(&1));
     is(rt, pinned.get_or_insert(rt, 38, 5), Ok(&5));
     is(rt, pinned.get_or_insert_with(rt, 38, || 6), Ok(&5));
+}
+
+/// A closure makes the value of 36, and another one is not called: 36 has a value by then.
+fn makes_once<R: Wait + Abort>(rt: &R, map: &Numbers) {
+    let pinned = map.pin();
+    let called = AtomicBool::new(false);
+    is(rt, pinned.try_insert_with(rt, 36, || 1), Ok(Ok(&1)));
+    let found = pinned.try_insert_with(rt, 36, || {
+        called.store(true, Ordering::SeqCst);
+        2
+    });
+    is(rt, found, Ok(Err(&1)));
+    is(rt, called.load(Ordering::SeqCst), false);
 }
 
 /// Adds 1 and 2 to values that are there, and stores one that is not.
@@ -67,6 +81,7 @@ fn values_are_stored_as_the_rule_says(rt: HostRuntime) -> Result<(), Fail> {
     for mode in MODES {
         let map = made(&rt, rt.alloc(), mode, 0, 4)?;
         tries(&rt, &map);
+        makes_once(&rt, &map);
         updates(&rt, &map);
         let other = made(&rt, rt.alloc(), mode, 0, 4)?;
         adds(&rt, &other);

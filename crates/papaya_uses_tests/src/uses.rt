@@ -2,6 +2,7 @@
 use papaya::Refused;
 use papaya::seq::HashMap;
 use papaya_uses::counters::{Adder, Counters};
+use papaya_uses::hits::{Hits, forget_below, hit, reads, total};
 use papaya_uses::sessions::{Desk, Sessions};
 use papaya_uses::words::count_words;
 use std::process::Abort;
@@ -97,5 +98,34 @@ fn no_addition_is_lost(rt: HostRuntime) -> Result<(), Fail> {
     let _ = both_add(&rt, &counters);
     let sum = adds(&rt, &counters, 0)?;
     assert!(rt; sum == 2000);
+    Ok(())
+}
+
+/// A thread reads a page of its own ten times, and page 1 in between. Was no call refused?
+fn reads_pages(rt: &impl Wait, hits: &Hits, own: u64) -> bool {
+    for _ in 0..10u64 {
+        if hit(rt, hits, own).is_err() || hit(rt, hits, 1).is_err() {
+            return false;
+        }
+    }
+    true
+}
+
+/// Two threads read pages, and one of them is forgotten.
+fn counts_hits(rt: &(impl Threads + Wait + Sync + Abort), hits: &Hits) {
+    let both = join(rt, || reads_pages(rt, hits, 2), || reads_pages(rt, hits, 3));
+    assert!(rt; both == (true, true));
+    assert!(rt; hit(rt, hits, 2) == Ok(11));
+    assert!(rt; total(rt, hits) == Ok(41));
+    assert!(rt; forget_below(rt, hits, 11).is_ok());
+    assert!(rt; reads(hits, 1) == Some(20));
+    assert!(rt; (reads(hits, 2), reads(hits, 3)) == (Some(11), None));
+    assert!(rt; hits.len() == 2);
+}
+
+#[test]
+fn threads_count_hits(rt: HostRuntime) -> Result<(), Fail> {
+    let hits: Hits = Hits::new(&rt, rt.alloc())?;
+    counts_hits(&rt, &hits);
     Ok(())
 }
