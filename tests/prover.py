@@ -1,5 +1,8 @@
 """What tests/edits.py and tests/twins.py have in common: the check of some functions of a changed copy of
-crates, over the libraries that `rt ci` has built in this checkout, so that nothing else is proved again."""
+crates, over the libraries that `rt ci` has built in this checkout, so that nothing else is proved again.
+
+Where RT_CI is the number of the process in which `rt ci` runs, a check waits for the libraries that it
+needs until that process has built them or has ended."""
 
 import os
 import re
@@ -7,6 +10,7 @@ import shutil
 import subprocess
 import sys
 import tempfile
+import time
 from concurrent.futures import ThreadPoolExecutor
 
 TOP = os.path.dirname(os.path.dirname(os.path.abspath(__file__)))
@@ -54,26 +58,54 @@ def kit():
 
 
 def libraries():
-    """What each crate stands on, from crates.txt."""
+    """What each crate names, from crates.txt."""
     lines = [line.partition(":") for line in open(f"{TOP}/crates.txt", encoding="utf-8") if not line.startswith("#")]
-    return {name.split()[0]: below.split() for name, _, below in lines if name.strip()}
+    return {name.split()[0]: named.split() for name, _, named in lines if name.strip()}
 
 
-KIT, BELOW = kit(), libraries()
+KIT, NAMED, BEGUN = kit(), libraries(), time.time()
 
 
-def built(crate):
-    """The library that `rt ci` has built of a crate."""
-    rlib = f"{TOP}/crates/{crate}/out/rlib/{crate}.rlib"
-    if not os.path.isfile(f"{rlib}/format"):
-        raise Bad(f"{crate} is not built here: run `rt ci` first")
-    # (rt may have linked it from what it keeps: then only this time is that of the link)
-    made = os.stat(f"{rlib}/format").st_ctime
+def below(crate):
+    """The crates of this repository on which a crate stands, each after those that it stands on."""
+    found = []
+    for name in NAMED[crate]:
+        found += [it for it in [*below(name), name] if it not in found] if name in NAMED else []
+    return found
+
+
+def is_proving():
+    """Does the `rt ci` beside which this runs go on?"""
+    number = os.environ.get("RT_CI")
+    return bool(number) and os.path.isdir(f"/proc/{number}")
+
+
+def why_not_built(crate, since):
+    """Why there is no library of the crate as it stands, made since that time."""
+    library = f"{TOP}/crates/{crate}/out/rlib/{crate}.rlib/format"
+    try:
+        # (rt may have linked it from what it keeps: then only this time is that of the link)
+        made = os.stat(library).st_ctime
+    except OSError:
+        return "is not built here"
     for part in ("src", "specs"):
         for at, _, names in os.walk(f"{TOP}/crates/{crate}/{part}"):
             if any(os.path.getmtime(f"{at}/{name}") > made for name in names):
-                raise Bad(f"{crate} was built before a change of its {part}/: run `rt ci` first")
-    return rlib
+                return f"was built before a change of its {part}/"
+    return None if made >= since else "was built by an earlier run"
+
+
+def wait_for(crates):
+    """Waits for the libraries of these crates, while `rt ci` runs beside."""
+    for crate in crates:
+        while True:
+            goes_on = is_proving()
+            why = why_not_built(crate, BEGUN if goes_on else 0)
+            if not why:
+                break
+            if not goes_on:
+                raise Bad(f"{crate} {why}: run `rt ci` first")
+            time.sleep(5)
 
 
 def copy_of(crate, to):
@@ -87,17 +119,27 @@ def check(folder, crate, changed, functions):
     """What a check of these functions of the crate says. The crate and those in `changed`, on which it
     stands, are read from their copies below the folder."""
     words = [f"{KIT}/bin/rattle", "check", "--crate-name", crate, "src/lib.rt", "--links", f"{crate}=", "--jobs", "1"]
-    for name in ["std", *(["core"] if changed else []), *BELOW[crate]]:
+    ours = below(crate)
+    wait_for(it for it in ours if it not in changed)
+    # (a crate that is read as source names its libraries too)
+    named = {it for name in [crate, *changed] for it in NAMED[name]}
+    for name in ["std", *(["core"] if changed else []), *sorted(named - {*ours}), *(it for it in ours if it in named)]:
         if name in changed:
-            used = ",".join(["core", "std", *BELOW[name]])
+            used = ",".join(["core", "std", *NAMED[name]])
             words += ["--lib", f"{name}:{used}={folder}/{name}/src/lib.rt"]
         else:
-            rlib = built(name) if name in BELOW else f"{KIT}/rlibs/{name}.rlib"
-            words += ["--extern", f"{name}={rlib}", "-L", f"dependency={os.path.dirname(rlib)}"]
+            words += ["--extern", f"{name}={library_of(name)}"]
+    folders = [f"{KIT}/rlibs", *(os.path.dirname(library_of(it)) for it in ours if it not in changed)]
+    words += [word for it in folders for word in ("-L", f"dependency={it}")]
     words += ["--antt-project", f"{KIT}/rattle/logic/antt-project.json", "--logic-built", f"{KIT}/logic_built"]
     words += [word for it in functions for word in ("--only", it)]
     how = {"stdin": subprocess.DEVNULL, "stdout": subprocess.PIPE, "stderr": subprocess.STDOUT, "text": True}
     return subprocess.run(words, cwd=f"{folder}/{crate}", **how).stdout
+
+
+def library_of(name):
+    """Where the library of a crate, or of the kit, lies."""
+    return f"{TOP}/crates/{name}/out/rlib/{name}.rlib" if name in NAMED else f"{KIT}/rlibs/{name}.rlib"
 
 
 def verdicts_of(said):
@@ -112,10 +154,11 @@ def digest(said):
 
 
 def lanes():
-    """How many checks may run at once: one a processor, and each may take 3 GB."""
+    """How many checks may run at once: one a processor, and each may take 3 GB. Beside `rt ci`, half as many."""
     said = open("/proc/meminfo", encoding="utf-8").read()
     free = int(re.search(r"MemAvailable: +(\d+) kB", said)[1])
-    return max(min(len(os.sched_getaffinity(0)), free // 3_000_000), 1)
+    processors = len(os.sched_getaffinity(0)) // (2 if "RT_CI" in os.environ else 1)
+    return max(min(processors, free // 3_000_000), 1)
 
 
 def try_all(what, tries, call):

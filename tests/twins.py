@@ -1,6 +1,6 @@
 """Tries the wrong machines of tests/twins: each changes a machine and the definition that its contract
-equals alike. So the machine's function is still proved, and it is a law of papaya_rests,
-papaya_chain_rests or papaya_visit_rests that has to refuse it.
+equals alike. So the machine's function is still proved, and it is a law of papaya_rests or
+papaya_chain_rests that has to refuse it.
 
     python3 tests/twins.py [TWIN..]
 
@@ -14,7 +14,7 @@ import re
 import sys
 from itertools import zip_longest
 
-from prover import BELOW, LOST, TOP, Bad, Change, check, copy_of, digest, try_all, verdicts_of
+from prover import LOST, TOP, Bad, Change, below, check, copy_of, digest, try_all, verdicts_of
 
 
 def is_refused(said, law):
@@ -28,7 +28,7 @@ def try_copy(room, *twins):
     laws = [it.words["law"] for it in twins]
     top = laws[0].split("::")[0]
     changed = {file.split("/")[0] for it in twins for file, _, _ in it.pairs}
-    read = [it for it in BELOW[top] if changed & {it, *BELOW[it]}]
+    read = [it for it in below(top) if changed & {it, *below(it)}]
     for crate in [top, *read]:
         copy_of(crate, f"{room}/{crate}")
     for twin in twins:

@@ -9,5 +9,7 @@ pub mod Rank
 pub mod Ahead
 -- a call that resizes the map
 pub mod Resizers
+-- a call that visits a table
+pub mod Visitors
 -- one caller's chunks end a resize
 pub mod Chunks

@@ -6,3 +6,4 @@
 
 pub mod alone;
 pub mod chunks;
+pub mod visitors;

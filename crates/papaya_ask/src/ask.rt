@@ -5,7 +5,7 @@ use papaya_words::probe::Refused;
 /// A word that callers share. Tables are named by number, from 1 on.
 ///
 /// In 0.2.5 these are the map's atomic root pointer, and the atomics of a table and of its state.
-#[derive(Clone, Copy, Debug, PartialEq, Eq)]
+#[derive(Clone, Copy, PartialEq)]
 pub enum At {
     /// The number of the root table, or 0.
     Root,
@@ -22,7 +22,7 @@ pub enum At {
 /// What a machine asks next: one atomic step on one word at most. Each kind of ask has its own
 /// kinds
 /// of answer.
-#[derive(Clone, Copy, Debug, PartialEq, Eq)]
+#[derive(Clone, Copy, PartialEq)]
 pub enum Ask {
     /// The word that stands there. Answered by `Word`.
     Load(At),
@@ -52,7 +52,7 @@ pub enum Ask {
 }
 
 /// What a machine is answered.
-#[derive(Clone, Copy, Debug, PartialEq, Eq)]
+#[derive(Clone, Copy)]
 pub enum Answer {
     /// The word of a load.
     Word(u64),
@@ -75,7 +75,7 @@ pub enum Answer {
 }
 
 /// What a closure that may insert, remove or abort has answered, without the value.
-#[derive(Clone, Copy, Debug, PartialEq, Eq)]
+#[derive(Clone, Copy)]
 pub enum OpKind {
     /// A new value is to be stored.
     Insert,
@@ -87,7 +87,7 @@ pub enum OpKind {
 
 /// The kinds of exchange. An empty slot is filled by a claim or by a copy, which the words alone
 /// do not tell apart, so a machine tells the kind of the exchange that it asks for.
-#[derive(Clone, Copy, Debug, PartialEq, Eq)]
+#[derive(Clone, Copy, PartialEq)]
 pub enum StepKind {
     /// The first table becomes the root.
     Open,

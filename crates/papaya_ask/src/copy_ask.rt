@@ -3,7 +3,7 @@
 use crate::ask::At;
 
 /// What a copier asks next: one atomic step on one word at most.
-#[derive(Clone, Copy, Debug, PartialEq, Eq)]
+#[derive(Clone, Copy)]
 pub enum CopyAsk {
     /// The word that stands there.
     Load(At),

@@ -36,7 +36,7 @@ pub trait Answers<K, V> {
 /// Answers that are given in turn, whatever is shown.
 ///
 /// Where they are used up, `op` answers `Abort(0)`, and `yes` answers false.
-#[derive(Debug, Drop)]
+#[derive(Drop)]
 pub struct Listed<V> {
     pub ops: Vec<Operation<V, u64>>,
     pub yes: Vec<bool>,

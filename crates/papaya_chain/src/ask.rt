@@ -3,7 +3,7 @@ use papaya_ask::ask::{Answer as CallAnswer, Ask as CallAsk};
 use papaya_ask::copy_ask::CopyAsk;
 
 /// What is asked next: one atomic step on one word at most.
-#[derive(Clone, Copy, Debug, PartialEq, Eq)]
+#[derive(Clone, Copy)]
 pub enum Ask {
     /// The call asks, in a table that it has come to.
     Call(CallAsk),
@@ -12,7 +12,7 @@ pub enum Ask {
 }
 
 /// What was answered.
-#[derive(Clone, Copy, Debug, PartialEq, Eq)]
+#[derive(Clone, Copy)]
 pub enum Answer {
     /// An answer as a call is given it.
     Call(CallAnswer),

@@ -2,9 +2,13 @@
 //!
 //! A call of `papaya_call` goes from table to table. Where it needs the next one it is set aside
 //! here: the next table is made, or the root is copied for a while, and then the call goes on in
-//! the next table. Nobody waits for another caller.
+//! the next table. Clear, retain and walk visit a whole table (`visitor`): without `Blocking` all is
+//! copied first, and the table that this leaves is the one that is visited. Nobody waits for another
+//! caller.
 #![tactic(auto)]
 
 pub mod ask;
 pub mod machine;
 pub mod resizer;
+pub mod visit_ask;
+pub mod visitor;

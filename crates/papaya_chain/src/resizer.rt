@@ -25,7 +25,7 @@ use papaya_words::probe::{Refused, ResizeMode, entries_for, limit};
 use papaya_words::table::table_len;
 
 /// What is wanted.
-#[derive(Clone, Copy, Debug, PartialEq, Eq)]
+#[derive(Clone, Copy)]
 pub enum Resize {
     /// A copy of one chunk of the root, if the root is being copied.
     Chunk,

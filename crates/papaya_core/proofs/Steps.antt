@@ -32,9 +32,9 @@ use Rattle.papaya_timeline.proofs.KeptResized.{left, resize_kept, stage_left}
 use Rattle.papaya_timeline.proofs.ResizerLaws.{resizer_refused}
 use Rattle.papaya_timeline.specs.VisitGoes.{Visits}
 use Rattle.papaya_timeline.proofs.LawfulVisits.{lawful_asks, lawful_visit_caused, visit_counted, visit_keeps, visit_lawful, visit_moved}
-use Rattle.papaya_visit.specs.declared.ask.VisitAsk.TheVariants as visit_asks
-use Rattle.papaya_visit.specs.Visitor as visitor
-use Rattle.papaya_visit_store.specs.declared.visits.Visiting.{Visiting}
+use Rattle.papaya_chain.specs.declared.visit_ask.VisitAsk.TheVariants as visit_asks
+use Rattle.papaya_chain.specs.Visitor as visitor
+use Rattle.papaya_store.specs.declared.visits.Visiting.{Visiting}
 use Rattle.papaya_core.specs.Goes.{CallGoes, IsStandingWork, ResizerGoes, VisitGoes, WorkGoes}
 
 -- a resizer that has not ended asks something

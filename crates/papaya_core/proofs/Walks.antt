@@ -6,10 +6,10 @@ use Rattle.papaya_chain.specs.declared.ask.Answer.{Answer}
 use Rattle.papaya_chain.specs.declared.ask.Answer.TheVariants as answers
 use Rattle.papaya_store.specs.Store.{StoreState}
 use Rattle.papaya_timeline.specs.VisitGoes.{unheard}
-use Rattle.papaya_visit.specs.declared.ask.VisitAsk.{VisitAsk}
-use Rattle.papaya_visit.specs.declared.ask.VisitAsk.TheVariants.{AddToShard, Copy, Give, Show}
-use Rattle.papaya_visit_store.specs.declared.visits.Visiting.{Visiting}
-use Rattle.papaya_visit_store.specs.Visits.{PerformsVisit}
+use Rattle.papaya_chain.specs.declared.visit_ask.VisitAsk.{VisitAsk}
+use Rattle.papaya_chain.specs.declared.visit_ask.VisitAsk.TheVariants.{AddToShard, Copy, Give, Show}
+use Rattle.papaya_store.specs.declared.visits.Visiting.{Visiting}
+use Rattle.papaya_store.specs.Visits.{PerformsVisit}
 use Rattle.papaya_core.specs.Outcomes.{given_by}
 
 -- where its list could grow, what it gave before and what its ask gave

@@ -20,11 +20,11 @@ use Rattle.papaya_timeline.specs.declared.trace.Event.{Event}
 use Rattle.papaya_timeline.specs.Advances.{event_of, goes_on, reply_in}
 use Rattle.papaya_timeline.specs.Callers.{as_work}
 use Rattle.papaya_timeline.specs.VisitGoes.{event_of_visit, reply_or, unheard}
-use Rattle.papaya_visit.specs.declared.ask.VisitAsk.{VisitAsk}
-use Rattle.papaya_visit.specs.declared.ask.VisitAsk.TheVariants as visit_asks
-use Rattle.papaya_visit.specs.Visitor as visitor
-use Rattle.papaya_visit_store.specs.declared.visits.Visiting.{Visiting}
-use Rattle.papaya_visit_store.specs.Visits.{PerformsVisit}
+use Rattle.papaya_chain.specs.declared.visit_ask.VisitAsk.{VisitAsk}
+use Rattle.papaya_chain.specs.declared.visit_ask.VisitAsk.TheVariants as visit_asks
+use Rattle.papaya_chain.specs.Visitor as visitor
+use Rattle.papaya_store.specs.declared.visits.Visiting.{Visiting}
+use Rattle.papaya_store.specs.Visits.{PerformsVisit}
 
 -- One ask of a call that resizes the map was answered, and it goes on unless it has ended.
 module _ {K V S A : Type 0} (eq : K → K → Bool) (hash : S → K → ℕ) (refuse : Bool)

@@ -4,12 +4,12 @@ use Rattle.papaya_ask.specs.declared.call.Reply.{Reply}
 use Rattle.papaya_ask.specs.declared.call.Reply.TheVariants.{Done}
 use Rattle.papaya_core.specs.declared.outcome.Outcome.{Outcome}
 use Rattle.papaya_core.specs.declared.outcome.Outcome.TheVariants.{Replied, Walked}
-use Rattle.papaya_visit.specs.declared.ask.VisitAsk.{VisitAsk}
-use Rattle.papaya_visit.specs.declared.ask.VisitAsk.TheVariants.{Give}
-use Rattle.papaya_visit.specs.declared.visitor.Visit.{Visit}
-use Rattle.papaya_visit.specs.declared.visitor.Visit.TheVariants.{Walk}
-use Rattle.papaya_visit.specs.Visitor.{ask_of}
-use Rattle.papaya_visit_store.specs.declared.visits.Visiting.{Visiting}
+use Rattle.papaya_chain.specs.declared.visit_ask.VisitAsk.{VisitAsk}
+use Rattle.papaya_chain.specs.declared.visit_ask.VisitAsk.TheVariants.{Give}
+use Rattle.papaya_chain.specs.declared.visitor.Visit.{Visit}
+use Rattle.papaya_chain.specs.declared.visitor.Visit.TheVariants.{Walk}
+use Rattle.papaya_chain.specs.Visitor.{ask_of}
+use Rattle.papaya_store.specs.declared.visits.Visiting.{Visiting}
 
 -- the reply, as a trace tells it: of a walk, that it is done
 abbrev pub reply_told : Outcome → Reply

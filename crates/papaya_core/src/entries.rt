@@ -9,7 +9,7 @@ use papaya_ask::call::Reply;
 use papaya_ask::copy_ask::CopyAsk;
 use papaya_chain::ask::{Answer, Ask};
 use papaya_timeline::trace::{Entry, Event};
-use papaya_visit::ask::VisitAsk;
+use papaya_chain::visit_ask::VisitAsk;
 use papaya_words::probe::Refused;
 use papaya_words::word::Word;
 

@@ -168,7 +168,7 @@ fn steps_to_next_table(rt: &impl Abort, alloc: Global, mode: ResizeMode) -> Resu
     let linked = trace
         .entries
         .iter()
-        .position(|entry| entry.event == Event::Moved(StepKind::Link));
+        .position(|entry| matches!(&entry.event, Event::Moved(StepKind::Link)));
     Ok(
         linked
             .and_then(|steps| steps.checked_sub(2))

@@ -38,7 +38,7 @@ fn told(rt: &impl Abort, machine: &mut Machine, ask: Ask, answer: Answer)
     requires fit { IsFit answer }
     ensures { IsStanding machine.new }
 {
-    is(rt, machine.ask(), ask);
+    is(rt, machine.ask() == ask, true);
     machine.answer(answer);
 }
 
@@ -89,7 +89,7 @@ fn tries(
     requires fit { IsFit answer }
     ensures { IsStanding machine.new }
 {
-    is(rt, machine.kind(), Some(kind));
+    is(rt, machine.kind() == Some(kind), true);
     let ask = Ask::Exchange(At::Slot(2, slot), old, LIVE_12);
     told(rt, machine, ask, answer);
 }
@@ -98,7 +98,7 @@ fn tries(
 fn replies(rt: &impl Abort, machine: &Machine, reply: Reply)
     requires { IsStanding machine.now }
 {
-    is(rt, machine.ask(), Ask::Done(reply));
+    is(rt, machine.ask() == Ask::Done(reply), true);
 }
 
 #[test]
@@ -136,7 +136,7 @@ fn buries(rt: &impl Abort, machine: &mut Machine, old: u64, new: u64, answer: An
     requires fit { IsFit answer }
     ensures { IsStanding machine.new }
 {
-    is(rt, machine.kind(), Some(StepKind::Bury));
+    is(rt, machine.kind() == Some(StepKind::Bury), true);
     told(rt, machine, Ask::Exchange(At::Slot(1, 2), old, new), answer);
 }
 
@@ -145,7 +145,7 @@ fn shows_none(rt: &impl Abort, machine: &mut Machine, kind: OpKind)
     requires { IsStanding machine.old }
     ensures { IsStanding machine.new }
 {
-    is(rt, machine.kind(), None);
+    is(rt, machine.kind().is_none(), true);
     told(rt, machine, Ask::ShowNone, Answer::Op(kind));
 }
 
@@ -154,7 +154,7 @@ fn decides(rt: &impl Abort, machine: &mut Machine, pair: u64, kind: OpKind)
     requires { IsStanding machine.old }
     ensures { IsStanding machine.new }
 {
-    is(rt, machine.kind(), None);
+    is(rt, machine.kind().is_none(), true);
     told(rt, machine, Ask::ShowPair(pair), Answer::Op(kind));
 }
 
@@ -163,7 +163,7 @@ fn makes_12(rt: &impl Abort, machine: &mut Machine)
     requires { IsStanding machine.old }
     ensures { IsStanding machine.new }
 {
-    is(rt, machine.kind(), None);
+    is(rt, machine.kind().is_none(), true);
     told(rt, machine, Ask::MakeKey, Answer::Made(11));
     told(rt, machine, Ask::MakePair, Answer::Made(12));
 }
@@ -174,7 +174,7 @@ fn claims(rt: &impl Abort, machine: &mut Machine, slot: usize, new: u64, answer:
     requires fit { IsFit answer }
     ensures { IsStanding machine.new }
 {
-    is(rt, machine.kind(), Some(StepKind::Claim));
+    is(rt, machine.kind() == Some(StepKind::Claim), true);
     let ask = Ask::Exchange(At::Slot(1, slot), EMPTY, new);
     told(rt, machine, ask, answer);
 }
@@ -185,7 +185,7 @@ fn replaces(rt: &impl Abort, machine: &mut Machine, old: u64, new: u64, answer: 
     requires fit { IsFit answer }
     ensures { IsStanding machine.new }
 {
-    is(rt, machine.kind(), Some(StepKind::Replace));
+    is(rt, machine.kind() == Some(StepKind::Replace), true);
     told(rt, machine, Ask::Exchange(At::Slot(1, 2), old, new), answer);
 }
 

@@ -45,11 +45,10 @@ fn last_reply(trace: &Trace, caller: usize) -> Option<Reply> {
 
 /// How many exchanges of this kind there are in a trace.
 fn moves(trace: &Trace, kind: StepKind) -> usize {
-    let moved = Event::Moved(kind);
     trace
         .entries
         .iter()
-        .filter(|entry| entry.event == moved)
+        .filter(|entry| matches!(entry.event, Event::Moved(found) if found == kind))
         .count()
 }
 

@@ -67,7 +67,7 @@ fn reply_to(trace: &Trace, caller: usize) -> Option<Reply> {
 }
 
 fn times_opened(trace: &Trace) -> usize {
-    let opened = |entry: &&Entry| entry.event == Event::Moved(StepKind::Open);
+    let opened = |entry: &&Entry| matches!(&entry.event, Event::Moved(StepKind::Open));
     trace.entries.iter().filter(opened).count()
 }
 

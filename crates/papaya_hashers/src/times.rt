@@ -4,7 +4,7 @@ ghost use Rattle.std.specs.Prelude.{◌≡◌, ◌*◌, slice_index};
 use std::hash::{BuildHasher, Hasher};
 
 /// Hashes a key below 256 to so many times itself.
-#[derive(Clone, Copy, Debug)]
+#[derive(Clone, Copy)]
 pub struct Times(pub u8);
 
 /// Each key has a slot of its own.

@@ -10,7 +10,7 @@ use crate::numbers::number_of;
 use papaya_words::probe::ResizeMode;
 
 /// What the lines run on.
-#[derive(Clone, Copy, Debug, PartialEq, Eq)]
+#[derive(Clone, Copy)]
 pub enum Backend {
     /// Any number of callers on one map, a step at a time.
     Core,
@@ -21,7 +21,7 @@ pub enum Backend {
 }
 
 /// How keys are hashed.
-#[derive(Clone, Copy, Debug, PartialEq, Eq)]
+#[derive(Clone, Copy)]
 pub enum Hashing {
     /// A key to itself.
     Identity,
@@ -30,7 +30,7 @@ pub enum Hashing {
 }
 
 /// What the arguments ask for.
-#[derive(Clone, Copy, Debug, PartialEq, Eq)]
+#[derive(Clone, Copy)]
 pub struct Arguments {
     pub backend: Backend,
     pub mode: ResizeMode,

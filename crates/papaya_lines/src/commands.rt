@@ -7,7 +7,7 @@ ghost use Rattle.papaya_lines.specs.declared.commands.Keyed.{Keyed};
 use crate::numbers::number_of;
 
 /// What a line asks of the map.
-#[derive(Clone, Copy, Debug, PartialEq, Eq)]
+#[derive(Clone, Copy)]
 pub enum Command {
     /// Stores a pair.
     Insert(u64, u64),

@@ -5,7 +5,7 @@ ghost use Rattle.papaya_lines.specs.Hashers.{number_written};
 use std::hash::{BuildHasher, Hasher};
 
 /// The hash that is the number written last.
-#[derive(Clone, Copy, Debug)]
+#[derive(Clone, Copy)]
 pub struct IdentityHasher {
     pub number: u64,
 }
@@ -35,7 +35,7 @@ impl Hasher for IdentityHasher {
 }
 
 /// Hashes a `u64` key to itself: the argument `id`.
-#[derive(Clone, Copy, Debug)]
+#[derive(Clone, Copy)]
 pub struct Identity;
 
 impl BuildHasher for Identity {
@@ -49,7 +49,7 @@ impl BuildHasher for Identity {
 }
 
 /// The hash that is always 0.
-#[derive(Clone, Copy, Debug)]
+#[derive(Clone, Copy)]
 pub struct ZeroHasher;
 
 impl Hasher for ZeroHasher {
@@ -65,7 +65,7 @@ impl Hasher for ZeroHasher {
 }
 
 /// Hashes every key to 0, so that all keys take one path: the argument `zero`.
-#[derive(Clone, Copy, Debug)]
+#[derive(Clone, Copy)]
 pub struct Zero;
 
 impl BuildHasher for Zero {

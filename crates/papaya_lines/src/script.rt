@@ -12,7 +12,7 @@ use std::alloc::Global;
 use std::io::BufRead;
 
 /// What a line has its caller do, as far as what is printed hangs on it.
-#[derive(Clone, Copy, Debug, PartialEq, Eq)]
+#[derive(Clone, Copy, PartialEq)]
 pub enum Part {
     /// It begins an update, of whose reply the new value is printed.
     Update,
@@ -26,7 +26,7 @@ pub enum Part {
 }
 
 /// The line that a turn was read from.
-#[derive(Clone, Copy, Debug)]
+#[derive(Clone, Copy)]
 pub struct Line {
     /// Counted from 1, empty lines among them.
     pub number: u64,

@@ -1,7 +1,7 @@
 -- Where the closure of a retain says of no pair that it stays, none is left.
 use Rattle.std.proofs.Common.{◌≡◌, inl, inr, ⊎_elim, Bool, true, false, Ok, Err, Result, IfOk, List, [], ◌∷◌, sym, ap, ◌∙◌}
 use Rattle.papaya_words.specs.declared.probe.Refused.{Refused}
-use Rattle.papaya_visit_rests.specs.Told.{IsLastAnswer}
+use Rattle.papaya_chain_rests.specs.VisitTold.{IsLastAnswer}
 use Rattle.papaya_book.specs.Logs.{Member, Stored}
 use Rattle.papaya_lookup.specs.History.{Change}
 use Rattle.papaya_change.proofs.Showings.{said_only}

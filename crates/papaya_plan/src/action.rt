@@ -9,7 +9,7 @@ use crate::plan::{Plan, Workload};
 const MIXED: u64 = 10;
 
 /// What one step does, at the key of a number.
-#[derive(Clone, Copy, Debug, PartialEq, Eq)]
+#[derive(Clone, Copy)]
 pub enum Action {
     /// Looks the key up.
     Get(u64),

@@ -4,7 +4,7 @@ ghost use Rattle.papaya_plan.specs.declared.arguments.Task.{Task};
 ghost use Rattle.papaya_plan.specs.Arguments.{words_of};
 
 /// What the program is to do.
-#[derive(Clone, Copy, Debug, PartialEq, Eq)]
+#[derive(Clone, Copy)]
 pub enum Task {
     /// Compare the backends' answers on small maps: no argument.
     Check,

@@ -8,7 +8,7 @@ ghost use Rattle.papaya_plan.specs.Plan.{uses_up};
 pub const THREADS: u64 = 4;
 
 /// What the steps of a round do to a map.
-#[derive(Clone, Copy, Debug, PartialEq, Eq)]
+#[derive(Clone, Copy)]
 pub enum Workload {
     /// Looks up a key that the map has.
     GetHit,
@@ -49,7 +49,7 @@ impl Workload {
 }
 
 /// A workload, and over how many keys how often. One round is a step at each key.
-#[derive(Clone, Copy, Debug, PartialEq, Eq)]
+#[derive(Clone, Copy)]
 pub struct Plan {
     pub workload: Workload,
     /// A power of two, so that each key has its turn in a round.
@@ -122,7 +122,7 @@ pub fn key_of(number: u64) -> u64
 }
 
 /// The turns of one of several parts of a round: from the first to below the second.
-#[derive(Clone, Copy, Debug, PartialEq, Eq)]
+#[derive(Clone, Copy)]
 pub struct Part {
     pub start: u64,
     pub end: u64,

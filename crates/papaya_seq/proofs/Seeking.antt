@@ -29,7 +29,7 @@ use Rattle.papaya_rests.specs.Told.{IsOneOf, word_of}
 use Rattle.papaya_store.specs.Store.{StoreState, Stored}
 use Rattle.papaya_store.specs.Tables.{table_of, word_at}
 use Rattle.papaya_timeline.specs.Core.{IsCore}
-use Rattle.papaya_visit_rests.specs.Told as visits
+use Rattle.papaya_chain_rests.specs.VisitTold as visits
 use Rattle.papaya_timeline.specs.Kept.{IsKept, IsLogged, IsMade, Tale, coding_of, is_blocking, low, setting_of, slots_in}
 use Rattle.papaya_timeline.proofs.KeptSettings.{IsLawfulKeys, tables_hashed}
 use Rattle.papaya_seq.specs.Map.{IsLawfulMap, MapState, Unchanged}

@@ -4,3 +4,5 @@ pub mod Store
 pub mod Tables
 pub mod Copies
 pub mod Asks
+-- one ask of a call that visits a table
+pub mod Visits

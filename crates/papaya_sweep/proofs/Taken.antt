@@ -27,8 +27,8 @@ use Rattle.papaya_law.proofs.OneMap.{keeping_sound, legal_changes as all_legal, 
 use Rattle.papaya_law.proofs.Slots.{put_elsewhere, put_there}
 use Rattle.papaya_law.proofs.Walks.{root_holds}
 use Rattle.papaya_rests.specs.Told.{IsWritten, word_of}
-use Rattle.papaya_visit_rests.specs.Told.{IsLastAnswer}
-use Rattle.papaya_visit_rests.proofs.Slots.{met_had, reached_now}
+use Rattle.papaya_chain_rests.specs.VisitTold.{IsLastAnswer}
+use Rattle.papaya_chain_rests.proofs.VisitSlots.{met_had, reached_now}
 use Rattle.papaya_book.specs.declared.rule.entry.Begun.{Begun}
 use Rattle.papaya_book.specs.declared.rule.entry.Event.{Event}
 use Rattle.papaya_book.specs.declared.rule.entry.Event.TheVariants.{Stepped}

@@ -2,7 +2,7 @@
 use Rattle.std.specs.Prelude.{◌≡◌, ◌⊎◌, Bool, true, false, None, Some, Result, List, [], ◌∷◌, ◌++◌, IfOk}
 use mathlib.Core.List.{IsPrefix}
 use Rattle.papaya_words.specs.declared.probe.Refused.{Refused}
-use Rattle.papaya_visit_rests.specs.Told.{IsLastAnswer}
+use Rattle.papaya_chain_rests.specs.VisitTold.{IsLastAnswer}
 use Rattle.papaya_book.specs.Logs.{Stored}
 use Rattle.papaya_lookup.specs.History.{Change, replay}
 use Rattle.papaya_change.specs.Showings.{AllShown, HasSaid, IsSamePair}

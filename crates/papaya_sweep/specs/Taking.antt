@@ -2,7 +2,7 @@
 use Rattle.std.specs.Prelude.{◌≡◌, ◌⊎◌, ℕ, ◌<◌, Bool, true, false, List, [], ◌∷◌, ◌++◌}
 use mathlib.Core.List.{IsPrefix}
 use Rattle.papaya_law.specs.Exchange.{Word, Bury, Live, Marked}
-use Rattle.papaya_visit_rests.specs.Told.{IsLastAnswer}
+use Rattle.papaya_chain_rests.specs.VisitTold.{IsLastAnswer}
 use Rattle.papaya_book.specs.declared.rule.entry.Begun.{Begun}
 use Rattle.papaya_book.specs.declared.rule.entry.Event.{Event}
 use Rattle.papaya_book.specs.declared.rule.entry.Event.TheVariants.{Stepped}

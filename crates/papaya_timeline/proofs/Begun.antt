@@ -16,9 +16,9 @@ use Rattle.papaya_timeline.specs.Begins.{answers_of_call, begun, begun_work, tas
 use Rattle.papaya_timeline.specs.Callers.{call_in, resizer_in, visitor_in}
 use Rattle.papaya_timeline.specs.Kept.{HasAnswers}
 use Rattle.papaya_timeline.specs.Maps.{key_of}
-use Rattle.papaya_visit.specs.declared.visitor.Visit.{Visit}
-use Rattle.papaya_visit.specs.declared.visitor.Visit.TheVariants as visits
-use Rattle.papaya_visit_store.specs.declared.visits.Visiting.{Visiting}
+use Rattle.papaya_chain.specs.declared.visitor.Visit.{Visit}
+use Rattle.papaya_chain.specs.declared.visitor.Visit.TheVariants as visits
+use Rattle.papaya_store.specs.declared.visits.Visiting.{Visiting}
 use Rattle.papaya_timeline.proofs.CallersLemmas.{same_item}
 
 -- the task of a call on a key; one on no key looks for nothing

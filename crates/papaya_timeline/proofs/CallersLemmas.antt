@@ -8,7 +8,7 @@ use Rattle.papaya_timeline.specs.declared.seat.Work.{Work}
 use Rattle.papaya_timeline.specs.declared.seat.Work.TheVariants.{Call, Resize, Visit}
 use Rattle.papaya_timeline.specs.declared.seat.Seat.{Seat}
 use Rattle.papaya_timeline.specs.Callers.{as_work, call_in, resizer_in, resizing, running, visiting, visitor_in, working, with_call, with_work, with_seat, IsSeated, IsSeatAt}
-use Rattle.papaya_visit_store.specs.declared.visits.Visiting.{Visiting}
+use Rattle.papaya_store.specs.declared.visits.Visiting.{Visiting}
 
 -- what a place of a list has, it has alone
 pub same_item : {A : Type 0} (x y : A) → Some x ≡ Some y → x ≡ y

@@ -38,8 +38,8 @@ use Rattle.papaya_timeline.specs.Core.{IsCore, IsGoing}
 use Rattle.papaya_store.specs.New.{HasCapacity}
 use Rattle.papaya_keys.proofs.TableSizes.{table_size}
 use Rattle.papaya_timeline.proofs.CallersLemmas.{resizing-elsewhere, resizing-here, resizing-with_seat, running-elsewhere, running-here, running-with_seat, visiting-elsewhere, visiting-here, visiting-with_seat}
-use Rattle.papaya_visit.specs.Visitor as visitors
-use Rattle.papaya_visit_store.specs.declared.visits.Visiting.{Visiting}
+use Rattle.papaya_chain.specs.Visitor as visitors
+use Rattle.papaya_store.specs.declared.visits.Visiting.{Visiting}
 use Rattle.papaya_timeline.proofs.StoreLemmas.{AllSized, numbered, unnumbered, performed_ask, performed_copy, append-sized}
 
 -- two numbers are the same or they differ

@@ -30,14 +30,14 @@ use Rattle.papaya_timeline.proofs.KeptSettings.{IsLawfulKeys}
 use Rattle.papaya_timeline.proofs.KeptVisited as visited
 use Rattle.papaya_timeline.proofs.VisitLaw.{counted, tells}
 use Rattle.papaya_timeline.proofs.VisitStands.{visit_core}
-use Rattle.papaya_visit.specs.declared.ask.VisitAsk.{VisitAsk}
-use Rattle.papaya_visit.specs.declared.ask.VisitAsk.TheVariants.{Copy, Give}
-use Rattle.papaya_visit.specs.declared.visitor.State.{State}
-use Rattle.papaya_visit.specs.declared.visitor.State.TheVariants.{Copying, AtRoot, Sizing, Looking, Giving, Showing, Burying, Uncounting, Done, Refused}
-use Rattle.papaya_visit.specs.Visitor.{asks_in, copy_asks, kind_of_ask, reply_in, reply_of}
-use Rattle.papaya_visit_rests.specs.Told as told_by
-use Rattle.papaya_visit_rests.specs.Told.{IsVisitTold}
-use Rattle.papaya_visit_store.specs.declared.visits.Visiting.{Visiting}
+use Rattle.papaya_chain.specs.declared.visit_ask.VisitAsk.{VisitAsk}
+use Rattle.papaya_chain.specs.declared.visit_ask.VisitAsk.TheVariants.{Copy, Give}
+use Rattle.papaya_chain.specs.declared.visitor.State.{State}
+use Rattle.papaya_chain.specs.declared.visitor.State.TheVariants.{Copying, AtRoot, Sizing, Looking, Giving, Showing, Burying, Uncounting, Done, Refused}
+use Rattle.papaya_chain.specs.Visitor.{asks_in, copy_asks, kind_of_ask, reply_in, reply_of}
+use Rattle.papaya_chain_rests.specs.VisitTold as told_by
+use Rattle.papaya_chain_rests.specs.VisitTold.{IsVisitTold}
+use Rattle.papaya_store.specs.declared.visits.Visiting.{Visiting}
 
 -- a visitor that has ended owes nothing
 ended_owes : (state : State) (reply : Reply) → reply_in state ≡ Some reply → owed_visit state ≡ pos 0

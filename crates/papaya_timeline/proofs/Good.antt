@@ -24,10 +24,10 @@ use Rattle.papaya_store.specs.Performs.{own_key}
 use Rattle.papaya_store.specs.Store.{KeepsPairs, StoreState, Stored, pair_of}
 use Rattle.papaya_timeline.specs.Runs.{History}
 use Rattle.papaya_timeline.specs.Timeline.{Answered, open_call, change_of, given_by, last_asked, was_shown_none, AreSince, AtBegin, AtSomeMoment, OfEach, OfSome, WasAnswered, WasAsked, WereThere, IsUnused, Timeline}
-use Rattle.papaya_visit.specs.declared.visitor.Visit.{Visit}
-use Rattle.papaya_visit.specs.declared.visitor.Visit.TheVariants as visits
-use Rattle.papaya_visit_rests.specs.Taken.{IsTakenOut}
-use Rattle.papaya_visit_store.specs.declared.visits.Visiting.{Visiting}
+use Rattle.papaya_chain.specs.declared.visitor.Visit.{Visit}
+use Rattle.papaya_chain.specs.declared.visitor.Visit.TheVariants as visits
+use Rattle.papaya_chain_rests.specs.VisitTaken.{IsTakenOut}
+use Rattle.papaya_store.specs.declared.visits.Visiting.{Visiting}
 
 -- a pair of the call has the value that it was handed; that of a compute has one that its closure answered
 abbrev pub IsValueOf : {K V A : Type 0} → Call K V A → V → Type 0

@@ -22,10 +22,10 @@ use Rattle.papaya_chain.specs.declared.ask.Answer.TheVariants as told_to
 use Rattle.papaya_chain.specs.Machine.{ask_of, follows_of, kind_of_ask, after}
 use Rattle.papaya_chain_rests.specs.Goes.{Goes, IsInOrder, change_by as changed_by}
 use Rattle.papaya_chain_rests.specs.Told.{Hands, no_hands}
-use Rattle.papaya_visit.specs.declared.visitor.Visit.{Visit}
-use Rattle.papaya_visit.specs.declared.visitor.Visit.TheVariants as visit_kinds
-use Rattle.papaya_visit_rests.specs.Told as visits
-use Rattle.papaya_visit_store.specs.declared.visits.Visiting.{Visiting}
+use Rattle.papaya_chain.specs.declared.visitor.Visit.{Visit}
+use Rattle.papaya_chain.specs.declared.visitor.Visit.TheVariants as visit_kinds
+use Rattle.papaya_chain_rests.specs.VisitTold as visits
+use Rattle.papaya_store.specs.declared.visits.Visiting.{Visiting}
 use Rattle.papaya_chain_rests.proofs.Goes.{machine_goes}
 use Rattle.papaya_chain_rests.proofs.Once.{chain_offered, chain_once as shows_once}
 use Rattle.papaya_chain_rests.proofs.Replies.{chain_said, chain_shows, chain_task}

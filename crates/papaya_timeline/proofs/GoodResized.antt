@@ -58,7 +58,7 @@ use Rattle.papaya_timeline.proofs.ReplayLemmas.{held_in_slot, map_replayed, repl
 use Rattle.papaya_timeline.proofs.StepEvents.{IsCopied, copy_told, stage_moves}
 use Rattle.papaya_timeline.proofs.StoreLemmas.{matched}
 use Rattle.papaya_timeline.proofs.TiedLemmas.{tied_entry, tied_other}
-use Rattle.papaya_visit_store.specs.declared.visits.Visiting.{Visiting}
+use Rattle.papaya_store.specs.declared.visits.Visiting.{Visiting}
 use Rattle.papaya_timeline.proofs.TimelineLemmas.{change_of-other, change_of-own, entry, logged_more, open_call-other, open_call-own}
 
 -- an event that changes no pair of the map and shows nothing

@@ -21,13 +21,13 @@ use Rattle.papaya_timeline.proofs.Good.{IsKeyed, IsVisitOf, IsVisitTied, answer_
 use Rattle.papaya_timeline.proofs.GoodVisits.{began_weaker, some_weaker}
 use Rattle.papaya_timeline.proofs.ReplayLemmas.{map_replayed, replay-alike, replay-append}
 use Rattle.papaya_timeline.proofs.TimelineLemmas.{at_weaker}
-use Rattle.papaya_visit.specs.declared.visitor.Visit.{Visit}
-use Rattle.papaya_visit.specs.declared.visitor.Visit.TheVariants as visits
-use Rattle.papaya_visit_rests.specs.Taken.{IsTakenOut, takes_out}
-use Rattle.papaya_visit_rests.specs.Told.{IsLastAnswer, count_of}
-use Rattle.papaya_visit_rests.specs.Visits.{HadPair, HasVisited}
-use Rattle.papaya_visit_rests.specs.Visits as visit_law
-use Rattle.papaya_visit_store.specs.declared.visits.Visiting.{Visiting}
+use Rattle.papaya_chain.specs.declared.visitor.Visit.{Visit}
+use Rattle.papaya_chain.specs.declared.visitor.Visit.TheVariants as visits
+use Rattle.papaya_chain_rests.specs.VisitTaken.{IsTakenOut, takes_out}
+use Rattle.papaya_chain_rests.specs.VisitTold.{IsLastAnswer, count_of}
+use Rattle.papaya_chain_rests.specs.Visits.{HadPair, HasVisited}
+use Rattle.papaya_chain_rests.specs.Visits as visit_law
+use Rattle.papaya_store.specs.declared.visits.Visiting.{Visiting}
 
 -- a pair of which an answer is known was shown
 pub answered_shown : {P : Type 0} (l : List (P × Bool)) (p : P) (stays : Bool) → IsLastAnswer l p stays → WasShown l p

@@ -29,17 +29,17 @@ use Rattle.papaya_timeline.proofs.EndingLemmas.{copy_unrefused}
 use Rattle.papaya_timeline.proofs.Good.{IsTied, IsVisitOf}
 use Rattle.papaya_timeline.proofs.StepVisits.{IsWithout}
 use Rattle.papaya_timeline.proofs.StoreLemmas.{matched}
-use Rattle.papaya_visit.specs.declared.ask.VisitAsk.{VisitAsk}
-use Rattle.papaya_visit.specs.declared.ask.VisitAsk.TheVariants.{Copy, Show, Give, AddToShard}
-use Rattle.papaya_visit.specs.declared.visitor.State.{State}
-use Rattle.papaya_visit.specs.declared.visitor.State.TheVariants as states
-use Rattle.papaya_visit.specs.declared.visitor.Visit.{Visit}
-use Rattle.papaya_visit.specs.declared.visitor.Visit.TheVariants as visits
-use Rattle.papaya_visit.specs.Visitor.{reply_in}
-use Rattle.papaya_visit_rests.specs.Told.{Hands}
-use Rattle.papaya_visit_rests.specs.Visits.{RestsState}
-use Rattle.papaya_visit_store.specs.declared.visits.Visiting.{Visiting}
-use Rattle.papaya_visit_store.specs.Visits.{PerformsVisit}
+use Rattle.papaya_chain.specs.declared.visit_ask.VisitAsk.{VisitAsk}
+use Rattle.papaya_chain.specs.declared.visit_ask.VisitAsk.TheVariants.{Copy, Show, Give, AddToShard}
+use Rattle.papaya_chain.specs.declared.visitor.State.{State}
+use Rattle.papaya_chain.specs.declared.visitor.State.TheVariants as states
+use Rattle.papaya_chain.specs.declared.visitor.Visit.{Visit}
+use Rattle.papaya_chain.specs.declared.visitor.Visit.TheVariants as visits
+use Rattle.papaya_chain.specs.Visitor.{reply_in}
+use Rattle.papaya_chain_rests.specs.VisitTold.{Hands}
+use Rattle.papaya_chain_rests.specs.Visits.{RestsState}
+use Rattle.papaya_store.specs.declared.visits.Visiting.{Visiting}
+use Rattle.papaya_store.specs.Visits.{PerformsVisit}
 
 module _ {K V S : Type 0} (eq : K → K → Bool) (hash : S → K → ℕ) (refuse : Bool) where
   -- a copy leaves the keys of the log

@@ -55,16 +55,16 @@ use Rattle.papaya_timeline.proofs.StepVisits.{IsBurial, IsGift, IsShowing, IsVis
 use Rattle.papaya_timeline.proofs.TiedLemmas.{tied_entry, tied_other}
 use Rattle.papaya_timeline.proofs.TimelineLemmas.{change_of-other, change_of-own, entry, logged_more, not_begin-own, open_call-other, open_call-own}
 use Rattle.papaya_timeline.proofs.VisitOver.{visit_over}
-use Rattle.papaya_visit.specs.declared.ask.VisitAsk.TheVariants.{Show, Give}
-use Rattle.papaya_visit.specs.declared.visitor.State.{State}
-use Rattle.papaya_visit.specs.declared.visitor.State.TheVariants as states
-use Rattle.papaya_visit.specs.declared.visitor.Visit.{Visit}
-use Rattle.papaya_visit.specs.declared.visitor.Visit.TheVariants as visits
-use Rattle.papaya_visit.specs.Visitor.{after, asks_in, kind_of_ask, reply_in}
-use Rattle.papaya_visit_rests.specs.Told.{Hands}
-use Rattle.papaya_visit_rests.specs.Visits.{HadPair, MayTake, RestsState}
-use Rattle.papaya_visit_rests.proofs.Asks.{state_named}
-use Rattle.papaya_visit_store.specs.declared.visits.Visiting.{Visiting}
+use Rattle.papaya_chain.specs.declared.visit_ask.VisitAsk.TheVariants.{Show, Give}
+use Rattle.papaya_chain.specs.declared.visitor.State.{State}
+use Rattle.papaya_chain.specs.declared.visitor.State.TheVariants as states
+use Rattle.papaya_chain.specs.declared.visitor.Visit.{Visit}
+use Rattle.papaya_chain.specs.declared.visitor.Visit.TheVariants as visits
+use Rattle.papaya_chain.specs.Visitor.{after, asks_in, kind_of_ask, reply_in}
+use Rattle.papaya_chain_rests.specs.VisitTold.{Hands}
+use Rattle.papaya_chain_rests.specs.Visits.{HadPair, MayTake, RestsState}
+use Rattle.papaya_chain_rests.proofs.VisitAsks.{state_named}
+use Rattle.papaya_store.specs.declared.visits.Visiting.{Visiting}
 
 module _ {K V S A : Type 0} (eq : K → K → Bool) (hash : K → ℕ) (law : IsLawfulKeys eq hash) where
   module _ {says : Says K V A} {hashes : S → K → ℕ} (refuse : Bool) (schedule : List (Turn K V A)) (first : StoreState K V S) (start : Map K V) (s s' : CoreState K V S A) (h : History) (turn c : ℕ) (event : Event) (reply : Option Reply) (x : Visits eq says hashes refuse s c s' event reply) (as_hashed : hashes s.store.hasher ≡ hash) (core' : IsCore s'.store s'.callers s'.mode) (good : IsGood eq says hash schedule first start s h) where

@@ -24,10 +24,10 @@ use Rattle.papaya_timeline.proofs.Good.{IsKeyed, IsMaking, IsVisitOf, IsVisitTie
 use Rattle.papaya_timeline.proofs.ReplayLemmas.{beginning-cases, replay-append}
 use Rattle.papaya_timeline.proofs.GivenLemmas.{left_more}
 use Rattle.papaya_timeline.proofs.TimelineLemmas.{change_of-other, change_of-own, entry, not_begin-other}
-use Rattle.papaya_visit.specs.declared.visitor.Visit.TheVariants as visits
-use Rattle.papaya_visit_rests.specs.Taken.{IsTakenOut, takes_out}
-use Rattle.papaya_visit_rests.specs.Told.{Hands, no_hands}
-use Rattle.papaya_visit_store.specs.declared.visits.Visiting.{Visiting}
+use Rattle.papaya_chain.specs.declared.visitor.Visit.TheVariants as visits
+use Rattle.papaya_chain_rests.specs.VisitTaken.{IsTakenOut, takes_out}
+use Rattle.papaya_chain_rests.specs.VisitTold.{Hands, no_hands}
+use Rattle.papaya_store.specs.declared.visits.Visiting.{Visiting}
 
 -- what a caller's call has given, and what it was answered, after another's entry and after its own
 pub given_by-other : (c d turn : ℕ) (event : Event) (before : History) → c ≢ d → given_by d (entry turn c event ∷ before) ≡ given_by d before

@@ -40,8 +40,8 @@ use Rattle.papaya_timeline.proofs.CoreLemmas.{cases_same}
 use Rattle.papaya_timeline.proofs.KeptClosures.{begun_answers}
 use Rattle.papaya_timeline.proofs.KeptTables.{word-made}
 use Rattle.papaya_timeline.proofs.VisitBegins.{visit_begins}
-use Rattle.papaya_visit_rests.specs.Told as visits
-use Rattle.papaya_visit_store.specs.declared.visits.Visiting.{Visiting}
+use Rattle.papaya_chain_rests.specs.VisitTold as visits
+use Rattle.papaya_store.specs.declared.visits.Visiting.{Visiting}
 
 -- a core's machines resize as its setting does
 mode_of : (mode : ResizeMode) → IsModeOf mode (is_blocking mode)

@@ -15,7 +15,7 @@ use Rattle.papaya_chain.specs.declared.ask.Answer.{Answer}
 use Rattle.papaya_chain.specs.Machine.{after, ask_of, kind_of_ask}
 use Rattle.papaya_chain_rests.specs.Goes.{IsCause}
 use Rattle.papaya_chain_rests.specs.Told.{no_hands}
-use Rattle.papaya_visit_rests.specs.Told as visits
+use Rattle.papaya_chain_rests.specs.VisitTold as visits
 use Rattle.papaya_timeline.specs.declared.seat.Seat.{Seat}
 use Rattle.papaya_store.specs.declared.pairs.Running.{Running}
 use Rattle.papaya_timeline.specs.declared.trace.Event.{Event}

@@ -37,10 +37,10 @@ use Rattle.papaya_timeline.proofs.KeptAnswer.{Stands}
 use Rattle.papaya_timeline.proofs.KeptSettings.{IsLawfulKeys, tables_hashed, grown_agrees}
 use Rattle.papaya_timeline.proofs.KeptTables.{HasMoreTables}
 use Rattle.papaya_timeline.proofs.ResizerLaws.{resizer_carries, resizer_stays}
-use Rattle.papaya_visit_rests.specs.Visits.{RestsVisitor}
-use Rattle.papaya_visit_rests.proofs.Stays.{state_stays}
-use Rattle.papaya_visit_rests.proofs.Tables.{gives_carries, state_carries}
-use Rattle.papaya_visit_store.specs.declared.visits.Visiting.{Visiting}
+use Rattle.papaya_chain_rests.specs.Visits.{RestsVisitor}
+use Rattle.papaya_chain_rests.proofs.VisitStays.{state_stays}
+use Rattle.papaya_chain_rests.proofs.VisitTables.{gives_carries, state_carries}
+use Rattle.papaya_store.specs.declared.visits.Visiting.{Visiting}
 
 module _ {K V S A : Type 0} (eq : K → K → Bool) (hash : K → ℕ) (law : IsLawfulKeys eq hash) (s : CoreState K V S A) (caller : ℕ) (s' : CoreState K V S A)
     (mode_is : s'.mode ≡ s.mode) (es : List (Exchange (Stored K V))) (tales : ℕ → Tale K V) (core : IsCore s.store s.callers s.mode) (kept : IsKept eq hash s.mode s.store s.callers es tales)

@@ -42,7 +42,7 @@ use Rattle.papaya_timeline.specs.Callers.{call_in, resizer_in, visitor_in}
 use Rattle.papaya_timeline.specs.Core.{CoreState, IsCore}
 use Rattle.papaya_timeline.specs.Kept.{IsKept, IsMade, IsResizing, Tale, setting_of, coding_of, low, told_tales}
 use Rattle.papaya_timeline.specs.Resizes.{Resizes}
-use Rattle.papaya_visit_store.specs.declared.visits.Visiting.{Visiting}
+use Rattle.papaya_store.specs.declared.visits.Visiting.{Visiting}
 use Rattle.papaya_timeline.proofs.CallersLemmas.{same_item}
 use Rattle.papaya_timeline.proofs.CopyAnswers.{IsAsker, IsLeft, Suits, copied_left, exchanged_left, left_logged, quiet_left}
 use Rattle.papaya_timeline.proofs.FollowedTables.{copying_follows}

@@ -26,12 +26,12 @@ use Rattle.papaya_timeline.proofs.CoreLemmas.{cases_same, with_work-core, withou
 use Rattle.papaya_timeline.proofs.KeptSettings.{IsLawfulKeys}
 use Rattle.papaya_timeline.proofs.VisitKept.{visit_heard}
 use Rattle.papaya_timeline.proofs.VisitStands.{visit_core}
-use Rattle.papaya_visit.specs.declared.ask.VisitAsk.{VisitAsk}
-use Rattle.papaya_visit.specs.declared.ask.VisitAsk.TheVariants.{Give}
-use Rattle.papaya_visit.specs.Visitor.{IsStandingVisitor, after, ask_of, asks_in, reply_of}
+use Rattle.papaya_chain.specs.declared.visit_ask.VisitAsk.{VisitAsk}
+use Rattle.papaya_chain.specs.declared.visit_ask.VisitAsk.TheVariants.{Give}
+use Rattle.papaya_chain.specs.Visitor.{IsStandingVisitor, after, ask_of, asks_in, reply_of}
 use Rattle.papaya_words.specs.Word.{pair_of}
-use Rattle.papaya_visit_rests.specs.Told as visits
-use Rattle.papaya_visit_store.specs.declared.visits.Visiting.{Visiting}
+use Rattle.papaya_chain_rests.specs.VisitTold as visits
+use Rattle.papaya_store.specs.declared.visits.Visiting.{Visiting}
 
 -- a visitor that goes on is the one that was put back, and nothing else
 pub goes_on-visit : {K V A : Type 0} (reply : Option Reply) (u v : Visiting A) (w : Work K V A) → w ≡ works.Visit u → goes_on reply w ≡ Some (works.Visit v) → (reply ≡ None) × (u ≡ v)

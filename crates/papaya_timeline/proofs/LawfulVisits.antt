@@ -26,13 +26,13 @@ use Rattle.papaya_timeline.proofs.KeptCore.{keys_lawful}
 use Rattle.papaya_timeline.proofs.KeptSettings.{IsLawfulKeys}
 use Rattle.papaya_timeline.proofs.KeptVisited.{step_after, visited-core, was_unheard, without_kept}
 use Rattle.papaya_timeline.proofs.VisitLaw.{asks_so, heard}
-use Rattle.papaya_visit.specs.declared.ask.VisitAsk.{VisitAsk}
-use Rattle.papaya_visit.specs.Visitor.{after, ask_of, reply_of}
-use Rattle.papaya_visit_rests.specs.Outcomes.{IsVisitCause}
-use Rattle.papaya_visit_rests.specs.Told.{Hands, IsVisitTold}
-use Rattle.papaya_visit_rests.proofs.Outcomes.{state_why}
-use Rattle.papaya_visit_store.specs.declared.visits.Visiting.{Visiting}
-use Rattle.papaya_visit_store.specs.Visits.{PerformsVisit}
+use Rattle.papaya_chain.specs.declared.visit_ask.VisitAsk.{VisitAsk}
+use Rattle.papaya_chain.specs.Visitor.{after, ask_of, reply_of}
+use Rattle.papaya_chain_rests.specs.VisitOutcomes.{IsVisitCause}
+use Rattle.papaya_chain_rests.specs.VisitTold.{Hands, IsVisitTold}
+use Rattle.papaya_chain_rests.proofs.VisitOutcomes.{state_why}
+use Rattle.papaya_store.specs.declared.visits.Visiting.{Visiting}
+use Rattle.papaya_store.specs.Visits.{PerformsVisit}
 
 -- what it rests on tells why it ends refused
 module _ {K V S A : Type 0} (eq : K → K → Bool) (hash : K → ℕ) (s : CoreState K V S A) (v : Visiting A) (tale : VisitTale K V) (a : Answer) (made : List (Exchange (Stored K V))) (hands : Hands (Stored K V)) where

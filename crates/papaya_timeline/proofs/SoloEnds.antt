@@ -40,10 +40,10 @@ use Rattle.papaya_alone.proofs.ResizerLaw.{begun_read}
 use Rattle.papaya_timeline.proofs.Begun.{call_begun, resizer_begun_is, task_is_own, the_task, visitor_begun_is}
 use Rattle.papaya_words.specs.declared.probe.ResizeMode.{ResizeMode}
 use Rattle.papaya_words.specs.declared.probe.ResizeMode.TheVariants.{Incremental, Blocking}
-use Rattle.papaya_visit.specs.declared.visitor.Visit.{Visit}
-use Rattle.papaya_visit.specs.Visitor.{begun}
-use Rattle.papaya_visit_alone.specs.Visitors.{IsVisitorRead}
-use Rattle.papaya_visit_store.specs.declared.visits.Visiting.{Visiting}
+use Rattle.papaya_chain.specs.declared.visitor.Visit.{Visit}
+use Rattle.papaya_chain.specs.Visitor.{begun}
+use Rattle.papaya_alone.specs.Visitors.{IsVisitorRead}
+use Rattle.papaya_store.specs.declared.visits.Visiting.{Visiting}
 use Rattle.papaya_timeline.specs.Core.{CoreState, IsCore}
 use Rattle.papaya_timeline.specs.Ends.{HasValue, IsLone, IsMaker, IsNearer, budget_of, lone_measure}
 use Rattle.papaya_timeline.specs.Kept.{IsCall, IsKept, IsLawfulCore, Tale, coding_of, low, setting_of, told_tales}

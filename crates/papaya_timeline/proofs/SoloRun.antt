@@ -57,9 +57,9 @@ use Rattle.papaya_timeline.specs.VisitGoes.{Visits, reply_or, unheard}
 use Rattle.papaya_timeline.proofs.CountedVisited.{counted_visit}
 use Rattle.papaya_timeline.proofs.KeptVisited.{step_after as visit_after, visited-core}
 use Rattle.papaya_timeline.proofs.SoloVisits.{visit_of_step}
-use Rattle.papaya_visit.specs.declared.visitor.State.{State as Visit_state}
-use Rattle.papaya_visit.specs.declared.visitor.State.TheVariants as visit_states
-use Rattle.papaya_visit.specs.Visitor.{after as after_visit, kind_of_ask as kind_of_visit, reply_in as visit_reply_in}
+use Rattle.papaya_chain.specs.declared.visitor.State.{State as Visit_state}
+use Rattle.papaya_chain.specs.declared.visitor.State.TheVariants as visit_states
+use Rattle.papaya_chain.specs.Visitor.{after as after_visit, kind_of_ask as kind_of_visit, reply_in as visit_reply_in}
 
 -- an event that begins no call and ends none is of a step
 of_step : (event : Event) → begins event ≡ false → open_after {A = ℕ} event None (Some 0) ≡ Some 0 → IsOfStep event

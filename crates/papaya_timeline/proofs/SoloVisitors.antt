@@ -21,9 +21,9 @@ use Rattle.papaya_timeline.proofs.KeptSettings.{IsLawfulKeys}
 use Rattle.papaya_timeline.proofs.KeptVisited as step
 use Rattle.papaya_timeline.proofs.LawfulVisits.{visit_lawful}
 use Rattle.papaya_timeline.proofs.VisitLaw.{nears}
-use Rattle.papaya_visit.specs.Visitor.{after}
-use Rattle.papaya_visit_alone.specs.Visitors.{IsVisitorRead, visitor_measure}
-use Rattle.papaya_visit_store.specs.declared.visits.Visiting.{Visiting}
+use Rattle.papaya_chain.specs.Visitor.{after}
+use Rattle.papaya_alone.specs.Visitors.{IsVisitorRead, visitor_measure}
+use Rattle.papaya_store.specs.declared.visits.Visiting.{Visiting}
 
 module _ {K V S A H : Type 0} (eq : K → K → Bool) (input : K → List (List ℕ)) (build : S → H) (write : H → List ℕ → H) (finish : H → ℕ) (classes : IsEquivalence eq) (respects : (x y : K) → eq x y ≡ true → input x ≡ input y) (says : Says K V A) (refuse : Bool) (s s' : CoreState K V S A) (event : Event) where
   -- keys are hashed so, and the law of them

@@ -23,8 +23,8 @@ use Rattle.papaya_timeline.specs.Timeline.{Answered, AtBegin, AtSomeMoment, Fits
 use Rattle.papaya_timeline.specs.VisitGoes.{event_of_visit}
 use Rattle.papaya_timeline.proofs.SoloTimeline.{AreOfSteps, IsOfStep, alone_schedule, open_history, opened, single_answered}
 use Rattle.papaya_timeline.proofs.StepEvents.{copy_cases}
-use Rattle.papaya_visit.specs.declared.ask.VisitAsk.{VisitAsk}
-use Rattle.papaya_visit.specs.declared.ask.VisitAsk.TheVariants.{AddToShard, Copy, Give, Show}
+use Rattle.papaya_chain.specs.declared.visit_ask.VisitAsk.{VisitAsk}
+use Rattle.papaya_chain.specs.declared.visit_ask.VisitAsk.TheVariants.{AddToShard, Copy, Give, Show}
 
 -- what a visitor asks for the copy of all has the event of a copy's ask
 copied : (kind : Option StepKind) (ask : CopyAsk) (a : Answer) → event_of kind (asks.Copy ask) a ≡ event_of_visit kind (Copy ask) a

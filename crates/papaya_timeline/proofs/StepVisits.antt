@@ -24,15 +24,15 @@ use Rattle.papaya_timeline.proofs.CallersLemmas.{same_item}
 use Rattle.papaya_timeline.proofs.GoodResized.{IsOne, IsQuiet, copied_one, none_one, stage_one}
 use Rattle.papaya_timeline.proofs.StepEvents.{copy_cases, copy_moves, stage_moves}
 use Rattle.papaya_timeline.proofs.StoreLemmas.{matched}
-use Rattle.papaya_visit.specs.declared.ask.VisitAsk.{VisitAsk}
-use Rattle.papaya_visit.specs.declared.ask.VisitAsk.TheVariants.{Copy, Show, Give, AddToShard}
-use Rattle.papaya_visit.specs.declared.visitor.Spot.{Spot}
-use Rattle.papaya_visit.specs.declared.visitor.State.{State}
-use Rattle.papaya_visit.specs.declared.visitor.State.TheVariants.{Copying, AtRoot, Sizing, Looking, Giving, Showing, Burying, Uncounting, Done, Refused}
-use Rattle.papaya_visit.specs.Visitor.{asks_in, buries, copy_asks, kind_in}
-use Rattle.papaya_visit_rests.specs.Told.{Hands, IsBuried, IsFoundThere, IsVisitTold, IsWordAnswer, last_of}
-use Rattle.papaya_visit_store.specs.declared.visits.Visiting.{Visiting}
-use Rattle.papaya_visit_store.specs.Visits.{PerformsVisit}
+use Rattle.papaya_chain.specs.declared.visit_ask.VisitAsk.{VisitAsk}
+use Rattle.papaya_chain.specs.declared.visit_ask.VisitAsk.TheVariants.{Copy, Show, Give, AddToShard}
+use Rattle.papaya_chain.specs.declared.visitor.Spot.{Spot}
+use Rattle.papaya_chain.specs.declared.visitor.State.{State}
+use Rattle.papaya_chain.specs.declared.visitor.State.TheVariants.{Copying, AtRoot, Sizing, Looking, Giving, Showing, Burying, Uncounting, Done, Refused}
+use Rattle.papaya_chain.specs.Visitor.{asks_in, buries, copy_asks, kind_in}
+use Rattle.papaya_chain_rests.specs.VisitTold.{Hands, IsBuried, IsFoundThere, IsVisitTold, IsWordAnswer, last_of}
+use Rattle.papaya_store.specs.declared.visits.Visiting.{Visiting}
+use Rattle.papaya_store.specs.Visits.{PerformsVisit}
 
 -- what is asked for a copy is told as a copy's events are
 copied_event : (kind : Option StepKind) (ask : CopyAsk) (answer : Answer) → event_of_visit kind (Copy ask) answer ≡ event_of kind (asks.Copy ask) answer

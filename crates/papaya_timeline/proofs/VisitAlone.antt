@@ -31,20 +31,20 @@ use Rattle.papaya_timeline.proofs.BudgetTables.{changes_at}
 use Rattle.papaya_timeline.proofs.CopyAnswers.{Suits, placed}
 use Rattle.papaya_timeline.proofs.KeptSettings.{IsLawfulKeys, tables_hashed}
 use Rattle.papaya_timeline.proofs.KeptTables.{IsPlaced}
-use Rattle.papaya_visit.specs.declared.ask.VisitAsk.{VisitAsk}
-use Rattle.papaya_visit.specs.declared.ask.VisitAsk.TheVariants.{Copy, Show, Give, AddToShard}
-use Rattle.papaya_visit.specs.declared.visitor.Spot.{Spot}
-use Rattle.papaya_visit.specs.declared.visitor.State.{State}
-use Rattle.papaya_visit.specs.declared.visitor.State.TheVariants.{Copying, AtRoot, Sizing, Looking, Giving, Showing, Burying, Uncounting, Done, Refused}
-use Rattle.papaya_visit.specs.Visitor.{IsStandingVisitor, after, ask_of, asks_in}
-use Rattle.papaya_visit_rests.specs.Told.{IsVisitTold}
-use Rattle.papaya_visit_rests.specs.Visits.{IsVisitAsked, RestsState}
-use Rattle.papaya_visit_rests.proofs.Asks.{state_may, state_named}
-use Rattle.papaya_visit_alone.specs.Visitors.{IsVisitorRead, SpendsVisit, left_of_visit, visitor_measure}
-use Rattle.papaya_visit_alone.proofs.Lefts.{visit_small}
-use Rattle.papaya_visit_alone.proofs.VisitLaw.{state_nearer}
-use Rattle.papaya_visit_store.specs.declared.visits.Visiting.{Visiting}
-use Rattle.papaya_visit_store.specs.Visits.{PerformsVisit}
+use Rattle.papaya_chain.specs.declared.visit_ask.VisitAsk.{VisitAsk}
+use Rattle.papaya_chain.specs.declared.visit_ask.VisitAsk.TheVariants.{Copy, Show, Give, AddToShard}
+use Rattle.papaya_chain.specs.declared.visitor.Spot.{Spot}
+use Rattle.papaya_chain.specs.declared.visitor.State.{State}
+use Rattle.papaya_chain.specs.declared.visitor.State.TheVariants.{Copying, AtRoot, Sizing, Looking, Giving, Showing, Burying, Uncounting, Done, Refused}
+use Rattle.papaya_chain.specs.Visitor.{IsStandingVisitor, after, ask_of, asks_in}
+use Rattle.papaya_chain_rests.specs.VisitTold.{IsVisitTold}
+use Rattle.papaya_chain_rests.specs.Visits.{IsVisitAsked, RestsState}
+use Rattle.papaya_chain_rests.proofs.VisitAsks.{state_may, state_named}
+use Rattle.papaya_alone.specs.Visitors.{IsVisitorRead, SpendsVisit, left_of_visit, visitor_measure}
+use Rattle.papaya_alone.proofs.VisitLefts.{visit_small}
+use Rattle.papaya_alone.proofs.VisitLaw.{state_nearer}
+use Rattle.papaya_store.specs.declared.visits.Visiting.{Visiting}
+use Rattle.papaya_store.specs.Visits.{PerformsVisit}
 use Rattle.papaya_timeline.specs.Visits.{IsHeard}
 
 module _ {K V S A : Type 0} (eq : K → K → Bool) (hash : K → ℕ) (law : IsLawfulKeys eq hash) (says : Says K V A) (hashes : S → K → ℕ) (refuse : Bool) (s : CoreState K V S A) (core : IsCore s.store s.callers s.mode) (hasher : hashes s.store.hasher ≡ hash) (caller : ℕ)

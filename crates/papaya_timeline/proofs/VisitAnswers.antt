@@ -40,18 +40,18 @@ use Rattle.papaya_timeline.proofs.KeptAnswer.{Stands}
 use Rattle.papaya_timeline.proofs.KeptResized.{stage_left}
 use Rattle.papaya_timeline.proofs.KeptSettings.{IsLawfulKeys, tables_hashed}
 use Rattle.papaya_timeline.proofs.StoreLemmas.{matched}
-use Rattle.papaya_visit.specs.declared.ask.VisitAsk.{VisitAsk}
-use Rattle.papaya_visit.specs.declared.ask.VisitAsk.TheVariants.{Copy, Show, Give, AddToShard}
-use Rattle.papaya_visit.specs.declared.visitor.Spot.{Spot}
-use Rattle.papaya_visit.specs.declared.visitor.State.{State}
-use Rattle.papaya_visit.specs.declared.visitor.State.TheVariants.{Copying, AtRoot, Sizing, Looking, Giving, Showing, Burying, Uncounting, Done, Refused}
-use Rattle.papaya_visit.specs.declared.visitor.Visit.TheVariants.{Retain}
-use Rattle.papaya_visit.specs.Visitor.{asks_in, buries, copy_asks, resizer_of}
-use Rattle.papaya_visit_rests.specs.Told.{Hands, IsBuried, IsFoundThere, IsVisitTold, last_of}
-use Rattle.papaya_visit_rests.specs.Visits.{HadPair, IsOfAll, RestsState, RestsVisitor}
-use Rattle.papaya_visit_rests.proofs.Asks.{state_may, state_named}
-use Rattle.papaya_visit_store.specs.declared.visits.Visiting.{Visiting}
-use Rattle.papaya_visit_store.specs.Visits.{PerformsVisit}
+use Rattle.papaya_chain.specs.declared.visit_ask.VisitAsk.{VisitAsk}
+use Rattle.papaya_chain.specs.declared.visit_ask.VisitAsk.TheVariants.{Copy, Show, Give, AddToShard}
+use Rattle.papaya_chain.specs.declared.visitor.Spot.{Spot}
+use Rattle.papaya_chain.specs.declared.visitor.State.{State}
+use Rattle.papaya_chain.specs.declared.visitor.State.TheVariants.{Copying, AtRoot, Sizing, Looking, Giving, Showing, Burying, Uncounting, Done, Refused}
+use Rattle.papaya_chain.specs.declared.visitor.Visit.TheVariants.{Retain}
+use Rattle.papaya_chain.specs.Visitor.{asks_in, buries, copy_asks, resizer_of}
+use Rattle.papaya_chain_rests.specs.VisitTold.{Hands, IsBuried, IsFoundThere, IsVisitTold, last_of}
+use Rattle.papaya_chain_rests.specs.Visits.{HadPair, IsOfAll, RestsState, RestsVisitor}
+use Rattle.papaya_chain_rests.proofs.VisitAsks.{state_may, state_named}
+use Rattle.papaya_store.specs.declared.visits.Visiting.{Visiting}
+use Rattle.papaya_store.specs.Visits.{PerformsVisit}
 use Rattle.papaya_timeline.specs.Visits.{IsUnheard}
 
 -- what is told otherwise, where all else is the same

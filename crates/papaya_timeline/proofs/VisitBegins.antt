@@ -11,13 +11,13 @@ use Rattle.papaya_rests.specs.Rests.{IsModeOf}
 use Rattle.papaya_store.specs.Store.{Stored}
 use Rattle.papaya_timeline.specs.Core.{CoreState}
 use Rattle.papaya_timeline.specs.Kept.{HasAnswers, IsVisitLink, IsVisiting, coding_of, is_blocking, low, setting_of}
-use Rattle.papaya_visit.specs.declared.visitor.Visit.{Visit}
-use Rattle.papaya_visit.specs.declared.visitor.Visit.TheVariants.{Clear, Retain, Walk}
-use Rattle.papaya_visit.specs.declared.visitor.Visitor.{Visitor}
-use Rattle.papaya_visit.specs.Visitor.{begun, begun_in}
-use Rattle.papaya_visit_rests.specs.Told.{no_hands}
-use Rattle.papaya_visit_rests.specs.Visits.{GivesNone, RestsState, RestsVisitor}
-use Rattle.papaya_visit_store.specs.declared.visits.Visiting.{Visiting}
+use Rattle.papaya_chain.specs.declared.visitor.Visit.{Visit}
+use Rattle.papaya_chain.specs.declared.visitor.Visit.TheVariants.{Clear, Retain, Walk}
+use Rattle.papaya_chain.specs.declared.visitor.Visitor.{Visitor}
+use Rattle.papaya_chain.specs.Visitor.{begun, begun_in}
+use Rattle.papaya_chain_rests.specs.VisitTold.{no_hands}
+use Rattle.papaya_chain_rests.specs.Visits.{GivesNone, RestsState, RestsVisitor}
+use Rattle.papaya_store.specs.declared.visits.Visiting.{Visiting}
 
 -- a core's machines resize as its setting does
 mode_of : (mode : ResizeMode) → IsModeOf mode (is_blocking mode)

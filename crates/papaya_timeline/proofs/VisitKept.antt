@@ -31,15 +31,15 @@ use Rattle.papaya_timeline.proofs.KeptAnswer.{Stands}
 use Rattle.papaya_timeline.proofs.KeptOthers as others
 use Rattle.papaya_timeline.proofs.KeptSettings.{IsLawfulKeys, tables_hashed}
 use Rattle.papaya_timeline.proofs.KeptTables.{HasMoreTables}
-use Rattle.papaya_visit.specs.declared.ask.VisitAsk.{VisitAsk}
-use Rattle.papaya_visit.specs.declared.visitor.State.TheVariants.{Copying}
-use Rattle.papaya_visit.specs.Visitor.{after, ask_of}
-use Rattle.papaya_visit_rests.specs.Told.{IsVisitTold}
-use Rattle.papaya_visit_rests.specs.Visits.{IsOfAll, RestsState, RestsVisitor}
-use Rattle.papaya_visit_rests.proofs.Learns.{state_gives, state_learns}
-use Rattle.papaya_visit_rests.proofs.Tables.{gives_carries, state_carries}
-use Rattle.papaya_visit_store.specs.declared.visits.Visiting.{Visiting}
-use Rattle.papaya_visit_store.specs.Visits.{PerformsVisit}
+use Rattle.papaya_chain.specs.declared.visit_ask.VisitAsk.{VisitAsk}
+use Rattle.papaya_chain.specs.declared.visitor.State.TheVariants.{Copying}
+use Rattle.papaya_chain.specs.Visitor.{after, ask_of}
+use Rattle.papaya_chain_rests.specs.VisitTold.{IsVisitTold}
+use Rattle.papaya_chain_rests.specs.Visits.{IsOfAll, RestsState, RestsVisitor}
+use Rattle.papaya_chain_rests.proofs.VisitLearns.{state_gives, state_learns}
+use Rattle.papaya_chain_rests.proofs.VisitTables.{gives_carries, state_carries}
+use Rattle.papaya_store.specs.declared.visits.Visiting.{Visiting}
+use Rattle.papaya_store.specs.Visits.{PerformsVisit}
 use Rattle.papaya_timeline.specs.Visits.{IsHeard, IsUnheard}
 use Rattle.papaya_timeline.proofs.VisitAnswers as left_by
 use Rattle.papaya_timeline.proofs.VisitLinks.{links_made}

@@ -15,11 +15,11 @@ use Rattle.papaya_timeline.specs.Ends.{budget_of}
 use Rattle.papaya_timeline.specs.Kept.{IsKept, IsVisiting, Tale, VisitTale, coding_of, low, setting_of}
 use Rattle.papaya_timeline.specs.Runs.{Steps}
 use Rattle.papaya_timeline.proofs.KeptSettings.{IsLawfulKeys}
-use Rattle.papaya_visit.specs.declared.ask.VisitAsk.{VisitAsk}
-use Rattle.papaya_visit.specs.Visitor.{IsStandingVisitor, after, ask_of, kind_of_ask, reply_of}
-use Rattle.papaya_visit_alone.specs.Visitors.{IsVisitorRead, visitor_measure}
-use Rattle.papaya_visit_store.specs.declared.visits.Visiting.{Visiting}
-use Rattle.papaya_visit_store.specs.Visits.{PerformsVisit}
+use Rattle.papaya_chain.specs.declared.visit_ask.VisitAsk.{VisitAsk}
+use Rattle.papaya_chain.specs.Visitor.{IsStandingVisitor, after, ask_of, kind_of_ask, reply_of}
+use Rattle.papaya_alone.specs.Visitors.{IsVisitorRead, visitor_measure}
+use Rattle.papaya_store.specs.declared.visits.Visiting.{Visiting}
+use Rattle.papaya_store.specs.Visits.{PerformsVisit}
 use Rattle.papaya_timeline.specs.Visits.{HasVisitedIn, IsCountedBeside, IsHeard, IsUnheard, MovesByVisit, MovesVisit, StaysBeside}
 use Rattle.papaya_timeline.specs.VisitGoes.{event_of_visit}
 use Rattle.papaya_timeline.proofs.VisitAlone as lone

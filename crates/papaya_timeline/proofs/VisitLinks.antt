@@ -18,12 +18,12 @@ use Rattle.papaya_chain.specs.Resizer as resizers
 use Rattle.papaya_chain_rests.specs.Resizers.{HasLink}
 use Rattle.papaya_timeline.proofs.ResizerTables.{stage_is, stage_links, stage_made}
 use Rattle.papaya_timeline.specs.Kept.{IsVisitLink}
-use Rattle.papaya_visit.specs.declared.visitor.Spot.{Spot}
-use Rattle.papaya_visit.specs.declared.visitor.State.{State}
-use Rattle.papaya_visit.specs.declared.visitor.State.TheVariants.{Copying, AtRoot, Sizing, Looking, Giving, Showing, Burying, Uncounting, Done, Refused}
-use Rattle.papaya_visit.specs.declared.visitor.Visit.{Visit}
-use Rattle.papaya_visit.specs.declared.visitor.Visit.TheVariants.{Clear, Retain, Walk}
-use Rattle.papaya_visit.specs.Visitor.{after_in, at_root, copied, found_by, looks, meets, next, shown, told, visited}
+use Rattle.papaya_chain.specs.declared.visitor.Spot.{Spot}
+use Rattle.papaya_chain.specs.declared.visitor.State.{State}
+use Rattle.papaya_chain.specs.declared.visitor.State.TheVariants.{Copying, AtRoot, Sizing, Looking, Giving, Showing, Burying, Uncounting, Done, Refused}
+use Rattle.papaya_chain.specs.declared.visitor.Visit.{Visit}
+use Rattle.papaya_chain.specs.declared.visitor.Visit.TheVariants.{Clear, Retain, Walk}
+use Rattle.papaya_chain.specs.Visitor.{after_in, at_root, copied, found_by, looks, meets, next, shown, told, visited}
 
 -- no table is about to be linked
 abbrev LinksNone : State → Type 0

@@ -30,17 +30,17 @@ use Rattle.papaya_timeline.proofs.CountedContent.{content_apart, content_few}
 use Rattle.papaya_timeline.proofs.CountedLemmas.{length_fits}
 use Rattle.papaya_timeline.proofs.KeptMap.{kept_map}
 use Rattle.papaya_timeline.proofs.KeptSettings.{IsLawfulKeys, tables_hashed}
-use Rattle.papaya_visit.specs.declared.visitor.Spot.{Spot}
-use Rattle.papaya_visit.specs.declared.visitor.State.{State}
-use Rattle.papaya_visit.specs.declared.visitor.State.TheVariants.{Copying, AtRoot, Sizing, Looking, Giving, Showing, Burying, Uncounting, Done, Refused}
-use Rattle.papaya_visit.specs.declared.visitor.Visit.{Visit}
-use Rattle.papaya_visit.specs.declared.visitor.Visit.TheVariants.{Clear, Retain, Walk}
-use Rattle.papaya_visit.specs.Visitor.{after, after_in, ask_of, asks_in, buries, copy_asks, kind_in, kind_of_ask}
-use Rattle.papaya_visit_rests.specs.Outcomes.{HasDone, LeavesMap, owes_in}
-use Rattle.papaya_visit_rests.specs.Told.{IsBuried, IsFoundThere, IsLastAnswer, IsVisitTold}
-use Rattle.papaya_visit_rests.specs.Visits.{MayTake, RestsState}
-use Rattle.papaya_visit_rests.proofs.Outcomes.{asked, copied_owes, state_done}
-use Rattle.papaya_visit_store.specs.declared.visits.Visiting.{Visiting}
+use Rattle.papaya_chain.specs.declared.visitor.Spot.{Spot}
+use Rattle.papaya_chain.specs.declared.visitor.State.{State}
+use Rattle.papaya_chain.specs.declared.visitor.State.TheVariants.{Copying, AtRoot, Sizing, Looking, Giving, Showing, Burying, Uncounting, Done, Refused}
+use Rattle.papaya_chain.specs.declared.visitor.Visit.{Visit}
+use Rattle.papaya_chain.specs.declared.visitor.Visit.TheVariants.{Clear, Retain, Walk}
+use Rattle.papaya_chain.specs.Visitor.{after, after_in, ask_of, asks_in, buries, copy_asks, kind_in, kind_of_ask}
+use Rattle.papaya_chain_rests.specs.VisitOutcomes.{HasDone, LeavesMap, owes_in}
+use Rattle.papaya_chain_rests.specs.VisitTold.{IsBuried, IsFoundThere, IsLastAnswer, IsVisitTold}
+use Rattle.papaya_chain_rests.specs.Visits.{MayTake, RestsState}
+use Rattle.papaya_chain_rests.proofs.VisitOutcomes.{asked, copied_owes, state_done}
+use Rattle.papaya_store.specs.declared.visits.Visiting.{Visiting}
 use Rattle.papaya_timeline.specs.Visits.{IsCountedBeside, IsHeard, MovesByVisit, MovesVisit}
 use Rattle.papaya_ask.specs.declared.ask.Answer.{Answer as Call_answer}
 use Rattle.papaya_ask.specs.declared.ask.StepKind.{StepKind}
@@ -55,8 +55,8 @@ use Rattle.papaya_timeline.specs.Advances.{copy_event, event_of}
 use Rattle.papaya_timeline.specs.VisitGoes.{event_of_visit}
 use Rattle.papaya_timeline.proofs.CallersLemmas.{same_item}
 use Rattle.papaya_timeline.proofs.StepEvents.{stage_moves}
-use Rattle.papaya_visit.specs.declared.ask.VisitAsk.{VisitAsk}
-use Rattle.papaya_visit.specs.declared.ask.VisitAsk.TheVariants.{AddToShard, Copy, Give, Show}
+use Rattle.papaya_chain.specs.declared.visit_ask.VisitAsk.{VisitAsk}
+use Rattle.papaya_chain.specs.declared.visit_ask.VisitAsk.TheVariants.{AddToShard, Copy, Give, Show}
 
 -- a pair of which an answer is known was shown
 answered_shown : {P : Type 0} (l : List (P × Bool)) (p : P) (stays : Bool) → IsLastAnswer l p stays → WasShown l p

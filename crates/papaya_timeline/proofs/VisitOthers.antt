@@ -17,7 +17,7 @@ use Rattle.papaya_timeline.proofs.KeptResized as resized
 use Rattle.papaya_timeline.proofs.KeptSettings.{IsLawfulKeys}
 use Rattle.papaya_timeline.proofs.KeptStep as stepped
 use Rattle.papaya_timeline.proofs.KeptVisited as visited
-use Rattle.papaya_visit_store.specs.declared.visits.Visiting.{Visiting}
+use Rattle.papaya_store.specs.declared.visits.Visiting.{Visiting}
 use Rattle.papaya_timeline.specs.Visits.{StaysBeside}
 
 -- a call that goes on is the one that was put back

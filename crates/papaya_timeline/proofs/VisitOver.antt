@@ -4,12 +4,12 @@ use Rattle.papaya_ask.specs.declared.call.Reply.TheVariants.{Done as Reply_done}
 use Rattle.papaya_chain.specs.declared.resizer.State.TheVariants as stages
 use Rattle.papaya_law.specs.Code.{Coding}
 use Rattle.papaya_law.specs.Exchange.{Setting, State as Words, Exchange}
-use Rattle.papaya_visit.specs.declared.visitor.State.{State}
-use Rattle.papaya_visit.specs.declared.visitor.State.TheVariants.{Copying, AtRoot, Sizing, Looking, Giving, Showing, Burying, Uncounting, Done, Refused}
-use Rattle.papaya_visit.specs.declared.visitor.Visit.{Visit}
-use Rattle.papaya_visit.specs.Visitor.{asks_in, reply_in}
-use Rattle.papaya_visit_rests.specs.Told.{Hands}
-use Rattle.papaya_visit_rests.specs.Visits.{HasVisited, RestsState}
+use Rattle.papaya_chain.specs.declared.visitor.State.{State}
+use Rattle.papaya_chain.specs.declared.visitor.State.TheVariants.{Copying, AtRoot, Sizing, Looking, Giving, Showing, Burying, Uncounting, Done, Refused}
+use Rattle.papaya_chain.specs.declared.visitor.Visit.{Visit}
+use Rattle.papaya_chain.specs.Visitor.{asks_in, reply_in}
+use Rattle.papaya_chain_rests.specs.VisitTold.{Hands}
+use Rattle.papaya_chain_rests.specs.Visits.{HasVisited, RestsState}
 
 module _ {K P : Type 0} (g : Setting K P) (c : Coding K P) (s : Words P) (m : K → Option P) (since : List (Exchange P)) (visit : Visit) (hands : Hands P) where
   -- it asks, unless it has replied

@@ -24,17 +24,17 @@ use Rattle.papaya_timeline.specs.Core.{IsCore}
 use Rattle.papaya_timeline.proofs.ResizerStands.{resizer_fits, resizer_stands}
 use Rattle.papaya_timeline.proofs.StoreLemmas.{AllSized, IsKeptAsked, numbered, performed_copy, unnumbered}
 use Rattle.papaya_words.specs.declared.probe.ResizeMode.{ResizeMode}
-use Rattle.papaya_visit.specs.declared.ask.VisitAsk.{VisitAsk}
-use Rattle.papaya_visit.specs.declared.ask.VisitAsk.TheVariants.{Copy, Show, Give, AddToShard}
-use Rattle.papaya_visit.specs.declared.visitor.Spot.{Spot}
-use Rattle.papaya_visit.specs.declared.visitor.State.{State}
-use Rattle.papaya_visit.specs.declared.visitor.State.TheVariants.{Copying, AtRoot, Sizing, Looking, Giving, Showing, Burying, Uncounting, Done, Refused}
-use Rattle.papaya_visit.specs.declared.visitor.Visit.{Visit}
-use Rattle.papaya_visit.specs.declared.visitor.Visit.TheVariants.{Clear, Retain, Walk}
-use Rattle.papaya_visit.specs.declared.visitor.Visitor.{Visitor}
-use Rattle.papaya_visit.specs.Visitor.{IsStandingIn, IsStandingSpot, IsStandingVisitor, after, after_in, ask_of, asks_in, at_root, buries, copied, copy_asks, found_by, looks, meets, next, resizer_of, shown, told, visited}
-use Rattle.papaya_visit_store.specs.declared.visits.Visiting.{Visiting}
-use Rattle.papaya_visit_store.specs.Visits.{PerformsVisit}
+use Rattle.papaya_chain.specs.declared.visit_ask.VisitAsk.{VisitAsk}
+use Rattle.papaya_chain.specs.declared.visit_ask.VisitAsk.TheVariants.{Copy, Show, Give, AddToShard}
+use Rattle.papaya_chain.specs.declared.visitor.Spot.{Spot}
+use Rattle.papaya_chain.specs.declared.visitor.State.{State}
+use Rattle.papaya_chain.specs.declared.visitor.State.TheVariants.{Copying, AtRoot, Sizing, Looking, Giving, Showing, Burying, Uncounting, Done, Refused}
+use Rattle.papaya_chain.specs.declared.visitor.Visit.{Visit}
+use Rattle.papaya_chain.specs.declared.visitor.Visit.TheVariants.{Clear, Retain, Walk}
+use Rattle.papaya_chain.specs.declared.visitor.Visitor.{Visitor}
+use Rattle.papaya_chain.specs.Visitor.{IsStandingIn, IsStandingSpot, IsStandingVisitor, after, after_in, ask_of, asks_in, at_root, buries, copied, copy_asks, found_by, looks, meets, next, resizer_of, shown, told, visited}
+use Rattle.papaya_store.specs.declared.visits.Visiting.{Visiting}
+use Rattle.papaya_store.specs.Visits.{PerformsVisit}
 
 -- a slot that is looked at is one of its table
 looks_stands : (spot : Spot) → IsStandingIn (looks spot)

@@ -26,9 +26,9 @@ use Rattle.papaya_timeline.specs.declared.trace.Event.{Event}
 use Rattle.papaya_timeline.specs.declared.trace.Event.TheVariants.{Changed, Moved, Asked, Shown, Other}
 use Rattle.papaya_timeline.specs.Callers.{visiting, with_call}
 use Rattle.papaya_timeline.specs.Core.{CoreState, call_of}
-use Rattle.papaya_visit.specs.declared.ask.VisitAsk.TheVariants as visit_asks
-use Rattle.papaya_visit.specs.Visitor as visitor
-use Rattle.papaya_visit_store.specs.declared.visits.Visiting.{Visiting}
+use Rattle.papaya_chain.specs.declared.visit_ask.VisitAsk.TheVariants as visit_asks
+use Rattle.papaya_chain.specs.Visitor as visitor
+use Rattle.papaya_store.specs.declared.visits.Visiting.{Visiting}
 
 -- the event of an exchange of this kind that was made: a change of the map names the pair that went
 -- and the one that came

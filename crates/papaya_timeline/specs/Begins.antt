@@ -17,10 +17,10 @@ use Rattle.papaya_timeline.specs.declared.seat.Work.TheVariants as works
 use Rattle.papaya_timeline.specs.Callers.{with_seat, with_work}
 use Rattle.papaya_timeline.specs.Core.{CoreState}
 use Rattle.papaya_timeline.specs.Maps.{key_of}
-use Rattle.papaya_visit.specs.declared.visitor.Visit.{Visit}
-use Rattle.papaya_visit.specs.declared.visitor.Visit.TheVariants as visits
-use Rattle.papaya_visit.specs.Visitor as visitor
-use Rattle.papaya_visit_store.specs.declared.visits.Visiting.{Visiting}
+use Rattle.papaya_chain.specs.declared.visitor.Visit.{Visit}
+use Rattle.papaya_chain.specs.declared.visitor.Visit.TheVariants as visits
+use Rattle.papaya_chain.specs.Visitor as visitor
+use Rattle.papaya_store.specs.declared.visits.Visiting.{Visiting}
 
 -- the value that a call was handed, its closure's answers, and its task
 abbrev pub value_of_call : {K V A : Type 0} → Call K V A → Option V

@@ -5,7 +5,7 @@ use Rattle.papaya_timeline.specs.declared.seat.Seat.{Seat}
 use Rattle.papaya_chain.specs.declared.resizer.Resizer.{Resizer}
 use Rattle.papaya_timeline.specs.declared.seat.Work.{Work}
 use Rattle.papaya_timeline.specs.declared.seat.Work.TheVariants.{Call, Resize, Visit}
-use Rattle.papaya_visit_store.specs.declared.visits.Visiting.{Visiting}
+use Rattle.papaya_store.specs.declared.visits.Visiting.{Visiting}
 
 module _ {K V A : Type 0} where
   -- the call on one key that is under way, if one is

@@ -17,8 +17,8 @@ use Rattle.papaya_chain.specs.declared.resizer.Resizer.{Resizer}
 use Rattle.papaya_chain.specs.Resizer.{IsStandingResizer, reply_of}
 use Rattle.papaya_store.specs.Tables.{table_of}
 use Rattle.papaya_store.specs.Store.{StoreState}
-use Rattle.papaya_visit.specs.Visitor as visitor
-use Rattle.papaya_visit_store.specs.declared.visits.Visiting.{Visiting}
+use Rattle.papaya_chain.specs.Visitor as visitor
+use Rattle.papaya_store.specs.declared.visits.Visiting.{Visiting}
 
 -- the words, the logs and the count; the callers with what they have under way; and how the core
 -- resizes

@@ -9,8 +9,8 @@ use Rattle.papaya_timeline.specs.declared.seat.Work.{Work}
 use Rattle.papaya_timeline.specs.declared.seat.Work.TheVariants as works
 use Rattle.papaya_timeline.specs.Content.{content}
 use Rattle.papaya_store.specs.Store.{StoreState}
-use Rattle.papaya_visit.specs.declared.visitor.State.{State}
-use Rattle.papaya_visit.specs.declared.visitor.State.TheVariants.{Uncounting}
+use Rattle.papaya_chain.specs.declared.visitor.State.{State}
+use Rattle.papaya_chain.specs.declared.visitor.State.TheVariants.{Uncounting}
 
 -- what a call that visits a table has yet to add to the count: it takes 1 for a pair that it has
 -- buried

@@ -34,13 +34,13 @@ use Rattle.papaya_timeline.specs.Core.{IsCore}
 use Rattle.papaya_store.specs.Performs.{own_key}
 use Rattle.papaya_store.specs.Store.{StoreState, Stored, pair_of}
 use Rattle.papaya_store.specs.Tables.{table_of, word_at}
-use Rattle.papaya_visit.specs.declared.visitor.State.{State}
-use Rattle.papaya_visit.specs.declared.visitor.State.TheVariants.{Copying}
-use Rattle.papaya_visit.specs.declared.visitor.Visit.{Visit}
-use Rattle.papaya_visit.specs.declared.visitor.Visit.TheVariants.{Retain}
-use Rattle.papaya_visit_rests.specs.Told as visits
-use Rattle.papaya_visit_rests.specs.Visits.{RestsVisitor}
-use Rattle.papaya_visit_store.specs.declared.visits.Visiting.{Visiting}
+use Rattle.papaya_chain.specs.declared.visitor.State.{State}
+use Rattle.papaya_chain.specs.declared.visitor.State.TheVariants.{Copying}
+use Rattle.papaya_chain.specs.declared.visitor.Visit.{Visit}
+use Rattle.papaya_chain.specs.declared.visitor.Visit.TheVariants.{Retain}
+use Rattle.papaya_chain_rests.specs.VisitTold as visits
+use Rattle.papaya_chain_rests.specs.Visits.{RestsVisitor}
+use Rattle.papaya_store.specs.declared.visits.Visiting.{Visiting}
 
 -- does the core resize with blocking?
 abbrev pub is_blocking : ResizeMode → Bool

@@ -15,8 +15,8 @@ use Rattle.papaya_timeline.specs.Maps.{Does, IsUpdate, IsUpdateBy, Same, key_of}
 use Rattle.papaya_store.specs.Performs.{own_key}
 use Rattle.papaya_store.specs.Store.{Stored}
 use Rattle.papaya_timeline.specs.Timeline.{IsFresh, number_in}
-use Rattle.papaya_visit.specs.declared.visitor.Visit.TheVariants.{Walk}
-use Rattle.papaya_visit_store.specs.declared.visits.Visiting.{Visiting}
+use Rattle.papaya_chain.specs.declared.visitor.Visit.TheVariants.{Walk}
+use Rattle.papaya_store.specs.declared.visits.Visiting.{Visiting}
 
 module _ {K V S A : Type 0} (eq : K → K → Bool) (s : CoreState K V S A) (caller : ℕ)
     (s' : CoreState K V S A) where

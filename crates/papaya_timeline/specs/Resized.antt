@@ -14,8 +14,8 @@ use Rattle.papaya_timeline.specs.declared.seat.Work.TheVariants as works
 use Rattle.papaya_timeline.specs.Core.{CoreState}
 use Rattle.papaya_timeline.specs.Ends.{IsLone, budget_of}
 use Rattle.papaya_timeline.specs.Kept.{IsLawfulCore, slots_in}
-use Rattle.papaya_visit_alone.specs.Visitors.{IsVisitorRead, visitor_measure}
-use Rattle.papaya_visit_store.specs.declared.visits.Visiting.{Visiting}
+use Rattle.papaya_alone.specs.Visitors.{IsVisitorRead, visitor_measure}
+use Rattle.papaya_store.specs.declared.visits.Visiting.{Visiting}
 
 -- The one caller has this call that resizes the map under way: the core is in order, and what the
 -- call has read stands there still.

@@ -15,12 +15,12 @@ use Rattle.papaya_timeline.specs.declared.trace.Event.TheVariants.{Gave, Other}
 use Rattle.papaya_timeline.specs.Advances.{copy_event, goes_on, shown_event}
 use Rattle.papaya_timeline.specs.Callers.{visiting, with_work}
 use Rattle.papaya_timeline.specs.Core.{CoreState}
-use Rattle.papaya_visit.specs.declared.ask.VisitAsk.{VisitAsk}
-use Rattle.papaya_visit.specs.declared.ask.VisitAsk.TheVariants.{Copy, Show, Give, AddToShard}
-use Rattle.papaya_visit.specs.Visitor.{after, ask_of, kind_of_ask, reply_of}
-use Rattle.papaya_visit_rests.specs.Outcomes.{IsVisitCause}
-use Rattle.papaya_visit_store.specs.declared.visits.Visiting.{Visiting}
-use Rattle.papaya_visit_store.specs.Visits.{PerformsVisit}
+use Rattle.papaya_chain.specs.declared.visit_ask.VisitAsk.{VisitAsk}
+use Rattle.papaya_chain.specs.declared.visit_ask.VisitAsk.TheVariants.{Copy, Show, Give, AddToShard}
+use Rattle.papaya_chain.specs.Visitor.{after, ask_of, kind_of_ask, reply_of}
+use Rattle.papaya_chain_rests.specs.VisitOutcomes.{IsVisitCause}
+use Rattle.papaya_store.specs.declared.visits.Visiting.{Visiting}
+use Rattle.papaya_store.specs.Visits.{PerformsVisit}
 
 -- the list of a visit could not grow, for this cause: its machine is told nothing then
 abbrev pub unheard : VisitAsk → Answer → Option Refused

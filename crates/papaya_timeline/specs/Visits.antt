@@ -21,14 +21,14 @@ use Rattle.papaya_timeline.specs.Counted.{owed_in, owed_visit}
 use Rattle.papaya_timeline.specs.Core.{CoreState}
 use Rattle.papaya_timeline.specs.Kept.{IsKept, IsVisiting, Tale, VisitTale, coding_of, low, numbers_of, setting_of, told_more, told_tales}
 use Rattle.papaya_timeline.specs.Maps.{IsUpdate, Same}
-use Rattle.papaya_visit.specs.declared.visitor.State.{State}
-use Rattle.papaya_visit.specs.declared.visitor.State.TheVariants.{Giving}
-use Rattle.papaya_visit.specs.declared.visitor.Visit.{Visit}
-use Rattle.papaya_visit.specs.declared.visitor.Visit.TheVariants.{Retain, Walk}
-use Rattle.papaya_visit.specs.Visitor.{after}
-use Rattle.papaya_visit_rests.specs.Told.{Hands, IsLastAnswer, IsVisitTold}
-use Rattle.papaya_visit_rests.specs.Visits.{HasVisited}
-use Rattle.papaya_visit_store.specs.declared.visits.Visiting.{Visiting}
+use Rattle.papaya_chain.specs.declared.visitor.State.{State}
+use Rattle.papaya_chain.specs.declared.visitor.State.TheVariants.{Giving}
+use Rattle.papaya_chain.specs.declared.visitor.Visit.{Visit}
+use Rattle.papaya_chain.specs.declared.visitor.Visit.TheVariants.{Retain, Walk}
+use Rattle.papaya_chain.specs.Visitor.{after}
+use Rattle.papaya_chain_rests.specs.VisitTold.{Hands, IsLastAnswer, IsVisitTold}
+use Rattle.papaya_chain_rests.specs.Visits.{HasVisited}
+use Rattle.papaya_store.specs.declared.visits.Visiting.{Visiting}
 
 -- The sum of the shards, with what it and all calls beside it have yet to add, is the number of
 -- pairs.

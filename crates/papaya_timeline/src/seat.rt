@@ -1,7 +1,7 @@
 //! A caller's seat.
 use papaya_chain::resizer::Resizer;
 use papaya_store::pairs::Running;
-use papaya_visit_store::visits::Visiting;
+use papaya_store::visits::Visiting;
 
 /// A call under way.
 #[derive(Drop)]

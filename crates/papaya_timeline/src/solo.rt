@@ -20,7 +20,7 @@ use crate::trace::Event;
 use papaya_ask::call::{Call, Reply};
 use papaya_chain::resizer::Resizer;
 use papaya_store::pairs::Running;
-use papaya_visit_store::visits::Visiting;
+use papaya_store::visits::Visiting;
 use std::hash::{BuildHasher, Hash};
 
 /// A call that is made alone does what the finite map does, and leaves the words and the count in

@@ -14,7 +14,7 @@ pub enum Turn<K, V, A> {
 }
 
 /// What happened at one moment. Pairs are named by number.
-#[derive(Clone, Copy, Debug, PartialEq, Eq)]
+#[derive(Clone, Copy)]
 pub enum Event {
     /// A call began.
     Begun,
@@ -37,7 +37,7 @@ pub enum Event {
 }
 
 /// What happened at one moment to one caller.
-#[derive(Clone, Copy, Debug, PartialEq, Eq)]
+#[derive(Clone, Copy)]
 pub struct Entry {
     /// The turn's place in the schedule.
     pub turn: usize,
@@ -47,7 +47,7 @@ pub struct Entry {
 
 /// What happened in a run, in order. A begin has one entry. A step has one for its ask, and a
 /// second where it gave the reply.
-#[derive(Debug, Drop)]
+#[derive(Drop)]
 pub struct Trace {
     pub entries: Vec<Entry>,
 }

@@ -12,19 +12,19 @@ ghost use Rattle.papaya_timeline.specs.Core.{CoreState, IsCore, work_of};
 ghost use Rattle.papaya_timeline.specs.Ends.{budget_of};
 ghost use Rattle.papaya_timeline.specs.Kept.{HasAnswers, IsKept, IsVisiting, Tale, VisitTale};
 ghost use Rattle.papaya_timeline.specs.Runs.{Steps};
-ghost use Rattle.papaya_visit.specs.Visitor.{IsStandingVisitor, after, ask_of, begun, reply_of};
+ghost use Rattle.papaya_chain.specs.Visitor.{IsStandingVisitor, after, ask_of, begun, reply_of};
 ghost use Rattle.papaya_chain.specs.Machine.{IsFit};
-ghost use Rattle.papaya_visit_alone.specs.Visitors.{IsVisitorRead, visitor_measure};
-ghost use Rattle.papaya_visit_rests.specs.Told.{no_hands};
-ghost use Rattle.papaya_visit_store.specs.Visits.{PerformsVisit};
+ghost use Rattle.papaya_alone.specs.Visitors.{IsVisitorRead, visitor_measure};
+ghost use Rattle.papaya_chain_rests.specs.VisitTold.{no_hands};
+ghost use Rattle.papaya_store.specs.Visits.{PerformsVisit};
 ghost use Rattle.papaya_timeline.specs.Visits.{HasVisitedIn, IsHeard, IsUnheard};
 ghost use Rattle.papaya_timeline.specs.Visits.{IsCountedBeside, MovesVisit, StaysBeside};
 
 use papaya_call::answers::Answers;
 use papaya_chain::ask::Answer;
-use papaya_visit::ask::VisitAsk;
-use papaya_visit::visitor::Visit;
-use papaya_visit_store::visits::Visiting;
+use papaya_chain::visit_ask::VisitAsk;
+use papaya_chain::visitor::Visit;
+use papaya_store::visits::Visiting;
 use std::hash::{BuildHasher, Hash};
 
 /// A visitor stands beside any number of callers. It rests on what is told of it, from its begin

@@ -1,5 +1,5 @@
 use Rattle.std.proofs.Common.{◌≡◌, [], ◌++◌, None, Some, refl, sym, ap, subst, ◌∙◌}
-use Rattle.papaya_visit.specs.Visitor.{after, ask_of, reply_of}
+use Rattle.papaya_chain.specs.Visitor.{after, ask_of, reply_of}
 use Rattle.papaya_timeline.specs.declared.seat.Work.TheVariants as works
 use Rattle.papaya_timeline.specs.VisitGoes.{event_of_visit, reply_or}
 use Rattle.papaya_keys.specs.Hashes.{hash_of}

@@ -1,0 +1,430 @@
+-- What a visit learns from an answer.
+use Rattle.std.proofs.Common.{◌≡◌, ◌⊎◌, inl, inr, ⊎_elim, ℕ, suc, ◌+◌, ◌<◌, ◌≤◌, ◌==◌, nat_lt, eqb-true, Bool, true, false, Option, None, Some, List, [], ◌∷◌, ◌++◌, append-nil, refl, sym, ap, ◌∙◌, subst, arith}
+use Rattle.std.proofs.lemmas.Bool.{cond_both, eqb-false, cases_lt, ltb-true, ltb-false}
+use Rattle.papaya_words.specs.Mode.{IsChunked}
+use Rattle.papaya_words.specs.Word.{kind_of}
+use Rattle.papaya_words.specs.declared.probe.ResizeMode.{ResizeMode}
+use Rattle.papaya_words.specs.declared.word.Kind.TheVariants as kinds
+use Rattle.papaya_ask.specs.declared.ask.Answer.TheVariants.{Word as Word_read, Exchanged, Found, Yes, Size, Ok}
+use Rattle.papaya_ask.specs.declared.ask.At.TheVariants.{Root, Next, Slot}
+use Rattle.papaya_ask.specs.declared.copy_ask.CopyAsk.{CopyAsk}
+use Rattle.papaya_ask.specs.declared.copy_ask.CopyAsk.TheVariants.{Load, SizeOf}
+use Rattle.papaya_chain.specs.declared.ask.Answer.{Answer}
+use Rattle.papaya_chain.specs.declared.ask.Answer.TheVariants as answers
+use Rattle.papaya_chain.specs.declared.resizer.Resize.TheVariants.{CopyAll}
+use Rattle.papaya_chain.specs.declared.resizer.State.{State as Stage}
+use Rattle.papaya_chain.specs.declared.resizer.State.TheVariants as stages
+use Rattle.papaya_copy.specs.declared.copying.Copied.{Copied}
+use Rattle.papaya_copy.specs.declared.copying.Copied.TheVariants as copied_to
+use Rattle.papaya_copy.specs.declared.copying.Copying.{Copying as Root_copying}
+use Rattle.papaya_chain.specs.Machine.{copying_after}
+use Rattle.papaya_chain.specs.Resizer as resizers
+use Rattle.papaya_law.specs.Allows.{AllAllowed}
+use Rattle.papaya_law.specs.Class.{IsOn}
+use Rattle.papaya_law.specs.Code.{Coding, IsHashed, code, kind}
+use Rattle.papaya_law.specs.Exchange.{Word, Empty, Closed, Live, Marked, Copied as Copied_word, Buried, Setting, State as Words, Exchange, Bury, run}
+use Rattle.papaya_law.specs.Invariant.{IsKeeping, named}
+use Rattle.papaya_law.specs.Meaning.{IsAtMoment, map_of}
+use Rattle.papaya_law.proofs.Codes.{code_kind, code_pair}
+use Rattle.papaya_law.proofs.CopierFacts.{last_root}
+use Rattle.papaya_law.proofs.Moments.{allowed_append, run-append}
+use Rattle.papaya_law.proofs.OneMap.{keeping_sound}
+use Rattle.papaya_rests.specs.Copier.{told_last}
+use Rattle.papaya_rests.specs.Rests.{IsModeOf}
+use Rattle.papaya_rests.specs.Told.{IsOneOf, or_last}
+use Rattle.papaya_rests.proofs.RestsLearn.{by_test}
+use Rattle.papaya_chain_rests.specs.Resizers.{RestsStage}
+use Rattle.papaya_chain_rests.specs.Told.{IsCopyTold, told_of}
+use Rattle.papaya_chain_rests.specs.Told as copies
+use Rattle.papaya_chain_rests.proofs.ResizerRests.{stage_learns, told_of_ask}
+use Rattle.papaya_chain.specs.declared.visit_ask.VisitAsk.TheVariants.{Copy}
+use Rattle.papaya_chain.specs.declared.visitor.Spot.{Spot}
+use Rattle.papaya_chain.specs.declared.visitor.State.{State}
+use Rattle.papaya_chain.specs.declared.visitor.State.TheVariants.{Copying, AtRoot, Sizing, Looking, Giving, Showing, Burying, Uncounting, Done, Refused}
+use Rattle.papaya_chain.specs.declared.visitor.Visit.{Visit}
+use Rattle.papaya_chain.specs.declared.visitor.Visit.TheVariants.{Clear, Retain, Walk}
+use Rattle.papaya_chain.specs.Visitor.{after_in, asks_in, at_root, copied, first_in, looks, meets, next}
+use Rattle.papaya_chain_rests.specs.VisitTold.{Hands, IsBuried, IsCopyAnswer, IsFoundThere, IsGiven, IsShown, IsVisitTold, IsWordAnswer, last_of}
+use Rattle.papaya_chain_rests.specs.Visits.{GivesNone, IsDealtWith, IsMeeting, IsMetIn, IsSpot, IsTaking, IsVisitedTo, IsVisiting, MayTake, RestsState, Takes}
+use Rattle.papaya_chain_rests.proofs.VisitAsks.{bury_may, keeps_since, keeps_then, may_before, may_then, now_is}
+use Rattle.papaya_chain_rests.proofs.VisitEnds.{rootless_over, table_over}
+use Rattle.papaya_chain_rests.proofs.VisitSlots.{IsPast, met_had, visit_begins, visit_buries, visit_drops, visit_gives, visit_keeps, visit_meets, visit_passes}
+use Rattle.papaya_chain_rests.proofs.VisitStays.{taking_stays}
+
+module _ {K P : Type 0} (g : Setting K P) (c : Coding K P) (hashed : IsHashed g c) (s : Words P) (m : K → Option P) (keeps : IsKeeping g s m) (since : List (Exchange P)) (may : AllAllowed g s since) (visit : Visit) where
+  -- the words after all exchanges
+  abbrev now : Words P
+  now = run since s
+
+  -- where a visit stands
+  abbrev Rests : Hands P → State → Type 0
+  Rests = RestsState g c s m since visit
+
+  -- a table is taken where the root was found, without a next table or with blocking
+  takes_root : (hands : Hands P) → hands.before ≡ since → hands.given ≡ [] → (root : ℕ) → now.root ≡ root → (g.blocking ≡ false → now.next root ≡ 0) → Rests hands (at_root root)
+  takes_root hands moment none root is last =
+      cond_both (root == 0) Done (Sizing root) (Rests hands)
+      (λ zero. rootless_over g c hashed.lawful s m keeps since may (is ∙ eqb-true root 0 zero) visit hands moment none)
+      (λ some. let low : 0 < root = let differs = eqb-false root 0 some in ⊎_elim (λ a. a) (λ b. absurd (differs (omega (arith, b)))) (cases_lt 0 root) in
+      (none, taken low))
+    where
+      taken : 0 < root → IsVisiting g c s m since visit hands root 0
+      taken low = record {
+        es = since;
+        fs = [];
+        taken = record {
+          is = append-nil since;
+          moment = moment;
+          root = is;
+          some = low;
+          last = last;
+          given = λ p one. absurd (subst (λ ps. IsOneOf ps p) none one);
+        };
+        each = visit_begins g hashed.lawful now (map_of g m since) (keeps_since g c hashed s m keeps since may) root is low last [] tt visit hands none;
+      }
+
+  -- a slot is looked at, or all were
+  looks_rests : (hands : Hands P) (spot : Spot) → spot.len ≡ g.size spot.table → IsVisiting g c s m since visit hands spot.table spot.slot → Rests hands (looks spot)
+  looks_rests hands spot len v =
+      cond_both (nat_lt spot.slot spot.len) (Looking spot) Done (Rests hands)
+      (λ more. ((len, ltb-true spot.slot spot.len more), v))
+      (λ over. let whole : g.size spot.table ≤ spot.slot = subst (λ n. n ≤ spot.slot) len (ltb-false spot.slot spot.len over) in
+      table_over g c hashed.lawful s m keeps since hands spot.table v.es v.fs v.taken (may_before g c hashed s m keeps since may spot.table hands v.es v.fs v.taken) spot.slot whole visit v.each)
+
+  -- the next slot is
+  next_rests : (hands : Hands P) (spot : Spot) → IsSpot g c s m since spot → IsVisiting g c s m since visit hands spot.table (suc spot.slot) → Rests hands (next spot)
+  next_rests hands spot there v =
+      let one : suc spot.slot ≡ spot.slot + 1 = omega arith in
+      looks_rests hands (record spot { slot = spot.slot + 1 }) there.0 (subst (IsVisiting g c s m since visit hands spot.table) one v)
+
+  -- what was done does not depend on what the copy was told
+  dealt_handed : (visit : Visit) (hands : Hands P) (copy : copies.Hands P) (es fs : List (Exchange P)) (table slot upto : ℕ) (k : K) → IsDealtWith g (run es s) (map_of g m es) fs table visit hands slot upto k → IsDealtWith g (run es s) (map_of g m es) fs table visit (record hands { copy = copy }) slot upto k
+  dealt_handed Walk hands copy es fs table slot upto k r = r
+  dealt_handed Clear hands copy es fs table slot upto k r = r
+  dealt_handed Retain hands copy es fs table slot upto k r = r
+
+  taking_handed : (hands : Hands P) (copy : copies.Hands P) (table : ℕ) (es fs : List (Exchange P)) → IsTaking g c s m since table hands es fs → IsTaking g c s m since table (record hands { copy = copy }) es fs
+  taking_handed hands copy table es fs r = record { is = r.is; moment = r.moment; root = r.root; some = r.some; last = r.last; given = r.given }
+
+  visiting_handed : (hands : Hands P) (copy : copies.Hands P) (table upto : ℕ) → IsVisiting g c s m since visit hands table upto → IsVisiting g c s m since visit (record hands { copy = copy }) table upto
+  visiting_handed hands copy table upto r = record {
+    es = r.es;
+    fs = r.fs;
+    taken = taking_handed hands copy table r.es r.fs r.taken;
+    each = λ k. ⊎_elim (λ out. inl out) (λ h. let (slot, there, dealt) = h in inr (slot, there, dealt_handed visit hands copy r.es r.fs table slot upto k dealt)) (r.each k);
+  }
+
+  -- where the visit takes pairs out
+  not_walk : Takes g c s m since visit → visit ≡ Walk → ⊥
+  not_walk takes is = subst (λ v. Takes g c s m since v) is takes
+
+  -- the word of the slot was loaded, or found
+  module _ (hands : Hands P) (gives : GivesNone g c s m since visit hands) (spot : Spot) (there : IsSpot g c s m since spot) (v : IsVisiting g c s m since visit hands spot.table spot.slot) where
+    -- what was told
+    abbrev hands_now : Hands P
+    hands_now = record hands { copy = told_of (told_last now (Slot spot.table spot.slot) (last_of hands)) hands.copy }
+
+    -- the word that stands there
+    abbrev word_now : ℕ
+    word_now = code g c (now.slot spot.table spot.slot)
+
+    -- as of the moment of the taking
+    slot_then : (w : Word P) → now.slot spot.table spot.slot ≡ w → (run v.fs (run v.es s)).slot spot.table spot.slot ≡ w
+    slot_then w e = ap (λ a. a.slot spot.table spot.slot) (now_is g c hashed s m keeps since may spot.table hands v.es v.fs v.taken) ∙ e
+
+    -- no pair is there
+    past_rests : (w : Word P) → now.slot spot.table spot.slot ≡ w → IsPast w → Rests hands_now (next spot)
+    past_rests w e past = next_rests hands_now spot there (visiting_handed hands hands_now.copy spot.table (suc spot.slot) (record {
+      es = v.es;
+      fs = v.fs;
+      taken = v.taken;
+      each = λ k. visit_passes g hashed.lawful (run v.es s) (map_of g m v.es) (keeps_then g c hashed s m keeps since may spot.table hands v.es v.fs v.taken) spot.table v.taken.root v.taken.some v.taken.last v.fs (may_then g c hashed s m keeps since may spot.table hands v.es v.fs v.taken) visit hands spot.slot w (slot_then w e) past k (v.each k);
+    }))
+
+    -- a pair is
+    module _ (w : Word P) (e : now.slot spot.table spot.slot ≡ w) (p : P) (has : (w ≡ Live p) ⊎ (w ≡ Marked p) ⊎ (w ≡ Copied_word p)) (live : visit ≡ Retain → w ≡ Live p) where
+      name_now : named (now.slot spot.table spot.slot) ≡ Some p
+      name_now = ap named e ∙ ⊎_elim (λ a. ap named a) (⊎_elim (λ a. ap named a) (λ a. ap named a)) has
+
+      meeting : IsMeeting g c s m since visit hands_now spot word_now
+      meeting = record {
+        es = v.es;
+        fs = v.fs;
+        taken = taking_handed hands hands_now.copy spot.table v.es v.fs v.taken;
+        pair = p;
+        told = ap (λ o. or_last o (last_of hands)) name_now;
+        number = sym (code_pair g c hashed.coding (now.slot spot.table spot.slot) p name_now).0;
+        had = met_had g hashed.lawful (run v.es s) (map_of g m v.es) (keeps_then g c hashed s m keeps since may spot.table hands v.es v.fs v.taken) spot.table v.taken.root v.taken.some v.taken.last v.fs (may_then g c hashed s m keeps since may spot.table hands v.es v.fs v.taken) spot.slot w p (slot_then w e) has;
+        each = λ k.
+            ⊎_elim
+            (λ out. inl out)
+            (λ h. let (slot, r, dealt, mine, only) = h in inr (slot, r, dealt_handed visit hands hands_now.copy v.es v.fs spot.table slot spot.slot k dealt, mine, only))
+            (visit_meets g hashed.lawful (run v.es s) (map_of g m v.es) (keeps_then g c hashed s m keeps since may spot.table hands v.es v.fs v.taken) spot.table v.taken.root v.taken.some v.taken.last v.fs (may_then g c hashed s m keeps since may spot.table hands v.es v.fs v.taken) visit hands spot.slot w p (slot_then w e) has live k (v.each k));
+      }
+
+    -- no pair was given, where pairs are taken out
+    none_given : (is : Visit) → visit ≡ is → Takes g c s m since is → hands.given ≡ []
+    none_given Walk e takes = absurd takes
+    none_given Clear e takes = subst (λ a. GivesNone g c s m since a hands) e gives
+    none_given Retain e takes = subst (λ a. GivesNone g c s m since a hands) e gives
+
+    -- by what stands there
+    by_word : (is : Visit) → visit ≡ is → (w : Word P) → now.slot spot.table spot.slot ≡ w → Rests hands_now (meets is spot word_now (kind w))
+    by_word Clear e Empty at = past_rests Empty at tt
+    by_word Clear e Closed at = past_rests Closed at tt
+    by_word Clear e (Buried p) at = past_rests (Buried p) at tt
+    by_word Retain e Empty at = past_rests Empty at tt
+    by_word Retain e Closed at = past_rests Closed at tt
+    by_word Retain e (Buried p) at = past_rests (Buried p) at tt
+    by_word Walk e Empty at = past_rests Empty at tt
+    by_word Walk e Closed at = past_rests Closed at tt
+    by_word Walk e (Buried p) at = past_rests (Buried p) at tt
+    by_word Clear e (Live p) at = (there, is_live at, subst (λ a. MayTake g c s m since a hands_now word_now) (sym e) tt, visiting_handed hands hands_now.copy spot.table spot.slot v)
+      where
+        is_live : now.slot spot.table spot.slot ≡ Live p → kind_of word_now ≡ kinds.Live
+        is_live at = code_kind g c (now.slot spot.table spot.slot) ∙ ap kind at
+    by_word Retain e (Live p) at = (there, e, code_kind g c (now.slot spot.table spot.slot) ∙ ap kind at, meeting (Live p) at p (inl refl) (λ _. refl))
+    by_word Walk e (Live p) at = (there, e, meeting (Live p) at p (inl refl) (λ _. refl))
+    by_word Walk e (Marked p) at = (there, e, meeting (Marked p) at p (inr (inl refl)) (λ r. absurd (let no : Walk ≡ Retain = sym e ∙ r in cc no)))
+    by_word Walk e (Copied_word p) at = (there, e, meeting (Copied_word p) at p (inr (inr refl)) (λ r. absurd (let no : Walk ≡ Retain = sym e ∙ r in cc no)))
+    by_word Clear e (Marked p) at = (none_given Clear e tt, tt, tt)
+    by_word Clear e (Copied_word p) at = (none_given Clear e tt, tt, tt)
+    by_word Retain e (Marked p) at = (none_given Retain e tt, tt, tt)
+    by_word Retain e (Copied_word p) at = (none_given Retain e tt, tt, tt)
+
+    meets_rests : Rests hands_now (meets visit spot word_now (kind_of word_now))
+    meets_rests = subst (λ a. Rests hands_now (meets visit spot word_now a)) (sym (code_kind g c (now.slot spot.table spot.slot))) (by_word visit refl (now.slot spot.table spot.slot) refl)
+
+  -- What an answer leads to: what was exchanged was allowed, and it rests there. The mode and the initial capacity are those of the visitor.
+  module _ (mode : ResizeMode) (moded : IsModeOf mode g.blocking) (chunked : IsChunked mode) (initial : ℕ) where
+    abbrev Learned : State → Answer → List (Exchange P) → Hands P → Type 0
+    Learned state answer es hands' = AllAllowed g s (since ++ es) × RestsState g c s m (since ++ es) visit hands' (after_in visit mode initial answer state)
+
+    -- where nothing was exchanged
+    quiet : (state : State) (answer answer' : Answer) (es : List (Exchange P)) (hands' hands'' : Hands P) → answer ≡ answer' → es ≡ [] → hands' ≡ hands'' → Rests hands'' (after_in visit mode initial answer' state) → Learned state answer es hands'
+    quiet state answer answer' es hands' hands'' a e h r =
+        subst (λ y. Learned state y es hands') (sym a) (subst (λ y. Learned state answer' y hands') (sym e) (subst (λ y. Learned state answer' [] y) (sym h)
+        (subst (AllAllowed g s) (sym (append-nil since)) may, subst (λ l. RestsState g c s m l visit hands'' (after_in visit mode initial answer' state)) (sym (append-nil since)) r)))
+
+    -- it loaded a word, or asked for a size
+    module _ (hands : Hands P) (answer : Answer) (es : List (Exchange P)) (hands' : Hands P) where
+      word_told : (state : State) (before : List (Exchange P)) (is : CopyAsk) → asks_in state ≡ Some (Copy is) → (t : IsWordAnswer g c now since state before hands answer es hands') → IsCopyTold g c now None 0 hands.copy is answer es t.copy
+      word_told state before is asks t =
+          let first = t.asks in
+          let same : t.ask ≡ is = cc (asks, first) in
+          subst (λ a. IsCopyTold g c now None 0 hands.copy a answer es t.copy) same t.told
+
+      -- nothing was exchanged until now
+      until : (copy : copies.Hands P) → es ≡ [] → record hands { copy = copy; before = since ++ es } ≡ record hands { copy = copy; before = since }
+      until copy none = ap (λ l. record hands { copy = copy; before = since ++ l }) none ∙ ap (λ l. record hands { copy = copy; before = l }) (append-nil since)
+
+      root_learns : Rests hands AtRoot → IsWordAnswer g c now since AtRoot (since ++ es) hands answer es hands' → Learned AtRoot answer es hands'
+      root_learns r t =
+          let told = word_told AtRoot (since ++ es) (Load Root) refl t in
+          quiet AtRoot answer (answers.Call (Word_read now.root)) es hands' (record hands { copy = t.copy; before = since }) told.0 told.1 (t.handed ∙ until t.copy told.1)
+          (takes_root (record hands { copy = t.copy; before = since }) refl r.0 now.root refl (λ inc. let blocks = r.1 in absurd (cc (inc, blocks))))
+
+      size_learns : (table : ℕ) → Rests hands (Sizing table) → IsWordAnswer g c now since (Sizing table) hands.before hands answer es hands' → Learned (Sizing table) answer es hands'
+      size_learns table r t =
+          let told = word_told (Sizing table) hands.before (SizeOf table) refl t in
+          let (limit, places, is) = told.0 in
+          quiet (Sizing table) answer (answers.Call (Size (g.size table) limit)) es hands' (record hands { copy = t.copy }) is told.1.0 t.handed
+          (looks_rests (record hands { copy = t.copy }) (first_in table (g.size table)) refl (visiting_handed hands t.copy table 0 r.1))
+
+      look_learns : GivesNone g c s m since visit hands → (spot : Spot) → Rests hands (Looking spot) → IsWordAnswer g c now since (Looking spot) hands.before hands answer es hands' → Learned (Looking spot) answer es hands'
+      look_learns gives spot r t =
+          let told = word_told (Looking spot) hands.before (Load (Slot spot.table spot.slot)) refl t in
+          let copy : t.copy ≡ told_of (told_last now (Slot spot.table spot.slot) (last_of hands)) hands.copy = told.2 in
+          quiet (Looking spot) answer (answers.Call (Word_read (code g c (now.slot spot.table spot.slot)))) es hands' (hands_now hands gives spot r.0 r.1) told.0 told.1 (t.handed ∙ ap (λ y. record hands { copy = y }) copy)
+          (meets_rests hands gives spot r.0 r.1)
+
+      -- a pair was given
+      give_learns : (spot : Spot) (word : ℕ) → Rests hands (Giving spot word) → IsGiven g c now since hands answer es hands' → Learned (Giving spot word) answer es hands'
+      give_learns spot word (there, walks, r) t =
+          quiet (Giving spot word) answer (answers.Call Ok) es hands' (record hands { given = t.pair ∷ hands.given }) t.is t.none t.handed
+          (next_rests (record hands { given = t.pair ∷ hands.given }) spot there (record { es = r.es; fs = r.fs; taken = taken; each = each }))
+        where
+          -- the pair that was met
+          same : t.pair ≡ r.pair
+          same = let a = t.last in let b = r.told in cc (a, b)
+
+          taken : IsTaking g c s m since spot.table (record hands { given = t.pair ∷ hands.given }) r.es r.fs
+          taken = record {
+            is = r.taken.is;
+            moment = r.taken.moment;
+            root = r.taken.root;
+            some = r.taken.some;
+            last = r.taken.last;
+            given = λ p one.
+                ⊎_elim
+                (λ (first : p ≡ t.pair). subst (λ q. IsAtMoment g (map_of g m r.es) r.fs (g.key q) (Some q)) (sym (first ∙ same)) r.had)
+                (λ older. r.taken.given p older)
+                one;
+          }
+
+          each : (k : K) → IsVisitedTo g (run r.es s) (map_of g m r.es) r.fs spot.table visit (record hands { given = t.pair ∷ hands.given }) (suc spot.slot) k
+          each k =
+              let met = subst (λ a. IsMetIn g (run r.es s) (map_of g m r.es) r.fs spot.table a hands spot.slot r.pair k) walks (r.each k) in
+              subst (λ a. IsVisitedTo g (run r.es s) (map_of g m r.es) r.fs spot.table a (record hands { given = t.pair ∷ hands.given }) (suc spot.slot) k) (sym walks)
+              (subst (λ q. IsVisitedTo g (run r.es s) (map_of g m r.es) r.fs spot.table Walk (record hands { given = q ∷ hands.given }) (suc spot.slot) k) (sym same)
+              (visit_gives g hashed.lawful (run r.es s) (map_of g m r.es) (keeps_then g c hashed s m keeps since may spot.table hands r.es r.fs r.taken) spot.table r.taken.root r.taken.some r.taken.last r.fs (may_then g c hashed s m keeps since may spot.table hands r.es r.fs r.taken) hands spot.slot r.pair k met))
+
+      -- a pair was shown
+      show_learns : (spot : Spot) (word : ℕ) → Rests hands (Showing spot word) → IsShown g c now since hands answer es hands' → Learned (Showing spot word) answer es hands'
+      show_learns spot word (there, retains, live, r) t = by_answer t.stays refl
+        where
+          -- the pair that was met
+          same : t.pair ≡ r.pair
+          same = let a = t.last in let b = r.told in cc (a, b)
+
+          -- once it was shown
+          then' : Bool → Hands P
+          then' stays = record hands { shown = (r.pair, stays) ∷ hands.shown }
+
+          handed : (stays : Bool) → t.stays ≡ stays → hands' ≡ then' stays
+          handed stays is = t.handed ∙ (ap (λ q. record hands { shown = (q, t.stays) ∷ hands.shown }) same ∙ ap (λ b. record hands { shown = (r.pair, b) ∷ hands.shown }) is)
+
+          taken : (stays : Bool) → IsTaking g c s m since spot.table (then' stays) r.es r.fs
+          taken stays = record { is = r.taken.is; moment = r.taken.moment; root = r.taken.root; some = r.taken.some; last = r.taken.last; given = r.taken.given }
+
+          met : (k : K) → IsMetIn g (run r.es s) (map_of g m r.es) r.fs spot.table Retain hands spot.slot r.pair k
+          met k = subst (λ a. IsMetIn g (run r.es s) (map_of g m r.es) r.fs spot.table a hands spot.slot r.pair k) retains (r.each k)
+
+          by_answer : (stays : Bool) → t.stays ≡ stays → Learned (Showing spot word) answer es hands'
+          by_answer true is =
+              quiet (Showing spot word) answer (answers.Call (Yes true)) es hands' (then' true) (t.is ∙ ap (λ b. answers.Call (Yes b)) is) t.none (handed true is)
+              (next_rests (then' true) spot there (record {
+                es = r.es;
+                fs = r.fs;
+                taken = taken true;
+                each = λ k. subst (λ a. IsVisitedTo g (run r.es s) (map_of g m r.es) r.fs spot.table a (then' true) (suc spot.slot) k) (sym retains)
+                    (visit_keeps g hashed.lawful (run r.es s) (map_of g m r.es) (keeps_then g c hashed s m keeps since may spot.table hands r.es r.fs r.taken) spot.table r.taken.root r.taken.some r.taken.last r.fs (may_then g c hashed s m keeps since may spot.table hands r.es r.fs r.taken) hands spot.slot r.pair k (met k));
+              }))
+          by_answer false is =
+              quiet (Showing spot word) answer (answers.Call (Yes false)) es hands' (then' false) (t.is ∙ ap (λ b. answers.Call (Yes b)) is) t.none (handed false is) (
+                there,
+                live,
+                subst (λ a. MayTake g c s m since a (then' false) word) (sym retains) (r.pair, r.number, inl (refl, refl)),
+                record {
+                  es = r.es;
+                  fs = r.fs;
+                  taken = taken false;
+                  each = λ k. subst (λ a. IsVisitedTo g (run r.es s) (map_of g m r.es) r.fs spot.table a (then' false) spot.slot k) (sym retains)
+                      (visit_drops g hashed.lawful (run r.es s) (map_of g m r.es) (keeps_then g c hashed s m keeps since may spot.table hands r.es r.fs r.taken) spot.table r.taken.root r.taken.some r.taken.last r.fs (may_then g c hashed s m keeps since may spot.table hands r.es r.fs r.taken) hands spot.slot r.pair k (met k));
+                },
+              )
+
+      -- a pair was buried, or another word was found
+      may_takes : (is : Visit) (word : ℕ) (more : List (Exchange P)) → MayTake g c s m since is hands word → Takes g c s m more is
+      may_takes Walk word more takes = takes
+      may_takes Clear word more takes = tt
+      may_takes Retain word more takes = tt
+
+      bury_learns : GivesNone g c s m since visit hands → (spot : Spot) (word : ℕ) → Rests hands (Burying spot word) → IsVisitTold g c now since (Burying spot word) hands answer es hands' → Learned (Burying spot word) answer es hands'
+      bury_learns gives spot word r told =
+          by_test (code g c (now.slot spot.table spot.slot) == word) (IsBuried g c now since spot hands answer es hands') (IsFoundThere g c now since spot hands answer es hands') (Learned (Burying spot word) answer es hands') told
+          (λ stands t. buried t)
+          (λ other t. quiet (Burying spot word) answer (answers.Call (Found (code g c (now.slot spot.table spot.slot)))) es hands' (hands_now hands gives spot r.0 r.3) t.is t.none t.handed (meets_rests hands gives spot r.0 r.3))
+        where
+          v : IsVisiting g c s m since visit hands spot.table spot.slot
+          v = r.3
+
+          buried : IsBuried g c now since spot hands answer es hands' → Learned (Burying spot word) answer es hands'
+          buried t =
+              let e : Exchange P = Bury spot.table spot.slot t.pair in
+              subst (λ y. Learned (Burying spot word) y es hands') (sym t.is) (subst (λ y. Learned (Burying spot word) (answers.Call Exchanged) y hands') (sym t.one) (subst (λ y. Learned (Burying spot word) (answers.Call Exchanged) (e ∷ []) y) (sym t.handed) (
+                allowed_append g since (e ∷ []) s may (bury_may g c hashed s m keeps since may visit hands spot word r t.pair t.live, tt),
+                (
+                  r.0,
+                  may_takes visit word (since ++ e ∷ []) r.2,
+                  record {
+                    es = v.es;
+                    fs = v.fs ++ e ∷ [];
+                    taken = taking_stays g c s m since (e ∷ []) spot.table hands v.es v.fs v.taken;
+                    each = λ k. visit_buries g hashed.lawful (run v.es s) (map_of g m v.es) (keeps_then g c hashed s m keeps since may spot.table hands v.es v.fs v.taken) spot.table v.taken.root v.taken.some v.taken.last v.fs (may_then g c hashed s m keeps since may spot.table hands v.es v.fs v.taken) visit hands spot.slot t.pair (slot_then hands gives spot r.0 v (Live t.pair) t.live) (not_walk (may_takes visit word since r.2)) k (v.each k);
+                  },
+                ),
+              )))
+
+      -- the count was told
+      uncount_learns : (spot : Spot) → Rests hands (Uncounting spot) → IsVisitTold g c now since (Uncounting spot) hands answer es hands' → Learned (Uncounting spot) answer es hands'
+      uncount_learns spot r told = quiet (Uncounting spot) answer (answers.Call Ok) es hands' hands told.0 told.1 told.2 (next_rests hands spot r.0 r.2)
+
+      -- the copy of all: where it ended, and how it goes on
+      copied_all : (copy : copies.Hands P) → hands.given ≡ [] → (from : ℕ) (copying : Root_copying) (end : Copied) → RestsStage g c (run (since ++ es) s) copy (resizers.copied CopyAll from end)
+          → RestsState g c s m (since ++ es) visit (record hands { copy = copy; before = since ++ es }) (copied (stages.Copying from copying) (resizers.copied CopyAll from end))
+      copied_all copy none from copying (copied_to.On next') r = (none, tt, r)
+      copied_all copy none from copying (copied_to.Search table) r = (none, tt, tt)
+      copied_all copy none from copying (copied_to.Root table) r = (none, tt, tt)
+      copied_all copy none from copying copied_to.Chunk r = (none, tt, tt)
+      copied_all copy none from copying (copied_to.Refused refused) r = tt
+
+      -- the table that it names is on the chain
+      on_root : (now.root ≡ 0 → ⊥) → IsOn now.first now.next now.root
+      on_root some = ⊎_elim (λ none. absurd (some none.0)) (λ on. on) (keeping_sound g now (map_of g m since) (keeps_since g c hashed s m keeps since may)).root
+
+      root_was : (now.root ≡ 0 → ⊥) → now.was_root now.root ≡ true
+      root_was some = (keeping_sound g now (map_of g m since) (keeps_since g c hashed s m keeps since may)).root_was (⊎_elim (λ a. a) (λ b. absurd (some (omega (arith, b)))) (cases_lt 0 now.root))
+
+      copy_learns : (stage : Stage) → Rests hands (Copying stage) → IsCopyAnswer g c now since stage hands answer es hands' → Learned (Copying stage) answer es hands'
+      copy_learns stages.AtRoot r t =
+          let h = told_of_ask g c now hands.copy stages.AtRoot (Load Root) refl answer es t.copy t.told in
+          let then' : Hands P = record hands { copy = t.copy; before = since } in
+          quiet (Copying stages.AtRoot) answer (answers.Call (Word_read now.root)) es hands' then' h.0 h.1 (t.handed ∙ until t.copy h.1)
+          (cond_both (now.root == 0) stages.Done (stages.Looking now.root None) (λ y. Rests then' (copied stages.AtRoot y))
+          (λ zero. rootless_over g c hashed.lawful s m keeps since may (eqb-true now.root 0 zero) visit then' refl r.0)
+          (λ some. let differs = eqb-false now.root 0 some in (r.0, (root_was differs, refl), on_root differs)))
+      copy_learns (stages.Looking root None) r t =
+          let h = told_of_ask g c now hands.copy (stages.Looking root None) (Load (Next root)) refl answer es t.copy t.told in
+          let then' : Hands P = record hands { copy = t.copy; before = since } in
+          let was : now.was_root root ≡ true = r.1.0 in
+          quiet (Copying (stages.Looking root None)) answer (answers.Call (Word_read (now.next root))) es hands' then' h.0 h.1 (t.handed ∙ until t.copy h.1)
+          (cond_both (now.next root == 0) stages.Done (resizers.copies root) (λ y. Rests then' (copied (stages.Looking root None) y))
+          (λ zero. let none = eqb-true (now.next root) 0 zero in takes_root then' refl r.0 root (last_root g now (map_of g m since) (keeps_since g c hashed s m keeps since may) root was none) (λ inc. none))
+          (λ some. (r.0, tt, (tt, (tt, tt)))))
+      copy_learns (stages.Looking root (Some room)) r t = let no = r.1.1 in absurd (cc no)
+      copy_learns (stages.Copying from copying) r t =
+          let out = stage_learns g c hashed now (map_of g m since) (keeps_since g c hashed s m keeps since may) CopyAll mode initial hands.copy moded chunked (stages.Copying from copying) r.2 answer es t.copy t.told in
+          let rests = subst (λ w. RestsStage g c w t.copy (resizers.copied CopyAll from (copying_after copying mode initial answer))) (sym (run-append since es s)) out.1 in
+          (allowed_append g since es s may out.0, subst (λ y. RestsState g c s m (since ++ es) visit y (after_in visit mode initial answer (Copying (stages.Copying from copying)))) (sym t.handed) (copied_all t.copy r.0 from copying (copying_after copying mode initial answer) rests))
+      copy_learns (stages.Making room) r t = absurd r.1
+      copy_learns (stages.Opening table) r t = absurd r.1
+      copy_learns (stages.Sizing root) r t = absurd r.1
+      copy_learns (stages.Counting root len) r t = absurd r.1
+      copy_learns (stages.Linking link) r t = absurd r.1
+      copy_learns stages.Done r t = absurd r.1
+      copy_learns (stages.Refused refused) r t = absurd r.1
+
+      -- in each state
+      pub state_learns : GivesNone g c s m since visit hands → (state : State) → Rests hands state → IsVisitTold g c now since state hands answer es hands' → Learned state answer es hands'
+      state_learns gives (Copying stage) r told = copy_learns stage r told
+      state_learns gives AtRoot r told = root_learns r told
+      state_learns gives (Sizing table) r told = size_learns table r told
+      state_learns gives (Looking spot) r told = look_learns gives spot r told
+      state_learns gives (Giving spot word) r told = give_learns spot word r told
+      state_learns gives (Showing spot word) r told = show_learns spot word r told
+      state_learns gives (Burying spot word) r told = bury_learns gives spot word r told
+      state_learns gives (Uncounting spot) r told = uncount_learns spot r told
+      state_learns gives Done r told = let e = told.asks in absurd (cc e)
+      state_learns gives (Refused refused) r told = let e = told.asks in absurd (cc e)
+
+      -- a call that takes pairs out gives none
+      gives_same : (is : Visit) → hands'.given ≡ hands.given → GivesNone g c s m since is hands → GivesNone g c s m (since ++ es) is hands'
+      gives_same Walk same gives = tt
+      gives_same Clear same gives = same ∙ gives
+      gives_same Retain same gives = same ∙ gives
+
+      pub state_gives : GivesNone g c s m since visit hands → (state : State) → Rests hands state → IsVisitTold g c now since state hands answer es hands' → GivesNone g c s m (since ++ es) visit hands'
+      state_gives gives (Copying stage) r told = gives_same visit (ap (λ h. h.given) told.handed) gives
+      state_gives gives AtRoot r told = gives_same visit (ap (λ h. h.given) told.handed) gives
+      state_gives gives (Sizing table) r told = gives_same visit (ap (λ h. h.given) told.handed) gives
+      state_gives gives (Looking spot) r told = gives_same visit (ap (λ h. h.given) told.handed) gives
+      state_gives gives (Giving spot word) r told = subst (λ a. GivesNone g c s m (since ++ es) a hands') (sym r.1) tt
+      state_gives gives (Showing spot word) r told = gives_same visit (ap (λ h. h.given) told.handed) gives
+      state_gives gives (Burying spot word) r told =
+          by_test (code g c (now.slot spot.table spot.slot) == word) (IsBuried g c now since spot hands answer es hands') (IsFoundThere g c now since spot hands answer es hands') (GivesNone g c s m (since ++ es) visit hands') told
+          (λ stands t. gives_same visit (ap (λ h. h.given) t.handed) gives)
+          (λ other t. gives_same visit (ap (λ h. h.given) t.handed) gives)
+      state_gives gives (Uncounting spot) r told = gives_same visit (ap (λ h. h.given) told.2) gives
+      state_gives gives Done r told = let e = told.asks in absurd (cc e)
+      state_gives gives (Refused refused) r told = let e = told.asks in absurd (cc e)

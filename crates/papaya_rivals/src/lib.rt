@@ -1,8 +1,0 @@
-//! The workloads on the kit's own hash map: alone, and behind a lock.
-#![tactic(auto)]
-
-pub mod alone;
-pub mod locked;
-pub mod locks;
-pub mod map;
-mod steps;

@@ -1,2 +1,0 @@
--- a call that visits a table
-pub mod Visitors

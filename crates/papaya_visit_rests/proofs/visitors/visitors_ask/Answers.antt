@@ -1,8 +1,0 @@
-use Rattle.papaya_visit_rests.proofs.Asks.{state_may, state_named}
-use Rattle.papaya_visit_rests.proofs.visitors.visitors_ask.Goals as goal
-
-pub returns-clause-names : goal.returns-clause-names
-returns-clause-names g c = λ h d hashed s m keeps since may visitor hands r ask e. state_named h d hashed s m keeps since may visitor.visit hands visitor.state r.state ask e
-
-pub returns-clause-may : goal.returns-clause-may
-returns-clause-may g c = λ h d hashed s m keeps since may visitor hands r at old new e stands. state_may h d hashed s m keeps since may visitor.visit hands visitor.state r.state at old new e stands

@@ -1,4 +1,0 @@
-//! What a call that visits a whole table rests on, and what is so at its end.
-#![tactic(auto)]
-
-pub mod visitors;

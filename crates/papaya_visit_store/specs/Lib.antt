@@ -1,2 +1,0 @@
--- one ask of a call that visits a table
-pub mod Visits
