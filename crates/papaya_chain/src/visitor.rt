@@ -11,12 +11,12 @@ ghost use Rattle.papaya_chain.specs.Visitor.{after, ask_of, at_root, begun, buri
 ghost use Rattle.papaya_chain.specs.Visitor.{follows_of, found_by, kind_of_ask, looks, meets};
 ghost use Rattle.papaya_chain.specs.Visitor.{next, reply_of, resizer_of, visited};
 
+use crate::ask::Answer;
+use crate::resizer::{Resize, Resizer, State as Stage};
 use crate::visit_ask::VisitAsk;
 use papaya_ask::ask::{Answer as CallAnswer, At, StepKind};
 use papaya_ask::call::Reply;
 use papaya_ask::copy_ask::CopyAsk;
-use crate::ask::Answer;
-use crate::resizer::{Resize, Resizer, State as Stage};
 use papaya_words::probe::{Refused, ResizeMode};
 use papaya_words::word::{Kind, Word};
 

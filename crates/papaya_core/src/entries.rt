@@ -8,8 +8,8 @@ use papaya_ask::ask::{Answer as CallAnswer, Ask as CallAsk, StepKind};
 use papaya_ask::call::Reply;
 use papaya_ask::copy_ask::CopyAsk;
 use papaya_chain::ask::{Answer, Ask};
-use papaya_timeline::trace::{Entry, Event};
 use papaya_chain::visit_ask::VisitAsk;
+use papaya_timeline::trace::{Entry, Event};
 use papaya_words::probe::Refused;
 use papaya_words::word::Word;
 

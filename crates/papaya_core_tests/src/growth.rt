@@ -165,10 +165,10 @@ fn steps_to_next_table(rt: &impl Abort, alloc: Global, mode: ResizeMode) -> Resu
     let begin = Turn::Begin(0, insertion(FULL).call());
     let trace = core.run(vec![in alloc; begin, Turn::Finish(0, WHOLE)]?)?;
     // A begin has one entry, and so has each step before the reply.
-    let linked = trace
-        .entries
-        .iter()
-        .position(|entry| matches!(&entry.event, Event::Moved(StepKind::Link)));
+    let linked = trace.entries.iter().position(|entry| matches!(
+        &entry.event,
+        Event::Moved(StepKind::Link)
+    ));
     Ok(
         linked
             .and_then(|steps| steps.checked_sub(2))

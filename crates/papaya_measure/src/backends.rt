@@ -1,9 +1,9 @@
 //! The maps that the workloads are run on.
-use crate::{one_caller, shared};
-use papaya_plan::plan::{Part, Plan};
 use crate::rivals::locks::Lock;
 use crate::rivals::map::{Map, maps};
 use crate::rivals::{alone, locked};
+use crate::{one_caller, shared};
+use papaya_plan::plan::{Part, Plan};
 use papaya_shell::failure::Failure;
 use std::alloc::Global;
 use std::rt::Clock;

@@ -4,10 +4,10 @@ ghost use Rattle.papaya_words.specs.Counter.{added};
 ghost use Rattle.papaya_keys.specs.Hashes.{hash_of};
 ghost use Rattle.papaya_store.specs.Visits.{Gives, PerformsVisit, Shows};
 
+use crate::store::Store;
 use papaya_ask::ask::Answer as CallAnswer;
 use papaya_call::answers::Answers;
 use papaya_chain::ask::Answer;
-use crate::store::Store;
 use papaya_chain::visit_ask::VisitAsk;
 use papaya_chain::visitor::Visitor;
 use papaya_words::probe::Refused;
