@@ -33,13 +33,13 @@ def place_of(edit, folder):
 
 
 def is_told(edit, place, line):
-    """Does this line tell of a goal of the edit's function?"""
+    """Does this line tell of a goal of the edit's function, or of a closure in it?"""
     at = re.match(r"(?:note: )?(?:\./)?(\S+?):(\d+):\d+: ", line)
     if not at or LOST.search(line):
         return False
     file, first, last = place
     answers = f"proofs/{edit.words['fn'].replace('::', '/')}/"
-    return at[1].startswith(answers) or at[1] == file and first <= int(at[2]) <= last
+    return at[1].replace("/fn/", "/", 1).startswith(answers) or at[1] == file and first <= int(at[2]) <= last
 
 
 def told_of(crate, edit, place, said):
