@@ -8,7 +8,8 @@ use Rattle.papaya_seq.specs.Computes.{IsUpdated}
 use Rattle.papaya_lines.specs.Closures.{follower}
 use Rattle.papaya_lines.specs.Commands.{WritesCommand}
 use Rattle.papaya_lines.specs.Walk.{IsByKey}
-use Rattle.papaya_seq.specs.Map.{HasNone, Holds, IsInserted, IsRemoved, MapState, entry_of, next_of, slots_of}
+use Rattle.papaya_seq.specs.Map.{HasNone, Holds, IsInserted, MapState, entry_of, next_of, slots_of}
+use Rattle.papaya_seq.specs.Removes.{IsRemoved}
 use Rattle.papaya_lines.specs.declared.commands.Command.{Command}
 use Rattle.papaya_lines.specs.declared.commands.Command.TheVariants as command
 use Rattle.papaya_lines.specs.declared.printed.Printed.{Printed}

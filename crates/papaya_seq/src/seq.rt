@@ -19,9 +19,9 @@ ghost use Rattle.papaya_seq.specs.Calls.{AreCalled, IsCalled};
 ghost use Rattle.papaya_seq.specs.Computes.{tried_answered};
 ghost use Rattle.papaya_seq.specs.Computing.{reply_of};
 ghost use Rattle.papaya_seq.specs.Looks.{LooksUp};
-ghost use Rattle.papaya_seq.specs.Removes.{IsJudged, Judges};
+ghost use Rattle.papaya_seq.specs.Removes.{IsJudged, IsRemoved, Judges};
 ghost use Rattle.papaya_seq.specs.Map.{HasNone, HasValue, Holds, IsInserted, IsMakeRefusal};
-ghost use Rattle.papaya_seq.specs.Map.{IsRemoved, IsResizing, IsTried, IsTriedInto, core_of};
+ghost use Rattle.papaya_seq.specs.Map.{IsResizing, IsTried, IsTriedInto, core_of};
 ghost use Rattle.papaya_seq.specs.Map.{deref_pair, entry_of, next_of, slots_of, value_of};
 
 use papaya_ask::call::{Call, Reply};
