@@ -26,3 +26,8 @@ abbrev pub of_update : Result (Option ℕ) Refused → Printed
 of_update (Ok None) = printed.Absent
 of_update (Ok (Some value)) = printed.New value
 of_update (Err refused) = printed.Refused refused
+
+-- what is printed of a call that answers nothing: that it is done, or the refusal
+abbrev pub of_end : Result (Unit {0}) Refused → Printed
+of_end (Ok done) = printed.Done
+of_end (Err refused) = printed.Refused refused

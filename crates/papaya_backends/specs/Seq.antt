@@ -1,14 +1,16 @@
 -- What a command does to a map for one caller, and what is printed of it.
-use Rattle.std.specs.Prelude.{◌≡◌, ◌==◌, ℕ, List, Option, Result, IsOk, MatchOption, [], length, map}
+use Rattle.std.specs.Prelude.{◌≡◌, ◌==◌, ℕ, List, Option, Result, Ok, Err, IsOk, MatchOption, [], length, map}
 use Rattle.papaya_words.specs.declared.probe.Refused.{Refused}
 use Rattle.papaya_core.specs.Content.{content}
 use Rattle.papaya_core.specs.Store.{Stored}
-use Rattle.papaya_backends.specs.Replied.{of_insertion, of_lookup, of_removal, of_update}
+use Rattle.papaya_backends.specs.Replied.{of_end, of_insertion, of_lookup, of_removal, of_update}
 use Rattle.papaya_seq.specs.Computes.{IsUpdated}
 use Rattle.papaya_lines.specs.Closures.{follower}
 use Rattle.papaya_lines.specs.Commands.{WritesCommand}
 use Rattle.papaya_lines.specs.Walk.{IsByKey}
-use Rattle.papaya_seq.specs.Map.{HasNone, Holds, IsInserted, IsRemoved, MapState, entry_of, next_of, slots_of}
+use Rattle.papaya_seq.specs.Map.{HasNone, Holds, IsInserted, KeepsSlots, MapState, Unchanged, entry_of, next_of, slots_of}
+use Rattle.papaya_seq.specs.Removes.{IsRemoved}
+use Rattle.papaya_seq.specs.Resizes.{IsCopyCause}
 use Rattle.papaya_lines.specs.declared.commands.Command.{Command}
 use Rattle.papaya_lines.specs.declared.commands.Command.TheVariants as command
 use Rattle.papaya_lines.specs.declared.printed.Printed.{Printed}
@@ -25,8 +27,14 @@ module _ {S : Type 0} where
   abbrev pub pairs_of : MapState ℕ ℕ S → List (ℕ × ℕ)
   pairs_of s = map entry_of (content (λ a b. a == b) s.store)
 
-  -- The command makes of the one map the other, and this is printed. A removal is refused only while
-  -- pairs are being moved to a further table.
+  -- a clear leaves no pair, or it is refused, with the map as it was
+  abbrev pub IsCleared : MapState ℕ ℕ S → Result (Unit {0}) Refused → MapState ℕ ℕ S → Type 0
+  IsCleared s (Ok done) s' = content (λ a b. a == b) s'.store ≡ []
+  IsCleared s (Err refused) s' = IsCopyCause s refused s'
+      × Unchanged (λ a b. a == b) s.store s'.store
+
+  -- The command makes of the one map the other, and this is printed. A removal and a clear are refused
+  -- only while pairs are being moved to a further table.
   abbrev pub Obeys : Command → MapState ℕ ℕ S → Printed → MapState ℕ ℕ S → Type 0
   Obeys (command.Insert k v) s text s' = (answer : Result (Option ℕ) Refused)
       × (text ≡ of_insertion answer) × IsInserted (λ a b. a == b) k v s answer s'
@@ -41,8 +49,8 @@ module _ {S : Type 0} where
   Obeys command.Len s text s' =
       (text ≡ printed.Length (length (content (λ a b. a == b) s.store))) × (s' ≡ s)
   Obeys command.Slots s text s' = (text ≡ printed.Slots (slots_of s.store)) × (s' ≡ s)
-  Obeys command.Clear s text s' = (text ≡ printed.Done)
-      × (content (λ a b. a == b) s'.store ≡ []) × (slots_of s'.store ≡ 0)
+  Obeys command.Clear s text s' = (answer : Result (Unit {0}) Refused) × (text ≡ of_end answer)
+      × IsCleared s answer s' × KeepsSlots s s' × (next_of s.store ≡ 0 → IsOk answer)
   Obeys command.Walk s text s' = (pairs : List (ℕ × ℕ)) × (text ≡ printed.Walk pairs)
       × IsByKey (pairs_of s) pairs × (s' ≡ s)
 

@@ -1,5 +1,5 @@
 -- What the reply of an insertion says of the map, in terms of its pairs.
-use Rattle.std.proofs.Common.{◌≡◌, ⊎_elim, ℕ, Bool, true, false, cond, List, [], ◌∷◌, Option, Some, None, Result, Ok, Err, inl, inr, refl, sym, ◌∙◌, ap, subst}
+use Rattle.std.proofs.Common.{◌≡◌, ⊎_elim, ℕ, Bool, true, false, cond, List, [], ◌∷◌, Option, Some, None, Result, Ok, Err, inl, inr, refl, sym, ◌∙◌, ap, subst, IfErr}
 use Rattle.std.proofs.lemmas.Bool.{cases_Bool}
 use Rattle.std.specs.Cmp.{IsEquivalence}
 use Rattle.papaya_words.specs.declared.probe.Refused.{Refused}
@@ -149,6 +149,11 @@ module _ {K V S : Type 0} (eq : K → K → Bool) (law : IsEquivalence eq) where
 pub tried_there : {K V S : Type 0} (eq : K → K → Bool) (k : K) (v : V) (s : MapState K V S) (result : Result (ℕ × Option V) Refused) (s' : MapState K V S) (n : ℕ) (left : V) → result ≡ Ok (n, Some left) → IsTried eq k v s result s'
     → (p : Stored K V) × (pair_of s'.store n ≡ Some p) × (left ≡ v) × IsOccupied eq k s.store p.value s'.store × Keeps s s'
 tried_there eq k v s result s' n left is tried = subst (λ r. IsTried eq k v s r s') is tried
+
+-- what holds of a refusal, holds of this one
+pub err_at : {T E : Type 0} (P : E → Type 0) (result : Result T E) (e : E) → result ≡ Err e → IfErr result P → P e
+err_at P (Ok t) e is h = absurd cc
+err_at P (Err other) e is h = let same : other ≡ e = cc is in subst P same h
 
 -- and one that was refused
 pub tried_refused : {K V S : Type 0} (eq : K → K → Bool) (k : K) (v : V) (s : MapState K V S) (result : Result (ℕ × Option V) Refused) (s' : MapState K V S) (refused : Refused) → result ≡ Err refused → IsTried eq k v s result s' → IsTryRefusal eq k s refused s'

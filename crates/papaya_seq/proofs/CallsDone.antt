@@ -16,7 +16,7 @@ use Rattle.papaya_timeline.specs.Maps.{IsUpdate, Map, Same, key_of}
 use Rattle.papaya_timeline.specs.Solo.{IsAnswered, IsDoneBy, IsLeftBy, IsNewIn}
 use Rattle.papaya_store.specs.Store.{StoreState, Stored}
 use Rattle.papaya_timeline.proofs.SoloTimeline.{lookup_alike}
-use Rattle.papaya_seq.specs.Calls.{AreCalled, IsCalled, IsDone, IsJudged, IsSaid, KeepsBy, MayRefuse}
+use Rattle.papaya_seq.specs.Calls.{AreCalled, IsCalled, IsDone, IsJudged, IsSaid, MayRefuse}
 use Rattle.papaya_seq.specs.Map.{HasNone, Holds, IsMakeRefusal, Keeps, MapState, Unchanged, next_of}
 use Rattle.papaya_seq.specs.Removes.{IsRemoval, IsRemovalBy}
 use Rattle.papaya_seq.specs.Resizes.{IsCopyCause, IsReserveCause}
@@ -132,14 +132,23 @@ pub removes_something : (refused : words.Refused) → IsMakeRefusal refused → 
 removes_something refused (inl memory) nothing = let f : Memory ≡ RemoveNothing = sym memory ∙ nothing in absurd cc
 removes_something refused (inr full) nothing = let f : Capacity ≡ RemoveNothing = sym full ∙ nothing in absurd cc
 
+-- room, and the end of a resize, are refused for want of memory or at a limit
+pub reserve_makes : {K V S : Type 0} (eq : K → K → Bool) (s : MapState K V S) (more : ℕ) (refused : words.Refused) (s' : MapState K V S) → IsReserveCause eq s more refused s' → IsMakeRefusal refused
+reserve_makes eq s more refused s' (inl memory) = inl memory
+reserve_makes eq s more refused s' (inr (capacity, full)) = inr capacity
+
+pub copy_makes : {K V S : Type 0} (s : MapState K V S) (refused : words.Refused) (s' : MapState K V S) → IsCopyCause s refused s' → IsMakeRefusal refused
+copy_makes s refused s' (moving, inl memory) = inl memory
+copy_makes s refused s' (moving, inr (capacity, none)) = inr capacity
+
 module _ {K V S A : Type 0} (eq : K → K → Bool) (classes : IsEquivalence eq) (s : MapState K V S) (apart : AreApart eq (λ p. p.key) (content eq s.store)) (k : K) (a : A) (says : Says K V A) where
   -- a removal by an owned key is a call
-  pub remove_called : {said : Stored K V → Bool → Type 0} (reply : Reply) (s' : MapState K V S) → IsRemovalBy eq (eq k) said s.store reply s'.store → (next_of s.store ≡ 0 → (refused : words.Refused) → reply ≡ Refused refused → ⊥) → ((refused : words.Refused) → reply ≡ Refused refused → refused ≡ RemoveNothing → ⊥) → Keeps s s' → ((p : Stored K V) (agrees : Bool) → said p agrees → (a' : A) × says.yes a p.key p.value agrees a') → IsCalled eq says s (RemoveIf k a) reply s'
-  remove_called {said} reply s' whole never ordered keeps gives = record {
+  pub remove_called : {said : Stored K V → Bool → Type 0} (reply : Reply) (s' : MapState K V S) → IsRemovalBy eq (eq k) said s.store reply s'.store → ((refused : words.Refused) → reply ≡ Refused refused → IsCopyCause s refused s') → Keeps s s' → ((p : Stored K V) (agrees : Bool) → said p agrees → (a' : A) × says.yes a p.key p.value agrees a') → IsCalled eq says s (RemoveIf k a) reply s'
+  remove_called {said} reply s' whole because keeps gives = let ordered = λ (refused : words.Refused) (is : reply ≡ Refused refused). removes_something refused (copy_makes s refused s' (because refused is)) in record {
     answered = remove_answered eq classes s.store apart k said s'.store a reply ordered whole.removal;
     fresh = remove_fresh eq classes s.store apart k said s'.store reply whole.removal;
     said = remove_said eq classes s.store apart k said s'.store says a gives reply whole.removal;
-    cause = λ refused is unresized. never unresized refused is;
+    cause = because;
     done = λ is. keyed_undone eq (RemoveIf k a) k refl reply (map_in eq s.store) (map_in eq s'.store) (remove_answered eq classes s.store apart k said s'.store a reply ordered whole.removal) is;
     keeps = keeps;
   }
@@ -152,7 +161,7 @@ module _ {K V S A : Type 0} (eq : K → K → Bool) (says : Says K V A) (reply :
   called_more s (c ∷ calls) [] e = absurd e
   called_more s (c ∷ calls) (r ∷ replies) (middle, first, rest) = (middle, first, called_more middle calls replies rest)
 
-module _ {K V S A : Type 0} (eq : K → K → Bool) (says : Says K V A) (call : Call K V A) (no_key : key_of call ≡ None) (s s' : MapState K V S) (keeps : KeepsBy call s s') (said : (reply : Reply) → IsSaid eq says call s reply s'.store) (makes : (refused : words.Refused) → MayRefuse eq s call refused s' → IsMakeRefusal refused) where
+module _ {K V S A : Type 0} (eq : K → K → Bool) (says : Says K V A) (call : Call K V A) (no_key : key_of call ≡ None) (s s' : MapState K V S) (keeps : Keeps s s') (said : (reply : Reply) → IsSaid eq says call s reply s'.store) (makes : (refused : words.Refused) → MayRefuse eq s call refused s' → IsMakeRefusal refused) where
   -- what is done on no key is a call
   pub resized_called : (done : Result (Unit {0}) words.Refused) (reply : Reply) → MatchResult done (λ _. reply ≡ Done) (λ e. reply ≡ Refused e) → OnOk done (IsDone eq says call s.store s'.store) → IfErr done (λ e. MayRefuse eq s call e s') → OnOk done (IsDoneBy call (map_in eq s.store) (map_in eq s'.store)) → IfErr done (λ e. IsLeftBy call (map_in eq s.store) (map_in eq s'.store)) → IsCalled eq says s call reply s'
   resized_called (Ok u) reply is ok err does left = subst (λ r. IsCalled eq says s call r s') (sym is) (record {
@@ -171,12 +180,3 @@ module _ {K V S A : Type 0} (eq : K → K → Bool) (says : Says K V A) (call : 
     done = λ e. let f : Refused refused ≡ Done = e in absurd cc;
     keeps = keeps;
   })
-
--- room, and the end of a resize, are refused for want of memory or at a limit
-pub reserve_makes : {K V S : Type 0} (eq : K → K → Bool) (s : MapState K V S) (more : ℕ) (refused : words.Refused) (s' : MapState K V S) → IsReserveCause eq s more refused s' → IsMakeRefusal refused
-reserve_makes eq s more refused s' (inl memory) = inl memory
-reserve_makes eq s more refused s' (inr (capacity, full)) = inr capacity
-
-pub copy_makes : {K V S : Type 0} (s : MapState K V S) (refused : words.Refused) (s' : MapState K V S) → IsCopyCause s refused s' → IsMakeRefusal refused
-copy_makes s refused s' (moving, inl memory) = inl memory
-copy_makes s refused s' (moving, inr (capacity, none)) = inr capacity

@@ -96,7 +96,7 @@ abbrev pub HasSlots : {K V S : Type 0} → StoreState K V S → ℕ → ℕ → 
 HasSlots store behind slots = (t : TableWords) × (table_of store.words.tables behind ≡ Some t) × (length t.slots ≡ slots)
 
 -- what a machine asks that makes a table for a copy
-link_asked : (m : Machine) (made : Link) → link_in m.phase ≡ Some made → ask_of m ≡ asks.Copy (link_ask made)
+pub link_asked : (m : Machine) (made : Link) → link_in m.phase ≡ Some made → ask_of m ≡ asks.Copy (link_ask made)
 link_asked m made e = by_phase m.phase e
   where
     by_phase : (phase : Phase) → link_in phase ≡ Some made → asks_in m.call phase ≡ asks.Copy (link_ask made)

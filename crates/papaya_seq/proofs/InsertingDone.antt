@@ -20,6 +20,7 @@ use Rattle.papaya_timeline.specs.Content.{map_in}
 use Rattle.papaya_timeline.specs.Solo.{IsAnswered, IsNewIn, whatever}
 use Rattle.papaya_timeline.proofs.KeptSettings.{IsLawfulKeys}
 use Rattle.papaya_seq.specs.Drives.{Drives, IsReplied, at_hand}
+use Rattle.papaya_seq.specs.MadeAlone.{IsMadeAlone}
 use Rattle.papaya_seq.specs.Map.{IsLawfulMap, IsTryCause, IsWriteCauseAt, Keeps, MapState, insertion}
 use Rattle.papaya_seq.proofs.Alone.{map_answered, map_hasher, map_lawful, map_logged}
 use Rattle.papaya_seq.proofs.InsertingRun.{IsInserting, inserting_absent, inserting_alone, inserting_begin, inserting_cause, inserting_fit, inserting_left, inserting_more}
@@ -36,6 +37,7 @@ pub record InsertionDone {K V S : Type 0} (eq : K → K → Bool) (hash : S → 
   pub cause : (refused : Refused) → reply ≡ Reply_refused refused → IsWriteCauseAt s (map_in eq s.store k) refused s'
   pub absent : replace ≡ false → (refused : Refused) → reply ≡ Reply_refused refused → IsTryCause s (map_in eq s.store k) refused s'
   pub left_is : (n : ℕ) → reply ≡ Occupied n → left ≡ Some value
+  pub alone : IsMadeAlone eq hash s (insertion replace k value) reply s'
   pub keeps : Keeps s s'
   pub orderly : IsLawfulMap eq (hash s'.store.hasher) s'.store s'.mode s'.initial
 
@@ -67,6 +69,7 @@ module _ {K V S H : Type 0} (eq : K → K → Bool) (input : K → List (List �
         cause = inserting_cause eq hash s replace k value keys lawful fits store done.end reply done.replied ended;
         absent = inserting_absent eq hash s replace k value keys lawful fits store done.end reply done.replied ended;
         left_is = λ n e. sym done.value ∙ inserting_left eq hash s replace k value keys lawful fits store done.end reply done.replied ended n e;
+        alone = record { runs = over.ran };
         keeps = record {
           hasher = map_hasher eq input build write finish classes respects s (insertion replace k value) reply store lawful over;
           mode = refl;

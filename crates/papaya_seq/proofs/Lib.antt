@@ -16,6 +16,7 @@ pub mod ComputesDone
 pub mod Counting
 pub mod Driving
 pub mod Ending
+pub mod Initial
 pub mod Inserting
 pub mod InsertingDone
 pub mod InsertingRoot

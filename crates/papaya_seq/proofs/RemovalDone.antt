@@ -1,5 +1,6 @@
 -- What a removal leaves that has replied.
-use Rattle.std.proofs.Common.{◌≡◌, ⊎_elim, ℕ, Bool, true, List, ◌∙◌, ap, refl}
+use Rattle.std.proofs.Common.{◌≡◌, ⊎_elim, ◌⊎◌, inl, inr, ℕ, Bool, true, List, ◌∙◌, ap, refl}
+use Rattle.std.proofs.lemmas.Bool.{cases_eq}
 use denote.Ref.{Bor}
 use Rattle.std.specs.Cmp.{IsEquivalence}
 use Rattle.std.specs.Fn.{Mut}
@@ -13,8 +14,9 @@ use Rattle.papaya_chain.specs.Machine.{ask_of}
 use Rattle.papaya_keys.specs.Hashes.{hash_of}
 use Rattle.papaya_store.specs.Store.{StoreState}
 use Rattle.papaya_timeline.specs.Advances.{reply_in}
-use Rattle.papaya_seq.specs.Map.{IsLawfulMap, IsMakeRefusal, KeepsRemoving, MapState, next_of}
+use Rattle.papaya_seq.specs.Map.{IsLawfulMap, IsResizing, KeepsRemoving, MapState, next_of}
 use Rattle.papaya_seq.specs.Removes.{IsRemovalBy, Judges}
+use Rattle.papaya_seq.specs.Resizes.{IsCopyCause}
 use Rattle.papaya_seq.proofs.Alone.{map_answered, map_lawful}
 use Rattle.papaya_seq.proofs.RemovalReply.{removal_done, removal_none}
 use Rattle.papaya_seq.proofs.RemovalRun.{matched_judged, matched_over}
@@ -26,8 +28,7 @@ use Rattle.papaya_seq.proofs.Turns.{IsOver}
 -- what it did, that it is refused for a cause alone, and what stays
 pub record RemovalDone {K V S F : Type 0} (g : Mut F (Bor K × (Bor V × Unit {0})) Bool) (eq : K → K → Bool) (hash : S → K → ℕ) (matches : K → Bool) (map : MapState K V S) (agrees : F) (reply : Reply) (s' : MapState K V S) : Type 0 where
   pub whole : IsRemovalBy eq matches (Judges g agrees) map.store reply s'.store
-  pub never : next_of map.store ≡ 0 → (refused : Refused) → reply ≡ Reply_refused refused → ⊥
-  pub refusal : (refused : Refused) → reply ≡ Reply_refused refused → IsMakeRefusal refused
+  pub cause : (refused : Refused) → reply ≡ Reply_refused refused → IsCopyCause map refused s'
   pub keeps : KeepsRemoving map s'
   pub orderly : IsLawfulMap eq (hash s'.store.hasher) s'.store s'.mode s'.initial
 
@@ -41,6 +42,14 @@ module _ {K V S H F : Type 0} (g : Mut F (Bor K × (Bor V × Unit {0})) Bool) (e
   made : (has : HasMatch g eq hash matches hashed map agrees later f m) → IsOver eq hash map (removal_by has.one.pair.key) later reply
   made has = matched_over g eq hash matches hashed map agrees has.one.pair.key (key_of g eq hash matches hashed map agrees query has.one) later f m has.run reply ends
 
+  -- where it is refused, pairs were being moved
+  moving : (refused : Refused) → ask_of m ≡ asks.Call (Ask_done (Reply_refused refused)) → IsResizing map
+  moving refused told = by_next (cases_eq (next_of map.store) 0)
+    where
+      by_next : ((next_of map.store ≡ 0) ⊎ (next_of map.store ≡ 0 → ⊥)) → IsResizing map
+      by_next (inl single) = absurd (unrefused g eq hash matches hashed map agrees later f m now query single refused told)
+      by_next (inr moves) = moves
+
   pub removal_finished : RemovalDone g eq hash matches map agrees reply (record map { store = later })
   removal_finished = record {
     whole = record {
@@ -53,8 +62,7 @@ module _ {K V S H F : Type 0} (g : Mut F (Bor K × (Bor V × Unit {0})) Bool) (e
           removal_none eq matches (Judges g agrees) map.store later reply lacks.none (seek_ends eq hash g matches map hashed later m lacks.seeking reply (ap reply_in ends)) lacks.seeking.same)
           (now.way query);
     };
-    never = λ single refused is. unrefused g eq hash matches hashed map agrees later f m now query single refused (ends ∙ ap (λ r. asks.Call (Ask_done r)) is);
-    refusal = λ refused is. now.refusal query refused (ap reply_in (ends ∙ ap (λ r. asks.Call (Ask_done r)) is));
+    cause = λ refused is. let told = ends ∙ ap (λ r. asks.Call (Ask_done r)) is in (moving refused told, now.refusal query refused (ap reply_in told));
     keeps = (
       record { hasher = now.log.hasher; mode = refl; initial = refl; pairs = λ n p e. log_kept map.store later now.log n ∙ e },
       λ single. slots_kept g eq hash matches hashed map agrees later f m now query single,

@@ -1,55 +1,181 @@
--- A removal is refused only where a further table is: for want of memory, or at a limit.
-use Rattle.std.proofs.Common.{◌≡◌, ⊎_elim, ℕ, Bool, inl, inr, ap, subst}
+-- Why a removal is refused: there is no further table, or memory was short.
+use Rattle.std.proofs.Common.{◌≡◌, ⊎_elim, ◌⊎◌, inl, inr, ℕ, ◌^◌, ◌<◌, ◌-◌, ◌==◌, Bool, true, false, cond, Option, None, Some, length, slice_get, refl, sym, ◌∙◌, ap, subst}
+use Rattle.std.proofs.lemmas.Bool.{cond_both}
 use denote.Ref.{Bor}
 use Rattle.std.specs.Fn.{Mut}
-use Rattle.papaya_words.specs.declared.limits.TheConstants.{MAX_TABLES}
+use Rattle.papaya_words.specs.Counter.{count_of}
+use Rattle.papaya_words.specs.Table.{TableWords, length_after}
 use Rattle.papaya_words.specs.declared.probe.Refused.{Refused}
-use Rattle.papaya_words.specs.declared.probe.Refused.TheVariants.{Memory, Capacity, RemoveNothing}
+use Rattle.papaya_words.specs.declared.probe.Refused.TheVariants.{RemoveNothing}
+use Rattle.papaya_words.specs.declared.probe.ResizeMode.{ResizeMode}
+use Rattle.papaya_words.specs.declared.probe.ResizeMode.TheVariants.{Incremental, Blocking}
 use Rattle.papaya_ask.specs.declared.ask.Ask.{Ask as Call_ask}
-use Rattle.papaya_ask.specs.declared.ask.Ask.TheVariants.{MakeKey, MakePair, MakeTable as Make_own, ShowNone}
+use Rattle.papaya_ask.specs.declared.ask.Ask.TheVariants.{Load, Exchange, SameKey, ShowPair, SizeOf, AddToShard, MakeKey, MakePair, MakeTable as Make_own, ShowNone}
 use Rattle.papaya_ask.specs.declared.ask.Answer.{Answer as Call_answer}
-use Rattle.papaya_ask.specs.declared.ask.Answer.TheVariants.{Op, Refused as Was_refused}
+use Rattle.papaya_ask.specs.declared.ask.Answer.TheVariants.{Op, Size, Refused as Was_refused}
+use Rattle.papaya_ask.specs.declared.ask.At.{At}
+use Rattle.papaya_ask.specs.declared.ask.At.TheVariants.{Root, Next, Aborted, Done, Slot}
 use Rattle.papaya_ask.specs.declared.ask.OpKind.TheVariants.{Remove}
+use Rattle.papaya_ask.specs.declared.call.Task.TheVariants.{RemoveIf}
+use Rattle.papaya_ask.specs.declared.copy_ask.CopyAsk.{CopyAsk}
+use Rattle.papaya_ask.specs.declared.copy_ask.CopyAsk.TheVariants as copies
 use Rattle.papaya_call.specs.Machine as calls
+use Rattle.papaya_copy.specs.declared.link.Link.TheVariants as links
 use Rattle.papaya_chain.specs.declared.ask.Ask.{Ask}
 use Rattle.papaya_chain.specs.declared.ask.Ask.TheVariants as asks
 use Rattle.papaya_chain.specs.declared.ask.Answer.{Answer}
+use Rattle.papaya_chain.specs.declared.ask.Answer.TheVariants as answers
 use Rattle.papaya_chain.specs.declared.machine.Machine.{Machine}
-use Rattle.papaya_chain.specs.Machine.{ask_of, asks_in}
-use Rattle.papaya_chain_rests.specs.Goes.{IsCause, IsToMake, WasNotMade, WouldBeTooLong}
-use Rattle.papaya_store.specs.Performs.{Refuses}
+use Rattle.papaya_chain.specs.Machine.{after, ask_of, asks_in, started}
+use Rattle.papaya_chain_rests.specs.Goes.{IsCause, IsToMake, WasNotMade, WouldBeTooLong, link_in}
+use Rattle.papaya_store.specs.Copies.{PerformsCopy}
+use Rattle.papaya_store.specs.Performs.{Exchanges, size_of}
 use Rattle.papaya_store.specs.Store.{StoreState}
-use Rattle.papaya_seq.specs.Map.{IsMakeRefusal}
+use Rattle.papaya_store.specs.Tables.{Tables, put, put_at, put_in, table_of, word_at}
+use Rattle.papaya_timeline.proofs.KeptTables.{HasMoreTables, grown-same, made-grown, table_at, written-grown}
+use Rattle.papaya_timeline.proofs.StoreLemmas.{matched}
+use Rattle.papaya_seq.specs.Map.{MapState}
 use Rattle.papaya_seq.specs.Removes.{IsRemovalAnswer}
+use Rattle.papaya_seq.proofs.Causes.{HasSlots, IsNoTableRefusal, link_asked, sized_as, table_long, table_refused}
+use Rattle.papaya_seq.proofs.Initial.{chain_initial}
 use Rattle.papaya_seq.proofs.SeekTurns.{IsAnswered}
+use Rattle.papaya_seq.proofs.Sizes.{is_sized, machine_sized, sized_is}
 
--- what was to be made was refused so
-make_refusal : (most count : ℕ) (told : Call_answer) (refused : Refused) → told ≡ Was_refused refused → Refuses most count told → IsMakeRefusal refused
-make_refusal most count told refused is (inl memory) = let f : refused ≡ Memory = cc (is, memory) in inl f
-make_refusal most count told refused is (inr (full, many)) = let f : refused ≡ Capacity = cc (is, full) in inr f
+-- each table is as long after a write as before it, also where none has the place
+put_at_grown : (w : Tables) (at : At) (n word : ℕ) → HasMoreTables w.tables (put_at at n w word).tables
+put_at_grown w at n word = by_table (table_of w.tables n) refl
+  where
+    missing : table_of w.tables n ≡ None → put_at at n w word ≡ w
+    missing none = by_number (n == 0) refl
+      where
+        by_number : (b : Bool) → (n == 0) ≡ b → put_at at n w word ≡ w
+        by_number true zero = ap (λ b. cond b w (record w { tables = put_in at (slice_get w.tables (n - 1)) w.tables (n - 1) word })) zero
+        by_number false some =
+            let lacks : slice_get w.tables (n - 1) ≡ None = sym (table_at w.tables n some) ∙ none in
+            ap (λ b. cond b w (record w { tables = put_in at (slice_get w.tables (n - 1)) w.tables (n - 1) word })) some
+            ∙ ap (λ o. record w { tables = put_in at o w.tables (n - 1) word }) lacks
 
-module _ {K V S F : Type 0} (eq : K → K → Bool) (hash : S → K → ℕ) (g : Mut F (Bor K × (Bor V × Unit {0})) Bool) (matches : K → Bool) (store : StoreState K V S) (m : Machine) (f : F) (answer : Answer) (store' : StoreState K V S) (f' : F) where
-  -- a removal makes nothing for itself
-  makes_nothing : (ask : Call_ask) → IsToMake ask → (told : Call_answer) → IsRemovalAnswer g matches ask store f told store' f' → ⊥
-  makes_nothing MakeKey makes told answered = answered
-  makes_nothing MakePair makes told answered = answered
-  makes_nothing (Make_own slots limit) makes told answered = answered
-  makes_nothing ask makes told answered = absurd makes
+    by_table : (o : Option TableWords) → table_of w.tables n ≡ o → HasMoreTables w.tables (put_at at n w word).tables
+    by_table None none = subst (λ (v : Tables). HasMoreTables w.tables v.tables) (sym (missing none)) (grown-same w.tables)
+    by_table (Some t) there = written-grown w at n word t there
 
-  -- so a next table was refused
-  pub cause_makes : (refused : Refused) → IsAnswered eq hash g matches (ask_of m) store f answer store' f' → IsCause m answer refused → IsMakeRefusal refused
-  cause_makes refused answered (inl by) =
-      let own : ask_of m ≡ asks.Call (calls.ask_of m.call) = ap (asks_in m.call) by.own.phase in
-      let (told, is, removes) = subst (λ (ask : Ask). IsAnswered eq hash g matches ask store f answer store' f') own answered in
-      ⊎_elim
-      (λ (makes : IsToMake (calls.ask_of m.call) × (by.own.told ≡ Was_refused refused)). absurd (makes_nothing (calls.ask_of m.call) makes.0 told removes))
-      (λ (shows : (refused ≡ RemoveNothing) × (ask_of m ≡ asks.Call ShowNone) × (by.own.told ≡ Op Remove)).
-      let (shown, e, none) = subst (λ (ask : Ask). IsAnswered eq hash g matches ask store f answer store' f') shows.1 answered in absurd none)
-      by.why
-  cause_makes refused answered (inr by) = ⊎_elim
-      (λ (unmade : WasNotMade m answer refused).
-      let ((told, is, makes), kept) = subst (λ (ask : Ask). IsAnswered eq hash g matches ask store f answer store' f') unmade.asks answered in
-      let same : told ≡ Was_refused refused = cc (is, unmade.is) in
-      ⊎_elim (λ none. make_refusal MAX_TABLES _ told refused same none.0) (λ made. let made_is = made.0 in let f : ⊥ = cc (same, made_is) in absurd f) makes)
-      (λ (long : WouldBeTooLong m answer refused). inr long.capacity)
-      by.why
+pub put_grown : (w : Tables) (at : At) (word : ℕ) → HasMoreTables w.tables (put w at word).tables
+put_grown w Root word = grown-same w.tables
+put_grown w (Next n) word = put_at_grown w (Next n) n word
+put_grown w (Aborted n) word = put_at_grown w (Aborted n) n word
+put_grown w (Done n) word = put_at_grown w (Done n) n word
+put_grown w (Slot n i) word = put_at_grown w (Slot n i) n word
+
+module _ {K V S : Type 0} where
+  grown_as : (s s' : StoreState K V S) (w : Tables) → s'.words ≡ w → HasMoreTables s.words.tables w.tables → HasMoreTables s.words.tables s'.words.tables
+  grown_as s s' w is grown = subst (λ (v : Tables). HasMoreTables s.words.tables v.tables) (sym is) grown
+
+  grown_stays : (s s' : StoreState K V S) → s' ≡ s → HasMoreTables s.words.tables s'.words.tables
+  grown_stays s s' same = grown_as s s' s.words (ap (λ (y : StoreState K V S). y.words) same) (grown-same s.words.tables)
+
+  grown_exchanged : (found old : ℕ) (at : At) (new : ℕ) (answer : Call_answer) (s s' : StoreState K V S) → Exchanges found old (put s.words at new) answer s s' → HasMoreTables s.words.tables s'.words.tables
+  grown_exchanged found old at new answer s s' made =
+      matched (HasMoreTables s.words.tables s'.words.tables) (found == old) _ _ made
+      (λ _ done. grown_as s s' (put s.words at new) (ap (λ (y : StoreState K V S). y.words) done.1) (put_grown s.words at new))
+      (λ _ lost. grown_stays s s' lost.1)
+
+  -- an answer to a copy leaves each table, with its slots
+  pub copy_grown : (eq : K → K → Bool) (hash : S → K → ℕ) (ask : CopyAsk) (s : StoreState K V S) (answer : Answer) (s' : StoreState K V S) → PerformsCopy eq hash false ask s answer s' → HasMoreTables s.words.tables s'.words.tables
+  copy_grown eq hash (copies.Load at) s answer s' (_, same) = grown_stays s s' same
+  copy_grown eq hash (copies.Exchange at old new) s answer s' (told, _, made) = grown_exchanged (word_at s.words at) old at new told s s' made
+  copy_grown eq hash (copies.SizeOf n) s answer s' (_, same) = grown_stays s s' same
+  copy_grown eq hash (copies.HashOf n) s answer s' (_, _, same) = grown_stays s s' same
+  copy_grown eq hash (copies.SamePair m n) s answer s' (_, same) = grown_stays s s' same
+  copy_grown eq hash copies.Count s answer s' (_, same) = grown_stays s s' same
+  copy_grown eq hash (copies.MakeTable slots limit) s answer s' (told, _, inl (_, same)) = grown_stays s s' same
+  copy_grown eq hash (copies.MakeTable slots limit) s answer s' (told, _, inr (_, _, is)) = grown_as s s' _ (ap (λ (y : StoreState K V S). y.words) is) (made-grown s.words _ slots limit)
+
+module _ {K V S F : Type 0} (eq : K → K → Bool) (hash : S → K → ℕ) (g : Mut F (Bor K × (Bor V × Unit {0})) Bool) (matches : K → Bool) where
+  call_grown : (ask : Call_ask) (s : StoreState K V S) (f : F) (answer : Call_answer) (s' : StoreState K V S) (f' : F) → IsRemovalAnswer g matches ask s f answer s' f' → HasMoreTables s.words.tables s'.words.tables
+  call_grown (Load at) s f answer s' f' (_, same, _) = grown_stays s s' same
+  call_grown (Exchange at old new) s f answer s' f' (made, _) = grown_exchanged (word_at s.words at) old at new answer s s' made
+  call_grown (SameKey n) s f answer s' f' (_, same, _) = grown_stays s s' same
+  call_grown (ShowPair n) s f answer s' f' (_, same) = grown_stays s s' same
+  call_grown (SizeOf t) s f answer s' f' (_, same, _) = grown_stays s s' same
+  call_grown (AddToShard by) s f answer s' f' (_, (number, is), _) = grown_as s s' s.words (ap (λ (y : StoreState K V S). y.words) is) (grown-same s.words.tables)
+  call_grown ask s f answer s' f' told = absurd told
+
+  answered_grown : (ask : Ask) (s : StoreState K V S) (f : F) (answer : Answer) (s' : StoreState K V S) (f' : F) → IsAnswered eq hash g matches ask s f answer s' f' → HasMoreTables s.words.tables s'.words.tables
+  answered_grown (asks.Call ask) s f answer s' f' (told, is, done) = call_grown ask s f told s' f' done
+  answered_grown (asks.Copy ask) s f answer s' f' (done, same) = copy_grown eq hash ask s answer s' done
+
+  module _ (map : MapState K V S) where
+    -- What holds between two answers: by which table the length of a next one is counted, and the initial capacity.
+    pub record IsCounting (s : StoreState K V S) (m : Machine) : Type 0 where
+      pub sized : (behind slots : ℕ) (unfit : Bool) → link_in m.phase ≡ Some (links.Counting behind unfit slots) → HasSlots s behind slots
+      pub initial : m.call.initial ≡ map.initial
+
+    -- as it begins
+    pub counting_begun : (hashed : ℕ) → IsCounting map.store (started RemoveIf hashed map.mode map.initial)
+    counting_begun hashed = record { sized = λ behind slots unfit e. absurd cc; initial = refl }
+
+    module _ (s : StoreState K V S) (f : F) (m : Machine) (answer : Answer) (s' : StoreState K V S) (f' : F) (answered : IsAnswered eq hash g matches (ask_of m) s f answer s' f') (now : IsCounting s m) where
+      -- what is answered where it asks this
+      answered_at : (ask : Ask) → ask_of m ≡ ask → IsAnswered eq hash g matches ask s f answer s' f'
+      answered_at ask e = subst (λ (a : Ask). IsAnswered eq hash g matches a s f answer s' f') e answered
+
+      -- a table that is there stays, with its slots
+      still_there : (behind slots : ℕ) → HasSlots s behind slots → HasSlots s' behind slots
+      still_there behind slots (t, there, is) = let more = answered_grown (ask_of m) s f answer s' f' answered behind t there in (more.0, more.1, more.2 ∙ is)
+
+      -- a table's size that was answered
+      told_size : (slots limit : ℕ) → answer ≡ answers.Call (Size slots limit) → (behind : ℕ) (unfit : Bool) → link_in m.phase ≡ Some (links.Sizing behind unfit) → HasSlots s' behind slots
+      told_size slots limit is behind unfit e =
+          let (told, same) = answered_at (asks.Copy (copies.SizeOf behind)) (link_asked m (links.Sizing behind unfit) e) in
+          let both : answers.Call (size_of (table_of s.words.tables behind)) ≡ answers.Call (Size slots limit) = sym told.0 ∙ is in
+          let size : size_of (table_of s.words.tables behind) ≡ Size slots limit = cc both in
+          still_there behind slots (sized_as (table_of s.words.tables behind) slots limit size)
+
+      -- so after an answer
+      pub counting_more : IsCounting s' (after m answer)
+      counting_more = record {
+        sized = is_sized (HasSlots s') (link_in (after m answer).phase)
+            (machine_sized (HasSlots s') m answer told_size (sized_is (HasSlots s') (link_in m.phase) (λ behind slots unfit e. still_there behind slots (now.sized behind slots unfit e))));
+        initial = chain_initial m answer ∙ now.initial;
+      }
+
+      module _ (refused : Refused) where
+        -- the map after it
+        abbrev then : MapState K V S
+        then = record map { store = s' }
+
+        -- a removal makes nothing for itself
+        makes_nothing : (ask : Call_ask) → IsToMake ask → (told : Call_answer) → IsRemovalAnswer g matches ask s f told s' f' → ⊥
+        makes_nothing MakeKey makes told removes = removes
+        makes_nothing MakePair makes told removes = removes
+        makes_nothing (Make_own slots limit) makes told removes = removes
+        makes_nothing ask makes told removes = absurd makes
+
+        -- a next table was not made
+        next_refused : WasNotMade m answer refused → IsNoTableRefusal then refused
+        next_refused because =
+            let ((told, is, made), same) = answered_at (asks.Copy (copies.MakeTable because.slots because.limit)) because.asks in
+            let both : answers.Call told ≡ answers.Call (Was_refused refused) = sym is ∙ because.is in
+            let as_told : told ≡ Was_refused refused = cc both in
+            table_refused map s s' refused because.slots because.limit told as_told made
+
+        -- or would be too long
+        next_long : WouldBeTooLong m answer refused → IsNoTableRefusal then refused
+        next_long because =
+            let ((is, stays), same) = answered_at (asks.Copy copies.Count) because.asks in
+            let both : answers.Count because.count ≡ answers.Count (count_of s.count.sum) = sym because.is ∙ is in
+            let counted : because.count ≡ count_of s.count.sum = cc both in
+            let at_count : 2 ^ 32 < length_after because.slots (count_of s.count.sum) m.call.initial because.unfit = subst (λ n. 2 ^ 32 < length_after because.slots n m.call.initial because.unfit) counted because.long in
+            let at_initial : 2 ^ 32 < length_after because.slots (count_of s.count.sum) map.initial because.unfit = subst (λ n. 2 ^ 32 < length_after because.slots (count_of s.count.sum) n because.unfit) now.initial at_count in
+            table_long map s s' refused because.capacity because.behind because.slots because.unfit (now.sized because.behind because.slots because.unfit because.link) at_initial stays
+
+        -- so a refusal is one of a next table
+        pub cause_table : IsCause m answer refused → IsNoTableRefusal then refused
+        cause_table (inl by) =
+            let (told, is, removes) = answered_at (asks.Call (calls.ask_of m.call)) (ap (asks_in m.call) by.own.phase) in
+            ⊎_elim
+            (λ (makes : IsToMake (calls.ask_of m.call) × (by.own.told ≡ Was_refused refused)). absurd (makes_nothing (calls.ask_of m.call) makes.0 told removes))
+            (λ (shows : (refused ≡ RemoveNothing) × (ask_of m ≡ asks.Call ShowNone) × (by.own.told ≡ Op Remove)).
+            let (shown, e, none) = answered_at (asks.Call ShowNone) shows.1 in absurd none)
+            by.why
+        cause_table (inr by) = ⊎_elim next_refused next_long by.why

@@ -21,11 +21,12 @@ use Rattle.papaya_store.specs.Tables.{word_at}
 use Rattle.papaya_alone.specs.Ahead.{IsPhaseRead}
 use Rattle.papaya_timeline.specs.Advances.{reply_in}
 use Rattle.papaya_timeline.proofs.KeptLemmas.{IsLawfulKeys}
-use Rattle.papaya_seq.specs.Map.{IsLawfulMap, IsMakeRefusal, MapState, next_of, slots_of}
+use Rattle.papaya_seq.specs.Map.{IsLawfulMap, MapState, next_of, slots_of}
 use Rattle.papaya_seq.proofs.Ending.{left_of}
 use Rattle.papaya_seq.proofs.Lawful.{IsMatched, MatchesNone, decided}
 use Rattle.papaya_chain_rests.specs.Goes.{IsCause}
-use Rattle.papaya_seq.proofs.RemovalRefused.{cause_makes}
+use Rattle.papaya_seq.proofs.Causes.{IsNoTableRefusal}
+use Rattle.papaya_seq.proofs.RemovalRefused.{IsCounting, cause_table, counting_begun, counting_more}
 use Rattle.papaya_seq.proofs.RemovalRoot.{IsInRoot, IsRootStage, in_root_begun, in_root_more}
 use Rattle.papaya_seq.proofs.RemovalRun.{IsKey, IsMatchedRun, ended_at, matched_begun, matched_caused, matched_fit, matched_more, matched_nears}
 use Rattle.papaya_seq.proofs.SeekLaw.{seek_caused, seek_core, seek_fit, seek_more, seek_nears}
@@ -77,7 +78,8 @@ module _ {K V S F : Type 0} (g : Mut F (Bor K × (Bor V × Unit {0})) Bool) (eq 
   pub record IsUnderWay (s : StoreState K V S) (f : F) (m : Machine) : Type 0 where
     pub log : IsLogOf map.store s
     pub way : (query : IsQuery) → HasMatch s f m ⊎ HasNoMatch s m
-    pub refusal : IsQuery → (refused : Refused) → reply_in (ask_of m) ≡ Some (Reply_refused refused) → IsMakeRefusal refused
+    pub counting : IsCounting eq hash g matches map s m
+    pub refusal : IsQuery → (refused : Refused) → reply_in (ask_of m) ≡ Some (Reply_refused refused) → IsNoTableRefusal (record map { store = s }) refused
 
   -- as it begins
   pub under_way : IsUnderWay map.store agrees (started RemoveIf hashed map.mode map.initial)
@@ -87,6 +89,7 @@ module _ {K V S F : Type 0} (g : Mut F (Bor K × (Bor V × Unit {0})) Bool) (eq 
         (λ (one : IsMatched map.store matches). inl (record { one = one; run = matched_begun g eq hash matches hashed map agrees one.pair.key (key_of query one) }))
         (λ (none : MatchesNone map.store matches). inr (record { none = none; seeking = seek_begin eq hash map hashed query.keys query.fits query.lawful; rooted = λ single. in_root_begun map.store hashed map.mode map.initial }))
         (decided map.store matches);
+    counting = counting_begun eq hash g matches map hashed;
     refusal = λ query refused e. absurd cc;
   }
 
@@ -125,7 +128,8 @@ module _ {K V S F : Type 0} (g : Mut F (Bor K × (Bor V × Unit {0})) Bool) (eq 
             rooted = λ single. rooted_more query lacks single;
           }))
           (now.way query);
-      refusal = λ query refused e. cause_makes eq hash g matches s m f answer s' f' refused told (caused query refused e);
+      counting = counting_more eq hash g matches map s f m answer s' f' told now.counting;
+      refusal = λ query refused e. cause_table eq hash g matches map s f m answer s' f' told now.counting refused (caused query refused e);
     }
 
     -- it is nearer its end

@@ -4,8 +4,8 @@ use Rattle.papaya_words.specs.declared.probe.Refused.{Refused}
 use Rattle.papaya_ask.specs.declared.call.Reply.TheVariants as replies
 use Rattle.papaya_store.specs.Store.{StoreState, Stored, pair_of}
 use Rattle.papaya_seq.specs.Answered.{entry_answered}
-use Rattle.papaya_seq.specs.Map.{HasNone, Holds, IsRemoved, KeepsRemoving, MapState, Removes, deref_pair, entry_of}
-use Rattle.papaya_seq.specs.Removes.{IsHeld, IsJudged, IsRemoval}
+use Rattle.papaya_seq.specs.Map.{HasNone, Holds, KeepsRemoving, MapState, Removes, deref_pair, entry_of}
+use Rattle.papaya_seq.specs.Removes.{IsHeld, IsJudged, IsRemoval, IsRemoved}
 
 module _ {K V S : Type 0} (eq : K → K → Bool) (matches : K → Bool) (said : Stored K V → Bool → Type 0) (s s' : MapState K V S) (n : ℕ) where
   -- what a map shows of a pair by its number

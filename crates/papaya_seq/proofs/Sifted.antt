@@ -34,10 +34,6 @@ pub err_only : {T E : Type 0} {P Q : E → Type 0} (done : Result T E) → IfErr
 err_only (Ok t) p f = tt
 err_only (Err e) p f = f e p
 
-pub err_never : {T E : Type 0} (P : E → Type 0) (done : Result T E) → IsOk done → IfErr done P
-err_never P (Ok t) ok = tt
-err_never P (Err e) ok = absurd cc
-
 module _ {K V A : Type 0} (eq : K → K → Bool) (classes : IsEquivalence eq) (says : Says K V A) where
   -- a key's pair is the one of before, or there is none
   abbrev Within : List (Stored K V) → List (Stored K V) → K → Type 0
@@ -72,8 +68,8 @@ module _ {K V A : Type 0} (eq : K → K → Bool) (classes : IsEquivalence eq) (
       subst (λ l. Within (p ∷ ps) l j) (sym is) (dropped p ps rest j alone (λ k. sifted_within later ps rest a' sifts apart k))
 
   -- so the map has some of its pairs left
-  pub sifted_left : {S : Type 0} (a : A) (s s' : StoreState K V S) (x : IsSifted eq says a s s') → AreApart eq (λ p. p.key) x.shown → IsWithin (map_in eq s) (map_in eq s')
-  sifted_left a s s' x apart j = ⊎_elim (λ is. inl (is ∙ x.pairs j)) (λ none. inr none) (sifted_within a x.shown (content eq s') x.later x.sifts apart j)
+  pub sifted_left : {S : Type 0} (a : A) (s s' : StoreState K V S) → IsSifted eq says a s s' → IsWithin (map_in eq s) (map_in eq s')
+  sifted_left a s s' x j = ⊎_elim (λ is. inl (is ∙ x.pairs j)) (λ none. inr none) (sifted_within a x.shown (content eq s') x.later x.sifts x.once j)
 
 -- a closure that asks these answers retains what they say
 module _ {F K V A : Type 0} (g : Mut F (Bor K × (Bor V × Unit {0})) Bool) (says : Says K V A) (answers_of : F → A) (asks : (f f' : F) (key : Bor K) (value : Bor V) (agrees : Bool) → Called g f (key, (value, tt)) agrees f' → says.yes (answers_of f) key.now value.now agrees (answers_of f')) where
@@ -87,3 +83,9 @@ module _ {F K V A : Type 0} (g : Mut F (Bor K × (Bor V × Unit {0})) Bool) (say
     sifts later ps rest f' retains,
     is,
   )
+
+-- where a closure agrees to no pair, none is left
+pub retains_none : {F K V : Type 0} (g : Mut F (Bor K × (Bor V × Unit {0})) Bool) → ((f f' : F) (key : Bor K) (value : Bor V) (agrees : Bool) → Called g f (key, (value, tt)) agrees f' → agrees ≡ false) → (f : F) (shown left : List (Stored K V)) (f' : F) → Retains g f shown left f' → left ≡ []
+retains_none g never f [] left f' (none, same) = none
+retains_none {F} {K} {V} g never f (p ∷ ps) left f' (agrees, later, rest, said, retains, is) =
+    is ∙ ap (λ b. cond b (p ∷ rest) rest) (never f later said.key said.value agrees said.called) ∙ retains_none g never later ps rest f' retains

@@ -9,7 +9,7 @@ use Rattle.papaya_ask.specs.declared.call.Call.{Call}
 use Rattle.papaya_ask.specs.declared.call.Call.TheVariants.{Get, Insert, TryInsert, RemoveIf, Compute, Reserve, CopyAll, Clear, Retain, Walk}
 use Rattle.papaya_ask.specs.declared.call.Reply.{Reply}
 use Rattle.papaya_ask.specs.declared.call.Reply.TheVariants.{Inserted, Replaced, Removed, Kept, Aborted, Done, Refused}
-use Rattle.papaya_law.specs.Content.{lookup}
+use Rattle.papaya_law.specs.Content.{AreApart, lookup}
 use Rattle.papaya_timeline.specs.Content.{content, map_in}
 use Rattle.papaya_timeline.specs.Solo.{IsAnswered, IsNewIn}
 use Rattle.papaya_store.specs.Store.{StoreState, Stored, pair_of}
@@ -57,21 +57,21 @@ IsSaid eq says (RemoveIf k a) s reply s' = IsJudged says a reply s.store
 IsSaid eq says (Compute k a) s reply s' = IsOperated says a s (map_in eq s.store k) s' reply
 IsSaid eq says _ s reply s' = Unit {0}
 
--- A lookup is never refused, an insertion for a cause, a removal only while pairs are being moved,
--- and a compute for a cause, or where its closure would remove what isn't there. Room is refused for
--- a cause, and the end of a resize for one while pairs are being moved, which a retain ends first. A
--- clear and a walk are never refused.
+-- A lookup and a walk are never refused, an insertion for a cause, and a compute for a cause, or where
+-- its closure would remove what isn't there. Room is refused for a cause, and the end of a resize for
+-- one while pairs are being moved: so is a removal then, and so are a clear and a retain, which end it
+-- first.
 abbrev pub MayRefuse : {K V S A : Type 0} → (K → K → Bool) → MapState K V S → Call K V A
     → words.Refused → MapState K V S → Type 0
 MayRefuse eq s (Get k) refused s' = ⊥
 MayRefuse eq s (Insert k v) refused s' = IsWriteCauseAt s (map_in eq s.store k) refused s'
 MayRefuse eq s (TryInsert k v) refused s' = IsTryCause s (map_in eq s.store k) refused s'
-MayRefuse eq s (RemoveIf k a) refused s' = IsResizing s
+MayRefuse eq s (RemoveIf k a) refused s' = IsCopyCause s refused s'
 MayRefuse eq s (Compute k a) refused s' = IsWriteCauseAt s (map_in eq s.store k) refused s'
     ⊎ (refused ≡ refusals.RemoveNothing)
 MayRefuse eq s (Reserve more) refused s' = IsReserveCause eq s more refused s'
 MayRefuse eq s CopyAll refused s' = IsCopyCause s refused s'
-MayRefuse eq s Clear refused s' = ⊥
+MayRefuse eq s Clear refused s' = IsCopyCause s refused s'
 MayRefuse eq s (Retain a) refused s' = IsCopyCause s refused s'
 MayRefuse eq s Walk refused s' = ⊥
 
@@ -89,6 +89,8 @@ pub record IsSifted {K V S A : Type 0} (eq : K → K → Bool) (says : Says K V 
   pub later : A
   pub sifts : Sifts says a shown (content eq s') later
   pub pairs : (k : K) → lookup eq (λ p. p.key) shown k ≡ map_in eq s k
+  -- each once
+  pub once : AreApart eq (λ p. p.key) shown
 
 -- What is so when a call is done: there is room, no pairs are being moved, the map is empty, it has
 -- the pairs that stay by its closure's answers, or it is the one of before. A call on a key has
@@ -102,12 +104,6 @@ IsDone eq says (Retain a) s s' = IsSifted eq says a s s'
 IsDone eq says Walk s s' = s' ≡ s
 IsDone eq says _ s s' = ⊥
 
--- a clear keeps the settings, and leaves no pair in the log; every other call keeps the log's pairs
-abbrev pub KeepsBy : {K V S A : Type 0} → Call K V A → MapState K V S → MapState K V S → Type 0
-KeepsBy Clear s s' = (s'.store.hasher ≡ s.store.hasher) × (s'.mode ≡ s.mode)
-    × (s'.initial ≡ s.initial)
-KeepsBy call s s' = Keeps s s'
-
 module _ {K V S A : Type 0} (eq : K → K → Bool) (says : Says K V A) where
   -- a call does what the finite map does, or is refused where it may be
   pub record IsCalled (s : MapState K V S) (call : Call K V A) (reply : Reply)
@@ -118,7 +114,7 @@ module _ {K V S A : Type 0} (eq : K → K → Bool) (says : Says K V A) where
     pub cause : (refused : words.Refused) → reply ≡ Refused refused
         → MayRefuse eq s call refused s'
     pub done : reply ≡ Done → IsDone eq says call s.store s'.store
-    pub keeps : KeepsBy call s s'
+    pub keeps : Keeps s s'
 
   -- one reply a call
   abbrev pub AreCalled : MapState K V S → List (Call K V A) → List Reply → MapState K V S → Type 0

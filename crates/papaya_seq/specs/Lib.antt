@@ -6,6 +6,7 @@ pub mod Computing
 pub mod Drives
 pub mod Ends
 pub mod Looks
+pub mod MadeAlone
 pub mod Map
 pub mod Removes
 pub mod Resizes

@@ -14,7 +14,8 @@ use Rattle.papaya_store.specs.Store.{StoreState, Stored, pair_of}
 use Rattle.papaya_store.specs.Tables.{put, table_of, word_at}
 use Rattle.papaya_words.specs.Counter.{added}
 use Rattle.papaya_seq.specs.Looks.{matches_in}
-use Rattle.papaya_seq.specs.Map.{HasNone, Holds, IsMakeRefusal, KeepsRemoving, MapState, Removes, Unchanged, entry_of}
+use Rattle.papaya_seq.specs.Map.{HasNone, Holds, KeepsRemoving, MapState, Removes, Unchanged, entry_of}
+use Rattle.papaya_seq.specs.Resizes.{IsCopyCause}
 
 -- the closure, as it is, may answer this of the pair that it is shown
 abbrev pub Judges : {F K V : Type 0} → Mut F (Bor K × (Bor V × Unit {0})) Bool → F → Stored K V
@@ -78,6 +79,17 @@ pub record IsRemovalBy {K V S : Type 0} (eq : K → K → Bool) (matches : K →
     (s' : StoreState K V S) : Type 0 where
   pub removal : IsRemoval eq matches said s reply s'
 
+-- What a removal answers: what it shows of the pair that went, or that there is none, or a refusal,
+-- which has the cause of a resize that could not be ended.
+abbrev pub IsRemoved : {K V S R : Type 0} → (K → K → Bool) → (K → Bool) → (Stored K V → R)
+    → MapState K V S → Result (Option R) words.Refused → MapState K V S → Type 0
+IsRemoved eq matches shows s (Ok None) s' = HasNone eq matches s.store
+    × Unchanged eq s.store s'.store × KeepsRemoving s s'
+IsRemoved {K = K} {V = V} eq matches shows s (Ok (Some shown)) s' = (p : Stored K V)
+    × (shows p ≡ shown) × Removes eq matches s.store p s'.store × KeepsRemoving s s'
+IsRemoved eq matches shows s (Err refused) s' = IsCopyCause s refused s'
+    × Unchanged eq s.store s'.store × KeepsRemoving s s'
+
 module _ {K V S : Type 0} (eq : K → K → Bool) (matches : K → Bool)
     (said : Stored K V → Bool → Type 0) where
   -- What a removal answers whose closure judges: the entry that it agreed to and that went, or that
@@ -91,5 +103,5 @@ module _ {K V S : Type 0} (eq : K → K → Bool) (matches : K → Bool)
       × Removes eq matches s.store p s'.store × said p true × KeepsRemoving s s'
   IsJudged s (Ok (Err entry)) s' = (p : Stored K V) × (entry_of p ≡ entry)
       × Holds eq matches s.store p × said p false × Unchanged eq s.store s'.store × KeepsRemoving s s'
-  IsJudged s (Err refused) s' = IsMakeRefusal refused × Unchanged eq s.store s'.store
+  IsJudged s (Err refused) s' = IsCopyCause s refused s' × Unchanged eq s.store s'.store
       × KeepsRemoving s s'

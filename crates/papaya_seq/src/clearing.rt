@@ -1,29 +1,28 @@
 //! The call that empties the map.
-ghost use Rattle.std.specs.Prelude.{◌≡◌, IsOk, []};
+ghost use Rattle.std.specs.Prelude.{◌≡◌, IfErr, IsOk, OnOk, []};
 ghost use Rattle.papaya_timeline.specs.Content.{content};
-ghost use Rattle.papaya_seq.specs.Map.{next_of, slots_of};
+ghost use Rattle.papaya_seq.specs.Map.{Keeps, KeepsSlots, Unchanged, next_of};
+ghost use Rattle.papaya_seq.specs.Resizes.{IsCopyCause};
 
 use crate::seq::HashMap;
 use papaya_words::probe::Refused;
 use std::hash::{BuildHasher, Hash};
 
 impl<K: Hash + Eq + Drop, V: Drop, S: BuildHasher> HashMap<K, V, S> {
-    /// Removes all pairs: `clear` of 0.2.5. It is never refused, also while pairs are being moved.
+    /// Removes all pairs: `clear` of 0.2.5. The root keeps its slots, and the log what it has: no number
+    /// of a pair is used again.
     ///
-    /// All tables go, and what the log has, also the pairs that were replaced or removed before.
-    /// The next change makes a first table, as in a new map that was made without one.
+    /// The resize that is under way is ended first. Refused as [`HashMap::copy_all`]; no pair was
+    /// removed then.
     pub fn clear(&mut self) -> Result<(), Refused>
-        ensures ok { IsOk result }
-        ensures empty { content K.eq self.new.store ≡ [] }
-        ensures slots { slots_of self.new.store ≡ 0 }
-        ensures still { next_of self.new.store ≡ 0 }
-        ensures logs { (self.new.store.keys ≡ []) × (self.new.store.pairs ≡ []) }
-        ensures hasher { self.new.store.hasher ≡ self.old.store.hasher }
-        ensures settings { (self.new.mode ≡ self.old.mode) × (self.new.initial ≡ self.old.initial) }
+        ensures ok { OnOk result (content K.eq self.new.store ≡ []) }
+        ensures last { OnOk result (next_of self.new.store ≡ 0) }
+        ensures err { IfErr result (λ e. IsCopyCause self.old e self.new
+            × Unchanged K.eq self.old.store self.new.store) }
+        ensures never { next_of self.old.store ≡ 0 → IsOk result }
+        ensures slots { KeepsSlots self.old self.new }
+        ensures keeps { Keeps self.old self.new }
     {
-        let count = self.store.count() as i64;
-        self.store.clear(self.alloc);
-        self.store.add_to_shard(0, -count);
-        Ok(())
+        self.retain(|_, _| false)
     }
 }

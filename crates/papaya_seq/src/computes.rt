@@ -2,12 +2,14 @@
 ghost use Rattle.std.specs.Prelude.{◌≡◌, Some, None, IfOk, IfErr, IsSome, MatchOption};
 ghost use Rattle.std.specs.Borrow.{sem};
 ghost use Rattle.std.specs.Fn.{FnReturnsAt};
+ghost use Rattle.papaya_keys.specs.Hashes.{hash_of};
 ghost use Rattle.papaya_timeline.specs.Content.{map_in};
 ghost use Rattle.papaya_store.specs.Store.{pair_of};
 ghost use Rattle.papaya_seq.specs.Answered.{IsParted, old_answered, value_answered};
 ghost use Rattle.papaya_seq.specs.Computes.{ComputesBy, HasValueOf, IsTriedWith, IsUpdated};
 ghost use Rattle.papaya_seq.specs.Computes.{IsUpdatedOrInserted, Says, Takes, compute_answered};
 ghost use Rattle.papaya_seq.specs.Computes.{tried_answered};
+ghost use Rattle.papaya_seq.specs.MadeAlone.{IsComputedAlone};
 ghost use Rattle.papaya_seq.specs.Map.{IsMakeRefusal, MapState, entry_of};
 
 use crate::seq::HashMap;
@@ -30,7 +32,11 @@ impl<K: Hash + Eq + Drop, V: Drop, S: BuildHasher> HashMap<K, V, S> {
         f: F,
     ) -> Result<Computed<u64, T>, Refused>
         requires { Takes (F.pre f) (map_in K.eq self.old.store key) }
-        ensures { ComputesBy K.eq key (λ p. p.number) (Says (F.post f)) self.old result self.new }
+        ensures computes { ComputesBy K.eq key (λ p. p.number) (Says (F.post f)) self.old result
+            self.new }
+        ensures alone { IsComputedAlone K.eq
+            (hash_of K.hash_input S.build_hasher S.Hasher.write S.Hasher.finish) self.old key result
+            self.new }
     {
         self.compute_by(key, f).1
     }
@@ -63,7 +69,10 @@ impl<K: Hash + Eq + Drop, V: Drop, S: BuildHasher> HashMap<K, V, S> {
         f: F,
     ) -> Result<Compute<'_, K, V, T>, Refused>
         requires { Takes (F.pre f) (map_in K.eq self.old.store key) }
-        ensures { (after : MapState _ _ _) × ComputesBy K.eq key entry_of (Says (F.post f)) self.old
+        ensures { (after : MapState _ _ _)
+            × ComputesBy K.eq key entry_of (Says (F.post f)) self.old (compute_answered result) after
+            × IsComputedAlone K.eq
+            (hash_of K.hash_input S.build_hasher S.Hasher.write S.Hasher.finish) self.old key
             (compute_answered result) after }
     {
         let mut aborted = None;
@@ -93,6 +102,9 @@ impl<K: Hash + Eq + Drop, V: Drop, S: BuildHasher> HashMap<K, V, S> {
             × IsParted answer (compute_answered result) aborted.old aborted.new)) }
         ensures parted { (answer : _) × (after : MapState _ _ _)
             × ComputesBy K.eq key entry_of (Says (F.post f)) self.old answer after
+            × IsComputedAlone K.eq
+            (hash_of K.hash_input S.build_hasher S.Hasher.write S.Hasher.finish) self.old key answer
+            after
             × IsParted answer (compute_answered result) aborted.old aborted.new }
     {
         let computed = self.compute_numbered(key, f)?;

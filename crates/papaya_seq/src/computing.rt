@@ -1,8 +1,10 @@
 //! Computes: their machine, answered by the store and by one call of a closure.
 ghost use Rattle.std.specs.Prelude.{◌≡◌, IfOk, Some, None, option_map};
+ghost use Rattle.papaya_keys.specs.Hashes.{hash_of};
 ghost use Rattle.papaya_timeline.specs.Content.{map_in};
 ghost use Rattle.papaya_seq.specs.Computes.{ComputesBy, Says, Takes};
 ghost use Rattle.papaya_seq.specs.Computing.{IsComputed, IsKept, Replies};
+ghost use Rattle.papaya_seq.specs.MadeAlone.{IsComputedAlone};
 
 use crate::seq::HashMap;
 use papaya_ask::ask::{Answer as CallAnswer, Ask as CallAsk, OpKind};
@@ -78,6 +80,9 @@ impl<K: Hash + Eq + Drop, V: Drop, S: BuildHasher> HashMap<K, V, S> {
             (map_in K.eq self.old.store key)) }
         ensures computes { ComputesBy K.eq key (λ p. p.number) (Says (F.post f)) self.old result.1
             self.new }
+        ensures alone { IsComputedAlone K.eq
+            (hash_of K.hash_input S.build_hasher S.Hasher.write S.Hasher.finish) self.old key
+            result.1 self.new }
     {
         let hash = self.store.hash(&key);
         let mut running: Running<K, V, Listed<V>> = Running {

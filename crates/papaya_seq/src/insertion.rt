@@ -1,8 +1,10 @@
 //! Insertions: at once where that will do, and else by their machine, answered by the store.
 ghost use Rattle.std.specs.Prelude.{◌≡◌, ℕ, false, Some, None};
 ghost use Rattle.papaya_words.specs.declared.probe.Refused.{Refused};
+ghost use Rattle.papaya_keys.specs.Hashes.{hash_of};
 ghost use Rattle.papaya_timeline.specs.Content.{map_in};
 ghost use Rattle.papaya_timeline.specs.Solo.{IsAnswered, IsNewIn};
+ghost use Rattle.papaya_seq.specs.MadeAlone.{IsMadeAlone};
 ghost use Rattle.papaya_seq.specs.Map.{IsTryCause, IsWriteCauseAt, Keeps, insertion};
 
 use crate::seq::HashMap;
@@ -37,6 +39,9 @@ impl<K: Hash + Eq + Drop, V: Drop, S: BuildHasher> HashMap<K, V, S> {
         ensures absent { replace ≡ false → (refused : Refused) → result.0 ≡ Reply.Refused refused
             → IsTryCause self.old (map_in K.eq self.old.store key) refused self.new }
         ensures left { (n : ℕ) → result.0 ≡ Reply.Occupied n → result.1 ≡ Some value }
+        ensures alone { IsMadeAlone K.eq
+            (hash_of K.hash_input S.build_hasher S.Hasher.write S.Hasher.finish) self.old
+            (insertion replace key value) result.0 self.new }
         ensures keeps { Keeps self.old self.new }
     {
         let hash = self.store.hash(&key);
@@ -57,6 +62,9 @@ impl<K: Hash + Eq + Drop, V: Drop, S: BuildHasher> HashMap<K, V, S> {
         ensures absent { replace ≡ false → (refused : Refused) → result.0 ≡ Reply.Refused refused
             → IsTryCause self.old (map_in K.eq self.old.store key) refused self.new }
         ensures left { (n : ℕ) → result.0 ≡ Reply.Occupied n → result.1 ≡ Some value }
+        ensures alone { IsMadeAlone K.eq
+            (hash_of K.hash_input S.build_hasher S.Hasher.write S.Hasher.finish) self.old
+            (insertion replace key value) result.0 self.new }
         ensures keeps { Keeps self.old self.new }
     {
         let hash = self.store.hash(&key);

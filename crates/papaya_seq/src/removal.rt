@@ -7,7 +7,8 @@ ghost use Rattle.papaya_store.specs.Tables.{table_of, word_at};
 ghost use Rattle.papaya_seq.specs.Buries.{IsBuried, IsRemovedAtOnce};
 ghost use Rattle.papaya_words.specs.declared.probe.Refused.{Refused};
 ghost use Rattle.papaya_store.specs.Store.{pair_of};
-ghost use Rattle.papaya_seq.specs.Map.{IsMakeRefusal, KeepsRemoving, next_of};
+ghost use Rattle.papaya_seq.specs.Map.{KeepsRemoving};
+ghost use Rattle.papaya_seq.specs.Resizes.{IsCopyCause};
 ghost use Rattle.papaya_seq.specs.Removes.{IsRemovalAnswer, IsRemovalAsk, IsRemovalBy, IsShown};
 ghost use Rattle.papaya_seq.specs.Removes.{Judges};
 
@@ -140,10 +141,8 @@ impl<K: Hash + Eq + Drop, V: Drop, S: BuildHasher> HashMap<K, V, S> {
         requires { F.IsAlwaysCallable agrees }
         ensures whole { IsRemovalBy K.eq (Q.matches key.now) (Judges F.FnMut agrees) self.old.store
             result self.new.store }
-        ensures never { next_of self.old.store ≡ 0 → (refused : Refused)
-            → result ≡ Reply.Refused refused → ⊥ }
-        ensures refusal { (refused : Refused) → result ≡ Reply.Refused refused
-            → IsMakeRefusal refused }
+        ensures cause { (refused : Refused) → result ≡ Reply.Refused refused
+            → IsCopyCause self.old refused self.new }
         ensures keeps { KeepsRemoving self.old self.new }
     {
         let hash = self.store.hash(key);
@@ -163,10 +162,8 @@ impl<K: Hash + Eq + Drop, V: Drop, S: BuildHasher> HashMap<K, V, S> {
         requires { F.IsAlwaysCallable agrees }
         ensures whole { IsRemovalBy K.eq (Q.matches key.now) (Judges F.FnMut agrees) self.old.store
             result self.new.store }
-        ensures never { next_of self.old.store ≡ 0 → (refused : Refused)
-            → result ≡ Reply.Refused refused → ⊥ }
-        ensures refusal { (refused : Refused) → result ≡ Reply.Refused refused
-            → IsMakeRefusal refused }
+        ensures cause { (refused : Refused) → result ≡ Reply.Refused refused
+            → IsCopyCause self.old refused self.new }
         ensures keeps { KeepsRemoving self.old self.new }
     {
         let hash = self.store.hash(key);

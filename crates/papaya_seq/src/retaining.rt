@@ -1,6 +1,6 @@
 //! The call that keeps the pairs which its closure agrees to.
 ghost use Rattle.std.specs.Prelude.{◌≡◌, ◌+◌, ◌<◌, IfErr, IsOk, OnOk};
-ghost use Rattle.papaya_seq.specs.Map.{Keeps, Unchanged, next_of, slots_of};
+ghost use Rattle.papaya_seq.specs.Map.{Keeps, KeepsSlots, Unchanged, next_of, slots_of};
 ghost use Rattle.papaya_seq.specs.Resizes.{IsCopyCause};
 ghost use Rattle.papaya_seq.specs.Retains.{IsRetained, IsRetaining};
 
@@ -42,14 +42,16 @@ impl<K: Hash + Eq + Drop, V: Drop, S: BuildHasher> HashMap<K, V, S> {
     /// Keeps the pairs which the closure, when it is shown each of them once, answers true for, and
     /// removes the others: `retain` of 0.2.5.
     ///
-    /// The resize that is under way is ended first. Refused as [`HashMap::copy_all`]; no pair was
-    /// shown or removed then.
+    /// The resize that is under way is ended first; then the root keeps its slots. Refused as
+    /// [`HashMap::copy_all`]; no pair was shown or removed then.
     pub fn retain<F: FnMut(&K, &V) -> bool>(&mut self, mut agrees: F) -> Result<(), Refused>
         requires { F.IsAlwaysCallable agrees }
         ensures ok { OnOk result (IsRetained F.FnMut K.eq agrees self.old.store self.new.store) }
         ensures err { IfErr result (λ e. IsCopyCause self.old e self.new
             × Unchanged K.eq self.old.store self.new.store) }
+        ensures last { OnOk result (next_of self.new.store ≡ 0) }
         ensures never { next_of self.old.store ≡ 0 → IsOk result }
+        ensures slots { KeepsSlots self.old self.new }
         ensures keeps { Keeps self.old self.new }
     {
         if self.resizing() {

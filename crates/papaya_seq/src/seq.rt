@@ -19,9 +19,10 @@ ghost use Rattle.papaya_seq.specs.Calls.{AreCalled, IsCalled};
 ghost use Rattle.papaya_seq.specs.Computes.{tried_answered};
 ghost use Rattle.papaya_seq.specs.Computing.{reply_of};
 ghost use Rattle.papaya_seq.specs.Looks.{LooksUp};
-ghost use Rattle.papaya_seq.specs.Removes.{IsJudged, Judges};
+ghost use Rattle.papaya_seq.specs.MadeAlone.{IsMadeAlone, IsRefusedAlone};
+ghost use Rattle.papaya_seq.specs.Removes.{IsJudged, IsRemoved, Judges};
 ghost use Rattle.papaya_seq.specs.Map.{HasNone, HasValue, Holds, IsInserted, IsMakeRefusal};
-ghost use Rattle.papaya_seq.specs.Map.{IsRemoved, IsResizing, IsTried, IsTriedInto, core_of};
+ghost use Rattle.papaya_seq.specs.Map.{IsResizing, IsTried, IsTriedInto, IsTryCause, core_of};
 ghost use Rattle.papaya_seq.specs.Map.{deref_pair, entry_of, next_of, slots_of, value_of};
 
 use papaya_ask::call::{Call, Reply};
@@ -73,7 +74,7 @@ fn resized(done: Result<(), Refused>) -> Reply
 /// borrows the map. Contracts see its words and logs, and by `map_in` the finite map that they
 /// mean.
 ///
-/// Pairs that were replaced or removed stay in the log, until the map is cleared or dropped.
+/// Pairs that were replaced or removed stay in the log, until the map is dropped.
 #[derive(Drop)]
 pub struct HashMap<K: Hash + Eq, V, S: BuildHasher = BuildHasherDefault<FoldHasher>> {
     pub(crate) alloc: Global,
@@ -339,7 +340,10 @@ impl<K: Hash + Eq + Drop, V: Drop, S: BuildHasher> HashMap<K, V, S> {
     /// It is [`HashMap::try_insert`] with a number in place of a reference. Refused as
     /// [`HashMap::insert`], and only where the key is absent, or while pairs are being moved.
     pub fn insert_absent(&mut self, key: K, value: V) -> Result<(u64, Option<V>), Refused>
-        ensures { IsTried K.eq key value self.old result self.new }
+        ensures tried { IsTried K.eq key value self.old result self.new }
+        ensures alone { IfErr result (λ refused. IsMadeAlone K.eq
+            (hash_of K.hash_input S.build_hasher S.Hasher.write S.Hasher.finish) self.old
+            (Call.TryInsert key value) (Reply.Refused refused) self.new) }
     {
         let (reply, left) = self.insert_by(key, value, false);
         match reply {
@@ -367,8 +371,10 @@ impl<K: Hash + Eq + Drop, V: Drop, S: BuildHasher> HashMap<K, V, S> {
         ensures occupied { IfOk result (λ tried. IfErr tried
             (λ v. (value_of (map_in K.eq self.old.store key) ≡ Some v.now)
             × (left.new ≡ Some value))) }
-        ensures err { IfErr result (λ refused. IsMakeRefusal refused
-            × ((map_in K.eq self.old.store key ≡ None) ⊎ IsResizing self.old)) }
+        ensures err { IfErr result (λ refused. IsRefusedAlone K.eq
+            (hash_of K.hash_input S.build_hasher S.Hasher.write S.Hasher.finish) self.old
+            (Call.TryInsert key value) refused
+            (IsTryCause self.old (map_in K.eq self.old.store key) refused)) }
     {
         let (pair, unstored) = self.insert_absent(key, value)?;
         match unstored {
@@ -396,8 +402,10 @@ impl<K: Hash + Eq + Drop, V: Drop, S: BuildHasher> HashMap<K, V, S> {
         ensures occupied { IfOk result (λ tried. IfErr tried
             (λ e. (value_of (map_in K.eq self.old.store key) ≡ Some e.current.now)
             × (e.not_inserted ≡ NotInserted.Value value))) }
-        ensures err { IfErr result (λ refused. IsMakeRefusal refused
-            × ((map_in K.eq self.old.store key ≡ None) ⊎ IsResizing self.old)) }
+        ensures err { IfErr result (λ refused. IsRefusedAlone K.eq
+            (hash_of K.hash_input S.build_hasher S.Hasher.write S.Hasher.finish) self.old
+            (Call.TryInsert key value) refused
+            (IsTryCause self.old (map_in K.eq self.old.store key) refused)) }
     {
         let mut left = None;
         match self.try_insert_into(key, value, &mut left)? {

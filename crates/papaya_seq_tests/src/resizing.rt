@@ -103,12 +103,23 @@ fn ends(rt: &impl Abort, map: &mut Numbers) {
     looks_so(rt, map, 9, 16, false);
 }
 
-/// A map is emptied, whatever it looks like, and takes pairs again.
+/// A map of sixteen slots is emptied. Its table stays, and so does its log.
 fn empties(rt: &impl Abort, map: &mut Numbers) {
     is(rt, map.clear(), Ok(()));
-    looks_so(rt, map, 0, 0, false);
+    looks_so(rt, map, 0, 16, false);
     has_below(rt, map, 0);
-    fills(rt, map, &[(9, 32, false)]);
+    is(rt, map.pair(0), Some((&0, &0)));
+}
+
+/// Nine slots of a map have had pairs, and nothing else: seven are left, and then none, so that the
+/// next pair asks for a further table, which is as long as the map was made for.
+fn fills_again(rt: &impl Abort, map: &mut Numbers) {
+    fills(rt, map, &[(7, 16, false)]);
+    empties(rt, map);
+    inserts(rt, map, 0, 0, Ok(None));
+    is(rt, map.copy_all(), Ok(()));
+    looks_so(rt, map, 1, 8, false);
+    has_below(rt, map, 1);
 }
 
 #[test]
@@ -118,7 +129,7 @@ fn emptied_maps_are_filled_again(rt: HostRuntime) -> Result<(), Fail> {
         fills(&rt, &mut map, &[(8, 8, false)]);
         inserts(&rt, &mut map, 8, 8, Ok(None));
         empties(&rt, &mut map);
-        empties(&rt, &mut map);
+        fills_again(&rt, &mut map);
     }
     Ok(())
 }

@@ -1,6 +1,6 @@
 use Rattle.std.proofs.Common.{Ok, ◌∙◌, ap, subst}
 use Rattle.papaya_seq.specs.Answered.{old_answered}
-use Rattle.papaya_seq.specs.Map.{IsRemoved}
+use Rattle.papaya_seq.specs.Removes.{IsRemoved}
 use Rattle.papaya_seq_tests.proofs.calls.removes.Goals as goal
 
 pub returns-in-Some : goal.returns-in-Some

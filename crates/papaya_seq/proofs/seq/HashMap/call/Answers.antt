@@ -11,9 +11,9 @@ use Rattle.papaya_seq.specs.Calls.{IsCalled, IsSifted}
 use Rattle.papaya_seq.specs.Map.{HasNone, Holds, IsLawfulMap, core_of, insertion}
 use Rattle.papaya_seq.specs.Looks.{IsFound}
 use Rattle.papaya_seq.proofs.Answered.{insert_answered, try_answered}
-use Rattle.papaya_seq.proofs.CallsDone.{copy_makes, get_absent, get_found, keyed_undone, remove_called, removes_something, reserve_makes, resized_called}
+use Rattle.papaya_seq.proofs.CallsDone.{copy_makes, get_absent, get_found, keyed_undone, remove_called, reserve_makes, resized_called}
 use Rattle.papaya_seq.proofs.ComputeCalled.{compute_called}
-use Rattle.papaya_seq.proofs.Sifted.{err_never, err_only, err_then, ok_then, on_err, on_ok, sifted_left, sifts}
+use Rattle.papaya_seq.proofs.Sifted.{err_only, err_then, ok_then, on_err, on_ok, sifted_left, sifts}
 use Rattle.papaya_seq.proofs.seq.HashMap.call.Goals as goal
 use Rattle.papaya_seq.proofs.seq.HashMap.call.Given.{Over}
 
@@ -67,7 +67,7 @@ returns-in-RemoveIf g c =
     let apart : AreApart g.K.PartialEq.eq (λ p. p.key) (content g.K.PartialEq.eq c.args.self.now.store) =
     lawful_apart g.K.PartialEq.eq g.K.Hash.hash_input g.S.BuildHasher.build_hasher g.S.Hasher.Hasher.write g.S.Hasher.Hasher.finish g.met.K.Eq.laws g.met.K.Hash.respects_eq (core_of c.args.self.now) lawful.lawful in
     subst (λ call. IsCalled g.K.PartialEq.eq (record { op = g.A.Answers.op_gives; yes = g.A.Answers.yes_gives }) c.args.self.now call c.remove_by.result c.remove_by.new.self) (sym c.in-RemoveIf.is)
-    (remove_called g.K.PartialEq.eq g.met.K.Eq.laws c.args.self.now apart c.in-RemoveIf.key c.in-RemoveIf.answers (record { op = g.A.Answers.op_gives; yes = g.A.Answers.yes_gives }) c.remove_by.result c.remove_by.new.self c.remove_by.ensures.whole c.remove_by.ensures.never (λ refused is. removes_something refused (c.remove_by.ensures.refusal refused is)) c.remove_by.ensures.keeps.0 (λ p agrees judges. (judges.2.0.now, subst (λ k. g.A.Answers.yes_gives c.in-RemoveIf.answers k p.value agrees judges.2.0.now) judges.3 (subst (λ v. g.A.Answers.yes_gives c.in-RemoveIf.answers judges.0.now v agrees judges.2.0.now) judges.4 (let met = judges.5.met in search rules)))))
+    (remove_called g.K.PartialEq.eq g.met.K.Eq.laws c.args.self.now apart c.in-RemoveIf.key c.in-RemoveIf.answers (record { op = g.A.Answers.op_gives; yes = g.A.Answers.yes_gives }) c.remove_by.result c.remove_by.new.self c.remove_by.ensures.whole c.remove_by.ensures.cause c.remove_by.ensures.keeps.0 (λ p agrees judges. (judges.2.0.now, subst (λ k. g.A.Answers.yes_gives c.in-RemoveIf.answers k p.value agrees judges.2.0.now) judges.3 (subst (λ v. g.A.Answers.yes_gives c.in-RemoveIf.answers judges.0.now v agrees judges.2.0.now) judges.4 (let met = judges.5.met in search rules)))))
 
 pub returns-in-Insert : goal.returns-in-Insert
 returns-in-Insert g c =
@@ -110,10 +110,11 @@ returns-in-CopyAll g c =
 
 pub returns-in-Clear : goal.returns-in-Clear
 returns-in-Clear g c =
-    let none : (j : g.row.K.Denot) → map_in g.K.PartialEq.eq c.clear.new.self.store j ≡ None = λ j. ap (λ (l : List (Stored g.row.K.Denot g.row.V.Denot)). lookup g.K.PartialEq.eq (λ p. p.key) l j) c.clear.ensures.empty in
     subst (λ call. IsCalled g.K.PartialEq.eq (record { op = g.A.Answers.op_gives; yes = g.A.Answers.yes_gives }) c.args.self.now call c.resized-in-Clear.result c.clear.new.self) (sym c.in-Clear.is)
-    (resized_called g.K.PartialEq.eq (record { op = g.A.Answers.op_gives; yes = g.A.Answers.yes_gives }) Clear refl c.args.self.now c.clear.new.self (c.clear.ensures.hasher, c.clear.ensures.settings.0, c.clear.ensures.settings.1) (λ reply. tt) (λ refused may. absurd may) c.clear.result c.resized-in-Clear.result c.resized-in-Clear.ensures
-    (on_ok c.clear.result c.clear.ensures.empty) (err_never _ c.clear.result c.clear.ensures.ok) (on_ok c.clear.result none) (err_never _ c.clear.result c.clear.ensures.ok))
+    (resized_called g.K.PartialEq.eq (record { op = g.A.Answers.op_gives; yes = g.A.Answers.yes_gives }) Clear refl c.args.self.now c.clear.new.self c.clear.ensures.keeps (λ reply. tt) (λ refused. copy_makes c.args.self.now refused c.clear.new.self) c.clear.result c.resized-in-Clear.result c.resized-in-Clear.ensures
+    c.clear.ensures.ok (err_only c.clear.result c.clear.ensures.err (λ e cause. cause.0))
+    (ok_then c.clear.result c.clear.ensures.ok (λ none j. ap (λ (l : List (Stored g.row.K.Denot g.row.V.Denot)). lookup g.K.PartialEq.eq (λ p. p.key) l j) none))
+    (err_then c.clear.result c.clear.ensures.err (λ e cause j. inl (cause.1 j))))
 
 pub returns-in-Retain : goal.returns-in-Retain
 returns-in-Retain g c =
@@ -124,11 +125,12 @@ returns-in-Retain g c =
       later = x.end.0.now;
       sifts = sifts _ says (λ f. f.0.now) (λ f f' key value agrees called. let met = called.met in search rules) _ x.shown (content g.K.PartialEq.eq c.retain.new.self.store) x.end x.retains;
       pairs = x.pairs;
+      once = x.once;
     }) in
     subst (λ call. IsCalled g.K.PartialEq.eq says c.args.self.now call c.resized-in-Retain.result c.retain.new.self) (sym c.in-Retain.is)
     (resized_called g.K.PartialEq.eq says (Retain c.in-Retain.answers) refl c.args.self.now c.retain.new.self c.retain.ensures.keeps (λ reply. tt) (λ refused. copy_makes c.args.self.now refused c.retain.new.self) c.retain.result c.resized-in-Retain.result c.resized-in-Retain.ensures
     sifted (err_only c.retain.result c.retain.ensures.err (λ e cause. cause.0))
-    (ok_then c.retain.result c.retain.ensures.ok (λ x. sifted_left g.K.PartialEq.eq g.met.K.Eq.laws says c.in-Retain.answers c.args.self.now.store c.retain.new.self.store (record { shown = x.shown; later = x.end.0.now; sifts = sifts _ says (λ f. f.0.now) (λ f f' key value agrees called. let met = called.met in search rules) _ x.shown (content g.K.PartialEq.eq c.retain.new.self.store) x.end x.retains; pairs = x.pairs }) x.once))
+    (ok_then c.retain.result sifted (sifted_left g.K.PartialEq.eq g.met.K.Eq.laws says c.in-Retain.answers c.args.self.now.store c.retain.new.self.store))
     (err_then c.retain.result c.retain.ensures.err (λ e cause. λ j. inl (cause.1 j))))
 
 pub returns : goal.returns

@@ -16,6 +16,7 @@ use Rattle.papaya_keys.specs.Hashes.{hash_of}
 use Rattle.papaya_timeline.specs.Advances.{reply_in}
 use Rattle.papaya_timeline.proofs.KeptCore.{keys_lawful}
 use Rattle.papaya_timeline.proofs.KeptSettings.{IsLawfulKeys}
+use Rattle.papaya_seq.specs.MadeAlone.{IsMadeAlone}
 use Rattle.papaya_seq.specs.Map.{IsLawfulMap, Keeps, MapState}
 use Rattle.papaya_seq.proofs.Alone.{map_answered, map_hasher, map_lawful, map_logged}
 use Rattle.papaya_seq.proofs.ComputeAsked.{closure_none, closure_pair, entry_are, none_are, none_went, pair_went}
@@ -23,6 +24,7 @@ use Rattle.papaya_seq.proofs.ComputeReply.{over_computes, over_replies, over_sho
 use Rattle.papaya_seq.proofs.ComputeRun.{IsComputing, Went, computing_begin, went_so}
 use Rattle.papaya_seq.proofs.ComputeShown.{asking, compute_of}
 use Rattle.papaya_seq.proofs.ComputeSteps.{computing_went, unreplied_ask}
+use Rattle.papaya_seq.proofs.ComputesDone.{told_refused}
 use Rattle.papaya_seq.proofs.Ending.{left_of}
 use Rattle.papaya_seq.proofs.Steps.{made_alone}
 use Rattle.papaya_seq.proofs.Turns.{IsOver}
@@ -196,6 +198,22 @@ returns-in-Call-Done-clause-shown g c =
     over_shown g.K.PartialEq.eq g.met.K.Eq.laws (hash g) c.args.self.now (left g done) (keeps g done (lawful g n) over) c.args.key (post g) c.args.f c.loop-self.running c.loop-self.closure c.loop-self.shown c.loop-self.aborted c.in-Call-Done.reply (replied g done) c.loop-self.invariant.0
     (map_answered g.K.PartialEq.eq g.K.Hash.hash_input g.S.BuildHasher.build_hasher g.S.Hasher.Hasher.write g.S.Hasher.Hasher.finish g.met.K.Eq.laws g.met.K.Hash.respects_eq c.args.self.now (compute_of c.args.key) c.in-Call-Done.reply c.loop-self.self-inside.store (lawful g n) over)
     c.computed.result c.computed.ensures
+
+-- which has the mode and the initial capacity of before
+left_is : (g : Over) (c : In-Call-Done g) → record c.args.self.now { store = c.loop-self.self-inside.store } ≡ left g c
+left_is g c =
+    ap (λ mode. record { store = c.loop-self.self-inside.store; mode = mode; initial = c.args.self.now.initial }) (sym c.loop-self.invariant.1)
+    ∙ ap (λ initial. record { store = c.loop-self.self-inside.store; mode = c.loop-self.self-inside.mode; initial = initial }) (sym c.loop-self.invariant.2)
+
+pub returns-in-Call-Done-clause-alone : goal.returns-in-Call-Done-clause-alone
+returns-in-Call-Done-clause-alone g c =
+    let n = (goal.at.returns-in-Call-Done-clause-alone g c).After-new in
+    let end = (goal.at.returns-in-Call-Done-clause-alone g c).In-Call-Done in
+    record {
+      reply = c.in-Call-Done.reply;
+      alone = subst (IsMadeAlone g.K.PartialEq.eq (hash g) c.args.self.now (compute_of c.args.key) c.in-Call-Done.reply) (left_is g end) (record { runs = (alone g end (lawful g n) (fits g n)).ran });
+      refused = told_refused c.in-Call-Done.reply c.loop-self.aborted c.computed.result c.computed.ensures;
+    }
 
 pub returns-in-Call-Done-clause-computes : goal.returns-in-Call-Done-clause-computes
 returns-in-Call-Done-clause-computes g c =

@@ -49,5 +49,8 @@ returns-in-Ok-clause-absent g c = (done g (goal.at.returns-in-Ok-clause-absent g
 pub returns-in-Ok-clause-left : goal.returns-in-Ok-clause-left
 returns-in-Ok-clause-left g c = (done g (goal.at.returns-in-Ok-clause-left g c).In-Ok).left_is
 
+pub returns-in-Ok-clause-alone : goal.returns-in-Ok-clause-alone
+returns-in-Ok-clause-alone g c = (done g (goal.at.returns-in-Ok-clause-alone g c).In-Ok).alone
+
 pub returns-in-Ok-clause-keeps : goal.returns-in-Ok-clause-keeps
 returns-in-Ok-clause-keeps g c = (done g (goal.at.returns-in-Ok-clause-keeps g c).In-Ok).keeps

@@ -12,6 +12,7 @@ use Rattle.papaya_keys.specs.Hashes.{hash_of}
 use Rattle.papaya_timeline.specs.Content.{map_in}
 use Rattle.papaya_timeline.proofs.KeptCore.{keys_lawful}
 use Rattle.papaya_timeline.proofs.KeptSettings.{IsLawfulKeys}
+use Rattle.papaya_seq.specs.MadeAlone.{IsMadeAlone}
 use Rattle.papaya_seq.specs.Map.{IsLawfulMap, IsTryCause, IsWriteCauseAt, MapState, insertion}
 use Rattle.papaya_seq.proofs.Alone.{map_answered, map_hasher, map_lawful, map_logged}
 use Rattle.papaya_seq.proofs.Ending.{left_of}
@@ -115,6 +116,12 @@ returns-in-Call-Done-clause-absent g c = λ only refused e.
 
 pub returns-in-Call-Done-clause-left : goal.returns-in-Call-Done-clause-left
 returns-in-Call-Done-clause-left g c = λ n e. c.value_left.ensures ∙ inserting_left g.K.PartialEq.eq (hash g) c.args.self.now c.args.replace c.args.key c.args.value (keys g c.args.self.now.store.hasher) (lawful g (goal.at.returns-in-Call-Done-clause-left g c).After-new) (fits g (goal.at.returns-in-Call-Done-clause-left g c).After-new) c.loop-reply.self-inside.store c.loop-reply.running c.in-Call-Done.reply (replied g (goal.at.returns-in-Call-Done-clause-left g c).After-value_left) c.loop-reply.invariant.0 n e
+
+pub returns-in-Call-Done-clause-alone : goal.returns-in-Call-Done-clause-alone
+returns-in-Call-Done-clause-alone g c =
+    let n = (goal.at.returns-in-Call-Done-clause-alone g c).After-new in
+    let end = (goal.at.returns-in-Call-Done-clause-alone g c).After-value_left in
+    subst (IsMadeAlone g.K.PartialEq.eq (hash g) c.args.self.now (insertion c.args.replace c.args.key c.args.value) c.in-Call-Done.reply) (left_is g end) (record { runs = (alone g end (lawful g n) (fits g n)).ran })
 
 pub returns-in-Call-Done-clause-keeps : goal.returns-in-Call-Done-clause-keeps
 returns-in-Call-Done-clause-keeps g c = record {

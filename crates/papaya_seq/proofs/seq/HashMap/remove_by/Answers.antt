@@ -39,11 +39,8 @@ invariant_of-self g c = (done g (goal.at.invariant_of-self g c).In-Some).orderly
 pub returns-in-Some-clause-whole : goal.returns-in-Some-clause-whole
 returns-in-Some-clause-whole g c = (done g (goal.at.returns-in-Some-clause-whole g c).In-Some).whole
 
-pub returns-in-Some-clause-never : goal.returns-in-Some-clause-never
-returns-in-Some-clause-never g c = (done g (goal.at.returns-in-Some-clause-never g c).In-Some).never
-
-pub returns-in-Some-clause-refusal : goal.returns-in-Some-clause-refusal
-returns-in-Some-clause-refusal g c = (done g (goal.at.returns-in-Some-clause-refusal g c).In-Some).refusal
+pub returns-in-Some-clause-cause : goal.returns-in-Some-clause-cause
+returns-in-Some-clause-cause g c = (done g (goal.at.returns-in-Some-clause-cause g c).In-Some).cause
 
 pub returns-in-Some-clause-keeps : goal.returns-in-Some-clause-keeps
 returns-in-Some-clause-keeps g c = (done g (goal.at.returns-in-Some-clause-keeps g c).In-Some).keeps

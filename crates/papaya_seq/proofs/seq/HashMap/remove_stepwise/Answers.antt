@@ -5,6 +5,7 @@ use Rattle.papaya_chain.specs.Machine.{IsFitAsk, ask_of}
 use Rattle.papaya_keys.specs.Hashes.{hash_of}
 use Rattle.papaya_timeline.proofs.KeptCore.{keys_lawful}
 use Rattle.papaya_seq.specs.Map.{IsLawfulMap, MapState}
+use Rattle.papaya_seq.specs.Resizes.{IsCopyCause}
 use Rattle.papaya_seq.proofs.Ending.{left_of}
 use Rattle.papaya_seq.proofs.RemovalDone.{RemovalDone, removal_finished}
 use Rattle.papaya_seq.proofs.RemovalWays.{IsQuery, IsUnderWay, asked_so, under_way, under_way_fit, under_way_more, under_way_nears}
@@ -132,11 +133,16 @@ invariant_of-self g c =
     subst (λ mode. IsLawfulMap g.K.PartialEq.eq (hashes g later.hasher) later mode c.loop-ask.self-inside.initial) (sym c.loop-ask.invariant.2)
     (subst (λ initial. IsLawfulMap g.K.PartialEq.eq (hashes g later.hasher) later c.args.self.now.mode initial) (sym c.loop-ask.invariant.3) (finished g at.After-drop-agrees (query g at.After-new-machine)).orderly)
 
-pub returns-in-Done-clause-never : goal.returns-in-Done-clause-never
-returns-in-Done-clause-never g c = let at = goal.at.returns-in-Done-clause-never g c in (finished g at.After-drop-agrees (query g at.After-new-machine)).never
+-- the map when the removal has ended
+left_is : (g : Over) (c : After-drop-agrees g) → record c.args.self.now { store = c.loop-ask.self-inside.store } ≡ record { store = c.loop-ask.self-inside.store; mode = c.loop-ask.self-inside.mode; initial = c.loop-ask.self-inside.initial }
+left_is g c =
+    ap (λ mode. record { store = c.loop-ask.self-inside.store; mode = mode; initial = c.args.self.now.initial }) (sym c.loop-ask.invariant.2)
+    ∙ ap (λ initial. record { store = c.loop-ask.self-inside.store; mode = c.loop-ask.self-inside.mode; initial = initial }) (sym c.loop-ask.invariant.3)
 
-pub returns-in-Done-clause-refusal : goal.returns-in-Done-clause-refusal
-returns-in-Done-clause-refusal g c = let at = goal.at.returns-in-Done-clause-refusal g c in (finished g at.After-drop-agrees (query g at.After-new-machine)).refusal
+pub returns-in-Done-clause-cause : goal.returns-in-Done-clause-cause
+returns-in-Done-clause-cause g c = λ refused is.
+    let at = goal.at.returns-in-Done-clause-cause g c in
+    subst (IsCopyCause c.args.self.now refused) (left_is g at.After-drop-agrees) ((finished g at.After-drop-agrees (query g at.After-new-machine)).cause refused is)
 
 pub returns-in-Done-clause-keeps : goal.returns-in-Done-clause-keeps
 returns-in-Done-clause-keeps g c =

@@ -1,0 +1,41 @@
+-- A call of a map for one caller, as a core makes it that has just this call.
+use Rattle.std.specs.Prelude.{◌≡◌, ℕ, Bool, None, [], ◌∷◌, Result, Err}
+use Rattle.papaya_words.specs.declared.probe.Refused as words
+use Rattle.papaya_ask.specs.declared.call.Call.{Call}
+use Rattle.papaya_ask.specs.declared.call.Call.TheVariants.{Compute}
+use Rattle.papaya_ask.specs.declared.call.Reply.{Reply}
+use Rattle.papaya_ask.specs.declared.call.Reply.TheVariants.{Refused}
+use Rattle.papaya_keys.specs.declared.compute.Computed.{Computed}
+use Rattle.papaya_timeline.specs.Core.{CoreState}
+use Rattle.papaya_timeline.specs.Solo.{RunsAlone}
+use Rattle.papaya_seq.specs.Map.{MapState, core_of}
+
+-- the map as a core whose one caller's call has ended
+abbrev pub core_after : {K V S A : Type 0} → MapState K V S → CoreState K V S A
+core_after s = record {
+  store = s.store;
+  callers = record { caller = 0; work = None } ∷ [];
+  mode = s.mode;
+  initial = s.initial;
+}
+
+module _ {K V S : Type 0} (eq : K → K → Bool) (hash : S → K → ℕ) where
+  -- the core's call, begun on the one map, has replied so and left the other
+  pub record IsMadeAlone (s : MapState K V S) (call : Call K V (Unit {0})) (reply : Reply)
+      (s' : MapState K V S) : Type 0 where
+    pub runs : RunsAlone eq hash (core_of s) call reply (core_after s')
+
+  -- The core's call is refused so, and of the map that it leaves `because` is so. This is for an
+  -- answer that owns a value and borrows the map, of which no clause says what the map is after it.
+  pub record IsRefusedAlone (s : MapState K V S) (call : Call K V (Unit {0}))
+      (refused : words.Refused) (because : MapState K V S → Type 0) : Type 0 where
+    pub left : MapState K V S
+    pub alone : IsMadeAlone s call (Refused refused) left
+    pub cause : because left
+
+  -- the core's compute leaves this map, and is refused where this one is, and so
+  pub record IsComputedAlone {R T : Type 0} (s : MapState K V S) (k : K)
+      (answer : Result (Computed R T) words.Refused) (s' : MapState K V S) : Type 0 where
+    pub reply : Reply
+    pub alone : IsMadeAlone s (Compute k tt) reply s'
+    pub refused : (refused : words.Refused) → answer ≡ Err refused → reply ≡ Refused refused
