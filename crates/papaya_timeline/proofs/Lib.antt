@@ -27,6 +27,7 @@ pub mod GoodVisitEnds
 pub mod GoodVisitFits
 pub mod StepVisits
 pub mod HeadlineLemmas
+pub mod Intents
 pub mod KeptAnswer
 pub mod KeptBegin
 pub mod KeptClosures
