@@ -44,18 +44,3 @@ pub mod VisitTables
 pub mod VisitOutcomes
 -- where the root has no next table
 pub mod VisitUndisturbed
--- a call that visits a table: which exchanges take a pair out of the map
-pub mod VisitTaken
--- what was done about each key's pair, slot by slot, and what is so at the end
-pub mod VisitSlots
-pub mod VisitEnds
--- what it rests on stays, what it asks, what each answer tells
-pub mod VisitStays
-pub mod VisitAsks
-pub mod VisitLearns
--- whatever tables come later
-pub mod VisitTables
--- what it did, and why it was refused
-pub mod VisitOutcomes
--- where the root has no next table
-pub mod VisitUndisturbed
