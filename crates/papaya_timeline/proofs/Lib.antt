@@ -28,6 +28,8 @@ pub mod GoodVisitFits
 pub mod StepVisits
 pub mod HeadlineLemmas
 pub mod Intents
+pub mod IntentSteps
+pub mod IntentVisits
 pub mod KeptAnswer
 pub mod KeptBegin
 pub mod KeptClosures

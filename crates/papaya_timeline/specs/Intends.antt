@@ -23,21 +23,26 @@ use Rattle.papaya_timeline.specs.Begins.{value_of_call}
 use Rattle.papaya_timeline.specs.Core.{CoreState, work_of}
 use Rattle.papaya_timeline.specs.Given.{GivesIn}
 
-module _ {K V S A : Type 0} (store : StoreState K V S) where
-  -- the pair of this number has the value
-  abbrev pub HasValue : ℕ → V → Type 0
-  HasValue n v = (p : Stored K V) × (pair_of store n ≡ Some p) × (p.value ≡ v)
+-- a visit is about to take out the pair of this number
+abbrev pub TakesOut : State → ℕ → Type 0
+TakesOut (Burying spot word) n = pair_in word ≡ n
+TakesOut _ n = ⊥
 
+-- the pair of this number has the value
+abbrev pub HasValue : {K V S : Type 0} → StoreState K V S → ℕ → V → Type 0
+HasValue {K = K} {V = V} store n v = (p : Stored K V) × (pair_of store n ≡ Some p) × (p.value ≡ v)
+
+module _ {K V S A : Type 0} (store : StoreState K V S) where
   -- An insertion would store the value that it was handed. That is at hand until a pair is made of
   -- it, and then is the pair's.
   abbrev pub WouldStore : Running K V A → V → Type 0
   WouldStore r v = (r.value ≡ Some v)
-      ⊎ ((n : ℕ) × (r.machine.call.made ≡ Pair n) × HasValue n v)
+      ⊎ ((n : ℕ) × (r.machine.call.made ≡ Pair n) × HasValue store n v)
 
   -- A compute would store the value that its closure answered when it was shown this.
   abbrev pub WouldStoreFor : Running K V A → Option ℕ → V → Type 0
   WouldStoreFor r shown v = (StandsOn r.machine.call (Inserts shown) × (r.value ≡ Some v))
-      ⊎ ((n : ℕ) × StandsOn r.machine.call (Makes shown n) × HasValue n v)
+      ⊎ ((n : ℕ) × StandsOn r.machine.call (Makes shown n) × HasValue store n v)
 
   abbrev pub IntendsAs : Task → Running K V A → Option ℕ → Operation V ℕ → Type 0
   IntendsAs (Insert replace) r shown (ops.Insert v) = WouldStore r v
@@ -45,11 +50,6 @@ module _ {K V S A : Type 0} (store : StoreState K V S) where
   IntendsAs Compute r shown (ops.Insert v) = WouldStoreFor r shown v
   IntendsAs Compute r (Some n) ops.Remove = StandsOn r.machine.call (Removes n)
   IntendsAs _ _ _ _ = ⊥
-
-  -- a visit is about to take out the pair of this number
-  abbrev pub TakesOut : State → ℕ → Type 0
-  TakesOut (Burying spot word) n = pair_in word ≡ n
-  TakesOut _ n = ⊥
 
   -- What is under way would do this where the class of its key has the pair `shown`, or none: store
   -- a value, or remove the pair. A retain would remove it from whatever class has it.
