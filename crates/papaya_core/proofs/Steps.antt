@@ -20,6 +20,7 @@ use Rattle.papaya_timeline.specs.Callers.{call_in, resizer_in, running, visiting
 use Rattle.papaya_timeline.specs.Core.{CoreState}
 use Rattle.papaya_timeline.specs.Counted.{IsCounted}
 use Rattle.papaya_timeline.specs.Kept.{IsKept, IsLawfulCore, coding_of, low, setting_of}
+use Rattle.papaya_timeline.specs.Intends.{KeepsIntents}
 use Rattle.papaya_timeline.specs.Moves.{MovesMap}
 use Rattle.papaya_timeline.specs.Resizes.{Resizes}
 use Rattle.papaya_timeline.specs.Runs.{Steps}
@@ -27,6 +28,7 @@ use Rattle.papaya_timeline.proofs.CallersLemmas.{same_item}
 use Rattle.papaya_timeline.proofs.CountedLemmas.{counted_step}
 use Rattle.papaya_timeline.proofs.CountedResized.{counted_resize}
 use Rattle.papaya_timeline.proofs.HeadlineLemmas.{advance-core, lawful_keeps, lawful_moves, lawful_resizes, resize-core}
+use Rattle.papaya_timeline.proofs.IntentSteps.{call_kept, resizer_kept, visitor_kept}
 use Rattle.papaya_timeline.proofs.KeptCore.{keys_lawful, lawful_caused, step_lawful}
 use Rattle.papaya_timeline.proofs.KeptResized.{left, resize_kept, stage_left}
 use Rattle.papaya_timeline.proofs.ResizerLaws.{resizer_refused}
@@ -64,6 +66,7 @@ module _ {K V S A H : Type 0} (eq : K → K → Bool) (input : K → List (List 
     pub lawful : IsLawfulCore eq (hashes s'.store.hasher) s'.store s'.callers s'.mode
     pub counted : IsCounted eq s'.store s'.callers
     pub moves : MovesMap eq s caller s' event
+    pub intents : KeepsIntents says s caller s' event
     pub keeps : KeepsPairs s.store s'.store
     pub shard : AddsToShard s caller s'
 
@@ -94,6 +97,7 @@ module _ {K V S A H : Type 0} (eq : K → K → Bool) (input : K → List (List 
           lawful = step_lawful eq input build write finish classes respects refuse s caller s' event reply x core' lawful;
           counted = counted_step eq (hashes s.store.hasher) law refuse s caller s' event reply x refl es tales lawful.core core' kept counted;
           moves = lawful_moves eq input build write finish classes respects says refuse s s' caller event reply lawful x;
+          intents = call_kept eq input build write finish classes respects says refuse s lawful caller s' event reply x;
           keeps = lawful_keeps eq input build write finish classes respects says refuse s s' caller event reply lawful x;
           shard = record {
             call = λ r by is asks. goes.shard by (ap (λ (o : Running K V A). ask_of o.machine) (same_item before r (sym runs ∙ is)) ∙ asks);
@@ -133,6 +137,7 @@ module _ {K V S A H : Type 0} (eq : K → K → Bool) (input : K → List (List 
           };
           counted = counted_resize eq (hashes s.store.hasher) law refuse s caller s' event reply x refl es tales lawful.core core' kept counted;
           moves = moved.0;
+          intents = resizer_kept eq input build write finish classes respects says refuse s lawful caller s' event reply x;
           keeps = moved.1;
           shard = record {
             call = λ r by is asks. let f : None ≡ Some r = sym (ap call_in was) ∙ is in absurd cc;
@@ -164,6 +169,7 @@ module _ {K V S A H : Type 0} (eq : K → K → Bool) (input : K → List (List 
           lawful = visit_lawful eq input build write finish classes respects says refuse s lawful caller s' event reply x;
           counted = visit_counted eq input build write finish classes respects says refuse s lawful caller s' event reply x counted;
           moves = visit_moved eq input build write finish classes respects says refuse s lawful caller s' event reply x;
+          intents = visitor_kept eq input build write finish classes respects says refuse s lawful caller s' event reply x;
           keeps = visit_keeps eq input build write finish classes respects says refuse s lawful caller s' event reply x;
           shard = record {
             call = λ r by is asks. let f : None ≡ Some r = sym (ap call_in was) ∙ is in absurd cc;

@@ -30,6 +30,7 @@ ghost use Rattle.papaya_timeline.specs.Counted.{IsCounted};
 ghost use Rattle.papaya_timeline.specs.Begins.{Begins, begun, begun_work, visitor_begun};
 ghost use Rattle.papaya_timeline.specs.Advances.{AddsToShard, event_of, reply_in};
 ghost use Rattle.papaya_timeline.specs.Headline.{HasTimeline};
+ghost use Rattle.papaya_timeline.specs.Intends.{IntendsHanded, KeepsIntents};
 ghost use Rattle.papaya_timeline.specs.Moves.{MovesMap};
 ghost use Rattle.papaya_timeline.specs.New.{IsNew};
 ghost use Rattle.papaya_keys.specs.Sizes.{IsSizeRefusal};
@@ -327,6 +328,8 @@ impl<K: Hash + Eq + Drop, V: Drop, S: BuildHasher, A: Answers<K, V> + Drop> Core
         ensures ok { OnOk result (Begins (hash_of K.hash_input S.build_hasher S.Hasher.write
             S.Hasher.finish self.old.store.hasher) self.old caller call self.new) }
         ensures err { IfErr result (λ e. (e ≡ Refused.Memory) × (self.new ≡ self.old)) }
+        ensures handed { OnOk result ((work : _) → work_of self.new caller ≡ Some work
+            → IntendsHanded self.new.store call work) }
         ensures counted { IsCounted K.eq self.new.store self.new.callers }
     {
         self.callers.seat(caller)?;
@@ -343,6 +346,8 @@ impl<K: Hash + Eq + Drop, V: Drop, S: BuildHasher, A: Answers<K, V> + Drop> Core
             caller self.new result.0 (as_reply result.1) }
         ensures walked { AnswersWalk (visiting self.old.callers caller) result.1 }
         ensures moves { MovesMap K.eq self.old caller self.new result.0 }
+        ensures intents { KeepsIntents (record { op = A.op_gives; yes = A.yes_gives }) self.old
+            caller self.new result.0 }
         ensures keeps { KeepsPairs self.old.store self.new.store }
         ensures shard { AddsToShard self.old caller self.new }
         ensures counted { IsCounted K.eq self.new.store self.new.callers }
@@ -362,6 +367,10 @@ impl<K: Hash + Eq + Drop, V: Drop, S: BuildHasher, A: Answers<K, V> + Drop> Core
     /// One step of a caller that is in a call, and what the call came to, where it ended by it. A
     /// walk that is done answers the numbers of the pairs that it gave.
     ///
+    /// A step changes the map only as the call under way intends: by the value that was handed in
+    /// with it, or as its closure answered when it was shown just what goes. The contracts of
+    /// `begin` and of each step say where intents come from.
+    ///
     /// With `refuse_memory` a step that would make a key, a pair or a table answers
     /// `Refused::Memory`, and any other step is an ordinary one.
     pub fn step(&mut self, caller: usize, refuse_memory: bool) -> Option<Outcome>
@@ -369,7 +378,9 @@ impl<K: Hash + Eq + Drop, V: Drop, S: BuildHasher, A: Answers<K, V> + Drop> Core
         ensures steps { (event : _) × Steps K.eq (record { op = A.op_gives; yes = A.yes_gives })
             (hash_of K.hash_input S.build_hasher S.Hasher.write S.Hasher.finish) refuse_memory
             self.old caller self.new event (as_reply result)
-            × MovesMap K.eq self.old caller self.new event }
+            × MovesMap K.eq self.old caller self.new event
+            × KeepsIntents (record { op = A.op_gives; yes = A.yes_gives }) self.old caller
+            self.new event }
         ensures walked { AnswersWalk (visiting self.old.callers caller) result }
         ensures keeps { KeepsPairs self.old.store self.new.store }
         ensures shard { AddsToShard self.old caller self.new }

@@ -4,6 +4,7 @@ use Rattle.papaya_words.specs.Word.{pair_of}
 use Rattle.papaya_call.specs.Answers.{Says}
 use Rattle.papaya_ask.specs.declared.ask.At.TheVariants.{Slot}
 use Rattle.papaya_ask.specs.declared.ask.Ask.TheVariants.{Exchange as Ask_exchange}
+use Rattle.papaya_ask.specs.declared.ask.StepKind.{StepKind}
 use Rattle.papaya_ask.specs.declared.ask.StepKind.TheVariants as kinds
 use Rattle.papaya_ask.specs.declared.call.Call.{Call}
 use Rattle.papaya_ask.specs.declared.call.Call.TheVariants.{Insert, TryInsert, RemoveIf, Compute}
@@ -20,8 +21,10 @@ use Rattle.papaya_call.specs.Machine.{HasClosure, IsChanger, MayInsert}
 use Rattle.papaya_call.specs.Machine as calls
 use Rattle.papaya_chain.specs.Machine.{after, ask_of, follows_of, kind_of_ask}
 use Rattle.papaya_rests.specs.Rests.{change_in, change_of_reply}
+use Rattle.papaya_rests.specs.Says.{IsSaidChange}
 use Rattle.papaya_chain_rests.specs.Goes.{IsInOrder, change_by as changed_by}
 use Rattle.papaya_chain_rests.specs.Told.{IsTold}
+use Rattle.papaya_chain_rests.proofs.Goes.{machine_goes}
 use Rattle.papaya_chain_rests.proofs.Order.{in_order}
 use Rattle.papaya_chain_rests.proofs.Replies.{chain_changes}
 use Rattle.papaya_law.specs.Code.{IsHashed}
@@ -34,12 +37,15 @@ use Rattle.papaya_timeline.specs.Core.{CoreState, IsCore}
 use Rattle.papaya_timeline.specs.Kept.{IsKept, Tale, setting_of, coding_of, low, told_tales}
 use Rattle.papaya_timeline.specs.Content.{map_of}
 use Rattle.papaya_timeline.specs.Maps.{IsUpdateBy, Map, Does, IsUpdate, Same, key_of}
+use Rattle.papaya_timeline.specs.Intends.{Intends}
+use Rattle.papaya_timeline.specs.declared.seat.Work.TheVariants as works
 use Rattle.papaya_timeline.specs.Moves.{IsOwnChange, MovesMap}
 use Rattle.papaya_store.specs.Store.{Stored, pair_of as pair_numbered}
 use Rattle.papaya_timeline.specs.Runs.{History}
-use Rattle.papaya_timeline.specs.Timeline.{Answered, IsFresh, IsLegal, change_by, number_in}
-use Rattle.papaya_timeline.proofs.ChainLemmas.{chain_changer, chain_inserts, chain_once}
+use Rattle.papaya_timeline.specs.Timeline.{Answered, IsFresh, IsLegal, change_by, number_in, operation_for}
+use Rattle.papaya_timeline.proofs.ChainLemmas.{chain_changed, chain_changer, chain_inserts, chain_once}
 use Rattle.papaya_timeline.proofs.Good.{replay}
+use Rattle.papaya_timeline.proofs.Intents.{change_intended, insertion_made}
 use Rattle.papaya_timeline.proofs.KeptLemmas.{IsLawfulKeys, IsStep, hashed_setting, map_kept}
 use Rattle.papaya_timeline.proofs.LegalLemmas.{MayPut, MayReplace, MayTell, Moves, insertion_does, moved_legal, removal_does, step_moves}
 use Rattle.papaya_timeline.proofs.MachineLemmas.{machine_takes}
@@ -126,10 +132,41 @@ module _ {K V S A : Type 0} (eq : K → K → Bool) (hash : K → ℕ) (law : Is
       tt,
     )
 
+    -- the answer was for the call itself, or the call was set aside
+    pub order : IsInOrder m x.answer m.phase
+    order = in_order g coding (tales c).begun (tales c).since k m (tales c).hands now x.answer step.made step.hands step.call.rests step.told
+
+    -- what the machine made of the answer, it changed
+    pub changed : change_in (after m x.answer).call.state ≡ changed_by (kind_of_ask m) (ask_of m) x.answer (change_in m.call.state)
+    changed = chain_changes g coding k now m (tales c).hands x.answer step.made step.hands order step.told hashed step.call.rests.call.hash
+
+    -- a change is what the call intends
+    intended : (kind : StepKind) (old new : Option ℕ) → event_of (kind_of_ask m) (ask_of m) x.answer ≡ Changed kind old new → (went came : Option (Stored K V)) → number_in came ≡ new → MayPut k m.call.task (tales c).hands.call.made went came → Intends s.store (works.Call x.before) old (operation_for came)
+    intended kind old new is went came came_is may =
+        let stands = core.standing c x.before x.was in
+        let goes = machine_goes m x.answer order in
+        let (at, from, to, asking) = subst (λ e. Tells e (ask_of m) x.answer) is (event_tells m x.answer) in
+        let change : change_in (after m x.answer).call.state ≡ Some (old, new) = changed ∙ sym (event_change (change_in m.call.state) (kind_of_ask m) (ask_of m) x.answer (copy_kind m) (chain_once m)) ∙ ap (λ y. change_by y (change_in m.call.state)) is in
+        change_intended s.store x.before old came (logged went came may)
+        (λ q some replace task.
+        let number : new ≡ Some q.number = sym came_is ∙ ap number_in some in
+        insertion_made m x.answer goes stands kind old q.number (is ∙ ap (Changed kind old) number) (change ∙ ap (λ n. Some (old, n)) number) replace task)
+        (λ none. closure went came may none)
+        (subst (λ n. IsSaidChange m.call.task m.call old n) (sym came_is) (chain_changed m x.answer goes stands at from to asking old new change))
+      where
+        logged : (went came : Option (Stored K V)) → MayPut k m.call.task (tales c).hands.call.made went came → (q : Stored K V) → came ≡ Some q → pair_numbered s.store q.number ≡ Some q
+        logged went None may q is = let f : None ≡ Some q = is in absurd cc
+        logged went (Some p) (made, own, replaces) q is = let same : p ≡ q = cc in subst (λ (y : Stored K V). pair_numbered s.store y.number ≡ Some y) same (step.call.made p made)
+
+        closure : (went came : Option (Stored K V)) → MayPut k m.call.task (tales c).hands.call.made went came → came ≡ None → HasClosure m.call.task
+        closure went (Some q) may is = let f : Some q ≡ None = is in absurd cc
+        closure (Some p) None may is = may
+        closure None None may is = absurd may
+
     -- A change is one that a call of this key and of the machine's kind makes: an insertion of the pair that comes, or a removal.
-    made_by : (call : Call K V A) → key_of call ≡ Some k → task_of_call call ≡ Some m.call.task → (old new : Option ℕ) → IsChanger m.call.task → change_in m.call.state ≡ None → (went came : Option (Stored K V)) → IsUpdate eq k went came (replay eq es) (replay eq (es ++ step.made)) → number_in went ≡ old → number_in came ≡ new → MayPut k m.call.task (tales c).hands.call.made went came
+    made_by : (call : Call K V A) → key_of call ≡ Some k → task_of_call call ≡ Some m.call.task → (old new : Option ℕ) → IsChanger m.call.task → change_in m.call.state ≡ None → (went came : Option (Stored K V)) → IsUpdate eq k went came (replay eq es) (replay eq (es ++ step.made)) → number_in went ≡ old → number_in came ≡ new → MayPut k m.call.task (tales c).hands.call.made went came → Intends s.store (works.Call x.before) old (operation_for came)
         → (reply : Reply) × Does call went reply came × (change_of_reply reply ≡ Some (number_in went, number_in came)) → IsOwnChange eq s c s' old new
-    made_by call key task old new changes none went came update went_is came_is may (reply, does, tells) = record {
+    made_by call key task old new changes none went came update went_is came_is may intends (reply, does, tells) = record {
       running_call = x.before;
       is_running = x.was;
       changes = changes;
@@ -145,37 +182,38 @@ module _ {K V S A : Type 0} (eq : K → K → Bool) (hash : K → ℕ) (law : Is
       reply = reply;
       does = does;
       tells = tells ∙ ap (λ o. Some (o, number_in came)) went_is ∙ ap (λ o. Some (old, o)) came_is;
+      intended = intends;
     }
 
-    own_change : (task : Task) → m.call.task ≡ task → (old new : Option ℕ) → IsChanger m.call.task → ((n : ℕ) → new ≡ Some n → MayInsert task) → change_in m.call.state ≡ None → (went came : Option (Stored K V)) → IsUpdate eq k went came (replay eq es) (replay eq (es ++ step.made)) → number_in went ≡ old → number_in came ≡ new → MayPut k m.call.task (tales c).hands.call.made went came → IsOwnChange eq s c s' old new
-    own_change (tasks.Insert true) is old new changes inserts none went (Some q) update went_is came_is (made, own, replaces) =
-        made_by (Insert k q.value) refl (ap (λ t. Some t) (sym is)) old new changes none went (Some q) update went_is came_is (made, own, replaces)
+    own_change : (task : Task) → m.call.task ≡ task → (old new : Option ℕ) → IsChanger m.call.task → ((n : ℕ) → new ≡ Some n → MayInsert task) → change_in m.call.state ≡ None → (went came : Option (Stored K V)) → IsUpdate eq k went came (replay eq es) (replay eq (es ++ step.made)) → number_in went ≡ old → number_in came ≡ new → MayPut k m.call.task (tales c).hands.call.made went came → Intends s.store (works.Call x.before) old (operation_for came) → IsOwnChange eq s c s' old new
+    own_change (tasks.Insert true) is old new changes inserts none went (Some q) update went_is came_is (made, own, replaces) intends =
+        made_by (Insert k q.value) refl (ap (λ t. Some t) (sym is)) old new changes none went (Some q) update went_is came_is (made, own, replaces) intends
         (insertion_does {A = A} (Insert k q.value) k went q refl own refl (subst (MayReplace went) is replaces))
-    own_change (tasks.Insert false) is old new changes inserts none went (Some q) update went_is came_is (made, own, replaces) =
-        made_by (TryInsert k q.value) refl (ap (λ t. Some t) (sym is)) old new changes none went (Some q) update went_is came_is (made, own, replaces)
+    own_change (tasks.Insert false) is old new changes inserts none went (Some q) update went_is came_is (made, own, replaces) intends =
+        made_by (TryInsert k q.value) refl (ap (λ t. Some t) (sym is)) old new changes none went (Some q) update went_is came_is (made, own, replaces) intends
         (insertion_does {A = A} (TryInsert k q.value) k went q refl own refl (subst (MayReplace went) is replaces))
-    own_change tasks.Compute is old new changes inserts none went (Some q) update went_is came_is (made, own, replaces) =
+    own_change tasks.Compute is old new changes inserts none went (Some q) update went_is came_is (made, own, replaces) intends =
         let call : Call K V A = Compute k (step.call.answers (subst HasClosure (sym is) tt)).0 in
-        made_by call refl (ap (λ t. Some t) (sym is)) old new changes none went (Some q) update went_is came_is (made, own, replaces)
+        made_by call refl (ap (λ t. Some t) (sym is)) old new changes none went (Some q) update went_is came_is (made, own, replaces) intends
         (insertion_does call k went q refl own tt (subst (MayReplace went) is replaces))
-    own_change tasks.Get is old new changes inserts none went (Some q) update went_is came_is may = absurd (inserts q.number (sym came_is))
-    own_change tasks.RemoveIf is old new changes inserts none went (Some q) update went_is came_is may = absurd (inserts q.number (sym came_is))
-    own_change tasks.RemoveIf is old new changes inserts none (Some p) None update went_is came_is closure =
+    own_change tasks.Get is old new changes inserts none went (Some q) update went_is came_is may intends = absurd (inserts q.number (sym came_is))
+    own_change tasks.RemoveIf is old new changes inserts none went (Some q) update went_is came_is may intends = absurd (inserts q.number (sym came_is))
+    own_change tasks.RemoveIf is old new changes inserts none (Some p) None update went_is came_is closure intends =
         let call : Call K V A = RemoveIf k (step.call.answers closure).0 in
-        made_by call refl (ap (λ t. Some t) (sym is)) old new changes none (Some p) None update went_is came_is closure (removal_does call p tt)
-    own_change tasks.Compute is old new changes inserts none (Some p) None update went_is came_is closure =
+        made_by call refl (ap (λ t. Some t) (sym is)) old new changes none (Some p) None update went_is came_is closure intends (removal_does call p tt)
+    own_change tasks.Compute is old new changes inserts none (Some p) None update went_is came_is closure intends =
         let call : Call K V A = Compute k (step.call.answers closure).0 in
-        made_by call refl (ap (λ t. Some t) (sym is)) old new changes none (Some p) None update went_is came_is closure (removal_does call p tt)
-    own_change tasks.Get is old new changes inserts none (Some p) None update went_is came_is closure = absurd (subst HasClosure is closure)
-    own_change (tasks.Insert replace) is old new changes inserts none (Some p) None update went_is came_is closure = absurd (subst HasClosure is closure)
-    own_change task is old new changes inserts none None None update went_is came_is may = absurd may
+        made_by call refl (ap (λ t. Some t) (sym is)) old new changes none (Some p) None update went_is came_is closure intends (removal_does call p tt)
+    own_change tasks.Get is old new changes inserts none (Some p) None update went_is came_is closure intends = absurd (subst HasClosure is closure)
+    own_change (tasks.Insert replace) is old new changes inserts none (Some p) None update went_is came_is closure intends = absurd (subst HasClosure is closure)
+    own_change task is old new changes inserts none None None update went_is came_is may intends = absurd may
 
     -- so a step moves the core's map
     moves_core : (e : Event) → e ≡ event_of (kind_of_ask m) (ask_of m) x.answer → Moves eq k m.call.task (tales c).hands.call.made (replay eq es) (replay eq (es ++ step.made)) e → MovesMap eq s c s' e
     moves_core (Changed kind old new) is moved =
         let stands = core.standing c x.before x.was in
         let (at, from, to, asks) = subst (λ e. Tells e (ask_of m) x.answer) (sym is) (event_tells m x.answer) in
-        inl (own_change m.call.task refl old new (chain_changer m stands kind old new x.answer (sym is)) (λ n some. chain_inserts m stands kind old n x.answer (sym is ∙ ap (Changed kind old) some)) (chain_once m at from to asks) moved.went moved.came moved.update moved.went_is moved.came_is moved.may)
+        inl (own_change m.call.task refl old new (chain_changer m stands kind old new x.answer (sym is)) (λ n some. chain_inserts m stands kind old n x.answer (sym is ∙ ap (Changed kind old) some)) (chain_once m at from to asks) moved.went moved.came moved.update moved.went_is moved.came_is moved.may (intended kind old new (sym is) moved.went moved.came moved.came_is moved.may))
     moves_core Begun is moved = same_map moved
     moves_core (Moved kind) is moved = same_map moved
     moves_core (Asked n agrees) is moved = same_map moved
@@ -186,14 +224,6 @@ module _ {K V S A : Type 0} (eq : K → K → Bool) (hash : K → ℕ) (law : Is
 
     pub advance_moves : MovesMap eq s c s' event
     advance_moves = moves_core event x.event_is moved
-
-    -- the answer was for the call itself, or the call was set aside
-    pub order : IsInOrder m x.answer m.phase
-    order = in_order g coding (tales c).begun (tales c).since k m (tales c).hands now x.answer step.made step.hands step.call.rests step.told
-
-    -- what the machine made of the answer, it changed
-    pub changed : change_in (after m x.answer).call.state ≡ changed_by (kind_of_ask m) (ask_of m) x.answer (change_in m.call.state)
-    changed = chain_changes g coding k now m (tales c).hands x.answer step.made step.hands order step.told hashed step.call.rests.call.hash
 
     -- an event that tells no change leaves the map
     stays : (e : Event) → change_by e (change_in m.call.state) ≡ None → MovesMap eq s c s' e → Same (map_of eq s) (map_of eq s')

@@ -76,7 +76,7 @@ aside : (m : Machine) (t : ℕ) → left_by m.call.state ≡ Some t → (ask : C
 aside m t left ask e = sym e ∙ aside_asks m.call.made m.call.hash m.call.state t left
 
 -- so one that asks for an exchange goes on by its answer
-own_exchange : (m : Machine) (answer : Answer) → Goes m answer → (at : At) (old new : ℕ) → calls.ask_of m.call ≡ Ask_exchange at old new → IsOwnStep m answer
+pub own_exchange : (m : Machine) (answer : Answer) → Goes m answer → (at : At) (old new : ℕ) → calls.ask_of m.call ≡ Ask_exchange at old new → IsOwnStep m answer
 own_exchange m answer (inl waits) at old new e = absurd (cc (aside m waits.from waits.left (Ask_exchange at old new) e))
 own_exchange m answer (inr (inl own)) at old new e = own
 own_exchange m answer (inr (inr (inl enters))) at old new e = absurd (cc (aside m enters.from enters.left (Ask_exchange at old new) e))

@@ -26,6 +26,7 @@ use Rattle.papaya_timeline.specs.VisitGoes.{Visits, event_of_visit, reply_or, un
 use Rattle.papaya_timeline.specs.Visits.{IsCountedBeside, MovesByVisit}
 use Rattle.papaya_timeline.proofs.CallersLemmas.{same_item, visitor-under_way}
 use Rattle.papaya_timeline.proofs.CountedSeats.{owed-with_work}
+use Rattle.papaya_timeline.proofs.IntentVisits.{takes_told}
 use Rattle.papaya_timeline.proofs.KeptSettings.{IsLawfulKeys}
 use Rattle.papaya_timeline.proofs.KeptVisited as visited
 use Rattle.papaya_timeline.proofs.VisitLaw.{counted, tells}
@@ -157,8 +158,8 @@ module _ {K V S A : Type 0} (eq : K → K → Bool) (hash : K → ℕ) (law : Is
       x.event_is ∙ ap (λ y. event_of_visit (kind_of_ask x.before.visitor) y x.answer) (sym (same_item gave x.ask (ap asks_in (sym u.giving.2) ∙ x.asked)))
       ∙ ap (event_of_visit (kind_of_ask x.before.visitor) gave) u.refused
 
-  by_event : (e : Event) → MovesByVisit eq s.store s'.store x.before.visitor.visit (tales caller).visit.shown e → MovesMap eq s caller s' e
-  by_event (Changed kind old new) (p, update, no_walk, agreed, went, came) = inr (record {
+  by_event : (e : Event) → event ≡ e → MovesByVisit eq s.store s'.store x.before.visitor.visit (tales caller).visit.shown e → MovesMap eq s caller s' e
+  by_event (Changed kind old new) is (p, update, no_walk, agreed, went, came) = inr (record {
     visitor = x.before;
     is_visiting = x.was;
     no_walk = no_walk;
@@ -166,17 +167,18 @@ module _ {K V S A : Type 0} (eq : K → K → Bool) (hash : K → ℕ) (law : Is
     update = update;
     went_is = went;
     came_is = came;
+    intended = λ retains. (retains, takes_told x.before.visitor.state x.ask x.asked x.answer kind p.number new (sym x.event_is ∙ is ∙ ap (λ o. Changed kind o new) went));
   })
-  by_event Begun same = same
-  by_event (Moved kind) same = same
-  by_event (Asked n stays) same = same
-  by_event (Shown shown kind) same = same
-  by_event (Gave n) same = same
-  by_event Other same = same
-  by_event (Replied reply) same = same
+  by_event Begun is same = same
+  by_event (Moved kind) is same = same
+  by_event (Asked n stays) is same = same
+  by_event (Shown shown kind) is same = same
+  by_event (Gave n) is same = same
+  by_event Other is same = same
+  by_event (Replied reply) is same = same
 
   pub visit_moves : MovesMap eq s caller s' event
   visit_moves = elim (visited.heard_so eq hash law says hashes refuse s caller s' event reply x hasher es tales core kept) [
     | inl u ↦ subst (MovesMap eq s caller s') (sym (unheard_event u)) (λ j. ap (λ (y : StoreState K V S). map_in eq y j) u.same)
-    | inr h ↦ by_event event (heard_moves h)
+    | inr h ↦ by_event event refl (heard_moves h)
   ]

@@ -92,6 +92,7 @@ module _ {K V S A : Type 0} (eq : K → K → Bool) (hash : K → ℕ) where
       opens = λ t l. absurd cc;
       links = λ behind t l. absurd cc;
       unwritten = λ p l. absurd l;
+      shows = tt;
     })
 
     -- a call that resizes the map rests on nothing

@@ -138,6 +138,7 @@ module _ {K V S A : Type 0} (eq : K → K → Bool) (hash : K → ℕ) (law : Is
           opens = λ t opening. still_there t (o.opens t opening);
           links = λ behind t linking. still_there t (o.links behind t linking);
           unwritten = λ p l. other_unwritten d r runs differ p (subst (λ (y : Hands (Stored K V)). IsOneOf y.call.made p) (sym e) l);
+          shows = o.shows;
         }
 
     -- and so does another resizer

@@ -16,13 +16,13 @@ use Rattle.papaya_call.specs.Machine.{HasClosure}
 use Rattle.papaya_chain.specs.Machine.{after, ask_of, follows_of, kind_of_ask}
 use Rattle.papaya_rests.specs.Rests.{change_in}
 use Rattle.papaya_rests.specs.Told.{IsOneOf}
-use Rattle.papaya_chain_rests.specs.Goes.{link_in}
+use Rattle.papaya_chain_rests.specs.Goes.{IsInOrder, link_in}
 use Rattle.papaya_chain_rests.specs.Rests.{Rests}
 use Rattle.papaya_chain_rests.specs.Told.{Hands, IsTold}
 use Rattle.papaya_law.specs.Code.{IsHashed}
 use Rattle.papaya_chain_rests.proofs.Learns.{all_learns}
 use Rattle.papaya_chain_rests.proofs.Order.{in_order}
-use Rattle.papaya_chain_rests.proofs.Replies.{chain_task}
+use Rattle.papaya_chain_rests.proofs.Replies.{chain_shows, chain_task}
 use Rattle.papaya_store.specs.declared.pairs.Running.{Running}
 use Rattle.papaya_timeline.specs.Callers.{as_work, running, with_call}
 use Rattle.papaya_timeline.specs.Core.{CoreState, IsCore}
@@ -111,9 +111,13 @@ module _ {K V S A : Type 0} (eq : K → K → Bool) (hash : K → ℕ) (law : Is
     mine_apart = λ d r runs differ p p' mine other. kept.apart caller d before r was runs (λ same. differ (sym same)) p p' mine other;
   }
 
+  -- the answer was for the call itself, or the call was set aside
+  order : IsInOrder before.machine a before.machine.phase
+  order = in_order g c (tales caller).begun (tales caller).since call.key before.machine (tales caller).hands (run es start) a left.made left.hands call.rests left.told
+
   -- the stepping call's task stays
   same_task : (after before.machine a).call.task ≡ before.machine.call.task
-  same_task = (chain_task before.machine a (in_order g c (tales caller).begun (tales caller).since call.key before.machine (tales caller).hands (run es start) a left.made left.hands call.rests left.told)).0
+  same_task = (chain_task before.machine a order).0
 
   -- what its call rests on in the grown setting
   grown_rests : (tale : Tale K V) (split : tale.begun ++ tale.since ≡ es) (k : K) (m : _) (hands : Hands (Stored K V)) → Rests g c tale.begun (tale.since ++ left.made) k m hands → Rests g' c tale.begun (tale.since ++ left.made) k m hands
@@ -151,7 +155,7 @@ module _ {K V S A : Type 0} (eq : K → K → Bool) (hash : K → ℕ) (law : Is
 
   -- the table that it is about to open is there
   own_opens : (t : ℕ) → ask_of (after before.machine a) ≡ asks.Call (Ask_exchange Root 0 t) → IsMade s'.store t
-  own_opens t opening = elim (chain_opens before.machine a t opening (in_order g c (tales caller).begun (tales caller).since call.key before.machine (tales caller).hands (run es start) a left.made left.hands call.rests left.told)) [
+  own_opens t opening = elim (chain_opens before.machine a t opening order) [
     | inl old ↦ still_there t (call.opens t old)
     | inr (is, slots, limit, making) ↦ left.opens t is (inl (slots, limit, making))
   ]
@@ -189,6 +193,7 @@ module _ {K V S A : Type 0} (eq : K → K → Bool) (hash : K → ℕ) (law : Is
     opens = own_opens;
     links = own_links;
     unwritten = λ p l. own_unwritten p (subst (λ (y : Hands (Stored K V)). IsOneOf y.call.made p) (sym e) l);
+    shows = chain_shows before.machine a order call.shows;
   }
 
   -- with the key that it had

@@ -176,6 +176,7 @@ module _ {K V S A : Type 0} (eq : K → K → Bool) (hash : K → ℕ) (law : Is
         opens = o.opens;
         links = o.links;
         unwritten = o.unwritten;
+        shows = o.shows;
       }
 
       same_resizer : (z : Resizer) (t : Tale K V) (hands : visits.Hands (Stored K V)) → IsResizing eq hash s.mode s'.store z es' t → IsResizing eq hash s.mode s'.store z es' (record t { visit = hands })

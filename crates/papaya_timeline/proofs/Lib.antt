@@ -27,6 +27,9 @@ pub mod GoodVisitEnds
 pub mod GoodVisitFits
 pub mod StepVisits
 pub mod HeadlineLemmas
+pub mod Intents
+pub mod IntentSteps
+pub mod IntentVisits
 pub mod KeptAnswer
 pub mod KeptBegin
 pub mod KeptClosures

@@ -38,24 +38,24 @@ use Rattle.papaya_timeline.proofs.TimelineLemmas.{entry}
 made_stands : (m : Call_machine) (n : ℕ) (shown : Option ℕ) → calls.ask_of m ≡ MakePair → StandsOn (calls.after m (Made_number n)) (Inserts shown) → ⊥
 made_stands m n shown e stands = search rules
 
-pair_made : (m : Machine) (n : ℕ) (shown : Option ℕ) → ask_of m ≡ asks.Call MakePair → StandsOn (after m (given.Call (Made_number n))).call (Inserts shown) → ⊥
+pub pair_made : (m : Machine) (n : ℕ) (shown : Option ℕ) → ask_of m ≡ asks.Call MakePair → StandsOn (after m (given.Call (Made_number n))).call (Inserts shown) → ⊥
 pair_made m n shown e stands = made_stands m.call n shown (own_asks m MakePair e).1 (subst (λ d. StandsOn d (Inserts shown)) (made_own m n e) stands)
 
 -- it was answered a value but once
 stands_once : (m : Call_machine) (shown other : Option ℕ) → StandsOn m (Inserts shown) → calls.ask_of m ≡ show other → ⊥
 stands_once m shown other stands e = search rules
 
-one_value : (m : Machine) (shown other : Option ℕ) → StandsOn m.call (Inserts shown) → ask_of m ≡ asks.Call (show other) → ⊥
+pub one_value : (m : Machine) (shown other : Option ℕ) → StandsOn m.call (Inserts shown) → ask_of m ≡ asks.Call (show other) → ⊥
 one_value m shown other stands e = stands_once m.call shown other stands (own_asks m (show other) e).1
 
 -- an operation of a kind that has no value
-removing : {V : Type 0} (op : Operation V ℕ) → op_kind op ≡ kinds.Remove → op ≡ ops.Remove
+pub removing : {V : Type 0} (op : Operation V ℕ) → op_kind op ≡ kinds.Remove → op ≡ ops.Remove
 removing ops.Remove e = refl
 removing (ops.Insert v) e = absurd cc
 removing (ops.Abort t) e = absurd cc
 
 -- and of the one that has
-inserting : {V : Type 0} (op : Operation V ℕ) → op_kind op ≡ kinds.Insert → (v : V) × (op ≡ ops.Insert v)
+pub inserting : {V : Type 0} (op : Operation V ℕ) → op_kind op ≡ kinds.Insert → (v : V) × (op ≡ ops.Insert v)
 inserting (ops.Insert v) e = (v, refl)
 inserting ops.Remove e = absurd cc
 inserting (ops.Abort t) e = absurd cc

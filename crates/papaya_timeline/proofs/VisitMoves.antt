@@ -65,7 +65,7 @@ answered_shown (one ∷ older) p stays (inl (is, said)) = inl is
 answered_shown (one ∷ older) p stays (inr (other, h)) = inr (answered_shown older p stays h)
 
 -- what is loaded, and what a size is asked for, is no change
-quiet : (P : Event → Type 0) → P Other → (kind : Option StepKind) (ask : CopyAsk) → ((answer : Call_answer) → copy_event kind ask answer ≡ Other) → (a : Answer) → P (event_of_visit kind (Copy ask) a)
+pub quiet : (P : Event → Type 0) → P Other → (kind : Option StepKind) (ask : CopyAsk) → ((answer : Call_answer) → copy_event kind ask answer ≡ Other) → (a : Answer) → P (event_of_visit kind (Copy ask) a)
 quiet P other kind ask none (answers.Call answer) = subst P (sym (none answer)) other
 quiet P other kind ask none (answers.Hash hash) = other
 quiet P other kind ask none (answers.Count count) = other
@@ -76,7 +76,7 @@ copied_event kind ask (answers.Call answer) = refl
 copied_event kind ask (answers.Hash hash) = refl
 copied_event kind ask (answers.Count count) = refl
 
-stage_quiet : (P : Event → Type 0) → P Other → ((kind : StepKind) → P (Moved kind)) → (stage : Stage) (o : Option CopyAsk) (ask : VisitAsk) → copy_asks o ≡ Some ask → (a : Answer) → P (event_of_visit (resizers.kind_in stage) ask a)
+pub stage_quiet : (P : Event → Type 0) → P Other → ((kind : StepKind) → P (Moved kind)) → (stage : Stage) (o : Option CopyAsk) (ask : VisitAsk) → copy_asks o ≡ Some ask → (a : Answer) → P (event_of_visit (resizers.kind_in stage) ask a)
 stage_quiet P other moved stage None ask e a = let f : None ≡ Some ask = e in absurd cc
 stage_quiet P other moved stage (Some is) ask e a =
     subst (λ y. P (event_of_visit (resizers.kind_in stage) y a)) (same_item (Copy is) ask e)

@@ -23,6 +23,7 @@ use Rattle.papaya_law.specs.Hashing.{hashed}
 use Rattle.papaya_law.specs.Invariant.{named}
 use Rattle.papaya_law.specs.Meaning.{map_left}
 use Rattle.papaya_rests.specs.Rests.{change_in}
+use Rattle.papaya_rests.specs.Says.{ShowsPairs}
 use Rattle.papaya_rests.specs.Told.{IsOneOf, word_of}
 use Rattle.papaya_store.specs.declared.pairs.Running.{Running}
 use Rattle.papaya_timeline.specs.declared.seat.Seat.{Seat}
@@ -182,6 +183,8 @@ module _ {K V S A : Type 0} (eq : K → K → Bool) (hash : K → ℕ) (mode : R
         → change_in r.machine.call.state ≡ None
         → (t x : ℕ) (q : Stored K V) → named ((run es start).slot t x) ≡ Some q
         → q.number ≢ p.number
+    -- a pair that its closure is shown, or was shown, has a word
+    pub shows : ShowsPairs r.machine.call.state
 
   -- The words are those that the exchanges es leave, which were allowed, and each call under way
   -- rests on what is told of it.

@@ -7,6 +7,8 @@ pub mod Counted
 pub mod Ends
 pub mod Given
 pub mod Headline
+-- what a call under way would do
+pub mod Intends
 pub mod Kept
 pub mod Maps
 pub mod Moves

@@ -3,8 +3,10 @@ use Rattle.std.specs.Prelude.{◌≡◌, ◌⊎◌, ℕ, Bool, Option, None, Som
 use Rattle.papaya_ask.specs.declared.call.Call.{Call}
 use Rattle.papaya_ask.specs.declared.call.Reply.{Reply}
 use Rattle.papaya_call.specs.Machine.{IsChanger}
+use Rattle.papaya_call.specs.declared.answers.Operation.TheVariants as ops
 use Rattle.papaya_rests.specs.Rests.{change_of_reply}
 use Rattle.papaya_store.specs.declared.pairs.Running.{Running}
+use Rattle.papaya_timeline.specs.declared.seat.Work.TheVariants as works
 use Rattle.papaya_timeline.specs.declared.trace.Event.{Event}
 use Rattle.papaya_timeline.specs.declared.trace.Event.TheVariants.{Changed}
 use Rattle.papaya_timeline.specs.Begins.{task_of_call}
@@ -14,8 +16,9 @@ use Rattle.papaya_timeline.specs.Core.{CoreState, call_of}
 use Rattle.papaya_timeline.specs.Maps.{Does, IsUpdate, IsUpdateBy, Same, key_of}
 use Rattle.papaya_store.specs.Performs.{own_key}
 use Rattle.papaya_store.specs.Store.{Stored}
-use Rattle.papaya_timeline.specs.Timeline.{IsFresh, number_in}
-use Rattle.papaya_chain.specs.declared.visitor.Visit.TheVariants.{Walk}
+use Rattle.papaya_timeline.specs.Intends.{Intends}
+use Rattle.papaya_timeline.specs.Timeline.{IsFresh, number_in, operation_for}
+use Rattle.papaya_chain.specs.declared.visitor.Visit.TheVariants.{Retain, Walk}
 use Rattle.papaya_store.specs.declared.visits.Visiting.{Visiting}
 
 module _ {K V S A : Type 0} (eq : K → K → Bool) (s : CoreState K V S A) (caller : ℕ)
@@ -41,6 +44,9 @@ module _ {K V S A : Type 0} (eq : K → K → Bool) (s : CoreState K V S A) (cal
     pub reply : Reply
     pub does : Does call went reply came
     pub tells : change_of_reply reply ≡ Some (old, new)
+    -- what comes has the value that it was handed, or that its closure answered when it was shown
+    -- what goes; what goes where none comes, its closure would have removed
+    pub intended : Intends s.store (works.Call running_call) old (operation_for came)
 
   -- A clear or a retain takes the pair of this number out of the map, and no other class changes.
   pub record IsTakenByVisit (old new : Option ℕ) : Type 0 where
@@ -51,6 +57,9 @@ module _ {K V S A : Type 0} (eq : K → K → Bool) (s : CoreState K V S A) (cal
     pub update : IsUpdate eq pair.key (Some pair) None (map_of eq s) (map_of eq s')
     pub went_is : old ≡ Some pair.number
     pub came_is : new ≡ None
+    -- of a retain, its closure has answered that the pair does not stay
+    pub intended : visitor.visitor.visit ≡ Retain
+        → Intends s.store (works.Visit visitor) (Some pair.number) ops.Remove
 
   -- a step whose event is a change of the map changes the class of its own call's key, or takes out
   -- a pair that its call visits, and every other step leaves the map

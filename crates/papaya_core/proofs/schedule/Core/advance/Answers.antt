@@ -46,6 +46,9 @@ returns-clause-walked g c =
 pub returns-clause-moves : goal.returns-clause-moves
 returns-clause-moves g c = (sound g (goal.at.returns-clause-moves g c).After-put).moves
 
+pub returns-clause-intents : goal.returns-clause-intents
+returns-clause-intents g c = (sound g (goal.at.returns-clause-intents g c).After-put).intents
+
 pub returns-clause-keeps : goal.returns-clause-keeps
 returns-clause-keeps g c = (sound g (goal.at.returns-clause-keeps g c).After-put).keeps
 

@@ -1,13 +1,16 @@
-use Rattle.std.proofs.Common.{List, Some, refl, ap, ◌∙◌}
+use Rattle.std.proofs.Common.{◌≡◌, List, Some, refl, sym, ap, subst, ◌∙◌}
 use Rattle.papaya_timeline.specs.declared.seat.Seat.{Seat}
-use Rattle.papaya_timeline.specs.Callers.{with_seat, with_work}
+use Rattle.papaya_timeline.specs.Callers.{with_seat, with_work, working}
 use Rattle.papaya_timeline.specs.Begins.{Begins}
 use Rattle.papaya_timeline.specs.Core.{CoreState, work_of}
 use Rattle.papaya_timeline.specs.Counted.{IsCounted}
+use Rattle.papaya_timeline.specs.Intends.{IntendsHanded}
 use Rattle.papaya_timeline.specs.Kept.{IsLawfulCore}
+use Rattle.papaya_timeline.proofs.CallersLemmas.{same_item, working-same}
 use Rattle.papaya_keys.specs.Hashes.{hash_of}
 use Rattle.papaya_timeline.proofs.HeadlineLemmas.{begin-core}
 use Rattle.papaya_timeline.proofs.CountedLemmas.{counted_begin}
+use Rattle.papaya_timeline.proofs.Intents.{begun_intends}
 use Rattle.papaya_timeline.proofs.KeptCore.{begin_lawful}
 use Rattle.papaya_core.proofs.schedule.Core.begin.Goals as goal
 use Rattle.papaya_core.proofs.schedule.Core.begin.Goals.{After-put}
@@ -31,6 +34,15 @@ call_begun g c =
 
 pub invariant_of-self-2 : goal.invariant_of-self-2
 invariant_of-self-2 g c = let sound = call_begun g (goal.at.invariant_of-self-2 g c).After-put in (sound.0, sound.1, c.self.invariant.2)
+
+-- what began in the seat intends what it was handed
+pub returns-clause-handed : goal.returns-clause-handed
+returns-clause-handed g c work is =
+    let callers = c.put.ensures ∙ ap (λ (y : List (Seat _ _ _)). with_work y c.args.caller (Some c.begin_call-work.result)) c.in_ok-seat.ensures.ok.0 in
+    let hash = hash_of g.K.Hash.hash_input g.S.BuildHasher.build_hasher g.S.Hasher.Hasher.write g.S.Hasher.Hasher.finish c.self.inside.store.hasher in
+    let put : c.begin_call-work.result ≡ work =
+    same_item c.begin_call-work.result work (working-same (with_seat c.self.inside.callers c.args.caller) c.args.caller (Some c.begin_call-work.result) work (ap (λ (y : List (Seat _ _ _)). working y c.args.caller) (sym callers) ∙ is)) in
+    subst (IntendsHanded c.self.inside.store c.args.call) (sym c.begin_call-work.ensures.begun ∙ put) (begun_intends c.self.inside.store hash c.self.inside.mode c.self.inside.initial c.args.call)
 
 pub returns-clause-counted : goal.returns-clause-counted
 returns-clause-counted g c = (call_begun g (goal.at.returns-clause-counted g c).After-put).1
