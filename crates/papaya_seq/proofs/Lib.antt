@@ -65,3 +65,7 @@ pub mod WalkLists
 pub mod WalkSteps
 mod Sifted
 mod LeftBy
+mod Cloned
+mod Equal
+mod Filled
+mod Walked

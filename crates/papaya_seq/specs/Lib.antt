@@ -1,10 +1,12 @@
 pub mod Answered
 pub mod Buries
 pub mod Calls
+pub mod Clones
 pub mod Computes
 pub mod Computing
 pub mod Drives
 pub mod Ends
+pub mod Entries
 pub mod Looks
 pub mod MadeAlone
 pub mod Map

@@ -4,6 +4,8 @@
 pub use papaya_keys::{compute, guard, occupied};
 
 mod clearing;
+mod collecting;
+mod comparing;
 mod computes;
 mod computing;
 mod insertion;

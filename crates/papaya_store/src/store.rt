@@ -195,6 +195,20 @@ impl<K: Hash + Eq, V, S: BuildHasher> Store<K, V, S> {
         self.counter.sum()
     }
 
+    /// In how many shards they are counted.
+    pub fn shards(&self) -> usize
+        ensures { result ≡ self.now.count.shards }
+    {
+        self.counter.shards()
+    }
+
+    /// The hasher.
+    pub fn hasher(&self) -> &S
+        ensures { result.now ≡ self.now.hasher }
+    {
+        &self.hasher
+    }
+
     /// The root table.
     pub fn root(&self) -> Option<&Table>
         ensures { MatchOption result (table_of self.now.words.tables self.now.words.root ≡ None)

@@ -1,0 +1,6 @@
+use Rattle.papaya_seq.specs.Entries.{Fills}
+use Rattle.papaya_seq.proofs.seq.HashMap.extend.Given as goal
+
+-- the pairs that came were put in
+abbrev pub invariant-loop-key : goal.invariant-loop-key
+invariant-loop-key g l = Fills g.K.PartialEq.eq (λ p. p) l.fn.self l.yielded l.self

@@ -1,0 +1,126 @@
+//! Calls that take many pairs, one after the other.
+ghost use Rattle.std.specs.Prelude.{◌≡◌, ◌⊎◌, IfOk, IfErr};
+ghost use Rattle.std.specs.Iterator.{IsFiniteIterable};
+ghost use Rattle.std.specs.declared.hash.FoldHasher.{FoldHasher};
+ghost use Rattle.std.specs.declared.hash.BuildHasherDefault.{BuildHasherDefault};
+ghost use Rattle.papaya_seq.specs.Entries.{AllCome, ComesNext, Extends, HasJust, IsCutAnew};
+ghost use Rattle.papaya_seq.specs.Entries.{IsCutIn, IsPut};
+ghost use Rattle.papaya_seq.specs.Map.{deref_pair};
+
+use crate::seq::HashMap;
+use papaya_words::probe::Refused;
+use std::alloc::Global;
+use std::hash::{BuildHasher, BuildHasherDefault, FoldHasher, Hash};
+
+impl<K: Hash + Eq + Drop, V: Drop, S: BuildHasher> HashMap<K, V, S> {
+    /// Stores a pair, and answers whether its key was absent. It is [`HashMap::insert`] without the
+    /// value that goes, so it borrows nothing, and its clause says what the map is after it.
+    /// Refused as that is.
+    pub fn put(&mut self, key: K, value: V) -> Result<bool, Refused>
+        ensures { IsPut K.eq key value self.old result self.new }
+    {
+        match self.insert(key, value) {
+            Ok(old) => Ok(old.is_none()),
+            Err(refused) => Err(refused),
+        }
+    }
+
+    /// Stores pairs in the order in which they come: what the trait `Extend` does in 0.2.5. Of two
+    /// pairs with equal keys the later one stays. No room is made ahead, so for no pairs nothing is
+    /// done at all.
+    ///
+    /// Refused as [`HashMap::insert`] is for a pair. The pairs before it are in the map then, and
+    /// those after it were not asked for.
+    pub fn extend<U: IntoIterator<Item = (K, V)>>(&mut self, iter: U) -> Result<(), Refused>
+    where
+        U::IntoIter: Drop,
+        requires { IsFiniteIterable U.into_iter_gives U.IntoIter.can_next U.IntoIter.remaining
+            iter }
+        ensures { Extends U.into_iter_gives U.IntoIter.next_gives K.eq (λ p. p) iter self.old
+            result self.new }
+    {
+        for (key, value) in iter {
+            match self.put(key, value) {
+                Ok(_) => {}
+                Err(refused) => return Err(refused),
+            }
+        }
+        Ok(())
+    }
+}
+
+impl<K: Hash + Eq + Copy + Drop, V: Copy + Drop, S: BuildHasher> HashMap<K, V, S> {
+    /// [`HashMap::extend`] by pairs that are lent and copied: what the trait `Extend` of such pairs
+    /// does in 0.2.5.
+    pub fn extend_ref<'a, U: IntoIterator<Item = (&'a K, &'a V)>>(
+        &mut self,
+        iter: U,
+    ) -> Result<(), Refused>
+    where
+        K: 'a,
+        V: 'a,
+        U::IntoIter: Drop,
+        requires { IsFiniteIterable U.into_iter_gives U.IntoIter.can_next U.IntoIter.remaining
+            iter }
+        ensures { Extends U.into_iter_gives U.IntoIter.next_gives K.eq deref_pair iter self.old
+            result self.new }
+    {
+        for (key, value) in iter {
+            match self.put(*key, *value) {
+                Ok(_) => {}
+                Err(refused) => return Err(refused),
+            }
+        }
+        Ok(())
+    }
+}
+
+impl<K: Hash + Eq + Drop, V: Drop, S: BuildHasher + Default + Drop> HashMap<K, V, S> {
+    /// A map of these pairs: what the trait `FromIterator` makes in 0.2.5. Of two pairs with equal
+    /// keys it has the later one, and of no pairs it has no table.
+    ///
+    /// `Refused::Memory` where the map was not made; else refused as [`HashMap::extend`].
+    pub fn from_iter<U: IntoIterator<Item = (K, V)>>(
+        alloc: Global,
+        iter: U,
+    ) -> Result<HashMap<K, V, S>, Refused>
+    where
+        U: Drop,
+        U::IntoIter: Drop,
+        requires { IsFiniteIterable U.into_iter_gives U.IntoIter.can_next U.IntoIter.remaining
+            iter }
+        ensures ok { IfOk result (λ map. AllCome U.into_iter_gives U.IntoIter.next_gives iter
+            (λ items. HasJust K.eq (λ p. p) items map)) }
+        ensures hasher { IfOk result (λ map. S.is_default map.store.hasher) }
+        ensures err { IfErr result (λ e. (e ≡ Refused.Memory)
+            ⊎ ComesNext U.into_iter_gives U.IntoIter.next_gives iter
+            (λ items item. IsCutAnew S K.eq (λ p. p) items item e)) }
+    {
+        let mut map = HashMap::with_hasher(alloc, S::default())?;
+        match map.extend(iter) {
+            Ok(()) => Ok(map),
+            Err(refused) => Err(refused),
+        }
+    }
+}
+
+impl<K: Hash + Eq + Drop, V: Drop> HashMap<K, V, BuildHasherDefault<FoldHasher>> {
+    /// A map of the pairs of an array: what `From<[(K, V); N]>` makes in 0.2.5. Of two pairs with
+    /// equal keys it has the later one.
+    ///
+    /// `Refused::Memory` where the map was not made, or the array had no room in memory; else
+    /// refused as [`HashMap::extend`].
+    pub fn from_array<const N: usize>(
+        alloc: Global,
+        pairs: [(K, V); N],
+    ) -> Result<HashMap<K, V, BuildHasherDefault<FoldHasher>>, Refused>
+        ensures ok { IfOk result (λ map. HasJust K.eq (λ p. p) pairs map) }
+        ensures err { IfErr result (λ e. (e ≡ Refused.Memory)
+            ⊎ IsCutIn (BuildHasherDefault FoldHasher) K.eq (λ p. p) pairs e) }
+    {
+        match Vec::from_array(alloc, pairs) {
+            Ok(pairs) => HashMap::from_iter(alloc, pairs),
+            Err(_) => Err(Refused::Memory),
+        }
+    }
+}

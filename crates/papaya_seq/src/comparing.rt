@@ -1,0 +1,36 @@
+//! Are two maps equal?
+ghost use Rattle.std.specs.Prelude.{◌↔◌, IsTrue};
+ghost use Rattle.papaya_seq.specs.Clones.{AreEqual, HasEqual};
+
+use crate::seq::HashMap;
+use std::hash::{BuildHasher, Hash};
+
+impl<K: Hash + Eq, V: PartialEq, S: BuildHasher> HashMap<K, V, S> {
+    /// Has the map an equal value at this key?
+    fn has_equal(&self, key: &K, value: &V) -> bool
+        ensures { IsTrue result ↔ (HasEqual K.eq V.eq self.now.store (key.now, value.now)) }
+    {
+        match self.get(key) {
+            Some(there) => *value == *there,
+            None => false,
+        }
+    }
+
+    /// Have both maps the same keys, with equal values? It is what `PartialEq` answers in 0.2.5. It
+    /// takes no memory and is never refused.
+    pub fn eq(&self, other: &HashMap<K, V, S>) -> bool
+        ensures { IsTrue result ↔ (AreEqual K.eq V.eq self.now.store other.now.store) }
+    {
+        let mine = self.len();
+        let theirs = other.len();
+        if mine != theirs {
+            return false;
+        }
+        for (key, value) in self.iter() {
+            if !other.has_equal(key, value) {
+                return false;
+            }
+        }
+        true
+    }
+}
