@@ -12,12 +12,12 @@ use Rattle.papaya_ask.specs.declared.call.Call.TheVariants.{Get, RemoveIf}
 use Rattle.papaya_ask.specs.declared.call.Reply.{Reply}
 use Rattle.papaya_ask.specs.declared.call.Reply.TheVariants.{Absent, Found, Inserted, Replaced, Occupied, Removed, Kept, Aborted, Done, Refused}
 use Rattle.papaya_timeline.specs.Content.{content, map_in}
-use Rattle.papaya_timeline.specs.Maps.{IsUpdate, Map, Same, key_of}
+use Rattle.papaya_timeline.specs.Maps.{IsUpdate, Map, key_of}
 use Rattle.papaya_timeline.specs.Solo.{IsAnswered, IsDoneBy, IsLeftBy, IsNewIn}
 use Rattle.papaya_store.specs.Store.{StoreState, Stored}
 use Rattle.papaya_timeline.proofs.SoloTimeline.{lookup_alike}
 use Rattle.papaya_seq.specs.Calls.{AreCalled, IsCalled, IsDone, IsJudged, IsSaid, MayRefuse}
-use Rattle.papaya_seq.specs.Map.{HasNone, Holds, IsMakeRefusal, Keeps, MapState, Unchanged, next_of}
+use Rattle.papaya_seq.specs.Map.{HasNone, Holds, IsMakeRefusal, Keeps, MapState, Unchanged}
 use Rattle.papaya_seq.specs.Removes.{IsRemoval, IsRemovalBy}
 use Rattle.papaya_seq.specs.Resizes.{IsCopyCause, IsReserveCause}
 use Rattle.papaya_seq.proofs.Lawful.{number_is}

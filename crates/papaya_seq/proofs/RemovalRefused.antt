@@ -1,14 +1,11 @@
 -- Why a removal is refused: there is no further table, or memory was short.
-use Rattle.std.proofs.Common.{◌≡◌, ⊎_elim, ◌⊎◌, inl, inr, ℕ, ◌^◌, ◌<◌, ◌-◌, ◌==◌, Bool, true, false, cond, Option, None, Some, length, slice_get, refl, sym, ◌∙◌, ap, subst}
-use Rattle.std.proofs.lemmas.Bool.{cond_both}
+use Rattle.std.proofs.Common.{◌≡◌, ⊎_elim, inl, inr, ℕ, ◌^◌, ◌<◌, ◌-◌, ◌==◌, Bool, true, false, cond, Option, None, Some, slice_get, refl, sym, ◌∙◌, ap, subst}
 use denote.Ref.{Bor}
 use Rattle.std.specs.Fn.{Mut}
 use Rattle.papaya_words.specs.Counter.{count_of}
 use Rattle.papaya_words.specs.Table.{TableWords, length_after}
 use Rattle.papaya_words.specs.declared.probe.Refused.{Refused}
 use Rattle.papaya_words.specs.declared.probe.Refused.TheVariants.{RemoveNothing}
-use Rattle.papaya_words.specs.declared.probe.ResizeMode.{ResizeMode}
-use Rattle.papaya_words.specs.declared.probe.ResizeMode.TheVariants.{Incremental, Blocking}
 use Rattle.papaya_ask.specs.declared.ask.Ask.{Ask as Call_ask}
 use Rattle.papaya_ask.specs.declared.ask.Ask.TheVariants.{Load, Exchange, SameKey, ShowPair, SizeOf, AddToShard, MakeKey, MakePair, MakeTable as Make_own, ShowNone}
 use Rattle.papaya_ask.specs.declared.ask.Answer.{Answer as Call_answer}

@@ -62,7 +62,8 @@ impl<K: Hash + Eq + Drop, V: Drop, S: BuildHasher> HashMap<K, V, S> {
     /// is called.
     ///
     /// It is [`HashMap::compute_into`], which says what the map is after it: take that where a
-    /// proof needs it. No clause says it here, since the answer may own a `T`.
+    /// proof needs it. No clause says it here, since the answer may own a `T`: the map that the clause
+    /// names is what a run of the call leaves.
     pub fn compute<T: Drop, F: FnMut(Option<(&K, &V)>) -> Operation<V, T>>(
         &mut self,
         key: K,

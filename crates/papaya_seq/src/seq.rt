@@ -391,7 +391,8 @@ impl<K: Hash + Eq + Drop, V: Drop, S: BuildHasher> HashMap<K, V, S> {
     ///
     /// It is [`HashMap::try_insert_into`], which says what the map is after it. No clause says it
     /// here, since the answer may own a value. Refused as [`HashMap::insert`], and only where the
-    /// key is absent, or while pairs are being moved.
+    /// key is absent, or while pairs are being moved: `err` shows it by a run of the call on the map
+    /// before.
     pub fn try_insert(
         &mut self,
         key: K,

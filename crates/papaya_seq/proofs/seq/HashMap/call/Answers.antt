@@ -3,7 +3,7 @@ use Rattle.papaya_law.specs.Content.{AreApart, lookup}
 use Rattle.papaya_timeline.specs.Content.{content, map_in}
 use Rattle.papaya_store.specs.Store.{StoreState, Stored}
 use Rattle.papaya_keys.specs.Hashes.{hash_of}
-use Rattle.papaya_ask.specs.declared.call.Call.TheVariants.{Clear, CopyAll, Reserve, Retain, Walk}
+use Rattle.papaya_ask.specs.declared.call.Call.TheVariants.{Clear, CopyAll, Reserve, Retain}
 use Rattle.papaya_ask.specs.declared.call.Reply.TheVariants.{Absent, Done, Found, Refused}
 use Rattle.papaya_timeline.proofs.CountedCore.{lawful_apart}
 use Rattle.papaya_call.specs.Answers.{Says}
