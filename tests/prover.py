@@ -10,6 +10,7 @@ import shutil
 import subprocess
 import sys
 import tempfile
+import threading
 import time
 from concurrent.futures import ThreadPoolExecutor
 
@@ -157,22 +158,42 @@ def lanes():
     """How many checks may run at once: one a processor, and each may take 3 GB. Beside `rt ci`, half as many."""
     said = open("/proc/meminfo", encoding="utf-8").read()
     free = int(re.search(r"MemAvailable: +(\d+) kB", said)[1])
-    processors = len(os.sched_getaffinity(0)) // (2 if "RT_CI" in os.environ else 1)
+    processors = len(os.sched_getaffinity(0)) // (2 if is_proving() else 1)
     return max(min(processors, free // 3_000_000), 1)
+
+
+class Turns:
+    """Lets as many checks go on at once as there are lanes then."""
+
+    def __init__(self):
+        self.free, self.running = threading.Lock(), 0
+
+    def __enter__(self):
+        while True:
+            with self.free:
+                if self.running < lanes() or not self.running:
+                    self.running += 1
+                    return
+            time.sleep(5)
+
+    def __exit__(self, *_):
+        with self.free:
+            self.running -= 1
 
 
 def try_all(what, tries, call):
     """Makes each of these tries, some at once, and returns whether all went well."""
+    turns = Turns()
 
     def one(given):
-        with tempfile.TemporaryDirectory(prefix=f"{what}-") as room:
+        with turns, tempfile.TemporaryDirectory(prefix=f"{what}-") as room:
             try:
                 return [print(f"{what}: {it}", flush=True) for it in call(room, *given)]
             except Bad as why:
                 print(f"{what}: {why}", file=sys.stderr, flush=True)
                 return None
 
-    with ThreadPoolExecutor(lanes()) as pool:
+    with ThreadPoolExecutor(len(os.sched_getaffinity(0))) as pool:
         results = list(pool.map(one, tries))
     lost = results.count(None)
     refused = sum(len(it) for it in results if it is not None)
