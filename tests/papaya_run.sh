@@ -6,18 +6,7 @@ set -euo pipefail
 top="$(cd "$(dirname "${BASH_SOURCE[0]}")/.." && pwd)"
 folder="$(mktemp -d)"
 trap 'rm -rf "$folder"' EXIT
-passed=0
-failed=0
-
-# One case: what was wanted, and what came.
-same() {
-    if [[ "$2" == "$3" ]]; then
-        passed=$((passed + 1))
-    else
-        failed=$((failed + 1))
-        printf 'papaya_run.sh: %s\n--- wanted\n%s\n--- found\n%s\n' "$1" "$2" "$3" >&2
-    fi
-}
+source "$top/tests/same.sh"
 
 # A repository of three crates, whose program prints its arguments.
 made="$folder/top"
@@ -101,5 +90,4 @@ same 'the script says so' \
     'papaya-run: a source is newer than the program: proving anew what it reaches, and building' \
     "$(head -1 "$folder/errors")"
 
-echo "papaya_run.sh: $passed passed, $failed failed"
-[[ "$failed" == 0 ]]
+told papaya_run.sh

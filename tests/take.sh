@@ -5,17 +5,7 @@ set -euo pipefail
 top="$(cd "$(dirname "${BASH_SOURCE[0]}")/.." && pwd)"
 room="$(mktemp -d)"
 trap 'rm -rf "$room"' EXIT
-passed=0
-failed=0
-
-same() {
-    if [[ "$2" == "$3" ]]; then
-        passed=$((passed + 1))
-    else
-        failed=$((failed + 1))
-        printf 'take.sh: %s\n--- wanted\n%s\n--- found\n%s\n' "$1" "$2" "$3" >&2
-    fi
-}
+source "$top/tests/same.sh"
 
 # A copy of this repository without what is built, and a repository of a user.
 mkdir -p "$room/from/crates" "$room/to"
@@ -46,5 +36,4 @@ same 'no test, program or caller is taken' '' "$(ls "$room/to/crates" | grep -E 
 same 'the handles go along' "$(cat "$top/HANDLES")" "$(cat "$room/to/HANDLES")"
 same "the user's own line stays" 'shop: papaya' "$(grep shop "$room/to/crates.txt")"
 
-echo "take.sh: $passed passed, $failed failed"
-[[ "$failed" == 0 ]]
+told take.sh
