@@ -274,14 +274,14 @@ enum Case {
     AbortsWhereOne,
 }
 
-/// The key that the map has, and how many steps the call makes that is stopped.
+/// The key that the map has, and one step more than the call makes that is stopped.
 fn parts_of(case: Case) -> (Option<u64>, usize) {
     match case {
-        Case::KeepsOne => (None, STEPS_OF_INSERT),
-        Case::Fills => (None, STEPS_OF_FILL),
-        Case::Keeps | Case::RemovesOrKeeps => (Some(7), STEPS_OF_REMOVAL),
-        Case::IsShown | Case::AbortsWhereOne => (Some(7), STEPS_OF_UPDATE),
-        Case::RemovesNothing | Case::AbortsWhereNone => (Some(8), STEPS_OF_UPDATE),
+        Case::KeepsOne => (None, STEPS_OF_INSERT + 1),
+        Case::Fills => (None, STEPS_OF_FILL + 1),
+        Case::Keeps | Case::RemovesOrKeeps => (Some(7), STEPS_OF_REMOVAL + 1),
+        Case::IsShown | Case::AbortsWhereOne => (Some(7), STEPS_OF_UPDATE + 1),
+        Case::RemovesNothing | Case::AbortsWhereNone => (Some(8), STEPS_OF_UPDATE + 1),
     }
 }
 
@@ -314,8 +314,8 @@ fn one_stop(
 }
 
 fn each_stop(rt: &impl Abort, alloc: Global, case: Case) -> Result<(), Fail> {
-    let (held, most) = parts_of(case);
-    for steps in 0..most + 1 {
+    let (held, end) = parts_of(case);
+    for steps in 0..end {
         let mut core = map_of(alloc, held)?;
         one_stop(rt, alloc, &mut core, case, steps)?;
     }
