@@ -36,13 +36,13 @@ module _ (setting value : ℕ) (old own : Seen) (before : Option (Bor ℕ)) (put
       (q, ap (λ h. replay (λ a b. a == b) h k) put.is ∙ (replay_last (λ a b. a == b) (λ _. None) put.before put.change k ∙ (cond-true (k == put.change.class) put.change.put (replay (λ a b. a == b) put.before k) (eq-eqb k put.change.class class) ∙ put_is)), value_is)
 
   -- so it has where nothing was changed since
-  pub alone : (new : Seen) (found : Option (Bor ℕ)) → IsAnsweredBetween (λ a b. a == b) (λ key. setting == key) own new found → own ≡ new → option_map (λ v. v.now) found ≡ Some value
-  alone new None answered e =
+  pub read_alone : (new : Seen) (found : Option (Bor ℕ)) → IsAnsweredBetween (λ a b. a == b) (λ key. setting == key) own new found → own ≡ new → option_map (λ v. v.now) found ≡ Some value
+  read_alone new None answered e =
       let seen : answered.seen ≡ own = same_between own answered.seen new answered.since answered.until e in
       let (q, has, value_is) = stored setting refl in
       let none : replay (λ a b. a == b) own setting ≡ None = ap (λ h. replay (λ a b. a == b) h setting) (sym seen) ∙ answered.is setting (eq-eqb setting setting refl) in
       absurd (let e : None ≡ Some q = sym none ∙ has in cc e)
-  alone new (Some v) answered e =
+  read_alone new (Some v) answered e =
       let seen : answered.seen ≡ own = same_between own answered.seen new answered.since answered.until e in
       let (p, matches, has, of) = answered.is in
       let (q, stored_is, value_is) = stored (key_of p) (sym (eqb-true setting (key_of p) matches)) in
