@@ -2,8 +2,9 @@
 //!
 //! This crate names the public items of the others again, and has no code of its own.
 //!
-//! - [`HashMap`] is the map that threads share: [`HashMap::pin`] gives a [`HashMapRef`], which has the
-//!   calls, and [`HashMap::pass`] a [`Pass`], the record of what one thread has seen.
+//! - [`HashMap`] is the map that threads share, and a [`Session`] one thread's way to it.
+//! - [`HashMap::pin`] gives a [`HashMapRef`], which has all calls, and [`HashMap::pass`] a [`Pass`], the
+//!   record of what one thread has seen.
 //! - [`HashMap::builder`] gives a [`HashMapBuilder`], by which a map's parts are asked for one by one.
 //! - [`seq::HashMap`] is the map for one caller: changes take `&mut self`.
 //! - [`schedule`] runs the calls of many callers step by step, in any order that a test gives.
@@ -16,6 +17,7 @@ pub use papaya_keys::guard::{Collector, Equivalent, Guard, LocalGuard, OwnedGuar
 pub use papaya_keys::occupied::{NotInserted, OccupiedError};
 pub use papaya_map::builder::HashMapBuilder;
 pub use papaya_map::map::{HashMap, HashMapRef, Pass};
+pub use papaya_session::session::Session;
 pub use papaya_sweep::walk::{Iter, Keys, Values};
 pub use papaya_words::probe::{Refused, ResizeMode};
 

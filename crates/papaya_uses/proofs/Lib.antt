@@ -2,4 +2,5 @@ mod CounterLemmas
 mod HitLemmas
 mod Said
 mod SessionLemmas
+mod SettingLemmas
 mod WordLemmas

@@ -1,0 +1,2 @@
+-- what a session shows
+pub mod Known

@@ -1,0 +1,18 @@
+//! Sessions of the map that threads share: [`session::Session`] is one thread's way to a map, and knows
+//! what the thread has seen of it.
+//!
+//! A session has the calls of `papaya_map` that take a pass, and keeps the pass itself. So its clauses
+//! are those of the calls named `_as`, without their premise that map and pass are of one book, which is
+//! the invariant of the type. Each call passes on, and adds no instruction. What it answers
+//! stays for as long as the map does.
+//!
+//! It is made by [`session::Session::new`], and not by a method of the map, since a crate can give no method to
+//! another one's type. Each thread makes one for itself.
+//!
+//! Not by session yet: `compute`, and what is made of it (`update`, `update_or_insert`, `try_insert`,
+//! `get_or_insert`, and their forms with closures). A call of another crate's function that is generic over
+//! a compute's closure is not proved, since the closure's type has the lifetime of what it is shown. For
+//! those take the calls of `papaya_map`, by a pass or without.
+#![tactic(auto)]
+
+pub mod session;

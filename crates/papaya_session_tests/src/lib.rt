@@ -1,0 +1,5 @@
+//! The tests of sessions.
+#![tactic(auto)]
+
+#[cfg(test)]
+mod calls;

@@ -1,0 +1,22 @@
+-- What a thread reads back of a setting that it wrote.
+use Rattle.std.specs.Prelude.{◌≡◌, ◌==◌, ℕ, Option, Some, List, option_map}
+use Rattle.std.specs.Borrow.{Bor}
+use Rattle.papaya_book.specs.Logs.{Stored}
+use Rattle.papaya_change.specs.Changes.{IsPut}
+use Rattle.papaya_lookup.specs.Answers.{IsAnsweredBetween}
+use Rattle.papaya_lookup.specs.History.{Change}
+
+-- the history of a map from settings to values
+abbrev pub Seen : Type 0
+Seen = List (Change ℕ (Stored ℕ ℕ))
+
+-- The thread's own change gave the setting this value. What was read is the map's at a moment after it,
+-- and where nobody made a change since then, it is this value.
+pub record IsReadBack (setting value : ℕ) (old new : Seen) (read : Option ℕ) : Type 0 where
+  pub own : Seen
+  pub before : Option (Bor ℕ)
+  pub put : IsPut (λ a b. a == b) setting value old own before
+  pub found : Option (Bor ℕ)
+  pub answered : IsAnsweredBetween (λ a b. a == b) (λ key. setting == key) own new found
+  pub read_is : option_map (λ v. v.now) found ≡ read
+  pub alone : own ≡ new → read ≡ Some value

@@ -1,0 +1,19 @@
+//! Settings that threads share, each by a session: a thread reads back what it wrote.
+ghost use Rattle.std.specs.Prelude.{IfOk};
+ghost use Rattle.papaya_uses.specs.Settings.{IsReadBack};
+
+use papaya::{Refused, Session};
+use std::sync::Wait;
+
+/// Gives a setting a value, and reads it back: at a moment after this thread's own change.
+pub fn set_and_read<R: Wait>(
+    rt: &R,
+    settings: &mut Session<'_, u64, u64>,
+    setting: u64,
+    value: u64,
+) -> Result<Option<u64>, Refused>
+    ensures { IfOk result (IsReadBack setting value settings.old.history settings.new.history) }
+{
+    settings.insert(rt, setting, value)?;
+    Ok(settings.get(&setting).copied())
+}
