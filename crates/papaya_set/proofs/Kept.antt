@@ -14,11 +14,10 @@ use Rattle.papaya_set.specs.Sets.{AreKept}
 module _ {F W K : Type 0} (g : Mut F (Bor K × Unit {0}) Bool) (h : Mut W (Bor K × (Bor (Unit {0}) × Unit {0})) Bool) (of : W → F)
     (asks : (w w' : W) (key : Bor K) (value : Bor (Unit {0})) (agrees : Bool) → Called h w (key, (value, tt)) agrees w' → Called g (of w) (key, tt) agrees (of w')) where
   -- it may be called wherever that one may be
-  pub callable : ((w : W) (key : Bor K) (value : Bor (Unit {0})) → g.pre (of w) (key, tt) → h.pre w (key, (value, tt))) → (w : W) → always_mut g (of w) → always_mut h w
-  callable may w always =
-      mut_by h (λ v. always_mut g (of v)) (λ v a may_be. may v a.0 a.1.0 (may_be.at ((a.0, tt) ∷ [])).0)
-      (λ v a agrees v' may_be called. mut_next g (of v) (a.0, tt) agrees (of v') (of v') (asks v v' a.0 a.1.0 agrees called) refl may_be)
-      w always
+  pub callable : ((w : W) (key : Bor K) (value : Bor (Unit {0})) → always_mut g (of w) → h.pre w (key, (value, tt))) → (w : W) → always_mut g (of w) → always_mut h w
+  callable may =
+      mut_by h (λ v. always_mut g (of v)) (λ v a always. may v a.0 a.1.0 always)
+      (λ v a agrees v' always called. mut_next g (of v) (a.0, tt) agrees (of v') (of v') (asks v v' a.0 a.1.0 agrees called) refl always)
 
   -- an answer of the one is an answer of the other
   abbrev Asked : F → Stored K (Unit {0}) → Bool → F → Type 0

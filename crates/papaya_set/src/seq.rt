@@ -1,6 +1,6 @@
 //! The set for one caller.
-ghost use Rattle.std.specs.Prelude.{◌≡◌, ◌≢◌, ◌↔◌, IsTrue, Err, IfErr, IfOk, IsOk, OnOk, [], MatchBool, MatchOption};
-ghost use Rattle.std.specs.Prelude.{length, option_map, is_some};
+ghost use Rattle.std.specs.Prelude.{◌≡◌, ◌≢◌, ◌↔◌, IsTrue, true, Err, IfErr, IfOk, IsOk, OnOk, [], MatchBool};
+ghost use Rattle.std.specs.Prelude.{MatchOption, length, option_map, is_some};
 ghost use Rattle.papaya_words.specs.declared.limits.TheConstants.{DEFAULT_CHUNK};
 ghost use Rattle.papaya_law.specs.Content.{AreApart};
 ghost use Rattle.papaya_timeline.specs.Content.{content};

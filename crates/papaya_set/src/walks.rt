@@ -1,4 +1,5 @@
 //! Walks of a set: each key once.
+ghost use Rattle.std.specs.Prelude.{◌≡◌};
 ghost use Rattle.std.specs.Iterator.{YieldsFirstRef, item_count};
 ghost use Rattle.papaya_set.specs.Sets.{keys_of};
 
