@@ -1,5 +1,5 @@
 -- What a retain of a map leaves whose closure asks one of keys.
-use Rattle.std.proofs.Common.{◌≡◌, Bool, true, false, cond, List, [], ◌∷◌, Result, Ok, Err, OnOk, refl, sym, ap, ◌∙◌, subst}
+use Rattle.std.proofs.Common.{◌≡◌, Bool, true, false, cond, List, [], ◌∷◌, Result, Ok, Err, OnOk, refl, ap, ◌∙◌}
 use Prim.Native.Nat.{suc}
 use denote.Ref.{Bor}
 use denote.Param.Always.{always_mut, mut_by, mut_next}

@@ -1,5 +1,5 @@
 -- Sets that are equal as maps of unit values.
-use Rattle.std.proofs.Common.{◌≡◌, Bool, true, false, Option, Some, None, refl, sym, ap, ◌∙◌, subst}
+use Rattle.std.proofs.Common.{◌≡◌, Bool, true, Option, Some, None, refl, sym, ap}
 use Rattle.std.specs.Prelude.{is_some, MatchOption}
 use Rattle.papaya_store.specs.Store.{StoreState, Stored}
 use Rattle.papaya_timeline.specs.Content.{map_in}

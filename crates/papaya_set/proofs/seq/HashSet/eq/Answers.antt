@@ -1,4 +1,4 @@
-use Rattle.std.proofs.Common.{◌≡◌, ◌↔◌, Bool, IsTrue, true, refl, subst}
+use Rattle.std.proofs.Common.{◌↔◌, IsTrue, refl, subst}
 use Rattle.papaya_seq.specs.Map.{MapState}
 use Rattle.papaya_set.specs.Sets.{HaveSameKeys}
 use Rattle.papaya_set.proofs.Same.{equal_maps, same_keys}

@@ -1,4 +1,3 @@
-use Rattle.std.proofs.Common.{rules, Some, None}
 use Rattle.papaya_seq.proofs.Filled.{cut, fills_more, fills_none}
 use Rattle.papaya_set.specs.Sets.{entry_of_ref}
 use Rattle.papaya_set.proofs.seq.HashSet.extend_ref.Goals as goal
