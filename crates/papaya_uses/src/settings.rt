@@ -2,8 +2,12 @@
 ghost use Rattle.std.specs.Prelude.{IfOk};
 ghost use Rattle.papaya_uses.specs.Settings.{IsReadBack};
 
-use papaya::{Refused, Session};
+use papaya::{HashMap, Refused, Session};
+use std::hash::{BuildHasherDefault, FoldHasher};
 use std::sync::Wait;
+
+/// The value of each setting, by their numbers. A thread makes its session by `Session::new(&settings)`.
+pub type Settings = HashMap<u64, u64, BuildHasherDefault<FoldHasher>>;
 
 /// Gives a setting a value, and reads it back: at a moment after this thread's own change.
 pub fn set_and_read<R: Wait>(

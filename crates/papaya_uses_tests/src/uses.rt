@@ -1,9 +1,10 @@
 // Each use, run once; threads share the tables.
-use papaya::Refused;
 use papaya::seq::HashMap;
+use papaya::{Refused, Session};
 use papaya_uses::counters::{Adder, Counters};
 use papaya_uses::hits::{Hits, forget_below, hit, reads, total};
 use papaya_uses::sessions::{Desk, Sessions};
+use papaya_uses::settings::{Settings, set_and_read};
 use papaya_uses::words::count_words;
 use std::process::Abort;
 use std::sync::Wait;
@@ -72,6 +73,15 @@ fn a_session_of_another_user_stays(rt: HostRuntime) -> Result<(), Fail> {
     let out = desk.sign_out(&rt, 7, 2)?;
     assert!(rt; !out);
     has(&rt, &mut desk, 7, Some(1));
+    Ok(())
+}
+
+#[test]
+fn a_setting_is_read_back(rt: HostRuntime) -> Result<(), Fail> {
+    let settings: Settings = Settings::with_capacity(&rt, rt.alloc(), 100)?;
+    let mut session = Session::new(&settings);
+    let read = set_and_read(&rt, &mut session, 1, 7)?;
+    assert!(rt; read == Some(7));
     Ok(())
 }
 
