@@ -14,10 +14,11 @@ use std::hash::{BuildHasher, BuildHasherDefault, FoldHasher, Hash};
 
 impl<K: Hash + Eq + Drop, S: BuildHasher> HashSet<K, S> {
     /// Stores keys in the order in which they come: what the trait `Extend` does in 0.2.5. Of two
-    /// equal keys the later one stays. No room is made ahead, so for no keys nothing is done at all.
+    /// equal keys the later one stays. No room is made ahead, so for no keys nothing is done at
+    /// all.
     ///
-    /// Refused as [`HashSet::insert`] is for a key. The keys before it are in the set then, and those
-    /// after it were not asked for.
+    /// Refused as [`HashSet::insert`] is for a key. The keys before it are in the set then, and
+    /// those after it were not asked for.
     pub fn extend<U: IntoIterator<Item = K>>(&mut self, iter: U) -> Result<(), Refused>
     where
         U::IntoIter: Drop,
@@ -37,8 +38,8 @@ impl<K: Hash + Eq + Drop, S: BuildHasher> HashSet<K, S> {
 }
 
 impl<K: Hash + Eq + Copy + Drop, S: BuildHasher> HashSet<K, S> {
-    /// [`HashSet::extend`] by keys that are lent and copied: what the trait `Extend` of such keys does
-    /// in 0.2.5.
+    /// [`HashSet::extend`] by keys that are lent and copied: what the trait `Extend` of such keys
+    /// does in 0.2.5.
     pub fn extend_ref<'a, U: IntoIterator<Item = &'a K>>(&mut self, iter: U) -> Result<(), Refused>
     where
         K: 'a,
@@ -59,8 +60,8 @@ impl<K: Hash + Eq + Copy + Drop, S: BuildHasher> HashSet<K, S> {
 }
 
 impl<K: Hash + Eq + Drop, S: BuildHasher + Default + Drop> HashSet<K, S> {
-    /// A set of these keys: what the trait `FromIterator` makes in 0.2.5. Of two equal keys it has the
-    /// later one, and of no keys it has no table.
+    /// A set of these keys: what the trait `FromIterator` makes in 0.2.5. Of two equal keys it has
+    /// the later one, and of no keys it has no table.
     ///
     /// `Refused::Memory` where the set was not made; else refused as [`HashSet::extend`].
     pub fn from_iter<U: IntoIterator<Item = K>>(
@@ -88,11 +89,11 @@ impl<K: Hash + Eq + Drop, S: BuildHasher + Default + Drop> HashSet<K, S> {
 }
 
 impl<K: Hash + Eq + Drop> HashSet<K, BuildHasherDefault<FoldHasher>> {
-    /// A set of the keys of an array: what `From<[K; N]>` makes in 0.2.5. Of two equal keys it has the
-    /// later one.
+    /// A set of the keys of an array: what `From<[K; N]>` makes in 0.2.5. Of two equal keys it has
+    /// the later one.
     ///
-    /// `Refused::Memory` where the set was not made, or the array had no room in memory; else refused
-    /// as [`HashSet::extend`].
+    /// `Refused::Memory` where the set was not made, or the array had no room in memory; else
+    /// refused as [`HashSet::extend`].
     pub fn from_array<const N: usize>(
         alloc: Global,
         keys: [K; N],

@@ -22,8 +22,8 @@ use std::marker::Model;
 /// A hash set for one caller: `papaya::HashSet` for where a `&mut` will do, as
 /// [`papaya_seq::seq::HashMap`] is for the map.
 ///
-/// Contracts see it as the map of its keys to unit values, so its clauses are the map's. Keys that were
-/// removed or replaced stay in the log, until the set is dropped.
+/// Contracts see it as the map of its keys to unit values, so its clauses are the map's. Keys that
+/// were removed or replaced stay in the log, until the set is dropped.
 #[derive(Drop)]
 pub struct HashSet<K: Hash + Eq, S: BuildHasher = BuildHasherDefault<FoldHasher>> {
     pub(crate) map: HashMap<K, (), S>,
@@ -132,8 +132,8 @@ impl<K: Hash + Eq + Drop> HashSet<K, BuildHasherDefault<FoldHasher>> {
 }
 
 impl<K: Hash + Eq, S: BuildHasher> HashSet<K, S> {
-    /// The map of the set's keys to unit values. It tells what a set does not, as how many slots the
-    /// root table has, and whether keys are being moved to a further one.
+    /// The map of the set's keys to unit values. It tells what a set does not, as how many slots
+    /// the root table has, and whether keys are being moved to a further one.
     pub fn map(&self) -> &HashMap<K, (), S>
         ensures { result.now ≡ self.now }
     {
@@ -182,8 +182,8 @@ impl<K: Hash + Eq, S: BuildHasher> HashSet<K, S> {
         }
     }
 
-    /// Have both sets the same keys? It is what `PartialEq` answers in 0.2.5. It takes no memory and is
-    /// never refused.
+    /// Have both sets the same keys? It is what `PartialEq` answers in 0.2.5. It takes no memory
+    /// and is never refused.
     pub fn eq(&self, other: &HashSet<K, S>) -> bool
         ensures { IsTrue result ↔ (HaveSameKeys K.eq self.now.store other.now.store) }
     {
@@ -192,11 +192,11 @@ impl<K: Hash + Eq, S: BuildHasher> HashSet<K, S> {
 }
 
 impl<K: Hash + Eq + Drop, S: BuildHasher> HashSet<K, S> {
-    /// Stores a key, and answers whether it was absent: `insert` of 0.2.5. As there, the new key takes
-    /// the place of an equal one.
+    /// Stores a key, and answers whether it was absent: `insert` of 0.2.5. As there, the new key
+    /// takes the place of an equal one.
     ///
-    /// Refused as [`HashMap::insert`]. The set is as it was then, and the key is dropped, at once or
-    /// with the set.
+    /// Refused as [`HashMap::insert`]. The set is as it was then, and the key is dropped, at once
+    /// or with the set.
     pub fn insert(&mut self, key: K) -> Result<bool, Refused>
         ensures { IsPut K.eq key tt self.old result self.new }
     {
@@ -216,8 +216,8 @@ impl<K: Hash + Eq + Drop, S: BuildHasher> HashSet<K, S> {
         Ok(was)
     }
 
-    /// Makes room ahead for so many more keys: `reserve` of 0.2.5. No key of the set changes. Refused
-    /// as [`HashMap::reserve`].
+    /// Makes room ahead for so many more keys: `reserve` of 0.2.5. No key of the set changes.
+    /// Refused as [`HashMap::reserve`].
     pub fn reserve(&mut self, additional: usize) -> Result<(), Refused>
         ensures ok { OnOk result (HasRoomFor K.eq self.old.store additional self.new.store) }
         ensures err { IfErr result (λ e. IsReserveCause K.eq self.old additional e self.new) }
@@ -229,8 +229,8 @@ impl<K: Hash + Eq + Drop, S: BuildHasher> HashSet<K, S> {
         self.map.reserve(additional)
     }
 
-    /// Removes all keys: `clear` of 0.2.5. The root keeps its slots. Refused as [`HashMap::clear`]; no
-    /// key was removed then.
+    /// Removes all keys: `clear` of 0.2.5. The root keeps its slots. Refused as [`HashMap::clear`];
+    /// no key was removed then.
     pub fn clear(&mut self) -> Result<(), Refused>
         ensures ok { OnOk result (content K.eq self.new.store ≡ []) }
         ensures last { OnOk result (next_of self.new.store ≡ 0) }
