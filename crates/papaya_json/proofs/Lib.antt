@@ -1,0 +1,2 @@
+mod Building
+mod Filling
