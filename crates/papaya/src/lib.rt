@@ -5,7 +5,7 @@
 //! - [`HashMap`] is the map that threads share: [`HashMap::pin`] gives a [`HashMapRef`], which has the
 //!   calls, and [`HashMap::pass`] a [`Pass`], the record of what one thread has seen.
 //! - [`HashMap::builder`] gives a [`HashMapBuilder`], by which a map's parts are asked for one by one.
-//! - [`seq::HashMap`] is the map for one caller: changes take `&mut self`.
+//! - [`seq::HashMap`] is the map for one caller: changes take `&mut self`. [`seq::HashSet`] is the set.
 //! - [`schedule`] runs the calls of many callers step by step, in any order that a test gives.
 //! - [`raw`] has the words, tables and machines that all three are made of.
 #![tactic(auto)]
@@ -19,11 +19,17 @@ pub use papaya_map::map::{HashMap, HashMapRef, Pass};
 pub use papaya_sweep::walk::{Iter, Keys, Values};
 pub use papaya_words::probe::{Refused, ResizeMode};
 
-/// The map for one caller.
+/// The map and the set for one caller.
 pub mod seq {
     pub use papaya_keys::compute::Computed;
     pub use papaya_seq::seq::HashMap;
     pub use papaya_seq::walks::{Iter, Keys, Values};
+    pub use papaya_set::seq::HashSet;
+
+    /// The walk of the set.
+    pub mod set {
+        pub use papaya_set::walks::Iter;
+    }
 }
 
 /// Any number of callers under any schedule of their steps.

@@ -67,5 +67,5 @@ mod Sifted
 mod LeftBy
 mod Cloned
 mod Equal
-mod Filled
-mod Walked
+pub mod Filled
+pub mod Walked

@@ -1,0 +1,109 @@
+//! Calls that take many keys, one after the other.
+ghost use Rattle.std.specs.Prelude.{◌≡◌, ◌⊎◌, IfOk, IfErr};
+ghost use Rattle.std.specs.Iterator.{IsFiniteIterable};
+ghost use Rattle.std.specs.declared.hash.FoldHasher.{FoldHasher};
+ghost use Rattle.std.specs.declared.hash.BuildHasherDefault.{BuildHasherDefault};
+ghost use Rattle.papaya_seq.specs.Entries.{AllCome, ComesNext, Extends, HasJust, IsCutAnew};
+ghost use Rattle.papaya_seq.specs.Entries.{IsCutIn};
+ghost use Rattle.papaya_set.specs.Sets.{entry_of_key, entry_of_ref};
+
+use crate::seq::HashSet;
+use papaya_words::probe::Refused;
+use std::alloc::Global;
+use std::hash::{BuildHasher, BuildHasherDefault, FoldHasher, Hash};
+
+impl<K: Hash + Eq + Drop, S: BuildHasher> HashSet<K, S> {
+    /// Stores keys in the order in which they come: what the trait `Extend` does in 0.2.5. Of two
+    /// equal keys the later one stays. No room is made ahead, so for no keys nothing is done at all.
+    ///
+    /// Refused as [`HashSet::insert`] is for a key. The keys before it are in the set then, and those
+    /// after it were not asked for.
+    pub fn extend<U: IntoIterator<Item = K>>(&mut self, iter: U) -> Result<(), Refused>
+    where
+        U::IntoIter: Drop,
+        requires { IsFiniteIterable U.into_iter_gives U.IntoIter.can_next U.IntoIter.remaining
+            iter }
+        ensures { Extends U.into_iter_gives U.IntoIter.next_gives K.eq entry_of_key iter self.old
+            result self.new }
+    {
+        for key in iter {
+            match self.insert(key) {
+                Ok(_) => {}
+                Err(refused) => return Err(refused),
+            }
+        }
+        Ok(())
+    }
+}
+
+impl<K: Hash + Eq + Copy + Drop, S: BuildHasher> HashSet<K, S> {
+    /// [`HashSet::extend`] by keys that are lent and copied: what the trait `Extend` of such keys does
+    /// in 0.2.5.
+    pub fn extend_ref<'a, U: IntoIterator<Item = &'a K>>(&mut self, iter: U) -> Result<(), Refused>
+    where
+        K: 'a,
+        U::IntoIter: Drop,
+        requires { IsFiniteIterable U.into_iter_gives U.IntoIter.can_next U.IntoIter.remaining
+            iter }
+        ensures { Extends U.into_iter_gives U.IntoIter.next_gives K.eq entry_of_ref iter self.old
+            result self.new }
+    {
+        for key in iter {
+            match self.insert(*key) {
+                Ok(_) => {}
+                Err(refused) => return Err(refused),
+            }
+        }
+        Ok(())
+    }
+}
+
+impl<K: Hash + Eq + Drop, S: BuildHasher + Default + Drop> HashSet<K, S> {
+    /// A set of these keys: what the trait `FromIterator` makes in 0.2.5. Of two equal keys it has the
+    /// later one, and of no keys it has no table.
+    ///
+    /// `Refused::Memory` where the set was not made; else refused as [`HashSet::extend`].
+    pub fn from_iter<U: IntoIterator<Item = K>>(
+        alloc: Global,
+        iter: U,
+    ) -> Result<HashSet<K, S>, Refused>
+    where
+        U: Drop,
+        U::IntoIter: Drop,
+        requires { IsFiniteIterable U.into_iter_gives U.IntoIter.can_next U.IntoIter.remaining
+            iter }
+        ensures ok { IfOk result (λ set. AllCome U.into_iter_gives U.IntoIter.next_gives iter
+            (λ items. HasJust K.eq entry_of_key items set)) }
+        ensures hasher { IfOk result (λ set. S.is_default set.store.hasher) }
+        ensures err { IfErr result (λ e. (e ≡ Refused.Memory)
+            ⊎ ComesNext U.into_iter_gives U.IntoIter.next_gives iter
+            (λ items item. IsCutAnew S K.eq entry_of_key items item e)) }
+    {
+        let mut set = HashSet::with_hasher(alloc, S::default())?;
+        match set.extend(iter) {
+            Ok(()) => Ok(set),
+            Err(refused) => Err(refused),
+        }
+    }
+}
+
+impl<K: Hash + Eq + Drop> HashSet<K, BuildHasherDefault<FoldHasher>> {
+    /// A set of the keys of an array: what `From<[K; N]>` makes in 0.2.5. Of two equal keys it has the
+    /// later one.
+    ///
+    /// `Refused::Memory` where the set was not made, or the array had no room in memory; else refused
+    /// as [`HashSet::extend`].
+    pub fn from_array<const N: usize>(
+        alloc: Global,
+        keys: [K; N],
+    ) -> Result<HashSet<K, BuildHasherDefault<FoldHasher>>, Refused>
+        ensures ok { IfOk result (λ set. HasJust K.eq entry_of_key keys set) }
+        ensures err { IfErr result (λ e. (e ≡ Refused.Memory)
+            ⊎ IsCutIn (BuildHasherDefault FoldHasher) K.eq entry_of_key keys e) }
+    {
+        match Vec::from_array(alloc, keys) {
+            Ok(keys) => HashSet::from_iter(alloc, keys),
+            Err(_) => Err(Refused::Memory),
+        }
+    }
+}

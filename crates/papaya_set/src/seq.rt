@@ -1,0 +1,261 @@
+//! The set for one caller.
+ghost use Rattle.std.specs.Prelude.{◌≡◌, ◌≢◌, ◌↔◌, IsTrue, true, Err, IfErr, IfOk, IsOk, OnOk, [], MatchBool};
+ghost use Rattle.std.specs.Prelude.{MatchOption, length, option_map, is_some};
+ghost use Rattle.papaya_words.specs.declared.limits.TheConstants.{DEFAULT_CHUNK};
+ghost use Rattle.papaya_law.specs.Content.{AreApart};
+ghost use Rattle.papaya_timeline.specs.Content.{content};
+ghost use Rattle.papaya_timeline.specs.New.{IsNew};
+ghost use Rattle.papaya_keys.specs.Sizes.{IsAllowed, IsSizeRefusal, IsTooMuch};
+ghost use Rattle.papaya_seq.specs.Entries.{IsPut};
+ghost use Rattle.papaya_seq.specs.Map.{HasNone, Holds, Keeps, KeepsSlots, Unchanged};
+ghost use Rattle.papaya_seq.specs.Map.{core_of, next_of, slots_of};
+ghost use Rattle.papaya_seq.specs.Resizes.{HasRoomFor, IsCopyCause, IsReserveCause, pairs_with};
+ghost use Rattle.papaya_set.specs.Sets.{AreKept, HaveSameKeys, IsTaken, key_in};
+
+use papaya_keys::guard::Equivalent;
+use papaya_seq::seq::HashMap;
+use papaya_words::probe::{Refused, ResizeMode};
+use std::alloc::Global;
+use std::hash::{BuildHasher, BuildHasherDefault, FoldHasher, Hash};
+use std::marker::Model;
+
+/// A hash set for one caller: `papaya::HashSet` for where a `&mut` will do, as
+/// [`papaya_seq::seq::HashMap`] is for the map.
+///
+/// Contracts see it as the map of its keys to unit values, so its clauses are the map's. Keys that were
+/// removed or replaced stay in the log, until the set is dropped.
+#[derive(Drop)]
+pub struct HashSet<K: Hash + Eq, S: BuildHasher = BuildHasherDefault<FoldHasher>> {
+    pub(crate) map: HashMap<K, (), S>,
+}
+
+impl<K: Hash + Eq, S: BuildHasher> Model for HashSet<K, S> {
+    ghost use Rattle.papaya_seq.specs.Map.{MapState};
+
+    ghost Value = { MapState K (Unit {0}) S };
+
+    ghost view = { λ s. s.map };
+}
+
+impl<K: Hash + Eq + Drop, S: BuildHasher + Drop> HashSet<K, S> {
+    /// A set of all its parts, as [`HashMap::with_parts`] makes a map, and refused as that is.
+    pub fn with_parts(
+        alloc: Global,
+        mode: ResizeMode,
+        capacity: usize,
+        shards: usize,
+        hasher: S,
+    ) -> Result<HashSet<K, S>, Refused>
+        ensures ok { IfOk result (λ set. IsAllowed mode capacity shards
+            × IsNew {A = Unit {0}} mode capacity shards hasher (core_of set)) }
+        ensures empty { IfOk result (λ set. content K.eq set.store ≡ []) }
+        ensures err { IfErr result (λ e. IsSizeRefusal mode capacity shards e) }
+    {
+        Ok(HashSet {
+            map: HashMap::with_parts(alloc, mode, capacity, shards, hasher)?,
+        })
+    }
+
+    /// A set for so many keys, with this hasher: `with_capacity_and_hasher` of 0.2.5.
+    pub fn with_capacity_and_hasher(
+        alloc: Global,
+        capacity: usize,
+        hasher: S,
+    ) -> Result<HashSet<K, S>, Refused>
+        ensures ok { IfOk result (λ set. IsNew {A = Unit {0}} (ResizeMode.Incremental DEFAULT_CHUNK)
+            capacity 1 hasher (core_of set)) }
+        ensures empty { IfOk result (λ set. content K.eq set.store ≡ []) }
+        ensures err { IfErr result (λ e. IsSizeRefusal (ResizeMode.Incremental DEFAULT_CHUNK)
+            capacity 1
+            e) }
+    {
+        Ok(HashSet {
+            map: HashMap::with_capacity_and_hasher(alloc, capacity, hasher)?,
+        })
+    }
+
+    /// A set with this hasher: `with_hasher` of 0.2.5. The first change makes its first table.
+    pub fn with_hasher(alloc: Global, hasher: S) -> Result<HashSet<K, S>, Refused>
+        ensures ok { IfOk result (λ set. IsNew {A = Unit {0}}
+            (ResizeMode.Incremental DEFAULT_CHUNK) 0 1 hasher (core_of set)) }
+        ensures empty { IfOk result (λ set. content K.eq set.store ≡ []) }
+        ensures err { IfErr result (λ e. e ≡ Refused.Memory) }
+    {
+        Ok(HashSet {
+            map: HashMap::with_hasher(alloc, hasher)?,
+        })
+    }
+}
+
+impl<K: Hash + Eq + Drop> HashSet<K, BuildHasherDefault<FoldHasher>> {
+    /// A set that makes its first table at its first change: `new` of 0.2.5, but for the hasher,
+    /// which is the same in each run.
+    pub fn new(alloc: Global) -> Result<HashSet<K, BuildHasherDefault<FoldHasher>>, Refused>
+        ensures new { IfOk result (λ set. IsNew {A = Unit {0}}
+            (ResizeMode.Incremental DEFAULT_CHUNK) 0 1 set.store.hasher (core_of set)) }
+        ensures empty { IfOk result (λ set. (content K.eq set.store ≡ [])
+            × (slots_of set.store ≡ 0)) }
+        ensures err { IfErr result (λ e. e ≡ Refused.Memory) }
+    {
+        Ok(HashSet {
+            map: HashMap::new(alloc)?,
+        })
+    }
+
+    /// A set for so many keys: `with_capacity` of 0.2.5.
+    pub fn with_capacity(
+        alloc: Global,
+        capacity: usize,
+    ) -> Result<HashSet<K, BuildHasherDefault<FoldHasher>>, Refused>
+        ensures new { IfOk result (λ set. IsNew {A = Unit {0}}
+            (ResizeMode.Incremental DEFAULT_CHUNK) capacity 1 set.store.hasher (core_of set)) }
+        ensures empty { IfOk result (λ set. content K.eq set.store ≡ []) }
+        ensures err { IfErr result (λ e. IsSizeRefusal (ResizeMode.Incremental DEFAULT_CHUNK)
+            capacity 1
+            e) }
+    {
+        Ok(HashSet {
+            map: HashMap::with_capacity(alloc, capacity)?,
+        })
+    }
+
+    /// The same as [`HashSet::new`]: what the trait `Default` gives in 0.2.5.
+    pub fn default(alloc: Global) -> Result<HashSet<K, BuildHasherDefault<FoldHasher>>, Refused>
+        ensures new { IfOk result (λ set. IsNew {A = Unit {0}}
+            (ResizeMode.Incremental DEFAULT_CHUNK) 0 1 set.store.hasher (core_of set)) }
+        ensures empty { IfOk result (λ set. (content K.eq set.store ≡ [])
+            × (slots_of set.store ≡ 0)) }
+        ensures err { IfErr result (λ e. e ≡ Refused.Memory) }
+    {
+        HashSet::new(alloc)
+    }
+}
+
+impl<K: Hash + Eq, S: BuildHasher> HashSet<K, S> {
+    /// The map of the set's keys to unit values. It tells what a set does not, as how many slots the
+    /// root table has, and whether keys are being moved to a further one.
+    pub fn map(&self) -> &HashMap<K, (), S>
+        ensures { result.now ≡ self.now }
+    {
+        &self.map
+    }
+
+    /// How many keys the set has.
+    pub fn len(&self) -> usize
+        ensures count { result ≡ length (content K.eq self.now.store) }
+        ensures apart { AreApart K.eq (λ p. p.key) (content K.eq self.now.store) }
+    {
+        self.map.len()
+    }
+
+    /// Has the set no key?
+    pub fn is_empty(&self) -> bool
+        ensures { MatchBool result (content K.eq self.now.store ≡ [])
+            (content K.eq self.now.store ≢ []) }
+    {
+        self.map.is_empty()
+    }
+
+    /// Is the key in the set? `contains` of 0.2.5. It takes no memory and is never refused.
+    pub fn contains<Q: Equivalent<K>>(&self, key: &Q) -> bool
+        ensures map { (k : _) → Q.matches key.now k ≡ true
+            → result ≡ is_some (key_in K.eq self.now.store k) }
+        ensures answer { MatchBool result
+            ((p : _) × Holds K.eq (Q.matches key.now) self.now.store p)
+            (HasNone K.eq (Q.matches key.now) self.now.store) }
+    {
+        self.map.contains_key(key)
+    }
+
+    /// The stored key that is equal to this one: `get` of 0.2.5. It takes no memory and is never
+    /// refused.
+    pub fn get<Q: Equivalent<K>>(&self, key: &Q) -> Option<&K>
+        ensures map { (k : _) → Q.matches key.now k ≡ true
+            → option_map (λ stored. stored.now) result ≡ key_in K.eq self.now.store k }
+        ensures answer { MatchOption result (HasNone K.eq (Q.matches key.now) self.now.store)
+            (λ stored. (p : _) × Holds K.eq (Q.matches key.now) self.now.store p
+            × (p.key ≡ stored.now)) }
+    {
+        match self.map.get_key_value(key) {
+            Some((stored, _)) => Some(stored),
+            None => None,
+        }
+    }
+
+    /// Have both sets the same keys? It is what `PartialEq` answers in 0.2.5. It takes no memory and is
+    /// never refused.
+    pub fn eq(&self, other: &HashSet<K, S>) -> bool
+        ensures { IsTrue result ↔ (HaveSameKeys K.eq self.now.store other.now.store) }
+    {
+        self.map.eq(&other.map)
+    }
+}
+
+impl<K: Hash + Eq + Drop, S: BuildHasher> HashSet<K, S> {
+    /// Stores a key, and answers whether it was absent: `insert` of 0.2.5. As there, the new key takes
+    /// the place of an equal one.
+    ///
+    /// Refused as [`HashMap::insert`]. The set is as it was then, and the key is dropped, at once or
+    /// with the set.
+    pub fn insert(&mut self, key: K) -> Result<bool, Refused>
+        ensures { IsPut K.eq key tt self.old result self.new }
+    {
+        self.map.put(key, ())
+    }
+
+    /// Removes a key, and answers whether it was there: `remove` of 0.2.5. Refused as
+    /// [`HashMap::remove`], so only while keys are being moved to a further table.
+    pub fn remove<Q: Equivalent<K>>(&mut self, key: &Q) -> Result<bool, Refused>
+        ensures taken { IsTaken K.eq (Q.matches key.now) self.old result self.new }
+        ensures never { next_of self.old.store ≡ 0 → IsOk result }
+    {
+        let was = match self.map.remove(key) {
+            Ok(removed) => removed.is_some(),
+            Err(refused) => return Err(refused),
+        };
+        Ok(was)
+    }
+
+    /// Makes room ahead for so many more keys: `reserve` of 0.2.5. No key of the set changes. Refused
+    /// as [`HashMap::reserve`].
+    pub fn reserve(&mut self, additional: usize) -> Result<(), Refused>
+        ensures ok { OnOk result (HasRoomFor K.eq self.old.store additional self.new.store) }
+        ensures err { IfErr result (λ e. IsReserveCause K.eq self.old additional e self.new) }
+        ensures too_much { IsTooMuch (pairs_with K.eq self.old.store additional)
+            → (result ≡ Err Refused.Capacity) × (self.new ≡ self.old) }
+        ensures map { Unchanged K.eq self.old.store self.new.store }
+        ensures keeps { Keeps self.old self.new }
+    {
+        self.map.reserve(additional)
+    }
+
+    /// Removes all keys: `clear` of 0.2.5. The root keeps its slots. Refused as [`HashMap::clear`]; no
+    /// key was removed then.
+    pub fn clear(&mut self) -> Result<(), Refused>
+        ensures ok { OnOk result (content K.eq self.new.store ≡ []) }
+        ensures last { OnOk result (next_of self.new.store ≡ 0) }
+        ensures err { IfErr result (λ e. IsCopyCause self.old e self.new
+            × Unchanged K.eq self.old.store self.new.store) }
+        ensures never { next_of self.old.store ≡ 0 → IsOk result }
+        ensures slots { KeepsSlots self.old self.new }
+        ensures keeps { Keeps self.old self.new }
+    {
+        self.map.clear()
+    }
+
+    /// Keeps the keys which the closure, when it is shown each of them once, answers true for, and
+    /// removes the others: `retain` of 0.2.5. Refused as [`HashMap::retain`]; no key was shown or
+    /// removed then.
+    pub fn retain<F: FnMut(&K) -> bool>(&mut self, mut agrees: F) -> Result<(), Refused>
+        requires { F.IsAlwaysCallable agrees }
+        ensures ok { OnOk result (AreKept F.FnMut K.eq agrees self.old.store self.new.store) }
+        ensures err { IfErr result (λ e. IsCopyCause self.old e self.new
+            × Unchanged K.eq self.old.store self.new.store) }
+        ensures last { OnOk result (next_of self.new.store ≡ 0) }
+        ensures never { next_of self.old.store ≡ 0 → IsOk result }
+        ensures slots { KeepsSlots self.old self.new }
+        ensures keeps { Keeps self.old self.new }
+    {
+        self.map.retain(move |key, _| agrees(key))
+    }
+}

@@ -1,0 +1,13 @@
+//! The tests of the set for one caller.
+#![tactic(auto)]
+
+#[cfg(test)]
+mod cases;
+#[cfg(test)]
+mod expect;
+#[cfg(test)]
+mod refused;
+#[cfg(test)]
+mod steps;
+#[cfg(test)]
+mod together;

@@ -1,0 +1,75 @@
+// Sets that are made of keys, compared and printed.
+use crate::expect::is;
+use papaya_set::seq::HashSet;
+use std::alloc::Global;
+use std::process::Abort;
+use std::test::Fail;
+
+type Keys = HashSet<u64>;
+
+/// Both sets are equal or not, each to the other.
+fn compare(rt: &impl Abort, one: &Keys, other: &Keys, wanted: bool) {
+    is(rt, one.eq(other), wanted);
+    is(rt, other.eq(one), wanted);
+}
+
+/// The set has so many keys and slots.
+fn has(rt: &impl Abort, set: &Keys, keys: usize, slots: usize) {
+    is(rt, (set.len(), set.map().slots()), (keys, slots));
+}
+
+#[test]
+fn sets_are_made_of_keys(rt: HostRuntime) -> Result<(), Fail> {
+    let alloc = rt.alloc();
+    let none: Keys = HashSet::from_iter(alloc, 0..0)?;
+    has(&rt, &none, 0, 0);
+    let zero: Keys = HashSet::from_iter(alloc, vec![in alloc; 0, 0, 0]?)?;
+    has(&rt, &zero, 1, 32);
+    let three: Keys = HashSet::from_array(alloc, [1, 2, 1, 3])?;
+    has(&rt, &three, 3, 32);
+    Ok(())
+}
+
+/// A set of these keys.
+fn made(alloc: Global, keys: &[u64]) -> Result<Keys, Fail> {
+    let mut set = HashSet::default(alloc)?;
+    set.extend_ref(keys)?;
+    Ok(set)
+}
+
+#[test]
+fn sets_of_equal_keys_are_equal(rt: HostRuntime) -> Result<(), Fail> {
+    let sets: [(&[u64], &[u64], bool); 5] = [
+        (&[], &[], true),
+        (&[1, 2, 3], &[1, 2], false),
+        (&[1], &[1], true),
+        (&[1], &[2], false),
+        (&[1, 2, 3], &[3, 2, 1], true),
+    ];
+    for (one, other, wanted) in sets {
+        compare(
+            &rt,
+            &made(rt.alloc(), one)?,
+            &made(rt.alloc(), other)?,
+            wanted,
+        );
+    }
+    Ok(())
+}
+
+#[test]
+fn a_set_prints_its_keys(rt: HostRuntime) -> Result<(), Fail> {
+    let alloc = rt.alloc();
+    let mut set: Keys = HashSet::with_capacity(alloc, 2)?;
+    is(&rt, format!(in alloc; "{set:?}")?.as_str(), "{}");
+    is(&rt, set.insert(42), Ok(true));
+    is(&rt, format!(in alloc; "{set:?}")?.as_str(), "{42}");
+    is(&rt, set.insert(16), Ok(true));
+    let text = format!(in alloc; "{set:?}")?;
+    is(
+        &rt,
+        text.as_str() == "{42, 16}" || text.as_str() == "{16, 42}",
+        true,
+    );
+    Ok(())
+}
