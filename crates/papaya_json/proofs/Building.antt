@@ -1,7 +1,6 @@
 -- An object, one pair on.
-use Rattle.std.proofs.Common.{◌≡◌, ℕ, ◌+◌, ◌<◌, ◌≤◌, ◌||◌, not, cond, Bool, true, false, List, [], ◌∷◌, ◌++◌, length, map, Option, None, Some, String, Global, Ordering, Less, Equal, Greater, string_bytes, string_cmp, refl, sym, ap, ◌∙◌, subst, arith}
+use Rattle.std.proofs.Common.{◌≡◌, ℕ, suc, ◌+◌, ◌<◌, ◌≤◌, ◌||◌, not, cond, Bool, true, false, List, [], ◌∷◌, ◌++◌, length, map, Option, None, Some, String, Global, Ordering, Less, Equal, Greater, string_bytes, string_cmp, refl, sym, ap, ◌∙◌, subst, arith}
 use Rattle.std.proofs.lemmas.List.{length_push}
-use Rattle.std.proofs.lemmas.List.Kept.{Any-cons}
 use Rattle.std.proofs.lemmas.List.Sums.{fold_push}
 use Rattle.std.specs.List.{AllZip, Any}
 use Rattle.std.specs.BTreeMap.{insert_entry}
@@ -26,7 +25,7 @@ map_push f (y ∷ ys) x = ap (λ l. f y ∷ l) (map_push f ys x)
 -- what holds of an item, holds of some item
 pub any_middle : {A : Type 0} (P : A → Type 0) (xs : List A) (x : A) (ys : List A) → P x → Any P (xs ++ x ∷ ys)
 any_middle P [] x ys here = (0, x, omega arith, refl, here)
-any_middle P (y ∷ xs) x ys here = Any-cons P y (xs ++ x ∷ ys) (any_middle P xs x ys here)
+any_middle P (y ∷ xs) x ys here = let a = any_middle P xs x ys here in (suc a.0, a.1, omega (arith, a.2), a.3, a.4)
 
 -- one more of each list
 pub zip_more : {A B : Type 0} (R : A → B → Type 0) (xs : List A) (ys : List B) (x : A) (y : B) → AllZip R xs ys → R x y → AllZip R (xs ++ x ∷ []) (ys ++ y ∷ [])

@@ -1,2 +1,2 @@
-mod Building
-mod Filling
+pub mod Building
+pub mod Filling

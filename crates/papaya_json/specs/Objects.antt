@@ -1,6 +1,7 @@
 -- JSON objects that are made of the pairs of maps, and maps that are made of the members of objects.
-use Rattle.std.specs.Prelude.{◌≡◌, ◌≢◌, ℕ, Bool, ◌<◌, ◌⊎◌, List, ◌∷◌, ◌++◌, length, map, Option, Some, None, String, BTreeMap, string_bytes, fold}
+use Rattle.std.specs.Prelude.{◌≡◌, ◌≢◌, ℕ, Bool, ◌<◌, ◌⊎◌, List, length, map, Option, Some, None, String, string_bytes, fold}
 use Rattle.std.specs.declared.alloc.Global.{Global}
+use Rattle.std.specs.BTreeMap.{BTreeMap}
 use Rattle.std.specs.List.{AllZip, Any}
 use Rattle.serde_json.specs.Data.{Data, Members, no_members, object, put}
 use Rattle.serde_json.specs.Events.{members_len}
@@ -10,8 +11,8 @@ use Rattle.papaya_words.specs.declared.probe.Refused.{Refused}
 use Rattle.papaya_words.specs.declared.probe.Refused.TheVariants.{Item, KeyClash, Memory, Shape}
 use Rattle.papaya_store.specs.Store.{StoreState}
 use Rattle.papaya_timeline.specs.Content.{content}
-use Rattle.papaya_seq.specs.Entries.{HasJust, IsCutAnew}
 use Rattle.papaya_seq.specs.Map.{MapState, entry_of}
+use Rattle.papaya_json.specs.Reads.{IsRead, IsReadRefusal}
 
 -- the pairs of a map, in the order of a walk
 abbrev pub pairs_of : {K V S : Type 0} → (K → K → Bool) → StoreState K V S → List (K × V)
@@ -80,32 +81,12 @@ module _ {K V : Type 0} (key_of : List ℕ → Option K → Type 0)
   abbrev pub HasNoPair : Entry → Type 0
   HasNoPair m = key_of (string_bytes m.0) None ⊎ value_of m.1 None
 
-  -- all members have pairs, and the map has just those
-  pub record IsRead {S : Type 0} (eq : K → K → Bool) (entries : List Entry) (s : MapState K V S)
-      : Type 0 where
-    pub pairs : List (K × V)
-    pub each : AllZip IsPair entries pairs
-    pub just : HasJust eq (λ p. p) pairs s
+  -- the value is an object, and the map has just the pairs of its members, in their order
+  abbrev pub IsMapOf : {S : Type 0} → (K → K → Bool) → Value → MapState K V S → Type 0
+  IsMapOf eq v s = IsObjectWith v (λ entries. IsRead eq IsPair (λ p. p) entries s)
 
-  -- the first members have these pairs, and this is so of them and of the member after those
-  pub record StopsAt (entries : List Entry) (so : List (K × V) → Entry → Type 0) : Type 0 where
-    pub before : List Entry
-    pub member : Entry
-    pub after : List Entry
-    pub whole : entries ≡ before ++ member ∷ after
-    pub pairs : List (K × V)
-    pub each : AllZip IsPair before pairs
-    pub stop : so pairs member
-
-  -- Why there is no map of these members: none was made, one has no pair, or the pair of one was
-  -- refused.
-  abbrev pub IsReadRefusal : (S : Type 0) → (K → K → Bool) → Refused → List Entry → Type 0
-  IsReadRefusal S eq refused entries = (refused ≡ Memory)
-      ⊎ StopsAt entries (λ pairs member. ((refused ≡ Item) × HasNoPair member)
-      ⊎ ((pair : K × V) × IsPair member pair × IsCutAnew S eq (λ p. p) pairs pair refused))
-
-  -- The value is no object, or it is one and so of its members.
+  -- why there is no map: the value is no object, or it is one, and there is none of its members
   abbrev pub IsMapRefusal : (S : Type 0) → (K → K → Bool) → Value → Refused → Type 0
   IsMapRefusal S eq v refused = ((refused ≡ Shape)
       × ((object : BTreeMap (String Global) Value) → v ≢ Object object))
-      ⊎ IsObjectWith v (IsReadRefusal S eq refused)
+      ⊎ IsObjectWith v (IsReadRefusal S eq IsPair HasNoPair (λ p. p) refused)

@@ -1,7 +1,8 @@
 //! Maps of JSON objects.
 ghost use Rattle.std.specs.Prelude.{◌≡◌, IfErr, IfOk};
 ghost use Rattle.std.specs.Fn.{FnReturnsAt};
-ghost use Rattle.papaya_json.specs.Objects.{IsMapRefusal, IsObjectWith, IsRead, IsReadRefusal};
+ghost use Rattle.papaya_json.specs.Objects.{HasNoPair, IsMapOf, IsMapRefusal, IsPair};
+ghost use Rattle.papaya_json.specs.Reads.{IsRead, IsReadRefusal};
 
 use papaya_seq::seq::HashMap;
 use papaya_words::probe::Refused;
@@ -22,11 +23,13 @@ where
     W: Fn(&Value) -> Option<V>,
     requires key { T.IsAlwaysCallable key }
     requires value { W.IsAlwaysCallable value }
-    ensures ok { IfOk result (IsRead (FnReturnsAt T.Fn key) (FnReturnsAt W.Fn value) K.eq
-        members.now.entries) }
+    ensures ok { IfOk result (IsRead K.eq (IsPair (FnReturnsAt T.Fn key) (FnReturnsAt W.Fn value))
+        (λ p. p) members.now.entries) }
     ensures hasher { IfOk result (λ map. map.store.hasher ≡ hasher) }
-    ensures err { IfErr result (λ e. IsReadRefusal (FnReturnsAt T.Fn key)
-        (FnReturnsAt W.Fn value) S K.eq e members.now.entries) }
+    ensures err { IfErr result (λ e. IsReadRefusal S K.eq
+        (IsPair (FnReturnsAt T.Fn key) (FnReturnsAt W.Fn value))
+        (HasNoPair (FnReturnsAt T.Fn key) (FnReturnsAt W.Fn value)) (λ p. p) e
+        members.now.entries) }
 {
     let mut map = HashMap::with_hasher(alloc, hasher)?;
     for (name, member) in members {
@@ -63,8 +66,8 @@ where
     W: Fn(&Value) -> Option<V>,
     requires key { T.IsAlwaysCallable key }
     requires value { W.IsAlwaysCallable value }
-    ensures ok { IfOk result (λ map. IsObjectWith v.now (λ entries. IsRead (FnReturnsAt T.Fn key)
-        (FnReturnsAt W.Fn value) K.eq entries map)) }
+    ensures ok { IfOk result (IsMapOf (FnReturnsAt T.Fn key) (FnReturnsAt W.Fn value) K.eq
+        v.now) }
     ensures hasher { IfOk result (λ map. map.store.hasher ≡ hasher) }
     ensures err { IfErr result (IsMapRefusal (FnReturnsAt T.Fn key) (FnReturnsAt W.Fn value) S K.eq
         v.now) }

@@ -1,4 +1,4 @@
-use Rattle.std.proofs.Common.{◌≡◌, ◌<◌, ◌++◌, ◌∷◌, [], ◌||◌, not, cond, inl, inr, refl, sym, ◌∙◌, ap, subst, map, length}
+use Rattle.std.proofs.Common.{◌≡◌, ◌<◌, ◌++◌, ◌∷◌, [], ◌||◌, not, cond, inl, inr, refl, sym, ◌∙◌, ap, subst, map, length, false, Some, Option}
 use Rattle.std.specs.Fn.{FnReturnsAt}
 use Rattle.std.specs.Map.Iter.{deref_pair}
 use Rattle.serde_json.specs.Data.{object}
@@ -15,8 +15,8 @@ loop-k-preserved-then-clash g c =
     let l = c.loop-k in
     let text_of = FnReturnsAt g.T.Fn c.args.key in
     let data_of = FnReturnsAt g.W.Fn c.args.value in
-    let text = record { shown = c.in-Some.k; shows = refl; says = record { met = c.in-Some-key.ensures } } in
-    let shown = record { shown = c.in-Some.v; shows = refl; says = record { met = c.in-Some-value.ensures } } in
+    let text : FnReturnsAt g.T.Fn c.args.key c.in-Some.k.now (Some c.in-Some-key.name) = record { shown = c.in-Some.k; shows = refl; says = record { met = c.in-Some-key.ensures } } in
+    let shown : FnReturnsAt g.W.Fn c.args.value c.in-Some.v.now (Some c.in-Some-value.member) = record { shown = c.in-Some.v; shows = refl; says = record { met = c.in-Some-value.ensures } } in
     let built = built_more text_of data_of (map deref_pair l.yielded) l.members.entries l.clash l.invariant (c.in-Some.k.now, c.in-Some.v.now) c.in-Some-key.name c.in-Some-value.member text shown c.in-Ok.new l.clash
     (more_than_one l.clash (not c.in-Ok.new) c.if-clash.true) (sym (ap length c.in-Ok.ensures.entries) ∙ c.in-Ok.ensures.new) in
     subst (λ es. IsBuilt text_of data_of (map deref_pair (l.yielded ++ (c.in-Some.k, c.in-Some.v) ∷ [])) es l.clash) (sym c.in-Ok.ensures.entries)
@@ -27,8 +27,8 @@ loop-k-preserved g c =
     let l = c.loop-k in
     let text_of = FnReturnsAt g.T.Fn c.args.key in
     let data_of = FnReturnsAt g.W.Fn c.args.value in
-    let text = record { shown = c.in-Some.k; shows = refl; says = record { met = c.in-Some-key.ensures } } in
-    let shown = record { shown = c.in-Some.v; shows = refl; says = record { met = c.in-Some-value.ensures } } in
+    let text : FnReturnsAt g.T.Fn c.args.key c.in-Some.k.now (Some c.in-Some-key.name) = record { shown = c.in-Some.k; shows = refl; says = record { met = c.in-Some-key.ensures } } in
+    let shown : FnReturnsAt g.W.Fn c.args.value c.in-Some.v.now (Some c.in-Some-value.member) = record { shown = c.in-Some.v; shows = refl; says = record { met = c.in-Some-value.ensures } } in
     let built = built_more text_of data_of (map deref_pair l.yielded) l.members.entries l.clash l.invariant (c.in-Some.k.now, c.in-Some.v.now) c.in-Some-key.name c.in-Some-value.member text shown c.in-Ok.new (not c.in-Ok.new)
     (as_the_next l.clash (not c.in-Ok.new) c.if-clash.false) (sym (ap length c.in-Ok.ensures.entries) ∙ c.in-Ok.ensures.new) in
     subst (λ es. IsBuilt text_of data_of (map deref_pair (l.yielded ++ (c.in-Some.k, c.in-Some.v) ∷ [])) es (not c.in-Ok.new)) (sym c.in-Ok.ensures.entries)
