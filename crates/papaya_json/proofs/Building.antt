@@ -85,3 +85,10 @@ module _ {K V : Type 0} (text_of : K → Option (String Global) → Type 0) (dat
         one true n fewer more e = let a = fewer refl in let b = little n in omega (arith, a, more, long, b)
         one false false fewer more e = let a = built.most in omega (arith, a, more, long)
         one false true fewer more e = absurd cc
+
+    -- the same of what the entries and the items are then
+    pub built_on : (new after : Bool) → (clash || not new) ≡ after → (es' : List (String Global × Value)) → es' ≡ insert_entry string_cmp es t v → length es' ≡ length es + cond new 1 0 → (items' : List (K × V)) → items' ≡ items ++ item ∷ [] → IsBuilt items' es' after
+    built_on new after is es' entries many items' came =
+        let more : IsBuilt (items ++ item ∷ []) (insert_entry string_cmp es t v) after = built_more new after is (sym (ap length entries) ∙ many) in
+        let there : IsBuilt (items ++ item ∷ []) es' after = subst (λ e. IsBuilt (items ++ item ∷ []) e after) (sym entries) more in
+        subst (λ i. IsBuilt i es' after) (sym came) there

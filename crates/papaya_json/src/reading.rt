@@ -72,8 +72,8 @@ where
     ensures err { IfErr result (IsMapRefusal (FnReturnsAt T.Fn key) (FnReturnsAt W.Fn value) S K.eq
         v.now) }
 {
-    match v {
-        Value::Object(members) => map_of(alloc, members, hasher, key, value),
-        _ => Err(Refused::Shape),
-    }
+    let Value::Object(members) = v else {
+        return Err(Refused::Shape);
+    };
+    map_of(alloc, members, hasher, key, value)
 }

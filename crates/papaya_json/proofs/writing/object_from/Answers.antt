@@ -4,7 +4,7 @@ use Rattle.std.specs.Map.Iter.{deref_pair}
 use Rattle.serde_json.specs.Data.{object}
 use Rattle.serde_json.specs.Events.{members_len}
 use Rattle.serde_json.proofs.Views.{members_len-members_view, view-Object}
-use Rattle.papaya_json.proofs.Building.{IsBuilt, as_the_next, built_more, built_none, map_push, more_than_one}
+use Rattle.papaya_json.proofs.Building.{IsBuilt, as_the_next, built_none, built_on, map_push, more_than_one}
 use Rattle.papaya_json.proofs.writing.object_from.Goals as goal
 
 pub loop-k-init : goal.loop-k-init
@@ -13,26 +13,18 @@ loop-k-init g c = subst (λ es. IsBuilt (FnReturnsAt g.T.Fn c.args.key) (FnRetur
 pub loop-k-preserved-then-clash : goal.loop-k-preserved-then-clash
 loop-k-preserved-then-clash g c =
     let l = c.loop-k in
-    let text_of = FnReturnsAt g.T.Fn c.args.key in
-    let data_of = FnReturnsAt g.W.Fn c.args.value in
     let text : FnReturnsAt g.T.Fn c.args.key c.in-Some.k.now (Some c.in-Some-key.name) = record { shown = c.in-Some.k; shows = refl; says = record { met = c.in-Some-key.ensures } } in
     let shown : FnReturnsAt g.W.Fn c.args.value c.in-Some.v.now (Some c.in-Some-value.member) = record { shown = c.in-Some.v; shows = refl; says = record { met = c.in-Some-value.ensures } } in
-    let built = built_more text_of data_of (map deref_pair l.yielded) l.members.entries l.clash l.invariant (c.in-Some.k.now, c.in-Some.v.now) c.in-Some-key.name c.in-Some-value.member text shown c.in-Ok.new l.clash
-    (more_than_one l.clash (not c.in-Ok.new) c.if-clash.true) (sym (ap length c.in-Ok.ensures.entries) ∙ c.in-Ok.ensures.new) in
-    subst (λ es. IsBuilt text_of data_of (map deref_pair (l.yielded ++ (c.in-Some.k, c.in-Some.v) ∷ [])) es l.clash) (sym c.in-Ok.ensures.entries)
-    (subst (λ items. IsBuilt text_of data_of items _ l.clash) (sym (map_push deref_pair l.yielded (c.in-Some.k, c.in-Some.v))) built)
+    built_on (FnReturnsAt g.T.Fn c.args.key) (FnReturnsAt g.W.Fn c.args.value) (map deref_pair l.yielded) l.members.entries l.clash l.invariant (c.in-Some.k.now, c.in-Some.v.now) c.in-Some-key.name c.in-Some-value.member text shown c.in-Ok.new l.clash
+    (more_than_one l.clash (not c.in-Ok.new) c.if-clash.true) c.put.new.members.entries c.in-Ok.ensures.entries c.in-Ok.ensures.new (map deref_pair (l.yielded ++ (c.in-Some.k, c.in-Some.v) ∷ [])) (map_push deref_pair l.yielded (c.in-Some.k, c.in-Some.v))
 
 pub loop-k-preserved : goal.loop-k-preserved
 loop-k-preserved g c =
     let l = c.loop-k in
-    let text_of = FnReturnsAt g.T.Fn c.args.key in
-    let data_of = FnReturnsAt g.W.Fn c.args.value in
     let text : FnReturnsAt g.T.Fn c.args.key c.in-Some.k.now (Some c.in-Some-key.name) = record { shown = c.in-Some.k; shows = refl; says = record { met = c.in-Some-key.ensures } } in
     let shown : FnReturnsAt g.W.Fn c.args.value c.in-Some.v.now (Some c.in-Some-value.member) = record { shown = c.in-Some.v; shows = refl; says = record { met = c.in-Some-value.ensures } } in
-    let built = built_more text_of data_of (map deref_pair l.yielded) l.members.entries l.clash l.invariant (c.in-Some.k.now, c.in-Some.v.now) c.in-Some-key.name c.in-Some-value.member text shown c.in-Ok.new (not c.in-Ok.new)
-    (as_the_next l.clash (not c.in-Ok.new) c.if-clash.false) (sym (ap length c.in-Ok.ensures.entries) ∙ c.in-Ok.ensures.new) in
-    subst (λ es. IsBuilt text_of data_of (map deref_pair (l.yielded ++ (c.in-Some.k, c.in-Some.v) ∷ [])) es (not c.in-Ok.new)) (sym c.in-Ok.ensures.entries)
-    (subst (λ items. IsBuilt text_of data_of items _ (not c.in-Ok.new)) (sym (map_push deref_pair l.yielded (c.in-Some.k, c.in-Some.v))) built)
+    built_on (FnReturnsAt g.T.Fn c.args.key) (FnReturnsAt g.W.Fn c.args.value) (map deref_pair l.yielded) l.members.entries l.clash l.invariant (c.in-Some.k.now, c.in-Some.v.now) c.in-Some-key.name c.in-Some-value.member text shown c.in-Ok.new (not c.in-Ok.new)
+    (as_the_next l.clash (not c.in-Ok.new) c.if-clash.false) c.put.new.members.entries c.in-Ok.ensures.entries c.in-Ok.ensures.new (map deref_pair (l.yielded ++ (c.in-Some.k, c.in-Some.v) ∷ [])) (map_push deref_pair l.yielded (c.in-Some.k, c.in-Some.v))
 
 pub returns-in_default-clause-err : goal.returns-in_default-clause-err
 returns-in_default-clause-err g c = inr (inr (
