@@ -1,0 +1,94 @@
+-- An object, one pair on.
+use Rattle.std.proofs.Common.{◌≡◌, ℕ, suc, ◌+◌, ◌<◌, ◌≤◌, ◌||◌, not, cond, Bool, true, false, List, [], ◌∷◌, ◌++◌, length, map, Option, None, Some, String, Global, Ordering, Less, Equal, Greater, string_bytes, string_cmp, refl, sym, ap, ◌∙◌, subst, arith}
+use Rattle.std.proofs.lemmas.List.{length_push}
+use Rattle.std.proofs.lemmas.List.Sums.{fold_push}
+use Rattle.std.specs.List.{AllZip, Any}
+use Rattle.std.specs.BTreeMap.{insert_entry}
+use Rattle.serde_json.specs.Data.{Members, no_members, put}
+use Rattle.serde_json.specs.View.{view, members_view}
+use Rattle.serde_json.specs.declared.value.Value.{Value}
+use Rattle.serde_json.proofs.Views.{members_view-insert_entry}
+use Rattle.papaya_json.specs.Objects.{IsMember, Member, object_of}
+
+pub more_than_one : (c n : Bool) → c ≡ true → (c || n) ≡ c
+more_than_one true n e = refl
+more_than_one false n e = absurd cc
+
+pub as_the_next : (c n : Bool) → c ≡ false → (c || n) ≡ n
+as_the_next true n e = absurd cc
+as_the_next false n e = refl
+
+pub map_push : {A B : Type 0} (f : A → B) (xs : List A) (x : A) → map f (xs ++ x ∷ []) ≡ map f xs ++ f x ∷ []
+map_push f [] x = refl
+map_push f (y ∷ ys) x = ap (λ l. f y ∷ l) (map_push f ys x)
+
+-- what holds of an item, holds of some item
+pub any_middle : {A : Type 0} (P : A → Type 0) (xs : List A) (x : A) (ys : List A) → P x → Any P (xs ++ x ∷ ys)
+any_middle P [] x ys here = (0, x, omega arith, refl, here)
+any_middle P (y ∷ xs) x ys here = let a = any_middle P xs x ys here in (suc a.0, a.1, omega (arith, a.2), a.3, a.4)
+
+-- one more of each list
+pub zip_more : {A B : Type 0} (R : A → B → Type 0) (xs : List A) (ys : List B) (x : A) (y : B) → AllZip R xs ys → R x y → AllZip R (xs ++ x ∷ []) (ys ++ y ∷ [])
+zip_more R [] [] x y all one = (one, tt)
+zip_more R [] (y' ∷ ys) x y all one = absurd all
+zip_more R (x' ∷ xs) [] x y all one = absurd all
+zip_more R (x' ∷ xs) (y' ∷ ys) x y all one = (all.0, zip_more R xs ys x y all.1 one)
+
+module _ {K V : Type 0} (text_of : K → Option (String Global) → Type 0) (data_of : V → Option Value → Type 0) where
+  -- the pairs that came have these members, of which the entries are; there is one for each unless two had one text
+  pub record IsBuilt (items : List (K × V)) (entries : List (String Global × Value)) (clash : Bool) : Type 0 where
+    pub members : List Member
+    pub each : AllZip (IsMember text_of data_of) items members
+    pub view_is : members_view entries ≡ object_of members
+    pub apart : clash ≡ false → length entries ≡ length items
+    pub fewer : clash ≡ true → length entries < length items
+    pub most : length entries ≤ length items
+
+  pub built_none : IsBuilt [] [] false
+  built_none = record { members = []; each = tt; view_is = refl; apart = λ _. refl; fewer = λ e. absurd cc; most = omega arith }
+
+  module _ (items : List (K × V)) (es : List (String Global × Value)) (clash : Bool) (built : IsBuilt items es clash) (item : K × V) (t : String Global) (v : Value)
+      (text_is : text_of item.0 (Some t)) (value_is : data_of item.1 (Some v)) where
+    abbrev m : Member
+    m = (string_bytes t, view v)
+
+    member : IsMember text_of data_of item m
+    member = record { text = t; value = v; text_is = text_is; value_is = value_is; bytes = refl; shown = refl }
+
+    view_more : members_view (insert_entry string_cmp es t v) ≡ object_of (built.members ++ m ∷ [])
+    view_more = members_view-insert_entry es t v ∙ ap (put (string_bytes t) (view v)) built.view_is ∙ sym (fold_push (λ (o : Members) (n : Member). put n.0 n.1 o) no_members built.members m)
+
+    long : length (items ++ item ∷ []) ≡ length items + 1
+    long = length_push items item
+
+    -- one more entry for a new text
+    pub built_more : (new after : Bool) → (clash || not new) ≡ after → length (insert_entry string_cmp es t v) ≡ length es + cond new 1 0 → IsBuilt (items ++ item ∷ []) (insert_entry string_cmp es t v) after
+    built_more new after is many = record {
+      members = built.members ++ m ∷ [];
+      each = zip_more (IsMember text_of data_of) items built.members item m built.each member;
+      view_is = view_more;
+      apart = λ e. none clash new built.apart many (is ∙ e);
+      fewer = λ e. one clash new built.fewer many (is ∙ e);
+      most = let a = built.most in let b = little new in omega (arith, a, many, long, b);
+    }
+      where
+        little : (b : Bool) → cond b 1 0 ≤ 1
+        little true = omega arith
+        little false = omega arith
+
+        none : (c n : Bool) → (c ≡ false → length es ≡ length items) → length (insert_entry string_cmp es t v) ≡ length es + cond n 1 0 → (c || not n) ≡ false → length (insert_entry string_cmp es t v) ≡ length (items ++ item ∷ [])
+        none true n apart more e = absurd cc
+        none false false apart more e = absurd cc
+        none false true apart more e = let a = apart refl in omega (arith, a, more, long)
+
+        one : (c n : Bool) → (c ≡ true → length es < length items) → length (insert_entry string_cmp es t v) ≡ length es + cond n 1 0 → (c || not n) ≡ true → length (insert_entry string_cmp es t v) < length (items ++ item ∷ [])
+        one true n fewer more e = let a = fewer refl in let b = little n in omega (arith, a, more, long, b)
+        one false false fewer more e = let a = built.most in omega (arith, a, more, long)
+        one false true fewer more e = absurd cc
+
+    -- the same of what the entries and the items are then
+    pub built_on : (new after : Bool) → (clash || not new) ≡ after → (es' : List (String Global × Value)) → es' ≡ insert_entry string_cmp es t v → length es' ≡ length es + cond new 1 0 → (items' : List (K × V)) → items' ≡ items ++ item ∷ [] → IsBuilt items' es' after
+    built_on new after is es' entries many items' came =
+        let more : IsBuilt (items ++ item ∷ []) (insert_entry string_cmp es t v) after = built_more new after is (sym (ap length entries) ∙ many) in
+        let there : IsBuilt (items ++ item ∷ []) es' after = subst (λ e. IsBuilt (items ++ item ∷ []) e after) (sym entries) more in
+        subst (λ i. IsBuilt i es' after) (sym came) there

@@ -1,0 +1,74 @@
+// Maps that are read of JSON, and why there is none.
+use crate::expect::{Numbers, digits, is, number};
+use papaya_json::reading::map_from_value;
+use papaya_json::writing::map_to_value;
+use papaya_keys::guard::TextKey;
+use papaya_seq::seq::HashMap;
+use papaya_words::probe::Refused;
+use serde_json::Value;
+use std::alloc::Global;
+use std::hash::BuildHasherDefault;
+use std::process::Abort;
+use std::test::Fail;
+
+type Texts = HashMap<String, u64>;
+
+/// The map of numbers of this value.
+fn numbers_of(alloc: Global, v: &Value) -> Result<Numbers, Refused> {
+    map_from_value(
+        alloc,
+        v,
+        BuildHasherDefault::new(),
+        |text| text.parse().ok(),
+        Value::as_u64,
+    )
+}
+
+/// The map of this text's members, with their texts in lower letters.
+fn lowered(alloc: Global, text: &str) -> Result<Texts, Fail> {
+    let v = Value::from_str(alloc, text)?;
+    let lower = |text: &str| text.to_ascii_lowercase(alloc).ok();
+    Ok(map_from_value(alloc, &v, BuildHasherDefault::new(), lower, Value::as_u64)?)
+}
+
+/// A text whose JSON is no map of numbers, for this cause.
+fn refuses(rt: &impl Abort, alloc: Global, text: &str, wanted: Refused) -> Result<(), Fail> {
+    let v = Value::from_str(alloc, text)?;
+    is(rt, numbers_of(alloc, &v).err(), Some(wanted));
+    Ok(())
+}
+
+#[test]
+fn later_equal_keys_replace(rt: HostRuntime) -> Result<(), Fail> {
+    let map = lowered(rt.alloc(), "{\"A\":2,\"a\":1}")?;
+    is(&rt, map.len(), 1);
+    is(&rt, map.get(&TextKey("a")), Some(&1));
+    Ok(())
+}
+
+#[test]
+fn other_shapes_and_missing_members_are_refused(rt: HostRuntime) -> Result<(), Fail> {
+    for (text, wanted) in [
+        ("null", Refused::Shape),
+        ("[1,2]", Refused::Shape),
+        ("\"0\"", Refused::Shape),
+        ("{\"1\":1,\"2\":2,\"3\":null}", Refused::Item),
+        ("{\"1\":1,\"b\":2}", Refused::Item),
+    ] {
+        refuses(&rt, rt.alloc(), text, wanted)?;
+    }
+    Ok(())
+}
+
+#[test]
+fn a_map_is_read_back(rt: HostRuntime) -> Result<(), Fail> {
+    let alloc = rt.alloc();
+    let mut map: Numbers = HashMap::new(alloc)?;
+    for key in 0..40u64 {
+        map.put(key, key.wrapping_mul(10))?;
+    }
+    let value = map_to_value(alloc, &map, |key| digits(alloc, key), number)?;
+    let back = numbers_of(alloc, &value)?;
+    is(&rt, (back.len(), back.eq(&map)), (40, true));
+    Ok(())
+}

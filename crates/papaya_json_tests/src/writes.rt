@@ -1,0 +1,58 @@
+// What maps are as JSON, and why there is none.
+use crate::expect::{Numbers, digits, is, number};
+use papaya_json::writing::map_to_value;
+use papaya_seq::seq::HashMap;
+use papaya_words::probe::Refused;
+use serde_json::Value;
+use std::alloc::Global;
+use std::process::Abort;
+use std::test::Fail;
+
+/// A value as a JSON number, unless it is 4.
+fn no_four(value: &u64) -> Option<Value> {
+    if *value == 4 { None } else { number(value) }
+}
+
+/// The text of the map's JSON is this.
+fn prints(rt: &impl Abort, alloc: Global, map: &Numbers, wanted: &str) -> Result<(), Fail> {
+    let value = map_to_value(alloc, map, |key| digits(alloc, key), number)?;
+    is(rt, value.to_string(alloc)?.as_str(), wanted);
+    Ok(())
+}
+
+/// With one text for all keys the map has no JSON, for this cause.
+fn clashes<W: Fn(&u64) -> Option<Value>>(
+    rt: &impl Abort,
+    alloc: Global,
+    map: &Numbers,
+    value: W,
+    wanted: Refused,
+)
+    requires { W.IsAlwaysCallable value }
+{
+    let found = map_to_value(alloc, map, |_| "k".to_string(alloc).ok(), value);
+    is(rt, found.err(), Some(wanted));
+}
+
+#[test]
+fn members_are_in_the_order_of_their_texts(rt: HostRuntime) -> Result<(), Fail> {
+    let alloc = rt.alloc();
+    let mut map: Numbers = HashMap::new(alloc)?;
+    prints(&rt, alloc, &map, "{}")?;
+    map.put(9, 2)?;
+    map.put(10, 1)?;
+    map.put(8, 3)?;
+    prints(&rt, alloc, &map, "{\"10\":1,\"8\":3,\"9\":2}")
+}
+
+#[test]
+fn equal_texts_and_missing_values_are_refused(rt: HostRuntime) -> Result<(), Fail> {
+    let alloc = rt.alloc();
+    let mut map: Numbers = HashMap::new(alloc)?;
+    map.put(0, 4)?;
+    map.put(1, 3)?;
+    prints(&rt, alloc, &map, "{\"0\":4,\"1\":3}")?;
+    clashes(&rt, alloc, &map, number, Refused::KeyClash);
+    clashes(&rt, alloc, &map, no_four, Refused::Item);
+    Ok(())
+}
