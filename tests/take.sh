@@ -17,11 +17,18 @@ for crate in "$top"/crates/*/; do
     done
 done
 git -C "$room/to" init -q
+cp -a "$room/to" "$room/more"
 printf 'shop: papaya\n' >"$room/to/crates.txt"
 
 status=0
 "$room/from/tools/take" "$room/none" 2>/dev/null || status=$?
 same 'a folder that is no repository is refused' 2 "$status"
+status=0
+"$room/from/tools/take" "$room/more" papaya_jsn 2>/dev/null || status=$?
+same 'a crate that there is not is refused' 2 "$status"
+same 'nothing is taken then' '' "$(ls "$room/more")"
+"$room/from/tools/take" "$room/more" papaya_json >/dev/null
+same 'a crate that is asked for comes too' $'papaya\npapaya_json' "$(ls "$room/more/crates" | grep -xE 'papaya|papaya_json')"
 for time in first second; do
     "$room/from/tools/take" "$room/to" >/dev/null
     # every crate that a line or a source names is there, and no test, program or caller
