@@ -34,7 +34,7 @@ def place_of(edit, folder):
 
 def is_told(edit, place, line):
     """Does this line tell of a goal of the edit's function, or of a closure in it?"""
-    at = re.match(r"(?:note: )?(?:\./)?(\S+?):(\d+):\d+: ", line)
+    at = re.match(r"(?:note: )?(?:\./)?(\S+?):(\d+):\d+: (?!note: )", line)
     if not at or LOST.search(line):
         return False
     file, first, last = place
