@@ -68,4 +68,6 @@ mod LeftBy
 mod Cloned
 mod Equal
 mod Filled
+mod Grown
+mod Rebuilt
 mod Walked

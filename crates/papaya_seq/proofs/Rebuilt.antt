@@ -1,0 +1,87 @@
+-- A map of clones: what it has, its parts, and why there is none.
+use Rattle.std.proofs.Common.{◌≡◌, ◌⊎◌, inl, inr, ⊎_elim, ℕ, ◌+◌, ◌<◌, ◌≤◌, ◌^◌, Bool, true, List, [], ◌∷◌, map, length, Option, None, Some, refl, sym, ap, ◌∙◌, subst, arith}
+use Rattle.std.proofs.lemmas.Bool.{cond-true}
+use Rattle.std.proofs.lemmas.List.{length-map}
+use Rattle.std.proofs.lemmas.Nat.{cases_lt, pow_pos}
+use Rattle.std.proofs.Math.Nat.{max-eq_right}
+use Rattle.std.proofs.Math.Pow.{pow_mono}
+use Rattle.std.specs.Prelude.{max, ◌/◌}
+use Rattle.std.specs.Cmp.{IsEquivalence}
+use Rattle.std.specs.Int.{IsNextPowerOfTwo, IsPowerOfTwo}
+use Rattle.papaya_words.specs.Probe.{IsEntriesFor}
+use Rattle.papaya_words.specs.declared.limits.TheConstants.{DEFAULT_CHUNK, MAX_SHARDS}
+use Rattle.papaya_words.specs.declared.probe.Refused.{Refused}
+use Rattle.papaya_words.specs.declared.probe.ResizeMode.{ResizeMode}
+use Rattle.papaya_words.specs.declared.probe.ResizeMode.TheVariants.{Incremental}
+use Rattle.papaya_keys.specs.Sizes.{IsSizeRefusal, IsTooMuch}
+use Rattle.papaya_law.specs.Content.{AreApart, lookup}
+use Rattle.papaya_timeline.specs.Content.{content, map_in}
+use Rattle.papaya_timeline.specs.New.{IsNew}
+use Rattle.papaya_store.specs.Store.{StoreState, Stored}
+use Rattle.papaya_seq.specs.Clones.{HasParts, IsCloneRefusal, IsCopied, IsRebuilt}
+use Rattle.papaya_seq.specs.Map.{MapState, Unchanged, core_of, entry_of}
+use Rattle.papaya_seq.proofs.Cloned.{all_copied}
+
+-- a power of two is the next one to itself
+pub same_power : (n m : ℕ) → IsPowerOfTwo n → IsNextPowerOfTwo n m → m ≡ n
+same_power n m (a, is) ((b, is'), least, below) = ⊎_elim
+    (λ (more : a < b).
+    let twice : 2 ^ (a + 1) ≤ 2 ^ b = pow_mono (omega (arith, more)) in
+    let some : 0 < 2 ^ a = pow_pos a in
+    let most : max 1 n ≡ n = max-eq_right (omega (arith, some, is)) in
+    let half : m / 2 < n = subst (λ k. m / 2 < k) most below in
+    let step : 2 ^ (a + 1) ≡ 2 * 2 ^ a = omega arith in
+    absurd (omega (arith, half, twice, step, is, is')))
+    (λ (few : b ≤ a).
+    let most : 2 ^ b ≤ 2 ^ a = pow_mono few in
+    omega (arith, most, least, is, is'))
+    (cases_lt a b)
+
+module _ {K V S : Type 0} (eq : K → K → Bool) (law : IsEquivalence eq) where
+  -- a map that is unchanged from one without pairs has none
+  pub empty_still : (s s' : StoreState K V S) → Unchanged eq s s' → content eq s ≡ [] → content eq s' ≡ []
+  empty_still s s' same empty = of_list (content eq s') refl
+    where
+      of_list : (ps : List (Stored K V)) → content eq s' ≡ ps → ps ≡ []
+      of_list [] is = refl
+      of_list (p ∷ ps) is =
+          let here : map_in eq s' p.key ≡ Some p = ap (λ (qs : List (Stored K V)). lookup eq (λ q. q.key) qs p.key) is ∙ cond-true (eq p.key p.key) (Some p) (lookup eq (λ (q : Stored K V). q.key) ps p.key) (law.refl p.key) in
+          let gone : map_in eq s p.key ≡ None = ap (λ (qs : List (Stored K V)). lookup eq (λ q. q.key) qs p.key) empty in
+          let clash : Some p ≡ None = sym here ∙ same p.key ∙ gone in
+          absurd cc
+
+module _ {K V S : Type 0} (eq : K → K → Bool) (law : IsEquivalence eq) (CK : K → K → Type 0) (CV : V → V → Type 0) where
+  -- a map without pairs and without a log, once clones were put into it
+  pub rebuilt_of : ((k l : K) → CK k l → eq k l ≡ true) → (CS : S → S → Type 0) (s new made : MapState K V S) → AreApart eq (λ p. p.key) (content eq s.store) → content eq new.store ≡ [] → new.store.pairs ≡ [] → CS s.store.hasher new.store.hasher → IsCopied eq CK CV new (map entry_of (content eq s.store)) made → IsRebuilt eq CK CV CS s made
+  rebuilt_of same CS s new made apart empty none clones copied =
+      let first : length new.store.pairs ≡ 0 = ap length none in
+      let long : length (map entry_of (content eq s.store)) ≡ length (content eq s.store) = length-map (content eq s.store) entry_of in
+      let most : length made.store.pairs ≤ length new.store.pairs + length (map entry_of (content eq s.store)) = copied.logged in
+      record {
+        cloned = all_copied eq law CK CV same s.store new made apart empty copied;
+        logged = omega (arith, first, long, most);
+        hasher = subst (CS s.store.hasher) (sym copied.fills.keeps.hasher) clones;
+      }
+
+  -- a new map that was made for so many pairs
+  pub clone_parts : (n : ℕ) (hasher : S) (new made : MapState K V S) (es : List (K × V)) → IsNew {A = Unit {0}} (Incremental DEFAULT_CHUNK) n 1 hasher (core_of new) → IsCopied eq CK CV new es made → (len : ℕ) → n ≡ len → (made.mode ≡ Incremental DEFAULT_CHUNK) × IsEntriesFor len made.initial × (made.store.count.shards ≡ 1)
+  clone_parts n hasher new made es is_new copied len is = (
+    copied.fills.keeps.mode ∙ is_new.mode_is,
+    subst (λ k. IsEntriesFor k made.initial) is (subst (IsEntriesFor n) (sym copied.fills.keeps.initial) is_new.store_is.initial),
+    copied.shards ∙ same_power 1 new.store.count.shards (0, refl) is_new.store_is.count,
+  )
+
+  -- why such a map is not made
+  pub clone_refused : (s : StoreState K V S) (n : ℕ) → n ≡ length (content eq s) → (e : Refused) → IsSizeRefusal (Incremental DEFAULT_CHUNK) n 1 e → IsCloneRefusal eq CK CV s e
+  clone_refused s n is e (inl (chunk, none)) = let f : Incremental DEFAULT_CHUNK ≡ Incremental 0 = none in absurd cc
+  clone_refused s n is e (inr (inl (capacity, chunked, inl long))) = inr (inl (capacity, subst IsTooMuch is long))
+  clone_refused s n is e (inr (inl (capacity, chunked, inr many))) = absurd (omega (arith, many))
+  clone_refused s n is e (inr (inr (memory, allowed))) = inl memory
+
+  -- parts stay where clones are put in
+  pub parts_on : (s new made : MapState K V S) (es : List (K × V)) → HasParts s new → IsCopied eq CK CV new es made → HasParts s made
+  parts_on s new made es parts copied = record {
+    mode = copied.fills.keeps.mode ∙ parts.mode;
+    initial = copied.fills.keeps.initial ∙ parts.initial;
+    shards = copied.shards ∙ parts.shards;
+  }
