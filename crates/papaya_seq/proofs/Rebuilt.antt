@@ -1,5 +1,5 @@
 -- A map of clones: what it has, its parts, and why there is none.
-use Rattle.std.proofs.Common.{◌≡◌, ◌⊎◌, inl, inr, ⊎_elim, ℕ, ◌+◌, ◌<◌, ◌≤◌, ◌^◌, Bool, true, List, [], ◌∷◌, map, length, Option, None, Some, refl, sym, ap, ◌∙◌, subst, arith}
+use Rattle.std.proofs.Common.{◌≡◌, ◌⊎◌, inl, inr, ⊎_elim, ℕ, ◌+◌, ◌<◌, ◌≤◌, ◌^◌, Bool, true, List, [], ◌∷◌, map, length, MatchOption, Option, None, Some, refl, sym, ap, ◌∙◌, subst, arith}
 use Rattle.std.proofs.lemmas.Bool.{cond-true}
 use Rattle.std.proofs.lemmas.List.{length-map}
 use Rattle.std.proofs.lemmas.Nat.{cases_lt, pow_pos}
@@ -8,9 +8,11 @@ use Rattle.std.proofs.Math.Pow.{pow_mono}
 use Rattle.std.specs.Prelude.{max, ◌/◌}
 use Rattle.std.specs.Cmp.{IsEquivalence}
 use Rattle.std.specs.Int.{IsNextPowerOfTwo, IsPowerOfTwo}
+use Rattle.papaya_words.specs.Mode.{IsChunked}
 use Rattle.papaya_words.specs.Probe.{IsEntriesFor}
 use Rattle.papaya_words.specs.declared.limits.TheConstants.{DEFAULT_CHUNK, MAX_SHARDS}
 use Rattle.papaya_words.specs.declared.probe.Refused.{Refused}
+use Rattle.papaya_words.specs.declared.probe.Refused.TheVariants.{Memory}
 use Rattle.papaya_words.specs.declared.probe.ResizeMode.{ResizeMode}
 use Rattle.papaya_words.specs.declared.probe.ResizeMode.TheVariants.{Incremental}
 use Rattle.papaya_keys.specs.Sizes.{IsSizeRefusal, IsTooMuch}
@@ -18,9 +20,11 @@ use Rattle.papaya_law.specs.Content.{AreApart, lookup}
 use Rattle.papaya_timeline.specs.Content.{content, map_in}
 use Rattle.papaya_timeline.specs.New.{IsNew}
 use Rattle.papaya_store.specs.Store.{StoreState, Stored}
-use Rattle.papaya_seq.specs.Clones.{HasParts, IsCloneRefusal, IsCopied, IsRebuilt}
-use Rattle.papaya_seq.specs.Map.{MapState, Unchanged, core_of, entry_of}
+use Rattle.papaya_seq.specs.Clones.{AreEqual, HasParts, IsCloneRefusal, IsCloned, IsCopied, IsCopyCut, IsRebuildRefusal, IsRebuilt}
+use Rattle.papaya_seq.specs.Map.{Keeps, MapState, Unchanged, core_of, entry_of}
+use Rattle.papaya_seq.specs.Resizes.{IsReserveCause}
 use Rattle.papaya_seq.proofs.Cloned.{all_copied}
+use Rattle.papaya_seq.proofs.Filled.{new_with_own}
 
 -- a power of two is the next one to itself
 pub same_power : (n m : ℕ) → IsPowerOfTwo n → IsNextPowerOfTwo n m → m ≡ n
@@ -85,3 +89,66 @@ module _ {K V S : Type 0} (eq : K → K → Bool) (law : IsEquivalence eq) (CK :
     initial = copied.fills.keeps.initial ∙ parts.initial;
     shards = copied.shards ∙ parts.shards;
   }
+
+  -- a clone that was refused
+  pub clone_cut : (s : StoreState K V S) (n : ℕ) (hasher : S) (new left : MapState K V S) → n ≡ length (content eq s) → IsNew {A = Unit {0}} (Incremental DEFAULT_CHUNK) n 1 hasher (core_of new) → (e : Refused) → (e ≡ Memory) ⊎ IsCopyCut eq CK CV s new e left → IsCloneRefusal eq CK CV s e
+  clone_cut s n hasher new left is is_new e (inl memory) = inl memory
+  clone_cut s n hasher new left is is_new e (inr cut) = inr (inr (record {
+    new = new;
+    left = left;
+    is_new = subst (λ k. IsNew {A = Unit {0}} (Incremental DEFAULT_CHUNK) k 1 new.store.hasher (core_of new)) is (new_with_own (Incremental DEFAULT_CHUNK) n 1 hasher new is_new);
+    cut = cut;
+  }))
+
+  -- a new map that gets the initial capacity of this one
+  pub fresh_parts : (s fresh : MapState K V S) (mode : ResizeMode) (shards : ℕ) (hasher : S) → mode ≡ s.mode → shards ≡ s.store.count.shards → IsPowerOfTwo shards → IsNew {A = Unit {0}} mode 0 shards hasher (core_of fresh) → (initial : ℕ) → initial ≡ s.initial → HasParts s (record fresh { initial = initial })
+  fresh_parts s fresh mode shards hasher mode_is shards_is power new initial initial_is = record {
+    mode = new.mode_is ∙ mode_is;
+    initial = initial_is;
+    shards = same_power shards fresh.store.count.shards power new.store_is.count ∙ shards_is;
+  }
+
+  -- room changes none of its parts
+  pub roomy_parts : (s fresh roomy : MapState K V S) → HasParts s fresh → Keeps fresh roomy → roomy.store ≡ record fresh.store { words = roomy.store.words } → HasParts s roomy
+  roomy_parts s fresh roomy parts keeps words = record {
+    mode = keeps.mode ∙ parts.mode;
+    initial = keeps.initial ∙ parts.initial;
+    shards = ap (λ (y : StoreState K V S). y.count.shards) words ∙ parts.shards;
+  }
+
+  -- why a map with these parts is not made
+  pub rebuild_refused : (s : MapState K V S) (mode : ResizeMode) (shards : ℕ) → IsChunked mode → shards ≡ s.store.count.shards → (e : Refused) → IsSizeRefusal mode 0 shards e → IsRebuildRefusal eq CK CV s e
+  rebuild_refused s mode shards chunked is e (inl (chunk, none)) = let f : 1 ≤ 0 = subst IsChunked none chunked in absurd (omega (arith, f))
+  rebuild_refused s mode shards chunked is e (inr (inl (capacity, also, inl (inl long)))) = absurd (omega (arith, long))
+  rebuild_refused s mode shards chunked is e (inr (inl (capacity, also, inl (inr (entries, next, long))))) = let below : entries / 2 < 1 = next.2 in absurd (omega (arith, below, long))
+  rebuild_refused s mode shards chunked is e (inr (inl (capacity, also, inr many))) = inr (inl (capacity, subst (λ n. MAX_SHARDS < n) is many))
+  rebuild_refused s mode shards chunked is e (inr (inr (memory, allowed))) = inl memory
+
+  -- room for its pairs that was refused
+  pub room_refused : (s fresh left : MapState K V S) → HasParts s fresh → content eq fresh.store ≡ [] → (n : ℕ) → n ≡ length (content eq s.store) → (e : Refused) → IsReserveCause eq fresh n e left → IsRebuildRefusal eq CK CV s e
+  room_refused s fresh left parts empty n is e cause = inr (inr (record {
+    fresh = fresh;
+    empty = empty;
+    parts = parts;
+    left = left;
+    cause = inl (subst (λ k. IsReserveCause eq fresh k e left) is cause);
+  }))
+
+  -- a clone that was refused there
+  pub rebuild_cut : (s fresh roomy left : MapState K V S) → HasParts s fresh → content eq fresh.store ≡ [] → HasParts s roomy → content eq roomy.store ≡ [] → (e : Refused) → (e ≡ Memory) ⊎ IsCopyCut eq CK CV s.store roomy e left → IsRebuildRefusal eq CK CV s e
+  rebuild_cut s fresh roomy left parts empty parts' empty' e (inl memory) = inl memory
+  rebuild_cut s fresh roomy left parts empty parts' empty' e (inr cut) = inr (inr (record {
+    fresh = fresh;
+    empty = empty;
+    parts = parts;
+    left = left;
+    cause = inr (roomy, empty', parts', cut);
+  }))
+
+-- clones are equal where clones of values are
+pub clones_equal : {K V S : Type 0} (eq : K → K → Bool) (CK : K → K → Type 0) (CV : V → V → Type 0) (same : V → V → Bool) → ((v w : V) → CV v w → same v w ≡ true) → (s s' : StoreState K V S) → IsCloned eq CK CV s s' → AreEqual eq same s s'
+clones_equal {K} {V} {S} eq CK CV same equal s s' cloned k = of_option (map_in eq s k) (cloned k)
+  where
+    of_option : (o : Option (Stored K V)) → MatchOption o (map_in eq s' k ≡ None) (λ p. (q : Stored K V) × (map_in eq s' k ≡ Some q) × (CK p.key q.key × CV p.value q.value)) → MatchOption o (map_in eq s' k ≡ None) (λ p. (q : Stored K V) × (map_in eq s' k ≡ Some q) × (same p.value q.value ≡ true))
+    of_option None none = none
+    of_option (Some p) (q, there, key, value) = (q, there, equal p.value q.value value)
