@@ -1,9 +1,9 @@
 -- A map of clones: what it has, its parts, and why there is none.
-use Rattle.std.proofs.Common.{◌≡◌, ◌⊎◌, inl, inr, ⊎_elim, ℕ, ◌+◌, ◌<◌, ◌≤◌, ◌^◌, Bool, true, List, [], ◌∷◌, map, length, MatchOption, Option, None, Some, refl, sym, ap, ◌∙◌, subst, arith}
-use Rattle.std.proofs.lemmas.Bool.{cond-true}
+use Rattle.std.proofs.Common.{◌≡◌, ◌⊎◌, inl, inr, ⊎_elim, ℕ, suc, ◌+◌, ◌*◌, ◌<◌, ◌≤◌, ◌^◌, Bool, true, List, [], ◌∷◌, map, length, MatchOption, Option, None, Some, refl, sym, ap, ◌∙◌, subst, arith}
 use Rattle.std.proofs.lemmas.List.{length-map}
-use Rattle.std.proofs.lemmas.Nat.{cases_lt, pow_pos}
-use Rattle.std.proofs.Math.Nat.{max-eq_right}
+use Rattle.std.proofs.lemmas.Bool.{cases_lt, cond-true}
+use Rattle.std.proofs.lemmas.Nat.{pow_pos}
+use Rattle.std.proofs.Math.Nat.{max-eq_right, pow-succ'}
 use Rattle.std.proofs.Math.Pow.{pow_mono}
 use Rattle.std.specs.Prelude.{max, ◌/◌}
 use Rattle.std.specs.Cmp.{IsEquivalence}
@@ -30,11 +30,11 @@ use Rattle.papaya_seq.proofs.Filled.{new_with_own}
 pub same_power : (n m : ℕ) → IsPowerOfTwo n → IsNextPowerOfTwo n m → m ≡ n
 same_power n m (a, is) ((b, is'), least, below) = ⊎_elim
     (λ (more : a < b).
-    let twice : 2 ^ (a + 1) ≤ 2 ^ b = pow_mono (omega (arith, more)) in
+    let twice : 2 ^ suc a ≤ 2 ^ b = pow_mono (omega (arith, more)) in
+    let step : 2 ^ suc a ≡ 2 * 2 ^ a = pow-succ' 2 a in
     let some : 0 < 2 ^ a = pow_pos a in
     let most : max 1 n ≡ n = max-eq_right (omega (arith, some, is)) in
     let half : m / 2 < n = subst (λ k. m / 2 < k) most below in
-    let step : 2 ^ (a + 1) ≡ 2 * 2 ^ a = omega arith in
     absurd (omega (arith, half, twice, step, is, is')))
     (λ (few : b ≤ a).
     let most : 2 ^ b ≤ 2 ^ a = pow_mono few in
