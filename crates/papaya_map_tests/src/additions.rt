@@ -1,11 +1,13 @@
 // Computes by threads: no addition is lost.
+use crate::crowd::all_did;
 use crate::expect::is;
-use crate::numbers::{MODES, Numbers, counts, finds, made};
+use crate::numbers::{Numbers, counts, in_each_mode};
 use papaya_call::answers::Operation;
+use std::alloc::Global;
 use std::process::Abort;
 use std::sync::Wait;
 use std::test::Fail;
-use std::thread::{Threads, join};
+use std::thread::Threads;
 
 const KEYS: u64 = 4;
 
@@ -39,35 +41,17 @@ fn add<R: Wait>(rt: &R, map: &Numbers) -> bool {
     true
 }
 
-/// Two threads at a time.
-fn add_by_two<R: Threads + Wait + Sync>(rt: &R, map: &Numbers) -> bool {
-    let (first, second) = join(rt, || add(rt, map), || add(rt, map));
-    first && second
-}
-
-/// Four threads at a time.
-fn add_by_four<R: Threads + Wait + Sync>(rt: &R, map: &Numbers) -> bool {
-    let (first, second) = join(rt, || add_by_two(rt, map), || add_by_two(rt, map));
-    first && second
-}
-
 /// Eight threads add to a map of no pairs.
-fn adds<R: Threads + Wait + Sync + Abort>(rt: &R, map: &Numbers) {
-    let (first, second) = join(rt, || add_by_four(rt, map), || add_by_four(rt, map));
-    is(rt, (first, second), (true, true));
+fn adds<R: Threads + Wait + Sync + Abort>(rt: &R, alloc: Global, map: &Numbers) {
+    is(rt, all_did(rt, alloc, 8, &|_| add(rt, map)), true);
     counts(rt, map, 4);
     for key in 0..KEYS {
-        let mut pass = map.pass();
-        finds(rt, map, key, &mut pass, Some(&LAST));
+        is(rt, map.pin().get(&key), Some(&LAST));
     }
 }
 
 /// No addition of eight threads is lost, and none is made twice.
 #[test]
 fn each_addition_is_made_once(rt: HostRuntime) -> Result<(), Fail> {
-    for mode in MODES {
-        let map = made(&rt, rt.alloc(), mode, 0, 4)?;
-        adds(&rt, &map);
-    }
-    Ok(())
+    in_each_mode(&rt, rt.alloc(), &|map: &Numbers| adds(&rt, rt.alloc(), map))
 }

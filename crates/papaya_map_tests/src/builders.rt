@@ -19,59 +19,39 @@ fn builder() -> Builder {
     HashMap::builder().hasher(APART)
 }
 
-/// The map is not built, and this is why.
-fn refuses<R: Wait + Abort>(rt: &R, alloc: Global, builder: Builder, why: Refused) {
-    is(rt, builder.build(rt, alloc).err(), Some(why));
+/// The value of a key that is stored in a map which is built, or why it is not.
+fn stored_in<R: Wait>(rt: &R, alloc: Global, builder: Builder) -> Result<Option<u64>, Refused> {
+    let map = builder.build(rt, alloc)?;
+    stored(rt, &map)
 }
 
-/// The map is built, and stores a pair.
-fn builds<R: Wait + Abort>(rt: &R, alloc: Global, builder: Builder) {
-    let map = builder.build(rt, alloc).expect(rt, "a map");
-    stores(rt, &map);
+/// The value of 1, which is stored in an empty map.
+fn stored<R: Wait>(rt: &R, map: &Numbers) -> Result<Option<u64>, Refused> {
+    map.pin().insert(rt, 1, 10)?;
+    Ok(map.pin().get(&1).copied())
 }
 
-/// An empty map stores a pair.
-fn stores<R: Wait + Abort>(rt: &R, map: &Numbers) {
-    is(rt, map.len(), 0);
-    is(rt, map.pin().insert(rt, 1, 10), Ok(None));
-    is(rt, map.pin().get(&1), Some(&10));
-}
-
+/// What is built is a map that stores a pair, and what is past a limit is not built.
 #[test]
-fn what_is_past_a_limit_is_not_built(rt: HostRuntime) {
-    let alloc = rt.alloc();
-    let chunk = builder().resize_mode(ResizeMode::Incremental(0));
-    refuses(&rt, alloc, chunk, Refused::ZeroChunk);
-    refuses(
-        &rt,
-        alloc,
-        builder().capacity(0x1_0000_0000),
-        Refused::Capacity,
-    );
-    refuses(
-        &rt,
-        alloc,
-        builder().capacity(3_221_225_473),
-        Refused::Capacity,
-    );
-    refuses(&rt, alloc, builder().shards(65_537), Refused::Capacity);
-}
-
-#[test]
-fn any_number_of_shards_to_the_limit_is_built(rt: HostRuntime) {
-    for shards in [0usize, 3, 65_536] {
-        builds(&rt, rt.alloc(), builder().shards(shards));
+fn a_builder_keeps_the_limits(rt: HostRuntime) {
+    let (blocking, by_none) = (ResizeMode::Blocking, ResizeMode::Incremental(0));
+    let is_built = Ok(Some(10));
+    let too_much = Err(Refused::Capacity);
+    for (mode, capacity, shards, wanted) in [
+        (blocking, 0usize, 0usize, is_built),
+        (blocking, 0, 3, is_built),
+        (blocking, 10, 65_536, is_built),
+        (blocking, 0, 65_537, too_much),
+        (blocking, 3_221_225_473, 4, too_much),
+        (blocking, 0x1_0000_0000, 4, too_much),
+        (by_none, 0, 4, Err(Refused::ZeroChunk)),
+    ] {
+        let asked = builder()
+            .resize_mode(mode)
+            .capacity(capacity)
+            .shards(shards);
+        is(&rt, stored_in(&rt, rt.alloc(), asked), wanted);
     }
-}
-
-#[test]
-fn each_part_may_be_asked_for(rt: HostRuntime) {
-    let all = builder()
-        .collector(Collector::new(3))
-        .capacity(10)
-        .resize_mode(ResizeMode::Blocking)
-        .shards(4);
-    builds(&rt, rt.alloc(), all);
 }
 
 /// A map takes the guards of a collector of its number, and refuses those of another.
@@ -100,25 +80,24 @@ fn maps_may_share_a_collector(rt: HostRuntime) -> Result<(), Fail> {
     Ok(())
 }
 
-#[test]
-fn a_map_is_made_with_a_hasher(rt: HostRuntime) -> Result<(), Fail> {
-    let map: Numbers = HashMap::with_hasher(&rt, rt.alloc(), APART)?;
-    stores(&rt, &map);
-    Ok(())
+/// The value of a key that is stored in a map with this hasher for so many pairs.
+fn stored_in_one_for<R: Wait>(rt: &R, alloc: Global, pairs: usize) -> Result<Option<u64>, Refused> {
+    let map: Numbers = HashMap::with_capacity_and_hasher(rt, alloc, pairs, APART)?;
+    stored(rt, &map)
 }
 
-/// A map for so many pairs is not made, and this is why.
-fn has_no_room_for<R: Wait + Abort>(rt: &R, alloc: Global, capacity: usize) {
-    let made: Result<Numbers, Refused> = HashMap::with_capacity_and_hasher(
-        rt, alloc, capacity, APART,
-    );
-    is(rt, made.err(), Some(Refused::Capacity));
+/// The same of a map with this hasher alone.
+fn stored_in_new<R: Wait>(rt: &R, alloc: Global) -> Result<Option<u64>, Refused> {
+    let map: Numbers = HashMap::with_hasher(rt, alloc, APART)?;
+    stored(rt, &map)
 }
 
 #[test]
-fn a_map_for_too_many_pairs_is_not_made(rt: HostRuntime) {
-    has_no_room_for(&rt, rt.alloc(), 0x1_0000_0000);
-    has_no_room_for(&rt, rt.alloc(), 3_221_225_473);
+fn a_map_is_made_with_a_hasher(rt: HostRuntime) {
+    is(&rt, stored_in_new(&rt, rt.alloc()), Ok(Some(10)));
+    is(&rt, stored_in_one_for(&rt, rt.alloc(), 10), Ok(Some(10)));
+    let refused = stored_in_one_for(&rt, rt.alloc(), 3_221_225_473);
+    is(&rt, refused, Err(Refused::Capacity));
 }
 
 /// The slots of a map for one caller that is built for so many pairs, or why it is not.

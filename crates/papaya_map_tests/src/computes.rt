@@ -1,51 +1,9 @@
-// Computes by one caller that change nothing, and what each shows its closure.
-ghost use Rattle.std.specs.Prelude.{◌≡◌};
-
+// What a compute by one caller shows its closure.
 use crate::expect::is;
-use crate::numbers::{Numbers, NumbersPass, counts, finds, numbers};
+use crate::numbers::{Numbers, counts, numbers};
 use papaya_call::answers::Operation;
-use papaya_keys::compute::Compute;
-use papaya_words::probe::Refused;
 use std::process::Abort;
 use std::sync::Wait;
-
-/// A removal by a compute is refused where there is no pair.
-fn removes_nothing<R: Wait + Abort>(rt: &R, map: &Numbers, pass: &mut NumbersPass)
-    requires { pass.old.book ≡ map.now.book }
-    ensures { pass.new.book ≡ pass.old.book }
-{
-    let removed: Result<Compute<u64, u64, ()>, Refused> = map
-        .pin()
-        .compute_as(rt, 1, |_| Operation::Remove, pass);
-    is(rt, removed, Err(Refused::RemoveNothing));
-}
-
-/// An abort of a compute is answered with what it was given.
-fn aborts_with_five<R: Wait + Abort>(rt: &R, map: &Numbers, pass: &mut NumbersPass)
-    requires { pass.old.book ≡ map.now.book }
-    ensures { pass.new.book ≡ pass.old.book }
-{
-    let aborted = map
-        .pin()
-        .compute_as(rt, 1, |_| Operation::Abort(5u64), pass);
-    is(rt, aborted, Ok(Compute::Aborted(5)));
-}
-
-/// Both, by one pass, on a map of no pairs.
-fn changes_nothing<R: Wait + Abort>(rt: &R, map: &Numbers) {
-    let mut pass = map.pass();
-    removes_nothing(rt, map, &mut pass);
-    counts(rt, map, 0);
-    aborts_with_five(rt, map, &mut pass);
-    counts(rt, map, 0);
-    finds(rt, map, 1, &mut pass, None);
-}
-
-#[test]
-fn a_compute_has_nothing_to_remove(rt: HostRuntime) {
-    let map = numbers(&rt, rt.alloc());
-    changes_nothing(&rt, &map);
-}
 
 /// What a closure of the tests answers.
 #[derive(Clone, Copy)]
@@ -65,8 +23,7 @@ fn operation(says: Says) -> Operation<u64, ()> {
 }
 
 /// What the closure of a compute was shown: how often that there is none, how often a pair, and
-/// which
-/// pair last.
+/// which pair last.
 fn shown_by<R: Wait>(
     rt: &R,
     map: &Numbers,

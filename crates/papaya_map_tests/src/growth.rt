@@ -1,23 +1,18 @@
 // Threads that share a map while it grows.
+use crate::crowd::{all_did, has_below, insert};
 use crate::expect::is;
-use crate::numbers::{MODES, Numbers, made};
+use crate::numbers::{MODES, Numbers, in_each_mode, made};
+use std::alloc::Global;
 use std::process::Abort;
 use std::sync::Wait;
 use std::sync::atomic::{AtomicBool, Ordering};
 use std::test::Fail;
 use std::thread::{Threads, join};
 
-/// The keys that are there before a map grows.
-const KEYS: u64 = 6;
-
-/// So many keys make a table of 8 slots grow to one of 2^15.
-const GROWN: u64 = 16_000;
-
 /// Stores this value at the keys below 64. Was no call refused?
 fn store<R: Wait>(rt: &R, map: &Numbers, value: u64) -> bool {
-    let mut pass = map.pass();
     for key in 0..64u64 {
-        if map.pin().insert_as(rt, key, value, &mut pass).is_err() {
+        if map.pin().insert(rt, key, value).is_err() {
             return false;
         }
     }
@@ -26,9 +21,8 @@ fn store<R: Wait>(rt: &R, map: &Numbers, value: u64) -> bool {
 
 /// Has each key below 64 one of the two values?
 fn has_either(map: &Numbers) -> bool {
-    let mut pass = map.pass();
     for key in 0..64u64 {
-        match map.pin().get_as(&key, &mut pass) {
+        match map.pin().get(&key) {
             Some(0 | 1) => {}
             _ => return false,
         }
@@ -37,130 +31,137 @@ fn has_either(map: &Numbers) -> bool {
 }
 
 /// Two threads store the same keys in a map of no pairs.
-fn stores_twice<R: Threads + Wait + Sync + Abort>(rt: &R, map: &Numbers) {
-    let stored = join(rt, || store(rt, map, 0), || store(rt, map, 1));
-    is(rt, stored, (true, true));
-    is(rt, has_either(map), true);
+fn stores_twice<R: Threads + Wait + Sync + Abort>(rt: &R, alloc: Global, map: &Numbers) {
+    let stored = all_did(rt, alloc, 2, &|thread| store(rt, map, thread as u64));
+    is(rt, (stored, has_either(map)), (true, true));
 }
 
 #[test]
 fn two_threads_store_the_same_keys(rt: HostRuntime) -> Result<(), Fail> {
-    for mode in MODES {
-        let map = made(&rt, rt.alloc(), mode, 0, 4)?;
-        stores_twice(&rt, &map);
-    }
-    Ok(())
+    in_each_mode(
+        &rt,
+        rt.alloc(),
+        &|map: &Numbers| stores_twice(&rt, rt.alloc(), map),
+    )
 }
 
-/// Inserts these keys, each with itself. Was no call refused?
-fn insert<R: Wait>(rt: &R, map: &Numbers, from: u64, end: u64) -> bool {
-    let mut pass = map.pass();
-    for key in from..end {
-        if map.pin().insert_as(rt, key, key, &mut pass).is_err() {
+/// Inserts 128 keys of its own, as each of eight threads does.
+fn insert_eighth<R: Wait>(rt: &R, map: &Numbers, thread: usize) -> bool {
+    let from = (thread as u64).wrapping_mul(128);
+    insert(rt, map, from, from.wrapping_add(128))
+}
+
+/// Eight threads insert 128 keys each in a map of no pairs, so that all need each next table at once.
+fn inserts_eight<R: Threads + Wait + Sync + Abort>(rt: &R, alloc: Global, map: &Numbers) {
+    let inserted = all_did(rt, alloc, 8, &|thread| insert_eighth(rt, map, thread));
+    is(rt, (inserted, has_below(map, 1024)), (true, true));
+    is(rt, map.len(), 1024);
+}
+
+#[test]
+fn eight_threads_that_need_a_next_table_lose_no_key(rt: HostRuntime) -> Result<(), Fail> {
+    in_each_mode(
+        &rt,
+        rt.alloc(),
+        &|map: &Numbers| inserts_eight(&rt, rt.alloc(), map),
+    )
+}
+
+/// For how many pairs more room is made, one after another. Each takes a longer table.
+const ROOMS: [usize; 3] = [2048, 4096, 8192];
+
+/// How a map's table is made longer while its keys are read.
+#[derive(Clone, Copy)]
+struct Longer {
+    /// for how many pairs it is made
+    capacity: usize,
+    /// the keys that are there before
+    keys: u64,
+    /// how many keys there are at last
+    grown: u64,
+    /// is room made ahead then?
+    reserves: bool,
+}
+
+/// So many keys make a table of 8 slots grow to one of 2^15.
+const BY_KEYS: Longer = Longer {
+    capacity: 6,
+    keys: 6,
+    grown: 16_000,
+    reserves: false,
+};
+
+/// Room is made, and no key comes.
+const BY_ROOM: Longer = Longer {
+    capacity: 0,
+    keys: 1024,
+    grown: 1024,
+    reserves: true,
+};
+
+/// Makes room. Was no call refused?
+fn reserve<R: Wait>(rt: &R, map: &Numbers) -> bool {
+    for additional in ROOMS {
+        if map.pin().reserve(rt, additional).is_err() {
             return false;
         }
     }
     true
 }
 
-/// Makes the map grow, and says so then.
-fn grow<R: Wait>(rt: &R, map: &Numbers, grown: &AtomicBool) -> bool {
-    let inserted = insert(rt, map, KEYS, GROWN);
-    grown.store(true, Ordering::SeqCst);
-    inserted
+/// Makes the table longer, and says so then. Was no call refused?
+fn lengthen<R: Wait>(rt: &R, map: &Numbers, how: Longer, done: &AtomicBool) -> bool {
+    let inserted = insert(rt, map, how.keys, how.grown);
+    let reserved = !how.reserves || reserve(rt, map);
+    done.store(true, Ordering::SeqCst);
+    inserted && reserved
 }
 
-/// Has the map the first keys, each with itself?
-fn has_first(map: &Numbers) -> bool {
-    let mut pass = map.pass();
-    for key in 0..KEYS {
-        if map.pin().get_as(&key, &mut pass) != Some(&key) {
-            return false;
-        }
-    }
-    true
-}
-
-/// Reads the first keys until the map has grown. Was each found each time?
-fn read(map: &Numbers, grown: &AtomicBool) -> bool {
+/// Reads the keys below this one until the table is longer. Was each found each time?
+fn read(map: &Numbers, end: u64, done: &AtomicBool) -> bool {
     for _ in 0..10_000_000u64 {
-        if !has_first(map) {
+        if !has_below(map, end) {
             return false;
         }
-        if grown.load(Ordering::SeqCst) {
-            return true;
+        if done.load(Ordering::SeqCst) {
+            return has_below(map, end);
         }
     }
     false
 }
 
-/// One thread makes the map grow, and the other finds the first keys each time.
-fn reads_while_growing<R: Threads + Wait + Sync + Abort>(rt: &R, map: &Numbers) {
-    is(rt, insert(rt, map, 0, KEYS), true);
-    let grown = AtomicBool::new(false);
-    let both = join(rt, || grow(rt, map, &grown), || read(map, &grown));
+/// One thread makes the table longer, and the other finds the keys that were there each time.
+fn reads_beside<R: Threads + Wait + Sync + Abort>(rt: &R, map: &Numbers, how: Longer) {
+    is(rt, insert(rt, map, 0, how.keys), true);
+    let done = AtomicBool::new(false);
+    let both = join(
+        rt,
+        || lengthen(rt, map, how, &done),
+        || read(map, how.keys, &done),
+    );
     is(rt, both, (true, true));
-    is(rt, map.len() as u64, GROWN);
+    is(rt, map.len() as u64, how.grown);
+}
+
+/// The same, for each way to resize.
+fn reads_in_each_mode<R: Threads + Wait + Sync + Abort>(
+    rt: &R,
+    alloc: Global,
+    how: Longer,
+) -> Result<(), Fail> {
+    for mode in MODES {
+        let map = made(rt, alloc, mode, how.capacity, 4)?;
+        reads_beside(rt, &map, how);
+    }
+    Ok(())
 }
 
 #[test]
 fn a_reader_finds_the_first_keys_while_the_map_grows(rt: HostRuntime) -> Result<(), Fail> {
-    for mode in MODES {
-        let map = made(&rt, rt.alloc(), mode, KEYS as usize, 4)?;
-        reads_while_growing(&rt, &map);
-    }
-    Ok(())
-}
-
-/// Two threads insert the keys of a half each. Was no call refused?
-fn insert_two<R: Threads + Wait + Sync + Abort>(rt: &R, map: &Numbers, ends: [u64; 3]) -> bool {
-    let [from, middle, end] = ends;
-    let (low, high) = join(
-        rt,
-        || insert(rt, map, from, middle),
-        || insert(rt, map, middle, end),
-    );
-    low && high
-}
-
-/// Four threads insert the keys of a quarter each. Was no call refused?
-fn insert_four<R: Threads + Wait + Sync + Abort>(rt: &R, map: &Numbers, ends: [u64; 5]) -> bool {
-    let [from, first, second, third, end] = ends;
-    let (low, high) = join(
-        rt,
-        || insert_two(rt, map, [from, first, second]),
-        || insert_two(rt, map, [second, third, end]),
-    );
-    low && high
-}
-
-/// Has the map each key below 1024, with itself, and no other?
-fn has_all(map: &Numbers) -> bool {
-    let mut pass = map.pass();
-    for key in 0..1024u64 {
-        if map.pin().get_as(&key, &mut pass) != Some(&key) {
-            return false;
-        }
-    }
-    map.len() == 1024
-}
-
-/// Eight threads insert 128 keys each in a map of no pairs, so that all need each next table at once.
-fn inserts_eight<R: Threads + Wait + Sync + Abort>(rt: &R, map: &Numbers) {
-    let inserted = join(
-        rt,
-        || insert_four(rt, map, [0, 128, 256, 384, 512]),
-        || insert_four(rt, map, [512, 640, 768, 896, 1024]),
-    );
-    is(rt, inserted, (true, true));
-    is(rt, has_all(map), true);
+    reads_in_each_mode(&rt, rt.alloc(), BY_KEYS)
 }
 
 #[test]
-fn eight_threads_that_need_a_next_table_lose_no_key(rt: HostRuntime) -> Result<(), Fail> {
-    for mode in MODES {
-        let map = made(&rt, rt.alloc(), mode, 0, 4)?;
-        inserts_eight(&rt, &map);
-    }
-    Ok(())
+fn a_reader_finds_all_keys_while_room_is_made(rt: HostRuntime) -> Result<(), Fail> {
+    reads_in_each_mode(&rt, rt.alloc(), BY_ROOM)
 }

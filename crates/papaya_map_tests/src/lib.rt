@@ -8,6 +8,8 @@ mod builders;
 #[cfg(test)]
 mod computes;
 #[cfg(test)]
+mod crowd;
+#[cfg(test)]
 mod expect;
 #[cfg(test)]
 mod gates;

@@ -3,11 +3,12 @@ ghost use Rattle.std.specs.Prelude.{◌≡◌};
 
 use crate::expect::is;
 use papaya_hashers::times::{APART, Times};
-use papaya_map::map::{HashMap, Pass};
+use papaya_map::map::{HashMap, HashMapRef, Pass};
 use papaya_words::probe::{Refused, ResizeMode};
 use std::alloc::Global;
 use std::process::Abort;
 use std::sync::Wait;
+use std::test::Fail;
 
 /// How the maps of the tests with threads resize.
 pub const MODES: [ResizeMode; 3] = [
@@ -18,6 +19,9 @@ pub const MODES: [ResizeMode; 3] = [
 
 /// The maps of the tests.
 pub type Numbers = HashMap<u64, u64, Times>;
+
+/// Such a map, pinned.
+pub type Pinned<'a> = HashMapRef<'a, u64, u64, Times>;
 
 /// A pass of such a map.
 pub type NumbersPass = Pass<u64, u64, Times>;
@@ -36,6 +40,17 @@ pub fn made<R: Wait>(
 /// A map with no table yet.
 pub fn numbers<R: Wait + Abort>(rt: &R, alloc: Global) -> Numbers {
     made(rt, alloc, ResizeMode::Blocking, 0, 4).expect(rt, "a map")
+}
+
+/// Does this with a map of no pairs, for each way to resize.
+pub fn in_each_mode<R: Wait, F: Fn(&Numbers)>(rt: &R, alloc: Global, does: &F) -> Result<(), Fail>
+    requires { F.IsAlwaysCallable does.now }
+{
+    for mode in MODES {
+        let map = made(rt, alloc, mode, 0, 4)?;
+        does(&map);
+    }
+    Ok(())
 }
 
 /// A lookup answers so.

@@ -1,6 +1,7 @@
 // What two passes have seen of a map is brought together.
 ghost use Rattle.std.specs.Prelude.{◌≡◌};
 
+use crate::expect::is;
 use crate::numbers::{Numbers, NumbersPass, finds, inserts, numbers};
 use std::process::Abort;
 use std::sync::Wait;
@@ -43,8 +44,16 @@ fn meet_twice<R: Wait + Abort>(rt: &R, map: &Numbers) {
     finds_both(rt, map, &mut second);
 }
 
+/// A new pass removes a pair.
+fn removes<R: Wait + Abort>(rt: &R, map: &Numbers) {
+    let mut pass = map.pass();
+    is(rt, map.pin().remove_as(rt, &2, &mut pass), Ok(Some(&20)));
+    finds(rt, map, 2, &mut pass, None);
+}
+
 #[test]
 fn two_passes_meet(rt: HostRuntime) {
     let map = numbers(&rt, rt.alloc());
     meet_twice(&rt, &map);
+    removes(&rt, &map);
 }

