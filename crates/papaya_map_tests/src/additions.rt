@@ -1,7 +1,7 @@
 // Computes by threads: no addition is lost.
 use crate::crowd::all_did;
 use crate::expect::is;
-use crate::numbers::{Numbers, counts, in_each_mode};
+use crate::numbers::{MODES, Numbers, counts, made};
 use papaya_call::answers::Operation;
 use std::alloc::Global;
 use std::process::Abort;
@@ -53,5 +53,9 @@ fn adds<R: Threads + Wait + Sync + Abort>(rt: &R, alloc: Global, map: &Numbers) 
 /// No addition of eight threads is lost, and none is made twice.
 #[test]
 fn each_addition_is_made_once(rt: HostRuntime) -> Result<(), Fail> {
-    in_each_mode(&rt, rt.alloc(), &|map: &Numbers| adds(&rt, rt.alloc(), map))
+    for mode in MODES {
+        let map = made(&rt, rt.alloc(), mode, 0, 4)?;
+        adds(&rt, rt.alloc(), &map);
+    }
+    Ok(())
 }

@@ -1,7 +1,7 @@
 // A pair that is replaced while a closure is shown it.
-use crate::crowd::turn_until;
+use crate::crowd::{insert, turn_until};
 use crate::expect::is;
-use crate::numbers::{Numbers, in_each_mode};
+use crate::numbers::{MODES, Numbers, counts, made};
 use papaya_call::answers::Operation;
 use papaya_keys::compute::Compute;
 use papaya_words::probe::Refused;
@@ -122,47 +122,72 @@ fn replace_at_gate<R: Wait>(
     (met, old)
 }
 
-/// The closure was shown both pairs.
-fn saw_both(rt: &impl Abort, seen: Seen) {
-    is(rt, (seen.times, seen.met), (2, true));
-    is(rt, (seen.first, seen.last), (Some((1, 10)), Some((1, 20))));
+/// The call and the replacement, in two threads.
+fn both_at_gate<R: Threads + Wait + Sync>(
+    rt: &R,
+    map: &Numbers,
+    call: Call,
+) -> ((Seen, Option<(u64, u64)>), (bool, Option<u64>)) {
+    let shown = AtomicBool::new(false);
+    let replaced = AtomicBool::new(false);
+    join(
+        rt,
+        || call_at_gate(rt, map, call, &shown, &replaced),
+        || replace_at_gate(rt, map, &shown, &replaced),
+    )
 }
 
-/// A pair is stored, and then replaced while the call is made, which tells this and leaves that value.
+/// The closure was shown both pairs, and the call told this.
+fn saw_both(rt: &impl Abort, found: (Seen, Option<(u64, u64)>), told: (u64, u64)) {
+    let (seen, changed) = found;
+    is(rt, (seen.times, seen.met), (2, true));
+    is(rt, (seen.first, seen.last), (Some((1, 1)), Some((1, 20))));
+    is(rt, changed, Some(told));
+}
+
+/// A pair is stored, and then replaced while the call is made, which tells this. What is told is
+/// the value that is left.
 fn meets_what_replaced<R: Threads + Wait + Sync + Abort>(
     rt: &R,
     map: &Numbers,
     call: Call,
     told: (u64, u64),
-    left: Option<&u64>,
-) {
-    is(rt, map.pin().insert(rt, 1, 10), Ok(None));
-    let shown = AtomicBool::new(false);
-    let replaced = AtomicBool::new(false);
-    let ((seen, changed), other) = join(
-        rt,
-        || call_at_gate(rt, map, call, &shown, &replaced),
-        || replace_at_gate(rt, map, &shown, &replaced),
-    );
-    is(rt, other, (true, Some(10)));
-    is(rt, changed, Some(told));
-    saw_both(rt, seen);
-    is(rt, map.pin().get(&1), left);
-    is(rt, map.len(), usize::from(left.is_some()));
+) -> Option<u64> {
+    is(rt, insert(rt, map, 1, 2), true);
+    let (found, other) = both_at_gate(rt, map, call);
+    is(rt, other, (true, Some(1)));
+    saw_both(rt, found, told);
+    map.pin().get(&1).copied()
 }
 
-/// A pair that is replaced while it is shown is neither removed nor added to: the closure is shown
-/// the one that took its place.
+/// A pair that is replaced while it is shown is not removed: the closure is shown the one that took
+/// its place.
 #[test]
-fn a_call_shows_what_replaced_its_pair(rt: HostRuntime) -> Result<(), Fail> {
-    in_each_mode(
-        &rt,
-        rt.alloc(),
-        &|map: &Numbers| meets_what_replaced(&rt, map, Call::Remove, (1, 20), None),
-    )?;
-    in_each_mode(
-        &rt,
-        rt.alloc(),
-        &|map: &Numbers| meets_what_replaced(&rt, map, Call::Compute, (20, 21), Some(&21)),
-    )
+fn a_removal_shows_what_replaced_its_pair(rt: HostRuntime) -> Result<(), Fail> {
+    for mode in MODES {
+        let map = made(&rt, rt.alloc(), mode, 0, 4)?;
+        is(
+            &rt,
+            meets_what_replaced(&rt, &map, Call::Remove, (1, 20)),
+            None,
+        );
+        counts(&rt, &map, 0);
+    }
+    Ok(())
+}
+
+/// A value that is replaced while it is shown is not added to: the closure is shown the one that
+/// took its place.
+#[test]
+fn a_compute_shows_what_replaced_its_pair(rt: HostRuntime) -> Result<(), Fail> {
+    for mode in MODES {
+        let map = made(&rt, rt.alloc(), mode, 0, 4)?;
+        is(
+            &rt,
+            meets_what_replaced(&rt, &map, Call::Compute, (20, 21)),
+            Some(21),
+        );
+        counts(&rt, &map, 1);
+    }
+    Ok(())
 }

@@ -1,7 +1,7 @@
 // Threads that share a map while it grows.
 use crate::crowd::{all_did, has_below, insert};
 use crate::expect::is;
-use crate::numbers::{MODES, Numbers, in_each_mode, made};
+use crate::numbers::{MODES, Numbers, made};
 use std::alloc::Global;
 use std::process::Abort;
 use std::sync::Wait;
@@ -38,11 +38,11 @@ fn stores_twice<R: Threads + Wait + Sync + Abort>(rt: &R, alloc: Global, map: &N
 
 #[test]
 fn two_threads_store_the_same_keys(rt: HostRuntime) -> Result<(), Fail> {
-    in_each_mode(
-        &rt,
-        rt.alloc(),
-        &|map: &Numbers| stores_twice(&rt, rt.alloc(), map),
-    )
+    for mode in MODES {
+        let map = made(&rt, rt.alloc(), mode, 0, 4)?;
+        stores_twice(&rt, rt.alloc(), &map);
+    }
+    Ok(())
 }
 
 /// Inserts 128 keys of its own, as each of eight threads does.
@@ -60,11 +60,11 @@ fn inserts_eight<R: Threads + Wait + Sync + Abort>(rt: &R, alloc: Global, map: &
 
 #[test]
 fn eight_threads_that_need_a_next_table_lose_no_key(rt: HostRuntime) -> Result<(), Fail> {
-    in_each_mode(
-        &rt,
-        rt.alloc(),
-        &|map: &Numbers| inserts_eight(&rt, rt.alloc(), map),
-    )
+    for mode in MODES {
+        let map = made(&rt, rt.alloc(), mode, 0, 4)?;
+        inserts_eight(&rt, rt.alloc(), &map);
+    }
+    Ok(())
 }
 
 /// For how many pairs more room is made, one after another. Each takes a longer table.

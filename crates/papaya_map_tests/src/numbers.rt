@@ -8,7 +8,6 @@ use papaya_words::probe::{Refused, ResizeMode};
 use std::alloc::Global;
 use std::process::Abort;
 use std::sync::Wait;
-use std::test::Fail;
 
 /// How the maps of the tests with threads resize.
 pub const MODES: [ResizeMode; 3] = [
@@ -40,17 +39,6 @@ pub fn made<R: Wait>(
 /// A map with no table yet.
 pub fn numbers<R: Wait + Abort>(rt: &R, alloc: Global) -> Numbers {
     made(rt, alloc, ResizeMode::Blocking, 0, 4).expect(rt, "a map")
-}
-
-/// Does this with a map of no pairs, for each way to resize.
-pub fn in_each_mode<R: Wait, F: Fn(&Numbers)>(rt: &R, alloc: Global, does: &F) -> Result<(), Fail>
-    requires { F.IsAlwaysCallable does.now }
-{
-    for mode in MODES {
-        let map = made(rt, alloc, mode, 0, 4)?;
-        does(&map);
-    }
-    Ok(())
 }
 
 /// A lookup answers so.

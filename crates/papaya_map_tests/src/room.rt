@@ -1,6 +1,6 @@
 // Room for more pairs than a table has slots for.
 use crate::expect::is;
-use crate::numbers::{Numbers, in_each_mode};
+use crate::numbers::{MODES, Numbers, made};
 use papaya_words::probe::Refused;
 use std::process::Abort;
 use std::sync::Wait;
@@ -21,5 +21,9 @@ fn refuses<R: Wait + Abort>(rt: &R, map: &Numbers) {
 
 #[test]
 fn room_for_too_many_pairs_is_refused(rt: HostRuntime) -> Result<(), Fail> {
-    in_each_mode(&rt, rt.alloc(), &|map: &Numbers| refuses(&rt, map))
+    for mode in MODES {
+        let map = made(&rt, rt.alloc(), mode, 0, 4)?;
+        refuses(&rt, &map);
+    }
+    Ok(())
 }

@@ -1,7 +1,7 @@
 // The calls that store a value where their rule says so.
 use crate::crowd::{all_did, insert};
 use crate::expect::is;
-use crate::numbers::{Numbers, Pinned, in_each_mode};
+use crate::numbers::{MODES, Numbers, Pinned, made};
 use papaya_keys::occupied::{NotInserted, OccupiedError};
 use std::alloc::Global;
 use std::process::Abort;
@@ -72,7 +72,11 @@ fn stores<R: Wait + Abort>(rt: &R, map: &Numbers) {
 
 #[test]
 fn values_are_stored_as_the_rule_says(rt: HostRuntime) -> Result<(), Fail> {
-    in_each_mode(&rt, rt.alloc(), &|map: &Numbers| stores(&rt, map))
+    for mode in MODES {
+        let map = made(&rt, rt.alloc(), mode, 0, 4)?;
+        stores(&rt, &map);
+    }
+    Ok(())
 }
 
 /// Adds 1 to each value. Was each answer one or two more than the key?
@@ -97,5 +101,9 @@ fn adds<R: Threads + Wait + Sync + Abort>(rt: &R, alloc: Global, map: &Numbers) 
 
 #[test]
 fn no_update_of_two_threads_is_lost(rt: HostRuntime) -> Result<(), Fail> {
-    in_each_mode(&rt, rt.alloc(), &|map: &Numbers| adds(&rt, rt.alloc(), map))
+    for mode in MODES {
+        let map = made(&rt, rt.alloc(), mode, 0, 4)?;
+        adds(&rt, rt.alloc(), &map);
+    }
+    Ok(())
 }

@@ -1,7 +1,7 @@
 // The calls that visit the whole map.
 use crate::crowd::insert;
 use crate::expect::is;
-use crate::numbers::{MODES, Numbers, Pinned, in_each_mode};
+use crate::numbers::{MODES, Numbers, Pinned, made};
 use papaya_hashers::times::{APART, TOGETHER, Times};
 use papaya_map::map::HashMap;
 use papaya_sweep::walk::{Iter, Keys, Values};
@@ -125,7 +125,11 @@ fn walks_beside<R: Threads + Wait + Sync + Abort>(rt: &R, map: &Numbers) {
 
 #[test]
 fn a_walker_meets_the_first_keys_while_the_map_grows(rt: HostRuntime) -> Result<(), Fail> {
-    in_each_mode(&rt, rt.alloc(), &|map: &Numbers| walks_beside(&rt, map))
+    for mode in MODES {
+        let map = made(&rt, rt.alloc(), mode, 0, 4)?;
+        walks_beside(&rt, &map);
+    }
+    Ok(())
 }
 
 /// How often the text has this byte.
@@ -157,9 +161,9 @@ fn prints_each_once<R: Wait + Abort>(rt: &R, alloc: Global, map: &Numbers) {
 
 #[test]
 fn a_map_that_grows_prints_each_pair_once(rt: HostRuntime) -> Result<(), Fail> {
-    in_each_mode(
-        &rt,
-        rt.alloc(),
-        &|map: &Numbers| prints_each_once(&rt, rt.alloc(), map),
-    )
+    for mode in MODES {
+        let map = made(&rt, rt.alloc(), mode, 0, 4)?;
+        prints_each_once(&rt, rt.alloc(), &map);
+    }
+    Ok(())
 }
