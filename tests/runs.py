@@ -31,6 +31,14 @@ class Runs:
         self.failed += 1
         print(f"runs.py: papaya-run {args} on {lines[-200:]} printed {got}", file=sys.stderr)
 
+    def is_so(self, holds, what):
+        """What several runs came to is as wanted."""
+        if holds:
+            self.passed += 1
+            return
+        self.failed += 1
+        print(f"runs.py: papaya-run {what}", file=sys.stderr)
+
     def run(self, args, lines, printed, said="", status=0, end=b"\n"):
         """A run on these lines, and the lines that it prints."""
         lines = [it if isinstance(it, bytes) else it.encode() for it in lines]
@@ -262,17 +270,22 @@ OVERLAPPING = [
 ]
 
 
-def steps_of(runs, args, lines, caller, most=1000):
-    """How many steps this caller makes until its call replies: one more is a bad line."""
+def rounds_of(runs, args, lines, steps, most=1000):
+    """How often these lines go on before one of them is bad: a step of a caller whose call has replied."""
     low, high = 1, most
     while low < high:
         middle = (low + high) // 2
-        script = "".join(f"{it}\n" for it in [*lines, *[f"step {caller}"] * (middle + 1)])
+        script = "".join(f"{it}\n" for it in [*lines, *steps * (middle + 1)])
         if runs.printed_by(args, script.encode())[2] == 0:
             low = middle + 1
         else:
             high = middle
     return low
+
+
+def steps_of(runs, args, lines, caller):
+    """How many steps this caller makes until its call replies."""
+    return rounds_of(runs, args, lines, [f"step {caller}"])
 
 
 def some_of(steps, most):
@@ -323,6 +336,126 @@ def overlap(runs, args, keys, first, second):
             runs.run_one_of(args, lines, printed)
 
 
+# A first table has so many slots: by `id` so many keys fill it, and the next one asks for a longer table.
+FULL = 32
+
+GROWING = ["core inc:1 id", "core inc:2 id", "core inc:64 id", "core block id"]
+
+
+def whole(caller, call):
+    return [f"begin {caller} {call}", f"finish {caller}"]
+
+
+def filled(keys):
+    """Keys from 0 on, each with itself for a value."""
+    return [line for key in range(keys) for line in whole(0, f"i {key} {key}")]
+
+
+def looked_up(first, keys):
+    """Lookups of these keys and of the next one."""
+    return [line for key in range(first, keys + 1) for line in whole(2, f"g {key}")]
+
+
+def found(first, keys):
+    """What is printed where these keys are there, and the next one is not."""
+    return [*[f"2: some {key}" for key in range(first, keys)], "2: none"]
+
+
+def walk_of(keys):
+    return "2: walk" + "".join(f" {key}={key}" for key in sorted(keys))
+
+
+def stepping_in_turn(runs):
+    """Two callers insert a key each, step by step in turn: the table is as good as full."""
+    for args in GROWING:
+        for keys in [*range(3), *range(FULL - 6, FULL + 3)]:
+            lines = [*filled(keys), f"begin 0 i {keys} {keys}", f"begin 1 i {keys + 1} {keys + 1}"]
+            rounds = rounds_of(runs, args, lines, ["step 0", "step 1"])
+            lines += [*["step 0", "step 1"] * (rounds - 1), "finish 0", "finish 1", *looked_up(0, keys + 2)]
+            runs.run(args, lines, [*["0: none"] * (keys + 1), "1: none", *found(0, keys + 2)])
+
+
+def growing(runs):
+    """Caller 0 is stopped after each number of steps of an insertion that needs a longer table. Then
+    others go on as if it were not there, each with whole calls, and at last caller 0 does."""
+    for args in GROWING:
+        begun = [*filled(FULL), f"begin 0 i {FULL} {FULL}"]
+        stored = ["0: none"] * FULL
+        for made in range(steps_of(runs, args, begun, 0)):
+            stopped = [*begun, *["step 0"] * made]
+            store_more(runs, args, stopped, stored)
+            clear_or_walk(runs, args, stopped, stored)
+
+
+def store_more(runs, args, stopped, stored):
+    """Caller 1 stores so many keys that the longer table is full too."""
+    keys = range(FULL + 1, 2 * FULL + 4)
+    lines = [line for key in keys for line in whole(1, f"i {key} {key}")]
+    lines = [*stopped, *lines, *looked_up(FULL + 1, keys.stop), "finish 0", *looked_up(0, keys.stop)]
+    said = [*["1: none"] * len(keys), *found(FULL + 1, keys.stop)]
+    runs.run(args, lines, [*stored, *said, "0: none", *found(0, keys.stop)])
+
+
+def clear_or_walk(runs, args, stopped, stored):
+    """Caller 1 clears the map, or walks it and removes a key. What caller 0 stores may be there then or not."""
+    looks = [line for key in range(FULL) for line in whole(2, f"g {key}")]
+    lines = [*stopped, *whole(1, "clear"), "finish 0", *looks, *whole(2, "walk")]
+    printed = [*stored, "1: ok", "0: none", *["2: none"] * FULL]
+    runs.run_one_of(args, lines, [[*printed, walk_of(left)] for left in ([], [FULL])])
+    lines = [*stopped, *whole(2, "walk"), *whole(1, "r 0"), "finish 0", *whole(1, "g 0"), *looked_up(1, FULL + 1)]
+    printed = ["1: removed 0", "0: none", "1: none", *found(1, FULL + 1)]
+    runs.run_one_of(args, lines, [[*stored, walk_of(range(end)), *printed] for end in (FULL, FULL + 1)])
+
+
+def walking(runs):
+    """Caller 2 is stopped after each number of steps of a walk, while a key is stored for which a longer
+    table is made, and another removed: these may be walked or not, and each other one is, once."""
+    for args in GROWING:
+        begun = [*filled(FULL), "begin 2 walk"]
+        printed = [*["0: none"] * FULL, "1: none", "1: removed 3"]
+        walks = [walk_of({*range(FULL)} - gone | new) for gone in (set(), {3}) for new in (set(), {FULL})]
+        for made in range(steps_of(runs, args, begun, 2)):
+            lines = [*begun, *["step 2"] * made, *whole(1, f"i {FULL} {FULL}"), *whole(1, "r 3"), "finish 2"]
+            runs.run_one_of(args, lines, [[*printed, walk] for walk in walks])
+
+
+def growing_without_memory(runs):
+    """One step of an insertion that needs a longer table has no memory. The call is refused where that step
+    makes the key, the pair or the table, and nowhere else; then there is memory, and the map grows."""
+    keys = FULL + 4
+    later = [line for key in range(FULL, keys) for line in whole(1, f"i {key} {key}")]
+    for args in GROWING:
+        begun = [*filled(FULL), f"begin 0 i {FULL} {FULL}"]
+        refused = 0
+        for made in range(steps_of(runs, args, begun, 0) - 1):
+            lines = [*begun, *["step 0"] * made, "refuse 0"]
+            is_refused = "refused" in runs.printed_by(args, "".join(f"{it}\n" for it in lines).encode())[0]
+            refused += is_refused
+            lines += [*([] if is_refused else ["finish 0"]), *looked_up(0, FULL + (not is_refused))]
+            said = ["0: refused 1 Memory" if is_refused else "0: none", *found(0, FULL + (not is_refused))]
+            olds = ["1: none" if is_refused else f"1: old {FULL}", *["1: none"] * (keys - FULL - 1)]
+            printed = [*["0: none"] * FULL, *said, *olds, *found(0, keys)]
+            runs.run(args, [*lines, *later, *looked_up(0, keys)], printed)
+        runs.is_so(refused == 3, f"{args}: {refused} steps of a growth make something")
+
+
+def looking_up_beside_a_copy(runs):
+    """An insertion copies a whole table of 64 keys on one path. A lookup finds its key after each step of it,
+    and so does one that is stopped after each of its own steps, while the insertion is made whole."""
+    args = "core block zero"
+    stored = ["0: none"] * (2 * FULL)
+    insertion = f"i {2 * FULL} 0"
+    round = ["step 1", *whole(2, "g 5")]
+    begun = [*filled(2 * FULL), f"begin 1 {insertion}"]
+    rounds = rounds_of(runs, args, begun, round)
+    runs.run(args, [*begun, *round * rounds], [*stored, *["2: some 5"] * (rounds - 1), "1: none", "2: some 5"])
+    runs.is_so(rounds > 2 * FULL, f"{args}: a copy of {2 * FULL} pairs takes {rounds} steps")
+    begun = [*filled(2 * FULL), "begin 2 g 5"]
+    for made in range(steps_of(runs, args, begun, 2)):
+        lines = [*begun, *["step 2"] * made, *whole(1, insertion), "finish 2"]
+        runs.run(args, lines, [*stored, "1: none", "2: some 5"])
+
+
 def main(program):
     runs = Runs(program)
     stored(runs, os.path.join(os.path.dirname(os.path.abspath(__file__)), "runs.txt"))
@@ -330,6 +463,11 @@ def main(program):
     walked(runs)
     full(runs)
     overlapping(runs)
+    stepping_in_turn(runs)
+    growing(runs)
+    walking(runs)
+    growing_without_memory(runs)
+    looking_up_beside_a_copy(runs)
     for rest in ["inc:64 id", "block zero"]:
         stopped(runs, rest)
         without_memory(runs, rest)

@@ -6,8 +6,6 @@
 #[cfg(test)]
 mod expect;
 #[cfg(test)]
-mod growth;
-#[cfg(test)]
 mod guards;
 #[cfg(test)]
 mod machines;
@@ -17,7 +15,5 @@ mod plain;
 mod resizing;
 #[cfg(test)]
 mod schedules;
-#[cfg(test)]
-mod visiting;
 #[cfg(test)]
 mod words;

@@ -1,88 +1,185 @@
-// A core of numbers, its calls on one key, and what they reply by the values of the pairs.
-ghost use Rattle.std.specs.Prelude.{◌≡◌};
-
+// A core of numbers, calls that its callers make whole or in part, and what they reply, by the values
+// of the pairs.
+use crate::expect::is_at;
+use papaya_ask::ask::StepKind;
 use papaya_ask::call::{Call, Reply};
-use papaya_call::answers::{Answers, Operation};
+use papaya_call::answers::{Listed, Operation};
 use papaya_core::schedule::Core;
-use papaya_core::trace::{Event, Trace};
+use papaya_core::trace::{Event, Trace, Turn};
 use papaya_hashers::times::Times;
+use papaya_words::probe::ResizeMode;
+use std::alloc::Global;
+use std::process::Abort;
+use std::test::Fail;
 
-pub(crate) type Numbers = Core<u64, u64, Times, Removes>;
+/// The closures of the calls here answer some things in turn, whatever they are shown.
+pub(crate) type Numbers = Core<u64, u64, Times, Listed<u64>>;
 
-/// The closure of a compute, which removes what is there.
-#[derive(Clone, Copy, Debug)]
-pub(crate) struct Removes;
+pub(crate) type Asked = Call<u64, u64, Listed<u64>>;
 
-impl Answers<u64, u64> for Removes {
-    ghost op_gives = { λ s shown answer t. t ≡ s };
+/// The ways in which tables are copied.
+pub(crate) const MODES: [ResizeMode; 3] = [
+    ResizeMode::Incremental(1),
+    ResizeMode::Incremental(64),
+    ResizeMode::Blocking,
+];
 
-    ghost yes_gives = { λ s key value answer t. t ≡ s };
+/// No call takes more steps, whatever another caller left undone.
+pub(crate) const WHOLE: usize = 1_000_000;
 
-    fn op(&mut self, _shown: Option<(&u64, &u64)>) -> Operation<u64, u64> {
-        Operation::Remove
-    }
-
-    fn yes(&mut self, _key: &u64, _value: &u64) -> bool {
-        false
-    }
+/// The value that a key has where a test says no other.
+pub(crate) fn value(key: u64) -> u64 {
+    key.wrapping_add(1000)
 }
 
-/// A call on a key.
-#[derive(Clone, Copy, Debug)]
-pub(crate) enum Asked {
-    Get(u64),
-    Insert(u64, u64),
+/// A removal of a key, whose closure answers this in turn, and then that the pair stays.
+pub(crate) fn removal(alloc: Global, key: u64, first: bool) -> Result<Asked, Fail> {
+    let ops = Vec::new(alloc);
+    let yes = vec![in alloc; first]?;
+    Ok(Call::RemoveIf(key, Listed { ops, yes }))
 }
 
-impl Asked {
-    pub(crate) fn key(self) -> u64 {
-        match self {
-            Asked::Get(key) | Asked::Insert(key, _) => key,
-        }
-    }
-
-    pub(crate) fn call(self) -> Call<u64, u64, Removes> {
-        match self {
-            Asked::Get(key) => Call::Get(key),
-            Asked::Insert(key, value) => Call::Insert(key, value),
-        }
-    }
+/// A retain whose closure lets no pair stay.
+pub(crate) fn retain_of_nothing(alloc: Global) -> Asked {
+    let ops = Vec::new(alloc);
+    let yes = Vec::new(alloc);
+    Call::Retain(Listed { ops, yes })
 }
 
-/// The reply of this caller's call.
-fn reply_of(trace: &Trace, caller: usize) -> Option<Reply> {
+/// A compute of key 7, whose closure answers these in turn, and then `Abort(0)`.
+pub(crate) fn compute(alloc: Global, ops: Vec<Operation<u64, u64>>) -> Asked {
+    let yes = Vec::new(alloc);
+    Call::Compute(7, Listed { ops, yes })
+}
+
+/// A caller begins this call, and makes so many steps of it.
+pub(crate) fn begin(
+    alloc: Global,
+    core: &mut Numbers,
+    caller: usize,
+    call: Asked,
+    steps: usize,
+) -> Result<Trace, Fail> {
+    let turns = vec![in alloc; Turn::Begin(caller, call), Turn::Finish(caller, steps)]?;
+    Ok(core.run(turns)?)
+}
+
+/// A caller makes the rest of its call.
+pub(crate) fn go_on(alloc: Global, core: &mut Numbers, caller: usize) -> Result<Trace, Fail> {
+    let turns = vec![in alloc; Turn::Finish(caller, WHOLE)]?;
+    Ok(core.run(turns)?)
+}
+
+/// The last reply to a caller.
+pub(crate) fn reply_to(trace: &Trace, caller: usize) -> Option<Reply> {
+    let mut last = None;
     for entry in &trace.entries {
         if let Event::Replied(reply) = entry.event {
             if entry.caller == caller {
-                return Some(reply);
+                last = Some(reply);
             }
         }
     }
-    None
+    last
 }
 
-/// The value of this pair, if it has this key.
-fn value_of(core: &Numbers, key: u64, number: u64) -> Option<u64> {
-    let (stored, value) = core.pair(number)?;
-    if *stored == key { Some(*value) } else { None }
+/// How many exchanges of this kind there are in a trace.
+pub(crate) fn times(trace: &Trace, kind: StepKind) -> usize {
+    let mut times = 0usize;
+    for entry in &trace.entries {
+        if let Event::Moved(found) | Event::Changed(found, _, _) = entry.event {
+            if found == kind {
+                times = times.wrapping_add(1);
+            }
+        }
+    }
+    times
 }
 
-/// The reply to a caller's call on this key, by the values of the pairs.
-pub(crate) fn reply_by_value(
-    core: &Numbers,
-    trace: &Trace,
-    caller: usize,
-    key: u64,
-) -> Option<Reply> {
-    Some(match reply_of(trace, caller)? {
-        Reply::Found(number) => Reply::Found(value_of(core, key, number)?),
-        Reply::Inserted(number) => Reply::Inserted(value_of(core, key, number)?),
-        Reply::Occupied(number) => Reply::Occupied(value_of(core, key, number)?),
-        Reply::Removed(number) => Reply::Removed(value_of(core, key, number)?),
+/// The closures' answers in a trace: the pairs that were shown, and what was answered.
+pub(crate) fn answers_in(alloc: Global, trace: &Trace) -> Result<Vec<(u64, bool)>, Fail> {
+    let mut answers = Vec::new(alloc);
+    for entry in &trace.entries {
+        if let Event::Asked(pair, agrees) = entry.event {
+            answers.push((pair, agrees))?;
+        }
+    }
+    Ok(answers)
+}
+
+/// The value of the pair with this number.
+pub(crate) fn value_of(core: &Numbers, number: u64) -> Option<u64> {
+    let (_, value) = core.pair(number)?;
+    Some(*value)
+}
+
+/// A reply, which tells pairs by their values.
+pub(crate) fn by_value(core: &Numbers, reply: Option<Reply>) -> Option<Reply> {
+    Some(match reply? {
+        Reply::Found(number) => Reply::Found(value_of(core, number)?),
+        Reply::Inserted(number) => Reply::Inserted(value_of(core, number)?),
+        Reply::Occupied(number) => Reply::Occupied(value_of(core, number)?),
+        Reply::Removed(number) => Reply::Removed(value_of(core, number)?),
+        Reply::Kept(number) => Reply::Kept(value_of(core, number)?),
         Reply::Replaced { old, new } => Reply::Replaced {
-            old: value_of(core, key, old)?,
-            new: value_of(core, key, new)?,
+            old: value_of(core, old)?,
+            new: value_of(core, new)?,
         },
         other => other,
     })
+}
+
+/// A caller makes this call whole, and it replies so.
+pub(crate) fn replies(
+    rt: &impl Abort,
+    alloc: Global,
+    core: &mut Numbers,
+    (case, caller): (usize, usize),
+    call: Asked,
+    wanted: Reply,
+) -> Result<(), Fail> {
+    let trace = begin(alloc, core, caller, call, WHOLE)?;
+    let reply = by_value(core, reply_to(&trace, caller));
+    is_at(rt, case, reply, Some(wanted));
+    Ok(())
+}
+
+/// Another caller finds just the keys of a range, of those below 27.
+pub(crate) fn holds(
+    rt: &impl Abort,
+    alloc: Global,
+    core: &mut Numbers,
+    case: usize,
+    (first, end): (u64, u64),
+) -> Result<(), Fail> {
+    for key in 0..27 {
+        let wanted = if first <= key && key < end {
+            Reply::Found(value(key))
+        } else {
+            Reply::Absent
+        };
+        replies(rt, alloc, core, (case, 99), Call::Get(key), wanted)?;
+    }
+    Ok(())
+}
+
+/// The keys from one to another are stored.
+pub(crate) fn stores(
+    rt: &impl Abort,
+    alloc: Global,
+    core: &mut Numbers,
+    (first, end): (u64, u64),
+) -> Result<(), Fail> {
+    for key in first..end {
+        let wanted = Reply::Inserted(value(key));
+        replies(
+            rt,
+            alloc,
+            core,
+            (0, 0),
+            Call::Insert(key, value(key)),
+            wanted,
+        )?;
+    }
+    Ok(())
 }

@@ -1,22 +1,20 @@
+// What two calls on one key come to, where the first is stopped after each of its steps, while the
+// second is made whole.
 use crate::expect::{is, is_at};
+use crate::plain::{
+    Asked, Numbers, WHOLE, answers_in, begin, by_value, compute, go_on, removal, replies, reply_to,
+    times, value_of,
+};
 use papaya_ask::ask::StepKind;
 use papaya_ask::call::{Call, Reply};
-use papaya_call::answers::{Listed, Operation};
-use papaya_core::outcome;
+use papaya_call::answers::Operation;
 use papaya_core::schedule::Core;
-use papaya_core::trace::{Entry, Event, Trace, Turn};
-use papaya_hashers::times::{APART, Times};
+use papaya_core::trace::{Event, Trace, Turn};
+use papaya_hashers::times::APART;
 use papaya_words::probe::{Refused, ResizeMode};
 use std::alloc::Global;
+use std::process::Abort;
 use std::test::Fail;
-
-type Numbers = Core<u64, u64, Times, Closure>;
-
-/// The closures of the calls here answer these in turn, whatever they are shown.
-type Closure = Listed<u64>;
-
-/// More steps than any call here needs.
-const WHOLE: usize = 1000;
 
 /// An insertion into a new map makes so many steps: it loads the root, makes a table and opens it,
 /// learns its size, loads a slot, makes the key and the pair, claims the slot, and counts.
@@ -36,317 +34,172 @@ const STEPS_OF_UPDATE: usize = 8;
 /// size, loads a slot, claims it, and counts.
 const STEPS_OF_FILL: usize = 10;
 
-/// What a schedule of callers 0 and 1 led to.
-#[derive(Clone, Copy, Debug, PartialEq, Eq)]
-struct Outcome {
-    /// The last reply of each caller.
-    replies: (Option<Reply>, Option<Reply>),
-    /// How often a table became the root.
-    opened: usize,
-    /// The values of pairs 0 and 1.
-    values: (Option<u64>, Option<u64>),
-    /// What a lookup of 7 replies after it.
-    found: Option<Reply>,
+/// What is replied to callers 0 and 1, and to a lookup of 7 afterwards.
+type Replies = (Reply, Reply, Reply);
+
+/// A new map, in which there is this key at most, with 1.
+fn map_of(alloc: Global, held: Option<u64>) -> Result<Numbers, Fail> {
+    let mut core = Core::new(alloc, ResizeMode::Incremental(64), 0, 16, APART)?;
+    if let Some(key) = held {
+        let _ = begin(alloc, &mut core, 3, Call::Insert(key, 1), WHOLE)?;
+    }
+    Ok(core)
 }
 
-fn numbers(alloc: Global) -> Result<Numbers, Refused> {
-    Core::new(alloc, ResizeMode::Incremental(64), 0, 16, APART)
-}
-
-/// The last reply of a caller.
-fn reply_to(trace: &Trace, caller: usize) -> Option<Reply> {
-    let mut last = None;
+/// How often the closure of caller 0 was shown that there is none.
+fn nones_shown(trace: &Trace) -> usize {
+    let mut nones = 0usize;
     for entry in &trace.entries {
-        if let Event::Replied(reply) = entry.event {
-            if entry.caller == caller {
-                last = Some(reply);
+        if let Event::Shown(None, _) = entry.event {
+            if entry.caller == 0 {
+                nones = nones.wrapping_add(1);
             }
         }
     }
-    last
+    nones
 }
 
-fn times_opened(trace: &Trace) -> usize {
-    let opened = |entry: &&Entry| matches!(&entry.event, Event::Moved(StepKind::Open));
-    trace.entries.iter().filter(opened).count()
+/// The replies of a trace, and of a lookup, tell these values.
+fn comes_to(
+    rt: &impl Abort,
+    alloc: Global,
+    core: &mut Numbers,
+    steps: usize,
+    trace: &Trace,
+    (own, other, found): Replies,
+) -> Result<(), Fail> {
+    is_at(rt, steps, by_value(core, reply_to(trace, 0)), Some(own));
+    is_at(rt, steps, by_value(core, reply_to(trace, 1)), Some(other));
+    replies(rt, alloc, core, (steps, 2), Call::Get(7), found)
 }
 
-fn value(core: &Numbers, pair: u64) -> Option<u64> {
-    let (_, value) = core.pair(pair)?;
-    Some(*value)
-}
-
-fn look_up(alloc: Global, core: &mut Numbers) -> Result<Option<Reply>, Fail> {
-    let schedule = vec![in alloc; Turn::Begin(2, Call::Get(7)), Turn::Finish(2, WHOLE)]?;
-    let trace = core.run(schedule)?;
-    Ok(reply_to(&trace, 2))
-}
-
-/// Runs a schedule on a new map.
-fn outcome_of(alloc: Global, schedule: Vec<Turn<u64, u64, Closure>>) -> Result<Outcome, Fail> {
-    let mut core = numbers(alloc)?;
-    let trace = core.run(schedule)?;
-    let found = look_up(alloc, &mut core)?;
-    Ok(Outcome {
-        replies: (reply_to(&trace, 0), reply_to(&trace, 1)),
-        opened: times_opened(&trace),
-        values: (value(&core, 0), value(&core, 1)),
-        found,
-    })
-}
-
-/// What two insertions come to that never replace, where the first is stopped after so many steps.
-fn kept_at(steps: usize) -> Outcome {
-    // Caller 0 loads the slot in its fifth step, makes its pair in its seventh, and claims the
-    // slot in its eighth. Where the slot is taken, it makes no pair.
-    let (own, other) = if steps < 7 { (1, 0) } else { (0, 1) };
-    let (replies, last) = if steps < 8 {
-        let occupied = Some(Reply::Occupied(other));
-        ((occupied, Some(Reply::Inserted(other))), other)
-    } else {
-        (
-            (Some(Reply::Inserted(own)), Some(Reply::Occupied(own))),
-            own,
-        )
-    };
-    let values = match steps {
-        0..5 => (Some(200), None),
-        5 | 6 => (Some(200), Some(100)),
-        7 => (Some(100), Some(200)),
-        _ => (Some(100), None),
-    };
-    Outcome {
-        replies,
-        opened: 1,
-        values,
-        found: Some(Reply::Found(last)),
-    }
-}
-
-#[test]
-fn stopped_insertion_that_never_replaces(rt: HostRuntime) -> Result<(), Fail> {
-    for steps in 0..STEPS_OF_INSERT + 1 {
-        let schedule = vec![in rt.alloc();
-            Turn::Begin(0, Call::TryInsert(7, 100)),
-            Turn::Finish(0, steps),
-            Turn::Begin(1, Call::TryInsert(7, 200)),
-            Turn::Finish(1, WHOLE),
-            Turn::Finish(0, WHOLE),
-        ]?;
-        is_at(
-            &rt,
-            steps,
-            outcome_of(rt.alloc(), schedule)?,
-            kept_at(steps),
-        );
-    }
-    Ok(())
-}
-
-/// A removal of key 7, whose closure answers this in turn, and then false.
-fn removal(alloc: Global, first: bool) -> Result<Call<u64, u64, Closure>, Fail> {
-    let answers = Listed {
-        ops: Vec::new(alloc),
-        yes: vec![in alloc; first]?,
-    };
-    Ok(Call::RemoveIf(7, answers))
-}
-
-/// A schedule that first puts 1 in for key 7, then stops one call of caller 0 after some steps, in
-/// which caller 1 makes another whole, and then lets it go on.
+/// Caller 0 is stopped after so many steps of a call, caller 1 makes another whole, and caller 0
+/// goes on.
 fn stopped(
     alloc: Global,
-    call: Call<u64, u64, Closure>,
+    core: &mut Numbers,
+    call: Asked,
     steps: usize,
-    other: Call<u64, u64, Closure>,
-) -> Result<Vec<Turn<u64, u64, Closure>>, Fail> {
-    stopped_beside(alloc, 7, call, steps, other)
-}
-
-/// The same with another key that 1 is put in for.
-fn stopped_beside(
-    alloc: Global,
-    held: u64,
-    call: Call<u64, u64, Closure>,
-    steps: usize,
-    other: Call<u64, u64, Closure>,
-) -> Result<Vec<Turn<u64, u64, Closure>>, Fail> {
-    Ok(vec![in alloc;
-        Turn::Begin(3, Call::Insert(held, 1)),
-        Turn::Finish(3, WHOLE),
+    other: Asked,
+) -> Result<Trace, Fail> {
+    let turns = vec![in alloc;
         Turn::Begin(0, call),
         Turn::Finish(0, steps),
         Turn::Begin(1, other),
         Turn::Finish(1, WHOLE),
         Turn::Finish(0, WHOLE),
-    ]?)
+    ]?;
+    Ok(core.run(turns)?)
+}
+
+/// What two insertions come to that never replace, where the first is stopped after so many steps.
+fn kept_at(steps: usize) -> Replies {
+    // Caller 0 claims the slot in its eighth step.
+    if steps < 8 {
+        (
+            Reply::Occupied(200),
+            Reply::Inserted(200),
+            Reply::Found(200),
+        )
+    } else {
+        (
+            Reply::Inserted(100),
+            Reply::Occupied(100),
+            Reply::Found(100),
+        )
+    }
+}
+
+/// The values of the first two pairs then.
+fn made_at(steps: usize) -> (Option<u64>, Option<u64>) {
+    // Caller 0 loads the slot in its fifth step, and makes its pair in its seventh. Where the slot
+    // is taken, it makes no pair.
+    match steps {
+        0..5 => (Some(200), None),
+        5 | 6 => (Some(200), Some(100)),
+        7 => (Some(100), Some(200)),
+        _ => (Some(100), None),
+    }
+}
+
+/// Neither insertion replaces, one pair is stored, and one table opened.
+fn keeps_one(rt: &impl Abort, alloc: Global, core: &mut Numbers, steps: usize) -> Result<(), Fail> {
+    let (call, other) = (Call::TryInsert(7, 100), Call::TryInsert(7, 200));
+    let trace = stopped(alloc, core, call, steps, other)?;
+    is_at(rt, steps, times(&trace, StepKind::Open), 1);
+    is_at(
+        rt,
+        steps,
+        (value_of(core, 0), value_of(core, 1)),
+        made_at(steps),
+    );
+    comes_to(rt, alloc, core, steps, &trace, kept_at(steps))
 }
 
 /// What a removal comes to that is stopped so, where its pair is replaced meanwhile.
-fn removed_or_kept_at(steps: usize) -> Outcome {
-    let replaced = Reply::Replaced { old: 0, new: 1 };
+fn removed_or_kept_at(steps: usize) -> Replies {
+    let replaced = Reply::Replaced { old: 1, new: 2 };
     // The removal loads the slot in its third step, and buries the pair in its sixth. Where
     // another pair came between, its closure is shown that one too, and keeps it.
-    let (own, other, found) = match steps {
-        0..3 => (Reply::Removed(1), replaced, Reply::Absent),
-        3..6 => (Reply::Kept(1), replaced, Reply::Found(1)),
-        _ => (Reply::Removed(0), Reply::Inserted(1), Reply::Found(1)),
+    match steps {
+        0..3 => (Reply::Removed(2), replaced, Reply::Absent),
+        3..6 => (Reply::Kept(2), replaced, Reply::Found(2)),
+        _ => (Reply::Removed(1), Reply::Inserted(2), Reply::Found(2)),
+    }
+}
+
+/// A pair is replaced while it is removed.
+fn removes_or_keeps(
+    rt: &impl Abort,
+    alloc: Global,
+    core: &mut Numbers,
+    steps: usize,
+) -> Result<(), Fail> {
+    let call = removal(alloc, 7, true)?;
+    let trace = stopped(alloc, core, call, steps, Call::Insert(7, 2))?;
+    // The closure is shown each pair that stands there.
+    let asked = answers_in(alloc, &trace)?;
+    let wanted = match steps {
+        0..3 => vec![in alloc; (1, true)]?,
+        3..6 => vec![in alloc; (0, true), (1, false)]?,
+        _ => vec![in alloc; (0, true)]?,
     };
-    Outcome {
-        replies: (Some(own), Some(other)),
-        opened: 1,
-        values: (Some(1), Some(2)),
-        found: Some(found),
-    }
+    is_at(rt, steps, asked, wanted);
+    let replies = removed_or_kept_at(steps);
+    comes_to(rt, alloc, core, steps, &trace, replies)
 }
 
-#[test]
-fn stopped_removal_beside_a_replacement(rt: HostRuntime) -> Result<(), Fail> {
-    for steps in 0..STEPS_OF_REMOVAL + 1 {
-        let call = removal(rt.alloc(), true)?;
-        let schedule = stopped(rt.alloc(), call, steps, Call::Insert(7, 2))?;
-        is_at(
-            &rt,
-            steps,
-            outcome_of(rt.alloc(), schedule)?,
-            removed_or_kept_at(steps),
-        );
-    }
-    Ok(())
-}
-
-#[test]
-fn removal_that_its_closure_refuses(rt: HostRuntime) -> Result<(), Fail> {
-    let call = removal(rt.alloc(), false)?;
-    let schedule = stopped(rt.alloc(), call, 0, removal(rt.alloc(), false)?)?;
-    let expected = Outcome {
-        replies: (Some(Reply::Kept(0)), Some(Reply::Kept(0))),
-        opened: 1,
-        values: (Some(1), None),
-        found: Some(Reply::Found(0)),
-    };
-    is(&rt, outcome_of(rt.alloc(), schedule)?, expected);
-    Ok(())
-}
-
-/// The closures' answers in a trace: the pairs that were shown, and whether they agreed.
-fn answers_in(alloc: Global, trace: &Trace) -> Result<Vec<(u64, bool)>, Fail> {
-    let mut answers = Vec::new(alloc);
-    for entry in &trace.entries {
-        if let Event::Asked(pair, agrees) = entry.event {
-            answers.push((pair, agrees))?;
-        }
-    }
-    Ok(answers)
-}
-
-#[test]
-fn closure_is_shown_each_pair_that_stands_there(rt: HostRuntime) -> Result<(), Fail> {
-    let mut core = numbers(rt.alloc())?;
-    let call = removal(rt.alloc(), true)?;
-    let trace = core.run(stopped(rt.alloc(), call, 5, Call::Insert(7, 2))?)?;
-    let expected = vec![in rt.alloc(); (0, true), (1, false)]?;
-    is(&rt, answers_in(rt.alloc(), &trace)?, expected);
-    Ok(())
-}
-
-/// The entries of an insertion into a map with a first table, which is stopped and goes on.
-fn entries_of_insert(alloc: Global, caller: usize) -> Result<(usize, usize), Fail> {
-    let mut core: Numbers = Core::new(alloc, ResizeMode::Blocking, 10, 16, APART)?;
-    let begin = vec![in alloc;
-        Turn::Begin(caller, Call::Insert(7, 100)),
-        Turn::Finish(caller, 3),
-    ]?;
-    let stopped = core.run(begin)?;
-    let goes_on = core.run(vec![in alloc; Turn::Finish(caller, WHOLE)]?)?;
-    Ok((stopped.entries.len(), goes_on.entries.len()))
-}
-
-#[test]
-fn finish_ends_with_the_reply_or_its_steps(rt: HostRuntime) -> Result<(), Fail> {
-    // A begin and three steps; then the steps that are left and the reply, where no table is made
-    // and none opened. The number of a caller names it and nothing else.
-    let expected = (1 + 3, STEPS_OF_INSERT - 2 - 3 + 1);
-    is(&rt, entries_of_insert(rt.alloc(), usize::MAX)?, expected);
-    Ok(())
-}
-
-/// Begins an insertion and makes its steps.
-fn step_insert(alloc: Global, caller: usize) -> Result<Option<outcome::Outcome>, Fail> {
-    let mut core: Numbers = numbers(alloc)?;
-    if !core.running(caller) {
-        core.begin(caller, Call::Insert(7, 100))?;
-    }
-    let mut ended = None;
-    for _ in 0..STEPS_OF_INSERT {
-        if core.running(caller) {
-            ended = core.step(caller, false);
-        }
-    }
-    Ok(ended)
-}
-
-#[test]
-fn calls_are_stepped_by_hand(rt: HostRuntime) -> Result<(), Fail> {
-    let replied = outcome::Outcome::Replied(Reply::Inserted(0));
-    is(&rt, step_insert(rt.alloc(), 3)?, Some(replied));
-    Ok(())
-}
-
-/// What a schedule of callers 0 and 1 led to. Pairs are told by their values.
-#[derive(Clone, Copy, Debug, PartialEq, Eq)]
-struct Told {
-    /// The last reply of each caller.
-    replies: (Option<Reply>, Option<Reply>),
-    /// How often the closure of caller 0 was shown that there is none.
-    nones: usize,
-    /// What a lookup of 7 replies after it.
-    found: Option<Reply>,
-}
-
-/// A reply that tells pairs by their values.
-fn by_value(core: &Numbers, reply: Option<Reply>) -> Option<Reply> {
-    Some(match reply? {
-        Reply::Found(pair) => Reply::Found(value(core, pair)?),
-        Reply::Inserted(pair) => Reply::Inserted(value(core, pair)?),
-        Reply::Removed(pair) => Reply::Removed(value(core, pair)?),
-        Reply::Replaced { old, new } => Reply::Replaced {
-            old: value(core, old)?,
-            new: value(core, new)?,
-        },
-        other => other,
-    })
-}
-
-/// How often the closure of caller 0 was shown that there is none.
-fn nones_shown(trace: &Trace) -> usize {
-    let shown = |entry: &&Entry| entry.caller == 0 && matches!(entry.event, Event::Shown(None, _));
-    trace.entries.iter().filter(shown).count()
-}
-
-/// Runs a schedule on a new map.
-fn told_of(alloc: Global, schedule: Vec<Turn<u64, u64, Closure>>) -> Result<Told, Fail> {
-    let mut core = numbers(alloc)?;
-    let trace = core.run(schedule)?;
-    let found = look_up(alloc, &mut core)?;
-    Ok(Told {
-        replies: (
-            by_value(&core, reply_to(&trace, 0)),
-            by_value(&core, reply_to(&trace, 1)),
+/// What a compute comes to that is stopped so, where another value is stored meanwhile.
+fn shown_at(steps: usize) -> Replies {
+    let replaced = Reply::Replaced { old: 1, new: 2 };
+    // The compute loads the slot in its third step, and replaces the pair in its eighth. Where
+    // 2 came between, its closure is shown first 1 and then 2, which it has removed.
+    match steps {
+        0..3 => (
+            Reply::Replaced { old: 2, new: 10 },
+            replaced,
+            Reply::Found(10),
         ),
-        nones: nones_shown(&trace),
-        found: by_value(&core, found),
-    })
+        3..8 => (Reply::Removed(2), replaced, Reply::Absent),
+        _ => (
+            Reply::Replaced { old: 1, new: 10 },
+            Reply::Replaced { old: 10, new: 2 },
+            Reply::Found(2),
+        ),
+    }
 }
 
-/// A compute of key 7, whose closure answers these in turn, and then `Abort(0)`.
-fn compute(alloc: Global, ops: Vec<Operation<u64, u64>>) -> Call<u64, u64, Closure> {
-    let yes = Vec::new(alloc);
-    Call::Compute(7, Listed { ops, yes })
+/// A compute that stores 10, and then removes what it is shown.
+fn is_shown(rt: &impl Abort, alloc: Global, core: &mut Numbers, steps: usize) -> Result<(), Fail> {
+    let ops = vec![in alloc; Operation::Insert(10), Operation::Remove]?;
+    let call = compute(alloc, ops);
+    let trace = stopped(alloc, core, call, steps, Call::Insert(7, 2))?;
+    is_at(rt, steps, nones_shown(&trace), 0);
+    comes_to(rt, alloc, core, steps, &trace, shown_at(steps))
 }
 
 /// What a compute comes to that is stopped so, where a pair comes and goes meanwhile.
-fn filled_at(steps: usize) -> Told {
+fn filled_at(steps: usize) -> Replies {
     // The compute claims a slot in its ninth step. Where 1 came and went before, its closure
     // is shown only once that there is none, before or after that.
     let found = if steps < 9 {
@@ -354,113 +207,147 @@ fn filled_at(steps: usize) -> Told {
     } else {
         Reply::Absent
     };
-    Told {
-        replies: (Some(Reply::Inserted(10)), Some(Reply::Removed(1))),
-        nones: 1,
-        found: Some(found),
-    }
+    (Reply::Inserted(10), Reply::Removed(1), found)
 }
 
-#[test]
-fn stopped_fill_beside_an_insertion_and_a_removal(rt: HostRuntime) -> Result<(), Fail> {
-    for steps in 0..STEPS_OF_FILL + 1 {
-        let ops = vec![in rt.alloc(); Operation::Insert(10)]?;
-        let schedule = vec![in rt.alloc();
-            Turn::Begin(0, compute(rt.alloc(), ops)),
-            Turn::Finish(0, steps),
-            Turn::Begin(1, Call::Insert(7, 1)),
-            Turn::Finish(1, WHOLE),
-            Turn::Begin(1, removal(rt.alloc(), true)?),
-            Turn::Finish(1, WHOLE),
-            Turn::Finish(0, WHOLE),
-        ]?;
-        is_at(&rt, steps, told_of(rt.alloc(), schedule)?, filled_at(steps));
-    }
-    Ok(())
+/// Caller 0 is stopped after so many steps of a compute of key 7, which stores 10. Meanwhile caller 1
+/// stores 1 and removes it.
+fn stopped_fill(alloc: Global, core: &mut Numbers, steps: usize) -> Result<Trace, Fail> {
+    let ops = vec![in alloc; Operation::Insert(10)]?;
+    let turns = vec![in alloc;
+        Turn::Begin(0, compute(alloc, ops)),
+        Turn::Finish(0, steps),
+        Turn::Begin(1, Call::Insert(7, 1)),
+        Turn::Finish(1, WHOLE),
+        Turn::Begin(1, removal(alloc, 7, true)?),
+        Turn::Finish(1, WHOLE),
+        Turn::Finish(0, WHOLE),
+    ]?;
+    Ok(core.run(turns)?)
 }
 
-/// What a compute comes to that is stopped so, and removes what came meanwhile.
-fn shown_at(steps: usize) -> Told {
-    let replaced = Reply::Replaced { old: 1, new: 2 };
-    // The compute loads the slot in its third step, and replaces the pair in its eighth. Where
-    // 2 came between, its closure is shown first 1 and then 2, which it has removed.
-    let (own, other, found) = match steps {
-        0..3 => {
-            let own = Reply::Replaced { old: 2, new: 10 };
-            (own, replaced, Reply::Found(10))
-        }
-        3..8 => (Reply::Removed(2), replaced, Reply::Absent),
-        _ => {
-            let own = Reply::Replaced { old: 1, new: 10 };
-            (own, Reply::Replaced { old: 10, new: 2 }, Reply::Found(2))
-        }
-    };
-    Told {
-        replies: (Some(own), Some(other)),
-        nones: 0,
-        found: Some(found),
-    }
+fn fills(rt: &impl Abort, alloc: Global, core: &mut Numbers, steps: usize) -> Result<(), Fail> {
+    let trace = stopped_fill(alloc, core, steps)?;
+    is_at(rt, steps, nones_shown(&trace), 1);
+    comes_to(rt, alloc, core, steps, &trace, filled_at(steps))
 }
 
-#[test]
-fn stopped_compute_is_shown_what_came_between(rt: HostRuntime) -> Result<(), Fail> {
-    for steps in 0..STEPS_OF_UPDATE + 1 {
-        let ops = vec![in rt.alloc(); Operation::Insert(10), Operation::Remove]?;
-        let call = compute(rt.alloc(), ops);
-        let schedule = stopped(rt.alloc(), call, steps, Call::Insert(7, 2))?;
-        is_at(&rt, steps, told_of(rt.alloc(), schedule)?, shown_at(steps));
-    }
-    Ok(())
-}
-
-/// A compute of key 7 in a map that has 1 for this key alone. It is stopped after some steps, in
-/// which that pair is looked up.
-fn told_of_one(
+/// A compute of key 7 changes nothing, beside a lookup of the key that the map has.
+fn changes_nothing(
+    rt: &impl Abort,
     alloc: Global,
-    held: u64,
+    core: &mut Numbers,
+    (steps, held): (usize, u64),
     op: Operation<u64, u64>,
-    steps: usize,
-) -> Result<Told, Fail> {
+    own: Reply,
+) -> Result<(), Fail> {
     let call = compute(alloc, vec![in alloc; op]?);
-    told_of(
-        alloc,
-        stopped_beside(alloc, held, call, steps, Call::Get(held))?,
-    )
+    let trace = stopped(alloc, core, call, steps, Call::Get(held))?;
+    let (nones, found) = if held == 7 {
+        (0, Reply::Found(1))
+    } else {
+        (1, Reply::Absent)
+    };
+    is_at(rt, steps, nones_shown(&trace), nones);
+    let replies = (own, Reply::Found(1), found);
+    comes_to(rt, alloc, core, steps, &trace, replies)
+}
+
+/// A removal that its closure refuses, beside another.
+fn keeps(rt: &impl Abort, alloc: Global, core: &mut Numbers, steps: usize) -> Result<(), Fail> {
+    let other = removal(alloc, 7, false)?;
+    let trace = stopped(alloc, core, removal(alloc, 7, false)?, steps, other)?;
+    let replies = (Reply::Kept(1), Reply::Kept(1), Reply::Found(1));
+    comes_to(rt, alloc, core, steps, &trace, replies)
+}
+
+/// What is done with a map, which has one key or none.
+#[derive(Clone, Copy)]
+enum Case {
+    KeepsOne,
+    Keeps,
+    RemovesOrKeeps,
+    IsShown,
+    Fills,
+    RemovesNothing,
+    AbortsWhereNone,
+    AbortsWhereOne,
+}
+
+/// The key that the map has, and how many steps the call makes that is stopped.
+fn parts_of(case: Case) -> (Option<u64>, usize) {
+    match case {
+        Case::KeepsOne => (None, STEPS_OF_INSERT),
+        Case::Fills => (None, STEPS_OF_FILL),
+        Case::Keeps | Case::RemovesOrKeeps => (Some(7), STEPS_OF_REMOVAL),
+        Case::IsShown | Case::AbortsWhereOne => (Some(7), STEPS_OF_UPDATE),
+        Case::RemovesNothing | Case::AbortsWhereNone => (Some(8), STEPS_OF_UPDATE),
+    }
+}
+
+fn one_stop(
+    rt: &impl Abort,
+    alloc: Global,
+    core: &mut Numbers,
+    case: Case,
+    steps: usize,
+) -> Result<(), Fail> {
+    match case {
+        Case::KeepsOne => keeps_one(rt, alloc, core, steps),
+        Case::Keeps => keeps(rt, alloc, core, steps),
+        Case::RemovesOrKeeps => removes_or_keeps(rt, alloc, core, steps),
+        Case::IsShown => is_shown(rt, alloc, core, steps),
+        Case::Fills => fills(rt, alloc, core, steps),
+        Case::RemovesNothing => {
+            let refused = Reply::Refused(Refused::RemoveNothing);
+            changes_nothing(rt, alloc, core, (steps, 8), Operation::Remove, refused)
+        }
+        Case::AbortsWhereNone => {
+            let aborted = Reply::Aborted(3);
+            changes_nothing(rt, alloc, core, (steps, 8), Operation::Abort(3), aborted)
+        }
+        Case::AbortsWhereOne => {
+            let aborted = Reply::Aborted(4);
+            changes_nothing(rt, alloc, core, (steps, 7), Operation::Abort(4), aborted)
+        }
+    }
+}
+
+fn each_stop(rt: &impl Abort, alloc: Global, case: Case) -> Result<(), Fail> {
+    let (held, most) = parts_of(case);
+    for steps in 0..most + 1 {
+        let mut core = map_of(alloc, held)?;
+        one_stop(rt, alloc, &mut core, case, steps)?;
+    }
+    Ok(())
 }
 
 #[test]
-fn compute_that_changes_nothing(rt: HostRuntime) -> Result<(), Fail> {
-    for steps in 0..STEPS_OF_UPDATE + 1 {
-        let refused = Reply::Refused(Refused::RemoveNothing);
-        let seen = Some(Reply::Found(1));
-        let absent = |reply| Told {
-            replies: (Some(reply), seen),
-            nones: 1,
-            found: Some(Reply::Absent),
-        };
-        is_at(
-            &rt,
-            steps,
-            told_of_one(rt.alloc(), 8, Operation::Remove, steps)?,
-            absent(refused),
-        );
-        is_at(
-            &rt,
-            steps,
-            told_of_one(rt.alloc(), 8, Operation::Abort(3), steps)?,
-            absent(Reply::Aborted(3)),
-        );
-        let there = Told {
-            replies: (Some(Reply::Aborted(4)), seen),
-            nones: 0,
-            found: seen,
-        };
-        is_at(
-            &rt,
-            steps,
-            told_of_one(rt.alloc(), 7, Operation::Abort(4), steps)?,
-            there,
-        );
+fn calls_that_are_stopped_beside_others(rt: HostRuntime) -> Result<(), Fail> {
+    for case in [
+        Case::KeepsOne,
+        Case::Keeps,
+        Case::RemovesOrKeeps,
+        Case::IsShown,
+        Case::Fills,
+        Case::RemovesNothing,
+        Case::AbortsWhereNone,
+        Case::AbortsWhereOne,
+    ] {
+        each_stop(&rt, rt.alloc(), case)?;
     }
+    Ok(())
+}
+
+#[test]
+fn finish_ends_with_the_reply_or_its_steps(rt: HostRuntime) -> Result<(), Fail> {
+    let mut core: Numbers = Core::new(rt.alloc(), ResizeMode::Blocking, 10, 16, APART)?;
+    // A begin and three steps; then the steps that are left and the reply, where no table is made
+    // and none opened. The number of a caller names it and nothing else.
+    let insertion = Call::Insert(7, 100);
+    let first = begin(rt.alloc(), &mut core, usize::MAX, insertion, 3)?;
+    is(&rt, first.entries.len(), 1 + 3);
+    let last = go_on(rt.alloc(), &mut core, usize::MAX)?;
+    is(&rt, last.entries.len(), STEPS_OF_INSERT - 2 - 3 + 1);
     Ok(())
 }
