@@ -283,9 +283,9 @@ def rounds_of(runs, args, lines, steps, most=1000):
     return low
 
 
-def steps_of(runs, args, lines, caller):
+def steps_of(runs, args, lines, caller, most=1000):
     """How many steps this caller makes until its call replies."""
-    return rounds_of(runs, args, lines, [f"step {caller}"])
+    return rounds_of(runs, args, lines, [f"step {caller}"], most)
 
 
 def some_of(steps, most):
@@ -445,11 +445,14 @@ def looking_up_beside_a_copy(runs):
     args = "core block zero"
     stored = ["0: none"] * (2 * FULL)
     insertion = f"i {2 * FULL} 0"
-    round = ["step 1", *whole(2, "g 5")]
     begun = [*filled(2 * FULL), f"begin 1 {insertion}"]
-    rounds = rounds_of(runs, args, begun, round)
-    runs.run(args, [*begun, *round * rounds], [*stored, *["2: some 5"] * (rounds - 1), "1: none", "2: some 5"])
-    runs.is_so(rounds > 2 * FULL, f"{args}: a copy of {2 * FULL} pairs takes {rounds} steps")
+    steps = steps_of(runs, args, begun, 1, most=20000)
+    # A hundred steps a run, since lookups make a trace long.
+    for made in range(0, steps, 100):
+        rounds = min(100, steps - made)
+        lines = [*begun, *["step 1"] * made, *["step 1", *whole(2, "g 5")] * rounds]
+        last = ["1: none"] if made + rounds == steps else []
+        runs.run(args, lines, [*stored, *["2: some 5"] * (rounds - 1), *last, "2: some 5"])
     begun = [*filled(2 * FULL), "begin 2 g 5"]
     for made in range(steps_of(runs, args, begun, 2)):
         lines = [*begun, *["step 2"] * made, *whole(1, insertion), "finish 2"]

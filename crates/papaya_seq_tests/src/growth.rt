@@ -71,22 +71,8 @@ fn fills_new(
     Ok(())
 }
 
-/// A hundred keys on one path: a table of 128 slots has too few places for them.
-#[test]
-fn blocking_gives_up_a_table(rt: HostRuntime) -> Result<(), Fail> {
-    let looks = [
-        (26, 32, false),
-        (27, 64, false),
-        (31, 64, false),
-        (32, 64, false),
-        (64, 64, false),
-        (65, 256, false),
-        (100, 256, false),
-    ];
-    fills_new(&rt, rt.alloc(), ResizeMode::Blocking, 0, TOGETHER, &looks)
-}
-
-/// The same keys, of which each call moves some at most.
+/// A hundred keys on one path, of which each call moves some at most: a table of 128 slots has too few
+/// places for them.
 #[test]
 fn chunks_fill_two_tables_in_turn(rt: HostRuntime) -> Result<(), Fail> {
     let looks = [
@@ -131,22 +117,6 @@ fn one_slot_a_call(rt: HostRuntime) -> Result<(), Fail> {
 fn one_call_moves_all(rt: HostRuntime) -> Result<(), Fail> {
     let looks = [(8, 8, false), (9, 16, false)];
     fills_new(&rt, rt.alloc(), ResizeMode::Blocking, 6, APART, &looks)
-}
-
-/// A table in which pairs were removed everywhere makes room for a smaller one.
-#[test]
-fn removed_pairs_leave_a_smaller_table(rt: HostRuntime) -> Result<(), Fail> {
-    let mut map = made(rt.alloc(), ResizeMode::default(), 0, TOGETHER)?;
-    for key in 0..26u64 {
-        stores(&rt, &mut map, key, key + 1);
-        removes(&rt, &mut map, key, Ok(Some(&key)));
-    }
-    looks_so(&rt, &map, 26, 32, false);
-    has(&rt, &map, 0);
-    stores(&rt, &mut map, 26, 27);
-    looks_so(&rt, &map, 27, 16, false);
-    has(&rt, &map, 1);
-    Ok(())
 }
 
 /// While pairs are being moved insertions do as they do at other times.

@@ -1,128 +1,100 @@
 // A growth that is refused leaves the map as it was. Where the tests run with a failing allocation,
 // as by `rt try --test --fail-alloc N`, a call here meets it.
+use crate::growth::made;
 use crate::numbers::{Numbers, removes};
-use papaya_call::answers::Operation;
-use papaya_hashers::times::TOGETHER;
-use papaya_seq::seq::HashMap;
-use papaya_words::probe::Refused;
+use papaya_hashers::times::{APART, TOGETHER, Times};
+use papaya_words::probe::{Refused, ResizeMode};
 use std::alloc::Global;
 use std::test::Fail;
 
-/// A map, also where memory was refused for it at first.
-fn made(alloc: Global) -> Result<Numbers, Refused> {
-    match HashMap::with_hasher(alloc, TOGETHER) {
-        Err(Refused::Memory) => HashMap::with_hasher(alloc, TOGETHER),
-        made => made,
-    }
-}
-
-/// Has the map the keys below this one, each with ten times itself, and no other?
-fn has_below(map: &Numbers, end: u64) -> bool {
+/// Has the map the keys below this one, each with itself, and no other?
+fn keeps_below(map: &Numbers, end: u64) -> bool {
     for key in 0..end {
-        if map.get(&key) != Some(&(key.wrapping_mul(10))) {
+        if map.get(&key) != Some(&key) {
             return false;
         }
     }
     map.get(&end).is_none() && map.len() as u64 == end
 }
 
-/// The calls that insert.
-#[derive(Clone, Copy)]
-enum Insertion {
-    Insert,
-    TryInsert,
-    GetOrInsert,
-    TryInsertWith,
-    GetOrInsertWith,
-    UpdateOrInsert,
-    UpdateOrInsertWith,
-    Compute,
+/// Whether a call was refused, and not what it found.
+fn went<T: Drop>(done: Result<T, Refused>) -> Result<(), Refused> {
+    match done {
+        Ok(_) => Ok(()),
+        Err(refused) => Err(refused),
+    }
 }
 
-/// Inserts a key by this call, and again where it was refused for want of memory. What is told is
-/// whether the map was as it was after a refusal.
-fn insert_again(map: &mut Numbers, key: u64, by: Insertion) -> Result<bool, Refused> {
-    let value = key.wrapping_mul(10);
-    let first = match by {
-        Insertion::Insert => map.insert(key, value).map(|_| ()),
-        Insertion::TryInsert => map.try_insert(key, value).map(|_| ()),
-        Insertion::GetOrInsert => map.get_or_insert(key, value).map(|_| ()),
-        Insertion::TryInsertWith => map.try_insert_with(key, || value).map(|_| ()),
-        Insertion::GetOrInsertWith => map.get_or_insert_with(key, || value).map(|_| ()),
-        Insertion::UpdateOrInsert => map.update_or_insert(key, |v| *v, value).map(|_| ()),
-        Insertion::UpdateOrInsertWith => map
-            .update_or_insert_with(key, |v| *v, || value)
-            .map(|_| ()),
-        Insertion::Compute => map
-            .compute(key, |_| Operation::<u64, ()>::Insert(value))
-            .map(|_| ()),
-    };
-    match first {
-        Ok(()) => Ok(true),
+/// Inserts a key, by one call or another.
+fn inserts(map: &mut Numbers, key: u64) -> Result<(), Refused> {
+    match key % 3 {
+        0 => went(map.insert(key, key)),
+        1 => went(map.try_insert(key, key)),
+        _ => went(map.get_or_insert(key, key)),
+    }
+}
+
+/// What was done, or whether the map was as it was where memory was refused.
+fn kept(map: &Numbers, done: Result<(), Refused>, end: u64) -> Result<bool, Refused> {
+    match done {
+        Ok(()) | Err(Refused::Memory) => Ok(keeps_below(map, end)),
+        Err(refused) => Err(refused),
+    }
+}
+
+/// Inserts a key, and again where memory was refused for it. What is told is whether the map was as
+/// it was after a refusal.
+fn inserts_again(map: &mut Numbers, key: u64) -> Result<bool, Refused> {
+    match inserts(map, key) {
         Err(Refused::Memory) => {
-            let kept = has_below(map, key);
-            let _ = map.insert(key, value)?;
+            let kept = keeps_below(map, key);
+            inserts(map, key)?;
             Ok(kept)
         }
         Err(refused) => Err(refused),
+        Ok(()) => Ok(keeps_below(map, key.wrapping_add(1))),
+    }
+}
+
+/// Keys, of which some ask for a further table; then the end of a resize, room, and a removal, which
+/// takes no memory: is each key there after each call?
+fn refusals_keep(map: &mut Numbers, keys: u64) -> Result<bool, Refused> {
+    for key in 0..keys {
+        if !inserts_again(map, key)? {
+            return Ok(false);
+        }
+    }
+    let ended = map.copy_all();
+    if !kept(map, ended, keys)? {
+        return Ok(false);
+    }
+    let reserved = map.reserve(40);
+    kept(map, reserved, keys)
+}
+
+/// A map, also where memory was refused for it at first.
+fn made_again(
+    alloc: Global,
+    mode: ResizeMode,
+    capacity: usize,
+    hasher: Times,
+) -> Result<Numbers, Refused> {
+    match made(alloc, mode, capacity, hasher) {
+        Err(Refused::Memory) => made(alloc, mode, capacity, hasher),
+        first => first,
     }
 }
 
 #[test]
 fn refused_growth_leaves_the_map(rt: HostRuntime) -> Result<(), Fail> {
-    let mut map = made(rt.alloc())?;
-    for key in 0..20u64 {
-        let by = match key % 3 {
-            0 => Insertion::Insert,
-            1 => Insertion::TryInsert,
-            _ => Insertion::GetOrInsert,
-        };
-        assert!(rt; insert_again(&mut map, key, by)?, "at key {key}");
-        assert!(rt; has_below(&map, key + 1), "at key {key}");
-    }
-    // A removal takes no memory.
-    removes(&rt, &mut map, 19, Ok(Some(&190)));
-    assert!(rt; has_below(&map, 19));
-    Ok(())
-}
-
-/// Fills a map by this call: was it as it should be after each key?
-fn fills(alloc: Global, by: Insertion) -> Result<bool, Refused> {
-    let mut map = made(alloc)?;
-    for key in 0..20u64 {
-        let kept = insert_again(&mut map, key, by)?;
-        if !kept || !has_below(&map, key + 1) {
-            return Ok(false);
-        }
-    }
-    Ok(true)
-}
-
-#[test]
-fn refused_computes_leave_the_map(rt: HostRuntime) -> Result<(), Fail> {
-    assert!(rt; fills(rt.alloc(), Insertion::TryInsertWith)?);
-    assert!(rt; fills(rt.alloc(), Insertion::GetOrInsertWith)?);
-    assert!(rt; fills(rt.alloc(), Insertion::UpdateOrInsert)?);
-    assert!(rt; fills(rt.alloc(), Insertion::UpdateOrInsertWith)?);
-    assert!(rt; fills(rt.alloc(), Insertion::Compute)?);
-    Ok(())
-}
-
-/// Updates a key's value to itself: was the map as it should be, also where that was refused?
-fn updates(map: &mut Numbers, key: u64) -> Result<bool, Refused> {
-    match map.update(key, |v| *v) {
-        Ok(None) => Ok(false),
-        Ok(Some(_)) | Err(Refused::Memory) => Ok(has_below(map, 1)),
-        Err(refused) => Err(refused),
-    }
-}
-
-#[test]
-fn refused_update_leaves_the_map(rt: HostRuntime) -> Result<(), Fail> {
-    let mut map = made(rt.alloc())?;
-    assert!(rt; insert_again(&mut map, 0, Insertion::Insert)?);
-    for _ in 0..20u64 {
-        assert!(rt; updates(&mut map, 0)?);
+    for (mode, capacity, hasher, keys) in [
+        (ResizeMode::default(), 0, TOGETHER, 20),
+        (ResizeMode::Incremental(1), 6, APART, 9),
+        (ResizeMode::Blocking, 6, APART, 9),
+    ] {
+        let mut map = made_again(rt.alloc(), mode, capacity, hasher)?;
+        assert!(rt; refusals_keep(&mut map, keys)?);
+        removes(&rt, &mut map, 0, Ok(Some(&0)));
     }
     Ok(())
 }

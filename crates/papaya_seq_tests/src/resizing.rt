@@ -1,5 +1,4 @@
-// Room that is made ahead, and resizes that are ended. Where the tests run with a failing allocation,
-// as by `rt try --test --fail-alloc N`, a call here meets it.
+// Room that is made ahead, and resizes that are ended.
 use crate::expect::{is, is_at};
 use crate::growth::{fills, has_below, looks_so, made};
 use crate::numbers::{Numbers, Usual, finds, has, inserts};
@@ -194,64 +193,6 @@ fn in_the_midst_of_a_resize(rt: HostRuntime) -> Result<(), Fail> {
             Midst::Ends => ends(&rt, &mut map),
             Midst::RunsInTurn => runs_in_turn(&rt, rt.alloc(), &mut map)?,
         }
-    }
-    Ok(())
-}
-
-/// Has the map the keys below this one, each with itself, and no other?
-fn keeps_below(map: &Numbers, end: u64) -> bool {
-    for key in 0..end {
-        if map.get(&key) != Some(&key) {
-            return false;
-        }
-    }
-    map.get(&end).is_none() && map.len() as u64 == end
-}
-
-/// What was done, or whether the map was as it was where memory was refused.
-fn kept(map: &Numbers, done: Result<(), Refused>, end: u64) -> Result<bool, Refused> {
-    match done {
-        Ok(()) | Err(Refused::Memory) => Ok(keeps_below(map, end)),
-        Err(refused) => Err(refused),
-    }
-}
-
-/// Stores a key, and again where memory was refused for it.
-fn stores_again(map: &mut Numbers, key: u64) -> Result<bool, Refused> {
-    match map.insert(key, key).map(|_| ()) {
-        Err(Refused::Memory) => {
-            let kept = keeps_below(map, key);
-            let _ = map.insert(key, key)?;
-            Ok(kept)
-        }
-        stored => stored.map(|()| true),
-    }
-}
-
-/// Nine keys, of which the last asks for a further table; then the end of the resize, and room: is
-/// each key there after each call?
-fn refusals_keep(map: &mut Numbers) -> Result<bool, Refused> {
-    for key in 0..9u64 {
-        if !stores_again(map, key)? {
-            return Ok(false);
-        }
-    }
-    let ended = map.copy_all();
-    if !kept(map, ended, 9)? {
-        return Ok(false);
-    }
-    let reserved = map.reserve(40);
-    kept(map, reserved, 9)
-}
-
-#[test]
-fn refused_resizes_leave_the_map(rt: HostRuntime) -> Result<(), Fail> {
-    for mode in MODES {
-        let mut map = match made(rt.alloc(), mode, 6, APART) {
-            Err(Refused::Memory) => made(rt.alloc(), mode, 6, APART)?,
-            first => first?,
-        };
-        assert!(rt; refusals_keep(&mut map)?);
     }
     Ok(())
 }

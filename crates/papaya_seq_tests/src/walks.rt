@@ -2,10 +2,11 @@
 use crate::expect::{is, is_at};
 use crate::growth::{looks_so, made, stores};
 use crate::numbers::{Numbers, Usual, has, inserts};
-use papaya_hashers::times::{APART, TOGETHER};
+use papaya_hashers::times::APART;
 use papaya_seq::seq::HashMap;
 use papaya_words::probe::ResizeMode;
 use std::alloc::{AllocError, Global};
+use std::fmt::Debug;
 use std::hash::BuildHasher;
 use std::process::Abort;
 use std::test::Fail;
@@ -33,21 +34,6 @@ fn walks_below(rt: &impl Abort, alloc: Global, map: &Numbers, end: u64) -> Resul
     Ok(())
 }
 
-/// A hundred keys on one path, of which each call moves some, or one call all: they are walked at
-/// each count.
-#[test]
-fn a_walk_gives_each_pair_once(rt: HostRuntime) -> Result<(), Fail> {
-    for mode in [ResizeMode::Incremental(1), ResizeMode::Blocking] {
-        let mut map = made(rt.alloc(), mode, 0, TOGETHER)?;
-        walks_below(&rt, rt.alloc(), &map, 0)?;
-        for key in 0..100u64 {
-            stores(&rt, &mut map, key, key + 1);
-            walks_below(&rt, rt.alloc(), &map, key + 1)?;
-        }
-    }
-    Ok(())
-}
-
 /// Of a hundred pairs five are left, and of the walk these.
 fn keeps_five(rt: &impl Abort, map: &mut Usual) {
     for key in 0..100u64 {
@@ -70,12 +56,13 @@ fn retain_keeps_small_values(rt: HostRuntime) -> Result<(), Fail> {
     Ok(())
 }
 
-/// Nine keys are being moved when the even ones are kept, and none are afterwards.
+/// Nine keys are being moved when they are walked and the even ones are kept, and none are afterwards.
 #[test]
 fn retain_ends_a_resize(rt: HostRuntime) -> Result<(), Fail> {
     let mut map = made(rt.alloc(), ResizeMode::Incremental(1), 6, APART)?;
     stores(&rt, &mut map, 0, 9);
     looks_so(&rt, &map, 9, 8, true);
+    walks_below(&rt, rt.alloc(), &map, 9)?;
     is(&rt, map.retain(|key, _| *key % 2 == 0), Ok(()));
     looks_so(&rt, &map, 5, 16, false);
     has(&rt, &map, 5);
@@ -84,37 +71,36 @@ fn retain_ends_a_resize(rt: HostRuntime) -> Result<(), Fail> {
     Ok(())
 }
 
-/// This text is one of the two.
-fn is_either(rt: &impl Abort, text: &str, one: &str, other: &str) {
-    is(rt, text == one || text == other, true);
+/// What is printed of this is one of the two texts.
+fn prints<T: Debug>(
+    rt: &impl Abort,
+    alloc: Global,
+    shown: &T,
+    one: &str,
+    other: &str,
+) -> Result<(), Fail> {
+    let text = format!(in alloc; "{shown:?}")?;
+    is(rt, text.as_str() == one || text.as_str() == other, true);
+    Ok(())
+}
+
+/// A map prints its pairs, and its walks what is left of them.
+fn prints_two(rt: &impl Abort, alloc: Global, map: &Usual) -> Result<(), Fail> {
+    prints(rt, alloc, map, "{42: 0, 16: 8}", "{16: 8, 42: 0}")?;
+    let (one, other) = ("[(42, 0), (16, 8)]", "[(16, 8), (42, 0)]");
+    prints(rt, alloc, &map.iter(), one, other)?;
+    let (one, other) = ("Keys([(42, 0), (16, 8)])", "Keys([(16, 8), (42, 0)])");
+    prints(rt, alloc, &map.keys(), one, other)?;
+    let mut values = map.values();
+    let _ = values.next();
+    prints(rt, alloc, &values, "Values([(42, 0)])", "Values([(16, 8)])")
 }
 
 #[test]
-fn a_map_prints_its_pairs_and_its_walks_what_is_left(rt: HostRuntime) -> Result<(), Fail> {
-    let alloc = rt.alloc();
-    let mut map: Usual = HashMap::new(alloc)?;
-    is(&rt, format!(in alloc; "{map:?}")?.as_str(), "{}");
+fn a_map_and_its_walks_are_printed(rt: HostRuntime) -> Result<(), Fail> {
+    let mut map: Usual = HashMap::new(rt.alloc())?;
+    prints(&rt, rt.alloc(), &map, "{}", "{}")?;
     inserts(&rt, &mut map, 42, 0, Ok(None));
     inserts(&rt, &mut map, 16, 8, Ok(None));
-    let text = format!(in alloc; "{map:?}")?;
-    is_either(&rt, text.as_str(), "{42: 0, 16: 8}", "{16: 8, 42: 0}");
-    let pairs = format!(in alloc; "{:?}", map.iter())?;
-    is_either(
-        &rt,
-        pairs.as_str(),
-        "[(42, 0), (16, 8)]",
-        "[(16, 8), (42, 0)]",
-    );
-    let keys = format!(in alloc; "{:?}", map.keys())?;
-    is_either(
-        &rt,
-        keys.as_str(),
-        "Keys([(42, 0), (16, 8)])",
-        "Keys([(16, 8), (42, 0)])",
-    );
-    let mut values = map.values();
-    let _ = values.next();
-    let left = format!(in alloc; "{values:?}")?;
-    is_either(&rt, left.as_str(), "Values([(42, 0)])", "Values([(16, 8)])");
-    Ok(())
+    prints_two(&rt, rt.alloc(), &map)
 }
