@@ -59,11 +59,11 @@ module _ {K V S : Type 0} (eq : K → K → Bool) (law : IsEquivalence eq) where
 
 module _ {K V S : Type 0} (eq : K → K → Bool) (law : IsEquivalence eq) (s : StoreState K V S) where
   -- the pairs of these numbers, where there are such
-  with_one : Option (Stored K V) → List (Stored K V) → List (Stored K V)
+  abbrev with_one : Option (Stored K V) → List (Stored K V) → List (Stored K V)
   with_one None ps = ps
   with_one (Some p) ps = p ∷ ps
 
-  logged_below : ℕ → List (Stored K V)
+  abbrev logged_below : ℕ → List (Stored K V)
   logged_below zero = []
   logged_below (suc n) = with_one (pair_of s n) (logged_below n)
 
@@ -210,4 +210,4 @@ clones_equal {K} {V} {S} eq CK CV same equal s s' cloned k = of_option (map_in e
   where
     of_option : (o : Option (Stored K V)) → MatchOption o (map_in eq s' k ≡ None) (λ p. (q : Stored K V) × (map_in eq s' k ≡ Some q) × (CK p.key q.key × CV p.value q.value)) → MatchOption o (map_in eq s' k ≡ None) (λ p. (q : Stored K V) × (map_in eq s' k ≡ Some q) × (same p.value q.value ≡ true))
     of_option None none = none
-    of_option (Some p) (q, there, key, value) = (q, there, equal p.value q.value value)
+    of_option (Some p) (q, there, clones) = (q, there, equal p.value q.value clones.1)
