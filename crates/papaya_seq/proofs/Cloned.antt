@@ -1,5 +1,5 @@
 -- Clones of pairs of different keys, put in one after the other.
-use Rattle.std.proofs.Common.{◌≡◌, ⊎_elim, Bool, true, false, cond, List, [], ◌∷◌, ◌++◌, map, Option, Some, None, Ok, Err, MatchOption, option_map, refl, sym, ap, ◌∙◌, subst, arith, ◌+◌, ◌≤◌, length}
+use Rattle.std.proofs.Common.{◌≡◌, ⊎_elim, Bool, true, false, List, [], ◌∷◌, ◌++◌, map, Option, Some, None, Ok, Err, MatchOption, option_map, refl, sym, ◌∙◌, subst, arith, ◌+◌, ◌≤◌, length}
 use Rattle.std.proofs.lemmas.List.{length_push}
 use Rattle.std.proofs.lemmas.Bool.{cases_Bool, cond-true, cond-false}
 use Rattle.std.specs.Cmp.{IsEquivalence}

@@ -1,4 +1,3 @@
-use Rattle.std.proofs.Common.{rules, Some, None}
 use Rattle.papaya_seq.proofs.Filled.{cut, fills_more, fills_none}
 use Rattle.papaya_seq.proofs.seq.HashMap.extend.Goals as goal
 

@@ -3,7 +3,7 @@ use Rattle.papaya_timeline.specs.Content.{content}
 use Rattle.papaya_seq.specs.Clones.{HasParts}
 use Rattle.papaya_timeline.specs.New.{IsNew}
 use Rattle.papaya_seq.specs.Map.{MapState, core_of}
-use Rattle.papaya_seq.proofs.Rebuilt.{empty_still, fresh_parts, parts_on, rebuild_cut, rebuild_refused, rebuilt_of, room_refused, roomy_parts}
+use Rattle.papaya_seq.proofs.Rebuilt.{empty_still, fresh_parts, parts_on, rebuild_cut, rebuilt_of, room_refused, roomy_parts}
 use Rattle.papaya_seq.proofs.seq.HashMap.rebuilt.Goals as goal
 use Rattle.papaya_seq.proofs.seq.HashMap.rebuilt.Goals.{After-reserve}
 use Rattle.papaya_seq.proofs.seq.HashMap.rebuilt.Given.{Over}

@@ -2,7 +2,7 @@ use Rattle.std.proofs.Common.{sym, ap, ◌∙◌, subst}
 use Rattle.papaya_timeline.specs.Content.{content}
 use Rattle.papaya_seq.specs.Map.{MapState, entry_of}
 use Rattle.std.proofs.Common.{map}
-use Rattle.papaya_seq.proofs.Rebuilt.{clone_cut, clone_parts, clone_refused, rebuilt_of}
+use Rattle.papaya_seq.proofs.Rebuilt.{clone_cut, clone_parts, rebuilt_of}
 use Rattle.papaya_seq.proofs.seq.HashMap.try_clone.Goals as goal
 
 pub returns-in-Ok-copy_from-clause-clones : goal.returns-in-Ok-copy_from-clause-clones
