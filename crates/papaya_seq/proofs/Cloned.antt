@@ -1,5 +1,6 @@
 -- Clones of pairs of different keys, put in one after the other.
-use Rattle.std.proofs.Common.{◌≡◌, ⊎_elim, Bool, true, false, cond, List, [], ◌∷◌, ◌++◌, map, Option, Some, None, Ok, Err, MatchOption, option_map, refl, sym, ap, ◌∙◌, subst}
+use Rattle.std.proofs.Common.{◌≡◌, ⊎_elim, Bool, true, false, List, [], ◌∷◌, ◌++◌, map, Option, Some, None, Ok, Err, MatchOption, option_map, refl, sym, ◌∙◌, subst, arith, ◌+◌, ◌≤◌, length}
+use Rattle.std.proofs.lemmas.List.{length_push}
 use Rattle.std.proofs.lemmas.Bool.{cases_Bool, cond-true, cond-false}
 use Rattle.std.specs.Cmp.{IsEquivalence}
 use Rattle.std.specs.List.{AllZip}
@@ -9,7 +10,7 @@ use Rattle.papaya_timeline.specs.Content.{content, map_in}
 use Rattle.papaya_store.specs.Store.{StoreState, Stored}
 use Rattle.papaya_seq.specs.Clones.{Clones, IsCloned, IsCopied, IsCopyCut}
 use Rattle.papaya_seq.specs.Entries.{Entries, IsPut, entries_in, nothing, put, put_all}
-use Rattle.papaya_seq.specs.Map.{MapState, entry_of}
+use Rattle.papaya_seq.specs.Map.{LogsOne, MapState, entry_of}
 use Rattle.papaya_seq.proofs.Equal.{alike}
 use Rattle.papaya_seq.proofs.Filled.{cut, empty_entries, fills_more, fills_none, put_all_alike}
 
@@ -73,15 +74,21 @@ module _ {K V : Type 0} (CK : K → K → Type 0) (CV : V → V → Type 0) wher
 
 module _ {K V S : Type 0} (eq : K → K → Bool) (CK : K → K → Type 0) (CV : V → V → Type 0) (to : MapState K V S) where
   pub copied_none : IsCopied eq CK CV to [] to
-  copied_none = record { clones = []; each = tt; fills = fills_none eq (λ c. c) to }
+  copied_none = record { clones = []; each = tt; fills = fills_none eq (λ c. c) to; logged = omega arith; shards = refl }
 
   module _ (es : List (K × V)) (at : MapState K V S) (copied : IsCopied eq CK CV to es at) (e c : K × V) (clones_key : CK e.0 c.0) (clones_value : CV e.1 c.1) where
     -- one clone more
-    pub copied_more : (new : Bool) (to' : MapState K V S) → IsPut eq c.0 c.1 at (Ok new) to' → IsCopied eq CK CV to (es ++ e ∷ []) to'
-    copied_more new to' put = record {
+    pub copied_more : (new : Bool) (to' : MapState K V S) → IsPut eq c.0 c.1 at (Ok new) to' → LogsOne at.store to'.store → IsCopied eq CK CV to (es ++ e ∷ []) to'
+    copied_more new to' put logs = record {
       clones = copied.clones ++ c ∷ [];
       each = zip_more CK CV es copied.clones e c copied.each (clones_key, clones_value);
       fills = fills_more eq (λ d. d) to copied.clones at copied.fills c new to' put;
+      logged =
+          let before : length at.store.pairs ≤ length to.store.pairs + length es = copied.logged in
+          let one : length to'.store.pairs ≤ length at.store.pairs + 1 = logs.pairs in
+          let more : length (es ++ e ∷ []) ≡ length es + 1 = length_push es e in
+          omega (arith, before, one, more);
+      shards = logs.shards ∙ copied.shards;
     }
 
     -- or one that is refused

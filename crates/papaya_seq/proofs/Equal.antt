@@ -1,5 +1,5 @@
 -- One look-up for each pair decides whether two maps of one length are equal.
-use Rattle.std.proofs.Common.{◌≡◌, ⊎_elim, ℕ, suc, ◌+◌, ◌<◌, ◌≤◌, Bool, true, false, cond, List, [], ◌∷◌, ◌++◌, map, length, Option, Some, None, MatchOption, option_map, refl, sym, ap, ◌∙◌, subst, arith}
+use Rattle.std.proofs.Common.{◌≡◌, ⊎_elim, suc, ◌≤◌, Bool, true, false, cond, List, [], ◌∷◌, ◌++◌, map, length, Option, Some, None, MatchOption, refl, sym, ap, ◌∙◌, subst, arith}
 use Rattle.std.specs.Prelude.{Decides, is_some}
 use Rattle.std.proofs.lemmas.Bool.{cases_Bool, cond-true, cond-false}
 use Rattle.std.specs.Cmp.{IsEquivalence}
@@ -47,7 +47,7 @@ module _ {K P : Type 0} (eq : K → K → Bool) (law : IsEquivalence eq) (key : 
       go false on n none = (ap is_some (without_other ys k (key z) (law.symm (key z) k ∙ n)) ∙ found, on none)
 
   -- a list of different keys that are all found in another list is no longer than it
-  covered : (xs ys : List P) → AreApart eq key xs → Covers ys xs → length xs ≤ length ys
+  pub covered : (xs ys : List P) → AreApart eq key xs → Covers ys xs → length xs ≤ length ys
   covered [] ys apart all = omega arith
   covered (x ∷ xs) ys (alone, apart) (here, rest) =
       let one = without_long ys (key x) here in
@@ -60,7 +60,7 @@ module _ {K P : Type 0} (eq : K → K → Bool) (law : IsEquivalence eq) (key : 
   alike j k e (p ∷ ps) = ap (λ b. cond b (Some p) (lookup eq key ps j)) (law.congr j k (key p) e) ∙ ap (cond (eq k (key p)) (Some p)) (alike j k e ps)
 
   -- the pair that is found has an equal key
-  found_key : (ps : List P) (k : K) (p : P) → lookup eq key ps k ≡ Some p → eq k (key p) ≡ true
+  pub found_key : (ps : List P) (k : K) (p : P) → lookup eq key ps k ≡ Some p → eq k (key p) ≡ true
   found_key [] k p e = absurd cc
   found_key (q ∷ qs) k p e = go (eq k (key q)) (found_key qs k p) refl e
     where

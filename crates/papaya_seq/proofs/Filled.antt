@@ -1,6 +1,6 @@
 -- A map that is filled, one pair on.
 use Rattle.std.proofs.Common.{◌≡◌, ℕ, ⊎_elim, Bool, not, true, false, cond, List, [], ◌∷◌, ◌++◌, Option, Some, None, Result, Ok, Err, option_map, refl, sym, ap, ◌∙◌, subst}
-use Rattle.std.specs.Prelude.{is_none, is_some, fold}
+use Rattle.std.specs.Prelude.{is_none, is_some}
 use Rattle.std.proofs.lemmas.Bool.{cases_Bool, cond-true, cond-false}
 use Rattle.std.proofs.lemmas.List.Sums.{fold_push}
 use Rattle.std.specs.Borrow.{Bor}
@@ -9,12 +9,12 @@ use Rattle.papaya_words.specs.declared.limits.TheConstants.{DEFAULT_CHUNK}
 use Rattle.papaya_words.specs.declared.probe.Refused.{Refused}
 use Rattle.papaya_words.specs.declared.probe.ResizeMode.{ResizeMode}
 use Rattle.papaya_words.specs.declared.probe.ResizeMode.TheVariants.{Incremental}
-use Rattle.papaya_timeline.specs.Content.{content, map_in}
+use Rattle.papaya_timeline.specs.Content.{content}
 use Rattle.papaya_timeline.specs.New.{IsNew}
 use Rattle.papaya_store.specs.Store.{StoreState, Stored}
 use Rattle.papaya_law.specs.Content.{lookup}
 use Rattle.papaya_seq.specs.Answered.{old_answered}
-use Rattle.papaya_seq.specs.Entries.{Entries, Fills, HasJust, IsCut, IsCutAnew, IsPut, entries_in, nothing, put, put_all}
+use Rattle.papaya_seq.specs.Entries.{Entries, Fills, HasJust, IsCut, IsPut, entries_in, nothing, put, put_all}
 use Rattle.papaya_seq.specs.Map.{Inserts, IsInserted, Keeps, MapState, core_of, entry_of, slots_of}
 
 -- what stays through two calls

@@ -21,7 +21,7 @@ use Rattle.papaya_timeline.specs.Solo.{IsAnswered, IsNewIn, whatever}
 use Rattle.papaya_timeline.proofs.KeptSettings.{IsLawfulKeys}
 use Rattle.papaya_seq.specs.Drives.{Drives, IsReplied, at_hand}
 use Rattle.papaya_seq.specs.MadeAlone.{IsMadeAlone}
-use Rattle.papaya_seq.specs.Map.{IsLawfulMap, IsTryCause, IsWriteCauseAt, Keeps, MapState, insertion}
+use Rattle.papaya_seq.specs.Map.{IsLawfulMap, IsTryCause, IsWriteCauseAt, Keeps, LogsOne, MapState, insertion}
 use Rattle.papaya_seq.proofs.Alone.{map_answered, map_hasher, map_lawful, map_logged}
 use Rattle.papaya_seq.proofs.InsertingRun.{IsInserting, inserting_absent, inserting_alone, inserting_begin, inserting_cause, inserting_fit, inserting_left, inserting_more}
 use Rattle.papaya_seq.proofs.Turns.{IsOver}
@@ -39,6 +39,7 @@ pub record InsertionDone {K V S : Type 0} (eq : K → K → Bool) (hash : S → 
   pub left_is : (n : ℕ) → reply ≡ Occupied n → left ≡ Some value
   pub alone : IsMadeAlone eq hash s (insertion replace k value) reply s'
   pub keeps : Keeps s s'
+  pub logs : LogsOne s.store s'.store
   pub orderly : IsLawfulMap eq (hash s'.store.hasher) s'.store s'.mode s'.initial
 
 module _ {K V S : Type 0} (eq : K → K → Bool) (hash : S → K → ℕ) (s : MapState K V S) (replace : Bool) (k : K) (value : V) (keys : IsLawfulKeys eq (hash s.store.hasher)) (lawful : IsLawfulMap eq (hash s.store.hasher) s.store s.mode s.initial) (fits : hash s.store.hasher k < 2 ^ 64) where
@@ -76,5 +77,6 @@ module _ {K V S H : Type 0} (eq : K → K → Bool) (input : K → List (List �
           initial = refl;
           pairs = (map_logged eq input build write finish classes respects s (insertion replace k value) reply store lawful over).1;
         };
+        logs = ended.logs;
         orderly = map_lawful eq input build write finish classes respects s (insertion replace k value) reply store lawful over;
       }

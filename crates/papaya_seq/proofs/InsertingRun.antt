@@ -9,16 +9,21 @@ use Rattle.papaya_ask.specs.declared.call.Reply.{Reply}
 use Rattle.papaya_ask.specs.declared.call.Reply.TheVariants.{Occupied, Refused as Reply_refused}
 use Rattle.papaya_ask.specs.declared.call.Task.TheVariants.{Insert}
 use Rattle.papaya_call.specs.Answers.{Says}
+use Rattle.papaya_call.specs.declared.compute.Remembered.{Remembered}
 use Rattle.papaya_call.specs.declared.machine.State.{State}
 use Rattle.papaya_call.specs.declared.machine.State.TheVariants.{Making, Writing, Ended}
+use Rattle.papaya_call.specs.declared.write.Made.{Made}
+use Rattle.papaya_call.specs.declared.write.Made.TheVariants.{Nothing, Key, Pair}
 use Rattle.papaya_call.specs.declared.write.Write.{Write}
+use Rattle.papaya_copy.specs.Link.{link_ask}
 use Rattle.papaya_call.specs.Machine.{IsStandingState, ask_of as call_ask}
 use Rattle.papaya_chain.specs.declared.ask.Answer.{Answer}
 use Rattle.papaya_chain.specs.declared.ask.Answer.TheVariants as answers
 use Rattle.papaya_chain.specs.declared.ask.Ask.{Ask}
 use Rattle.papaya_chain.specs.declared.ask.Ask.TheVariants as asks
 use Rattle.papaya_chain.specs.declared.machine.Machine.{Machine}
-use Rattle.papaya_chain.specs.declared.machine.Phase.TheVariants.{Calling}
+use Rattle.papaya_chain.specs.declared.machine.Phase.{Phase}
+use Rattle.papaya_chain.specs.declared.machine.Phase.TheVariants.{Calling, Linking, Copying as Copying_root}
 use Rattle.papaya_chain.specs.Machine.{IsFit, IsFitAsk, IsStanding, after, ask_of, asks_in, started}
 use Rattle.papaya_rests.proofs.RestsHeld.{ended_in}
 use Rattle.papaya_store.specs.Asks.{PerformsAsk}
@@ -30,10 +35,12 @@ use Rattle.papaya_timeline.specs.Content.{map_in}
 use Rattle.papaya_timeline.specs.Solo.{whatever}
 use Rattle.papaya_timeline.proofs.KeptSettings.{IsLawfulKeys}
 use Rattle.papaya_timeline.proofs.StoreLemmas.{performed_ask, unnumbered}
-use Rattle.papaya_seq.specs.Map.{IsLawfulMap, IsResizing, IsTryCause, IsWriteCause, IsWriteCauseAt, MapState, insertion, next_of}
+use Rattle.papaya_seq.specs.Map.{IsLawfulMap, IsResizing, LogsOne, IsTryCause, IsWriteCause, IsWriteCauseAt, MapState, insertion, next_of}
 use Rattle.papaya_seq.proofs.Answering.{answering, silent_performs}
 use Rattle.papaya_seq.proofs.Causes.{IsLogRefusal, IsNoTableRefusal, IsRemoveNothing, IsTableAsk, IsUnlogged, insert_pairs, refused_so, unlogged_more, unlogged_none, write_cause}
 use Rattle.papaya_seq.proofs.Ending.{left_of}
+use Rattle.papaya_seq.proofs.Grown.{copy_pairs, insertion_logs, logs_none, logs_still}
+use Rattle.papaya_seq.proofs.Logs.{IsFirst}
 use Rattle.papaya_seq.proofs.Inserting.{HasWritten}
 use Rattle.papaya_seq.proofs.InsertingRoot.{IsResting, IsRootStage, resting_more, written_more}
 use Rattle.papaya_seq.proofs.InsertingSteps.{copy_stays, value_stays}
@@ -58,6 +65,8 @@ module _ {K V S A : Type 0} (eq : K → K → Bool) (hash : S → K → ℕ) (s 
     pub hand : IsAtHand value r.machine r.value
     pub resting : next_of s.store ≡ 0 → IsResting eq hash s replace k value store r.machine
     pub unlogged : IsUnlogged eq hash s (keyed_insertion replace k value) store (answering None r)
+    -- one pair was logged at most
+    pub logs : LogsOne s.store store
     -- where it was refused there is a cause
     pub caused : (refused : Refused) → reply_in (ask_of r.machine) ≡ Some (Reply_refused refused) → IsWriteCause s refused (left_in s store)
 
@@ -88,6 +97,7 @@ module _ {K V S A : Type 0} (eq : K → K → Bool) (hash : S → K → ℕ) (s 
         hand = inl refl;
         resting = λ last. inr (record { calling = refl; stage = last });
         unlogged = unlogged_none eq hash s (keyed_insertion replace k value);
+        logs = logs_none s.store s.store (refl, refl);
         caused = λ refused e. let f : None ≡ Some (Reply_refused refused) = e in absurd cc;
       })
 
@@ -160,6 +170,19 @@ module _ {K V S A : Type 0} (eq : K → K → Bool) (hash : S → K → ℕ) (s 
         | inr table ↦ let making : Writing write ≡ Making = sym writes ∙ table.0 calling in absurd cc
       ]
 
+      -- one pair is logged at most
+      logs_more : (phase : Phase) → PerformsAsk eq says hash false (asks_in r.machine.call phase) store r answer store' later → LogsOne s.store store'
+      logs_more Calling (told, told_is, own) =
+          insertion_logs eq says false replace r.machine.call.made r.machine.call.hash r.machine.call.state s.store store r told store' later (subst (λ t. IsStandingState t r.machine.call.state) task now.standing.call.state)
+          (λ none. now.unlogged.pairs (subst (λ t. IsFirst t r.machine.call.made r.machine.call.remembered) (sym task) (unpaired r.machine.call.made r.machine.call.remembered none))) own now.logs
+        where
+          unpaired : (made : Made) (held : Remembered) → ((i : ℕ) → made ≡ Pair i → ⊥) → IsFirst (Insert replace) made held
+          unpaired Nothing held none = tt
+          unpaired Key held none = tt
+          unpaired (Pair i) held none = absurd (none i refl)
+      logs_more (Linking link) (h, stays) = logs_still s.store store store' now.logs (copy_pairs eq hash false (link_ask link) store answer store' h)
+      logs_more (Copying_root copying) (h, stays) = logs_still s.store store store' now.logs (copy_pairs eq hash false _ store answer store' h)
+
       -- and it goes on
       pub inserting_more : IsStanding (after r.machine answer) → IsInserting eq hash s replace k value store' (record later { machine = after r.machine answer })
       inserting_more standing = record {
@@ -169,6 +192,7 @@ module _ {K V S A : Type 0} (eq : K → K → Bool) (hash : S → K → ℕ) (s 
         hand = hand_more now.hand;
         resting = λ last. resting_more eq hash s replace k value keys lawful fits store (answering None r) answer store' (answering None later) going silent.0 same came log_refusal (now.resting last);
         unlogged = unlogged_more eq hash s (keyed_insertion replace k value) store (answering None r) answer store' (answering None later) going silent.0 same keys came now.unlogged;
+        logs = logs_more r.machine.phase performs;
         caused = λ refused e. write_cause s refused r.machine (left_in s store') (refusal refused e);
       }
 

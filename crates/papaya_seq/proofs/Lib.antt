@@ -68,4 +68,6 @@ mod LeftBy
 mod Cloned
 mod Equal
 pub mod Filled
+mod Grown
+mod Rebuilt
 pub mod Walked

@@ -1,10 +1,16 @@
 -- Maps that are equal, and maps of clones.
-use Rattle.std.specs.Prelude.{◌≡◌, Bool, true, List, ◌∷◌, ◌++◌, None, Some, MatchOption, map}
+use Rattle.std.specs.Prelude.{◌≡◌, ◌⊎◌, ◌+◌, ◌<◌, ◌≤◌, Bool, true, List, [], ◌∷◌, ◌++◌, None, Some, MatchOption, length, map}
 use Rattle.std.specs.List.{AllZip}
+use Rattle.papaya_words.specs.declared.limits.TheConstants.{DEFAULT_CHUNK, MAX_SHARDS}
 use Rattle.papaya_words.specs.declared.probe.Refused.{Refused}
+use Rattle.papaya_words.specs.declared.probe.Refused.TheVariants.{Memory, Capacity}
+use Rattle.papaya_words.specs.declared.probe.ResizeMode.TheVariants.{Incremental}
+use Rattle.papaya_keys.specs.Sizes.{IsTooMuch}
 use Rattle.papaya_store.specs.Store.{StoreState, Stored}
 use Rattle.papaya_timeline.specs.Content.{content, map_in}
-use Rattle.papaya_seq.specs.Map.{MapState, entry_of, value_of}
+use Rattle.papaya_timeline.specs.New.{IsNew}
+use Rattle.papaya_seq.specs.Map.{MapState, core_of, entry_of, value_of}
+use Rattle.papaya_seq.specs.Resizes.{IsReserveCause}
 use Rattle.papaya_seq.specs.Entries.{Fills, IsCut}
 
 -- the map has an equal value at this entry's key
@@ -44,6 +50,9 @@ module _ {K V : Type 0} (eq : K → K → Bool) (clones_key : K → K → Type 0
     pub clones : List (K × V)
     pub each : AllZip (Clones clones_key clones_value) es clones
     pub fills : Fills eq (λ c. c) to clones to'
+    -- for each of them one pair was logged at most
+    pub logged : length to'.store.pairs ≤ length to.store.pairs + length es
+    pub shards : to'.store.count.shards ≡ to.store.count.shards
 
   -- Clones of the first entries of a map were put into another one, in the order of a walk, and the
   -- clone of the next one was refused.
@@ -58,3 +67,48 @@ module _ {K V : Type 0} (eq : K → K → Bool) (clones_key : K → K → Type 0
     pub clone : K × V
     pub cloned : Clones clones_key clones_value next clone
     pub cut : IsCut eq (λ c. c) to clones clone refused to'
+
+-- the map resizes as this one does, and counts in as many shards
+pub record HasParts {K V S : Type 0} (s s' : MapState K V S) : Type 0 where
+  pub mode : s'.mode ≡ s.mode
+  pub initial : s'.initial ≡ s.initial
+  pub shards : s'.store.count.shards ≡ s.store.count.shards
+
+module _ {K V S : Type 0} (eq : K → K → Bool) (clones_key : K → K → Type 0)
+    (clones_value : V → V → Type 0) where
+  -- A map of clones, and of nothing else: its log has as many pairs as this map has.
+  pub record IsRebuilt (clones_hasher : S → S → Type 0) (s s' : MapState K V S) : Type 0 where
+    pub cloned : IsCloned eq clones_key clones_value s.store s'.store
+    pub logged : length s'.store.pairs ≡ length (content eq s.store)
+    pub hasher : clones_hasher s.store.hasher s'.store.hasher
+
+  -- Clones were put into a new map, made for so many pairs as this one has, and one was refused.
+  pub record IsCloneCut (from : StoreState K V S) (refused : Refused) : Type 0 where
+    pub new : MapState K V S
+    pub left : MapState K V S
+    pub is_new : IsNew {A = Unit {0}} (Incremental DEFAULT_CHUNK) (length (content eq from)) 1
+        new.store.hasher (core_of new)
+    pub cut : IsCopyCut eq clones_key clones_value from new refused left
+
+  -- Why a map of clones is refused: for want of memory, as no table has slots for so many pairs, or
+  -- at one of the clones.
+  abbrev pub IsCloneRefusal : StoreState K V S → Refused → Type 0
+  IsCloneRefusal from refused = (refused ≡ Memory)
+      ⊎ ((refused ≡ Capacity) × IsTooMuch (length (content eq from)))
+      ⊎ IsCloneCut from refused
+
+  -- A map without pairs, with the parts of this one, was refused room for its pairs, or a clone.
+  pub record IsRebuildCut (s : MapState K V S) (refused : Refused) : Type 0 where
+    pub fresh : MapState K V S
+    pub empty : content eq fresh.store ≡ []
+    pub parts : HasParts s fresh
+    pub left : MapState K V S
+    pub cause : IsReserveCause eq fresh (length (content eq s.store)) refused left
+        ⊎ ((roomy : MapState K V S) × (content eq roomy.store ≡ []) × HasParts s roomy
+        × IsCopyCut eq clones_key clones_value s.store roomy refused left)
+
+  -- Why a map is not rebuilt: for want of memory, as it has more shards than a new one may have, or
+  -- so.
+  abbrev pub IsRebuildRefusal : MapState K V S → Refused → Type 0
+  IsRebuildRefusal s refused = (refused ≡ Memory)
+      ⊎ ((refused ≡ Capacity) × (MAX_SHARDS < s.store.count.shards)) ⊎ IsRebuildCut s refused

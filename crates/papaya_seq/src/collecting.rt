@@ -5,9 +5,10 @@ ghost use Rattle.std.specs.declared.hash.FoldHasher.{FoldHasher};
 ghost use Rattle.std.specs.declared.hash.BuildHasherDefault.{BuildHasherDefault};
 ghost use Rattle.papaya_seq.specs.Entries.{AllCome, ComesNext, Extends, HasJust, IsCutAnew};
 ghost use Rattle.papaya_seq.specs.Entries.{IsCutIn, IsPut};
-ghost use Rattle.papaya_seq.specs.Map.{deref_pair};
+ghost use Rattle.papaya_seq.specs.Map.{LogsOne, deref_pair};
 
 use crate::seq::HashMap;
+use papaya_ask::call::Reply;
 use papaya_words::probe::Refused;
 use std::alloc::Global;
 use std::hash::{BuildHasher, BuildHasherDefault, FoldHasher, Hash};
@@ -17,11 +18,14 @@ impl<K: Hash + Eq + Drop, V: Drop, S: BuildHasher> HashMap<K, V, S> {
     /// value that goes, so it borrows nothing, and its clause says what the map is after it.
     /// Refused as that is.
     pub fn put(&mut self, key: K, value: V) -> Result<bool, Refused>
-        ensures { IsPut K.eq key value self.old result self.new }
+        ensures puts { IsPut K.eq key value self.old result self.new }
+        ensures logs { LogsOne self.old.store self.new.store }
     {
-        match self.insert(key, value) {
-            Ok(old) => Ok(old.is_none()),
-            Err(refused) => Err(refused),
+        let (reply, _) = self.insert_by(key, value, true);
+        match reply {
+            Reply::Replaced { .. } => Ok(false),
+            Reply::Refused(refused) => Err(refused),
+            _ => Ok(true),
         }
     }
 

@@ -5,7 +5,7 @@ ghost use Rattle.papaya_keys.specs.Hashes.{hash_of};
 ghost use Rattle.papaya_timeline.specs.Content.{map_in};
 ghost use Rattle.papaya_timeline.specs.Solo.{IsAnswered, IsNewIn};
 ghost use Rattle.papaya_seq.specs.MadeAlone.{IsMadeAlone};
-ghost use Rattle.papaya_seq.specs.Map.{IsTryCause, IsWriteCauseAt, Keeps, insertion};
+ghost use Rattle.papaya_seq.specs.Map.{IsTryCause, IsWriteCauseAt, Keeps, LogsOne, insertion};
 
 use crate::seq::HashMap;
 use crate::writing::insert_at_once;
@@ -43,6 +43,7 @@ impl<K: Hash + Eq + Drop, V: Drop, S: BuildHasher> HashMap<K, V, S> {
             (hash_of K.hash_input S.build_hasher S.Hasher.write S.Hasher.finish) self.old
             (insertion replace key value) result.0 self.new }
         ensures keeps { Keeps self.old self.new }
+        ensures logs { LogsOne self.old.store self.new.store }
     {
         let hash = self.store.hash(&key);
         match insert_at_once(&mut self.store, self.alloc, key, value, hash, replace) {
@@ -66,6 +67,7 @@ impl<K: Hash + Eq + Drop, V: Drop, S: BuildHasher> HashMap<K, V, S> {
             (hash_of K.hash_input S.build_hasher S.Hasher.write S.Hasher.finish) self.old
             (insertion replace key value) result.0 self.new }
         ensures keeps { Keeps self.old self.new }
+        ensures logs { LogsOne self.old.store self.new.store }
     {
         let hash = self.store.hash(&key);
         let mut running: Running<K, V, Listed<V>> = Running {

@@ -1,8 +1,9 @@
 //! What follows from the contracts of the calls together. The functions do nothing: their contracts
 //! are the laws.
-ghost use Rattle.std.specs.Prelude.{◌≡◌, ℕ, Bool, Option, Some, None, false};
+ghost use Rattle.std.specs.Prelude.{◌≡◌, ℕ, Bool, Option, Some, None, false, true};
 ghost use Rattle.papaya_timeline.specs.Content.{map_in};
 ghost use Rattle.papaya_store.specs.Store.{StoreState, Stored};
+ghost use Rattle.papaya_seq.specs.Clones.{AreEqual, IsCloned};
 ghost use Rattle.papaya_seq.specs.Map.{Inserts, Removes, value_of};
 
 use std::hash::Hash;
@@ -23,4 +24,13 @@ pub fn changes_are_found<K: Hash + Eq, V, S>()
     ensures left { (matches : K → Bool) (p : Stored K V) (s s' : StoreState K V S)
         → Removes K.eq matches s p s' → (j : K) → K.eq j p.key ≡ false
         → map_in K.eq s' j ≡ map_in K.eq s j }
+{}
+
+/// A map of clones is equal to its original, where clones of values are equal to them.
+///
+/// So after [`crate::seq::HashMap::reclaim`] the map is what [`crate::seq::HashMap::eq`] calls equal
+/// to what it was, and so is what [`crate::seq::HashMap::try_clone`] makes.
+pub fn clones_are_equal<K: Hash + Eq + Clone, V: Clone + PartialEq, S>()
+    ensures { (s s' : StoreState K V S) → ((v w : V) → V.is_clone v w → V.eq v w ≡ true)
+        → IsCloned K.eq K.is_clone V.is_clone s s' → AreEqual K.eq V.eq s s' }
 {}

@@ -4,6 +4,7 @@
 pub use papaya_keys::{compute, guard, occupied};
 
 mod clearing;
+mod cloning;
 mod collecting;
 mod comparing;
 mod computes;

@@ -19,6 +19,7 @@ impl<K: Hash + Eq + Drop, V: Drop, S: BuildHasher> HashMap<K, V, S> {
         ensures too_much { IsPastLimit K.eq resize self.old.store
             → (result ≡ Err Refused.Capacity) × (self.new ≡ self.old) }
         ensures map { Unchanged K.eq self.old.store self.new.store }
+        ensures words { self.new.store ≡ record self.old.store { words = self.new.store.words } }
         ensures keeps { Keeps self.old self.new }
     {
         // By this read the count is known to have 64 bits.
@@ -48,6 +49,7 @@ impl<K: Hash + Eq + Drop, V: Drop, S: BuildHasher> HashMap<K, V, S> {
         ensures too_much { IsTooMuch (pairs_with K.eq self.old.store additional)
             → (result ≡ Err Refused.Capacity) × (self.new ≡ self.old) }
         ensures map { Unchanged K.eq self.old.store self.new.store }
+        ensures words { self.new.store ≡ record self.old.store { words = self.new.store.words } }
         ensures keeps { Keeps self.old self.new }
     {
         self.resize_by(Resize::Reserve(additional))

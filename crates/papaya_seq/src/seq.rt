@@ -74,7 +74,8 @@ fn resized(done: Result<(), Refused>) -> Reply
 /// borrows the map. Contracts see its words and logs, and by `map_in` the finite map that they
 /// mean.
 ///
-/// Pairs that were replaced or removed stay in the log, until the map is dropped.
+/// Pairs that were replaced or removed stay in the log until [`HashMap::reclaim`], or until the map
+/// is dropped.
 #[derive(Drop)]
 pub struct HashMap<K: Hash + Eq, V, S: BuildHasher = BuildHasherDefault<FoldHasher>> {
     pub(crate) alloc: Global,

@@ -126,3 +126,34 @@ fn refused_update_leaves_the_map(rt: HostRuntime) -> Result<(), Fail> {
     }
     Ok(())
 }
+
+/// Clones the map: were both as they should be, or this one where that was refused?
+fn clones(alloc: Global, map: &Numbers, end: u64) -> Result<bool, Refused> {
+    match map.try_clone(alloc) {
+        Ok(clone) => Ok(has_below(&clone, end) && has_below(map, end)),
+        Err(Refused::Memory) => Ok(has_below(map, end)),
+        Err(refused) => Err(refused),
+    }
+}
+
+/// Builds the map anew: was it as it should be, also where that was refused?
+fn reclaims(map: &mut Numbers, end: u64) -> Result<bool, Refused> {
+    match map.reclaim() {
+        Ok(()) | Err(Refused::Memory) => Ok(has_below(map, end)),
+        Err(refused) => Err(refused),
+    }
+}
+
+#[test]
+fn refused_clones_leave_the_map(rt: HostRuntime) -> Result<(), Fail> {
+    let mut map = made(rt.alloc())?;
+    for key in 0..9u64 {
+        assert!(rt;
+            insert_again(&mut map, key, Insertion::Insert)?,
+            "at key {key}"
+        );
+    }
+    assert!(rt; clones(rt.alloc(), &map, 9)?);
+    assert!(rt; reclaims(&mut map, 9)?);
+    Ok(())
+}

@@ -3,7 +3,7 @@
 ghost use Rattle.std.specs.Prelude.{◌≡◌, ℤ, ◌+◌, ◌-◌, ◌<◌, ◌^◌, ◌⊎◌, [], ◌∷◌, ◌++◌, ◌+ℤ◌, length};
 ghost use Rattle.std.specs.Prelude.{vec_len, vec_capacity, Some, None, FitsSigned, MatchOption};
 ghost use Rattle.std.specs.Prelude.{OnOk, IfOk, IfErr, ◌*◌, ◌≤◌, slice_get};
-ghost use Rattle.std.specs.Int.{w64, int_wrap};
+ghost use Rattle.std.specs.Int.{w64, int_wrap, IsPowerOfTwo};
 ghost use Rattle.papaya_words.specs.Counter.{added, count_of};
 ghost use Rattle.papaya_words.specs.declared.limits.TheConstants.{MAX_TABLE_LEN};
 ghost use Rattle.papaya_words.specs.Probe.{IsEntriesFor};
@@ -195,9 +195,10 @@ impl<K: Hash + Eq, V, S: BuildHasher> Store<K, V, S> {
         self.counter.sum()
     }
 
-    /// In how many shards they are counted.
+    /// In how many shards they are counted: a power of two.
     pub fn shards(&self) -> usize
-        ensures { result ≡ self.now.count.shards }
+        ensures count { result ≡ self.now.count.shards }
+        ensures power { IsPowerOfTwo result }
     {
         self.counter.shards()
     }

@@ -17,7 +17,7 @@ loop-name-preserved g c =
     let key : FnReturnsAt g.T.Fn c.args.key (string_bytes c.in-Some.name.now) (Some c.in-Some-key.k) = record { shown = c.as_str.result; shows = c.as_str.ensures.value; says = record { met = c.in-Some-key.ensures } } in
     let value : FnReturnsAt g.W.Fn c.args.value c.in-Some.member.now (Some c.in-Some-value.v) = record { shown = c.in-Some.member; shows = refl; says = record { met = c.in-Some-value.ensures } } in
     subst (λ es. IsFilled g.K.PartialEq.eq (IsPair (FnReturnsAt g.T.Fn c.args.key) (FnReturnsAt g.W.Fn c.args.value)) (λ p. p) c.args.hasher es c.put.new.self) (sym (map_push deref_pair l.yielded (c.in-Some.name, c.in-Some.member)))
-    (filled_more g.K.PartialEq.eq (IsPair (FnReturnsAt g.T.Fn c.args.key) (FnReturnsAt g.W.Fn c.args.value)) (λ p. p) c.args.hasher (map deref_pair l.yielded) l.map l.invariant (c.in-Some.name.now, c.in-Some.member.now) (c.in-Some-key.k, c.in-Some-value.v) (key, value) _ c.put.new.self c.in-Ok.ensures)
+    (filled_more g.K.PartialEq.eq (IsPair (FnReturnsAt g.T.Fn c.args.key) (FnReturnsAt g.W.Fn c.args.value)) (λ p. p) c.args.hasher (map deref_pair l.yielded) l.map l.invariant (c.in-Some.name.now, c.in-Some.member.now) (c.in-Some-key.k, c.in-Some-value.v) (key, value) _ c.put.new.self c.in-Ok.ensures.puts)
 
 pub returns-in_default-clause-err : goal.returns-in_default-clause-err
 returns-in_default-clause-err g c =
@@ -60,7 +60,7 @@ returns-in-Err-clause-err g c =
       stop = inr (
         (c.in-Some-key.k, c.in-Some-value.v),
         (key, value),
-        filled_cut g.K.PartialEq.eq (IsPair (FnReturnsAt g.T.Fn c.args.key) (FnReturnsAt g.W.Fn c.args.value)) (λ p. p) c.args.hasher (map deref_pair l.yielded) l.map l.invariant (c.in-Some-key.k, c.in-Some-value.v) c.in-Err.refused c.put.new.self c.in-Err.ensures,
+        filled_cut g.K.PartialEq.eq (IsPair (FnReturnsAt g.T.Fn c.args.key) (FnReturnsAt g.W.Fn c.args.value)) (λ p. p) c.args.hasher (map deref_pair l.yielded) l.map l.invariant (c.in-Some-key.k, c.in-Some-value.v) c.in-Err.refused c.put.new.self c.in-Err.ensures.puts,
       );
     })
 

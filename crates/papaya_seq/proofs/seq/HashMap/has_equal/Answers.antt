@@ -1,4 +1,4 @@
-use Rattle.std.proofs.Common.{refl, sym, ap, ◌∙◌}
+use Rattle.std.proofs.Common.{sym}
 use Rattle.papaya_seq.proofs.Equal.{decided_none, decided_some}
 use Rattle.papaya_seq.proofs.seq.HashMap.has_equal.Goals as goal
 

@@ -54,3 +54,6 @@ returns-in-Ok-clause-alone g c = (done g (goal.at.returns-in-Ok-clause-alone g c
 
 pub returns-in-Ok-clause-keeps : goal.returns-in-Ok-clause-keeps
 returns-in-Ok-clause-keeps g c = (done g (goal.at.returns-in-Ok-clause-keeps g c).In-Ok).keeps
+
+pub returns-in-Ok-clause-logs : goal.returns-in-Ok-clause-logs
+returns-in-Ok-clause-logs g c = (done g (goal.at.returns-in-Ok-clause-logs g c).In-Ok).logs

@@ -130,3 +130,6 @@ returns-in-Call-Done-clause-keeps g c = record {
   initial = c.loop-reply.invariant.2;
   pairs = (map_logged g.K.PartialEq.eq g.K.Hash.hash_input g.S.BuildHasher.build_hasher g.S.Hasher.Hasher.write g.S.Hasher.Hasher.finish g.met.K.Eq.laws g.met.K.Hash.respects_eq c.args.self.now (insertion c.args.replace c.args.key c.args.value) c.in-Call-Done.reply c.loop-reply.self-inside.store (lawful g (goal.at.returns-in-Call-Done-clause-keeps g c).After-new) (alone g (goal.at.returns-in-Call-Done-clause-keeps g c).After-value_left (lawful g (goal.at.returns-in-Call-Done-clause-keeps g c).After-new) (fits g (goal.at.returns-in-Call-Done-clause-keeps g c).After-new))).1;
 }
+
+pub returns-in-Call-Done-clause-logs : goal.returns-in-Call-Done-clause-logs
+returns-in-Call-Done-clause-logs g c = c.loop-reply.invariant.0.logs

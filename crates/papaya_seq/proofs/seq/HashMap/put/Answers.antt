@@ -1,8 +1,25 @@
-use Rattle.papaya_seq.proofs.Filled.{put_err, put_ok}
+use Rattle.std.proofs.Common.{None, refl, subst}
+use Rattle.papaya_timeline.specs.Content.{map_in}
+use Rattle.papaya_timeline.specs.Solo.{IsAnswered}
+use Rattle.papaya_seq.specs.Map.{insertion}
+use Rattle.std.specs.Prelude.{true}
+use Rattle.papaya_seq.proofs.Answered.{neither_made, replaced_by}
 use Rattle.papaya_seq.proofs.seq.HashMap.put.Goals as goal
 
-pub returns-in-Ok : goal.returns-in-Ok
-returns-in-Ok g c = put_ok g.K.PartialEq.eq c.args.key c.args.value c.args.self.now _ c.insert.result c.in-Ok.old c.in-Ok.is c.insert.follows.holds-at-none _ c.is_none.ensures
+pub returns-in-Replaced-clause-puts : goal.returns-in-Replaced-clause-puts
+returns-in-Replaced-clause-puts g c =
+    let e = c.insert_by-reply.ensures in
+    let r = replaced_by g.K.PartialEq.eq g.met.K.Eq.laws c.args.key c.args.value c.args.self.now.store c.insert_by-reply.new.self.store c.insert_by-reply.result.0 c.in-Replaced.old c.in-Replaced.new c.in-Replaced.is e.answers e.fresh in
+    (_, refl, r.made.inserts, e.keeps)
 
-pub returns-in-Err : goal.returns-in-Err
-returns-in-Err g c = put_err g.K.PartialEq.eq c.args.key c.args.value c.args.self.now _ c.insert.result c.in-Err.refused c.in-Err.is c.insert.follows.holds-at-none
+pub returns-in-Refused-clause-puts : goal.returns-in-Refused-clause-puts
+returns-in-Refused-clause-puts g c =
+    let e = c.insert_by-reply.ensures in
+    let a = subst (λ reply. IsAnswered g.K.PartialEq.eq (insertion true c.args.key c.args.value) (map_in g.K.PartialEq.eq c.args.self.now.store) reply (map_in g.K.PartialEq.eq c.insert_by-reply.new.self.store)) c.in-Refused.is e.answers in
+    (e.cause c.in-Refused.refused c.in-Refused.is, a.0, e.keeps)
+
+pub returns-in_default-clause-puts : goal.returns-in_default-clause-puts
+returns-in_default-clause-puts g c =
+    let e = c.insert_by-reply.ensures in
+    let m = neither_made g.K.PartialEq.eq g.met.K.Eq.laws c.args.key c.args.value c.args.self.now.store c.insert_by-reply.new.self.store c.insert_by-reply.result.0 e.answers e.fresh c.in_default.not-Replaced c.in_default.not-Refused in
+    (None, refl, m.1.inserts, e.keeps)

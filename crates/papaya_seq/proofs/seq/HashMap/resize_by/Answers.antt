@@ -99,6 +99,9 @@ returns-in-Refused-clause-map g c =
     let n = (goal.at.returns-in-Refused-clause-map g c).After-new-resizer in
     resized_unchanged g.K.PartialEq.eq g.K.Hash.hash_input g.S.BuildHasher.build_hasher g.S.Hasher.Hasher.write g.S.Hasher.Hasher.finish g.met.K.Eq.laws g.met.K.Hash.respects_eq c.args.self.now c.args.resize (lawful g n) (fits g n) c.loop-ask.self-inside.store c.loop-ask.resizer c.loop-ask.invariant.0 (sym c.ask.ensures ∙ c.in_default.is)
 
+pub returns-in-Refused-clause-words : goal.returns-in-Refused-clause-words
+returns-in-Refused-clause-words g c = c.loop-ask.invariant.0.came.logs
+
 pub returns-in_default-state : goal.returns-in_default-state
 returns-in_default-state g c =
     let n = (goal.at.returns-in_default-state g c).After-new-resizer in
@@ -110,5 +113,6 @@ returns-in_default-state g c =
       err = tt;
       too_much = λ late. let f : Some Reply_done ≡ Some (Reply_refused Capacity) = sym done ∙ (past g end (lawful g n) (fits g n) late).0 in absurd cc;
       map = resized_unchanged g.K.PartialEq.eq g.K.Hash.hash_input g.S.BuildHasher.build_hasher g.S.Hasher.Hasher.write g.S.Hasher.Hasher.finish g.met.K.Eq.laws g.met.K.Hash.respects_eq c.args.self.now c.args.resize (lawful g n) (fits g n) c.loop-ask.self-inside.store c.loop-ask.resizer c.loop-ask.invariant.0 none;
+      words = c.loop-ask.invariant.0.came.logs;
       keeps = subst (Keeps c.args.self.now) (left_is g end) (keeps g end (lawful g n) (fits g n));
     }

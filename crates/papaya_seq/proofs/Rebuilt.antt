@@ -1,0 +1,213 @@
+-- A map of clones: what it has, its parts, and why there is none.
+use Rattle.std.proofs.Common.{◌≡◌, ◌⊎◌, inl, inr, ⊎_elim, ℕ, zero, suc, ◌+◌, ◌*◌, ◌<◌, ◌≤◌, ◌^◌, Bool, true, false, cond, List, [], ◌∷◌, map, length, MatchOption, Option, None, Some, refl, sym, ap, ◌∙◌, subst, arith}
+use Rattle.std.proofs.lemmas.List.{length-map}
+use Rattle.std.proofs.lemmas.Bool.{cases_lt, cond-true}
+use Rattle.std.proofs.lemmas.Nat.{pow_pos}
+use Rattle.std.proofs.Math.Nat.{max-eq_right, pow-succ'}
+use Rattle.std.proofs.Math.Pow.{pow_mono}
+use Rattle.std.specs.Prelude.{max, ◌/◌, is_some}
+use Rattle.std.specs.Cmp.{IsEquivalence}
+use Rattle.std.specs.Int.{IsNextPowerOfTwo, IsPowerOfTwo}
+use Rattle.papaya_words.specs.Mode.{IsChunked}
+use Rattle.papaya_words.specs.Probe.{IsEntriesFor}
+use Rattle.papaya_words.specs.declared.limits.TheConstants.{DEFAULT_CHUNK, MAX_SHARDS}
+use Rattle.papaya_words.specs.declared.probe.Refused.{Refused}
+use Rattle.papaya_words.specs.declared.probe.Refused.TheVariants.{Memory}
+use Rattle.papaya_words.specs.declared.probe.ResizeMode.{ResizeMode}
+use Rattle.papaya_words.specs.declared.probe.ResizeMode.TheVariants.{Incremental}
+use Rattle.papaya_keys.specs.Sizes.{IsSizeRefusal, IsTooMuch}
+use Rattle.papaya_law.specs.Content.{AreApart, lookup}
+use Rattle.papaya_timeline.specs.Content.{content, map_in}
+use Rattle.papaya_timeline.specs.New.{IsNew}
+use Rattle.papaya_store.specs.Store.{StoreState, Stored, pair_of}
+use Rattle.papaya_seq.specs.Clones.{AreEqual, HasParts, IsCloneRefusal, IsCloned, IsCopied, IsCopyCut, IsRebuildRefusal, IsRebuilt}
+use Rattle.papaya_seq.specs.Map.{Keeps, MapState, Unchanged, core_of, entry_of}
+use Rattle.papaya_seq.specs.Resizes.{IsReserveCause}
+use Rattle.papaya_seq.proofs.Answered.{logged_there}
+use Rattle.papaya_seq.proofs.Cloned.{all_copied}
+use Rattle.papaya_seq.proofs.Equal.{covered, each_found, found_key}
+use Rattle.papaya_seq.proofs.Filled.{new_with_own}
+use Rattle.papaya_seq.proofs.Lawful.{number_within}
+
+-- a power of two is the next one to itself
+pub same_power : (n m : ℕ) → IsPowerOfTwo n → IsNextPowerOfTwo n m → m ≡ n
+same_power n m (a, is) ((b, is'), least, below) = ⊎_elim
+    (λ (more : a < b).
+    let twice : 2 ^ suc a ≤ 2 ^ b = pow_mono (omega (arith, more)) in
+    let step : 2 ^ suc a ≡ 2 * 2 ^ a = pow-succ' 2 a in
+    let some : 0 < 2 ^ a = pow_pos a in
+    let most : max 1 n ≡ n = max-eq_right (omega (arith, some, is)) in
+    let half : m / 2 < n = subst (λ k. m / 2 < k) most below in
+    absurd (omega (arith, half, twice, step, is, is')))
+    (λ (few : b ≤ a).
+    let most : 2 ^ b ≤ 2 ^ a = pow_mono few in
+    omega (arith, most, least, is, is'))
+    (cases_lt a b)
+
+module _ {K V S : Type 0} (eq : K → K → Bool) (law : IsEquivalence eq) where
+  -- a map that is unchanged from one without pairs has none
+  pub empty_still : (s s' : StoreState K V S) → Unchanged eq s s' → content eq s ≡ [] → content eq s' ≡ []
+  empty_still s s' same empty = of_list (content eq s') refl
+    where
+      of_list : (ps : List (Stored K V)) → content eq s' ≡ ps → ps ≡ []
+      of_list [] is = refl
+      of_list (p ∷ ps) is =
+          let here : map_in eq s' p.key ≡ Some p = ap (λ (qs : List (Stored K V)). lookup eq (λ q. q.key) qs p.key) is ∙ cond-true (eq p.key p.key) (Some p) (lookup eq (λ (q : Stored K V). q.key) ps p.key) (law.refl p.key) in
+          let gone : map_in eq s p.key ≡ None = ap (λ (qs : List (Stored K V)). lookup eq (λ q. q.key) qs p.key) empty in
+          let clash : Some p ≡ None = sym here ∙ same p.key ∙ gone in
+          absurd cc
+
+module _ {K V S : Type 0} (eq : K → K → Bool) (law : IsEquivalence eq) (s : StoreState K V S) where
+  -- the pairs of these numbers, where there are such
+  abbrev with_one : Option (Stored K V) → List (Stored K V) → List (Stored K V)
+  with_one None ps = ps
+  with_one (Some p) ps = p ∷ ps
+
+  abbrev logged_below : ℕ → List (Stored K V)
+  logged_below zero = []
+  logged_below (suc n) = with_one (pair_of s n) (logged_below n)
+
+  few_below : (n : ℕ) → length (logged_below n) ≤ n
+  few_below zero = omega arith
+  few_below (suc n) = one (pair_of s n) (few_below n)
+    where
+      one : (o : Option (Stored K V)) → length (logged_below n) ≤ n → length (with_one o (logged_below n)) ≤ suc n
+      one None few = omega (arith, few)
+      one (Some p) few = omega (arith, few)
+
+  found_below : (k : K) (q : Stored K V) (m : ℕ) → pair_of s m ≡ Some q → eq k q.key ≡ true → (n : ℕ) → m < n → is_some (lookup eq (λ p. p.key) (logged_below n) k) ≡ true
+  found_below k q m is same zero less = absurd (omega (arith, less))
+  found_below k q m is same (suc n) less =
+      ⊎_elim
+      (λ (below : m < n). behind (pair_of s n) (found_below k q m is same n below))
+      (λ (past : n ≤ m).
+      let here : m ≡ n = omega (arith, less, past) in
+      subst (λ (o : Option (Stored K V)). is_some (lookup eq (λ p. p.key) (with_one o (logged_below n)) k) ≡ true) (sym (ap (pair_of s) (sym here) ∙ is))
+      (ap is_some (cond-true (eq k q.key) (Some q) (lookup eq (λ (p : Stored K V). p.key) (logged_below n) k) same)))
+      (cases_lt m n)
+    where
+      behind : (o : Option (Stored K V)) → is_some (lookup eq (λ p. p.key) (logged_below n) k) ≡ true → is_some (lookup eq (λ p. p.key) (with_one o (logged_below n)) k) ≡ true
+      behind None e = e
+      behind (Some p) e = go (eq k p.key)
+        where
+          go : (b : Bool) → is_some (cond b (Some p) (lookup eq (λ (r : Stored K V). r.key) (logged_below n) k)) ≡ true
+          go true = refl
+          go false = e
+
+  abbrev ClonedAt : (K → K → Type 0) → (V → V → Type 0) → K → Option (Stored K V) → Type 0
+  ClonedAt CK CV k o = MatchOption o (map_in eq s k ≡ None) (λ p. (q : Stored K V) × (map_in eq s k ≡ Some q) × (CK p.key q.key × CV p.value q.value))
+
+  -- a map of clones has logged a pair for each of them at least
+  logged_least : {Z : Type 0} (CK : K → K → Type 0) (CV : V → V → Type 0) (from : StoreState K V Z) → AreApart eq (λ p. p.key) (content eq from) → IsCloned eq CK CV from s → length (content eq from) ≤ length s.pairs
+  logged_least CK CV from apart cloned =
+      let all = each_found eq law (λ (p : Stored K V). p.key) (λ p. is_some (lookup eq (λ r. r.key) (logged_below (length s.pairs)) p.key) ≡ true) (content eq from) apart found in
+      let most = covered eq law (λ (p : Stored K V). p.key) (content eq from) (logged_below (length s.pairs)) apart all in
+      let few = few_below (length s.pairs) in
+      omega (arith, most, few)
+    where
+      found : (p : Stored K V) → lookup eq (λ r. r.key) (content eq from) p.key ≡ Some p → is_some (lookup eq (λ r. r.key) (logged_below (length s.pairs)) p.key) ≡ true
+      found p is =
+          let own : ClonedAt CK CV p.key (Some p) = subst (ClonedAt CK CV p.key) is (cloned p.key) in
+          let there : pair_of s own.0.number ≡ Some own.0 = logged_there eq law s p.key own.0.number own.0 own.1 refl in
+          found_below p.key own.0 own.0.number there (found_key eq law (λ (r : Stored K V). r.key) (content eq s) p.key own.0 own.1) (length s.pairs) (number_within s own.0.number own.0 there)
+
+module _ {K V S : Type 0} (eq : K → K → Bool) (law : IsEquivalence eq) (CK : K → K → Type 0) (CV : V → V → Type 0) where
+  -- a map without pairs and without a log, once clones were put into it
+  pub rebuilt_of : ((k l : K) → CK k l → eq k l ≡ true) → (CS : S → S → Type 0) (s new made : MapState K V S) → AreApart eq (λ p. p.key) (content eq s.store) → content eq new.store ≡ [] → new.store.pairs ≡ [] → CS s.store.hasher new.store.hasher → IsCopied eq CK CV new (map entry_of (content eq s.store)) made → IsRebuilt eq CK CV CS s made
+  rebuilt_of same CS s new made apart empty none clones copied =
+      let first : length new.store.pairs ≡ 0 = ap length none in
+      let long : length (map entry_of (content eq s.store)) ≡ length (content eq s.store) = length-map (content eq s.store) entry_of in
+      let most : length made.store.pairs ≤ length new.store.pairs + length (map entry_of (content eq s.store)) = copied.logged in
+      let cloned : IsCloned eq CK CV s.store made.store = all_copied eq law CK CV same s.store new made apart empty copied in
+      let least : length (content eq s.store) ≤ length made.store.pairs = logged_least eq law made.store CK CV s.store apart cloned in
+      record {
+        cloned = cloned;
+        logged = omega (arith, first, long, most, least);
+        hasher = subst (CS s.store.hasher) (sym copied.fills.keeps.hasher) clones;
+      }
+
+  -- a new map that was made for so many pairs
+  pub clone_parts : (n : ℕ) (hasher : S) (new made : MapState K V S) (es : List (K × V)) → IsNew {A = Unit {0}} (Incremental DEFAULT_CHUNK) n 1 hasher (core_of new) → IsCopied eq CK CV new es made → (len : ℕ) → n ≡ len → (made.mode ≡ Incremental DEFAULT_CHUNK) × IsEntriesFor len made.initial × (made.store.count.shards ≡ 1)
+  clone_parts n hasher new made es is_new copied len is = (
+    copied.fills.keeps.mode ∙ is_new.mode_is,
+    subst (λ k. IsEntriesFor k made.initial) is (subst (IsEntriesFor n) (sym copied.fills.keeps.initial) is_new.store_is.initial),
+    copied.shards ∙ same_power 1 new.store.count.shards (0, refl) is_new.store_is.count,
+  )
+
+  -- why such a map is not made
+  pub clone_refused : (s : StoreState K V S) (n : ℕ) → n ≡ length (content eq s) → (e : Refused) → IsSizeRefusal (Incremental DEFAULT_CHUNK) n 1 e → IsCloneRefusal eq CK CV s e
+  clone_refused s n is e (inl (chunk, none)) = let f : Incremental DEFAULT_CHUNK ≡ Incremental 0 = none in absurd cc
+  clone_refused s n is e (inr (inl (capacity, chunked, inl long))) = inr (inl (capacity, subst IsTooMuch is long))
+  clone_refused s n is e (inr (inl (capacity, chunked, inr many))) = absurd (omega (arith, many))
+  clone_refused s n is e (inr (inr (memory, allowed))) = inl memory
+
+  -- parts stay where clones are put in
+  pub parts_on : (s new made : MapState K V S) (es : List (K × V)) → HasParts s new → IsCopied eq CK CV new es made → HasParts s made
+  parts_on s new made es parts copied = record {
+    mode = copied.fills.keeps.mode ∙ parts.mode;
+    initial = copied.fills.keeps.initial ∙ parts.initial;
+    shards = copied.shards ∙ parts.shards;
+  }
+
+  -- a clone that was refused
+  pub clone_cut : (s : StoreState K V S) (n : ℕ) (hasher : S) (new left : MapState K V S) → n ≡ length (content eq s) → IsNew {A = Unit {0}} (Incremental DEFAULT_CHUNK) n 1 hasher (core_of new) → (e : Refused) → (e ≡ Memory) ⊎ IsCopyCut eq CK CV s new e left → IsCloneRefusal eq CK CV s e
+  clone_cut s n hasher new left is is_new e (inl memory) = inl memory
+  clone_cut s n hasher new left is is_new e (inr cut) = inr (inr (record {
+    new = new;
+    left = left;
+    is_new = subst (λ k. IsNew {A = Unit {0}} (Incremental DEFAULT_CHUNK) k 1 new.store.hasher (core_of new)) is (new_with_own (Incremental DEFAULT_CHUNK) n 1 hasher new is_new);
+    cut = cut;
+  }))
+
+  -- a new map that gets the initial capacity of this one
+  pub fresh_parts : (s fresh : MapState K V S) (mode : ResizeMode) (shards : ℕ) (hasher : S) → mode ≡ s.mode → shards ≡ s.store.count.shards → IsPowerOfTwo shards → IsNew {A = Unit {0}} mode 0 shards hasher (core_of fresh) → (initial : ℕ) → initial ≡ s.initial → HasParts s (record fresh { initial = initial })
+  fresh_parts s fresh mode shards hasher mode_is shards_is power new initial initial_is = record {
+    mode = new.mode_is ∙ mode_is;
+    initial = initial_is;
+    shards = same_power shards fresh.store.count.shards power new.store_is.count ∙ shards_is;
+  }
+
+  -- room changes none of its parts
+  pub roomy_parts : (s fresh roomy : MapState K V S) → HasParts s fresh → Keeps fresh roomy → roomy.store ≡ record fresh.store { words = roomy.store.words } → HasParts s roomy
+  roomy_parts s fresh roomy parts keeps words = record {
+    mode = keeps.mode ∙ parts.mode;
+    initial = keeps.initial ∙ parts.initial;
+    shards = ap (λ (y : StoreState K V S). y.count.shards) words ∙ parts.shards;
+  }
+
+  -- why a map with these parts is not made
+  pub rebuild_refused : (s : MapState K V S) (mode : ResizeMode) (shards : ℕ) → IsChunked mode → shards ≡ s.store.count.shards → (e : Refused) → IsSizeRefusal mode 0 shards e → IsRebuildRefusal eq CK CV s e
+  rebuild_refused s mode shards chunked is e (inl (chunk, none)) = let f : 1 ≤ 0 = subst IsChunked none chunked in absurd (omega (arith, f))
+  rebuild_refused s mode shards chunked is e (inr (inl (capacity, also, inl (inl long)))) = absurd (omega (arith, long))
+  rebuild_refused s mode shards chunked is e (inr (inl (capacity, also, inl (inr (entries, next, long))))) = let below : entries / 2 < 1 = next.2 in absurd (omega (arith, below, long))
+  rebuild_refused s mode shards chunked is e (inr (inl (capacity, also, inr many))) = inr (inl (capacity, subst (λ n. MAX_SHARDS < n) is many))
+  rebuild_refused s mode shards chunked is e (inr (inr (memory, allowed))) = inl memory
+
+  -- room for its pairs that was refused
+  pub room_refused : (s fresh left : MapState K V S) → HasParts s fresh → content eq fresh.store ≡ [] → (n : ℕ) → n ≡ length (content eq s.store) → (e : Refused) → IsReserveCause eq fresh n e left → IsRebuildRefusal eq CK CV s e
+  room_refused s fresh left parts empty n is e cause = inr (inr (record {
+    fresh = fresh;
+    empty = empty;
+    parts = parts;
+    left = left;
+    cause = inl (subst (λ k. IsReserveCause eq fresh k e left) is cause);
+  }))
+
+  -- a clone that was refused there
+  pub rebuild_cut : (s fresh roomy left : MapState K V S) → HasParts s fresh → content eq fresh.store ≡ [] → HasParts s roomy → content eq roomy.store ≡ [] → (e : Refused) → (e ≡ Memory) ⊎ IsCopyCut eq CK CV s.store roomy e left → IsRebuildRefusal eq CK CV s e
+  rebuild_cut s fresh roomy left parts empty parts' empty' e (inl memory) = inl memory
+  rebuild_cut s fresh roomy left parts empty parts' empty' e (inr cut) = inr (inr (record {
+    fresh = fresh;
+    empty = empty;
+    parts = parts;
+    left = left;
+    cause = inr (roomy, empty', parts', cut);
+  }))
+
+-- clones are equal where clones of values are
+pub clones_equal : {K V S : Type 0} (eq : K → K → Bool) (CK : K → K → Type 0) (CV : V → V → Type 0) (same : V → V → Bool) → ((v w : V) → CV v w → same v w ≡ true) → (s s' : StoreState K V S) → IsCloned eq CK CV s s' → AreEqual eq same s s'
+clones_equal {K} {V} {S} eq CK CV same equal s s' cloned k = of_option (map_in eq s k) (cloned k)
+  where
+    of_option : (o : Option (Stored K V)) → MatchOption o (map_in eq s' k ≡ None) (λ p. (q : Stored K V) × (map_in eq s' k ≡ Some q) × (CK p.key q.key × CV p.value q.value)) → MatchOption o (map_in eq s' k ≡ None) (λ p. (q : Stored K V) × (map_in eq s' k ≡ Some q) × (same p.value q.value ≡ true))
+    of_option None none = none
+    of_option (Some p) (q, there, clones) = (q, there, equal p.value q.value clones.1)

@@ -1,0 +1,57 @@
+use Rattle.std.proofs.Common.{◌≡◌, [], sym, ap, ◌∙◌, subst}
+use Rattle.papaya_timeline.specs.Content.{content}
+use Rattle.papaya_seq.specs.Clones.{HasParts}
+use Rattle.papaya_timeline.specs.New.{IsNew}
+use Rattle.papaya_seq.specs.Map.{MapState, core_of}
+use Rattle.papaya_seq.proofs.Rebuilt.{empty_still, fresh_parts, parts_on, rebuild_cut, rebuilt_of, room_refused, roomy_parts}
+use Rattle.papaya_seq.proofs.seq.HashMap.rebuilt.Goals as goal
+use Rattle.papaya_seq.proofs.seq.HashMap.rebuilt.Goals.{After-reserve}
+use Rattle.papaya_seq.proofs.seq.HashMap.rebuilt.Given.{Over}
+
+-- the new map, opened
+abbrev opened : (g : Over) → After-reserve g → MapState g.row.K.Denot g.row.V.Denot g.row.S.Denot
+opened g c = record { store = c.fresh.inside.store; mode = c.fresh.inside.mode; initial = c.fresh.inside.initial }
+
+new : (g : Over) (c : After-reserve g) → IsNew {A = Unit {0}} c.self.inside.mode 0 c.shards-shards.result c.in-Ok.hasher (core_of (opened g c))
+new g c = subst (λ (m : MapState g.row.K.Denot g.row.V.Denot g.row.S.Denot). IsNew {A = Unit {0}} c.self.inside.mode 0 c.shards-shards.result c.in-Ok.hasher (core_of m)) (sym c.fresh.view_is) c.in_ok-fresh.ensures.ok.1
+
+none : (g : Over) (c : After-reserve g) → content g.K.PartialEq.eq c.fresh.inside.store ≡ []
+none g c = subst (λ (m : MapState g.row.K.Denot g.row.V.Denot g.row.S.Denot). content g.K.PartialEq.eq m.store ≡ []) (sym c.fresh.view_is) c.in_ok-fresh.ensures.empty
+
+-- the map before it has room
+abbrev fresh : (g : Over) → After-reserve g → MapState g.row.K.Denot g.row.V.Denot g.row.S.Denot
+fresh g c = record { store = c.fresh.inside.store; mode = c.fresh.inside.mode; initial = c.self.inside.initial }
+
+-- its parts
+parts : (g : Over) (c : After-reserve g) → HasParts c.args.self.now (fresh g c)
+parts g c = fresh_parts g.K.PartialEq.eq g.met.K.Eq.laws g.K.Clone.is_clone g.V.Clone.is_clone c.args.self.now (opened g c) c.self.inside.mode c.shards-shards.result c.in-Ok.hasher
+    (ap (λ (m : MapState _ _ _). m.mode) c.self.view_is) (c.shards-shards.ensures.count ∙ ap (λ (m : MapState _ _ _). m.store.count.shards) c.self.view_is) c.shards-shards.ensures.power (new g c) c.self.inside.initial (ap (λ (m : MapState _ _ _). m.initial) c.self.view_is)
+
+roomy : (g : Over) (c : After-reserve g) → HasParts c.args.self.now c.reserve.new.self
+roomy g c = roomy_parts g.K.PartialEq.eq g.met.K.Eq.laws g.K.Clone.is_clone g.V.Clone.is_clone c.args.self.now (fresh g c) c.reserve.new.self (parts g c) c.reserve.ensures.keeps c.reserve.ensures.words
+
+empty : (g : Over) (c : After-reserve g) → content g.K.PartialEq.eq c.reserve.new.self.store ≡ []
+empty g c = empty_still g.K.PartialEq.eq g.met.K.Eq.laws c.fresh.inside.store c.reserve.new.self.store c.reserve.ensures.map (none g c)
+
+pub returns-in-Ok-copy_from-clause-clones : goal.returns-in-Ok-copy_from-clause-clones
+returns-in-Ok-copy_from-clause-clones g c =
+    let room = (goal.at.returns-in-Ok-copy_from-clause-clones g c).After-reserve in
+    let is_new = (new g room).store_is in
+    rebuilt_of g.K.PartialEq.eq g.met.K.Eq.laws g.K.Clone.is_clone g.V.Clone.is_clone c.requires g.S.Clone.is_clone c.args.self.now c.reserve.new.self c.copy_from.new.self c.len.ensures.apart (empty g room)
+    (ap (λ y. y.pairs) c.reserve.ensures.words ∙ is_new.pairs)
+    (subst (λ h. g.S.Clone.is_clone h c.reserve.new.self.store.hasher) (c.hasher.ensures ∙ ap (λ (m : MapState _ _ _). m.store.hasher) c.self.view_is) (subst (g.S.Clone.is_clone c.hasher.result.now) (sym (c.reserve.ensures.keeps.hasher ∙ is_new.hasher_is)) c.in-Ok.ensures.cases))
+    c.in-Ok-copy_from.ensures.ok
+
+pub returns-in-Ok-copy_from-clause-parts : goal.returns-in-Ok-copy_from-clause-parts
+returns-in-Ok-copy_from-clause-parts g c =
+    parts_on g.K.PartialEq.eq g.met.K.Eq.laws g.K.Clone.is_clone g.V.Clone.is_clone c.args.self.now c.reserve.new.self c.copy_from.new.self _ (roomy g (goal.at.returns-in-Ok-copy_from-clause-parts g c).After-reserve) c.in-Ok-copy_from.ensures.ok
+
+pub returns-in-Err-clause-err : goal.returns-in-Err-clause-err
+returns-in-Err-clause-err g c =
+    let room = (goal.at.returns-in-Err-clause-err g c).After-reserve in
+    room_refused g.K.PartialEq.eq g.met.K.Eq.laws g.K.Clone.is_clone g.V.Clone.is_clone c.args.self.now (fresh g room) c.reserve.new.self (parts g room) (none g room) c.len.result c.len.ensures.count c.in-Err.refused c.in-Err.ensures.err
+
+pub returns-in-Err-copy_from-clause-err : goal.returns-in-Err-copy_from-clause-err
+returns-in-Err-copy_from-clause-err g c =
+    let room = (goal.at.returns-in-Err-copy_from-clause-err g c).After-reserve in
+    rebuild_cut g.K.PartialEq.eq g.met.K.Eq.laws g.K.Clone.is_clone g.V.Clone.is_clone c.args.self.now (fresh g room) c.reserve.new.self c.copy_from.new.self (parts g room) (none g room) (roomy g room) (empty g room) c.in-Err-copy_from.refused c.in-Err-copy_from.ensures.err

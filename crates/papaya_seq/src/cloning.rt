@@ -1,0 +1,111 @@
+//! Maps of clones: a copy of a map, and the map built anew without the pairs that it has no more.
+ghost use Rattle.std.specs.Prelude.{◌≡◌, ◌⊎◌, true, IfOk, IfErr, OnOk, length, map};
+ghost use Rattle.papaya_words.specs.Probe.{IsEntriesFor};
+ghost use Rattle.papaya_words.specs.declared.limits.TheConstants.{DEFAULT_CHUNK};
+ghost use Rattle.papaya_timeline.specs.Content.{content};
+ghost use Rattle.papaya_seq.specs.Clones.{HasParts, IsCloneRefusal, IsCopied, IsCopyCut};
+ghost use Rattle.papaya_seq.specs.Clones.{IsRebuildRefusal, IsRebuilt};
+ghost use Rattle.papaya_seq.specs.Map.{entry_of};
+
+use crate::seq::HashMap;
+use papaya_words::probe::{Refused, ResizeMode};
+use std::alloc::Global;
+use std::hash::{BuildHasher, Hash};
+
+impl<K: Hash + Eq + Clone + Drop, V: Clone + Drop, S: BuildHasher> HashMap<K, V, S> {
+    /// Puts clones of another map's pairs in, in the order of a walk.
+    fn copy_from(&mut self, from: &HashMap<K, V, S>) -> Result<(), Refused>
+        ensures ok { OnOk result (IsCopied K.eq K.is_clone V.is_clone self.old
+            (map entry_of (content K.eq from.now.store)) self.new) }
+        ensures err { IfErr result (λ e. (e ≡ Refused.Memory)
+            ⊎ IsCopyCut K.eq K.is_clone V.is_clone from.now.store self.old e self.new) }
+    {
+        for (key, value) in from.iter() {
+            let Ok(own_key) = key.clone() else {
+                return Err(Refused::Memory);
+            };
+            let Ok(own_value) = value.clone() else {
+                return Err(Refused::Memory);
+            };
+            match self.put(own_key, own_value) {
+                Ok(_) => {}
+                Err(refused) => return Err(refused),
+            }
+        }
+        Ok(())
+    }
+}
+
+impl<K: Hash + Eq + Clone + Drop, V: Clone + Drop, S: BuildHasher + Clone + Drop> HashMap<K, V, S> {
+    /// A map of clones: what `Clone` makes in 0.2.5. It is made for as many pairs as this one has,
+    /// with [`ResizeMode::default`], one shard and a clone of the hasher.
+    ///
+    /// A clone of a key has to be equal to it. `Refused::Memory` where a clone was refused; else
+    /// refused as [`HashMap::with_capacity_and_hasher`], or as [`HashMap::insert`] of a clone.
+    pub fn try_clone(&self, alloc: Global) -> Result<HashMap<K, V, S>, Refused>
+        requires { (k l : K) → K.is_clone k l → K.eq k l ≡ true }
+        ensures clones { IfOk result (λ made. IsRebuilt K.eq K.is_clone V.is_clone S.is_clone
+            self.now made) }
+        ensures parts { IfOk result (λ made. (made.mode ≡ ResizeMode.Incremental DEFAULT_CHUNK)
+            × IsEntriesFor (length (content K.eq self.now.store)) made.initial
+            × (made.store.count.shards ≡ 1)) }
+        ensures err { IfErr result (λ e. IsCloneRefusal K.eq K.is_clone V.is_clone self.now.store
+            e) }
+    {
+        let Ok(hasher) = self.store.hasher().clone() else {
+            return Err(Refused::Memory);
+        };
+        let mut made = HashMap::with_capacity_and_hasher(alloc, self.len(), hasher)?;
+        match made.copy_from(self) {
+            Ok(()) => Ok(made),
+            Err(refused) => Err(refused),
+        }
+    }
+
+    /// A map of clones with the parts of this one.
+    fn rebuilt(&self) -> Result<HashMap<K, V, S>, Refused>
+        requires { (k l : K) → K.is_clone k l → K.eq k l ≡ true }
+        ensures clones { IfOk result (λ made. IsRebuilt K.eq K.is_clone V.is_clone S.is_clone
+            self.now made) }
+        ensures parts { IfOk result (λ made. HasParts self.now made) }
+        ensures err { IfErr result (λ e. IsRebuildRefusal K.eq K.is_clone V.is_clone self.now e) }
+    {
+        let Ok(hasher) = self.store.hasher().clone() else {
+            return Err(Refused::Memory);
+        };
+        let shards = self.store.shards();
+        let mut fresh = HashMap::with_parts(self.alloc, self.mode, 0, shards, hasher)?;
+        fresh.initial = self.initial;
+        match fresh.reserve(self.len()) {
+            Ok(()) => {}
+            Err(refused) => return Err(refused),
+        }
+        match fresh.copy_from(self) {
+            Ok(()) => Ok(fresh),
+            Err(refused) => Err(refused),
+        }
+    }
+
+    /// Builds the map anew from clones of its pairs, and gives back the memory of those that were
+    /// replaced or removed. Pairs are numbered anew. Mode, initial capacity and number of shards stay,
+    /// and there is room for the pairs. 0.2.5 frees pairs while the map is used, and has no such call.
+    ///
+    /// A clone of a key has to be equal to it. While the new map is filled both need memory. It is
+    /// refused as [`HashMap::try_clone`] is, and then the map is as it was.
+    pub fn reclaim(&mut self) -> Result<(), Refused>
+        requires { (k l : K) → K.is_clone k l → K.eq k l ≡ true }
+        ensures clones { OnOk result (IsRebuilt K.eq K.is_clone V.is_clone S.is_clone self.old
+            self.new) }
+        ensures parts { OnOk result (HasParts self.old self.new) }
+        ensures err { IfErr result (λ e. (self.new ≡ self.old)
+            × IsRebuildRefusal K.eq K.is_clone V.is_clone self.old e) }
+    {
+        match self.rebuilt() {
+            Ok(fresh) => {
+                *self = fresh;
+                Ok(())
+            }
+            Err(refused) => Err(refused),
+        }
+    }
+}
