@@ -1,9 +1,7 @@
 -- A map that is filled, one pair on.
-use Rattle.std.proofs.Common.{◌≡◌, ℕ, ⊎_elim, Bool, not, true, false, cond, List, [], ◌∷◌, ◌++◌, Option, Some, None, Result, Ok, Err, option_map, refl, sym, ap, ◌∙◌, subst}
-use Rattle.std.specs.Prelude.{is_none, is_some}
+use Rattle.std.proofs.Common.{◌≡◌, ℕ, ⊎_elim, Bool, not, true, false, cond, List, [], ◌∷◌, ◌++◌, Option, Some, Ok, Err, option_map, refl, sym, ap, ◌∙◌, subst}
 use Rattle.std.proofs.lemmas.Bool.{cases_Bool, cond-true, cond-false}
 use Rattle.std.proofs.lemmas.List.Sums.{fold_push}
-use Rattle.std.specs.Borrow.{Bor}
 use Rattle.papaya_words.specs.Probe.{IsEntriesFor}
 use Rattle.papaya_words.specs.declared.limits.TheConstants.{DEFAULT_CHUNK}
 use Rattle.papaya_words.specs.declared.probe.Refused.{Refused}
@@ -13,9 +11,8 @@ use Rattle.papaya_timeline.specs.Content.{content}
 use Rattle.papaya_timeline.specs.New.{IsNew}
 use Rattle.papaya_store.specs.Store.{StoreState, Stored}
 use Rattle.papaya_law.specs.Content.{lookup}
-use Rattle.papaya_seq.specs.Answered.{old_answered}
 use Rattle.papaya_seq.specs.Entries.{Entries, Fills, HasJust, IsCut, IsPut, entries_in, nothing, put, put_all}
-use Rattle.papaya_seq.specs.Map.{Inserts, IsInserted, Keeps, MapState, core_of, entry_of, slots_of}
+use Rattle.papaya_seq.specs.Map.{Inserts, Keeps, MapState, core_of, entry_of, slots_of}
 
 -- what stays through two calls
 pub keeps_on : {K V S : Type 0} (a b c : MapState K V S) → Keeps a b → Keeps b c → Keeps a c
@@ -28,24 +25,6 @@ keeps_on a b c first next = record {
 
 pub keeps_itself : {K V S : Type 0} (a : MapState K V S) → Keeps a a
 keeps_itself a = record { hasher = refl; mode = refl; initial = refl; pairs = λ n p logged. logged }
-
-not_not : (b : Bool) → not (not b) ≡ b
-not_not true = refl
-not_not false = refl
-
-is_none_shown : {V : Type 0} (o : Option (Bor V)) → is_none (option_map (λ (v : Bor V). v.now) o) ≡ is_none o
-is_none_shown None = refl
-is_none_shown (Some v) = refl
-
-module _ {K V S : Type 0} (eq : K → K → Bool) (k : K) (v : V) (s s' : MapState K V S) where
-  -- an insertion that answers by a reference, as one that tells whether the key was absent
-  pub put_ok : (r : Result (Option (Bor V)) Refused) (o : Option (Bor V)) → r ≡ Ok o → IsInserted eq k v s (old_answered r) s' → (absent : Bool) → is_some o ≡ not absent → IsPut eq k v s (Ok absent) s'
-  put_ok r o was done absent is =
-      let here : IsInserted eq k v s (Ok (option_map (λ (v : Bor V). v.now) o)) s' = subst (λ (z : Result (Option (Bor V)) Refused). IsInserted eq k v s (old_answered z) s') was done in
-      (option_map (λ (v : Bor V). v.now) o, sym (not_not absent) ∙ ap not (sym is) ∙ sym (is_none_shown o), here.0, here.1)
-
-  pub put_err : (r : Result (Option (Bor V)) Refused) (e : Refused) → r ≡ Err e → IsInserted eq k v s (old_answered r) s' → IsPut eq k v s (Err e) s'
-  put_err r e was done = subst (λ (z : Result (Option (Bor V)) Refused). IsInserted eq k v s (old_answered z) s') was done
 
 -- maps that agree, after the same pairs
 pub put_all_alike : {K V A : Type 0} (eq : K → K → Bool) (shows : A → K × V) (items : List A) (m n : Entries K V) → ((k : K) → m k ≡ n k) → (k : K) → put_all eq shows m items k ≡ put_all eq shows n items k

@@ -8,14 +8,12 @@ use Rattle.std.proofs.Math.Pow.{pow_mono}
 use Rattle.std.specs.Prelude.{max, ◌/◌, is_some}
 use Rattle.std.specs.Cmp.{IsEquivalence}
 use Rattle.std.specs.Int.{IsNextPowerOfTwo, IsPowerOfTwo}
-use Rattle.papaya_words.specs.Mode.{IsChunked}
 use Rattle.papaya_words.specs.Probe.{IsEntriesFor}
-use Rattle.papaya_words.specs.declared.limits.TheConstants.{DEFAULT_CHUNK, MAX_SHARDS}
+use Rattle.papaya_words.specs.declared.limits.TheConstants.{DEFAULT_CHUNK}
 use Rattle.papaya_words.specs.declared.probe.Refused.{Refused}
 use Rattle.papaya_words.specs.declared.probe.Refused.TheVariants.{Memory}
 use Rattle.papaya_words.specs.declared.probe.ResizeMode.{ResizeMode}
 use Rattle.papaya_words.specs.declared.probe.ResizeMode.TheVariants.{Incremental}
-use Rattle.papaya_keys.specs.Sizes.{IsSizeRefusal, IsTooMuch}
 use Rattle.papaya_law.specs.Content.{AreApart, lookup}
 use Rattle.papaya_timeline.specs.Content.{content, map_in}
 use Rattle.papaya_timeline.specs.New.{IsNew}
@@ -134,13 +132,6 @@ module _ {K V S : Type 0} (eq : K → K → Bool) (law : IsEquivalence eq) (CK :
     copied.shards ∙ same_power 1 new.store.count.shards (0, refl) is_new.store_is.count,
   )
 
-  -- why such a map is not made
-  pub clone_refused : (s : StoreState K V S) (n : ℕ) → n ≡ length (content eq s) → (e : Refused) → IsSizeRefusal (Incremental DEFAULT_CHUNK) n 1 e → IsCloneRefusal eq CK CV s e
-  clone_refused s n is e (inl (chunk, none)) = let f : Incremental DEFAULT_CHUNK ≡ Incremental 0 = none in absurd cc
-  clone_refused s n is e (inr (inl (capacity, chunked, inl long))) = inr (inl (capacity, subst IsTooMuch is long))
-  clone_refused s n is e (inr (inl (capacity, chunked, inr many))) = absurd (omega (arith, many))
-  clone_refused s n is e (inr (inr (memory, allowed))) = inl memory
-
   -- parts stay where clones are put in
   pub parts_on : (s new made : MapState K V S) (es : List (K × V)) → HasParts s new → IsCopied eq CK CV new es made → HasParts s made
   parts_on s new made es parts copied = record {
@@ -174,14 +165,6 @@ module _ {K V S : Type 0} (eq : K → K → Bool) (law : IsEquivalence eq) (CK :
     initial = keeps.initial ∙ parts.initial;
     shards = ap (λ (y : StoreState K V S). y.count.shards) words ∙ parts.shards;
   }
-
-  -- why a map with these parts is not made
-  pub rebuild_refused : (s : MapState K V S) (mode : ResizeMode) (shards : ℕ) → IsChunked mode → shards ≡ s.store.count.shards → (e : Refused) → IsSizeRefusal mode 0 shards e → IsRebuildRefusal eq CK CV s e
-  rebuild_refused s mode shards chunked is e (inl (chunk, none)) = let f : 1 ≤ 0 = subst IsChunked none chunked in absurd (omega (arith, f))
-  rebuild_refused s mode shards chunked is e (inr (inl (capacity, also, inl (inl long)))) = absurd (omega (arith, long))
-  rebuild_refused s mode shards chunked is e (inr (inl (capacity, also, inl (inr (entries, next, long))))) = let below : entries / 2 < 1 = next.2 in absurd (omega (arith, below, long))
-  rebuild_refused s mode shards chunked is e (inr (inl (capacity, also, inr many))) = inr (inl (capacity, subst (λ n. MAX_SHARDS < n) is many))
-  rebuild_refused s mode shards chunked is e (inr (inr (memory, allowed))) = inl memory
 
   -- room for its pairs that was refused
   pub room_refused : (s fresh left : MapState K V S) → HasParts s fresh → content eq fresh.store ≡ [] → (n : ℕ) → n ≡ length (content eq s.store) → (e : Refused) → IsReserveCause eq fresh n e left → IsRebuildRefusal eq CK CV s e

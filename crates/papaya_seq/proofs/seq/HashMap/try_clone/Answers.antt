@@ -1,7 +1,6 @@
-use Rattle.std.proofs.Common.{sym, ap, ◌∙◌, subst}
+use Rattle.std.proofs.Common.{map, sym, ap, ◌∙◌, subst}
 use Rattle.papaya_timeline.specs.Content.{content}
 use Rattle.papaya_seq.specs.Map.{MapState, entry_of}
-use Rattle.std.proofs.Common.{map}
 use Rattle.papaya_seq.proofs.Rebuilt.{clone_cut, clone_parts, rebuilt_of}
 use Rattle.papaya_seq.proofs.seq.HashMap.try_clone.Goals as goal
 
