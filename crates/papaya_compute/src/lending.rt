@@ -1,6 +1,6 @@
 //! Computes whose closure is lent the pair that it is shown, for the time of its call alone. So the
 //! closure's type names no lifetime, and such a call can be made in other crates for keys of any type.
-ghost use Rattle.std.specs.Prelude.{◌≡◌, Err};
+ghost use Rattle.std.specs.Prelude.{◌≡◌, None, Err};
 ghost use Rattle.std.specs.Int.{IsPowerOfTwo};
 ghost use Rattle.papaya_book.specs.Books.{IsIn};
 ghost use Rattle.papaya_book.specs.Limits.{HasNoRoom, tables_of};
@@ -25,21 +25,26 @@ use std::alloc::Global;
 use std::hash::{BuildHasher, Hash};
 use std::sync::Wait;
 
+/// What a closure is shown where there is no pair: a pair would be borrowed like the book.
+fn no_entry<K: Hash + Eq, V, S: BuildHasher>(_book: &Book<K, V, S>) -> Option<(&K, &V)>
+    ensures { result ≡ None }
+{
+    None
+}
+
 /// What the closure answers that is lent this pair, or shown that there is none.
-fn operate<
-    K: Hash + Eq,
-    V,
-    S: BuildHasher,
-    T,
-    F: FnMut(Option<(&K, &V)>) -> Operation<V, T>,
->(book: &Book<K, V, S>, shown: &Option<Stored<K, V>>, f: &mut F) -> Operation<V, T>
+fn operate<K: Hash + Eq, V, S: BuildHasher, T, F: FnMut(Option<(&K, &V)>) -> Operation<V, T>>(
+    book: &Book<K, V, S>,
+    shown: &Option<Stored<K, V>>,
+    f: &mut F,
+) -> Operation<V, T>
     requires callable { F.IsAlwaysCallable f.old }
     requires placed { IsIn book.now (pair_named shown.now) }
     ensures callable { F.IsAlwaysCallable f.new }
     ensures operates { Operates F.FnMut f.old shown.now result f.new }
 {
     match shown {
-        None => f(None),
+        None => f(no_entry(book)),
         Some(pair) => f(Some(entry(book, pair))),
     }
 }

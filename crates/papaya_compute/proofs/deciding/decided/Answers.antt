@@ -13,11 +13,11 @@ returns-in-Ok-Updated-clause-decides g c = λ key begun heard r removes. let at 
 
 pub returns-in-Ok-Aborted-clause-decides : goal.returns-in-Ok-Aborted-clause-decides
 returns-in-Ok-Aborted-clause-decides g c = λ key begun heard r removes.
-      let at = c.in-Ok-Aborted in
-      let is = at.is ∙ ap (λ z. Ok z) at.field-0-is in
-      let ended = c.replied.ensures.aborted at.field-0-0 is in
-      let a = r.aborts ended.0 ended.1 in
-      done_left g.K.PartialEq.eq key _ _ heard removes c.replied.result (c.replied.ensures.replies key begun heard r) c.args.computing.now.shown c.args.computing.now.fill a.2 a.3 c.left.result.0 c.left.result.1 c.left.ensures.current c.left.ensures.spare
+    let at = c.in-Ok-Aborted in
+    let is = at.is ∙ ap (λ z. Ok z) at.field-0-is in
+    let ended = c.replied.ensures.aborted at.field-0-0 is in
+    let a = r.aborts ended.0 ended.1 in
+    done_left g.K.PartialEq.eq key _ _ heard removes c.replied.result (c.replied.ensures.replies key begun heard r) c.args.computing.now.shown c.args.computing.now.fill a.2 a.3 c.left.result.0 c.left.result.1 c.left.ensures.current c.left.ensures.spare
 
 pub returns-in-Err-clause-decides : goal.returns-in-Err-clause-decides
 returns-in-Err-clause-decides g c = λ key begun heard r removes. let at = c.in-Err in done_refused g.K.PartialEq.eq key _ _ heard removes c.replied.result (c.replied.ensures.replies key begun heard r) at.refused at.is
