@@ -1,5 +1,5 @@
 -- What a call does that stores a value where its rule says so: a compute whose closure is a rule.
-use Rattle.std.specs.Prelude.{◌≡◌, Bool, Option, None, Some, Result, Ok, Err, List, option_map}
+use Rattle.std.specs.Prelude.{◌≡◌, Bool, true, false, Option, None, Some, Result, Ok, Err, List, option_map}
 use denote.Bor.{Bor}
 use Rattle.papaya_words.specs.declared.probe.Refused.{Refused}
 use Rattle.papaya_call.specs.declared.answers.Operation.{Operation}
@@ -13,6 +13,13 @@ use Rattle.papaya_compute.specs.ComputeAnswers.{WasOperated}
 use Rattle.papaya_compute.specs.Computing.{value_in}
 use Rattle.papaya_compute.specs.declared.deciding.Outcome.{Outcome}
 use Rattle.papaya_compute.specs.declared.deciding.Outcome.TheVariants.{Put, Replaced, Left}
+
+-- the call stored a value
+abbrev pub puts : {V : Type 0} → Result (Outcome V) Refused → Bool
+puts (Ok (Put v)) = true
+puts (Ok (Replaced v)) = true
+puts (Ok (Left current spare)) = false
+puts (Err refused) = false
 
 module _ {K V : Type 0} where
   -- The rule is shown this, and answers what is stored then, or that all is left as it is.

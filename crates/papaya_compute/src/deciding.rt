@@ -1,21 +1,26 @@
 //! Calls that store a value where their rule says so. Each is a compute whose rule is a type in the
 //! place of a closure, and no pair is removed by it.
-ghost use Rattle.std.specs.Prelude.{◌≡◌, None, Some, Option};
+ghost use Rattle.std.specs.Prelude.{◌≡◌, None, Some, Option, Err, IfErr};
 ghost use Rattle.std.specs.Int.{IsPowerOfTwo};
 ghost use Rattle.papaya_ask.specs.declared.ask.Ask.TheVariants.{Done};
+ghost use Rattle.papaya_ask.specs.declared.call.Reply.TheVariants.{Refused as ReplyRefused};
 ghost use Rattle.papaya_chain.specs.declared.ask.Ask.TheVariants.{Call};
 ghost use Rattle.papaya_chain.specs.Machine.{IsStanding, ask_of};
 ghost use Rattle.papaya_book.specs.Books.{IsIn};
+ghost use Rattle.papaya_book.specs.Limits.{HasNoRoom, tables_of};
 ghost use Rattle.papaya_book.specs.Logs.{pair_named};
 ghost use Rattle.papaya_book.specs.Windows.{IsLawful, Sees};
-ghost use Rattle.papaya_lookup.specs.Drivers.{past};
+ghost use Rattle.papaya_lookup.specs.Drivers.{own, past};
+ghost use Rattle.papaya_lookup.specs.History.{Makes};
+ghost use Rattle.papaya_change.specs.Doing.{has_changed};
 ghost use Rattle.papaya_compute.specs.Computes.{CanDecide, Decides};
-ghost use Rattle.papaya_compute.specs.Deciding.{IsDecided, Wishes};
+ghost use Rattle.papaya_compute.specs.Deciding.{IsDecided, Wishes, puts};
 
 use crate::computing::{Computing, Turn};
 use papaya_book::book::Book;
 use papaya_book::count::Shard;
 use papaya_book::rule::entry::Stored;
+use papaya_book::rule::own::{Given, Own};
 use papaya_book::window::Window;
 use papaya_call::answers::Operation;
 use papaya_keys::compute::Compute;
@@ -91,6 +96,9 @@ fn decided<'a, K: Hash + Eq + Drop, V: Drop, S: BuildHasher>(
     requires standing { IsStanding computing.old.writer.call.machine }
     requires done { (reply : _) × (ask_of computing.old.writer.call.machine
         ≡ Call (Done reply)) }
+    ensures refusal { IfErr result (λ refused. ask_of computing.old.writer.call.machine ≡ Call (Done
+        (ReplyRefused refused))) }
+    ensures changed { puts result ≡ has_changed computing.old.writer.call.machine }
     ensures decides { Decides window.now computing.old result }
 {
     let (current, spare) = computing.left(window);
@@ -108,13 +116,15 @@ fn decided<'a, K: Hash + Eq + Drop, V: Drop, S: BuildHasher>(
     }
 }
 
-/// Stores for a key what the rule answers.
+/// Stores for a key what the rule answers. Where it is refused for want of room, `given` tells the
+/// number that a full log gave, or the sum of the count that makes a further table too long.
 pub fn decide<'a, R: Wait, K: Hash + Eq + Drop, V: Drop, S: BuildHasher, D: Rule<V>>(
     rt: &R,
     alloc: Global,
     initial: usize,
     shard: &Shard<'_>,
     window: &mut Window<'a, K, V, S>,
+    given: &mut Own<Given>,
     key: K,
     rule: &mut D,
 ) -> Result<Outcome<'a, V>, Refused>
@@ -122,6 +132,9 @@ pub fn decide<'a, R: Wait, K: Hash + Eq + Drop, V: Drop, S: BuildHasher, D: Rule
     requires initial { IsPowerOfTwo initial }
     ensures sees { Sees window.old window.new }
     ensures lawful { IsLawful window.new }
+    ensures made { Makes (puts result) (own window.old) (own window.new) (past window.new) }
+    ensures crowded { result ≡ Err Refused.Capacity → HasNoRoom initial
+        (tables_of window.new.sight.log) given.new.done }
     ensures decided { IsDecided K.eq key (past window.old) (past window.new) D.decides rule.old
         rule.new result }
 {
@@ -136,7 +149,10 @@ pub fn decide<'a, R: Wait, K: Hash + Eq + Drop, V: Drop, S: BuildHasher, D: Rule
                 let answer = computing.hear(shown, operation);
                 computing.tell(rt, alloc, shard.count(), answer, window);
             }
-            Turn::Replied => return decided(&mut computing, window),
+            Turn::Replied => {
+                *given = computing.writer.call.given.again();
+                return decided(&mut computing, window);
+            }
         }
     }
     unreachable!()

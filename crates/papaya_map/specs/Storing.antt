@@ -1,11 +1,12 @@
 -- What the calls answer that store a value where their rule says so.
-use Rattle.std.specs.Prelude.{◌≡◌, ◌⊎◌, Bool, Option, None, Some, Result, Ok, Err, List}
+use Rattle.std.specs.Prelude.{◌≡◌, ◌⊎◌, Bool, true, false, Option, None, Some, Result, Ok, Err, List}
 use denote.Bor.{Bor}
 use Rattle.papaya_book.specs.Logs.{Stored}
 use Rattle.papaya_keys.specs.declared.occupied.NotInserted.{NotInserted}
 use Rattle.papaya_keys.specs.declared.occupied.NotInserted.TheVariants.{Value, Logged}
 use Rattle.papaya_keys.specs.declared.occupied.OccupiedError.{OccupiedError}
-use Rattle.papaya_lookup.specs.History.{Change, key_of}
+use Rattle.papaya_lookup.specs.History.{Change, Makes, key_of}
+use Rattle.papaya_words.specs.declared.probe.Refused.{Refused}
 use Rattle.papaya_change.specs.Changes.{IsChangeOf}
 use Rattle.papaya_change.specs.Showings.{WasHeld}
 
@@ -13,6 +14,11 @@ use Rattle.papaya_change.specs.Showings.{WasHeld}
 abbrev pub IsBack : {V : Type 0} → V → NotInserted V → Type 0
 IsBack value (Value v) = v ≡ value
 IsBack value (Logged r) = r.now ≡ value
+
+-- a call that stores where the key has none stored its value
+abbrev pub stored : {A B : Type 0} → Result (Result A B) Refused → Bool
+stored (Ok (Ok v)) = true
+stored _ = false
 
 module _ {K V : Type 0} (eq : K → K → Bool) (key : K)
     (old new : List (Change K (Stored K V))) where
@@ -46,6 +52,14 @@ module _ {K V : Type 0} (eq : K → K → Bool) (key : K)
   -- either of the two
   abbrev pub IsThere : (V → Type 0) → Bor V → Type 0
   IsThere gives v = IsStored gives v ⊎ IsCurrent v
+
+  -- The same by a pass, whose changes were `made` and are `made'`: the value was stored by the one
+  -- change that the pass made, or it is there and the pass made none. Refused, it made none.
+  abbrev pub IsThereBy : (V → Type 0) → (made made' : List (Change K (Stored K V)))
+      → Result (Bor V) Refused → Type 0
+  IsThereBy gives made made' (Ok v) = (IsStored gives v × Makes true made made' new)
+      ⊎ (IsCurrent v × Makes false made made' new)
+  IsThereBy gives made made' (Err refused) = Makes false made made' new
 
   -- the value that was computed of the one that was there, or there was none
   abbrev pub IsUpdated : (V → V → Type 0) → Option (Bor V) → Type 0

@@ -1,9 +1,12 @@
 //! The calls that store a value where a key has none, pinned and with a guard.
 ghost use Rattle.std.specs.Prelude.{◌≡◌, ◌⊎◌, [], None, Some, Option, Err, IfErr, IfOk, MatchOption};
+ghost use mathlib.Core.List.{IsPrefix};
+ghost use Rattle.papaya_book.specs.Limits.{HasNoRoom};
 ghost use Rattle.papaya_keys.specs.declared.occupied.NotInserted.TheVariants.{Logged, Value};
 ghost use Rattle.papaya_change.specs.Writing.{IsMemoryOrCapacity};
+ghost use Rattle.papaya_lookup.specs.History.{Makes};
 ghost use Rattle.papaya_map.specs.Plain.{IsOfHistory};
-ghost use Rattle.papaya_map.specs.Storing.{IsThere, IsTried, IsTriedWith};
+ghost use Rattle.papaya_map.specs.Storing.{IsThere, IsThereBy, IsTried, IsTriedWith, stored};
 
 use crate::map::{HashMap, HashMapRef, Pass};
 use papaya_compute::deciding::Outcome;
@@ -28,8 +31,12 @@ fn not_inserted<V>(supply: Option<Ready<V>>, spare: Option<&V>) -> NotInserted<'
 }
 
 impl<'a, K: Hash + Eq + Drop, V: Drop, S: BuildHasher> HashMapRef<'a, K, V, S> {
-    /// [`HashMapRef::try_insert`] by a pass.
-    fn try_insert_as<R: Wait>(
+    /// Stores a pair where the key has none, and answers its value: `try_insert` of 0.2.5. Where the
+    /// key has a value, that stays, and what was handed in is given back, or it lies in the log.
+    ///
+    /// Refused as [`HashMapRef::insert_as`]. The pass makes one change where the value was stored, and
+    /// else none.
+    pub fn try_insert_as<R: Wait>(
         &self,
         rt: &R,
         key: K,
@@ -37,8 +44,14 @@ impl<'a, K: Hash + Eq + Drop, V: Drop, S: BuildHasher> HashMapRef<'a, K, V, S> {
         pass: &mut Pass<K, V, S>,
     ) -> Result<Result<&'a V, OccupiedError<'a, V>>, Refused>
         requires { pass.old.book ≡ self.now.book }
+        ensures book { pass.new.book ≡ pass.old.book }
+        ensures seen { IsPrefix pass.old.history pass.new.history }
+        ensures tables { IsPrefix pass.old.tables pass.new.tables }
+        ensures made { Makes (stored result) pass.old.made pass.new.made pass.new.history }
         ensures tried { IfOk result (IsTried K.eq key pass.old.history pass.new.history value) }
         ensures refused { IfErr result IsMemoryOrCapacity }
+        ensures crowded { result ≡ Err Refused.Capacity → HasNoRoom self.now.initial
+            pass.new.tables pass.new.given }
     {
         let mut rule = Giving {
             supply: Some(Ready { value }),
@@ -60,8 +73,9 @@ impl<'a, K: Hash + Eq + Drop, V: Drop, S: BuildHasher> HashMapRef<'a, K, V, S> {
         }
     }
 
-    /// [`HashMapRef::try_insert_with`] by a pass.
-    fn try_insert_with_as<R: Wait, F: FnOnce() -> V + Drop>(
+    /// The same with a closure that makes the value where it is to be stored, and with the value
+    /// that is there for an answer: `try_insert_with` of 0.2.5. The closure is called once at most.
+    pub fn try_insert_with_as<R: Wait, F: FnOnce() -> V + Drop>(
         &self,
         rt: &R,
         key: K,
@@ -70,9 +84,15 @@ impl<'a, K: Hash + Eq + Drop, V: Drop, S: BuildHasher> HashMapRef<'a, K, V, S> {
     ) -> Result<Result<&'a V, &'a V>, Refused>
         requires book { pass.old.book ≡ self.now.book }
         requires callable { F.IsAlwaysCallable f }
+        ensures book { pass.new.book ≡ pass.old.book }
+        ensures seen { IsPrefix pass.old.history pass.new.history }
+        ensures tables { IsPrefix pass.old.tables pass.new.tables }
+        ensures made { Makes (stored result) pass.old.made pass.new.made pass.new.history }
         ensures tried { IfOk result (IsTriedWith K.eq key pass.old.history pass.new.history
             (F.post f)) }
         ensures refused { IfErr result IsMemoryOrCapacity }
+        ensures crowded { result ≡ Err Refused.Capacity → HasNoRoom self.now.initial
+            pass.new.tables pass.new.given }
     {
         let mut rule = Giving {
             supply: Some(Made { make: f }),
@@ -87,6 +107,61 @@ impl<'a, K: Hash + Eq + Drop, V: Drop, S: BuildHasher> HashMapRef<'a, K, V, S> {
             ) => Ok(Err(current)),
             Ok(Outcome::Left { current: None, .. }) => unreachable!(),
             Ok(Outcome::Replaced(_)) => unreachable!(),
+            Err(refused) => Err(refused),
+        }
+    }
+
+    /// The value of a key, which is stored where the key has none: `get_or_insert` of 0.2.5.
+    ///
+    /// Refused as [`HashMapRef::insert_as`]. The pass makes one change where the value was stored, and
+    /// else none.
+    pub fn get_or_insert_as<R: Wait>(
+        &self,
+        rt: &R,
+        key: K,
+        value: V,
+        pass: &mut Pass<K, V, S>,
+    ) -> Result<&'a V, Refused>
+        requires { pass.old.book ≡ self.now.book }
+        ensures book { pass.new.book ≡ pass.old.book }
+        ensures seen { IsPrefix pass.old.history pass.new.history }
+        ensures tables { IsPrefix pass.old.tables pass.new.tables }
+        ensures there { IsThereBy K.eq key pass.old.history pass.new.history (λ w. w ≡ value)
+            pass.old.made pass.new.made result }
+        ensures refused { IfErr result IsMemoryOrCapacity }
+        ensures crowded { result ≡ Err Refused.Capacity → HasNoRoom self.now.initial
+            pass.new.tables pass.new.given }
+    {
+        match self.try_insert_as(rt, key, value, pass) {
+            Ok(Ok(stored)) => Ok(stored),
+            Ok(Err(occupied)) => Ok(occupied.current),
+            Err(refused) => Err(refused),
+        }
+    }
+
+    /// The same with a closure that makes the value where it is to be stored:
+    /// `get_or_insert_with` of 0.2.5. The closure is called once at most.
+    pub fn get_or_insert_with_as<R: Wait, F: FnOnce() -> V + Drop>(
+        &self,
+        rt: &R,
+        key: K,
+        f: F,
+        pass: &mut Pass<K, V, S>,
+    ) -> Result<&'a V, Refused>
+        requires book { pass.old.book ≡ self.now.book }
+        requires callable { F.IsAlwaysCallable f }
+        ensures book { pass.new.book ≡ pass.old.book }
+        ensures seen { IsPrefix pass.old.history pass.new.history }
+        ensures tables { IsPrefix pass.old.tables pass.new.tables }
+        ensures there { IsThereBy K.eq key pass.old.history pass.new.history (F.post f)
+            pass.old.made pass.new.made result }
+        ensures refused { IfErr result IsMemoryOrCapacity }
+        ensures crowded { result ≡ Err Refused.Capacity → HasNoRoom self.now.initial
+            pass.new.tables pass.new.given }
+    {
+        match self.try_insert_with_as(rt, key, f, pass) {
+            Ok(Ok(stored)) => Ok(stored),
+            Ok(Err(current)) => Ok(current),
             Err(refused) => Err(refused),
         }
     }

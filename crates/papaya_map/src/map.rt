@@ -13,7 +13,7 @@ ghost use Rattle.papaya_change.specs.Changes.{IsPut};
 ghost use Rattle.papaya_change.specs.Resizing.{HasNoRoomAhead, HasRoomAhead};
 ghost use Rattle.papaya_change.specs.Writing.{IsMemoryOrCapacity};
 ghost use Rattle.papaya_compute.specs.ComputeAnswers.{IsComputeBy, changes};
-ghost use Rattle.papaya_compute.specs.Deciding.{IsDecided};
+ghost use Rattle.papaya_compute.specs.Deciding.{IsDecided, puts};
 ghost use Rattle.papaya_lookup.specs.History.{IsLegalHistory, Makes, Past, changes_by, history_of, key_of};
 ghost use Rattle.papaya_lookup.specs.Answers.{IsAnsweredBetween, IsPairAnsweredBetween};
 ghost use Rattle.papaya_change.specs.RemovalAnswers.{IsRemovalBy, IsRemoved, took, went};
@@ -35,6 +35,7 @@ use papaya_change::at_once::insert;
 use papaya_change::removal::remove;
 use papaya_change::resizing::resize;
 use papaya_compute::deciding::{Outcome, Rule, decide};
+use papaya_compute::lending::compute_lent;
 use papaya_keys::compute::Compute;
 use papaya_keys::guard::{Collector, Equivalent, Guard};
 use papaya_keys::sizes::{check_chunk, initial_len};
@@ -706,6 +707,47 @@ impl<'a, K: Hash + Eq + Drop, V: Drop, S: BuildHasher> HashMapRef<'a, K, V, S> {
         computed
     }
 
+    /// The same with a closure that is lent the pair for the time of its call alone, so that nothing which
+    /// it answers may borrow of the pair. In return a function that is generic over the keys may hand on a
+    /// closure of its own caller.
+    pub fn compute_lent_as<R: Wait, T: Drop, F: FnMut(Option<(&K, &V)>) -> Operation<V, T>>(
+        &self,
+        rt: &R,
+        key: K,
+        f: F,
+        pass: &mut Pass<K, V, S>,
+    ) -> Result<Compute<'a, K, V, T>, Refused>
+        requires book { pass.old.book ≡ self.now.book }
+        requires callable { F.IsAlwaysCallable f }
+        ensures book { pass.new.book ≡ pass.old.book }
+        ensures seen { IsPrefix pass.old.history pass.new.history }
+        ensures tables { IsPrefix pass.old.tables pass.new.tables }
+        ensures made { Makes (changes result) pass.old.made pass.new.made pass.new.history }
+        ensures crowded { result ≡ Err Refused.Capacity → HasNoRoom self.now.initial
+            pass.new.tables pass.new.given }
+        ensures computed { IsComputeBy K.eq key pass.old.history pass.new.history (Operates F.FnMut)
+            f result }
+    {
+        let map: &'a HashMap<K, V, S> = self.map;
+        let shard = map.count.shard(pass.number);
+        let mut window = Window::new(&map.book, &self.kept, &pass.sight, &pass.own);
+        let mut given = Own::nothing();
+        let computed = compute_lent(
+            rt,
+            map.alloc,
+            map.initial,
+            &shard,
+            &mut window,
+            &mut given,
+            key,
+            f,
+        );
+        pass.sight = window.sight;
+        pass.own = window.own;
+        pass.given = given;
+        computed
+    }
+
     /// Stores for the key what the rule answers. It is refused as [`HashMapRef::insert_as`] is.
     pub(crate) fn decide_as<R: Wait, D: Rule<V>>(
         &self,
@@ -716,15 +758,32 @@ impl<'a, K: Hash + Eq + Drop, V: Drop, S: BuildHasher> HashMapRef<'a, K, V, S> {
     ) -> Result<Outcome<'a, V>, Refused>
         requires book { pass.old.book ≡ self.now.book }
         requires callable { D.callable rule.old }
+        ensures book { pass.new.book ≡ pass.old.book }
+        ensures seen { IsPrefix pass.old.history pass.new.history }
+        ensures tables { IsPrefix pass.old.tables pass.new.tables }
+        ensures made { Makes (puts result) pass.old.made pass.new.made pass.new.history }
         ensures decided { IsDecided K.eq key pass.old.history pass.new.history D.decides rule.old
             rule.new result }
+        ensures crowded { result ≡ Err Refused.Capacity → HasNoRoom self.now.initial
+            pass.new.tables pass.new.given }
     {
         let map: &'a HashMap<K, V, S> = self.map;
         let shard = map.count.shard(pass.number);
         let mut window = Window::new(&map.book, &self.kept, &pass.sight, &pass.own);
-        let decided = decide(rt, map.alloc, map.initial, &shard, &mut window, key, rule);
+        let mut given = Own::nothing();
+        let decided = decide(
+            rt,
+            map.alloc,
+            map.initial,
+            &shard,
+            &mut window,
+            &mut given,
+            key,
+            rule,
+        );
         pass.sight = window.sight;
         pass.own = window.own;
+        pass.given = given;
         decided
     }
 }

@@ -1,10 +1,14 @@
 //! The calls that take no pass. Each is the call of that name by a pass made for it alone, so what
-//! it says is so of a history that no caller is shown.
-ghost use Rattle.std.specs.Prelude.{◌≡◌, [], true, is_some, Option, IfOk, IfErr, ◌⊎◌};
+//! it says is so of a history that no caller is shown. `remove_entry_as`, which takes one, stands
+//! beside the call that is made of it.
+ghost use Rattle.std.specs.Prelude.{◌≡◌, [], true, is_some, Option, Err, IfOk, IfErr, ◌⊎◌};
 ghost use Rattle.std.specs.Borrow.{Bor};
+ghost use mathlib.Core.List.{IsPrefix};
+ghost use Rattle.papaya_book.specs.Limits.{HasNoRoom};
 ghost use Rattle.papaya_lookup.specs.Answers.{IsAnsweredBetween, IsPairAnsweredBetween};
+ghost use Rattle.papaya_lookup.specs.History.{Makes};
 ghost use Rattle.papaya_change.specs.Changes.{IsPut};
-ghost use Rattle.papaya_change.specs.RemovalAnswers.{IsEntryRemoved, IsRemovalBy, IsRemoved};
+ghost use Rattle.papaya_change.specs.RemovalAnswers.{IsEntryRemoved, IsRemovalBy, IsRemoved, took};
 ghost use Rattle.papaya_change.specs.Showings.{Judges, Operates};
 ghost use Rattle.papaya_compute.specs.ComputeAnswers.{IsComputeBy};
 ghost use Rattle.papaya_map.specs.Plain.{IsOfHistory};
@@ -109,16 +113,22 @@ impl<'a, K: Hash + Eq, V, S: BuildHasher> HashMapRef<'a, K, V, S> {
         self.remove_entry_as(rt, key, &mut pass)
     }
 
-    /// The same by a pass.
-    pub(crate) fn remove_entry_as<R: Wait, Q: Equivalent<K>>(
+    /// The same by a pass. It is refused as [`HashMapRef::remove_if_as`] is.
+    pub fn remove_entry_as<R: Wait, Q: Equivalent<K>>(
         &self,
         rt: &R,
         key: &Q,
         pass: &mut Pass<K, V, S>,
     ) -> Result<Option<(&'a K, &'a V)>, Refused>
         requires { pass.old.book ≡ self.now.book }
+        ensures book { pass.new.book ≡ pass.old.book }
+        ensures seen { IsPrefix pass.old.history pass.new.history }
+        ensures tables { IsPrefix pass.old.tables pass.new.tables }
+        ensures made { Makes (took result) pass.old.made pass.new.made pass.new.history }
         ensures removed { IsEntryRemoved K.eq (Q.matches key.now) pass.old.history
             pass.new.history result }
+        ensures crowded { result ≡ Err Refused.Capacity → HasNoRoom self.now.initial
+            pass.new.tables pass.new.given }
     {
         let removed = self.remove_if_as(
             rt,

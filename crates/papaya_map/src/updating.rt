@@ -1,7 +1,11 @@
 //! The calls that replace a key's value by what a closure makes of it, pinned and with a guard.
-ghost use Rattle.std.specs.Prelude.{◌≡◌, [], Err, IfErr, IfOk};
+ghost use Rattle.std.specs.Prelude.{◌≡◌, is_ok, [], Err, IfErr, IfOk};
 ghost use Rattle.std.specs.Fn.{FnReturnsAt};
+ghost use mathlib.Core.List.{IsPrefix};
+ghost use Rattle.papaya_book.specs.Limits.{HasNoRoom};
+ghost use Rattle.papaya_change.specs.RemovalAnswers.{took};
 ghost use Rattle.papaya_change.specs.Writing.{IsMemoryOrCapacity};
+ghost use Rattle.papaya_lookup.specs.History.{Makes};
 ghost use Rattle.papaya_map.specs.Plain.{IsOfHistory};
 ghost use Rattle.papaya_map.specs.Storing.{IsUpdated, IsUpserted};
 
@@ -14,8 +18,13 @@ use std::hash::{BuildHasher, Hash};
 use std::sync::Wait;
 
 impl<'a, K: Hash + Eq + Drop, V: Drop, S: BuildHasher> HashMapRef<'a, K, V, S> {
-    /// [`HashMapRef::update`] by a pass.
-    fn update_as<R: Wait, F: Fn(&V) -> V>(
+    /// Puts what the closure makes of the key's value in its place, and answers it: `update` of
+    /// 0.2.5. `Ok(None)` where the key has none. The closure may be called again, where another call
+    /// was first to replace the value that it was shown.
+    ///
+    /// Refused as [`HashMapRef::insert_as`]. The pass makes one change where a value was replaced, and
+    /// else none.
+    pub fn update_as<R: Wait, F: Fn(&V) -> V>(
         &self,
         rt: &R,
         key: K,
@@ -24,9 +33,15 @@ impl<'a, K: Hash + Eq + Drop, V: Drop, S: BuildHasher> HashMapRef<'a, K, V, S> {
     ) -> Result<Option<&'a V>, Refused>
         requires book { pass.old.book ≡ self.now.book }
         requires callable { F.IsAlwaysCallable f }
+        ensures book { pass.new.book ≡ pass.old.book }
+        ensures seen { IsPrefix pass.old.history pass.new.history }
+        ensures tables { IsPrefix pass.old.tables pass.new.tables }
+        ensures made { Makes (took result) pass.old.made pass.new.made pass.new.history }
         ensures updated { IfOk result (IsUpdated K.eq key pass.old.history pass.new.history
             (FnReturnsAt F.Fn f)) }
         ensures refused { IfErr result IsMemoryOrCapacity }
+        ensures crowded { result ≡ Err Refused.Capacity → HasNoRoom self.now.initial
+            pass.new.tables pass.new.given }
     {
         let mut rule = Updating { update: f };
         match self.decide_as(rt, key, &mut rule, pass) {
@@ -50,9 +65,15 @@ impl<'a, K: Hash + Eq + Drop, V: Drop, S: BuildHasher> HashMapRef<'a, K, V, S> {
         requires book { pass.old.book ≡ self.now.book }
         requires callable { F.IsAlwaysCallable update }
         requires gives { G.can_give supply }
+        ensures book { pass.new.book ≡ pass.old.book }
+        ensures seen { IsPrefix pass.old.history pass.new.history }
+        ensures tables { IsPrefix pass.old.tables pass.new.tables }
+        ensures made { Makes (is_ok result) pass.old.made pass.new.made pass.new.history }
         ensures upserted { IfOk result (IsUpserted K.eq key pass.old.history pass.new.history
             (FnReturnsAt F.Fn update) (G.gives supply)) }
         ensures refused { IfErr result IsMemoryOrCapacity }
+        ensures crowded { result ≡ Err Refused.Capacity → HasNoRoom self.now.initial
+            pass.new.tables pass.new.given }
     {
         let mut rule = Upserting {
             update,
@@ -64,6 +85,57 @@ impl<'a, K: Hash + Eq + Drop, V: Drop, S: BuildHasher> HashMapRef<'a, K, V, S> {
             Ok(Outcome::Left { .. }) => unreachable!(),
             Err(refused) => Err(refused),
         }
+    }
+
+    /// As [`HashMapRef::update_as`], and where the key has no value this one is stored:
+    /// `update_or_insert` of 0.2.5. The pass makes one change, and none where it is refused.
+    pub fn update_or_insert_as<R: Wait, F: Fn(&V) -> V>(
+        &self,
+        rt: &R,
+        key: K,
+        update: F,
+        value: V,
+        pass: &mut Pass<K, V, S>,
+    ) -> Result<&'a V, Refused>
+        requires book { pass.old.book ≡ self.now.book }
+        requires callable { F.IsAlwaysCallable update }
+        ensures book { pass.new.book ≡ pass.old.book }
+        ensures seen { IsPrefix pass.old.history pass.new.history }
+        ensures tables { IsPrefix pass.old.tables pass.new.tables }
+        ensures made { Makes (is_ok result) pass.old.made pass.new.made pass.new.history }
+        ensures upserted { IfOk result (IsUpserted K.eq key pass.old.history pass.new.history
+            (FnReturnsAt F.Fn update) (λ w. w ≡ value)) }
+        ensures refused { IfErr result IsMemoryOrCapacity }
+        ensures crowded { result ≡ Err Refused.Capacity → HasNoRoom self.now.initial
+            pass.new.tables pass.new.given }
+    {
+        self.upsert_as(rt, key, update, Ready { value }, pass)
+    }
+
+    /// The same with a closure that makes the value where the key has none:
+    /// `update_or_insert_with` of 0.2.5. That closure is called once at most.
+    pub fn update_or_insert_with_as<R: Wait, U: Fn(&V) -> V, F: FnOnce() -> V + Drop>(
+        &self,
+        rt: &R,
+        key: K,
+        update: U,
+        f: F,
+        pass: &mut Pass<K, V, S>,
+    ) -> Result<&'a V, Refused>
+        requires book { pass.old.book ≡ self.now.book }
+        requires update { U.IsAlwaysCallable update }
+        requires make { F.IsAlwaysCallable f }
+        ensures book { pass.new.book ≡ pass.old.book }
+        ensures seen { IsPrefix pass.old.history pass.new.history }
+        ensures tables { IsPrefix pass.old.tables pass.new.tables }
+        ensures made { Makes (is_ok result) pass.old.made pass.new.made pass.new.history }
+        ensures upserted { IfOk result (IsUpserted K.eq key pass.old.history pass.new.history
+            (FnReturnsAt U.Fn update) (F.post f)) }
+        ensures refused { IfErr result IsMemoryOrCapacity }
+        ensures crowded { result ≡ Err Refused.Capacity → HasNoRoom self.now.initial
+            pass.new.tables pass.new.given }
+    {
+        self.upsert_as(rt, key, update, Made { make: f }, pass)
     }
 
     /// Puts what the closure makes of the key's value in its place, and answers it: `update` of

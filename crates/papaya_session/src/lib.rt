@@ -15,10 +15,8 @@
 //! It is made by [`session::Session::new`], and not by a method of the map, since a crate can give no method to
 //! another one's type. Each thread makes one for itself.
 //!
-//! Not by session yet: `compute`, and what is made of it (`update`, `update_or_insert`, `try_insert`,
-//! `get_or_insert`, and their forms with closures). A call of another crate's function that is generic over
-//! a compute's closure is not proved, since the closure's type has the lifetime of what it is shown. For
-//! those take the calls of `papaya_map`, by a pass or without.
+//! A compute's closure is lent the pair that it is shown (`compute_lent_as`), so what it answers may not
+//! borrow of it. Where it is to, take `compute_as` of `papaya_map`, by a pass.
 #![tactic(auto)]
 
 pub mod session;

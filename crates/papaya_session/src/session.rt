@@ -1,18 +1,24 @@
 //! The session, and its calls.
 ghost use Rattle.std.specs.Prelude.{◌≡◌, ◌⊎◌, [], is_ok, is_some, Option, Err, IfErr, IfOk};
 ghost use Rattle.std.specs.Borrow.{Bor};
+ghost use Rattle.std.specs.Fn.{FnReturnsAt};
 ghost use mathlib.Core.List.{IsPrefix};
 ghost use Rattle.papaya_book.specs.Limits.{HasNoRoom};
 ghost use Rattle.papaya_change.specs.Changes.{IsPut};
 ghost use Rattle.papaya_change.specs.RemovalAnswers.{IsRemovalBy, IsRemoved, took, went};
 ghost use Rattle.papaya_change.specs.Resizing.{HasNoRoomAhead, HasRoomAhead};
-ghost use Rattle.papaya_change.specs.Showings.{Judges};
+ghost use Rattle.papaya_change.specs.Showings.{Judges, Operates};
 ghost use Rattle.papaya_change.specs.Writing.{IsMemoryOrCapacity};
+ghost use Rattle.papaya_compute.specs.ComputeAnswers.{IsComputeBy, changes};
 ghost use Rattle.papaya_lookup.specs.Answers.{IsAnsweredBetween, IsPairAnsweredBetween};
 ghost use Rattle.papaya_lookup.specs.History.{Makes};
+ghost use Rattle.papaya_map.specs.Storing.{IsThereBy, IsTried, IsTriedWith, IsUpdated, IsUpserted, stored};
 ghost use Rattle.papaya_sweep.specs.Leaving.{HasKept, IsCleared};
 
+use papaya_call::answers::Operation;
+use papaya_keys::compute::Compute;
 use papaya_keys::guard::Equivalent;
+use papaya_keys::occupied::OccupiedError;
 use papaya_map::map::{HashMap, HashMapRef, Pass};
 use papaya_sweep::walk::Iter;
 use papaya_words::probe::Refused;
@@ -256,5 +262,184 @@ impl<'a, K: Hash + Eq + Drop, V: Drop, S: BuildHasher> Session<'a, K, V, S> {
             self.new.tables self.new.given }
     {
         self.map.insert_as(rt, key, value, &mut self.pass)
+    }
+
+    /// Stores a pair where the key has none, and answers its value: `try_insert` of 0.2.5. Where the key has
+    /// a value, that stays, and what was handed in is given back, or it lies in the log. Refused as
+    /// [`Session::insert`].
+    pub fn try_insert<R: Wait>(
+        &mut self,
+        rt: &R,
+        key: K,
+        value: V,
+    ) -> Result<Result<&'a V, OccupiedError<'a, V>>, Refused>
+        ensures map { self.new.map ≡ self.old.map }
+        ensures seen { IsPrefix self.old.history self.new.history }
+        ensures tables { IsPrefix self.old.tables self.new.tables }
+        ensures made { Makes (stored result) self.old.made self.new.made self.new.history }
+        ensures tried { IfOk result (IsTried K.eq key self.old.history self.new.history value) }
+        ensures refused { IfErr result IsMemoryOrCapacity }
+        ensures crowded { result ≡ Err Refused.Capacity → HasNoRoom self.old.map.initial
+            self.new.tables self.new.given }
+    {
+        self.map.try_insert_as(rt, key, value, &mut self.pass)
+    }
+
+    /// The same with a closure that makes the value where it is to be stored, and with the value that is
+    /// there for an answer: `try_insert_with` of 0.2.5. The closure is called once at most.
+    pub fn try_insert_with<R: Wait, F: FnOnce() -> V + Drop>(
+        &mut self,
+        rt: &R,
+        key: K,
+        f: F,
+    ) -> Result<Result<&'a V, &'a V>, Refused>
+        requires { F.IsAlwaysCallable f }
+        ensures map { self.new.map ≡ self.old.map }
+        ensures seen { IsPrefix self.old.history self.new.history }
+        ensures tables { IsPrefix self.old.tables self.new.tables }
+        ensures made { Makes (stored result) self.old.made self.new.made self.new.history }
+        ensures tried { IfOk result (IsTriedWith K.eq key self.old.history self.new.history
+            (F.post f)) }
+        ensures refused { IfErr result IsMemoryOrCapacity }
+        ensures crowded { result ≡ Err Refused.Capacity → HasNoRoom self.old.map.initial
+            self.new.tables self.new.given }
+    {
+        self.map.try_insert_with_as(rt, key, f, &mut self.pass)
+    }
+
+    /// The value of a key, which is stored where the key has none: `get_or_insert` of 0.2.5. Refused as
+    /// [`Session::insert`].
+    pub fn get_or_insert<R: Wait>(&mut self, rt: &R, key: K, value: V) -> Result<&'a V, Refused>
+        ensures map { self.new.map ≡ self.old.map }
+        ensures seen { IsPrefix self.old.history self.new.history }
+        ensures tables { IsPrefix self.old.tables self.new.tables }
+        ensures there { IsThereBy K.eq key self.old.history self.new.history (λ w. w ≡ value)
+            self.old.made self.new.made result }
+        ensures refused { IfErr result IsMemoryOrCapacity }
+        ensures crowded { result ≡ Err Refused.Capacity → HasNoRoom self.old.map.initial
+            self.new.tables self.new.given }
+    {
+        self.map.get_or_insert_as(rt, key, value, &mut self.pass)
+    }
+
+    /// The same with a closure that makes the value where it is to be stored: `get_or_insert_with` of
+    /// 0.2.5. The closure is called once at most.
+    pub fn get_or_insert_with<R: Wait, F: FnOnce() -> V + Drop>(
+        &mut self,
+        rt: &R,
+        key: K,
+        f: F,
+    ) -> Result<&'a V, Refused>
+        requires { F.IsAlwaysCallable f }
+        ensures map { self.new.map ≡ self.old.map }
+        ensures seen { IsPrefix self.old.history self.new.history }
+        ensures tables { IsPrefix self.old.tables self.new.tables }
+        ensures there { IsThereBy K.eq key self.old.history self.new.history (F.post f)
+            self.old.made self.new.made result }
+        ensures refused { IfErr result IsMemoryOrCapacity }
+        ensures crowded { result ≡ Err Refused.Capacity → HasNoRoom self.old.map.initial
+            self.new.tables self.new.given }
+    {
+        self.map.get_or_insert_with_as(rt, key, f, &mut self.pass)
+    }
+
+    /// Puts what the closure makes of the key's value in its place, and answers it: `update` of 0.2.5.
+    /// `Ok(None)` where the key has none. The closure may be called again, where another thread was first
+    /// to replace the value that it was shown. Refused as [`Session::insert`].
+    pub fn update<R: Wait, F: Fn(&V) -> V>(
+        &mut self,
+        rt: &R,
+        key: K,
+        f: F,
+    ) -> Result<Option<&'a V>, Refused>
+        requires { F.IsAlwaysCallable f }
+        ensures map { self.new.map ≡ self.old.map }
+        ensures seen { IsPrefix self.old.history self.new.history }
+        ensures tables { IsPrefix self.old.tables self.new.tables }
+        ensures made { Makes (took result) self.old.made self.new.made self.new.history }
+        ensures updated { IfOk result (IsUpdated K.eq key self.old.history self.new.history
+            (FnReturnsAt F.Fn f)) }
+        ensures refused { IfErr result IsMemoryOrCapacity }
+        ensures crowded { result ≡ Err Refused.Capacity → HasNoRoom self.old.map.initial
+            self.new.tables self.new.given }
+    {
+        self.map.update_as(rt, key, f, &mut self.pass)
+    }
+
+    /// The same, and where the key has no value this one is stored: `update_or_insert` of 0.2.5.
+    pub fn update_or_insert<R: Wait, F: Fn(&V) -> V>(
+        &mut self,
+        rt: &R,
+        key: K,
+        update: F,
+        value: V,
+    ) -> Result<&'a V, Refused>
+        requires { F.IsAlwaysCallable update }
+        ensures map { self.new.map ≡ self.old.map }
+        ensures seen { IsPrefix self.old.history self.new.history }
+        ensures tables { IsPrefix self.old.tables self.new.tables }
+        ensures made { Makes (is_ok result) self.old.made self.new.made self.new.history }
+        ensures upserted { IfOk result (IsUpserted K.eq key self.old.history self.new.history
+            (FnReturnsAt F.Fn update) (λ w. w ≡ value)) }
+        ensures refused { IfErr result IsMemoryOrCapacity }
+        ensures crowded { result ≡ Err Refused.Capacity → HasNoRoom self.old.map.initial
+            self.new.tables self.new.given }
+    {
+        self.map
+            .update_or_insert_as(rt, key, update, value, &mut self.pass)
+    }
+
+    /// The same with a closure that makes the value where the key has none: `update_or_insert_with` of
+    /// 0.2.5. That closure is called once at most.
+    pub fn update_or_insert_with<R: Wait, U: Fn(&V) -> V, F: FnOnce() -> V + Drop>(
+        &mut self,
+        rt: &R,
+        key: K,
+        update: U,
+        f: F,
+    ) -> Result<&'a V, Refused>
+        requires update { U.IsAlwaysCallable update }
+        requires make { F.IsAlwaysCallable f }
+        ensures map { self.new.map ≡ self.old.map }
+        ensures seen { IsPrefix self.old.history self.new.history }
+        ensures tables { IsPrefix self.old.tables self.new.tables }
+        ensures made { Makes (is_ok result) self.old.made self.new.made self.new.history }
+        ensures upserted { IfOk result (IsUpserted K.eq key self.old.history self.new.history
+            (FnReturnsAt U.Fn update) (F.post f)) }
+        ensures refused { IfErr result IsMemoryOrCapacity }
+        ensures crowded { result ≡ Err Refused.Capacity → HasNoRoom self.old.map.initial
+            self.new.tables self.new.given }
+    {
+        self.map
+            .update_or_insert_with_as(rt, key, update, f, &mut self.pass)
+    }
+
+    /// What the closure makes of the key's pair, or of its absence: `compute` of 0.2.5. It is lent the pair,
+    /// if there is one, and answers what is stored, that the pair is removed, or that nothing is
+    /// changed. Nothing that it answers may borrow of the pair, as in 0.2.5 it may.
+    ///
+    /// The closure may be asked again, where another thread was first to replace or remove the pair that
+    /// it was shown: what it answered of one pair is done to that pair alone. That there is none it is
+    /// shown once at most, since its insertion is remembered.
+    ///
+    /// Refused as [`Session::insert`], and with `Refused::RemoveNothing` where the closure would remove and
+    /// there is no pair.
+    pub fn compute<R: Wait, T: Drop, F: FnMut(Option<(&K, &V)>) -> Operation<V, T>>(
+        &mut self,
+        rt: &R,
+        key: K,
+        f: F,
+    ) -> Result<Compute<'a, K, V, T>, Refused>
+        requires { F.IsAlwaysCallable f }
+        ensures map { self.new.map ≡ self.old.map }
+        ensures seen { IsPrefix self.old.history self.new.history }
+        ensures tables { IsPrefix self.old.tables self.new.tables }
+        ensures made { Makes (changes result) self.old.made self.new.made self.new.history }
+        ensures crowded { result ≡ Err Refused.Capacity → HasNoRoom self.old.map.initial
+            self.new.tables self.new.given }
+        ensures computed { IsComputeBy K.eq key self.old.history self.new.history
+            (Operates F.FnMut) f result }
+    {
+        self.map.compute_lent_as(rt, key, f, &mut self.pass)
     }
 }

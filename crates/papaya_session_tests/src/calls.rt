@@ -1,4 +1,7 @@
 // Each call of a session once, and two threads with a session each.
+use papaya_call::answers::Operation;
+use papaya_keys::compute::Compute;
+use papaya_keys::occupied::{NotInserted, OccupiedError};
 use papaya_map::map::HashMap;
 use papaya_session::session::Session;
 use papaya_words::probe::Refused;
@@ -56,6 +59,49 @@ fn sweeps<R: Wait + Abort>(rt: &R, session: &mut NumbersSession<'_>) {
     is(rt, walked(rt, session), Ok((0, 0)));
 }
 
+/// Key 5 has the value 50, which no further value takes the place of; key 6 has a value of a closure.
+fn stores_where_absent<R: Wait + Abort>(rt: &R, session: &mut NumbersSession<'_>) {
+    let occupied = OccupiedError {
+        current: &50,
+        not_inserted: NotInserted::Value(51),
+    };
+    is(rt, session.try_insert(rt, 5, 50), Ok(Ok(&50)));
+    is(rt, session.try_insert(rt, 5, 51), Ok(Err(occupied)));
+    is(rt, session.try_insert_with(rt, 6, || 60), Ok(Ok(&60)));
+    is(rt, session.get_or_insert(rt, 5, 52), Ok(&50));
+    is(rt, session.get_or_insert_with(rt, 6, || 61), Ok(&60));
+}
+
+/// Counts at key 5 go on from what is there, and one at key 7 begins.
+fn updates<R: Wait + Abort>(rt: &R, session: &mut NumbersSession<'_>) {
+    is(
+        rt,
+        session.update(rt, 5, |v| v.wrapping_add(1)),
+        Ok(Some(&51)),
+    );
+    is(rt, session.update(rt, 8, |v| v.wrapping_add(1)), Ok(None));
+    let counted = session.update_or_insert(rt, 5, |v| v.wrapping_add(1), 1);
+    is(rt, counted, Ok(&52));
+    let begun = session.update_or_insert_with(rt, 7, |v| v.wrapping_add(1), || 1);
+    is(rt, begun, Ok(&1));
+}
+
+/// Takes a pair away, and ends with 9 where there is none.
+fn taken(shown: Option<(&u64, &u64)>) -> Operation<u64, u64> {
+    match shown {
+        Some(_) => Operation::Remove,
+        None => Operation::Abort(9),
+    }
+}
+
+/// A compute takes key 7 away, and then there is none.
+fn computes<R: Wait + Abort>(rt: &R, session: &mut NumbersSession<'_>) {
+    let removed = session.compute(rt, 7, |shown| taken(shown));
+    is(rt, removed, Ok(Compute::Removed(&7, &1)));
+    let aborted = session.compute(rt, 7, |shown| taken(shown));
+    is(rt, aborted, Ok(Compute::Aborted(9)));
+}
+
 /// What one session stored, another one that it has met finds.
 fn meets<R: Wait + Abort>(rt: &R, map: &Numbers) {
     let mut first = Session::new(map);
@@ -73,6 +119,16 @@ fn each_call_of_a_session(rt: HostRuntime) -> Result<(), Fail> {
     removes(&rt, &mut session);
     sweeps(&rt, &mut session);
     meets(&rt, &map);
+    Ok(())
+}
+
+#[test]
+fn each_compute_of_a_session(rt: HostRuntime) -> Result<(), Fail> {
+    let map: Numbers = HashMap::new(&rt, rt.alloc())?;
+    let mut session = Session::new(&map);
+    stores_where_absent(&rt, &mut session);
+    updates(&rt, &mut session);
+    computes(&rt, &mut session);
     Ok(())
 }
 

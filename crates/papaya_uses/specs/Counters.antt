@@ -1,4 +1,4 @@
--- What an addition to a counter does, by the histories that an adder has seen before and after.
+-- What an addition to a counter does, by the histories that a session has seen before and after.
 use Rattle.std.specs.Prelude.{◌≡◌, ◌==◌, ◌+◌, ◌%◌, ◌^◌, ℕ, Option, None, Some, List, option_map}
 use Rattle.papaya_book.specs.Logs.{Stored}
 use Rattle.papaya_change.specs.Changes.{IsChangeOf}

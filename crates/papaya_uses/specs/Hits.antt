@@ -1,4 +1,5 @@
--- What the calls on a table of reads do, each of some history of the map.
+-- What the calls on a table of reads do: a count by the histories that its session has seen before and
+-- after, and what is only asked by some history of the map.
 use Rattle.std.specs.Prelude.{◌≡◌, ◌==◌, ◌+◌, ◌-◌, ◌^◌, ℕ, min, Option, None, Some, List, [], option_map}
 use Rattle.std.specs.Borrow.{Bor}
 use Rattle.papaya_book.specs.Logs.{Stored}
@@ -16,16 +17,12 @@ abbrev pub one_on : Option ℕ → ℕ
 one_on None = 1
 one_on (Some count) = min (count + 1) (2 ^ 64 - 1)
 
--- The last change of the history put in this count of the page: one more than just the count that it
+-- The last change that was seen put in this count of the page: one more than just the count that it
 -- took out, if there was one.
-abbrev pub IsCounted : (page count : ℕ) → Seen → Type 0
-IsCounted page count history = (taken : Option (Stored ℕ ℕ)) × (q : Stored ℕ ℕ)
-    × IsChangeOf (λ key. page == key) [] history taken (Some q) × (key_of q ≡ page)
+abbrev pub HasCounted : (page : ℕ) → Seen → Seen → (count : ℕ) → Type 0
+HasCounted page old new count = (taken : Option (Stored ℕ ℕ)) × (q : Stored ℕ ℕ)
+    × IsChangeOf (λ key. page == key) old new taken (Some q) × (key_of q ≡ page)
     × (q.value.value ≡ count) × (count ≡ one_on (option_map (λ p. p.value.value) taken))
-
--- so it was in a history
-abbrev pub HasCounted : (page count : ℕ) → Type 0
-HasCounted page count = IsOfHistory (λ a b. a == b) (IsCounted page count)
 
 -- in a history the page had this count, or none
 abbrev pub IsCountOf : ℕ → Option ℕ → Type 0

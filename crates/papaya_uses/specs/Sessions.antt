@@ -1,4 +1,4 @@
--- What the calls on a table of sessions do, by the histories that a desk has seen before and after.
+-- What the calls on a table of users do, by the histories that a session has seen before and after.
 use Rattle.std.specs.Prelude.{◌≡◌, ◌==◌, ℕ, Bool, MatchBool, Option, None, Some, List, option_map}
 use Rattle.std.specs.Borrow.{Bor}
 use Rattle.papaya_book.specs.Logs.{Stored}

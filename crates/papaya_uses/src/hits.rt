@@ -1,15 +1,15 @@
-//! How often each page was read: threads count on one map, by the calls that take no pass.
+//! How often each page was read: threads count on one map, each by a session of its own.
 //!
-//! Take these where no proof goes on from one call to the next, as a program without proofs would: a
-//! pinned map has them, and a thread keeps nothing of its own. What each says is so of some legal history,
-//! which the caller is not shown. To prove that what was stored is found, or what a retain left, take a
-//! pass, as [`crate::sessions`] and [`crate::counters`] do.
+//! What is only asked goes by plain calls: a pinned map has them, and the thread keeps nothing of its own.
+//! What such a call says is so of some legal history, which the caller is not shown. To prove that what was
+//! stored is found, or what a retain left, take a session, as [`hit`] and [`crate::sessions`] do.
 ghost use Rattle.std.specs.Prelude.{◌≡◌, IfErr, IfOk};
+ghost use mathlib.Core.List.{IsPrefix};
 ghost use Rattle.papaya_change.specs.Writing.{IsMemoryOrCapacity};
 ghost use Rattle.papaya_uses.specs.Hits.{HasCounted, IsCountOf};
 
 use crate::words::one_more;
-use papaya::{HashMap, Refused};
+use papaya::{HashMap, Refused, Session};
 use std::hash::{BuildHasherDefault, FoldHasher};
 use std::sync::Wait;
 
@@ -18,11 +18,12 @@ pub type Hits = HashMap<u64, u64, BuildHasherDefault<FoldHasher>>;
 
 /// Counts a read of a page, and answers how often it was read by then. No read is lost where threads
 /// count at once: the count goes up from just the one that it replaces.
-pub fn hit<R: Wait>(rt: &R, hits: &Hits, page: u64) -> Result<u64, Refused>
-    ensures counted { IfOk result (HasCounted page) }
+pub fn hit<R: Wait>(rt: &R, hits: &mut Session<'_, u64, u64>, page: u64) -> Result<u64, Refused>
+    ensures seen { IsPrefix hits.old.history hits.new.history }
+    ensures counted { IfOk result (HasCounted page hits.old.history hits.new.history) }
     ensures refused { IfErr result IsMemoryOrCapacity }
 {
-    let count = hits.pin().update_or_insert(rt, page, one_more, 1)?;
+    let count = hits.update_or_insert(rt, page, one_more, 1)?;
     Ok(*count)
 }
 

@@ -1,6 +1,5 @@
-//! Five small callers of `papaya`, proved and run, to copy from: a word count; settings that threads
-//! share by sessions; a table of hits that they share by plain calls; and, by passes, a table of who is
-//! signed in and a registry of counters.
+//! Five small callers of `papaya`, proved and run, to copy from: a word count; and, by sessions, settings
+//! and hits that threads share, a table of who is signed in, and a registry of counters.
 #![tactic(auto)]
 
 pub mod counters;

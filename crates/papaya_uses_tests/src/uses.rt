@@ -1,9 +1,9 @@
 // Each use, run once; threads share the tables.
 use papaya::seq::HashMap;
 use papaya::{Refused, Session};
-use papaya_uses::counters::{Adder, Counters};
+use papaya_uses::counters::{Counters, add};
 use papaya_uses::hits::{Hits, forget_below, hit, reads, total};
-use papaya_uses::sessions::{Desk, Sessions};
+use papaya_uses::sessions::{Users, sign_in, sign_out, user_of};
 use papaya_uses::settings::{Settings, set_and_read};
 use papaya_uses::words::count_words;
 use std::process::Abort;
@@ -27,37 +27,37 @@ fn words_are_counted(rt: HostRuntime) -> Result<(), Fail> {
 }
 
 /// The token has this user.
-fn has(rt: &impl Abort, desk: &mut Desk<'_>, token: u64, user: Option<u64>) {
-    assert_eq!(rt; desk.user(token), user, "of {token}");
+fn has(rt: &impl Abort, desk: &mut Session<'_, u64, u64>, token: u64, user: Option<u64>) {
+    assert_eq!(rt; user_of(desk, token), user, "of {token}");
 }
 
 /// Signs a user in under two tokens, and out of the second.
-fn comes_and_goes(rt: &impl Wait, sessions: &Sessions, user: u64) -> Result<bool, Refused> {
-    let mut desk = Desk::new(sessions);
+fn comes_and_goes(rt: &impl Wait, users: &Users, user: u64) -> Result<bool, Refused> {
+    let mut desk = Session::new(users);
     let second = user.wrapping_add(100);
-    desk.sign_in(rt, user, user)?;
-    desk.sign_in(rt, second, user)?;
-    desk.sign_out(rt, second, user)
+    sign_in(rt, &mut desk, user, user)?;
+    sign_in(rt, &mut desk, second, user)?;
+    sign_out(rt, &mut desk, second, user)
 }
 
 /// Two threads at a time.
 fn both_come(
     rt: &(impl Threads + Wait + Sync),
-    sessions: &Sessions,
+    users: &Users,
 ) -> (Result<bool, Refused>, Result<bool, Refused>) {
     join(
         rt,
-        || comes_and_goes(rt, sessions, 1),
-        || comes_and_goes(rt, sessions, 2),
+        || comes_and_goes(rt, users, 1),
+        || comes_and_goes(rt, users, 2),
     )
 }
 
 #[test]
-fn threads_share_sessions(rt: HostRuntime) -> Result<(), Fail> {
-    let sessions: Sessions = Sessions::with_capacity(&rt, rt.alloc(), 100)?;
-    let both = both_come(&rt, &sessions);
+fn threads_share_users(rt: HostRuntime) -> Result<(), Fail> {
+    let users: Users = Users::with_capacity(&rt, rt.alloc(), 100)?;
+    let both = both_come(&rt, &users);
     assert!(rt; both == (Ok(true), Ok(true)));
-    let mut desk = Desk::new(&sessions);
+    let mut desk = Session::new(&users);
     has(&rt, &mut desk, 1, Some(1));
     has(&rt, &mut desk, 2, Some(2));
     has(&rt, &mut desk, 101, None);
@@ -66,11 +66,11 @@ fn threads_share_sessions(rt: HostRuntime) -> Result<(), Fail> {
 
 #[test]
 fn a_session_of_another_user_stays(rt: HostRuntime) -> Result<(), Fail> {
-    let sessions: Sessions = Sessions::with_capacity(&rt, rt.alloc(), 100)?;
-    let mut desk = Desk::new(&sessions);
-    let before = desk.sign_in(&rt, 7, 1)?;
+    let users: Users = Users::with_capacity(&rt, rt.alloc(), 100)?;
+    let mut desk = Session::new(&users);
+    let before = sign_in(&rt, &mut desk, 7, 1)?;
     assert!(rt; before.is_none());
-    let out = desk.sign_out(&rt, 7, 2)?;
+    let out = sign_out(&rt, &mut desk, 7, 2)?;
     assert!(rt; !out);
     has(&rt, &mut desk, 7, Some(1));
     Ok(())
@@ -87,11 +87,11 @@ fn a_setting_is_read_back(rt: HostRuntime) -> Result<(), Fail> {
 
 /// Adds 1 to a counter so often.
 fn adds(rt: &impl Wait, counters: &Counters, times: u64) -> Result<u64, Refused> {
-    let mut adder = Adder::new(counters);
+    let mut session = Session::new(counters);
     for _ in 0..times {
-        adder.add(rt, 5, 1)?;
+        add(rt, &mut session, 5, 1)?;
     }
-    adder.add(rt, 5, 0)
+    add(rt, &mut session, 5, 0)
 }
 
 /// Two threads at a time.
@@ -113,8 +113,9 @@ fn no_addition_is_lost(rt: HostRuntime) -> Result<(), Fail> {
 
 /// A thread reads a page of its own ten times, and page 1 in between. Was no call refused?
 fn reads_pages(rt: &impl Wait, hits: &Hits, own: u64) -> bool {
+    let mut session = Session::new(hits);
     for _ in 0..10u64 {
-        if hit(rt, hits, own).is_err() || hit(rt, hits, 1).is_err() {
+        if hit(rt, &mut session, own).is_err() || hit(rt, &mut session, 1).is_err() {
             return false;
         }
     }
@@ -124,8 +125,9 @@ fn reads_pages(rt: &impl Wait, hits: &Hits, own: u64) -> bool {
 /// Two threads read pages, and one of them is forgotten.
 fn counts_hits(rt: &(impl Threads + Wait + Sync + Abort), hits: &Hits) {
     let both = join(rt, || reads_pages(rt, hits, 2), || reads_pages(rt, hits, 3));
+    let mut session = Session::new(hits);
     assert!(rt; both == (true, true));
-    assert!(rt; hit(rt, hits, 2) == Ok(11));
+    assert!(rt; hit(rt, &mut session, 2) == Ok(11));
     assert!(rt; total(rt, hits) == Ok(41));
     assert!(rt; forget_below(rt, hits, 11).is_ok());
     assert!(rt; reads(hits, 1) == Some(20));

@@ -5,7 +5,8 @@ use Rattle.papaya_compute.specs.Computing.{IsUnderWay}
 use Rattle.papaya_compute.specs.Deciding.{Wishes}
 use Rattle.papaya_book.specs.Hashes.{hash_of}
 use Rattle.papaya_book.specs.Parts.{begun_of}
-use Rattle.papaya_book.specs.Windows.{Sees}
+use Rattle.papaya_book.specs.Windows.{Does, Sees}
+use Rattle.papaya_change.specs.Doing.{has_changed}
 use Rattle.papaya_change.specs.Showings.{HasSaid}
 use Rattle.papaya_compute.proofs.deciding.decide.Given as goal
 
@@ -15,5 +16,7 @@ invariant-loop g l =
     ((heard : _) × IsUnderWay g.K.PartialEq.eq (hash_of g.K.Hash.hash_input g.S.BuildHasher.build_hasher g.S.Hasher.Hasher.write g.S.Hasher.Hasher.finish) (begun_of l.window.book.now.parts) l.window.book.now.begun.book l.fn.key l.fn.window.sight.log l.window.sight.log l.computing heard × HasSaid (Wishes g.D.Rule.decides) l.fn.rule heard l.rule)
     × IsStanding l.computing.writer.call.machine
     × (l.computing.writer.call.machine.phase ≡ Calling)
+    × (l.computing.writer.call.machine.call.initial ≡ l.fn.initial)
     × Sees l.fn.window l.window
     × g.D.Rule.callable l.rule
+    × Does (has_changed l.computing.writer.call.machine) l.fn.window l.window

@@ -1,4 +1,5 @@
-use Rattle.std.proofs.Common.{◌≡◌, Some, Ok, refl, sym, ap, ◌∙◌, subst}
+use Rattle.std.proofs.Common.{◌≡◌, Some, Ok, refl, sym, ap, ◌∙◌, subst, Err}
+use Rattle.papaya_words.specs.declared.probe.Refused.TheVariants.{Capacity}
 use Rattle.papaya_compute.specs.declared.rules.Made.{Made}
 use Rattle.papaya_map.specs.Storing.{IsCurrent}
 use Rattle.papaya_map.proofs.Ruled.{give_current, give_put, give_replaced}
@@ -19,3 +20,8 @@ unreachable-requires g c = let at = c.in-Ok-Left-None-default in let there = giv
 
 pub unreachable-requires-in-Ok-Replaced : goal.unreachable-requires-in-Ok-Replaced
 unreachable-requires-in-Ok-Replaced g c = let at = c.in-Ok-Replaced in give_replaced g.row.K.Denot {G = Made g.row.F.Denot} (λ z v. goal.F-post g z.make v) g.K.PartialEq.eq c.args.key c.args.pass.now.history c.decide_as.new.pass.history (record { supply = Some (record { make = c.args.f }) }) c.decide_as.new.rule (record { make = c.args.f }) refl c.decide_as.result c.decide_as.ensures.decided at.field-0-0 (at.is ∙ ap (λ z. Ok z) at.field-0-is)
+
+pub returns-clause-crowded : goal.returns-clause-crowded
+returns-clause-crowded g c = λ e.
+    let full : c.in-Err.refused ≡ Capacity = cc e in
+    c.decide_as.ensures.crowded (c.in-Err.is ∙ ap (λ cause. Err cause) full)

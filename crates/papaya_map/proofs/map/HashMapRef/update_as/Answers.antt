@@ -1,4 +1,5 @@
-use Rattle.std.proofs.Common.{Ok, ap, ◌∙◌}
+use Rattle.std.proofs.Common.{Ok, ap, ◌∙◌, ◌≡◌, Err}
+use Rattle.papaya_words.specs.declared.probe.Refused.TheVariants.{Capacity}
 use Rattle.std.specs.Fn.{FnReturnsAt}
 use Rattle.papaya_map.proofs.Ruled.{update_put, update_replaced}
 use Rattle.papaya_map.proofs.map.HashMapRef.update_as.Goals as goal
@@ -8,3 +9,8 @@ returns-in-Ok-Replaced-clause-updated g c = let at = c.in-Ok-Replaced in update_
 
 pub unreachable-requires : goal.unreachable-requires
 unreachable-requires g c = let at = c.in-Ok-Put in update_put g.row.K.Denot (FnReturnsAt g.F.Fn) g.K.PartialEq.eq c.args.key c.args.pass.now.history c.decide_as.new.pass.history (record { update = c.args.f }) c.decide_as.new.rule c.decide_as.result c.decide_as.ensures.decided at.field-0-0 (at.is ∙ ap (λ z. Ok z) at.field-0-is)
+
+pub returns-clause-crowded : goal.returns-clause-crowded
+returns-clause-crowded g c = λ e.
+    let full : c.in-Err.refused ≡ Capacity = cc e in
+    c.decide_as.ensures.crowded (c.in-Err.is ∙ ap (λ cause. Err cause) full)

@@ -1,0 +1,101 @@
+//! Computes whose closure is lent the pair that it is shown, for the time of its call alone. So the
+//! closure's type names no lifetime, and such a call can be made in other crates for keys of any type.
+ghost use Rattle.std.specs.Prelude.{◌≡◌, None, Err};
+ghost use Rattle.std.specs.Int.{IsPowerOfTwo};
+ghost use Rattle.papaya_book.specs.Books.{IsIn};
+ghost use Rattle.papaya_book.specs.Limits.{HasNoRoom, tables_of};
+ghost use Rattle.papaya_book.specs.Logs.{pair_named};
+ghost use Rattle.papaya_book.specs.Windows.{IsLawful, Sees};
+ghost use Rattle.papaya_change.specs.Showings.{Operates};
+ghost use Rattle.papaya_compute.specs.ComputeAnswers.{IsComputeBy, changes};
+ghost use Rattle.papaya_lookup.specs.Drivers.{own, past};
+ghost use Rattle.papaya_lookup.specs.History.{Makes};
+
+use crate::computing::{Computing, Turn};
+use papaya_book::book::Book;
+use papaya_book::count::Shard;
+use papaya_book::rule::entry::Stored;
+use papaya_book::rule::own::{Given, Own};
+use papaya_book::window::Window;
+use papaya_call::answers::Operation;
+use papaya_change::removal::entry;
+use papaya_keys::compute::Compute;
+use papaya_words::probe::Refused;
+use std::alloc::Global;
+use std::hash::{BuildHasher, Hash};
+use std::sync::Wait;
+
+/// What a closure is shown where there is no pair: a pair would be borrowed like the book.
+fn no_entry<K: Hash + Eq, V, S: BuildHasher>(_book: &Book<K, V, S>) -> Option<(&K, &V)>
+    ensures { result ≡ None }
+{
+    None
+}
+
+/// What the closure answers that is lent this pair, or shown that there is none.
+fn operate<K: Hash + Eq, V, S: BuildHasher, T, F: FnMut(Option<(&K, &V)>) -> Operation<V, T>>(
+    book: &Book<K, V, S>,
+    shown: &Option<Stored<K, V>>,
+    f: &mut F,
+) -> Operation<V, T>
+    requires callable { F.IsAlwaysCallable f.old }
+    requires placed { IsIn book.now (pair_named shown.now) }
+    ensures callable { F.IsAlwaysCallable f.new }
+    ensures operates { Operates F.FnMut f.old shown.now result f.new }
+{
+    match shown {
+        None => f(no_entry(book)),
+        Some(pair) => f(Some(entry(book, pair))),
+    }
+}
+
+/// Does with a key's pair, or where it has none, what the closure answers that is lent it. Where it is
+/// refused for want of room, `given` tells the number that a full log gave, or the sum of the count that
+/// makes a further table too long.
+pub fn compute_lent<
+    'a,
+    R: Wait,
+    K: Hash + Eq + Drop,
+    V: Drop,
+    S: BuildHasher,
+    T: Drop,
+    F: FnMut(Option<(&K, &V)>) -> Operation<V, T>,
+>(
+    rt: &R,
+    alloc: Global,
+    initial: usize,
+    shard: &Shard<'_>,
+    window: &mut Window<'a, K, V, S>,
+    given: &mut Own<Given>,
+    key: K,
+    mut f: F,
+) -> Result<Compute<'a, K, V, T>, Refused>
+    requires callable { F.IsAlwaysCallable f }
+    requires initial { IsPowerOfTwo initial }
+    ensures sees { Sees window.old window.new }
+    ensures lawful { IsLawful window.new }
+    ensures made { Makes (changes result) (own window.old) (own window.new) (past window.new) }
+    ensures crowded { result ≡ Err Refused.Capacity → HasNoRoom initial
+        (tables_of window.new.sight.log) given.new.done }
+    ensures computed { IsComputeBy K.eq key (past window.old) (past window.new) (Operates F.FnMut) f
+        result }
+{
+    window.learn();
+    let book = window.book;
+    let mut computing: Computing<'a, K, V, S, T> = Computing::new(window, initial, key);
+    for _ in rt.forever() {
+        match computing.turn(rt, alloc, shard, window) {
+            Turn::Answered(answer) => computing.tell(rt, alloc, shard.count(), answer, window),
+            Turn::Shows(shown) => {
+                let operation = operate(book, &shown, &mut f);
+                let answer = computing.hear(shown, operation);
+                computing.tell(rt, alloc, shard.count(), answer, window);
+            }
+            Turn::Replied => {
+                *given = computing.writer.call.given.again();
+                return computing.replied(window);
+            }
+        }
+    }
+    unreachable!()
+}
