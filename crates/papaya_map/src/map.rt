@@ -353,6 +353,21 @@ impl<'a, K: Hash + Eq, V, S: BuildHasher> HashMapRef<'a, K, V, S> {
         b.sight = a.sight.again();
     }
 
+    /// Tells a pass what a walk has seen. Afterwards the pass has seen a history that begins with what
+    /// each had seen, so its calls stand after all that the walk gave. Nothing is done when the program
+    /// runs, and the call is never refused.
+    pub fn learn_walk(&self, walk: &Iter<'_, K, V, S>, pass: &mut Pass<K, V, S>)
+        requires { walk.now.book ≡ pass.old.book }
+        ensures book { pass.new.book ≡ pass.old.book }
+        ensures seen { IsPrefix pass.old.history pass.new.history }
+        ensures walked { IsPrefix walk.now.history pass.new.history }
+        ensures tables { IsPrefix pass.old.tables pass.new.tables }
+        ensures made { pass.new.made ≡ pass.old.made }
+        ensures given { pass.new.given ≡ pass.old.given }
+    {
+        pass.sight.learn(&walk.seen());
+    }
+
     /// The value of a key: `get` of 0.2.5. It loads words and nothing else: it waits for nobody,
     /// and takes no lock and no memory.
     #[inline(always)]
@@ -451,8 +466,8 @@ impl<'a, K: Hash + Eq, V, S: BuildHasher> HashMapRef<'a, K, V, S> {
     /// stored meanwhile may be shown or not.
     ///
     /// Where it meets a copier's work it copies what is left to copy, and may be refused a table then:
-    /// `Refused::Memory` where a growth was refused, and `Refused::Capacity` where there is no room.
-    /// What was removed stays so. Refused or not, the pass makes one change for each pair that this
+    /// `Refused::Memory` where a growth was refused, and `Refused::Capacity` where there is no room, as
+    /// at an insertion. What was removed stays so. Refused or not, the pass makes one change for each pair that this
     /// call removed, right after the closure answered false to it.
     pub fn retain_as<R: Wait, F: FnMut(&K, &V) -> bool>(
         &self,
@@ -464,9 +479,12 @@ impl<'a, K: Hash + Eq, V, S: BuildHasher> HashMapRef<'a, K, V, S> {
         requires callable { F.IsAlwaysCallable stays }
         ensures book { pass.new.book ≡ pass.old.book }
         ensures seen { IsPrefix pass.old.history pass.new.history }
+        ensures tables { IsPrefix pass.old.tables pass.new.tables }
         ensures kept { HasKept K.eq pass.old.history pass.new.history pass.old.made pass.new.made
             (Judges F.FnMut) stays result }
         ensures refused { IfErr result (λ refused. IsMemoryOrCapacity refused) }
+        ensures crowded { result ≡ Err Refused.Capacity → HasNoRoom self.now.initial
+            pass.new.tables pass.new.given }
     {
         let map: &'a HashMap<K, V, S> = self.map;
         let shard = map.count.shard(pass.number);
@@ -488,11 +506,12 @@ impl<'a, K: Hash + Eq, V, S: BuildHasher> HashMapRef<'a, K, V, S> {
     }
 
     /// The pairs of the map, one by one: `iter` of 0.2.5. Each that is given the map had in a history
-    /// that begins with what the pass had seen.
+    /// that begins with what the pass had seen. What the walk sees as it goes on the pass learns by
+    /// [`HashMapRef::learn_walk`].
     ///
     /// With `Blocking` it takes the root as it is. Else it copies first what is left to copy, and may
     /// be refused a table then: `Refused::Memory` where a growth was refused, and `Refused::Capacity`
-    /// where there is no room. A pair that is stored or removed meanwhile may be given or not.
+    /// where there is no room, as at an insertion. A pair that is stored or removed meanwhile may be given or not.
     pub fn iter_as<R: Wait>(
         &self,
         rt: &R,
@@ -501,10 +520,14 @@ impl<'a, K: Hash + Eq, V, S: BuildHasher> HashMapRef<'a, K, V, S> {
         requires { pass.old.book ≡ self.now.book }
         ensures book { pass.new.book ≡ pass.old.book }
         ensures seen { IsPrefix pass.old.history pass.new.history }
+        ensures tables { IsPrefix pass.old.tables pass.new.tables }
         ensures made { pass.new.made ≡ pass.old.made }
+        ensures walk { IfOk result (λ pairs. pairs.book ≡ self.now.book) }
         ensures began { IfOk result (λ pairs. (pairs.began ≡ pass.old.history)
             × (pairs.history ≡ pass.new.history)) }
         ensures refused { IfErr result (λ refused. IsMemoryOrCapacity refused) }
+        ensures crowded { result ≡ Err Refused.Capacity → HasNoRoom self.now.initial
+            pass.new.tables pass.new.given }
     {
         let map: &'a HashMap<K, V, S> = self.map;
         let began = pass.sight.again();

@@ -1,10 +1,11 @@
 //! The calls that visit the whole map: what they say is so of a history that no caller is shown.
 ghost use Rattle.std.specs.Prelude.{◌≡◌, ◌⊎◌, false, [], Err, IfErr, IfOk};
+ghost use Rattle.papaya_book.specs.Limits.{HasNoRoom};
 ghost use Rattle.papaya_change.specs.Showings.{Judges};
 ghost use Rattle.papaya_change.specs.Writing.{IsMemoryOrCapacity};
 ghost use Rattle.papaya_map.specs.Plain.{IsOfHistory};
 ghost use mathlib.Core.List.{IsPrefix};
-ghost use Rattle.papaya_sweep.specs.Leaving.{HasKept, IsCleared};
+ghost use Rattle.papaya_sweep.specs.Leaving.{HasDropped, HasKept, IsCleared};
 
 use crate::map::{HashMap, HashMapRef, Pass};
 use papaya_keys::guard::Guard;
@@ -16,13 +17,19 @@ use std::sync::Wait;
 impl<'a, K: Hash + Eq, V, S: BuildHasher> HashMapRef<'a, K, V, S> {
     /// Removes the pairs that the map has: `clear` of 0.2.5. Where it is not refused, each pair that
     /// the map had after what the pass had seen was removed since, by this call or another. A pair that
-    /// is stored meanwhile may stay. Refused as [`HashMapRef::retain_as`] is.
+    /// is stored meanwhile may stay. Refused as [`HashMapRef::retain_as`] is. Refused or not, the pass
+    /// makes one change for each pair that this call removed, and no other one.
     pub fn clear_as<R: Wait>(&self, rt: &R, pass: &mut Pass<K, V, S>) -> Result<(), Refused>
         requires { pass.old.book ≡ self.now.book }
         ensures book { pass.new.book ≡ pass.old.book }
         ensures seen { IsPrefix pass.old.history pass.new.history }
+        ensures tables { IsPrefix pass.old.tables pass.new.tables }
+        ensures made { HasDropped K.eq pass.old.history pass.new.history pass.old.made
+            pass.new.made }
         ensures cleared { IfOk result (λ _. IsCleared K.eq pass.old.history pass.new.history) }
         ensures refused { IfErr result (λ refused. IsMemoryOrCapacity refused) }
+        ensures crowded { result ≡ Err Refused.Capacity → HasNoRoom self.now.initial
+            pass.new.tables pass.new.given }
     {
         self.retain_as(
             rt,
@@ -62,6 +69,7 @@ impl<'a, K: Hash + Eq, V, S: BuildHasher> HashMapRef<'a, K, V, S> {
 
     /// The pairs of the map, one by one: `iter` of 0.2.5. Refused as [`HashMapRef::iter_as`] is.
     pub fn iter<R: Wait>(&self, rt: &R) -> Result<Iter<'a, K, V, S>, Refused>
+        ensures walk { IfOk result (λ pairs. pairs.book ≡ self.now.book) }
         ensures began { IfOk result (λ pairs. pairs.began ≡ []) }
         ensures refused { IfErr result (λ refused. IsMemoryOrCapacity refused) }
     {
@@ -71,6 +79,7 @@ impl<'a, K: Hash + Eq, V, S: BuildHasher> HashMapRef<'a, K, V, S> {
 
     /// The keys of the map, one by one: `keys` of 0.2.5. Refused as [`HashMapRef::iter_as`] is.
     pub fn keys<R: Wait>(&self, rt: &R) -> Result<Keys<'a, K, V, S>, Refused>
+        ensures walk { IfOk result (λ keys. keys.pairs.book ≡ self.now.book) }
         ensures began { IfOk result (λ keys. keys.pairs.began ≡ []) }
         ensures refused { IfErr result (λ refused. IsMemoryOrCapacity refused) }
     {
@@ -79,6 +88,7 @@ impl<'a, K: Hash + Eq, V, S: BuildHasher> HashMapRef<'a, K, V, S> {
 
     /// The values of the map, one by one: `values` of 0.2.5. Refused as [`HashMapRef::iter_as`] is.
     pub fn values<R: Wait>(&self, rt: &R) -> Result<Values<'a, K, V, S>, Refused>
+        ensures walk { IfOk result (λ values. values.pairs.book ≡ self.now.book) }
         ensures began { IfOk result (λ values. values.pairs.began ≡ []) }
         ensures refused { IfErr result (λ refused. IsMemoryOrCapacity refused) }
     {
@@ -127,6 +137,7 @@ impl<K: Hash + Eq, V, S: BuildHasher> HashMap<K, V, S> {
         rt: &R,
         guard: &'g G,
     ) -> Result<Iter<'g, K, V, S>, Refused>
+        ensures walk { IfOk result (λ pairs. pairs.book ≡ self.now.book) }
         ensures began { IfOk result (λ pairs. pairs.began ≡ []) }
         ensures right { G.collector_number guard.now ≡ self.now.collector
             → IfErr result (λ refused. IsMemoryOrCapacity refused) }
@@ -144,6 +155,7 @@ impl<K: Hash + Eq, V, S: BuildHasher> HashMap<K, V, S> {
         rt: &R,
         guard: &'g G,
     ) -> Result<Keys<'g, K, V, S>, Refused>
+        ensures walk { IfOk result (λ keys. keys.pairs.book ≡ self.now.book) }
         ensures began { IfOk result (λ keys. keys.pairs.began ≡ []) }
         ensures right { G.collector_number guard.now ≡ self.now.collector
             → IfErr result (λ refused. IsMemoryOrCapacity refused) }
@@ -159,6 +171,7 @@ impl<K: Hash + Eq, V, S: BuildHasher> HashMap<K, V, S> {
         rt: &R,
         guard: &'g G,
     ) -> Result<Values<'g, K, V, S>, Refused>
+        ensures walk { IfOk result (λ values. values.pairs.book ≡ self.now.book) }
         ensures began { IfOk result (λ values. values.pairs.began ≡ []) }
         ensures right { G.collector_number guard.now ≡ self.now.collector
             → IfErr result (λ refused. IsMemoryOrCapacity refused) }

@@ -13,7 +13,7 @@ ghost use Rattle.papaya_compute.specs.ComputeAnswers.{IsComputeBy, changes};
 ghost use Rattle.papaya_lookup.specs.Answers.{IsAnsweredBetween, IsPairAnsweredBetween};
 ghost use Rattle.papaya_lookup.specs.History.{Makes};
 ghost use Rattle.papaya_map.specs.Storing.{IsThereBy, IsTried, IsTriedWith, IsUpdated, IsUpserted, stored};
-ghost use Rattle.papaya_sweep.specs.Leaving.{HasKept, IsCleared};
+ghost use Rattle.papaya_sweep.specs.Leaving.{HasDropped, HasKept, IsCleared};
 
 use papaya_call::answers::Operation;
 use papaya_keys::compute::Compute;
@@ -75,7 +75,7 @@ impl<'a, K: Hash + Eq, V, S: BuildHasher> Session<'a, K, V, S> {
 
     /// Tells each of two sessions what the other has seen. Afterwards both have seen one history, which
     /// begins with what each had seen. Nothing is done when the program runs, and the call is
-    /// never refused. Only here a premise is left: that both are of one map, which no type says.
+    /// never refused. A premise is left: that both are of one map, which no type says.
     pub fn meet(&mut self, other: &mut Session<'_, K, V, S>)
         requires { other.old.map.book ≡ self.old.map.book }
         ensures maps { (self.new.map ≡ self.old.map) × (other.new.map ≡ other.old.map) }
@@ -88,6 +88,22 @@ impl<'a, K: Hash + Eq, V, S: BuildHasher> Session<'a, K, V, S> {
             × IsPrefix other.old.tables other.new.tables }
     {
         self.map.meet(&mut self.pass, &mut other.pass)
+    }
+
+    /// Tells the session what a walk has seen. Afterwards the session has seen a history that begins
+    /// with what each had seen, so its calls stand after all that the walk gave. Nothing is done when the
+    /// program runs, and the call is never refused. As at [`Session::meet`] a premise is left: that
+    /// the walk is of the session's map.
+    pub fn learn_walk(&mut self, walk: &Iter<'_, K, V, S>)
+        requires { walk.now.book ≡ self.old.map.book }
+        ensures map { self.new.map ≡ self.old.map }
+        ensures seen { IsPrefix self.old.history self.new.history }
+        ensures walked { IsPrefix walk.now.history self.new.history }
+        ensures tables { IsPrefix self.old.tables self.new.tables }
+        ensures made { self.new.made ≡ self.old.made }
+        ensures given { self.new.given ≡ self.old.given }
+    {
+        self.map.learn_walk(walk, &mut self.pass)
     }
 
     /// The value of a key: `get` of 0.2.5. It loads words and nothing else: it waits for nobody, and
@@ -192,9 +208,12 @@ impl<'a, K: Hash + Eq, V, S: BuildHasher> Session<'a, K, V, S> {
         requires { F.IsAlwaysCallable stays }
         ensures map { self.new.map ≡ self.old.map }
         ensures seen { IsPrefix self.old.history self.new.history }
+        ensures tables { IsPrefix self.old.tables self.new.tables }
         ensures kept { HasKept K.eq self.old.history self.new.history self.old.made self.new.made
             (Judges F.FnMut) stays result }
         ensures refused { IfErr result (λ refused. IsMemoryOrCapacity refused) }
+        ensures crowded { result ≡ Err Refused.Capacity → HasNoRoom self.old.map.initial
+            self.new.tables self.new.given }
     {
         self.map.retain_as(rt, stays, &mut self.pass)
     }
@@ -204,24 +223,34 @@ impl<'a, K: Hash + Eq, V, S: BuildHasher> Session<'a, K, V, S> {
     pub fn clear<R: Wait>(&mut self, rt: &R) -> Result<(), Refused>
         ensures map { self.new.map ≡ self.old.map }
         ensures seen { IsPrefix self.old.history self.new.history }
+        ensures tables { IsPrefix self.old.tables self.new.tables }
+        ensures made { HasDropped K.eq self.old.history self.new.history self.old.made
+            self.new.made }
         ensures cleared { IfOk result (λ _. IsCleared K.eq self.old.history self.new.history) }
         ensures refused { IfErr result (λ refused. IsMemoryOrCapacity refused) }
+        ensures crowded { result ≡ Err Refused.Capacity → HasNoRoom self.old.map.initial
+            self.new.tables self.new.given }
     {
         self.map.clear_as(rt, &mut self.pass)
     }
 
     /// The pairs of the map, one by one: `iter` of 0.2.5. The session is free for other calls while
-    /// the walk goes on. A pair that is stored or removed meanwhile may be given or not.
+    /// the walk goes on, and learns by [`Session::learn_walk`] what the walk has seen. A pair that is stored
+    /// or removed meanwhile may be given or not.
     ///
     /// With `Blocking` it takes the root as it is. Else it copies first what is left to copy, and may be
     /// refused as [`Session::retain`] is.
     pub fn iter<R: Wait>(&mut self, rt: &R) -> Result<Iter<'a, K, V, S>, Refused>
         ensures map { self.new.map ≡ self.old.map }
         ensures seen { IsPrefix self.old.history self.new.history }
+        ensures tables { IsPrefix self.old.tables self.new.tables }
         ensures made { self.new.made ≡ self.old.made }
+        ensures walk { IfOk result (λ pairs. pairs.book ≡ self.old.map.book) }
         ensures began { IfOk result (λ pairs. (pairs.began ≡ self.old.history)
             × (pairs.history ≡ self.new.history)) }
         ensures refused { IfErr result (λ refused. IsMemoryOrCapacity refused) }
+        ensures crowded { result ≡ Err Refused.Capacity → HasNoRoom self.old.map.initial
+            self.new.tables self.new.given }
     {
         self.map.iter_as(rt, &mut self.pass)
     }

@@ -1,12 +1,15 @@
 -- A pair that the map had is the map's still, or a change took it out.
-use Rattle.std.proofs.Common.{◌≡◌, ◌⊎◌, inl, inr, ⊎_elim, Bool, true, false, cond, Option, None, Some, List, [], ◌∷◌, ◌++◌, append_assoc, refl, sym, ap, ◌∙◌, subst}
+use Rattle.std.proofs.Common.{◌≡◌, ◌⊎◌, inl, inr, ⊎_elim, Bool, true, false, cond, Option, None, Some, List, [], ◌∷◌, ◌++◌, Result, append_assoc, refl, sym, ap, ◌∙◌, subst}
 use Rattle.std.proofs.lemmas.Bool.{cases_Bool, cond-false}
 use Rattle.std.specs.Cmp.{IsEquivalence}
 use mathlib.Core.List.{IsPrefix}
+use Rattle.papaya_words.specs.declared.probe.Refused.{Refused}
 use Rattle.papaya_book.specs.Logs.{Stored}
 use Rattle.papaya_book.proofs.Logs.{prefix_trans}
 use Rattle.papaya_lookup.specs.History.{AllLegalChanges, Change, IsLegalHistory, changed, key_of, replay, replay_from}
-use Rattle.papaya_sweep.specs.Leaving.{IsRetained, WasTakenOut}
+use Rattle.papaya_change.specs.Showings.{AllShown}
+use Rattle.papaya_sweep.specs.Leaving.{AllDrop, AreDropped, Drops, HasDropped, HasKept, IsRetained, WasTakenOut}
+use Rattle.papaya_sweep.specs.Meeting.{HadPair}
 
 module _ {K V : Type 0} (p : Stored K V) where
   -- what was taken out was so for good, and after anything earlier too
@@ -80,3 +83,20 @@ module _ {K V : Type 0} (eq : K → K → Bool) (classes : IsEquivalence eq) whe
   -- where the map has no pair any more, each was taken out
   pub retained_none : (old new : List (Change K (Stored K V))) → IsPrefix old new → IsLegalHistory eq key_of new → ((k : K) → replay eq new k ≡ None) → (said : List (Stored K V × Bool)) → IsRetained eq old new said
   retained_none old new pre legal none said k p has = ⊎_elim (λ out. inl out) (λ still. absurd (let no = none k in cc (no, still))) (out_or_still old new pre legal k p has)
+
+module _ {K V : Type 0} (eq : K → K → Bool) (old new : List (Change K (Stored K V))) where
+  -- one drop more
+  drop_more : (made : List (Change K (Stored K V))) → AllDrop eq old new made → (change : Change K (Stored K V)) (p : Stored K V) → HadPair eq old new p → Drops change p → AllDrop eq old new (made ++ change ∷ [])
+  drop_more [] all change p had drops = ((p, had, drops), tt)
+  drop_more (c ∷ made) all change p had drops = (all.0, drop_more made all.1 change p had drops)
+
+  -- what was made of the answers about pairs that the map had are drops
+  all_drop : (said : List (Stored K V × Bool)) → AllShown (HadPair eq old new) said → (made : List (Change K (Stored K V))) → AreDropped said made → AllDrop eq old new made
+  all_drop [] had made is = subst (AllDrop eq old new) (sym is) tt
+  all_drop (last ∷ before) had made (inl d) = all_drop before had.1 made d
+  all_drop (last ∷ before) had made (inr (gone, earlier, change, is, drops, rest)) =
+      subst (AllDrop eq old new) (sym is) (drop_more earlier (all_drop before had.1 earlier rest) change last.0 had.0 drops)
+
+  -- so a retain only drops
+  pub kept_drops : {F A : Type 0} (judges : F → Stored K V → Bool → F → Type 0) (first : F) (result : Result A Refused) (made made' : List (Change K (Stored K V))) → HasKept eq old new made made' judges first result → HasDropped eq old new made made'
+  kept_drops judges first result made made' r = record { changes = r.shown.changes; made_is = r.shown.made_is; dropped = all_drop r.said r.shown.had r.shown.changes r.shown.dropped }

@@ -54,6 +54,19 @@ module _ {K V : Type 0} where
     pub made_is : made' ≡ made ++ changes
     pub dropped : AreDropped said changes
 
+  module _ (eq : K → K → Bool) (old new : List (Change K (Stored K V))) where
+    -- each took out a pair that the map had between the two histories, and put none in
+    abbrev pub AllDrop : List (Change K (Stored K V)) → Type 0
+    AllDrop [] = Unit {0}
+    AllDrop (change ∷ later) = ((p : Stored K V) × HadPair eq old new p × Drops change p)
+        × AllDrop later
+
+    -- of the changes that were made, those since `made` are such
+    pub record HasDropped (made made' : List (Change K (Stored K V))) : Type 0 where
+      pub changes : List (Change K (Stored K V))
+      pub made_is : made' ≡ made ++ changes
+      pub dropped : AllDrop changes
+
   -- What a retain did: it took out only pairs of which the last answer then was that they do not
   -- stay; and where it is not refused, it left only such of which the last answer was that they do.
   pub record HasKept {F A : Type 0} (eq : K → K → Bool)

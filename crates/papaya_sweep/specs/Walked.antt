@@ -2,6 +2,7 @@
 use Rattle.std.specs.Prelude.{◌≡◌, ℕ, ◌-◌, Bool, Option, None, Some, List, length}
 use mathlib.Core.List.{IsPrefix}
 use denote.Bor.{Bor}
+use Rattle.logbook.specs.Pages.{Book}
 use Rattle.papaya_book.specs.declared.rule.entry.Begun.{Begun}
 use Rattle.papaya_book.specs.declared.rule.entry.Event.{Event}
 use Rattle.papaya_book.specs.Calls.{IsTable}
@@ -12,9 +13,10 @@ use Rattle.papaya_change.specs.Showings.{AreOf}
 use Rattle.papaya_sweep.specs.Meeting.{HadPair}
 use Rattle.papaya_sweep.specs.Taking.{IsTaken}
 
--- The history that was seen as the walk began, the one that is seen by now, and how many slots are
--- left.
+-- Which book the walk is of, the history that was seen as it began, the one that is seen by now, and
+-- how many slots are left.
 pub record Walked (K V : Type 0) : Type 0 where
+  pub book : Book
   pub began : List (Change K (Stored K V))
   pub history : List (Change K (Stored K V))
   pub left : ℕ
@@ -37,6 +39,7 @@ HadEntry {K = K} {V = V} eq old new entry = (p : Stored K V) × AreOf entry p ×
 
 -- The history goes on, and is a legal one. What is given, the map had since the walk began.
 pub record Walks {K V : Type 0} (eq : K → K → Bool) (before after : Walked K V) : Type 0 where
+  pub book : after.book ≡ before.book
   pub began : after.began ≡ before.began
   pub since : IsPrefix before.history after.history
 

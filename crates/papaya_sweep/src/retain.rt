@@ -1,8 +1,9 @@
 //! Clear and retain: the pairs of a table are shown to a closure, and those buried that are not to
 //! stay.
-ghost use Rattle.std.specs.Prelude.{◌≡◌, ◌<◌, suc, true, false, IfErr, Some, length};
+ghost use Rattle.std.specs.Prelude.{◌≡◌, ◌<◌, suc, true, false, Err, IfErr, Some, length};
 ghost use Rattle.std.specs.Int.{IsPowerOfTwo};
 ghost use Rattle.papaya_words.specs.Word.{kind_of};
+ghost use Rattle.papaya_book.specs.Limits.{HasNoRoom, tables_of};
 ghost use Rattle.papaya_book.specs.Windows.{IsLawful, IsTable, Sees};
 ghost use Rattle.papaya_lookup.specs.Drivers.{own, past};
 ghost use Rattle.papaya_change.specs.Showings.{Judges};
@@ -118,8 +119,8 @@ fn visit_table<'a, R: Wait, K: Hash + Eq, V, S: BuildHasher, F: FnMut(&K, &V) ->
 }
 
 /// Takes out the pairs that the closure, which is shown each, says are not to stay. Where it meets a
-/// copier's work it copies what is left to copy, and takes the root anew. Where it is refused a table while it copies, what was taken
-/// out stays out.
+/// copier's work it copies what is left to copy, and takes the root anew. Where it is refused a table
+/// while it copies, what was taken out stays out; and `given` tells why, where that is want of room.
 pub fn retain<'a, R: Wait, K: Hash + Eq, V, S: BuildHasher, F: FnMut(&K, &V) -> bool>(
     rt: &R,
     alloc: Global,
@@ -136,6 +137,8 @@ pub fn retain<'a, R: Wait, K: Hash + Eq, V, S: BuildHasher, F: FnMut(&K, &V) -> 
     ensures kept { HasKept K.eq (past window.old) (past window.new) (own window.old)
         (own window.new) (Judges F.FnMut) stays result }
     ensures refused { IfErr result (λ refused. IsMemoryOrCapacity refused) }
+    ensures crowded { result ≡ Err Refused.Capacity → HasNoRoom initial
+        (tables_of window.new.sight.log) given.new.done }
 {
     let began = window.sight.again();
     for _ in rt.forever() {

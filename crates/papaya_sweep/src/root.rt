@@ -1,6 +1,7 @@
 //! The table that a call visits.
-ghost use Rattle.std.specs.Prelude.{◌≡◌, IfErr, IfOk, MatchOption};
+ghost use Rattle.std.specs.Prelude.{◌≡◌, Err, IfErr, IfOk, MatchOption};
 ghost use Rattle.std.specs.Int.{IsPowerOfTwo};
+ghost use Rattle.papaya_book.specs.Limits.{HasNoRoom, tables_of};
 ghost use Rattle.papaya_book.specs.Windows.{IsLawful, IsTable, Sees};
 ghost use Rattle.papaya_change.specs.Writing.{IsMemoryOrCapacity};
 ghost use Rattle.papaya_sweep.specs.Sweeps.{IsTaken, root_of};
@@ -18,6 +19,7 @@ use std::sync::Wait;
 
 /// Takes the root, and its number, if there is one. Without blocking all is copied before, and the
 /// root is taken by the load that finds no table after it: so each pair of the map is in it then.
+/// Where it is refused for want of room, `given` tells why.
 pub fn take_root<'a, R: Wait, K: Hash + Eq, V, S: BuildHasher>(
     rt: &R,
     alloc: Global,
@@ -37,6 +39,8 @@ pub fn take_root<'a, R: Wait, K: Hash + Eq, V, S: BuildHasher>(
     ensures rootless { IfOk result (λ found. MatchOption found (root_of window.new ≡ 0)
         (λ root. Unit)) }
     ensures refused { IfErr result (λ refused. IsMemoryOrCapacity refused) }
+    ensures crowded { result ≡ Err Refused.Capacity → HasNoRoom initial
+        (tables_of window.new.sight.log) given.new.done }
 {
     for _ in rt.forever() {
         let (number, held) = window.root();

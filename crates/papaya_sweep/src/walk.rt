@@ -21,8 +21,8 @@ use papaya_words::word::{Kind, Word};
 use std::hash::{BuildHasher, Hash};
 use std::marker::Model;
 
-/// The pairs of a map, slot by slot of the root as it was taken: `Iter` of 0.2.5. Contracts see the
-/// history that was seen as the walk began, and the one that is seen by now.
+/// The pairs of a map, slot by slot of the root as it was taken: `Iter` of 0.2.5. Contracts see which
+/// book it is of, the history that was seen as the walk began, and the one that is seen by now.
 #[derive(Drop)]
 pub struct Iter<'a, K: Hash + Eq, V, S: BuildHasher> {
     book: &'a Book<K, V, S>,
@@ -37,6 +37,7 @@ impl<'a, K: Hash + Eq, V, S: BuildHasher> Model for Iter<'a, K, V, S> {
     ghost Value = { Walked K V };
 
     ghost view = { λ i. record {
+      book = i.book.now.begun.book;
       began = history_of i.began.log;
       history = history_of i.sight.log;
       left = left_from i.root i.place;
@@ -59,6 +60,7 @@ impl<'a, K: Hash + Eq, V, S: BuildHasher> Iter<'a, K, V, S> {
         requires kept { kept.now ≡ book.now.begun.book }
         requires seen { sight.book ≡ book.now.begun.book }
         requires root { IsRootOf (begun_of book.now.parts) began.log sight.log root }
+        ensures book { result.book ≡ book.now.begun.book }
         ensures began { result.began ≡ history_of began.log }
         ensures history { result.history ≡ history_of sight.log }
     {
@@ -70,6 +72,14 @@ impl<'a, K: Hash + Eq, V, S: BuildHasher> Iter<'a, K, V, S> {
             root,
             place: 0,
         }
+    }
+
+    /// What the walk has seen by now.
+    pub fn seen(&self) -> Sight<K, V, S>
+        ensures book { result.book ≡ self.now.book }
+        ensures history { history_of result.log ≡ self.now.history }
+    {
+        self.sight.again()
     }
 
     /// The same walk, from where this one stands.

@@ -1,7 +1,9 @@
 use Rattle.std.proofs.Common.{sym, subst}
 use mathlib.Core.List.{IsPrefix}
 use Rattle.papaya_lookup.specs.History.{Past, history_of}
+use Rattle.papaya_book.specs.Limits.{tables_of}
 use Rattle.papaya_book.specs.Parts.{begun_of}
+use Rattle.papaya_book.proofs.Lengths.{tables_since}
 use Rattle.papaya_lookup.proofs.Histories.{history_legal, history_since}
 use Rattle.papaya_map.proofs.map.HashMapRef.iter_as.Goals as goal
 
@@ -16,3 +18,9 @@ returns-in-Ok-clause-seen g c = rw c.again.ensures (subst (λ (z : Past g.row.K.
 
 pub returns-clause-seen : goal.returns-clause-seen
 returns-clause-seen g c = rw c.again.ensures (subst (λ (z : Past g.row.K.Denot g.row.V.Denot). IsPrefix z.history (history_of c.take_root-taken.new.window.sight.log)) c.pass.view_is (history_since c.pass.inside.sight.log c.take_root-taken.new.window.sight.log (rw (sym c.new-window.ensures.sight) c.take_root-taken.ensures.sees.log)))
+
+pub returns-in-Ok-clause-tables : goal.returns-in-Ok-clause-tables
+returns-in-Ok-clause-tables g c = rw c.again.ensures (subst (λ (z : Past g.row.K.Denot g.row.V.Denot). IsPrefix z.tables (tables_of c.take_root-taken.new.window.sight.log)) c.pass.view_is (tables_since c.pass.inside.sight.log c.take_root-taken.new.window.sight.log (rw (sym c.new-window.ensures.sight) c.take_root-taken.ensures.sees.log)))
+
+pub returns-clause-tables : goal.returns-clause-tables
+returns-clause-tables g c = rw c.again.ensures (subst (λ (z : Past g.row.K.Denot g.row.V.Denot). IsPrefix z.tables (tables_of c.take_root-taken.new.window.sight.log)) c.pass.view_is (tables_since c.pass.inside.sight.log c.take_root-taken.new.window.sight.log (rw (sym c.new-window.ensures.sight) c.take_root-taken.ensures.sees.log)))
