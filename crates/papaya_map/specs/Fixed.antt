@@ -17,3 +17,8 @@ pub record Fixed (K V S : Type 0) : Type 0 where
 -- it resizes so, and is made for so many pairs
 abbrev pub IsFor : {K V S : Type 0} → ResizeMode → (capacity : ℕ) → Fixed K V S → Type 0
 IsFor mode capacity map = (map.begun.mode ≡ mode) × IsEntriesFor capacity map.initial
+
+-- the second resizes as the first, has its initial capacity, and takes the same guards
+abbrev pub HasSettingsOf : {K V S : Type 0} → (old new : Fixed K V S) → Type 0
+HasSettingsOf old new = (new.begun.mode ≡ old.begun.mode) × (new.initial ≡ old.initial)
+    × (new.collector ≡ old.collector)

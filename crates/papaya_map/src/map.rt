@@ -5,7 +5,7 @@ ghost use mathlib.Core.List.{IsPrefix};
 ghost use Rattle.papaya_words.specs.declared.limits.TheConstants.{DEFAULT_CHUNK, DEFAULT_SHARDS};
 ghost use Rattle.papaya_keys.specs.Sizes.{IsAllowed};
 ghost use Rattle.papaya_map.specs.Asked.{IsMapRefusal};
-ghost use Rattle.papaya_map.specs.Fixed.{Fixed, IsFor};
+ghost use Rattle.papaya_map.specs.Fixed.{Fixed, HasSettingsOf, IsFor};
 ghost use Rattle.papaya_map.specs.Powers.{IsPowerOfTwo-prop};
 ghost use Rattle.papaya_book.specs.Parts.{begun_of};
 ghost use Rattle.papaya_book.specs.Limits.{HasNoRoom, tables_of};
@@ -57,6 +57,7 @@ use std::sync::Wait;
 pub struct HashMap<K: Hash + Eq, V, S: BuildHasher = BuildHasherDefault<FoldHasher>> {
     alloc: Global,
     initial: usize,
+    shards: usize,
     count: Count,
     pub(crate) collector: Collector,
     pub(crate) book: Book<K, V, S>,
@@ -182,6 +183,7 @@ impl<K: Hash + Eq + Drop, V: Drop, S: BuildHasher + Drop> HashMap<K, V, S> {
         Ok(HashMap {
             alloc,
             initial,
+            shards,
             count,
             collector,
             book,
@@ -224,6 +226,36 @@ impl<K: Hash + Eq + Drop, V: Drop, S: BuildHasher + Drop> HashMap<K, V, S> {
         ensures err { IfErr result (λ e. e ≡ Refused.Memory) }
     {
         HashMap::with_capacity_and_hasher(rt, alloc, 0, hasher)
+    }
+}
+
+impl<K: Hash + Eq + Drop, V: Drop, S: BuildHasher + Clone + Drop> HashMap<K, V, S> {
+    /// A map of no pairs with the settings of this one: its mode, its initial capacity, the number of its
+    /// collector, a clone of its hasher, and as many shards. It has room for as many pairs as this one
+    /// counts.
+    pub(crate) fn anew<R: Wait>(&self, rt: &R) -> Result<HashMap<K, V, S>, Refused>
+        ensures settings { IfOk result (HasSettingsOf self.now) }
+        ensures hasher { IfOk result (λ map. S.is_clone self.now.begun.hasher map.begun.hasher) }
+        ensures refused { IfErr result IsMemoryOrCapacity }
+    {
+        let pairs = self.len();
+        let Ok(hasher) = self.book.parts.hasher.clone() else {
+            return Err(Refused::Memory);
+        };
+        let count = Count::new(self.alloc, self.shards)?;
+        let Ok(parts) = Parts::new(self.alloc, self.book.parts.mode, pairs, hasher) else {
+            return Err(Refused::Memory);
+        };
+        let map = HashMap {
+            alloc: self.alloc,
+            initial: self.initial,
+            shards: self.shards,
+            count,
+            collector: Collector::new(self.collector.number()),
+            book: Book::opened(rt, parts),
+        };
+        map.pin().reserve(rt, pairs)?;
+        Ok(map)
     }
 }
 
