@@ -2,7 +2,7 @@
 use crate::map::{HashMap, HashMapRef};
 use papaya_book::rule::own::Own;
 use papaya_book::window::Window;
-use papaya_sweep::printing::print;
+use papaya_sweep::printing::{print, print_keys};
 use std::fmt;
 use std::hash::{BuildHasher, Hash};
 
@@ -12,6 +12,16 @@ impl<K: Hash + Eq + fmt::Debug, V: fmt::Debug, S: BuildHasher> fmt::Debug for Ha
         let kept = self.book.keep_root();
         let mut window = Window::new(&self.book, &kept, &self.book.unseen(), &Own::nothing());
         print(&mut window, f)
+    }
+}
+
+impl<K: Hash + Eq + fmt::Debug, V, S: BuildHasher> HashMap<K, V, S> {
+    /// Prints the keys alone, as `{key, ..}`: what `Debug` of a set prints. It waits for nobody, takes no
+    /// lock and no memory, and copies nothing.
+    pub fn print_keys<W: fmt::Write>(&self, f: &mut fmt::Formatter<W>) -> fmt::Result {
+        let kept = self.book.keep_root();
+        let mut window = Window::new(&self.book, &kept, &self.book.unseen(), &Own::nothing());
+        print_keys(&mut window, f)
     }
 }
 

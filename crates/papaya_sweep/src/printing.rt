@@ -10,12 +10,30 @@ use papaya_words::word::{Kind, Word};
 use std::fmt;
 use std::hash::{BuildHasher, Hash};
 
-/// Prints the pairs that stand in a table and in no later one.
-fn print_table<'a, 'f, K: Hash + Eq + fmt::Debug, V: fmt::Debug, S: BuildHasher, W: fmt::Write>(
+/// A list that is printed, to which pairs are added.
+trait Listing<K, V> {
+    fn add(&mut self, key: &K, value: &V);
+}
+
+impl<'f, K: fmt::Debug, V: fmt::Debug, W: fmt::Write> Listing<K, V> for fmt::DebugMap<'f, W> {
+    fn add(&mut self, key: &K, value: &V) {
+        self.entry(key, value);
+    }
+}
+
+/// Keys alone.
+impl<'f, K: fmt::Debug, V, W: fmt::Write> Listing<K, V> for fmt::DebugSet<'f, W> {
+    fn add(&mut self, key: &K, _value: &V) {
+        self.entry(key);
+    }
+}
+
+/// Adds the pairs that stand in a table and in no later one.
+fn add_table<'a, K: Hash + Eq, V, S: BuildHasher, L: Listing<K, V>>(
     window: &mut Window<'a, K, V, S>,
     table: &Table<K, V, S>,
     number: u64,
-    out: &mut fmt::DebugMap<'f, W>,
+    out: &mut L,
 )
     requires { IsTable window.old number table.now }
     ensures { Sees window.old window.new }
@@ -25,31 +43,49 @@ fn print_table<'a, 'f, K: Hash + Eq + fmt::Debug, V: fmt::Debug, S: BuildHasher,
         match (Word(word).kind(), &pair) {
             (Kind::Live | Kind::Marked, Some(stored)) => {
                 let (key, value) = entry(window.book, stored);
-                out.entry(key, value);
+                out.add(key, value);
             }
             _ => {}
         }
     }
 }
 
-/// Prints the pairs of a map, table by table from the root on. It loads words and nothing else: it
-/// waits for nobody and copies nothing. A pair that a refused copier left half copied is printed twice.
-pub fn print<'a, 'f, K: Hash + Eq + fmt::Debug, V: fmt::Debug, S: BuildHasher, W: fmt::Write>(
+/// Adds the pairs of a map, table by table from the root on. It loads words and nothing else: it waits
+/// for nobody and copies nothing. A pair that a refused copier left half copied is added twice.
+fn add_all<'a, K: Hash + Eq, V, S: BuildHasher, L: Listing<K, V>>(
     window: &mut Window<'a, K, V, S>,
-    f: &'f mut fmt::Formatter<W>,
-) -> fmt::Result {
-    let mut out = f.debug_map();
+    out: &mut L,
+) {
     let (mut number, mut held) = window.root();
     for _ in 0..u64::MAX {
         let Some(table) = held else {
-            return out.finish();
+            return;
         };
-        print_table(window, table, number, &mut out);
+        add_table(window, table, number, out);
         (number, held) = match window.book.parts.mode {
             ResizeMode::Incremental(_) => window.next(table, number),
             ResizeMode::Blocking => (0, None),
         };
     }
+}
+
+/// Prints a map: `{key: value, ..}`.
+pub fn print<'a, 'f, K: Hash + Eq + fmt::Debug, V: fmt::Debug, S: BuildHasher, W: fmt::Write>(
+    window: &mut Window<'a, K, V, S>,
+    f: &'f mut fmt::Formatter<W>,
+) -> fmt::Result {
+    let mut out = f.debug_map();
+    add_all(window, &mut out);
+    out.finish()
+}
+
+/// Prints the keys of a map: `{key, ..}`.
+pub fn print_keys<'a, 'f, K: Hash + Eq + fmt::Debug, V, S: BuildHasher, W: fmt::Write>(
+    window: &mut Window<'a, K, V, S>,
+    f: &'f mut fmt::Formatter<W>,
+) -> fmt::Result {
+    let mut out = f.debug_set();
+    add_all(window, &mut out);
     out.finish()
 }
 

@@ -165,6 +165,15 @@ impl<'a, K: Hash + Eq, V, S: BuildHasher> Keys<'a, K, V, S> {
     {
         Keys { pairs }
     }
+
+    /// The same keys, from where this walk stands.
+    pub fn again(&self) -> Keys<'a, K, V, S>
+        ensures { result ≡ self.now }
+    {
+        Keys {
+            pairs: self.pairs.again(),
+        }
+    }
 }
 
 impl<'a, K: Hash + Eq, V, S: BuildHasher> Iterator for Keys<'a, K, V, S> {

@@ -1,5 +1,5 @@
 use Rattle.papaya_book.specs.Windows.{Sees}
-use Rattle.papaya_sweep.proofs.printing.print_table.Given as goal
+use Rattle.papaya_sweep.proofs.printing.add_table.Given as goal
 
 -- more is seen
 abbrev pub invariant-loop-place : goal.invariant-loop-place

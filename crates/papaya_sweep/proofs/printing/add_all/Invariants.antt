@@ -1,6 +1,6 @@
 use Rattle.std.proofs.Common.{MatchOption}
 use Rattle.papaya_book.specs.Windows.{IsTable}
-use Rattle.papaya_sweep.proofs.printing.print.Given as goal
+use Rattle.papaya_sweep.proofs.printing.add_all.Given as goal
 
 -- the table at hand has this number
 abbrev pub invariant-loop : goal.invariant-loop
