@@ -1,4 +1,4 @@
-use Rattle.std.proofs.Common.{subst}
+use Rattle.std.proofs.Common.{subst, sym}
 use mathlib.Core.List.{IsPrefix}
 use Rattle.papaya_lookup.specs.History.{Past, history_of}
 use Rattle.papaya_book.specs.Limits.{tables_of}
