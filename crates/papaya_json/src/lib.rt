@@ -1,5 +1,6 @@
-//! Maps as JSON values of `serde_json`, and back.
+//! Maps and sets as JSON values of `serde_json`, and back.
 #![tactic(auto)]
 
+pub mod laws;
 pub mod reading;
 pub mod writing;
