@@ -3,4 +3,5 @@
 
 pub mod laws;
 pub mod reading;
+pub mod shared;
 pub mod writing;

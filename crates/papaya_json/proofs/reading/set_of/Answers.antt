@@ -34,7 +34,7 @@ returns-in_default-clause-err g c =
     let item = c.item-item.result in
     let inside : i < length items = search rules in
     let is : get_or items i item ≡ item = search rules in
-    let none : FnReturnsAt g.T.Fn c.args.key item None = search rules in
+    let none : FnReturnsAt g.T.Fn c.args.key item None = record { shown = _; shows = refl; says = record { met = c.in_default.ensures } } in
     inr (record {
       before = take i items;
       item = item;
