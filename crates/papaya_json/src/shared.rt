@@ -41,6 +41,40 @@ where
     object_from(alloc, pairs, key, value)
 }
 
+/// Stores the pairs of an object's members.
+fn fill<R: Wait, K: Hash + Eq + Drop, V: Drop, S: BuildHasher, T, W>(
+    rt: &R,
+    map: &HashMap<K, V, S>,
+    members: &Map<String, Value>,
+    key: T,
+    value: W,
+) -> Result<(), Refused>
+where
+    T: Fn(&str) -> Option<K>,
+    W: Fn(&Value) -> Option<V>,
+    requires key { T.IsAlwaysCallable key }
+    requires value { W.IsAlwaysCallable value }
+    ensures ok { IfOk result (λ _. IsEachRead (IsPair (FnReturnsAt T.Fn key)
+        (FnReturnsAt W.Fn value)) members.now.entries) }
+    ensures err { IfErr result (λ e. IsUnread (HasNoPair (FnReturnsAt T.Fn key)
+        (FnReturnsAt W.Fn value)) e members.now.entries) }
+{
+    let mut pass = map.pass();
+    for (name, member) in members {
+        let Some(k) = key(name.as_str()) else {
+            return Err(Refused::Item);
+        };
+        let Some(v) = value(member) else {
+            return Err(Refused::Item);
+        };
+        match map.pin().insert_as(rt, k, v, &mut pass) {
+            Ok(_) => {}
+            Err(refused) => return Err(refused),
+        }
+    }
+    Ok(())
+}
+
 /// The map of an object's members.
 fn shared_map_of<R: Wait, K: Hash + Eq + Drop, V: Drop, S: BuildHasher + Drop, T, W>(
     rt: &R,
@@ -62,20 +96,10 @@ where
         (FnReturnsAt W.Fn value)) e members.now.entries) }
 {
     let map = HashMap::with_hasher(rt, alloc, hasher)?;
-    let mut pass = map.pass();
-    for (name, member) in members {
-        let Some(k) = key(name.as_str()) else {
-            return Err(Refused::Item);
-        };
-        let Some(v) = value(member) else {
-            return Err(Refused::Item);
-        };
-        match map.pin().insert_as(rt, k, v, &mut pass) {
-            Ok(_) => {}
-            Err(refused) => return Err(refused),
-        }
+    match fill(rt, &map, members, key, value) {
+        Ok(()) => Ok(map),
+        Err(refused) => Err(refused),
     }
-    Ok(map)
 }
 
 /// [`crate::reading::map_from_value`] of a map that threads share: of each member a pair, whose key
